@@ -1,0 +1,4 @@
+pub mod Sqrt
+pub mod Steps
+pub mod Ranges
+pub mod Hex

@@ -1,0 +1,13 @@
+-- The number of each refusal, as document 01's table has it. Definitions only.
+use Prim.Native.Nat.{ℕ}
+use Rattle.refusal.specs.declared.Refusal.{Refusal}
+use Rattle.refusal.specs.declared.Refusal.the-variants.{Malformed, OverLimit, OutOfRange, OffSheet, UnknownCorner, Duplicate, BufferTooShort}
+
+abbrev pub numberOf : Refusal → ℕ
+numberOf Malformed = 1
+numberOf OverLimit = 2
+numberOf OutOfRange = 3
+numberOf OffSheet = 4
+numberOf UnknownCorner = 5
+numberOf Duplicate = 6
+numberOf BufferTooShort = 7
