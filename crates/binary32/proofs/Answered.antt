@@ -92,8 +92,8 @@ at-others x f l z = subst (λ (v : Float). Answers v (Refused OutOfRange)) (ofBi
 
 -- ---- a positive finite float
 
--- a pattern that is below the infinity's without its sign is no NaN's
-pub pattern : (r : ℕ) → r % 0x8000_0000 < 0x7f80_0000 → T (not (nanBits binary32 r))
+-- a pattern that is not above the infinity's without its sign is no NaN's
+pub pattern : (r : ℕ) → r % 0x8000_0000 ≤ 0x7f80_0000 → T (not (nanBits binary32 r))
 pattern r h = rw (nanBits-above binary32 r, le-ltb 0x7f80_0000 (r % 0x8000_0000) (omega arith)) tt
 
 pub at-positive : (x : Float) (r : ℕ) → T (fits binary32 x) → 0 < toBits binary32 x → toBits binary32 x < 0x7f80_0000 → RootOf (toBits binary32 x) r → Answers x (Root (ofBits binary32 r))

@@ -1,5 +1,6 @@
 -- `hex::float_of` meets its contract: a pattern is finite exactly if it is below the infinity's without its sign. Assumes nothing.
 use mathlib.Core.Path.{_≡_, sym}
+use native.Mathlib.Omega.{arith}
 use Rattle.binary32.specs.Hex.{floatOf}
 use Rattle.binary32.proofs.Answered.{pattern}
 use Rattle.binary32.proofs.Finite.{finite-bits, infinite-bits}
@@ -11,7 +12,7 @@ unfolding floatOf
 returns c = rw (infinite-bits (c .before .args .bits) (c .if1 .taken))
 
 float-from-bits-x : tie.Need-float-from-bits-x
-float-from-bits-x c = pattern (c .before .args .bits) (c .if1 .left)
+float-from-bits-x c = pattern (c .before .args .bits) (omega arith)
 
 returns-2 : tie.Need-returns-2
 unfolding floatOf

@@ -1,0 +1,4 @@
+pub mod Order
+pub mod Unsigned
+pub mod Monotone
+pub mod Quotient

@@ -1,0 +1,72 @@
+-- Quotients of values with no sign: x / x is 1, and x / y is at most 1 where x is at most y. Assumes nothing.
+use mathlib.Core.Path.{_≡_, refl, sym, _∙_, subst}
+use mathlib.Core.Bool.{Bool, true, false}
+use Prim.Native.Nat.{ℕ, zero, suc, _*_, _≤_, _<_}
+use native.Mathlib.Nat.{mul-pos, mul-comm}
+use native.Mathlib.Omega.{arith}
+use borrow.Author.Tests.{ltb-false}
+use lib.Dec.{T, eqb·suc-zero}
+use lib.Ieee.{Float, nan, inf, fin, Format, binary32, binary64, unlike, up, down, lt, le, round, div, ofBits}
+use lib.Ieee.Bits.{is-true}
+use lib.Ieee.Fits.{up-pos, down-pos}
+use lib.Ieee.Order.{round-mono}
+use lib.Ieee.Scale.{finite, round-same}
+use Rattle.float_order.specs.Unsigned.{plain, nonzero, one}
+use Rattle.float_order.proofs.Order.{le→not-lt, le-lt-trans}
+use Rattle.float_order.proofs.Unsigned.{finite-under}
+
+-- the bits of 1
+pub one-bits : ofBits binary32 0x3f80_0000 ≡ one
+unfolding ofBits
+one-bits = refl
+
+round-one : (f : Format) → round f false 1 1 ≡ one
+unfolding round
+round-one binary32 = refl
+round-one binary64 = refl
+
+some : (m : ℕ) → 0 < suc m
+some m = omega arith
+
+-- x / x is 1, for an x that is finite and not zero
+pub div-self : (f : Format) (x : Float) → T (finite x) → T (nonzero x) → div f x x ≡ one
+unfolding div
+div-self f nan p q = absurd p
+div-self f (inf s) p q = absurd p
+div-self f (fin s zero e) p q = absurd q
+div-self f (fin s (suc m) e) p q =
+    let n = suc m * up e * down e in
+    let P : 0 < n = mul-pos (mul-pos (some m) (up-pos e)) (down-pos e) in
+    rw (eqb·suc-zero m, unlike-same s, round-same f false n n 1 1 P (omega arith) (mul-comm n 1)) (round-one f)
+  where
+    unlike-same : (s : Bool) → unlike s s ≡ false
+    unlike-same true = refl
+    unlike-same false = refl
+
+pub div-self-bits : (x : Float) → T (finite x) → T (nonzero x) → div binary32 x x ≡ ofBits binary32 0x3f80_0000
+div-self-bits x p q = div-self binary32 x p q ∙ sym one-bits
+
+-- x / y is at most 1, for an x with no sign that is at most y, a finite y with no sign that is not zero
+pub div-at-most-one : (f : Format) (x y : Float) → T (plain x) → T (plain y) → T (finite y) → T (nonzero y) → le x y ≡ true → le (div f x y) one ≡ true
+unfolding div
+div-at-most-one f nan y p q u v h = absurd p
+div-at-most-one f (inf s) y p q u v h = absurd (finite-under (inf s) y p u h)
+div-at-most-one f (fin true m e) y p q u v h = absurd p
+div-at-most-one f (fin false m e) nan p q u v h = absurd u
+div-at-most-one f (fin false m e) (inf t) p q u v h = absurd u
+div-at-most-one f (fin false m e) (fin true n d) p q u v h = absurd q
+div-at-most-one f (fin false m e) (fin false zero d) p q u v h = absurd v
+div-at-most-one f (fin false m e) (fin false (suc n) d) p q u v h =
+    let a = m * up e * down d in
+    let b = suc n * up d * down e in
+    let P : 0 < b = mul-pos (mul-pos (some n) (up-pos d)) (down-pos e) in
+    let l : a ≤ b = ltb-false b a (unfold lt in le→not-lt (fin false m e) (fin false (suc n) d) h) in
+    rw (eqb·suc-zero n) (subst (λ (z : Float). le (round f false a b) z ≡ true) (round-one f) (is-true _ (round-mono f a b 1 1 P (omega arith) (omega arith))))
+
+-- so 1 is not below x / y
+pub div-not-above-one : (f : Format) (x y : Float) → T (plain x) → T (plain y) → T (finite y) → T (nonzero y) → le x y ≡ true → lt one (div f x y) ≡ false
+div-not-above-one f x y p q u v h = le→not-lt (div f x y) one (div-at-most-one f x y p q u v h)
+
+-- and x / y is below whatever is above 1
+pub div-below : (f : Format) (x y z : Float) → T (plain x) → T (plain y) → T (finite y) → T (nonzero y) → le x y ≡ true → lt one z ≡ true → lt (div f x y) z ≡ true
+div-below f x y z p q u v h k = le-lt-trans (div f x y) one z (div-at-most-one f x y p q u v h) k

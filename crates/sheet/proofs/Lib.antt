@@ -1,0 +1,5 @@
+-- The laws of the sheet, a module for each of the definitions. Assumes nothing.
+pub mod Laws
+pub mod Words
+pub mod Corners
+pub mod Pairing

@@ -1,0 +1,38 @@
+-- The corners, given as three lists (x, y, pitch), and what is seen of them through the sheet at a cell. Definitions only.
+use mathlib.Core.Path.{_≡_}
+use mathlib.Core.List.{List}
+use Prim.Native.Nat.{ℕ, _<_, _≤_}
+use lib.ListN.{length, getD}
+use lib.Ieee.{Float, nan}
+use Rattle.sheet.specs.Words.{labelOf, labelAt}
+use Rattle.sheet.specs.declared.Cell.{Cell}
+use Rattle.sheet.specs.declared.Label.{Label}
+use Rattle.sheet.specs.declared.Corner.{Corner}
+use Rattle.sheet.specs.declared.Seen.{Seen}
+
+-- the corner of a number
+unfoldable pub cornerOf : List Float → List Float → List Float → ℕ → Corner
+cornerOf xs ys pitches k = record { position = record { x = getD xs k nan; y = getD ys k nan }; pitch = getD pitches k nan }
+
+-- the corner that a label names
+unfoldable pub seenThrough : (ℕ → Corner) → Label → Seen
+seenThrough corner Label.Unlabelled = Seen.Nothing
+seenThrough corner (Label.Corner k) = Seen.At (corner k)
+
+-- what is seen at a cell: the corner of its label, or nothing where it has none or is off the sheet
+unfoldable pub seenOf : (ℕ → Corner) → List ℕ → Cell → Seen
+seenOf corner sheet c = seenThrough corner (labelAt sheet c)
+
+-- a corner's number is in all three lists
+pub record Listed (xs ys pitches : List Float) (k : ℕ) : Type 0 where
+  pub in-x : k < length xs
+  pub in-y : k < length ys
+  pub in-pitch : k < length pitches
+
+-- corners and a sheet that belong together: the sheet is long enough, each corner has its x, y and pitch, and the sheet
+-- names no corner that is not given
+pub record Given (xs ys pitches : List Float) (sheet : List ℕ) : Type 0 where
+  pub long : 16384 ≤ length sheet
+  pub ys-long : length xs ≤ length ys
+  pub pitches-long : length xs ≤ length pitches
+  pub known : (p k : ℕ) → p < 16384 → labelOf (getD sheet p 0) ≡ Label.Corner k → k < length xs

@@ -1,0 +1,39 @@
+-- Two frames with the same corners in another order: the pairing of the corners' numbers, and sheets that hold paired corners
+-- and equal marks. Definitions only.
+use mathlib.Core.Path.{_≡_}
+use mathlib.Core.List.{List}
+use Prim.Native.Nat.{ℕ, _<_}
+use lib.ListN.{length, getD}
+use lib.Ieee.{Float}
+use Rattle.sheet.specs.Words.{labelOf, holeOf, ambiguousOf}
+use Rattle.sheet.specs.Corners.{cornerOf}
+use Rattle.sheet.specs.declared.Label.{Label}
+
+-- the numbers below n, paired one to one: `to` from the first frame to the second, `from` back
+pub record Shuffle (n : ℕ) : Type 0 where
+  pub to : ℕ → ℕ
+  pub from : ℕ → ℕ
+  pub to-in : (i : ℕ) → i < n → to i < n
+  pub from-in : (j : ℕ) → j < n → from j < n
+  pub from-to : (i : ℕ) → i < n → from (to i) ≡ i
+  pub to-from : (j : ℕ) → j < n → to (from j) ≡ j
+
+-- the label that names the paired corner
+unfoldable pub pairedLabel : {n : ℕ} → Shuffle n → Label → Label
+pairedLabel s Label.Unlabelled = Label.Unlabelled
+pairedLabel s (Label.Corner k) = Label.Corner (s .to k)
+
+-- the corners of two frames: lists of equal lengths, and each corner of the first has an equal one, its pair, in the second
+pub record PairedCorners (xs ys pitches xs' ys' pitches' : List Float) : Type 0 where
+  pub same-xs : length xs' ≡ length xs
+  pub same-ys : length ys' ≡ length ys
+  pub same-pitches : length pitches' ≡ length pitches
+  pub pairs : Shuffle (length xs)
+  pub same-corner : (i : ℕ) → i < length xs → cornerOf xs' ys' pitches' (pairs .to i) ≡ cornerOf xs ys pitches i
+
+-- two sheets of equal length: each place of the second holds the pair of what the first holds, and equal marks
+pub record PairedSheets {n : ℕ} (s : Shuffle n) (sheet sheet' : List ℕ) : Type 0 where
+  pub same-length : length sheet' ≡ length sheet
+  pub labels : (p : ℕ) → p < 16384 → labelOf (getD sheet' p 0) ≡ pairedLabel s (labelOf (getD sheet p 0))
+  pub holes : (p : ℕ) → p < 16384 → holeOf (getD sheet' p 0) ≡ holeOf (getD sheet p 0)
+  pub ambiguous : (p : ℕ) → p < 16384 → ambiguousOf (getD sheet' p 0) ≡ ambiguousOf (getD sheet p 0)

@@ -1,0 +1,254 @@
+// The sheet of 01: cells and their places, what a place holds, and the corners as they are seen through it.
+
+ghost use mathlib.Core.Path.{_≡_};
+ghost use Prim.Native.Nat.{_<_, _≤_};
+ghost use lib.ListN.{length};
+ghost use Rattle.sheet.specs.Cells.{onSheet, OnSheet, placeOf, cellOf, moved, differenceOf, magnitudeOf, Within, NearSheet};
+ghost use Rattle.sheet.specs.Words.{labelOf, holeOf, ambiguousOf, withLabel, withHole, withAmbiguous, withoutMarks, labelAt, attached, holeMarked, ambiguousMarked, marksCleared, SheetCell};
+ghost use Rattle.sheet.specs.Corners.{cornerOf, seenOf, Listed, Given};
+ghost use lib.IntN.{natAbs};
+
+// A cell of the checkerboard, by its two numbers. On the sheet both are from -64 to 63.
+pub struct Cell {
+    pub i: i32,
+    pub j: i32,
+}
+
+// The difference of two cells.
+pub struct Offset {
+    pub di: i32,
+    pub dj: i32,
+}
+
+// Whether a cell is on the sheet.
+pub fn on_sheet(c: Cell) -> bool
+    ensures { λ r. ⌜ r ≡ onSheet c ⌝ }
+{
+    if c.i < -64 {
+        return false;
+    }
+    if c.i > 63 {
+        return false;
+    }
+    if c.j < -64 {
+        return false;
+    }
+    if c.j > 63 {
+        return false;
+    }
+    true
+}
+
+// The place of a cell that is on the sheet.
+pub fn place_of(c: Cell) -> usize
+    requires { ⌜ OnSheet c ⌝ }
+    ensures { λ r. ⌜ r ≡ placeOf c ⌝ }
+{
+    let i = c.i + 64;
+    let j = c.j + 64;
+    (i as usize) * 128 + (j as usize)
+}
+
+// The cell of a place below 16,384.
+pub fn cell_of(place: usize) -> Cell
+    requires { ⌜ place < 16384 ⌝ }
+    ensures { λ r. ⌜ r ≡ cellOf place ⌝ }
+{
+    let i = (place / 128) as i32;
+    let j = (place % 128) as i32;
+    Cell {
+        i: i - 64,
+        j: j - 64,
+    }
+}
+
+// The cell at an offset from a cell on the sheet; it may be off the sheet.
+pub fn neighbour(c: Cell, o: Offset) -> Cell
+    requires { ⌜ OnSheet c × Within 128 o ⌝ }
+    ensures { λ r. ⌜ r ≡ moved c o ⌝ }
+{
+    Cell {
+        i: c.i + o.di,
+        j: c.j + o.dj,
+    }
+}
+
+// The offset at which `a` lies from `b`.
+pub fn difference(a: Cell, b: Cell) -> Offset
+    requires { ⌜ NearSheet a × NearSheet b ⌝ }
+    ensures { λ r. ⌜ r ≡ differenceOf a b ⌝ }
+{
+    Offset {
+        di: a.i - b.i,
+        dj: a.j - b.j,
+    }
+}
+
+// A number without its sign.
+fn size(z: i32) -> u32
+    requires { ⌜ natAbs z ≤ 1000 ⌝ }
+    ensures { λ r. ⌜ r ≡ natAbs z ⌝ }
+{
+    if z < 0 {
+        return (0 - z) as u32;
+    }
+    z as u32
+}
+
+// |di| + |dj|.
+pub fn magnitude(o: Offset) -> u32
+    requires { ⌜ Within 1000 o ⌝ }
+    ensures { λ r. ⌜ r ≡ magnitudeOf o ⌝ }
+{
+    size(o.di) + size(o.dj)
+}
+
+// What a place says of corners: none, or the corner's number.
+pub enum Label {
+    Unlabelled,
+    Corner(usize),
+}
+
+// The label of a word.
+pub fn label_of(word: u16) -> Label
+    ensures { λ r. ⌜ r ≡ labelOf word ⌝ }
+{
+    let number = word % 16384;
+    if number == 0 {
+        return Label::Unlabelled;
+    }
+    Label::Corner((number - 1) as usize)
+}
+
+// Whether a word has the hole mark.
+pub fn is_hole(word: u16) -> bool
+    ensures { λ r. ⌜ r ≡ holeOf word ⌝ }
+{
+    word / 16384 % 2 == 1
+}
+
+// Whether a word has the ambiguous mark.
+pub fn is_ambiguous(word: u16) -> bool
+    ensures { λ r. ⌜ r ≡ ambiguousOf word ⌝ }
+{
+    word / 32768 == 1
+}
+
+// The word with a corner, both marks kept.
+pub fn with_label(word: u16, corner: usize) -> u16
+    requires { ⌜ corner < 16383 ⌝ }
+    ensures { λ r. ⌜ r ≡ withLabel word corner ⌝ }
+{
+    word / 16384 * 16384 + (corner as u16) + 1
+}
+
+// The word with the hole mark, the rest kept.
+pub fn with_hole(word: u16) -> u16
+    ensures { λ r. ⌜ r ≡ withHole word ⌝ }
+{
+    word / 32768 * 32768 + 16384 + word % 16384
+}
+
+// The word with the ambiguous mark, the rest kept.
+pub fn with_ambiguous(word: u16) -> u16
+    ensures { λ r. ⌜ r ≡ withAmbiguous word ⌝ }
+{
+    32768 + word % 32768
+}
+
+// The word with neither mark, the label kept.
+pub fn without_marks(word: u16) -> u16
+    ensures { λ r. ⌜ r ≡ withoutMarks word ⌝ }
+{
+    word % 16384
+}
+
+// The label of a cell; none off the sheet.
+pub fn label_at(sheet: &[u16], c: Cell) -> Label
+    requires { ⌜ 16384 ≤ length (now sheet) ⌝ }
+    ensures { λ r. ⌜ r ≡ labelAt (now (sheet .entry)) c ⌝ }
+{
+    if on_sheet(c) {
+        let place = place_of(c);
+        return label_of(sheet[place]);
+    }
+    Label::Unlabelled
+}
+
+// Attaches a corner to a cell; its marks stay, and so do all other places.
+pub fn attach(sheet: &mut [u16], c: Cell, corner: usize)
+    requires { ⌜ SheetCell (now sheet) c × (corner < 16383) ⌝ }
+    ensures { λ r. ⌜ now (sheet .exit) ≡ attached (now (sheet .entry)) c corner ⌝ }
+{
+    let place = place_of(c);
+    sheet[place] = with_label(sheet[place], corner);
+}
+
+// Marks a cell as a hole; all else stays.
+pub fn mark_hole(sheet: &mut [u16], c: Cell)
+    requires { ⌜ SheetCell (now sheet) c ⌝ }
+    ensures { λ r. ⌜ now (sheet .exit) ≡ holeMarked (now (sheet .entry)) c ⌝ }
+{
+    let place = place_of(c);
+    sheet[place] = with_hole(sheet[place]);
+}
+
+// Marks a cell as ambiguous; all else stays.
+pub fn mark_ambiguous(sheet: &mut [u16], c: Cell)
+    requires { ⌜ SheetCell (now sheet) c ⌝ }
+    ensures { λ r. ⌜ now (sheet .exit) ≡ ambiguousMarked (now (sheet .entry)) c ⌝ }
+{
+    let place = place_of(c);
+    sheet[place] = with_ambiguous(sheet[place]);
+}
+
+// Clears both marks of a cell; all else stays.
+pub fn clear_marks(sheet: &mut [u16], c: Cell)
+    requires { ⌜ SheetCell (now sheet) c ⌝ }
+    ensures { λ r. ⌜ now (sheet .exit) ≡ marksCleared (now (sheet .entry)) c ⌝ }
+{
+    let place = place_of(c);
+    sheet[place] = without_marks(sheet[place]);
+}
+
+// A corner's position in the picture.
+pub struct Position {
+    pub x: f32,
+    pub y: f32,
+}
+
+// A corner: its position, and its pitch, 01's word for the board's spacing around it in the picture.
+pub struct Corner {
+    pub position: Position,
+    pub pitch: f32,
+}
+
+// What is seen at a cell.
+pub enum Seen {
+    Nothing,
+    At(Corner),
+}
+
+// The corner of a number.
+pub fn corner_at(xs: &[f32], ys: &[f32], pitches: &[f32], k: usize) -> Corner
+    requires { ⌜ Listed (now xs) (now ys) (now pitches) k ⌝ }
+    ensures { λ r. ⌜ r ≡ cornerOf (now (xs .entry)) (now (ys .entry)) (now (pitches .entry)) k ⌝ }
+{
+    let x = xs[k];
+    let y = ys[k];
+    let pitch = pitches[k];
+    let position = Position { x, y };
+    Corner { position, pitch }
+}
+
+// What is seen at a cell: the corner of its label, or nothing where it has none or is off the sheet.
+pub fn seen_at(xs: &[f32], ys: &[f32], pitches: &[f32], sheet: &[u16], c: Cell) -> Seen
+    requires { ⌜ Given (now xs) (now ys) (now pitches) (now sheet) ⌝ }
+    ensures { λ r. ⌜ r ≡ seenOf (cornerOf (now (xs .entry)) (now (ys .entry)) (now (pitches .entry))) (now (sheet .entry)) c ⌝ }
+{
+    let label = label_at(sheet, c);
+    match label {
+        Label::Unlabelled => Seen::Nothing,
+        Label::Corner(k) => Seen::At(corner_at(xs, ys, pitches, k)),
+    }
+}
