@@ -1,7 +1,7 @@
 -- The order of floats, over all values but nan: `lt` is asymmetric and transitive, "not below" is carried on, and `le` is `lt` the other way round, denied.
 -- Assumes nothing.
 use mathlib.Core.Path.{_≡_, refl, sym, ap, _∙_}
-use mathlib.Core.Bool.{Bool, true, false, not, _&&_, _||_, true≢false}
+use mathlib.Core.Bool.{Bool, true, false, not, _&&_, _||_, and-false, true≢false}
 use Prim.Native.Nat.{ℕ, zero, suc, _+_, _*_, _≤_, _<_}
 use native.Mathlib.Nat.{le-of-lt, mul-pos, zero-mul}
 use native.Mathlib.Omega.{arith}
@@ -79,10 +79,6 @@ eqb-comm a b = go (eqb b a) refl
     go : (t : Bool) → eqb b a ≡ t → eqb a b ≡ t
     go true e = eq-eqb a b (sym (eqb-true b a e))
     go false e = ne-eqb a b (λ q. eqb-false b a e (sym q))
-
-and-false : (t : Bool) → (t && false) ≡ false
-and-false true = refl
-and-false false = refl
 
 both-zero : (a b : ℕ) → (eqb a b && eqb a 0) ≡ not (ltb 0 (b + a))
 both-zero a b = go (eqb a 0) refl (ltb 0 (b + a)) refl

@@ -2,18 +2,19 @@
 -- a square, and a sum of two squares, has no sign. Assumes nothing.
 use mathlib.Core.Path.{_≡_, refl, sym, ap, _∙_}
 use mathlib.Core.Bool.{Bool, true, false, cond, true≢false}
-use Prim.Native.Nat.{ℕ, zero, suc, _+_, _-_, _*_, _/_, _^_}
-use native.Mathlib.Nat.{le-antisymm, mul-right-comm, zero-mul}
+use Prim.Native.Nat.{ℕ, zero, suc, _+_, _-_, _*_, _/_, _^_, _<_}
+use native.Mathlib.Nat.{le-antisymm, mul-right-comm, zero-mul, mul-pos}
 use native.Mathlib.Omega.{arith}
-use borrow.Author.Tests.{ltb-false, le-ltb}
+use borrow.Author.Tests.{ltb-false, le-ltb, lt-ltb}
 use lib.Dec.{T, ltb, eqb}
-use lib.IntN.{ℤ}
+use lib.IntN.{ℤ, pos}
 use lib.Ieee.{Float, nan, inf, fin, Format, prec, emax, low, hid, up, down, size, lt, le, isNan, fits, toBits, ofBits, add, mul, sum, round, units, odd}
 use lib.Ieee.Bits.{ofBits-toBits}
-use lib.Ieee.Fits.{down-pos, round-is}
+use lib.Ieee.Fits.{up-pos, down-pos, round-is}
 use lib.Ieee.Nearest.{div-same}
 use lib.Ieee.Scale.{finite}
 use Rattle.float_order.specs.Unsigned.{plain, nonzero}
+use Rattle.float_order.proofs.Order.{lt-le-trans}
 
 pub plain-no-nan : (x : Float) → T (plain x) → isNan x ≡ false
 unfolding isNan
@@ -70,6 +71,23 @@ plain-above (fin false m e) (fin false zero d) p h = absurd (true≢false (sym h
     nothing : (a b c : ℕ) → ltb a (0 * b * c) ≡ false
     nothing a b c = rw (zero-mul b, zero-mul c) (le-ltb a 0 (omega arith))
 plain-above (fin false m e) (fin false (suc n) d) p h = (tt, tt)
+
+-- zero is below a value with no sign that is not zero
+pub zero-below : (x : Float) → T (plain x) → T (nonzero x) → lt (fin false 0 (pos 0)) x ≡ true
+unfolding lt
+zero-below nan p q = absurd p
+zero-below (inf true) p q = absurd p
+zero-below (inf false) p q = refl
+zero-below (fin true m e) p q = absurd p
+zero-below (fin false zero e) p q = absurd q
+zero-below (fin false (suc m) e) p q = rw (zero-mul (down e)) (lt-ltb 0 (suc m * up e * 1) (mul-pos (mul-pos (some m) (up-pos e)) (omega arith)))
+  where
+    some : (m : ℕ) → 0 < suc m
+    some m = omega arith
+
+-- what is at least such a value has no sign either, and is not zero
+pub plain-at-least : (x y : Float) → T (plain x) → T (nonzero x) → le x y ≡ true → T (plain y) × T (nonzero y)
+plain-at-least x y p q h = plain-above (fin false 0 (pos 0)) y tt (lt-le-trans (fin false 0 (pos 0)) x y (zero-below x p q) h)
 
 -- what has no sign and is at most a finite value is finite
 pub finite-under : (x y : Float) → T (plain x) → T (finite y) → le x y ≡ true → T (finite x)

@@ -1,4 +1,4 @@
--- Words for the laws on floats: a value with no sign, one that is not zero, and the number 1. Definitions only.
+-- Words for the laws on floats: a value with no sign, one that is not zero, a value without its sign, and the number 1. Definitions only.
 use mathlib.Core.Bool.{Bool, true, false, not}
 use Prim.Native.Nat.{zero, suc}
 use lib.IntN.{pos}
@@ -16,6 +16,12 @@ nonzero nan = true
 nonzero (inf s) = true
 nonzero (fin s zero e) = false
 nonzero (fin s (suc m) e) = true
+
+-- x without its sign
+abbrev pub magnitude : Float → Float
+magnitude nan = nan
+magnitude (inf s) = inf false
+magnitude (fin s m e) = fin false m e
 
 -- the number 1, which the bits 0x3f80_0000 stand for
 abbrev pub one : Float

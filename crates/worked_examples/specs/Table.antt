@@ -1,19 +1,50 @@
 -- The examples that document 01 marks M, as a table. `proofs/Examples.antt` proves `Right table`. Definitions only.
+-- Numbers are given by their binary32 bits.
 use Prim.Native.Nat.{ℕ}
 use mathlib.Core.Path.{_≡_}
+use mathlib.Core.Bool.{Bool, true, false}
 use mathlib.Core.List.{List, [], _∷_}
-use lib.Ieee.{binary32, ofBits}
+use lib.Ieee.{Float, binary32, ofBits}
 use Rattle.binary32.specs.declared.root.Rooted.the-variants.{Root}
 use Rattle.binary32.specs.Sqrt.{Answers, rooted}
+use Rattle.grow.specs.Choice.{chooseUnambiguous, chooseWithFloor}
+use Rattle.grow.specs.declared.Candidates.{Candidates}
+use Rattle.grow.specs.declared.CandidateChoice.{CandidateChoice}
+use Rattle.positions_policy.specs.Edge.{inBand, expectedLength}
 
--- one example: what is given and what 01 says of it
+abbrev pub f32 : ℕ → Float
+f32 bits = ofBits binary32 bits
+
+-- two candidates at these distances, the nearer one being corner 7
+abbrev pub twoAt : ℕ → ℕ → Candidates
+twoAt first second = Candidates.Several (record { number = 7; distance = f32 first }) (f32 second)
+
+-- what is chosen: the nearer one, or neither
+pub data Chosen : Type 0 where
+  taken ambiguous : Chosen
+
+abbrev pub choiceOf : Chosen → CandidateChoice
+choiceOf taken = CandidateChoice.Unique 7
+choiceOf ambiguous = CandidateChoice.Ambiguous
+
+-- one example: what is given, and what 01 says of it
 pub data Example : Type 0 where
   -- the root of the float with the first bits has the second bits
   root : ℕ → ℕ → Example
+  -- two candidates, by their distances and the factor: grow's choice; fill's and local's choice
+  grows fills : ℕ → ℕ → ℕ → Chosen → Example
+  -- an edge of a length passes, or not, with an expected length and a band
+  edge : ℕ → ℕ → ℕ → Bool → Example
+  -- the expected length of an edge by both pitches and the cell size
+  expected : ℕ → ℕ → ℕ → ℕ → Example
 
 -- what an example claims, of the definitions that the contracts cite
 abbrev pub Holds : Example → Type 0
-Holds (root x r) = Answers (ofBits binary32 x) (Root (ofBits binary32 r)) × (rooted (ofBits binary32 x) ≡ Root (ofBits binary32 r))
+Holds (root x r) = Answers (f32 x) (Root (f32 r)) × (rooted (f32 x) ≡ Root (f32 r))
+Holds (grows first second factor c) = chooseUnambiguous (twoAt first second) (f32 factor) ≡ choiceOf c
+Holds (fills first second factor c) = chooseWithFloor (twoAt first second) (f32 factor) ≡ choiceOf c
+Holds (edge length expectation band b) = inBand (f32 length) (f32 expectation) (f32 band) ≡ b
+Holds (expected candidate neighbour size r) = expectedLength (f32 size) (f32 candidate) (f32 neighbour) ≡ f32 r
 
 -- every row of a table holds
 abbrev pub Right : List Example → Type 0
@@ -26,4 +57,20 @@ table =
     root 0x4080_0000 0x4000_0000
     ∷ root 0x4000_0000 0x3fb5_04f3
     ∷ root 0x0000_0001 0x1a35_04f3
+    -- M2: distances 2 and 3, factor 1.5: taken, by either rule
+    ∷ grows 0x4000_0000 0x4040_0000 0x3fc0_0000 taken
+    ∷ fills 0x4000_0000 0x4040_0000 0x3fc0_0000 taken
+    -- M3: 2 and 2.75: ambiguous
+    ∷ grows 0x4000_0000 0x4030_0000 0x3fc0_0000 ambiguous
+    ∷ fills 0x4000_0000 0x4030_0000 0x3fc0_0000 ambiguous
+    -- M4: 0 and 5: grow ambiguous, fill takes
+    ∷ grows 0x0000_0000 0x40a0_0000 0x3fc0_0000 ambiguous
+    ∷ fills 0x0000_0000 0x40a0_0000 0x3fc0_0000 taken
+    -- M5: expected 10, band 0.25: lengths 7.5 and 12.5 pass
+    ∷ edge 0x40f0_0000 0x4120_0000 0x3e80_0000 true
+    ∷ edge 0x4148_0000 0x4120_0000 0x3e80_0000 true
+    -- M6: 7 fails
+    ∷ edge 0x40e0_0000 0x4120_0000 0x3e80_0000 false
+    -- M7: both pitches 0.001: cell size used (here 10)
+    ∷ expected 0x3a83_126f 0x3a83_126f 0x4120_0000 0x4120_0000
     ∷ []

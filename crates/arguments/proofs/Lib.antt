@@ -1,0 +1,4 @@
+-- The laws of the arguments' checks: of the tests, what an accepted call knows, and of paired frames. Assumes nothing.
+pub mod Tests
+pub mod Laws
+pub mod Pairing

@@ -1,0 +1,64 @@
+-- `arguments::some_corner_outside` meets its contract: a search from the first corner on that stops at a hit. Assumes nothing.
+use mathlib.Core.Path.{_≡_, sym, ap, _∙_}
+use Prim.Native.Nat.{_-_}
+use native.Mathlib.Omega.{arith}
+use borrow.Author.Needs.{needs}
+use lib.ListN.{length}
+use Rattle.labels.proofs.Below.{Searching, searching-start, searching-more, searching-hit, searching-end}
+use Rattle.arguments.specs.Arguments.{cornerOutside, outsideAt, someCornerOutside}
+use Rattle.arguments.proofs.some_corner_outside.Statement.{statement}
+use Rattle.arguments.proofs.some_corner_outside.Tie as tie
+
+abbrev Inv-loop : tie.InvT-loop
+Inv-loop xs ys pitches k₀ k = Searching (outsideAt xs ys pitches) (length xs) k
+
+abbrev μ-loop : tie.MeasureT-loop
+μ-loop xs ys pitches k₀ k = length xs - k
+
+loop-holds : tie.Need-loop-holds Inv-loop μ-loop
+loop-holds c = searching-start _ _
+
+corner-at-requires : tie.Need-corner-at-requires Inv-loop μ-loop
+corner-at-requires c κs =
+    let asked = c .before .before .before .before .before .pre in
+    record { in-x = c .loop-test .taken; in-y = omega (arith, asked .ys-long); in-pitch = omega (arith, asked .pitches-long) }
+
+corner-outside-requires : tie.Need-corner-outside-requires Inv-loop μ-loop
+corner-outside-requires c κs = search needs
+
+-- what the body's test says of this corner
+said : (c : tie.After-corner-outside Inv-loop μ-loop) → let a = c .before .before .before .before .before .before .before .args in outsideAt (a .xs .now) (a .ys .now) (a .pitches .now) (c .before .before .before .loop .k) ≡ c .corner-outside .result
+unfolding outsideAt
+said c = sym (c .corner-outside .ensures ∙ ap cornerOutside (c .before .corner-at .ensures))
+
+returns : tie.Need-returns Inv-loop μ-loop
+unfolding someCornerOutside
+returns c = searching-hit _ _ _ (c .before .before .before .before .loop .inv) (c .before .before .before .loop-test .taken) (said (c .before) ∙ c .if1 .taken)
+
+add-k : tie.Need-add-k Inv-loop μ-loop
+add-k c = omega arith
+
+loop-less : tie.Need-loop-less Inv-loop μ-loop
+loop-less c = omega arith
+
+loop-again : tie.Need-loop-again Inv-loop μ-loop
+loop-again c = searching-more _ _ _ (c .before .before .before .before .loop .inv) (c .before .before .before .loop-test .taken) (said (c .before) ∙ c .if1 .left)
+
+returns-2 : tie.Need-returns-2 Inv-loop μ-loop
+unfolding someCornerOutside
+returns-2 c = searching-end _ _ _ (c .before .loop .inv) (c .loop-test .left)
+
+pub some-corner-outside-spec : {M : Type 1} → statement M
+some-corner-outside-spec =
+    tie.close
+    (tie.spec
+    Inv-loop
+    μ-loop
+    loop-holds
+    corner-at-requires
+    corner-outside-requires
+    returns
+    add-k
+    loop-less
+    loop-again
+    returns-2)

@@ -1,0 +1,39 @@
+-- What the inner functions ask of their arguments, and the array of the corners seen. Definitions only.
+use mathlib.Core.Path.{_≡_}
+use mathlib.Core.Bool.{Bool, false, not}
+use mathlib.Core.List.{List}
+use Prim.Native.Nat.{ℕ, _<_, _≤_}
+use lib.Dec.{eqb}
+use lib.ListN.{length, getD}
+use lib.Ieee.{Float}
+use Rattle.sheet.specs.declared.Label.{Label}
+use Rattle.labels.specs.Used.{noted}
+use Rattle.arguments.specs.Accepted.{Known}
+
+-- each corner's x, y and pitch is there
+pub record AllListed (xs ys pitches : List Float) : Type 0 where
+  pub ys-long : length xs ≤ length ys
+  pub pitches-long : length xs ≤ length pitches
+
+-- ---- the corners seen: 1,024 entries, that of a corner 1 if it was seen, and else 0
+
+-- a label whose corner, if it names one, has an entry
+pub record Small (label : Label) : Type 0 where
+  pub small : (k : ℕ) → label ≡ Label.Corner k → k < 1024
+
+-- the label's corner was seen before
+unfoldable pub seenBefore : List ℕ → Label → Bool
+seenBefore seen Label.Unlabelled = false
+seenBefore seen (Label.Corner k) = not (eqb (getD seen k 0) 0)
+
+-- a label noted: whether its corner was seen before, and its entry set
+pub record Noted (seen : List ℕ) (label : Label) (after : List ℕ) (r : Bool) : Type 0 where
+  pub said : r ≡ seenBefore seen label
+  pub written : after ≡ noted seen label
+
+-- a sheet that is long enough and names corners that have an entry, and nothing seen
+pub record Unseen (sheet seen : List ℕ) : Type 0 where
+  pub long : 16384 ≤ length sheet
+  pub known : Known 1024 sheet
+  pub size : length seen ≡ 1024
+  pub none : (k : ℕ) → k < 1024 → getD seen k 0 ≡ 0

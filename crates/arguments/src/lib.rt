@@ -1,0 +1,315 @@
+// What every library call checks of what it is lent (01, "Frame and result"): refusals 7, 2, 3, 5 and 6, tried in this order,
+// before anything is written.
+
+ghost use mathlib.Core.Path.{_≡_};
+ghost use Prim.Native.Nat.{_≤_};
+ghost use lib.Dec.{ltb};
+ghost use lib.ListN.{length};
+ghost use Rattle.arguments.specs.Arguments.{lent, queueNeeded, tooShort, outside, cornerOutside, someCornerOutside, axisOutside, settingsOutside, growOutside, fillOutside, localOutside, passOutside, unknown, unknownCorner, doubledCorner, checked};
+ghost use Rattle.arguments.specs.Accepted.{Known};
+ghost use Rattle.arguments.specs.Asked.{AllListed, Small, Noted, Unseen};
+use binary32::ranges::Quantity;
+use predict::Grid;
+use predict::Vector;
+use refusal::Refusal;
+use sheet::Corner;
+use sheet::Label;
+
+// The numbers of a grow pass: search, factor and boundary in 01's words.
+pub struct GrowParams {
+    pub attach_search_rel: f32,
+    pub attach_ambiguity_factor: f32,
+    pub boundary_search_factor: f32,
+}
+
+// The numbers of a fill pass: search, factor and rounds.
+pub struct FillParams {
+    pub attach_search_rel: f32,
+    pub attach_ambiguity_factor: f32,
+    pub max_iters: u32,
+}
+
+// The numbers of a local pass: search, factor, rounds, residual and depth.
+pub struct LocalExtensionParams {
+    pub search_rel: f32,
+    pub ambiguity_factor: f32,
+    pub max_iters: u32,
+    pub max_residual_rel: f32,
+    pub extend_depth: u32,
+}
+
+// A pass and its own numbers.
+pub enum Pass {
+    Grow(GrowParams),
+    Fill(FillParams),
+    Local(LocalExtensionParams),
+}
+
+// Cell size and axes, and the band.
+pub struct Settings {
+    pub grid: Grid,
+    // 01's band
+    pub edge_length_tol: f32,
+}
+
+// What the check of a call's arguments finds: nothing, or why the call is refused.
+pub enum Checked {
+    Fine,
+    Refused(Refusal),
+}
+
+// Whether the queue is shorter than the pass needs.
+fn queue_short(queue: usize, n: usize, pass: Pass) -> bool
+    ensures { λ r. ⌜ r ≡ ltb queue (queueNeeded pass n) ⌝ }
+{
+    match pass {
+        Pass::Grow(_) => queue / 4 < n,
+        Pass::Fill(_) => false,
+        Pass::Local(_) => false,
+    }
+}
+
+// 7: whether a lent buffer is too short.
+fn too_short(
+    xs: &[f32],
+    ys: &[f32],
+    pitches: &[f32],
+    sheet: &[u16],
+    queue: usize,
+    attached: usize,
+    pass: Pass,
+) -> bool
+    ensures { λ r. ⌜ r ≡ tooShort (lent (now (xs .entry)) (now (ys .entry)) (now (pitches .entry)) (now (sheet .entry)) queue attached) pass ⌝ }
+{
+    if ys.len() < xs.len() {
+        return true;
+    }
+    if pitches.len() < xs.len() {
+        return true;
+    }
+    if sheet.len() < 16384 {
+        return true;
+    }
+    if queue_short(queue, xs.len(), pass) {
+        return true;
+    }
+    attached < xs.len()
+}
+
+// Whether a float is not in the range of its quantity.
+fn is_outside(q: Quantity, x: f32) -> bool
+    ensures { λ r. ⌜ r ≡ outside q x ⌝ }
+{
+    !binary32::ranges::in_range(q, x)
+}
+
+// Whether a corner's x, y or pitch is out of range.
+fn corner_outside(c: Corner) -> bool
+    ensures { λ r. ⌜ r ≡ cornerOutside c ⌝ }
+{
+    if is_outside(Quantity::Position, c.position.x) {
+        return true;
+    }
+    if is_outside(Quantity::Position, c.position.y) {
+        return true;
+    }
+    is_outside(Quantity::Pitch, c.pitch)
+}
+
+// Whether some corner's x, y or pitch is out of range.
+fn some_corner_outside(xs: &[f32], ys: &[f32], pitches: &[f32]) -> bool
+    requires { ⌜ AllListed (now xs) (now ys) (now pitches) ⌝ }
+    ensures { λ r. ⌜ r ≡ someCornerOutside (now (xs .entry)) (now (ys .entry)) (now (pitches .entry)) ⌝ }
+{
+    let mut k = 0usize;
+    while k < xs.len() {
+        if corner_outside(sheet::corner_at(xs, ys, pitches, k)) {
+            return true;
+        }
+        k += 1;
+    }
+    false
+}
+
+// Whether a part of an axis is out of range.
+fn axis_outside(v: Vector) -> bool
+    ensures { λ r. ⌜ r ≡ axisOutside v ⌝ }
+{
+    if is_outside(Quantity::AxisPart, v.x) {
+        return true;
+    }
+    is_outside(Quantity::AxisPart, v.y)
+}
+
+// Whether the cell size, an axis or the band is out of range.
+fn settings_outside(settings: Settings) -> bool
+    ensures { λ r. ⌜ r ≡ settingsOutside settings ⌝ }
+{
+    let grid = settings.grid;
+    if is_outside(Quantity::CellSize, grid.cell_size) {
+        return true;
+    }
+    if axis_outside(grid.axis_i) {
+        return true;
+    }
+    if axis_outside(grid.axis_j) {
+        return true;
+    }
+    is_outside(Quantity::Band, settings.edge_length_tol)
+}
+
+// Whether one of grow's numbers is out of range.
+fn grow_outside(p: GrowParams) -> bool
+    ensures { λ r. ⌜ r ≡ growOutside p ⌝ }
+{
+    if is_outside(Quantity::Multiple, p.attach_search_rel) {
+        return true;
+    }
+    if is_outside(Quantity::Factor, p.attach_ambiguity_factor) {
+        return true;
+    }
+    is_outside(Quantity::Multiple, p.boundary_search_factor)
+}
+
+// Whether one of fill's numbers is out of range.
+fn fill_outside(p: FillParams) -> bool
+    ensures { λ r. ⌜ r ≡ fillOutside p ⌝ }
+{
+    if is_outside(Quantity::Multiple, p.attach_search_rel) {
+        return true;
+    }
+    if is_outside(Quantity::Factor, p.attach_ambiguity_factor) {
+        return true;
+    }
+    64 < p.max_iters
+}
+
+// Whether one of local's numbers is out of range.
+fn local_outside(p: LocalExtensionParams) -> bool
+    ensures { λ r. ⌜ r ≡ localOutside p ⌝ }
+{
+    if is_outside(Quantity::Multiple, p.search_rel) {
+        return true;
+    }
+    if is_outside(Quantity::Factor, p.ambiguity_factor) {
+        return true;
+    }
+    if 64 < p.max_iters {
+        return true;
+    }
+    if is_outside(Quantity::Multiple, p.max_residual_rel) {
+        return true;
+    }
+    4 < p.extend_depth
+}
+
+// Whether one of the pass's own numbers is out of range.
+fn pass_outside(pass: Pass) -> bool
+    ensures { λ r. ⌜ r ≡ passOutside pass ⌝ }
+{
+    match pass {
+        Pass::Grow(p) => grow_outside(p),
+        Pass::Fill(p) => fill_outside(p),
+        Pass::Local(p) => local_outside(p),
+    }
+}
+
+// Whether a label names a corner from n on.
+fn is_unknown(n: usize, label: Label) -> bool
+    ensures { λ r. ⌜ r ≡ unknown n label ⌝ }
+{
+    match label {
+        Label::Unlabelled => false,
+        Label::Corner(k) => n <= k,
+    }
+}
+
+// 5: whether the sheet names a corner from n on.
+fn unknown_corner(n: usize, sheet: &[u16]) -> bool
+    requires { ⌜ 16384 ≤ length (now sheet) ⌝ }
+    ensures { λ r. ⌜ r ≡ unknownCorner n (now (sheet .entry)) ⌝ }
+{
+    let mut place = 0usize;
+    while place < 16384 {
+        if is_unknown(n, sheet::label_of(sheet[place])) {
+            return true;
+        }
+        place += 1;
+    }
+    false
+}
+
+// Notes the corner of a label as seen; true if it was seen before.
+fn note(seen: &mut [u8; 1024], label: Label) -> bool
+    requires { ⌜ Small label ⌝ }
+    ensures { λ r. ⌜ Noted (now (seen .entry)) label (now (seen .exit)) r ⌝ }
+{
+    let Label::Corner(k) = label else {
+        return false;
+    };
+    let before = seen[k];
+    seen[k] = 1;
+    before != 0
+}
+
+// Whether the sheet names a corner at two places; none is seen at the start.
+fn seen_twice(sheet: &[u16], seen: &mut [u8; 1024]) -> bool
+    requires { ⌜ Unseen (now sheet) (now seen) ⌝ }
+    ensures { λ r. ⌜ r ≡ doubledCorner (now (sheet .entry)) ⌝ }
+{
+    let mut place = 0usize;
+    while place < 16384 {
+        if note(seen, sheet::label_of(sheet[place])) {
+            return true;
+        }
+        place += 1;
+    }
+    false
+}
+
+// 6: whether a corner stands on two places of the sheet.
+fn doubled_corner(sheet: &[u16]) -> bool
+    requires { ⌜ (16384 ≤ length (now sheet)) × Known 1024 (now sheet) ⌝ }
+    ensures { λ r. ⌜ r ≡ doubledCorner (now (sheet .entry)) ⌝ }
+{
+    let mut seen = [0u8; 1024];
+    seen_twice(sheet, &mut seen)
+}
+
+// Whether a call with these arguments is refused, and why: 7, 2, 3, 5 and 6 are tried in this order. The queue and the
+// attached list are given by their lengths.
+pub fn check_arguments(
+    xs: &[f32],
+    ys: &[f32],
+    pitches: &[f32],
+    sheet: &[u16],
+    queue: usize,
+    attached: usize,
+    settings: Settings,
+    pass: Pass,
+) -> Checked
+    ensures { λ r. ⌜ r ≡ checked (lent (now (xs .entry)) (now (ys .entry)) (now (pitches .entry)) (now (sheet .entry)) queue attached) settings pass ⌝ }
+{
+    if too_short(xs, ys, pitches, sheet, queue, attached, pass) {
+        return Checked::Refused(Refusal::BufferTooShort);
+    }
+    if 1024 < xs.len() {
+        return Checked::Refused(Refusal::OverLimit);
+    }
+    if some_corner_outside(xs, ys, pitches) {
+        return Checked::Refused(Refusal::OutOfRange);
+    }
+    if settings_outside(settings) {
+        return Checked::Refused(Refusal::OutOfRange);
+    }
+    if pass_outside(pass) {
+        return Checked::Refused(Refusal::OutOfRange);
+    }
+    if unknown_corner(xs.len(), sheet) {
+        return Checked::Refused(Refusal::UnknownCorner);
+    }
+    if doubled_corner(sheet) {
+        return Checked::Refused(Refusal::Duplicate);
+    }
+    Checked::Fine
+}

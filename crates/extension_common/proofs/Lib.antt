@@ -1,0 +1,2 @@
+-- Laws on trying a cell, that the passes' proofs cite.
+pub mod Laws

@@ -1,0 +1,73 @@
+-- What trying a cell at a prediction finds, for all three passes (document 01, "Candidates and choice" and "Edge"). Definitions only.
+use mathlib.Core.Path.{_≡_}
+use mathlib.Core.Bool.{Bool, not, cond}
+use mathlib.Core.List.{List}
+use Prim.Native.Nat.{ℕ, _≤_, _<_}
+use lib.ListN.{length}
+use lib.Ieee.{Float}
+use Rattle.sheet.specs.Cells.{OnSheet}
+use Rattle.sheet.specs.Corners.{cornerOf, seenOf, Given}
+use Rattle.sheet.specs.declared.Cell.{Cell}
+use Rattle.sheet.specs.declared.Corner.{Corner}
+use Rattle.sheet.specs.declared.Position.{Position}
+use Rattle.labels.specs.Used.{usedOn, Tied}
+use Rattle.grow.specs.Candidates.{candidatesAt, firstTwo}
+use Rattle.grow.specs.Choice.{chooseUnambiguous, chooseWithFloor}
+use Rattle.grow.specs.declared.Candidates.{Candidates}
+use Rattle.grow.specs.declared.CandidateChoice.{CandidateChoice}
+use Rattle.positions_policy.specs.Edge.{verdictOf, passes}
+use Rattle.positions_policy.specs.declared.Tolerances.{Tolerances}
+use Rattle.extension_common.specs.declared.ChoiceRule.{ChoiceRule}
+use Rattle.extension_common.specs.declared.Search.{Search}
+use Rattle.extension_common.specs.declared.TryCellResult.{TryCellResult}
+
+-- the corners of a frame: how many there are, and each by its number
+pub record Corners : Type 0 where
+  pub count : ℕ
+  pub corner : ℕ → Corner
+
+abbrev pub cornersOf : List Float → List Float → List Float → Corners
+cornersOf xs ys pitches = record { count = length xs; corner = cornerOf xs ys pitches }
+
+-- a corner is unlabelled if no cell of the sheet holds it
+abbrev pub unlabelledOn : List ℕ → ℕ → Bool
+unlabelledOn sheet k = not (usedOn sheet k)
+
+-- all candidates at a prediction, in order of distance and then corner number: what the choice needs of them
+unfoldable pub gathered : Corners → List ℕ → Float → Position → Candidates
+gathered cs sheet radius prediction = firstTwo (candidatesAt (λ k. cs .corner k .position) (unlabelledOn sheet) (cs .count) prediction radius)
+
+-- grow's rule of choice, or fill's and local's
+unfoldable pub choiceBy : ChoiceRule → Candidates → Float → CandidateChoice
+choiceBy ChoiceRule.Unambiguous candidates factor = chooseUnambiguous candidates factor
+choiceBy ChoiceRule.WithFloor candidates factor = chooseWithFloor candidates factor
+
+-- the edges of a chosen corner: they pass if one is accepted, or if no cardinal neighbour is labelled
+unfoldable pub edgesOf : Corners → List ℕ → Tolerances → Cell → ℕ → TryCellResult
+edgesOf cs sheet tol c k =
+    cond (passes (verdictOf (seenOf (cs .corner) sheet) tol c (cs .corner k))) (TryCellResult.Attached k) TryCellResult.EdgeRejected
+
+unfoldable pub resultOf : Corners → List ℕ → Tolerances → Cell → CandidateChoice → TryCellResult
+resultOf cs sheet tol c CandidateChoice.Nothing = TryCellResult.NoCandidates
+resultOf cs sheet tol c CandidateChoice.Ambiguous = TryCellResult.Ambiguous
+resultOf cs sheet tol c (CandidateChoice.Unique k) = edgesOf cs sheet tol c k
+
+-- what trying a cell finds: candidates, then choice, then edges
+unfoldable pub tryAt : Corners → List ℕ → Tolerances → Search → Cell → Position → TryCellResult
+tryAt cs sheet tol search c prediction =
+    resultOf cs sheet tol c (choiceBy (search .rule) (gathered cs sheet (search .«search_r») prediction) (search .«ambiguity_factor»))
+
+-- ---- what the functions ask
+
+-- corners and a sheet that belong together, at most 1,024 corners, an array that says which are used, and a cell of the sheet
+pub record Ready (xs ys pitches : List Float) (sheet used : List ℕ) (c : Cell) : Type 0 where
+  pub given : Given xs ys pitches sheet
+  pub few : length xs ≤ 1024
+  pub tied : Tied sheet used
+  pub on : OnSheet c
+
+-- a corner that was chosen among those given, at a cell of the sheet
+pub record Chosen (xs ys pitches : List Float) (sheet : List ℕ) (c : Cell) (k : ℕ) : Type 0 where
+  pub given : Given xs ys pitches sheet
+  pub on : OnSheet c
+  pub there : k < length xs

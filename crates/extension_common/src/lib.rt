@@ -1,0 +1,89 @@
+// What all three passes do at a cell once they have a prediction: gather the candidates, choose, and try the edges (port of
+// shared/extension/common.rs). Whatever this answers, nothing is written.
+ghost use mathlib.Core.Path.{_≡_};
+ghost use Rattle.extension_common.specs.TryCell.{cornersOf, tryAt, Ready, Chosen, edgesOf, choiceBy};
+use grow::CandidateChoice;
+use grow::Candidates;
+use positions_policy::EdgeVerdict;
+use positions_policy::Tolerances;
+use sheet::Cell;
+use sheet::Position;
+
+// Which rule of choice: grow's, or fill's and local's.
+pub enum ChoiceRule {
+    Unambiguous,
+    WithFloor,
+}
+
+// How a cell is searched: the radius, the ambiguity factor, and the rule of choice.
+pub struct Search {
+    pub search_r: f32,
+    pub ambiguity_factor: f32,
+    pub rule: ChoiceRule,
+}
+
+// What trying a cell finds.
+pub enum TryCellResult {
+    NoCandidates,
+    Ambiguous,
+    EdgeRejected,
+    // the corner to attach
+    Attached(usize),
+}
+
+// The choice among candidates, by either rule.
+pub fn choose(rule: ChoiceRule, candidates: Candidates, factor: f32) -> CandidateChoice
+    ensures { λ r. ⌜ r ≡ choiceBy rule candidates factor ⌝ }
+{
+    match rule {
+        ChoiceRule::Unambiguous => grow::choose_unambiguous(candidates, factor),
+        ChoiceRule::WithFloor => grow::choose_with_floor(candidates, factor),
+    }
+}
+
+// Tries a cell at a prediction: no candidate, an ambiguous choice, edges that refuse the chosen corner, or the corner to attach.
+pub fn try_attach_at_cell(
+    xs: &[f32],
+    ys: &[f32],
+    pitches: &[f32],
+    sheet: &[u16],
+    used: &[u8; 1024],
+    c: Cell,
+    prediction: Position,
+    search: Search,
+    tol: Tolerances,
+) -> TryCellResult
+    requires { ⌜ Ready (now xs) (now ys) (now pitches) (now sheet) (now used) c ⌝ }
+    ensures { λ r. ⌜ r ≡ tryAt (cornersOf (now (xs .entry)) (now (ys .entry)) (now (pitches .entry))) (now (sheet .entry)) tol search c prediction ⌝ }
+{
+    let rule = search.rule;
+    let candidates = grow::collect_candidates(xs, ys, used, prediction, search.search_r);
+    let choice = choose(rule, candidates, search.ambiguity_factor);
+    match choice {
+        CandidateChoice::Nothing => TryCellResult::NoCandidates,
+        CandidateChoice::Ambiguous => TryCellResult::Ambiguous,
+        CandidateChoice::Unique(k) => try_edges(xs, ys, pitches, sheet, c, k, tol),
+    }
+}
+
+// The edges of a chosen corner: refused, or the corner is to be attached.
+fn try_edges(
+    xs: &[f32],
+    ys: &[f32],
+    pitches: &[f32],
+    sheet: &[u16],
+    c: Cell,
+    k: usize,
+    tol: Tolerances,
+) -> TryCellResult
+    requires { ⌜ Chosen (now xs) (now ys) (now pitches) (now sheet) c k ⌝ }
+    ensures { λ r. ⌜ r ≡ edgesOf (cornersOf (now (xs .entry)) (now (ys .entry)) (now (pitches .entry))) (now (sheet .entry)) tol c k ⌝ }
+{
+    let candidate = sheet::corner_at(xs, ys, pitches, k);
+    let verdict = positions_policy::any_cardinal_edge_ok(xs, ys, pitches, sheet, c, candidate, tol);
+    match verdict {
+        EdgeVerdict::Refused => TryCellResult::EdgeRejected,
+        EdgeVerdict::Accepted => TryCellResult::Attached(k),
+        EdgeVerdict::NonePresent => TryCellResult::Attached(k),
+    }
+}

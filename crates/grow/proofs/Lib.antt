@@ -1,0 +1,7 @@
+pub mod Listing
+pub mod Scan
+pub mod Collected
+pub mod Radius
+pub mod Nearest
+pub mod Choice
+pub mod Pairing

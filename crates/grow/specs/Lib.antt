@@ -1,0 +1,4 @@
+pub mod Candidates
+pub mod Listing
+pub mod Choice
+pub mod Steps

@@ -1,0 +1,184 @@
+// Candidates and choice (document 01): the unlabelled corners near a prediction, in order of distance and then number, and the
+// two rules by which one of them is chosen. Port of shared/grow/mod.rs and of the quotients of extension/common.rs and fill.rs.
+ghost use mathlib.Core.Path.{_≡_};
+ghost use Prim.Native.Nat.{_+_, _<_};
+ghost use lib.ListN.{length};
+ghost use Rattle.grow.specs.Candidates.{positionsOf, unmarked, eligible, squaredDistance, candidatesAt, firstTwo};
+ghost use Rattle.grow.specs.Choice.{byQuotient, chooseUnambiguous, raised, chooseWithFloor};
+ghost use Rattle.grow.specs.Steps.{Lent, Considered, kept, firstTwoBelow};
+use sheet::Position;
+
+// A corner's number, and its distance from the prediction.
+pub struct Candidate {
+    pub number: usize,
+    pub distance: f32,
+}
+
+// What a choice needs of the ordered candidates: of two or more, the first and the distance of the second.
+pub enum Candidates {
+    Empty,
+    One(Candidate),
+    Several(Candidate, f32),
+}
+
+// The choice at one cell.
+pub enum CandidateChoice {
+    Nothing,
+    Ambiguous,
+    Unique(usize),
+}
+
+// 2^-23, the first distance up to which two candidates are ambiguous for grow, and to which fill and local raise it.
+const EPSILON: f32 = 1.1920929e-7;
+
+// Whether corner k may be a candidate at all: it is unlabelled.
+fn is_eligible(used: &[u8; 1024], k: usize) -> bool
+    requires { ⌜ k < 1024 ⌝ }
+    ensures { λ r. ⌜ r ≡ eligible (unmarked (now (used .entry))) k ⌝ }
+{
+    used[k] == 0
+}
+
+// The squared distance of a corner from the prediction, each operation rounded.
+fn squared_distance(corner: Position, prediction: Position) -> f32
+    ensures { λ r. ⌜ r ≡ squaredDistance corner prediction ⌝ }
+{
+    let dx = corner.x - prediction.x;
+    let dy = corner.y - prediction.y;
+    dx * dx + dy * dy
+}
+
+// One more candidate, whose number is above all others': of equal distances the earlier number stays ahead.
+fn keep(found: Candidates, c: Candidate) -> Candidates
+    ensures { λ r. ⌜ r ≡ kept found c ⌝ }
+{
+    match found {
+        Candidates::Empty => Candidates::One(c),
+        Candidates::One(a) => {
+            if c.distance < a.distance {
+                Candidates::Several(c, a.distance)
+            } else {
+                Candidates::Several(a, c.distance)
+            }
+        }
+        Candidates::Several(first, second) => {
+            if c.distance < first.distance {
+                return Candidates::Several(c, first.distance);
+            }
+            if c.distance < second {
+                Candidates::Several(first, c.distance)
+            } else {
+                Candidates::Several(first, second)
+            }
+        }
+    }
+}
+
+// Corner k is looked at: the root is taken only within the radius.
+fn consider(
+    xs: &[f32],
+    ys: &[f32],
+    used: &[u8; 1024],
+    k: usize,
+    prediction: Position,
+    search_r: f32,
+    found: Candidates,
+) -> Candidates
+    requires { ⌜ Considered (now xs) (now ys) (now used) k prediction «search_r» found ⌝ }
+    ensures { λ r. ⌜ r ≡ firstTwoBelow (now (xs .entry)) (now (ys .entry)) (now (used .entry)) (k + 1) prediction «search_r» ⌝ }
+{
+    if !is_eligible(used, k) {
+        return found;
+    }
+    let corner = Position { x: xs[k], y: ys[k] };
+    let d2 = squared_distance(corner, prediction);
+    let r2 = search_r * search_r;
+    if d2 <= r2 {
+        let distance = binary32::root::sqrt_or_nan(d2);
+        keep(
+            found,
+            Candidate {
+                number: k,
+                distance,
+            },
+        )
+    } else {
+        found
+    }
+}
+
+// The first two of the candidates at the prediction, in order of distance and then corner number: all unlabelled corners whose
+// squared distance is at most the squared radius, and none if the prediction is not finite.
+pub fn collect_candidates(
+    xs: &[f32],
+    ys: &[f32],
+    used: &[u8; 1024],
+    prediction: Position,
+    search_r: f32,
+) -> Candidates
+    requires { ⌜ Lent (now xs) (now ys) ⌝ }
+    ensures { λ r. ⌜ r ≡ firstTwo (candidatesAt (positionsOf (now (xs .entry)) (now (ys .entry))) (unmarked (now (used .entry))) (length (now (xs .entry))) prediction «search_r») ⌝ }
+{
+    if !binary32::ranges::is_finite(prediction.x) {
+        return Candidates::Empty;
+    }
+    if !binary32::ranges::is_finite(prediction.y) {
+        return Candidates::Empty;
+    }
+    let mut found = Candidates::Empty;
+    let mut k = 0usize;
+    while k < xs.len() {
+        let more = consider(xs, ys, used, k, prediction, search_r, found);
+        found = more;
+        k += 1;
+    }
+    found
+}
+
+// The quotient of the two first distances: ambiguous if second/first is below the factor, else the first corner.
+fn by_quotient(number: usize, first: f32, second: f32, factor: f32) -> CandidateChoice
+    ensures { λ r. ⌜ r ≡ byQuotient number first second factor ⌝ }
+{
+    if second / first < factor {
+        CandidateChoice::Ambiguous
+    } else {
+        CandidateChoice::Unique(number)
+    }
+}
+
+// Grow's choice. Of two or more: a first distance of at most 2^-23 is ambiguous, and else the quotient decides.
+pub fn choose_unambiguous(candidates: Candidates, ambiguity_factor: f32) -> CandidateChoice
+    ensures { λ r. ⌜ r ≡ chooseUnambiguous candidates «ambiguity_factor» ⌝ }
+{
+    match candidates {
+        Candidates::Empty => CandidateChoice::Nothing,
+        Candidates::One(a) => CandidateChoice::Unique(a.number),
+        Candidates::Several(a, second) => {
+            let first = a.distance;
+            if first <= EPSILON {
+                return CandidateChoice::Ambiguous;
+            }
+            by_quotient(a.number, first, second, ambiguity_factor)
+        }
+    }
+}
+
+// A distance, raised to at least 2^-23.
+fn raise(d: f32) -> f32
+    ensures { λ r. ⌜ r ≡ raised d ⌝ }
+{
+    if EPSILON <= d { d } else { EPSILON }
+}
+
+// Fill's and local's choice. Of two or more: the first distance is raised to at least 2^-23, then the same quotient decides.
+pub fn choose_with_floor(candidates: Candidates, ambiguity_factor: f32) -> CandidateChoice
+    ensures { λ r. ⌜ r ≡ chooseWithFloor candidates «ambiguity_factor» ⌝ }
+{
+    match candidates {
+        Candidates::Empty => CandidateChoice::Nothing,
+        Candidates::One(a) => CandidateChoice::Unique(a.number),
+        Candidates::Several(a, second) => {
+            by_quotient(a.number, raise(a.distance), second, ambiguity_factor)
+        }
+    }
+}

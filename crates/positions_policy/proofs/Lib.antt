@@ -1,0 +1,4 @@
+-- The search of the loop, the laws of the verdict that other crates cite, and computed examples. Assumes nothing.
+pub mod Search
+pub mod Laws
+pub mod Examples
