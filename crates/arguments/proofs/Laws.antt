@@ -21,7 +21,7 @@ use Rattle.labels.specs.Used.{names, OneCell}
 use Rattle.labels.proofs.Below.{no-both, any-hit, any-yes, any-none, any-no}
 use Rattle.labels.proofs.Used.{names-it, it-names}
 use Rattle.predict.specs.declared.Vector.{Vector}
-use Rattle.arguments.specs.Arguments.{Lent, corners, queueNeeded, tooShort, overLimit, outside, cornerOutside, outsideAt, someCornerOutside, axisOutside, settingsOutside, growOutside, fillOutside, localOutside, passOutside, outOfRange, unknown, unknownAt, unknownCorner, sameCorner, doubledAt, doubledCorner, refusedIf, checked}
+use Rattle.arguments.specs.Arguments.{Lent, cornerCount, queueNeeded, tooShort, overLimit, outside, cornerOutside, outsideAt, someCornerOutside, axisOutside, settingsOutside, growOutside, fillOutside, localOutside, passOutside, outOfRange, unknown, unknownAt, unknownCorner, sameCorner, doubledAt, doubledCorner, refusedIf, checked}
 use Rattle.arguments.specs.Accepted.{CornerInside, AxisInside, SettingsInside, GrowInside, FillInside, LocalInside, PassInside, Accepted, LongEnough, Known, OnTwoPlaces}
 use Rattle.arguments.specs.declared.GrowParams.{GrowParams}
 use Rattle.arguments.specs.declared.FillParams.{FillParams}
@@ -44,10 +44,10 @@ neither a b e f = rw e f
 pub long-enough : (l : Lent) (pass : Pass) → tooShort l pass ≡ false → LongEnough l pass
 unfolding tooShort
 long-enough l pass e =
-    let ys = either (ltb (length (l .ys)) (corners l)) _ e in
-    let pitches = either (ltb (length (l .pitches)) (corners l)) _ (ys .1) in
+    let ys = either (ltb (length (l .ys)) (cornerCount l)) _ e in
+    let pitches = either (ltb (length (l .pitches)) (cornerCount l)) _ (ys .1) in
     let sheet = either (ltb (length (l .sheet)) 16384) _ (pitches .1) in
-    let queue = either (ltb (l .queue) (queueNeeded pass (corners l))) _ (sheet .1) in
+    let queue = either (ltb (l .queue) (queueNeeded pass (cornerCount l))) _ (sheet .1) in
     record {
       ys-long = ltb-false _ _ (ys .0);
       pitches-long = ltb-false _ _ (pitches .0);
@@ -244,7 +244,7 @@ module _ (l : Lent) (settings : Settings) (pass : Pass) where
       let a7 = fine (tooShort l pass) Refusal.BufferTooShort _ e in
       let a2 = fine (overLimit l) Refusal.OverLimit _ (a7 .1) in
       let a3 = fine (outOfRange l settings pass) Refusal.OutOfRange _ (a2 .1) in
-      let a5 = fine (unknownCorner (corners l) (l .sheet)) Refusal.UnknownCorner _ (a3 .1) in
+      let a5 = fine (unknownCorner (cornerCount l) (l .sheet)) Refusal.UnknownCorner _ (a3 .1) in
       let a6 = fine (doubledCorner (l .sheet)) Refusal.Duplicate Checked.Fine (a5 .1) in
       let long = long-enough l pass (a7 .0) in
       let numbers = either (someCornerOutside (l .xs) (l .ys) (l .pitches)) _ (a3 .0) in
@@ -253,7 +253,7 @@ module _ (l : Lent) (settings : Settings) (pass : Pass) where
         queue-long = long .queue-long;
         attached-long = long .attached-long;
         few = ltb-false _ _ (a2 .0);
-        corners-inside = λ k h. corner-inside _ (any-none (outsideAt (l .xs) (l .ys) (l .pitches)) (corners l) k (numbers .0) h);
+        corners-inside = λ k h. corner-inside _ (any-none (outsideAt (l .xs) (l .ys) (l .pitches)) (cornerCount l) k (numbers .0) h);
         settings-inside = settings-inside settings (others .0);
         pass-inside = pass-inside pass (others .1);
         given = record { long = long .sheet-long; ys-long = long .ys-long; pitches-long = long .pitches-long; known = known _ _ (a5 .0) .known };
@@ -273,7 +273,7 @@ module _ (l : Lent) (settings : Settings) (pass : Pass) where
       (not-refused _ _ _ (not-unknown _ _ (record { known = w .given .known })) (not-refused _ _ _ (not-doubled _ (w .one-cell)) refl))))
 
 -- a corner's numbers, read from their lists
-module _ {l : Lent} {settings : Settings} {pass : Pass} (w : Accepted l settings pass) (k : ℕ) (h : k < corners l) where
+module _ {l : Lent} {settings : Settings} {pass : Pass} (w : Accepted l settings pass) (k : ℕ) (h : k < cornerCount l) where
   pub x-inside : inRange Quantity.Position (getD (l .xs) k nan) ≡ true
   unfolding cornerOf
   x-inside = w .corners-inside k h .x

@@ -13,7 +13,7 @@ use Rattle.sheet.specs.declared.Label.{Label}
 use Rattle.labels.specs.Labelled.{anyBelow}
 use Rattle.labels.specs.Used.{OneCell}
 use Rattle.labels.proofs.Below.{any-hit, any-yes, any-none, any-no}
-use Rattle.arguments.specs.Arguments.{Lent, corners, tooShort, overLimit, cornerOutside, outsideAt, someCornerOutside, outOfRange, checked}
+use Rattle.arguments.specs.Arguments.{Lent, cornerCount, tooShort, overLimit, cornerOutside, outsideAt, someCornerOutside, outOfRange, checked}
 use Rattle.arguments.specs.Accepted.{Known}
 use Rattle.arguments.proofs.Laws.{not-unknown, not-doubled}
 use Rattle.arguments.specs.declared.Pass.{Pass}
@@ -66,7 +66,7 @@ module _ (l l' : Lent) (settings : Settings) (pass : Pass) (paired : PairedCorne
 
   -- equal lengths, and no sheet names a corner that is not given, or one at two places
   pub checked-paired : length (l' .sheet) ≡ length (l .sheet) → l' .queue ≡ l .queue → l' .attached ≡ l .attached
-      → Known (corners l) (l .sheet) → OneCell (l .sheet) → Known (corners l') (l' .sheet) → OneCell (l' .sheet)
+      → Known (cornerCount l) (l .sheet) → OneCell (l .sheet) → Known (cornerCount l') (l' .sheet) → OneCell (l' .sheet)
       → checked l' settings pass ≡ checked l settings pass
   unfolding checked tooShort overLimit outOfRange
   checked-paired s q a k o k' o' =
@@ -74,6 +74,6 @@ module _ (l l' : Lent) (settings : Settings) (pass : Pass) (paired : PairedCorne
 
   -- the same where the sheets are paired, and the first names given corners only, each at one place
   pub checked-alike : PairedSheets (paired .pairs) (l .sheet) (l' .sheet) → l' .queue ≡ l .queue → l' .attached ≡ l .attached
-      → Known (corners l) (l .sheet) → OneCell (l .sheet) → checked l' settings pass ≡ checked l settings pass
+      → Known (cornerCount l) (l .sheet) → OneCell (l .sheet) → checked l' settings pass ≡ checked l settings pass
   checked-alike sheets q a k o =
       checked-paired (sheets .same-length) q a k o (rw (paired .same-xs) (known-paired (paired .pairs) sheets k)) (one-cell-paired (paired .pairs) sheets k o)

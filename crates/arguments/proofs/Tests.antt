@@ -12,12 +12,11 @@ use Rattle.refusal.specs.declared.Refusal.{Refusal}
 use Rattle.sheet.specs.Words.{bitOf, labelOf}
 use Rattle.sheet.specs.declared.Label.{Label}
 use Rattle.labels.specs.Labelled.{anyBelow}
-use Rattle.labels.specs.Used.{names, noted}
+use Rattle.labels.specs.Used.{names}
 use Rattle.labels.proofs.Below.{any-no, Searching, searching-start, searching-more, searching-hit, searching-end}
-use Rattle.labels.proofs.Used.{Marking, marking-start, marking-more}
-use Rattle.arguments.specs.Arguments.{Lent, corners, queueNeeded, tooShort, overLimit, outOfRange, unknownCorner, sameCorner, doubledAt, doubledCorner, refusedIf, checked}
-use Rattle.arguments.specs.Accepted.{Known}
-use Rattle.arguments.specs.Asked.{Small, seenBefore, Noted, Unseen}
+use Rattle.labels.proofs.Used.{Marking, marking-start, marking-more, noted-none, noted-entry}
+use Rattle.arguments.specs.Arguments.{Lent, cornerCount, queueNeeded, tooShort, overLimit, outOfRange, unknownCorner, sameCorner, doubledAt, doubledCorner, refusedIf, checked}
+use Rattle.arguments.specs.Asked.{HasEntry, HasEntries, seenBefore, Noted, Unseen}
 use Rattle.arguments.specs.declared.GrowParams.{GrowParams}
 use Rattle.arguments.specs.declared.FillParams.{FillParams}
 use Rattle.arguments.specs.declared.LocalExtensionParams.{LocalExtensionParams}
@@ -58,11 +57,11 @@ module _ (l : Lent) (settings : Settings) (pass : Pass) where
       refused-3 e = passed _ _ _ _ a7 (passed _ _ _ _ a2 (refused _ _ _ (sym e)))
 
       module _ (a3 : false ≡ outOfRange l settings pass) where
-        pub refused-5 : unknownCorner (corners l) (l .sheet) ≡ true → Checked.Refused Refusal.UnknownCorner ≡ checked l settings pass
+        pub refused-5 : unknownCorner (cornerCount l) (l .sheet) ≡ true → Checked.Refused Refusal.UnknownCorner ≡ checked l settings pass
         unfolding checked
         refused-5 e = passed _ _ _ _ a7 (passed _ _ _ _ a2 (passed _ _ _ _ (sym a3) (refused _ _ _ e)))
 
-        module _ (a5 : unknownCorner (corners l) (l .sheet) ≡ false) where
+        module _ (a5 : unknownCorner (cornerCount l) (l .sheet) ≡ false) where
           pub refused-6 : doubledCorner (l .sheet) ≡ true → Checked.Refused Refusal.Duplicate ≡ checked l settings pass
           unfolding checked
           refused-6 e = passed _ _ _ _ a7 (passed _ _ _ _ a2 (passed _ _ _ _ (sym a3) (passed _ _ _ _ a5 (refused _ _ _ e))))
@@ -99,23 +98,22 @@ module _ (queue n : ℕ) (pass : Pass) where
 
 -- the walk at a place: the entries say which corners the places before it hold, and none of those is doubled
 pub record Seeing (sheet seen : List ℕ) (p : ℕ) : Type 0 where
-  pub long : 16384 ≤ length sheet
-  pub known : Known 1024 sheet
+  pub entries : HasEntries sheet
   pub marking : Marking sheet seen p
   pub searching : Searching (doubledAt sheet) 16384 p
 
 pub seeing-start : (sheet seen : List ℕ) → Unseen sheet seen → Seeing sheet seen 0
 seeing-start sheet seen u =
-    record { long = u .long; known = u .known; marking = marking-start sheet seen (u .size) (u .none); searching = searching-start (doubledAt sheet) 16384 }
+    record { entries = u .entries; marking = marking-start sheet seen (u .size) (u .none); searching = searching-start (doubledAt sheet) 16384 }
 
--- a corner was seen before exactly if a place before this one holds it
 module _ (sheet seen : List ℕ) (p : ℕ) (s : Seeing sheet seen p) (h : p < 16384) where
-  pub small : Small (labelOf (getD sheet p 0))
-  small = record { small = λ k e. s .known .known p k h e }
+  pub has-entry : HasEntry (labelOf (getD sheet p 0))
+  has-entry = record { entry = λ k e. s .entries .known .known p k h e }
 
+  -- a corner was seen before exactly if a place before this one holds it
   seen-doubled : seenBefore seen (labelOf (getD sheet p 0)) ≡ doubledAt sheet p
   unfolding doubledAt bitOf seenBefore sameCorner
-  seen-doubled = go (labelOf (getD sheet p 0)) (small .small)
+  seen-doubled = go (labelOf (getD sheet p 0)) (has-entry .entry)
     where
       bit : (b : Bool) → not (eqb (bitOf b) 0) ≡ b
       bit true = refl
@@ -129,8 +127,7 @@ module _ (sheet seen : List ℕ) (p : ℕ) (s : Seeing sheet seen p) (h : p < 16
     pub seeing-more : r ≡ false → Seeing sheet after (p + 1)
     seeing-more e =
         record {
-          long = s .long;
-          known = s .known;
+          entries = s .entries;
           marking = marking-more sheet seen p (s .marking) after h (w .written);
           searching = searching-more (doubledAt sheet) 16384 p (s .searching) h (sym seen-doubled ∙ sym (w .said) ∙ e);
         }
@@ -144,10 +141,11 @@ unfolding doubledCorner
 seeing-end sheet seen p s h = searching-end (doubledAt sheet) 16384 p (s .searching) h
 
 -- a label noted, by its two ways
-pub noted-none : (seen : List ℕ) (label : Label) → label ≡ Label.Unlabelled → Noted seen label seen false
-unfolding seenBefore noted
-noted-none seen label e = record { said = rw e; written = rw e }
+module _ (seen : List ℕ) (label : Label) where
+  pub note-none : label ≡ Label.Unlabelled → Noted seen label seen false
+  unfolding seenBefore
+  note-none e = record { said = rw e; written = noted-none seen label e }
 
-pub noted-corner : (seen : List ℕ) (label : Label) (k : ℕ) → label ≡ Label.Corner k → k < 1024 → Noted seen label (set seen k 1) (not (eqb (getD seen k 0) 0))
-unfolding seenBefore noted
-noted-corner seen label k e h = record { said = rw e; written = rw (e, lt-ltb k 1024 h) }
+  pub note-corner : (k : ℕ) → label ≡ Label.Corner k → k < 1024 → Noted seen label (set seen k 1) (not (eqb (getD seen k 0) 0))
+  unfolding seenBefore
+  note-corner k e h = record { said = rw e; written = noted-entry seen label k e h }

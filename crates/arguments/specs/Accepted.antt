@@ -13,7 +13,7 @@ use Rattle.sheet.specs.declared.Label.{Label}
 use Rattle.sheet.specs.declared.Corner.{Corner}
 use Rattle.labels.specs.Used.{OneCell}
 use Rattle.predict.specs.declared.Vector.{Vector}
-use Rattle.arguments.specs.Arguments.{Lent, corners, queueNeeded}
+use Rattle.arguments.specs.Arguments.{Lent, cornerCount, queueNeeded}
 use Rattle.arguments.specs.declared.GrowParams.{GrowParams}
 use Rattle.arguments.specs.declared.FillParams.{FillParams}
 use Rattle.arguments.specs.declared.LocalExtensionParams.{LocalExtensionParams}
@@ -64,10 +64,10 @@ PassInside (Pass.Local p) = LocalInside p
 -- the buffers are long enough, the corners at most 1,024, all numbers in their ranges, and the sheet names given corners
 -- only, each at one place
 pub record Accepted (l : Lent) (settings : Settings) (pass : Pass) : Type 0 where
-  pub queue-long : queueNeeded pass (corners l) ≤ l .queue
-  pub attached-long : corners l ≤ l .attached
-  pub few : corners l ≤ 1024
-  pub corners-inside : (k : ℕ) → k < corners l → CornerInside (cornerOf (l .xs) (l .ys) (l .pitches) k)
+  pub queue-long : queueNeeded pass (cornerCount l) ≤ l .queue
+  pub attached-long : cornerCount l ≤ l .attached
+  pub few : cornerCount l ≤ 1024
+  pub corners-inside : (k : ℕ) → k < cornerCount l → CornerInside (cornerOf (l .xs) (l .ys) (l .pitches) k)
   pub settings-inside : SettingsInside settings
   pub pass-inside : PassInside pass
   pub given : Given (l .xs) (l .ys) (l .pitches) (l .sheet)
@@ -75,11 +75,11 @@ pub record Accepted (l : Lent) (settings : Settings) (pass : Pass) : Type 0 wher
 
 -- the buffers alone: as long as 7 needs them
 pub record LongEnough (l : Lent) (pass : Pass) : Type 0 where
-  pub ys-long : corners l ≤ length (l .ys)
-  pub pitches-long : corners l ≤ length (l .pitches)
+  pub ys-long : cornerCount l ≤ length (l .ys)
+  pub pitches-long : cornerCount l ≤ length (l .pitches)
   pub sheet-long : 16384 ≤ length (l .sheet)
-  pub queue-long : queueNeeded pass (corners l) ≤ l .queue
-  pub attached-long : corners l ≤ l .attached
+  pub queue-long : queueNeeded pass (cornerCount l) ≤ l .queue
+  pub attached-long : cornerCount l ≤ l .attached
 
 -- ---- labels
 

@@ -36,8 +36,8 @@ abbrev pub lent : List Float → List Float → List Float → List ℕ → ℕ 
 lent xs ys pitches sheet queue attached = record { xs = xs; ys = ys; pitches = pitches; sheet = sheet; queue = queue; attached = attached }
 
 -- the number of corners, n below: as many as there are xs
-abbrev pub corners : Lent → ℕ
-corners l = length (l .xs)
+abbrev pub cornerCount : Lent → ℕ
+cornerCount l = length (l .xs)
 
 -- ---- 7, short: "lent buffer too short (library only)"
 
@@ -50,17 +50,17 @@ queueNeeded (Pass.Local p) n = 0
 -- "Needed are 16,384 sheet places, 4 queue places a corner, one attached place a corner", and each corner's y and pitch
 unfoldable pub tooShort : Lent → Pass → Bool
 tooShort l pass =
-    ltb (length (l .ys)) (corners l)
-    || (ltb (length (l .pitches)) (corners l)
+    ltb (length (l .ys)) (cornerCount l)
+    || (ltb (length (l .pitches)) (cornerCount l)
     || (ltb (length (l .sheet)) 16384
-    || (ltb (l .queue) (queueNeeded pass (corners l))
-    || ltb (l .attached) (corners l))))
+    || (ltb (l .queue) (queueNeeded pass (cornerCount l))
+    || ltb (l .attached) (cornerCount l))))
 
 -- ---- 2, overfull: "a limit on .. corners .. passed"
 
 -- "At most .. 1,024 corners"
 unfoldable pub overLimit : Lent → Bool
-overLimit l = ltb 1024 (corners l)
+overLimit l = ltb 1024 (cornerCount l)
 
 -- ---- 3, wild: "number non-finite or out of range"
 
@@ -68,23 +68,23 @@ overLimit l = ltb 1024 (corners l)
 unfoldable pub outside : Quantity → Float → Bool
 outside q x = not (inRange q x)
 
--- a corner's position, x or y, or its pitch
+-- a corner whose x, y or pitch is out of range
 unfoldable pub cornerOutside : Corner → Bool
 cornerOutside c = outside Quantity.Position (c .position .x) || (outside Quantity.Position (c .position .y) || outside Quantity.Pitch (c .pitch))
 
--- that of the corner k
+-- the corner k is one
 unfoldable pub outsideAt : List Float → List Float → List Float → ℕ → Bool
 outsideAt xs ys pitches k = cornerOutside (cornerOf xs ys pitches k)
 
--- that of some corner of the n
+-- some corner of the n is one
 unfoldable pub someCornerOutside : List Float → List Float → List Float → Bool
 someCornerOutside xs ys pitches = anyBelow (length xs) (outsideAt xs ys pitches)
 
--- a part of an axis
+-- an axis with a part out of range
 unfoldable pub axisOutside : Vector → Bool
 axisOutside v = outside Quantity.AxisPart (v .x) || outside Quantity.AxisPart (v .y)
 
--- the cell size, a part of the axes, or the band
+-- the cell size, an axis or the band out of range
 unfoldable pub settingsOutside : Settings → Bool
 settingsOutside s =
     outside Quantity.CellSize (s .grid .«cell_size»)
@@ -92,21 +92,21 @@ settingsOutside s =
     || (axisOutside (s .grid .«axis_j»)
     || outside Quantity.Band (s .«edge_length_tol»)))
 
--- grow's search, factor or boundary
+-- grow's search, factor or boundary out of range
 unfoldable pub growOutside : GrowParams → Bool
 growOutside p =
     outside Quantity.Multiple (p .«attach_search_rel»)
     || (outside Quantity.Factor (p .«attach_ambiguity_factor»)
     || outside Quantity.Multiple (p .«boundary_search_factor»))
 
--- fill's search, factor or rounds; "rounds 0 to 64"
+-- fill's search, factor or rounds out of range; "rounds 0 to 64"
 unfoldable pub fillOutside : FillParams → Bool
 fillOutside p =
     outside Quantity.Multiple (p .«attach_search_rel»)
     || (outside Quantity.Factor (p .«attach_ambiguity_factor»)
     || ltb 64 (p .«max_iters»))
 
--- local's search, factor, rounds, residual or depth; "depth 0 to 4"
+-- local's search, factor, rounds, residual or depth out of range; "depth 0 to 4"
 unfoldable pub localOutside : LocalExtensionParams → Bool
 localOutside p =
     outside Quantity.Multiple (p .«search_rel»)
@@ -115,13 +115,13 @@ localOutside p =
     || (outside Quantity.Multiple (p .«max_residual_rel»)
     || ltb 4 (p .«extend_depth»))))
 
--- one of the pass's own numbers
+-- one of the pass's own numbers out of range
 unfoldable pub passOutside : Pass → Bool
 passOutside (Pass.Grow p) = growOutside p
 passOutside (Pass.Fill p) = fillOutside p
 passOutside (Pass.Local p) = localOutside p
 
--- any number of the call
+-- any number of the call out of range
 unfoldable pub outOfRange : Lent → Settings → Pass → Bool
 outOfRange l settings pass = someCornerOutside (l .xs) (l .ys) (l .pitches) || (settingsOutside settings || passOutside pass)
 
@@ -166,5 +166,5 @@ checked l settings pass =
     refusedIf (tooShort l pass) Refusal.BufferTooShort
     (refusedIf (overLimit l) Refusal.OverLimit
     (refusedIf (outOfRange l settings pass) Refusal.OutOfRange
-    (refusedIf (unknownCorner (corners l) (l .sheet)) Refusal.UnknownCorner
+    (refusedIf (unknownCorner (cornerCount l) (l .sheet)) Refusal.UnknownCorner
     (refusedIf (doubledCorner (l .sheet)) Refusal.Duplicate Checked.Fine))))

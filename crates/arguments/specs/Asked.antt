@@ -18,8 +18,8 @@ pub record AllListed (xs ys pitches : List Float) : Type 0 where
 -- ---- the corners seen: 1,024 entries, that of a corner 1 if it was seen, and else 0
 
 -- a label whose corner, if it names one, has an entry
-pub record Small (label : Label) : Type 0 where
-  pub small : (k : ℕ) → label ≡ Label.Corner k → k < 1024
+pub record HasEntry (label : Label) : Type 0 where
+  pub entry : (k : ℕ) → label ≡ Label.Corner k → k < 1024
 
 -- the label's corner was seen before
 unfoldable pub seenBefore : List ℕ → Label → Bool
@@ -31,9 +31,13 @@ pub record Noted (seen : List ℕ) (label : Label) (after : List ℕ) (r : Bool)
   pub said : r ≡ seenBefore seen label
   pub written : after ≡ noted seen label
 
--- a sheet that is long enough and names corners that have an entry, and nothing seen
-pub record Unseen (sheet seen : List ℕ) : Type 0 where
+-- a sheet that is long enough and names corners that have an entry
+pub record HasEntries (sheet : List ℕ) : Type 0 where
   pub long : 16384 ≤ length sheet
   pub known : Known 1024 sheet
+
+-- such a sheet, and nothing seen
+pub record Unseen (sheet seen : List ℕ) : Type 0 where
+  pub entries : HasEntries sheet
   pub size : length seen ≡ 1024
   pub none : (k : ℕ) → k < 1024 → getD seen k 0 ≡ 0

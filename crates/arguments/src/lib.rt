@@ -6,8 +6,7 @@ ghost use Prim.Native.Nat.{_≤_};
 ghost use lib.Dec.{ltb};
 ghost use lib.ListN.{length};
 ghost use Rattle.arguments.specs.Arguments.{lent, queueNeeded, tooShort, outside, cornerOutside, someCornerOutside, axisOutside, settingsOutside, growOutside, fillOutside, localOutside, passOutside, unknown, unknownCorner, doubledCorner, checked};
-ghost use Rattle.arguments.specs.Accepted.{Known};
-ghost use Rattle.arguments.specs.Asked.{AllListed, Small, Noted, Unseen};
+ghost use Rattle.arguments.specs.Asked.{AllListed, HasEntry, HasEntries, Noted, Unseen};
 use binary32::ranges::Quantity;
 use predict::Grid;
 use predict::Vector;
@@ -241,7 +240,7 @@ fn unknown_corner(n: usize, sheet: &[u16]) -> bool
 
 // Notes the corner of a label as seen; true if it was seen before.
 fn note(seen: &mut [u8; 1024], label: Label) -> bool
-    requires { ⌜ Small label ⌝ }
+    requires { ⌜ HasEntry label ⌝ }
     ensures { λ r. ⌜ Noted (now (seen .entry)) label (now (seen .exit)) r ⌝ }
 {
     let Label::Corner(k) = label else {
@@ -269,7 +268,7 @@ fn seen_twice(sheet: &[u16], seen: &mut [u8; 1024]) -> bool
 
 // 6: whether a corner stands on two places of the sheet.
 fn doubled_corner(sheet: &[u16]) -> bool
-    requires { ⌜ (16384 ≤ length (now sheet)) × Known 1024 (now sheet) ⌝ }
+    requires { ⌜ HasEntries (now sheet) ⌝ }
     ensures { λ r. ⌜ r ≡ doubledCorner (now (sheet .entry)) ⌝ }
 {
     let mut seen = [0u8; 1024];

@@ -3,7 +3,7 @@ use mathlib.Core.Path.{_≡_, sym, _∙_}
 use mathlib.Core.Bool.{false}
 use borrow.Author.Needs.{needs}
 use borrow.Author.Tests.{lt-ltb, le-ltb}
-use Rattle.arguments.specs.Arguments.{Lent, lent, corners, tooShort, overLimit, someCornerOutside, settingsOutside, outOfRange, unknownCorner}
+use Rattle.arguments.specs.Arguments.{Lent, lent, cornerCount, tooShort, overLimit, someCornerOutside, settingsOutside, outOfRange, unknownCorner}
 use Rattle.arguments.specs.Accepted.{LongEnough}
 use Rattle.arguments.proofs.Laws.{long-enough, known, known-more}
 use Rattle.arguments.proofs.Tests.{holds, fails, refused-7, refused-2, refused-3, refused-5, refused-6, refused-none}
@@ -31,7 +31,7 @@ passed-3 : (c : tie.Else5) → false ≡ outOfRange (at (c .before .before .befo
 unfolding outOfRange
 passed-3 c = fails _ _ _ (corners-passed (c .before .before .before .before)) (fails _ _ _ (settings-passed (c .before .before)) (sym (c .if5 .left) ∙ c .before .pass-outside .ensures))
 
-passed-5 : (c : tie.Else6) → unknownCorner (corners (at (c .before .before .before .before .before .before .before .before .before .before .before .before .before .before .before))) (c .before .before .before .before .before .before .before .before .before .before .before .before .before .before .before .args .sheet .now) ≡ false
+passed-5 : (c : tie.Else6) → unknownCorner (cornerCount (at (c .before .before .before .before .before .before .before .before .before .before .before .before .before .before .before))) (c .before .before .before .before .before .before .before .before .before .before .before .before .before .before .before .args .sheet .now) ≡ false
 passed-5 c = sym (c .before .unknown-corner .ensures) ∙ c .if6 .left
 
 long : (c : tie.Else1) → LongEnough (at (c .before .before .before .before .before .before)) (c .before .before .before .before .before .before .args .pass)
@@ -80,7 +80,7 @@ returns-6 c = refused-5 _ _ _ (passed-7 (c .before .before .before .before .befo
 
 doubled-corner-requires : tie.Need-doubled-corner-requires
 doubled-corner-requires c κs =
-    (long (c .before .before .before .before .before .before .before .before .before) .sheet-long, known-more _ _ _ (c .before .before .before .before .before .before .before .before .if2 .left) (known _ _ (passed-5 c)))
+    record { long = long (c .before .before .before .before .before .before .before .before .before) .sheet-long; known = known-more _ _ _ (c .before .before .before .before .before .before .before .before .if2 .left) (known _ _ (passed-5 c)) }
 
 returns-7 : tie.Need-returns-7
 returns-7 c = refused-6 _ _ _ (passed-7 (c .before .before .before .before .before .before .before .before .before .before .before)) (passed-2 (c .before .before .before .before .before .before .before .before .before .before)) (passed-3 (c .before .before .before .before)) (passed-5 (c .before .before)) (sym (c .before .doubled-corner .ensures) ∙ c .if7 .taken)

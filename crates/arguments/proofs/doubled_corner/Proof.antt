@@ -7,8 +7,7 @@ use Rattle.arguments.proofs.doubled_corner.Tie as tie
 
 seen-twice-requires : tie.Need-seen-twice-requires
 seen-twice-requires c κs =
-    let asked = c .before .before .pre in
-    record { long = asked .0; known = asked .1; size = length-replicate {A = ℕ} 1024 0; none = λ k h. getD-replicate {A = ℕ} 1024 k 0 0 h }
+    record { entries = c .before .before .pre; size = length-replicate {A = ℕ} 1024 0; none = λ k h. getD-replicate {A = ℕ} 1024 k 0 0 h }
 
 returns : tie.Need-returns
 returns c = search needs

@@ -2,7 +2,7 @@
 use Prim.Native.Nat.{_-_}
 use native.Mathlib.Omega.{arith}
 use borrow.Author.Needs.{needs}
-use Rattle.arguments.proofs.Tests.{Seeing, seeing-start, small, seeing-more, seeing-hit, seeing-end}
+use Rattle.arguments.proofs.Tests.{Seeing, seeing-start, has-entry, seeing-more, seeing-hit, seeing-end}
 use Rattle.arguments.proofs.seen_twice.Statement.{statement}
 use Rattle.arguments.proofs.seen_twice.Tie as tie
 
@@ -25,7 +25,7 @@ label-of-requires : tie.Need-label-of-requires Inv-loop μ-loop
 label-of-requires c κs = search needs
 
 note-requires : tie.Need-note-requires Inv-loop μ-loop
-note-requires c κs = rw (c .label-of .ensures) (small _ _ _ (c .before .before .before .before .loop .inv) (c .before .before .before .loop-test .taken))
+note-requires c κs = rw (c .label-of .ensures) (has-entry _ _ _ (c .before .before .before .before .loop .inv) (c .before .before .before .loop-test .taken))
 
 returns : tie.Need-returns Inv-loop μ-loop
 returns c = seeing-hit _ _ _ (c .before .before .before .before .before .before .loop .inv) (c .before .before .before .before .before .loop-test .taken) _ _ (rw (c .before .before .label-of .ensures) at (c .before .note .ensures)) (c .if1 .taken)
