@@ -39,13 +39,6 @@ unfolding inFloat
 small-float (pos n) h = le→leb n 16777216 (omega arith)
 small-float (negsuc n) h = le→leb (suc n) 16777216 (omega arith)
 
--- a number that is at least m and not m is at least the next; one that is at least 7 and below 8 is 7
-pub past : {k : ℕ} (m : ℕ) → m ≤ k → (k ≡ m → ⊥) → suc m ≤ k
-past m h d = omega (arith, d)
-
-pub is-seven : (k : ℕ) → 7 ≤ k → k < 8 → k ≡ 7
-is-seven k h l = omega arith
-
 -- the offsets of the square and of both directions are at most 1 each way
 near-one : (o : Offset) → natAbs (o .di) ≤ 1 → natAbs (o .dj) ≤ 1 → Within 128 o
 near-one o h l = record { di-small = omega arith; dj-small = omega arith }
@@ -99,6 +92,10 @@ offsets-eight = refl
 abbrev pub neighboursFrom : (Cell → Seen) → Cell → ℕ → List Neighbour
 neighboursFrom seen c k = labelledAmong seen c (drop k neighbourOffsets)
 
+or-true : (b : Bool) → (b || true) ≡ true
+or-true true = refl
+or-true false = refl
+
 module _ (seen : Cell → Seen) (c : Cell) where
   next-of : (os : List Offset) (o : Offset) (k : ℕ) → k < length os
       → labelledAmong seen c (drop k os) ≡ putBefore (moved c (getD os k o)) (seen (moved c (getD os k o))) (labelledAmong seen c (drop (suc k) os))
@@ -150,17 +147,17 @@ module _ (seen : Cell → Seen) (c : Cell) where
 
   -- ---- no neighbour, or a prediction
 
+  from-none : (l : List Neighbour) (s : Sums) → anyOn Side.Any c l ≡ false → predictionFrom l s ≡ Prediction.NoNeighbour
+  unfolding anyOn onSide predictionFrom
+  from-none [] s e = refl
+  from-none (n ∷ ns) s e = absurd (true≢false e)
+
+  from-some : (l : List Neighbour) (s : Sums) → anyOn Side.Any c l ≡ true → predictionFrom l s ≡ Prediction.At (meanOf s)
+  unfolding anyOn onSide predictionFrom
+  from-some [] s e = absurd (true≢false (sym e))
+  from-some (n ∷ ns) s e = refl
+
   module _ (grid : Grid) where
-    from-none : (l : List Neighbour) (s : Sums) → anyOn Side.Any c l ≡ false → predictionFrom l s ≡ Prediction.NoNeighbour
-    unfolding anyOn onSide predictionFrom
-    from-none [] s e = refl
-    from-none (n ∷ ns) s e = absurd (true≢false e)
-
-    from-some : (l : List Neighbour) (s : Sums) → anyOn Side.Any c l ≡ true → predictionFrom l s ≡ Prediction.At (meanOf s)
-    unfolding anyOn onSide predictionFrom
-    from-some [] s e = absurd (true≢false (sym e))
-    from-some (n ∷ ns) s e = refl
-
     pub predicted-none : hasNeighbour seen c Side.Any ≡ false → predictionOf seen grid c ≡ Prediction.NoNeighbour
     unfolding hasNeighbour predictionOf
     predicted-none e = from-none (neighboursOf seen c) (sumsOf seen grid c) e
@@ -170,10 +167,6 @@ module _ (seen : Cell → Seen) (c : Cell) where
     predicted-some e = from-some (neighboursOf seen c) (sumsOf seen grid c) e
 
   -- ---- a labelled cell of the square is a neighbour
-
-  or-true : (b : Bool) → (b || true) ≡ true
-  or-true true = refl
-  or-true false = refl
 
   module _ (side : Side) where
     any-drop : (os : List Offset) (k : ℕ) → anyOn side c (labelledAmong seen c (drop k os)) ≡ true → anyOn side c (labelledAmong seen c os) ≡ true

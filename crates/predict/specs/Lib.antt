@@ -1,1 +1,2 @@
+-- The definitions of prediction. Definitions only.
 pub mod Predict

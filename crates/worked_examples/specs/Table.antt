@@ -4,7 +4,12 @@ use Prim.Native.Nat.{ℕ}
 use mathlib.Core.Path.{_≡_}
 use mathlib.Core.Bool.{Bool, true, false}
 use mathlib.Core.List.{List, [], _∷_}
+use lib.ListN.{length}
 use lib.Ieee.{Float, binary32, ofBits}
+use Rattle.sheet.specs.Cells.{placeOf}
+use Rattle.labels.specs.Box.{boxAround}
+use Rattle.passes.specs.Grow.{member}
+use Rattle.passes.specs.Fill.{boxAndStrips, cellsOf}
 use Rattle.binary32.specs.declared.root.Rooted.the-variants.{Root}
 use Rattle.binary32.specs.Sqrt.{Answers, rooted}
 use Rattle.grow.specs.Choice.{chooseUnambiguous, chooseWithFloor}
@@ -38,12 +43,20 @@ pub data Example : Type 0 where
   -- the expected length of an edge by both pitches and the cell size
   expected : ℕ → ℕ → ℕ → ℕ → Example
 
+  -- the cells that are labelled, by their places: how many cells fill's first round walks
+  fillWalks : List ℕ → ℕ → Example
+
+-- the cells that a round walks where these places are labelled and no other
+abbrev pub fillWalk : List ℕ → List ℕ
+fillWalk places = cellsOf (boxAndStrips (boxAround places)) (λ c. member (placeOf c) places)
+
 -- what an example claims, of the definitions that the contracts cite
 abbrev pub Holds : Example → Type 0
 Holds (root x r) = Answers (f32 x) (Root (f32 r)) × (rooted (f32 x) ≡ Root (f32 r))
 Holds (grows first second factor c) = chooseUnambiguous (twoAt first second) (f32 factor) ≡ choiceOf c
 Holds (fills first second factor c) = chooseWithFloor (twoAt first second) (f32 factor) ≡ choiceOf c
 Holds (edge length expectation band b) = inBand (f32 length) (f32 expectation) (f32 band) ≡ b
+Holds (fillWalks places n) = length (fillWalk places) ≡ n
 Holds (expected candidate neighbour size r) = expectedLength (f32 size) (f32 candidate) (f32 neighbour) ≡ f32 r
 
 -- every row of a table holds
@@ -73,4 +86,6 @@ table =
     ∷ edge 0x40e0_0000 0x4120_0000 0x3e80_0000 false
     -- M7: both pitches 0.001: cell size used (here 10)
     ∷ expected 0x3a83_126f 0x3a83_126f 0x4120_0000 0x4120_0000
+    -- M8: labels (0,0), (2,0): fill walks 9 cells. Their places are 64 * 128 + 64 and 66 * 128 + 64
+    ∷ fillWalks (8256 ∷ 8512 ∷ []) 9
     ∷ []

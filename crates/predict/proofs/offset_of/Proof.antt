@@ -1,9 +1,18 @@
 -- `predict::offset_of` meets its contract, number by number; the last arm is left for 7. Assumes nothing.
+use mathlib.Core.Path.{_≡_}
+use Prim.Native.Nat.{ℕ, suc, _<_, _≤_}
+use native.Mathlib.Omega.{arith}
 use borrow.Author.Needs.{zero≤}
 use Rattle.predict.specs.Predict.{neighbourOffsets}
-use Rattle.predict.proofs.Laws.{past, is-seven}
 use Rattle.predict.proofs.offset_of.Statement.{statement}
 use Rattle.predict.proofs.offset_of.Tie as tie
+
+-- a number that is at least m and not m is at least the next; one that is at least 7 and below 8 is 7
+past : {k : ℕ} (m : ℕ) → m ≤ k → (k ≡ m → ⊥) → suc m ≤ k
+past m h d = omega (arith, d)
+
+is-seven : (k : ℕ) → 7 ≤ k → k < 8 → k ≡ 7
+is-seven k h l = omega arith
 
 returns : tie.Need-returns
 unfolding neighbourOffsets

@@ -1,0 +1,150 @@
+-- Fill's run is the same on both frames, through the pairing, where its factor is above 1: paired sheets, and the same new cells and rounds.
+-- Assumes nothing.
+use mathlib.Core.Path.{_≡_, refl, sym, ap, ap₂, subst}
+use mathlib.Core.Bool.{Bool, true, false, cond}
+use mathlib.Core.List.{List, [], _∷_, _++_}
+use Prim.Native.Nat.{ℕ, zero, suc, _+_, _<_, _≤_}
+use native.Mathlib.Omega.{arith}
+use lib.Dec.{T, eqb}
+use lib.ListN.{length}
+use lib.Ieee.{lt}
+use lib.Ieee.Scale.{finite}
+use Rattle.float_order.specs.Unsigned.{one}
+use Rattle.sheet.specs.Cells.{OnSheet, placeOf, cellOf}
+use Rattle.sheet.specs.Corners.{cornerOf, seenOf, Given}
+use Rattle.sheet.specs.Pairing.{Shuffle, PairedCorners, PairedSheets}
+use Rattle.sheet.specs.declared.Cell.{Cell}
+use Rattle.sheet.proofs.Laws.{cell-on}
+use Rattle.sheet.proofs.Pairing.{paired-attached}
+use Rattle.labels.specs.Labelled.{labelCount}
+use Rattle.labels.specs.Box.{boxOf}
+use Rattle.labels.proofs.Pairing.{paired-box, paired-count}
+use Rattle.grow.specs.Candidates.{squaredRadius}
+use Rattle.grow.proofs.Radius.{search-radius}
+use Rattle.predict.specs.Predict.{predictionOf}
+use Rattle.predict.specs.declared.Prediction.{Prediction}
+use Rattle.predict.proofs.Laws.{prediction-paired}
+use Rattle.arguments.specs.Accepted.{SettingsInside, FillInside}
+use Rattle.arguments.specs.declared.Settings.{Settings}
+use Rattle.arguments.specs.declared.FillParams.{FillParams}
+use Rattle.extension_common.specs.TryCell.{tryAt}
+use Rattle.extension_common.specs.declared.TryCellResult.{TryCellResult}
+use Rattle.extension_common.proofs.Laws.{attachable}
+use Rattle.passes.specs.Grow.{tolerancesOf}
+use Rattle.passes.specs.Fill.{boxAndStrips, fillCells, FillState, fillSearch, fillWith, fillAt, fillVisit, fillAll, fillRound, FillRounds, fillFrom, limitOf, fillRun}
+use Rattle.passes.specs.Step.{CornerLists}
+use Rattle.passes.specs.History.{History, begun}
+use Rattle.invariants.specs.Kept.{Sound}
+use Rattle.invariants.specs.Calls.{cornersIn, Standing}
+use Rattle.invariants.proofs.Waiting.{first-on}
+use Rattle.invariants.proofs.Fill.{Filling, cells-listed, sound-then, filling-visit, filling-round}
+use Rattle.invariants.proofs.Run.{standing-sound, sound-standing}
+use Rattle.agreement.proofs.Try.{pairedResult, try-paired}
+use Rattle.agreement.proofs.Cells.{cells-same}
+
+-- where both runs stand: paired sheets, and the same new cells
+pub record SameFill {n : ℕ} (s : Shuffle n) (a a' : FillState) : Type 0 where
+  pub sheet : PairedSheets s (a .sheet) (a' .sheet)
+  pub made : a' .made ≡ a .made
+
+-- after some rounds, and after as many in both
+pub record SameRounds {n : ℕ} (s : Shuffle n) (r r' : FillRounds) : Type 0 where
+  pub state : SameFill s (r .state) (r' .state)
+  pub rounds : r' .rounds ≡ r .rounds
+
+-- the same cells are listed
+fill-cells-same : {n : ℕ} {s : Shuffle n} {sheet sheet' : List ℕ} → PairedSheets s sheet sheet' → fillCells sheet' ≡ fillCells sheet
+unfolding fillCells
+fill-cells-same {sheet} {sheet'} paired = cells-same paired (boxAndStrips (boxOf sheet)) (boxAndStrips (boxOf sheet')) (ap boxAndStrips (paired-box paired))
+
+-- ---- one cell
+
+with-same : {n : ℕ} {s : Shuffle n} {a a' : FillState} → SameFill s a a' → 16384 ≤ length (a .sheet) → (c : Cell) → OnSheet c → n ≤ 1024
+    → (r : TryCellResult) → ((k : ℕ) → r ≡ TryCellResult.Attached k → k < n) → SameFill s (fillWith c r a) (fillWith c (pairedResult (s .to) r) a')
+unfolding fillWith pairedResult
+with-same same long c on few TryCellResult.NoCandidates given = same
+with-same same long c on few TryCellResult.Ambiguous given = same
+with-same same long c on few TryCellResult.EdgeRejected given = same
+with-same {s = s} same long c on few (TryCellResult.Attached k) given =
+    let h = given k refl in
+    record {
+      sheet = paired-attached (same .sheet) c long on k (omega arith) (omega (arith, s .to-in k h));
+      made = ap (λ (l : List ℕ). l ++ (placeOf c ∷ [])) (same .made);
+    }
+
+-- ---- the run
+
+module _ (l l' : CornerLists) (corners : PairedCorners (l .xs) (l .ys) (l .pitches) (l' .xs) (l' .ys) (l' .pitches)) (few : length (l .xs) ≤ 1024)
+    (set : Settings) (params : FillParams) (inside : SettingsInside set) (numbers : FillInside params) (above : lt one (params .«attach_ambiguity_factor») ≡ true) where
+  finite-radius : T (finite (squaredRadius (fillSearch set params .«search_r»)))
+  unfolding fillSearch
+  finite-radius = search-radius (params .«attach_search_rel») (set .grid .«cell_size») (numbers .search) (inside .cell-size)
+
+  factor-above : lt one (fillSearch set params .«ambiguity_factor») ≡ true
+  unfolding fillSearch
+  factor-above = above
+
+  module _ (a a' : FillState) (same : SameFill (corners .pairs) a a') (given : Given (l .xs) (l .ys) (l .pitches) (a .sheet)) (c : Cell) (on : OnSheet c) where
+    at-same : (at : Prediction) → SameFill (corners .pairs) (fillAt (cornersIn l) set params c at a) (fillAt (cornersIn l') set params c at a')
+    unfolding fillAt
+    at-same Prediction.NoNeighbour = same
+    at-same (Prediction.At at) =
+        rw (try-paired l l' corners (a .sheet) (a' .sheet) (same .sheet) given (tolerancesOf set) (fillSearch set params) c at finite-radius factor-above)
+        (with-same same (given .long) c on few (tryAt (cornersIn l) (a .sheet) (tolerancesOf set) (fillSearch set params) c at)
+        (λ k h. attachable (cornersIn l) (a .sheet) (tolerancesOf set) (fillSearch set params) c at k h .given))
+
+    visit-same : SameFill (corners .pairs) (fillVisit (cornersIn l) set params c a) (fillVisit (cornersIn l') set params c a')
+    unfolding fillVisit
+    visit-same = rw (prediction-paired corners (same .sheet) given (set .grid) c) (at-same (predictionOf (seenOf (cornerOf (l .xs) (l .ys) (l .pitches)) (a .sheet)) (set .grid) c))
+
+  module _ (first : List ℕ) (begins : Standing l first) where
+    sound : Sound (cornersIn l) first
+    sound = standing-sound begins
+
+    -- some cells: in the first run each lies on the sheet
+    all-same : (ps : List ℕ) (a a' : FillState) → Filling (cornersIn l) (tolerancesOf set) first ps a → SameFill (corners .pairs) a a'
+        → SameFill (corners .pairs) (fillAll (cornersIn l) set params ps a) (fillAll (cornersIn l') set params ps a')
+    unfolding fillAll
+    all-same [] a a' g same = same
+    all-same (p ∷ ps) a a' g same =
+        all-same ps (fillVisit (cornersIn l) set params (cellOf p) a) (fillVisit (cornersIn l') set params (cellOf p) a') (filling-visit few sound set params p ps a g)
+        (visit-same a a' same (sound-standing begins (sound-then few sound g) .given) (cellOf p) (cell-on p (first-on (g .waiting))))
+
+    round-same : (a a' : FillState) → History (cornersIn l) (tolerancesOf set) first (a .made) (a .sheet) → SameFill (corners .pairs) a a'
+        → SameFill (corners .pairs) (fillRound (cornersIn l) set params a) (fillRound (cornersIn l') set params a')
+    unfolding fillRound
+    round-same a a' h same =
+        subst (λ (ps : List ℕ). SameFill (corners .pairs) (fillRound (cornersIn l) set params a) (fillAll (cornersIn l') set params ps a')) (sym (fill-cells-same (same .sheet)))
+        (all-same (fillCells (a .sheet)) a a' (record { history = h; waiting = cells-listed (a .sheet) }) same)
+
+    -- at most m rounds more
+    from-same : (m : ℕ) (r r' : FillRounds) → History (cornersIn l) (tolerancesOf set) first (r .state .made) (r .state .sheet) → SameRounds (corners .pairs) r r'
+        → SameRounds (corners .pairs) (fillFrom (cornersIn l) set params m r) (fillFrom (cornersIn l') set params m r')
+    unfolding fillFrom
+    from-same zero r r' h same = same
+    from-same (suc m) r r' h same =
+        subst (λ (t : Bool). SameRounds (corners .pairs) (fillFrom (cornersIn l) set params (suc m) r) (cond t next' (fillFrom (cornersIn l') set params m next')))
+        (sym (ap₂ (λ (x y : List ℕ). eqb (length x) (length y)) (after .state .made) (same .state .made)))
+        (go (eqb (length (next .state .made)) (length (r .state .made))) (from-same m next next' (filling-round few sound set params (r .state) h) after))
+      where
+        next : FillRounds
+        next = record { state = fillRound (cornersIn l) set params (r .state); rounds = r .rounds + 1 }
+
+        next' : FillRounds
+        next' = record { state = fillRound (cornersIn l') set params (r' .state); rounds = r' .rounds + 1 }
+
+        after : SameRounds (corners .pairs) next next'
+        after = record { state = round-same (r .state) (r' .state) h (same .state); rounds = ap (λ (n : ℕ). n + 1) (same .rounds) }
+
+        go : (t : Bool) → SameRounds (corners .pairs) (fillFrom (cornersIn l) set params m next) (fillFrom (cornersIn l') set params m next')
+            → SameRounds (corners .pairs) (cond t next (fillFrom (cornersIn l) set params m next)) (cond t next' (fillFrom (cornersIn l') set params m next'))
+        go true w = after
+        go false w = w
+
+    -- the whole run
+    pub fill-same : (first' : List ℕ) → PairedSheets (corners .pairs) first first' → SameRounds (corners .pairs) (fillRun (cornersIn l) set params first) (fillRun (cornersIn l') set params first')
+    unfolding fillRun
+    fill-same first' paired =
+        rw (paired-count paired)
+        (from-same (limitOf (labelCount first) (params .«max_iters»)) (record { state = record { sheet = first; made = [] }; rounds = 0 })
+        (record { state = record { sheet = first'; made = [] }; rounds = 0 }) begun (record { state = record { sheet = paired; made = refl }; rounds = refl }))

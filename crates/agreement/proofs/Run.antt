@@ -1,0 +1,152 @@
+-- The order of the corners decides nothing, over every list of calls: two runs on paired frames agree after every call, if each call that runs
+-- has a factor above 1. Assumes nothing.
+use mathlib.Core.Path.{_≡_, refl, sym, ap, _∙_, subst, subst₂}
+use mathlib.Core.Bool.{true}
+use mathlib.Core.List.{List, [], _∷_}
+use Prim.Native.Nat.{ℕ, _≤_}
+use native.Mathlib.Omega.{arith}
+use lib.ListN.{length}
+use lib.Ieee.{lt}
+use Rattle.refusal.specs.declared.Refusal.{Refusal}
+use Rattle.float_order.specs.Unsigned.{one}
+use Rattle.sheet.specs.Pairing.{Shuffle, PairedCorners, PairedSheets}
+use Rattle.sheet.proofs.Pairing.{given-paired}
+use Rattle.labels.specs.Rim.{rim}
+use Rattle.labels.proofs.Pairing.{paired-rim, paired-one}
+use Rattle.arguments.specs.Arguments.{checked}
+use Rattle.arguments.specs.Accepted.{SettingsInside, GrowInside, FillInside, PassInside}
+use Rattle.arguments.specs.declared.Checked.{Checked}
+use Rattle.arguments.specs.declared.Settings.{Settings}
+use Rattle.arguments.specs.declared.Pass.{Pass}
+use Rattle.arguments.specs.declared.GrowParams.{GrowParams}
+use Rattle.arguments.specs.declared.FillParams.{FillParams}
+use Rattle.arguments.proofs.Laws.{accepted}
+use Rattle.arguments.proofs.Pairing.{checked-alike}
+use Rattle.passes.specs.Outcome.{After, Outcome, refused, done}
+use Rattle.passes.specs.Grow.{growAfter}
+use Rattle.passes.specs.Fill.{fillAfter}
+use Rattle.passes.specs.Step.{CornerLists, Rooms, lentOf, unless, growStep, fillStep}
+use Rattle.passes.specs.Run.{PassCall, grow, fill, Call, PassStats, growStats, fillStats, step, sheetAfter, run}
+use Rattle.invariants.specs.Calls.{cornersIn, Standing, passOf, checkedCall, answering, afterPass, afterCall}
+use Rattle.invariants.proofs.Run.{step-as, call-accepted, standing-step, invariants}
+use Rattle.agreement.specs.Agreement.{SameAfter, SameOutcome, both-refused, both-done, Agree, agree-end, agree-call, factorOf, AboveOne, FactorsAbove, was-refused, ran, Agreement}
+use Rattle.agreement.proofs.Grow.{grow-same}
+use Rattle.agreement.proofs.Fill.{fill-same}
+
+-- ---- outcomes
+
+answering-same : {n : ℕ} {s : Shuffle n} {A B : Type 0} (f : A → B) {a a' : After A} → SameAfter s a a' → SameAfter s (answering f a) (answering f a')
+answering-same f same = record { answer = ap f (same .answer); sheet = same .sheet; attached = same .attached; visited = same .visited }
+
+-- a call that is checked alike and, if it runs, does the same
+unless-same : {n : ℕ} {s : Shuffle n} {A : Type 0} (k k' : Checked) (a a' : After A) → k' ≡ k → (k ≡ Checked.Fine → SameAfter s a a') → SameOutcome s (unless k a) (unless k' a')
+unless-same {s = s} k k' a a' e same = subst (λ (j : Checked). SameOutcome s (unless k a) (unless j a')) (sym e) (go k same)
+  where
+    go : (j : Checked) → (j ≡ Checked.Fine → SameAfter s a a') → SameOutcome s (unless j a) (unless j a')
+    go Checked.Fine w = both-done (w refl)
+    go (Checked.Refused r) w = both-refused r
+
+sheets-after : {n : ℕ} {s : Shuffle n} {sheet sheet' : List ℕ} {o o' : Outcome PassStats} → PairedSheets s sheet sheet' → SameOutcome s o o'
+    → PairedSheets s (sheetAfter sheet o) (sheetAfter sheet' o')
+sheets-after paired (both-refused r) = paired
+sheets-after paired (both-done same) = same .sheet
+
+-- ---- the condition, call by call
+
+refused-done : (r : Refusal) (a : After PassStats) → _≡_ {A = Outcome PassStats} (refused r) (done a) → ⊥
+refused-done r a e = let z : _≡_ {A = ℕ} 0 1 = cc in omega arith
+
+above-split : {c : Call} {cs : List Call} {o : Outcome PassStats} {os : List (Outcome PassStats)} → FactorsAbove (c ∷ cs) (o ∷ os)
+    → ((a : After PassStats) → o ≡ done a → AboveOne c) × FactorsAbove cs os
+above-split (was-refused {r = r} f) = (λ a e. absurd (refused-done r a e), f)
+above-split (ran h f) = (λ a e. h, f)
+
+-- ---- one call
+
+module _ (l l' : CornerLists) (corners : PairedCorners (l .xs) (l .ys) (l .pitches) (l' .xs) (l' .ys) (l' .pitches)) (sheet sheet' : List ℕ)
+    (paired : PairedSheets (corners .pairs) sheet sheet') (begins : Standing l sheet) where
+  -- refused alike
+  pub checked-same : (set : Settings) (rooms : Rooms) (pass : Pass) → checked (lentOf l' sheet' rooms) set pass ≡ checked (lentOf l sheet rooms) set pass
+  checked-same set rooms pass =
+      checked-alike (lentOf l sheet rooms) (lentOf l' sheet' rooms) set pass corners paired refl refl (record { known = begins .given .known }) (begins .one-cell)
+
+  -- what each pass does
+  module _ (few : length (l .xs) ≤ 1024) (set : Settings) (inside : SettingsInside set) where
+    grow-after-same : (p : GrowParams) → GrowInside p → lt one (p .«attach_ambiguity_factor») ≡ true
+        → SameAfter (corners .pairs) (growAfter (cornersIn l) set p sheet) (growAfter (cornersIn l') set p sheet')
+    unfolding growAfter
+    grow-after-same p numbers above =
+        let same = grow-same l l' corners few set p inside numbers above sheet begins sheet' paired in
+        record {
+          answer = λ t. record { counts = same .counts t; rim = paired-rim (same .sheet) 1 t };
+          sheet = same .sheet;
+          attached = same .made;
+          visited = same .queued;
+        }
+
+    fill-after-same : (p : FillParams) → FillInside p → lt one (p .«attach_ambiguity_factor») ≡ true
+        → SameAfter (corners .pairs) (fillAfter (cornersIn l) set p sheet) (fillAfter (cornersIn l') set p sheet')
+    unfolding fillAfter
+    fill-after-same p numbers above =
+        let same = fill-same l l' corners few set p inside numbers above sheet begins sheet' paired in
+        record {
+          answer = λ t. record { added = length (same .state .made t); iterations = same .rounds t; rim = paired-rim (same .state .sheet) 1 t };
+          sheet = same .state .sheet;
+          attached = same .state .made;
+          visited = refl;
+        }
+
+    pass-same : (p : PassCall) → PassInside (passOf p) → lt one (factorOf p) ≡ true → SameAfter (corners .pairs) (afterPass l sheet set p) (afterPass l' sheet' set p)
+    pass-same (grow p) numbers above = answering-same growStats (grow-after-same p numbers above)
+    pass-same (fill p) numbers above = answering-same fillStats (fill-after-same p numbers above)
+
+  -- the calls of grow and of fill, as their contracts have them
+  pub grow-step-same : (set : Settings) (p : GrowParams) (rooms : Rooms) → lt one (p .«attach_ambiguity_factor») ≡ true
+      → SameOutcome (corners .pairs) (growStep l sheet set p rooms) (growStep l' sheet' set p rooms)
+  unfolding growStep
+  grow-step-same set p rooms above =
+      unless-same _ _ _ _ (checked-same set rooms (Pass.Grow p))
+      (λ e. let w = accepted (lentOf l sheet rooms) set (Pass.Grow p) e in grow-after-same (w .few) set (w .settings-inside) p (w .pass-inside) above)
+
+  pub fill-step-same : (set : Settings) (p : FillParams) (rooms : Rooms) → lt one (p .«attach_ambiguity_factor») ≡ true
+      → SameOutcome (corners .pairs) (fillStep l sheet set p rooms) (fillStep l' sheet' set p rooms)
+  unfolding fillStep
+  fill-step-same set p rooms above =
+      unless-same _ _ _ _ (checked-same set rooms (Pass.Fill p))
+      (λ e. let w = accepted (lentOf l sheet rooms) set (Pass.Fill p) e in fill-after-same (w .few) set (w .settings-inside) p (w .pass-inside) above)
+
+  -- any call, if it has a factor above 1 where it runs
+  pub step-same : (c : Call) → ((a : After PassStats) → step l sheet c ≡ done a → AboveOne c) → SameOutcome (corners .pairs) (step l sheet c) (step l' sheet' c)
+  step-same c above =
+      subst₂ (SameOutcome (corners .pairs)) (sym (step-as l sheet c)) (sym (step-as l' sheet' c))
+      (unless-same (checkedCall l sheet c) (checkedCall l' sheet' c) (afterCall l sheet c) (afterCall l' sheet' c) (checked-same (c .settings) (c .rooms) (passOf (c .pass)))
+      (λ e.
+      let w = call-accepted l sheet c e in
+      let runs : step l sheet c ≡ done (afterCall l sheet c) = step-as l sheet c ∙ ap (λ (k : Checked). unless k (afterCall l sheet c)) e in
+      pass-same (w .few) (c .settings) (w .settings-inside) (c .pass) (w .pass-inside) (above (afterCall l sheet c) runs)))
+
+  -- the second frame's corners and sheet belong together too
+  pub standing-paired : Standing l' sheet'
+  standing-paired = record { given = given-paired corners paired (begins .given); one-cell = paired-one paired (begins .given .known) (begins .one-cell) }
+
+-- ---- a list of calls
+
+pub run-same : (l l' : CornerLists) (corners : PairedCorners (l .xs) (l .ys) (l .pitches) (l' .xs) (l' .ys) (l' .pitches)) (sheet sheet' : List ℕ)
+    → PairedSheets (corners .pairs) sheet sheet' → Standing l sheet → (calls : List Call) → FactorsAbove calls (run l sheet calls)
+    → Agree (corners .pairs) sheet sheet' (run l sheet calls) (run l' sheet' calls)
+unfolding run
+run-same l l' corners sheet sheet' paired begins [] f = agree-end paired
+run-same l l' corners sheet sheet' paired begins (c ∷ cs) f =
+    let a = above-split f in
+    let same = step-same l l' corners sheet sheet' paired begins c (a .0) in
+    agree-call paired same
+    (run-same l l' corners (sheetAfter sheet (step l sheet c)) (sheetAfter sheet' (step l' sheet' c)) (sheets-after paired same) (standing-step l sheet begins c) cs (a .1))
+
+-- the claim, whole
+pub agreement : Agreement
+agreement l l' given given' frames calls =
+    record {
+      first-run = invariants l given (frames .standing) calls;
+      second-run = invariants l' given' (standing-paired l l' (frames .corners) given given' (frames .labels) (frames .standing)) calls;
+      agree = run-same l l' (frames .corners) given given' (frames .labels) (frames .standing) calls;
+    }

@@ -1,0 +1,88 @@
+-- Trying a cell finds the same in both frames, through the pairing, where the factor is above 1. Assumes nothing.
+use mathlib.Core.Path.{_≡_, refl, ap, _∙_}
+use mathlib.Core.Bool.{Bool, true, false, not, cond}
+use mathlib.Core.List.{List}
+use Prim.Native.Nat.{ℕ, _<_}
+use lib.Dec.{T}
+use lib.ListN.{length}
+use lib.Ieee.{Float, lt}
+use lib.Ieee.Scale.{finite}
+use Rattle.float_order.specs.Unsigned.{one}
+use Rattle.sheet.specs.Corners.{cornerOf, seenOf, Given}
+use Rattle.sheet.specs.Pairing.{PairedCorners, PairedSheets}
+use Rattle.sheet.specs.declared.Cell.{Cell}
+use Rattle.sheet.specs.declared.Corner.{Corner}
+use Rattle.sheet.specs.declared.Position.{Position}
+use Rattle.labels.proofs.Pairing.{paired-used}
+use Rattle.grow.specs.Candidates.{squaredRadius, candidatesAt, firstTwo}
+use Rattle.grow.specs.Choice.{renumbered}
+use Rattle.grow.specs.declared.CandidateChoice.{CandidateChoice}
+use Rattle.grow.proofs.Pairing.{paired-unambiguous, paired-with-floor}
+use Rattle.positions_policy.specs.Edge.{verdictOf, passes}
+use Rattle.positions_policy.specs.declared.Tolerances.{Tolerances}
+use Rattle.positions_policy.proofs.Laws.{verdict-paired}
+use Rattle.extension_common.specs.TryCell.{unlabelledOn, gathered, choiceBy, edgesOf, resultOf, tryAt}
+use Rattle.extension_common.specs.declared.ChoiceRule.{ChoiceRule}
+use Rattle.extension_common.specs.declared.Search.{Search}
+use Rattle.extension_common.specs.declared.TryCellResult.{TryCellResult}
+use Rattle.extension_common.proofs.Laws.{chosen}
+use Rattle.passes.specs.Step.{CornerLists}
+use Rattle.invariants.specs.Calls.{cornersIn}
+
+-- what is found, with the paired corner
+unfoldable pub pairedResult : (ℕ → ℕ) → TryCellResult → TryCellResult
+pairedResult to TryCellResult.NoCandidates = TryCellResult.NoCandidates
+pairedResult to TryCellResult.Ambiguous = TryCellResult.Ambiguous
+pairedResult to TryCellResult.EdgeRejected = TryCellResult.EdgeRejected
+pairedResult to (TryCellResult.Attached k) = TryCellResult.Attached (to k)
+
+module _ (l l' : CornerLists) (corners : PairedCorners (l .xs) (l .ys) (l .pitches) (l' .xs) (l' .ys) (l' .pitches)) (sheet sheet' : List ℕ)
+    (paired : PairedSheets (corners .pairs) sheet sheet') (given : Given (l .xs) (l .ys) (l .pitches) sheet) where
+  -- either rule chooses the paired corner
+  choice-paired : (rule : ChoiceRule) (radius factor : Float) (p : Position) → T (finite (squaredRadius radius)) → lt one factor ≡ true
+      → choiceBy rule (gathered (cornersIn l') sheet' radius p) factor ≡ renumbered (corners .pairs .to) (choiceBy rule (gathered (cornersIn l) sheet radius p) factor)
+  unfolding choiceBy gathered
+  choice-paired rule radius factor p small above = rw (corners .same-xs) (go rule)
+    where
+      position : ℕ → Position
+      position k = cornerOf (l .xs) (l .ys) (l .pitches) k .position
+
+      position' : ℕ → Position
+      position' k = cornerOf (l' .xs) (l' .ys) (l' .pitches) k .position
+
+      place : (i : ℕ) → i < length (l .xs) → position' (corners .pairs .to i) ≡ position i
+      place i h = ap (λ (k : Corner). k .position) (corners .same-corner i h)
+
+      label : (i : ℕ) → i < length (l .xs) → unlabelledOn sheet' (corners .pairs .to i) ≡ unlabelledOn sheet i
+      label i h = ap not (paired-used paired (given .known) i h)
+
+      go : (r : ChoiceRule)
+          → choiceBy r (firstTwo (candidatesAt position' (unlabelledOn sheet') (length (l .xs)) p radius)) factor
+          ≡ renumbered (corners .pairs .to) (choiceBy r (firstTwo (candidatesAt position (unlabelledOn sheet) (length (l .xs)) p radius)) factor)
+      go ChoiceRule.Unambiguous = paired-unambiguous (corners .pairs) position position' (unlabelledOn sheet) (unlabelledOn sheet') place label p radius small factor above
+      go ChoiceRule.WithFloor = paired-with-floor (corners .pairs) position position' (unlabelledOn sheet) (unlabelledOn sheet') place label p radius small factor above
+
+  -- the chosen corner's edges say the same
+  edges-paired : (tol : Tolerances) (c : Cell) (k : ℕ) → k < length (l .xs)
+      → edgesOf (cornersIn l') sheet' tol c (corners .pairs .to k) ≡ pairedResult (corners .pairs .to) (edgesOf (cornersIn l) sheet tol c k)
+  unfolding edgesOf pairedResult
+  edges-paired tol c k h = rw (verdict-paired corners paired given tol c k h) (go (passes (verdictOf (seenOf (cornerOf (l .xs) (l .ys) (l .pitches)) sheet) tol c (cornerOf (l .xs) (l .ys) (l .pitches) k))))
+    where
+      go : (t : Bool) → cond t (TryCellResult.Attached (corners .pairs .to k)) TryCellResult.EdgeRejected ≡ pairedResult (corners .pairs .to) (cond t (TryCellResult.Attached k) TryCellResult.EdgeRejected)
+      go true = refl
+      go false = refl
+
+  -- what trying a cell finds
+  pub try-paired : (tol : Tolerances) (search : Search) (c : Cell) (p : Position) → T (finite (squaredRadius (search .«search_r»))) → lt one (search .«ambiguity_factor») ≡ true
+      → tryAt (cornersIn l') sheet' tol search c p ≡ pairedResult (corners .pairs .to) (tryAt (cornersIn l) sheet tol search c p)
+  unfolding tryAt resultOf pairedResult
+  try-paired tol search c p small above =
+      ap (resultOf (cornersIn l') sheet' tol c) (choice-paired (search .rule) (search .«search_r») (search .«ambiguity_factor») p small above)
+      ∙ go (choiceBy (search .rule) (gathered (cornersIn l) sheet (search .«search_r») p) (search .«ambiguity_factor»)) refl
+    where
+      go : (choice : CandidateChoice) → choiceBy (search .rule) (gathered (cornersIn l) sheet (search .«search_r») p) (search .«ambiguity_factor») ≡ choice
+          → resultOf (cornersIn l') sheet' tol c (renumbered (corners .pairs .to) choice) ≡ pairedResult (corners .pairs .to) (resultOf (cornersIn l) sheet tol c choice)
+      go CandidateChoice.Nothing e = refl
+      go CandidateChoice.Ambiguous e = refl
+      go (CandidateChoice.Unique k) e =
+          edges-paired tol c k (chosen (search .rule) (cornersIn l) sheet (search .«search_r») (search .«ambiguity_factor») p k e .there)

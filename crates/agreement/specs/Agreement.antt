@@ -1,0 +1,77 @@
+-- Two runs of one list of calls on two frames that hold the same corners in another order (document 01, "Lists of passes, for demand 3"):
+-- what is compared after each call, and the claim that the runs agree. Definitions only.
+use mathlib.Core.Path.{_≡_}
+use mathlib.Core.Bool.{true}
+use mathlib.Core.List.{List, [], _∷_}
+use Prim.Native.Nat.{ℕ}
+use lib.Ieee.{Float, lt}
+use Rattle.refusal.specs.declared.Refusal.{Refusal}
+use Rattle.float_order.specs.Unsigned.{one}
+use Rattle.sheet.specs.Pairing.{Shuffle, PairedCorners, PairedSheets}
+use Rattle.passes.specs.Outcome.{After, Outcome, refused, done}
+use Rattle.passes.specs.Step.{CornerLists}
+use Rattle.passes.specs.Run.{PassCall, grow, fill, Call, PassStats, sheetAfter, run}
+use Rattle.invariants.specs.Calls.{Standing, Invariant}
+
+-- ---- the two frames
+
+-- "The reordering pairs the corner lines of both frames one to one, each with an equal line; a pair is one physical corner. The labels name
+-- paired corners": the corners, and the sheets of the given labels, which belong to them, each corner at one cell
+pub record Reordered (l l' : CornerLists) (given given' : List ℕ) : Type 0 where
+  pub corners : PairedCorners (l .xs) (l .ys) (l .pitches) (l' .xs) (l' .ys) (l' .pitches)
+  pub labels : PairedSheets (corners .pairs) given given'
+  pub standing : Standing l given
+
+-- ---- what is compared after each call
+
+-- Of a call that ran: every count answered, and all else that the pass line says; "a cell holds a corner in one run exactly when it holds the
+-- paired one in the other", and equal marks cell by cell; attached lists and grow's visited cells, in order.
+pub record SameAfter {n : ℕ} (s : Shuffle n) {A : Type 0} (a a' : After A) : Type 0 where
+  pub answer : a' .answer ≡ a .answer
+  pub sheet : PairedSheets s (a .sheet) (a' .sheet)
+  pub attached : a' .attached ≡ a .attached
+  pub visited : a' .visited ≡ a .visited
+
+-- "refused or not, and the number"
+pub data SameOutcome {n : ℕ} (s : Shuffle n) {A : Type 0} : Outcome A → Outcome A → Type 0 where
+  both-refused : (r : Refusal) → SameOutcome s (refused r) (refused r)
+  both-done : {a a' : After A} → SameAfter s a a' → SameOutcome s (done a) (done a')
+
+-- The outcomes of both runs, from two sheets on: the sheets are paired before each call and after the last, and each call has the same
+-- outcome in both. A refused call leaves both sheets as they were.
+pub data Agree {n : ℕ} (s : Shuffle n) : List ℕ → List ℕ → List (Outcome PassStats) → List (Outcome PassStats) → Type 0 where
+  agree-end : {sheet sheet' : List ℕ} → PairedSheets s sheet sheet' → Agree s sheet sheet' [] []
+  agree-call : {sheet sheet' : List ℕ} {o o' : Outcome PassStats} {os os' : List (Outcome PassStats)} → PairedSheets s sheet sheet' → SameOutcome s o o'
+      → Agree s (sheetAfter sheet o) (sheetAfter sheet' o') os os' → Agree s sheet sheet' (o ∷ os) (o' ∷ os')
+
+-- ---- the condition
+
+-- the ambiguity factor of a pass
+abbrev pub factorOf : PassCall → Float
+factorOf (grow p) = p .«attach_ambiguity_factor»
+factorOf (fill p) = p .«attach_ambiguity_factor»
+
+-- above 1
+abbrev pub AboveOne : Call → Type 0
+AboveOne c = lt one (factorOf (c .pass)) ≡ true
+
+-- each call of a list that runs has a factor above 1; nothing is asked of a refused one
+pub data FactorsAbove : List Call → List (Outcome PassStats) → Type 0 where
+  no-more : FactorsAbove [] []
+  was-refused : {c : Call} {cs : List Call} {r : Refusal} {os : List (Outcome PassStats)} → FactorsAbove cs os → FactorsAbove (c ∷ cs) (refused r ∷ os)
+  ran : {c : Call} {cs : List Call} {a : After PassStats} {os : List (Outcome PassStats)} → AboveOne c → FactorsAbove cs os → FactorsAbove (c ∷ cs) (done a ∷ os)
+
+-- ---- the claim
+
+-- For two frames and a list of calls: in both runs, whatever the factors, given labels are kept, no corner holds two cells, and each new corner
+-- had an accepted edge to a labelled cardinal neighbour, or no such neighbour, when attached. If each call that runs has an ambiguity factor
+-- above 1, the two runs agree after every call.
+pub record Holds (l l' : CornerLists) (given given' : List ℕ) (frames : Reordered l l' given given') (calls : List Call) : Type 0 where
+  pub first-run : Invariant l given calls
+  pub second-run : Invariant l' given' calls
+  pub agree : FactorsAbove calls (run l given calls) → Agree (frames .corners .pairs) given given' (run l given calls) (run l' given' calls)
+
+-- Any list of calls, refused ones among them, each on the sheet that the last one left, from the given labels of two accepted frames that
+-- differ only in the order of their corner lines, labels renumbered to match.
+abbrev pub Agreement : Type 0
+Agreement = (l l' : CornerLists) (given given' : List ℕ) (frames : Reordered l l' given given') (calls : List Call) → Holds l l' given given' frames calls

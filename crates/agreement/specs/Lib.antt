@@ -1,0 +1,2 @@
+-- What is compared of two runs, and the claim that they agree. Definitions only.
+pub mod Agreement

@@ -1,0 +1,7 @@
+-- The laws of what stays true over a pass, and over every list of calls. Assumes nothing.
+pub mod Extended
+pub mod History
+pub mod Waiting
+pub mod Grow
+pub mod Fill
+pub mod Run

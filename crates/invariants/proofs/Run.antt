@@ -1,0 +1,187 @@
+-- Laws of every list of calls, refused ones among them, whatever their factors: after each call the corners and the sheet belong together and
+-- no corner holds two cells, the given labels are kept, and each call that ran has its history; so each new corner had an accepted edge to a
+-- labelled cardinal neighbour, or no such neighbour, when attached. A call whose numbers and buffers are right is not refused in mid-list.
+-- Assumes nothing.
+use mathlib.Core.Path.{_≡_, refl, sym, ap, _∙_, subst}
+use mathlib.Core.List.{List, [], _∷_}
+use Prim.Native.Nat.{ℕ, _<_, _≤_}
+use native.Mathlib.Nat.{not-suc-le-zero}
+use lib.ListN.{length}
+use Rattle.refusal.specs.declared.Refusal.{Refusal}
+use Rattle.arguments.specs.Arguments.{checked}
+use Rattle.arguments.specs.Accepted.{Accepted}
+use Rattle.arguments.specs.declared.Checked.{Checked}
+use Rattle.arguments.specs.declared.Settings.{Settings}
+use Rattle.arguments.proofs.Laws.{accepted, accepted-fine}
+use Rattle.passes.specs.Outcome.{After, Outcome, refused, done}
+use Rattle.passes.specs.Grow.{tolerancesOf, growAfter}
+use Rattle.passes.specs.Fill.{fillAfter}
+use Rattle.passes.specs.Step.{CornerLists, lentOf, unless, growStep, fillStep}
+use Rattle.passes.specs.Run.{PassCall, grow, fill, Call, PassStats, growStats, fillStats, renamed, stepAs, step, sheetAfter, run, sheetOf}
+use Rattle.passes.specs.History.{History}
+use Rattle.invariants.specs.Kept.{Sound, Kept, Extended, Histories, before, pass, AttachedInTurn}
+use Rattle.invariants.specs.Calls.{cornersIn, Standing, passOf, checkedCall, answering, afterPass, afterCall, attachedCount, Ran, Goes, ended, refuses, runs, attachedIn, Invariants, Fit, Accepts}
+use Rattle.invariants.proofs.Extended.{extended-marked, extended-then}
+use Rattle.invariants.proofs.History.{history-extended, attached-at, histories-then, attached-in-turn}
+use Rattle.invariants.proofs.Grow.{grow-history}
+use Rattle.invariants.proofs.Fill.{fill-history}
+
+-- ---- one call
+
+-- a call is refused, or does what its pass does
+pub step-as : (l : CornerLists) (sheet : List ℕ) (c : Call) → step l sheet c ≡ unless (checkedCall l sheet c) (afterCall l sheet c)
+unfolding step growStep fillStep
+step-as l sheet c = go (c .pass)
+  where
+    under : {A : Type 0} (f : A → PassStats) (k : Checked) (a : After A) → renamed f (unless k a) ≡ unless k (answering f a)
+    under f Checked.Fine a = refl
+    under f (Checked.Refused r) a = refl
+
+    go : (p : PassCall) → stepAs l sheet (c .settings) (c .rooms) p ≡ unless (checked (lentOf l sheet (c .rooms)) (c .settings) (passOf p)) (afterPass l sheet (c .settings) p)
+    go (grow p) = under growStats (checked (lentOf l sheet (c .rooms)) (c .settings) (passOf (grow p))) (growAfter (cornersIn l) (c .settings) p sheet)
+    go (fill p) = under fillStats (checked (lentOf l sheet (c .rooms)) (c .settings) (passOf (fill p))) (fillAfter (cornersIn l) (c .settings) p sheet)
+
+pub standing-sound : {l : CornerLists} {sheet : List ℕ} → Standing l sheet → Sound (cornersIn l) sheet
+standing-sound s = record { long = s .given .long; known = record { known = s .given .known }; one-cell = s .one-cell }
+
+-- a sheet that still belongs to the corners
+pub sound-standing : {l : CornerLists} {sheet after : List ℕ} → Standing l sheet → Sound (cornersIn l) after → Standing l after
+sound-standing s a =
+    record {
+      given = record { long = a .long; ys-long = s .given .ys-long; pitches-long = s .given .pitches-long; known = a .known .known };
+      one-cell = a .one-cell;
+    }
+
+-- what each pass does to the labels, and that it counts its new cells
+module _ (l : CornerLists) (sheet : List ℕ) (set : Settings) (few : length (l .xs) ≤ 1024) (s : Sound (cornersIn l) sheet) where
+  pass-history : (p : PassCall) → History (cornersIn l) (tolerancesOf set) sheet (afterPass l sheet set p .attached) (afterPass l sheet set p .sheet)
+  unfolding growAfter fillAfter
+  pass-history (grow p) = grow-history set p few s .history
+  pass-history (fill p) = fill-history few s set p
+
+  pass-counted : (p : PassCall) → attachedCount (afterPass l sheet set p .answer) ≡ length (afterPass l sheet set p .attached)
+  unfolding growAfter fillAfter
+  pass-counted (grow p) = grow-history set p few s .counted
+  pass-counted (fill p) = refl
+
+-- a call that is not refused
+pub call-accepted : (l : CornerLists) (sheet : List ℕ) (c : Call) → checkedCall l sheet c ≡ Checked.Fine → Accepted (lentOf l sheet (c .rooms)) (c .settings) (passOf (c .pass))
+call-accepted l sheet c e = accepted (lentOf l sheet (c .rooms)) (c .settings) (passOf (c .pass)) e
+
+pub call-ran : (l : CornerLists) (sheet : List ℕ) (c : Call) → Accepted (lentOf l sheet (c .rooms)) (c .settings) (passOf (c .pass)) → Ran l c sheet (afterCall l sheet c)
+call-ran l sheet c w =
+    let s = standing-sound {l = l} (record { given = w .given; one-cell = w .one-cell }) in
+    let h = pass-history l sheet (c .settings) (w .few) s (c .pass) in
+    record { history = h; extended = history-extended (w .few) s h; each = attached-at (w .few) s h; counted = pass-counted l sheet (c .settings) (w .few) s (c .pass) }
+
+-- a call's outcome: refused, or it was accepted and ran
+pub data Outcomes (l : CornerLists) (sheet : List ℕ) (c : Call) : Outcome PassStats → Type 0 where
+  was-refused : (r : Refusal) → Outcomes l sheet c (refused r)
+  ran : (a : After PassStats) → Accepted (lentOf l sheet (c .rooms)) (c .settings) (passOf (c .pass)) → Ran l c sheet a → Outcomes l sheet c (done a)
+
+pub outcomes : (l : CornerLists) (sheet : List ℕ) (c : Call) → Outcomes l sheet c (step l sheet c)
+outcomes l sheet c = subst (Outcomes l sheet c) (sym (step-as l sheet c)) (go (checkedCall l sheet c) refl)
+  where
+    go : (k : Checked) → checkedCall l sheet c ≡ k → Outcomes l sheet c (unless k (afterCall l sheet c))
+    go Checked.Fine e = let w = call-accepted l sheet c e in ran _ w (call-ran l sheet c w)
+    go (Checked.Refused r) e = was-refused r
+
+-- ---- a list of calls
+
+-- after each call the sheet and the corners belong together, no corner holds two cells, the given labels are kept, and the call has its history
+pub goes : (l : CornerLists) (given sheet : List ℕ) → Standing l sheet → Kept given sheet → (cs : List Call) → Goes l given sheet cs (run l sheet cs)
+unfolding run
+goes l given sheet s k [] = ended
+goes l given sheet s k (c ∷ cs) = go (step l sheet c) (outcomes l sheet c) (λ after t m. goes l given after t m cs)
+  where
+    go : (o : Outcome PassStats) → Outcomes l sheet c o → ((after : List ℕ) → Standing l after → Kept given after → Goes l given after cs (run l after cs))
+        → Goes l given sheet (c ∷ cs) (o ∷ run l (sheetAfter sheet o) cs)
+    go o (was-refused r) w = refuses c r (w sheet s k)
+    go o (ran a b d) w =
+        let t = sound-standing s (d .extended .sound) in
+        let m : Kept given (a .sheet) = record { kept = λ x j e. d .extended .kept .kept x j (k .kept x j e) } in
+        runs c a d t m (w (a .sheet) t m)
+
+module _ (l : CornerLists) where
+  -- the corners and the sheet belong together after a call, and after any list of calls
+  pub standing-step : (sheet : List ℕ) → Standing l sheet → (c : Call) → Standing l (sheetAfter sheet (step l sheet c))
+  standing-step sheet s c = go (step l sheet c) (outcomes l sheet c)
+    where
+      go : (o : Outcome PassStats) → Outcomes l sheet c o → Standing l (sheetAfter sheet o)
+      go o (was-refused r) = s
+      go o (ran a b d) = sound-standing s (d .extended .sound)
+
+  pub standing-after : (sheet : List ℕ) → Standing l sheet → (cs : List Call) → Standing l (sheetOf l sheet cs)
+  unfolding sheetOf
+  standing-after sheet s [] = s
+  standing-after sheet s (c ∷ cs) = standing-after (sheetAfter sheet (step l sheet c)) (standing-step sheet s c) cs
+
+  -- all that happened to the labels, from the given ones on
+  pub run-histories : (sheet : List ℕ) (cs : List Call) → Histories (cornersIn l) sheet (attachedIn (run l sheet cs)) (sheetOf l sheet cs)
+  unfolding run sheetOf attachedIn
+  run-histories sheet [] = before
+  run-histories sheet (c ∷ cs) = go (step l sheet c) (outcomes l sheet c) (λ after. run-histories after cs)
+    where
+      go : (o : Outcome PassStats) → Outcomes l sheet c o → ((after : List ℕ) → Histories (cornersIn l) after (attachedIn (run l after cs)) (sheetOf l after cs))
+          → Histories (cornersIn l) sheet (attachedIn (o ∷ run l (sheetAfter sheet o) cs)) (sheetOf l (sheetAfter sheet o) cs)
+      go o (was-refused r) w = w sheet
+      go o (ran a b d) w = histories-then (pass (tolerancesOf (c .settings)) before (d .history)) (w (a .sheet))
+
+  -- the labelled cells after a list of calls are the given ones and all new ones
+  pub run-extended : (sheet : List ℕ) → Standing l sheet → (cs : List Call) → Extended (cornersIn l) sheet (attachedIn (run l sheet cs)) (sheetOf l sheet cs)
+  unfolding run sheetOf attachedIn
+  run-extended sheet s [] = extended-marked (standing-sound s) refl (record { same-label = λ p h. refl })
+  run-extended sheet s (c ∷ cs) = go (step l sheet c) (outcomes l sheet c) (λ after t. run-extended after t cs)
+    where
+      go : (o : Outcome PassStats) → Outcomes l sheet c o
+          → ((after : List ℕ) → Standing l after → Extended (cornersIn l) after (attachedIn (run l after cs)) (sheetOf l after cs))
+          → Extended (cornersIn l) sheet (attachedIn (o ∷ run l (sheetAfter sheet o) cs)) (sheetOf l (sheetAfter sheet o) cs)
+      go o (was-refused r) w = w sheet s
+      go o (ran a b d) w = extended-then (d .extended) (w (a .sheet) (sound-standing s (d .extended .sound)))
+
+  -- where there is a new cell, a call was accepted, so there are at most 1,024 corners
+  few-corners : (sheet : List ℕ) (cs : List Call) (n : ℕ) → n < length (attachedIn (run l sheet cs)) → length (l .xs) ≤ 1024
+  unfolding run attachedIn
+  few-corners sheet [] n h = absurd (not-suc-le-zero h)
+  few-corners sheet (c ∷ cs) n h = go (step l sheet c) (outcomes l sheet c) (λ after k. few-corners after cs n k) h
+    where
+      go : (o : Outcome PassStats) → Outcomes l sheet c o → ((after : List ℕ) → n < length (attachedIn (run l after cs)) → length (l .xs) ≤ 1024)
+          → n < length (attachedIn (o ∷ run l (sheetAfter sheet o) cs)) → length (l .xs) ≤ 1024
+      go o (was-refused r) w k = w sheet k
+      go o (ran a b d) w k = b .few
+
+  -- each new corner had an accepted edge to a labelled cardinal neighbour, or no such neighbour, when it was attached
+  pub run-attached : (sheet : List ℕ) → Standing l sheet → (cs : List Call) (n : ℕ) → n < length (attachedIn (run l sheet cs))
+      → AttachedInTurn (cornersIn l) sheet (attachedIn (run l sheet cs)) (sheetOf l sheet cs) n
+  run-attached sheet s cs n h = attached-in-turn (few-corners sheet cs n h) (standing-sound s) (run-histories sheet cs) n h
+
+  -- ---- no refusal in mid-list
+
+  pub fit-accepts : (sheet : List ℕ) (c : Call) → Standing l sheet → Fit l c → Accepts l sheet c
+  fit-accepts sheet c s f = record { done-so = step-as l sheet c ∙ ap (λ (k : Checked). unless k (afterCall l sheet c)) (accepted-fine (lentOf l sheet (c .rooms)) (c .settings) (passOf (c .pass)) right) }
+    where
+      right : Accepted (lentOf l sheet (c .rooms)) (c .settings) (passOf (c .pass))
+      right =
+          record {
+            queue-long = f .queue-long;
+            attached-long = f .attached-long;
+            few = f .few;
+            corners-inside = f .corners-inside;
+            settings-inside = f .settings-inside;
+            pass-inside = f .pass-inside;
+            given = s .given;
+            one-cell = s .one-cell;
+          }
+
+  pub never-refused : (sheet : List ℕ) → Standing l sheet → (cs : List Call) (c : Call) → Fit l c → Accepts l (sheetOf l sheet cs) c
+  never-refused sheet s cs c f = fit-accepts (sheetOf l sheet cs) c (standing-after sheet s cs) f
+
+-- ---- the claim
+
+pub invariants : Invariants
+invariants l given s cs =
+    record {
+      each-call = goes l given given s (record { kept = λ c k e. e }) cs;
+      whole = run-extended l given s cs;
+      each-corner = run-attached l given s cs;
+    }

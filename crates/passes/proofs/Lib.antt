@@ -1,0 +1,5 @@
+-- Laws on what the passes do, that their proofs and the laws over lists of calls cite.
+pub mod Over
+pub mod Free
+pub mod Queue
+pub mod Enough

@@ -1,0 +1,6 @@
+pub mod Outcome
+pub mod Grow
+pub mod Fill
+pub mod Step
+pub mod Run
+pub mod History

@@ -1,0 +1,56 @@
+-- A list of calls, each lent the corners and the sheet as the last call left it (document 01, "Lists of passes, for demand 3").
+-- Definitions only.
+use mathlib.Core.List.{List, [], _∷_}
+use Prim.Native.Nat.{ℕ}
+use Rattle.refusal.specs.declared.Refusal.{Refusal}
+use Rattle.arguments.specs.declared.Settings.{Settings}
+use Rattle.arguments.specs.declared.GrowParams.{GrowParams}
+use Rattle.arguments.specs.declared.FillParams.{FillParams}
+use Rattle.passes.specs.Outcome.{After, Outcome, refused, done}
+use Rattle.passes.specs.Step.{CornerLists, Rooms, growStep, fillStep}
+use Rattle.passes.specs.declared.GrowStats.{GrowStats}
+use Rattle.passes.specs.declared.FillStats.{FillStats}
+
+-- which pass, with its numbers
+pub data PassCall : Type 0 where
+  grow : GrowParams → PassCall
+  fill : FillParams → PassCall
+
+-- one call: which pass with its numbers, cell size, axes and band, and the lengths of the lent buffers
+pub record Call : Type 0 where
+  pub pass : PassCall
+  pub settings : Settings
+  pub rooms : Rooms
+
+-- what a pass answers
+pub data PassStats : Type 0 where
+  growStats : GrowStats → PassStats
+  fillStats : FillStats → PassStats
+
+-- an outcome with another answer
+abbrev pub renamed : {A B : Type 0} → (A → B) → Outcome A → Outcome B
+renamed f (refused r) = refused r
+renamed f (done a) = done (record { answer = f (a .answer); sheet = a .sheet; attached = a .attached; visited = a .visited })
+
+-- what a call does
+abbrev pub stepAs : CornerLists → List ℕ → Settings → Rooms → PassCall → Outcome PassStats
+stepAs l sheet set r (grow p) = renamed growStats (growStep l sheet set p r)
+stepAs l sheet set r (fill p) = renamed fillStats (fillStep l sheet set p r)
+
+unfoldable pub step : CornerLists → List ℕ → Call → Outcome PassStats
+step l sheet c = stepAs l sheet (c .settings) (c .rooms) (c .pass)
+
+-- the sheet that a call leaves: a refused one leaves it as it was
+abbrev pub sheetAfter : List ℕ → Outcome PassStats → List ℕ
+sheetAfter sheet (refused r) = sheet
+sheetAfter sheet (done a) = a .sheet
+
+-- the outcomes of a list of calls, in order
+unfoldable pub run : CornerLists → List ℕ → List Call → List (Outcome PassStats)
+run l sheet [] = []
+run l sheet (c ∷ cs) = step l sheet c ∷ run l (sheetAfter sheet (step l sheet c)) cs
+
+-- the sheet after a list of calls
+unfoldable pub sheetOf : CornerLists → List ℕ → List Call → List ℕ
+sheetOf l sheet [] = sheet
+sheetOf l sheet (c ∷ cs) = sheetOf l (sheetAfter sheet (step l sheet c)) cs
