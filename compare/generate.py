@@ -1,0 +1,698 @@
+#!/usr/bin/env python3
+"""Frames in 01's format, drawn from a seed: the same seed, the same frames.
+
+    generate.py --seed S --count N --out FOLDER     writes N frames
+    generate.py --seed S --count N --only FAMILY    prints them
+
+Every frame is an accepted one. Families, each a function below:
+
+    panel       a panel in perspective: noise, missing and spurious corners, a
+                crept end row, labels as a block, a ring, patches or scattered
+    edge        the same with labels at or near the sheet's edge
+    equal       corners at equal distances, doubled corners, factors about 1
+    pairs       two or three corners about every cell, so that quotients decide
+    knife       two corners on either side of each prediction, so that its last
+                bits say which is nearer
+    supports    few labels and much local: whole and exact lattices, supports in
+                general position
+    degenerate  supports three in a line, two equal, all in a line
+    horizon     cell (0, 0), or another walked cell, on the horizon
+    scale       huge, tiny and vanishing positions and pitches
+    wild        everything drawn at random
+    bare        no corners, no labels or no passes
+    dense       up to 1,024 corners
+    deciding    one of the above, one number set to the value that decides, or
+                one unit beside it
+"""
+
+import argparse
+import math
+import os
+import random
+import struct
+
+import reference as ref
+
+rnd = ref.rnd
+
+
+def beside(value, units):
+    """The binary32 that many units in the last place away, zero at most."""
+    bits = struct.unpack(">i", struct.pack(">f", value))[0] + units
+    return struct.unpack(">f", struct.pack(">i", max(bits, 0)))[0]
+
+
+def clip(value, least, most):
+    return min(max(rnd(value), least), most)
+
+
+def distance(one, other):
+    """As the passes take it."""
+    dx, dy = rnd(one[0] - other[0]), rnd(one[1] - other[1])
+    return ref.root(rnd(rnd(dx * dx) + rnd(dy * dy)))
+
+
+class Draft:
+    """A frame in the making; `text` clips each number into its range."""
+
+    def __init__(self):
+        self.cell = 10.0
+        self.axes = ((1.0, 0.0), (0.0, 1.0))
+        self.band = 0.25
+        self.corners = []  # (x, y, pitch)
+        self.labels = []  # (corner, cell)
+        self.passes = []  # (kind, numbers or None)
+
+    def text(self):
+        h = ref.to_hex
+        axes = [h(clip(part, -4.0, 4.0)) for axis in self.axes for part in axis]
+        lines = [
+            "(frame 1)",
+            f"(cell {h(clip(self.cell, 2.0**-10, 16384.0))})",
+            "(axes ({} {}) ({} {}))".format(*axes),
+            f"(band {h(clip(self.band, 0.0, 4.0))})",
+        ]
+        for x, y, pitch in self.corners:
+            x, y = clip(x, -16384.0, 16384.0), clip(y, -16384.0, 16384.0)
+            lines.append(f"(corner ({h(x)} {h(y)}) {h(clip(pitch, 0.0, 16384.0))})")
+        lines += [f"(label {n} ({i} {j}))" for n, (i, j) in self.labels]
+        lines += [pass_line(kind, numbers) for kind, numbers in self.passes]
+        return ("\n".join(lines) + "\n").encode()
+
+
+def pass_line(kind, numbers):
+    if numbers is None:
+        return f"({kind})"
+    words = []
+    for k, number in enumerate(numbers):
+        if isinstance(number, int):
+            words.append(str(number))
+        else:
+            words.append(ref.to_hex(clip(number, 0.0, 1000.0 if k == 1 else 16.0)))
+    return f"({kind} {' '.join(words)})"
+
+
+# ---- Passes ---------------------------------------------------------------
+
+
+def a_search(rng):
+    usual = [0.0, 0.05, 0.2, 0.35, 0.35, 0.4, 0.5, 0.7, 1.0, 1.5, 16.0]
+    return rng.choice(usual + [rng.uniform(0, 1)])
+
+
+def a_factor(rng):
+    return rng.choice(
+        [0.0, 1.0, beside(1.0, 1), beside(1.0, -1), 1.5, 1.5, 2.5, 1000.0, rng.uniform(1, 3)]
+    )
+
+
+def a_pass(rng, kind=None):
+    kind = kind or rng.choice(["grow", "fill", "local"])
+    if rng.random() < 0.4:  # numbers that a fitter would write
+        search, factor = rng.choice([0.35, 0.4, 0.5]), rng.choice([1.0, 1.25, 1.5])
+        if kind == "grow":
+            return kind, (search, factor, rng.choice([1.0, 1.25, 2.0]))
+        if kind == "fill":
+            return kind, (search, factor, rng.choice([1, 2, 8]))
+        return kind, (search, factor, rng.choice([1, 3, 8]), 0.3, rng.choice([1, 2, 3]))
+    search, factor = a_search(rng), a_factor(rng)
+    if kind == "grow":
+        if rng.random() < 0.25:
+            return kind, None
+        boundary = rng.choice([0.0, 0.5, 1.0, 1.25, 2.0, 2.0, 3.0, 16.0, rng.uniform(0, 3)])
+        return kind, (search, factor, boundary)
+    if kind == "fill":
+        if rng.random() < 0.25:
+            return kind, None
+        return kind, (search, factor, rng.choice([0, 1, 1, 2, 3, 8, 64]))
+    residual = rng.choice([0.0, 1e-6, 1e-4, 0.01, 0.1, 0.3, 0.3, 1.0, 16.0])
+    rounds = rng.choice([0, 1, 1, 2, 3, 5, 8, 64])
+    return kind, (search, factor, rounds, residual, rng.choice([0, 1, 1, 2, 3, 4]))
+
+
+def some_passes(rng, most=5):
+    count = rng.choice([1, 1, 2, 3, rng.randint(1, most), 16 if rng.random() < 0.05 else 4])
+    return [a_pass(rng) for _ in range(count)]
+
+
+# ---- Panels ---------------------------------------------------------------
+
+
+def pictured(rng, cells, pitch):
+    """Cells seen in perspective: {cell: (x, y)}, with both axes there."""
+    turn = rng.choice([0.0, 0.0, rng.uniform(-3.2, 3.2)])
+    squeeze = rng.choice([1.0, 1.0, rng.uniform(0.3, 1.2)])
+    lean = rng.choice([0.0, 0.0, rng.uniform(-0.4, 0.4)])
+    tilt = rng.choice([0.0, 0.01, 0.03])
+    g, h = rng.uniform(-tilt, tilt), rng.uniform(-tilt, tilt)
+    c, s = math.cos(turn), math.sin(turn)
+    ai, aj = (c, s), (-s * squeeze + lean * c, c * squeeze + lean * s)
+    ox, oy = rng.uniform(-500, 500), rng.uniform(-500, 500)
+    seen = {}
+    for i, j in cells:
+        w = max(1.0 + g * i + h * j, 0.2)
+        x = (pitch * (ai[0] * i + aj[0] * j) + ox) / w
+        y = (pitch * (ai[1] * i + aj[1] * j) + oy) / w
+        seen[(i, j)] = (x, y)
+    return seen, (ai, aj)
+
+
+def local_pitch(seen, cell, pitch):
+    """The mean distance to the cardinal neighbours that are seen."""
+    x, y = seen[cell]
+    lengths = []
+    for di, dj in ref.CARDINAL:
+        other = seen.get((cell[0] + di, cell[1] + dj))
+        if other:
+            lengths.append(math.hypot(other[0] - x, other[1] - y))
+    return sum(lengths) / len(lengths) if lengths else pitch
+
+
+def label_cells(rng, width, height):
+    """Which cells of the panel carry given labels."""
+    cells = [(i, j) for i in range(width) for j in range(height)]
+    shape = rng.choice(
+        ["block", "block", "scattered", "holed", "ring", "patches", "row", "all", "two"]
+    )
+    if shape == "block":
+        i0, j0 = rng.randrange(width), rng.randrange(height)
+        a, b = rng.randint(1, width), rng.randint(1, height)
+        return [c for c in cells if i0 <= c[0] < i0 + a and j0 <= c[1] < j0 + b]
+    if shape == "scattered":
+        share = rng.choice([0.1, 0.3, 0.5, 0.8])
+        return [c for c in cells if rng.random() < share]
+    if shape == "holed":
+        gone = set(rng.sample(cells, max(1, len(cells) // 5)))
+        return [c for c in cells if c not in gone]
+    if shape == "ring":
+        return [c for c in cells if c[0] in (0, width - 1) or c[1] in (0, height - 1)]
+    if shape == "patches":
+        return [c for c in cells if c[0] < width // 3 or c[0] > 2 * width // 3]
+    if shape == "row":
+        return [c for c in cells if c[1] == height // 2]
+    if shape == "two":
+        return rng.sample(cells, min(2, len(cells)))
+    return cells
+
+
+def shuffled(rng, draft):
+    """Corner lines, and label lines, in an order of their own."""
+    order = list(range(len(draft.corners)))
+    rng.shuffle(order)
+    place = {old: new for new, old in enumerate(order)}
+    draft.corners = [draft.corners[old] for old in order]
+    draft.labels = [(place[n], cell) for n, cell in draft.labels]
+    rng.shuffle(draft.labels)
+    return draft
+
+
+def lay(rng, draft, width, height, shift=(0, 0), pitch=None):
+    """Puts a panel of width by height cells, cell (0, 0) shifted, on a draft."""
+    pitch = pitch or rng.choice([4.0, 10.0, 16.0, 37.5, 100.0])
+    margin = rng.choice([0, 1, 1, 2])
+    cells = [
+        (i, j)
+        for i in range(-margin, width + margin)
+        for j in range(-margin, height + margin)
+    ]
+    seen, axes = pictured(rng, cells, pitch)
+    if rng.random() < 0.3:  # the end row has crept
+        creep = rng.uniform(-0.9, 0.9) * pitch
+        end = rng.choice([0, 1])
+        last = max(c[end] for c in cells) - rng.choice([0, margin])
+        for cell in cells:
+            if cell[end] >= last:
+                x, y = seen[cell]
+                seen[cell] = (x + creep * axes[end][0], y + creep * axes[end][1])
+    noise = rng.choice([0.0, 0.0, 0.01, 0.05, 0.15, 0.3]) * pitch
+    missing = rng.choice([0.0, 0.0, 0.05, 0.2, 0.5])
+    labelled = set(label_cells(rng, width, height))
+    flat = rng.choice([None, None, 0.0, 0.001, pitch])
+    for cell in cells:
+        if rng.random() < missing and cell not in labelled:
+            continue
+        x, y = seen[cell]
+        x, y = x + rng.gauss(0, 1) * noise, y + rng.gauss(0, 1) * noise
+        own = flat if flat is not None else local_pitch(seen, cell, pitch)
+        if cell in labelled:
+            at = (cell[0] + shift[0], cell[1] + shift[1])
+            if ref.on_sheet(at):
+                draft.labels.append((len(draft.corners), at))
+        draft.corners.append((x, y, own * rng.choice([1.0, 1.0, rng.uniform(0.7, 1.4)])))
+    for _ in range(rng.choice([0, 0, 1, 3, len(cells) // 2])):  # spurious corners
+        x, y = seen[rng.choice(cells)]
+        far = rng.choice([0.05, 0.3, 0.6]) * pitch
+        x, y = x + rng.gauss(0, 1) * far, y + rng.gauss(0, 1) * far
+        draft.corners.append((x, y, rng.choice([0.0, pitch])))
+    draft.cell = pitch * rng.choice([1.0, 1.0, rng.uniform(0.6, 1.6)])
+    draft.axes = tuple((a + rng.gauss(0, 0.02), b + rng.gauss(0, 0.02)) for a, b in axes)
+    if rng.random() < 0.1:
+        draft.axes = tuple((rng.uniform(-4, 4), rng.uniform(-4, 4)) for _ in range(2))
+    draft.band = rng.choice([0.0, 0.1, 0.25, 0.25, 0.5, 1.0, 4.0])
+    return draft
+
+
+def panel(rng):
+    width, height = rng.randint(1, 7), rng.randint(1, 7)
+    shift = (rng.randint(-20, 20), rng.randint(-20, 20))
+    draft = lay(rng, Draft(), width, height, shift)
+    draft.passes = some_passes(rng)
+    return shuffled(rng, draft)
+
+
+def edge(rng):
+    width, height = rng.randint(1, 6), rng.randint(1, 6)
+    at = []
+    for size in (width, height):
+        low, high = ref.FIRST - 1 + rng.randint(0, 6), ref.LAST + 2 - size - rng.randint(0, 6)
+        at.append(rng.choice([low, high, rng.randint(-20, 20)]))
+    draft = lay(rng, Draft(), width, height, tuple(at))
+    draft.passes = some_passes(rng)
+    return shuffled(rng, draft)
+
+
+# ---- Special frames -------------------------------------------------------
+
+
+def equal(rng):
+    """An exact lattice; around some cells, corners at one distance from it."""
+    draft = Draft()
+    pitch = rng.choice([8.0, 16.0, 10.0])
+    draft.cell = pitch
+    draft.axes = ((1.0, 0.0), (0.0, 1.0))
+    width, height = rng.randint(2, 5), rng.randint(2, 5)
+    shift = (rng.randint(-3, 3), rng.randint(-3, 3))
+    labelled = set(label_cells(rng, width, height))
+    for i in range(-1, width + 1):
+        for j in range(-1, height + 1):
+            x, y = i * pitch, j * pitch
+            if (i, j) in labelled:
+                draft.labels.append((len(draft.corners), (i + shift[0], j + shift[1])))
+                draft.corners.append((x, y, rng.choice([0.0, pitch])))
+                continue
+            d = rng.choice([0.0, 0.5, 1.0, 2.0, 2.0**-24, 2.0**-23, 2.0**-22])
+            around = [(d, 0.0), (-d, 0.0), (0.0, d), (0.0, -d), (d, d), (-d, -d), (0.0, 0.0)]
+            for dx, dy in rng.sample(around, rng.choice([0, 1, 2, 2, 3])):
+                draft.corners.append((x + dx, y + dy, rng.choice([0.0, pitch])))
+    draft.band = rng.choice([0.25, 0.5, 1.0])
+    draft.passes = some_passes(rng)
+    return shuffled(rng, draft)
+
+
+def pairs(rng):
+    """A noisy panel in perspective, two or three corners about every cell."""
+    draft = Draft()
+    pitch = rng.choice([10.0, 37.5, 100.0])
+    width, height = rng.randint(3, 5), rng.randint(3, 5)
+    cells = [(i, j) for i in range(-1, width + 1) for j in range(-1, height + 1)]
+    seen, draft.axes = pictured(rng, cells, pitch)
+    labelled = set(label_cells(rng, width, height))
+    for cell in cells:
+        x, y = seen[cell]
+        if cell in labelled:
+            draft.labels.append((len(draft.corners), cell))
+            x, y = x + rng.gauss(0, 0.02) * pitch, y + rng.gauss(0, 0.02) * pitch
+            draft.corners.append((x, y, local_pitch(seen, cell, pitch)))
+            continue
+        for far in rng.sample([0.02, 0.05, 0.1, 0.2, 0.3], rng.choice([1, 2, 2, 3])):
+            dx, dy = rng.gauss(0, far) * pitch, rng.gauss(0, far) * pitch
+            draft.corners.append((x + dx, y + dy, local_pitch(seen, cell, pitch)))
+    draft.cell = pitch
+    draft.band = rng.choice([0.25, 0.5, 1.0])
+    draft.passes = [
+        (kind, (rng.uniform(0.3, 0.8), rng.uniform(1.0, 2.0)) + rest)
+        for kind, rest in rng.sample(
+            [("grow", (rng.uniform(0.5, 2.0),)), ("fill", (rng.randint(1, 4),)),
+             ("local", (rng.randint(1, 2), 0.3, 1))],
+            rng.randint(1, 3),
+        )
+    ]
+    return shuffled(rng, draft)
+
+
+def knife(rng):
+    """Given labels only; then the pass is run, and wherever it looks for
+    candidates two corners are put on either side of the prediction, equally
+    far from it but for rounding."""
+    draft = Draft()
+    pitch = rng.choice([10.0, 37.5, 100.0])
+    width, height = rng.randint(1, 5), rng.randint(1, 5)
+    search, factor = rng.uniform(0.2, 0.3), rng.choice([0.0, 1.0, 1.0])
+    kind, rest = rng.choice(
+        [
+            ("grow", (1.0,)),
+            ("grow", (1.0,)),
+            ("fill", (1,)),
+            ("fill", (2,)),
+            ("local", (1, 0.3, 1)),
+        ]
+    )
+    draft.passes = [(kind, (search, factor) + rest)]
+    given = label_cells(rng, width, height)
+    if kind == "local":  # supports in general position
+        given = rng.choice([[(0, 0), (1, 0), (0, 1), (1, 1)], [(0, 0), (1, 2), (3, 1), (2, 3)]])
+        shift = rng.randint(-20, 20)
+        given = [(i + shift, j - shift) for i, j in given]
+    seen, draft.axes = pictured(rng, given, pitch)
+    noise = rng.choice([0.0, 0.02, 0.1]) * pitch
+    for cell in given:
+        draft.labels.append((len(draft.corners), cell))
+        x, y = seen[cell]
+        x, y = x + rng.gauss(0, 1) * noise, y + rng.gauss(0, 1) * noise
+        draft.corners.append((x, y, local_pitch(seen, cell, pitch)))
+    draft.cell = pitch
+    draft.band = rng.choice([0.5, 1.0, 4.0])
+    frame = ref.read(draft.text())
+    look = ref.candidates
+    # What local attaches soon puts three supports in a line: few there.
+    share = 0.15 if kind == "local" else 1.0
+
+    def put_two_and_look(frame, sheet, point, radius, watch):
+        x, y = point
+        if len(frame.x) < 150 and max(abs(x), abs(y)) < 16000 and rng.random() < share:
+            turn, far = rng.uniform(0, 6.3), rng.uniform(0.02, 0.15) * pitch
+            dx, dy = math.cos(turn) * far, math.sin(turn) * far
+            one, other = (rnd(x + dx), rnd(y + dy)), (rnd(x - dx), rnd(y - dy))
+            # In fill equal distances exclude the pass: nearly equal ones there.
+            while kind == "fill" and distance(one, point) == distance(other, point):
+                dx, dy = dx * 1.00001, dy * 1.00001
+                other = rnd(x - dx), rnd(y - dy)
+            for x, y in (one, other):
+                frame.numbered.append((len(frame.x), x, y))
+                frame.x.append(x)
+                frame.y.append(y)
+                frame.pitch.append(rnd(pitch))
+        return look(frame, sheet, point, radius, watch)
+
+    ref.candidates = put_two_and_look
+    try:
+        ref.run_pass(frame, frame.given(), 0)
+    finally:
+        ref.candidates = look
+    draft.corners = list(zip(frame.x, frame.y, frame.pitch))
+    draft.passes += some_passes(rng, 2)[:2]
+    return shuffled(rng, draft) if rng.random() < 0.3 else draft
+
+
+def supports(rng):
+    """Few given labels, so that supports are in general position, or exact
+    whole positions, so that three in a line have a zero pivot and no fit."""
+    draft = Draft()
+    exact = rng.random() < 0.5
+    pitch = 16.0
+    shift = (rng.randint(-9, 9), rng.randint(-9, 9))
+    base = rng.choice(
+        [
+            [(0, 0), (1, 0), (0, 1), (1, 1)],
+            [(0, 0), (2, 0), (0, 2), (2, 2)],
+            [(1, 0), (0, 1), (2, 1), (1, 2)],
+            [(0, 0), (1, 2), (3, 1), (2, 3)],
+            [(0, 0), (1, 0), (0, 1), (1, 1), (3, 3)],
+            [(i, j) for i in range(5) for j in range(5) if (i + j) % 2 == 0],
+            [(i, j) for i in range(4) for j in range(4) if rng.random() < 0.6],
+        ]
+    )
+    around = [(i, j) for i in range(-3, 7) for j in range(-3, 7)]
+    if exact:
+        a, b, c, d = rng.choice([(1, 0, 0, 1), (1, 0, 0.5, 1), (0.75, 0.5, -0.5, 1)])
+        seen = {(i, j): ((a * i + c * j) * pitch, (b * i + d * j) * pitch) for i, j in around}
+        draft.axes = ((a, b), (c, d))
+    else:
+        seen, draft.axes = pictured(rng, around, pitch)
+    noise = 0.0 if exact else rng.choice([0.0, 0.01, 0.1])
+    missing = rng.choice([0.1, 0.4, 0.7])
+    for cell in around:
+        x, y = seen[cell]
+        if cell in base:
+            draft.labels.append((len(draft.corners), (cell[0] + shift[0], cell[1] + shift[1])))
+        elif rng.random() < missing:
+            continue
+        draft.corners.append((x + rng.gauss(0, 1) * noise, y + rng.gauss(0, 1) * noise, 0.0))
+        if rng.random() < 0.05:
+            draft.corners.append((x + rng.choice([-2, 0, 2]), y + rng.choice([-2, 1, 3]), 0.0))
+    draft.cell = pitch
+    draft.band = rng.choice([0.25, 0.5, 1.0])
+    draft.passes = [a_pass(rng, rng.choice(["local", "local", "local", "grow", "fill"]))
+                    for _ in range(rng.randint(1, 4))]
+    usual = (rng.choice([0.35, 0.4, 1.0]), rng.choice([1.0, 1.5, 2.5]),
+             rng.choice([1, 1, 2, 8]), rng.choice([0.01, 0.3, 16.0]), rng.randint(0, 3))
+    draft.passes.insert(0, ("local", usual))
+    if rng.random() < 0.4:  # marks first, for local to clear
+        mark = rng.choice([(0.0, 1.0, 1.0), (0.01, 1.5, 1.0), (1.0, 1000.0, 2.0)])
+        draft.passes.insert(0, ("grow", mark))
+    return shuffled(rng, draft)
+
+
+def degenerate(rng):
+    """Few labels, cells or positions in special place, then local."""
+    draft = Draft()
+    draft.cell = pitch = rng.choice([1.0, 10.0, 64.0])
+    cells = rng.choice(
+        [
+            [(0, 0), (1, 0), (2, 0), (3, 0)],
+            [(0, 0), (1, 1), (2, 2), (3, 3)],
+            [(0, 0), (1, 0), (2, 0), (0, 1)],
+            [(0, 0), (1, 0), (0, 1), (1, 1)],
+            [(0, 0), (2, 0), (0, 2), (2, 2), (1, 1)],
+            [(rng.randint(-9, 9), rng.randint(-9, 9)) for _ in range(rng.randint(3, 9))],
+        ]
+    )
+    cells = sorted(set(cells))
+    kind = rng.choice(["as cells", "line", "equal pair", "all equal", "random", "small"])
+    ax, ay = rng.uniform(-1, 1), rng.uniform(-1, 1)
+    for n, (i, j) in enumerate(cells):
+        x, y = i * pitch, j * pitch
+        if kind == "line":
+            x, y = (i + 2 * j) * pitch * ax, (i + 2 * j) * pitch * ay
+        elif kind == "equal pair" and n == 1:
+            x, y = draft.corners[0][0], draft.corners[0][1]
+        elif kind == "all equal":
+            x, y = ax * pitch, ay * pitch
+        elif kind == "random":
+            x, y = rng.uniform(-50, 50), rng.uniform(-50, 50)
+        elif kind == "small":
+            x, y = rng.choice([0, 1, 2]), rng.choice([0, 1, 2])
+        draft.labels.append((n, (i, j)))
+        draft.corners.append((x, y, 0.0))
+    for _ in range(rng.randint(0, 20)):
+        x, y = rng.randint(-4, 8) * pitch, rng.randint(-4, 8) * pitch
+        draft.corners.append((x + rng.choice([0, 0, rng.gauss(0, 0.1 * pitch)]), y, 0.0))
+    draft.band = rng.choice([0.25, 1.0, 4.0])
+    draft.passes = [a_pass(rng, rng.choice(["local", "local", "grow", "fill"])) for _ in range(3)]
+    draft.passes[rng.randrange(3)] = a_pass(rng, "local")
+    return shuffled(rng, draft)
+
+
+def horizon(rng):
+    """x = a / w, y = b * i / w or the like, w = j - far: the horizon runs
+    through the row j = far, and with far 0 through cell (0, 0)."""
+    draft = Draft()
+    a, b = rng.choice([8.0, 64.0, 100.0]), rng.choice([4.0, 10.0, 30.0])
+    far = rng.choice([0, 0, 2, 4, -2, 8, rng.randint(-9, 9)])
+    slant = rng.choice([0, 0, 1, 2])
+    close = rng.choice([0.0, 0.0, 1e-12, 1e-7, 1e-3])
+    first = (rng.choice([1, far + 1, far - 4]), rng.choice([1, far + 1, far - 4]))
+    cells = [(first[0] + i, first[1] + j) for i in range(4) for j in range(4)]
+    if rng.random() < 0.5:
+        cells = cells[:2] + cells[4:6]
+    given = set(rng.sample(cells, rng.randint(min(4, len(cells)), len(cells))))
+    for i in range(-3, 8):
+        for j in range(-3, 8):
+            w = j + slant * i - far + close
+            if abs(w) < 1e-4:
+                continue
+            x, y = a / w, b * i / w
+            if abs(x) > 16384 or abs(y) > 16384:
+                continue
+            if (i, j) in given:
+                draft.labels.append((len(draft.corners), (i, j)))
+            elif rng.random() < 0.5:
+                continue
+            draft.corners.append((x, y, 0.0))
+    draft.cell = rng.choice([1.0, b, a])
+    draft.band = 4.0
+    draft.passes = ([a_pass(rng, "local")] + some_passes(rng, 3))[:16]
+    return shuffled(rng, draft)
+
+
+def scale(rng):
+    """A panel made huge, tiny or vanishing, cell size with it or not."""
+    draft = lay(rng, Draft(), rng.randint(1, 4), rng.randint(1, 4), pitch=10.0)
+    power = rng.choice([11, 10, 9, -9, -13, -20, -30, -45, -60, -75, -110, -126, -140, -149])
+    by = 2.0**power
+    draft.corners = [(x * by, y * by, p * rng.choice([by, by, 1.0])) for x, y, p in draft.corners]
+    draft.cell = max(draft.cell * by, 2.0**-10)
+    if power < 0 and rng.random() < 0.5:  # axes small enough to matter
+        draft.axes = tuple((u * by * 2.0**13, v * by * 2.0**13) for u, v in draft.axes)
+    draft.passes = some_passes(rng)
+    if power < -9:  # searches that reach no further than the corners do
+        small = []
+        for kind, numbers in draft.passes:
+            if numbers and rng.random() < 0.7:
+                numbers = (rng.choice([by, 4 * by, 100 * by]) * 2.0**10,) + numbers[1:]
+            small.append((kind, numbers))
+        draft.passes = small
+    return shuffled(rng, draft)
+
+
+def wild(rng):
+    draft = Draft()
+    side = rng.choice([3.0, 20.0, 300.0, 16384.0])
+    count = rng.randint(1, 40)
+    whole = rng.random() < 0.5
+    for _ in range(count):
+        x, y = rng.uniform(-side, side), rng.uniform(-side, side)
+        if whole:
+            x, y = round(x), round(y)
+        pitch = rng.choice([0.0, 0.001, 0.002, 5.0, 10.0, rng.uniform(0, 40)])
+        draft.corners.append((x, y, pitch))
+    near = rng.choice([2, 4, 64])
+    used = set()
+    for n in rng.sample(range(count), rng.randint(0, count)):
+        cell = (rng.randint(-near, near - 1), rng.randint(-near, near - 1))
+        if cell not in used:
+            used.add(cell)
+            draft.labels.append((n, cell))
+    draft.cell = rng.choice([side / 4, 10.0, 2.0**-10, 16384.0, rng.uniform(1, 30)])
+    draft.axes = tuple((rng.uniform(-4, 4), rng.uniform(-4, 4)) for _ in range(2))
+    draft.band = rng.choice([0.0, 0.25, 1.0, 4.0, rng.uniform(0, 4)])
+    draft.passes = some_passes(rng, 3)
+    if near == 64:  # a box as wide as the sheet: one local round is enough
+        draft.passes = [p if p[0] != "local" else a_pass(rng, "grow") for p in draft.passes]
+    return draft
+
+
+def bare(rng):
+    draft = Draft()
+    what = rng.choice(["no corners", "no labels", "no passes", "one", "one label"])
+    if what != "no corners":
+        for _ in range(1 if what == "one" else rng.randint(1, 12)):
+            draft.corners.append((rng.randint(-3, 3) * 10.0, rng.randint(-3, 3) * 10.0, 10.0))
+    if what in ("no passes", "one", "one label"):
+        draft.labels.append((0, (rng.randint(-64, 63), rng.randint(-64, 63))))
+    if what != "no passes":
+        draft.passes = some_passes(rng)
+    return draft
+
+
+def dense(rng):
+    """Up to 1,024 corners, labels few or all, one of each pass at most."""
+    draft = Draft()
+    lay(rng, draft, rng.choice([16, 24, 30]), rng.choice([16, 24, 30]), (-16, -16), pitch=16.0)
+    draft.corners = draft.corners[:1024]
+    while len(draft.corners) < 1024 and rng.random() < 0.999:
+        draft.corners.append((rng.uniform(-600, 600), rng.uniform(-600, 600), 16.0))
+    draft.labels = [(n, c) for n, c in draft.labels if n < 1024]
+    draft.passes = [a_pass(rng, kind) for kind in rng.sample(["grow", "fill", "local"], 2)]
+    draft.passes = [
+        (kind, numbers if kind != "local" else (0.4, 2.5, 2, 0.3, rng.randint(0, 2)))
+        for kind, numbers in draft.passes
+    ]
+    return shuffled(rng, draft)
+
+
+# ---- Deciding values ------------------------------------------------------
+
+
+def deciding(rng):
+    """Sets one number to the value that decides in one place, or one unit
+    beside it. For the radius also to where the 65,536th part begins."""
+    base = rng.choice(
+        [panel] * 2 + [pairs] * 4 + [supports] * 2 + [equal, degenerate, scale, wild, horizon]
+    )
+    draft = base(rng)
+    frame = ref.read(draft.text())
+    sheet = frame.given()
+    found = []
+    for number in range(len(frame.passes)):
+        decisions = []
+        ref.run_pass(frame, sheet, number, ref.Watch(decisions))
+        found += [(number, decision) for decision in decisions]
+    kinds = sorted({decision[0] for _, decision in found})
+    if not kinds:
+        return draft
+    kind = rng.choice(kinds + [k for k in kinds if k == "quotient"] * 2)
+    number = rng.choice(sorted({n for n, decision in found if decision[0] == kind}))
+    found = [decision for n, decision in found if (n, decision[0]) == (number, kind)]
+    # The number that is set may change what the pass decides before: the first
+    # decision of its kind still stands then.
+    _, value, other = found[0] if rng.random() < 0.6 else rng.choice(found)
+    if not math.isfinite(value):
+        return draft
+    beyond = rng.choice([-1, 0, 0, 1])
+    pass_kind, _ = draft.passes[number]
+    numbers = list(frame.passes[number][1])
+    if kind == "radius":
+        share = rng.choice([0.0, 0.5, 0.99, 1.01, 2.0, -0.5, -0.99, -1.01, -2.0])
+        radius = math.sqrt(value * (1.0 + share / 65536))
+        if pass_kind == "grow" and numbers[2] > 0 and rng.random() < 0.5:
+            radius /= numbers[2]
+        numbers[0] = beside(rnd(radius / frame.cell), beyond)
+    elif kind == "quotient":
+        numbers[1] = beside(value, beyond)
+    elif kind == "gate":
+        numbers[3] = beside(rnd(value / frame.cell), rng.choice([-2, -1, 0, 0, 1, 2]))
+    elif kind == "edge":
+        draft.band = beside(rnd(abs(1.0 - value)), beyond)
+    else:  # the pitch at which the cell size is used
+        x, y, _ = draft.corners[other]
+        draft.corners[other] = (x, y, beside(ref.LEAST_PITCH, rng.choice([-1, 0, 1])))
+        if rng.random() < 0.5:
+            pitch = beside(ref.LEAST_PITCH, rng.choice([-1, 0, 1]))
+            draft.corners = [(x, y, pitch) for x, y, _ in draft.corners]
+    if kind in ("radius", "quotient", "gate"):
+        draft.passes[number] = (pass_kind, tuple(numbers))
+    return draft
+
+
+FAMILIES = {
+    "panel": (panel, 26),
+    "edge": (edge, 9),
+    "equal": (equal, 10),
+    "pairs": (pairs, 5),
+    "knife": (knife, 8),
+    "supports": (supports, 14),
+    "degenerate": (degenerate, 7),
+    "horizon": (horizon, 6),
+    "scale": (scale, 9),
+    "wild": (wild, 6),
+    "bare": (bare, 2),
+    "dense": (dense, 0.6),
+    "deciding": (deciding, 30),
+}
+
+
+def frames(seed, count, only=None):
+    """Yields (name, bytes), each frame from its own seed."""
+    names = [only] if only else list(FAMILIES)
+    weights = [FAMILIES[name][1] for name in names]
+    for k in range(count):
+        rng = random.Random(f"{seed} {k}")
+        family = rng.choices(names, weights)[0]
+        data = FAMILIES[family][0](rng).text()
+        try:
+            ref.read(data)
+        except ref.Refused as refused:
+            raise SystemExit(f"frame {k} ({family}) of seed {seed}: {refused}")
+        yield f"{seed}-{k}-{family}", data
+
+
+def main():
+    parser = argparse.ArgumentParser(description=__doc__.splitlines()[0])
+    parser.add_argument("--seed", type=int, default=1)
+    parser.add_argument("--count", type=int, default=10)
+    parser.add_argument("--only", choices=list(FAMILIES))
+    parser.add_argument("--out")
+    options = parser.parse_args()
+    if options.out:
+        os.makedirs(options.out, exist_ok=True)
+    for name, data in frames(options.seed, options.count, options.only):
+        if options.out:
+            with open(os.path.join(options.out, name + ".frame"), "wb") as file:
+                file.write(data)
+        else:
+            print(f"# {name}\n{data.decode()}")
+
+
+if __name__ == "__main__":
+    main()

@@ -1,0 +1,255 @@
+#!/usr/bin/env python3
+"""Shows that the comparison sees slips: reference.py is changed in one place,
+taken as our side, and compared with the Rust until a pass that 01 compares
+differs.
+
+    slips.py [--seed S] [--count N] [NAME ...]
+
+For each slip it prints after how many frames the Rust showed it. Ends with
+'N seen, 0 unseen'. Not tried here are changes that 01's exclusions cover: a
+candidate at the radius itself, and what lies off the sheet or on its rim.
+"""
+
+import argparse
+import os
+import sys
+import tempfile
+import types
+
+import generate
+import run
+
+HERE = os.path.dirname(os.path.abspath(__file__))
+
+# name: (what stands in reference.py, what is put in its place)
+SLIPS = {
+    "neighbours i outer, j inner": (
+        "for dj in (-1, 0, 1) for di in (-1, 0, 1)",
+        "for di in (-1, 0, 1) for dj in (-1, 0, 1)",
+    ),
+    "whole difference of both sides": (
+        "return rnd(rnd(a[0] - b[0]) * 0.5), rnd(rnd(a[1] - b[1]) * 0.5)",
+        "return rnd(a[0] - b[0]), rnd(a[1] - b[1])",
+    ),
+    "one-sided where both sides stand": (
+        "return rnd(rnd(a[0] - b[0]) * 0.5), rnd(rnd(a[1] - b[1]) * 0.5)",
+        "return rnd(a[0] - here[0]), rnd(a[1] - here[1])",
+    ),
+    "axis without cell size": (
+        "return rnd(axis[0] * frame.cell), rnd(axis[1] * frame.cell)",
+        "return axis",
+    ),
+    "equal weights": (
+        "weight = 1.0 / (di * di + dj * dj)",
+        "weight = 1.0",
+    ),
+    "a sum not rounded": (
+        "sum_x = rnd(sum_x + rnd(weight * rnd(x + off_x)))",
+        "sum_x = rnd(sum_x + weight * (x + off_x))",
+    ),
+    "radius widened always": ("if extrapolating(near):", "if True:"),
+    "radius widened never": ("if extrapolating(near):", "if False:"),
+    "extrapolating by cardinal neighbours only": (
+        "any(di < 0 for di, _ in near)",
+        "any(di < 0 and dj == 0 for di, dj in near)",
+    ),
+    "labelled corners are candidates": ("or n in taken", ""),
+    "candidates by number": ("found.sort()", "found.sort(key=lambda c: c[1])"),
+    "equal distances by falling number": (
+        "found.sort()",
+        "found.sort(key=lambda c: (c[0], -c[1]))",
+    ),
+    "fill's floor in grow": (
+        "choice = choose(found, factor, False, watch)",
+        "choice = choose(found, factor, True, watch)",
+    ),
+    "grow's floor in fill and local": ("        if raised:", "        if False:"),
+    "ambiguous at the factor itself": ("if ratio < factor:", "if ratio <= factor:"),
+    "quotient of squares": (
+        "ratio = rnd(second / first)",
+        "ratio = rnd(second * second / (first * first))",
+    ),
+    "cell size at the least pitch itself": (
+        "if not expected > LEAST_PITCH:",
+        "if not expected >= LEAST_PITCH:",
+    ),
+    "expected length from the candidate alone": (
+        "rnd(0.5 * rnd(frame.pitch[corner] + frame.pitch[other]))",
+        "frame.pitch[corner]",
+    ),
+    "a band open below": (
+        "return rnd(1.0 - frame.band) <= ratio <=",
+        "return rnd(1.0 - frame.band) < ratio <=",
+    ),
+    "a band open above": (
+        "<= ratio <= rnd(1.0 + frame.band)",
+        "<= ratio < rnd(1.0 + frame.band)",
+    ),
+    "no cardinal neighbour is refused": ("return not present", "return False"),
+    "every edge has to pass": (
+        "            if edge_accepted(frame, corner, other, watch):\n"
+        "                return True\n"
+        "    return not present",
+        "            if not edge_accepted(frame, corner, other, watch):\n"
+        "                return False\n"
+        "    return True",
+    ),
+    "only the first cardinal neighbour is tried": (
+        "                return True\n    return not present",
+        "                return True\n            return False\n    return not present",
+    ),
+    "queue in another order": (
+        "CARDINAL = [(1, 0), (-1, 0), (0, 1), (0, -1)]",
+        "CARDINAL = [(-1, 0), (1, 0), (0, 1), (0, -1)]",
+    ),
+    "seeds by j, then i": (
+        "for cell in sorted(sheet.corner):",
+        "for cell in sorted(sheet.corner, key=lambda c: (c[1], c[0])):",
+    ),
+    "grow clears a hole that it attaches": (
+        "            enqueue(cell)\n    rim",
+        "            enqueue(cell)\n            sheet.holes.discard(cell)\n    rim",
+    ),
+    "edge refusal marks no hole": (
+        "            edge += 1\n            sheet.holes.add(cell)",
+        "            edge += 1",
+    ),
+    "ambiguous marks a hole": (
+        "            sheet.ambiguous.add(cell)",
+        "            sheet.holes.add(cell)",
+    ),
+    "grow does not go on from what it attached": (
+        "            attached.append((cell, choice))\n            enqueue(cell)",
+        "            attached.append((cell, choice))",
+    ),
+    "fill walks the four corner cells": (
+        "        if i0 <= i <= i1 or j0 <= j <= j1\n    ]",
+        "    ]",
+    ),
+    "fill's strips on labelled rows and columns only": (
+        "        if i0 <= i <= i1 or j0 <= j <= j1\n    ]",
+        "        if i in {c[0] for c in sheet.corner} or j in {c[1] for c in sheet.corner}\n    ]",
+    ),
+    "fill by j, then i": (
+        "for cell in fill_cells(sheet):",
+        "for cell in sorted(fill_cells(sheet), key=lambda c: (c[1], c[0])):",
+    ),
+    "fill marks a hole": (
+        "            if choice is None or choice is AMBIGUOUS:\n                continue",
+        "            if choice is None or choice is AMBIGUOUS:\n"
+        "                sheet.holes.add(cell)\n                continue",
+    ),
+    "fill clears marks": (
+        "                attached.append((cell, choice))\n        if len(attached) == before:\n"
+        "            break\n    rim = yes_no(sheet.rim(1))\n    return Answer(f\"(fill",
+        "                attached.append((cell, choice))\n"
+        "                sheet.holes.discard(cell)\n        if len(attached) == before:\n"
+        "            break\n    rim = yes_no(sheet.rim(1))\n    return Answer(f\"(fill",
+    ),
+    "fill's round limit 0 does none": ("rounds < max(limit, 1):", "rounds < limit:"),
+    "fill does one round too many": ("rounds < max(limit, 1):", "rounds < max(limit, 1) + 1:"),
+    "local's strips on every row": (
+        "        if j0 <= j <= j1:\n            return j in with_j",
+        "        if j0 <= j <= j1:\n            return True",
+    ),
+    "local without corner blocks": (
+        "            return j in with_j\n        return True",
+        "            return j in with_j\n        return False",
+    ),
+    "local's depth 0 acts as 0": ("    depth = max(depth, 1)\n", ""),
+    "local's round limit 0 does one": ("and rounds < limit:", "and rounds < max(limit, 1):"),
+    "local from 5 labels on": ("while len(sheet.corner) >= 4", "while len(sheet.corner) >= 5"),
+    "supports by distance, then j, then i": (
+        "for _, a, b in nsmallest(4, order)",
+        "for _, a, b in nsmallest(4, order, key=lambda s: (s[0], s[2], s[1]))",
+    ),
+    "supports by the larger of |di| and |dj|": (
+        "(abs(a - i) + abs(b - j), a, b)",
+        "(max(abs(a - i), abs(b - j)), a, b)",
+    ),
+    "the gate itself is too much": ("if worst > gate:", "if worst >= gate:"),
+    "residuals recorded only past the gate": (
+        "            largest = worst if largest is None else max(largest, worst)\n"
+        "            watch.decided(\"gate\", worst, gate)\n"
+        "            if worst > gate:\n                continue\n",
+        "            if worst > gate:\n                continue\n"
+        "            largest = worst if largest is None else max(largest, worst)\n",
+    ),
+    "no fit counts as no candidate": (
+        "            if h is None:\n                continue",
+        "            if h is None:\n                none += 1\n                continue",
+    ),
+    "local leaves the hole": ("                sheet.holes.discard(cell)\n", ""),
+    "local leaves the ambiguous mark": ("                sheet.ambiguous.discard(cell)\n", ""),
+    "last of equal pivots": (
+        "if abs(a[r][c]) > abs(a[pivot][c]):",
+        "if abs(a[r][c]) >= abs(a[pivot][c]):",
+    ),
+    "multiplier by division": (
+        "multiplier = step(low[c] * reciprocal)",
+        "multiplier = step(low[c] / top[c])",
+    ),
+    "no zero pivot": (
+        "        if a[pivot][c] == 0.0:\n            raise NoFit(None)",
+        "        if a[pivot][c] == 0.0:\n            a[pivot][c] = 1.0",
+    ),
+    "T inverse times (H times S)": (
+        "product(product(t_back, h), s_matrix)",
+        "product(t_back, product(h, s_matrix))",
+    ),
+    "a zero last entry taken as 1": (
+        "    if abs(last) < LEAST_LAST:\n        raise NoFit(None)\n",
+        "    if abs(last) < LEAST_LAST:\n        last = 1.0\n",
+    ),
+    "scale 1 only at mean distance 0": ("if mean > LEAST_LAST else", "if mean > 0.0 else"),
+    "nine times a reciprocal": (
+        "step(entry / last)",
+        "step(entry * step(1.0 / last))",
+    ),
+    "row sums right to left": (
+        "        left = rnd(rnd(row[0] * x) + rnd(row[1] * y))\n        return rnd(left + row[2])",
+        "        left = rnd(rnd(row[1] * y) + row[2])\n        return rnd(left + rnd(row[0] * x))",
+    ),
+}
+
+
+def changed(name):
+    """reference.py with the slip, as a module of its own."""
+    with open(os.path.join(HERE, "reference.py")) as file:
+        text = file.read()
+    old, new = SLIPS[name]
+    if text.count(old) != 1:
+        sys.exit(f"{name}: stands {text.count(old)} times in reference.py")
+    module = types.ModuleType("slipped")
+    exec(compile(text.replace(old, new), f"reference.py, {name}", "exec"), module.__dict__)
+    return module
+
+
+def main():
+    parser = argparse.ArgumentParser(description=__doc__.splitlines()[0])
+    parser.add_argument("names", nargs="*")
+    parser.add_argument("--seed", type=int, default=1)
+    parser.add_argument("--count", type=int, default=1000)
+    options = parser.parse_args()
+    frames = list(generate.frames(options.seed, options.count))
+    modules = {name: changed(name) for name in options.names or SLIPS}
+    seen = unseen = 0
+    with tempfile.TemporaryDirectory() as folder:
+        for name, module in modules.items():
+            side = run.Side(folder, module.passes_text)
+            for tried, (frame, data) in enumerate(frames, 1):
+                wrong = run.compare(side, data).differences()
+                if wrong:
+                    kind = wrong[0]["kind"]
+                    print(f"{name}: seen in a {kind} pass of frame {tried}, {frame}", flush=True)
+                    seen += 1
+                    break
+            else:
+                print(f"{name}: not seen in {len(frames)} frames", flush=True)
+                unseen += 1
+    print(f"{seen} seen, {unseen} unseen")
+    return 1 if unseen else 0
+
+
+if __name__ == "__main__":
+    sys.exit(main())
