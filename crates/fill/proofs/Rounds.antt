@@ -1,0 +1,159 @@
+-- The rounds of fill, one after the other, and the whole call: refused, or all rounds done. Assumes nothing.
+use mathlib.Core.Path.{_≡_, refl, sym, ap, _∙_}
+use mathlib.Core.Bool.{Bool}
+use mathlib.Core.List.{List}
+use Prim.Native.Nat.{ℕ, suc, _+_, _-_, _<_, _≤_}
+use native.Mathlib.Omega.{arith}
+use borrow.Author.Tests.{eq-eqb, ne-eqb}
+use lib.ListN.{length}
+use lib.Ieee.{Float}
+use Rattle.refusal.specs.declared.Refusal.{Refusal}
+use Rattle.labels.specs.Labelled.{labelCount}
+use Rattle.labels.specs.Rim.{rim}
+use Rattle.labels.specs.Used.{Tied}
+use Rattle.arguments.specs.Arguments.{lent, checked}
+use Rattle.arguments.specs.Accepted.{Accepted}
+use Rattle.arguments.specs.declared.Checked.{Checked}
+use Rattle.arguments.specs.declared.Pass.{Pass}
+use Rattle.arguments.specs.declared.Settings.{Settings}
+use Rattle.arguments.specs.declared.FillParams.{FillParams}
+use Rattle.arguments.proofs.Laws.{accepted}
+use Rattle.extension_common.specs.TryCell.{Corners, cornersOf}
+use Rattle.passes.specs.Outcome.{done}
+use Rattle.passes.specs.Fill.{FillState, FillRounds, fillRound, fillFrom, limitOf, fillRun, fillAfter}
+use Rattle.passes.specs.Step.{FillOut, fillStep, fillOut, fillLeaves}
+use Rattle.passes.specs.declared.FillAnswer.{FillAnswer}
+use Rattle.fill.specs.Filling.{stateOf, Filling, Left, startOf, RoundsLeft}
+use Rattle.fill.specs.declared.FillProgress.{FillProgress}
+use Rattle.fill.proofs.Visit.{stands, left-as}
+use Rattle.fill.proofs.Walk.{holds-state, left-then, round-grows}
+
+-- ---- at most m rounds more
+
+-- the state after one round more
+abbrev pub roundOf : Corners → Settings → FillParams → FillRounds → FillRounds
+roundOf cs set p r = record { state = fillRound cs set p (r .state); rounds = r .rounds + 1 }
+
+module _ (cs : Corners) (set : Settings) (p : FillParams) where
+  pub from-none : (r : FillRounds) → fillFrom cs set p 0 r ≡ r
+  unfolding fillFrom
+  from-none r = refl
+
+  module _ (m : ℕ) (r : FillRounds) where
+    -- a round attaching nothing is the last
+    pub from-last : length (fillRound cs set p (r .state) .made) ≡ length (r .state .made) → fillFrom cs set p (suc m) r ≡ roundOf cs set p r
+    unfolding fillFrom
+    from-last e = rw (eq-eqb _ _ e)
+
+    pub from-more : (length (fillRound cs set p (r .state) .made) ≡ length (r .state .made) → ⊥) → fillFrom cs set p (suc m) r ≡ fillFrom cs set p m (roundOf cs set p r)
+    unfolding fillFrom
+    from-more e = rw (ne-eqb _ _ e)
+
+-- the limit, by its cases
+pub limit-none : (labels limit : ℕ) → labels ≡ 0 → 0 ≡ limitOf labels limit
+unfolding limitOf
+limit-none labels limit e = rw e
+
+module _ (labels limit : ℕ) (some : labels ≡ 0 → ⊥) where
+  more : labels ≡ suc (labels - 1)
+  more = omega arith
+
+  pub limit-one : limit ≡ 0 → 1 ≡ limitOf labels limit
+  unfolding limitOf
+  limit-one e = rw (more, e)
+
+  pub limit-own : (limit ≡ 0 → ⊥) → limit ≡ limitOf labels limit
+  unfolding limitOf
+  limit-own e = rw more (omega arith)
+
+-- ---- the loop over the rounds
+
+pub record Rounding (set : Settings) (p : FillParams) (limit : ℕ) (xs ys pitches : List Float) (sheet₀ list₀ sheet list used : List ℕ) (made rounds : ℕ) : Type 0 where
+  pub upto : rounds ≤ limit
+  pub same-sheet : length sheet ≡ length sheet₀
+  pub same-list : length list ≡ length list₀
+  pub left : Left (stateOf sheet list made) xs ys pitches list₀ sheet list used made
+  pub rest :
+      fillFrom (cornersOf xs ys pitches) set p (limit - rounds) (record { state = stateOf sheet list made; rounds = rounds })
+      ≡ fillFrom (cornersOf xs ys pitches) set p limit (startOf sheet₀ list₀)
+
+module _ (set : Settings) (p : FillParams) (limit : ℕ) (xs ys pitches : List Float) (sheet₀ list₀ : List ℕ) where
+  pub rounding-start : (used : List ℕ) → Filling xs ys pitches sheet₀ list₀ used 0 → Rounding set p limit xs ys pitches sheet₀ list₀ sheet₀ list₀ used 0 0
+  rounding-start used f = record { upto = omega arith; same-sheet = refl; same-list = refl; left = record { holds = stands f; filling = f }; rest = ap (λ (m : ℕ). fillFrom (cornersOf xs ys pitches) set p m (startOf sheet₀ list₀)) (all limit) }
+    where
+      all : (m : ℕ) → m - 0 ≡ m
+      all m = omega arith
+
+  module _ (sheet list used : List ℕ) (made rounds : ℕ) (g : Rounding set p limit xs ys pitches sheet₀ list₀ sheet list used made rounds) where
+    pub rounding-end : limit ≤ rounds → RoundsLeft (fillFrom (cornersOf xs ys pitches) set p limit (startOf sheet₀ list₀)) xs ys pitches list₀ sheet list used (record { made = made; rounds = rounds })
+    rounding-end h =
+        let e : limit - rounds ≡ 0 = omega arith in
+        rw (← g .rest, e, from-none (cornersOf xs ys pitches) set p) (record { left = g .left; rounds-are = refl })
+
+    module _ (sheet' list' used' : List ℕ) (next : ℕ) (h : rounds < limit) (l : Left (fillRound (cornersOf xs ys pitches) set p (stateOf sheet list made)) xs ys pitches list sheet' list' used' next) where
+      -- the state after the round, with the list's rest as it was at the start
+      whole : Left (fillRound (cornersOf xs ys pitches) set p (stateOf sheet list made)) xs ys pitches list₀ sheet' list' used' next
+      whole = left-then (g .left .holds) (round-grows (cornersOf xs ys pitches) set p (stateOf sheet list made)) l
+
+      -- how the rest of the rounds goes on
+      turn : limit - rounds ≡ suc (limit - (rounds + 1))
+      turn = omega arith
+
+      pub rounding-last : next ≡ made → RoundsLeft (fillFrom (cornersOf xs ys pitches) set p limit (startOf sheet₀ list₀)) xs ys pitches list₀ sheet' list' used' (record { made = made; rounds = rounds + 1 })
+      rounding-last e =
+          rw (sym (g .rest)
+          ∙ ap (λ (m : ℕ). fillFrom (cornersOf xs ys pitches) set p m (record { state = stateOf sheet list made; rounds = rounds })) turn
+          ∙ from-last (cornersOf xs ys pitches) set p (limit - (rounds + 1)) (record { state = stateOf sheet list made; rounds = rounds })
+          (sym (l .holds .made-is) ∙ e ∙ g .left .holds .made-is))
+          (record { left = rw e at whole; rounds-are = refl })
+
+      pub rounding-more : (next ≡ made → ⊥) → length sheet' ≡ length sheet → length list' ≡ length list → Rounding set p limit xs ys pitches sheet₀ list₀ sheet' list' used' next (rounds + 1)
+      rounding-more e a b =
+          record {
+            upto = omega arith;
+            same-sheet = a ∙ g .same-sheet;
+            same-list = b ∙ g .same-list;
+            left = left-as (holds-state (l .holds)) whole;
+            rest =
+                ap (λ (s : FillState). fillFrom (cornersOf xs ys pitches) set p (limit - (rounds + 1)) (record { state = s; rounds = rounds + 1 })) (holds-state (l .holds))
+                ∙ sym
+                (from-more (cornersOf xs ys pitches) set p (limit - (rounds + 1)) (record { state = stateOf sheet list made; rounds = rounds })
+                (λ d. e (l .holds .made-is ∙ d ∙ sym (g .left .holds .made-is))))
+                ∙ sym (ap (λ (m : ℕ). fillFrom (cornersOf xs ys pitches) set p m (record { state = stateOf sheet list made; rounds = rounds })) turn)
+                ∙ g .rest;
+          }
+
+-- ---- the pass
+
+module _ (xs ys pitches : List Float) (sheet list : List ℕ) (set : Settings) (p : FillParams) where
+  -- arguments that are not refused
+  pub accepted-filling : (used : List ℕ) → Accepted (lent xs ys pitches sheet 0 (length list)) set (Pass.Fill p) → Tied sheet used → Filling xs ys pitches sheet list used 0
+  accepted-filling used a t = record { given = a .given; few = a .few; one-cell = a .one-cell; tied = t; list-long = a .attached-long; room = omega arith }
+
+  -- all rounds done
+  pub pass-done : (limit : ℕ) (sheet' list' used' : List ℕ) (progress : FillProgress) (edge : Bool) → limit ≡ limitOf (labelCount sheet) (p .«max_iters») → edge ≡ rim 1 sheet'
+      → RoundsLeft (fillFrom (cornersOf xs ys pitches) set p limit (startOf sheet list)) xs ys pitches list sheet' list' used' progress
+      → fillOut (FillAnswer.Done (record { added = progress .made; iterations = progress .rounds; rim = edge })) sheet' list'
+      ≡ fillLeaves (done (fillAfter (cornersOf xs ys pitches) set p sheet)) sheet list
+  unfolding fillAfter fillRun
+  pass-done limit sheet' list' used' progress edge e f l =
+      rw (← e, f, l .rounds-are, l .left .holds .made-is, l .left .holds .sheet-is, l .left .holds .list-is)
+
+  -- ---- the call
+
+  -- its check refuses it, or lets it pass
+  module _ (check : Checked) (is : check ≡ checked (lent xs ys pitches sheet 0 (length list)) set (Pass.Fill p)) where
+    pub call-refused : (r : Refusal) → check ≡ Checked.Refused r
+        → fillOut (FillAnswer.Refused r) sheet list
+        ≡ fillLeaves (fillStep (record { xs = xs; ys = ys; pitches = pitches }) sheet set p (record { queue = 0; attached = length list })) sheet list
+    unfolding fillStep
+    call-refused r e = rw (← is, e)
+
+    module _ (e : check ≡ Checked.Fine) where
+      pub call-accepted : Accepted (lent xs ys pitches sheet 0 (length list)) set (Pass.Fill p)
+      call-accepted = accepted (lent xs ys pitches sheet 0 (length list)) set (Pass.Fill p) (sym is ∙ e)
+
+      pub call-done : (out : FillOut) → out ≡ fillLeaves (done (fillAfter (cornersOf xs ys pitches) set p sheet)) sheet list
+          → out ≡ fillLeaves (fillStep (record { xs = xs; ys = ys; pitches = pitches }) sheet set p (record { queue = 0; attached = length list })) sheet list
+      unfolding fillStep
+      call-done out f = rw (← is, e) f

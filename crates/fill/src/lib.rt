@@ -1,0 +1,374 @@
+// Fill (01, "Sheet"; port of shared/fill.rs): rounds over the unlabelled cells of the label box and one strip along each whole
+// side, by i then j, each tried at its prediction.
+
+ghost use mathlib.Core.Path.{_≡_};
+ghost use mathlib.Core.Bool.{_&&_};
+ghost use Prim.Native.Nat.{_≤_};
+ghost use lib.ListN.{length};
+ghost use Rattle.arguments.specs.Arguments.{lent};
+ghost use Rattle.arguments.specs.Accepted.{Accepted};
+ghost use Rattle.extension_common.specs.TryCell.{cornersOf};
+ghost use Rattle.passes.specs.Outcome.{done};
+ghost use Rattle.passes.specs.Grow.{tolerancesOf};
+ghost use Rattle.passes.specs.Fill.{nearI, nearJ, boxAndStrips, fillSearch, fillVisit, fillRound, fillFrom, limitOf, fillAfter};
+ghost use Rattle.passes.specs.Step.{fillStep, fillOut, fillLeaves};
+ghost use Rattle.fill.specs.Filling.{SmallBounds, SmallBox, stateOf, Filling, Left, Trying, Writable, Wrote, Looking, lookedAt, startOf, RoundsLeft};
+use arguments::Checked;
+use arguments::FillParams;
+use arguments::Pass;
+use arguments::Settings;
+use extension_common::ChoiceRule;
+use extension_common::Search;
+use extension_common::TryCellResult;
+use labels::Bounds;
+use labels::LabelBox;
+use passes::FillAnswer;
+use passes::FillStats;
+use positions_policy::Tolerances;
+use predict::Prediction;
+use sheet::Cell;
+
+// How far fill has come: how many places of the attached list are written, and how many rounds were walked.
+struct FillProgress {
+    made: usize,
+    rounds: usize,
+}
+
+// Whether a cell lies inside the bounds by i, or at most `past` lines beyond them.
+fn is_near_i(b: Bounds, past: u32, c: Cell) -> bool
+    requires { ⌜ SmallBounds b × (past ≤ 64) ⌝ }
+    ensures { λ r. ⌜ r ≡ nearI past b c ⌝ }
+{
+    let n = past as i32;
+    let low = b.low_i - n;
+    let high = b.high_i + n;
+    if c.i < low {
+        return false;
+    }
+    c.i <= high
+}
+
+// Whether a cell lies inside the bounds by j, or at most `past` lines beyond them.
+fn is_near_j(b: Bounds, past: u32, c: Cell) -> bool
+    requires { ⌜ SmallBounds b × (past ≤ 64) ⌝ }
+    ensures { λ r. ⌜ r ≡ nearJ past b c ⌝ }
+{
+    let n = past as i32;
+    let low = b.low_j - n;
+    let high = b.high_j + n;
+    if c.j < low {
+        return false;
+    }
+    c.j <= high
+}
+
+// Whether a cell lies in the box or in one of the two strips along its low and high j.
+fn is_along_j(b: Bounds, c: Cell) -> bool
+    requires { ⌜ SmallBounds b ⌝ }
+    ensures { λ r. ⌜ r ≡ (nearI 0 b c && nearJ 1 b c) ⌝ }
+{
+    if !is_near_i(b, 0, c) {
+        return false;
+    }
+    is_near_j(b, 1, c)
+}
+
+// Whether a cell lies in the box or in one of the two strips along its low and high i.
+fn is_along_i(b: Bounds, c: Cell) -> bool
+    requires { ⌜ SmallBounds b ⌝ }
+    ensures { λ r. ⌜ r ≡ (nearI 1 b c && nearJ 0 b c) ⌝ }
+{
+    if !is_near_i(b, 1, c) {
+        return false;
+    }
+    is_near_j(b, 0, c)
+}
+
+// Whether a cell is one that a round walks, if it is unlabelled: it lies in the label box or in the strip along a whole side.
+fn is_fill_cell(around: LabelBox, c: Cell) -> bool
+    requires { ⌜ SmallBox around ⌝ }
+    ensures { λ r. ⌜ r ≡ boxAndStrips around c ⌝ }
+{
+    let LabelBox::Around(b) = around else {
+        return false;
+    };
+    if is_along_j(b, c) {
+        return true;
+    }
+    is_along_i(b, c)
+}
+
+// How fill searches a cell: search times cell size as the radius, and fill's rule of choice.
+fn search_of(settings: Settings, params: FillParams) -> Search
+    ensures { λ r. ⌜ r ≡ fillSearch settings params ⌝ }
+{
+    let grid = settings.grid;
+    Search {
+        search_r: params.attach_search_rel * grid.cell_size,
+        ambiguity_factor: params.attach_ambiguity_factor,
+        rule: ChoiceRule::WithFloor,
+    }
+}
+
+// The edge's tolerances: cell size and band.
+fn tolerances_of(settings: Settings) -> Tolerances
+    ensures { λ r. ⌜ r ≡ tolerancesOf settings ⌝ }
+{
+    let grid = settings.grid;
+    Tolerances {
+        cell_size: grid.cell_size,
+        edge_length_tol: settings.edge_length_tol,
+    }
+}
+
+// Attaches a corner to a cell: the sheet, the next place of the attached list and the corner's entry are written. Answers how many
+// places of the list are written now.
+fn attach_corner(
+    sheet: &mut [u16],
+    attached: &mut [u16],
+    used: &mut [u8; 1024],
+    made: usize,
+    c: Cell,
+    k: usize,
+) -> usize
+    requires { ⌜ Writable (now sheet) (now attached) (now used) made c k ⌝ }
+    ensures { λ r. ⌜ Wrote (now (sheet .entry)) (now (attached .entry)) (now (used .entry)) made c k (now (sheet .exit)) (now (attached .exit)) (now (used .exit)) r ⌝ }
+{
+    sheet::attach(sheet, c, k);
+    attached[made] = sheet::place_of(c) as u16;
+    used[k] = 1;
+    made + 1
+}
+
+// Tries an unlabelled cell: where a corner is found, it is attached, else nothing is written. Answers how many places of the attached
+// list are written now.
+fn try_fill_cell(
+    xs: &[f32],
+    ys: &[f32],
+    pitches: &[f32],
+    sheet: &mut [u16],
+    attached: &mut [u16],
+    used: &mut [u8; 1024],
+    made: usize,
+    c: Cell,
+    settings: Settings,
+    params: FillParams,
+) -> usize
+    requires { ⌜ Trying (now xs) (now ys) (now pitches) (now sheet) (now attached) (now used) made c ⌝ }
+    ensures { λ r. ⌜ Left (fillVisit (cornersOf (now (xs .entry)) (now (ys .entry)) (now (pitches .entry))) settings params c (stateOf (now (sheet .entry)) (now (attached .entry)) made)) (now (xs .entry)) (now (ys .entry)) (now (pitches .entry)) (now (attached .entry)) (now (sheet .exit)) (now (attached .exit)) (now (used .exit)) r ⌝ }
+{
+    let prediction = predict::predict_from_neighbours(xs, ys, pitches, sheet, c, settings.grid);
+    let Prediction::At(at) = prediction else {
+        return made;
+    };
+    let found = extension_common::try_attach_at_cell(
+        xs,
+        ys,
+        pitches,
+        sheet,
+        used,
+        c,
+        at,
+        search_of(settings, params),
+        tolerances_of(settings),
+    );
+    match found {
+        TryCellResult::NoCandidates => made,
+        TryCellResult::Ambiguous => made,
+        TryCellResult::EdgeRejected => made,
+        TryCellResult::Attached(k) => attach_corner(sheet, attached, used, made, c, k),
+    }
+}
+
+// Looks at a place: its cell is tried if it lies in the region about `around` and is unlabelled. Answers how many places of the
+// attached list are written now.
+fn fill_place(
+    xs: &[f32],
+    ys: &[f32],
+    pitches: &[f32],
+    sheet: &mut [u16],
+    attached: &mut [u16],
+    used: &mut [u8; 1024],
+    made: usize,
+    around: LabelBox,
+    place: usize,
+    settings: Settings,
+    params: FillParams,
+) -> usize
+    requires { ⌜ Looking (now xs) (now ys) (now pitches) (now sheet) (now attached) (now used) made around place ⌝ }
+    ensures { λ r. ⌜ Left (lookedAt (cornersOf (now (xs .entry)) (now (ys .entry)) (now (pitches .entry))) settings params around place (stateOf (now (sheet .entry)) (now (attached .entry)) made)) (now (xs .entry)) (now (ys .entry)) (now (pitches .entry)) (now (attached .entry)) (now (sheet .exit)) (now (attached .exit)) (now (used .exit)) r ⌝ }
+{
+    let c = sheet::cell_of(place);
+    if !is_fill_cell(around, c) {
+        return made;
+    }
+    if labels::is_labelled(sheet[place]) {
+        return made;
+    }
+    try_fill_cell(
+        xs,
+        ys,
+        pitches,
+        sheet,
+        attached,
+        used,
+        made,
+        c,
+        settings,
+        params,
+    )
+}
+
+// One round: all cells of the region about the label box of now that are unlabelled, by i then j. Answers how many places of the
+// attached list are written now.
+fn fill_round(
+    xs: &[f32],
+    ys: &[f32],
+    pitches: &[f32],
+    sheet: &mut [u16],
+    attached: &mut [u16],
+    used: &mut [u8; 1024],
+    made: usize,
+    settings: Settings,
+    params: FillParams,
+) -> usize
+    requires { ⌜ Filling (now xs) (now ys) (now pitches) (now sheet) (now attached) (now used) made ⌝ }
+    ensures { λ r. ⌜ Left (fillRound (cornersOf (now (xs .entry)) (now (ys .entry)) (now (pitches .entry))) settings params (stateOf (now (sheet .entry)) (now (attached .entry)) made)) (now (xs .entry)) (now (ys .entry)) (now (pitches .entry)) (now (attached .entry)) (now (sheet .exit)) (now (attached .exit)) (now (used .exit)) r ⌝ }
+{
+    let around = labels::label_box(sheet);
+    let mut reached = made;
+    let mut place = 0usize;
+    while place < 16384 {
+        reached = fill_place(
+            xs,
+            ys,
+            pitches,
+            sheet,
+            attached,
+            used,
+            reached,
+            around,
+            place,
+            settings,
+            params,
+        );
+        place += 1;
+    }
+    reached
+}
+
+// How many rounds there may be: none where no cell is labelled, else the limit, where 0 acts as 1.
+fn round_limit(labels: usize, max_iters: u32) -> usize
+    ensures { λ r. ⌜ r ≡ limitOf labels «max_iters» ⌝ }
+{
+    if labels == 0 {
+        return 0;
+    }
+    if max_iters == 0 {
+        return 1;
+    }
+    max_iters as usize
+}
+
+// Round after round, until one attaches nothing or the limit is reached.
+fn fill_rounds(
+    xs: &[f32],
+    ys: &[f32],
+    pitches: &[f32],
+    sheet: &mut [u16],
+    attached: &mut [u16],
+    used: &mut [u8; 1024],
+    limit: usize,
+    settings: Settings,
+    params: FillParams,
+) -> FillProgress
+    requires { ⌜ Filling (now xs) (now ys) (now pitches) (now sheet) (now attached) (now used) 0 ⌝ }
+    ensures { λ r. ⌜ RoundsLeft (fillFrom (cornersOf (now (xs .entry)) (now (ys .entry)) (now (pitches .entry))) settings params limit (startOf (now (sheet .entry)) (now (attached .entry)))) (now (xs .entry)) (now (ys .entry)) (now (pitches .entry)) (now (attached .entry)) (now (sheet .exit)) (now (attached .exit)) (now (used .exit)) r ⌝ }
+{
+    let mut made = 0usize;
+    let mut rounds = 0usize;
+    while rounds < limit {
+        let next = fill_round(
+            xs,
+            ys,
+            pitches,
+            sheet,
+            attached,
+            used,
+            made,
+            settings,
+            params,
+        );
+        rounds += 1;
+        if next == made {
+            return FillProgress { made, rounds };
+        }
+        made = next;
+    }
+    FillProgress { made, rounds }
+}
+
+// The pass itself, on arguments that are not refused: all rounds, and what the answer says of them.
+fn fill_accepted(
+    xs: &[f32],
+    ys: &[f32],
+    pitches: &[f32],
+    sheet: &mut [u16],
+    attached: &mut [u16],
+    settings: Settings,
+    params: FillParams,
+) -> FillStats
+    requires { ⌜ Accepted (lent (now xs) (now ys) (now pitches) (now sheet) 0 (length (now attached))) settings (Pass.Fill params) ⌝ }
+    ensures { λ r. ⌜ fillOut (FillAnswer.Done r) (now (sheet .exit)) (now (attached .exit)) ≡ fillLeaves (done (fillAfter (cornersOf (now (xs .entry)) (now (ys .entry)) (now (pitches .entry))) settings params (now (sheet .entry)))) (now (sheet .entry)) (now (attached .entry)) ⌝ }
+{
+    let limit = round_limit(labels::label_count(sheet), params.max_iters);
+    let mut used = labels::mark_used(sheet);
+    let progress = fill_rounds(
+        xs,
+        ys,
+        pitches,
+        sheet,
+        attached,
+        &mut used,
+        limit,
+        settings,
+        params,
+    );
+    let rim = labels::rim_reached(sheet, 1);
+    FillStats {
+        added: progress.made,
+        iterations: progress.rounds,
+        rim,
+    }
+}
+
+// Fills the sheet: each round walks, by i then j, the unlabelled cells of the label box and one strip along each whole side, and attaches a
+// corner where one is found; a round that attaches nothing is the last. The attached list holds the new cells' places in order at its front,
+// its rest untouched; no mark changes. The answer has the number of new cells, the number of rounds, and the rim. A refused call changes
+// nothing and answers why.
+pub fn fill_grid_holes(
+    xs: &[f32],
+    ys: &[f32],
+    pitches: &[f32],
+    sheet: &mut [u16],
+    attached: &mut [u16],
+    settings: Settings,
+    params: FillParams,
+) -> FillAnswer
+    ensures { λ r. ⌜ fillOut r (now (sheet .exit)) (now (attached .exit)) ≡ fillLeaves (fillStep (record { xs = now (xs .entry); ys = now (ys .entry); pitches = now (pitches .entry) }) (now (sheet .entry)) settings params (record { queue = 0; attached = length (now (attached .entry)) })) (now (sheet .entry)) (now (attached .entry)) ⌝ }
+{
+    let checked = arguments::check_arguments(
+        xs,
+        ys,
+        pitches,
+        sheet,
+        0,
+        attached.len(),
+        settings,
+        Pass::Fill(params),
+    );
+    if let Checked::Refused(refusal) = checked {
+        return FillAnswer::Refused(refusal);
+    }
+    FillAnswer::Done(fill_accepted(xs, ys, pitches, sheet, attached, settings, params))
+}
