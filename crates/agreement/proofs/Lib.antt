@@ -3,4 +3,5 @@ pub mod Try
 pub mod Cells
 pub mod Grow
 pub mod Fill
+pub mod Local
 pub mod Run

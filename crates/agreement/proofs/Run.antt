@@ -11,27 +11,29 @@ use Rattle.refusal.specs.declared.Refusal.{Refusal}
 use Rattle.float_order.specs.Unsigned.{one}
 use Rattle.sheet.specs.Pairing.{Shuffle, PairedCorners, PairedSheets}
 use Rattle.sheet.proofs.Pairing.{given-paired}
-use Rattle.labels.specs.Rim.{rim}
 use Rattle.labels.proofs.Pairing.{paired-rim, paired-one}
 use Rattle.arguments.specs.Arguments.{checked}
-use Rattle.arguments.specs.Accepted.{SettingsInside, GrowInside, FillInside, PassInside}
+use Rattle.arguments.specs.Accepted.{SettingsInside, GrowInside, FillInside, LocalInside, PassInside}
 use Rattle.arguments.specs.declared.Checked.{Checked}
 use Rattle.arguments.specs.declared.Settings.{Settings}
 use Rattle.arguments.specs.declared.Pass.{Pass}
 use Rattle.arguments.specs.declared.GrowParams.{GrowParams}
 use Rattle.arguments.specs.declared.FillParams.{FillParams}
+use Rattle.arguments.specs.declared.LocalExtensionParams.{LocalExtensionParams}
 use Rattle.arguments.proofs.Laws.{accepted}
 use Rattle.arguments.proofs.Pairing.{checked-alike}
 use Rattle.passes.specs.Outcome.{After, Outcome, refused, done}
 use Rattle.passes.specs.Grow.{growAfter}
 use Rattle.passes.specs.Fill.{fillAfter}
-use Rattle.passes.specs.Step.{CornerLists, Rooms, lentOf, unless, growStep, fillStep}
-use Rattle.passes.specs.Run.{PassCall, grow, fill, Call, PassStats, growStats, fillStats, step, sheetAfter, run}
+use Rattle.passes.specs.Local.{depthOf, localAfter}
+use Rattle.passes.specs.Step.{CornerLists, Rooms, lentOf, unless, growStep, fillStep, localStep}
+use Rattle.passes.specs.Run.{PassCall, grow, fill, local, Call, PassStats, growStats, fillStats, localStats, step, sheetAfter, run}
 use Rattle.invariants.specs.Calls.{cornersIn, Standing, passOf, checkedCall, answering, afterPass, afterCall}
 use Rattle.invariants.proofs.Run.{step-as, call-accepted, standing-step, invariants}
 use Rattle.agreement.specs.Agreement.{SameAfter, SameOutcome, both-refused, both-done, Agree, agree-end, agree-call, factorOf, AboveOne, FactorsAbove, was-refused, ran, Agreement}
 use Rattle.agreement.proofs.Grow.{grow-same}
 use Rattle.agreement.proofs.Fill.{fill-same}
+use Rattle.agreement.proofs.Local.{local-same}
 
 -- ---- outcomes
 
@@ -96,11 +98,24 @@ module _ (l l' : CornerLists) (corners : PairedCorners (l .xs) (l .ys) (l .pitch
           visited = refl;
         }
 
+    local-after-same : (p : LocalExtensionParams) → LocalInside p → lt one (p .«ambiguity_factor») ≡ true
+        → SameAfter (corners .pairs) (localAfter (cornersIn l) set p sheet) (localAfter (cornersIn l') set p sheet')
+    unfolding localAfter
+    local-after-same p numbers above =
+        let same = local-same l l' corners few set p inside numbers above sheet begins sheet' paired in
+        record {
+          answer = λ t. record { counts = same .state .counts t; iterations = same .rounds t; residual = same .state .largest t; rim = paired-rim (same .state .sheet) (depthOf p) t };
+          sheet = same .state .sheet;
+          attached = same .state .made;
+          visited = refl;
+        }
+
     pass-same : (p : PassCall) → PassInside (passOf p) → lt one (factorOf p) ≡ true → SameAfter (corners .pairs) (afterPass l sheet set p) (afterPass l' sheet' set p)
     pass-same (grow p) numbers above = answering-same growStats (grow-after-same p numbers above)
     pass-same (fill p) numbers above = answering-same fillStats (fill-after-same p numbers above)
+    pass-same (local p) numbers above = answering-same localStats (local-after-same p numbers above)
 
-  -- the calls of grow and of fill, as their contracts have them
+  -- the calls of grow, of fill and of local, as their contracts have them
   pub grow-step-same : (set : Settings) (p : GrowParams) (rooms : Rooms) → lt one (p .«attach_ambiguity_factor») ≡ true
       → SameOutcome (corners .pairs) (growStep l sheet set p rooms) (growStep l' sheet' set p rooms)
   unfolding growStep
@@ -114,6 +129,13 @@ module _ (l l' : CornerLists) (corners : PairedCorners (l .xs) (l .ys) (l .pitch
   fill-step-same set p rooms above =
       unless-same _ _ _ _ (checked-same set rooms (Pass.Fill p))
       (λ e. let w = accepted (lentOf l sheet rooms) set (Pass.Fill p) e in fill-after-same (w .few) set (w .settings-inside) p (w .pass-inside) above)
+
+  pub local-step-same : (set : Settings) (p : LocalExtensionParams) (rooms : Rooms) → lt one (p .«ambiguity_factor») ≡ true
+      → SameOutcome (corners .pairs) (localStep l sheet set p rooms) (localStep l' sheet' set p rooms)
+  unfolding localStep
+  local-step-same set p rooms above =
+      unless-same _ _ _ _ (checked-same set rooms (Pass.Local p))
+      (λ e. let w = accepted (lentOf l sheet rooms) set (Pass.Local p) e in local-after-same (w .few) set (w .settings-inside) p (w .pass-inside) above)
 
   -- any call, if it has a factor above 1 where it runs
   pub step-same : (c : Call) → ((a : After PassStats) → step l sheet c ≡ done a → AboveOne c) → SameOutcome (corners .pairs) (step l sheet c) (step l' sheet' c)

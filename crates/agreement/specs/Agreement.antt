@@ -10,7 +10,7 @@ use Rattle.float_order.specs.Unsigned.{one}
 use Rattle.sheet.specs.Pairing.{Shuffle, PairedCorners, PairedSheets}
 use Rattle.passes.specs.Outcome.{After, Outcome, refused, done}
 use Rattle.passes.specs.Step.{CornerLists}
-use Rattle.passes.specs.Run.{PassCall, grow, fill, Call, PassStats, sheetAfter, run}
+use Rattle.passes.specs.Run.{PassCall, grow, fill, local, Call, PassStats, sheetAfter, run}
 use Rattle.invariants.specs.Calls.{Standing, Invariant}
 
 -- ---- the two frames
@@ -50,6 +50,7 @@ pub data Agree {n : ℕ} (s : Shuffle n) : List ℕ → List ℕ → List (Outco
 abbrev pub factorOf : PassCall → Float
 factorOf (grow p) = p .«attach_ambiguity_factor»
 factorOf (fill p) = p .«attach_ambiguity_factor»
+factorOf (local p) = p .«ambiguity_factor»
 
 -- above 1
 abbrev pub AboveOne : Call → Type 0

@@ -4,4 +4,5 @@ pub mod History
 pub mod Waiting
 pub mod Grow
 pub mod Fill
+pub mod Local
 pub mod Run

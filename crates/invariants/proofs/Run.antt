@@ -16,8 +16,9 @@ use Rattle.arguments.proofs.Laws.{accepted, accepted-fine}
 use Rattle.passes.specs.Outcome.{After, Outcome, refused, done}
 use Rattle.passes.specs.Grow.{tolerancesOf, growAfter}
 use Rattle.passes.specs.Fill.{fillAfter}
-use Rattle.passes.specs.Step.{CornerLists, lentOf, unless, growStep, fillStep}
-use Rattle.passes.specs.Run.{PassCall, grow, fill, Call, PassStats, growStats, fillStats, renamed, stepAs, step, sheetAfter, run, sheetOf}
+use Rattle.passes.specs.Local.{localAfter}
+use Rattle.passes.specs.Step.{CornerLists, lentOf, unless, growStep, fillStep, localStep}
+use Rattle.passes.specs.Run.{PassCall, grow, fill, local, Call, PassStats, growStats, fillStats, localStats, renamed, stepAs, step, sheetAfter, run, sheetOf}
 use Rattle.passes.specs.History.{History}
 use Rattle.invariants.specs.Kept.{Sound, Kept, Extended, Histories, before, pass, AttachedInTurn}
 use Rattle.invariants.specs.Calls.{cornersIn, Standing, passOf, checkedCall, answering, afterPass, afterCall, attachedCount, Ran, Goes, ended, refuses, runs, attachedIn, Invariants, Fit, Accepts}
@@ -25,12 +26,13 @@ use Rattle.invariants.proofs.Extended.{extended-marked, extended-then}
 use Rattle.invariants.proofs.History.{history-extended, attached-at, histories-then, attached-in-turn}
 use Rattle.invariants.proofs.Grow.{grow-history}
 use Rattle.invariants.proofs.Fill.{fill-history}
+use Rattle.invariants.proofs.Local.{local-history}
 
 -- ---- one call
 
 -- a call is refused, or does what its pass does
 pub step-as : (l : CornerLists) (sheet : List ℕ) (c : Call) → step l sheet c ≡ unless (checkedCall l sheet c) (afterCall l sheet c)
-unfolding step growStep fillStep
+unfolding step growStep fillStep localStep
 step-as l sheet c = go (c .pass)
   where
     under : {A : Type 0} (f : A → PassStats) (k : Checked) (a : After A) → renamed f (unless k a) ≡ unless k (answering f a)
@@ -40,6 +42,7 @@ step-as l sheet c = go (c .pass)
     go : (p : PassCall) → stepAs l sheet (c .settings) (c .rooms) p ≡ unless (checked (lentOf l sheet (c .rooms)) (c .settings) (passOf p)) (afterPass l sheet (c .settings) p)
     go (grow p) = under growStats (checked (lentOf l sheet (c .rooms)) (c .settings) (passOf (grow p))) (growAfter (cornersIn l) (c .settings) p sheet)
     go (fill p) = under fillStats (checked (lentOf l sheet (c .rooms)) (c .settings) (passOf (fill p))) (fillAfter (cornersIn l) (c .settings) p sheet)
+    go (local p) = under localStats (checked (lentOf l sheet (c .rooms)) (c .settings) (passOf (local p))) (localAfter (cornersIn l) (c .settings) p sheet)
 
 pub standing-sound : {l : CornerLists} {sheet : List ℕ} → Standing l sheet → Sound (cornersIn l) sheet
 standing-sound s = record { long = s .given .long; known = record { known = s .given .known }; one-cell = s .one-cell }
@@ -55,14 +58,16 @@ sound-standing s a =
 -- what each pass does to the labels, and that it counts its new cells
 module _ (l : CornerLists) (sheet : List ℕ) (set : Settings) (few : length (l .xs) ≤ 1024) (s : Sound (cornersIn l) sheet) where
   pass-history : (p : PassCall) → History (cornersIn l) (tolerancesOf set) sheet (afterPass l sheet set p .attached) (afterPass l sheet set p .sheet)
-  unfolding growAfter fillAfter
+  unfolding growAfter fillAfter localAfter
   pass-history (grow p) = grow-history set p few s .history
   pass-history (fill p) = fill-history few s set p
+  pass-history (local p) = local-history few s set p .history
 
   pass-counted : (p : PassCall) → attachedCount (afterPass l sheet set p .answer) ≡ length (afterPass l sheet set p .attached)
-  unfolding growAfter fillAfter
+  unfolding growAfter fillAfter localAfter
   pass-counted (grow p) = grow-history set p few s .counted
   pass-counted (fill p) = refl
+  pass-counted (local p) = local-history few s set p .counted
 
 -- a call that is not refused
 pub call-accepted : (l : CornerLists) (sheet : List ℕ) (c : Call) → checkedCall l sheet c ≡ Checked.Fine → Accepted (lentOf l sheet (c .rooms)) (c .settings) (passOf (c .pass))

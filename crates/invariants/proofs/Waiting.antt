@@ -75,6 +75,10 @@ waiting-more {sheet} {ps} {p} w h b fresh =
       once = once-append ps (p ∷ []) (w .once) (List·Memᴰ·not-nil, tt) (λ q m n. fresh (let e : q ≡ p = List·Memᴰ·eq-of-singleton n in rw e at m));
     }
 
+-- they wait still where no label was changed
+pub waiting-same : {sheet after ps : List ℕ} → Waiting sheet ps → SameLabels sheet after → Waiting after ps
+waiting-same w same = record { on = w .on; bare = λ q m. same-label-at same (cellOf q) ∙ w .bare q m; once = w .once }
+
 module _ {sheet ps : List ℕ} {p : ℕ} (w : Waiting sheet (p ∷ ps)) where
   -- the first of them
   pub first-on : p < 16384
@@ -83,14 +87,13 @@ module _ {sheet ps : List ℕ} {p : ℕ} (w : Waiting sheet (p ∷ ps)) where
   pub first-bare : labelAt sheet (cellOf p) ≡ Label.Unlabelled
   first-bare = w .bare p (List·Memᴰ·head refl)
 
-  -- the others wait still where no label was changed
+  -- the others, without it
+  pub others-wait : Waiting sheet ps
+  others-wait = record { on = λ q m. w .on q (List·Memᴰ·tail m); bare = λ q m. w .bare q (List·Memᴰ·tail m); once = w .once .1 }
+
+  -- they wait still where no label was changed
   pub waiting-marked : {after : List ℕ} → SameLabels sheet after → Waiting after ps
-  waiting-marked same =
-      record {
-        on = λ q m. w .on q (List·Memᴰ·tail m);
-        bare = λ q m. same-label-at same (cellOf q) ∙ w .bare q (List·Memᴰ·tail m);
-        once = w .once .1;
-      }
+  waiting-marked same = waiting-same others-wait same
 
   -- and where a corner was attached to the first
   pub waiting-attached : {cs : Corners} {tol : Tolerances} {k : ℕ} → Sound cs sheet → cs .count ≤ 1024 → Attaches cs tol sheet p k → Waiting (attached sheet (cellOf p) k) ps

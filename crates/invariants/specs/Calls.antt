@@ -16,8 +16,9 @@ use Rattle.extension_common.specs.TryCell.{Corners, cornersOf}
 use Rattle.passes.specs.Outcome.{After, Outcome, refused, done}
 use Rattle.passes.specs.Grow.{tolerancesOf, growAfter}
 use Rattle.passes.specs.Fill.{fillAfter}
+use Rattle.passes.specs.Local.{localAfter}
 use Rattle.passes.specs.Step.{CornerLists, lentOf}
-use Rattle.passes.specs.Run.{PassCall, grow, fill, Call, PassStats, growStats, fillStats, step, run, sheetOf}
+use Rattle.passes.specs.Run.{PassCall, grow, fill, local, Call, PassStats, growStats, fillStats, localStats, step, run, sheetOf}
 use Rattle.passes.specs.History.{History}
 use Rattle.invariants.specs.Kept.{Kept, Extended, AttachedAt, AttachedInTurn}
 
@@ -34,6 +35,7 @@ pub record Standing (l : CornerLists) (sheet : List ℕ) : Type 0 where
 abbrev pub passOf : PassCall → Pass
 passOf (grow p) = Pass.Grow p
 passOf (fill p) = Pass.Fill p
+passOf (local p) = Pass.Local p
 
 abbrev pub checkedCall : CornerLists → List ℕ → Call → Checked
 checkedCall l sheet c = checked (lentOf l sheet (c .rooms)) (c .settings) (passOf (c .pass))
@@ -45,6 +47,7 @@ answering f a = record { answer = f (a .answer); sheet = a .sheet; attached = a 
 abbrev pub afterPass : CornerLists → List ℕ → Settings → PassCall → After PassStats
 afterPass l sheet set (grow p) = answering growStats (growAfter (cornersIn l) set p sheet)
 afterPass l sheet set (fill p) = answering fillStats (fillAfter (cornersIn l) set p sheet)
+afterPass l sheet set (local p) = answering localStats (localAfter (cornersIn l) set p sheet)
 
 abbrev pub afterCall : CornerLists → List ℕ → Call → After PassStats
 afterCall l sheet c = afterPass l sheet (c .settings) (c .pass)
@@ -53,6 +56,7 @@ afterCall l sheet c = afterPass l sheet (c .settings) (c .pass)
 abbrev pub attachedCount : PassStats → ℕ
 attachedCount (growStats s) = s .counts .attached
 attachedCount (fillStats s) = s .added
+attachedCount (localStats s) = s .counts .attached
 
 -- ---- a list of calls
 

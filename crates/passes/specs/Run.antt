@@ -6,15 +6,18 @@ use Rattle.refusal.specs.declared.Refusal.{Refusal}
 use Rattle.arguments.specs.declared.Settings.{Settings}
 use Rattle.arguments.specs.declared.GrowParams.{GrowParams}
 use Rattle.arguments.specs.declared.FillParams.{FillParams}
+use Rattle.arguments.specs.declared.LocalExtensionParams.{LocalExtensionParams}
 use Rattle.passes.specs.Outcome.{After, Outcome, refused, done}
-use Rattle.passes.specs.Step.{CornerLists, Rooms, growStep, fillStep}
+use Rattle.passes.specs.Step.{CornerLists, Rooms, growStep, fillStep, localStep}
 use Rattle.passes.specs.declared.GrowStats.{GrowStats}
 use Rattle.passes.specs.declared.FillStats.{FillStats}
+use Rattle.passes.specs.declared.LocalStats.{LocalStats}
 
 -- which pass, with its numbers
 pub data PassCall : Type 0 where
   grow : GrowParams → PassCall
   fill : FillParams → PassCall
+  local : LocalExtensionParams → PassCall
 
 -- one call: which pass with its numbers, cell size, axes and band, and the lengths of the lent buffers
 pub record Call : Type 0 where
@@ -26,6 +29,7 @@ pub record Call : Type 0 where
 pub data PassStats : Type 0 where
   growStats : GrowStats → PassStats
   fillStats : FillStats → PassStats
+  localStats : LocalStats → PassStats
 
 -- an outcome with another answer
 abbrev pub renamed : {A B : Type 0} → (A → B) → Outcome A → Outcome B
@@ -36,6 +40,7 @@ renamed f (done a) = done (record { answer = f (a .answer); sheet = a .sheet; at
 abbrev pub stepAs : CornerLists → List ℕ → Settings → Rooms → PassCall → Outcome PassStats
 stepAs l sheet set r (grow p) = renamed growStats (growStep l sheet set p r)
 stepAs l sheet set r (fill p) = renamed fillStats (fillStep l sheet set p r)
+stepAs l sheet set r (local p) = renamed localStats (localStep l sheet set p r)
 
 unfoldable pub step : CornerLists → List ℕ → Call → Outcome PassStats
 step l sheet c = stepAs l sheet (c .settings) (c .rooms) (c .pass)

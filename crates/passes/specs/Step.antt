@@ -10,14 +10,18 @@ use Rattle.arguments.specs.declared.Pass.{Pass}
 use Rattle.arguments.specs.declared.Settings.{Settings}
 use Rattle.arguments.specs.declared.GrowParams.{GrowParams}
 use Rattle.arguments.specs.declared.FillParams.{FillParams}
+use Rattle.arguments.specs.declared.LocalExtensionParams.{LocalExtensionParams}
 use Rattle.extension_common.specs.TryCell.{cornersOf}
 use Rattle.passes.specs.Outcome.{After, Outcome, refused, done, over}
 use Rattle.passes.specs.Grow.{growAfter}
 use Rattle.passes.specs.Fill.{fillAfter}
+use Rattle.passes.specs.Local.{localAfter}
 use Rattle.passes.specs.declared.GrowStats.{GrowStats}
 use Rattle.passes.specs.declared.GrowAnswer.{GrowAnswer}
 use Rattle.passes.specs.declared.FillStats.{FillStats}
 use Rattle.passes.specs.declared.FillAnswer.{FillAnswer}
+use Rattle.passes.specs.declared.LocalStats.{LocalStats}
+use Rattle.passes.specs.declared.LocalAnswer.{LocalAnswer}
 
 -- the corners as they are lent
 pub record CornerLists : Type 0 where
@@ -46,6 +50,9 @@ growStep l sheet set p r = unless (checked (lentOf l sheet r) set (Pass.Grow p))
 unfoldable pub fillStep : CornerLists → List ℕ → Settings → FillParams → Rooms → Outcome FillStats
 fillStep l sheet set p r = unless (checked (lentOf l sheet r) set (Pass.Fill p)) (fillAfter (cornersOf (l .xs) (l .ys) (l .pitches)) set p sheet)
 
+unfoldable pub localStep : CornerLists → List ℕ → Settings → LocalExtensionParams → Rooms → Outcome LocalStats
+localStep l sheet set p r = unless (checked (lentOf l sheet r) set (Pass.Local p)) (localAfter (cornersOf (l .xs) (l .ys) (l .pitches)) set p sheet)
+
 -- ---- what a call leaves in the buffers that it is lent: all of it untouched where it is refused
 
 pub record GrowOut : Type 0 where
@@ -72,3 +79,15 @@ fillOut r s a = record { answer = r; sheet = s; attached = a }
 abbrev pub fillLeaves : Outcome FillStats → List ℕ → List ℕ → FillOut
 fillLeaves (refused r) sheet attached = fillOut (FillAnswer.Refused r) sheet attached
 fillLeaves (done a) sheet attached = fillOut (FillAnswer.Done (a .answer)) (a .sheet) (over (a .attached) attached)
+
+pub record LocalOut : Type 0 where
+  pub answer : LocalAnswer
+  pub sheet : List ℕ
+  pub attached : List ℕ
+
+abbrev pub localOut : LocalAnswer → List ℕ → List ℕ → LocalOut
+localOut r s a = record { answer = r; sheet = s; attached = a }
+
+abbrev pub localLeaves : Outcome LocalStats → List ℕ → List ℕ → LocalOut
+localLeaves (refused r) sheet attached = localOut (LocalAnswer.Refused r) sheet attached
+localLeaves (done a) sheet attached = localOut (LocalAnswer.Done (a .answer)) (a .sheet) (over (a .attached) attached)

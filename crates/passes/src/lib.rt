@@ -34,3 +34,23 @@ pub enum FillAnswer {
     Done(FillStats),
     Refused(Refusal),
 }
+
+// The largest residual that local recorded, or none.
+pub enum LargestResidual {
+    Nothing,
+    Residual(f32),
+}
+
+// Local's pass line: grow's four counts, rounds, largest residual or none, rim.
+pub struct LocalStats {
+    pub counts: Counts,
+    pub iterations: usize,
+    pub residual: LargestResidual,
+    pub rim: bool,
+}
+
+// What the public call of local answers.
+pub enum LocalAnswer {
+    Done(LocalStats),
+    Refused(Refusal),
+}

@@ -14,6 +14,7 @@ use Rattle.labels.specs.Labelled.{passing}
 use Rattle.labels.specs.Box.{widened, lowerOf, higherOf}
 use Rattle.passes.specs.Grow.{member}
 use Rattle.passes.specs.Fill.{cellsOf}
+use Rattle.passes.specs.Local.{localRegion, rowAmong, columnAmong}
 use Rattle.worked_examples.specs.Table.{Right, Holds, root, f32, table}
 
 -- a root that is computed meets the relation too
@@ -21,14 +22,14 @@ holds : (x r : ℕ) → rooted (f32 x) ≡ Root (f32 r) → Holds (root x r)
 holds x r e = (subst (λ (a : Rooted). Answers (f32 x) a) e (answered (f32 x) (ofBits-fits binary32 x)), e)
 
 pub right : Right table
-unfolding rooted climb reaches magnitude ofBits toBits add sub mul div lt le chooseUnambiguous chooseWithFloor inBand expectedLength meanPitch cellsOf passing cellOf placeOf widened lowerOf higherOf member
+unfolding rooted climb reaches magnitude ofBits toBits add sub mul div lt le chooseUnambiguous chooseWithFloor inBand expectedLength meanPitch cellsOf passing cellOf placeOf widened lowerOf higherOf member localRegion rowAmong columnAmong
 right = (
   holds 0x4080_0000 0x4000_0000 refl,
   (
     holds 0x4000_0000 0x3fb5_04f3 refl,
     (
       holds 0x0000_0001 0x1a35_04f3 refl,
-      (refl, (refl, (refl, (refl, (refl, (refl, (refl, (refl, (refl, (refl, (refl, tt))))))))))),
+      (refl, (refl, (refl, (refl, (refl, (refl, (refl, (refl, (refl, (refl, (refl, (refl, tt)))))))))))),
     ),
   ),
 )

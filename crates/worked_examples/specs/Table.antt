@@ -10,6 +10,7 @@ use Rattle.sheet.specs.Cells.{placeOf}
 use Rattle.labels.specs.Box.{boxAround}
 use Rattle.passes.specs.Grow.{member}
 use Rattle.passes.specs.Fill.{boxAndStrips, cellsOf}
+use Rattle.passes.specs.Local.{localRegion}
 use Rattle.binary32.specs.declared.root.Rooted.the-variants.{Root}
 use Rattle.binary32.specs.Sqrt.{Answers, rooted}
 use Rattle.grow.specs.Choice.{chooseUnambiguous, chooseWithFloor}
@@ -43,12 +44,16 @@ pub data Example : Type 0 where
   -- the expected length of an edge by both pitches and the cell size
   expected : ℕ → ℕ → ℕ → ℕ → Example
 
-  -- the cells that are labelled, by their places: how many cells fill's first round walks
+  -- the cells that are labelled, by their places: how many cells the first round of fill walks, or that of local with a depth
   fillWalks : List ℕ → ℕ → Example
+  localWalks : ℕ → List ℕ → ℕ → Example
 
 -- the cells that a round walks where these places are labelled and no other
 abbrev pub fillWalk : List ℕ → List ℕ
 fillWalk places = cellsOf (boxAndStrips (boxAround places)) (λ c. member (placeOf c) places)
+
+abbrev pub localWalk : ℕ → List ℕ → List ℕ
+localWalk depth places = cellsOf (localRegion depth places (boxAround places)) (λ c. member (placeOf c) places)
 
 -- what an example claims, of the definitions that the contracts cite
 abbrev pub Holds : Example → Type 0
@@ -57,6 +62,7 @@ Holds (grows first second factor c) = chooseUnambiguous (twoAt first second) (f3
 Holds (fills first second factor c) = chooseWithFloor (twoAt first second) (f32 factor) ≡ choiceOf c
 Holds (edge length expectation band b) = inBand (f32 length) (f32 expectation) (f32 band) ≡ b
 Holds (fillWalks places n) = length (fillWalk places) ≡ n
+Holds (localWalks depth places n) = length (localWalk depth places) ≡ n
 Holds (expected candidate neighbour size r) = expectedLength (f32 size) (f32 candidate) (f32 neighbour) ≡ f32 r
 
 -- every row of a table holds
@@ -88,4 +94,6 @@ table =
     ∷ expected 0x3a83_126f 0x3a83_126f 0x4120_0000 0x4120_0000
     -- M8: labels (0,0), (2,0): fill walks 9 cells. Their places are 64 * 128 + 64 and 66 * 128 + 64
     ∷ fillWalks (8256 ∷ 8512 ∷ []) 9
+    -- M9: local depth 1 would walk 11
+    ∷ localWalks 1 (8256 ∷ 8512 ∷ []) 11
     ∷ []

@@ -1,0 +1,64 @@
+-- `elimination::right_sides` meets its contract. The loop's invariant: the places passed hold the right sides. Assumes nothing.
+use mathlib.Core.Path.{refl}
+use Prim.Native.Nat.{_-_}
+use native.Mathlib.Omega.{arith}
+use borrow.Author.Needs.{needs}
+use lib.Ieee.{nan}
+use Rattle.elimination.specs.Solve.{entry, rightSides}
+use Rattle.elimination.proofs.Tables.{Filling, filling-start, filling-more, filling-whole}
+use Rattle.elimination.proofs.right_sides.Statement.{statement}
+use Rattle.elimination.proofs.right_sides.Tie as tie
+
+abbrev Inv-loop : tie.InvT-loop
+Inv-loop m b₀ i₀ b i = Filling 8 0 (λ h. entry m h 8) nan b₀ b i
+
+abbrev μ-loop : tie.MeasureT-loop
+μ-loop m b₀ i₀ b i = 8 - i
+
+loop-holds : tie.Need-loop-holds Inv-loop μ-loop
+loop-holds c = filling-start _ _ _ _ _ (search needs) (search needs) (λ k l. absurd (omega arith))
+
+mul-r : tie.Need-mul-r Inv-loop μ-loop
+mul-r c = search needs
+
+array-copy-out-r : tie.Need-array-copy-out-r Inv-loop μ-loop
+array-copy-out-r c = search needs
+
+array-read-b : tie.Need-array-read-b Inv-loop μ-loop
+array-read-b c = search needs
+
+mul-b : tie.Need-mul-b Inv-loop μ-loop
+mul-b c = search needs
+
+array-write-b : tie.Need-array-write-b Inv-loop μ-loop
+array-write-b c = search needs
+
+add-i : tie.Need-add-i Inv-loop μ-loop
+add-i c = search needs
+
+loop-less : tie.Need-loop-less Inv-loop μ-loop
+loop-less c = search needs
+
+loop-again : tie.Need-loop-again Inv-loop μ-loop
+loop-again c = filling-more (c .before .before .loop .inv) (c .before .loop-test .taken) refl
+
+returns : tie.Need-returns Inv-loop μ-loop
+unfolding rightSides
+returns c = filling-whole (c .before .loop .inv) (c .loop-test .left)
+
+pub right-sides-spec : {M : Type 1} → statement M
+right-sides-spec =
+    tie.close
+    (tie.spec
+    Inv-loop
+    μ-loop
+    loop-holds
+    mul-r
+    array-copy-out-r
+    array-read-b
+    mul-b
+    array-write-b
+    add-i
+    loop-less
+    loop-again
+    returns)

@@ -1,0 +1,21 @@
+-- `homography::steps_finite` meets its contract. Assumes nothing.
+use Rattle.elimination.proofs.Tables.{stop, on}
+use borrow.Author.Needs.{needs}
+use Rattle.homography.proofs.steps_finite.Statement.{statement}
+use Rattle.homography.proofs.steps_finite.Tie as tie
+
+is-finite-requires : tie.Need-is-finite-requires
+is-finite-requires c κs = search needs
+
+returns : tie.Need-returns
+returns c = stop _ (c .before .is-finite .ensures) (c .if1 .taken)
+
+points-finite-requires : tie.Need-points-finite-requires
+points-finite-requires c κs = search needs
+
+returns-2 : tie.Need-returns-2
+returns-2 c = on (c .before .before .is-finite .ensures) (c .before .if1 .left) (c .points-finite .ensures)
+
+pub steps-finite-spec : {M : Type 1} → statement M
+steps-finite-spec =
+    tie.close (tie.spec is-finite-requires returns points-finite-requires returns-2)

@@ -1,0 +1,127 @@
+-- Local's run is a history: the cells listed at a round's start are unlabelled until their own turn, and clearing a cell's marks keeps every
+-- label; and local counts its new cells. Assumes nothing.
+use mathlib.Core.Path.{_≡_, refl}
+use mathlib.Core.Bool.{Bool, true, false, cond}
+use mathlib.Core.List.{List, [], _∷_}
+use Prim.Native.Nat.{ℕ, zero, suc, _+_, _≤_}
+use native.Mathlib.Omega.{arith}
+use lib.Dec.{eqb}
+use lib.ListN.{length, length-append}
+use lib.Ieee.{Float, binary32, ofBits, lt}
+use Rattle.sheet.specs.Cells.{OnSheet, placeOf, cellOf}
+use Rattle.sheet.specs.Words.{attached, marksCleared}
+use Rattle.sheet.specs.Corners.{seenOf}
+use Rattle.sheet.proofs.Laws.{cell-on, place-cell}
+use Rattle.sheet.proofs.Words.{cleared-changes}
+use Rattle.labels.specs.Labelled.{labelCount, labelledPlaces, SameLabels}
+use Rattle.labels.specs.Box.{boxOf}
+use Rattle.labels.proofs.Labelled.{cleared-keeps}
+use Rattle.positions_policy.specs.declared.Tolerances.{Tolerances}
+use Rattle.arguments.specs.declared.Settings.{Settings}
+use Rattle.arguments.specs.declared.LocalExtensionParams.{LocalExtensionParams}
+use Rattle.extension_common.specs.TryCell.{Corners}
+use Rattle.extension_common.specs.declared.TryCellResult.{TryCellResult}
+use Rattle.passes.specs.Grow.{tolerancesOf, noCounts}
+use Rattle.passes.specs.Local.{depthOf, localRegion, localCells, supportsOf, LocalFit, none, fitted, localFit, LocalState, worst, withResiduals, gateOf, localWith, localAt, localVisit, localAll, localRound, LocalRounds, localFrom, localLimit, localRun}
+use Rattle.passes.specs.History.{Attaches, History, begun, marked, attaches}
+use Rattle.passes.specs.declared.Counts.{Counts}
+use Rattle.passes.specs.declared.LargestResidual.{LargestResidual}
+use Rattle.invariants.specs.Kept.{Sound}
+use Rattle.invariants.proofs.Extended.{extended-attached}
+use Rattle.invariants.proofs.History.{history-extended}
+use Rattle.invariants.proofs.Waiting.{Waiting, cells-wait, waiting-same, first-on, others-wait, waiting-attached, found-attaches}
+
+-- in a round, with these cells still to be tried
+pub record Trying (cs : Corners) (tol : Tolerances) (first ps : List ℕ) (s : LocalState) : Type 0 where
+  pub history : History cs tol first (s .made) (s .sheet)
+  pub counted : s .counts .attached ≡ length (s .made)
+  pub waiting : Waiting (s .sheet) ps
+
+-- between rounds: the history, and as many attached as counted
+pub record Tried (cs : Corners) (tol : Tolerances) (first : List ℕ) (s : LocalState) : Type 0 where
+  pub history : History cs tol first (s .made) (s .sheet)
+  pub counted : s .counts .attached ≡ length (s .made)
+
+pub local-cells-listed : (depth : ℕ) (sheet : List ℕ) → Waiting sheet (localCells depth sheet)
+unfolding localCells
+local-cells-listed depth sheet = cells-wait (localRegion depth (labelledPlaces sheet) (boxOf sheet)) sheet
+
+pub round-begins : {cs : Corners} {tol : Tolerances} {first : List ℕ} (depth : ℕ) (s : LocalState) → Tried cs tol first s → Trying cs tol first (localCells depth (s .sheet)) s
+round-begins depth s t = record { history = t .history; counted = t .counted; waiting = local-cells-listed depth (s .sheet) }
+
+module _ {cs : Corners} {first : List ℕ} (few : cs .count ≤ 1024) (begins : Sound cs first) where
+  pub sound-tried : {tol : Tolerances} {ps : List ℕ} {s : LocalState} → Trying cs tol first ps s → Sound cs (s .sheet)
+  sound-tried g = history-extended few begins (g .history) .sound
+
+  -- ---- one cell
+
+  module _ {tol : Tolerances} (p : ℕ) (ps : List ℕ) (s : LocalState) (g : Trying cs tol first (p ∷ ps) s) where
+    -- nothing was attached, whatever was counted or recorded
+    trying-next : (n : Counts) (largest : LargestResidual) → n .attached ≡ s .counts .attached → Trying cs tol first ps (record { sheet = s .sheet; made = s .made; counts = n; largest = largest })
+    trying-next n largest e = record { history = g .history; counted = rw e (g .counted); waiting = others-wait (g .waiting) }
+
+    -- what is found at the cell
+    trying-with : (r : TryCellResult) → ((k : ℕ) → r ≡ TryCellResult.Attached k → Attaches cs tol (s .sheet) p k) → (rs : List Float)
+        → Trying cs tol first ps (localWith (cellOf p) r (withResiduals rs s))
+    unfolding localWith
+    trying-with TryCellResult.NoCandidates may rs = trying-next _ _ refl
+    trying-with TryCellResult.Ambiguous may rs = trying-next _ _ refl
+    trying-with TryCellResult.EdgeRejected may rs = trying-next _ _ refl
+    trying-with (TryCellResult.Attached k) may rs =
+        let a = may k refl in
+        let now = attached (s .sheet) (cellOf p) k in
+        let on : OnSheet (cellOf p) = cell-on p (first-on (g .waiting)) in
+        let long : 16384 ≤ length now = extended-attached (sound-tried g) few a .sound .long in
+        let same : SameLabels now (marksCleared now (cellOf p)) = cleared-keeps now (cellOf p) long on in
+        record {
+          history = rw (place-cell p (first-on (g .waiting))) (marked (attaches p k (g .history) a) (cleared-changes now (cellOf p) long on .same-length) same);
+          counted = omega (arith, g .counted, length-append (s .made) (placeOf (cellOf p) ∷ []));
+          waiting = waiting-same (waiting-attached (g .waiting) (sound-tried g) few a) same;
+        }
+
+  -- ---- the run
+
+  module _ (set : Settings) (params : LocalExtensionParams) where
+    pub trying-visit : (p : ℕ) (ps : List ℕ) (s : LocalState) → Trying cs (tolerancesOf set) first (p ∷ ps) s → Trying cs (tolerancesOf set) first ps (localVisit cs set params (cellOf p) s)
+    unfolding localVisit localAt
+    trying-visit p ps s g = go (localFit (seenOf (cs .corner) (s .sheet)) (supportsOf (cellOf p) (s .sheet)))
+      where
+        gate : (t : Bool) (rs : List Float) (after : LocalState) → Trying cs (tolerancesOf set) first ps after → Trying cs (tolerancesOf set) first ps (cond t (withResiduals rs s) after)
+        gate true rs after w = trying-next p ps s g _ _ refl
+        gate false rs after w = w
+
+        go : (fit : LocalFit) → Trying cs (tolerancesOf set) first ps (localAt cs set params (cellOf p) fit s)
+        go none = trying-next p ps s g _ _ refl
+        go (fitted h rs) =
+            gate (lt (gateOf set params) (worst (ofBits binary32 0) rs)) rs _
+            (trying-with p ps s g _ (λ k e. found-attaches (g .waiting) cs (tolerancesOf set) _ _ k e) rs)
+
+    trying-all : (ps : List ℕ) (s : LocalState) → Trying cs (tolerancesOf set) first ps s → Tried cs (tolerancesOf set) first (localAll cs set params ps s)
+    unfolding localAll
+    trying-all [] s g = record { history = g .history; counted = g .counted }
+    trying-all (p ∷ ps) s g = trying-all ps (localVisit cs set params (cellOf p) s) (trying-visit p ps s g)
+
+    -- a round
+    pub tried-round : (s : LocalState) → Tried cs (tolerancesOf set) first s → Tried cs (tolerancesOf set) first (localRound cs set params s)
+    unfolding localRound
+    tried-round s t = trying-all (localCells (depthOf params) (s .sheet)) s (round-begins (depthOf params) s t)
+
+    -- at most m rounds more
+    tried-from : (m : ℕ) (r : LocalRounds) → Tried cs (tolerancesOf set) first (r .state) → Tried cs (tolerancesOf set) first (localFrom cs set params m r .state)
+    unfolding localFrom
+    tried-from zero r t = t
+    tried-from (suc m) r t = go (eqb (length (next .state .made)) (length (r .state .made))) (tried-from m next (tried-round (r .state) t))
+      where
+        next : LocalRounds
+        next = record { state = localRound cs set params (r .state); rounds = r .rounds + 1 }
+
+        go : (t : Bool) → Tried cs (tolerancesOf set) first (localFrom cs set params m next .state) → Tried cs (tolerancesOf set) first (cond t next (localFrom cs set params m next) .state)
+        go true w = tried-round (r .state) t
+        go false w = w
+
+    -- the whole run
+    pub local-history : Tried cs (tolerancesOf set) first (localRun cs set params first .state)
+    unfolding localRun
+    local-history =
+        tried-from (localLimit (labelCount first) (params .«max_iters»))
+        (record { state = record { sheet = first; made = []; counts = noCounts; largest = LargestResidual.Nothing }; rounds = 0 }) (record { history = begun; counted = refl })
