@@ -43,7 +43,6 @@ pub data Example : Type 0 where
   edge : ℕ → ℕ → ℕ → Bool → Example
   -- the expected length of an edge by both pitches and the cell size
   expected : ℕ → ℕ → ℕ → ℕ → Example
-
   -- the cells that are labelled, by their places: how many cells the first round of fill walks, or that of local with a depth
   fillWalks : List ℕ → ℕ → Example
   localWalks : ℕ → List ℕ → ℕ → Example
