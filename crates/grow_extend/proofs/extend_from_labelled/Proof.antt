@@ -1,0 +1,50 @@
+-- `grow_extend::extend_from_labelled` meets its contract: refused, with nothing written, or the pass done. Assumes nothing.
+use Rattle.grow_extend.proofs.Laws.{call-refused, call-accepted, call-done}
+use borrow.Author.Needs.{needs}
+use Rattle.grow_extend.proofs.extend_from_labelled.Statement.{statement}
+use Rattle.grow_extend.proofs.extend_from_labelled.Tie as tie
+
+check-arguments-requires : tie.Need-check-arguments-requires
+check-arguments-requires c κs = search needs
+
+enum-known-checked : tie.Need-enum-known-checked
+enum-known-checked c = search needs
+
+enum-told : tie.Need-enum-told
+enum-told c = search needs
+
+extend-requires : tie.Need-extend-requires
+extend-requires c κs = let a = c .before .before .before .before .before .before .before .before .before .before .before .before .before .args in call-accepted (a .xs .now) (a .ys .now) (a .pitches .now) (a .settings) (a .params) (a .sheet .now) (a .queue .now) (a .attached .now) _ (c .before .before .before .before .before .check-arguments .ensures) (c .before .before .before .enum-told .given .1)
+
+same-length : tie.Need-same-length
+same-length c = search needs
+
+returns : tie.Need-returns
+returns c = let a = c .before .before .before .before .before .before .before .before .before .before .before .args in call-refused (a .xs .now) (a .ys .now) (a .pitches .now) (a .settings) (a .params) (a .sheet .now) (a .queue .now) (a .attached .now) _ (c .before .before .before .check-arguments .ensures) _ (c .before .checked .given .1)
+
+same-length-2 : tie.Need-same-length-2
+same-length-2 c = search needs
+
+same-length-3 : tie.Need-same-length-3
+same-length-3 c = search needs
+
+same-length-4 : tie.Need-same-length-4
+same-length-4 c = search needs
+
+returns-2 : tie.Need-returns-2
+returns-2 c = let a = c .before .before .before .before .before .before .before .before .before .before .before .before .before .before .before .before .before .before .before .before .args in call-done (a .xs .now) (a .ys .now) (a .pitches .now) (a .settings) (a .params) (a .sheet .now) (a .queue .now) (a .attached .now) _ (c .before .before .before .before .before .before .before .before .before .before .before .before .check-arguments .ensures) (c .before .before .before .before .before .before .before .before .before .before .enum-told .given .1) _ (c .before .before .before .before .before .before .extend .ensures)
+
+pub extend-from-labelled-spec : {M : Type 1} → statement M
+extend-from-labelled-spec =
+    tie.close
+    (tie.spec
+    check-arguments-requires
+    enum-known-checked
+    enum-told
+    extend-requires
+    same-length
+    returns
+    same-length-2
+    same-length-3
+    same-length-4
+    returns-2)

@@ -1,0 +1,48 @@
+-- `grow_queue::seed` meets its contract. The loop's invariant: the neighbours of the labelled cells before the place are queued. The
+-- measure is how many places are left. Assumes nothing.
+use Prim.Native.Nat.{_-_}
+use native.Mathlib.Omega.{arith}
+use Rattle.grow_queue.proofs.Laws.{Seeding, seeding-start, seeding-length, seeding-room, seeding-more, seeding-end}
+use Rattle.grow_queue.proofs.seed.Statement.{statement}
+use Rattle.grow_queue.proofs.seed.Tie as tie
+
+abbrev Inv-loop : tie.InvT-loop
+Inv-loop sheet queue₀ seen₀ tail₀ place₀ queue seen tail place = Seeding sheet queue₀ queue seen tail place
+
+abbrev μ-loop : tie.MeasureT-loop
+μ-loop sheet queue₀ seen₀ tail₀ place₀ queue seen tail place = 16384 - place
+
+loop-holds : tie.Need-loop-holds Inv-loop μ-loop
+loop-holds c = seeding-start _ _ _ (c .before .before .pre)
+
+seed-at-requires : tie.Need-seed-at-requires Inv-loop μ-loop
+seed-at-requires c κs = seeding-room _ _ _ (c .before .before .before .before .before .before .pre) _ _ _ _ (c .before .before .before .loop .inv) (c .before .before .loop-test .taken)
+
+add-place : tie.Need-add-place Inv-loop μ-loop
+add-place c = omega arith
+
+loop-less : tie.Need-loop-less Inv-loop μ-loop
+loop-less c = omega arith
+
+loop-again : tie.Need-loop-again Inv-loop μ-loop
+loop-again c = seeding-more _ _ _ (c .before .before .before .before .before .before .before .before .before .pre) _ _ _ _ (c .before .before .before .before .before .before .loop .inv) (c .before .before .before .before .before .loop-test .taken) _ _ _ (c .before .before .seed-at .ensures)
+
+same-length : tie.Need-same-length Inv-loop μ-loop
+same-length c = seeding-length _ _ _ (c .before .before .before .before .pre) _ _ _ _ (c .before .loop .inv)
+
+returns : tie.Need-returns Inv-loop μ-loop
+returns c = seeding-end _ _ _ (c .before .before .before .before .pre) _ _ _ _ (c .before .loop .inv) (c .loop-test .left)
+
+pub seed-spec : {M : Type 1} → statement M
+seed-spec =
+    tie.close
+    (tie.spec
+    Inv-loop
+    μ-loop
+    loop-holds
+    seed-at-requires
+    add-place
+    loop-less
+    loop-again
+    same-length
+    returns)
