@@ -11,9 +11,16 @@ ghost use Rattle.passes.specs.Outcome.{Outcome};
 ghost use Rattle.passes.specs.Grow.{radiusOf, searchOf, growWith, growVisit, growRun, growAfter};
 ghost use Rattle.passes.specs.Step.{growStep, growOut, growLeaves};
 ghost use Rattle.grow_extend.specs.Grow.{cornerLists, rooms, foundAt, stateOf, withAttached, withNoCandidate, withAmbiguous, withEdge, SmallCounts, Leaves, Attachable, Settleable, Visitable, Startable};
-use arguments::{Checked, GrowParams, Pass, Settings};
-use extension_common::{ChoiceRule, Search, TryCellResult};
-use passes::{Counts, GrowAnswer, GrowStats};
+use arguments::Checked;
+use arguments::GrowParams;
+use arguments::Pass;
+use arguments::Settings;
+use extension_common::ChoiceRule;
+use extension_common::Search;
+use extension_common::TryCellResult;
+use passes::Counts;
+use passes::GrowAnswer;
+use passes::GrowStats;
 use positions_policy::Tolerances;
 use predict::Prediction;
 use sheet::Cell;
@@ -239,7 +246,20 @@ fn grow(
     let mut head = 0usize;
     while head < at.tail {
         let c = sheet::cell_of(queue[head] as usize);
-        let next = visit(xs, ys, pitches, sheet, queue, attached, used, seen, c, settings, params, at);
+        let next = visit(
+            xs,
+            ys,
+            pitches,
+            sheet,
+            queue,
+            attached,
+            used,
+            seen,
+            c,
+            settings,
+            params,
+            at,
+        );
         at = next;
         head += 1;
     }
@@ -263,7 +283,19 @@ fn extend(
     let mut used = labels::mark_used(sheet);
     let mut seen = [0u8; 16384];
     let tail = grow_queue::seed(sheet, queue, &mut seen);
-    let end = grow(xs, ys, pitches, sheet, queue, attached, &mut used, &mut seen, settings, params, tail);
+    let end = grow(
+        xs,
+        ys,
+        pitches,
+        sheet,
+        queue,
+        attached,
+        &mut used,
+        &mut seen,
+        settings,
+        params,
+        tail,
+    );
     let counts = end.counts;
     let rim = labels::rim_reached(sheet, 1);
     GrowStats { counts, rim }
@@ -296,6 +328,15 @@ pub fn extend_from_labelled(
     );
     match checked {
         Checked::Refused(refusal) => GrowAnswer::Refused(refusal),
-        Checked::Fine => GrowAnswer::Done(extend(xs, ys, pitches, sheet, queue, attached, settings, params)),
+        Checked::Fine => GrowAnswer::Done(extend(
+            xs,
+            ys,
+            pitches,
+            sheet,
+            queue,
+            attached,
+            settings,
+            params,
+        )),
     }
 }

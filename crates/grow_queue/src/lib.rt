@@ -54,7 +54,13 @@ pub fn enqueue_cardinal_neighbours(
 }
 
 // Queues the neighbours of a place's cell, if it is labelled. Returns the queue's new end.
-fn seed_at(sheet: &[u16], queue: &mut [u16], seen: &mut [u8; 16384], tail: usize, place: usize) -> usize
+fn seed_at(
+    sheet: &[u16],
+    queue: &mut [u16],
+    seen: &mut [u8; 16384],
+    tail: usize,
+    place: usize,
+) -> usize
     requires { ⌜ SeedRoom (now sheet) (now queue) (now seen) tail place ⌝ }
     ensures { λ r. ⌜ Holds (now (queue .entry)) (now (queue .exit)) (now (seen .exit)) r (seededAt (now (sheet .entry)) place (soFar (now (queue .entry)) tail)) ⌝ }
 {

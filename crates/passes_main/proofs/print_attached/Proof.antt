@@ -1,0 +1,60 @@
+-- `passes_main::print_attached` is safe and ends: the measure is the number of cells that are left. Assumes nothing.
+use Prim.Native.Nat.{_-_}
+use native.Mathlib.Omega.{arith}
+use borrow.Author.Needs.{needs}
+use Rattle.passes_main.proofs.print_attached.Statement.{statement}
+use Rattle.passes_main.proofs.print_attached.Tie as tie
+
+abbrev Inv-loop : tie.InvT-loop
+Inv-loop sheet list count i₀ i = Unit {0}
+
+abbrev μ-loop : tie.MeasureT-loop
+μ-loop sheet list count i₀ i = count - i
+
+loop-holds : tie.Need-loop-holds Inv-loop μ-loop
+loop-holds c = tt
+
+returns : tie.Need-returns Inv-loop μ-loop
+returns c = tt
+
+mul-print-one-attached : tie.Need-mul-print-one-attached Inv-loop μ-loop
+mul-print-one-attached c = search needs
+
+shared-slice-read-print-one-attached :
+    tie.Need-shared-slice-read-print-one-attached Inv-loop μ-loop
+shared-slice-read-print-one-attached c = omega arith
+
+cast-print-one-attached : tie.Need-cast-print-one-attached Inv-loop μ-loop
+cast-print-one-attached c = omega (arith, c .shared-slice-known3 .given (c .before .before .before .loop .i))
+
+print-one-attached-requires : tie.Need-print-one-attached-requires Inv-loop μ-loop
+print-one-attached-requires c κs = tt
+
+add-i : tie.Need-add-i Inv-loop μ-loop
+add-i c = omega arith
+
+loop-less : tie.Need-loop-less Inv-loop μ-loop
+loop-less c = omega arith
+
+loop-again : tie.Need-loop-again Inv-loop μ-loop
+loop-again c = tt
+
+returns-2 : tie.Need-returns-2 Inv-loop μ-loop
+returns-2 c = tt
+
+pub print-attached-spec : {M : Type 1} → statement M
+print-attached-spec =
+    tie.close
+    (tie.spec
+    Inv-loop
+    μ-loop
+    loop-holds
+    returns
+    mul-print-one-attached
+    shared-slice-read-print-one-attached
+    cast-print-one-attached
+    print-one-attached-requires
+    add-i
+    loop-less
+    loop-again
+    returns-2)

@@ -1,0 +1,595 @@
+// Runs a list of library calls and prints, after each, its answer, the cells that it visited and attached in order, and the whole
+// sheet; a refused call prints its number. For comparing with other programs: what it prints is not proved.
+//
+// It reads lines of eight hexadecimal digits, a number each (compare/words.py writes them from frames), at most 65,536 bytes, list after
+// list: corners n, labels m, calls p; 1 if the visited cells are to be printed; the lengths to lend: ys, pitches, sheet, queue, attached;
+// n times x, y, pitch; m times corner, place; then for each call: kind (0 grow, 1 fill, 2 local), cell, the four axis parts, band, and five
+// numbers of the pass.
+ghost use mathlib.Core.Path.{_≡_};
+ghost use Prim.Native.Nat.{_≤_, _<_};
+ghost use lib.ListN.{length};
+use arguments::FillParams;
+use arguments::GrowParams;
+use arguments::Settings;
+use binary32::hex::Bits;
+use binary32::hex::FloatRead;
+use libc::STDIN_FILENO;
+use libc::STDOUT_FILENO;
+use passes::Counts;
+use passes::FillAnswer;
+use passes::FillStats;
+use passes::GrowAnswer;
+use passes::GrowStats;
+use predict::Grid;
+use predict::Vector;
+use refusal::Refusal;
+use sheet::Label;
+
+// ---- reading
+
+// The k-th number of the text, and 0 where there is none.
+fn number_at(text: &[u8], k: usize) -> usize {
+    if 7000 < k {
+        return 0;
+    }
+    let at = k * 9;
+    if text.len() < at {
+        return 0;
+    }
+    let read = binary32::hex::read_bits(&text[at..]);
+    match read {
+        Bits::Number(bits) => bits as usize,
+        Bits::Broken => 0,
+    }
+}
+
+// The k-th float of the text, and an infinity where it is not finite.
+fn float_at(text: &[u8], k: usize) -> f32 {
+    if 7000 < k {
+        return 0.0;
+    }
+    let at = k * 9;
+    if text.len() < at {
+        return 0.0;
+    }
+    let read = binary32::hex::read_float(&text[at..]);
+    match read {
+        FloatRead::Float(x) => x,
+        FloatRead::Refused(_) => 1.0 / 0.0,
+    }
+}
+
+// A number, cut to what a buffer has.
+fn at_most(n: usize, most: usize) -> usize
+    ensures { λ r. ⌜ r ≤ most ⌝ }
+{
+    if n < most { n } else { most }
+}
+
+// n floats, every third from number `from` on.
+fn read_floats(text: &[u8], from: usize, n: usize) -> [f32; 1024]
+    requires { ⌜ from ≤ 100 ⌝ }
+    requires { ⌜ n ≤ 1024 ⌝ }
+    ensures { λ r. ⌜ 1024 ≡ length r ⌝ }
+{
+    let mut out = [0.0f32; 1024];
+    let mut i = 0usize;
+    while i < n {
+        out[i] = float_at(text, from + 3 * i);
+        i += 1;
+    }
+    out
+}
+
+// The word of a label's corner.
+fn label_word(text: &[u8], k: usize) -> u16 {
+    (number_at(text, k) % 16383 + 1) as u16
+}
+
+fn place_at(text: &[u8], k: usize) -> usize
+    ensures { λ r. ⌜ r < 16384 ⌝ }
+{
+    number_at(text, k) % 16384
+}
+
+// A sheet with m labels: for each its corner, then its place.
+fn read_labels(text: &[u8], from: usize, m: usize) -> [u16; 16384]
+    requires { ⌜ from ≤ 4000 ⌝ }
+    requires { ⌜ m ≤ 2048 ⌝ }
+    ensures { λ r. ⌜ 16384 ≡ length r ⌝ }
+{
+    let mut sheet = [0u16; 16384];
+    let mut i = 0usize;
+    while i < m {
+        let at = from + 2 * i;
+        let place = place_at(text, at + 1);
+        sheet[place] = label_word(text, at);
+        i += 1;
+    }
+    sheet
+}
+
+fn vector_at(text: &[u8], k: usize) -> Vector
+    requires { ⌜ k ≤ 10000 ⌝ }
+{
+    Vector {
+        x: float_at(text, k),
+        y: float_at(text, k + 1),
+    }
+}
+
+// Cell, the four axis parts, band.
+fn settings_at(text: &[u8], k: usize) -> Settings
+    requires { ⌜ k ≤ 9000 ⌝ }
+{
+    let axis_i = vector_at(text, k + 1);
+    let axis_j = vector_at(text, k + 3);
+    let grid = Grid {
+        axis_i,
+        axis_j,
+        cell_size: float_at(text, k),
+    };
+    Settings {
+        grid,
+        edge_length_tol: float_at(text, k + 5),
+    }
+}
+
+// ---- printing
+
+fn print_number(n: usize) {
+    io::print_decimal(STDOUT_FILENO, n as u64);
+}
+
+fn print_word(word: &[u8]) {
+    io::write_all(STDOUT_FILENO, word);
+}
+
+// A line of the sheet, 0 to 127, as i or j.
+fn print_coordinate(line: usize) {
+    if line < 64 {
+        print_word(b"-");
+        print_number(64 - line);
+        return;
+    }
+    print_number(line - 64);
+}
+
+// A word and the cell of a place.
+fn print_cell(word: &[u8], place: usize) {
+    print_word(word);
+    print_coordinate(place / 128);
+    print_word(b" ");
+    print_coordinate(place % 128);
+}
+
+fn print_corner(word: u16) {
+    let label = sheet::label_of(word);
+    match label {
+        Label::Unlabelled => print_word(b" none"),
+        Label::Corner(k) => {
+            print_word(b" ");
+            print_number(k);
+        }
+    }
+}
+
+fn print_one_visited(place: usize) {
+    print_cell(b"visited ", place);
+    print_word(b"\n");
+}
+
+fn print_visited(list: &[u16], count: usize) {
+    let mut i = 0usize;
+    while i < count {
+        if list.len() <= i {
+            return;
+        }
+        print_one_visited(list[i] as usize);
+        i += 1;
+    }
+}
+
+fn print_one_attached(sheet: &[u16], place: usize) {
+    print_cell(b"attached ", place);
+    if place < sheet.len() {
+        print_corner(sheet[place]);
+    }
+    print_word(b"\n");
+}
+
+fn print_attached(sheet: &[u16], list: &[u16], count: usize) {
+    let mut i = 0usize;
+    while i < count {
+        if list.len() <= i {
+            return;
+        }
+        print_one_attached(sheet, list[i] as usize);
+        i += 1;
+    }
+}
+
+// A place, if it is labelled.
+fn print_if_labelled(place: usize, word: u16) {
+    if labels::is_labelled(word) {
+        print_cell(b"cell ", place);
+        print_corner(word);
+        print_word(b"\n");
+    }
+}
+
+fn print_if_hole(place: usize, word: u16) {
+    if sheet::is_hole(word) {
+        print_cell(b"hole ", place);
+        print_word(b"\n");
+    }
+}
+
+fn print_if_ambiguous(place: usize, word: u16) {
+    if sheet::is_ambiguous(word) {
+        print_cell(b"ambiguous ", place);
+        print_word(b"\n");
+    }
+}
+
+// A place as cell (0), hole (1) or ambiguous (2).
+fn print_place(kind: usize, place: usize, word: u16) {
+    if kind == 0 {
+        print_if_labelled(place, word);
+        return;
+    }
+    if kind == 1 {
+        print_if_hole(place, word);
+        return;
+    }
+    print_if_ambiguous(place, word);
+}
+
+fn print_places(kind: usize, sheet: &[u16]) {
+    let mut p = 0usize;
+    while p < sheet.len() {
+        print_place(kind, p, sheet[p]);
+        p += 1;
+    }
+}
+
+fn print_sheet(sheet: &[u16]) {
+    print_places(0, sheet);
+    print_places(1, sheet);
+    print_places(2, sheet);
+}
+
+fn print_refused(refusal: Refusal) {
+    print_word(b"(refused ");
+    print_number(refusal::number(refusal) as usize);
+    print_word(b")\n");
+}
+
+fn print_rim(rim: bool) {
+    if rim {
+        print_word(b" yes)\n");
+        return;
+    }
+    print_word(b" no)\n");
+}
+
+fn print_counts(counts: Counts) {
+    print_number(counts.attached);
+    print_word(b" ");
+    print_number(counts.rejected_no_candidate);
+    print_word(b" ");
+    print_number(counts.rejected_ambiguous);
+    print_word(b" ");
+    print_number(counts.rejected_edge);
+}
+
+fn print_heading(number: usize, word: &[u8]) {
+    print_word(b"pass ");
+    print_number(number);
+    print_word(word);
+}
+
+fn print_grow(stats: GrowStats) {
+    print_word(b"(grow ");
+    let counts = stats.counts;
+    print_counts(counts);
+    print_rim(stats.rim);
+}
+
+fn print_fill(stats: FillStats) {
+    print_word(b"(fill ");
+    print_number(stats.added);
+    print_word(b" ");
+    print_number(stats.iterations);
+    print_rim(stats.rim);
+}
+
+// How many cells grow visited: each is counted once.
+fn visited_by(counts: Counts) -> usize {
+    if 5000 < counts.attached {
+        return 0;
+    }
+    if 5000 < counts.rejected_no_candidate {
+        return 0;
+    }
+    if 5000 < counts.rejected_ambiguous {
+        return 0;
+    }
+    if 5000 < counts.rejected_edge {
+        return 0;
+    }
+    counts.attached
+        + counts.rejected_no_candidate
+        + counts.rejected_ambiguous
+        + counts.rejected_edge
+}
+
+// ---- calls
+
+fn call_grow(
+    text: &[u8],
+    at: usize,
+    xs: &[f32],
+    ys: &[f32],
+    pitches: &[f32],
+    sheet: &mut [u16],
+    queue: &mut [u16],
+    attached: &mut [u16],
+)
+    requires { ⌜ at ≤ 8000 ⌝ }
+{
+    let settings = settings_at(text, at + 1);
+    let params = GrowParams {
+        attach_search_rel: float_at(text, at + 7),
+        attach_ambiguity_factor: float_at(text, at + 8),
+        boundary_search_factor: float_at(text, at + 9),
+    };
+    let answer = grow_extend::extend_from_labelled(
+        xs,
+        ys,
+        pitches,
+        sheet,
+        queue,
+        attached,
+        settings,
+        params,
+    );
+    match answer {
+        GrowAnswer::Refused(refusal) => print_refused(refusal),
+        GrowAnswer::Done(stats) => {
+            print_grow(stats);
+            let counts = stats.counts;
+            if number_at(text, 3) == 1 {
+                print_visited(queue, visited_by(counts));
+            }
+            print_attached(sheet, attached, counts.attached);
+        }
+    }
+}
+
+fn call_fill(
+    text: &[u8],
+    at: usize,
+    xs: &[f32],
+    ys: &[f32],
+    pitches: &[f32],
+    sheet: &mut [u16],
+    attached: &mut [u16],
+)
+    requires { ⌜ at ≤ 8000 ⌝ }
+{
+    let settings = settings_at(text, at + 1);
+    let params = FillParams {
+        attach_search_rel: float_at(text, at + 7),
+        attach_ambiguity_factor: float_at(text, at + 8),
+        max_iters: rounds_at(text, at + 9),
+    };
+    let answer = fill::fill_grid_holes(xs, ys, pitches, sheet, attached, settings, params);
+    match answer {
+        FillAnswer::Refused(refusal) => print_refused(refusal),
+        FillAnswer::Done(stats) => {
+            print_fill(stats);
+            print_attached(sheet, attached, stats.added);
+        }
+    }
+}
+
+// A number of rounds, or of rings.
+fn rounds_at(text: &[u8], k: usize) -> u32 {
+    let n = number_at(text, k);
+    if n < 1000 { n as u32 } else { 1000 }
+}
+
+// One call, and the sheet after it.
+fn call(
+    text: &[u8],
+    number: usize,
+    at: usize,
+    xs: &[f32],
+    ys: &[f32],
+    pitches: &[f32],
+    sheet: &mut [u16],
+    queue: &mut [u16],
+    attached: &mut [u16],
+)
+    requires { ⌜ at ≤ 8000 ⌝ }
+{
+    let kind = number_at(text, at);
+    if kind == 0 {
+        print_heading(number, b" grow\n");
+        call_grow(text, at, xs, ys, pitches, sheet, queue, attached);
+        print_sheet(sheet);
+        return;
+    }
+    print_heading(number, b" fill\n");
+    call_fill(text, at, xs, ys, pitches, sheet, attached);
+    print_sheet(sheet);
+}
+
+fn calls(
+    text: &[u8],
+    first: usize,
+    count: usize,
+    xs: &[f32],
+    ys: &[f32],
+    pitches: &[f32],
+    sheet: &mut [u16],
+    queue: &mut [u16],
+    attached: &mut [u16],
+)
+    requires { ⌜ first ≤ 7500 ⌝ }
+    requires { ⌜ count ≤ 40 ⌝ }
+{
+    let mut i = 0usize;
+    while i < count {
+        call(
+            text,
+            i + 1,
+            first + 12 * i,
+            xs,
+            ys,
+            pitches,
+            sheet,
+            queue,
+            attached,
+        );
+        i += 1;
+    }
+}
+
+// How many places of each buffer are lent.
+struct Lengths {
+    n: usize,
+    ys: usize,
+    pitches: usize,
+    sheet: usize,
+    queue: usize,
+    attached: usize,
+}
+
+fn lengths_at(text: &[u8], n: usize) -> Lengths {
+    Lengths {
+        n,
+        ys: number_at(text, 4),
+        pitches: number_at(text, 5),
+        sheet: number_at(text, 6),
+        queue: number_at(text, 7),
+        attached: number_at(text, 8),
+    }
+}
+
+// The calls, each lent the front of every buffer.
+fn calls_on(
+    text: &[u8],
+    first: usize,
+    count: usize,
+    lengths: Lengths,
+    xs: &[f32],
+    ys: &[f32],
+    pitches: &[f32],
+    sheet: &mut [u16],
+    queue: &mut [u16],
+    attached: &mut [u16],
+)
+    requires { ⌜ first ≤ 7500 ⌝ }
+    requires { ⌜ count ≤ 40 ⌝ }
+{
+    let n = at_most(lengths.n, xs.len());
+    let y = at_most(lengths.ys, ys.len());
+    let p = at_most(lengths.pitches, pitches.len());
+    let s = at_most(lengths.sheet, sheet.len());
+    let q = at_most(lengths.queue, queue.len());
+    let a = at_most(lengths.attached, attached.len());
+    calls(
+        text,
+        first,
+        count,
+        &xs[..n],
+        &ys[..y],
+        &pitches[..p],
+        &mut sheet[..s],
+        &mut queue[..q],
+        &mut attached[..a],
+    );
+}
+
+// How many corners, labels and calls a list has.
+struct Header {
+    n: usize,
+    labels: usize,
+    count: usize,
+    // the number at which its calls begin, and how many numbers it has
+    first: usize,
+    all: usize,
+}
+
+fn header_at(text: &[u8]) -> Header
+    ensures { λ r. ⌜ (r .n ≤ 1024) × (r .labels ≤ 2048) × (r .count ≤ 40) × (r .first ≤ 7500) × (9 ≤ r .all) × (r .all ≤ 8000) ⌝ }
+{
+    let n = at_most(number_at(text, 0), 1024);
+    let labels = at_most(number_at(text, 1), 2048);
+    let count = at_most(number_at(text, 2), 40);
+    let first = 9 + 3 * n + 2 * labels;
+    Header {
+        n,
+        labels,
+        count,
+        first,
+        all: first + 12 * count,
+    }
+}
+
+fn queue_buffer() -> [u16; 4096]
+    ensures { λ r. ⌜ 4096 ≡ length r ⌝ }
+{
+    [43981u16; 4096]
+}
+
+fn attached_buffer() -> [u16; 1024]
+    ensures { λ r. ⌜ 1024 ≡ length r ⌝ }
+{
+    [43981u16; 1024]
+}
+
+// The corners and the labels, and then the calls; answers how many numbers the list has.
+fn run(text: &[u8]) -> usize
+    ensures { λ r. ⌜ (9 ≤ r) × (r ≤ 8000) ⌝ }
+{
+    let h = header_at(text);
+    let n = h.n;
+    let xs = read_floats(text, 9, n);
+    let ys = read_floats(text, 10, n);
+    let pitches = read_floats(text, 11, n);
+    let mut sheet = read_labels(text, 9 + 3 * n, h.labels);
+    let mut queue = queue_buffer();
+    let mut attached = attached_buffer();
+    let lengths = lengths_at(text, n);
+    calls_on(
+        text,
+        h.first,
+        h.count,
+        lengths,
+        &xs,
+        &ys,
+        &pitches,
+        &mut sheet,
+        &mut queue,
+        &mut attached,
+    );
+    h.all
+}
+
+// List after list.
+fn run_all(text: &[u8]) {
+    let mut at = 0usize;
+    while at < text.len() {
+        let numbers = run(&text[at..]);
+        at += numbers * 9;
+    }
+}
+
+fn main() {
+    let mut buffer = io::large_buffer();
+    let n = io::read_full(STDIN_FILENO, &mut buffer);
+    run_all(&buffer[..n]);
+}
