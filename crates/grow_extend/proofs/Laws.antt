@@ -16,7 +16,7 @@ use Rattle.sheet.specs.Corners.{seenOf, Given}
 use Rattle.sheet.specs.declared.Cell.{Cell}
 use Rattle.sheet.specs.declared.Position.{Position}
 use Rattle.labels.specs.Labelled.{labelledPlaces, labelCount}
-use Rattle.labels.specs.Rim.{rim, RimAsked}
+use Rattle.labels.specs.Rim.{rim}
 use Rattle.labels.specs.Used.{usedOn, Tied}
 use Rattle.labels.proofs.Used.{tied-hole, tied-ambiguous, tied-attached}
 use Rattle.predict.specs.Predict.{predictionOf, extrapolating}
@@ -64,19 +64,19 @@ found-spare cs set p sheet c k e = go (predictionOf (seenOf (cs .corner) sheet) 
     go (Prediction.At at) e = found-free cs set p sheet c at (extrapolating (seenOf (cs .corner) sheet) c) k e
 
 -- what is found, by the prediction
-module _ (cs : Corners) (set : Settings) (p : GrowParams) (sheet : List ℕ) (c : Cell) (at : Prediction) (is : at ≡ predictionOf (seenOf (cs .corner) sheet) (set .grid) c) where
+module _ (cs : Corners) (set : Settings) (p : GrowParams) (sheet : List ℕ) (c : Cell) {at : Prediction} (is : at ≡ predictionOf (seenOf (cs .corner) sheet) (set .grid) c) where
   pub found-none : at ≡ Prediction.NoNeighbour → TryCellResult.NoCandidates ≡ foundAt cs set p sheet c
   unfolding foundAt foundFrom
   found-none e = rw (← is, e)
 
-  pub found-at : (q : Position) → at ≡ Prediction.At q → (outer : Bool) → outer ≡ extrapolating (seenOf (cs .corner) sheet) c → (search : Search) → search ≡ searchOf set p outer
-      → (r : TryCellResult) → r ≡ tryAt cs sheet (tolerancesOf set) search c q → r ≡ foundAt cs set p sheet c
+  pub found-at : {q : Position} → at ≡ Prediction.At q → {outer : Bool} → outer ≡ extrapolating (seenOf (cs .corner) sheet) c → {search : Search} → search ≡ searchOf set p outer
+      → {r : TryCellResult} → r ≡ tryAt cs sheet (tolerancesOf set) search c q → r ≡ foundAt cs set p sheet c
   unfolding foundAt foundFrom
-  found-at q e outer o search s r h = h ∙ rw (← is, e, s, o)
+  found-at e o s h = h ∙ rw (← is, e, s, o)
 
 -- ---- a cell settled
 
-module _ (sheet queue attached used seen : List ℕ) (c : Cell) (found : TryCellResult) (at : Progress) (w : Settleable sheet queue attached used seen c found at) where
+module _ {sheet queue attached used seen : List ℕ} {c : Cell} {found : TryCellResult} {at : Progress} (w : Settleable sheet queue attached used seen c found at) where
   -- a mark set, and the counts with one more
   marked : (after : List ℕ) (counts : Counts) → Tied after used → Leaves queue attached after queue attached used seen (record { tail = at .tail; counts = counts }) (record { sheet = after; queued = take (at .tail) queue; made = take (at .counts .attached) attached; counts = counts })
   marked after counts t =
@@ -90,7 +90,7 @@ module _ (sheet queue attached used seen : List ℕ) (c : Cell) (found : TryCell
         seen-flagged = w .seen-flagged;
       }
 
-  module _ (counts : Counts) (after : List ℕ) where
+  module _ {counts : Counts} {after : List ℕ} where
     pub settled-none : found ≡ TryCellResult.NoCandidates → after ≡ holeMarked sheet c → counts ≡ withNoCandidate (at .counts)
         → Leaves queue attached after queue attached used seen (record { tail = at .tail; counts = counts }) (growWith c found (stateOf sheet queue attached at))
     unfolding growWith
@@ -114,9 +114,9 @@ visit-settled xs ys pitches set p sheet queue news c at found is sheet' queue' n
     subst (λ (s : GrowState). Leaves queue news sheet' queue' news' used' seen' at' s)
     (ap (λ (r : TryCellResult). growWith c r (stateOf sheet queue news at)) is ∙ visit-as (cornersOf xs ys pitches) set p c (stateOf sheet queue news at)) l
 
-pub visit-settleable : (xs ys pitches : List Float) (set : Settings) (p : GrowParams) (sheet queue news used seen : List ℕ) (c : Cell) (at : Progress) → Visitable xs ys pitches sheet queue news used seen c at
-    → (found : TryCellResult) → found ≡ foundAt (cornersOf xs ys pitches) set p sheet c → Settleable sheet queue news used seen c found at
-visit-settleable xs ys pitches set p sheet queue news used seen c at w found is =
+pub visit-settleable : {xs ys pitches : List Float} (set : Settings) (p : GrowParams) {sheet queue news used seen : List ℕ} {c : Cell} {at : Progress} → Visitable xs ys pitches sheet queue news used seen c at
+    → {found : TryCellResult} → found ≡ foundAt (cornersOf xs ys pitches) set p sheet c → Settleable sheet queue news used seen c found at
+visit-settleable {xs} {ys} {pitches} set p {sheet} {queue} {news} {used} {seen} {c} {at} w is =
     record {
       long = w .given .long;
       on = w .on;
@@ -140,17 +140,17 @@ visit-settleable xs ys pitches set p sheet queue news used seen c at w found is 
         }
 
 -- a corner attached; `news` is the attached list
-module _ (sheet queue news used seen : List ℕ) (c : Cell) (k : ℕ) (at : Progress) (w : Attachable sheet queue news used seen c k at) where
+module _ {sheet queue news used seen : List ℕ} {c : Cell} {k : ℕ} {at : Progress} (w : Attachable sheet queue news used seen c k at) where
   -- the queue has room for the cell's neighbours
-  pub attached-room : (after : List ℕ) → after ≡ attached sheet c k → Room 4 after queue seen (at .tail)
+  pub attached-room : {after : List ℕ} → after ≡ attached sheet c k → Room 4 after queue seen (at .tail)
   unfolding attached
-  attached-room after e = record { long = rw (e, length-set) (w .attaching .long); room = w .spare .queue-room; flagged = w .seen-flagged }
+  attached-room e = record { long = rw (e, length-set) (w .attaching .long); room = w .spare .queue-room; flagged = w .seen-flagged }
 
-  pub settled-attached : (after queue' seen' : List ℕ) (place tail : ℕ) (counts : Counts) → after ≡ attached sheet c k → place ≡ placeOf c
+  pub settled-attached : {after queue' seen' : List ℕ} {place tail : ℕ} {counts : Counts} → after ≡ attached sheet c k → place ≡ placeOf c
       → Holds queue queue' seen' tail (spread after c (take (at .tail) queue)) → counts ≡ withAttached (at .counts)
       → Leaves queue news after queue' (set news (at .counts .attached) place) (set used k 1) seen' (record { tail = tail; counts = counts }) (growWith c (TryCellResult.Attached k) (stateOf sheet queue news at))
   unfolding growWith
-  settled-attached after queue' seen' place tail counts m p h n =
+  settled-attached {queue' = queue'} {seen' = seen'} {tail = tail} m p h n =
       let g : Holds queue queue' seen' tail (spread (attached sheet c k) c (take (at .tail) queue)) = rw m at h in
       rw (m, p, n)
       (record {
@@ -231,7 +231,7 @@ pub record Running (xs ys pitches : List Float) (set : Settings) (p : GrowParams
   pub sheet-same : length sheet' ≡ length sheet
   pub rest : growFrom (cornersOf xs ys pitches) set p (4 * length xs - head) head state ≡ growRun (cornersOf xs ys pitches) set p sheet
 
-module _ (xs ys pitches : List Float) (set : Settings) (p : GrowParams) (sheet queue news used seen : List ℕ) (tail : ℕ) (w : Startable xs ys pitches sheet queue news used seen tail) where
+module _ {xs ys pitches : List Float} {sheet queue news used seen : List ℕ} {tail : ℕ} (w : Startable xs ys pitches sheet queue news used seen tail) where
   start-fit : Fit (cornersOf xs ys pitches) sheet
   start-fit = record { long = w .given .long; few = w .few; known = w .given .known; one-cell = w .one-cell }
 
@@ -239,9 +239,9 @@ module _ (xs ys pitches : List Float) (set : Settings) (p : GrowParams) (sheet q
   unfolding labelCount startOf
   start-in = omega (arith, w .count, queue-few (start-going (cornersOf xs ys pitches) sheet start-fit), w .queue-long)
 
-  pub running-start : Running xs ys pitches set p sheet queue news sheet queue news used seen (record { tail = tail; counts = noCounts }) 0
+  pub running-start : (set : Settings) (p : GrowParams) → Running xs ys pitches set p sheet queue news sheet queue news used seen (record { tail = tail; counts = noCounts }) 0
   unfolding startOf growRun
-  running-start =
+  running-start set p =
       record {
         state = startOf sheet;
         leaves =
@@ -259,7 +259,7 @@ module _ (xs ys pitches : List Float) (set : Settings) (p : GrowParams) (sheet q
         rest = let e : 4 * length xs - 0 ≡ 4 * length xs = omega arith in ap (λ (m : ℕ). growFrom (cornersOf xs ys pitches) set p m 0 (startOf sheet)) e;
       }
 
-  module _ (sheet' queue' news' used' seen' : List ℕ) (at : Progress) (head : ℕ) (r : Running xs ys pitches set p sheet queue news sheet' queue' news' used' seen' at head) where
+  module _ {set : Settings} {p : GrowParams} {sheet' queue' news' used' seen' : List ℕ} {at : Progress} {head : ℕ} (r : Running xs ys pitches set p sheet queue news sheet' queue' news' used' seen' at head) where
     pub running-queue : length queue' ≡ length queue
     running-queue = rw (r .leaves .queue-is) (over-length (r .state .queued) queue (omega (arith, queue-few (r .going), w .queue-long)))
 
@@ -293,8 +293,8 @@ module _ (xs ys pitches : List Float) (set : Settings) (p : GrowParams) (sheet q
           rw (r .leaves .counts-are)
           (record { attached-small = omega arith; no-candidate-small = omega arith; ambiguous-small = omega arith; edge-small = omega arith })
 
-      pub running-visitable : (c : Cell) → c ≡ cellOf (getD queue' head 0) → Visitable xs ys pitches sheet' queue' news' used' seen' c at
-      running-visitable c e =
+      pub running-visitable : {c : Cell} → c ≡ cellOf (getD queue' head 0) → Visitable xs ys pitches sheet' queue' news' used' seen' c at
+      running-visitable {c} e =
           let g = r .going in
           let l = r .leaves in
           let d : c ≡ nextOf (r .state) head = e ∙ ap cellOf next-place in
@@ -320,9 +320,9 @@ module _ (xs ys pitches : List Float) (set : Settings) (p : GrowParams) (sheet q
                 attached-room = rw (r .leaves .counts-are) (omega (arith, r .going .made-counted, slot-left (r .going) here k free, running-news, w .attached-long));
               }
 
-      pub running-more : (c : Cell) → c ≡ cellOf (getD queue' head 0) → (sheet₂ queue₂ news₂ used₂ seen₂ : List ℕ) (at₂ : Progress)
+      pub running-more : {c : Cell} → c ≡ cellOf (getD queue' head 0) → {sheet₂ queue₂ news₂ used₂ seen₂ : List ℕ} {at₂ : Progress}
           → Leaves queue' news' sheet₂ queue₂ news₂ used₂ seen₂ at₂ (growVisit (cornersOf xs ys pitches) set p c (stateOf sheet' queue' news' at)) → Running xs ys pitches set p sheet queue news sheet₂ queue₂ news₂ used₂ seen₂ at₂ (head + 1)
-      running-more c e sheet₂ queue₂ news₂ used₂ seen₂ at₂ m =
+      running-more {c} e {sheet₂} {queue₂} {news₂} {used₂} {seen₂} {at₂} m =
           let d : c ≡ nextOf (r .state) head = e ∙ ap cellOf next-place in
           let next = growVisit (cornersOf xs ys pitches) set p (nextOf (r .state) head) (r .state) in
           let l : Leaves queue' news' sheet₂ queue₂ news₂ used₂ seen₂ at₂ next = rw (d, read) at m in
@@ -353,17 +353,17 @@ module _ (xs ys pitches : List Float) (set : Settings) (p : GrowParams) (sheet q
     seeds-few = omega (arith, a .queue-long, labels-few (fit-accepted a))
 
     -- the queue has room for the seeds
-    pub call-unqueued : (seen : List ℕ) → Flagged [] seen → Unqueued sheet queue seen
-    call-unqueued seen f = record { long = a .given .long; room = seeds-few; flagged = f }
+    pub call-unqueued : {seen : List ℕ} → Flagged [] seen → Unqueued sheet queue seen
+    call-unqueued f = record { long = a .given .long; room = seeds-few; flagged = f }
 
-    module _ (queue' seen' : List ℕ) (tail : ℕ) (h : Holds queue queue' seen' tail (seeded sheet)) where
+    module _ {queue' seen' : List ℕ} {tail : ℕ} (h : Holds queue queue' seen' tail (seeded sheet)) where
       same : length queue' ≡ length queue
       unfolding labelCount
       same = holds-length h (omega (arith, seeded-longer sheet (labelledPlaces sheet) [] .few, seeds-few))
 
-      pub call-startable : (used : List ℕ) → Tied sheet used → Startable xs ys pitches sheet queue' news used seen' tail
+      pub call-startable : {used : List ℕ} → Tied sheet used → Startable xs ys pitches sheet queue' news used seen' tail
       unfolding queueNeeded
-      call-startable used t =
+      call-startable t =
           record {
             given = a .given;
             few = a .few;
@@ -377,32 +377,32 @@ module _ (xs ys pitches : List Float) (set : Settings) (p : GrowParams) (sheet q
           }
 
       -- the sheet's length is kept, so that the rim can be looked for
-      pub call-rim : (sheet₂ queue₂ news₂ used₂ seen₂ : List ℕ) (end : Progress) → Leaves queue' news sheet₂ queue₂ news₂ used₂ seen₂ end (growRun (cornersOf xs ys pitches) set p sheet) → RimAsked sheet₂ 1
+      pub call-long : {sheet₂ queue₂ news₂ used₂ seen₂ : List ℕ} {end : Progress} → Leaves queue' news sheet₂ queue₂ news₂ used₂ seen₂ end (growRun (cornersOf xs ys pitches) set p sheet) → 16384 ≤ length sheet₂
       unfolding growRun startOf
-      call-rim sheet₂ queue₂ news₂ used₂ seen₂ end l =
+      call-long l =
           let s = from-grown (cornersOf xs ys pitches) set p (4 * length xs) 0 (startOf sheet) .sheet-same in
-          record { long = rw (l .sheet-is, s) (a .given .long); shallow = omega arith }
+          rw (l .sheet-is, s) (a .given .long)
 
       -- the pass done
-      pub call-left : (sheet₂ queue₂ news₂ used₂ seen₂ : List ℕ) (end : Progress) (reached : Bool) → Leaves queue' news sheet₂ queue₂ news₂ used₂ seen₂ end (growRun (cornersOf xs ys pitches) set p sheet) → reached ≡ rim 1 sheet₂
+      pub call-left : {sheet₂ queue₂ news₂ used₂ seen₂ : List ℕ} {end : Progress} {reached : Bool} → Leaves queue' news sheet₂ queue₂ news₂ used₂ seen₂ end (growRun (cornersOf xs ys pitches) set p sheet) → reached ≡ rim 1 sheet₂
           → growOut (GrowAnswer.Done (record { counts = end .counts; rim = reached })) sheet₂ queue₂ news₂ ≡ growLeaves (done (growAfter (cornersOf xs ys pitches) set p sheet)) sheet queue news
       unfolding growAfter growRun startOf
-      call-left sheet₂ queue₂ news₂ used₂ seen₂ end reached l e =
+      call-left l e =
           let longer = from-grown (cornersOf xs ys pitches) set p (4 * length xs) 0 (startOf sheet) .queued-more in
           let q = l .queue-is ∙ ap (over (growRun (cornersOf xs ys pitches) set p sheet .queued)) (h .written) ∙ over-over (seeded sheet) (growRun (cornersOf xs ys pitches) set p sheet .queued) queue longer in
           rw (e, l .counts-are, l .sheet-is, q, l .attached-is)
 
   -- by what the check of the arguments finds
-  module _ (found : Checked) (is : found ≡ checked (lent xs ys pitches sheet (length queue) (length news)) set (Pass.Grow p)) where
-    pub call-refused : (r : Refusal) → found ≡ Checked.Refused r
+  module _ {found : Checked} (is : found ≡ checked (lent xs ys pitches sheet (length queue) (length news)) set (Pass.Grow p)) where
+    pub call-refused : {r : Refusal} → found ≡ Checked.Refused r
         → growOut (GrowAnswer.Refused r) sheet queue news ≡ growLeaves (growStep (cornerLists xs ys pitches) sheet set p (rooms (length queue) (length news))) sheet queue news
     unfolding growStep
-    call-refused r e = rw (← is, e)
+    call-refused e = rw (← is, e)
 
     pub call-accepted : found ≡ Checked.Fine → Accepted (lent xs ys pitches sheet (length queue) (length news)) set (Pass.Grow p)
     call-accepted e = accepted _ _ _ (sym is ∙ e)
 
-    pub call-done : found ≡ Checked.Fine → (o : GrowOut) → o ≡ growLeaves (done (growAfter (cornersOf xs ys pitches) set p sheet)) sheet queue news
-        → o ≡ growLeaves (growStep (cornerLists xs ys pitches) sheet set p (rooms (length queue) (length news))) sheet queue news
+    pub call-done : found ≡ Checked.Fine → {r : GrowAnswer} {s q n : List ℕ} → growOut r s q n ≡ growLeaves (done (growAfter (cornersOf xs ys pitches) set p sheet)) sheet queue news
+        → growOut r s q n ≡ growLeaves (growStep (cornerLists xs ys pitches) sheet set p (rooms (length queue) (length news))) sheet queue news
     unfolding growStep
-    call-done e o h = rw (← is, e) h
+    call-done e h = rw (← is, e) h

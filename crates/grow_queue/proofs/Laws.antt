@@ -71,7 +71,7 @@ holds-own queue seen tail h f = record { written = sym (over-own queue tail h); 
 
 -- ---- a cell queued, by each way
 
-module _ (sheet queue seen : List ℕ) (tail : ℕ) (c : Cell) (w : Room 1 sheet queue seen tail) where
+module _ {sheet queue seen : List ℕ} {tail : ℕ} (c : Cell) (w : Room 1 sheet queue seen tail) where
   upto : tail ≤ length queue
   upto = omega (arith, w .room)
 
@@ -82,7 +82,7 @@ module _ (sheet queue seen : List ℕ) (tail : ℕ) (c : Cell) (w : Room 1 sheet
   unfolding enqueued wanted
   queue-off e = kept (rw e)
 
-  module _ (on : onSheet c ≡ true) (p : ℕ) (is : p ≡ placeOf c) where
+  module _ (on : onSheet c ≡ true) {p : ℕ} (is : p ≡ placeOf c) where
     here : OnSheet c
     here = subst T (sym on) tt
 
@@ -131,13 +131,13 @@ pub record Spreading (sheet : List ℕ) (c : Cell) (queue : List ℕ) (tail : �
   pub few : end ≤ tail + k
   pub rest : enqueuedAt sheet c (drop k cardinalOffsets) queued ≡ spread sheet c (soFar queue tail)
 
-module _ (sheet : List ℕ) (c : Cell) (queue seen : List ℕ) (tail : ℕ) (w : Room 4 sheet queue seen tail) where
+module _ {sheet : List ℕ} (c : Cell) {queue seen : List ℕ} {tail : ℕ} (w : Room 4 sheet queue seen tail) where
   pub spreading-start : Spreading sheet c queue tail queue seen tail 0
   unfolding spread
   spreading-start =
       record { upto = omega arith; queued = soFar queue tail; holds = holds-own queue seen tail (omega (arith, w .room)) (w .flagged); more = omega arith; few = omega arith; rest = refl }
 
-  module _ (after flags : List ℕ) (end k : ℕ) (s : Spreading sheet c queue tail after flags end k) where
+  module _ {after flags : List ℕ} {end k : ℕ} (s : Spreading sheet c queue tail after flags end k) where
     pub spreading-length : length after ≡ length queue
     spreading-length = holds-length (s .holds) (omega (arith, s .holds .count, s .few, s .upto, w .room))
 
@@ -149,9 +149,9 @@ module _ (sheet : List ℕ) (c : Cell) (queue seen : List ℕ) (tail : ℕ) (w :
           flagged = rw (holds-read (s .holds)) (s .holds .flagged);
         }
 
-    pub spreading-more : k < 4 → (d : Cell) (after' flags' : List ℕ) (end' : ℕ) → d ≡ moved c (cardinalAt k) → Holds after after' flags' end' (enqueued sheet d (soFar after end)) → Spreading sheet c queue tail after' flags' end' (k + 1)
+    pub spreading-more : k < 4 → {d : Cell} {after' flags' : List ℕ} {end' : ℕ} → d ≡ moved c (cardinalAt k) → Holds after after' flags' end' (enqueued sheet d (soFar after end)) → Spreading sheet c queue tail after' flags' end' (k + 1)
     unfolding enqueuedAt
-    spreading-more h d after' flags' end' e m =
+    spreading-more h {after' = after'} {flags' = flags'} {end' = end'} e m =
         let next = enqueued sheet (moved c (cardinalAt k)) (s .queued) in
         let a : Holds after after' flags' end' next = rw (e, holds-read (s .holds)) at m in
         let l = enqueued-longer sheet (moved c (cardinalAt k)) (s .queued) in
@@ -215,12 +215,12 @@ pub record Seeding (sheet queue after seen : List ℕ) (tail p : ℕ) : Type 0 w
   pub upto : p ≤ 16384
   pub holds : Holds queue after seen tail (seededFrom sheet (labelledBelow sheet p) [])
 
-module _ (sheet queue seen : List ℕ) (w : Unqueued sheet queue seen) where
+module _ {sheet queue seen : List ℕ} (w : Unqueued sheet queue seen) where
   pub seeding-start : Seeding sheet queue queue seen 0 0
   unfolding seededFrom
   seeding-start = record { upto = omega arith; holds = rw (passing-none (λ q. isLabelled (getD sheet q 0))) (record { written = refl; count = refl; flagged = w .flagged }) }
 
-  module _ (after flags : List ℕ) (tail p : ℕ) (s : Seeding sheet queue after flags tail p) where
+  module _ {after flags : List ℕ} {tail p : ℕ} (s : Seeding sheet queue after flags tail p) where
     -- at most four cells a labelled one
     few : length (seededBelow sheet p) ≤ 4 * length (labelledBelow sheet p)
     few = omega (arith, seeded-longer sheet (labelledBelow sheet p) [] .few)
@@ -250,8 +250,8 @@ module _ (sheet queue seen : List ℕ) (w : Unqueued sheet queue seen) where
           flagged = rw (holds-read (s .holds)) (s .holds .flagged);
         }
 
-    pub seeding-more : p < 16384 → (after' flags' : List ℕ) (tail' : ℕ) → Holds after after' flags' tail' (seededAt sheet p (soFar after tail)) → Seeding sheet queue after' flags' tail' (p + 1)
-    seeding-more h after' flags' tail' m =
+    pub seeding-more : p < 16384 → {after' flags' : List ℕ} {tail' : ℕ} → Holds after after' flags' tail' (seededAt sheet p (soFar after tail)) → Seeding sheet queue after' flags' tail' (p + 1)
+    seeding-more h {after'} {flags'} {tail'} m =
         let a : Holds after after' flags' tail' (seededBelow sheet (p + 1)) = rw (holds-read (s .holds), seeded-step sheet p) at m in
         record { upto = omega arith; holds = holds-then (s .holds) a (seeded-rises sheet p) }
 
@@ -260,11 +260,11 @@ module _ (sheet queue seen : List ℕ) (w : Unqueued sheet queue seen) where
     seeding-end h = let e : p ≡ 16384 = omega (arith, s .upto) in rw (← e) (s .holds)
 
 -- one place, by both ways
-module _ (sheet queue seen : List ℕ) (tail p : ℕ) where
+module _ (sheet queue : List ℕ) (tail p : ℕ) where
   pub seed-labelled : isLabelled (getD sheet p 0) ≡ true → {c : Cell} {after flags : List ℕ} {end : ℕ} → c ≡ cellOf p → Holds queue after flags end (spread sheet c (soFar queue tail)) → Holds queue after flags end (seededAt sheet p (soFar queue tail))
   unfolding seededAt
   seed-labelled e is h = rw e (rw is at h)
 
-  pub seed-bare : SeedRoom sheet queue seen tail p → isLabelled (getD sheet p 0) ≡ false → Holds queue queue seen tail (seededAt sheet p (soFar queue tail))
+  pub seed-bare : {seen : List ℕ} → SeedRoom sheet queue seen tail p → isLabelled (getD sheet p 0) ≡ false → Holds queue queue seen tail (seededAt sheet p (soFar queue tail))
   unfolding seededAt
-  seed-bare w e = rw e (holds-own queue seen tail (w .upto) (w .flagged))
+  seed-bare {seen} w e = rw e (holds-own queue seen tail (w .upto) (w .flagged))

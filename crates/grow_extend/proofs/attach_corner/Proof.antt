@@ -25,7 +25,7 @@ slice-write-attached : tie.Need-slice-write-attached
 slice-write-attached c = search needs
 
 enqueue-cardinal-neighbours-requires : tie.Need-enqueue-cardinal-neighbours-requires
-enqueue-cardinal-neighbours-requires c κs = (attached-room _ _ _ _ _ _ _ _ (c .before .before .before .before .before .before .before .before .before .before .before .before .pre) _ (c .before .before .before .before .before .before .attach .ensures), c .before .before .before .before .before .before .before .before .before .before .before .before .pre .attaching .on)
+enqueue-cardinal-neighbours-requires c κs = (attached-room (c .before .before .before .before .before .before .before .before .before .before .before .before .pre) (c .before .before .before .before .before .before .attach .ensures), c .before .before .before .before .before .before .before .before .before .before .before .before .pre .attaching .on)
 
 count-attached-requires : tie.Need-count-attached-requires
 count-attached-requires c κs = search needs
@@ -40,7 +40,7 @@ same-length-3 : tie.Need-same-length-3
 same-length-3 c = search needs
 
 returns : tie.Need-returns
-returns c = settled-attached _ _ _ _ _ _ _ _ (c .before .before .before .before .before .before .before .before .before .before .before .before .before .before .before .before .pre) _ _ _ _ _ _ (c .before .before .before .before .before .before .before .before .before .before .attach .ensures) (c .before .before .before .before .before .before .before .place-of .ensures) (c .before .before .before .enqueue-cardinal-neighbours .ensures) (c .count-attached .ensures)
+returns c = settled-attached (c .before .before .before .before .before .before .before .before .before .before .before .before .before .before .before .before .pre) (c .before .before .before .before .before .before .before .before .before .before .attach .ensures) (c .before .before .before .before .before .before .before .place-of .ensures) (c .before .before .before .enqueue-cardinal-neighbours .ensures) (c .count-attached .ensures)
 
 pub attach-corner-spec : {M : Type 1} → statement M
 attach-corner-spec =

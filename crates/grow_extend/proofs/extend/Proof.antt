@@ -2,7 +2,7 @@
 use Prim.Native.Nat.{ℕ}
 use lib.ListN.{length-replicate, getD-replicate}
 use Rattle.grow_queue.proofs.Laws.{flagged-none}
-use Rattle.grow_extend.proofs.Laws.{call-unqueued, call-startable, call-rim, call-left}
+use Rattle.grow_extend.proofs.Laws.{call-unqueued, call-startable, call-long, call-left}
 use borrow.Author.Needs.{needs}
 use Rattle.grow_extend.proofs.extend.Statement.{statement}
 use Rattle.grow_extend.proofs.extend.Tie as tie
@@ -11,13 +11,22 @@ mark-used-requires : tie.Need-mark-used-requires
 mark-used-requires c κs = search needs
 
 seed-requires : tie.Need-seed-requires
-seed-requires c κs = let a = c .before .before .before .before .before .before .before .before .before .before .before .args in call-unqueued (a .xs .now) (a .ys .now) (a .pitches .now) (a .settings) (a .params) (a .sheet .now) (a .queue .now) (a .attached .now) (c .before .before .before .before .before .before .before .before .before .before .before .pre) _ (flagged-none _ (length-replicate {A = ℕ} 16384 0) (λ p h. getD-replicate {A = ℕ} 16384 p 0 0 h))
+seed-requires c κs =
+    let s = c .before .before .before .before .before .before .before .before .before .before .before in
+    let a = s .args in
+    call-unqueued (a .xs .now) (a .ys .now) (a .pitches .now) (a .settings) (a .params) (a .sheet .now) (a .queue .now) (a .attached .now) (s .pre) (flagged-none _ (length-replicate {A = ℕ} 16384 0) (λ p h. getD-replicate {A = ℕ} 16384 p 0 0 h))
 
 grow-requires : tie.Need-grow-requires
-grow-requires c κs = let a = c .before .before .before .before .before .before .before .before .before .before .before .before .before .before .before .before .before .before .before .args in call-startable (a .xs .now) (a .ys .now) (a .pitches .now) (a .settings) (a .params) (a .sheet .now) (a .queue .now) (a .attached .now) (c .before .before .before .before .before .before .before .before .before .before .before .before .before .before .before .before .before .before .before .pre) _ _ _ (c .before .before .before .before .before .before .before .seed .ensures) _ (c .before .before .before .before .before .before .before .before .before .before .before .mark-used .ensures)
+grow-requires c κs =
+    let s = c .before .before .before .before .before .before .before .before .before .before .before .before .before .before .before .before .before .before .before in
+    let a = s .args in
+    call-startable (a .xs .now) (a .ys .now) (a .pitches .now) (a .settings) (a .params) (a .sheet .now) (a .queue .now) (a .attached .now) (s .pre) (c .before .before .before .before .before .before .before .seed .ensures) (c .before .before .before .before .before .before .before .before .before .before .before .mark-used .ensures)
 
 rim-reached-requires : tie.Need-rim-reached-requires
-rim-reached-requires c κs = let a = c .before .before .before .before .before .before .before .before .before .before .before .before .before .before .before .before .before .before .before .before .before .before .before .before .before .before .before .before .args in call-rim (a .xs .now) (a .ys .now) (a .pitches .now) (a .settings) (a .params) (a .sheet .now) (a .queue .now) (a .attached .now) (c .before .before .before .before .before .before .before .before .before .before .before .before .before .before .before .before .before .before .before .before .before .before .before .before .before .before .before .before .pre) _ _ _ (c .before .before .before .before .before .before .before .before .before .before .before .before .before .before .before .before .seed .ensures) _ _ _ _ _ _ (c .before .before .before .before .before .before .before .before .grow .ensures)
+rim-reached-requires c κs =
+    let s = c .before .before .before .before .before .before .before .before .before .before .before .before .before .before .before .before .before .before .before .before .before .before .before .before .before .before .before .before in
+    let a = s .args in
+    record { long = call-long (a .xs .now) (a .ys .now) (a .pitches .now) (a .settings) (a .params) (a .sheet .now) (a .queue .now) (a .attached .now) (s .pre) (c .before .before .before .before .before .before .before .before .before .before .before .before .before .before .before .before .seed .ensures) (c .before .before .before .before .before .before .before .before .grow .ensures); shallow = search needs }
 
 same-length : tie.Need-same-length
 same-length c = search needs
@@ -29,7 +38,10 @@ same-length-3 : tie.Need-same-length-3
 same-length-3 c = search needs
 
 returns : tie.Need-returns
-returns c = let a = c .before .before .before .before .before .before .before .before .before .before .before .before .before .before .before .before .before .before .before .before .before .before .before .before .before .before .before .before .before .args in call-left (a .xs .now) (a .ys .now) (a .pitches .now) (a .settings) (a .params) (a .sheet .now) (a .queue .now) (a .attached .now) (c .before .before .before .before .before .before .before .before .before .before .before .before .before .before .before .before .before .before .before .before .before .before .before .before .before .before .before .before .before .pre) _ _ _ (c .before .before .before .before .before .before .before .before .before .before .before .before .before .before .before .before .before .seed .ensures) _ _ _ _ _ (c .before .before .before .before .before .before .before .before .before .grow .result) _ (c .before .before .before .before .before .before .before .before .before .grow .ensures) (c .rim-reached .ensures)
+returns c =
+    let s = c .before .before .before .before .before .before .before .before .before .before .before .before .before .before .before .before .before .before .before .before .before .before .before .before .before .before .before .before .before in
+    let a = s .args in
+    call-left (a .xs .now) (a .ys .now) (a .pitches .now) (a .settings) (a .params) (a .sheet .now) (a .queue .now) (a .attached .now) (s .pre) (c .before .before .before .before .before .before .before .before .before .before .before .before .before .before .before .before .before .seed .ensures) (c .before .before .before .before .before .before .before .before .before .grow .ensures) (c .rim-reached .ensures)
 
 pub extend-spec : {M : Type 1} → statement M
 extend-spec =

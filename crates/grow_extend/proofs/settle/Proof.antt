@@ -41,19 +41,19 @@ same-length : tie.Need-same-length
 same-length c = search needs
 
 returns : tie.Need-returns
-returns c = settled-none _ _ _ _ _ _ _ _ (c .before .before .before .before .before .before .before .before .before .before .pre) _ _ (c .before .before .before .before .before .enum-told .given .1) (c .before .before .before .mark-hole .ensures) (c .count-no-candidate .ensures)
+returns c = settled-none (c .before .before .before .before .before .before .before .before .before .before .pre) (c .before .before .before .before .before .enum-told .given .1) (c .before .before .before .mark-hole .ensures) (c .count-no-candidate .ensures)
 
 same-length-2 : tie.Need-same-length-2
 same-length-2 c = search needs
 
 returns-2 : tie.Need-returns-2
-returns-2 c = settled-ambiguous _ _ _ _ _ _ _ _ (c .before .before .before .before .before .before .before .before .before .before .pre) _ _ (c .before .before .before .before .before .enum-told2 .given .1) (c .before .before .before .mark-ambiguous .ensures) (c .count-ambiguous .ensures)
+returns-2 c = settled-ambiguous (c .before .before .before .before .before .before .before .before .before .before .pre) (c .before .before .before .before .before .enum-told2 .given .1) (c .before .before .before .mark-ambiguous .ensures) (c .count-ambiguous .ensures)
 
 same-length-3 : tie.Need-same-length-3
 same-length-3 c = search needs
 
 returns-3 : tie.Need-returns-3
-returns-3 c = settled-edge _ _ _ _ _ _ _ _ (c .before .before .before .before .before .before .before .before .before .before .pre) _ _ (c .before .before .before .before .before .enum-told3 .given .1) (c .before .before .before .mark-hole2 .ensures) (c .count-edge .ensures)
+returns-3 c = settled-edge (c .before .before .before .before .before .before .before .before .before .before .pre) (c .before .before .before .before .before .enum-told3 .given .1) (c .before .before .before .mark-hole2 .ensures) (c .count-edge .ensures)
 
 same-length-4 : tie.Need-same-length-4
 same-length-4 c = search needs

@@ -24,10 +24,10 @@ try-attach-at-cell-requires : tie.Need-try-attach-at-cell-requires
 try-attach-at-cell-requires c κs = search needs
 
 returns : tie.Need-returns
-returns c = found-none _ _ _ _ _ _ (c .before .before .predict-from-neighbours .ensures) (c .enum-told .given .1)
+returns c = found-none _ _ _ _ _ (c .before .before .predict-from-neighbours .ensures) (c .enum-told .given .1)
 
 returns-2 : tie.Need-returns-2
-returns-2 c = found-at _ _ _ _ _ _ (c .before .before .before .before .before .before .predict-from-neighbours .ensures) _ (c .before .before .before .before .prediction .given .1) _ (c .before .before .is-extrapolating .ensures (cornerOf (c .before .before .before .before .before .before .before .before .before .before .before .before .args .xs .now) (c .before .before .before .before .before .before .before .before .before .before .before .before .args .ys .now) (c .before .before .before .before .before .before .before .before .before .before .before .before .args .pitches .now))) _ (c .before .search-for .ensures) _ (c .try-attach-at-cell .ensures)
+returns-2 c = found-at _ _ _ _ _ (c .before .before .before .before .before .before .predict-from-neighbours .ensures) (c .before .before .before .before .prediction .given .1) (c .before .before .is-extrapolating .ensures (cornerOf (c .before .before .before .before .before .before .before .before .before .before .before .before .args .xs .now) (c .before .before .before .before .before .before .before .before .before .before .before .before .args .ys .now) (c .before .before .before .before .before .before .before .before .before .before .before .before .args .pitches .now))) (c .before .search-for .ensures) (c .try-attach-at-cell .ensures)
 
 pub try-cell-spec : {M : Type 1} → statement M
 try-cell-spec =

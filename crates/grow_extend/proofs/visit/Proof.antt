@@ -8,7 +8,7 @@ try-cell-requires : tie.Need-try-cell-requires
 try-cell-requires c κs = search needs
 
 settle-requires : tie.Need-settle-requires
-settle-requires c κs = visit-settleable _ _ _ _ _ _ _ _ _ _ _ _ (c .before .before .before .before .before .before .before .before .before .before .before .before .before .before .pre) _ (c .before .before .before .before .before .try-cell .ensures)
+settle-requires c κs = visit-settleable _ _ (c .before .before .before .before .before .before .before .before .before .before .before .before .before .before .pre) (c .before .before .before .before .before .try-cell .ensures)
 
 same-length : tie.Need-same-length
 same-length c = search needs
@@ -20,7 +20,10 @@ same-length-3 : tie.Need-same-length-3
 same-length-3 c = search needs
 
 returns : tie.Need-returns
-returns c = let a = c .before .before .before .before .before .before .before .before .before .before .before .before .before .before .before .before .before .before .before .before .before .args in visit-settled (a .xs .now) (a .ys .now) (a .pitches .now) (a .settings) (a .params) (a .sheet .now) (a .queue .now) (a .attached .now) (a .c) (a .at) _ (c .before .before .before .before .before .before .before .before .before .before .before .before .try-cell .ensures) _ _ _ _ _ _ (c .before .before .before .before .before .before .settle .ensures)
+returns c =
+    let s = c .before .before .before .before .before .before .before .before .before .before .before .before .before .before .before .before .before .before .before .before .before in
+    let a = s .args in
+    visit-settled (a .xs .now) (a .ys .now) (a .pitches .now) (a .settings) (a .params) (a .sheet .now) (a .queue .now) (a .attached .now) (a .c) (a .at) _ (c .before .before .before .before .before .before .before .before .before .before .before .before .try-cell .ensures) _ _ _ _ _ _ (c .before .before .before .before .before .before .settle .ensures)
 
 pub visit-spec : {M : Type 1} → statement M
 visit-spec =

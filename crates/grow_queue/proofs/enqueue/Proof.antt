@@ -16,13 +16,13 @@ on : (c : tie.Else1) → onSheet (c .before .before .before .before .args .c) �
 on c = sym (c .before .on-sheet .ensures) ∙ not-false _ (c .if1 .left)
 
 below : (c : tie.After-place-of) → c .place-of .result < 16384
-below c = place-below _ _ _ _ _ (c .before .before .before .before .before .pre) (on (c .before)) _ (c .place-of .ensures)
+below c = place-below _ (c .before .before .before .before .before .pre) (on (c .before)) (c .place-of .ensures)
 
 on-sheet-requires : tie.Need-on-sheet-requires
 on-sheet-requires c κs = search needs
 
 returns : tie.Need-returns
-returns c = queue-off _ _ _ _ _ (c .before .before .before .before .pre) (sym (c .before .on-sheet .ensures) ∙ not-true _ (c .if1 .taken))
+returns c = queue-off _ (c .before .before .before .before .pre) (sym (c .before .on-sheet .ensures) ∙ not-true _ (c .if1 .taken))
 
 place-of-requires : tie.Need-place-of-requires
 place-of-requires c κs = subst T (sym (on c)) tt
@@ -37,13 +37,13 @@ is-labelled-requires : tie.Need-is-labelled-requires
 is-labelled-requires c κs = search needs
 
 returns-2 : tie.Need-returns-2
-returns-2 c = queue-labelled _ _ _ _ _ (c .before .before .before .before .before .before .before .before .pre) (on (c .before .before .before .before)) _ (c .before .before .before .place-of .ensures) (sym (c .before .is-labelled .ensures) ∙ c .if2 .taken)
+returns-2 c = queue-labelled _ (c .before .before .before .before .before .before .before .before .pre) (on (c .before .before .before .before)) (c .before .before .before .place-of .ensures) (sym (c .before .is-labelled .ensures) ∙ c .if2 .taken)
 
 element-copy-out-if3 : tie.Need-element-copy-out-if3
 element-copy-out-if3 c = below (c .before .before .before)
 
 returns-3 : tie.Need-returns-3
-returns-3 c = queue-seen _ _ _ _ _ (c .before .before .before .before .before .before .before .before .before .before .pre) (on (c .before .before .before .before .before .before)) _ (c .before .before .before .before .before .place-of .ensures) (sym (c .before .before .before .is-labelled .ensures) ∙ c .before .before .if2 .left) (c .if3 .taken)
+returns-3 c = queue-seen _ (c .before .before .before .before .before .before .before .before .before .before .pre) (on (c .before .before .before .before .before .before)) (c .before .before .before .before .before .place-of .ensures) (sym (c .before .before .before .is-labelled .ensures) ∙ c .before .before .if2 .left) (c .if3 .taken)
 
 element-write-seen : tie.Need-element-write-seen
 element-write-seen c = below (c .before .before .before .before .before)
@@ -64,7 +64,7 @@ same-length : tie.Need-same-length
 same-length c = search needs
 
 returns-4 : tie.Need-returns-4
-returns-4 c = queue-new _ _ _ _ _ (c .before .before .before .before .before .before .before .before .before .before .pre) (on (c .before .before .before .before .before .before)) _ (c .before .before .before .before .before .place-of .ensures) (sym (c .before .before .before .is-labelled .ensures) ∙ c .before .before .if2 .left) (c .if3 .left)
+returns-4 c = queue-new _ (c .before .before .before .before .before .before .before .before .before .before .pre) (on (c .before .before .before .before .before .before)) (c .before .before .before .before .before .place-of .ensures) (sym (c .before .before .before .is-labelled .ensures) ∙ c .before .before .if2 .left) (c .if3 .left)
 
 pub enqueue-spec : {M : Type 1} → statement M
 enqueue-spec =

@@ -16,16 +16,16 @@ abbrev μ-loop : tie.MeasureT-loop
 μ-loop sheet queue₀ seen₀ tail c end₀ k₀ queue seen end k = 4 - k
 
 loop-holds : tie.Need-loop-holds Inv-loop μ-loop
-loop-holds c = spreading-start _ _ _ _ _ (c .before .before .pre .0)
+loop-holds c = spreading-start _ (c .before .before .pre .0)
 
 cardinal-offset-requires : tie.Need-cardinal-offset-requires Inv-loop μ-loop
-cardinal-offset-requires c κs = c .before .before .loop-test .taken
+cardinal-offset-requires c κs = omega arith
 
 neighbour-requires : tie.Need-neighbour-requires Inv-loop μ-loop
-neighbour-requires c κs = (c .before .before .before .before .before .before .before .pre .1, rw (c .cardinal-offset .ensures) (cardinal-within _ (c .before .before .before .loop-test .taken)))
+neighbour-requires c κs = (c .before .before .before .before .before .before .before .pre .1, rw (c .cardinal-offset .ensures) (cardinal-within _ (omega arith)))
 
 enqueue-requires : tie.Need-enqueue-requires Inv-loop μ-loop
-enqueue-requires c κs = spreading-room _ _ _ _ _ (c .before .before .before .before .before .before .before .before .pre .0) _ _ _ _ (c .before .before .before .before .before .loop .inv) (c .before .before .before .before .loop-test .taken)
+enqueue-requires c κs = spreading-room _ (c .before .before .before .before .before .before .before .before .pre .0) (c .before .before .before .before .before .loop .inv) (c .before .before .before .before .loop-test .taken)
 
 add-k : tie.Need-add-k Inv-loop μ-loop
 add-k c = omega arith
@@ -34,13 +34,13 @@ loop-less : tie.Need-loop-less Inv-loop μ-loop
 loop-less c = omega arith
 
 loop-again : tie.Need-loop-again Inv-loop μ-loop
-loop-again c = spreading-more _ _ _ _ _ (c .before .before .before .before .before .before .before .before .before .before .before .pre .0) _ _ _ _ (c .before .before .before .before .before .before .before .before .loop .inv) (c .before .before .before .before .before .before .before .loop-test .taken) _ _ _ _ (c .before .before .before .neighbour .ensures ∙ ap (moved (c .before .before .before .before .before .before .before .before .before .before .before .args .c)) (c .before .before .before .before .cardinal-offset .ensures)) (c .before .before .enqueue .ensures)
+loop-again c = spreading-more _ (c .before .before .before .before .before .before .before .before .before .before .before .pre .0) (c .before .before .before .before .before .before .before .before .loop .inv) (c .before .before .before .before .before .before .before .loop-test .taken) (c .before .before .before .neighbour .ensures ∙ ap (moved (c .before .before .before .before .before .before .before .before .before .before .before .args .c)) (c .before .before .before .before .cardinal-offset .ensures)) (c .before .before .enqueue .ensures)
 
 same-length : tie.Need-same-length Inv-loop μ-loop
-same-length c = spreading-length _ _ _ _ _ (c .before .before .before .before .pre .0) _ _ _ _ (c .before .loop .inv)
+same-length c = spreading-length _ (c .before .before .before .before .pre .0) (c .before .loop .inv)
 
 returns : tie.Need-returns Inv-loop μ-loop
-returns c = spreading-end _ _ _ _ _ (c .before .before .before .before .pre .0) _ _ _ _ (c .before .loop .inv) (c .loop-test .left)
+returns c = spreading-end _ (c .before .before .before .before .pre .0) (c .before .loop .inv) (c .loop-test .left)
 
 pub enqueue-cardinal-neighbours-spec : {M : Type 1} → statement M
 enqueue-cardinal-neighbours-spec =

@@ -13,10 +13,10 @@ abbrev μ-loop : tie.MeasureT-loop
 μ-loop sheet queue₀ seen₀ tail₀ place₀ queue seen tail place = 16384 - place
 
 loop-holds : tie.Need-loop-holds Inv-loop μ-loop
-loop-holds c = seeding-start _ _ _ (c .before .before .pre)
+loop-holds c = seeding-start (c .before .before .pre)
 
 seed-at-requires : tie.Need-seed-at-requires Inv-loop μ-loop
-seed-at-requires c κs = seeding-room _ _ _ (c .before .before .before .before .before .before .pre) _ _ _ _ (c .before .before .before .loop .inv) (c .before .before .loop-test .taken)
+seed-at-requires c κs = seeding-room (c .before .before .before .before .before .before .pre) (c .before .before .before .loop .inv) (c .before .before .loop-test .taken)
 
 add-place : tie.Need-add-place Inv-loop μ-loop
 add-place c = omega arith
@@ -25,13 +25,13 @@ loop-less : tie.Need-loop-less Inv-loop μ-loop
 loop-less c = omega arith
 
 loop-again : tie.Need-loop-again Inv-loop μ-loop
-loop-again c = seeding-more _ _ _ (c .before .before .before .before .before .before .before .before .before .pre) _ _ _ _ (c .before .before .before .before .before .before .loop .inv) (c .before .before .before .before .before .loop-test .taken) _ _ _ (c .before .before .seed-at .ensures)
+loop-again c = seeding-more (c .before .before .before .before .before .before .before .before .before .pre) (c .before .before .before .before .before .before .loop .inv) (c .before .before .before .before .before .loop-test .taken) (c .before .before .seed-at .ensures)
 
 same-length : tie.Need-same-length Inv-loop μ-loop
-same-length c = seeding-length _ _ _ (c .before .before .before .before .pre) _ _ _ _ (c .before .loop .inv)
+same-length c = seeding-length (c .before .before .before .before .pre) (c .before .loop .inv)
 
 returns : tie.Need-returns Inv-loop μ-loop
-returns c = seeding-end _ _ _ (c .before .before .before .before .pre) _ _ _ _ (c .before .loop .inv) (c .loop-test .left)
+returns c = seeding-end (c .before .before .before .before .pre) (c .before .loop .inv) (c .loop-test .left)
 
 pub seed-spec : {M : Type 1} → statement M
 seed-spec =

@@ -25,10 +25,10 @@ same-length : tie.Need-same-length
 same-length c = search needs
 
 returns : tie.Need-returns
-returns c = seed-labelled _ _ (c .before .before .before .before .before .before .before .before .before .before .before .args .seen .now) (c .before .before .before .before .before .before .before .before .before .before .before .args .tail) (c .before .before .before .before .before .before .before .before .before .before .before .args .place) (sym (c .before .before .before .before .before .before .before .is-labelled .ensures) ∙ c .before .before .before .before .before .before .if1 .taken) (c .before .before .before .cell-of .ensures) (c .before .before .enqueue-cardinal-neighbours .ensures)
+returns c = seed-labelled _ _ (c .before .before .before .before .before .before .before .before .before .before .before .args .tail) (c .before .before .before .before .before .before .before .before .before .before .before .args .place) (sym (c .before .before .before .before .before .before .before .is-labelled .ensures) ∙ c .before .before .before .before .before .before .if1 .taken) (c .before .before .before .cell-of .ensures) (c .before .before .enqueue-cardinal-neighbours .ensures)
 
 returns-2 : tie.Need-returns-2
-returns-2 c = seed-bare _ _ _ _ _ (c .before .before .before .before .before .pre) (sym (c .before .is-labelled .ensures) ∙ c .if1 .left)
+returns-2 c = seed-bare _ _ _ _ (c .before .before .before .before .before .pre) (sym (c .before .is-labelled .ensures) ∙ c .if1 .left)
 
 pub seed-at-spec : {M : Type 1} → statement M
 seed-at-spec =
