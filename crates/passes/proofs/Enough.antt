@@ -3,7 +3,7 @@
 -- there are at most as many labelled cells as corners. Assumes nothing.
 use mathlib.Core.Path.{_≡_, refl, sym, ap, _∙_}
 use mathlib.Core.Bool.{Bool, true, false, cond}
-use mathlib.Core.List.{List, [], _∷_, _++_}
+use mathlib.Core.List.{List, []}
 use Prim.Native.Nat.{ℕ, zero, suc, _+_, _*_, _<_, _≤_}
 use native.Mathlib.Decide.{ℕ-discrete}
 use native.Mathlib.Omega.{arith}
@@ -24,15 +24,17 @@ use Rattle.labels.proofs.Labelled.{labels-places, same-count, hole-keeps, ambig
 use Rattle.labels.proofs.Used.{one-same, one-attached, count-bounded}
 use Rattle.predict.specs.Predict.{predictionOf, extrapolating}
 use Rattle.predict.specs.declared.Prediction.{Prediction}
-use Rattle.arguments.specs.Arguments.{Lent}
+use Rattle.arguments.specs.Arguments.{Lent, checked}
 use Rattle.arguments.specs.Accepted.{Accepted}
+use Rattle.arguments.proofs.Laws.{accepted}
+use Rattle.arguments.specs.declared.Checked.{Checked}
 use Rattle.arguments.specs.declared.GrowParams.{GrowParams}
 use Rattle.arguments.specs.declared.Pass.{Pass}
 use Rattle.arguments.specs.declared.Settings.{Settings}
 use Rattle.extension_common.specs.TryCell.{Corners, cornersOf, tryAt}
 use Rattle.extension_common.specs.declared.TryCellResult.{TryCellResult}
 use Rattle.extension_common.proofs.Laws.{attachable}
-use Rattle.passes.specs.Grow.{GrowState, noCounts, spread, seededFrom, startOf, tolerancesOf, searchOf, missed, growWith, growAt, growVisit, growFrom, growRun}
+use Rattle.passes.specs.Grow.{GrowState, startOf, tolerancesOf, searchOf, growWith, growAt, growVisit, growFrom, growRun}
 use Rattle.passes.specs.declared.Counts.{Counts}
 use Rattle.passes.proofs.Queue.{more-length, spread-longer, seeded-longer, Lined, lined-none, lined-same, lined-attached, spread-lined, seeded-lined}
 
@@ -263,3 +265,7 @@ enough cs set p sheet f =
     let g = start-going cs sheet f in
     let w = from-going cs set p (4 * cs .count) 0 (startOf sheet) g (omega arith) in
     record { visited-few = queue-few w; attached-few = made-few w; whole = w; same = λ m. from-more cs set p (4 * cs .count) m 0 (startOf sheet) g (omega arith) }
+
+-- so for every call that the checks let pass
+pub enough-accepted : (l : Lent) (set : Settings) (p : GrowParams) → checked l set (Pass.Grow p) ≡ Checked.Fine → Enough (cornersOf (l .xs) (l .ys) (l .pitches)) set p (l .sheet)
+enough-accepted l set p e = enough (cornersOf (l .xs) (l .ys) (l .pitches)) set p (l .sheet) (fit-accepted (accepted l set (Pass.Grow p) e))
