@@ -2,7 +2,7 @@
 // sheet; a refused call prints its number. For comparing with other programs: what it prints is not proved.
 //
 // It reads lines of eight hexadecimal digits, a number each (compare/words.py writes them from frames), at most 65,536 bytes, list after
-// list: corners n, labels m, calls p; 1 if the visited cells are to be printed; the lengths to lend: ys, pitches, sheet, queue, attached;
+// list: corners n, labels m, calls p; 1 if the visited cells are to be printed, 2 if sums over both lists too; the lengths to lend: ys, pitches, sheet, queue, attached;
 // n times x, y, pitch; m times corner, place; then for each call: kind (0 grow, 1 fill, 2 local), cell, the four axis parts, band, and five
 // numbers of the pass.
 ghost use mathlib.Core.Path.{_≡_};
@@ -67,12 +67,12 @@ fn at_most(n: usize, most: usize) -> usize
 }
 
 // n floats, every third from number `from` on.
-fn read_floats(text: &[u8], from: usize, n: usize) -> [f32; 1024]
+fn read_floats(text: &[u8], from: usize, n: usize) -> [f32; 1025]
     requires { ⌜ from ≤ 100 ⌝ }
-    requires { ⌜ n ≤ 1024 ⌝ }
-    ensures { λ r. ⌜ 1024 ≡ length r ⌝ }
+    requires { ⌜ n ≤ 1025 ⌝ }
+    ensures { λ r. ⌜ 1025 ≡ length r ⌝ }
 {
-    let mut out = [0.0f32; 1024];
+    let mut out = [0.0f32; 1025];
     let mut i = 0usize;
     while i < n {
         out[i] = float_at(text, from + 3 * i);
@@ -359,7 +359,7 @@ fn call_grow(
         GrowAnswer::Done(stats) => {
             print_grow(stats);
             let counts = stats.counts;
-            if number_at(text, 3) == 1 {
+            if number_at(text, 3) != 0 {
                 print_visited(queue, visited_by(counts));
             }
             print_attached(sheet, attached, counts.attached);
@@ -398,6 +398,37 @@ fn call_fill(
 fn rounds_at(text: &[u8], k: usize) -> u32 {
     let n = number_at(text, k);
     if n < 1000 { n as u32 } else { 1000 }
+}
+
+// One place more in a sum over a buffer: each place counts by its number and what it holds.
+fn summed(sum: u64, i: usize, v: u16) -> u64 {
+    (sum % 0x1_0000_0000 * 31 + (i % 65536) as u64 + v as u64) % 0x1_0000_0000
+}
+
+fn sum_of(list: &[u16]) -> u64 {
+    let mut sum = 0u64;
+    let mut i = 0usize;
+    while i < list.len() {
+        let s = summed(sum, i, list[i]);
+        sum = s;
+        i += 1;
+    }
+    sum
+}
+
+fn print_sum(word: &[u8], list: &[u16]) {
+    print_word(word);
+    io::print_hex(STDOUT_FILENO, sum_of(list), 8);
+    print_word(b"\n");
+}
+
+// Where they are asked for: sums over the whole queue and the whole attached list, so that it is seen what a call left in them.
+fn print_sums(text: &[u8], queue: &[u16], attached: &[u16]) {
+    if number_at(text, 3) != 2 {
+        return;
+    }
+    print_sum(b"queue ", queue);
+    print_sum(b"list ", attached);
 }
 
 // One call, and the sheet after it.
@@ -453,6 +484,7 @@ fn calls(
             queue,
             attached,
         );
+        print_sums(text, queue, attached);
         i += 1;
     }
 }
@@ -524,9 +556,9 @@ struct Header {
 }
 
 fn header_at(text: &[u8]) -> Header
-    ensures { λ r. ⌜ (r .n ≤ 1024) × (r .labels ≤ 2048) × (r .count ≤ 40) × (r .first ≤ 7500) × (9 ≤ r .all) × (r .all ≤ 8000) ⌝ }
+    ensures { λ r. ⌜ (r .n ≤ 1025) × (r .labels ≤ 2048) × (r .count ≤ 40) × (r .first ≤ 7500) × (9 ≤ r .all) × (r .all ≤ 8000) ⌝ }
 {
-    let n = at_most(number_at(text, 0), 1024);
+    let n = at_most(number_at(text, 0), 1025);
     let labels = at_most(number_at(text, 1), 2048);
     let count = at_most(number_at(text, 2), 40);
     let first = 9 + 3 * n + 2 * labels;
@@ -539,16 +571,16 @@ fn header_at(text: &[u8]) -> Header
     }
 }
 
-fn queue_buffer() -> [u16; 4096]
-    ensures { λ r. ⌜ 4096 ≡ length r ⌝ }
+fn queue_buffer() -> [u16; 4100]
+    ensures { λ r. ⌜ 4100 ≡ length r ⌝ }
 {
-    [43981u16; 4096]
+    [43981u16; 4100]
 }
 
-fn attached_buffer() -> [u16; 1024]
-    ensures { λ r. ⌜ 1024 ≡ length r ⌝ }
+fn attached_buffer() -> [u16; 1025]
+    ensures { λ r. ⌜ 1025 ≡ length r ⌝ }
 {
-    [43981u16; 1024]
+    [43981u16; 1025]
 }
 
 // The corners and the labels, and then the calls; answers how many numbers the list has.

@@ -27,6 +27,9 @@ add-call-2 c = omega arith
 call-requires : tie.Need-call-requires Inv-loop μ-loop
 call-requires c κs = omega arith
 
+print-sums-requires : tie.Need-print-sums-requires Inv-loop μ-loop
+print-sums-requires c κs = tt
+
 add-i : tie.Need-add-i Inv-loop μ-loop
 add-i c = omega arith
 
@@ -59,6 +62,7 @@ calls-spec =
     mul-call
     add-call-2
     call-requires
+    print-sums-requires
     add-i
     loop-less
     loop-again

@@ -8,7 +8,7 @@ use Rattle.passes_main.proofs.read_floats.Statement.{statement}
 use Rattle.passes_main.proofs.read_floats.Tie as tie
 
 abbrev Inv-loop : tie.InvT-loop
-Inv-loop text from n out₀ i₀ out i = 1024 ≡ length out
+Inv-loop text from n out₀ i₀ out i = 1025 ≡ length out
 
 abbrev μ-loop : tie.MeasureT-loop
 μ-loop text from n out₀ i₀ out i = n - i
