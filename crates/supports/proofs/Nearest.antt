@@ -1,0 +1,289 @@
+-- The four nearest places: kept one at a time in rising order, they are the first four by reach, then i, then j. Assumes nothing.
+use mathlib.Core.Path.{_≡_, refl, sym, ap, _∙_}
+use mathlib.Core.Bool.{Bool, true, false, not, cond, _&&_, _||_}
+use mathlib.Core.List.{List, [], _∷_, _++_, map}
+use Prim.Native.Nat.{ℕ, zero, suc, _+_, _-_, _<_, _≤_}
+use native.Mathlib.Numerals.{add-one}
+use native.Mathlib.Omega.{arith}
+use borrow.Author.Tests.{lt-ltb, le-ltb, ltb-true, ltb-false, eqb-true, eqb-false}
+use lib.Dec.{ltb, eqb}
+use lib.ListN.{length, getD, take}
+use lib.Seq.{take-suc, take-take, getD-take, length-take-le}
+use Rattle.sheet.specs.Cells.{OnSheet, cellOf, earlier}
+use Rattle.sheet.specs.declared.Cell.{Cell}
+use Rattle.sheet.proofs.Laws.{cell-on, place-cell, place-rises, line-i, line-j, abs-sub}
+use Rattle.labels.proofs.Below.{no-both}
+use Rattle.passes.specs.Local.{reachOf, nearer, placed, byReach}
+use Rattle.supports.specs.Nearest.{supportAt, nothingKept, keptOf, placesOf, ahead, InOrder, MoreKept, Nearby}
+use Rattle.supports.specs.Fitted.{Pictured}
+use Rattle.supports.specs.declared.Support.{Support}
+use Rattle.supports.specs.declared.Supports.{Supports}
+
+-- ---- one more place, after all others
+
+-- before those that are farther
+unfoldable pub last : Cell → ℕ → List ℕ → List ℕ
+last c p [] = p ∷ []
+last c p (q ∷ qs) = cond (ltb (reachOf c p) (reachOf c q)) (p ∷ q ∷ qs) (q ∷ last c p qs)
+
+-- by the two parts of the order
+less-nearer : (c : Cell) (q r : ℕ) → reachOf c q < reachOf c r → nearer c q r ≡ true
+unfolding nearer
+less-nearer c q r h = rw (lt-ltb (reachOf c q) (reachOf c r) h)
+
+nearer-most : (c : Cell) (q r : ℕ) → nearer c q r ≡ true → reachOf c q ≤ reachOf c r
+unfolding nearer
+nearer-most c q r e = go (ltb (reachOf c q) (reachOf c r)) refl (eqb (reachOf c q) (reachOf c r)) refl e
+  where
+    go : (t : Bool) → ltb (reachOf c q) (reachOf c r) ≡ t → (u : Bool) → eqb (reachOf c q) (reachOf c r) ≡ u → (t || (u && earlier (cellOf q) (cellOf r))) ≡ true → reachOf c q ≤ reachOf c r
+    go true f u g k = omega (arith, ltb-true (reachOf c q) (reachOf c r) f)
+    go false f true g k = omega (arith, eqb-true (reachOf c q) (reachOf c r) g)
+    go false f false g k = absurd (no-both false k refl)
+
+module _ (c : Cell) (q p : ℕ) (before : earlier (cellOf q) (cellOf p) ≡ true) where
+  -- an earlier place is nearer if the later one is not strictly nearer
+  nearer-earlier : nearer c q p ≡ not (ltb (reachOf c p) (reachOf c q))
+  unfolding nearer
+  nearer-earlier = rw before (go (ltb (reachOf c q) (reachOf c p)) refl (eqb (reachOf c q) (reachOf c p)) refl)
+    where
+      go : (t : Bool) → ltb (reachOf c q) (reachOf c p) ≡ t → (u : Bool) → eqb (reachOf c q) (reachOf c p) ≡ u → (t || (u && true)) ≡ not (ltb (reachOf c p) (reachOf c q))
+      go true e u f = let h = ltb-true (reachOf c q) (reachOf c p) e in rw (le-ltb (reachOf c p) (reachOf c q) (omega arith))
+      go false e true f = let h = eqb-true (reachOf c q) (reachOf c p) f in rw (le-ltb (reachOf c p) (reachOf c q) (omega arith))
+      go false e false f =
+          let h = ltb-false (reachOf c q) (reachOf c p) e in
+          rw (lt-ltb (reachOf c p) (reachOf c q) (omega (arith, eqb-false (reachOf c q) (reachOf c p) f)))
+
+  -- it is the same which of the two is put in first
+  pub last-after : (l : List ℕ) → placed c q (last c p l) ≡ last c p (placed c q l)
+  unfolding placed last
+  last-after [] = rw nearer-earlier (go (ltb (reachOf c p) (reachOf c q)))
+    where
+      go : (t : Bool) → cond (not t) (q ∷ p ∷ []) (p ∷ q ∷ []) ≡ cond t (p ∷ q ∷ []) (q ∷ p ∷ [])
+      go true = refl
+      go false = refl
+  last-after (r ∷ rs) = go (ltb (reachOf c p) (reachOf c r)) refl (nearer c q r) refl (ltb (reachOf c p) (reachOf c q)) refl (last-after rs)
+    where
+      go : (t : Bool) → ltb (reachOf c p) (reachOf c r) ≡ t → (u : Bool) → nearer c q r ≡ u → (v : Bool) → ltb (reachOf c p) (reachOf c q) ≡ v
+          → placed c q (last c p rs) ≡ last c p (placed c q rs) → placed c q (last c p (r ∷ rs)) ≡ last c p (placed c q (r ∷ rs))
+      go true e true f true g w = simp (e, f, nearer-earlier, g)
+      go true e true f false g w = simp (e, f, nearer-earlier, g)
+      go true e false f true g w = simp (e, f, nearer-earlier, g)
+      go true e false f false g w =
+          let h = ltb-true (reachOf c p) (reachOf c r) e in
+          let k = ltb-false (reachOf c p) (reachOf c q) g in
+          absurd (no-both (nearer c q r) (less-nearer c q r (omega arith)) f)
+      go false e true f true g w =
+          let h = ltb-false (reachOf c p) (reachOf c r) e in
+          let k = ltb-true (reachOf c p) (reachOf c q) g in
+          absurd (omega (arith, nearer-most c q r f))
+      go false e true f false g w = simp (e, f, g)
+      go false e false f v g w = simp (e, f) (ap (λ (l : List ℕ). r ∷ l) w)
+
+-- the places of a list are all before p
+pub record AllBelow (p : ℕ) (ps : List ℕ) : Type 0 where
+  pub below : (a : ℕ) → a < length ps → getD ps a 0 < p
+
+-- places rise by i, then j
+earlier-cells : (q p : ℕ) → q < p → p < 16384 → earlier (cellOf q) (cellOf p) ≡ true
+earlier-cells q p l h =
+    sym (place-rises (cellOf q) (cellOf p) (cell-on q (omega arith)) (cell-on p h))
+    ∙ rw (place-cell q (omega arith), place-cell p h) (lt-ltb q p l)
+
+pub byReach-last : (c : Cell) (p : ℕ) → p < 16384 → (ps : List ℕ) → AllBelow p ps → byReach c (ps ++ (p ∷ [])) ≡ last c p (byReach c ps)
+unfolding byReach placed last
+byReach-last c p h [] b = refl
+byReach-last c p h (q ∷ qs) b =
+    ap (placed c q) (byReach-last c p h qs (record { below = λ a l. b .below (suc a) (omega arith) }))
+    ∙ last-after c q p (earlier-cells q p (b .below 0 (omega arith)) h) (byReach c qs)
+
+placed-length : (c : Cell) (p : ℕ) (l : List ℕ) → length (placed c p l) ≡ suc (length l)
+unfolding placed
+placed-length c p [] = refl
+placed-length c p (q ∷ qs) = go (nearer c p q) (placed-length c p qs)
+  where
+    go : (t : Bool) → length (placed c p qs) ≡ suc (length qs) → length (cond t (p ∷ q ∷ qs) (q ∷ placed c p qs)) ≡ suc (suc (length qs))
+    go true w = refl
+    go false w = ap suc w
+
+pub byReach-length : (c : Cell) (l : List ℕ) → length (byReach c l) ≡ length l
+unfolding byReach
+byReach-length c [] = refl
+byReach-length c (p ∷ ps) = placed-length c p (byReach c ps) ∙ ap suc (byReach-length c ps)
+
+-- ---- the first four of five
+
+-- the first n of a list with one more in it are found from its first n
+pub ahead-take : (n : ℕ) (new : Support) (l : List Support) → take n (ahead new (take n l)) ≡ take n (ahead new l)
+unfolding ahead
+ahead-take zero new l = refl
+ahead-take (suc n) new [] = refl
+ahead-take (suc n) new (s ∷ ss) = go (ltb (new .reach) (s .reach)) (ahead-take n new ss)
+  where
+    shorter : (m : ℕ) → take m (s ∷ take m ss) ≡ take m (s ∷ ss)
+    shorter zero = refl
+    shorter (suc m) = ap (λ (l : List Support). s ∷ l) (take-take m (suc m) ss (omega arith))
+
+    go : (t : Bool) → take n (ahead new (take n ss)) ≡ take n (ahead new ss) → take (suc n) (cond t (new ∷ s ∷ take n ss) (s ∷ ahead new (take n ss))) ≡ take (suc n) (cond t (new ∷ s ∷ ss) (s ∷ ahead new ss))
+    go true w = ap (λ (l : List Support). new ∷ l) (shorter n)
+    go false w = ap (λ (l : List Support). s ∷ l) w
+
+-- one more support, by where it goes
+module _ (s : Supports) (new : Support) (o : InOrder s) where
+  pub kept-none : s .fourth .reach ≤ new .reach → MoreKept s new s
+  unfolding ahead
+  kept-none h =
+      record {
+        kept-are =
+            rw (
+              le-ltb (new .reach) (s .first .reach) (omega arith),
+              le-ltb (new .reach) (s .second .reach) (omega arith),
+              le-ltb (new .reach) (s .third .reach) (omega arith),
+              le-ltb (new .reach) (s .fourth .reach) h,
+            );
+        in-order = o;
+      }
+
+  module _ (near : new .reach < s .fourth .reach) where
+    pub kept-first : new .reach < s .first .reach → MoreKept s new (record { first = new; second = s .first; third = s .second; fourth = s .third })
+    unfolding ahead
+    kept-first h =
+        record {
+          kept-are = rw (lt-ltb (new .reach) (s .first .reach) h);
+          in-order = record { first-second = omega arith; second-third = o .first-second; third-fourth = o .second-third };
+        }
+
+    module _ (not-first : s .first .reach ≤ new .reach) where
+      pub kept-second : new .reach < s .second .reach → MoreKept s new (record { first = s .first; second = new; third = s .second; fourth = s .third })
+      unfolding ahead
+      kept-second h =
+          record {
+            kept-are = rw (le-ltb (new .reach) (s .first .reach) not-first, lt-ltb (new .reach) (s .second .reach) h);
+            in-order = record { first-second = not-first; second-third = omega arith; third-fourth = o .second-third };
+          }
+
+      module _ (not-second : s .second .reach ≤ new .reach) where
+        pub kept-third : new .reach < s .third .reach → MoreKept s new (record { first = s .first; second = s .second; third = new; fourth = s .third })
+        unfolding ahead
+        kept-third h =
+            record {
+              kept-are = rw (le-ltb (new .reach) (s .first .reach) not-first, le-ltb (new .reach) (s .second .reach) not-second, lt-ltb (new .reach) (s .third .reach) h);
+              in-order = record { first-second = o .first-second; second-third = not-second; third-fourth = omega arith };
+            }
+
+        pub kept-fourth : s .third .reach ≤ new .reach → MoreKept s new (record { first = s .first; second = s .second; third = s .third; fourth = new })
+        unfolding ahead
+        kept-fourth h =
+            record {
+              kept-are =
+                  rw (
+                    le-ltb (new .reach) (s .first .reach) not-first,
+                    le-ltb (new .reach) (s .second .reach) not-second,
+                    le-ltb (new .reach) (s .third .reach) h,
+                    lt-ltb (new .reach) (s .fourth .reach) near,
+                  );
+              in-order = record { first-second = o .first-second; second-third = o .second-third; third-fourth = h };
+            }
+
+-- some places with their reaches, and behind them what stands for those not found
+abbrev pub filledUp : Cell → List ℕ → List Support
+filledUp c l = map (supportAt c) l ++ keptOf nothingKept
+
+ahead-filled : (c : Cell) (p : ℕ) → reachOf c p < 1000 → (l : List ℕ) → ahead (supportAt c p) (filledUp c l) ≡ filledUp c (last c p l)
+unfolding ahead last
+ahead-filled c p h [] = rw (lt-ltb (reachOf c p) 1000 h)
+ahead-filled c p h (q ∷ qs) = go (ltb (reachOf c p) (reachOf c q)) (ahead-filled c p h qs)
+  where
+    go : (t : Bool) → ahead (supportAt c p) (filledUp c qs) ≡ filledUp c (last c p qs) → cond t (supportAt c p ∷ supportAt c q ∷ filledUp c qs) (supportAt c q ∷ ahead (supportAt c p) (filledUp c qs)) ≡ filledUp c (cond t (p ∷ q ∷ qs) (q ∷ last c p qs))
+    go true w = refl
+    go false w = ap (λ (l : List Support). supportAt c q ∷ l) w
+
+-- ---- the walk
+
+-- no two cells of the sheet are farther apart than that
+pub reach-small : (c : Cell) (p : ℕ) → OnSheet c → p < 16384 → reachOf c p < 1000
+reach-small c p on h =
+    let a = line-i c on in
+    let b = line-j c on in
+    let d = line-i (cellOf p) (cell-on p h) in
+    let e = line-j (cellOf p) (cell-on p h) in
+    omega (arith, abs-sub (cellOf p .i) (c .i), abs-sub (cellOf p .j) (c .j))
+
+-- the first k places are looked at
+pub record Keeping (places : List ℕ) (count : ℕ) (c : Cell) (kept : Supports) (k : ℕ) : Type 0 where
+  pub upto : k ≤ count
+  pub kept-are : keptOf kept ≡ take 4 (filledUp c (byReach c (take k places)))
+  pub in-order : InOrder kept
+
+pub keeping-start : (places : List ℕ) (count : ℕ) (c : Cell) (kept : Supports) → kept ≡ nothingKept → Keeping places count c kept 0
+unfolding byReach
+keeping-start places count c kept e = rw e (record { upto = omega arith; kept-are = refl; in-order = record { first-second = omega arith; second-third = omega arith; third-fourth = omega arith } })
+
+module _ (places : List ℕ) (count : ℕ) (c : Cell) (asked : Nearby places count c) (kept : Supports) (k : ℕ) (g : Keeping places count c kept k) where
+  pub keeping-more : (new : Support) (next : Supports) → k < count → new ≡ supportAt c (getD places k 0) → MoreKept kept new next → Keeping places count c next (k + 1)
+  keeping-more new next h e w =
+      let p = getD places k 0 in
+      let there : k < length places = omega (arith, asked .size, asked .few) in
+      let one : take (k + 1) places ≡ take k places ++ (p ∷ []) = rw add-one (take-suc places k 0 there) in
+      let all : AllBelow p (take k places) = record { below = λ a l. let m : a < k = omega (arith, length-take-le k places (omega arith)) in rw (getD-take k places a 0 m) (asked .rising a k m h) } in
+      record {
+        upto = omega arith;
+        kept-are =
+            w .kept-are ∙ ap (λ (s : Support). take 4 (ahead s (keptOf kept))) e ∙ ap (λ (l : List Support). take 4 (ahead (supportAt c p) l)) (g .kept-are)
+            ∙ ahead-take 4 (supportAt c p) (filledUp c (byReach c (take k places)))
+            ∙ ap (take 4) (ahead-filled c p (reach-small c p (asked .on) (asked .below k h)) (byReach c (take k places)))
+            ∙ ap (λ (l : List ℕ). take 4 (filledUp c l)) (sym (byReach-last c p (asked .below k h) (take k places) all) ∙ ap (byReach c) (sym one));
+        in-order = w .in-order;
+      }
+
+  pub keeping-end : count ≤ k → placesOf kept ≡ take 4 (byReach c (take count places))
+  keeping-end h =
+      let e : k ≡ count = omega (arith, g .upto) in
+      ap (map (λ (s : Support). s .place)) (g .kept-are) ∙ rw e (front (byReach c (take count places)) (omega (arith, byReach-length c (take count places), length-take-le count places (omega (arith, asked .size, asked .few)), asked .four)))
+    where
+      back : (l : List ℕ) → map (λ (s : Support). s .place) (map (supportAt c) l) ≡ l
+      back [] = refl
+      back (p ∷ ps) = ap (λ (m : List ℕ). p ∷ m) (back ps)
+
+      fewer : (n : ℕ) (l : List ℕ) → n ≤ length l → map (λ (s : Support). s .place) (take n (filledUp c l)) ≡ take n l
+      fewer zero l m = refl
+      fewer (suc n) [] m = absurd (omega arith)
+      fewer (suc n) (p ∷ ps) m = ap (λ (q : List ℕ). p ∷ q) (fewer n ps (omega arith))
+
+      front : (l : List ℕ) → 4 ≤ length l → map (λ (s : Support). s .place) (take 4 (filledUp c l)) ≡ take 4 l
+      front l m = fewer 4 l m
+
+-- ---- what the four are
+
+-- all places of a list are below n
+data Under (n : ℕ) : List ℕ → Type 0 where
+  none : Under n []
+  one : {p : ℕ} {ps : List ℕ} → p < n → Under n ps → Under n (p ∷ ps)
+
+under-placed : (n : ℕ) (c : Cell) (p : ℕ) (l : List ℕ) → p < n → Under n l → Under n (placed c p l)
+unfolding placed
+under-placed n c p [] h none = one h none
+under-placed n c p (q ∷ qs) h (one k u) = go (nearer c p q) (under-placed n c p qs h u)
+  where
+    go : (t : Bool) → Under n (placed c p qs) → Under n (cond t (p ∷ q ∷ qs) (q ∷ placed c p qs))
+    go true w = one h (one k u)
+    go false w = one k w
+
+under-byReach : (n : ℕ) (c : Cell) (l : List ℕ) → AllBelow n l → Under n (byReach c l)
+unfolding byReach
+under-byReach n c [] b = none
+under-byReach n c (p ∷ ps) b = under-placed n c p (byReach c ps) (b .below 0 (omega arith)) (under-byReach n c ps (record { below = λ a l. b .below (suc a) (omega arith) }))
+
+under-take : (n m : ℕ) (l : List ℕ) → Under n l → Under n (take m l)
+under-take n zero l u = none
+under-take n (suc m) [] u = none
+under-take n (suc m) (p ∷ ps) (one h u) = one h (under-take n m ps u)
+
+under-four : (s : Supports) → Under 16384 (placesOf s) → Pictured s
+under-four s (one a (one b (one c (one d none)))) = record { first-below = a; second-below = b; third-below = c; fourth-below = d }
+
+-- the four nearest are places of the sheet
+pub nearest-pictured : {places : List ℕ} {count : ℕ} {c : Cell} {s : Supports} → Nearby places count c → placesOf s ≡ take 4 (byReach c (take count places)) → Pictured s
+nearest-pictured {places} {count} {c} {s} asked e =
+    let n : length (take count places) ≡ count = length-take-le count places (omega (arith, asked .size, asked .few)) in
+    let b : AllBelow 16384 (take count places) = record { below = λ a l. let m : a < count = omega arith in rw (getD-take count places a 0 m) (asked .below a m) } in
+    under-four s (rw e (under-take 16384 4 (byReach c (take count places)) (under-byReach 16384 c (take count places) b)))
