@@ -1,12 +1,11 @@
 -- The fit on the supports from its parts, as the code has it. Assumes nothing.
 use mathlib.Core.Path.{_≡_, refl, sym, ap, _∙_, subst}
-use mathlib.Core.Bool.{Bool, true, false, not, cond, _&&_}
+use mathlib.Core.Bool.{Bool, true, false, not, _&&_}
 use mathlib.Core.List.{List, [], _∷_, map}
 use Prim.Native.Nat.{ℕ, _≤_}
 use native.Mathlib.Omega.{arith}
 use borrow.Author.Tests.{not-true, not-false}
 use lib.Dec.{T, le→leb, lt→ltb}
-use lib.ListN.{length}
 use lib.IntN.{ℤ, pos, negsuc, natAbs}
 use lib.Ieee.{Float, binary32, ofBits, div, inFloat, ofInt}
 use mir.Syntax.{w32}
@@ -146,23 +145,3 @@ pub fit-some : (l : LocalFit) {r : SupportFit} → r ≡ supportFitOf l → r .f
 unfolding supportFitOf
 fit-some none e f = let z : true ≡ false = sym f ∙ ap (λ (x : SupportFit). x .found) e in absurd (subst T z tt)
 fit-some (fitted h rs) e f = rw e
-
--- a fit on four supports has four residuals
-pub four-residuals : (seen : Cell → Seen) (s : Supports) {h rs : List Float} → localFit seen (placesOf s) ≡ fitted h rs → length rs ≡ 4
-unfolding localFit trusted residualsOf
-four-residuals seen s {h} {rs} e = go (homographyOf (map (λ p. cellPoint (cellOf p)) (placesOf s)) (map (picturedAt seen) (placesOf s))) e
-  where
-    residuals : LocalFit → List Float
-    residuals none = []
-    residuals (fitted g qs) = qs
-
-    never : none ≡ fitted h rs → ⊥
-    never f = let z : _≡_ {A = ℕ} 0 1 = cc in omega arith
-
-    by : (t : Bool) (g qs : List Float) → length qs ≡ 4 → cond t (fitted g qs) none ≡ fitted h rs → length rs ≡ 4
-    by true g qs n f = ap length (sym (ap residuals f)) ∙ n
-    by false g qs n f = absurd (never f)
-
-    go : (a : Answer) → trusted seen (placesOf s) a ≡ fitted h rs → length rs ≡ 4
-    go NoFit f = absurd (never f)
-    go (Entries g) f = by (allFinite (residualsOf seen g (placesOf s))) g (residualsOf seen g (placesOf s)) refl f

@@ -141,7 +141,7 @@ fn keep_support(s: Supports, new: Support) -> Supports
 }
 
 // A place of the list as a number.
-fn wide(place: u16) -> usize
+pub fn wide(place: u16) -> usize
     ensures { λ r. ⌜ r ≡ place ⌝ }
 {
     place as usize

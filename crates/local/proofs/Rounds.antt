@@ -1,0 +1,200 @@
+-- The rounds of local, one after the other, and the whole call: refused, under four labels, or all rounds done. Assumes nothing.
+use mathlib.Core.Path.{_≡_, refl, sym, ap, _∙_}
+use mathlib.Core.Bool.{Bool}
+use mathlib.Core.List.{List}
+use Prim.Native.Nat.{ℕ, suc, _+_, _-_, _*_, _<_, _≤_}
+use native.Mathlib.Omega.{arith}
+use borrow.Author.Tests.{eq-eqb, ne-eqb, lt-ltb, le-ltb}
+use lib.ListN.{length}
+use lib.Ieee.{Float}
+use Rattle.refusal.specs.declared.Refusal.{Refusal}
+use Rattle.labels.specs.Labelled.{labelCount}
+use Rattle.labels.specs.Rim.{rim}
+use Rattle.labels.specs.Used.{Tied}
+use Rattle.arguments.specs.Arguments.{lent, checked}
+use Rattle.arguments.specs.Accepted.{Accepted}
+use Rattle.arguments.specs.declared.Checked.{Checked}
+use Rattle.arguments.specs.declared.Pass.{Pass}
+use Rattle.arguments.specs.declared.Settings.{Settings}
+use Rattle.arguments.specs.declared.LocalExtensionParams.{LocalExtensionParams}
+use Rattle.arguments.proofs.Laws.{accepted}
+use Rattle.extension_common.specs.TryCell.{Corners, cornersOf}
+use Rattle.passes.specs.Outcome.{done}
+use Rattle.passes.specs.Local.{depthOf, LocalState, LocalRounds, localRound, localFrom, localLimit, localRun, localAfter}
+use Rattle.passes.specs.Step.{LocalOut, localStep, localOut, localLeaves}
+use Rattle.passes.specs.declared.LocalStats.{LocalStats}
+use Rattle.passes.specs.declared.LocalAnswer.{LocalAnswer}
+use Rattle.passes.proofs.Free.{labels-few}
+use Rattle.supports.specs.Nearest.{Gatherable, Gathered}
+use Rattle.local.specs.Extending.{visits, stateOf, Left, RoundAsked, noProgress, startOf, RoundsAsked, RoundsLeft, statsOf}
+use Rattle.local.specs.declared.LocalProgress.{LocalProgress}
+use Rattle.local.specs.declared.RoundsDone.{RoundsDone}
+use Rattle.local.proofs.Visit.{gathered-front, gathered-size, stands, left-as}
+use Rattle.local.proofs.Walk.{holds-state, left-then, round-grows, round-counted}
+
+-- ---- at most m rounds more
+
+-- the state after one round more
+abbrev pub roundOf : Corners → Settings → LocalExtensionParams → LocalRounds → LocalRounds
+roundOf cs set p r = record { state = localRound cs set p (r .state); rounds = r .rounds + 1 }
+
+module _ (cs : Corners) (set : Settings) (p : LocalExtensionParams) where
+  pub from-none : (r : LocalRounds) → localFrom cs set p 0 r ≡ r
+  unfolding localFrom
+  from-none r = refl
+
+  module _ (m : ℕ) (r : LocalRounds) where
+    -- a round attaching nothing is the last
+    pub from-last : length (localRound cs set p (r .state) .made) ≡ length (r .state .made) → localFrom cs set p (suc m) r ≡ roundOf cs set p r
+    unfolding localFrom
+    from-last e = rw (eq-eqb _ _ e)
+
+    pub from-more : (length (localRound cs set p (r .state) .made) ≡ length (r .state .made) → ⊥) → localFrom cs set p (suc m) r ≡ localFrom cs set p m (roundOf cs set p r)
+    unfolding localFrom
+    from-more e = rw (ne-eqb _ _ e)
+
+-- ---- the loop over the rounds
+
+pub record Rounding (set : Settings) (p : LocalExtensionParams) (limit : ℕ) (xs ys pitches : List Float) (sheet₀ list₀ : List ℕ) (labels₀ : ℕ) (sheet list used places : List ℕ) (at : LocalProgress) (rounds : ℕ) : Type 0 where
+  pub upto : rounds ≤ limit
+  pub few : limit ≤ 64
+  pub shallow : p .«extend_depth» ≤ 4
+  pub same-sheet : length sheet ≡ length sheet₀
+  pub same-list : length list ≡ length list₀
+  pub counted : visits (at .counts) ≤ 16384 * rounds
+  pub left : Left (stateOf sheet list at) xs ys pitches list₀ sheet list used places at
+  pub rest :
+      localFrom (cornersOf xs ys pitches) set p (limit - rounds) (record { state = stateOf sheet list at; rounds = rounds })
+      ≡ localFrom (cornersOf xs ys pitches) set p limit (startOf sheet₀ list₀ labels₀)
+
+module _ (set : Settings) (p : LocalExtensionParams) (limit : ℕ) (xs ys pitches : List Float) (sheet₀ list₀ : List ℕ) (labels₀ : ℕ) where
+  pub rounding-start : (used places : List ℕ) {at : LocalProgress} → limit ≡ p .«max_iters» → at ≡ noProgress labels₀ → RoundsAsked xs ys pitches sheet₀ list₀ used places labels₀ p
+      → Rounding set p limit xs ys pitches sheet₀ list₀ labels₀ sheet₀ list₀ used places at 0
+  rounding-start used places e g f =
+      rw g
+      (record {
+        upto = omega arith;
+        few = omega (arith, f .rounds-few);
+        shallow = f .shallow;
+        same-sheet = refl;
+        same-list = refl;
+        counted = omega arith;
+        left = record { holds = stands {at = noProgress labels₀} (f .extending); extending = f .extending };
+        rest = ap (λ (m : ℕ). localFrom (cornersOf xs ys pitches) set p m (startOf sheet₀ list₀ labels₀)) (all limit);
+      })
+    where
+      all : (m : ℕ) → m - 0 ≡ m
+      all m = omega arith
+
+  module _ (sheet list used places : List ℕ) (at : LocalProgress) (rounds : ℕ) (g : Rounding set p limit xs ys pitches sheet₀ list₀ labels₀ sheet list used places at rounds) where
+    pub rounding-asked : rounds < limit → RoundAsked xs ys pitches sheet list used places at p
+    rounding-asked h = record { extending = g .left .extending; shallow = g .shallow; countable = omega (arith, g .counted, g .few) }
+
+    pub rounding-end : limit ≤ rounds
+        → RoundsLeft (localFrom (cornersOf xs ys pitches) set p limit (startOf sheet₀ list₀ labels₀)) xs ys pitches list₀ sheet list used places (record { progress = at; rounds = rounds })
+    rounding-end h =
+        let e : limit - rounds ≡ 0 = omega arith in
+        rw (← g .rest, e, from-none (cornersOf xs ys pitches) set p) (record { left = g .left; rounds-are = refl })
+
+    module _ (sheet' list' used' places' : List ℕ) (next : LocalProgress) (h : rounds < limit)
+        (l : Left (localRound (cornersOf xs ys pitches) set p (stateOf sheet list at)) xs ys pitches list sheet' list' used' places' next) where
+      -- the state after the round, with the list's rest as it was at the start
+      whole : Left (localRound (cornersOf xs ys pitches) set p (stateOf sheet list at)) xs ys pitches list₀ sheet' list' used' places' next
+      whole = left-then (g .left .holds) (round-grows (cornersOf xs ys pitches) set p (stateOf sheet list at)) l
+
+      -- how the rest of the rounds goes on
+      turn : limit - rounds ≡ suc (limit - (rounds + 1))
+      turn = omega arith
+
+      pub rounding-last : next .counts .attached ≡ at .counts .attached
+          → RoundsLeft (localFrom (cornersOf xs ys pitches) set p limit (startOf sheet₀ list₀ labels₀)) xs ys pitches list₀ sheet' list' used' places' (record { progress = next; rounds = rounds + 1 })
+      rounding-last e =
+          rw (sym (g .rest)
+          ∙ ap (λ (m : ℕ). localFrom (cornersOf xs ys pitches) set p m (record { state = stateOf sheet list at; rounds = rounds })) turn
+          ∙ from-last (cornersOf xs ys pitches) set p (limit - (rounds + 1)) (record { state = stateOf sheet list at; rounds = rounds })
+          (sym (l .holds .made-is) ∙ e ∙ g .left .holds .made-is))
+          (record { left = whole; rounds-are = refl })
+
+      pub rounding-more : (next .counts .attached ≡ at .counts .attached → ⊥) → length sheet' ≡ length sheet → length list' ≡ length list
+          → Rounding set p limit xs ys pitches sheet₀ list₀ labels₀ sheet' list' used' places' next (rounds + 1)
+      rounding-more e a b =
+          record {
+            upto = omega arith;
+            few = g .few;
+            shallow = g .shallow;
+            same-sheet = a ∙ g .same-sheet;
+            same-list = b ∙ g .same-list;
+            counted = omega (arith, g .counted, ap visits (l .holds .counts-are), round-counted (cornersOf xs ys pitches) set p (stateOf sheet list at));
+            left = left-as (holds-state (l .holds)) whole;
+            rest =
+                ap (λ (s : LocalState). localFrom (cornersOf xs ys pitches) set p (limit - (rounds + 1)) (record { state = s; rounds = rounds + 1 })) (holds-state (l .holds))
+                ∙ sym
+                (from-more (cornersOf xs ys pitches) set p (limit - (rounds + 1)) (record { state = stateOf sheet list at; rounds = rounds })
+                (λ d. e (l .holds .made-is ∙ d ∙ sym (g .left .holds .made-is))))
+                ∙ sym (ap (λ (m : ℕ). localFrom (cornersOf xs ys pitches) set p m (record { state = stateOf sheet list at; rounds = rounds })) turn)
+                ∙ g .rest;
+          }
+
+-- ---- the pass
+
+module _ (xs ys pitches : List Float) (sheet list : List ℕ) (set : Settings) (p : LocalExtensionParams) where
+  -- arguments that are not refused
+  module _ (a : Accepted (lent xs ys pitches sheet 0 (length list)) set (Pass.Local p)) where
+    pub accepted-gatherable : {places : List ℕ} → length places ≡ 1024 → Gatherable sheet places
+    accepted-gatherable n = record { long = a .given .long; few = omega (arith, labels-few (a .given) (a .one-cell), a .few); size = n }
+
+    pub accepted-asked : {used places before : List ℕ} {labels : ℕ} → length before ≡ 1024 → Gathered sheet before places labels → 4 ≤ labels → Tied sheet used
+        → RoundsAsked xs ys pitches sheet list used places labels p
+    accepted-asked n w h t =
+        record {
+          extending =
+              record {
+                given = a .given;
+                few = a .few;
+                one-cell = a .one-cell;
+                tied = t;
+                list-long = a .attached-long;
+                room = omega arith;
+                four = omega (arith, w .count-is);
+                labels-are = w .count-is;
+                places-are = gathered-front w;
+                size = gathered-size n (omega (arith, labels-few (a .given) (a .one-cell), a .few)) w;
+              };
+          shallow = a .pass-inside .depth;
+          rounds-few = a .pass-inside .rounds;
+        }
+
+  -- what the answer says of the rim, and of the rounds
+  module _ {labels depth : ℕ} {edge : Bool} {stats : LocalStats} (counted : labels ≡ labelCount sheet) (deep : depth ≡ depthOf p) where
+    -- under four labels
+    pub pass-few : {at : LocalProgress} → labels < 4 → at ≡ noProgress labels → edge ≡ rim depth sheet → stats ≡ statsOf (record { progress = at; rounds = 0 }) edge
+        → localOut (LocalAnswer.Done stats) sheet list ≡ localLeaves (done (localAfter (cornersOf xs ys pitches) set p sheet)) sheet list
+    unfolding localAfter localRun localLimit localFrom
+    pass-few h g f e = rw (← counted, lt-ltb labels 4 h, e, g, f, deep)
+
+    -- all rounds done
+    pub pass-done : {sheet' list' used' places' : List ℕ} {answer : RoundsDone} → 4 ≤ labels
+        → RoundsLeft (localFrom (cornersOf xs ys pitches) set p (p .«max_iters») (startOf sheet list labels)) xs ys pitches list sheet' list' used' places' answer → edge ≡ rim depth sheet'
+        → stats ≡ statsOf answer edge → localOut (LocalAnswer.Done stats) sheet' list' ≡ localLeaves (done (localAfter (cornersOf xs ys pitches) set p sheet)) sheet list
+    unfolding localAfter localRun localLimit
+    pass-done h l f e =
+        rw (← counted, le-ltb labels 4 h, e, f, deep, l .rounds-are, l .left .holds .counts-are, l .left .holds .largest-is, l .left .holds .sheet-is, l .left .holds .list-is)
+
+  -- ---- the call
+
+  -- its check refuses it, or lets it pass
+  module _ (check : Checked) (is : check ≡ checked (lent xs ys pitches sheet 0 (length list)) set (Pass.Local p)) where
+    pub call-refused : (r : Refusal) → check ≡ Checked.Refused r
+        → localOut (LocalAnswer.Refused r) sheet list
+        ≡ localLeaves (localStep (record { xs = xs; ys = ys; pitches = pitches }) sheet set p (record { queue = 0; attached = length list })) sheet list
+    unfolding localStep
+    call-refused r e = rw (← is, e)
+
+    module _ (e : check ≡ Checked.Fine) where
+      pub call-accepted : Accepted (lent xs ys pitches sheet 0 (length list)) set (Pass.Local p)
+      call-accepted = accepted (lent xs ys pitches sheet 0 (length list)) set (Pass.Local p) (sym is ∙ e)
+
+      pub call-done : (out : LocalOut) → out ≡ localLeaves (done (localAfter (cornersOf xs ys pitches) set p sheet)) sheet list
+          → out ≡ localLeaves (localStep (record { xs = xs; ys = ys; pitches = pitches }) sheet set p (record { queue = 0; attached = length list })) sheet list
+      unfolding localStep
+      call-done out f = rw (← is, e) f

@@ -1,0 +1,3 @@
+-- The definitions of what local's functions ask and leave. Definitions only.
+pub mod Region
+pub mod Extending

@@ -1,0 +1,657 @@
+// Local (01, "Sheet" and "Fit"; port of shared/extension/local.rs): rounds over the unlabelled cells of the label box, of strips of the depth
+// on labelled rows and columns, and of four corner blocks, by i then j. Each is tried where the fit on its four nearest labels maps it to.
+
+ghost use mathlib.Core.Path.{_≡_};
+ghost use mathlib.Core.Bool.{_&&_, cond};
+ghost use Prim.Native.Nat.{ℕ, _/_, _%_, _+_, _<_, _≤_};
+ghost use lib.ListN.{length, take};
+ghost use lib.Ieee.{binary32, ofBits, lt};
+ghost use Rattle.extension_common.specs.TryCell.{cornersOf, tryAt};
+ghost use Rattle.homography.specs.Fit.{applied};
+ghost use Rattle.passes.specs.Outcome.{done};
+ghost use Rattle.passes.specs.Grow.{tolerancesOf};
+ghost use Rattle.passes.specs.Fill.{nearI, nearJ};
+ghost use Rattle.passes.specs.Local.{depthOf, pastI, pastJ, cellPoint, worst, recorded, recordedAll, localSearch, gateOf, localWith, localVisit, localRound, localFrom, localAfter};
+ghost use Rattle.passes.specs.Step.{CornerLists, Rooms, localStep, localOut, localLeaves};
+ghost use Rattle.arguments.specs.Arguments.{lent};
+ghost use Rattle.arguments.specs.Accepted.{Accepted};
+ghost use Rattle.region.specs.Small.{SmallBounds};
+ghost use Rattle.local.specs.Region.{Listed, Lines, RegionAsked, RegionFound, Telling, marked, regionAt};
+ghost use Rattle.local.specs.Extending.{visits, noCandidateCounted, ambiguousCounted, edgeCounted, countsChanged, stateOf, Left, Trying, Writable, Wrote, Looking, lookedAt, RoundAsked, noProgress, startOf, RoundsAsked, RoundsLeft, statsOf};
+use arguments::Checked;
+use arguments::LocalExtensionParams;
+use arguments::Pass;
+use arguments::Settings;
+use extension_common::ChoiceRule;
+use extension_common::Search;
+use extension_common::TryCellResult;
+use labels::Bounds;
+use labels::LabelBox;
+use passes::Counts;
+use passes::LargestResidual;
+use passes::LocalAnswer;
+use passes::LocalStats;
+use positions_policy::Tolerances;
+use sheet::Cell;
+
+// How far the pass has come: the counts, the largest residual recorded, and how many cells are labelled.
+struct LocalProgress {
+    counts: Counts,
+    residual: LargestResidual,
+    labels: usize,
+}
+
+// How far it has come, and after how many rounds.
+struct RoundsDone {
+    progress: LocalProgress,
+    rounds: usize,
+}
+
+// What a round's cells are told by: the label box, and the rows and the columns that have a label, 1 for each such line.
+struct Region {
+    around: LabelBox,
+    rows: [u8; 128],
+    columns: [u8; 128],
+}
+
+// Depth 0 acts as 1.
+fn depth_of(params: LocalExtensionParams) -> u32
+    ensures { λ r. ⌜ r ≡ depthOf params ⌝ }
+{
+    if params.extend_depth == 0 {
+        return 1;
+    }
+    params.extend_depth
+}
+
+// The rows of the first `count` places.
+fn rows_of(places: &[u16; 1024], count: usize) -> [u8; 128]
+    requires { ⌜ Listed (now places) count ⌝ }
+    ensures { λ r. ⌜ Lines (λ p. p % 128) (take count (now (places .entry))) r ⌝ }
+{
+    let mut rows = [0u8; 128];
+    let mut k = 0usize;
+    while k < count {
+        rows[supports::wide(places[k]) % 128] = 1;
+        k += 1;
+    }
+    rows
+}
+
+// The columns of the first `count` places.
+fn columns_of(places: &[u16; 1024], count: usize) -> [u8; 128]
+    requires { ⌜ Listed (now places) count ⌝ }
+    ensures { λ r. ⌜ Lines (λ p. p / 128) (take count (now (places .entry))) r ⌝ }
+{
+    let mut columns = [0u8; 128];
+    let mut k = 0usize;
+    while k < count {
+        columns[supports::wide(places[k]) / 128] = 1;
+        k += 1;
+    }
+    columns
+}
+
+// What the cells of a round are told by, at its start (the Rust's `enumerate_extension_cells_deep` lists them instead).
+fn region_of(sheet: &[u16], places: &[u16; 1024], count: usize) -> Region
+    requires { ⌜ RegionAsked (now sheet) (now places) count ⌝ }
+    ensures { λ r. ⌜ RegionFound (now (sheet .entry)) r ⌝ }
+{
+    let around = labels::label_box(sheet);
+    let rows = rows_of(places, count);
+    let columns = columns_of(places, count);
+    Region {
+        around,
+        rows,
+        columns,
+    }
+}
+
+// Whether a cell is past the bounds by i, by at most `depth` lines.
+fn is_past_i(b: Bounds, depth: u32, c: Cell) -> bool
+    requires { ⌜ SmallBounds b × (depth ≤ 64) ⌝ }
+    ensures { λ r. ⌜ r ≡ pastI depth b c ⌝ }
+{
+    if !region::is_near_i(b, depth, c) {
+        return false;
+    }
+    !region::is_near_i(b, 0, c)
+}
+
+// Whether a cell is past the bounds by j, by at most `depth` lines.
+fn is_past_j(b: Bounds, depth: u32, c: Cell) -> bool
+    requires { ⌜ SmallBounds b × (depth ≤ 64) ⌝ }
+    ensures { λ r. ⌜ r ≡ pastJ depth b c ⌝ }
+{
+    if !region::is_near_j(b, depth, c) {
+        return false;
+    }
+    !region::is_near_j(b, 0, c)
+}
+
+// Whether a cell lies in the box.
+fn is_inside(b: Bounds, c: Cell) -> bool
+    requires { ⌜ SmallBounds b ⌝ }
+    ensures { λ r. ⌜ r ≡ (nearI 0 b c && nearJ 0 b c) ⌝ }
+{
+    if !region::is_near_i(b, 0, c) {
+        return false;
+    }
+    region::is_near_j(b, 0, c)
+}
+
+// Whether a line has a label.
+fn is_marked(lines: [u8; 128], line: usize) -> bool
+    requires { ⌜ line < 128 ⌝ }
+    ensures { λ r. ⌜ r ≡ marked lines line ⌝ }
+{
+    lines[line] == 1
+}
+
+// Whether a place's cell is one of a round, if it is unlabelled: it lies in the box, in a strip of the depth on a row or a column that has a
+// label, or in a corner block.
+fn is_local_cell(region: Region, place: usize, depth: u32) -> bool
+    requires { ⌜ Telling region place depth ⌝ }
+    ensures { λ r. ⌜ r ≡ regionAt depth region place ⌝ }
+{
+    let around = region.around;
+    let LabelBox::Around(b) = around else {
+        return false;
+    };
+    let c = sheet::cell_of(place);
+    if is_inside(b, c) {
+        return true;
+    }
+    if is_past_i(b, depth, c) {
+        let rows = region.rows;
+        if is_marked(rows, place % 128) {
+            return true;
+        }
+        return is_past_j(b, depth, c);
+    }
+    if is_past_j(b, depth, c) {
+        let columns = region.columns;
+        return is_marked(columns, place / 128);
+    }
+    false
+}
+
+// The larger of two numbers.
+fn larger(m: f32, r: f32) -> f32
+    ensures { λ x. ⌜ x ≡ cond (lt m r) r m ⌝ }
+{
+    if m < r {
+        return r;
+    }
+    m
+}
+
+// The largest of four residuals, from 0 on.
+fn worst_of(residuals: [f32; 4]) -> f32
+    requires { ⌜ length residuals ≡ 4 ⌝ }
+    ensures { λ r. ⌜ r ≡ worst (ofBits binary32 0) residuals ⌝ }
+{
+    let first = larger(0.0, residuals[0]);
+    let second = larger(first, residuals[1]);
+    let third = larger(second, residuals[2]);
+    larger(third, residuals[3])
+}
+
+// One residual more is recorded.
+fn record_residual(largest: LargestResidual, r: f32) -> LargestResidual
+    ensures { λ x. ⌜ x ≡ recorded largest r ⌝ }
+{
+    match largest {
+        LargestResidual::Nothing => LargestResidual::Residual(r),
+        LargestResidual::Residual(m) => LargestResidual::Residual(larger(m, r)),
+    }
+}
+
+// Four residuals are recorded.
+fn record_residuals(largest: LargestResidual, residuals: [f32; 4]) -> LargestResidual
+    requires { ⌜ length residuals ≡ 4 ⌝ }
+    ensures { λ x. ⌜ x ≡ recordedAll largest residuals ⌝ }
+{
+    let first = record_residual(largest, residuals[0]);
+    let second = record_residual(first, residuals[1]);
+    let third = record_residual(second, residuals[2]);
+    record_residual(third, residuals[3])
+}
+
+// How local searches a cell: search times cell size as the radius, and fill's and local's rule of choice.
+fn search_of(settings: Settings, params: LocalExtensionParams) -> Search
+    ensures { λ r. ⌜ r ≡ localSearch settings params ⌝ }
+{
+    let grid = settings.grid;
+    Search {
+        search_r: params.search_rel * grid.cell_size,
+        ambiguity_factor: params.ambiguity_factor,
+        rule: ChoiceRule::WithFloor,
+    }
+}
+
+// The edge's tolerances: cell size and band.
+fn tolerances_of(settings: Settings) -> Tolerances
+    ensures { λ r. ⌜ r ≡ tolerancesOf settings ⌝ }
+{
+    let grid = settings.grid;
+    Tolerances {
+        cell_size: grid.cell_size,
+        edge_length_tol: settings.edge_length_tol,
+    }
+}
+
+// The residual gate: the largest residual that is let through.
+fn gate_of(settings: Settings, params: LocalExtensionParams) -> f32
+    ensures { λ r. ⌜ r ≡ gateOf settings params ⌝ }
+{
+    let grid = settings.grid;
+    params.max_residual_rel * grid.cell_size
+}
+
+// One more cell without a candidate.
+fn count_no_candidate(n: Counts) -> Counts
+    requires { ⌜ visits n < 4294967296 ⌝ }
+    ensures { λ r. ⌜ r ≡ noCandidateCounted n ⌝ }
+{
+    Counts {
+        attached: n.attached,
+        rejected_no_candidate: n.rejected_no_candidate + 1,
+        rejected_ambiguous: n.rejected_ambiguous,
+        rejected_edge: n.rejected_edge,
+    }
+}
+
+// One more cell with an ambiguous choice.
+fn count_ambiguous(n: Counts) -> Counts
+    requires { ⌜ visits n < 4294967296 ⌝ }
+    ensures { λ r. ⌜ r ≡ ambiguousCounted n ⌝ }
+{
+    Counts {
+        attached: n.attached,
+        rejected_no_candidate: n.rejected_no_candidate,
+        rejected_ambiguous: n.rejected_ambiguous + 1,
+        rejected_edge: n.rejected_edge,
+    }
+}
+
+// One more cell whose edges refuse the corner.
+fn count_edge(n: Counts) -> Counts
+    requires { ⌜ visits n < 4294967296 ⌝ }
+    ensures { λ r. ⌜ r ≡ edgeCounted n ⌝ }
+{
+    Counts {
+        attached: n.attached,
+        rejected_no_candidate: n.rejected_no_candidate,
+        rejected_ambiguous: n.rejected_ambiguous,
+        rejected_edge: n.rejected_edge + 1,
+    }
+}
+
+// The progress with other counts.
+fn with_counts(at: LocalProgress, counts: Counts) -> LocalProgress
+    ensures { λ r. ⌜ r ≡ countsChanged at counts ⌝ }
+{
+    let residual = at.residual;
+    LocalProgress {
+        counts,
+        residual,
+        labels: at.labels,
+    }
+}
+
+// Attaches a corner to a cell and clears both of its marks: the sheet, the next place of the attached list and the corner's entry are written,
+// and the labelled places are listed anew. Answers how far the pass has come.
+fn attach_corner(
+    sheet: &mut [u16],
+    attached: &mut [u16],
+    used: &mut [u8; 1024],
+    places: &mut [u16; 1024],
+    at: LocalProgress,
+    c: Cell,
+    k: usize,
+) -> LocalProgress
+    requires { ⌜ Writable (now sheet) (now attached) (now places) at c k ⌝ }
+    ensures { λ r. ⌜ Wrote (now (sheet .entry)) (now (attached .entry)) (now (used .entry)) (now (places .entry)) at c k (now (sheet .exit)) (now (attached .exit)) (now (used .exit)) (now (places .exit)) r ⌝ }
+{
+    let n = at.counts;
+    let made = n.attached;
+    sheet::attach(sheet, c, k);
+    sheet::clear_marks(sheet, c);
+    attached[made] = sheet::place_of(c) as u16;
+    used[k] = 1;
+    let labels = supports::gather_labelled(sheet, places);
+    let counts = Counts {
+        attached: made + 1,
+        rejected_no_candidate: n.rejected_no_candidate,
+        rejected_ambiguous: n.rejected_ambiguous,
+        rejected_edge: n.rejected_edge,
+    };
+    let residual = at.residual;
+    LocalProgress {
+        counts,
+        residual,
+        labels,
+    }
+}
+
+// Tries an unlabelled cell where a fit maps it to: a corner that is found is attached, else nothing is written. Either is counted.
+fn try_fitted_cell(
+    xs: &[f32],
+    ys: &[f32],
+    pitches: &[f32],
+    sheet: &mut [u16],
+    attached: &mut [u16],
+    used: &mut [u8; 1024],
+    places: &mut [u16; 1024],
+    at: LocalProgress,
+    c: Cell,
+    h: [f32; 9],
+    settings: Settings,
+    params: LocalExtensionParams,
+) -> LocalProgress
+    requires { ⌜ Trying (now xs) (now ys) (now pitches) (now sheet) (now attached) (now used) (now places) at c ⌝ }
+    ensures { λ r. ⌜ Left (localWith c (tryAt (cornersOf (now (xs .entry)) (now (ys .entry)) (now (pitches .entry))) (now (sheet .entry)) (tolerancesOf settings) (localSearch settings params) c (applied h (cellPoint c))) (stateOf (now (sheet .entry)) (now (attached .entry)) at)) (now (xs .entry)) (now (ys .entry)) (now (pitches .entry)) (now (attached .entry)) (now (sheet .exit)) (now (attached .exit)) (now (used .exit)) (now (places .exit)) r ⌝ }
+{
+    let prediction = homography::apply(h, supports::cell_point(c));
+    let found = extension_common::try_attach_at_cell(
+        xs,
+        ys,
+        pitches,
+        sheet,
+        used,
+        c,
+        prediction,
+        search_of(settings, params),
+        tolerances_of(settings),
+    );
+    match found {
+        TryCellResult::NoCandidates => with_counts(at, count_no_candidate(at.counts)),
+        TryCellResult::Ambiguous => with_counts(at, count_ambiguous(at.counts)),
+        TryCellResult::EdgeRejected => with_counts(at, count_edge(at.counts)),
+        TryCellResult::Attached(k) => attach_corner(sheet, attached, used, places, at, c, k),
+    }
+}
+
+// Tries an unlabelled cell: by the fit on its four nearest labels, whose residuals are recorded. Without a fit, or with a residual above the
+// gate, nothing is counted.
+fn try_local_cell(
+    xs: &[f32],
+    ys: &[f32],
+    pitches: &[f32],
+    sheet: &mut [u16],
+    attached: &mut [u16],
+    used: &mut [u8; 1024],
+    places: &mut [u16; 1024],
+    at: LocalProgress,
+    c: Cell,
+    settings: Settings,
+    params: LocalExtensionParams,
+) -> LocalProgress
+    requires { ⌜ Trying (now xs) (now ys) (now pitches) (now sheet) (now attached) (now used) (now places) at c ⌝ }
+    ensures { λ r. ⌜ Left (localVisit (cornersOf (now (xs .entry)) (now (ys .entry)) (now (pitches .entry))) settings params c (stateOf (now (sheet .entry)) (now (attached .entry)) at)) (now (xs .entry)) (now (ys .entry)) (now (pitches .entry)) (now (attached .entry)) (now (sheet .exit)) (now (attached .exit)) (now (used .exit)) (now (places .exit)) r ⌝ }
+{
+    let nearest = supports::nearest_labelled_by_grid(places, at.labels, c);
+    let fit = supports::local_fit(xs, ys, pitches, sheet, nearest);
+    if !fit.found {
+        return at;
+    }
+    let h = fit.h;
+    let residuals = fit.residuals;
+    let counts = at.counts;
+    let before = at.residual;
+    let residual = record_residuals(before, residuals);
+    let next = LocalProgress {
+        counts,
+        residual,
+        labels: at.labels,
+    };
+    if gate_of(settings, params) < worst_of(residuals) {
+        return next;
+    }
+    try_fitted_cell(
+        xs,
+        ys,
+        pitches,
+        sheet,
+        attached,
+        used,
+        places,
+        next,
+        c,
+        h,
+        settings,
+        params,
+    )
+}
+
+// Looks at a place: its cell is tried if it lies in the region and is unlabelled. Answers how far the pass has come.
+fn local_place(
+    xs: &[f32],
+    ys: &[f32],
+    pitches: &[f32],
+    sheet: &mut [u16],
+    attached: &mut [u16],
+    used: &mut [u8; 1024],
+    places: &mut [u16; 1024],
+    at: LocalProgress,
+    region: Region,
+    place: usize,
+    settings: Settings,
+    params: LocalExtensionParams,
+) -> LocalProgress
+    requires { ⌜ Looking (now xs) (now ys) (now pitches) (now sheet) (now attached) (now used) (now places) at region place params ⌝ }
+    ensures { λ r. ⌜ Left (lookedAt (cornersOf (now (xs .entry)) (now (ys .entry)) (now (pitches .entry))) settings params region place (stateOf (now (sheet .entry)) (now (attached .entry)) at)) (now (xs .entry)) (now (ys .entry)) (now (pitches .entry)) (now (attached .entry)) (now (sheet .exit)) (now (attached .exit)) (now (used .exit)) (now (places .exit)) r ⌝ }
+{
+    if !is_local_cell(region, place, depth_of(params)) {
+        return at;
+    }
+    if labels::is_labelled(sheet[place]) {
+        return at;
+    }
+    try_local_cell(
+        xs,
+        ys,
+        pitches,
+        sheet,
+        attached,
+        used,
+        places,
+        at,
+        sheet::cell_of(place),
+        settings,
+        params,
+    )
+}
+
+// One round: all unlabelled cells of the region of now, by i then j. Answers how far the pass has come.
+fn local_round(
+    xs: &[f32],
+    ys: &[f32],
+    pitches: &[f32],
+    sheet: &mut [u16],
+    attached: &mut [u16],
+    used: &mut [u8; 1024],
+    places: &mut [u16; 1024],
+    at: LocalProgress,
+    settings: Settings,
+    params: LocalExtensionParams,
+) -> LocalProgress
+    requires { ⌜ RoundAsked (now xs) (now ys) (now pitches) (now sheet) (now attached) (now used) (now places) at params ⌝ }
+    ensures { λ r. ⌜ Left (localRound (cornersOf (now (xs .entry)) (now (ys .entry)) (now (pitches .entry))) settings params (stateOf (now (sheet .entry)) (now (attached .entry)) at)) (now (xs .entry)) (now (ys .entry)) (now (pitches .entry)) (now (attached .entry)) (now (sheet .exit)) (now (attached .exit)) (now (used .exit)) (now (places .exit)) r ⌝ }
+{
+    let region = region_of(sheet, places, at.labels);
+    let mut reached = at;
+    let mut place = 0usize;
+    while place < 16384 {
+        let next = local_place(
+            xs,
+            ys,
+            pitches,
+            sheet,
+            attached,
+            used,
+            places,
+            reached,
+            region,
+            place,
+            settings,
+            params,
+        );
+        reached = next;
+        place += 1;
+    }
+    reached
+}
+
+// Nothing done yet, with so many labels.
+fn no_progress(labels: usize) -> LocalProgress
+    ensures { λ r. ⌜ r ≡ noProgress labels ⌝ }
+{
+    let counts = Counts {
+        attached: 0,
+        rejected_no_candidate: 0,
+        rejected_ambiguous: 0,
+        rejected_edge: 0,
+    };
+    let residual = LargestResidual::Nothing;
+    LocalProgress {
+        counts,
+        residual,
+        labels,
+    }
+}
+
+// Round after round, until one attaches nothing or the limit is reached; a limit of 0 does none.
+fn local_rounds(
+    xs: &[f32],
+    ys: &[f32],
+    pitches: &[f32],
+    sheet: &mut [u16],
+    attached: &mut [u16],
+    used: &mut [u8; 1024],
+    places: &mut [u16; 1024],
+    labels: usize,
+    settings: Settings,
+    params: LocalExtensionParams,
+) -> RoundsDone
+    requires { ⌜ RoundsAsked (now xs) (now ys) (now pitches) (now sheet) (now attached) (now used) (now places) labels params ⌝ }
+    ensures { λ r. ⌜ RoundsLeft (localFrom (cornersOf (now (xs .entry)) (now (ys .entry)) (now (pitches .entry))) settings params (params .«max_iters») (startOf (now (sheet .entry)) (now (attached .entry)) labels)) (now (xs .entry)) (now (ys .entry)) (now (pitches .entry)) (now (attached .entry)) (now (sheet .exit)) (now (attached .exit)) (now (used .exit)) (now (places .exit)) r ⌝ }
+{
+    let limit = params.max_iters as usize;
+    let mut at = no_progress(labels);
+    let mut rounds = 0usize;
+    while rounds < limit {
+        let next = local_round(
+            xs,
+            ys,
+            pitches,
+            sheet,
+            attached,
+            used,
+            places,
+            at,
+            settings,
+            params,
+        );
+        rounds += 1;
+        if next.counts.attached == at.counts.attached {
+            return RoundsDone {
+                progress: next,
+                rounds,
+            };
+        }
+        at = next;
+    }
+    RoundsDone {
+        progress: at,
+        rounds,
+    }
+}
+
+// What the answer says of the rounds and of the rim.
+fn stats_of(done: RoundsDone, rim: bool) -> LocalStats
+    ensures { λ r. ⌜ r ≡ statsOf done rim ⌝ }
+{
+    let progress = done.progress;
+    let counts = progress.counts;
+    let residual = progress.residual;
+    LocalStats {
+        counts,
+        iterations: done.rounds,
+        residual,
+        rim,
+    }
+}
+
+// The pass itself, on arguments that are not refused: all rounds if there are four labels, else none, and what the answer says of them.
+fn local_accepted(
+    xs: &[f32],
+    ys: &[f32],
+    pitches: &[f32],
+    sheet: &mut [u16],
+    attached: &mut [u16],
+    settings: Settings,
+    params: LocalExtensionParams,
+) -> LocalStats
+    requires { ⌜ Accepted (lent (now xs) (now ys) (now pitches) (now sheet) 0 (length (now attached))) settings (Pass.Local params) ⌝ }
+    ensures { λ r. ⌜ localOut (LocalAnswer.Done r) (now (sheet .exit)) (now (attached .exit)) ≡ localLeaves (done (localAfter (cornersOf (now (xs .entry)) (now (ys .entry)) (now (pitches .entry))) settings params (now (sheet .entry)))) (now (sheet .entry)) (now (attached .entry)) ⌝ }
+{
+    let depth = depth_of(params);
+    let mut places = [0u16; 1024];
+    let labels = supports::gather_labelled(sheet, &mut places);
+    if labels < 4 {
+        let nothing = RoundsDone {
+            progress: no_progress(labels),
+            rounds: 0,
+        };
+        return stats_of(nothing, labels::rim_reached(sheet, depth));
+    }
+    let mut used = labels::mark_used(sheet);
+    let rounds = local_rounds(
+        xs,
+        ys,
+        pitches,
+        sheet,
+        attached,
+        &mut used,
+        &mut places,
+        labels,
+        settings,
+        params,
+    );
+    stats_of(rounds, labels::rim_reached(sheet, depth))
+}
+
+// Extends the labels by local fits: each round walks, by i then j, the unlabelled cells of the label box, of strips of the depth on labelled rows
+// and columns, and of the four corner blocks. A cell is tried where the fit on its four nearest labels maps it to, if there is one and none of its
+// residuals is above the gate; a corner that is found is attached, and both marks of its cell are cleared. A round that attaches nothing is the last,
+// and under four labels there is none. The attached list holds the new cells' places in order at its front, its rest untouched; no other mark
+// changes. The answer has the four counts, the number of rounds, the largest residual recorded, and the rim. A refused call changes nothing and
+// answers why.
+pub fn extend_via_local_homography(
+    xs: &[f32],
+    ys: &[f32],
+    pitches: &[f32],
+    sheet: &mut [u16],
+    attached: &mut [u16],
+    settings: Settings,
+    params: LocalExtensionParams,
+) -> LocalAnswer
+    ensures { λ r. ⌜ localOut r (now (sheet .exit)) (now (attached .exit)) ≡ localLeaves (localStep (record { xs = now (xs .entry); ys = now (ys .entry); pitches = now (pitches .entry) }) (now (sheet .entry)) settings params (record { queue = 0; attached = length (now (attached .entry)) })) (now (sheet .entry)) (now (attached .entry)) ⌝ }
+{
+    let checked = arguments::check_arguments(
+        xs,
+        ys,
+        pitches,
+        sheet,
+        0,
+        attached.len(),
+        settings,
+        Pass::Local(params),
+    );
+    if let Checked::Refused(refusal) = checked {
+        return LocalAnswer::Refused(refusal);
+    }
+    LocalAnswer::Done(local_accepted(xs, ys, pitches, sheet, attached, settings, params))
+}

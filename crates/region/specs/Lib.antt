@@ -1,0 +1,2 @@
+-- The definitions of the bounds whose sums the machine holds. Definitions only.
+pub mod Small
