@@ -5,3 +5,4 @@ pub mod Grow
 pub mod Fill
 pub mod Local
 pub mod Run
+pub mod Example
