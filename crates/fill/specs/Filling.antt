@@ -3,7 +3,6 @@ use mathlib.Core.Path.{_≡_}
 use mathlib.Core.Bool.{false, not, _&&_, cond}
 use mathlib.Core.List.{List}
 use Prim.Native.Nat.{ℕ, _+_, _<_, _≤_}
-use lib.IntN.{natAbs}
 use lib.ListN.{length, set, take}
 use lib.Ieee.{Float}
 use Rattle.sheet.specs.Cells.{OnSheet, placeOf, cellOf}
@@ -13,27 +12,14 @@ use Rattle.sheet.specs.declared.Cell.{Cell}
 use Rattle.sheet.specs.declared.Label.{Label}
 use Rattle.labels.specs.Labelled.{namesCorner, labelCount}
 use Rattle.labels.specs.Used.{usedOn, Tied, OneCell}
-use Rattle.labels.specs.declared.Bounds.{Bounds}
 use Rattle.labels.specs.declared.LabelBox.{LabelBox}
 use Rattle.arguments.specs.declared.Settings.{Settings}
 use Rattle.arguments.specs.declared.FillParams.{FillParams}
 use Rattle.extension_common.specs.TryCell.{Corners}
 use Rattle.passes.specs.Outcome.{over}
 use Rattle.passes.specs.Fill.{FillState, FillRounds, boxAndStrips, fillVisit}
+use Rattle.region.specs.Small.{SmallBox}
 use Rattle.fill.specs.declared.FillProgress.{FillProgress}
-
--- ---- the region
-
--- bounds of cells of the sheet: none of the four numbers has a magnitude above 64
-pub record SmallBounds (b : Bounds) : Type 0 where
-  pub low-i-small : natAbs (b .«low_i») ≤ 64
-  pub high-i-small : natAbs (b .«high_i») ≤ 64
-  pub low-j-small : natAbs (b .«low_j») ≤ 64
-  pub high-j-small : natAbs (b .«high_j») ≤ 64
-
--- a box that is empty or has such bounds
-pub record SmallBox (around : LabelBox) : Type 0 where
-  pub bounds-small : (b : Bounds) → around ≡ LabelBox.Around b → SmallBounds b
 
 -- ---- where the code stands
 

@@ -3,7 +3,6 @@
 
 ghost use mathlib.Core.Path.{_≡_};
 ghost use mathlib.Core.Bool.{_&&_};
-ghost use Prim.Native.Nat.{_≤_};
 ghost use lib.ListN.{length};
 ghost use Rattle.arguments.specs.Arguments.{lent};
 ghost use Rattle.arguments.specs.Accepted.{Accepted};
@@ -12,7 +11,8 @@ ghost use Rattle.passes.specs.Outcome.{done};
 ghost use Rattle.passes.specs.Grow.{tolerancesOf};
 ghost use Rattle.passes.specs.Fill.{nearI, nearJ, boxAndStrips, fillSearch, fillVisit, fillRound, fillFrom, limitOf, fillAfter};
 ghost use Rattle.passes.specs.Step.{fillStep, fillOut, fillLeaves};
-ghost use Rattle.fill.specs.Filling.{SmallBounds, SmallBox, stateOf, Filling, Left, Trying, Writable, Wrote, Looking, lookedAt, startOf, RoundsLeft};
+ghost use Rattle.region.specs.Small.{SmallBounds, SmallBox};
+ghost use Rattle.fill.specs.Filling.{stateOf, Filling, Left, Trying, Writable, Wrote, Looking, lookedAt, startOf, RoundsLeft};
 use arguments::Checked;
 use arguments::FillParams;
 use arguments::Pass;
@@ -34,43 +34,15 @@ struct FillProgress {
     rounds: usize,
 }
 
-// Whether a cell lies inside the bounds by i, or at most `past` lines beyond them.
-fn is_near_i(b: Bounds, past: u32, c: Cell) -> bool
-    requires { ⌜ SmallBounds b × (past ≤ 64) ⌝ }
-    ensures { λ r. ⌜ r ≡ nearI past b c ⌝ }
-{
-    let n = past as i32;
-    let low = b.low_i - n;
-    let high = b.high_i + n;
-    if c.i < low {
-        return false;
-    }
-    c.i <= high
-}
-
-// Whether a cell lies inside the bounds by j, or at most `past` lines beyond them.
-fn is_near_j(b: Bounds, past: u32, c: Cell) -> bool
-    requires { ⌜ SmallBounds b × (past ≤ 64) ⌝ }
-    ensures { λ r. ⌜ r ≡ nearJ past b c ⌝ }
-{
-    let n = past as i32;
-    let low = b.low_j - n;
-    let high = b.high_j + n;
-    if c.j < low {
-        return false;
-    }
-    c.j <= high
-}
-
 // Whether a cell lies in the box or in one of the two strips along its low and high j.
 fn is_along_j(b: Bounds, c: Cell) -> bool
     requires { ⌜ SmallBounds b ⌝ }
     ensures { λ r. ⌜ r ≡ (nearI 0 b c && nearJ 1 b c) ⌝ }
 {
-    if !is_near_i(b, 0, c) {
+    if !region::is_near_i(b, 0, c) {
         return false;
     }
-    is_near_j(b, 1, c)
+    region::is_near_j(b, 1, c)
 }
 
 // Whether a cell lies in the box or in one of the two strips along its low and high i.
@@ -78,10 +50,10 @@ fn is_along_i(b: Bounds, c: Cell) -> bool
     requires { ⌜ SmallBounds b ⌝ }
     ensures { λ r. ⌜ r ≡ (nearI 1 b c && nearJ 0 b c) ⌝ }
 {
-    if !is_near_i(b, 1, c) {
+    if !region::is_near_i(b, 1, c) {
         return false;
     }
-    is_near_j(b, 0, c)
+    region::is_near_j(b, 0, c)
 }
 
 // Whether a cell is one that a round walks, if it is unlabelled: it lies in the label box or in the strip along a whole side.

@@ -1,7 +1,7 @@
 -- `fill::fill_round` meets its contract: at each place the buffers hold what the round's list leaves after the places passed. Assumes nothing.
 use Prim.Native.Nat.{_-_}
 use native.Mathlib.Omega.{arith}
-use Rattle.fill.proofs.Region.{box-small}
+use Rattle.region.proofs.Near.{box-small}
 use Rattle.fill.proofs.Walk.{Walking, walking-start, walking-more, walking-end}
 use Rattle.fill.proofs.fill_round.Statement.{statement}
 use Rattle.fill.proofs.fill_round.Tie as tie
