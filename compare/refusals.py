@@ -6,7 +6,8 @@
 Each case changes one thing of a good call, or two to show which is tried
 first. The expected numbers are those of 01's table, written here by hand. A
 refused call has to leave the sheet, the queue and the attached list as they
-were; the good calls are shown to change them.
+were, every place of them; the good calls are shown to change them. At last,
+lists with a call of an unknown kind, which the program does not run.
 """
 
 import os
@@ -14,12 +15,16 @@ import subprocess
 import sys
 
 PROGRAM = os.path.join(os.path.dirname(os.path.abspath(__file__)), "..", "target", "bin", "passes_main")
+GROW, FILL, LOCAL = 0, 1, 2
 UNTOUCHED = 43981  # what the program puts into queue and list first
+PLACES = {"queue": 4100, "list": 1025}  # how long they are
+UNKNOWN = "not run: a call of an unknown kind\n"
 
 F = {
     "0": "00000000", "1": "3f800000", "0.25": "3e800000", "0.35": "3eb33333", "1.5": "3fc00000", "2": "40000000", "10": "41200000",
     "20": "41a00000", "30": "41f00000", "nan": "7fc00000", "inf": "7f800000", "16384": "46800000", "above 16384": "46800001",
-    "below 0": "80000001", "minus 0": "80000000", "5": "40a00000", "17": "41880000", "1001": "447a4000", "tiny": "3a7fffff",
+    "below 0": "80000001", "minus 0": "80000000", "5": "40a00000", "1001": "447a4000", "tiny": "3a7fffff",
+    "16": "41800000", "above 16": "41800001", "1000": "447a0000",
 }
 
 
@@ -27,19 +32,31 @@ def whole(n):
     return "%08x" % n
 
 
+def place(i, j):
+    return (i + 64) * 128 + j + 64
+
+
 class Call:
-    """01's example: three corners, two labels, one call."""
+    """One call. For grow and fill 01's example: three corners, two labels.
+    For local four corners of a square, labelled, and one beside it."""
 
     def __init__(self, kind):
         self.kind = kind
         self.x = [F["10"], F["20"], F["30"]]
         self.y = [F["10"]] * 3
-        self.pitch = [F["0"]] * 3
-        self.labels = [(0, 64 * 128 + 64), (1, 65 * 128 + 64)]
+        self.labels = [(0, place(0, 0)), (1, place(1, 0))]
+        self.numbers = [F["0.35"], F["1.5"], F["2"], whole(0), whole(0)]
+        if kind == FILL:
+            self.numbers[2] = whole(1)
+        if kind == LOCAL:
+            self.x = [F["10"], F["20"], F["10"], F["20"], F["30"]]
+            self.y = [F["10"], F["10"], F["20"], F["20"], F["10"]]
+            self.labels += [(2, place(0, 1)), (3, place(1, 1))]
+            self.numbers[2:] = [whole(1), F["0.25"], whole(1)]
+        self.pitch = [F["0"]] * len(self.x)
         self.cell = F["10"]
         self.axes = [F["1"], F["0"], F["0"], F["1"]]
         self.band = F["0.25"]
-        self.numbers = [F["0.35"], F["1.5"], F["2"] if kind == 0 else whole(1), whole(0), whole(0)]
         self.lend = {}
 
     def corners(self, n):
@@ -50,13 +67,13 @@ class Call:
         lengths = {"ys": n, "pitches": n, "sheet": 16384, "queue": 4 * n, "attached": n}
         lengths.update(self.lend)
         out = [whole(n), whole(len(self.labels)), whole(1), whole(2)]
-        out += [whole(lengths[name]) for name in ("ys", "pitches", "sheet", "queue", "attached")]
         for corner in zip(self.x, self.y, self.pitch):
             out += corner
-        for corner, place in self.labels:
-            out += [whole(corner), whole(place)]
+        for corner, at in self.labels:
+            out += [whole(corner), whole(at)]
         out += [whole(self.kind), self.cell, *self.axes, self.band, *self.numbers]
-        return "\n".join(out) + "\n", lengths
+        out += [whole(lengths[name]) for name in ("ys", "pitches", "sheet", "queue", "attached")]
+        return "\n".join(out) + "\n"
 
 
 def total(values):
@@ -66,22 +83,17 @@ def total(values):
     return "%08x" % s
 
 
-def run(call):
-    text, lengths = call.words()
-    out = subprocess.run([PROGRAM], input=text.encode(), stdout=subprocess.PIPE, check=True).stdout.decode().split("\n")
-    return out, lengths
+def run(text):
+    return subprocess.run([PROGRAM], input=text.encode(), stdout=subprocess.PIPE, check=True).stdout.decode()
 
 
-def untouched(call, out, lengths):
+def untouched(call, out):
     """Whether sheet, queue and list are as they were."""
-    given = {}
-    for corner, place in call.labels:
-        if place < lengths["sheet"]:
-            given[place] = corner
+    given = {at: corner for corner, at in call.labels}
     cells = ["cell %d %d %d" % (p // 128 - 64, p % 128 - 64, c) for p, c in sorted(given.items())]
     sheet = [line for line in out if line.startswith(("cell", "hole", "ambiguous"))]
     sums = [line for line in out if line.startswith(("queue", "list"))]
-    expected = ["queue " + total([UNTOUCHED] * lengths["queue"]), "list " + total([UNTOUCHED] * lengths["attached"])]
+    expected = ["%s %s" % (name, total([UNTOUCHED] * length)) for name, length in PLACES.items()]
     return sheet == cells and sums == expected
 
 
@@ -101,7 +113,7 @@ def cases(kind):
     yield "short pitches", lend("pitches", lambda n: n - 1), 7
     yield "short sheet", lend("sheet", lambda n: 16383), 7
     yield "short list", lend("attached", lambda n: n - 1), 7
-    yield "short queue", lend("queue", lambda n: 4 * n - 1), 7 if kind == 0 else None
+    yield "short queue", lend("queue", lambda n: 4 * n - 1), 7 if kind == GROW else None
     yield "1,025 corners", lambda c: c.corners(1025), 2
     yield "1,024 corners", lambda c: c.corners(1024), None
     for field in ("x", "y"):
@@ -115,35 +127,74 @@ def cases(kind):
     for part in range(4):
         yield "axis part %d" % part, put("axes", part, "5"), 3
     yield "band", lambda c: setattr(c, "band", F["5"]), 3
-    yield "search", put("numbers", 0, "17"), 3
-    yield "factor", put("numbers", 1, "1001"), 3
-    yield "boundary or rounds", put("numbers", 2, "17" if kind == 0 else whole(65)), 3
-    yield "unknown corner", lambda c: c.labels.__setitem__(1, (3, 8384)), 5
-    yield "doubled corner", lambda c: c.labels.__setitem__(1, (0, 8384)), 6
+    yield "cell 0", lambda c: setattr(c, "cell", F["0"]), 3
+    for number, name in enumerate(("search", "factor")):
+        yield name + " nan", put("numbers", number, "nan"), 3
+        yield name + " below 0", put("numbers", number, "below 0"), 3
+        yield name + " -0", put("numbers", number, "minus 0"), None
+    yield "search above", put("numbers", 0, "above 16"), 3
+    yield "search at the end", put("numbers", 0, "16"), None
+    yield "factor above", put("numbers", 1, "1001"), 3
+    yield "factor at the end", put("numbers", 1, "1000"), None
+    yield from own_cases(kind, put)
+    yield "unknown corner", lambda c: c.labels.__setitem__(1, (len(c.x), place(1, 0))), 5
+    yield "doubled corner", lambda c: c.labels.__setitem__(1, (0, place(1, 0))), 6
     yield "7 before 2", several(lambda c: c.corners(1025), lend("ys", lambda n: n - 1)), 7
+    yield "7 before 3", several(put("x", 0, "nan"), lend("attached", lambda n: n - 1)), 7
     yield "2 before 3", several(lambda c: c.corners(1025), put("x", 0, "nan")), 2
-    yield "3 before 5", several(put("x", 0, "nan"), lambda c: c.labels.__setitem__(1, (3, 8384))), 3
-    yield "5 before 6", lambda c: c.labels.extend([(0, 9000), (3, 9001)]), 5
+    yield "3 before 5", several(put("x", 0, "nan"), lambda c: c.labels.__setitem__(1, (len(c.x), place(1, 0)))), 3
+    yield "5 before 6", lambda c: c.labels.extend([(0, 9000), (len(c.x), 9001)]), 5
+
+
+def own_cases(kind, put):
+    """The numbers that not every pass has."""
+    if kind == GROW:
+        yield "boundary above", put("numbers", 2, "above 16"), 3
+        yield "boundary nan", put("numbers", 2, "nan"), 3
+        yield "boundary at the end", put("numbers", 2, "16"), None
+        return
+    yield "65 rounds", put("numbers", 2, whole(65)), 3
+    yield "64 rounds", put("numbers", 2, whole(64)), None
+    if kind == LOCAL:
+        yield "residual above", put("numbers", 3, "above 16"), 3
+        yield "residual below 0", put("numbers", 3, "below 0"), 3
+        yield "residual nan", put("numbers", 3, "nan"), 3
+        yield "residual infinite", put("numbers", 3, "inf"), 3
+        yield "residual at the end", put("numbers", 3, "16"), None
+        yield "depth 5", put("numbers", 4, whole(5)), 3
+        yield "depth 4", put("numbers", 4, whole(4)), None
+
+
+def is_fine(call, what, number):
+    """Whether the call is answered as expected, and what was answered."""
+    out = run(call.words()).split("\n")
+    if number is None:
+        fine = not any(line.startswith("(refused") for line in out)
+        if what == "good":
+            fine = fine and not untouched(call, out)
+    else:
+        fine = out[1] == "(refused %s)" % number and untouched(call, out)
+    return fine, out[1]
 
 
 def main():
     wrong = count = 0
-    for kind, name in ((0, "grow"), (1, "fill")):
+    for kind, name in ((GROW, "grow"), (FILL, "fill"), (LOCAL, "local")):
         for what, change, number in cases(kind):
             call = Call(kind)
             change(call)
-            out, lengths = run(call)
-            refused = "(refused %s)" % number
-            if number is None:
-                fine = not any(line.startswith("(refused") for line in out)
-                if what == "good":
-                    fine = fine and not untouched(call, out, lengths)
-            else:
-                fine = out[1] == refused and untouched(call, out, lengths)
+            fine, answer = is_fine(call, what, number)
             count += 1
             if not fine:
                 wrong += 1
-                print("wrong: %s, %s: expected %s, got %s" % (name, what, number, out[1]))
+                print("wrong: %s, %s: expected %s, got %s" % (name, what, number, answer))
+    for kind in (3, 4, 65536, 2**32 - 1):
+        call = Call(GROW)
+        call.kind = kind
+        count += 1
+        if run(call.words()) != UNKNOWN:
+            wrong += 1
+            print("wrong: a call of kind %d is run" % kind)
     print("%d cases, %d wrong" % (count, wrong))
     sys.exit(1 if wrong else 0)
 

@@ -6,10 +6,12 @@
 Without a file the frame is read from standard input; of several, the lists
 stand one after the other. A number is a line of eight hexadecimal digits:
 corners, labels, calls; 1 if the visited cells are to be printed (0 with
---silent); the lengths to lend (ys, pitches, sheet, queue, attached); for each corner its x, y
-and pitch; for each label its corner and place; for each call its kind (0 grow,
-1 fill, 2 local), cell, the four axis parts, band, and five numbers of the pass.
-A frame that the reader refuses is refused here, with the same line.
+--silent); for each corner its x, y and pitch; for each label its corner and
+place; for each call its kind (0 grow, 1 fill, 2 local), cell, the four axis
+parts, band, five numbers of the pass, and the lengths to lend (ys, pitches,
+sheet, queue, attached).
+A frame that the reader refuses is refused here, with the same line. The program
+reads 65,536 bytes: more is an error here.
 """
 
 import argparse
@@ -18,6 +20,7 @@ import sys
 import reference as ref
 
 KINDS = {"grow": 0, "fill": 1, "local": 2}
+MOST_BYTES = 65536
 LENT = ["ys", "pitches", "sheet", "queue", "attached"]
 
 
@@ -39,22 +42,36 @@ def numbers_of(kind, numbers):
     return [ref.to_hex(search), ref.to_hex(factor), whole(rounds), ref.to_hex(residual), whole(depth)]
 
 
-def words(frame, lend, visited=1):
-    n = len(frame.x)
-    lengths = {"ys": n, "pitches": n, "sheet": 16384, "queue": 4 * n, "attached": n}
-    lengths.update(lend)
-    out = [whole(n), whole(len(frame.labels)), whole(len(frame.passes)), whole(visited)]
-    out += [whole(lengths[name]) for name in LENT]
-    for x, y, pitch in zip(frame.x, frame.y, frame.pitch):
-        out += [ref.to_hex(x), ref.to_hex(y), ref.to_hex(pitch)]
-    for corner, cell in frame.labels:
+def lengths(n, lend):
+    """What a call on n corners needs, but for what `lend` says."""
+    return {"ys": n, "pitches": n, "sheet": 16384, "queue": 4 * n, "attached": n, **lend}
+
+
+def call_words(kind, settings, numbers, lent):
+    """A call: `settings` are cell, axes and band, `lent` the five lengths."""
+    cell, ((a, b), (c, d)), band = settings
+    out = [whole(KINDS[kind])]
+    out += [ref.to_hex(x) for x in (cell, a, b, c, d, band)]
+    return out + numbers_of(kind, numbers) + [whole(lent[name]) for name in LENT]
+
+
+def list_words(corners, labels, calls, visited=1):
+    """A list: corners (x, y, pitch), labels (corner, cell), calls as above."""
+    out = [whole(len(corners)), whole(len(labels)), whole(len(calls)), whole(visited)]
+    for corner in corners:
+        out += [ref.to_hex(x) for x in corner]
+    for corner, cell in labels:
         out += [whole(corner), whole(place(cell))]
-    (a, b), (c, d) = frame.axes
-    for kind, numbers in frame.passes:
-        out.append(whole(KINDS[kind]))
-        out += [ref.to_hex(x) for x in (frame.cell, a, b, c, d, frame.band)]
-        out += numbers_of(kind, numbers)
+    for call in calls:
+        out += call
     return "\n".join(out) + "\n"
+
+
+def words(frame, lend, visited=1):
+    settings = (frame.cell, frame.axes, frame.band)
+    lent = lengths(len(frame.x), lend)
+    calls = [call_words(kind, settings, numbers, lent) for kind, numbers in frame.passes]
+    return list_words(list(zip(frame.x, frame.y, frame.pitch)), frame.labels, calls, visited)
 
 
 def main():
@@ -65,13 +82,17 @@ def main():
     options = parser.parse_args()
     lend = {name: int(length) for name, length in (item.split("=") for item in options.lend)}
     texts = [open(path, "rb").read() for path in options.frames] or [sys.stdin.buffer.read()]
+    lists = ""
     for text in texts:
         try:
             frame = ref.read(text)
         except ref.Refused as refused:
             print(refused)
             sys.exit(1)
-        sys.stdout.write(words(frame, lend, 0 if options.silent else 1))
+        lists += words(frame, lend, 0 if options.silent else 1)
+    if len(lists) > MOST_BYTES:
+        sys.exit(f"{len(lists)} bytes, more than the program reads")
+    sys.stdout.write(lists)
 
 
 if __name__ == "__main__":

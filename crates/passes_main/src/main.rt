@@ -2,14 +2,15 @@
 // sheet; a refused call prints its number. For comparing with other programs: what it prints is not proved.
 //
 // It reads lines of eight hexadecimal digits, a number each (compare/words.py writes them from frames), at most 65,536 bytes, list after
-// list: corners n, labels m, calls p; 1 if the visited cells are to be printed, 2 if sums over both lists too; the lengths to lend: ys, pitches, sheet, queue, attached;
-// n times x, y, pitch; m times corner, place; then for each call: kind (0 grow, 1 fill, 2 local), cell, the four axis parts, band, and five
-// numbers of the pass.
+// list: corners n, labels m, calls p; 1 if the visited cells are to be printed, 2 if sums over both lists too; n times x, y, pitch; m times
+// corner, place; then for each call: kind (0 grow, 1 fill, 2 local), cell, the four axis parts, band, five numbers of the pass, and the
+// lengths to lend: ys, pitches, sheet, queue, attached. A list with another kind is not run, nor what follows it.
 ghost use mathlib.Core.Path.{_≡_};
 ghost use Prim.Native.Nat.{_≤_, _<_};
 ghost use lib.ListN.{length};
 use arguments::FillParams;
 use arguments::GrowParams;
+use arguments::LocalExtensionParams;
 use arguments::Settings;
 use binary32::hex::Bits;
 use binary32::hex::FloatRead;
@@ -20,6 +21,9 @@ use passes::FillAnswer;
 use passes::FillStats;
 use passes::GrowAnswer;
 use passes::GrowStats;
+use passes::LargestResidual;
+use passes::LocalAnswer;
+use passes::LocalStats;
 use predict::Grid;
 use predict::Vector;
 use refusal::Refusal;
@@ -43,7 +47,18 @@ fn number_at(text: &[u8], k: usize) -> usize {
     }
 }
 
-// The k-th float of the text, and an infinity where it is not finite.
+// The float of bits that are not finite: an infinity, or a NaN.
+fn not_finite(bits: usize) -> f32 {
+    if bits == 0x7f80_0000 {
+        return 1.0 / 0.0;
+    }
+    if bits == 0xff80_0000 {
+        return -1.0 / 0.0;
+    }
+    0.0 / 0.0
+}
+
+// The k-th float of the text.
 fn float_at(text: &[u8], k: usize) -> f32 {
     if 7000 < k {
         return 0.0;
@@ -55,7 +70,7 @@ fn float_at(text: &[u8], k: usize) -> f32 {
     let read = binary32::hex::read_float(&text[at..]);
     match read {
         FloatRead::Float(x) => x,
-        FloatRead::Refused(_) => 1.0 / 0.0,
+        FloatRead::Refused(_) => not_finite(number_at(text, k)),
     }
 }
 
@@ -304,6 +319,32 @@ fn print_fill(stats: FillStats) {
     print_rim(stats.rim);
 }
 
+// A float's eight digits.
+fn print_float(x: f32) {
+    let mut text = [0u8; 8];
+    binary32::hex::write_float(x, &mut text);
+    io::write_all(STDOUT_FILENO, &text);
+}
+
+fn print_residual(residual: LargestResidual) {
+    match residual {
+        LargestResidual::Nothing => print_word(b"none"),
+        LargestResidual::Residual(x) => print_float(x),
+    }
+}
+
+fn print_local(stats: LocalStats) {
+    print_word(b"(local ");
+    let counts = stats.counts;
+    print_counts(counts);
+    print_word(b" ");
+    print_number(stats.iterations);
+    print_word(b" ");
+    let residual = stats.residual;
+    print_residual(residual);
+    print_rim(stats.rim);
+}
+
 // How many cells grow visited: each is counted once.
 fn visited_by(counts: Counts) -> usize {
     if 5000 < counts.attached {
@@ -394,6 +435,44 @@ fn call_fill(
     }
 }
 
+fn call_local(
+    text: &[u8],
+    at: usize,
+    xs: &[f32],
+    ys: &[f32],
+    pitches: &[f32],
+    sheet: &mut [u16],
+    attached: &mut [u16],
+)
+    requires { ⌜ at ≤ 8000 ⌝ }
+{
+    let settings = settings_at(text, at + 1);
+    let params = LocalExtensionParams {
+        search_rel: float_at(text, at + 7),
+        ambiguity_factor: float_at(text, at + 8),
+        max_iters: rounds_at(text, at + 9),
+        max_residual_rel: float_at(text, at + 10),
+        extend_depth: rounds_at(text, at + 11),
+    };
+    let answer = local::extend_via_local_homography(
+        xs,
+        ys,
+        pitches,
+        sheet,
+        attached,
+        settings,
+        params,
+    );
+    match answer {
+        LocalAnswer::Refused(refusal) => print_refused(refusal),
+        LocalAnswer::Done(stats) => {
+            print_local(stats);
+            let counts = stats.counts;
+            print_attached(sheet, attached, counts.attached);
+        }
+    }
+}
+
 // A number of rounds, or of rings.
 fn rounds_at(text: &[u8], k: usize) -> u32 {
     let n = number_at(text, k);
@@ -431,7 +510,7 @@ fn print_sums(text: &[u8], queue: &[u16], attached: &[u16]) {
     print_sum(b"list ", attached);
 }
 
-// One call, and the sheet after it.
+// One call, of one of the three kinds.
 fn call(
     text: &[u8],
     number: usize,
@@ -449,12 +528,73 @@ fn call(
     if kind == 0 {
         print_heading(number, b" grow\n");
         call_grow(text, at, xs, ys, pitches, sheet, queue, attached);
-        print_sheet(sheet);
         return;
     }
-    print_heading(number, b" fill\n");
-    call_fill(text, at, xs, ys, pitches, sheet, attached);
+    if kind == 1 {
+        print_heading(number, b" fill\n");
+        call_fill(text, at, xs, ys, pitches, sheet, attached);
+        return;
+    }
+    if kind == 2 {
+        print_heading(number, b" local\n");
+        call_local(text, at, xs, ys, pitches, sheet, attached);
+    }
+}
+
+// How many places of each buffer a call is lent.
+struct Lengths {
+    ys: usize,
+    pitches: usize,
+    sheet: usize,
+    queue: usize,
+    attached: usize,
+}
+
+fn lengths_at(text: &[u8], k: usize) -> Lengths
+    requires { ⌜ k ≤ 9000 ⌝ }
+{
+    Lengths {
+        ys: number_at(text, k),
+        pitches: number_at(text, k + 1),
+        sheet: number_at(text, k + 2),
+        queue: number_at(text, k + 3),
+        attached: number_at(text, k + 4),
+    }
+}
+
+// A call that is lent the front of every buffer, and the whole sheet after it.
+fn call_on(
+    text: &[u8],
+    number: usize,
+    at: usize,
+    xs: &[f32],
+    ys: &[f32],
+    pitches: &[f32],
+    sheet: &mut [u16],
+    queue: &mut [u16],
+    attached: &mut [u16],
+)
+    requires { ⌜ at ≤ 8000 ⌝ }
+{
+    let lengths = lengths_at(text, at + 12);
+    let y = at_most(lengths.ys, ys.len());
+    let p = at_most(lengths.pitches, pitches.len());
+    let s = at_most(lengths.sheet, sheet.len());
+    let q = at_most(lengths.queue, queue.len());
+    let a = at_most(lengths.attached, attached.len());
+    call(
+        text,
+        number,
+        at,
+        xs,
+        &ys[..y],
+        &pitches[..p],
+        &mut sheet[..s],
+        &mut queue[..q],
+        &mut attached[..a],
+    );
     print_sheet(sheet);
+    print_sums(text, queue, attached);
 }
 
 fn calls(
@@ -468,15 +608,15 @@ fn calls(
     queue: &mut [u16],
     attached: &mut [u16],
 )
-    requires { ⌜ first ≤ 7500 ⌝ }
+    requires { ⌜ first ≤ 7200 ⌝ }
     requires { ⌜ count ≤ 40 ⌝ }
 {
     let mut i = 0usize;
     while i < count {
-        call(
+        call_on(
             text,
             i + 1,
-            first + 12 * i,
+            first + 17 * i,
             xs,
             ys,
             pitches,
@@ -484,65 +624,8 @@ fn calls(
             queue,
             attached,
         );
-        print_sums(text, queue, attached);
         i += 1;
     }
-}
-
-// How many places of each buffer are lent.
-struct Lengths {
-    n: usize,
-    ys: usize,
-    pitches: usize,
-    sheet: usize,
-    queue: usize,
-    attached: usize,
-}
-
-fn lengths_at(text: &[u8], n: usize) -> Lengths {
-    Lengths {
-        n,
-        ys: number_at(text, 4),
-        pitches: number_at(text, 5),
-        sheet: number_at(text, 6),
-        queue: number_at(text, 7),
-        attached: number_at(text, 8),
-    }
-}
-
-// The calls, each lent the front of every buffer.
-fn calls_on(
-    text: &[u8],
-    first: usize,
-    count: usize,
-    lengths: Lengths,
-    xs: &[f32],
-    ys: &[f32],
-    pitches: &[f32],
-    sheet: &mut [u16],
-    queue: &mut [u16],
-    attached: &mut [u16],
-)
-    requires { ⌜ first ≤ 7500 ⌝ }
-    requires { ⌜ count ≤ 40 ⌝ }
-{
-    let n = at_most(lengths.n, xs.len());
-    let y = at_most(lengths.ys, ys.len());
-    let p = at_most(lengths.pitches, pitches.len());
-    let s = at_most(lengths.sheet, sheet.len());
-    let q = at_most(lengths.queue, queue.len());
-    let a = at_most(lengths.attached, attached.len());
-    calls(
-        text,
-        first,
-        count,
-        &xs[..n],
-        &ys[..y],
-        &pitches[..p],
-        &mut sheet[..s],
-        &mut queue[..q],
-        &mut attached[..a],
-    );
 }
 
 // How many corners, labels and calls a list has.
@@ -556,18 +639,18 @@ struct Header {
 }
 
 fn header_at(text: &[u8]) -> Header
-    ensures { λ r. ⌜ (r .n ≤ 1025) × (r .labels ≤ 2048) × (r .count ≤ 40) × (r .first ≤ 7500) × (9 ≤ r .all) × (r .all ≤ 8000) ⌝ }
+    ensures { λ r. ⌜ (r .n ≤ 1025) × (r .labels ≤ 2048) × (r .count ≤ 40) × (r .first ≤ 7200) × (4 ≤ r .all) × (r .all ≤ 8000) ⌝ }
 {
     let n = at_most(number_at(text, 0), 1025);
     let labels = at_most(number_at(text, 1), 2048);
     let count = at_most(number_at(text, 2), 40);
-    let first = 9 + 3 * n + 2 * labels;
+    let first = 4 + 3 * n + 2 * labels;
     Header {
         n,
         labels,
         count,
         first,
-        all: first + 12 * count,
+        all: first + 17 * count,
     }
 }
 
@@ -585,23 +668,21 @@ fn attached_buffer() -> [u16; 1025]
 
 // The corners and the labels, and then the calls; answers how many numbers the list has.
 fn run(text: &[u8]) -> usize
-    ensures { λ r. ⌜ (9 ≤ r) × (r ≤ 8000) ⌝ }
+    ensures { λ r. ⌜ (4 ≤ r) × (r ≤ 8000) ⌝ }
 {
     let h = header_at(text);
     let n = h.n;
-    let xs = read_floats(text, 9, n);
-    let ys = read_floats(text, 10, n);
-    let pitches = read_floats(text, 11, n);
-    let mut sheet = read_labels(text, 9 + 3 * n, h.labels);
+    let xs = read_floats(text, 4, n);
+    let ys = read_floats(text, 5, n);
+    let pitches = read_floats(text, 6, n);
+    let mut sheet = read_labels(text, 4 + 3 * n, h.labels);
     let mut queue = queue_buffer();
     let mut attached = attached_buffer();
-    let lengths = lengths_at(text, n);
-    calls_on(
+    calls(
         text,
         h.first,
         h.count,
-        lengths,
-        &xs,
+        &xs[..n],
         &ys,
         &pitches,
         &mut sheet,
@@ -611,10 +692,27 @@ fn run(text: &[u8]) -> usize
     h.all
 }
 
-// List after list.
+// Whether a call of the list is of none of the three kinds.
+fn has_unknown_kind(text: &[u8]) -> bool {
+    let h = header_at(text);
+    let mut i = 0usize;
+    while i < h.count {
+        if 2 < number_at(text, h.first + 17 * i) {
+            return true;
+        }
+        i += 1;
+    }
+    false
+}
+
+// List after list, up to the end or to one that cannot be run.
 fn run_all(text: &[u8]) {
     let mut at = 0usize;
     while at < text.len() {
+        if has_unknown_kind(&text[at..]) {
+            print_word(b"not run: a call of an unknown kind\n");
+            return;
+        }
         let numbers = run(&text[at..]);
         at += numbers * 9;
     }

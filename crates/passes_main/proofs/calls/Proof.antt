@@ -15,20 +15,17 @@ abbrev μ-loop : tie.MeasureT-loop
 loop-holds : tie.Need-loop-holds Inv-loop μ-loop
 loop-holds c = omega arith
 
-add-call : tie.Need-add-call Inv-loop μ-loop
-add-call c = omega arith
+add-call-on : tie.Need-add-call-on Inv-loop μ-loop
+add-call-on c = omega arith
 
-mul-call : tie.Need-mul-call Inv-loop μ-loop
-mul-call c = omega arith
+mul-call-on : tie.Need-mul-call-on Inv-loop μ-loop
+mul-call-on c = omega arith
 
-add-call-2 : tie.Need-add-call-2 Inv-loop μ-loop
-add-call-2 c = omega arith
+add-call-on-2 : tie.Need-add-call-on-2 Inv-loop μ-loop
+add-call-on-2 c = omega arith
 
-call-requires : tie.Need-call-requires Inv-loop μ-loop
-call-requires c κs = omega arith
-
-print-sums-requires : tie.Need-print-sums-requires Inv-loop μ-loop
-print-sums-requires c κs = tt
+call-on-requires : tie.Need-call-on-requires Inv-loop μ-loop
+call-on-requires c κs = omega arith
 
 add-i : tie.Need-add-i Inv-loop μ-loop
 add-i c = omega arith
@@ -58,11 +55,10 @@ calls-spec =
     Inv-loop
     μ-loop
     loop-holds
-    add-call
-    mul-call
-    add-call-2
-    call-requires
-    print-sums-requires
+    add-call-on
+    mul-call-on
+    add-call-on-2
+    call-on-requires
     add-i
     loop-less
     loop-again

@@ -1,6 +1,7 @@
 -- `passes_main::run` is safe: the header bounds what it answers. Assumes nothing.
-use native.Mathlib.Omega.{arith}
 use borrow.Author.Needs.{needs}
+use native.Mathlib.Omega.{arith}
+use lib.ListN.{length-take}
 use Rattle.passes_main.proofs.run.Statement.{statement}
 use Rattle.passes_main.proofs.run.Tie as tie
 
@@ -31,32 +32,32 @@ queue-buffer-requires c κs = search needs
 attached-buffer-requires : tie.Need-attached-buffer-requires
 attached-buffer-requires c κs = search needs
 
-lengths-at-requires : tie.Need-lengths-at-requires
-lengths-at-requires c κs = search needs
+array-share-prefix-xs : tie.Need-array-share-prefix-xs
+array-share-prefix-xs c = search needs
 
-slice-aggregate-calls-on : tie.Need-slice-aggregate-calls-on
-slice-aggregate-calls-on c = search needs
+slice-aggregate-calls : tie.Need-slice-aggregate-calls
+slice-aggregate-calls c = simp length-take (omega arith)
 
-slice-aggregate-calls-on-2 : tie.Need-slice-aggregate-calls-on-2
-slice-aggregate-calls-on-2 c = search needs
+slice-aggregate-calls-2 : tie.Need-slice-aggregate-calls-2
+slice-aggregate-calls-2 c = search needs
 
-slice-aggregate-calls-on-3 : tie.Need-slice-aggregate-calls-on-3
-slice-aggregate-calls-on-3 c = search needs
+slice-aggregate-calls-3 : tie.Need-slice-aggregate-calls-3
+slice-aggregate-calls-3 c = search needs
 
-slice-aggregate-calls-on-4 : tie.Need-slice-aggregate-calls-on-4
-slice-aggregate-calls-on-4 c = search needs
+slice-aggregate-calls-4 : tie.Need-slice-aggregate-calls-4
+slice-aggregate-calls-4 c = search needs
 
-slice-aggregate-calls-on-5 : tie.Need-slice-aggregate-calls-on-5
-slice-aggregate-calls-on-5 c = search needs
+slice-aggregate-calls-5 : tie.Need-slice-aggregate-calls-5
+slice-aggregate-calls-5 c = search needs
 
-slice-aggregate-calls-on-6 : tie.Need-slice-aggregate-calls-on-6
-slice-aggregate-calls-on-6 c = search needs
+slice-aggregate-calls-6 : tie.Need-slice-aggregate-calls-6
+slice-aggregate-calls-6 c = search needs
 
-calls-on-requires : tie.Need-calls-on-requires
-calls-on-requires c κs = search needs
+calls-requires : tie.Need-calls-requires
+calls-requires c κs = search needs
 
 returns : tie.Need-returns
-returns c = let h = c .before .before .before .before .before .before .before .before .before .before .before .before .before .before .before .before .before .header-at .ensures in (h .4, h .5)
+returns c = search needs
 
 pub run-spec : {M : Type 1} → statement M
 run-spec =
@@ -71,12 +72,12 @@ run-spec =
     read-labels-requires
     queue-buffer-requires
     attached-buffer-requires
-    lengths-at-requires
-    slice-aggregate-calls-on
-    slice-aggregate-calls-on-2
-    slice-aggregate-calls-on-3
-    slice-aggregate-calls-on-4
-    slice-aggregate-calls-on-5
-    slice-aggregate-calls-on-6
-    calls-on-requires
+    array-share-prefix-xs
+    slice-aggregate-calls
+    slice-aggregate-calls-2
+    slice-aggregate-calls-3
+    slice-aggregate-calls-4
+    slice-aggregate-calls-5
+    slice-aggregate-calls-6
+    calls-requires
     returns)

@@ -6,13 +6,34 @@ use Rattle.passes_main.proofs.run_all.Statement.{statement}
 use Rattle.passes_main.proofs.run_all.Tie as tie
 
 abbrev Inv-loop : tie.InvT-loop
-Inv-loop text at₀ at = Unit {0}
+Inv-loop text at₀ t4 at = Unit {0}
 
 abbrev μ-loop : tie.MeasureT-loop
-μ-loop text at₀ at = length text - at
+μ-loop text at₀ t4 at = length text - at
 
 loop-holds : tie.Need-loop-holds Inv-loop μ-loop
 loop-holds c = tt
+
+sub-has-unknown-kind : tie.Need-sub-has-unknown-kind Inv-loop μ-loop
+sub-has-unknown-kind c = omega arith
+
+part-has-unknown-kind-start : tie.Need-part-has-unknown-kind-start Inv-loop μ-loop
+part-has-unknown-kind-start c = omega arith
+
+part-has-unknown-kind-end : tie.Need-part-has-unknown-kind-end Inv-loop μ-loop
+part-has-unknown-kind-end c = omega arith
+
+has-unknown-kind-requires : tie.Need-has-unknown-kind-requires Inv-loop μ-loop
+has-unknown-kind-requires c κs = tt
+
+slice-aggregate-print-word : tie.Need-slice-aggregate-print-word Inv-loop μ-loop
+slice-aggregate-print-word c = omega arith
+
+print-word-requires : tie.Need-print-word-requires Inv-loop μ-loop
+print-word-requires c κs = tt
+
+returns : tie.Need-returns Inv-loop μ-loop
+returns c = tt
 
 sub-run : tie.Need-sub-run Inv-loop μ-loop
 sub-run c = omega arith
@@ -38,8 +59,8 @@ loop-less c = omega arith
 loop-again : tie.Need-loop-again Inv-loop μ-loop
 loop-again c = tt
 
-returns : tie.Need-returns Inv-loop μ-loop
-returns c = tt
+returns-2 : tie.Need-returns-2 Inv-loop μ-loop
+returns-2 c = tt
 
 pub run-all-spec : {M : Type 1} → statement M
 run-all-spec =
@@ -48,6 +69,13 @@ run-all-spec =
     Inv-loop
     μ-loop
     loop-holds
+    sub-has-unknown-kind
+    part-has-unknown-kind-start
+    part-has-unknown-kind-end
+    has-unknown-kind-requires
+    slice-aggregate-print-word
+    print-word-requires
+    returns
     sub-run
     part-run-start
     part-run-end
@@ -56,4 +84,4 @@ run-all-spec =
     add-at
     loop-less
     loop-again
-    returns)
+    returns-2)
