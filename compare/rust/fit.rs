@@ -1,7 +1,7 @@
 //! The four-point fit, written from the section "Fit" of the specification
-//! (01), in its order. It stands in for the proved fit until that one is
-//! linked in (see `glue/geometry.rs`), and is then compared with it bit for
-//! bit.
+//! (01), in its order: a copy of what the proved fit has to be. It is compared
+//! with the proved one bit for bit, and stands in for it where that is not
+//! linked in (see `glue/geometry.rs`).
 //!
 //! Every sum, product, quotient and root is a step; a step that is not finite
 //! means no fit. What is never read again is not worked out.

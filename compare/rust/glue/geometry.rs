@@ -16,15 +16,21 @@ pub use homography::Homography;
 
 #[cfg(proved_fit)]
 extern "C" {
-    /// The proved fit, from the linked library: four cells, four pictured
-    /// corners, nine places for the answer; 1 if there is a fit, else 0.
+    /// The proved fit, from the linked library (crates/fit_export): four cells,
+    /// four pictured corners, nine places for the answer; 1 if there is a fit,
+    /// else 0. A slice is passed as where it starts and its length.
     fn homography_from_4pt_fit(
         cells_x: *const f32,
+        cells_x_len: usize,
         cells_y: *const f32,
+        cells_y_len: usize,
         corners_x: *const f32,
+        corners_x_len: usize,
         corners_y: *const f32,
+        corners_y_len: usize,
         out: *mut f32,
-    ) -> i32;
+        out_len: usize,
+    ) -> u32;
 }
 
 /// Our fit: the proved one where it is linked in, else its copy in `fit.rs`.
@@ -40,10 +46,15 @@ pub fn our_fit(
         let found = unsafe {
             homography_from_4pt_fit(
                 cells_x.as_ptr(),
+                cells_x.len(),
                 cells_y.as_ptr(),
+                cells_y.len(),
                 corners_x.as_ptr(),
+                corners_x.len(),
                 corners_y.as_ptr(),
+                corners_y.len(),
                 out.as_mut_ptr(),
+                out.len(),
             )
         };
         match found {

@@ -1,0 +1,3 @@
+-- Laws of the exported fit. Assumes nothing.
+pub mod Entering
+pub mod Leaving
