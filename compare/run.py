@@ -7,6 +7,9 @@
     --ours CMD      our program: a frame on standard input, every pass on
                     standard output, in the form of `reference.py --passes`;
                     without it reference.py itself is our side
+    --proved        our side is the proved passes (target/bin/passes_main), as
+                    with --ours compare/ours, but without a shell and a second
+                    python for every frame
     --order ORDER   in which the Rust's tree finds corners: rising, falling or
                     mixed
     --edge EDGE     whether a corner at the radius itself is found: at-most or
@@ -22,8 +25,8 @@
                     where all its passes were compared and none differed
 
 Each pass is compared whole: pass line, attached list in order, cells, marks.
-With --ours it is also compared with reference.py, started from our sheet, on
-every frame, and there the visited cells of grow too.
+With --ours or --proved it is also compared with reference.py, started from our
+sheet, on every frame, and there the visited cells of grow too.
 
 01 excludes some passes from equality with the Rust. This program finds them
 itself: it runs reference.py's pass from our sheet and watches for
@@ -53,8 +56,10 @@ from collections import Counter
 
 import generate
 import reference as ref
+import words
 
 HERE = os.path.dirname(os.path.abspath(__file__))
+PROVED = os.path.join(HERE, "..", "target", "bin", "passes_main")
 ORACLE = os.path.join(HERE, "rust", "out", "oracle")
 KINDS = ["grow", "fill", "local"]
 EXCLUSIONS = ["rim", "equal", "radius", "fit", "residual", "prediction", "panic"]
@@ -74,6 +79,11 @@ def call(command, data):
         why = done.stderr.decode(errors="replace").strip()
         raise Failed(f"{command[0]} ended with {done.returncode}: {why}")
     return done.stdout.decode()
+
+
+def proved(data):
+    """A frame's passes by the proved program."""
+    return call([PROVED], words.words(ref.read(data), {}).encode())
 
 
 def split_passes(text, count):
@@ -403,6 +413,7 @@ def arguments():
     parser.add_argument("--count", type=int, default=1000)
     parser.add_argument("--only", choices=list(generate.FAMILIES))
     parser.add_argument("--ours")
+    parser.add_argument("--proved", action="store_true")
     parser.add_argument("--order", choices=["rising", "falling", "mixed"], default="rising")
     parser.add_argument("--edge", choices=["at-most", "below"], default="at-most")
     parser.add_argument("--beyond", action="store_true")
@@ -418,14 +429,14 @@ def main():
         sys.exit("build the Rust side first: rust/build")
     began = time.time()
     with tempfile.TemporaryDirectory() as folder:
-        ours = shlex.split(options.ours) if options.ours else None
+        ours = proved if options.proved else shlex.split(options.ours) if options.ours else None
         side = Side(folder, ours, options.order, options.edge, options.beyond)
         run = Run(options, side)
         for name, data in frames_of(options):
             run.frame(name, data)
         run.keep_exhibits()
 
-    run.tally.print(with_model=bool(options.ours))
+    run.tally.print(with_model=bool(ours))
     print(f"{time.time() - began:.0f} s, order {options.order}, edge {options.edge}")
     if run.failures:
         print(f"{run.failures} frames could not be run")
