@@ -3,3 +3,4 @@ pub mod Over
 pub mod Free
 pub mod Queue
 pub mod Enough
+pub mod Run
