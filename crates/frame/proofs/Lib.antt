@@ -1,0 +1,2 @@
+-- Examples of the definitions.
+pub mod Examples
