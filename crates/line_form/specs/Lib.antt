@@ -2,3 +2,4 @@
 pub mod Integers
 pub mod Forms
 pub mod Lengths
+pub mod Held

@@ -1,8 +1,2 @@
-// Lines of text that have a form.
-ghost use mathlib.Core.Path.{_≡_};
-
-fn nothing(b: u8) -> u8
-    ensures { λ r. ⌜ r ≡ b ⌝ }
-{
-    b
-}
+// Lines of text that have a form (01, "Frame and result"): a form is a text in which % stands for a float and # for an integer.
+pub mod read; // read.rt: a line read by its form
