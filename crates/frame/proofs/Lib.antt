@@ -1,2 +1,7 @@
--- Examples of the definitions.
-pub mod Examples
+-- Laws of the reader.
+pub mod Lines
+pub mod Copying
+pub mod Agree
+pub mod Adding
+pub mod Turn
+pub mod Leaving

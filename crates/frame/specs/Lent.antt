@@ -43,15 +43,15 @@ sheetOf f = labelled emptySheet (f .labels)
 
 unfoldable pub settingsOf : Frame → Settings
 settingsOf f =
-    record
-      { grid =
-          record
-            { «axis_i» = record { x = floatOf (f .axes .ix); y = floatOf (f .axes .iy) }
-            ; «axis_j» = record { x = floatOf (f .axes .jx); y = floatOf (f .axes .jy) }
-            ; «cell_size» = floatOf (f .cell)
-            }
-      ; «edge_length_tol» = floatOf (f .band)
-      }
+    record {
+      grid =
+          record {
+            «axis_i» = record { x = floatOf (f .axes .ix); y = floatOf (f .axes .iy) };
+            «axis_j» = record { x = floatOf (f .axes .jx); y = floatOf (f .axes .jy) };
+            «cell_size» = floatOf (f .cell);
+          };
+      «edge_length_tol» = floatOf (f .band);
+    }
 
 -- ---- the passes
 
@@ -65,13 +65,13 @@ fillOf search factor rounds = Pass.Fill (record { «attach_search_rel» = floatO
 abbrev pub localOf : ℕ → ℕ → ℕ → ℕ → ℕ → Pass
 localOf search factor rounds residual depth =
     Pass.Local
-      (record
-        { «search_rel» = floatOf search
-        ; «ambiguity_factor» = floatOf factor
-        ; «max_iters» = rounds
-        ; «max_residual_rel» = floatOf residual
-        ; «extend_depth» = depth
-        })
+    (record {
+      «search_rel» = floatOf search;
+      «ambiguity_factor» = floatOf factor;
+      «max_iters» = rounds;
+      «max_residual_rel» = floatOf residual;
+      «extend_depth» = depth;
+    })
 
 -- a line with its numbers, those of a bare one included
 pub data FullPass : Type 0 where
@@ -139,17 +139,17 @@ over written buffer = written ++ drop (length written) buffer
 abbrev pub leaves : FrameRead → Buffers → FrameOut
 leaves (refused-at r n) b = record { answer = FrameAnswer.Refused r n; buffers = b }
 leaves (accepted f) b =
-    record
-      { answer = FrameAnswer.Accepted (record { settings = settingsOf f; corners = length (f .corners); passes = length (f .passes) })
-      ; buffers =
-          record
-            { xs = over (xsOf f) (b .xs)
-            ; ys = over (ysOf f) (b .ys)
-            ; pitches = over (pitchesOf f) (b .pitches)
-            ; sheet = over (sheetOf f) (b .sheet)
-            ; passes = over (allWords (f .passes)) (b .passes)
-            }
-      }
+    record {
+      answer = FrameAnswer.Accepted (record { settings = settingsOf f; corners = length (f .corners); passes = length (f .passes) });
+      buffers =
+          record {
+            xs = over (xsOf f) (b .xs);
+            ys = over (ysOf f) (b .ys);
+            pitches = over (pitchesOf f) (b .pitches);
+            sheet = over (sheetOf f) (b .sheet);
+            passes = over (allWords (f .passes)) (b .passes);
+          };
+    }
 
 -- "The library tries 7" first, before any byte is read
 abbrev pub unlessShort : Bool → List ℕ → Buffers → FrameOut

@@ -175,12 +175,7 @@ fn out_of_range(line: HeldLine) -> bool
 }
 
 // 4, 5 and 6 of a label: its cell is off the sheet; its corner is not one of those given; its cell or its corner has a label already.
-fn check_label(
-    corners: usize,
-    sheet: &[u16; 16384],
-    used: &[u8; 1024],
-    label: HeldLabel,
-) -> Checked
+fn check_label(corners: usize, sheet: &[u16; 16384], used: &[u8; 1024], label: HeldLabel) -> Checked
     requires { ⌜ corners ≤ 1024 ⌝ }
     ensures { λ r. ⌜ r ≡ checkedLabel corners (now (sheet .entry)) (now (used .entry)) label ⌝ }
 {

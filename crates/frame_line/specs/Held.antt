@@ -78,8 +78,8 @@ lineIn bare-fill-kind v = HeldLine.Pass HeldPass.BareFill
 lineIn fill-kind v = HeldLine.Pass (HeldPass.Fill (record { search = getD v 0 0; factor = getD v 1 0; rounds = countIn (getD v 2 0) }))
 lineIn local-kind v =
     HeldLine.Pass
-      (HeldPass.Local
-        (record { search = getD v 0 0; factor = getD v 1 0; rounds = countIn (getD v 2 0); residual = getD v 3 0; depth = countIn (getD v 4 0) }))
+    (HeldPass.Local
+    (record { search = getD v 0 0; factor = getD v 1 0; rounds = countIn (getD v 2 0); residual = getD v 3 0; depth = countIn (getD v 4 0) }))
 
 -- the last kinds
 abbrev pub passKinds : List Kind

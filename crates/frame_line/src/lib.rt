@@ -3,8 +3,8 @@ ghost use mathlib.Core.Path.{_≡_};
 ghost use Prim.Native.Nat.{min};
 ghost use Rattle.frame_line.specs.Lines.{cell-kind, axes-kind, band-kind, corner-kind, label-kind, grow-kind, fill-kind, local-kind, firstFit, readLine};
 ghost use Rattle.frame_line.specs.Held.{held, countIn, cellIn, lineIn, passKinds};
-use line_form::read::fit_line;
 use line_form::read::Fit;
+use line_form::read::fit_line;
 use sheet::Cell;
 
 // The axes of i and of j. Here and below a float is held as its bits.
@@ -155,13 +155,11 @@ fn grow_line(f: Fit) -> HeldLine
     ensures { λ r. ⌜ r ≡ lineIn grow-kind (f .values) ⌝ }
 {
     let v = f.values;
-    HeldLine::Pass(
-        HeldPass::Grow(HeldGrow {
-            search: v[0],
-            factor: v[1],
-            boundary: v[2],
-        }),
-    )
+    HeldLine::Pass(HeldPass::Grow(HeldGrow {
+        search: v[0],
+        factor: v[1],
+        boundary: v[2],
+    }))
 }
 
 fn fill_line(f: Fit) -> HeldLine
@@ -169,13 +167,11 @@ fn fill_line(f: Fit) -> HeldLine
 {
     let v = f.values;
     let rounds = count_of(v[2]);
-    HeldLine::Pass(
-        HeldPass::Fill(HeldFill {
-            search: v[0],
-            factor: v[1],
-            rounds,
-        }),
-    )
+    HeldLine::Pass(HeldPass::Fill(HeldFill {
+        search: v[0],
+        factor: v[1],
+        rounds,
+    }))
 }
 
 fn local_line(f: Fit) -> HeldLine
@@ -184,15 +180,13 @@ fn local_line(f: Fit) -> HeldLine
     let v = f.values;
     let rounds = count_of(v[2]);
     let depth = count_of(v[4]);
-    HeldLine::Pass(
-        HeldPass::Local(HeldLocal {
-            search: v[0],
-            factor: v[1],
-            rounds,
-            residual: v[3],
-            depth,
-        }),
-    )
+    HeldLine::Pass(HeldPass::Local(HeldLocal {
+        search: v[0],
+        factor: v[1],
+        rounds,
+        residual: v[3],
+        depth,
+    }))
 }
 
 // A pass line, or none.

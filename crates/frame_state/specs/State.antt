@@ -42,49 +42,49 @@ pub record TameAxes (a : HeldAxes) : Type 0 where
 -- before the first line
 abbrev pub nothing-said : Progress
 nothing-said =
-    record
-      { settings =
-          record
-            { grid =
-                record
-                  { «axis_i» = record { x = floatOf 0; y = floatOf 0 }
-                  ; «axis_j» = record { x = floatOf 0; y = floatOf 0 }
-                  ; «cell_size» = floatOf 0
-                  }
-            ; «edge_length_tol» = floatOf 0
-            }
-      ; corners = 0
-      ; passes = 0
-      }
+    record {
+      settings =
+          record {
+            grid =
+                record {
+                  «axis_i» = record { x = floatOf 0; y = floatOf 0 };
+                  «axis_j» = record { x = floatOf 0; y = floatOf 0 };
+                  «cell_size» = floatOf 0;
+                };
+            «edge_length_tol» = floatOf 0;
+          };
+      corners = 0;
+      passes = 0;
+    }
 
 abbrev pub withCellSize : Progress → ℕ → Progress
 withCellSize p b =
-    record
-      { settings =
-          record
-            { grid = record { «axis_i» = p .settings .grid .«axis_i»; «axis_j» = p .settings .grid .«axis_j»; «cell_size» = floatOf b }
-            ; «edge_length_tol» = p .settings .«edge_length_tol»
-            }
-      ; corners = p .corners
-      ; passes = p .passes
-      }
+    record {
+      settings =
+          record {
+            grid = record { «axis_i» = p .settings .grid .«axis_i»; «axis_j» = p .settings .grid .«axis_j»; «cell_size» = floatOf b };
+            «edge_length_tol» = p .settings .«edge_length_tol»;
+          };
+      corners = p .corners;
+      passes = p .passes;
+    }
 
 abbrev pub withAxes : Progress → HeldAxes → Progress
 withAxes p a =
-    record
-      { settings =
-          record
-            { grid =
-                record
-                  { «axis_i» = record { x = floatOf (a .ix); y = floatOf (a .iy) }
-                  ; «axis_j» = record { x = floatOf (a .jx); y = floatOf (a .jy) }
-                  ; «cell_size» = p .settings .grid .«cell_size»
-                  }
-            ; «edge_length_tol» = p .settings .«edge_length_tol»
-            }
-      ; corners = p .corners
-      ; passes = p .passes
-      }
+    record {
+      settings =
+          record {
+            grid =
+                record {
+                  «axis_i» = record { x = floatOf (a .ix); y = floatOf (a .iy) };
+                  «axis_j» = record { x = floatOf (a .jx); y = floatOf (a .jy) };
+                  «cell_size» = p .settings .grid .«cell_size»;
+                };
+            «edge_length_tol» = p .settings .«edge_length_tol»;
+          };
+      corners = p .corners;
+      passes = p .passes;
+    }
 
 abbrev pub withBand : Progress → ℕ → Progress
 withBand p b = record { settings = record { grid = p .settings .grid; «edge_length_tol» = floatOf b }; corners = p .corners; passes = p .passes }

@@ -34,10 +34,10 @@ element-write-pitches c = search needs
 
 returns : tie.Need-returns
 returns c = record {
-      xs-are = ap (set (c .before .before .before .args .xs .now) (c .before .before .before .args .n)) (c .before .before .float-of .ensures);
-      ys-are = ap (set (c .before .before .before .args .ys .now) (c .before .before .before .args .n)) (c .before .float-of2 .ensures);
-      pitches-are = ap (set (c .before .before .before .args .pitches .now) (c .before .before .before .args .n)) (c .float-of3 .ensures);
-    }
+  xs-are = ap (set (c .before .before .before .args .xs .now) (c .before .before .before .args .n)) (c .before .before .float-of .ensures);
+  ys-are = ap (set (c .before .before .before .args .ys .now) (c .before .before .before .args .n)) (c .before .float-of2 .ensures);
+  pitches-are = ap (set (c .before .before .before .args .pitches .now) (c .before .before .before .args .n)) (c .float-of3 .ensures);
+}
 
 pub put-corner-spec : {M : Type 1} → statement M
 put-corner-spec =
