@@ -268,6 +268,32 @@ written (suc k) m b (c ∷ text) h = go (eqb (digitValue c) 16) refl (λ g. writ
     go true e on = absurd (no-number b (rw e at h))
     go false e on = longer k m b c text (eqb-false (digitValue c) 16 e) (on (rw e at h))
 
+-- ---- whole patterns
+
+-- reading what was written gives the pattern back, whatever follows
+pub bits-read-written : (b : ℕ) (rest : List ℕ) → b < 2 ^ 32 → readBits (hexText b ++ rest) ≡ Number b
+bits-read-written b rest h = read-digits 8 b 0 rest ∙ ap Number (whole b h)
+  where
+    whole : (b : ℕ) → b < 2 ^ 32 → 0 * 2 ^ (4 * 8) + b % 2 ^ (4 * 8) ≡ b
+    whole b h = omega arith
+
+pub record BitsRead (text : List ℕ) (b : ℕ) : Type 0 where
+  pub small : b < 2 ^ 32
+  pub again : text ≡ hexText b ++ drop 8 text
+
+-- writing what was read gives the bytes back
+pub bits-written-read : (b : ℕ) (text : List ℕ) → readBits text ≡ Number b → BitsRead text b
+bits-written-read b text e =
+    let w = written 8 0 b text e in
+    let same : w .n ≡ b = value b (w .n) (w .value) in
+    record { small = small b (w .n) same (w .small); again = w .whole ∙ ap (λ (n : ℕ). hexText n ++ drop 8 text) same }
+  where
+    value : (b n : ℕ) → b ≡ 0 * 2 ^ (4 * 8) + n → n ≡ b
+    value b n e = omega arith
+
+    small : (b n : ℕ) → n ≡ b → n < 2 ^ (4 * 8) → b < 2 ^ 32
+    small b n e h = omega arith
+
 -- ---- whole floats
 
 -- reading what was written gives the value back, whatever follows
@@ -275,11 +301,7 @@ pub read-written : (x : Float) (rest : List ℕ) → T (fits binary32 x) → isF
 unfolding floatOfBits floatOf
 read-written x rest f h =
     let b = toBits binary32 x in
-    ap floatOfBits (read-digits 8 b 0 rest ∙ ap Number (whole b (toBits-lt binary32 x f)))
-    ∙ rw (ofBits-toBits binary32 x f, h)
-  where
-    whole : (b : ℕ) → b < 2 ^ 32 → 0 * 2 ^ (4 * 8) + b % 2 ^ (4 * 8) ≡ b
-    whole b h = omega arith
+    ap floatOfBits (bits-read-written b rest (toBits-lt binary32 x f)) ∙ rw (ofBits-toBits binary32 x f, h)
 
 no-float : (r : Refusal) (x : Float) → Refused r ≡ Finite x → ⊥
 no-float r x h = let z : _≡_ {A = ℕ} 0 1 = cc in omega arith
@@ -310,12 +332,5 @@ written-read x text h = go (readBits text) refl h
     go : (b : Bits) → readBits text ≡ b → floatOfBits b ≡ Finite x → text ≡ hexText (toBits binary32 x) ++ drop 8 text
     go Broken e k = absurd (no-float Malformed x k)
     go (Number b) e k =
-        let w = written 8 0 b text e in
-        let same : w .n ≡ b = value b (w .n) (w .value) in
-        w .whole ∙ ap (λ (n : ℕ). hexText n ++ drop 8 text) (same ∙ sym (bits-of b x (small b (w .n) same (w .small)) k))
-      where
-        value : (b n : ℕ) → b ≡ 0 * 2 ^ (4 * 8) + n → n ≡ b
-        value b n e = omega arith
-
-        small : (b n : ℕ) → n ≡ b → n < 2 ^ (4 * 8) → b < 2 ^ 32
-        small b n e h = omega arith
+        let w = bits-written-read b text e in
+        w .again ∙ ap (λ (n : ℕ). hexText n ++ drop 8 text) (sym (bits-of b x (w .small) k))

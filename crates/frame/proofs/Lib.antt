@@ -1,0 +1,7 @@
+-- Laws of the reader.
+pub mod Lines
+pub mod Copying
+pub mod Agree
+pub mod Adding
+pub mod Turn
+pub mod Leaving

@@ -1,0 +1,92 @@
+-- `frame::read_lines` meets its contract: a line a turn, and what is left leads where the whole text does. Assumes nothing.
+use Prim.Native.Nat.{ℕ, _-_, _<_, _≤_}
+use native.Mathlib.Omega.{arith}
+use lib.ListN.{length}
+use Rattle.frame_state.specs.State.{arrays}
+use Rattle.frame.proofs.Lines.{end-after, end-inside}
+use Rattle.frame.proofs.Turn.{Turning, turning-start, turn-room, turn-stopped, turn-onward, end-missing, end-whole}
+use borrow.Author.Needs.{needs}
+use Rattle.frame.proofs.read_lines.Statement.{statement}
+use Rattle.frame.proofs.read_lines.Tie as tie
+
+abbrev Inv-loop : tie.InvT-loop
+Inv-loop text xs₀ ys₀ pitches₀ sheet₀ used₀ passes₀ p₀ stage₀ n₀ at₀ xs ys pitches sheet used passes p stage n at =
+    Turning text p stage n at (arrays xs ys pitches sheet used passes)
+
+abbrev μ-loop : tie.MeasureT-loop
+μ-loop text xs₀ ys₀ pitches₀ sheet₀ used₀ passes₀ p₀ stage₀ n₀ at₀ xs ys pitches sheet used passes p stage n at =
+    length text - at
+
+-- the line has bytes, and its end lies in the text
+after : (c : tie.After-line-end Inv-loop μ-loop) → c .before .before .loop .at < c .line-end .result
+after c = end-after (c .before .before .before .before .before .args .text .now) (c .before .before .loop .at) (c .line-end .result) (c .before .loop-test .taken) (c .line-end .ensures)
+
+inside : (c : tie.After-line-end Inv-loop μ-loop) → c .line-end .result ≤ length (c .before .before .before .before .before .args .text .now)
+inside c = end-inside (c .before .before .before .before .before .args .text .now) (c .before .before .loop .at) (c .line-end .result) (c .before .loop-test .taken) (c .line-end .ensures)
+
+start-requires : tie.Need-start-requires Inv-loop μ-loop
+start-requires c κs = tt
+
+loop-holds : tie.Need-loop-holds Inv-loop μ-loop
+loop-holds c = rw (c .start .ensures) (turning-start _ _ _ (c .before .before .pre))
+
+line-end-requires : tie.Need-line-end-requires Inv-loop μ-loop
+line-end-requires c κs = c .before .loop .inv .inside
+
+sub-step-line : tie.Need-sub-step-line Inv-loop μ-loop
+sub-step-line c = omega (arith, after (c .before .before .before .before .before .before))
+
+part-step-line-start : tie.Need-part-step-line-start Inv-loop μ-loop
+part-step-line-start c = omega (arith, after (c .before .before .before .before .before .before))
+
+part-step-line-end : tie.Need-part-step-line-end Inv-loop μ-loop
+part-step-line-end c = inside (c .before .before .before .before .before .before)
+
+step-line-requires : tie.Need-step-line-requires Inv-loop μ-loop
+step-line-requires c κs = turn-room (c .before .before .before .before .before .before .before .before .before .loop .inv)
+
+enum-known-stepped : tie.Need-enum-known-stepped Inv-loop μ-loop
+enum-known-stepped c = search needs
+
+returns : tie.Need-returns Inv-loop μ-loop
+returns c = turn-stopped (c .before .before .before .before .before .before .before .before .before .before .before .before .before .loop .inv) (c .before .before .before .before .before .before .before .before .before .before .before .before .loop-test .taken) _ (c .before .before .before .before .before .before .before .before .before .before .before .line-end .ensures) _ _ (c .before .before .before .step-line .ensures) _ (c .before .stepped .given .1)
+
+enum-known-stepped-2 : tie.Need-enum-known-stepped-2 Inv-loop μ-loop
+enum-known-stepped-2 c = search needs
+
+add-n : tie.Need-add-n Inv-loop μ-loop
+add-n c = record { fits = omega (arith, c .before .before .before .before .before .before .before .before .before .before .before .before .before .loop .inv .lines, c .before .before .before .before .before .before .before .before .before .before .before .before .loop-test .taken, c .before .before .before .before .before .before .before .before .before .before .before .before .before .before .before .before .good) }
+
+loop-less : tie.Need-loop-less Inv-loop μ-loop
+loop-less c = omega (arith, after (c .before .before .before .before .before .before .before .before .before .before .before), inside (c .before .before .before .before .before .before .before .before .before .before .before))
+
+loop-again : tie.Need-loop-again Inv-loop μ-loop
+loop-again c = turn-onward (c .before .before .before .before .before .before .before .before .before .before .before .before .before .loop .inv) (c .before .before .before .before .before .before .before .before .before .before .before .before .loop-test .taken) _ (c .before .before .before .before .before .before .before .before .before .before .before .line-end .ensures) _ _ (c .before .before .before .step-line .ensures) _ _ (c .before .stepped2 .given .1)
+
+returns-2 : tie.Need-returns-2 Inv-loop μ-loop
+returns-2 c = end-missing (c .before .before .loop .inv) (c .before .loop-test .left) (c .if1 .taken)
+
+returns-3 : tie.Need-returns-3 Inv-loop μ-loop
+returns-3 c = end-whole (c .before .before .loop .inv) (c .before .loop-test .left) (c .if1 .left)
+
+pub read-lines-spec : {M : Type 1} → statement M
+read-lines-spec =
+    tie.close
+    (tie.spec
+    Inv-loop
+    μ-loop
+    start-requires
+    loop-holds
+    line-end-requires
+    sub-step-line
+    part-step-line-start
+    part-step-line-end
+    step-line-requires
+    enum-known-stepped
+    returns
+    enum-known-stepped-2
+    add-n
+    loop-less
+    loop-again
+    returns-2
+    returns-3)

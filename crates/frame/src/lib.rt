@@ -1,0 +1,262 @@
+// A frame read from a text (01, "Frame and result"): lines from the top, each checked in order 1 to 6 and then added to what the lines before
+// it said. Until the whole frame is accepted it is held in arrays of the reader's own, so that a refused one has written nothing.
+
+ghost use mathlib.Core.Path.{_≡_};
+ghost use Prim.Native.Nat.{_+_, _≤_};
+ghost use lib.ListN.{length, take, drop};
+ghost use Rattle.frame_line.specs.Lines.{readLine};
+ghost use Rattle.frame_line.specs.Held.{held};
+ghost use Rattle.frame_state.specs.State.{nothing-said, arrays, state};
+ghost use Rattle.frame.specs.Frame.{linesOf, stageAfter, readLines, nothing-read};
+ghost use Rattle.frame.specs.Lent.{Buffers, frameOut, tooShort, over, leaves, readInto};
+ghost use Rattle.frame.specs.Reading.{lineLength, Holds, Room, went, heldStep, ReadAs, buffers, Copies, LongEnough};
+use arguments::Checked;
+use arguments::Settings;
+use frame_state::Progress;
+use refusal::Refusal;
+
+// What an accepted frame says besides what is written to the buffers: cell size, axes and band, and how many corners and passes there are.
+pub struct FrameHead {
+    pub settings: Settings,
+    pub corners: usize,
+    pub passes: usize,
+}
+
+// An accepted frame, or one refusal with its line.
+pub enum FrameAnswer {
+    Accepted(FrameHead),
+    Refused(Refusal, usize),
+}
+
+// What a line leads to: a refusal, or the stage and what is said after it.
+enum Stepped {
+    Stopped(Refusal),
+    Onward(usize, Progress),
+}
+
+// What all lines lead to: a refusal with its line, or what is said in the end.
+enum LinesRead {
+    Refused(Refusal, usize),
+    Whole(Progress),
+}
+
+// The end of the line that starts at a position: behind its LF, or the end of the text.
+fn line_end(text: &[u8], at: usize) -> usize
+    requires { ⌜ at ≤ length (now text) ⌝ }
+    ensures { λ r. ⌜ r ≡ at + lineLength (drop at (now (text .entry))) ⌝ }
+{
+    let mut i = at;
+    while i < text.len() {
+        if text[i] == 10 {
+            return i + 1;
+        }
+        i += 1;
+    }
+    i
+}
+
+// The stage after a line of this rank: up to 4 the next one, then that of the line.
+fn stage_after(stage: usize, rank: usize) -> usize
+    ensures { λ r. ⌜ r ≡ stageAfter stage rank ⌝ }
+{
+    if 4 <= stage {
+        return rank;
+    }
+    stage + 1
+}
+
+// One line is read and checked, and added if it is fine.
+fn step_line(
+    stage: usize,
+    p: Progress,
+    xs: &mut [f32; 1024],
+    ys: &mut [f32; 1024],
+    pitches: &mut [f32; 1024],
+    sheet: &mut [u16; 16384],
+    used: &mut [u8; 1024],
+    passes: &mut [u32; 96],
+    line: &[u8],
+) -> Stepped
+    requires { ⌜ Room p (arrays (now xs) (now ys) (now pitches) (now sheet) (now used) (now passes)) ⌝ }
+    ensures { λ r. ⌜ went r (arrays (now (xs .exit)) (now (ys .exit)) (now (pitches .exit)) (now (sheet .exit)) (now (used .exit)) (now (passes .exit))) ≡ heldStep stage (held (readLine (now (line .entry)))) (state p (arrays (now (xs .entry)) (now (ys .entry)) (now (pitches .entry)) (now (sheet .entry)) (now (used .entry)) (now (passes .entry)))) ⌝ }
+{
+    let found = frame_line::read_line(line);
+    let checked = frame_check::check_line(stage, p.corners, p.passes, sheet, used, found);
+    match checked {
+        Checked::Refused(refusal) => Stepped::Stopped(refusal),
+        Checked::Fine => {
+            let next = frame_state::add_line(p, xs, ys, pitches, sheet, used, passes, found);
+            Stepped::Onward(stage_after(stage, frame_check::rank_of(found)), next)
+        }
+    }
+}
+
+// All lines, from the top. A line that is missing counts as the one after the last.
+fn read_lines(
+    text: &[u8],
+    xs: &mut [f32; 1024],
+    ys: &mut [f32; 1024],
+    pitches: &mut [f32; 1024],
+    sheet: &mut [u16; 16384],
+    used: &mut [u8; 1024],
+    passes: &mut [u32; 96],
+) -> LinesRead
+    requires { ⌜ Holds nothing-read (state nothing-said (arrays (now xs) (now ys) (now pitches) (now sheet) (now used) (now passes))) ⌝ }
+    ensures { λ r. ⌜ ReadAs (readLines 1 0 nothing-read (linesOf (now (text .entry)))) r (arrays (now (xs .exit)) (now (ys .exit)) (now (pitches .exit)) (now (sheet .exit)) (now (used .exit)) (now (passes .exit))) ⌝ }
+{
+    let mut p = frame_state::start();
+    let mut stage = 0usize;
+    let mut n = 1usize;
+    let mut at = 0usize;
+    while at < text.len() {
+        let end = line_end(text, at);
+        let stepped = step_line(
+            stage,
+            p,
+            xs,
+            ys,
+            pitches,
+            sheet,
+            used,
+            passes,
+            &text[at..end],
+        );
+        match stepped {
+            Stepped::Stopped(refusal) => {
+                return LinesRead::Refused(refusal, n);
+            }
+            Stepped::Onward(after, next) => {
+                p = next;
+                stage = after;
+                n += 1;
+                at = end;
+            }
+        }
+    }
+    if stage < 4 {
+        return LinesRead::Refused(Refusal::Malformed, n);
+    }
+    LinesRead::Whole(p)
+}
+
+// The first n floats are copied to the front of a buffer.
+fn copy_floats(from: &[f32; 1024], n: usize, to: &mut [f32])
+    requires { ⌜ Copies 1024 n (now from) (now to) ⌝ }
+    ensures { λ _. ⌜ now (to .exit) ≡ over (take n (now (from .entry))) (now (to .entry)) ⌝ }
+{
+    let mut i = 0usize;
+    while i < n {
+        to[i] = from[i];
+        i += 1;
+    }
+}
+
+// The sheet is copied to the front of a buffer.
+fn copy_sheet(from: &[u16; 16384], to: &mut [u16])
+    requires { ⌜ Copies 16384 16384 (now from) (now to) ⌝ }
+    ensures { λ _. ⌜ now (to .exit) ≡ over (take 16384 (now (from .entry))) (now (to .entry)) ⌝ }
+{
+    let mut i = 0usize;
+    while i < 16384 {
+        to[i] = from[i];
+        i += 1;
+    }
+}
+
+// The first n words are copied to the front of a buffer.
+fn copy_words(from: &[u32; 96], n: usize, to: &mut [u32])
+    requires { ⌜ Copies 96 n (now from) (now to) ⌝ }
+    ensures { λ _. ⌜ now (to .exit) ≡ over (take n (now (from .entry))) (now (to .entry)) ⌝ }
+{
+    let mut i = 0usize;
+    while i < n {
+        to[i] = from[i];
+        i += 1;
+    }
+}
+
+// 7: whether a lent buffer is too short.
+fn too_short(xs: &[f32], ys: &[f32], pitches: &[f32], sheet: &[u16], passes: &[u32]) -> bool
+    ensures { λ r. ⌜ r ≡ tooShort (buffers (now (xs .entry)) (now (ys .entry)) (now (pitches .entry)) (now (sheet .entry)) (now (passes .entry))) ⌝ }
+{
+    if xs.len() < 1024 {
+        return true;
+    }
+    if ys.len() < 1024 {
+        return true;
+    }
+    if pitches.len() < 1024 {
+        return true;
+    }
+    if sheet.len() < 16384 {
+        return true;
+    }
+    passes.len() < 96
+}
+
+// A text that is not too long, with buffers that are long enough.
+fn read_text(
+    text: &[u8],
+    xs: &mut [f32],
+    ys: &mut [f32],
+    pitches: &mut [f32],
+    sheet: &mut [u16],
+    passes: &mut [u32],
+) -> FrameAnswer
+    requires { ⌜ LongEnough (buffers (now xs) (now ys) (now pitches) (now sheet) (now passes)) ⌝ }
+    ensures { λ r. ⌜ frameOut r (now (xs .exit)) (now (ys .exit)) (now (pitches .exit)) (now (sheet .exit)) (now (passes .exit)) ≡ leaves (readLines 1 0 nothing-read (linesOf (now (text .entry)))) (buffers (now (xs .entry)) (now (ys .entry)) (now (pitches .entry)) (now (sheet .entry)) (now (passes .entry))) ⌝ }
+{
+    let mut own_xs = [0.0f32; 1024];
+    let mut own_ys = [0.0f32; 1024];
+    let mut own_pitches = [0.0f32; 1024];
+    let mut own_sheet = [0u16; 16384];
+    let mut own_used = [0u8; 1024];
+    let mut own_passes = [0u32; 96];
+    let read = read_lines(
+        text,
+        &mut own_xs,
+        &mut own_ys,
+        &mut own_pitches,
+        &mut own_sheet,
+        &mut own_used,
+        &mut own_passes,
+    );
+    match read {
+        LinesRead::Refused(refusal, line) => FrameAnswer::Refused(refusal, line),
+        LinesRead::Whole(p) => {
+            copy_floats(&own_xs, p.corners, xs);
+            copy_floats(&own_ys, p.corners, ys);
+            copy_floats(&own_pitches, p.corners, pitches);
+            copy_sheet(&own_sheet, sheet);
+            copy_words(&own_passes, 6 * p.passes, passes);
+            let settings = p.settings;
+            FrameAnswer::Accepted(FrameHead {
+                settings,
+                corners: p.corners,
+                passes: p.passes,
+            })
+        }
+    }
+}
+
+// Reads a frame. An accepted one is written to the buffers: its corners to the front of the first three, the sheet of its labels to the
+// first 16,384 places of the fourth, and its passes, six words each, to the front of the last; the rest of them stays. A refused one
+// writes nothing, and the answer has the refusal and the line, 0 where it is about no line.
+pub fn read_frame(
+    text: &[u8],
+    xs: &mut [f32],
+    ys: &mut [f32],
+    pitches: &mut [f32],
+    sheet: &mut [u16],
+    passes: &mut [u32],
+) -> FrameAnswer
+    ensures { λ r. ⌜ frameOut r (now (xs .exit)) (now (ys .exit)) (now (pitches .exit)) (now (sheet .exit)) (now (passes .exit)) ≡ readInto (now (text .entry)) (buffers (now (xs .entry)) (now (ys .entry)) (now (pitches .entry)) (now (sheet .entry)) (now (passes .entry))) ⌝ }
+{
+    if too_short(xs, ys, pitches, sheet, passes) {
+        return FrameAnswer::Refused(Refusal::BufferTooShort, 0);
+    }
+    if 65536 < text.len() {
+        return FrameAnswer::Refused(Refusal::OverLimit, 0);
+    }
+    read_text(text, xs, ys, pitches, sheet, passes)
+}

@@ -1,0 +1,2 @@
+-- Laws of the checks, which crate frame cites too.
+pub mod Laws

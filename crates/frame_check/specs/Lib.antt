@@ -1,0 +1,2 @@
+-- The definitions of a line's checks. Definitions only.
+pub mod Checks

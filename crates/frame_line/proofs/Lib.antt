@@ -1,0 +1,2 @@
+-- Laws of lines.
+pub mod Reading

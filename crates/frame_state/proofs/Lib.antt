@@ -1,0 +1,2 @@
+-- Laws of a line that can be added.
+pub mod Laws

@@ -1,0 +1,4 @@
+-- The laws of integers in text, and of lines that have a form: `Laws` is the file to cite.
+pub mod Decimal
+pub mod Laws
+pub mod Reading

@@ -1,0 +1,17 @@
+-- How long a printed line can be. Definitions only; the bound is `printed-length` of `proofs/Laws.antt`.
+use mathlib.Core.List.{List, [], _∷_}
+use Prim.Native.Nat.{ℕ, _+_, _<_}
+use lib.IntN.{ℤ, natAbs}
+use Rattle.binary32.specs.Hex.{pick}
+use Rattle.line_form.specs.Forms.{Number, bits, whole, isSlot}
+
+-- how many numbers a form has
+unfoldable pub slots : List ℕ → ℕ
+slots [] = 0
+slots (c ∷ form) = pick (isSlot c) 1 0 + slots form
+
+-- every integer has at most seven digits
+abbrev pub Short : List Number → Type 0
+Short [] = Unit {0}
+Short (bits b ∷ ns) = Short ns
+Short (whole z ∷ ns) = (natAbs z < 10000000) × Short ns

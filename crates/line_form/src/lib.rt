@@ -1,0 +1,2 @@
+// Lines of text that have a form (01, "Frame and result"): a form is a text in which % stands for a float and # for an integer.
+pub mod read; // read.rt: a line read by its form
