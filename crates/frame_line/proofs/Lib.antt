@@ -1,0 +1,2 @@
+-- The laws of a frame's lines. Assumes nothing.
+pub mod Laws
