@@ -44,7 +44,7 @@ meant =
 
 -- 01's example says what it seems to say
 pub example-read : readFrame example ≡ accepted meant
-unfolding digits digitValue readDigits endsOf onSheet outside decimalUpTo decimal integerText digitsAfter readPositive readInteger numberText printed pieceOf fitOf lineText bitsAt wholeAt lineOf firstFit readLine linesOf inOrder stageAfter overLimit outOfRange wildPass offSheet unknownCorner doubled checkedLine adding stepLine atEnd readLines readFrame textOfLines frameText
+unfolding digits digitValue readDigits endsOf onSheet outside decimalUpTo decimal integerText digitsAfter readPositive readInteger numberText printed pieceOf fitOf lineText bitsAt wholeAt lineOf firstFit readLine linesOf inOrder stageAfter overLimit outOfRange wildPass offSheet unknownCorner doubled checkedLine adding stepLine atEnd readLines readFrame textOfLines frameText lib.Ieee.le lib.Ieee.ofBits lib.Ieee.ofInt
 example-read = refl
 
 pub example-printed : frameText meant ≡ example
@@ -57,7 +57,7 @@ unfolding digits digitValue readDigits endsOf onSheet outside decimalUpTo decima
 empty = refl
 
 pub three-lines : readFrame (bytes "(frame 1)\n(cell 41200000)\n(axes (3f800000 00000000) (00000000 3f800000))\n") ≡ refused-at Refusal.Malformed 4
-unfolding digits digitValue readDigits endsOf onSheet outside decimalUpTo decimal integerText digitsAfter readPositive readInteger numberText printed pieceOf fitOf lineText bitsAt wholeAt lineOf firstFit readLine linesOf inOrder stageAfter overLimit outOfRange wildPass offSheet unknownCorner doubled checkedLine adding stepLine atEnd readLines readFrame textOfLines frameText
+unfolding digits digitValue readDigits endsOf onSheet outside decimalUpTo decimal integerText digitsAfter readPositive readInteger numberText printed pieceOf fitOf lineText bitsAt wholeAt lineOf firstFit readLine linesOf inOrder stageAfter overLimit outOfRange wildPass offSheet unknownCorner doubled checkedLine adding stepLine atEnd readLines readFrame textOfLines frameText lib.Ieee.le lib.Ieee.ofBits lib.Ieee.ofInt
 three-lines = refl
 
 -- the last line's LF is missing
