@@ -1,0 +1,4 @@
+-- The laws of whole frames. Assumes nothing.
+pub mod Lines
+pub mod Steps
+pub mod Refusals
