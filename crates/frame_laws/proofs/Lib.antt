@@ -3,3 +3,4 @@ pub mod Lines
 pub mod Steps
 pub mod Refusals
 pub mod Back
+pub mod Again
