@@ -15,7 +15,8 @@ use Rattle.binary32.specs.Hex.{pick}
 use Rattle.sheet.specs.Cells.{onSheet, OnSheet, eqZ}
 use Rattle.sheet.specs.declared.Cell.{Cell}
 use Rattle.sheet.proofs.Laws.{equal-eqZ}
-use Rattle.frame_line.specs.Lines.{CornerLine, LabelLine, PassLine, Line, frame-line, cell-line, axes-line, band-line, corner-line, label-line, pass-line, numbersOf, AllPatterns, lineText, readLine, line, LinePrintsBack}
+use Rattle.frame_line.specs.Lines.{CornerLine, LabelLine, PassLine, Line, frame-line, cell-line, axes-line, band-line, corner-line, label-line, pass-line, numbersOf, AllPatterns, lineText, LinePrintsBack}
+use Rattle.frame_line.proofs.Laws.{line-prints-back}
 use Rattle.frame.specs.Frame.{Frame, linesOf, rankOf, inOrder, stageAfter, overLimit, outOfRange, offSheet, unknownCorner, sameCell, clash, doubled, adding, stepLine, onward, FrameRead, refused-at, accepted, readLines, readFrame, nothing-read}
 use Rattle.frame.specs.Text.{map, linesIn, textOfLines, frameText, All, InRange, Sound, Apart, WithinLimits, FramePrintsBack, Passed, none-yet, one-more}
 use Rattle.frame_laws.proofs.Lines.{joined, lines-joined}
@@ -253,58 +254,57 @@ reached-more done text stage f l r p b =
       limits = limits-after stage f l (r .empties) p (r .limits);
     }
 
-module _ (line-prints-back : (text : List ℕ) (l : Line) → readLine text ≡ line l → LinePrintsBack text l) where
-  reached-all : (done : List ℕ) {stage : ℕ} {f : Frame} {texts : List (List ℕ)} {last : ℕ} {g : Frame} → Passed stage f texts last g → Reached done stage f → Reached (done ++ joined texts) last g
-  unfolding joined
-  reached-all done {stage} {f} none-yet r = subst (λ (t : List ℕ). Reached t stage f) (sym (append-nil done)) r
-  reached-all done {last = last} {g = g} (one-more {stage = stage} {stage' = stage'} {f = f} {f' = f'} {text = text} {texts = texts} e p) r =
-      let a = step-added stage f text stage' f' e in
-      let m = reached-more done text stage f (a .its-line) r (a .passes) (line-prints-back text (a .its-line) (a .is-read)) in
-      let n : Reached (done ++ text) stage' f' = subst₂ (Reached (done ++ text)) (sym (a .stage-after)) (sym (a .frame-after)) m in
-      subst (λ (t : List ℕ). Reached t last g) (append-assoc done text (joined texts)) (reached-all (done ++ text) p n)
+reached-all : (done : List ℕ) {stage : ℕ} {f : Frame} {texts : List (List ℕ)} {last : ℕ} {g : Frame} → Passed stage f texts last g → Reached done stage f → Reached (done ++ joined texts) last g
+unfolding joined
+reached-all done {stage} {f} none-yet r = subst (λ (t : List ℕ). Reached t stage f) (sym (append-nil done)) r
+reached-all done {last = last} {g = g} (one-more {stage = stage} {stage' = stage'} {f = f} {f' = f'} {text = text} {texts = texts} e p) r =
+    let a = step-added stage f text stage' f' e in
+    let m = reached-more done text stage f (a .its-line) r (a .passes) (line-prints-back text (a .its-line) (a .is-read)) in
+    let n : Reached (done ++ text) stage' f' = subst₂ (Reached (done ++ text)) (sym (a .stage-after)) (sym (a .frame-after)) m in
+    subst (λ (t : List ℕ). Reached t last g) (append-assoc done text (joined texts)) (reached-all (done ++ text) p n)
 
-  -- before the first line
-  reached-none : Reached [] 0 nothing-read
-  unfolding linesUpTo textOfLines
-  reached-none =
-      record {
-        empties = record { no-corners = λ k. refl; no-labels = λ k. refl; no-passes = λ k. refl };
-        so-far = refl;
-        numbers = tt;
-        limits = record { corners = omega arith; passes = omega arith; labels = tt; once = tt };
-      }
+-- before the first line
+reached-none : Reached [] 0 nothing-read
+unfolding linesUpTo textOfLines
+reached-none =
+    record {
+      empties = record { no-corners = λ k. refl; no-labels = λ k. refl; no-passes = λ k. refl };
+      so-far = refl;
+      numbers = tt;
+      limits = record { corners = omega arith; passes = omega arith; labels = tt; once = tt };
+    }
 
-  -- after the last
-  whole : (text : List ℕ) (stage : ℕ) (f : Frame) → 4 ≤ stage → length text ≤ 65536 → Reached text stage f → FramePrintsBack text f
-  unfolding frameText
-  whole text stage f h k r =
-      let e = lines-later stage f h in
-      let t : text ≡ textOfLines (linesIn f) = r .so-far ∙ ap textOfLines e in
-      record {
-        text-again = t;
-        within =
-            record {
-              bytes = subst (λ (x : List ℕ). length x ≤ 65536) t k;
-              corners = r .limits .corners;
-              passes = r .limits .passes;
-              numbers = subst (All InRange) e (r .numbers);
-              labels = r .limits .labels;
-              once = r .limits .once;
-            };
-      }
+-- after the last
+whole : (text : List ℕ) (stage : ℕ) (f : Frame) → 4 ≤ stage → length text ≤ 65536 → Reached text stage f → FramePrintsBack text f
+unfolding frameText
+whole text stage f h k r =
+    let e = lines-later stage f h in
+    let t : text ≡ textOfLines (linesIn f) = r .so-far ∙ ap textOfLines e in
+    record {
+      text-again = t;
+      within =
+          record {
+            bytes = subst (λ (x : List ℕ). length x ≤ 65536) t k;
+            corners = r .limits .corners;
+            passes = r .limits .passes;
+            numbers = subst (All InRange) e (r .numbers);
+            labels = r .limits .labels;
+            once = r .limits .once;
+          };
+    }
 
-  pub frame-prints-back : (text : List ℕ) (f : Frame) → readFrame text ≡ accepted f → FramePrintsBack text f
-  unfolding readFrame
-  frame-prints-back text f e = go (ltb 65536 (length text)) refl e
-    where
-      ends : length text ≤ 65536 → (o : FrameRead) → Ending 1 0 nothing-read (linesOf text) o → o ≡ accepted f → FramePrintsBack text f
-      ends h o (all-read last g p k) q =
-          let same : g ≡ f = cc in
-          let r : Reached text last g = subst (λ (t : List ℕ). Reached t last g) (lines-joined text) (reached-all [] p reached-none) in
-          subst (FramePrintsBack text) same (whole text last g k h r)
-      ends h o (one-fails k m last g s l a p w) q = absurd (let z : _≡_ {A = ℕ} 0 1 = cc in omega arith)
-      ends h o (one-missing m last g a p k) q = absurd (let z : _≡_ {A = ℕ} 0 1 = cc in omega arith)
+pub frame-prints-back : (text : List ℕ) (f : Frame) → readFrame text ≡ accepted f → FramePrintsBack text f
+unfolding readFrame
+frame-prints-back text f e = go (ltb 65536 (length text)) refl e
+  where
+    ends : length text ≤ 65536 → (o : FrameRead) → Ending 1 0 nothing-read (linesOf text) o → o ≡ accepted f → FramePrintsBack text f
+    ends h o (all-read last g p k) q =
+        let same : g ≡ f = cc in
+        let r : Reached text last g = subst (λ (t : List ℕ). Reached t last g) (lines-joined text) (reached-all [] p reached-none) in
+        subst (FramePrintsBack text) same (whole text last g k h r)
+    ends h o (one-fails k m last g s l a p w) q = absurd (let z : _≡_ {A = ℕ} 0 1 = cc in omega arith)
+    ends h o (one-missing m last g a p k) q = absurd (let z : _≡_ {A = ℕ} 0 1 = cc in omega arith)
 
-      go : (x : Bool) → ltb 65536 (length text) ≡ x → pick x (refused-at Refusal.OverLimit 0) (readLines 1 0 nothing-read (linesOf text)) ≡ accepted f → FramePrintsBack text f
-      go true p h = absurd (let z : _≡_ {A = ℕ} 0 1 = cc in omega arith)
-      go false p h = ends (ltb-false 65536 (length text) p) (readLines 1 0 nothing-read (linesOf text)) (ending 1 0 nothing-read (linesOf text)) h
+    go : (x : Bool) → ltb 65536 (length text) ≡ x → pick x (refused-at Refusal.OverLimit 0) (readLines 1 0 nothing-read (linesOf text)) ≡ accepted f → FramePrintsBack text f
+    go true p h = absurd (let z : _≡_ {A = ℕ} 0 1 = cc in omega arith)
+    go false p h = ends (ltb-false 65536 (length text) p) (readLines 1 0 nothing-read (linesOf text)) (ending 1 0 nothing-read (linesOf text)) h

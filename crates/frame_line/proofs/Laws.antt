@@ -10,7 +10,8 @@ use lib.Dec.{eqb}
 use lib.IntN.{ℤ}
 use lib.ListN.{take, drop}
 use Rattle.binary32.specs.Hex.{pick}
-use Rattle.line_form.specs.Forms.{Number, bits, whole, isSlot, printed, pieceOf, bytePiece, Fitted, misfit, fitted, then, fitOf, Suits, none-left, a-float, an-integer, a-byte, apart, ReadsBack, PrintsBack}
+use Rattle.line_form.specs.Forms.{Number, bits, whole, isSlot, printed, pieceOf, bytePiece, Fitted, misfit, fitted, then, fitOf, Suits, none-left, a-float, an-integer, a-byte, apart, PrintsBack}
+use Rattle.line_form.proofs.Laws.{reads-back, prints-back}
 use Rattle.frame_line.specs.Lines.{Line, frame-line, cell-line, axes-line, band-line, corner-line, label-line, pass-line, PassLine, bare-grow, grow, bare-fill, fill, local, Kind, frame-kind, cell-kind, axes-kind, band-kind, corner-kind, label-kind, bare-grow-kind, grow-kind, bare-fill-kind, fill-kind, local-kind, formOf, kinds, kindOf, numbersOf, lineText, bitsAt, wholeAt, lineOf, LineRead, ill-formed, line, orElse, firstFit, readLine, AllPatterns, LineReadsBack, LinePrintsBack}
 
 -- ---- the numbers of a form
@@ -220,32 +221,31 @@ kind-read local-kind ns f = comes 10 local-kind ns refl refl f
 
 -- ---- the laws
 
-module _ (reads-back : ReadsBack) (prints-back : (form text : List ℕ) (ns : List Number) → fitOf form text ≡ fitted ns → PrintsBack form text ns) where
-  pub line-reads-back : LineReadsBack
-  unfolding lineText
-  line-reads-back l p =
-      kind-read (kindOf l) (numbersOf l) (reads-back (formOf (kindOf l)) (numbersOf l) (forms-apart (kindOf l)) (kinds-suit (formOf (kindOf l)) (numbersOf l) (kinds-of l p)))
-      ∙ ap line (line-again l)
+pub line-reads-back : LineReadsBack
+unfolding lineText
+line-reads-back l p =
+    kind-read (kindOf l) (numbersOf l) (reads-back (formOf (kindOf l)) (numbersOf l) (forms-apart (kindOf l)) (kinds-suit (formOf (kindOf l)) (numbersOf l) (kinds-of l p)))
+    ∙ ap line (line-again l)
 
-  -- a line of a kind that fits
-  kind-prints : (k : Kind) (text : List ℕ) (ns : List Number) → PrintsBack (formOf k) text ns → LinePrintsBack text (lineOf k ns)
-  unfolding lineText
-  kind-prints k text ns p =
-      let s = suits-kinds (p .suits) in
-      record {
-        text-again = p .line-again ∙ sym (λ i. printed (formOf (kind-again k ns i)) (numbers-again k ns s i));
-        patterns = subst AllPatterns (sym (numbers-again k ns s)) (patterns-of s);
-      }
+-- a line of a kind that fits
+kind-prints : (k : Kind) (text : List ℕ) (ns : List Number) → PrintsBack (formOf k) text ns → LinePrintsBack text (lineOf k ns)
+unfolding lineText
+kind-prints k text ns p =
+    let s = suits-kinds (p .suits) in
+    record {
+      text-again = p .line-again ∙ sym (λ i. printed (formOf (kind-again k ns i)) (numbers-again k ns s i));
+      patterns = subst AllPatterns (sym (numbers-again k ns s)) (patterns-of s);
+    }
 
-  first-prints : (ks : List Kind) (text : List ℕ) (l : Line) → firstFit ks text ≡ line l → LinePrintsBack text l
-  unfolding firstFit
-  first-prints [] text l e = absurd (let z : _≡_ {A = ℕ} 0 1 = cc in omega arith)
-  first-prints (k ∷ ks) text l e = go (fitOf (formOf k) text) refl (λ h. first-prints ks text l h) e
-    where
-      go : (f : Fitted) → fitOf (formOf k) text ≡ f → (firstFit ks text ≡ line l → LinePrintsBack text l) → orElse k f (firstFit ks text) ≡ line l → LinePrintsBack text l
-      go misfit p ih h = ih h
-      go (fitted ns) p ih h = let same : lineOf k ns ≡ l = cc in subst (LinePrintsBack text) same (kind-prints k text ns (prints-back (formOf k) text ns p))
+first-prints : (ks : List Kind) (text : List ℕ) (l : Line) → firstFit ks text ≡ line l → LinePrintsBack text l
+unfolding firstFit
+first-prints [] text l e = absurd (let z : _≡_ {A = ℕ} 0 1 = cc in omega arith)
+first-prints (k ∷ ks) text l e = go (fitOf (formOf k) text) refl (λ h. first-prints ks text l h) e
+  where
+    go : (f : Fitted) → fitOf (formOf k) text ≡ f → (firstFit ks text ≡ line l → LinePrintsBack text l) → orElse k f (firstFit ks text) ≡ line l → LinePrintsBack text l
+    go misfit p ih h = ih h
+    go (fitted ns) p ih h = let same : lineOf k ns ≡ l = cc in subst (LinePrintsBack text) same (kind-prints k text ns (prints-back (formOf k) text ns p))
 
-  pub line-prints-back : (text : List ℕ) (l : Line) → readLine text ≡ line l → LinePrintsBack text l
-  unfolding readLine
-  line-prints-back text l e = first-prints kinds text l e
+pub line-prints-back : (text : List ℕ) (l : Line) → readLine text ≡ line l → LinePrintsBack text l
+unfolding readLine
+line-prints-back text l e = first-prints kinds text l e
