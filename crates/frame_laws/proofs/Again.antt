@@ -20,18 +20,11 @@ use Rattle.frame_line.specs.Lines.{CornerLine, LabelLine, PassLine, Axes, Line,
 use Rattle.frame_line.proofs.Laws.{line-reads-back}
 use Rattle.frame.specs.Frame.{Frame, linesOf, rankOf, inOrder, stageAfter, overLimit, outOfRange, offSheet, unknownCorner, sameCell, clash, doubled, adding, Step, stepLine, FrameRead, refused-at, accepted, atEnd, going, readLines, readFrame, nothing-read}
 use Rattle.frame.specs.Text.{map, linesIn, textOfLines, frameText, All, InRange, Sound, Apart, WithinLimits, FrameReadsBack}
+use Rattle.frame_laws.proofs.Lists.{all-left, all-right}
 use Rattle.frame_laws.proofs.Lines.{lines-printed}
 use Rattle.frame_laws.proofs.Steps.{Passes, added-step}
 
 -- ---- the checks of a line that is within the limits
-
-all-left : {A : Type 0} (P : A → Type 0) (a b : List A) → All P (a ++ b) → All P a
-all-left P [] b p = tt
-all-left P (c ∷ a) b p = (p .0, all-left P a b (p .1))
-
-all-right : {A : Type 0} (P : A → Type 0) (a b : List A) → All P (a ++ b) → All P b
-all-right P [] b p = p
-all-right P (c ∷ a) b p = all-right P a b (p .1)
 
 in-turn : (stage rank : ℕ) → 4 ≤ stage → stage ≤ rank → inOrder stage rank ≡ true
 unfolding inOrder

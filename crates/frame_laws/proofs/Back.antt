@@ -19,19 +19,12 @@ use Rattle.frame_line.specs.Lines.{CornerLine, LabelLine, PassLine, Line, frame
 use Rattle.frame_line.proofs.Laws.{line-prints-back}
 use Rattle.frame.specs.Frame.{Frame, linesOf, rankOf, inOrder, stageAfter, overLimit, outOfRange, offSheet, unknownCorner, sameCell, clash, doubled, adding, stepLine, onward, FrameRead, refused-at, accepted, readLines, readFrame, nothing-read}
 use Rattle.frame.specs.Text.{map, linesIn, textOfLines, frameText, All, InRange, Sound, Apart, WithinLimits, FramePrintsBack, Passed, none-yet, one-more}
+use Rattle.frame_laws.proofs.Lists.{map-then, all-then, neither}
 use Rattle.frame_laws.proofs.Lines.{joined, lines-joined}
 use Rattle.frame_laws.proofs.Steps.{Passes, Added, step-added}
 use Rattle.frame_laws.proofs.Refusals.{Ending, all-read, one-fails, one-missing, ending}
 
--- ---- lists
-
-map-then : {A B : Type 0} (f : A → B) (a b : List A) → map f (a ++ b) ≡ map f a ++ map f b
-map-then f [] b = refl
-map-then f (c ∷ a) b = ap (λ l. f c ∷ l) (map-then f a b)
-
-all-then : {A : Type 0} (P : A → Type 0) (a b : List A) → All P a → All P b → All P (a ++ b)
-all-then P [] b p q = q
-all-then P (c ∷ a) b p q = (p .0, all-then P a b (p .1) q)
+-- ---- texts
 
 text-then : (a b : List Line) → textOfLines (a ++ b) ≡ textOfLines a ++ textOfLines b
 unfolding textOfLines
@@ -179,10 +172,6 @@ below n (negsuc k) e = absurd (let z : _≡_ {A = ℕ} 0 1 = cc in omega arith)
 sound : (n : ℕ) (l : LabelLine) → offSheet l ≡ false → unknownCorner n l ≡ false → Sound n l
 unfolding unknownCorner
 sound n l a b = let k = below n (l .corner) b in record { on-sheet = on-sheet l a; corner = k .corner; is-corner = k .is-corner; given = k .given }
-
-neither : (a b : Bool) → (a || b) ≡ false → (a ≡ false) × (b ≡ false)
-neither true b e = absurd (let z : _≡_ {A = ℕ} 0 1 = cc in omega arith)
-neither false b e = (refl, e)
 
 no-both : (a : Bool) → a ≡ true → a ≡ false → ⊥
 no-both a e h = let z : _≡_ {A = ℕ} 0 1 = cc in omega arith

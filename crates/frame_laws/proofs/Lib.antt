@@ -1,6 +1,9 @@
 -- The laws of whole frames. Assumes nothing.
+pub mod Lists
 pub mod Lines
 pub mod Steps
 pub mod Refusals
 pub mod Back
 pub mod Again
+pub mod Given
+pub mod Runs
