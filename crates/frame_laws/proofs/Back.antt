@@ -181,9 +181,10 @@ Differ l m = (l .cell ≡ m .cell → ⊥) × (l .corner ≡ m .corner → ⊥)
 
 differ : (m l : LabelLine) → clash m l ≡ false → Differ m l
 differ m l e =
-    let n = neither _ _ e in
-    (λ q. no-both (sameCell (m .cell) (l .cell)) (rw (equal-eqZ (m .cell .i) (l .cell .i) (ap (λ (c : Cell). c .i) q), equal-eqZ (m .cell .j) (l .cell .j) (ap (λ (c : Cell). c .j) q))) (n .0)
-    , λ q. no-both (eqZ (m .corner) (l .corner)) (equal-eqZ (m .corner) (l .corner) q) (n .1))
+    let n = neither _ _ e in (
+      λ q. no-both (sameCell (m .cell) (l .cell)) (rw (equal-eqZ (m .cell .i) (l .cell .i) (ap (λ (c : Cell). c .i) q), equal-eqZ (m .cell .j) (l .cell .j) (ap (λ (c : Cell). c .j) q))) (n .0),
+      λ q. no-both (eqZ (m .corner) (l .corner)) (equal-eqZ (m .corner) (l .corner) q) (n .1),
+    )
 
 once-more : (ls : List LabelLine) (l : LabelLine) → Apart ls → doubled ls l ≡ false → Apart (ls ++ (l ∷ []))
 unfolding doubled

@@ -5,5 +5,6 @@ pub mod Steps
 pub mod Refusals
 pub mod Back
 pub mod Again
+pub mod Labels
 pub mod Given
 pub mod Runs

@@ -1,17 +1,18 @@
--- How the reading of a frame ends, and that each refusal means what the table says. Assumes nothing.
+-- How the reading of a frame ends, that each refusal means what the table says, and that what the table says is refused so. Assumes nothing.
 use mathlib.Core.Path.{_≡_, refl, sym, ap, _∙_, subst}
 use mathlib.Core.Bool.{Bool, true, false}
-use mathlib.Core.List.{List, [], _∷_}
+use mathlib.Core.List.{List, [], _∷_, _++_, append-nil}
 use Prim.Native.Nat.{ℕ, zero, suc, _+_, _<_, _≤_}
 use native.Mathlib.Omega.{arith}
-use borrow.Author.Tests.{ltb-true, ltb-false}
+use borrow.Author.Tests.{ltb-true, ltb-false, lt-ltb, le-ltb}
 use lib.Dec.{ltb}
-use lib.ListN.{length, getD, take}
+use lib.ListN.{length, getD, take, drop}
+use lib.Seq.{length-take-le, split-at}
 use Rattle.refusal.specs.declared.Refusal.{Refusal}
 use Rattle.binary32.specs.Hex.{pick}
 use Rattle.frame_line.specs.Lines.{LineRead, readLine}
-use Rattle.frame.specs.Frame.{Frame, linesOf, Step, stopped, onward, stepLine, FrameRead, refused-at, accepted, atEnd, going, readLines, readFrame, nothing-read}
-use Rattle.frame.specs.Text.{FirstFault, Passed, none-yet, one-more, Refused, too-long, at-line, missing, RefusalsMean}
+use Rattle.frame.specs.Frame.{Frame, linesOf, overLimit, outOfRange, checkedLine, Step, stopped, onward, stepWith, stepLine, FrameRead, refused-at, accepted, atEnd, going, readLines, readFrame, nothing-read}
+use Rattle.frame.specs.Text.{FirstFault, has-no-form, not-its-turn, too-many, is-wild, is-off-sheet, is-unknown, is-doubled, Passed, none-yet, one-more, Refused, too-long, at-line, missing, RefusalsMean}
 use Rattle.frame_laws.proofs.Steps.{step-fault}
 
 -- what comes of the lines from number n on: all pass and the frame is whole; or a line fails, the k-th of them; or all pass, and one of the
@@ -68,3 +69,50 @@ refusals-mean text r n e = go (ltb 65536 (length text)) refl e
         let number : 0 ≡ n = cc in
         subst (λ (s : Refusal). Refused text s n) same (subst (Refused text Refusal.OverLimit) number (too-long (ltb-true 65536 (length text) p)))
     go false p h = why (ltb-false 65536 (length text) p) (readLines 1 0 nothing-read (linesOf text)) (ending 1 0 nothing-read (linesOf text)) h
+
+-- ---- and what the table says is refused so
+
+-- lines that pass are read on
+passed-read : (n : ℕ) {stage : ℕ} {f : Frame} {texts : List (List ℕ)} {last : ℕ} {g : Frame} (rest : List (List ℕ)) → Passed stage f texts last g
+    → readLines n stage f (texts ++ rest) ≡ readLines (n + length texts) last g rest
+unfolding readLines
+passed-read n {stage} {f} rest none-yet = let e : n ≡ n + 0 = omega arith in ap (λ (m : ℕ). readLines m stage f rest) e
+passed-read n {last = last} {g = g} rest (one-more {texts = texts} e p) =
+    let m : suc n + length texts ≡ n + suc (length texts) = omega arith in
+    ap (λ (s : Step). going n s (λ stage' f'. readLines (suc n) stage' f' (texts ++ rest))) e ∙ passed-read (suc n) rest p ∙ ap (λ (k : ℕ). readLines k last g rest) m
+
+fault-stops : (stage : ℕ) (f : Frame) (l : LineRead) (r : Refusal) → FirstFault stage f l r → stepWith stage f l ≡ stopped r
+unfolding checkedLine overLimit outOfRange
+fault-stops stage f l r has-no-form = refl
+fault-stops stage f l r (not-its-turn a) = rw a
+fault-stops stage f l r (too-many a b) = rw (a, b)
+fault-stops stage f l r (is-wild a b c) = rw (a, b, c)
+fault-stops stage f l r (is-off-sheet a b) = rw (a, b)
+fault-stops stage f l r (is-unknown a b c) = rw (a, b, c)
+fault-stops stage f l r (is-doubled a b c d) = rw (a, b, c, d)
+
+short-enough : (text : List ℕ) → length text ≤ 65536 → readFrame text ≡ readLines 1 0 nothing-read (linesOf text)
+unfolding readFrame
+short-enough text h = rw (le-ltb 65536 (length text) h)
+
+stops-there : (n stage : ℕ) (f : Frame) (text : List ℕ) (texts : List (List ℕ)) (r : Refusal) → stepLine stage f text ≡ stopped r → readLines n stage f (text ∷ texts) ≡ refused-at r n
+unfolding readLines
+stops-there n stage f text texts r e = ap (λ (s : Step). going n s (λ stage' f'. readLines (suc n) stage' f' texts)) e
+
+ends-early : (n stage : ℕ) (f : Frame) → stage < 4 → readLines n stage f [] ≡ refused-at Refusal.Malformed n
+unfolding readLines atEnd
+ends-early n stage f h = rw (lt-ltb stage 4 h)
+
+-- so a text is refused with one number at one line, for the one reason that the table gives
+pub refused-so : (text : List ℕ) (r : Refusal) (n : ℕ) → Refused text r n → readFrame text ≡ refused-at r n
+unfolding readFrame stepLine
+refused-so text r n (too-long h) = rw (lt-ltb 65536 (length text) h)
+refused-so text r n (at-line k stage f s h l p w) =
+    let texts = linesOf text in
+    let number : 1 + length (take k texts) ≡ suc k = omega (arith, length-take-le k texts (omega arith)) in
+    short-enough text h ∙ ap (readLines 1 0 nothing-read) (split-at texts k [] l) ∙ passed-read 1 (getD texts k [] ∷ drop (suc k) texts) p
+    ∙ stops-there (1 + length (take k texts)) stage f (getD texts k []) (drop (suc k) texts) s (fault-stops stage f (readLine (getD texts k [])) s w) ∙ ap (refused-at s) number
+refused-so text r n (missing stage f h p l) =
+    let texts = linesOf text in
+    let number : 1 + length texts ≡ suc (length texts) = omega arith in
+    short-enough text h ∙ ap (readLines 1 0 nothing-read) (sym (append-nil texts)) ∙ passed-read 1 [] p ∙ ends-early (1 + length texts) stage f l ∙ ap (refused-at Refusal.Malformed) number

@@ -27,9 +27,10 @@ use Rattle.frame_line.specs.Lines.{CornerLine, PassLine, bare-grow, grow, bare-
 use Rattle.frame.specs.Frame.{Frame, floatOf, wild, wildCount, wildPass, outOfRange, readFrame, accepted}
 use Rattle.frame.specs.Text.{map, All, InRange, Sound, WithinLimits}
 use Rattle.frame.specs.Lent.{xsOf, ysOf, pitchesOf, sheetOf, settingsOf, fullOf, passOf}
-use Rattle.frame_laws.specs.Calls.{cornersOf, passCall, callOf, callsOf, NoneRefused, Starts, AcceptedRuns}
+use Rattle.frame_laws.specs.Calls.{cornersOf, frameRooms, passCall, callOf, callsOf, NoneRefused, Starts, AcceptedRuns}
 use Rattle.frame_laws.proofs.Lists.{length-map, all-left, all-right, neither}
 use Rattle.frame_laws.proofs.Back.{frame-prints-back}
+use Rattle.frame_laws.proofs.Labels.{given-labels}
 use Rattle.frame_laws.proofs.Given.{labels-given, labels-one}
 
 -- ---- numbers in range
@@ -114,7 +115,7 @@ module _ (f : Frame) (w : WithinLimits f) where
   checked-so (Pass.Fill p) = refl
   checked-so (Pass.Local p) = refl
 
-  queue-fits : (q : Pass) (n : ℕ) → n ≤ 1024 → queueNeeded q n ≤ 4096
+  queue-fits : (q : Pass) (n : ℕ) → n ≤ 1024 → queueNeeded q n ≤ frameRooms .queue
   unfolding queueNeeded
   queue-fits (Pass.Grow p) n h = omega arith
   queue-fits (Pass.Fill p) n h = omega arith
@@ -154,8 +155,8 @@ module _ (f : Frame) (w : WithinLimits f) where
       let q = sym (checked-so (passOf (fullOf p))) in
       record {
         few = few;
-        queue-long = subst (λ (a : Pass). queueNeeded a (length (xsOf f)) ≤ 4096) q (queue-fits (passOf (fullOf p)) (length (xsOf f)) few);
-        attached-long = few;
+        queue-long = subst (λ (a : Pass). queueNeeded a (length (xsOf f)) ≤ frameRooms .queue) q (queue-fits (passOf (fullOf p)) (length (xsOf f)) few);
+        attached-long = omega (arith, few);
         corners-inside = corners-inside;
         settings-inside = settings-inside;
         pass-inside = subst PassInside q (pass-inside p e);
@@ -203,6 +204,7 @@ pub limits-start : (f : Frame) → WithinLimits f → Starts f
 limits-start f w =
     let s = frame-standing f w in
     record {
+      given = given-labels f w;
       standing = s;
       invariant = invariants (cornersOf f) (sheetOf f) s;
       fit = calls-fit f w;

@@ -108,7 +108,7 @@ module _ (stage : ℕ) (f : Frame) where
       stranger a (inr h) = twice a (h .0) (chosen _ _ _ s (h .1))
 
       off : ((offSheet l ≡ true) × (Refusal.OffSheet ≡ s))
-              ⊎ ((offSheet l ≡ false) × (refusedIf (unknownCorner (length (f .corners)) l) Refusal.UnknownCorner (refusedIf (doubled (f .labels) l) Refusal.Duplicate Checked.Fine) ≡ Checked.Refused s))
+          ⊎ ((offSheet l ≡ false) × (refusedIf (unknownCorner (length (f .corners)) l) Refusal.UnknownCorner (refusedIf (doubled (f .labels) l) Refusal.Duplicate Checked.Fine) ≡ Checked.Refused s))
           → FirstFault stage f (line (label-line l)) s
       off (inl h) = subst (FirstFault stage f (line (label-line l))) (h .1) (is-off-sheet o (h .0))
       off (inr h) = stranger (h .0) (chosen _ _ _ s (h .1))
