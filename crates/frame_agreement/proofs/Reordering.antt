@@ -17,14 +17,14 @@ use Rattle.passes.specs.Run.{Call, run}
 use Rattle.agreement.specs.Agreement.{Reordered, Agree}
 use Rattle.agreement.proofs.Run.{agreement}
 use Rattle.frame_line.specs.Lines.{CornerLine, LabelLine, PassLine}
-use Rattle.frame.specs.Frame.{Frame, floatOf, readFrame, accepted}
+use Rattle.frame.specs.Frame.{Frame, floatOf}
 use Rattle.frame.specs.Text.{map, All, Sound, WithinLimits}
 use Rattle.frame.specs.Lent.{xsOf, ysOf, pitchesOf, labelled, sheetOf, settingsOf}
 use Rattle.frame_laws.specs.Calls.{cornersOf, callOf, callsOf}
 use Rattle.frame_laws.proofs.Lists.{length-map}
 use Rattle.frame_laws.proofs.Back.{frame-prints-back}
 use Rattle.frame_laws.proofs.Runs.{frame-standing}
-use Rattle.frame_agreement.specs.Reordering.{cornerLine, renumbered, SameButOrder, RunAlike, FramesRunAlike}
+use Rattle.frame_agreement.specs.Reordering.{renumbered, SameButOrder, RunAlike, FramesRunAlike}
 
 -- an element of a map
 getD-map : {A B : Type 0} (g : A → B) (l : List A) (k : ℕ) (a : A) (b : B) → k < length l → getD (map g l) k b ≡ g (getD l k a)

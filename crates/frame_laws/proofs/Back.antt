@@ -1,9 +1,8 @@
 -- A text that is accepted is what is printed of the frame that was read, and that frame is within the limits. Assumes nothing.
 use mathlib.Core.Path.{_≡_, refl, sym, ap, _∙_, subst, subst₂}
-use mathlib.Core.Bool.{Bool, true, false, not, _&&_, _||_}
-use mathlib.Core.Logic.{_⊎_, inl, inr}
+use mathlib.Core.Bool.{Bool, true, false, not, _&&_}
 use mathlib.Core.List.{List, [], _∷_, _++_, append-assoc, append-nil}
-use Prim.Native.Nat.{ℕ, zero, suc, _+_, _<_, _≤_}
+use Prim.Native.Nat.{ℕ, _<_, _≤_}
 use native.Mathlib.Omega.{arith}
 use borrow.Author.Tests.{ltb-true, ltb-false, leb-true, leb-false, eqb-true, le-ltb, not-false}
 use lib.Dec.{ltb, leb, eqb, T}
@@ -15,13 +14,13 @@ use Rattle.binary32.specs.Hex.{pick}
 use Rattle.sheet.specs.Cells.{onSheet, OnSheet, eqZ}
 use Rattle.sheet.specs.declared.Cell.{Cell}
 use Rattle.sheet.proofs.Laws.{equal-eqZ}
-use Rattle.frame_line.specs.Lines.{CornerLine, LabelLine, PassLine, Line, frame-line, cell-line, axes-line, band-line, corner-line, label-line, pass-line, numbersOf, AllPatterns, lineText, LinePrintsBack}
+use Rattle.frame_line.specs.Lines.{CornerLine, LabelLine, PassLine, Line, frame-line, cell-line, axes-line, band-line, corner-line, label-line, pass-line, lineText, LinePrintsBack}
 use Rattle.frame_line.proofs.Laws.{line-prints-back}
-use Rattle.frame.specs.Frame.{Frame, linesOf, rankOf, inOrder, stageAfter, overLimit, outOfRange, offSheet, unknownCorner, sameCell, clash, doubled, adding, stepLine, onward, FrameRead, refused-at, accepted, readLines, readFrame, nothing-read}
-use Rattle.frame.specs.Text.{map, linesIn, textOfLines, frameText, All, InRange, Sound, Apart, WithinLimits, FramePrintsBack, Passed, none-yet, one-more}
+use Rattle.frame.specs.Frame.{Frame, linesOf, rankOf, inOrder, stageAfter, overLimit, offSheet, unknownCorner, sameCell, clash, doubled, adding, FrameRead, refused-at, accepted, readLines, readFrame, nothing-read}
+use Rattle.frame.specs.Text.{map, linesIn, textOfLines, frameText, All, InRange, Sound, Apart, FramePrintsBack, Passed, none-yet, one-more}
 use Rattle.frame_laws.proofs.Lists.{map-then, all-then, neither}
 use Rattle.frame_laws.proofs.Lines.{joined, lines-joined}
-use Rattle.frame_laws.proofs.Steps.{Passes, Added, step-added}
+use Rattle.frame_laws.proofs.Steps.{Passes, step-added}
 use Rattle.frame_laws.proofs.Refusals.{Ending, all-read, one-fails, one-missing, ending}
 
 -- ---- texts

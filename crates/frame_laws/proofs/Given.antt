@@ -1,18 +1,15 @@
 -- The sheet of a frame's given labels belongs to its corners, each corner at one cell. Assumes nothing.
-use mathlib.Core.Path.{_≡_, refl, sym, ap, _∙_, subst}
-use mathlib.Core.Bool.{Bool, true, false, _||_}
+use mathlib.Core.Path.{_≡_, sym, ap, _∙_}
+use mathlib.Core.Bool.{false}
 use mathlib.Core.List.{List, [], _∷_}
-use Prim.Native.Nat.{ℕ, _<_, _≤_}
+use Prim.Native.Nat.{ℕ, _≤_}
 use native.Mathlib.Omega.{arith}
 use borrow.Author.Tests.{ne-eqb}
-use lib.Dec.{eqb}
-use lib.IntN.{ℤ, pos, natAbs}
+use lib.IntN.{pos, natAbs}
 use lib.Ieee.{Float}
 use lib.ListN.{length}
-use Rattle.sheet.specs.Cells.{OnSheet}
 use Rattle.sheet.specs.Words.{emptySheet, attached, labelAt}
 use Rattle.sheet.specs.Corners.{Given}
-use Rattle.sheet.specs.declared.Cell.{Cell}
 use Rattle.sheet.specs.declared.Label.{Label}
 use Rattle.sheet.proofs.Words.{attached-changes, label-else, empty-label}
 use Rattle.sheet.proofs.Corners.{given-empty, given-attached}

@@ -1,30 +1,29 @@
 -- An accepted frame starts what demand 3 speaks of: its corners and the sheet of its given labels belong together, and each of its passes has
 -- its numbers in range, so that none is refused, after whatever list of calls. Assumes nothing.
-use mathlib.Core.Path.{_≡_, refl, sym, ap, _∙_, subst}
-use mathlib.Core.Bool.{Bool, true, false, not, _&&_, _||_}
+use mathlib.Core.Path.{_≡_, refl, sym, subst}
+use mathlib.Core.Bool.{Bool, true, false, not, _&&_}
 use mathlib.Core.List.{List, [], _∷_, _++_}
-use Prim.Native.Nat.{ℕ, zero, suc, _+_, _*_, _<_, _≤_}
+use Prim.Native.Nat.{ℕ, zero, suc, _<_, _≤_}
 use native.Mathlib.Nat.{not-suc-le-zero}
 use native.Mathlib.Omega.{arith}
 use borrow.Author.Tests.{leb-true, not-false}
 use lib.Dec.{leb}
 use lib.IntN.{ℤ, pos, negsuc, natAbs}
-use lib.Signed.{leZ}
-use lib.Ieee.{Float, nan, binary32, ofBits, ofInt, le}
+use lib.Ieee.{Float, nan, ofBits, ofInt, le}
 use lib.ListN.{length, getD}
 use Rattle.binary32.specs.Ranges.{endsOf, inRange}
 use Rattle.binary32.specs.declared.ranges.Quantity.{Quantity}
 use Rattle.sheet.specs.Corners.{cornerOf}
 use Rattle.arguments.specs.Arguments.{outside, queueNeeded}
 use Rattle.arguments.specs.declared.Pass.{Pass}
-use Rattle.arguments.specs.Accepted.{CornerInside, AxisInside, SettingsInside, PassInside}
-use Rattle.passes.specs.Outcome.{After, Outcome, refused, done}
+use Rattle.arguments.specs.Accepted.{CornerInside, SettingsInside, PassInside}
+use Rattle.passes.specs.Outcome.{After, Outcome, done}
 use Rattle.passes.specs.Step.{CornerLists}
 use Rattle.passes.specs.Run.{Call, PassStats, step, sheetAfter, run, sheetOf as sheetLeft}
 use Rattle.invariants.specs.Calls.{Standing, Fit, Accepts, passOf as passChecked}
 use Rattle.invariants.proofs.Run.{standing-step, fit-accepts, never-refused, invariants}
-use Rattle.frame_line.specs.Lines.{CornerLine, PassLine, bare-grow, grow, bare-fill, fill, local, Line, corner-line, label-line, pass-line}
-use Rattle.frame.specs.Frame.{Frame, floatOf, wild, wildCount, wildPass, outOfRange, readFrame, accepted}
+use Rattle.frame_line.specs.Lines.{CornerLine, PassLine, bare-grow, grow, bare-fill, fill, local, corner-line, label-line, pass-line}
+use Rattle.frame.specs.Frame.{Frame, floatOf, wild, wildCount, wildPass, outOfRange}
 use Rattle.frame.specs.Text.{map, All, InRange, Sound, WithinLimits}
 use Rattle.frame.specs.Lent.{xsOf, ysOf, pitchesOf, sheetOf, settingsOf, fullOf, passOf}
 use Rattle.frame_laws.specs.Calls.{cornersOf, frameRooms, passCall, callOf, callsOf, NoneRefused, Starts, AcceptedRuns}

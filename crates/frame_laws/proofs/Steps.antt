@@ -1,8 +1,8 @@
 -- One line of a frame: the checks that a line passes, and the first one that it fails. Assumes nothing.
-use mathlib.Core.Path.{_≡_, refl, sym, ap, _∙_, subst}
+use mathlib.Core.Path.{_≡_, refl, ap, _∙_, subst}
 use mathlib.Core.Bool.{Bool, true, false, not}
 use mathlib.Core.Logic.{_⊎_, inl, inr}
-use mathlib.Core.List.{List, [], _∷_}
+use mathlib.Core.List.{List}
 use Prim.Native.Nat.{ℕ}
 use native.Mathlib.Omega.{arith}
 use borrow.Author.Tests.{not-true, not-false}
@@ -11,7 +11,7 @@ use Rattle.refusal.specs.declared.Refusal.{Refusal}
 use Rattle.arguments.specs.Arguments.{refusedIf}
 use Rattle.arguments.specs.declared.Checked.{Checked}
 use Rattle.frame_line.specs.Lines.{Line, frame-line, cell-line, axes-line, band-line, corner-line, label-line, pass-line, LineRead, ill-formed, line, readLine}
-use Rattle.frame.specs.Frame.{Frame, rankOf, inOrder, stageAfter, overLimit, outOfRange, ofLabel, offSheet, unknownCorner, doubled, checkedLine, adding, Step, stopped, onward, afterCheck, stepWith, stepLine}
+use Rattle.frame.specs.Frame.{Frame, rankOf, inOrder, stageAfter, overLimit, outOfRange, ofLabel, offSheet, unknownCorner, doubled, checkedLine, adding, stopped, onward, afterCheck, stepWith, stepLine}
 use Rattle.frame.specs.Text.{FirstFault, has-no-form, not-its-turn, too-many, is-wild, is-off-sheet, is-unknown, is-doubled}
 
 -- ---- a line that passes

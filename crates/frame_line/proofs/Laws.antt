@@ -3,16 +3,16 @@
 use mathlib.Core.Path.{_≡_, refl, sym, ap, _∙_, subst}
 use mathlib.Core.Bool.{Bool, true, false, _||_}
 use mathlib.Core.List.{List, [], _∷_, _++_}
-use Prim.Native.Nat.{ℕ, zero, suc, _<_}
+use Prim.Native.Nat.{ℕ, suc, _<_}
 use native.Mathlib.Omega.{arith}
-use borrow.Author.Tests.{eqb-true, eqb-false, eq-eqb, ne-eqb}
+use borrow.Author.Tests.{eqb-true, eq-eqb}
 use lib.Dec.{eqb}
 use lib.IntN.{ℤ}
 use lib.ListN.{take, drop}
 use Rattle.binary32.specs.Hex.{pick}
-use Rattle.line_form.specs.Forms.{Number, bits, whole, isSlot, printed, pieceOf, bytePiece, Fitted, misfit, fitted, then, fitOf, Suits, none-left, a-float, an-integer, a-byte, apart, PrintsBack}
+use Rattle.line_form.specs.Forms.{Number, bits, whole, isSlot, printed, pieceOf, bytePiece, Fitted, misfit, fitted, fitOf, Suits, none-left, a-float, an-integer, a-byte, apart, PrintsBack}
 use Rattle.line_form.proofs.Laws.{reads-back, prints-back}
-use Rattle.frame_line.specs.Lines.{Line, frame-line, cell-line, axes-line, band-line, corner-line, label-line, pass-line, PassLine, bare-grow, grow, bare-fill, fill, local, Kind, frame-kind, cell-kind, axes-kind, band-kind, corner-kind, label-kind, bare-grow-kind, grow-kind, bare-fill-kind, fill-kind, local-kind, formOf, kinds, kindOf, numbersOf, lineText, bitsAt, wholeAt, lineOf, LineRead, ill-formed, line, orElse, firstFit, readLine, AllPatterns, LineReadsBack, LinePrintsBack}
+use Rattle.frame_line.specs.Lines.{Line, frame-line, cell-line, axes-line, band-line, corner-line, label-line, pass-line, bare-grow, grow, bare-fill, fill, local, Kind, frame-kind, cell-kind, axes-kind, band-kind, corner-kind, label-kind, bare-grow-kind, grow-kind, bare-fill-kind, fill-kind, local-kind, formOf, kinds, kindOf, numbersOf, lineText, bitsAt, wholeAt, lineOf, line, orElse, firstFit, readLine, AllPatterns, LineReadsBack, LinePrintsBack}
 
 -- ---- the numbers of a form
 
