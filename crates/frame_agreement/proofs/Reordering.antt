@@ -1,0 +1,150 @@
+-- Two accepted frames that differ only in the order of their corner lines are a reordering, so every list of calls from them, the frames' own
+-- passes among them, runs alike. Assumes nothing.
+use mathlib.Core.Path.{_≡_, refl, sym, ap, _∙_, subst}
+use mathlib.Core.List.{List, [], _∷_}
+use Prim.Native.Nat.{ℕ, zero, suc, _<_, _≤_}
+use native.Mathlib.Nat.{not-suc-le-zero}
+use native.Mathlib.Omega.{arith}
+use lib.IntN.{natAbs}
+use lib.Ieee.{Float, nan}
+use lib.ListN.{length, getD, length-set}
+use Rattle.sheet.specs.Words.{emptySheet, attached}
+use Rattle.sheet.specs.Corners.{cornerOf}
+use Rattle.sheet.specs.Pairing.{Shuffle, PairedCorners, PairedSheets}
+use Rattle.sheet.proofs.Words.{empty-length}
+use Rattle.sheet.proofs.Pairing.{paired-attached, paired-empty}
+use Rattle.passes.specs.Run.{Call, run}
+use Rattle.agreement.specs.Agreement.{Reordered, Agree}
+use Rattle.agreement.proofs.Run.{agreement}
+use Rattle.frame_line.specs.Lines.{CornerLine, LabelLine, PassLine}
+use Rattle.frame.specs.Frame.{Frame, floatOf}
+use Rattle.frame.specs.Text.{map, All, Sound, WithinLimits}
+use Rattle.frame.specs.Lent.{xsOf, ysOf, pitchesOf, labelled, sheetOf, settingsOf}
+use Rattle.frame_laws.specs.Calls.{cornersOf, callOf, callsOf}
+use Rattle.frame_laws.proofs.Lists.{length-map}
+use Rattle.frame_laws.proofs.Back.{frame-prints-back}
+use Rattle.frame_laws.proofs.Runs.{frame-standing}
+use Rattle.frame_agreement.specs.Reordering.{renumbered, SameButOrder, RunAlike, FramesRunAlike}
+
+-- an element of a map
+getD-map : {A B : Type 0} (g : A → B) (l : List A) (k : ℕ) (a : A) (b : B) → k < length l → getD (map g l) k b ≡ g (getD l k a)
+getD-map g [] k a b h = absurd (not-suc-le-zero h)
+getD-map g (c ∷ l) zero a b h = refl
+getD-map g (c ∷ l) (suc k) a b h = getD-map g l k a b (omega arith)
+
+-- ---- the sheets of the given labels
+
+attached-length : (sheet : List ℕ) (l : LabelLine) (k : ℕ) → length (attached sheet (l .cell) k) ≡ length sheet
+unfolding attached
+attached-length sheet l k = length-set sheet _ _
+
+module _ {n m : ℕ} (s : Shuffle n) (in-m : (k : ℕ) → k < m → k < n) (few : n ≤ 1024) where
+  labelled-paired : (ls : List LabelLine) (sheet sheet' : List ℕ) → 16384 ≤ length sheet → All (Sound m) ls → PairedSheets s sheet sheet' → PairedSheets s (labelled sheet ls) (labelled sheet' (map (renumbered s) ls))
+  unfolding labelled
+  labelled-paired [] sheet sheet' long sound p = p
+  labelled-paired (l ∷ ls) sheet sheet' long sound p =
+      let k = natAbs (l .corner) in
+      let is : k ≡ sound .0 .corner = ap natAbs (sound .0 .is-corner) in
+      let below : k < n = subst (λ (j : ℕ). j < n) (sym is) (in-m (sound .0 .corner) (sound .0 .given)) in
+      let there = s .to-in k below in
+      labelled-paired ls (attached sheet (l .cell) k) (attached sheet' (l .cell) (s .to k)) (omega (arith, attached-length sheet l k)) (sound .1)
+      (paired-attached p (l .cell) long (sound .0 .on-sheet) k (omega arith) (omega arith))
+
+-- ---- the frames
+
+module _ (f f' : Frame) (w : WithinLimits f) (same : SameButOrder f f') where
+  same-length : length (xsOf f) ≡ length (f .corners)
+  unfolding xsOf
+  same-length = length-map (λ c. floatOf (c .x)) (f .corners)
+
+  -- the pairing, of as many numbers as there are xs
+  pairs : Shuffle (length (xsOf f))
+  pairs =
+      let s = same .pairs in
+      let in-xs : (k : ℕ) → k < length (f .corners) → k < length (xsOf f) = λ k h. omega (arith, same-length) in
+      let in-lines : (k : ℕ) → k < length (xsOf f) → k < length (f .corners) = λ k h. omega (arith, same-length) in
+      record {
+        to = s .to;
+        from = s .from;
+        to-in = λ i h. in-xs (s .to i) (s .to-in i (in-lines i h));
+        from-in = λ j h. in-xs (s .from j) (s .from-in j (in-lines j h));
+        from-to = λ i h. s .from-to i (in-lines i h);
+        to-from = λ j h. s .to-from j (in-lines j h);
+      }
+
+  -- the same part of paired lines
+  part : (g : CornerLine → Float) (i : ℕ) → i < length (f .corners) → getD (map g (f' .corners)) (same .pairs .to i) nan ≡ getD (map g (f .corners)) i nan
+  part g i h =
+      getD-map g (f' .corners) (same .pairs .to i) _ nan (subst (λ (n : ℕ). same .pairs .to i < n) (sym (same .count)) (same .pairs .to-in i h))
+      ∙ ap g (same .same-line i h) ∙ sym (getD-map g (f .corners) i _ nan h)
+
+  as-long : (g : CornerLine → Float) → length (map g (f' .corners)) ≡ length (map g (f .corners))
+  as-long g = length-map g (f' .corners) ∙ same .count ∙ sym (length-map g (f .corners))
+
+  corners-paired : PairedCorners (xsOf f) (ysOf f) (pitchesOf f) (xsOf f') (ysOf f') (pitchesOf f')
+  unfolding xsOf ysOf pitchesOf cornerOf pairs
+  corners-paired =
+      record {
+        same-xs = as-long (λ c. floatOf (c .x));
+        same-ys = as-long (λ c. floatOf (c .y));
+        same-pitches = as-long (λ c. floatOf (c .pitch));
+        pairs = pairs;
+        same-corner =
+            λ i h.
+            let k : i < length (f .corners) = omega (arith, same-length) in
+            λ t. record { position = record { x = part (λ c. floatOf (c .x)) i k t; y = part (λ c. floatOf (c .y)) i k t }; pitch = part (λ c. floatOf (c .pitch)) i k t };
+      }
+
+  sheets-paired : PairedSheets pairs (sheetOf f) (sheetOf f')
+  unfolding sheetOf pairs
+  sheets-paired =
+      subst (λ (ls : List LabelLine). PairedSheets pairs (labelled emptySheet (f .labels)) (labelled emptySheet ls)) (sym (same .labels))
+      (labelled-paired pairs (λ k h. omega (arith, same-length)) (omega (arith, same-length, w .corners)) (f .labels) emptySheet emptySheet (omega (arith, empty-length)) (w .labels)
+      (paired-empty pairs))
+
+  pub frames-reordered : Reordered (cornersOf f) (cornersOf f') (sheetOf f) (sheetOf f')
+  unfolding corners-paired
+  frames-reordered = record { corners = corners-paired; labels = sheets-paired; standing = frame-standing f w }
+
+  -- the frames' own passes are the same calls
+  settings-same : settingsOf f' ≡ settingsOf f
+  unfolding settingsOf
+  settings-same t =
+      record {
+        grid =
+            record {
+              «axis_i» = record { x = floatOf (same .axes t .ix); y = floatOf (same .axes t .iy) };
+              «axis_j» = record { x = floatOf (same .axes t .jx); y = floatOf (same .axes t .jy) };
+              «cell_size» = floatOf (same .cell t);
+            };
+        «edge_length_tol» = floatOf (same .band t);
+      }
+
+  call-same : (p : PassLine) → callOf f' p ≡ callOf f p
+  call-same p t = record { pass = callOf f p .pass; settings = settings-same t; rooms = callOf f p .rooms }
+
+  calls-same : callsOf f' ≡ callsOf f
+  unfolding callsOf
+  calls-same = each (f' .passes) ∙ ap (map (callOf f)) (same .passes)
+    where
+      each : (ps : List PassLine) → map (callOf f') ps ≡ map (callOf f) ps
+      each [] = refl
+      each (p ∷ ps) = λ t. call-same p t ∷ each ps t
+
+  -- ---- the claim
+
+  pub limits-alike : RunAlike f f'
+  limits-alike =
+      let holds = agreement (cornersOf f) (cornersOf f') (sheetOf f) (sheetOf f') frames-reordered in
+      record {
+        reordered = frames-reordered;
+        any-list = holds;
+        same-calls = calls-same;
+        own-list =
+            λ above.
+            subst (λ (calls : List Call). Agree (frames-reordered .corners .pairs) (sheetOf f) (sheetOf f') (run (cornersOf f) (sheetOf f) (callsOf f)) (run (cornersOf f') (sheetOf f') calls))
+            (sym calls-same) (holds (callsOf f) .agree above);
+      }
+
+pub frames-run-alike : FramesRunAlike
+frames-run-alike text text' f f' e e' same = limits-alike f f' (frame-prints-back text f e .within) same

@@ -1,0 +1,79 @@
+-- What an accepted frame starts (document 01, "Lists of passes, for demand 3"): "It starts from an accepted frame's corners and the sheet of
+-- its given labels, those of the label lines"; and "a frame's passes are one such list". Definitions only.
+use mathlib.Core.Path.{_≡_}
+use mathlib.Core.Bool.{false}
+use mathlib.Core.List.{List, [], _∷_, List·Memᴰ}
+use Prim.Native.Nat.{ℕ}
+use lib.IntN.{pos, natAbs}
+use Rattle.sheet.specs.Words.{labelAt, holeAt, ambiguousAt}
+use Rattle.sheet.specs.declared.Cell.{Cell}
+use Rattle.sheet.specs.declared.Label.{Label}
+use Rattle.arguments.specs.declared.Pass.{Pass}
+use Rattle.passes.specs.Outcome.{Outcome, refused, done}
+use Rattle.passes.specs.Step.{CornerLists, Rooms}
+use Rattle.passes.specs.Run.{PassCall, grow, fill, local, Call, PassStats, run, sheetOf as sheetLeft}
+use Rattle.invariants.specs.Calls.{Standing, Invariant, Fit, Accepts}
+use Rattle.frame_line.specs.Lines.{LabelLine, PassLine}
+use Rattle.frame.specs.Frame.{Frame, readFrame, accepted}
+use Rattle.frame.specs.Text.{map, All}
+use Rattle.frame.specs.Lent.{xsOf, ysOf, pitchesOf, sheetOf, settingsOf, fullOf, passOf}
+
+-- the corners of a frame, as each call is lent them
+abbrev pub cornersOf : Frame → CornerLists
+cornersOf f = record { xs = xsOf f; ys = ysOf f; pitches = pitchesOf f }
+
+-- ---- the sheet of the given labels
+
+-- a label line that names the corner k at the cell c
+pub record NamedBy (ls : List LabelLine) (c : Cell) (k : ℕ) : Type 0 where
+  pub label : LabelLine
+  pub listed : List·Memᴰ label ls
+  pub cell : label .cell ≡ c
+  pub corner : label .corner ≡ pos k
+
+-- each label line's cell holds its corner, no other cell holds one, and "The frame starts with no marks"
+pub record GivenLabels (f : Frame) : Type 0 where
+  pub each : All (λ l. labelAt (sheetOf f) (l .cell) ≡ Label.Corner (natAbs (l .corner))) (f .labels)
+  pub only : (c : Cell) (k : ℕ) → labelAt (sheetOf f) c ≡ Label.Corner k → NamedBy (f .labels) c k
+  pub no-hole : (c : Cell) → holeAt (sheetOf f) c ≡ false
+  pub no-ambiguous : (c : Cell) → ambiguousAt (sheetOf f) c ≡ false
+
+-- ---- a frame's passes as calls
+
+-- "4 queue places a corner, one attached place a corner", for as many corners as a frame may have
+abbrev pub frameRooms : Rooms
+frameRooms = record { queue = 4096; attached = 1024 }
+
+abbrev pub passCall : Pass → PassCall
+passCall (Pass.Grow p) = grow p
+passCall (Pass.Fill p) = fill p
+passCall (Pass.Local p) = local p
+
+-- the call of a pass line: its numbers, those of a bare one included, and the frame's cell size, axes and band
+abbrev pub callOf : Frame → PassLine → Call
+callOf f p = record { pass = passCall (passOf (fullOf p)); settings = settingsOf f; rooms = frameRooms }
+
+unfoldable pub callsOf : Frame → List Call
+callsOf f = map (callOf f) (f .passes)
+
+-- ---- the claim
+
+-- outcomes none of which is a refusal
+abbrev pub NoneRefused : List (Outcome PassStats) → Type 0
+NoneRefused [] = Unit {0}
+NoneRefused (refused r ∷ os) = ⊥
+NoneRefused (done a ∷ os) = NoneRefused os
+
+-- The sheet is that of the given labels. The corners and it belong together, each corner at one cell, so every list of calls from there has
+-- the invariants, whatever the factors. Each pass of the frame has its numbers in range and buffers long enough, so it is refused after no list
+-- of calls, and none is in the frame's own run.
+pub record Starts (f : Frame) : Type 0 where
+  pub given : GivenLabels f
+  pub standing : Standing (cornersOf f) (sheetOf f)
+  pub invariant : (calls : List Call) → Invariant (cornersOf f) (sheetOf f) calls
+  pub fit : All (Fit (cornersOf f)) (callsOf f)
+  pub accepts : (calls : List Call) → All (Accepts (cornersOf f) (sheetLeft (cornersOf f) (sheetOf f) calls)) (callsOf f)
+  pub runs : NoneRefused (run (cornersOf f) (sheetOf f) (callsOf f))
+
+abbrev pub AcceptedRuns : Type 0
+AcceptedRuns = (text : List ℕ) (f : Frame) → readFrame text ≡ accepted f → Starts f

@@ -1,0 +1,2 @@
+-- The definitions of what an accepted frame starts. Definitions only.
+pub mod Calls
