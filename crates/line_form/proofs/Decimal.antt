@@ -6,7 +6,7 @@ use mathlib.Core.List.{List, [], _∷_, _++_, append-assoc}
 use Prim.Native.Nat.{ℕ, zero, suc, _+_, _-_, _*_, _/_, _%_, _^_, _≤_, _<_}
 use native.Mathlib.Nat.{mod-lt, div-add-mod', not-suc-le-zero, pow-suc}
 use native.Mathlib.Omega.{arith}
-use borrow.Author.Tests.{lt-ltb, le-ltb, le-leb, lt-leb, ltb-true, ltb-false, leb-true, leb-false, eq-eqb, ne-eqb, eqb-true, eqb-false}
+use borrow.Author.Tests.{lt-ltb, le-ltb, le-leb, ltb-true, ltb-false, leb-true, ne-eqb, eqb-true}
 use lib.Arith.{digits-div, digits-mod}
 use lib.Dec.{ltb, leb, eqb}
 use lib.IntN.{ℤ, pos, negsuc, natAbs}

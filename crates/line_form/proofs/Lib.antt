@@ -2,3 +2,5 @@
 pub mod Decimal
 pub mod Laws
 pub mod Reading
+pub mod Writing
+pub mod Examples

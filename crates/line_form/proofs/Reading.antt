@@ -1,21 +1,20 @@
 -- The turns of the reader: digits, integers, what stands for a byte of a form, and the whole line. Assumes nothing.
-use mathlib.Core.Path.{_≡_, refl, sym, ap, ap₂, _∙_}
-use mathlib.Core.Bool.{Bool, true, false, not, _||_, _&&_}
+use mathlib.Core.Path.{_≡_, refl, sym, ap, _∙_}
+use mathlib.Core.Bool.{Bool, true, false, _&&_}
 use mathlib.Core.List.{List, [], _∷_, _++_}
 use Prim.Native.Nat.{ℕ, zero, suc, _+_, _-_, _*_, _≤_, _<_, min}
-use native.Mathlib.Nat.{not-suc-le-zero}
 use native.Mathlib.Numerals.{add-one}
 use native.Mathlib.Omega.{arith}
-use borrow.Author.Tests.{le-leb, lt-leb, leb-true, lt-ltb, le-ltb, eq-eqb, ne-eqb, eqb-true, not-true}
-use lib.Dec.{ltb, leb, eqb}
-use lib.IntN.{ℤ, pos, negsuc}
-use lib.ListN.{length, getD, take, drop, set, replicate, length-append, length-drop, drop-of-length-le}
+use borrow.Author.Tests.{le-leb, lt-leb, leb-true, le-ltb, eq-eqb, ne-eqb}
+use lib.Dec.{leb, eqb}
+use lib.IntN.{ℤ, pos}
+use lib.ListN.{length, getD, take, drop, replicate, length-append, length-drop, drop-of-length-le}
 use lib.Seq.{drop-cons, drop-drop, drop-at, take-all}
 use Rattle.binary32.specs.Hex.{pick, hexText, readBits}
 use Rattle.binary32.specs.declared.hex.Bits.{Bits}
 use Rattle.binary32.specs.declared.hex.Bits.the-variants.{Number as EightDigits, Broken}
 use Rattle.binary32.proofs.Digits.{digits-length, bits-written-read}
-use Rattle.line_form.specs.Integers.{integerText, Front, broken, front, isDigit, digitsAfter, readPositive, negated, mapped, readInteger}
+use Rattle.line_form.specs.Integers.{Front, broken, front, isDigit, digitsAfter, readPositive, negated, mapped, readInteger}
 use Rattle.line_form.specs.Forms.{Number, bits, whole, numberText, Piece, no-piece, same, number, bitsPiece, wholePiece, bytePiece, pieceOf, Fitted, misfit, fitted, before, then, fitOf}
 use Rattle.line_form.specs.Held.{heldWhole, held, heldUpTo, heldFit, heldPiece, heldDigits, startsPositive, kept}
 use Rattle.line_form.specs.declared.read.Fit.{Fit}
@@ -27,6 +26,10 @@ use Rattle.line_form.proofs.Decimal.{integer-told}
 -- a part of a text to its end
 pub part : (text : List ℕ) (n : ℕ) → take (length text - n) (drop n text) ≡ drop n text
 part text n = take-all (length text - n) (drop n text) (rw (length-drop n text) (omega arith))
+
+-- its byte at i, and those behind
+pub front-of : (text : List ℕ) (i : ℕ) → i < length text → drop i text ≡ getD text i 0 ∷ drop (i + 1) text
+front-of text i h = rw (add-one, drop-cons text i 0)
 
 -- ---- digits
 
@@ -67,9 +70,6 @@ pub record Counting (text : List ℕ) (v i : ℕ) : Type 0 where
 
 pub none-counted : (text : List ℕ) → Counting text 0 0
 none-counted text = record { within = omega arith; small = omega arith; rest = refl }
-
-front-of : (text : List ℕ) (i : ℕ) → i < length text → drop i text ≡ getD text i 0 ∷ drop (i + 1) text
-front-of text i h = rw (add-one, drop-cons text i 0)
 
 digit-turn : (text : List ℕ) (v i : ℕ) → i < length text → isDigit (getD text i 0) ≡ true
     → digitsAfter (v * 10 + (getD text i 0 - 48)) (drop (i + 1) text) ≡ digitsAfter v (drop i text)

@@ -1,7 +1,7 @@
 -- How long a printed line can be. Definitions only; the bound is `printed-length` of `proofs/Laws.antt`.
 use mathlib.Core.List.{List, [], _∷_}
 use Prim.Native.Nat.{ℕ, _+_, _<_}
-use lib.IntN.{ℤ, natAbs}
+use lib.IntN.{natAbs}
 use Rattle.binary32.specs.Hex.{pick}
 use Rattle.line_form.specs.Forms.{Number, bits, whole, isSlot}
 

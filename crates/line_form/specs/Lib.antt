@@ -3,3 +3,4 @@ pub mod Integers
 pub mod Forms
 pub mod Lengths
 pub mod Held
+pub mod Written

@@ -2,11 +2,11 @@
 ghost use mathlib.Core.Path.{_≡_};
 ghost use mathlib.Core.Bool.{true};
 ghost use Prim.Native.Nat.{_+_, _-_, _*_, _≤_, min};
+ghost use lib.IntN.{pos};
 ghost use lib.ListN.{drop};
 ghost use Rattle.binary32.specs.Hex.{readBits};
 ghost use Rattle.line_form.specs.Integers.{isDigit, digitsAfter, readPositive, negated, mapped, readInteger};
 ghost use Rattle.line_form.specs.Forms.{bitsPiece, wholePiece, bytePiece, pieceOf, misfit as noFit, fitOf};
-ghost use lib.IntN.{pos};
 ghost use Rattle.line_form.specs.Held.{heldFit, heldPiece, heldDigits, startsPositive, kept};
 use binary32::hex::Bits;
 use binary32::hex::read_bits;

@@ -1,32 +1,24 @@
-use mathlib.Core.Path.{_≡_, sym, _∙_}
+-- `read::below` meets its contract: by what `starts` and `read_digits` say. Assumes nothing.
+use mathlib.Core.Path.{sym, _∙_}
 use native.Mathlib.Omega.{arith}
 use borrow.Author.Tests.{not-true, not-false}
-use Rattle.line_form.proofs.Reading.{digits-small, sign-none, below-read}
 use borrow.Author.Needs.{needs}
+use Rattle.line_form.proofs.Reading.{digits-small, sign-none, below-read}
 use Rattle.line_form.proofs.read.below.Statement.{statement}
 use Rattle.line_form.proofs.read.below.Tie as tie
-use Rattle.line_form.proofs.read.below.Reads as reads
-use Rattle.line_form.proofs.read.below.Lts as lts
-use Rattle.line_form.proofs.read.read_digits.Reads as read-digits-reads
-use Rattle.line_form.proofs.read.starts.Reads as starts-reads
 
--- src/read.rt:102:9
 starts-requires : tie.Need-starts-requires
 starts-requires c κs = search needs
 
--- src/read.rt:103:9
 returns : tie.Need-returns
 returns c = sign-none _ (c .before .before .before .args .text .now) (sym (c .before .starts .ensures) ∙ not-true _ (c .if1 .taken))
 
--- src/read.rt:105:9
 read-digits-requires : tie.Need-read-digits-requires
 read-digits-requires c κs = search needs
 
--- src/read.rt:106:19
 sub-t5 : tie.Need-sub-t5
 sub-t5 c = omega (arith, digits-small _ _ (c .before .read-digits .ensures))
 
--- src/read.rt:99:1
 returns-2 : tie.Need-returns-2
 returns-2 c = below-read (c .before .before .before .before .before .args .text .now) _ (sym (c .before .before .before .starts .ensures) ∙ not-false _ (c .before .before .if1 .left)) (c .before .read-digits .ensures)
 

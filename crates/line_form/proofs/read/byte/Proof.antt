@@ -1,23 +1,18 @@
+-- `read::byte` meets its contract: by its tests. Assumes nothing.
 use borrow.Author.Needs.{needs}
+use Rattle.line_form.proofs.Reading.{byte-none, byte-same, byte-other}
 use Rattle.line_form.proofs.read.byte.Statement.{statement}
 use Rattle.line_form.proofs.read.byte.Tie as tie
-use Rattle.line_form.proofs.read.byte.Reads as reads
-use Rattle.line_form.proofs.read.byte.Lts as lts
-use Rattle.line_form.proofs.Reading.{byte-none, byte-same, byte-other}
 
--- src/read.rt:142:9
 returns : tie.Need-returns
 returns c = byte-none (c .before .args .c) (c .before .args .text .now) (c .if1 .taken)
 
--- src/read.rt:144:8
 shared-slice-read-if2 : tie.Need-shared-slice-read-if2
 shared-slice-read-if2 c = search needs
 
--- src/read.rt:145:9
 returns-2 : tie.Need-returns-2
 returns-2 c = byte-same (c .before .before .before .args .c) (c .before .before .before .args .text .now) (c .before .before .if1 .left) (c .if2 .taken)
 
--- src/read.rt:138:1
 returns-3 : tie.Need-returns-3
 returns-3 c = byte-other (c .before .before .before .args .c) (c .before .before .before .args .text .now) (c .before .before .if1 .left) (c .if2 .left)
 

@@ -1,16 +1,12 @@
+-- `read::fit_line` meets its contract. The invariant: what is left of the line, by what is left of the form, gives the numbers that are still to be held. Assumes nothing.
 use Prim.Native.Nat.{_-_}
 use lib.ListN.{length}
-use mathlib.Core.Path.{_≡_, sym, _∙_}
+use mathlib.Core.Path.{sym, _∙_}
 use native.Mathlib.Omega.{arith}
 use borrow.Author.Needs.{needs}
 use Rattle.line_form.proofs.Reading.{Fitting, begun, missed, byte-room, byte-passed, number-room, number-passed, all-read, more-left}
 use Rattle.line_form.proofs.read.fit_line.Statement.{statement}
 use Rattle.line_form.proofs.read.fit_line.Tie as tie
-use Rattle.line_form.proofs.read.fit_line.Reads as reads
-use Rattle.line_form.proofs.read.fit_line.Lts as lts
-use Rattle.line_form.proofs.read.misfit.Reads as misfit-reads
-use Rattle.line_form.proofs.read.piece.Reads as piece-reads
-use Rattle.line_form.proofs.read.put.Reads as put-reads
 
 abbrev Inv-loop : tie.InvT-loop
 Inv-loop form line values₀ i₀ at₀ k₀ values i at k = Fitting form line values i at k
@@ -18,99 +14,75 @@ Inv-loop form line values₀ i₀ at₀ k₀ values i at k = Fitting form line v
 abbrev μ-loop : tie.MeasureT-loop
 μ-loop form line values₀ i₀ at₀ k₀ values i at k = length form - i
 
--- src/read.rt:189:5
 loop-holds : tie.Need-loop-holds Inv-loop μ-loop
 loop-holds c = begun _ _
 
--- src/read.rt:190:23
 shared-slice-read-piece : tie.Need-shared-slice-read-piece Inv-loop μ-loop
 shared-slice-read-piece c = omega arith
 
--- src/read.rt:190:32
 sub-piece : tie.Need-sub-piece Inv-loop μ-loop
 sub-piece c = omega (arith, c .before .before .loop .inv .inside)
 
--- src/read.rt:190:32
 part-piece-start : tie.Need-part-piece-start Inv-loop μ-loop
 part-piece-start c = omega (arith, c .before .before .loop .inv .inside)
 
--- src/read.rt:190:32
 part-piece-end : tie.Need-part-piece-end Inv-loop μ-loop
 part-piece-end c = omega (arith, c .before .before .loop .inv .inside)
 
--- src/read.rt:190:13
 piece-requires : tie.Need-piece-requires Inv-loop μ-loop
 piece-requires c κs = tt
 
--- src/read.rt:193:17
 enum-told : tie.Need-enum-told Inv-loop μ-loop
 enum-told c = search needs
 
--- src/read.rt:193:17
 misfit-requires : tie.Need-misfit-requires Inv-loop μ-loop
 misfit-requires c κs = tt
 
--- src/read.rt:193:17
 returns : tie.Need-returns Inv-loop μ-loop
 returns c = c .misfit .ensures ∙ missed _ _ _ _ _ _ (c .before .before .before .before .before .before .before .loop .inv) (c .before .before .before .before .before .before .loop-test .taken) (sym (c .before .enum-told .given .1) ∙ c .before .before .before .piece .ensures)
 
--- src/read.rt:196:17
 enum-told-2 : tie.Need-enum-told-2 Inv-loop μ-loop
 enum-told-2 c = search needs
 
--- src/read.rt:196:17
 add-at : tie.Need-add-at Inv-loop μ-loop
 add-at c = record { fits = omega (arith, byte-room _ _ _ _ _ _ (c .before .before .before .before .before .before .loop .inv) (c .before .before .before .before .before .loop-test .taken) (sym (c .enum-told2 .given .1) ∙ c .before .before .piece .ensures)) }
 
--- src/read.rt:197:17
 add-i : tie.Need-add-i Inv-loop μ-loop
 add-i c = record { fits = omega (arith, c .before .before .before .before .before .loop-test .taken) }
 
--- src/read.rt:189:5
 loop-less : tie.Need-loop-less Inv-loop μ-loop
 loop-less c = omega (arith, c .before .before .before .before .before .loop-test .taken)
 
--- src/read.rt:189:5
 loop-again : tie.Need-loop-again Inv-loop μ-loop
 loop-again c = byte-passed _ _ _ _ _ _ (c .before .before .before .before .before .before .loop .inv) (c .before .before .before .before .before .loop-test .taken) (sym (c .enum-told2 .given .1) ∙ c .before .before .piece .ensures)
 
--- src/read.rt:199:27
 enum-known-p : tie.Need-enum-known-p Inv-loop μ-loop
 enum-known-p c = search needs
 
--- src/read.rt:200:21
 put-requires : tie.Need-put-requires Inv-loop μ-loop
 put-requires c κs = tt
 
--- src/read.rt:202:17
 add-k : tie.Need-add-k Inv-loop μ-loop
 add-k c = record { fits = omega (arith, c .before .before .before .before .before .before .before .before .loop .inv .few, c .before .before .before .before .before .before .before .loop-test .taken) }
 
--- src/read.rt:203:22
 sub-at : tie.Need-sub-at Inv-loop μ-loop
 sub-at c = number-room _ _ _ _ _ _ (c .before .before .before .before .before .before .before .before .loop .inv) (c .before .before .before .before .before .before .before .loop-test .taken) _ _ (sym (c .before .before .p .given .1) ∙ c .before .before .before .before .piece .ensures)
 
--- src/read.rt:204:17
 add-i-2 : tie.Need-add-i-2 Inv-loop μ-loop
 add-i-2 c = record { fits = omega (arith, c .before .before .before .before .before .before .before .loop-test .taken) }
 
--- src/read.rt:189:5
 loop-less-2 : tie.Need-loop-less-2 Inv-loop μ-loop
 loop-less-2 c = omega (arith, c .before .before .before .before .before .before .before .loop-test .taken)
 
--- src/read.rt:189:5
 loop-again-2 : tie.Need-loop-again-2 Inv-loop μ-loop
 loop-again-2 c = number-passed _ _ _ _ _ _ (c .before .before .before .before .before .before .before .before .loop .inv) (c .before .before .before .before .before .before .before .loop-test .taken) _ _ (sym (c .before .before .p .given .1) ∙ c .before .before .before .before .piece .ensures) _ (c .put .ensures)
 
--- src/read.rt:209:9
 misfit-requires-2 : tie.Need-misfit-requires-2 Inv-loop μ-loop
 misfit-requires-2 c κs = tt
 
--- src/read.rt:209:9
 returns-2 : tie.Need-returns-2 Inv-loop μ-loop
 returns-2 c = c .misfit2 .ensures ∙ more-left _ _ _ _ _ _ (c .before .before .before .loop .inv) (c .before .before .loop-test .left) (c .before .if1 .taken)
 
--- src/read.rt:182:1
 returns-3 : tie.Need-returns-3 Inv-loop μ-loop
 returns-3 c = all-read _ _ _ _ _ _ (c .before .before .loop .inv) (c .before .loop-test .left) (c .if1 .left)
 

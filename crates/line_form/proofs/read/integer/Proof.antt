@@ -1,54 +1,40 @@
-use mathlib.Core.Path.{_≡_, sym, _∙_}
-use Rattle.line_form.proofs.Reading.{integer-none, integer-zero, integer-minus, integer-plus}
+-- `read::integer` meets its contract: one law for each way out. Assumes nothing.
+use mathlib.Core.Path.{_∙_}
 use borrow.Author.Needs.{needs}
+use Rattle.line_form.proofs.Reading.{integer-none, integer-zero, integer-minus, integer-plus}
 use Rattle.line_form.proofs.read.integer.Statement.{statement}
 use Rattle.line_form.proofs.read.integer.Tie as tie
-use Rattle.line_form.proofs.read.integer.Reads as reads
-use Rattle.line_form.proofs.read.integer.Lts as lts
-use Rattle.line_form.proofs.read.above.Reads as above-reads
-use Rattle.line_form.proofs.read.below.Reads as below-reads
 
--- src/read.rt:114:9
 returns : tie.Need-returns
 returns c = integer-none (c .before .before .args .text .now) (c .if1 .taken)
 
--- src/read.rt:116:13
 shared-slice-read-b : tie.Need-shared-slice-read-b
 shared-slice-read-b c = search needs
 
--- src/read.rt:118:39
 sub-t8 : tie.Need-sub-t8
 sub-t8 c = search needs
 
--- src/read.rt:118:9
 returns-2 : tie.Need-returns-2
 returns-2 c = integer-zero (c .before .before .before .before .args .text .now) (c .before .before .if1 .left) (c .if2 .taken)
 
--- src/read.rt:121:22
 sub-below : tie.Need-sub-below
 sub-below c = search needs
 
--- src/read.rt:121:22
 part-below-start : tie.Need-part-below-start
 part-below-start c = search needs
 
--- src/read.rt:121:22
 part-below-end : tie.Need-part-below-end
 part-below-end c = search needs
 
--- src/read.rt:121:9
 below-requires : tie.Need-below-requires
 below-requires c κs = search needs
 
--- src/read.rt:121:9
 returns-3 : tie.Need-returns-3
 returns-3 c = c .below .ensures ∙ integer-minus (c .before .before .before .before .before .before .before .args .text .now) (c .before .before .before .before .before .if1 .left) (c .before .before .before .if2 .left) (c .before .before .if3 .taken)
 
--- src/read.rt:123:5
 above-requires : tie.Need-above-requires
 above-requires c κs = search needs
 
--- src/read.rt:110:1
 returns-4 : tie.Need-returns-4
 returns-4 c = c .above .ensures ∙ integer-plus (c .before .before .before .before .before .before .args .text .now) (c .before .before .before .before .if1 .left) (c .before .before .if2 .left) (c .before .if3 .left)
 

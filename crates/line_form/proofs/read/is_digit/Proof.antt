@@ -1,14 +1,11 @@
+-- `read::is_digit` meets its contract: by its test. Assumes nothing.
+use Rattle.line_form.proofs.Reading.{digit-low, digit-else}
 use Rattle.line_form.proofs.read.is_digit.Statement.{statement}
 use Rattle.line_form.proofs.read.is_digit.Tie as tie
-use Rattle.line_form.proofs.read.is_digit.Reads as reads
-use Rattle.line_form.proofs.read.is_digit.Lts as lts
-use Rattle.line_form.proofs.Reading.{digit-low, digit-else}
 
--- src/read.rt:38:9
 returns : tie.Need-returns
 returns c = digit-low _ (c .if1 .taken)
 
--- src/read.rt:34:1
 returns-2 : tie.Need-returns-2
 returns-2 c = digit-else _ (c .if1 .left)
 

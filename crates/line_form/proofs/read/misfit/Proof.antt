@@ -1,11 +1,9 @@
-use Rattle.line_form.proofs.read.misfit.Statement.{statement}
-use Rattle.line_form.proofs.read.misfit.Tie as tie
-use Rattle.line_form.proofs.read.misfit.Reads as reads
-use Rattle.line_form.proofs.read.misfit.Lts as lts
+-- `read::misfit` meets its contract: as it stands. Assumes nothing.
 use mathlib.Core.Path.{refl}
 use Rattle.line_form.specs.Held.{heldFit}
+use Rattle.line_form.proofs.read.misfit.Statement.{statement}
+use Rattle.line_form.proofs.read.misfit.Tie as tie
 
--- src/read.rt:175:1
 returns : tie.Need-returns
 unfolding heldFit
 returns c = refl

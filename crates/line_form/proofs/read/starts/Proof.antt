@@ -1,23 +1,18 @@
+-- `read::starts` meets its contract: by its tests. Assumes nothing.
 use borrow.Author.Needs.{needs}
+use Rattle.line_form.proofs.Reading.{starts-none, starts-low, starts-else}
 use Rattle.line_form.proofs.read.starts.Statement.{statement}
 use Rattle.line_form.proofs.read.starts.Tie as tie
-use Rattle.line_form.proofs.read.starts.Reads as reads
-use Rattle.line_form.proofs.read.starts.Lts as lts
-use Rattle.line_form.proofs.Reading.{starts-none, starts-low, starts-else}
 
--- src/read.rt:78:9
 returns : tie.Need-returns
 returns c = starts-none _ (c .if1 .taken)
 
--- src/read.rt:80:13
 shared-slice-read-b : tie.Need-shared-slice-read-b
 shared-slice-read-b c = search needs
 
--- src/read.rt:82:9
 returns-2 : tie.Need-returns-2
 returns-2 c = starts-low _ (c .before .before .if1 .left) (c .if2 .taken)
 
--- src/read.rt:74:1
 returns-3 : tie.Need-returns-3
 returns-3 c = starts-else _ (c .before .before .if1 .left) (c .if2 .left)
 
