@@ -224,7 +224,7 @@ fn is_unknown(n: usize, label: Label) -> bool
 }
 
 // 5: whether the sheet names a corner from n on.
-fn unknown_corner(n: usize, sheet: &[u16]) -> bool
+pub fn unknown_corner(n: usize, sheet: &[u16]) -> bool
     requires { ⌜ 16384 ≤ length (now sheet) ⌝ }
     ensures { λ r. ⌜ r ≡ unknownCorner n (now (sheet .entry)) ⌝ }
 {
@@ -267,7 +267,7 @@ fn seen_twice(sheet: &[u16], seen: &mut [u8; 1024]) -> bool
 }
 
 // 6: whether a corner stands on two places of the sheet.
-fn doubled_corner(sheet: &[u16]) -> bool
+pub fn doubled_corner(sheet: &[u16]) -> bool
     requires { ⌜ HasEntries (now sheet) ⌝ }
     ensures { λ r. ⌜ r ≡ doubledCorner (now (sheet .entry)) ⌝ }
 {

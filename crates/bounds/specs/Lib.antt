@@ -1,0 +1,2 @@
+-- The definitions of what is small in a pass line. Definitions only.
+pub mod Bounds

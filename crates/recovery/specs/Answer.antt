@@ -1,0 +1,105 @@
+-- What is answered to a text (document 01, "Frame and result"): the result of an accepted frame, or `(refused number line)` alone; and the same
+-- answer piece by piece. Definitions only.
+use mathlib.Core.Path.{_≡_}
+use mathlib.Core.Bool.{Bool, true, false}
+use mathlib.Core.List.{List, [], _∷_, _++_}
+use Prim.Native.Nat.{ℕ, zero, suc, _+_, _*_, _<_, _≤_}
+use lib.Dec.{ltb}
+use lib.ListN.{length}
+use Rattle.refusal.specs.declared.Refusal.{Refusal}
+use Rattle.refusal.specs.Refusal.{numberOf}
+use Rattle.binary32.specs.Hex.{pick}
+use Rattle.arguments.specs.Arguments.{unknownCorner, doubledCorner}
+use Rattle.line_form.specs.Forms.{bytes, printed}
+use Rattle.passes.specs.Outcome.{After, Outcome, refused, done}
+use Rattle.passes.specs.Run.{PassStats, run, sheetOf as sheetAfterAll}
+use Rattle.frame.specs.Frame.{Frame, FrameRead, refused-at, accepted, readFrame}
+use Rattle.frame.specs.Lent.{sheetOf}
+use Rattle.frame_laws.specs.Calls.{cornersOf, callsOf}
+use Rattle.report_line.specs.Result.{count, resultText, resultFrom, Piece, resultPiece, lineCount}
+use Rattle.report.specs.Lent.{statsIn, wildOutcome}
+use Rattle.recovery.specs.declared.Recovered.{Recovered}
+
+-- ---- the whole answer
+
+-- "The program prints `(refused number line)` alone."
+unfoldable pub refusedText : Refusal → ℕ → List ℕ
+refusedText r line = printed (bytes "(refused # #)\n") (count (numberOf r) ∷ count line ∷ [])
+
+-- what the passes said; no pass of an accepted frame is refused (`frame_laws`: `accepted-runs`)
+unfoldable pub statsOf : List (Outcome PassStats) → List PassStats
+statsOf [] = []
+statsOf (refused r ∷ os) = statsOf os
+statsOf (done a ∷ os) = a .answer ∷ statsOf os
+
+-- the passes as run, and the sheet that they leave
+unfoldable pub frameStats : Frame → List PassStats
+frameStats f = statsOf (run (cornersOf f) (sheetOf f) (callsOf f))
+
+unfoldable pub frameSheet : Frame → List ℕ
+frameSheet f = sheetAfterAll (cornersOf f) (sheetOf f) (callsOf f)
+
+unfoldable pub answerOf : FrameRead → List ℕ
+answerOf (refused-at r line) = refusedText r line
+answerOf (accepted f) = resultText (frameStats f) (frameSheet f)
+
+-- the answer to a text, any bytes at all
+unfoldable pub answerText : List ℕ → List ℕ
+answerText text = answerOf (readFrame text)
+
+-- ---- what is known when the passes have run: the words and the sheet say what the definition says, and the printer refuses neither
+
+pub record Recorded (f : Frame) (corners passes : ℕ) (sheet words : List ℕ) : Type 0 where
+  pub corner-count : corners ≡ length (f .corners)
+  pub pass-count : passes ≡ length (f .passes)
+  pub few-corners : corners ≤ 1024
+  pub few-passes : passes ≤ 16
+  pub words-long : 9 * passes ≤ length words
+  pub sheet-long : 16384 ≤ length sheet
+  pub sheet-so : sheet ≡ frameSheet f
+  pub stats-so : statsIn passes words ≡ frameStats f
+  pub tame : (k : ℕ) → k < passes → wildOutcome words k ≡ false
+  pub known : unknownCorner corners sheet ≡ false
+  pub once : doubledCorner sheet ≡ false
+
+-- the answer to a text, with the sheet and the words that go with it
+pub data Recovers (text : List ℕ) (sheet words : List ℕ) : Recovered → Type 0 where
+  recovers-not : (r : Refusal) (line : ℕ) → readFrame text ≡ refused-at r line → Recovers text sheet words (Recovered.Refused r line)
+  recovers : (f : Frame) (corners passes : ℕ) → readFrame text ≡ accepted f → Recorded f corners passes sheet words → Recovers text sheet words (Recovered.Done corners passes)
+
+-- ---- piece by piece
+
+-- how many lines there are to write, empty ones included
+unfoldable pub answerLines : FrameRead → ℕ
+answerLines (refused-at r line) = 1
+answerLines (accepted f) = lineCount (length (frameStats f))
+
+abbrev pub refusedPiece : ℕ → List ℕ → Piece
+refusedPiece zero text = record { text = text; next = 1 }
+refusedPiece (suc k) text = record { text = []; next = suc k }
+
+-- the piece from line k on, into so much room
+unfoldable pub answerPiece : FrameRead → ℕ → ℕ → Piece
+answerPiece (refused-at r line) k room = refusedPiece k (refusedText r line)
+answerPiece (accepted f) k room = resultPiece (frameStats f) (frameSheet f) k room
+
+abbrev pub goOn : Bool → List ℕ → List (List ℕ) → List (List ℕ)
+goOn true text rest = text ∷ rest
+goOn false text rest = []
+
+-- the pieces from line k on, at most n of them, each into so much room
+unfoldable pub piecesFrom : FrameRead → ℕ → ℕ → ℕ → List (List ℕ)
+piecesFrom a room zero k = []
+piecesFrom a room (suc n) k = goOn (ltb k (answerLines a)) (answerPiece a k room .text) (piecesFrom a room n (answerPiece a k room .next))
+
+unfoldable pub joined : List (List ℕ) → List ℕ
+joined [] = []
+joined (p ∷ ps) = p ++ joined ps
+
+-- all pieces: each has a line at least, so there are no more pieces than lines
+unfoldable pub pieces : List ℕ → ℕ → List (List ℕ)
+pieces text room = piecesFrom (readFrame text) room (answerLines (readFrame text)) 0
+
+-- the pieces, joined, are the answer
+abbrev pub PiecesJoin : Type 0
+PiecesJoin = (text : List ℕ) (room : ℕ) → 128 ≤ room → joined (pieces text room) ≡ answerText text

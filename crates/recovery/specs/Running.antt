@@ -1,0 +1,80 @@
+-- The passes of a frame, run in order on one sheet (document 01, "Lists of passes, for demand 3": "a frame's passes are one such list"). Definitions only.
+use mathlib.Core.Path.{_≡_}
+use mathlib.Core.List.{List, [], _∷_, _++_}
+use Prim.Native.Nat.{ℕ, zero, suc, _+_, _*_, _<_, _≤_}
+use lib.Dec.{eqb}
+use lib.ListN.{length, getD, take, drop}
+use lib.Ieee.{Float}
+use Rattle.refusal.specs.declared.Refusal.{Refusal}
+use Rattle.binary32.specs.Hex.{pick}
+use Rattle.arguments.specs.declared.Pass.{Pass}
+use Rattle.arguments.specs.declared.Settings.{Settings}
+use Rattle.passes.specs.Outcome.{After, Outcome, refused, done}
+use Rattle.passes.specs.Step.{CornerLists, Rooms}
+use Rattle.passes.specs.Run.{PassCall, grow, fill, local, Call, PassStats, step, sheetAfter}
+use Rattle.frame.specs.Lent.{growOf, fillOf, localOf}
+use Rattle.report.specs.Asked.{withOutcome}
+
+-- ---- a pass from its six words: kind (0 grow, 1 fill, 2 local), search, factor, boundary or residual, rounds, depth
+
+abbrev pub wordOf : List ℕ → ℕ → ℕ → ℕ
+wordOf words k m = getD words (6 * k + m) 0
+
+unfoldable pub passAt : List ℕ → ℕ → Pass
+passAt words k =
+    pick (eqb (wordOf words k 0) 0) (growOf (wordOf words k 1) (wordOf words k 2) (wordOf words k 3))
+    (pick (eqb (wordOf words k 0) 1) (fillOf (wordOf words k 1) (wordOf words k 2) (wordOf words k 4))
+    (localOf (wordOf words k 1) (wordOf words k 2) (wordOf words k 4) (wordOf words k 3) (wordOf words k 5)))
+
+-- the call of a pass
+abbrev pub calledAs : Pass → PassCall
+calledAs (Pass.Grow p) = grow p
+calledAs (Pass.Fill p) = fill p
+calledAs (Pass.Local p) = local p
+
+abbrev pub cornerLists : List Float → List Float → List Float → CornerLists
+cornerLists xs ys pitches = record { xs = xs; ys = ys; pitches = pitches }
+
+abbrev pub rooms : ℕ → ℕ → Rooms
+rooms queue attached = record { queue = queue; attached = attached }
+
+abbrev pub callOf : Settings → ℕ → ℕ → PassCall → Call
+callOf set queue attached p = record { pass = p; settings = set; rooms = rooms queue attached }
+
+-- call k of the passes that are given as words
+abbrev pub callAt : Settings → ℕ → ℕ → List ℕ → ℕ → Call
+callAt set queue attached passes k = callOf set queue attached (calledAs (passAt passes k))
+
+-- ---- what a call leaves: the sheet, and the words of the outcomes, nine of each
+
+-- the outcome of call k; a refused call has none
+abbrev pub noted : List ℕ → ℕ → Outcome PassStats → List ℕ
+noted words k (refused r) = words
+noted words k (done a) = withOutcome words k (a .answer)
+
+pub record Left : Type 0 where
+  pub sheet : List ℕ
+  pub words : List ℕ
+
+abbrev pub left : List ℕ → List ℕ → Left
+left sheet words = record { sheet = sheet; words = words }
+
+unfoldable pub leftBy : CornerLists → Call → ℕ → Left → Left
+leftBy l c k s = left (sheetAfter (s .sheet) (step l (s .sheet) c)) (noted (s .words) k (step l (s .sheet) c))
+
+-- n passes from number k on
+unfoldable pub leftByAll : CornerLists → (ℕ → Call) → ℕ → ℕ → Left → Left
+leftByAll l call zero k s = s
+leftByAll l call (suc n) k s = leftByAll l call n (suc k) (leftBy l (call k) k s)
+
+-- ---- what the inner functions ask
+
+-- room for the words of outcome k
+pub record RoomFor (k : ℕ) (words : List ℕ) : Type 0 where
+  pub below : k < 16
+  pub long : 144 ≤ length words
+
+-- n passes of six words each
+pub record PassWords (n : ℕ) (passes : List ℕ) : Type 0 where
+  pub few : n ≤ 16
+  pub long : 96 ≤ length passes

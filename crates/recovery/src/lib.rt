@@ -1,0 +1,203 @@
+// A frame in, a result or one refusal out: the passes of a frame run in order on one sheet, and the text of the answer.
+ghost use mathlib.Core.Path.{_≡_};
+ghost use Prim.Native.Nat.{_<_, _≤_};
+ghost use lib.ListN.{length};
+ghost use lib.Ieee.{binary32, ofBits};
+ghost use Rattle.passes.specs.Run.{grow, fill, local};
+ghost use Rattle.recovery.specs.Running.{passAt, calledAs, cornerLists, callOf, callAt, left, leftBy, leftByAll, RoomFor, PassWords};
+use arguments::FillParams;
+use arguments::GrowParams;
+use arguments::LocalExtensionParams;
+use arguments::Pass;
+use arguments::Settings;
+use passes::FillAnswer;
+use passes::GrowAnswer;
+use passes::LocalAnswer;
+use refusal::Refusal;
+
+// A refusal with its line, or the number of corners and of passes of a frame whose passes have run.
+pub enum Recovered {
+    Refused(Refusal, usize),
+    Done(usize, usize),
+}
+
+// The float of a pattern.
+fn float_of(bits: u32) -> f32
+    ensures { λ r. ⌜ r ≡ ofBits binary32 bits ⌝ }
+{
+    if 0x7f80_0000 < bits % 0x8000_0000 {
+        return 0.0 / 0.0;
+    }
+    f32::from_bits(bits)
+}
+
+// The pass that six words stand for.
+fn pass_at(passes: &[u32], k: usize) -> Pass
+    requires { ⌜ k < 16 ⌝ }
+    requires { ⌜ 96 ≤ length (now passes) ⌝ }
+    ensures { λ r. ⌜ r ≡ passAt (now (passes .entry)) k ⌝ }
+{
+    let at = 6 * k;
+    let search = float_of(passes[at + 1]);
+    let factor = float_of(passes[at + 2]);
+    let third = float_of(passes[at + 3]);
+    if passes[at] == 0 {
+        return Pass::Grow(GrowParams {
+            attach_search_rel: search,
+            attach_ambiguity_factor: factor,
+            boundary_search_factor: third,
+        });
+    }
+    if passes[at] == 1 {
+        return Pass::Fill(FillParams {
+            attach_search_rel: search,
+            attach_ambiguity_factor: factor,
+            max_iters: passes[at + 4],
+        });
+    }
+    Pass::Local(LocalExtensionParams {
+        search_rel: search,
+        ambiguity_factor: factor,
+        max_iters: passes[at + 4],
+        max_residual_rel: third,
+        extend_depth: passes[at + 5],
+    })
+}
+
+// ---- the passes
+
+// Runs grow, and notes its outcome as number k.
+fn run_grow(
+    xs: &[f32],
+    ys: &[f32],
+    pitches: &[f32],
+    sheet: &mut [u16],
+    queue: &mut [u16],
+    attached: &mut [u16],
+    settings: Settings,
+    params: GrowParams,
+    k: usize,
+    words: &mut [u32],
+)
+    requires { ⌜ RoomFor k (now words) ⌝ }
+    ensures { λ _. ⌜ left (now (sheet .exit)) (now (words .exit)) ≡ leftBy (cornerLists (now (xs .entry)) (now (ys .entry)) (now (pitches .entry))) (callOf settings (length (now (queue .entry))) (length (now (attached .entry))) (grow params)) k (left (now (sheet .entry)) (now (words .entry))) ⌝ }
+{
+    let answer = grow_extend::extend_from_labelled(
+        xs,
+        ys,
+        pitches,
+        sheet,
+        queue,
+        attached,
+        settings,
+        params,
+    );
+    match answer {
+        GrowAnswer::Refused(_) => {}
+        GrowAnswer::Done(stats) => report::words::put_grow(words, k, stats),
+    }
+}
+
+// Runs fill, and notes its outcome as number k.
+fn run_fill(
+    xs: &[f32],
+    ys: &[f32],
+    pitches: &[f32],
+    sheet: &mut [u16],
+    queue: usize,
+    attached: &mut [u16],
+    settings: Settings,
+    params: FillParams,
+    k: usize,
+    words: &mut [u32],
+)
+    requires { ⌜ RoomFor k (now words) ⌝ }
+    ensures { λ _. ⌜ left (now (sheet .exit)) (now (words .exit)) ≡ leftBy (cornerLists (now (xs .entry)) (now (ys .entry)) (now (pitches .entry))) (callOf settings queue (length (now (attached .entry))) (fill params)) k (left (now (sheet .entry)) (now (words .entry))) ⌝ }
+{
+    let answer = fill::fill_grid_holes(xs, ys, pitches, sheet, attached, settings, params);
+    match answer {
+        FillAnswer::Refused(_) => {}
+        FillAnswer::Done(stats) => report::words::put_fill(words, k, stats),
+    }
+}
+
+// Runs local, and notes its outcome as number k.
+fn run_local(
+    xs: &[f32],
+    ys: &[f32],
+    pitches: &[f32],
+    sheet: &mut [u16],
+    queue: usize,
+    attached: &mut [u16],
+    settings: Settings,
+    params: LocalExtensionParams,
+    k: usize,
+    words: &mut [u32],
+)
+    requires { ⌜ RoomFor k (now words) ⌝ }
+    ensures { λ _. ⌜ left (now (sheet .exit)) (now (words .exit)) ≡ leftBy (cornerLists (now (xs .entry)) (now (ys .entry)) (now (pitches .entry))) (callOf settings queue (length (now (attached .entry))) (local params)) k (left (now (sheet .entry)) (now (words .entry))) ⌝ }
+{
+    let answer =
+        local::extend_via_local_homography(xs, ys, pitches, sheet, attached, settings, params);
+    match answer {
+        LocalAnswer::Refused(_) => {}
+        LocalAnswer::Done(stats) => report::words::put_local(words, k, stats),
+    }
+}
+
+// Runs a pass, and notes its outcome as number k.
+fn run_pass(
+    xs: &[f32],
+    ys: &[f32],
+    pitches: &[f32],
+    sheet: &mut [u16],
+    queue: &mut [u16],
+    attached: &mut [u16],
+    settings: Settings,
+    pass: Pass,
+    k: usize,
+    words: &mut [u32],
+)
+    requires { ⌜ RoomFor k (now words) ⌝ }
+    ensures { λ _. ⌜ left (now (sheet .exit)) (now (words .exit)) ≡ leftBy (cornerLists (now (xs .entry)) (now (ys .entry)) (now (pitches .entry))) (callOf settings (length (now (queue .entry))) (length (now (attached .entry))) (calledAs pass)) k (left (now (sheet .entry)) (now (words .entry))) ⌝ }
+{
+    let places = queue.len();
+    match pass {
+        Pass::Grow(p) => {
+            run_grow(xs, ys, pitches, sheet, queue, attached, settings, p, k, words)
+        }
+        Pass::Fill(p) => {
+            run_fill(xs, ys, pitches, sheet, places, attached, settings, p, k, words)
+        }
+        Pass::Local(p) => {
+            run_local(xs, ys, pitches, sheet, places, attached, settings, p, k, words)
+        }
+    }
+}
+
+// Runs the first n passes in order on one sheet, and notes their outcomes.
+pub fn run_passes(
+    passes: &[u32],
+    n: usize,
+    xs: &[f32],
+    ys: &[f32],
+    pitches: &[f32],
+    sheet: &mut [u16],
+    queue: &mut [u16],
+    attached: &mut [u16],
+    settings: Settings,
+    words: &mut [u32],
+)
+    requires { ⌜ PassWords n (now passes) ⌝ }
+    requires { ⌜ 144 ≤ length (now words) ⌝ }
+    ensures { λ _. ⌜ left (now (sheet .exit)) (now (words .exit)) ≡ leftByAll (cornerLists (now (xs .entry)) (now (ys .entry)) (now (pitches .entry))) (callAt settings (length (now (queue .entry))) (length (now (attached .entry))) (now (passes .entry))) n 0 (left (now (sheet .entry)) (now (words .entry))) ⌝ }
+{
+    let mut k = 0usize;
+    while k < n {
+        let pass = pass_at(passes, k);
+        run_pass(
+            xs, ys, pitches, sheet, queue, attached, settings, pass, k, words,
+        );
+        k += 1;
+    }
+}

@@ -1,0 +1,169 @@
+-- What the tests of a call say, one after the other. Assumes nothing.
+use mathlib.Core.Path.{_≡_, refl, sym, ap, _∙_}
+use mathlib.Core.Bool.{Bool, true, false, not, _||_}
+use mathlib.Core.List.{List}
+use Prim.Native.Nat.{ℕ, _*_, _/_, _%_, _≤_, _<_}
+use native.Mathlib.Decide.{decLe}
+use native.Mathlib.Omega.{arith}
+use borrow.Author.Tests.{lt-ltb, le-ltb, ltb-true, ltb-false, le-leb, lt-leb, eq-eqb, ne-eqb}
+use lib.Dec.{ltb, leb}
+use lib.ListN.{length}
+use lib.Ieee.{binary32, ofBits}
+use Rattle.refusal.specs.declared.Refusal.{Refusal}
+use Rattle.binary32.specs.Ranges.{isFinite}
+use Rattle.binary32.proofs.Finite.{finite-bits, infinite-bits}
+use Rattle.arguments.specs.Arguments.{refusedIf}
+use Rattle.arguments.specs.declared.Checked.{Checked}
+use Rattle.arguments.proofs.Tests.{holds, fails}
+use Rattle.labels.proofs.Below.{no-both}
+use Rattle.report_line.specs.Result.{lineCount}
+use Rattle.report.specs.Lent.{Lent, wordAt, statsIn, textOf, inputShort, overLimit, wildResidual, wild, checkedRest, checkedText, checkedPiece}
+use Rattle.report.specs.Asked.{AllLent, textFrom, CornersAsked, cornersChecked}
+use Rattle.report.proofs.Laws.{from-the-start}
+
+-- ---- a number against a bound
+
+module _ (a r w : ℕ) (e : r ≡ w) where
+  pub above : a < r → ltb a w ≡ true
+  above h = lt-ltb a w (omega arith)
+
+  pub not-above : r ≤ a → ltb a w ≡ false
+  not-above h = le-ltb a w (omega arith)
+
+  pub as-above : ltb a r ≡ ltb a w
+  as-above = ap (ltb a) e
+
+-- ---- 7: nine words an outcome, by a division that cannot overflow
+
+pub ninth : (n passes : ℕ) → ltb (n / 9) passes ≡ ltb n (9 * passes)
+ninth n passes = go (ltb n (9 * passes)) refl
+  where
+    go : (t : Bool) → ltb n (9 * passes) ≡ t → ltb (n / 9) passes ≡ t
+    go true e = let h = ltb-true n (9 * passes) e in lt-ltb (n / 9) passes (omega arith)
+    go false e = let h = ltb-false n (9 * passes) e in le-ltb (n / 9) passes (omega arith)
+
+-- ---- 3: a residual
+
+not-finite : (b : ℕ) → leb 0x7f80_0000 (b % 0x8000_0000) ≡ not (isFinite (ofBits binary32 b))
+not-finite b = go (decLe 0x7f80_0000 (b % 0x8000_0000))
+  where
+    go : Dec (0x7f80_0000 ≤ b % 0x8000_0000) → leb 0x7f80_0000 (b % 0x8000_0000) ≡ not (isFinite (ofBits binary32 b))
+    go (yes l) = le-leb 0x7f80_0000 (b % 0x8000_0000) l ∙ sym (ap not (infinite-bits b l))
+    go (no f) = lt-leb 0x7f80_0000 (b % 0x8000_0000) (omega arith) ∙ sym (ap not (finite-bits b (omega arith)))
+
+module _ (words : List ℕ) (k flag : ℕ) (e : flag ≡ wordAt words k 6) where
+  pub flag-wild : 1 < flag → true ≡ wildResidual words k
+  unfolding wildResidual
+  flag-wild h = holds _ _ (above 1 flag _ e h)
+
+  pub flag-none : flag ≡ 0 → false ≡ wildResidual words k
+  unfolding wildResidual
+  flag-none h = fails _ _ _ (not-above 1 flag _ e (omega arith)) (rw (ne-eqb (wordAt words k 6) 1 (λ z. omega arith)))
+
+  pub flag-some : flag ≤ 1 → (flag ≡ 0 → ⊥) → leb 0x7f80_0000 (wordAt words k 7 % 0x8000_0000) ≡ wildResidual words k
+  unfolding wildResidual
+  flag-some h d =
+      fails _ _ _ (not-above 1 flag _ e h) (rw (eq-eqb (wordAt words k 6) 1 (omega arith)) (not-finite (wordAt words k 7)))
+
+-- ---- one refusal after the other
+
+pub refused : (b : Bool) (r : Refusal) (rest : Checked) → b ≡ true → Checked.Refused r ≡ refusedIf b r rest
+refused b r rest e = rw e
+
+pub passed : (b : Bool) (r : Refusal) (rest t : Checked) → b ≡ false → t ≡ rest → t ≡ refusedIf b r rest
+passed b r rest t e f = rw e f
+
+either : (a b : Bool) → (a || b) ≡ false → (a ≡ false) × (b ≡ false)
+either true b e = absurd (no-both true refl e)
+either false b e = (refl, e)
+
+neither : (a b : Bool) → a ≡ false → b ≡ false → (a || b) ≡ false
+neither a b e f = rw e f
+
+module _ (l : Lent) where
+  -- 7, by its two tests
+  pub words-short : length (l .words) / 9 < l .passes → true ≡ inputShort l
+  unfolding inputShort
+  words-short h = holds _ _ (sym (ninth (length (l .words)) (l .passes)) ∙ lt-ltb _ _ h)
+
+  pub sheet-short : l .passes ≤ length (l .words) / 9 → ltb (length (l .sheet)) 16384 ≡ inputShort l
+  unfolding inputShort
+  sheet-short h = fails _ _ _ (sym (ninth (length (l .words)) (l .passes)) ∙ le-ltb _ _ h) refl
+
+  pub all-lent : inputShort l ≡ false → AllLent (l .passes) (l .words) (l .sheet)
+  unfolding inputShort
+  all-lent e =
+      let r = either (ltb (length (l .words)) (9 * l .passes)) _ e in
+      record { words-long = ltb-false _ _ (r .0); sheet-long = ltb-false _ _ (r .1) }
+
+  pub corners-few : overLimit l ≡ false → l .corners ≤ 1024
+  unfolding overLimit
+  corners-few e = ltb-false _ _ (either (ltb 16 (l .passes)) _ e .1)
+
+  pub corners-asked : inputShort l ≡ false → overLimit l ≡ false → CornersAsked (l .corners) (l .sheet)
+  corners-asked e f = record { few = corners-few f; long = all-lent e .sheet-long }
+
+  -- the whole text
+  module _ (room : ℕ) where
+    same-text : ltb room (length (textFrom (l .passes) (l .words) (l .sheet) 0)) ≡ ltb room (length (textOf l))
+    unfolding textFrom
+    same-text = ap (λ (t : List ℕ). ltb room (length t)) (from-the-start (statsIn (l .passes) (l .words)) (l .sheet))
+
+    pub text-7 : inputShort l ≡ true → Checked.Refused Refusal.BufferTooShort ≡ checkedText l room
+    unfolding checkedText
+    text-7 e = refused _ _ _ (sym (holds _ _ e))
+
+    module _ (a : inputShort l ≡ false) where
+      pub text-7-too : ltb room (length (textFrom (l .passes) (l .words) (l .sheet) 0)) ≡ true → Checked.Refused Refusal.BufferTooShort ≡ checkedText l room
+      unfolding checkedText
+      text-7-too e = refused _ _ _ (sym (fails _ _ _ a (sym (sym same-text ∙ e))))
+
+      module _ (b : ltb room (length (textFrom (l .passes) (l .words) (l .sheet) 0)) ≡ false) where
+        long : (inputShort l || ltb room (length (textOf l))) ≡ false
+        long = neither _ _ a (sym same-text ∙ b)
+
+        pub text-2 : overLimit l ≡ true → Checked.Refused Refusal.OverLimit ≡ checkedText l room
+        unfolding checkedText checkedRest
+        text-2 e = passed _ _ _ _ long (refused _ _ _ e)
+
+        module _ (c : overLimit l ≡ false) where
+          pub text-3 : wild l ≡ true → Checked.Refused Refusal.OutOfRange ≡ checkedText l room
+          unfolding checkedText checkedRest
+          text-3 e = passed _ _ _ _ long (passed _ _ _ _ c (refused _ _ _ e))
+
+          pub text-rest : wild l ≡ false → cornersChecked (l .corners) (l .sheet) ≡ checkedText l room
+          unfolding checkedText checkedRest
+          text-rest e = passed _ _ _ _ long (passed _ _ _ _ c (passed _ _ _ _ e refl))
+
+  -- a piece
+  module _ (from room : ℕ) where
+    pub piece-7 : inputShort l ≡ true → Checked.Refused Refusal.BufferTooShort ≡ checkedPiece l from room
+    unfolding checkedPiece
+    piece-7 e = refused _ _ _ (sym (holds _ _ e))
+
+    module _ (a : inputShort l ≡ false) where
+      pub piece-7-too : room < 128 → Checked.Refused Refusal.BufferTooShort ≡ checkedPiece l from room
+      unfolding checkedPiece
+      piece-7-too h = refused _ _ _ (sym (fails _ _ _ a (sym (lt-ltb _ _ h))))
+
+      module _ (b : 128 ≤ room) where
+        wide : (inputShort l || ltb room 128) ≡ false
+        wide = neither _ _ a (le-ltb _ _ b)
+
+        pub piece-2 : overLimit l ≡ true → Checked.Refused Refusal.OverLimit ≡ checkedPiece l from room
+        unfolding checkedPiece
+        piece-2 e = passed _ _ _ _ wide (refused _ _ _ e)
+
+        module _ (c : overLimit l ≡ false) where
+          pub piece-3 : wild l ≡ true → Checked.Refused Refusal.OutOfRange ≡ checkedPiece l from room
+          unfolding checkedPiece
+          piece-3 e = passed _ _ _ _ wide (passed _ _ _ _ c (refused _ _ _ (sym (holds _ _ e))))
+
+          module _ (d : wild l ≡ false) where
+            pub piece-3-too : lineCount (l .passes) < from → Checked.Refused Refusal.OutOfRange ≡ checkedPiece l from room
+            unfolding checkedPiece
+            piece-3-too h = passed _ _ _ _ wide (passed _ _ _ _ c (refused _ _ _ (sym (fails _ _ _ d (sym (lt-ltb _ _ h))))))
+
+            pub piece-rest : from ≤ lineCount (l .passes) → cornersChecked (l .corners) (l .sheet) ≡ checkedPiece l from room
+            unfolding checkedPiece
+            piece-rest h = passed _ _ _ _ wide (passed _ _ _ _ c (passed _ _ _ _ (neither _ _ d (le-ltb _ _ h)) refl))

@@ -1,0 +1,44 @@
+-- No line of a result is longer than 127 bytes. Assumes nothing.
+use mathlib.Core.Path.{_≡_, refl}
+use mathlib.Core.Bool.{Bool, true, false}
+use mathlib.Core.List.{List}
+use Prim.Native.Nat.{ℕ, zero, suc, _-_, _≤_, _<_}
+use native.Mathlib.Omega.{arith}
+use borrow.Author.Tests.{ltb-true, ltb-false}
+use lib.Dec.{ltb, eqb}
+use lib.ListN.{length}
+use Rattle.binary32.specs.Hex.{pick}
+use Rattle.report_line.specs.Result.{passLine, sheetLine, passLineAt, resultLine, lineCount}
+use Rattle.passes.specs.Run.{growStats, fillStats, localStats}
+use Rattle.report.specs.Lent.{Lent, wordAt, countsAt, statsAt, statsIn, wild}
+use Rattle.report_line.specs.Written.{Few}
+use Rattle.report_line.proofs.Short.{grow-short, fill-short, local-short, sheet-short}
+use Rattle.report.specs.Asked.{growAt, fillAt, localAt, Tame}
+use Rattle.report.proofs.Outcomes.{all-tame, stats-length, pass-line-at}
+
+-- the line of an outcome that passes the check
+pub pass-short : (words : List ℕ) (k : ℕ) → Tame words k → length (passLine (statsAt words k)) ≤ 127
+unfolding passLine statsAt
+pass-short words k h = go (eqb (wordAt words k 0) 0) (eqb (wordAt words k 0) 1)
+  where
+    few : Few (countsAt words k)
+    few = record { attached = h .attached; no-candidate = h .no-candidate; ambiguous = h .ambiguous; edge = h .edge }
+
+    go : (a b : Bool) → length (passLine (pick a (growStats (growAt words k)) (pick b (fillStats (fillAt words k)) (localStats (localAt words k))))) ≤ 127
+    go true b = grow-short _ few
+    go false true = fill-short _ (h .attached) (h .rounds)
+    go false false = local-short _ few (h .rounds)
+
+-- ---- every line
+
+-- "No line is longer than 127 bytes"
+pub line-short : (l : Lent) → wild l ≡ false → (k : ℕ) → k < lineCount (l .passes) → length (resultLine (statsIn (l .passes) (l .words)) (l .sheet) k) ≤ 127
+unfolding resultLine
+line-short l e zero h = omega arith
+line-short l e (suc k) h = rw (stats-length (l .words) 0 (l .passes)) (go (ltb k (l .passes)) refl)
+  where
+    go : (t : Bool) → ltb k (l .passes) ≡ t → length (pick t (passLineAt (statsIn (l .passes) (l .words)) k) (sheetLine (l .sheet) (k - l .passes))) ≤ 127
+    go true p =
+        let b = ltb-true k (l .passes) p in
+        rw (pass-line-at (l .words) 0 (l .passes) k k b (omega arith)) (pass-short (l .words) k (all-tame l e k b))
+    go false p = let b = ltb-false k (l .passes) p in sheet-short (l .sheet) (k - l .passes) (omega arith)

@@ -1,0 +1,142 @@
+-- What the inner functions ask of what is lent, and the lines of a result by what is lent. Definitions only.
+use mathlib.Core.Path.{_≡_}
+use mathlib.Core.Bool.{true}
+use mathlib.Core.List.{List, _++_}
+use Prim.Native.Nat.{ℕ, _+_, _*_, _≤_, _<_}
+use lib.ListN.{length, take, drop}
+use lib.Dec.{T}
+use lib.Ieee.{binary32, ofBits, toBits, fits}
+use Rattle.binary32.specs.Ranges.{isFinite}
+use Rattle.arguments.specs.Arguments.{refusedIf, unknownCorner, doubledCorner}
+use Rattle.arguments.specs.declared.Checked.{Checked}
+use Rattle.refusal.specs.declared.Refusal.{Refusal}
+use Rattle.passes.specs.declared.Counts.{Counts}
+use Rattle.passes.specs.declared.GrowStats.{GrowStats}
+use Rattle.passes.specs.declared.FillStats.{FillStats}
+use Rattle.passes.specs.declared.LocalStats.{LocalStats}
+use Rattle.passes.specs.declared.LargestResidual.{LargestResidual}
+use Rattle.passes.specs.Run.{PassStats, growStats, fillStats, localStats}
+use Rattle.report_line.specs.Result.{resultLine, lineCount, resultFrom}
+use Rattle.report.specs.Lent.{outcomeWords, wordAt, countsAt, yesAt, residualAt, statsIn, largestCount}
+
+-- ---- outcomes
+
+-- what outcome k says as one of grow, of fill, of local
+abbrev pub growAt : List ℕ → ℕ → GrowStats
+growAt words k = record { counts = countsAt words k; rim = yesAt words k 8 }
+
+abbrev pub fillAt : List ℕ → ℕ → FillStats
+fillAt words k = record { added = wordAt words k 1; iterations = wordAt words k 5; rim = yesAt words k 8 }
+
+abbrev pub localAt : List ℕ → ℕ → LocalStats
+localAt words k = record { counts = countsAt words k; iterations = wordAt words k 5; residual = residualAt words k; rim = yesAt words k 8 }
+
+-- the nine words of outcome k are there
+pub record HasOutcome (words : List ℕ) (k : ℕ) : Type 0 where
+  pub there : 9 * k + 9 ≤ length words
+
+-- and they are those that an outcome has
+pub record Tame (words : List ℕ) (k : ℕ) : Type 0 where
+  pub kind : wordAt words k 0 ≤ 2
+  pub attached : wordAt words k 1 ≤ largestCount
+  pub no-candidate : wordAt words k 2 ≤ largestCount
+  pub ambiguous : wordAt words k 3 ≤ largestCount
+  pub edge : wordAt words k 4 ≤ largestCount
+  pub rounds : wordAt words k 5 ≤ 64
+  pub flag : wordAt words k 6 ≤ 1
+  pub finite : wordAt words k 6 ≡ 1 → isFinite (ofBits binary32 (wordAt words k 7)) ≡ true
+  pub rim : wordAt words k 8 ≤ 1
+
+pub record TameOutcome (words : List ℕ) (k : ℕ) : Type 0 where
+  pub has : HasOutcome words k
+  pub tame : Tame words k
+
+-- ---- an outcome put at its place
+
+-- the words with nine put at the place of outcome k, the others as they were; and with an outcome
+abbrev pub put : List ℕ → ℕ → List ℕ → List ℕ
+put words k nine = take (9 * k) words ++ (nine ++ drop (9 * k + 9) words)
+
+abbrev pub withOutcome : List ℕ → ℕ → PassStats → List ℕ
+withOutcome words k s = put words k (outcomeWords s)
+
+-- the two words of a residual
+abbrev pub flagOf : LargestResidual → ℕ
+flagOf LargestResidual.Nothing = 0
+flagOf (LargestResidual.Residual x) = 1
+
+abbrev pub bitsOf : LargestResidual → ℕ
+bitsOf LargestResidual.Nothing = 0
+bitsOf (LargestResidual.Residual x) = toBits binary32 x
+
+-- a count as a word
+abbrev pub FitsWord : ℕ → Type 0
+FitsWord n = n < 4294967296
+
+pub record CountsFit (c : Counts) : Type 0 where
+  pub attached : FitsWord (c .attached)
+  pub no-candidate : FitsWord (c .«rejected_no_candidate»)
+  pub ambiguous : FitsWord (c .«rejected_ambiguous»)
+  pub edge : FitsWord (c .«rejected_edge»)
+
+-- there is room for outcome k, and its counts are words
+pub record GrowFits (words : List ℕ) (k : ℕ) (s : GrowStats) : Type 0 where
+  pub room : HasOutcome words k
+  pub counts : CountsFit (s .counts)
+
+pub record FillFits (words : List ℕ) (k : ℕ) (s : FillStats) : Type 0 where
+  pub room : HasOutcome words k
+  pub added : FitsWord (s .added)
+  pub rounds : FitsWord (s .iterations)
+
+pub record LocalFits (words : List ℕ) (k : ℕ) (s : LocalStats) : Type 0 where
+  pub room : HasOutcome words k
+  pub counts : CountsFit (s .counts)
+  pub rounds : FitsWord (s .iterations)
+
+-- a residual, if there is one, is a value of binary32
+abbrev pub FloatOrNone : LargestResidual → Type 0
+FloatOrNone LargestResidual.Nothing = Unit {0}
+FloatOrNone (LargestResidual.Residual x) = T (fits binary32 x)
+
+abbrev pub IsFloat : PassStats → Type 0
+IsFloat (growStats s) = Unit {0}
+IsFloat (fillStats s) = Unit {0}
+IsFloat (localStats s) = FloatOrNone (s .residual)
+
+-- ---- what is lent
+
+-- words and sheet are there
+pub record AllLent (passes : ℕ) (words sheet : List ℕ) : Type 0 where
+  pub words-long : 9 * passes ≤ length words
+  pub sheet-long : 16384 ≤ length sheet
+
+-- and the outcomes are what they can be
+pub record Sound (passes : ℕ) (words sheet : List ℕ) : Type 0 where
+  pub all : AllLent passes words sheet
+  pub tame : (k : ℕ) → k < passes → Tame words k
+
+-- ---- lines
+
+-- line k
+unfoldable pub lineAt : ℕ → List ℕ → List ℕ → ℕ → List ℕ
+lineAt passes words sheet k = resultLine (statsIn passes words) sheet k
+
+-- the text from line k on
+unfoldable pub textFrom : ℕ → List ℕ → List ℕ → ℕ → List ℕ
+textFrom passes words sheet k = resultFrom (statsIn passes words) sheet k
+
+-- there is a line k
+pub record HasLine (passes : ℕ) (words sheet : List ℕ) (k : ℕ) : Type 0 where
+  pub all : AllLent passes words sheet
+  pub below : k < lineCount passes
+
+-- ---- 5 and 6
+
+pub record CornersAsked (corners : ℕ) (sheet : List ℕ) : Type 0 where
+  pub few : corners ≤ 1024
+  pub long : 16384 ≤ length sheet
+
+abbrev pub cornersChecked : ℕ → List ℕ → Checked
+cornersChecked corners sheet =
+    refusedIf (unknownCorner corners sheet) Refusal.UnknownCorner (refusedIf (doubledCorner sheet) Refusal.Duplicate Checked.Fine)

@@ -1,0 +1,58 @@
+-- `length::number_length` meets its contract: below zero a minus stands before the digits. Assumes nothing.
+use borrow.Author.Needs.{needs}
+use Rattle.report_line.proofs.length.number_length.Statement.{statement}
+use Rattle.report_line.proofs.length.number_length.Tie as tie
+use mathlib.Core.Path.{_≡_, _∙_}
+use native.Mathlib.Omega.{arith}
+use lib.IntN.{pos, natAbs, _-ℤ_}
+use mir.Syntax.{w32}
+use mir.Val.{toZ, ofZ}
+use Rattle.sheet.proofs.Laws.{read-back, sub-fits, sub-read, size-below, size-above}
+use Rattle.report_line.proofs.Lengths.{below-zero, not-below-zero}
+
+turned : (c : tie.Then1) → toZ w32 (ofZ w32 (pos 0 -ℤ toZ w32 (ofZ w32 (c .before .args .z)))) ≡ pos (natAbs (c .before .args .z))
+turned c =
+    let z = c .before .args .z in
+    sub-read (pos 0) z (omega arith) ∙ size-below z (rw (read-back z (omega arith)) at (c .if1 .taken))
+
+kept : (c : tie.Else1) → toZ w32 (ofZ w32 (c .before .args .z)) ≡ pos (natAbs (c .before .args .z))
+kept c =
+    let z = c .before .args .z in
+    read-back z (omega arith) ∙ size-above z (rw (read-back z (omega arith)) at (c .if1 .left))
+
+sub-digits : tie.Need-sub-digits
+sub-digits c = sub-fits (pos 0) (c .before .args .z) (omega arith)
+
+cast-digits : tie.Need-cast-digits
+cast-digits c = rw (turned c) (tt, record { fits = omega arith })
+
+digits-requires : tie.Need-digits-requires
+digits-requires c κs = search needs
+
+add-result : tie.Need-add-result
+add-result c = search needs
+
+returns : tie.Need-returns
+returns c = below-zero _ _ (rw (turned (c .before)) at (c .digits .ensures)) (rw (read-back (c .before .before .args .z) (omega arith)) at (c .before .if1 .taken))
+
+cast-digits-2 : tie.Need-cast-digits-2
+cast-digits-2 c = rw (kept c) (tt, record { fits = omega arith })
+
+digits-requires-2 : tie.Need-digits-requires-2
+digits-requires-2 c κs = search needs
+
+returns-2 : tie.Need-returns-2
+returns-2 c = not-below-zero _ _ (rw (kept (c .before)) at (c .digits2 .ensures)) (rw (read-back (c .before .before .args .z) (omega arith)) at (c .before .if1 .left))
+
+pub number-length-spec : {M : Type 1} → statement M
+number-length-spec =
+    tie.close
+    (tie.spec
+    sub-digits
+    cast-digits
+    digits-requires
+    add-result
+    returns
+    cast-digits-2
+    digits-requires-2
+    returns-2)
