@@ -68,7 +68,7 @@ module _ (seen : Cell → Seen) (h : List Float) where
   residuals-finite [] e = tt
   residuals-finite (p ∷ ps) e =
       let w = both _ _ e in
-      (record { finite = w .0; fit = residual-fits p } , residuals-finite ps (w .1))
+      (record { finite = w .0; fit = residual-fits p }, residuals-finite ps (w .1))
 
 none-fitted : {h rs : List Float} → none ≡ fitted h rs → ⊥
 none-fitted e = let z : _≡_ {A = ℕ} 0 1 = cc in omega arith

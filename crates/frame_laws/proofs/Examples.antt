@@ -29,18 +29,18 @@ example =
 
 abbrev meant : Frame
 meant =
-    record
-      { cell = 0x4120_0000
-      ; axes = record { ix = 0x3f80_0000; iy = 0; jx = 0; jy = 0x3f80_0000 }
-      ; band = 0x3e80_0000
-      ; corners =
+    record {
+      cell = 0x4120_0000;
+      axes = record { ix = 0x3f80_0000; iy = 0; jx = 0; jy = 0x3f80_0000 };
+      band = 0x3e80_0000;
+      corners =
           record { x = 0x4120_0000; y = 0x4120_0000; pitch = 0 }
           ∷ record { x = 0x41a0_0000; y = 0x4120_0000; pitch = 0 }
           ∷ record { x = 0x41f0_0000; y = 0x4120_0000; pitch = 0 }
-          ∷ []
-      ; labels = record { corner = pos 0; cell = record { i = pos 0; j = pos 0 } } ∷ record { corner = pos 1; cell = record { i = pos 1; j = pos 0 } } ∷ []
-      ; passes = bare-grow ∷ []
-      }
+          ∷ [];
+      labels = record { corner = pos 0; cell = record { i = pos 0; j = pos 0 } } ∷ record { corner = pos 1; cell = record { i = pos 1; j = pos 0 } } ∷ [];
+      passes = bare-grow ∷ [];
+    }
 
 -- 01's example says what it seems to say
 pub example-read : readFrame example ≡ accepted meant

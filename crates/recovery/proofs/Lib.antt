@@ -1,3 +1,6 @@
--- Laws of words put into a buffer, and of passes run one after the other.
+-- Laws of words, of passes run one after the other, of what they leave, and of the answer piece by piece.
 pub mod Words
 pub mod Running
+pub mod Ran
+pub mod Pieces
+pub mod Recovering

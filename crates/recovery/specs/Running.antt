@@ -78,3 +78,23 @@ pub record RoomFor (k : ℕ) (words : List ℕ) : Type 0 where
 pub record PassWords (n : ℕ) (passes : List ℕ) : Type 0 where
   pub few : n ≤ 16
   pub long : 96 ≤ length passes
+
+-- n corners at the front of their buffers
+pub record AtFront (n : ℕ) (xs ys pitches : List Float) : Type 0 where
+  pub in-xs : n ≤ length xs
+  pub in-ys : n ≤ length ys
+  pub in-pitches : n ≤ length pitches
+
+-- what a frame is read into
+pub record FrameRoom (xs ys pitches : List Float) (sheet passes : List ℕ) : Type 0 where
+  pub xs-long : 1024 ≤ length xs
+  pub ys-long : 1024 ≤ length ys
+  pub pitches-long : 1024 ≤ length pitches
+  pub sheet-whole : length sheet ≡ 16384
+  pub passes-long : 96 ≤ length passes
+
+-- what its passes are lent beside that
+pub record PassRoom (queue attached words : List ℕ) : Type 0 where
+  pub queue-whole : length queue ≡ 4096
+  pub attached-whole : length attached ≡ 1024
+  pub words-long : 144 ≤ length words

@@ -1,15 +1,17 @@
 // A frame in, a result or one refusal out: the passes of a frame run in order on one sheet, and the text of the answer.
 ghost use mathlib.Core.Path.{_≡_};
 ghost use Prim.Native.Nat.{_<_, _≤_};
-ghost use lib.ListN.{length};
+ghost use lib.ListN.{length, take};
 ghost use lib.Ieee.{binary32, ofBits};
 ghost use Rattle.passes.specs.Run.{grow, fill, local};
-ghost use Rattle.recovery.specs.Running.{passAt, calledAs, cornerLists, callOf, callAt, left, leftBy, leftByAll, RoomFor, PassWords};
+ghost use Rattle.recovery.specs.Running.{passAt, calledAs, cornerLists, callOf, callAt, left, leftBy, leftByAll, RoomFor, PassWords, AtFront, FrameRoom, PassRoom};
+ghost use Rattle.recovery.specs.Answer.{Recovers};
 use arguments::FillParams;
 use arguments::GrowParams;
 use arguments::LocalExtensionParams;
 use arguments::Pass;
 use arguments::Settings;
+use frame::FrameAnswer;
 use passes::FillAnswer;
 use passes::GrowAnswer;
 use passes::LocalAnswer;
@@ -137,8 +139,15 @@ fn run_local(
     requires { ⌜ RoomFor k (now words) ⌝ }
     ensures { λ _. ⌜ left (now (sheet .exit)) (now (words .exit)) ≡ leftBy (cornerLists (now (xs .entry)) (now (ys .entry)) (now (pitches .entry))) (callOf settings queue (length (now (attached .entry))) (local params)) k (left (now (sheet .entry)) (now (words .entry))) ⌝ }
 {
-    let answer =
-        local::extend_via_local_homography(xs, ys, pitches, sheet, attached, settings, params);
+    let answer = local::extend_via_local_homography(
+        xs,
+        ys,
+        pitches,
+        sheet,
+        attached,
+        settings,
+        params,
+    );
     match answer {
         LocalAnswer::Refused(_) => {}
         LocalAnswer::Done(stats) => report::words::put_local(words, k, stats),
@@ -164,13 +173,46 @@ fn run_pass(
     let places = queue.len();
     match pass {
         Pass::Grow(p) => {
-            run_grow(xs, ys, pitches, sheet, queue, attached, settings, p, k, words)
+            run_grow(
+                xs,
+                ys,
+                pitches,
+                sheet,
+                queue,
+                attached,
+                settings,
+                p,
+                k,
+                words,
+            )
         }
         Pass::Fill(p) => {
-            run_fill(xs, ys, pitches, sheet, places, attached, settings, p, k, words)
+            run_fill(
+                xs,
+                ys,
+                pitches,
+                sheet,
+                places,
+                attached,
+                settings,
+                p,
+                k,
+                words,
+            )
         }
         Pass::Local(p) => {
-            run_local(xs, ys, pitches, sheet, places, attached, settings, p, k, words)
+            run_local(
+                xs,
+                ys,
+                pitches,
+                sheet,
+                places,
+                attached,
+                settings,
+                p,
+                k,
+                words,
+            )
         }
     }
 }
@@ -196,8 +238,94 @@ pub fn run_passes(
     while k < n {
         let pass = pass_at(passes, k);
         run_pass(
-            xs, ys, pitches, sheet, queue, attached, settings, pass, k, words,
+            xs,
+            ys,
+            pitches,
+            sheet,
+            queue,
+            attached,
+            settings,
+            pass,
+            k,
+            words,
         );
         k += 1;
+    }
+}
+
+// ---- a frame
+
+// Runs the m passes of a frame with n corners, which stand at the front of their buffers.
+fn run_frame(
+    passes: &[u32],
+    m: usize,
+    xs: &[f32],
+    ys: &[f32],
+    pitches: &[f32],
+    n: usize,
+    sheet: &mut [u16],
+    queue: &mut [u16],
+    attached: &mut [u16],
+    settings: Settings,
+    words: &mut [u32],
+)
+    requires { ⌜ PassWords m (now passes) ⌝ }
+    requires { ⌜ AtFront n (now xs) (now ys) (now pitches) ⌝ }
+    requires { ⌜ 144 ≤ length (now words) ⌝ }
+    ensures { λ _. ⌜ left (now (sheet .exit)) (now (words .exit)) ≡ leftByAll (cornerLists (take n (now (xs .entry))) (take n (now (ys .entry))) (take n (now (pitches .entry)))) (callAt settings (length (now (queue .entry))) (length (now (attached .entry))) (now (passes .entry))) m 0 (left (now (sheet .entry)) (now (words .entry))) ⌝ }
+{
+    run_passes(
+        passes,
+        m,
+        &xs[..n],
+        &ys[..n],
+        &pitches[..n],
+        sheet,
+        queue,
+        attached,
+        settings,
+        words,
+    );
+}
+
+// Reads a frame and runs its passes in order on one sheet: then the sheet and the words of the outcomes say what the result has to say.
+// A refused frame changes none of the buffers.
+pub fn recover_frame(
+    text: &[u8],
+    xs: &mut [f32],
+    ys: &mut [f32],
+    pitches: &mut [f32],
+    sheet: &mut [u16],
+    passes: &mut [u32],
+    queue: &mut [u16],
+    attached: &mut [u16],
+    words: &mut [u32],
+) -> Recovered
+    requires { ⌜ FrameRoom (now xs) (now ys) (now pitches) (now sheet) (now passes) ⌝ }
+    requires { ⌜ PassRoom (now queue) (now attached) (now words) ⌝ }
+    ensures { λ r. ⌜ Recovers (now (text .entry)) (now (sheet .exit)) (now (words .exit)) r ⌝ }
+{
+    let answer = frame::read_frame(text, xs, ys, pitches, sheet, passes);
+    match answer {
+        FrameAnswer::Refused(refusal, line) => Recovered::Refused(refusal, line),
+        FrameAnswer::Accepted(head) => {
+            let n = head.corners;
+            let m = head.passes;
+            let settings = head.settings;
+            run_frame(
+                passes,
+                m,
+                xs,
+                ys,
+                pitches,
+                n,
+                sheet,
+                queue,
+                attached,
+                settings,
+                words,
+            );
+            Recovered::Done(n, m)
+        }
     }
 }
