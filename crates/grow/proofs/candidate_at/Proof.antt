@@ -1,8 +1,12 @@
 -- `candidate_at` meets its contract: the number, and the root of the squared distance. Assumes nothing.
+use mathlib.Core.Path.{ap, _∙_}
+use Prim.Native.Nat.{ℕ}
 use borrow.Author.Needs.{needs}
+use lib.Ieee.{Float}
+use Rattle.binary32.specs.Sqrt.{sqrtOrNan}
+use Rattle.grow.specs.declared.Candidate.{Candidate}
 use Rattle.grow.proofs.candidate_at.Statement.{statement}
 use Rattle.grow.proofs.candidate_at.Tie as tie
-use mathlib.Core.Path.{refl}
 
 mul-t8 : tie.Need-mul-t8
 mul-t8 c = search needs
@@ -22,8 +26,13 @@ squared-distance-requires c κs = search needs
 sqrt-or-nan-requires : tie.Need-sqrt-or-nan-requires
 sqrt-or-nan-requires c κs = search needs
 
+-- corner k at some distance
+abbrev far : ℕ → Float → Candidate
+far k d = record { number = k; distance = d }
+
 returns : tie.Need-returns
-returns c = rw (c .sqrt-or-nan .ensures, c .before .squared-distance .ensures) refl
+returns c =
+    ap (far (c .before .before .before .before .before .before .args .k)) (c .sqrt-or-nan .ensures ∙ ap sqrtOrNan (c .before .squared-distance .ensures))
 
 pub candidate-at-spec : {M : Type 1} → statement M
 candidate-at-spec =

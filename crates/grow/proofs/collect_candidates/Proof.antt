@@ -1,7 +1,5 @@
 -- `collect_candidates` meets its contract. The loop's invariant: corner k is the next candidate or there is none left, and what was found is the
 -- first two of the candidates before it. The measure is what is left of the corners. Assumes nothing.
-use Rattle.grow.proofs.collect_candidates.Statement.{statement}
-use Rattle.grow.proofs.collect_candidates.Tie as tie
 use mathlib.Core.Path.{sym, _∙_}
 use Prim.Native.Nat.{_-_}
 use native.Mathlib.Omega.{arith}
@@ -9,6 +7,8 @@ use borrow.Author.Needs.{needs}
 use borrow.Author.Tests.{not-true, not-false}
 use lib.ListN.{length}
 use Rattle.grow.proofs.Scan.{Scanned, nowhere-x, nowhere-y, scanned-start, scanned-more, scanned-all}
+use Rattle.grow.proofs.collect_candidates.Statement.{statement}
+use Rattle.grow.proofs.collect_candidates.Tie as tie
 
 abbrev Inv-loop : tie.InvT-loop
 Inv-loop xs ys used prediction search-r found₀ k₀ found k = Scanned xs ys used prediction search-r found k

@@ -1,12 +1,12 @@
 -- `is_candidate` meets its contract: the corner is labelled, or its square decides. Assumes nothing.
-use borrow.Author.Needs.{needs}
-use Rattle.grow.proofs.is_candidate.Statement.{statement}
-use Rattle.grow.proofs.is_candidate.Tie as tie
 use mathlib.Core.Path.{sym, ap, _∙_}
+use borrow.Author.Needs.{needs}
 use borrow.Author.Tests.{not-true, not-false}
 use lib.Ieee.{Float, le, mul, binary32}
 use Rattle.grow.specs.Candidates.{positionsOf, unmarked}
 use Rattle.grow.proofs.Scan.{labelled, free}
+use Rattle.grow.proofs.is_candidate.Statement.{statement}
+use Rattle.grow.proofs.is_candidate.Tie as tie
 
 is-eligible-requires : tie.Need-is-eligible-requires
 is-eligible-requires c κs = search needs

@@ -1,12 +1,12 @@
 -- `next_candidate` meets its contract. The loop's invariant: no corner passed is a candidate. The measure is what is left of the corners. Assumes nothing.
-use Rattle.grow.proofs.next_candidate.Statement.{statement}
-use Rattle.grow.proofs.next_candidate.Tie as tie
 use mathlib.Core.Path.{sym, _∙_}
 use Prim.Native.Nat.{_-_}
 use native.Mathlib.Omega.{arith}
 use lib.ListN.{length}
 use Rattle.grow.specs.Candidates.{positionsOf, unmarked, isCandidate}
 use Rattle.grow.proofs.Scan.{Passing, passing-start, passing-more, passing-hit, passing-end}
+use Rattle.grow.proofs.next_candidate.Statement.{statement}
+use Rattle.grow.proofs.next_candidate.Tie as tie
 
 abbrev Inv-loop : tie.InvT-loop
 Inv-loop xs ys used from prediction search-r k₀ k = Passing (isCandidate (positionsOf xs ys) (unmarked used) prediction search-r) (length xs) from k
