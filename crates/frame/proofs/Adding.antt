@@ -2,12 +2,12 @@
 use mathlib.Core.Path.{_≡_, refl, sym, ap, ap₂, subst, _∙_}
 use mathlib.Core.Bool.{Bool, true, false, not, _&&_, _||_, true≢false}
 use mathlib.Core.List.{List, [], _∷_, _++_, append-assoc, append-nil}
-use Prim.Native.Nat.{ℕ, zero, suc, _+_, _*_, _<_, _≤_}
+use Prim.Native.Nat.{ℕ, suc, _+_, _*_, _<_, _≤_}
 use native.Mathlib.Omega.{arith}
 use native.Mathlib.Numerals.{add-one}
-use borrow.Author.Tests.{eq-eqb, ne-eqb, eqb-true, eqb-false, leb-false, not-false}
+use borrow.Author.Tests.{ne-eqb, eqb-true, eqb-false, leb-false, not-false}
 use lib.IntN.{ℤ, pos, natAbs}
-use lib.Dec.{T, eqb, leb}
+use lib.Dec.{T, eqb}
 use lib.ListN.{length, getD, set, take, length-set, length-append}
 use lib.Seq.{getD-set-same, getD-set-other, take-suc-set}
 use lib.Ieee.{Float}
@@ -17,20 +17,18 @@ use Rattle.sheet.specs.Cells.{onSheet, OnSheet, placeOf, eqZ}
 use Rattle.sheet.specs.Words.{numberOfLabel, wordOf, withLabel, wordAt, attached, emptySheet}
 use Rattle.sheet.specs.declared.Cell.{Cell}
 use Rattle.sheet.proofs.Laws.{place-in, place-one, eqZ-equal, equal-eqZ}
-use Rattle.predict.specs.declared.Grid.{Grid}
-use Rattle.arguments.specs.Arguments.{refusedIf}
 use Rattle.arguments.specs.declared.Checked.{Checked}
 use Rattle.arguments.specs.declared.Settings.{Settings}
 use Rattle.frame_line.specs.Lines.{CornerLine, LabelLine, PassLine, bare-grow, grow, bare-fill, fill, local, Axes, Line, frame-line, cell-line, axes-line, band-line, corner-line, label-line, pass-line}
-use Rattle.frame_line.specs.Held.{countOf, heldCell, heldLabel, heldPass, heldLine}
+use Rattle.frame_line.specs.Held.{countOf, heldPass, heldLine}
 use Rattle.frame_check.specs.Checks.{isSet}
 use Rattle.frame_check.proofs.Laws.{not-refused, neither}
 use Rattle.frame_state.specs.State.{wordsOf as wordsHeld, wordsPut, State, adds}
 use Rattle.frame_state.specs.declared.PassWords.{PassWords}
-use Rattle.frame.specs.Frame.{Frame, floatOf, inOrder, rankOf, overLimit, wild, wildCount, wildPass, outOfRange, ofLabel, offSheet, unknownCorner, sameCell, doubled, checkedLine, adding}
+use Rattle.frame.specs.Frame.{Frame, floatOf, inOrder, rankOf, overLimit, wild, wildCount, wildPass, outOfRange, ofLabel, offSheet, unknownCorner, sameCell, checkedLine, adding}
 use Rattle.frame.specs.Text.{map}
 use Rattle.frame.specs.Lent.{settingsOf, labelled, fullOf, wordsOf, allWords}
-use Rattle.frame.specs.Reading.{xsIn, ysIn, pitchesIn, HoldsCorners, cellTaken, cornerTaken, HoldsLabels, HoldsPasses, Holds}
+use Rattle.frame.specs.Reading.{HoldsCorners, cellTaken, cornerTaken, HoldsLabels, HoldsPasses, Holds}
 use Rattle.frame.proofs.Agree.{counted, tame-count, count-below, cell-same}
 
 -- ---- one more at the end

@@ -1,16 +1,16 @@
 -- What the call leaves: nothing held before the first line, the frame held at the end, and the buffers. Assumes nothing.
-use mathlib.Core.Path.{_≡_, refl, sym, ap, subst, _∙_}
-use mathlib.Core.Bool.{Bool, true, false, not, _||_}
-use mathlib.Core.List.{List, [], _∷_}
-use Prim.Native.Nat.{ℕ, zero, suc, _*_, _<_, _≤_}
+use mathlib.Core.Path.{_≡_, refl, ap, subst, _∙_}
+use mathlib.Core.Bool.{true, false, not}
+use mathlib.Core.List.{List, []}
+use Prim.Native.Nat.{ℕ, _*_, _<_, _≤_}
 use native.Mathlib.Omega.{arith}
 use borrow.Author.Tests.{lt-ltb, le-ltb, ltb-false}
 use lib.Dec.{ltb, eqb}
-use lib.ListN.{length, getD, take, drop, replicate, length-replicate, getD-replicate}
+use lib.ListN.{length, take, replicate, length-replicate, getD-replicate}
 use lib.Seq.{take-all}
 use lib.Ieee.{Float}
 use Rattle.refusal.specs.declared.Refusal.{Refusal}
-use Rattle.sheet.specs.Cells.{OnSheet, placeOf}
+use Rattle.sheet.specs.Cells.{placeOf}
 use Rattle.sheet.specs.Words.{emptySheet}
 use Rattle.sheet.proofs.Laws.{place-in}
 use Rattle.frame_check.specs.Checks.{isSet}
@@ -18,9 +18,8 @@ use Rattle.frame_check.proofs.Laws.{neither}
 use Rattle.frame_state.specs.State.{Arrays, arrays, state, nothing-said}
 use Rattle.frame_state.specs.declared.Progress.{Progress}
 use Rattle.frame.specs.Frame.{Frame, linesOf, FrameRead, refused-at, accepted, readLines, nothing-read, readFrame}
-use Rattle.frame.specs.Lent.{xsOf, ysOf, pitchesOf, settingsOf, labelled, sheetOf, allWords, Buffers, frameOut, tooShort, over, leaves, unlessShort, readInto}
+use Rattle.frame.specs.Lent.{xsOf, ysOf, pitchesOf, settingsOf, labelled, sheetOf, allWords, Buffers, frameOut, tooShort, over, leaves, readInto}
 use Rattle.frame.specs.Reading.{HoldsCorners, cellTaken, cornerTaken, HoldsLabels, HoldsPasses, Holds, ReadAs, refused-as, held-as, LongEnough, buffers, Copies}
-use Rattle.frame.specs.declared.FrameHead.{FrameHead}
 use Rattle.frame.specs.declared.FrameAnswer.{FrameAnswer}
 use Rattle.frame.specs.declared.LinesRead.{LinesRead}
 

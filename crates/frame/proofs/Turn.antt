@@ -1,24 +1,22 @@
 -- A line as the code takes it leads where the definition says, and so do all lines, turn by turn. Assumes nothing.
-use mathlib.Core.Path.{_≡_, refl, sym, ap, ap₂, subst, _∙_}
-use mathlib.Core.Bool.{Bool, true, false, not}
-use mathlib.Core.List.{List, [], _∷_}
-use Prim.Native.Nat.{ℕ, zero, suc, _+_, _-_, _<_, _≤_}
+use mathlib.Core.Path.{_≡_, refl, sym, ap, subst, _∙_}
+use mathlib.Core.Bool.{Bool, not}
+use mathlib.Core.List.{List}
+use Prim.Native.Nat.{ℕ, suc, _+_, _-_, _<_, _≤_}
 use native.Mathlib.Omega.{arith}
 use native.Mathlib.Numerals.{add-one}
 use borrow.Author.Tests.{lt-ltb, le-ltb}
-use lib.Dec.{ltb}
 use lib.ListN.{length, take, drop}
 use Rattle.refusal.specs.declared.Refusal.{Refusal}
 use Rattle.binary32.specs.Hex.{pick}
-use Rattle.arguments.specs.Arguments.{refusedIf}
 use Rattle.arguments.specs.declared.Checked.{Checked}
-use Rattle.frame_line.specs.Lines.{Line, LineRead, ill-formed, line, readLine}
+use Rattle.frame_line.specs.Lines.{LineRead, ill-formed, line, readLine}
 use Rattle.frame_line.specs.Held.{heldLine, held}
 use Rattle.frame_line.specs.declared.HeldLine.{HeldLine}
-use Rattle.frame_check.specs.Checks.{heldRank, mayCome, checkedSaid, checkedHeld}
+use Rattle.frame_check.specs.Checks.{heldRank, mayCome, checkedHeld}
 use Rattle.frame_state.specs.State.{Arrays, State, state, LineFits, adds}
 use Rattle.frame_state.specs.declared.Progress.{Progress}
-use Rattle.frame.specs.Frame.{Frame, linesOf, inOrder, rankOf, stageAfter, checkedLine, adding, FrameRead, refused-at, accepted, Step, stopped, onward, afterCheck, stepWith, stepLine, atEnd, going, readLines, nothing-read}
+use Rattle.frame.specs.Frame.{Frame, linesOf, rankOf, stageAfter, checkedLine, adding, FrameRead, refused-at, accepted, Step, stopped, onward, afterCheck, stepWith, stepLine, atEnd, going, readLines, nothing-read}
 use Rattle.frame.specs.Reading.{lineLength, Holds, Room, Went, went, afterHeld, heldStep, ReadAs, refused-as, held-as}
 use Rattle.frame.specs.declared.Stepped.{Stepped}
 use Rattle.frame.specs.declared.LinesRead.{LinesRead}

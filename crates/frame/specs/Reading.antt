@@ -1,9 +1,9 @@
 -- How the reader holds what it has read: its arrays and numbers, tied to the definition's frame, and what its functions leave. Definitions
 -- only.
 use mathlib.Core.Path.{_≡_}
-use mathlib.Core.Bool.{Bool, true, false, _||_}
+use mathlib.Core.Bool.{Bool, false, _||_}
 use mathlib.Core.List.{List, [], _∷_}
-use Prim.Native.Nat.{ℕ, suc, _+_, _*_, _<_, _≤_}
+use Prim.Native.Nat.{ℕ, suc, _*_, _<_, _≤_}
 use lib.IntN.{ℤ, pos}
 use lib.Dec.{eqb}
 use lib.ListN.{length, take}
@@ -22,7 +22,6 @@ use Rattle.frame_state.specs.declared.Progress.{Progress}
 use Rattle.frame.specs.Frame.{Frame, floatOf, stageAfter, sameCell, FrameRead, refused-at, accepted}
 use Rattle.frame.specs.Text.{map}
 use Rattle.frame.specs.Lent.{settingsOf, labelled, allWords, Buffers}
-use Rattle.frame.specs.declared.FrameHead.{FrameHead}
 use Rattle.frame.specs.declared.Stepped.{Stepped}
 use Rattle.frame.specs.declared.LinesRead.{LinesRead}
 

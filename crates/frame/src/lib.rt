@@ -8,7 +8,7 @@ ghost use Rattle.frame_line.specs.Lines.{readLine};
 ghost use Rattle.frame_line.specs.Held.{held};
 ghost use Rattle.frame_state.specs.State.{nothing-said, arrays, state};
 ghost use Rattle.frame.specs.Frame.{linesOf, stageAfter, readLines, nothing-read};
-ghost use Rattle.frame.specs.Lent.{Buffers, frameOut, tooShort, over, leaves, readInto};
+ghost use Rattle.frame.specs.Lent.{frameOut, tooShort, over, leaves, readInto};
 ghost use Rattle.frame.specs.Reading.{lineLength, Holds, Room, went, heldStep, ReadAs, buffers, Copies, LongEnough};
 use arguments::Checked;
 use arguments::Settings;

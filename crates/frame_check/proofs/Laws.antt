@@ -5,11 +5,11 @@ use mathlib.Core.List.{List}
 use Prim.Native.Nat.{ℕ, _%_, _<_, _≤_}
 use native.Mathlib.Omega.{arith}
 use borrow.Author.Tests.{eq-eqb, ne-eqb, leb-true, leb-false}
-use lib.Dec.{leb, eqb}
+use lib.Dec.{leb}
 use lib.ListN.{getD}
 use lib.Ieee.{binary32, ofBits}
 use Rattle.refusal.specs.declared.Refusal.{Refusal}
-use Rattle.binary32.specs.Ranges.{isFinite, inRange}
+use Rattle.binary32.specs.Ranges.{inRange}
 use Rattle.binary32.specs.declared.ranges.Quantity.{Quantity}
 use Rattle.binary32.proofs.Finite.{infinite-bits, in-range-finite}
 use Rattle.arguments.specs.Arguments.{outside, refusedIf}

@@ -1,6 +1,6 @@
 -- The checks of a line in the terms of what the code holds: each is what Frame (crate frame) says of the line, as `frame/proofs` shows.
 -- Definitions only.
-use mathlib.Core.Bool.{Bool, true, false, not, _&&_, _||_}
+use mathlib.Core.Bool.{Bool, false, not, _&&_, _||_}
 use mathlib.Core.List.{List}
 use Prim.Native.Nat.{ℕ}
 use lib.Dec.{ltb, leb, eqb}

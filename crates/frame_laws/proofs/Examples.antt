@@ -1,33 +1,33 @@
--- Frames read by the definition: 01's own example, and texts that are refused.
+-- Frames read by the definition: 01's own example, which printing gives back, and texts that are refused. One theorem for the table.
 use mathlib.Core.Path.{_≡_, refl}
-use mathlib.Core.Bool.{true}
 use mathlib.Core.List.{List, [], _∷_, _++_}
 use Prim.Native.Nat.{ℕ}
-use lib.IntN.{pos, negsuc}
+use lib.IntN.{pos}
+use lib.Ieee.{ofBits, ofInt, le, lt, eq}
 use Rattle.refusal.specs.declared.Refusal.{Refusal}
 use Rattle.binary32.specs.Hex.{digits, digitValue, readDigits}
 use Rattle.binary32.specs.Ranges.{endsOf}
 use Rattle.sheet.specs.Cells.{onSheet}
 use Rattle.arguments.specs.Arguments.{outside}
 use Rattle.line_form.specs.Integers.{decimalUpTo, decimal, integerText, digitsAfter, readPositive, readInteger}
-use Rattle.line_form.specs.Forms.{numberText, printed, pieceOf, fitOf}
-use Rattle.frame_line.specs.Lines.{lineText, bitsAt, wholeAt, lineOf, firstFit, readLine}
-use Rattle.frame.specs.Frame.{linesOf, inOrder, stageAfter, overLimit, outOfRange, wildPass, offSheet, unknownCorner, doubled, checkedLine, adding, stepLine, atEnd, readLines}
-use Rattle.frame.specs.Text.{textOfLines}
-use Rattle.line_form.specs.Forms.{bytes}
-use Rattle.frame_line.specs.Lines.{bare-grow}
-use Rattle.frame.specs.Frame.{Frame, readFrame, refused-at, accepted}
-use Rattle.frame.specs.Text.{frameText}
+use Rattle.line_form.specs.Forms.{bytes, numberText, printed, pieceOf, fitOf}
+use Rattle.frame_line.specs.Lines.{bare-grow, lineText, bitsAt, wholeAt, lineOf, firstFit, readLine}
+use Rattle.frame.specs.Frame.{Frame, linesOf, inOrder, stageAfter, overLimit, outOfRange, wildPass, offSheet, unknownCorner, doubled, checkedLine, adding, FrameRead, refused-at, accepted, stepLine, atEnd, readLines, readFrame}
+use Rattle.frame.specs.Text.{map, textOfLines, frameText}
 
-abbrev corners : List ℕ
-corners = bytes "(corner (41200000 41200000) 00000000)\n(corner (41a00000 41200000) 00000000)\n(corner (41f00000 41200000) 00000000)\n"
+abbrev pub first-four : List ℕ
+first-four = bytes "(frame 1)\n(cell 41200000)\n(axes (3f800000 00000000) (00000000 3f800000))\n(band 3e800000)\n"
 
-abbrev example : List ℕ
+abbrev pub one-corner : List ℕ
+one-corner = first-four ++ bytes "(corner (41200000 41200000) 00000000)\n"
+
+-- 01's example, and what it says
+abbrev pub example : List ℕ
 example =
-    bytes "(frame 1)\n(cell 41200000)\n(axes (3f800000 00000000) (00000000 3f800000))\n(band 3e800000)\n"
-    ++ (corners ++ bytes "(label 0 (0 0))\n(label 1 (1 0))\n(grow)\n")
+    one-corner
+    ++ bytes "(corner (41a00000 41200000) 00000000)\n(corner (41f00000 41200000) 00000000)\n(label 0 (0 0))\n(label 1 (1 0))\n(grow)\n"
 
-abbrev meant : Frame
+abbrev pub meant : Frame
 meant =
     record {
       cell = 0x4120_0000;
@@ -42,25 +42,48 @@ meant =
       passes = bare-grow ∷ [];
     }
 
--- 01's example says what it seems to say
-pub example-read : readFrame example ≡ accepted meant
-unfolding digits digitValue readDigits endsOf onSheet outside decimalUpTo decimal integerText digitsAfter readPositive readInteger numberText printed pieceOf fitOf lineText bitsAt wholeAt lineOf firstFit readLine linesOf inOrder stageAfter overLimit outOfRange wildPass offSheet unknownCorner doubled checkedLine adding stepLine atEnd readLines readFrame textOfLines frameText lib.Ieee.le lib.Ieee.ofBits lib.Ieee.ofInt
-example-read = refl
+abbrev pub four-passes : List ℕ
+four-passes = bytes "(grow)\n(fill)\n(grow)\n(fill)\n"
+
+abbrev pub sixteen-passes : List ℕ
+sixteen-passes = first-four ++ (four-passes ++ (four-passes ++ (four-passes ++ four-passes)))
+
+-- a text, and what reading it gives
+pub record Case : Type 0 where
+  pub text : List ℕ
+  pub read : FrameRead
+
+abbrev pub case : List ℕ → FrameRead → Case
+case text read = record { text = text; read = read }
+
+abbrev pub table : List Case
+table =
+    case example (accepted meant)
+    -- no bytes at all: the first line is missing; three lines: the band is; a last line without its LF
+    ∷ case [] (refused-at Refusal.Malformed 1)
+    ∷ case (bytes "(frame 1)\n(cell 41200000)\n(axes (3f800000 00000000) (00000000 3f800000))\n") (refused-at Refusal.Malformed 4)
+    ∷ case (bytes "(frame 1)\n(cell 41200000)") (refused-at Refusal.Malformed 2)
+    -- a corner behind a pass
+    ∷ case (first-four ++ bytes "(grow)\n(corner (41200000 41200000) 00000000)\n") (refused-at Refusal.Malformed 6)
+    -- a 17th pass, also where its number is wild; but ill-formed comes first
+    ∷ case (sixteen-passes ++ bytes "(grow)\n") (refused-at Refusal.OverLimit 21)
+    ∷ case (sixteen-passes ++ bytes "(fill 7fc00000 00000000 65)\n") (refused-at Refusal.OverLimit 21)
+    ∷ case (sixteen-passes ++ bytes "(grow )\n") (refused-at Refusal.Malformed 21)
+    -- above 16,384; an infinity; 65 rounds
+    ∷ case (first-four ++ bytes "(corner (46800001 00000000) 00000000)\n") (refused-at Refusal.OutOfRange 5)
+    ∷ case (one-corner ++ bytes "(corner (00000000 7f800000) 00000000)\n") (refused-at Refusal.OutOfRange 6)
+    ∷ case (first-four ++ bytes "(fill 3f000000 3f800000 65)\n") (refused-at Refusal.OutOfRange 5)
+    -- off the sheet before not given; not given; below 0; labelled twice
+    ∷ case (one-corner ++ bytes "(label 1 (64 0))\n") (refused-at Refusal.OffSheet 6)
+    ∷ case (one-corner ++ bytes "(label 1 (63 0))\n") (refused-at Refusal.UnknownCorner 6)
+    ∷ case (one-corner ++ bytes "(label -1 (0 -64))\n") (refused-at Refusal.UnknownCorner 6)
+    ∷ case (one-corner ++ bytes "(label 0 (0 0))\n(label 0 (1 0))\n") (refused-at Refusal.Duplicate 7)
+    ∷ []
+
+pub examples-read : map (λ (c : Case). readFrame (c .text)) table ≡ map (λ (c : Case). c .read) table
+unfolding ofBits ofInt le lt eq digits digitValue readDigits endsOf onSheet outside decimalUpTo decimal integerText digitsAfter readPositive readInteger numberText printed pieceOf fitOf lineText bitsAt wholeAt lineOf firstFit readLine linesOf inOrder stageAfter overLimit outOfRange wildPass offSheet unknownCorner doubled checkedLine adding stepLine atEnd readLines readFrame textOfLines frameText
+examples-read = refl
 
 pub example-printed : frameText meant ≡ example
-unfolding digits digitValue readDigits endsOf onSheet outside decimalUpTo decimal integerText digitsAfter readPositive readInteger numberText printed pieceOf fitOf lineText bitsAt wholeAt lineOf firstFit readLine linesOf inOrder stageAfter overLimit outOfRange wildPass offSheet unknownCorner doubled checkedLine adding stepLine atEnd readLines readFrame textOfLines frameText
+unfolding digits decimalUpTo decimal integerText numberText printed lineText textOfLines frameText
 example-printed = refl
-
--- no bytes at all: the first line is missing
-pub empty : readFrame [] ≡ refused-at Refusal.Malformed 1
-unfolding digits digitValue readDigits endsOf onSheet outside decimalUpTo decimal integerText digitsAfter readPositive readInteger numberText printed pieceOf fitOf lineText bitsAt wholeAt lineOf firstFit readLine linesOf inOrder stageAfter overLimit outOfRange wildPass offSheet unknownCorner doubled checkedLine adding stepLine atEnd readLines readFrame textOfLines frameText
-empty = refl
-
-pub three-lines : readFrame (bytes "(frame 1)\n(cell 41200000)\n(axes (3f800000 00000000) (00000000 3f800000))\n") ≡ refused-at Refusal.Malformed 4
-unfolding digits digitValue readDigits endsOf onSheet outside decimalUpTo decimal integerText digitsAfter readPositive readInteger numberText printed pieceOf fitOf lineText bitsAt wholeAt lineOf firstFit readLine linesOf inOrder stageAfter overLimit outOfRange wildPass offSheet unknownCorner doubled checkedLine adding stepLine atEnd readLines readFrame textOfLines frameText lib.Ieee.le lib.Ieee.ofBits lib.Ieee.ofInt
-three-lines = refl
-
--- the last line's LF is missing
-pub no-end : readFrame (bytes "(frame 1)\n(cell 41200000)") ≡ refused-at Refusal.Malformed 2
-unfolding digits digitValue readDigits endsOf onSheet outside decimalUpTo decimal integerText digitsAfter readPositive readInteger numberText printed pieceOf fitOf lineText bitsAt wholeAt lineOf firstFit readLine linesOf inOrder stageAfter overLimit outOfRange wildPass offSheet unknownCorner doubled checkedLine adding stepLine atEnd readLines readFrame textOfLines frameText
-no-end = refl

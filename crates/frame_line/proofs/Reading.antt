@@ -2,11 +2,11 @@
 use mathlib.Core.Path.{_≡_, refl, sym, ap, ap₂, subst, _∙_}
 use mathlib.Core.Bool.{Bool, true, false, _||_, true≢false}
 use mathlib.Core.List.{List, [], _∷_}
-use Prim.Native.Nat.{ℕ, suc, _+_, _-_, _<_, _≤_, min}
+use Prim.Native.Nat.{ℕ, suc, _+_, _-_, min}
 use native.Mathlib.Omega.{arith}
 use borrow.Author.Tests.{lt-ltb, le-ltb}
 use lib.IntN.{ℤ, pos, negsuc, _-ℤ_}
-use lib.Dec.{eqb, ltb}
+use lib.Dec.{eqb}
 use Rattle.binary32.specs.Hex.{pick}
 use Rattle.sheet.specs.declared.Cell.{Cell}
 use Rattle.sheet.proofs.Laws.{sub-lo, sub-hi}
@@ -14,7 +14,7 @@ use Rattle.line_form.specs.Forms.{Number, bits, whole, Fitted, misfit, fitted, 
 use Rattle.line_form.specs.Held.{heldWhole, held as heldNumber, heldUpTo, heldFit}
 use Rattle.line_form.specs.declared.read.Fit.{Fit}
 use Rattle.line_form.proofs.Laws.{prints-back}
-use Rattle.frame_line.specs.Lines.{Kind, frame-kind, cell-kind, axes-kind, band-kind, corner-kind, label-kind, bare-grow-kind, grow-kind, bare-fill-kind, fill-kind, local-kind, formOf, bitsAt, wholeAt, lineOf, LineRead, orElse, firstFit}
+use Rattle.frame_line.specs.Lines.{Kind, frame-kind, cell-kind, axes-kind, band-kind, corner-kind, label-kind, bare-grow-kind, grow-kind, bare-fill-kind, fill-kind, local-kind, formOf, bitsAt, wholeAt, lineOf, orElse, firstFit}
 use Rattle.frame_line.specs.Held.{countOf, cut, heldPass, heldLine, held, countIn, cellIn, lineIn}
 use Rattle.frame_line.specs.declared.HeldLine.{HeldLine}
 

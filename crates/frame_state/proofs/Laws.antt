@@ -1,8 +1,8 @@
 -- A line that can be added: what its checks say of it, kind by kind, and the state after it. Assumes nothing.
-use mathlib.Core.Path.{_≡_, refl, sym, ap, subst, _∙_}
-use mathlib.Core.Bool.{Bool, true, false, not}
+use mathlib.Core.Path.{_≡_, sym, subst}
+use mathlib.Core.Bool.{false, not}
 use mathlib.Core.List.{List}
-use Prim.Native.Nat.{ℕ, _<_, _≤_}
+use Prim.Native.Nat.{ℕ, _<_}
 use native.Mathlib.Omega.{arith}
 use borrow.Author.Tests.{leb-false, not-false}
 use lib.Dec.{T, leb}
@@ -16,7 +16,7 @@ use Rattle.frame_line.specs.declared.HeldCorner.{HeldCorner}
 use Rattle.frame_line.specs.declared.HeldLabel.{HeldLabel}
 use Rattle.frame_line.specs.declared.HeldPass.{HeldPass}
 use Rattle.frame_line.specs.declared.HeldLine.{HeldLine}
-use Rattle.frame_check.specs.Checks.{overLimit, wildBits, wildAxes, wildCorner, outOfRange, isSet, checkedLabel, ofLabel, checkedSaid}
+use Rattle.frame_check.specs.Checks.{overLimit, wildBits, wildAxes, wildCorner, outOfRange, checkedLabel, ofLabel, checkedSaid}
 use Rattle.frame_check.proofs.Laws.{not-refused, tame-finite, neither}
 use Rattle.frame_state.specs.State.{Tame, TameAxes, withCellSize, withAxes, withBand, withCorner, withPass, CornerFits, CornerPut, LabelFits, LabelPut, wordsOf, wordsPut, Arrays, arrays, state, LineFits, adds}
 use Rattle.frame_state.specs.declared.Progress.{Progress}

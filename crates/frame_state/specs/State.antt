@@ -7,10 +7,7 @@ use lib.ListN.{length, set}
 use lib.Ieee.{Float, binary32, ofBits}
 use Rattle.sheet.specs.Cells.{OnSheet}
 use Rattle.sheet.specs.Words.{attached}
-use Rattle.predict.specs.declared.Grid.{Grid}
-use Rattle.predict.specs.declared.Vector.{Vector}
 use Rattle.arguments.specs.declared.Checked.{Checked}
-use Rattle.arguments.specs.declared.Settings.{Settings}
 use Rattle.frame_line.specs.declared.HeldAxes.{HeldAxes}
 use Rattle.frame_line.specs.declared.HeldCorner.{HeldCorner}
 use Rattle.frame_line.specs.declared.HeldLabel.{HeldLabel}

@@ -1,6 +1,6 @@
 -- What the steps of the candidate scan ask and hand on, for their own contracts. Definitions only.
 use mathlib.Core.Path.{_≡_}
-use mathlib.Core.Bool.{cond}
+use mathlib.Core.Bool.{Bool, true, false, cond}
 use mathlib.Core.List.{List}
 use Prim.Native.Nat.{ℕ, _≤_, _<_}
 use lib.ListN.{length}
@@ -29,8 +29,13 @@ abbrev pub firstTwoBelow : List Float → List Float → List ℕ → ℕ → Po
 firstTwoBelow xs ys used n prediction radius =
     firstTwo (ordered (distanceOf (positionsOf xs ys) prediction) (isCandidate (positionsOf xs ys) (unmarked used) prediction radius) n)
 
--- corner k is there, and what was found is right for the corners before it
-pub record Considered (xs ys : List Float) (used : List ℕ) (k : ℕ) (prediction : Position) (radius : Float) (found : Candidates) : Type 0 where
-  pub lent : Lent xs ys
-  pub there : k < length xs
-  pub so-far : found ≡ firstTwoBelow xs ys used k prediction radius
+-- the next candidate of n corners from one on, or n if there is none
+pub record Next (candidate : ℕ → Bool) (n from r : ℕ) : Type 0 where
+  pub on : from ≤ r
+  pub within : r ≤ n
+  pub passed : (k : ℕ) → from ≤ k → k < r → candidate k ≡ false
+  pub hit : r < n → candidate r ≡ true
+
+-- a corner with its distance
+abbrev pub measured : (ℕ → Position) → Position → ℕ → Candidate
+measured position prediction k = record { number = k; distance = distanceOf position prediction k }

@@ -1,11 +1,11 @@
 // Candidates and choice (document 01): the unlabelled corners near a prediction, in order of distance and then number, and the
 // two rules by which one of them is chosen. Port of shared/grow/mod.rs and of the quotients of extension/common.rs and fill.rs.
 ghost use mathlib.Core.Path.{_≡_};
-ghost use Prim.Native.Nat.{_+_, _<_};
+ghost use Prim.Native.Nat.{_≤_, _<_};
 ghost use lib.ListN.{length};
-ghost use Rattle.grow.specs.Candidates.{positionsOf, unmarked, eligible, squaredDistance, candidatesAt, firstTwo};
+ghost use Rattle.grow.specs.Candidates.{positionsOf, unmarked, eligible, squaredDistance, isCandidate, candidatesAt, firstTwo};
 ghost use Rattle.grow.specs.Choice.{byQuotient, chooseUnambiguous, raised, chooseWithFloor};
-ghost use Rattle.grow.specs.Steps.{Lent, Considered, kept, firstTwoBelow};
+ghost use Rattle.grow.specs.Steps.{Lent, Next, measured, kept};
 use sheet::Position;
 
 // A corner's number, and its distance from the prediction.
@@ -74,36 +74,60 @@ fn keep(found: Candidates, c: Candidate) -> Candidates
     }
 }
 
-// Corner k is looked at: the root is taken only within the radius.
-fn consider(
+// Whether corner k is a candidate. No root is taken for it.
+fn is_candidate(
     xs: &[f32],
     ys: &[f32],
     used: &[u8; 1024],
     k: usize,
     prediction: Position,
     search_r: f32,
-    found: Candidates,
-) -> Candidates
-    requires { ⌜ Considered (now xs) (now ys) (now used) k prediction «search_r» found ⌝ }
-    ensures { λ r. ⌜ r ≡ firstTwoBelow (now (xs .entry)) (now (ys .entry)) (now (used .entry)) (k + 1) prediction «search_r» ⌝ }
+) -> bool
+    requires { ⌜ Lent (now xs) (now ys) × (k < length (now xs)) ⌝ }
+    ensures { λ r. ⌜ r ≡ isCandidate (positionsOf (now (xs .entry)) (now (ys .entry))) (unmarked (now (used .entry))) prediction «search_r» k ⌝ }
 {
     if !is_eligible(used, k) {
-        return found;
+        return false;
     }
     let corner = Position { x: xs[k], y: ys[k] };
     let d2 = squared_distance(corner, prediction);
     let r2 = search_r * search_r;
-    if d2 <= r2 {
-        let distance = binary32::root::sqrt_or_nan(d2);
-        keep(
-            found,
-            Candidate {
-                number: k,
-                distance,
-            },
-        )
-    } else {
-        found
+    d2 <= r2
+}
+
+// The number of the next candidate from this corner on, or the number of corners if there is none.
+fn next_candidate(
+    xs: &[f32],
+    ys: &[f32],
+    used: &[u8; 1024],
+    from: usize,
+    prediction: Position,
+    search_r: f32,
+) -> usize
+    requires { ⌜ Lent (now xs) (now ys) × (from ≤ length (now xs)) ⌝ }
+    ensures { λ r. ⌜ Next (isCandidate (positionsOf (now (xs .entry)) (now (ys .entry))) (unmarked (now (used .entry))) prediction «search_r») (length (now (xs .entry))) from r ⌝ }
+{
+    let mut k = from;
+    while k < xs.len() {
+        if is_candidate(xs, ys, used, k, prediction, search_r) {
+            return k;
+        }
+        k += 1;
+    }
+    k
+}
+
+// Corner k as a candidate, with the root of its squared distance.
+fn candidate_at(xs: &[f32], ys: &[f32], k: usize, prediction: Position) -> Candidate
+    requires { ⌜ Lent (now xs) (now ys) × (k < length (now xs)) ⌝ }
+    ensures { λ r. ⌜ r ≡ measured (positionsOf (now (xs .entry)) (now (ys .entry))) prediction k ⌝ }
+{
+    let corner = Position { x: xs[k], y: ys[k] };
+    let d2 = squared_distance(corner, prediction);
+    let distance = binary32::root::sqrt_or_nan(d2);
+    Candidate {
+        number: k,
+        distance,
     }
 }
 
@@ -126,11 +150,11 @@ pub fn collect_candidates(
         return Candidates::Empty;
     }
     let mut found = Candidates::Empty;
-    let mut k = 0usize;
+    let mut k = next_candidate(xs, ys, used, 0, prediction, search_r);
     while k < xs.len() {
-        let more = consider(xs, ys, used, k, prediction, search_r, found);
+        let more = keep(found, candidate_at(xs, ys, k, prediction));
         found = more;
-        k += 1;
+        k = next_candidate(xs, ys, used, k + 1, prediction, search_r);
     }
     found
 }

@@ -14,7 +14,7 @@ use Rattle.sheet.specs.declared.Cell.{Cell}
 use Rattle.sheet.proofs.Laws.{cell-on, place-cell, place-rises, line-i, line-j, abs-sub}
 use Rattle.labels.proofs.Below.{no-both}
 use Rattle.passes.specs.Local.{reachOf, nearer, placed, byReach}
-use Rattle.supports.specs.Nearest.{supportAt, nothingKept, keptOf, placesOf, ahead, InOrder, MoreKept, Nearby}
+use Rattle.supports.specs.Nearest.{supportAt, nothingKept, keptOf, placesOf, ahead, InOrder, MoreKept, Nearby, filledUp, Keeping}
 use Rattle.supports.specs.Fitted.{Pictured}
 use Rattle.supports.specs.declared.Support.{Support}
 use Rattle.supports.specs.declared.Supports.{Supports}
@@ -42,7 +42,7 @@ nearer-most c q r e = go (ltb (reachOf c q) (reachOf c r)) refl (eqb (reachOf c 
 
 module _ (c : Cell) (q p : ℕ) (before : earlier (cellOf q) (cellOf p) ≡ true) where
   -- an earlier place is nearer if the later one is not strictly nearer
-  nearer-earlier : nearer c q p ≡ not (ltb (reachOf c p) (reachOf c q))
+  pub nearer-earlier : nearer c q p ≡ not (ltb (reachOf c p) (reachOf c q))
   unfolding nearer
   nearer-earlier = rw before (go (ltb (reachOf c q) (reachOf c p)) refl (eqb (reachOf c q) (reachOf c p)) refl)
     where
@@ -84,7 +84,7 @@ pub record AllBelow (p : ℕ) (ps : List ℕ) : Type 0 where
   pub below : (a : ℕ) → a < length ps → getD ps a 0 < p
 
 -- places rise by i, then j
-earlier-cells : (q p : ℕ) → q < p → p < 16384 → earlier (cellOf q) (cellOf p) ≡ true
+pub earlier-cells : (q p : ℕ) → q < p → p < 16384 → earlier (cellOf q) (cellOf p) ≡ true
 earlier-cells q p l h =
     sym (place-rises (cellOf q) (cellOf p) (cell-on q (omega arith)) (cell-on p h))
     ∙ rw (place-cell q (omega arith), place-cell p h) (lt-ltb q p l)
@@ -184,10 +184,6 @@ module _ (s : Supports) (new : Support) (o : InOrder s) where
               in-order = record { first-second = o .first-second; second-third = o .second-third; third-fourth = h };
             }
 
--- some places with their reaches, and behind them what stands for those not found
-abbrev pub filledUp : Cell → List ℕ → List Support
-filledUp c l = map (supportAt c) l ++ keptOf nothingKept
-
 ahead-filled : (c : Cell) (p : ℕ) → reachOf c p < 1000 → (l : List ℕ) → ahead (supportAt c p) (filledUp c l) ≡ filledUp c (last c p l)
 unfolding ahead last
 ahead-filled c p h [] = rw (lt-ltb (reachOf c p) 1000 h)
@@ -207,16 +203,6 @@ reach-small c p on h =
     let d = line-i (cellOf p) (cell-on p h) in
     let e = line-j (cellOf p) (cell-on p h) in
     omega (arith, abs-sub (cellOf p .i) (c .i), abs-sub (cellOf p .j) (c .j))
-
--- the first k places are looked at
-pub record Keeping (places : List ℕ) (count : ℕ) (c : Cell) (kept : Supports) (k : ℕ) : Type 0 where
-  pub upto : k ≤ count
-  pub kept-are : keptOf kept ≡ take 4 (filledUp c (byReach c (take k places)))
-  pub in-order : InOrder kept
-
-pub keeping-start : (places : List ℕ) (count : ℕ) (c : Cell) (kept : Supports) → kept ≡ nothingKept → Keeping places count c kept 0
-unfolding byReach
-keeping-start places count c kept e = rw e (record { upto = omega arith; kept-are = refl; in-order = record { first-second = omega arith; second-third = omega arith; third-fourth = omega arith } })
 
 module _ (places : List ℕ) (count : ℕ) (c : Cell) (asked : Nearby places count c) (kept : Supports) (k : ℕ) (g : Keeping places count c kept k) where
   pub keeping-more : (new : Support) (next : Supports) → k < count → new ≡ supportAt c (getD places k 0) → MoreKept kept new next → Keeping places count c next (k + 1)

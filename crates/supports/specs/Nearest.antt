@@ -2,17 +2,18 @@
 -- "Sheet"; what it says of them is `supportsOf` of crate passes, Local). Definitions only.
 use mathlib.Core.Path.{_≡_}
 use mathlib.Core.Bool.{true, cond}
-use mathlib.Core.List.{List, [], _∷_}
-use Prim.Native.Nat.{ℕ, _<_, _≤_}
-use lib.Dec.{ltb}
+use mathlib.Core.List.{List, [], _∷_, _++_, map}
+use Prim.Native.Nat.{ℕ, _-_, _<_, _≤_}
+use lib.Dec.{ltb, leb}
 use lib.ListN.{length, getD, set, take}
 use Rattle.sheet.specs.Cells.{OnSheet}
 use Rattle.sheet.specs.declared.Cell.{Cell}
 use Rattle.labels.specs.Labelled.{isLabelled, counted, labelledPlaces, labelCount}
 use Rattle.passes.specs.Outcome.{over}
-use Rattle.passes.specs.Local.{reachOf}
+use Rattle.passes.specs.Local.{reachOf, byReach}
 use Rattle.supports.specs.declared.Support.{Support}
 use Rattle.supports.specs.declared.Supports.{Supports}
+use Rattle.supports.specs.declared.Span.{Span}
 
 -- ---- the labelled places
 
@@ -62,6 +63,11 @@ unfoldable pub ahead : Support → List Support → List Support
 ahead new [] = new ∷ []
 ahead new (s ∷ ss) = cond (ltb (new .reach) (s .reach)) (new ∷ s ∷ ss) (s ∷ ahead new ss)
 
+-- a support before those that are as far or farther
+unfoldable pub aheadOfTies : Support → List Support → List Support
+aheadOfTies new [] = new ∷ []
+aheadOfTies new (s ∷ ss) = cond (leb (new .reach) (s .reach)) (new ∷ s ∷ ss) (s ∷ aheadOfTies new ss)
+
 -- none is farther than the next
 pub record InOrder (s : Supports) : Type 0 where
   pub first-second : s .first .reach ≤ s .second .reach
@@ -73,6 +79,11 @@ pub record MoreKept (s : Supports) (new : Support) (r : Supports) : Type 0 where
   pub kept-are : keptOf r ≡ take 4 (ahead new (keptOf s))
   pub in-order : InOrder r
 
+-- the same of one whose place is before the others'
+pub record EarlierKept (s : Supports) (new : Support) (r : Supports) : Type 0 where
+  pub kept-are : keptOf r ≡ take 4 (aheadOfTies new (keptOf s))
+  pub in-order : InOrder r
+
 -- at least four places of the sheet in rising order at the front of an array, and a cell of the sheet
 pub record Nearby (places : List ℕ) (count : ℕ) (c : Cell) : Type 0 where
   pub four : 4 ≤ count
@@ -81,3 +92,19 @@ pub record Nearby (places : List ℕ) (count : ℕ) (c : Cell) : Type 0 where
   pub rising : (a b : ℕ) → a < b → b < count → getD places a 0 < getD places b 0
   pub below : (a : ℕ) → a < count → getD places a 0 < 16384
   pub on : OnSheet c
+
+-- some places with their reaches, and behind them what stands for those not found
+abbrev pub filledUp : Cell → List ℕ → List Support
+filledUp c l = map (supportAt c) l ++ keptOf nothingKept
+
+-- the nearest four of the first k places are kept
+pub record Keeping (places : List ℕ) (count : ℕ) (c : Cell) (kept : Supports) (k : ℕ) : Type 0 where
+  pub upto : k ≤ count
+  pub kept-are : keptOf kept ≡ take 4 (filledUp c (byReach c (take k places)))
+  pub in-order : InOrder kept
+
+-- a shorter part of a span
+pub record Halved (span r : Span) : Type 0 where
+  pub ordered : r .low ≤ r .high
+  pub within : r .high ≤ span .high
+  pub shorter : r .high - r .low < span .high - span .low

@@ -3,13 +3,14 @@
 
 ghost use mathlib.Core.Path.{_≡_};
 ghost use mathlib.Core.List.{[], _∷_};
-ghost use Prim.Native.Nat.{_<_, _≤_};
+ghost use Prim.Native.Nat.{_+_, _/_, _<_, _≤_};
+ghost use lib.Dec.{ltb, leb};
 ghost use lib.ListN.{length, take};
-ghost use Rattle.sheet.specs.Cells.{OnSheet, differenceOf, cellOf};
+ghost use Rattle.sheet.specs.Cells.{OnSheet, differenceOf, placeOf, cellOf};
 ghost use Rattle.sheet.specs.Corners.{cornerOf, seenOf, Given};
 ghost use Rattle.labels.specs.Labelled.{labelCount, labelledPlaces};
 ghost use Rattle.passes.specs.Local.{reachOf, byReach, cellPoint, picturedAt, residualOf, allFinite, none, localFit};
-ghost use Rattle.supports.specs.Nearest.{Listable, MoreListed, Gatherable, Gathered, supportAt, nothingKept, InOrder, MoreKept, placesOf, Nearby};
+ghost use Rattle.supports.specs.Nearest.{Listable, MoreListed, Gatherable, Gathered, supportAt, nothingKept, InOrder, MoreKept, EarlierKept, placesOf, Nearby, Keeping, Halved};
 ghost use Rattle.supports.specs.Fitted.{supportFitOf, pointsFit, Pictured};
 use sheet::Cell;
 use sheet::Position;
@@ -140,6 +141,50 @@ fn keep_support(s: Supports, new: Support) -> Supports
     }
 }
 
+// One more support, whose place is before all others': it goes before those that are as far or farther, and the farthest of five is dropped.
+fn keep_earlier(s: Supports, new: Support) -> Supports
+    requires { ⌜ InOrder s ⌝ }
+    ensures { λ r. ⌜ EarlierKept s new r ⌝ }
+{
+    let a = s.first;
+    let b = s.second;
+    let c = s.third;
+    let d = s.fourth;
+    if d.reach < new.reach {
+        return s;
+    }
+    if new.reach <= a.reach {
+        return Supports {
+            first: new,
+            second: a,
+            third: b,
+            fourth: c,
+        };
+    }
+    if new.reach <= b.reach {
+        return Supports {
+            first: a,
+            second: new,
+            third: b,
+            fourth: c,
+        };
+    }
+    if new.reach <= c.reach {
+        return Supports {
+            first: a,
+            second: b,
+            third: new,
+            fourth: c,
+        };
+    }
+    Supports {
+        first: a,
+        second: b,
+        third: c,
+        fourth: new,
+    }
+}
+
 // A place of the list as a number.
 pub fn wide(place: u16) -> usize
     ensures { λ r. ⌜ r ≡ place ⌝ }
@@ -147,15 +192,104 @@ pub fn wide(place: u16) -> usize
     place as usize
 }
 
+// The line of a cell: i + 64.
+fn row_of(c: Cell) -> usize
+    requires { ⌜ OnSheet c ⌝ }
+    ensures { λ r. ⌜ r ≡ placeOf c / 128 ⌝ }
+{
+    sheet::place_of(c) / 128
+}
+
+// Whether a place lies so many lines before a line that it is farther than a reach.
+fn far_before(place: usize, row: usize, reach: u32) -> bool
+    requires { ⌜ place < 16384 ⌝ }
+    ensures { λ r. ⌜ r ≡ ltb (place / 128 + reach) row ⌝ }
+{
+    place / 128 + (reach as usize) < row
+}
+
+// Whether a place lies so many lines behind a line that it is as far as a reach or farther.
+fn far_behind(place: usize, row: usize, reach: u32) -> bool
+    requires { ⌜ row < 128 ⌝ }
+    ensures { λ r. ⌜ r ≡ leb (row + reach) (place / 128) ⌝ }
+{
+    row + (reach as usize) <= place / 128
+}
+
+// Part of a list: the entries from low on and below high.
+pub struct Span {
+    pub low: usize,
+    pub high: usize,
+}
+
+// The half of a span in which the line begins.
+fn halve(places: &[u16; 1024], span: Span, row: usize) -> Span
+    requires { ⌜ (span .low < span .high) × (span .high ≤ 1024) ⌝ }
+    ensures { λ r. ⌜ Halved span r ⌝ }
+{
+    let middle = span.low + (span.high - span.low) / 2;
+    if wide(places[middle]) / 128 < row {
+        return Span {
+            low: middle + 1,
+            high: span.high,
+        };
+    }
+    Span {
+        low: span.low,
+        high: middle,
+    }
+}
+
+// Where among the places the line begins, from which the nearest are looked for both ways. Wherever that is, the nearest are the same.
+fn start_of(places: &[u16; 1024], count: usize, row: usize) -> usize
+    requires { ⌜ count ≤ 1024 ⌝ }
+    ensures { λ r. ⌜ r ≤ count ⌝ }
+{
+    let mut span = Span {
+        low: 0,
+        high: count,
+    };
+    while span.low < span.high {
+        let next = halve(places, span, row);
+        span = next;
+    }
+    span.low
+}
+
+// The four nearest among the places before one, from the last back to the first that is not too far.
+fn keep_before(places: &[u16; 1024], count: usize, from: usize, c: Cell) -> Supports
+    requires { ⌜ Nearby (now places) count c × (from ≤ count) ⌝ }
+    ensures { λ r. ⌜ Keeping (now (places .entry)) count c r from ⌝ }
+{
+    let row = row_of(c);
+    let mut kept = no_supports();
+    let mut k = from;
+    while 0 < k {
+        let place = wide(places[k - 1]);
+        if far_before(place, row, kept.fourth.reach) {
+            return kept;
+        }
+        let next = keep_earlier(kept, support_of(place, c));
+        kept = next;
+        k -= 1;
+    }
+    kept
+}
+
 // The four nearest to a cell among at least four places, given in rising order: by |di| + |dj|, then i, then j.
 pub fn nearest_labelled_by_grid(places: &[u16; 1024], count: usize, c: Cell) -> Supports
     requires { ⌜ Nearby (now places) count c ⌝ }
     ensures { λ r. ⌜ placesOf r ≡ take 4 (byReach c (take count (now (places .entry)))) ⌝ }
 {
-    let mut kept = no_supports();
-    let mut k = 0usize;
+    let row = row_of(c);
+    let mut k = start_of(places, count, row);
+    let mut kept = keep_before(places, count, k, c);
     while k < count {
-        let next = keep_support(kept, support_of(wide(places[k]), c));
+        let place = wide(places[k]);
+        if far_behind(place, row, kept.fourth.reach) {
+            return kept;
+        }
+        let next = keep_support(kept, support_of(place, c));
         kept = next;
         k += 1;
     }

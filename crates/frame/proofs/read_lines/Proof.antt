@@ -1,5 +1,5 @@
 -- `frame::read_lines` meets its contract: a line a turn, and what is left leads where the whole text does. Assumes nothing.
-use Prim.Native.Nat.{ℕ, _-_, _<_, _≤_}
+use Prim.Native.Nat.{_-_, _<_, _≤_}
 use native.Mathlib.Omega.{arith}
 use lib.ListN.{length}
 use Rattle.frame_state.specs.State.{arrays}

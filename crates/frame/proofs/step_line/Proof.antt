@@ -1,6 +1,4 @@
 -- `frame::step_line` meets its contract: the line is read, checked and added. Assumes nothing.
-use mathlib.Core.Path.{_≡_, ap, _∙_}
-use Rattle.arguments.specs.declared.Checked.{Checked}
 use Rattle.frame.proofs.Turn.{step-stopped, step-fits, step-onward}
 use borrow.Author.Needs.{needs}
 use Rattle.frame.proofs.step_line.Statement.{statement}

@@ -1,12 +1,12 @@
 -- `frame_check::check_label` meets its contract, a test after the other. Assumes nothing.
 use Rattle.refusal.specs.declared.Refusal.{Refusal}
-use mathlib.Core.Path.{_≡_, refl, sym, ap, subst, _∙_}
-use mathlib.Core.Bool.{Bool, false, not}
-use Prim.Native.Nat.{ℕ, _<_}
+use mathlib.Core.Path.{refl, sym, ap, subst, _∙_}
+use mathlib.Core.Bool.{not}
+use Prim.Native.Nat.{_<_}
 use native.Mathlib.Omega.{arith}
 use borrow.Author.Tests.{le-leb, lt-leb, not-false}
 use lib.Dec.{T}
-use Rattle.sheet.specs.Cells.{onSheet, OnSheet}
+use Rattle.sheet.specs.Cells.{OnSheet}
 use Rattle.sheet.proofs.Laws.{place-in}
 use Rattle.frame_check.specs.Checks.{checkedLabel}
 use Rattle.frame_check.proofs.Laws.{refused, passed, is-set, not-set, first-of, second-of}

@@ -1,7 +1,7 @@
 -- `frame_line::read_line` meets its contract: the forms are tried in order. Assumes nothing.
 use mathlib.Core.Path.{_≡_, _∙_}
-use mathlib.Core.List.{List, _∷_}
-use Rattle.frame_line.specs.Lines.{Kind, frame-kind, cell-kind, axes-kind, band-kind, corner-kind, label-kind, firstFit, readLine}
+use mathlib.Core.List.{_∷_}
+use Rattle.frame_line.specs.Lines.{frame-kind, cell-kind, axes-kind, band-kind, corner-kind, label-kind, firstFit, readLine}
 use Rattle.frame_line.specs.Held.{held, lineIn, passKinds}
 use Rattle.frame_line.specs.declared.HeldLine.{HeldLine}
 use Rattle.frame_line.proofs.Reading.{hit, skip}

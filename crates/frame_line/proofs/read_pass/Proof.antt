@@ -1,7 +1,7 @@
 -- `frame_line::read_pass` meets its contract: the forms are tried in order. Assumes nothing.
 use mathlib.Core.Path.{_≡_, refl, _∙_}
-use mathlib.Core.List.{List, [], _∷_}
-use Rattle.frame_line.specs.Lines.{Kind, bare-grow-kind, grow-kind, bare-fill-kind, fill-kind, local-kind, firstFit}
+use mathlib.Core.List.{[], _∷_}
+use Rattle.frame_line.specs.Lines.{bare-grow-kind, grow-kind, bare-fill-kind, fill-kind, local-kind, firstFit}
 use Rattle.frame_line.specs.Held.{held, lineIn, passKinds}
 use Rattle.frame_line.specs.declared.HeldLine.{HeldLine}
 use Rattle.frame_line.proofs.Reading.{hit, skip}

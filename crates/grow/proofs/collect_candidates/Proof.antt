@@ -1,18 +1,17 @@
--- `collect_candidates` meets its contract. The loop's invariant: what was found is the first two of the candidates among the corners passed.
--- The measure is what is left of the corners. Assumes nothing.
-use mathlib.Core.Path.{_≡_, sym, ap, _∙_}
-use Prim.Native.Nat.{ℕ, _≤_, _-_}
+-- `collect_candidates` meets its contract. The loop's invariant: corner k is the next candidate or there is none left, and what was found is the
+-- first two of the candidates before it. The measure is what is left of the corners. Assumes nothing.
+use mathlib.Core.Path.{sym, _∙_}
+use Prim.Native.Nat.{_-_}
 use native.Mathlib.Omega.{arith}
 use borrow.Author.Needs.{needs}
 use borrow.Author.Tests.{not-true, not-false}
 use lib.ListN.{length}
-use Rattle.grow.specs.Steps.{firstTwoBelow}
-use Rattle.grow.proofs.Scan.{nowhere-x, nowhere-y, none-yet, whole}
+use Rattle.grow.proofs.Scan.{Scanned, nowhere-x, nowhere-y, scanned-start, scanned-more, scanned-all}
 use Rattle.grow.proofs.collect_candidates.Statement.{statement}
 use Rattle.grow.proofs.collect_candidates.Tie as tie
 
 abbrev Inv-loop : tie.InvT-loop
-Inv-loop xs ys used prediction search-r found₀ k₀ found k = (k ≤ length xs) × (found ≡ firstTwoBelow xs ys used k prediction search-r)
+Inv-loop xs ys used prediction search-r found₀ k₀ found k = Scanned xs ys used prediction search-r found k
 
 abbrev μ-loop : tie.MeasureT-loop
 μ-loop xs ys used prediction search-r found₀ k₀ found k = length xs - k
@@ -21,48 +20,51 @@ is-finite-requires : tie.Need-is-finite-requires Inv-loop μ-loop
 is-finite-requires c κs = search needs
 
 returns : tie.Need-returns Inv-loop μ-loop
-returns c =
-    let a = c .before .before .before .before .args in
+returns c = let a = c .before .before .before .before .args in
     nowhere-x (a .xs .now) (a .ys .now) (a .used .now) (a .prediction) (a .search-r) (sym (c .before .is-finite .ensures) ∙ not-true _ (c .if1 .taken))
 
 is-finite-requires-2 : tie.Need-is-finite-requires-2 Inv-loop μ-loop
 is-finite-requires-2 c κs = search needs
 
 returns-2 : tie.Need-returns-2 Inv-loop μ-loop
-returns-2 c =
-    let x = c .before .before in
+returns-2 c = let x = c .before .before in
     let a = x .before .before .before .before .args in
     nowhere-y (a .xs .now) (a .ys .now) (a .used .now) (a .prediction) (a .search-r)
     (sym (x .before .is-finite .ensures) ∙ not-false _ (x .if1 .left))
     (sym (c .before .is-finite2 .ensures) ∙ not-true _ (c .if2 .taken))
 
+next-candidate-requires : tie.Need-next-candidate-requires Inv-loop μ-loop
+next-candidate-requires c κs = (c .before .before .before .before .before .before .pre, omega arith)
+
 loop-holds : tie.Need-loop-holds Inv-loop μ-loop
-loop-holds c =
-    let a = c .before .before .before .before .before .before .args in
-    (omega arith, none-yet (a .xs .now) (a .ys .now) (a .used .now) (a .prediction) (a .search-r))
+loop-holds c = let a = c .before .before .before .before .before .before .before .args in
+    scanned-start (a .xs .now) (a .ys .now) (a .used .now) (a .prediction) (a .search-r) _ (c .next-candidate .ensures)
 
-consider-requires : tie.Need-consider-requires Inv-loop μ-loop
-consider-requires c κs =
-    record { lent = c .before .before .before .before .before .before .before .before .pre; there = c .loop-test .taken; so-far = c .before .loop .inv .1 }
+candidate-at-requires : tie.Need-candidate-at-requires Inv-loop μ-loop
+candidate-at-requires c κs = (c .before .before .before .before .before .before .before .before .before .pre, c .loop-test .taken)
 
-add-k : tie.Need-add-k Inv-loop μ-loop
-add-k c = omega arith
+keep-requires : tie.Need-keep-requires Inv-loop μ-loop
+keep-requires c κs = search needs
+
+add-next-candidate : tie.Need-add-next-candidate Inv-loop μ-loop
+add-next-candidate c = omega arith
+
+next-candidate-requires-2 : tie.Need-next-candidate-requires-2 Inv-loop μ-loop
+next-candidate-requires-2 c κs = (c .before .before .before .before .before .before .before .before .before .before .before .pre, omega arith)
 
 loop-less : tie.Need-loop-less Inv-loop μ-loop
-loop-less c = omega arith
+loop-less c = omega (arith, c .next-candidate2 .ensures .on)
 
 loop-again : tie.Need-loop-again Inv-loop μ-loop
-loop-again c = (omega arith, c .consider .ensures)
+loop-again c = let l = c .before .before .before in
+    let a = l .before .before .before .before .before .before .before .before .before .args in
+    scanned-more (a .xs .now) (a .ys .now) (a .used .now) (a .prediction) (a .search-r) _ _ _ _ _ (l .before .loop .inv) (l .loop-test .taken) (c .before .before .candidate-at .ensures) (c .before .keep .ensures) (c .next-candidate2 .ensures)
 
 returns-3 : tie.Need-returns-3 Inv-loop μ-loop
-returns-3 c =
-    let y = c .before .before in
+returns-3 c = let y = c .before .before .before in
     let x = y .before .before in
     let a = x .before .before .before .before .args in
-    let e : c .before .loop .k ≡ length (a .xs .now) = omega arith in
-    c .before .loop .inv .1
-    ∙ ap (λ (k : ℕ). firstTwoBelow (a .xs .now) (a .ys .now) (a .used .now) k (a .prediction) (a .search-r)) e
-    ∙ whole (a .xs .now) (a .ys .now) (a .used .now) (a .prediction) (a .search-r)
+    scanned-all (a .xs .now) (a .ys .now) (a .used .now) (a .prediction) (a .search-r) _ _ (c .before .loop .inv) (c .loop-test .left)
     (sym (x .before .is-finite .ensures) ∙ not-false _ (x .if1 .left))
     (sym (y .before .is-finite2 .ensures) ∙ not-false _ (y .if2 .left))
 
@@ -76,9 +78,12 @@ collect-candidates-spec =
     returns
     is-finite-requires-2
     returns-2
+    next-candidate-requires
     loop-holds
-    consider-requires
-    add-k
+    candidate-at-requires
+    keep-requires
+    add-next-candidate
+    next-candidate-requires-2
     loop-less
     loop-again
     returns-3)
