@@ -4,3 +4,5 @@ pub mod Running
 pub mod Ran
 pub mod Pieces
 pub mod Recovering
+pub mod Refusing
+pub mod Saying

@@ -103,3 +103,37 @@ pieces text room = piecesFrom (readFrame text) room (answerLines (readFrame text
 -- the pieces, joined, are the answer
 abbrev pub PiecesJoin : Type 0
 PiecesJoin = (text : List ℕ) (room : ℕ) → 128 ≤ room → joined (pieces text room) ≡ answerText text
+
+-- ---- the same from what a run holds: the answer, the words of the outcomes and the sheet
+
+unfoldable pub heldLines : Recovered → ℕ
+heldLines (Recovered.Refused r line) = 1
+heldLines (Recovered.Done corners passes) = lineCount passes
+
+unfoldable pub heldPiece : Recovered → List ℕ → List ℕ → ℕ → ℕ → Piece
+heldPiece (Recovered.Refused r line) words sheet k room = refusedPiece k (refusedText r line)
+heldPiece (Recovered.Done corners passes) words sheet k room = resultPiece (statsIn passes words) sheet k room
+
+abbrev pub FewPasses : Recovered → Type 0
+FewPasses (Recovered.Refused r line) = Unit {0}
+FewPasses (Recovered.Done corners passes) = passes ≤ 16
+
+-- what the printer asks of words and sheet
+pub record Printable (corners passes : ℕ) (words sheet : List ℕ) : Type 0 where
+  pub few-corners : corners ≤ 1024
+  pub few-passes : passes ≤ 16
+  pub words-long : 9 * passes ≤ length words
+  pub sheet-long : 16384 ≤ length sheet
+  pub tame : (k : ℕ) → k < passes → wildOutcome words k ≡ false
+  pub known : unknownCorner corners sheet ≡ false
+  pub once : doubledCorner sheet ≡ false
+
+unfoldable pub CanSay : Recovered → List ℕ → List ℕ → Type 0
+CanSay (Recovered.Refused r line) words sheet = line ≤ 100000
+CanSay (Recovered.Done corners passes) words sheet = Printable corners passes words sheet
+
+-- what is held after a run of a text says the answer to it, piece by piece
+pub record Says (text sheet words : List ℕ) (r : Recovered) : Type 0 where
+  pub can-say : CanSay r words sheet
+  pub lines-so : heldLines r ≡ answerLines (readFrame text)
+  pub piece-so : (k room : ℕ) → heldPiece r words sheet k room ≡ answerPiece (readFrame text) k room

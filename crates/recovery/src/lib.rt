@@ -5,7 +5,9 @@ ghost use lib.ListN.{length, take};
 ghost use lib.Ieee.{binary32, ofBits};
 ghost use Rattle.passes.specs.Run.{grow, fill, local};
 ghost use Rattle.recovery.specs.Running.{passAt, calledAs, cornerLists, callOf, callAt, left, leftBy, leftByAll, RoomFor, PassWords, AtFront, FrameRoom, PassRoom};
-ghost use Rattle.recovery.specs.Answer.{Recovers};
+ghost use Rattle.recovery.specs.Answer.{refusedText, Recovers, heldLines, FewPasses};
+ghost use Rattle.line_form.specs.Written.{unheldWhole, Wrote};
+ghost use lib.IntN.{pos};
 use arguments::FillParams;
 use arguments::GrowParams;
 use arguments::LocalExtensionParams;
@@ -327,5 +329,37 @@ pub fn recover_frame(
             );
             Recovered::Done(n, m)
         }
+    }
+}
+
+// ---- the answer
+
+// A number of a refusal's line as a form takes it: 1,000,000 more.
+fn held(n: usize) -> u32
+    requires { ⌜ n ≤ 100000 ⌝ }
+    ensures { λ r. ⌜ unheldWhole r ≡ pos n ⌝ }
+{
+    1000000 + n as u32
+}
+
+// Writes `(refused number line)` to the front of a part, and leaves the rest of it as it was.
+fn write_refused(refusal: Refusal, line: usize, out: &mut [u8]) -> usize
+    requires { ⌜ line ≤ 100000 ⌝ }
+    requires { ⌜ 128 ≤ length (now out) ⌝ }
+    ensures { λ r. ⌜ Wrote (refusedText refusal line) (now (out .entry)) (now (out .exit)) r ⌝ }
+{
+    let number = refusal::number(refusal);
+    let words = [held(number as usize), held(line)];
+    line_form::write::write_form(b"(refused # #)\n", &words, out)
+}
+
+// How many lines the answer has, empty ones included.
+pub fn answer_lines(answer: Recovered) -> usize
+    requires { ⌜ FewPasses answer ⌝ }
+    ensures { λ r. ⌜ r ≡ heldLines answer ⌝ }
+{
+    match answer {
+        Recovered::Refused(_, _) => 1,
+        Recovered::Done(_, passes) => 1 + passes + 49152,
     }
 }

@@ -1,0 +1,29 @@
+-- What is held after a run says the answer. Assumes nothing.
+use mathlib.Core.Path.{_≡_, refl, sym, ap, _∙_, subst}
+use mathlib.Core.List.{List}
+use Prim.Native.Nat.{ℕ, _≤_}
+use native.Mathlib.Omega.{arith}
+use lib.ListN.{length}
+use Rattle.frame.specs.Frame.{Frame, FrameRead, refused-at, accepted, readFrame}
+use Rattle.passes.specs.Run.{PassStats}
+use Rattle.report_line.specs.Result.{resultPiece, lineCount}
+use Rattle.report.specs.Lent.{statsFrom}
+use Rattle.report.proofs.Outcomes.{stats-length}
+use Rattle.recovery.specs.Answer.{frameStats, Recorded, Recovers, recovers-not, recovers, answerLines, answerPiece, heldLines, heldPiece, CanSay, Says}
+use Rattle.recovery.specs.declared.Recovered.{Recovered}
+use Rattle.recovery.proofs.Refusing.{refused-line}
+
+pub says : (text sheet words : List ℕ) (r : Recovered) → Recovers text sheet words r → Says text sheet words r
+unfolding CanSay heldLines heldPiece answerLines answerPiece
+says text sheet words _ (recovers-not r line e) =
+    record {
+      can-say = omega (arith, refused-line text r line e);
+      lines-so = rw e refl;
+      piece-so = λ k room. rw e refl;
+    }
+says text sheet words _ (recovers f corners passes e w) =
+    record {
+      can-say = record { few-corners = w .few-corners; few-passes = w .few-passes; words-long = w .words-long; sheet-long = w .sheet-long; tame = w .tame; known = w .known; once = w .once };
+      lines-so = rw e (ap lineCount (sym (stats-length words 0 passes) ∙ ap (λ (s : List PassStats). length s) (w .stats-so)));
+      piece-so = λ k room. rw (e, w .stats-so, w .sheet-so) refl;
+    }
