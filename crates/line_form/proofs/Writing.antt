@@ -15,6 +15,7 @@ use Rattle.binary32.specs.Hex.{pick, hexText}
 use Rattle.binary32.proofs.Digits.{digits-length}
 use Rattle.line_form.specs.Integers.{decimal, integerText, negated}
 use Rattle.line_form.specs.Forms.{whole, numberText, isSlot, firstText, printed}
+use Rattle.line_form.specs.Lengths.{DigitCount}
 use Rattle.line_form.specs.Written.{unheldWhole, unheldNumber, unheld, formText, pieceText, Wrote}
 use Rattle.line_form.proofs.Decimal.{one-digit, more-digits, decimal-length}
 use Rattle.line_form.proofs.Reading.{part, front-of}
@@ -36,21 +37,21 @@ some-length n = go (ltb n 10) refl
 
 -- the digits of n, counted up to those of m
 pub record Counted (n m count : ℕ) : Type 0 where
-  pub small : n < 2 ^ 32
+  pub small : n < 2 ^ 64
   pub sum : count + length (decimal m) ≡ length (decimal n) + 1
 
-pub count-begun : (n : ℕ) → n < 2 ^ 32 → Counted n n 1
+pub count-begun : (n : ℕ) → n < 2 ^ 64 → Counted n n 1
 count-begun n h = record { small = h; sum = omega arith }
 
 module _ (n m count : ℕ) (g : Counted n m count) where
-  pub count-room : count ≤ 10
-  count-room = omega (arith, g .sum, some-length m, decimal-length 9 n (omega (arith, g .small)))
+  pub count-room : count ≤ 20
+  count-room = omega (arith, g .sum, some-length m, decimal-length 19 n (omega (arith, g .small)))
 
   pub one-more-digit : 10 ≤ m → Counted n (m / 10) (count + 1)
   one-more-digit h = record { small = g .small; sum = omega (arith, g .sum, more-length m h) }
 
-  pub all-counted : m < 10 → count ≡ length (decimal n)
-  all-counted h = omega (arith, g .sum, one-length m h)
+  pub all-counted : m < 10 → DigitCount n count
+  all-counted h = record { is = omega (arith, g .sum, one-length m h); few = count-room }
 
 -- ---- the digits, the last first
 
@@ -163,7 +164,7 @@ module _ (c : ℕ) where
 -- ---- a part of a buffer
 
 -- what a buffer holds after its part from a on was lent and written
-put-back : (out new : List ℕ) (a : ℕ) → putMid a (length out - a) out new ≡ take a out ++ new
+pub put-back : (out new : List ℕ) (a : ℕ) → putMid a (length out - a) out new ≡ take a out ++ new
 put-back out new a = ap (λ (s : List ℕ). take a out ++ (new ++ s)) none ∙ ap (λ (s : List ℕ). take a out ++ s) (append-nil new)
   where
     none : drop (length out - a) (drop a out) ≡ []

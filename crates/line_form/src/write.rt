@@ -5,12 +5,13 @@ ghost use lib.ListN.{length, getD};
 ghost use Rattle.binary32.specs.Hex.{pick};
 ghost use Rattle.line_form.specs.Integers.{decimal, integerText};
 ghost use Rattle.line_form.specs.Forms.{isSlot};
+ghost use Rattle.line_form.specs.Lengths.{DigitCount};
 ghost use Rattle.line_form.specs.Written.{unheldWhole, formText, pieceText, Wrote};
 use binary32::hex::write_bits;
 
 // How many digits a number has.
-fn digit_count(n: u32) -> usize
-    ensures { λ r. ⌜ r ≡ length (decimal n) ⌝ }
+pub fn digit_count(n: usize) -> usize
+    ensures { λ r. ⌜ DigitCount n r ⌝ }
 {
     let mut m = n;
     let mut count = 1usize;
@@ -33,7 +34,7 @@ fn write_decimal(n: u32, out: &mut [u8]) -> usize
     requires { ⌜ length (decimal n) ≤ length (now out) ⌝ }
     ensures { λ r. ⌜ Wrote (decimal n) (now (out .entry)) (now (out .exit)) r ⌝ }
 {
-    let count = digit_count(n);
+    let count = digit_count(n as usize);
     let mut m = n;
     let mut i = count;
     while 0 < i {

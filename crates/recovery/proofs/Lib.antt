@@ -6,3 +6,4 @@ pub mod Pieces
 pub mod Recovering
 pub mod Refusing
 pub mod Saying
+pub mod Printing

@@ -18,7 +18,9 @@ use Rattle.frame.specs.Lent.{sheetOf}
 use Rattle.frame_laws.specs.Calls.{cornersOf, callsOf}
 use Rattle.report_line.specs.Result.{count, resultText, resultFrom, Piece, resultPiece, lineCount}
 use Rattle.report.specs.Lent.{statsIn, wildOutcome}
+use Rattle.line_form.specs.Written.{Wrote}
 use Rattle.recovery.specs.declared.Recovered.{Recovered}
+use Rattle.recovery.specs.declared.PieceWritten.{PieceWritten}
 
 -- ---- the whole answer
 
@@ -137,3 +139,13 @@ pub record Says (text sheet words : List ℕ) (r : Recovered) : Type 0 where
   pub can-say : CanSay r words sheet
   pub lines-so : heldLines r ≡ answerLines (readFrame text)
   pub piece-so : (k room : ℕ) → heldPiece r words sheet k room ≡ answerPiece (readFrame text) k room
+
+-- a piece that was written to the front of a buffer, the rest untouched
+pub record WrotePiece (p : Piece) (old new : List ℕ) (r : PieceWritten) : Type 0 where
+  pub wrote : Wrote (p .text) old new (r .bytes)
+  pub next-so : r .next ≡ p .next
+
+-- it fits into the room, and the next line is a later one
+pub record Moves (from room : ℕ) (r : PieceWritten) : Type 0 where
+  pub in-room : r .bytes ≤ room
+  pub later : from < r .next

@@ -5,7 +5,9 @@ ghost use lib.ListN.{length, take};
 ghost use lib.Ieee.{binary32, ofBits};
 ghost use Rattle.passes.specs.Run.{grow, fill, local};
 ghost use Rattle.recovery.specs.Running.{passAt, calledAs, cornerLists, callOf, callAt, left, leftBy, leftByAll, RoomFor, PassWords, AtFront, FrameRoom, PassRoom};
-ghost use Rattle.recovery.specs.Answer.{refusedText, Recovers, heldLines, FewPasses};
+ghost use Rattle.recovery.specs.Answer.{refusedText, Recovers, heldLines, heldPiece, FewPasses, Printable, CanSay, WrotePiece, Moves};
+ghost use mathlib.Core.List.{[]};
+ghost use Rattle.report_line.specs.Result.{lineCount};
 ghost use Rattle.line_form.specs.Written.{unheldWhole, Wrote};
 ghost use lib.IntN.{pos};
 use arguments::FillParams;
@@ -18,6 +20,7 @@ use passes::FillAnswer;
 use passes::GrowAnswer;
 use passes::LocalAnswer;
 use refusal::Refusal;
+use report::PieceAnswer;
 
 // A refusal with its line, or the number of corners and of passes of a frame whose passes have run.
 pub enum Recovered {
@@ -361,5 +364,70 @@ pub fn answer_lines(answer: Recovered) -> usize
     match answer {
         Recovered::Refused(_, _) => 1,
         Recovered::Done(_, passes) => 1 + passes + 49152,
+    }
+}
+
+// How many bytes a piece has, and which line comes after it.
+pub struct PieceWritten {
+    pub bytes: usize,
+    pub next: usize,
+}
+
+// The only piece of a refusal.
+fn refused_piece(refusal: Refusal, line: usize, out: &mut [u8]) -> PieceWritten
+    requires { ⌜ line ≤ 100000 ⌝ }
+    requires { ⌜ 128 ≤ length (now out) ⌝ }
+    ensures { λ r. ⌜ WrotePiece (heldPiece (Recovered.Refused refusal line) [] [] 0 (length (now (out .entry)))) (now (out .entry)) (now (out .exit)) r ⌝ }
+    ensures { λ r. ⌜ Moves 0 (length (now (out .entry))) r ⌝ }
+{
+    let bytes = write_refused(refusal, line, out);
+    PieceWritten { bytes, next: 1 }
+}
+
+// The piece of a result from a line on.
+fn result_piece(
+    corners: usize,
+    passes: usize,
+    words: &[u32],
+    sheet: &[u16],
+    from: usize,
+    out: &mut [u8],
+) -> PieceWritten
+    requires { ⌜ Printable corners passes (now words) (now sheet) ⌝ }
+    requires { ⌜ from < lineCount passes ⌝ }
+    requires { ⌜ 128 ≤ length (now out) ⌝ }
+    ensures { λ r. ⌜ WrotePiece (heldPiece (Recovered.Done corners passes) (now (words .entry)) (now (sheet .entry)) from (length (now (out .entry)))) (now (out .entry)) (now (out .exit)) r ⌝ }
+    ensures { λ r. ⌜ Moves from (length (now (out .entry))) r ⌝ }
+{
+    let answer = report::write_result_piece(corners, passes, words, sheet, from, out);
+    match answer {
+        PieceAnswer::Written(bytes, next) => PieceWritten { bytes, next },
+        PieceAnswer::Refused(_) => PieceWritten {
+            bytes: 0,
+            next: from,
+        },
+    }
+}
+
+// Writes the piece of the answer from a line on to the front of the output buffer, and leaves the rest of it as it was: whole lines, as long
+// as 128 bytes are left before each.
+pub fn answer_piece(
+    answer: Recovered,
+    words: &[u32],
+    sheet: &[u16],
+    from: usize,
+    out: &mut [u8],
+) -> PieceWritten
+    requires { ⌜ CanSay answer (now words) (now sheet) ⌝ }
+    requires { ⌜ from < heldLines answer ⌝ }
+    requires { ⌜ 128 ≤ length (now out) ⌝ }
+    ensures { λ r. ⌜ WrotePiece (heldPiece answer (now (words .entry)) (now (sheet .entry)) from (length (now (out .entry)))) (now (out .entry)) (now (out .exit)) r ⌝ }
+    ensures { λ r. ⌜ Moves from (length (now (out .entry))) r ⌝ }
+{
+    match answer {
+        Recovered::Refused(refusal, line) => refused_piece(refusal, line, out),
+        Recovered::Done(corners, passes) => {
+            result_piece(corners, passes, words, sheet, from, out)
+        }
     }
 }

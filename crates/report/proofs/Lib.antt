@@ -6,3 +6,5 @@ pub mod Numbered
 pub mod Short
 pub mod Laws
 pub mod Checking
+pub mod Writing
+pub mod Answers

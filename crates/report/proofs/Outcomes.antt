@@ -6,12 +6,13 @@ use Prim.Native.Nat.{ℕ, zero, suc, _+_, _*_, _%_, _≤_, _<_}
 use native.Mathlib.Nat.{not-suc-le-zero}
 use native.Mathlib.Decide.{ℕ-discrete, decLe}
 use native.Mathlib.Omega.{arith}
-use borrow.Author.Tests.{ltb-false, eq-eqb, not-false}
+use borrow.Author.Tests.{ltb-false, eq-eqb, eqb-false, not-false}
 use lib.Dec.{T, ltb, eqb}
 use lib.ListN.{length, getD}
 use lib.Seq.{getD-append-add}
 use lib.Ieee.{Float, binary32, ofBits, toBits, fits, nanBits}
 use lib.Ieee.Bits.{ofBits-toBits}
+use Rattle.binary32.specs.Hex.{pick}
 use Rattle.binary32.specs.Ranges.{isFinite}
 use Rattle.binary32.proofs.Answered.{pattern}
 use Rattle.binary32.proofs.Finite.{infinite-bits}
@@ -171,3 +172,16 @@ module _ (words : List ℕ) (k : ℕ) where
           go : Dec (n ≡ 0) → n ≡ 1
           go (yes d) = absurd (no-both true refl (sym h ∙ ap not (eq-eqb n 0 d)))
           go (no d) = omega arith
+
+-- and it is finite
+pub residual-finite : (words : List ℕ) (k : ℕ) → Tame words k → (x : Float) → residualAt words k ≡ LargestResidual.Residual x → isFinite x ≡ true
+residual-finite words k w x e = go (eqb (wordAt words k 6) 0) refl e
+  where
+    go : (t : Bool) → eqb (wordAt words k 6) 0 ≡ t → pick (not t) (LargestResidual.Residual (ofBits binary32 (wordAt words k 7))) LargestResidual.Nothing ≡ LargestResidual.Residual x
+        → isFinite x ≡ true
+    go true p q = absurd (let z : _≡_ {A = ℕ} 0 1 = cc in omega arith)
+    go false p q =
+        let low = w .flag in
+        let some = eqb-false (wordAt words k 6) 0 p in
+        let same : ofBits binary32 (wordAt words k 7) ≡ x = cc in
+        rw (← same) (w .finite (omega arith))

@@ -13,7 +13,7 @@ use Rattle.passes.specs.Run.{growStats, fillStats, localStats}
 use Rattle.report.specs.Lent.{Lent, wordAt, countsAt, statsAt, statsIn, wild}
 use Rattle.report_line.specs.Written.{Few}
 use Rattle.report_line.proofs.Short.{grow-short, fill-short, local-short, sheet-short}
-use Rattle.report.specs.Asked.{growAt, fillAt, localAt, Tame}
+use Rattle.report.specs.Asked.{growAt, fillAt, localAt, Tame, lineAt}
 use Rattle.report.proofs.Outcomes.{all-tame, stats-length, pass-line-at}
 
 -- the line of an outcome that passes the check
@@ -32,13 +32,17 @@ pass-short words k h = go (eqb (wordAt words k 0) 0) (eqb (wordAt words k 0) 1)
 -- ---- every line
 
 -- "No line is longer than 127 bytes"
-pub line-short : (l : Lent) → wild l ≡ false → (k : ℕ) → k < lineCount (l .passes) → length (resultLine (statsIn (l .passes) (l .words)) (l .sheet) k) ≤ 127
-unfolding resultLine
-line-short l e zero h = omega arith
-line-short l e (suc k) h = rw (stats-length (l .words) 0 (l .passes)) (go (ltb k (l .passes)) refl)
+pub tame-short : (passes : ℕ) (words sheet : List ℕ) → ((k : ℕ) → k < passes → Tame words k) → (k : ℕ) → k < lineCount passes → length (lineAt passes words sheet k) ≤ 127
+unfolding lineAt resultLine
+tame-short passes words sheet t zero h = omega arith
+tame-short passes words sheet t (suc k) h = rw (stats-length words 0 passes) (go (ltb k passes) refl)
   where
-    go : (t : Bool) → ltb k (l .passes) ≡ t → length (pick t (passLineAt (statsIn (l .passes) (l .words)) k) (sheetLine (l .sheet) (k - l .passes))) ≤ 127
+    go : (b : Bool) → ltb k passes ≡ b → length (pick b (passLineAt (statsIn passes words) k) (sheetLine sheet (k - passes))) ≤ 127
     go true p =
-        let b = ltb-true k (l .passes) p in
-        rw (pass-line-at (l .words) 0 (l .passes) k k b (omega arith)) (pass-short (l .words) k (all-tame l e k b))
-    go false p = let b = ltb-false k (l .passes) p in sheet-short (l .sheet) (k - l .passes) (omega arith)
+        let l = ltb-true k passes p in
+        rw (pass-line-at words 0 passes k k l (omega arith)) (pass-short words k (t k l))
+    go false p = let l = ltb-false k passes p in sheet-short sheet (k - passes) (omega arith)
+
+pub line-short : (l : Lent) → wild l ≡ false → (k : ℕ) → k < lineCount (l .passes) → length (resultLine (statsIn (l .passes) (l .words)) (l .sheet) k) ≤ 127
+unfolding lineAt
+line-short l e k h = tame-short (l .passes) (l .words) (l .sheet) (all-tame l e) k h

@@ -16,8 +16,10 @@ use Rattle.passes.specs.declared.FillStats.{FillStats}
 use Rattle.passes.specs.declared.LocalStats.{LocalStats}
 use Rattle.passes.specs.declared.LargestResidual.{LargestResidual}
 use Rattle.passes.specs.Run.{PassStats, growStats, fillStats, localStats}
-use Rattle.report_line.specs.Result.{resultLine, lineCount, resultFrom}
-use Rattle.report.specs.Lent.{outcomeWords, wordAt, countsAt, yesAt, residualAt, statsIn, largestCount}
+use Rattle.report_line.specs.Result.{passLine, resultLine, lineCount, resultFrom, Piece, resultPiece}
+use Rattle.line_form.specs.Written.{Wrote}
+use Rattle.report.specs.declared.lines.PieceEnd.{PieceEnd}
+use Rattle.report.specs.Lent.{outcomeWords, wordAt, countsAt, yesAt, residualAt, statsAt, statsIn, largestCount}
 
 -- ---- outcomes
 
@@ -130,6 +132,34 @@ textFrom passes words sheet k = resultFrom (statsIn passes words) sheet k
 pub record HasLine (passes : ℕ) (words sheet : List ℕ) (k : ℕ) : Type 0 where
   pub all : AllLent passes words sheet
   pub below : k < lineCount passes
+
+-- a piece from line k on
+unfoldable pub pieceFrom : ℕ → List ℕ → List ℕ → ℕ → ℕ → Piece
+pieceFrom passes words sheet k room = resultPiece (statsIn passes words) sheet k room
+
+-- ---- what the writers ask
+
+pub record PassAsked (words : List ℕ) (k : ℕ) (out : List ℕ) : Type 0 where
+  pub outcome : TameOutcome words k
+  pub room : length (passLine (statsAt words k)) ≤ length out
+
+pub record LineAsked (passes : ℕ) (words sheet : List ℕ) (k : ℕ) (out : List ℕ) : Type 0 where
+  pub sound : Sound passes words sheet
+  pub below : k < lineCount passes
+  pub room : length (lineAt passes words sheet k) ≤ length out
+
+pub record AllAsked (passes : ℕ) (words sheet out : List ℕ) : Type 0 where
+  pub sound : Sound passes words sheet
+  pub room : length (textFrom passes words sheet 0) ≤ length out
+
+pub record SomeAsked (passes : ℕ) (words sheet : List ℕ) (k : ℕ) : Type 0 where
+  pub sound : Sound passes words sheet
+  pub upto : k ≤ lineCount passes
+
+-- a piece that was written to the front of a buffer, the rest untouched
+pub record WrotePiece (p : Piece) (old new : List ℕ) (r : PieceEnd) : Type 0 where
+  pub wrote : Wrote (p .text) old new (r .at)
+  pub next : r .next ≡ p .next
 
 -- ---- 5 and 6
 

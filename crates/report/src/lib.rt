@@ -3,6 +3,9 @@ mod lines; // lines.rt: the lines by their numbers
 mod tests; // tests.rt: refusals 7, 2, 3, 5 and 6
 pub mod words; // words.rt: outcomes as words
 
+ghost use mathlib.Core.Path.{_≡_};
+ghost use Rattle.report.specs.Lent.{lent, textOut, writesText, pieceOut, writesPiece};
+use arguments::Checked;
 use refusal::Refusal;
 
 // How many bytes were written, or why nothing was.
@@ -15,4 +18,41 @@ pub enum TextAnswer {
 pub enum PieceAnswer {
     Written(usize, usize),
     Refused(Refusal),
+}
+
+// Writes the whole text of a result to the front of a buffer, and leaves the rest of it as it was. It is lent the outcomes of the passes as words, nine
+// for each, and the sheet, and told how many passes and corners there are.
+pub fn write_result(
+    corners: usize,
+    passes: usize,
+    words: &[u32],
+    sheet: &[u16],
+    out: &mut [u8],
+) -> TextAnswer
+    ensures { λ r. ⌜ textOut r (now (out .exit)) ≡ writesText (lent corners passes (now (words .entry)) (now (sheet .entry))) (now (out .entry)) ⌝ }
+{
+    let checked = tests::check_text(corners, passes, words, sheet, out.len());
+    match checked {
+        Checked::Refused(r) => TextAnswer::Refused(r),
+        Checked::Fine => TextAnswer::Written(lines::write_all(passes, words, sheet, out)),
+    }
+}
+
+// Writes a piece of it: whole lines from a line on, as long as 128 bytes are left before each.
+pub fn write_result_piece(
+    corners: usize,
+    passes: usize,
+    words: &[u32],
+    sheet: &[u16],
+    from: usize,
+    out: &mut [u8],
+) -> PieceAnswer
+    ensures { λ r. ⌜ pieceOut r (now (out .exit)) ≡ writesPiece (lent corners passes (now (words .entry)) (now (sheet .entry))) from (now (out .entry)) ⌝ }
+{
+    let checked = tests::check_piece(corners, passes, words, sheet, from, out.len());
+    if let Checked::Refused(r) = checked {
+        return PieceAnswer::Refused(r);
+    }
+    let end = lines::write_some(passes, words, sheet, from, out);
+    PieceAnswer::Written(end.at, end.next)
 }

@@ -3,13 +3,19 @@
 ghost use mathlib.Core.Path.{_≡_};
 ghost use lib.Dec.{ltb};
 ghost use lib.ListN.{length};
+ghost use Rattle.line_form.specs.Written.{Wrote};
 ghost use Rattle.report_line.specs.Result.{passLine};
 ghost use Rattle.report.specs.Lent.{statsAt};
-ghost use Rattle.report.specs.Asked.{HasOutcome, AllLent, HasLine, lineAt, textFrom};
+ghost use Rattle.report.specs.Asked.{HasOutcome, AllLent, HasLine, PassAsked, LineAsked, AllAsked, SomeAsked, WrotePiece, lineAt, textFrom, pieceFrom};
 use report_line::length::fill_length;
 use report_line::length::grow_length;
 use report_line::length::local_length;
 use report_line::length::sheet_line_length;
+use report_line::line::write_fill;
+use report_line::line::write_grow;
+use report_line::line::write_heading;
+use report_line::line::write_local;
+use report_line::line::write_sheet_line;
 
 // The length of the pass line of outcome k.
 fn pass_length(words: &[u32], k: usize) -> usize
@@ -61,4 +67,80 @@ pub fn text_short(passes: usize, words: &[u32], sheet: &[u16], room: usize) -> b
         k += 1;
     }
     false
+}
+
+// Writes the pass line of outcome k to the front of a part.
+fn write_pass(words: &[u32], k: usize, out: &mut [u8]) -> usize
+    requires { ⌜ PassAsked (now words) k (now out) ⌝ }
+    ensures { λ r. ⌜ Wrote (passLine (statsAt (now (words .entry)) k)) (now (out .entry)) (now (out .exit)) r ⌝ }
+{
+    let kind = super::words::word_at(words, k, 0);
+    if kind == 0 {
+        return write_grow(super::words::grow_at(words, k), out);
+    }
+    if kind == 1 {
+        return write_fill(super::words::fill_at(words, k), out);
+    }
+    write_local(super::words::local_at(words, k), out)
+}
+
+// Writes line k to the front of a part.
+fn write_line(passes: usize, words: &[u32], sheet: &[u16], k: usize, out: &mut [u8]) -> usize
+    requires { ⌜ LineAsked passes (now words) (now sheet) k (now out) ⌝ }
+    ensures { λ r. ⌜ Wrote (lineAt passes (now (words .entry)) (now (sheet .entry)) k) (now (out .entry)) (now (out .exit)) r ⌝ }
+{
+    if k == 0 {
+        return write_heading(out);
+    }
+    if k - 1 < passes {
+        return write_pass(words, k - 1, out);
+    }
+    write_sheet_line(sheet, k - 1 - passes, out)
+}
+
+// Writes the whole text, line by line, each into the unfilled rest of the buffer.
+pub fn write_all(passes: usize, words: &[u32], sheet: &[u16], out: &mut [u8]) -> usize
+    requires { ⌜ AllAsked passes (now words) (now sheet) (now out) ⌝ }
+    ensures { λ r. ⌜ Wrote (textFrom passes (now (words .entry)) (now (sheet .entry)) 0) (now (out .entry)) (now (out .exit)) r ⌝ }
+{
+    let count = passes + 49153;
+    let mut at = 0usize;
+    let mut k = 0usize;
+    while k < count {
+        let n = write_line(passes, words, sheet, k, &mut out[at..]);
+        at += n;
+        k += 1;
+    }
+    at
+}
+
+// How far a piece goes: how many bytes were written, and which line comes next.
+pub struct PieceEnd {
+    pub at: usize,
+    pub next: usize,
+}
+
+// Writes whole lines from a line on, as long as 128 bytes are left before each.
+pub fn write_some(
+    passes: usize,
+    words: &[u32],
+    sheet: &[u16],
+    from: usize,
+    out: &mut [u8],
+) -> PieceEnd
+    requires { ⌜ SomeAsked passes (now words) (now sheet) from ⌝ }
+    ensures { λ r. ⌜ WrotePiece (pieceFrom passes (now (words .entry)) (now (sheet .entry)) from (length (now (out .entry)))) (now (out .entry)) (now (out .exit)) r ⌝ }
+{
+    let count = passes + 49153;
+    let mut at = 0usize;
+    let mut k = from;
+    while k < count {
+        if out.len() - at < 128 {
+            return PieceEnd { at, next: k };
+        }
+        let n = write_line(passes, words, sheet, k, &mut out[at..]);
+        at += n;
+        k += 1;
+    }
+    PieceEnd { at, next: k }
 }

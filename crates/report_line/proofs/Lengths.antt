@@ -19,38 +19,14 @@ use Rattle.sheet.specs.Words.{labelOf, holeOf, ambiguousOf}
 use Rattle.sheet.specs.declared.Cell.{Cell}
 use Rattle.sheet.specs.declared.Label.{Label}
 use Rattle.line_form.specs.Forms.{bytes, Number, bits, numberText, isSlot, firstText, printed}
-use Rattle.line_form.specs.Lengths.{slots}
+use Rattle.line_form.specs.Lengths.{slots, DigitCount}
 use Rattle.passes.specs.declared.Counts.{Counts}
 use Rattle.passes.specs.declared.GrowStats.{GrowStats}
 use Rattle.passes.specs.declared.FillStats.{FillStats}
 use Rattle.passes.specs.declared.LocalStats.{LocalStats}
 use Rattle.passes.specs.declared.LargestResidual.{LargestResidual}
 use Rattle.report_line.specs.Result.{count, growForm, fillForm, localForm, bareLocalForm, fourCounts, growLine, fillLine, localLineWith, localLine, cellNumbers, labelLine, cellLine, holeLine, ambiguousLine, sheetLine}
-use Rattle.report_line.specs.Lengths.{DigitCount, NumberLength, fourDigits, FourCounted, twoNumbers, TwoCounted, restOfLocal, localLength}
-
--- ---- digits
-
--- so far: the digits counted are those of n that are not digits of what is left of it, and one
-pub record Counting (n left count : ℕ) : Type 0 where
-  pub same : count + length (decimal left) ≡ suc (length (decimal n))
-  pub low : count + left ≤ suc n
-
-pub counting-start : (n : ℕ) → Counting n n 1
-counting-start n = record { same = omega arith; low = omega arith }
-
-pub counting-more : (n left count : ℕ) → Counting n left count → 10 ≤ left → Counting n (left / 10) (count + 1)
-counting-more n left count r h =
-    let same = r .same in
-    let low = r .low in
-    let e : length (decimal left) ≡ length (decimal (left / 10)) + 1 = ap length (more-digits left h) ∙ length-append (decimal (left / 10)) _ in
-    record { same = omega arith; low = omega arith }
-
-pub counting-end : (n left count : ℕ) → Counting n left count → left < 10 → n < 18446744073709551616 → DigitCount n count
-counting-end n left count r h fit =
-    let same = r .same in
-    let e : length (decimal left) ≡ 1 = ap length (one-digit left h) in
-    let few : length (decimal n) ≤ 20 = decimal-length 19 n (omega arith) in
-    record { is = omega arith; few = omega arith }
+use Rattle.report_line.specs.Lengths.{NumberLength, fourDigits, FourCounted, twoNumbers, TwoCounted, restOfLocal, localLength}
 
 -- ---- a cell's number
 

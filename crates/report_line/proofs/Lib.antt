@@ -1,3 +1,4 @@
 -- The laws of a result's lines: how long they are, and their numbers as they are held. Assumes nothing.
 pub mod Short
 pub mod Lengths
+pub mod Forms

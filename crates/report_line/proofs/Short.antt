@@ -54,7 +54,8 @@ local-short s h r = go (s .residual) (s .rim)
 
 -- ---- the sheet's lines
 
-corner-small : (w k : ℕ) → labelOf w ≡ Label.Corner k → k < 16384
+-- a word names a corner below 16,384
+pub corner-small : (w k : ℕ) → labelOf w ≡ Label.Corner k → k < 16384
 unfolding labelOf labelOfNumber
 corner-small w k e = go (w % 16384) (omega arith) e
   where

@@ -9,11 +9,6 @@ use Rattle.sheet.specs.declared.Cell.{Cell}
 use Rattle.line_form.specs.Integers.{decimal, integerText}
 use Rattle.passes.specs.declared.Counts.{Counts}
 
--- the digits of a number, counted: at most 20
-pub record DigitCount (n r : ℕ) : Type 0 where
-  pub is : r ≡ length (decimal n)
-  pub few : r ≤ 20
-
 -- the bytes of a cell's number, counted
 pub record NumberLength (z : ℤ) (r : ℕ) : Type 0 where
   pub is : r ≡ length (integerText z)

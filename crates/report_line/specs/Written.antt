@@ -1,15 +1,22 @@
--- What the line writers ask, and what they leave. Definitions only.
+-- What the line writers ask: numbers that a line of a result can have, and room for the line. What they leave is line_form's `Wrote`: the line at the
+-- front of the part, and the rest untouched. Definitions only.
 use mathlib.Core.Path.{_≡_}
-use mathlib.Core.List.{List}
+use mathlib.Core.Bool.{true}
+use mathlib.Core.List.{List, []}
 use Prim.Native.Nat.{ℕ, _≤_, _<_}
 use lib.ListN.{length}
-use Rattle.passes.specs.Outcome.{over}
+use lib.Ieee.{Float}
+use Rattle.binary32.specs.Ranges.{isFinite}
+use Rattle.sheet.specs.Cells.{OnSheet}
+use Rattle.sheet.specs.declared.Cell.{Cell}
+use Rattle.sheet.specs.declared.Label.{Label}
+use Rattle.line_form.specs.Forms.{bytes, printed}
 use Rattle.passes.specs.declared.Counts.{Counts}
-
--- a line that was written to the front of a part: how many bytes, and the rest is untouched
-pub record Wrote (line before after : List ℕ) (n : ℕ) : Type 0 where
-  pub count : n ≡ length line
-  pub text : after ≡ over line before
+use Rattle.passes.specs.declared.GrowStats.{GrowStats}
+use Rattle.passes.specs.declared.FillStats.{FillStats}
+use Rattle.passes.specs.declared.LocalStats.{LocalStats}
+use Rattle.passes.specs.declared.LargestResidual.{LargestResidual}
+use Rattle.report_line.specs.Result.{growLine, fillLine, localLineWith, localLine, cellNumbers, labelLine}
 
 -- counts that an outcome can have: 64 rounds of 16,384 cells at most
 abbrev pub largestCount : ℕ
@@ -21,6 +28,63 @@ pub record Few (c : Counts) : Type 0 where
   pub ambiguous : c .«rejected_ambiguous» ≤ largestCount
   pub edge : c .«rejected_edge» ≤ largestCount
 
+-- ---- pass lines
+
+pub record GrowAsked (s : GrowStats) (out : List ℕ) : Type 0 where
+  pub few : Few (s .counts)
+  pub room : length (growLine s) ≤ length out
+
+pub record FillAsked (s : FillStats) (out : List ℕ) : Type 0 where
+  pub few : s .added ≤ largestCount
+  pub rounds : s .iterations ≤ 64
+  pub room : length (fillLine s) ≤ length out
+
+-- a local line by its residual
+abbrev pub bareLocalText : LocalStats → List ℕ
+bareLocalText s = localLineWith LargestResidual.Nothing s
+
+abbrev pub fullLocalText : LocalStats → Float → List ℕ
+fullLocalText s x = localLineWith (LargestResidual.Residual x) s
+
+pub record BareAsked (s : LocalStats) (out : List ℕ) : Type 0 where
+  pub few : Few (s .counts)
+  pub rounds : s .iterations ≤ 64
+  pub room : length (bareLocalText s) ≤ length out
+
+pub record FullAsked (s : LocalStats) (x : Float) (out : List ℕ) : Type 0 where
+  pub few : Few (s .counts)
+  pub rounds : s .iterations ≤ 64
+  pub finite : isFinite x ≡ true
+  pub room : length (fullLocalText s x) ≤ length out
+
+pub record LocalAsked (s : LocalStats) (out : List ℕ) : Type 0 where
+  pub few : Few (s .counts)
+  pub rounds : s .iterations ≤ 64
+  pub finite : (x : Float) → s .residual ≡ LargestResidual.Residual x → isFinite x ≡ true
+  pub room : length (localLine s) ≤ length out
+
+-- ---- the sheet's lines
+
+-- a cell on the sheet, and a line of it that has room
+pub record CellAsked (c : Cell) (line out : List ℕ) : Type 0 where
+  pub on : OnSheet c
+  pub room : length line ≤ length out
+
+abbrev pub holeText : Cell → List ℕ
+holeText c = printed (bytes "(hole (# #))\n") (cellNumbers c [])
+
+abbrev pub ambiguousText : Cell → List ℕ
+ambiguousText c = printed (bytes "(ambiguous (# #))\n") (cellNumbers c [])
+
+abbrev pub cellText : Cell → ℕ → List ℕ
+cellText c k = labelLine c (Label.Corner k)
+
+-- a corner that a word can name
+pub record CornerAsked (c : Cell) (k : ℕ) (out : List ℕ) : Type 0 where
+  pub on : OnSheet c
+  pub small : k < 16384
+  pub room : length (cellText c k) ≤ length out
+
 -- a place of the sheet
 pub record OnPlaces (sheet : List ℕ) (place : ℕ) : Type 0 where
   pub there : 16384 ≤ length sheet
@@ -30,3 +94,12 @@ pub record OnPlaces (sheet : List ℕ) (place : ℕ) : Type 0 where
 pub record OnLines (sheet : List ℕ) (k : ℕ) : Type 0 where
   pub there : 16384 ≤ length sheet
   pub below : k < 49152
+
+-- and room for the line of it
+pub record PlaceAsked (sheet : List ℕ) (place : ℕ) (line out : List ℕ) : Type 0 where
+  pub on : OnPlaces sheet place
+  pub room : length line ≤ length out
+
+pub record LineAsked (sheet : List ℕ) (k : ℕ) (line out : List ℕ) : Type 0 where
+  pub on : OnLines sheet k
+  pub room : length line ≤ length out

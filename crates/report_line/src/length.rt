@@ -5,26 +5,14 @@ ghost use lib.IntN.{natAbs};
 ghost use lib.ListN.{length};
 ghost use Rattle.sheet.specs.Cells.{OnSheet};
 ghost use Rattle.report_line.specs.Result.{growLine, fillLine, cellLine, holeLine, ambiguousLine, sheetLine};
-ghost use Rattle.report_line.specs.Lengths.{DigitCount, NumberLength, FourCounted, TwoCounted, localLength};
+ghost use Rattle.report_line.specs.Lengths.{NumberLength, FourCounted, TwoCounted, localLength};
 ghost use Rattle.report_line.specs.Written.{OnPlaces, OnLines};
+use line_form::write::digit_count;
 use passes::Counts;
 use passes::FillStats;
 use passes::GrowStats;
 use sheet::Cell;
 use sheet::Label;
-
-// How many digits a number has.
-pub fn digits(n: usize) -> usize
-    ensures { λ r. ⌜ DigitCount n r ⌝ }
-{
-    let mut left = n;
-    let mut count = 1usize;
-    while 10 <= left {
-        left = left / 10;
-        count += 1;
-    }
-    count
-}
 
 // How many bytes a cell's i or j has.
 fn number_length(z: i32) -> usize
@@ -32,9 +20,9 @@ fn number_length(z: i32) -> usize
     ensures { λ r. ⌜ NumberLength z r ⌝ }
 {
     if z < 0 {
-        return 1 + digits((0 - z) as usize);
+        return 1 + digit_count((0 - z) as usize);
     }
-    digits(z as usize)
+    digit_count(z as usize)
 }
 
 // How many bytes a cell's i and j have.
@@ -49,10 +37,10 @@ fn two_numbers(c: Cell) -> usize
 fn four_digits(c: Counts) -> usize
     ensures { λ r. ⌜ FourCounted c r ⌝ }
 {
-    digits(c.attached)
-        + digits(c.rejected_no_candidate)
-        + digits(c.rejected_ambiguous)
-        + digits(c.rejected_edge)
+    digit_count(c.attached)
+        + digit_count(c.rejected_no_candidate)
+        + digit_count(c.rejected_ambiguous)
+        + digit_count(c.rejected_edge)
 }
 
 // A grow line's length: 15 or 14 bytes besides its numbers.
@@ -70,7 +58,7 @@ pub fn grow_length(s: GrowStats) -> usize
 pub fn fill_length(s: FillStats) -> usize
     ensures { λ r. ⌜ r ≡ length (fillLine s) ⌝ }
 {
-    let n = digits(s.added) + digits(s.iterations);
+    let n = digit_count(s.added) + digit_count(s.iterations);
     if s.rim {
         return n + 13;
     }
@@ -81,7 +69,7 @@ pub fn fill_length(s: FillStats) -> usize
 pub fn local_length(c: Counts, iterations: usize, recorded: bool, rim: bool) -> usize
     ensures { λ r. ⌜ r ≡ localLength c iterations recorded rim ⌝ }
 {
-    let n = four_digits(c) + digits(iterations);
+    let n = four_digits(c) + digit_count(iterations);
     if recorded {
         if rim {
             return n + 26;
@@ -102,7 +90,7 @@ fn cell_line_length(sheet: &[u16], place: usize) -> usize
     let label = sheet::label_of(sheet[place]);
     match label {
         Label::Unlabelled => 0,
-        Label::Corner(k) => 12 + two_numbers(sheet::cell_of(place)) + digits(k),
+        Label::Corner(k) => 12 + two_numbers(sheet::cell_of(place)) + digit_count(k),
     }
 }
 

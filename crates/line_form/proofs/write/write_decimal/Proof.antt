@@ -14,7 +14,7 @@ digit-count-requires : tie.Need-digit-count-requires Inv-loop μ-loop
 digit-count-requires c κs = tt
 
 loop-holds : tie.Need-loop-holds Inv-loop μ-loop
-loop-holds c = none-placed _ _ _ (c .before .before .pre) (c .digit-count .ensures)
+loop-holds c = none-placed _ _ _ (c .before .before .pre) (c .digit-count .ensures .is)
 
 sub-i : tie.Need-sub-i Inv-loop μ-loop
 sub-i c = omega arith
@@ -35,7 +35,7 @@ same-length : tie.Need-same-length Inv-loop μ-loop
 same-length c = c .before .loop .inv .sized
 
 returns : tie.Need-returns Inv-loop μ-loop
-returns c = all-placed _ _ _ _ _ (c .before .loop .inv) (c .loop-test .left) _ (c .before .before .digit-count .ensures)
+returns c = all-placed _ _ _ _ _ (c .before .loop .inv) (c .loop-test .left) _ (c .before .before .digit-count .ensures .is)
 
 pub write-decimal-spec : {M : Type 1} → statement M
 write-decimal-spec =

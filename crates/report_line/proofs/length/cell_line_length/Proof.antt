@@ -30,8 +30,8 @@ two-numbers-requires c κs = rw (c .cell-of .ensures) (cell-on _ (c .before .bef
 add-result : tie.Need-add-result
 add-result c = search needs
 
-digits-requires : tie.Need-digits-requires
-digits-requires c κs = search needs
+digit-count-requires : tie.Need-digit-count-requires
+digit-count-requires c κs = search needs
 
 add-result-2 : tie.Need-add-result-2
 add-result-2 c = search needs
@@ -40,7 +40,7 @@ returns : tie.Need-returns
 returns c = no-cell _ _ (sym (c .before .before .label-of .ensures) ∙ c .enum-told .given .1)
 
 returns-2 : tie.Need-returns-2
-returns-2 c = cell-counted _ _ _ (c .before .before .cell-of .ensures) _ (c .before .two-numbers .ensures) _ _ (sym (c .before .before .before .before .before .before .label-of .ensures) ∙ c .before .before .before .before .label .given .1) (c .digits .ensures)
+returns-2 c = cell-counted _ _ _ (c .before .before .cell-of .ensures) _ (c .before .two-numbers .ensures) _ _ (sym (c .before .before .before .before .before .before .label-of .ensures) ∙ c .before .before .before .before .label .given .1) (c .digit-count .ensures)
 
 pub cell-line-length-spec : {M : Type 1} → statement M
 cell-line-length-spec =
@@ -54,7 +54,7 @@ cell-line-length-spec =
     cell-of-requires
     two-numbers-requires
     add-result
-    digits-requires
+    digit-count-requires
     add-result-2
     returns
     returns-2)

@@ -20,39 +20,39 @@ kept c =
     let z = c .before .args .z in
     read-back z (omega arith) ∙ size-above z (rw (read-back z (omega arith)) at (c .if1 .left))
 
-sub-digits : tie.Need-sub-digits
-sub-digits c = sub-fits (pos 0) (c .before .args .z) (omega arith)
+sub-digit-count : tie.Need-sub-digit-count
+sub-digit-count c = sub-fits (pos 0) (c .before .args .z) (omega arith)
 
-cast-digits : tie.Need-cast-digits
-cast-digits c = rw (turned c) (tt, record { fits = omega arith })
+cast-digit-count : tie.Need-cast-digit-count
+cast-digit-count c = rw (turned c) (tt, record { fits = omega arith })
 
-digits-requires : tie.Need-digits-requires
-digits-requires c κs = search needs
+digit-count-requires : tie.Need-digit-count-requires
+digit-count-requires c κs = search needs
 
 add-result : tie.Need-add-result
 add-result c = search needs
 
 returns : tie.Need-returns
-returns c = below-zero _ _ (rw (turned (c .before)) at (c .digits .ensures)) (rw (read-back (c .before .before .args .z) (omega arith)) at (c .before .if1 .taken))
+returns c = below-zero _ _ (rw (turned (c .before)) at (c .digit-count .ensures)) (rw (read-back (c .before .before .args .z) (omega arith)) at (c .before .if1 .taken))
 
-cast-digits-2 : tie.Need-cast-digits-2
-cast-digits-2 c = rw (kept c) (tt, record { fits = omega arith })
+cast-digit-count-2 : tie.Need-cast-digit-count-2
+cast-digit-count-2 c = rw (kept c) (tt, record { fits = omega arith })
 
-digits-requires-2 : tie.Need-digits-requires-2
-digits-requires-2 c κs = search needs
+digit-count-requires-2 : tie.Need-digit-count-requires-2
+digit-count-requires-2 c κs = search needs
 
 returns-2 : tie.Need-returns-2
-returns-2 c = not-below-zero _ _ (rw (kept (c .before)) at (c .digits2 .ensures)) (rw (read-back (c .before .before .args .z) (omega arith)) at (c .before .if1 .left))
+returns-2 c = not-below-zero _ _ (rw (kept (c .before)) at (c .digit-count2 .ensures)) (rw (read-back (c .before .before .args .z) (omega arith)) at (c .before .if1 .left))
 
 pub number-length-spec : {M : Type 1} → statement M
 number-length-spec =
     tie.close
     (tie.spec
-    sub-digits
-    cast-digits
-    digits-requires
+    sub-digit-count
+    cast-digit-count
+    digit-count-requires
     add-result
     returns
-    cast-digits-2
-    digits-requires-2
+    cast-digit-count-2
+    digit-count-requires-2
     returns-2)

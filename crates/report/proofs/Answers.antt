@@ -1,0 +1,92 @@
+-- What the two calls answer and leave, by what the check of what they are lent says. Assumes nothing.
+use mathlib.Core.Path.{_≡_, refl, sym, ap, ap₂, _∙_}
+use mathlib.Core.Bool.{Bool, true, false, _||_}
+use mathlib.Core.List.{List}
+use Prim.Native.Nat.{ℕ}
+use native.Mathlib.Omega.{arith}
+use borrow.Author.Tests.{ltb-false}
+use lib.Dec.{ltb}
+use lib.ListN.{length}
+use Rattle.refusal.specs.declared.Refusal.{Refusal}
+use Rattle.labels.proofs.Below.{no-both}
+use Rattle.arguments.specs.Arguments.{refusedIf}
+use Rattle.arguments.specs.declared.Checked.{Checked}
+use Rattle.line_form.specs.Written.{Wrote}
+use Rattle.report_line.specs.Result.{lineCount, Piece}
+use Rattle.report.specs.Lent.{Lent, statsIn, textOf, inputShort, overLimit, wild, checkedRest, checkedText, textOut, textLeaves, writesText, pieceIn, checkedPiece, pieceOut, pieceLeaves, writesPiece, over}
+use Rattle.report.specs.Asked.{Sound, textFrom, pieceFrom, AllAsked, SomeAsked, WrotePiece}
+use Rattle.report.specs.declared.TextAnswer.{TextAnswer}
+use Rattle.report.specs.declared.PieceAnswer.{PieceAnswer}
+use Rattle.report.specs.declared.lines.PieceEnd.{PieceEnd}
+use Rattle.report.proofs.Laws.{from-the-start}
+use Rattle.report.proofs.Outcomes.{all-tame}
+use Rattle.report.proofs.Checking.{all-lent}
+
+-- ---- nothing was refused
+
+cleared : (b : Bool) (r : Refusal) (rest : Checked) → refusedIf b r rest ≡ Checked.Fine → (b ≡ false) × (rest ≡ Checked.Fine)
+cleared true r rest e = absurd (let z : _≡_ {A = ℕ} 0 1 = cc in omega arith)
+cleared false r rest e = (refl, e)
+
+either : (a b : Bool) → (a || b) ≡ false → (a ≡ false) × (b ≡ false)
+either true b e = absurd (no-both true refl e)
+either false b e = (refl, e)
+
+module _ (l : Lent) where
+  sound : inputShort l ≡ false → wild l ≡ false → Sound (l .passes) (l .words) (l .sheet)
+  sound a b = record { all = all-lent l a; tame = all-tame l b }
+
+  same-text : textFrom (l .passes) (l .words) (l .sheet) 0 ≡ textOf l
+  unfolding textFrom
+  same-text = from-the-start (statsIn (l .passes) (l .words)) (l .sheet)
+
+  -- ---- the whole text
+
+  module _ (out : List ℕ) where
+    pub text-asked : checkedText l (length out) ≡ Checked.Fine → AllAsked (l .passes) (l .words) (l .sheet) out
+    unfolding checkedText checkedRest
+    text-asked e =
+        let seven = cleared (inputShort l || ltb (length out) (length (textOf l))) _ _ e in
+        let short = either (inputShort l) _ (seven .0) in
+        let two = cleared (overLimit l) _ _ (seven .1) in
+        let three = cleared (wild l) _ _ (two .1) in
+        record { sound = sound (short .0) (three .0); room = rw same-text (ltb-false (length out) (length (textOf l)) (short .1)) }
+
+    pub text-refused : (r : Refusal) → checkedText l (length out) ≡ Checked.Refused r → textOut (TextAnswer.Refused r) out ≡ writesText l out
+    unfolding writesText
+    text-refused r e = sym (ap (λ (c : Checked). textLeaves c l out) e)
+
+    pub text-written : (n : ℕ) (new : List ℕ) → checkedText l (length out) ≡ Checked.Fine → Wrote (textFrom (l .passes) (l .words) (l .sheet) 0) out new n
+        → textOut (TextAnswer.Written n) new ≡ writesText l out
+    unfolding writesText
+    text-written n new e w =
+        ap₂ (λ (m : ℕ) (b : List ℕ). textOut (TextAnswer.Written m) b) (w .count ∙ ap length same-text) (w .part ∙ ap (λ (t : List ℕ). over t out) same-text)
+        ∙ sym (ap (λ (c : Checked). textLeaves c l out) e)
+
+  -- ---- a piece
+
+  module _ (from : ℕ) (out : List ℕ) where
+    pub piece-asked : checkedPiece l from (length out) ≡ Checked.Fine → SomeAsked (l .passes) (l .words) (l .sheet) from
+    unfolding checkedPiece
+    piece-asked e =
+        let seven = cleared (inputShort l || ltb (length out) 128) _ _ e in
+        let short = either (inputShort l) _ (seven .0) in
+        let two = cleared (overLimit l) _ _ (seven .1) in
+        let three = cleared (wild l || ltb (lineCount (l .passes)) from) _ _ (two .1) in
+        let range = either (wild l) _ (three .0) in
+        record { sound = sound (short .0) (range .0); upto = ltb-false (lineCount (l .passes)) from (range .1) }
+
+    pub piece-refused : (r : Refusal) → checkedPiece l from (length out) ≡ Checked.Refused r → pieceOut (PieceAnswer.Refused r) out ≡ writesPiece l from out
+    unfolding writesPiece
+    piece-refused r e = sym (ap (λ (c : Checked). pieceLeaves c (pieceIn l from (length out)) out) e)
+
+    pub piece-written : (r : PieceEnd) (new : List ℕ) → checkedPiece l from (length out) ≡ Checked.Fine
+        → WrotePiece (pieceFrom (l .passes) (l .words) (l .sheet) from (length out)) out new r → pieceOut (PieceAnswer.Written (r .at) (r .next)) new ≡ writesPiece l from out
+    unfolding writesPiece pieceFrom
+    piece-written r new e w =
+        leaves (r .at) (r .next) (pieceIn l from (length out)) (w .wrote) (w .next)
+        ∙ sym (ap (λ (c : Checked). pieceLeaves c (pieceIn l from (length out)) out) e)
+      where
+        leaves : (n next : ℕ) (p : Piece) → Wrote (p .text) out new n → next ≡ p .next
+            → pieceOut (PieceAnswer.Written n next) new ≡ pieceOut (PieceAnswer.Written (length (p .text)) (p .next)) (over (p .text) out)
+        leaves n next p w e = rw (w .count, e, w .part)

@@ -1,0 +1,197 @@
+// The lines of a result, each written to the front of a part of the output buffer, the unfilled rest of it: each writer answers how many bytes it wrote, and leaves
+// what follows them as it was.
+ghost use mathlib.Core.Path.{_≡_};
+ghost use Prim.Native.Nat.{_≤_};
+ghost use lib.IntN.{pos, natAbs};
+ghost use lib.ListN.{length};
+ghost use Rattle.line_form.specs.Written.{unheldWhole, Wrote};
+ghost use Rattle.report_line.specs.Result.{heading, growLine, fillLine, localLine, cellLine, holeLine, ambiguousLine, sheetLine};
+ghost use Rattle.report_line.specs.Written.{GrowAsked, FillAsked, LocalAsked, BareAsked, FullAsked, bareLocalText, fullLocalText, CellAsked, CornerAsked, holeText, ambiguousText, cellText, PlaceAsked, LineAsked};
+use line_form::write::write_form;
+use passes::FillStats;
+use passes::GrowStats;
+use passes::LargestResidual;
+use passes::LocalStats;
+use sheet::Cell;
+use sheet::Label;
+
+// A count as a form takes it: 1,000,000 more.
+fn held(n: usize) -> u32
+    requires { ⌜ n ≤ 1048576 ⌝ }
+    ensures { λ r. ⌜ unheldWhole r ≡ pos n ⌝ }
+{
+    1000000 + n as u32
+}
+
+// A cell's i or j as a form takes it.
+fn held_number(z: i32) -> u32
+    requires { ⌜ natAbs z ≤ 64 ⌝ }
+    ensures { λ r. ⌜ unheldWhole r ≡ z ⌝ }
+{
+    (z + 1000000) as u32
+}
+
+// The first line.
+pub fn write_heading(out: &mut [u8]) -> usize
+    requires { ⌜ length heading ≤ length (now out) ⌝ }
+    ensures { λ r. ⌜ Wrote heading (now (out .entry)) (now (out .exit)) r ⌝ }
+{
+    let words = [0u32; 1];
+    write_form(b"(result 1)\n", &words, out)
+}
+
+// Grow's line: attached, no candidate, ambiguous, edge, rim.
+pub fn write_grow(s: GrowStats, out: &mut [u8]) -> usize
+    requires { ⌜ GrowAsked s (now out) ⌝ }
+    ensures { λ r. ⌜ Wrote (growLine s) (now (out .entry)) (now (out .exit)) r ⌝ }
+{
+    let c = s.counts;
+    let words = [
+        held(c.attached),
+        held(c.rejected_no_candidate),
+        held(c.rejected_ambiguous),
+        held(c.rejected_edge),
+    ];
+    if s.rim {
+        return write_form(b"(grow # # # # yes)\n", &words, out);
+    }
+    write_form(b"(grow # # # # no)\n", &words, out)
+}
+
+// Fill's line: added, rounds, rim.
+pub fn write_fill(s: FillStats, out: &mut [u8]) -> usize
+    requires { ⌜ FillAsked s (now out) ⌝ }
+    ensures { λ r. ⌜ Wrote (fillLine s) (now (out .entry)) (now (out .exit)) r ⌝ }
+{
+    let words = [held(s.added), held(s.iterations)];
+    if s.rim {
+        return write_form(b"(fill # # yes)\n", &words, out);
+    }
+    write_form(b"(fill # # no)\n", &words, out)
+}
+
+// Local's line where no residual was recorded: grow's four, rounds, `none`, rim.
+fn write_bare_local(s: LocalStats, out: &mut [u8]) -> usize
+    requires { ⌜ BareAsked s (now out) ⌝ }
+    ensures { λ r. ⌜ Wrote (bareLocalText s) (now (out .entry)) (now (out .exit)) r ⌝ }
+{
+    let c = s.counts;
+    let words = [
+        held(c.attached),
+        held(c.rejected_no_candidate),
+        held(c.rejected_ambiguous),
+        held(c.rejected_edge),
+        held(s.iterations),
+    ];
+    if s.rim {
+        return write_form(b"(local # # # # # none yes)\n", &words, out);
+    }
+    write_form(b"(local # # # # # none no)\n", &words, out)
+}
+
+// Local's line with a residual: grow's four, rounds, the residual's eight digits, rim.
+fn write_full_local(s: LocalStats, residual: f32, out: &mut [u8]) -> usize
+    requires { ⌜ FullAsked s residual (now out) ⌝ }
+    ensures { λ r. ⌜ Wrote (fullLocalText s residual) (now (out .entry)) (now (out .exit)) r ⌝ }
+{
+    let c = s.counts;
+    let words = [
+        held(c.attached),
+        held(c.rejected_no_candidate),
+        held(c.rejected_ambiguous),
+        held(c.rejected_edge),
+        held(s.iterations),
+        f32::to_bits(residual),
+    ];
+    if s.rim {
+        return write_form(b"(local # # # # # % yes)\n", &words, out);
+    }
+    write_form(b"(local # # # # # % no)\n", &words, out)
+}
+
+// Local's line: grow's four, rounds, largest residual or `none`, rim.
+pub fn write_local(s: LocalStats, out: &mut [u8]) -> usize
+    requires { ⌜ LocalAsked s (now out) ⌝ }
+    ensures { λ r. ⌜ Wrote (localLine s) (now (out .entry)) (now (out .exit)) r ⌝ }
+{
+    let residual = s.residual;
+    match residual {
+        LargestResidual::Nothing => write_bare_local(s, out),
+        LargestResidual::Residual(x) => write_full_local(s, x, out),
+    }
+}
+
+// A cell line: the cell and its corner.
+fn write_cell(c: Cell, corner: usize, out: &mut [u8]) -> usize
+    requires { ⌜ CornerAsked c corner (now out) ⌝ }
+    ensures { λ r. ⌜ Wrote (cellText c corner) (now (out .entry)) (now (out .exit)) r ⌝ }
+{
+    let words = [held_number(c.i), held_number(c.j), held(corner)];
+    write_form(b"(cell (# #) #)\n", &words, out)
+}
+
+// A hole line.
+fn write_hole(c: Cell, out: &mut [u8]) -> usize
+    requires { ⌜ CellAsked c (holeText c) (now out) ⌝ }
+    ensures { λ r. ⌜ Wrote (holeText c) (now (out .entry)) (now (out .exit)) r ⌝ }
+{
+    let words = [held_number(c.i), held_number(c.j)];
+    write_form(b"(hole (# #))\n", &words, out)
+}
+
+// An ambiguous line.
+fn write_ambiguous(c: Cell, out: &mut [u8]) -> usize
+    requires { ⌜ CellAsked c (ambiguousText c) (now out) ⌝ }
+    ensures { λ r. ⌜ Wrote (ambiguousText c) (now (out .entry)) (now (out .exit)) r ⌝ }
+{
+    let words = [held_number(c.i), held_number(c.j)];
+    write_form(b"(ambiguous (# #))\n", &words, out)
+}
+
+// The cell line of a place; nothing where it has none.
+fn write_cell_line(sheet: &[u16], place: usize, out: &mut [u8]) -> usize
+    requires { ⌜ PlaceAsked (now sheet) place (cellLine (now sheet) place) (now out) ⌝ }
+    ensures { λ r. ⌜ Wrote (cellLine (now (sheet .entry)) place) (now (out .entry)) (now (out .exit)) r ⌝ }
+{
+    let label = sheet::label_of(sheet[place]);
+    match label {
+        Label::Unlabelled => 0,
+        Label::Corner(k) => write_cell(sheet::cell_of(place), k, out),
+    }
+}
+
+// The hole line of a place; nothing where it has none.
+fn write_hole_line(sheet: &[u16], place: usize, out: &mut [u8]) -> usize
+    requires { ⌜ PlaceAsked (now sheet) place (holeLine (now sheet) place) (now out) ⌝ }
+    ensures { λ r. ⌜ Wrote (holeLine (now (sheet .entry)) place) (now (out .entry)) (now (out .exit)) r ⌝ }
+{
+    if !sheet::is_hole(sheet[place]) {
+        return 0;
+    }
+    write_hole(sheet::cell_of(place), out)
+}
+
+// The ambiguous line of a place; nothing where it has none.
+fn write_ambiguous_line(sheet: &[u16], place: usize, out: &mut [u8]) -> usize
+    requires { ⌜ PlaceAsked (now sheet) place (ambiguousLine (now sheet) place) (now out) ⌝ }
+    ensures { λ r. ⌜ Wrote (ambiguousLine (now (sheet .entry)) place) (now (out .entry)) (now (out .exit)) r ⌝ }
+{
+    if !sheet::is_ambiguous(sheet[place]) {
+        return 0;
+    }
+    write_ambiguous(sheet::cell_of(place), out)
+}
+
+// A line of the sheet: of cells first, then holes, then ambiguous cells.
+pub fn write_sheet_line(sheet: &[u16], k: usize, out: &mut [u8]) -> usize
+    requires { ⌜ LineAsked (now sheet) k (sheetLine (now sheet) k) (now out) ⌝ }
+    ensures { λ r. ⌜ Wrote (sheetLine (now (sheet .entry)) k) (now (out .entry)) (now (out .exit)) r ⌝ }
+{
+    if k < 16384 {
+        return write_cell_line(sheet, k, out);
+    }
+    if k < 32768 {
+        return write_hole_line(sheet, k - 16384, out);
+    }
+    write_ambiguous_line(sheet, k - 32768, out)
+}
