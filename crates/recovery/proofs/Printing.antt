@@ -25,8 +25,17 @@ module _ (corners passes : ℕ) (words sheet : List ℕ) (p : Printable corners 
   fine : checkedPiece (lent corners passes words sheet) from (length out) ≡ Checked.Fine
   unfolding checkedPiece inputShort overLimit wild
   fine =
-      rw (le-ltb (length words) (9 * passes) (p .words-long), le-ltb (length sheet) 16384 (p .sheet-long), le-ltb (length out) 128 room, le-ltb 16 passes (p .few-passes),
-      le-ltb 1024 corners (p .few-corners), any-no (wildOutcome words) passes (p .tame), le-ltb (lineCount passes) from (omega (arith, below)), p .known, p .once) refl
+      rw (
+        le-ltb (length words) (9 * passes) (p .words-long),
+        le-ltb (length sheet) 16384 (p .sheet-long),
+        le-ltb (length out) 128 room,
+        le-ltb 16 passes (p .few-passes),
+        le-ltb 1024 corners (p .few-corners),
+        any-no (wildOutcome words) passes (p .tame),
+        le-ltb (lineCount passes) from (omega (arith, below)),
+        p .known,
+        p .once,
+      ) refl
 
   abbrev held : Piece
   held = resultPiece (statsIn passes words) sheet from (length out)
@@ -105,6 +114,7 @@ module _ (a : Recovered) (words sheet : List ℕ) (can : CanSay a words sheet) (
   unfolding heldLines
   case-first r line e old new p room w m =
       let h : from < 1 = subst (λ (b : Recovered). from < heldLines b) e below in
-      let k : from ≡ 0 = omega (arith, h) in
-      (case-wrote (Recovered.Refused r line) e old new p room (subst (λ (q : Piece). WrotePiece q old new p) (refused-at-0 r line words sheet from room h) w),
-      rw k m)
+      let k : from ≡ 0 = omega (arith, h) in (
+        case-wrote (Recovered.Refused r line) e old new p room (subst (λ (q : Piece). WrotePiece q old new p) (refused-at-0 r line words sheet from room h) w),
+        rw k m,
+      )

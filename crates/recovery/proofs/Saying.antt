@@ -9,7 +9,7 @@ use Rattle.passes.specs.Run.{PassStats}
 use Rattle.report_line.specs.Result.{resultPiece, lineCount}
 use Rattle.report.specs.Lent.{statsFrom}
 use Rattle.report.proofs.Outcomes.{stats-length}
-use Rattle.recovery.specs.Answer.{frameStats, Recorded, Recovers, recovers-not, recovers, answerLines, answerPiece, heldLines, heldPiece, CanSay, Says}
+use Rattle.recovery.specs.Answer.{frameStats, Recorded, Recovers, recovers-not, recovers, answerLines, answerPiece, heldLines, heldPiece, CanSay, FewPasses, Says}
 use Rattle.recovery.specs.declared.Recovered.{Recovered}
 use Rattle.recovery.proofs.Refusing.{refused-line}
 
@@ -27,3 +27,11 @@ says text sheet words _ (recovers f corners passes e w) =
       lines-so = rw e (ap lineCount (sym (stats-length words 0 passes) ∙ ap (λ (s : List PassStats). length s) (w .stats-so)));
       piece-so = λ k room. rw (e, w .stats-so, w .sheet-so) refl;
     }
+
+-- so it can be said
+pub can-say : (text sheet words : List ℕ) (r : Recovered) → Recovers text sheet words r → CanSay r words sheet × FewPasses r
+can-say text sheet words r w = (says text sheet words r w .can-say, few w)
+  where
+    few : {r : Recovered} → Recovers text sheet words r → FewPasses r
+    few (recovers-not r line e) = tt
+    few (recovers f corners passes e w) = w .few-passes
