@@ -17,7 +17,7 @@ use Rattle.passes.specs.Run.{Call, run}
 use Rattle.agreement.specs.Agreement.{Reordered, Agree}
 use Rattle.agreement.proofs.Run.{agreement}
 use Rattle.frame_line.specs.Lines.{CornerLine, LabelLine, PassLine}
-use Rattle.frame.specs.Frame.{Frame, floatOf}
+use Rattle.frame.specs.Frame.{Frame, floatOf, readFrame, accepted}
 use Rattle.frame.specs.Text.{map, All, Sound, WithinLimits}
 use Rattle.frame.specs.Lent.{xsOf, ysOf, pitchesOf, labelled, sheetOf, settingsOf}
 use Rattle.frame_laws.specs.Calls.{cornersOf, callOf, callsOf}
@@ -148,3 +148,9 @@ module _ (f f' : Frame) (w : WithinLimits f) (same : SameButOrder f f') where
 
 pub frames-run-alike : FramesRunAlike
 frames-run-alike text text' f f' e e' same = limits-alike f f' (frame-prints-back text f e .within) same
+
+-- the pairing of the runs is that of the corner lines
+pub frames-paired-so : (text text' : List ℕ) (f f' : Frame) (e : readFrame text ≡ accepted f) (e' : readFrame text' ≡ accepted f') (same : SameButOrder f f') (k : ℕ)
+    → frames-run-alike text text' f f' e e' same .reordered .corners .pairs .to k ≡ same .pairs .to k
+unfolding frames-run-alike limits-alike frames-reordered corners-paired pairs
+frames-paired-so text text' f f' e e' same k = refl

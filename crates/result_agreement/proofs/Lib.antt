@@ -1,0 +1,2 @@
+-- The laws of the results of two frames that differ only in the order of their corner lines. Assumes nothing.
+pub mod Alike
