@@ -1,108 +1,7 @@
 // The frame program (01, "Frame and result"): reads a frame from standard input and prints its result, or `(refused number line)` alone.
-// All that it prints is worked out by the crate `recovery`: the pieces that are written here, joined, are `answerText` of what was read.
-ghost use mathlib.Core.Path.{_≡_};
-ghost use Prim.Native.Nat.{_≤_};
-ghost use lib.ListN.{length};
-ghost use Rattle.recovery.specs.Answer.{CanSay, FewPasses};
+// What it prints is worked out and written by the crate `recover_say`.
 use libc::STDERR_FILENO;
 use libc::STDIN_FILENO;
-use libc::STDOUT_FILENO;
-use recovery::Recovered;
-
-// ---- buffers
-
-// A frame has at most 65,536 bytes: one more shows that there are too many.
-fn text_buffer() -> [u8; 65537]
-    ensures { λ r. ⌜ 65537 ≡ length r ⌝ }
-{
-    [0; 65537]
-}
-
-fn float_buffer() -> [f32; 1024]
-    ensures { λ r. ⌜ 1024 ≡ length r ⌝ }
-{
-    [0.0; 1024]
-}
-
-fn sheet_buffer() -> [u16; 16384]
-    ensures { λ r. ⌜ 16384 ≡ length r ⌝ }
-{
-    [0; 16384]
-}
-
-fn pass_buffer() -> [u32; 96]
-    ensures { λ r. ⌜ 96 ≡ length r ⌝ }
-{
-    [0; 96]
-}
-
-fn queue_buffer() -> [u16; 4096]
-    ensures { λ r. ⌜ 4096 ≡ length r ⌝ }
-{
-    [0; 4096]
-}
-
-fn attached_buffer() -> [u16; 1024]
-    ensures { λ r. ⌜ 1024 ≡ length r ⌝ }
-{
-    [0; 1024]
-}
-
-fn word_buffer() -> [u32; 144]
-    ensures { λ r. ⌜ 144 ≡ length r ⌝ }
-{
-    [0; 144]
-}
-
-// ---- the answer
-
-// Writes the answer to standard output, piece by piece.
-fn say(answer: Recovered, words: &[u32], sheet: &[u16])
-    requires { ⌜ CanSay answer (now words) (now sheet) ⌝ }
-    requires { ⌜ FewPasses answer ⌝ }
-{
-    let mut out = io::buffer();
-    let lines = recovery::answer_lines(answer);
-    let mut from = 0usize;
-    while from < lines {
-        let piece = recovery::answer_piece(answer, words, sheet, from, &mut out);
-        let n = piece.bytes;
-        if !io::write_all(STDOUT_FILENO, &out[..n]) {
-            io::write_all(
-                STDERR_FILENO,
-                b"recover: standard output cannot be written\n",
-            );
-            return;
-        }
-        from = piece.next;
-    }
-}
-
-// Reads a frame from its text, runs its passes and says the answer.
-fn answer(text: &[u8]) {
-    let mut xs = float_buffer();
-    let mut ys = float_buffer();
-    let mut pitches = float_buffer();
-    let mut sheet = sheet_buffer();
-    let mut passes = pass_buffer();
-    let mut queue = queue_buffer();
-    let mut attached = attached_buffer();
-    let mut words = word_buffer();
-    let recovered = recovery::recover_frame(
-        text,
-        &mut xs,
-        &mut ys,
-        &mut pitches,
-        &mut sheet,
-        &mut passes,
-        &mut queue,
-        &mut attached,
-        &mut words,
-    );
-    say(recovered, &words, &sheet);
-}
-
-// ---- standard input
 
 // Whether the input ended: one more read has nothing to give. A failed read is not the end.
 fn has_ended() -> bool {
@@ -111,7 +10,7 @@ fn has_ended() -> bool {
 }
 
 fn main() {
-    let mut buffer = text_buffer();
+    let mut buffer = recover_say::text_buffer();
     let n = io::read_full(STDIN_FILENO, &mut buffer);
     if n < 65537 {
         if !has_ended() {
@@ -119,5 +18,10 @@ fn main() {
             return;
         }
     }
-    answer(&buffer[..n]);
+    if !recover_say::answer(&buffer[..n]) {
+        io::write_all(
+            STDERR_FILENO,
+            b"recover: standard output cannot be written\n",
+        );
+    }
 }

@@ -1,99 +1,78 @@
 use Rattle.recovery.proofs.Saying.{can-say}
 use borrow.Author.Needs.{needs}
-use Rattle.recover.proofs.answer.Statement.{statement}
-use Rattle.recover.proofs.answer.Tie as tie
-use Rattle.recover.proofs.answer.Reads as reads
-use Rattle.recover.proofs.answer.Lts as lts
-use Rattle.recover.proofs.attached_buffer.Reads as attached-buffer-reads
-use Rattle.recover.proofs.float_buffer.Reads as float-buffer-reads
-use Rattle.recover.proofs.pass_buffer.Reads as pass-buffer-reads
-use Rattle.recover.proofs.queue_buffer.Reads as queue-buffer-reads
-use Rattle.recover.proofs.say.Reads as say-reads
-use Rattle.recover.proofs.sheet_buffer.Reads as sheet-buffer-reads
-use Rattle.recover.proofs.word_buffer.Reads as word-buffer-reads
+use Rattle.recover_say.proofs.answer.Statement.{statement}
+use Rattle.recover_say.proofs.answer.Tie as tie
+use Rattle.recover_say.proofs.answer.Reads as reads
+use Rattle.recover_say.proofs.answer.Lts as lts
+use Rattle.recover_say.proofs.attached_buffer.Reads as attached-buffer-reads
+use Rattle.recover_say.proofs.float_buffer.Reads as float-buffer-reads
+use Rattle.recover_say.proofs.pass_buffer.Reads as pass-buffer-reads
+use Rattle.recover_say.proofs.queue_buffer.Reads as queue-buffer-reads
+use Rattle.recover_say.proofs.say.Reads as say-reads
+use Rattle.recover_say.proofs.sheet_buffer.Reads as sheet-buffer-reads
+use Rattle.recover_say.proofs.word_buffer.Reads as word-buffer-reads
 use Rattle.recovery.proofs.recover_frame.Reads as recover-frame-reads
 
--- src/main.rt:80:18
 float-buffer-requires : tie.Need-float-buffer-requires
 float-buffer-requires c κs = search needs
 
--- src/main.rt:81:18
 float-buffer-requires-2 : tie.Need-float-buffer-requires-2
 float-buffer-requires-2 c κs = search needs
 
--- src/main.rt:82:23
 float-buffer-requires-3 : tie.Need-float-buffer-requires-3
 float-buffer-requires-3 c κs = search needs
 
--- src/main.rt:83:21
 sheet-buffer-requires : tie.Need-sheet-buffer-requires
 sheet-buffer-requires c κs = search needs
 
--- src/main.rt:84:22
 pass-buffer-requires : tie.Need-pass-buffer-requires
 pass-buffer-requires c κs = search needs
 
--- src/main.rt:85:21
 queue-buffer-requires : tie.Need-queue-buffer-requires
 queue-buffer-requires c κs = search needs
 
--- src/main.rt:86:24
 attached-buffer-requires : tie.Need-attached-buffer-requires
 attached-buffer-requires c κs = search needs
 
--- src/main.rt:87:21
 word-buffer-requires : tie.Need-word-buffer-requires
 word-buffer-requires c κs = search needs
 
--- src/main.rt:90:9
 slice-aggregate-recover-frame : tie.Need-slice-aggregate-recover-frame
 slice-aggregate-recover-frame c = search needs
 
--- src/main.rt:91:9
 slice-aggregate-recover-frame-2 : tie.Need-slice-aggregate-recover-frame-2
 slice-aggregate-recover-frame-2 c = search needs
 
--- src/main.rt:92:9
 slice-aggregate-recover-frame-3 : tie.Need-slice-aggregate-recover-frame-3
 slice-aggregate-recover-frame-3 c = search needs
 
--- src/main.rt:93:9
 slice-aggregate-recover-frame-4 : tie.Need-slice-aggregate-recover-frame-4
 slice-aggregate-recover-frame-4 c = search needs
 
--- src/main.rt:94:9
 slice-aggregate-recover-frame-5 : tie.Need-slice-aggregate-recover-frame-5
 slice-aggregate-recover-frame-5 c = search needs
 
--- src/main.rt:95:9
 slice-aggregate-recover-frame-6 : tie.Need-slice-aggregate-recover-frame-6
 slice-aggregate-recover-frame-6 c = search needs
 
--- src/main.rt:96:9
 slice-aggregate-recover-frame-7 : tie.Need-slice-aggregate-recover-frame-7
 slice-aggregate-recover-frame-7 c = search needs
 
--- src/main.rt:97:9
 slice-aggregate-recover-frame-8 : tie.Need-slice-aggregate-recover-frame-8
 slice-aggregate-recover-frame-8 c = search needs
 
--- src/main.rt:88:9
 recover-frame-requires : tie.Need-recover-frame-requires
 recover-frame-requires c κs = search needs
 
--- src/main.rt:99:20
 slice-aggregate-say : tie.Need-slice-aggregate-say
 slice-aggregate-say c = search needs
 
--- src/main.rt:99:28
 slice-aggregate-say-2 : tie.Need-slice-aggregate-say-2
 slice-aggregate-say-2 c = search needs
 
--- src/main.rt:99:5
 say-requires : tie.Need-say-requires
 say-requires c κs = can-say _ _ _ _ (c .before .before .before .before .before .before .before .before .before .before .recover-frame .ensures)
 
--- src/main.rt:79:1
 returns : tie.Need-returns
 returns c = search needs
 

@@ -3,74 +3,54 @@ use native.Mathlib.Omega.{arith}
 use mathlib.Core.Path.{_≡_, refl, sym, ap, _∙_}
 use lib.ListN.{length, length-take}
 use borrow.Author.Needs.{needs}
-use Rattle.recover.proofs.say.Statement.{statement}
-use Rattle.recover.proofs.say.Tie as tie
-use Rattle.recover.proofs.say.Reads as reads
-use Rattle.recover.proofs.say.Lts as lts
+use Rattle.recover_say.proofs.say.Statement.{statement}
+use Rattle.recover_say.proofs.say.Tie as tie
+use Rattle.recover_say.proofs.say.Reads as reads
+use Rattle.recover_say.proofs.say.Lts as lts
 use Rattle.io.proofs.buffer.Reads as buffer-reads
 use Rattle.io.proofs.write_all.Reads as write-all-reads
 use Rattle.recovery.proofs.answer_lines.Reads as answer-lines-reads
 use Rattle.recovery.proofs.answer_piece.Reads as answer-piece-reads
 
 abbrev Inv-loop : tie.InvT-loop
-Inv-loop answer words sheet out₀ lines from₀ t9 out from = 4096 ≡ length out
+Inv-loop answer words sheet out₀ lines from₀ out from = 4096 ≡ length out
 
 abbrev μ-loop : tie.MeasureT-loop
-μ-loop answer words sheet out₀ lines from₀ t9 out from = lines - from
+μ-loop answer words sheet out₀ lines from₀ out from = lines - from
 
--- src/main.rt:64:19
 buffer-requires : tie.Need-buffer-requires Inv-loop μ-loop
 buffer-requires c κs = tt
 
--- src/main.rt:65:9
 answer-lines-requires : tie.Need-answer-lines-requires Inv-loop μ-loop
 answer-lines-requires c κs = c .before .before .before .pre .1
 
--- src/main.rt:67:5
 loop-holds : tie.Need-loop-holds Inv-loop μ-loop
 loop-holds c = c .before .buffer .ensures
 
--- src/main.rt:68:72
 slice-aggregate-answer-piece : tie.Need-slice-aggregate-answer-piece Inv-loop μ-loop
 slice-aggregate-answer-piece c = c .before .before .loop .inv
 
--- src/main.rt:68:13
 answer-piece-requires : tie.Need-answer-piece-requires Inv-loop μ-loop
 answer-piece-requires c κs = (c .before .before .before .before .before .before .before .pre .0, (omega (arith, c .before .loop-test .taken, c .before .before .before .answer-lines .ensures), omega (arith, c .before .before .loop .inv)))
 
--- src/main.rt:70:42
 array-share-prefix-out : tie.Need-array-share-prefix-out Inv-loop μ-loop
 array-share-prefix-out c = omega (arith, c .before .answer-piece .ensures .1 .in-room, c .before .before .before .before .loop .inv)
 
--- src/main.rt:70:42
 slice-aggregate-write-all : tie.Need-slice-aggregate-write-all Inv-loop μ-loop
 slice-aggregate-write-all c = simp length-take (omega (arith, c .before .before .answer-piece .ensures .1 .in-room, c .before .before .before .before .before .loop .inv))
 
--- src/main.rt:70:13
 write-all-requires : tie.Need-write-all-requires Inv-loop μ-loop
 write-all-requires c κs = tt
 
--- src/main.rt:71:42
-slice-aggregate-write-all-2 : tie.Need-slice-aggregate-write-all-2 Inv-loop μ-loop
-slice-aggregate-write-all-2 c = search needs
-
--- src/main.rt:71:13
-write-all-requires-2 : tie.Need-write-all-requires-2 Inv-loop μ-loop
-write-all-requires-2 c κs = tt
-
--- src/main.rt:72:13
 returns : tie.Need-returns Inv-loop μ-loop
 returns c = tt
 
--- src/main.rt:67:5
 loop-less : tie.Need-loop-less Inv-loop μ-loop
 loop-less c = omega (arith, c .before .before .before .before .answer-piece .ensures .1 .later, c .before .before .before .before .before .before .loop-test .taken)
 
--- src/main.rt:67:5
 loop-again : tie.Need-loop-again Inv-loop μ-loop
 loop-again c = c .before .before .before .before .before .before .before .loop .inv ∙ sym (c .before .before .before .before .answer-piece .kept .1 .1 .1 .1 .0)
 
--- src/main.rt:60:1
 returns-2 : tie.Need-returns-2 Inv-loop μ-loop
 returns-2 c = tt
 
@@ -88,8 +68,6 @@ say-spec =
     array-share-prefix-out
     slice-aggregate-write-all
     write-all-requires
-    slice-aggregate-write-all-2
-    write-all-requires-2
     returns
     loop-less
     loop-again

@@ -1,0 +1,97 @@
+// The answer to a text, worked out by the crate `recovery` and written to standard output: the pieces that are written here, joined, are
+// `answerText` of the text.
+ghost use mathlib.Core.Path.{_≡_};
+ghost use lib.ListN.{length};
+ghost use Rattle.recovery.specs.Answer.{CanSay, FewPasses};
+use libc::STDOUT_FILENO;
+use recovery::Recovered;
+
+// ---- buffers
+
+// A frame has at most 65,536 bytes: one more shows that there are too many.
+pub fn text_buffer() -> [u8; 65537]
+    ensures { λ r. ⌜ 65537 ≡ length r ⌝ }
+{
+    [0; 65537]
+}
+
+fn float_buffer() -> [f32; 1024]
+    ensures { λ r. ⌜ 1024 ≡ length r ⌝ }
+{
+    [0.0; 1024]
+}
+
+fn sheet_buffer() -> [u16; 16384]
+    ensures { λ r. ⌜ 16384 ≡ length r ⌝ }
+{
+    [0; 16384]
+}
+
+fn pass_buffer() -> [u32; 96]
+    ensures { λ r. ⌜ 96 ≡ length r ⌝ }
+{
+    [0; 96]
+}
+
+fn queue_buffer() -> [u16; 4096]
+    ensures { λ r. ⌜ 4096 ≡ length r ⌝ }
+{
+    [0; 4096]
+}
+
+fn attached_buffer() -> [u16; 1024]
+    ensures { λ r. ⌜ 1024 ≡ length r ⌝ }
+{
+    [0; 1024]
+}
+
+fn word_buffer() -> [u32; 144]
+    ensures { λ r. ⌜ 144 ≡ length r ⌝ }
+{
+    [0; 144]
+}
+
+// ---- the answer
+
+// Writes the answer to standard output, piece by piece; false if it cannot be written.
+fn say(answer: Recovered, words: &[u32], sheet: &[u16]) -> bool
+    requires { ⌜ CanSay answer (now words) (now sheet) ⌝ }
+    requires { ⌜ FewPasses answer ⌝ }
+{
+    let mut out = io::buffer();
+    let lines = recovery::answer_lines(answer);
+    let mut from = 0usize;
+    while from < lines {
+        let piece = recovery::answer_piece(answer, words, sheet, from, &mut out);
+        let n = piece.bytes;
+        if !io::write_all(STDOUT_FILENO, &out[..n]) {
+            return false;
+        }
+        from = piece.next;
+    }
+    true
+}
+
+// Reads a frame from its text, runs its passes and writes the answer to standard output; false if it cannot be written.
+pub fn answer(text: &[u8]) -> bool {
+    let mut xs = float_buffer();
+    let mut ys = float_buffer();
+    let mut pitches = float_buffer();
+    let mut sheet = sheet_buffer();
+    let mut passes = pass_buffer();
+    let mut queue = queue_buffer();
+    let mut attached = attached_buffer();
+    let mut words = word_buffer();
+    let recovered = recovery::recover_frame(
+        text,
+        &mut xs,
+        &mut ys,
+        &mut pitches,
+        &mut sheet,
+        &mut passes,
+        &mut queue,
+        &mut attached,
+        &mut words,
+    );
+    say(recovered, &words, &sheet)
+}
