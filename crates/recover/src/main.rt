@@ -18,7 +18,8 @@ fn main() {
             return;
         }
     }
-    if !recover_say::answer(&buffer[..n]) {
+    let said = recover_say::answer(&buffer[..n]);
+    if said.next < said.lines {
         io::write_all(
             STDERR_FILENO,
             b"recover: standard output cannot be written\n",

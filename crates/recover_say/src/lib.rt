@@ -3,6 +3,7 @@
 ghost use mathlib.Core.Path.{_≡_};
 ghost use lib.ListN.{length};
 ghost use Rattle.recovery.specs.Answer.{CanSay, FewPasses};
+ghost use Rattle.recover_say.specs.Said.{Told, ToldOf};
 use libc::STDOUT_FILENO;
 use recovery::Recovered;
 
@@ -53,10 +54,17 @@ fn word_buffer() -> [u32; 144]
 
 // ---- the answer
 
-// Writes the answer to standard output, piece by piece; false if it cannot be written.
-fn say(answer: Recovered, words: &[u32], sheet: &[u16]) -> bool
+// How far an answer was said: the line after the last piece that could be written, and how many lines it has. All was said where the two are equal.
+pub struct Said {
+    pub next: usize,
+    pub lines: usize,
+}
+
+// Writes the answer to standard output, piece by piece, until one cannot be written.
+fn say(answer: Recovered, words: &[u32], sheet: &[u16]) -> Said
     requires { ⌜ CanSay answer (now words) (now sheet) ⌝ }
     requires { ⌜ FewPasses answer ⌝ }
+    ensures { λ r. ⌜ ToldOf answer (now (words .entry)) (now (sheet .entry)) r ⌝ }
 {
     let mut out = io::buffer();
     let lines = recovery::answer_lines(answer);
@@ -65,15 +73,17 @@ fn say(answer: Recovered, words: &[u32], sheet: &[u16]) -> bool
         let piece = recovery::answer_piece(answer, words, sheet, from, &mut out);
         let n = piece.bytes;
         if !io::write_all(STDOUT_FILENO, &out[..n]) {
-            return false;
+            return Said { next: from, lines };
         }
         from = piece.next;
     }
-    true
+    Said { next: from, lines }
 }
 
-// Reads a frame from its text, runs its passes and writes the answer to standard output; false if it cannot be written.
-pub fn answer(text: &[u8]) -> bool {
+// Reads a frame from its text, runs its passes and writes the answer to standard output; tells how far.
+pub fn answer(text: &[u8]) -> Said
+    ensures { λ r. ⌜ Told (now (text .entry)) r ⌝ }
+{
     let mut xs = float_buffer();
     let mut ys = float_buffer();
     let mut pitches = float_buffer();

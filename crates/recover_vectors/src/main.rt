@@ -20,7 +20,8 @@ fn answer_filled(buffer: &mut [u8]) -> bool {
     if got < buffer.len() {
         return stops(b"recover_vectors: a text ends too early\n");
     }
-    if !recover_say::answer(buffer) {
+    let said = recover_say::answer(buffer);
+    if said.next < said.lines {
         return stops(b"recover_vectors: standard output cannot be written\n");
     }
     true

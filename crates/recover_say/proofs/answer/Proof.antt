@@ -1,4 +1,6 @@
+-- `recover_say::answer` meets its contract: what the run holds says the answer to the text. Assumes nothing.
 use Rattle.recovery.proofs.Saying.{can-say}
+use Rattle.recover_say.proofs.Telling.{told}
 use borrow.Author.Needs.{needs}
 use Rattle.recover_say.proofs.answer.Statement.{statement}
 use Rattle.recover_say.proofs.answer.Tie as tie
@@ -74,7 +76,7 @@ say-requires : tie.Need-say-requires
 say-requires c κs = can-say _ _ _ _ (c .before .before .before .before .before .before .before .before .before .before .recover-frame .ensures)
 
 returns : tie.Need-returns
-returns c = search needs
+returns c = told _ _ _ _ (c .before .before .before .before .before .before .before .before .before .before .before .recover-frame .ensures) (c .say .ensures)
 
 pub answer-spec : {M : Type 1} → statement M
 answer-spec =

@@ -1,0 +1,2 @@
+-- Laws of how far an answer was said.
+pub mod Telling

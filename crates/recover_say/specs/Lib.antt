@@ -1,0 +1,2 @@
+-- How far an answer was said.
+pub mod Said
