@@ -2,7 +2,7 @@
 //! its answer, its attached list in order and the whole sheet.
 //!
 //!     oracle [--sheets FILE] [--order rising|falling|mixed] [--edge at-most|below]
-//!            [--fit plain|finite-residuals] < FRAME
+//!            [--fit plain|finite-residuals] [--print passes|result] < FRAME
 //!
 //! The frame is 01's text and has to be an accepted one: anything else ends
 //! the program with a message. Output, pass by pass:
@@ -15,6 +15,7 @@
 //!     ambiguous I J
 //!
 //! or, where the Rust panics, `panic MESSAGE` in place of all but the first.
+//! With `--print result` it prints 01's result text instead, once, at the end.
 //! The source does not record the cells that grow visits, so they are not
 //! printed.
 //!
@@ -220,6 +221,25 @@ fn print_sheet(sheet: &GrowResult, out: &mut String) {
     }
 }
 
+/// 01's result text.
+fn result_text(lines: &[String], sheet: &GrowResult) -> String {
+    let mut out = String::from("(result 1)\n");
+    for line in lines {
+        out.push_str(line);
+        out.push('\n');
+    }
+    for (i, j) in sorted(sheet.labelled.keys()) {
+        out.push_str(&format!("(cell ({i} {j}) {})\n", sheet.labelled[&(i, j)]));
+    }
+    for (i, j) in sorted(sheet.holes.iter()) {
+        out.push_str(&format!("(hole ({i} {j}))\n"));
+    }
+    for (i, j) in sorted(sheet.ambiguous.iter()) {
+        out.push_str(&format!("(ambiguous ({i} {j}))\n"));
+    }
+    out
+}
+
 /// The other side's sheet after one pass.
 #[derive(Default)]
 struct Theirs {
@@ -270,6 +290,7 @@ fn set_sheet(sheet: &mut GrowResult, theirs: &Theirs) {
 fn main() {
     let mut sheets = HashMap::new();
     let (mut order, mut edge) = ("rising".to_string(), "at-most".to_string());
+    let mut whole_result = false;
     let mut args = std::env::args().skip(1);
     while let Some(arg) = args.next() {
         let value = args.next().unwrap_or_else(|| fail(&format!("{arg} wants a value")));
@@ -280,6 +301,11 @@ fn main() {
             "--fit" => match value.as_str() {
                 "plain" => geometry::want_finite_residuals(false),
                 "finite-residuals" => geometry::want_finite_residuals(true),
+                _ => fail(&format!("unknown: {value}")),
+            },
+            "--print" => match value.as_str() {
+                "passes" => whole_result = false,
+                "result" => whole_result = true,
                 _ => fail(&format!("unknown: {value}")),
             },
             _ => fail(&format!("unknown: {arg}")),
@@ -294,6 +320,11 @@ fn main() {
     let (given, mut sheet, passes) = read_frame(&text);
     std::panic::set_hook(Box::new(|_| {}));
 
+    if whole_result {
+        let lines: Vec<String> = passes.iter().map(|pass| run(&given, &mut sheet, pass).0).collect();
+        print!("{}", result_text(&lines, &sheet));
+        return;
+    }
     let mut out = String::new();
     for (k, pass) in passes.iter().enumerate() {
         let kind = match pass {
