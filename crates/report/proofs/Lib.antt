@@ -7,4 +7,5 @@ pub mod Short
 pub mod Laws
 pub mod Checking
 pub mod Writing
+pub mod Blank
 pub mod Answers

@@ -1,10 +1,10 @@
 -- What the inner functions ask of what is lent, and the lines of a result by what is lent. Definitions only.
 use mathlib.Core.Path.{_≡_}
-use mathlib.Core.Bool.{true}
-use mathlib.Core.List.{List, _++_}
-use Prim.Native.Nat.{ℕ, _+_, _*_, _≤_, _<_}
-use lib.ListN.{length, take, drop}
-use lib.Dec.{T}
+use mathlib.Core.Bool.{Bool, true, false, cond}
+use mathlib.Core.List.{List, [], _++_}
+use Prim.Native.Nat.{ℕ, _+_, _-_, _*_, _%_, _≤_, _<_}
+use lib.ListN.{length, getD, take, drop}
+use lib.Dec.{T, eqb, leb}
 use lib.Ieee.{binary32, ofBits, toBits, fits}
 use Rattle.binary32.specs.Ranges.{isFinite}
 use Rattle.arguments.specs.Arguments.{refusedIf, unknownCorner, doubledCorner}
@@ -132,6 +132,16 @@ textFrom passes words sheet k = resultFrom (statsIn passes words) sheet k
 pub record HasLine (passes : ℕ) (words sheet : List ℕ) (k : ℕ) : Type 0 where
   pub all : AllLent passes words sheet
   pub below : k < lineCount passes
+
+-- a line of the sheet whose place holds nothing: no corner and no mark
+unfoldable pub blankAt : ℕ → List ℕ → ℕ → Bool
+blankAt passes sheet k = cond (leb k passes) false (eqb (getD sheet ((k - 1 - passes) % 16384) 0) 0)
+
+-- all lines from line k on and before line r are empty
+pub record Skipped (passes : ℕ) (words sheet : List ℕ) (k r : ℕ) : Type 0 where
+  pub from : k ≤ r
+  pub below : r < lineCount passes
+  pub empty : (a : ℕ) → k ≤ a → a < r → lineAt passes words sheet a ≡ []
 
 -- a piece from line k on
 unfoldable pub pieceFrom : ℕ → List ℕ → List ℕ → ℕ → ℕ → Piece

@@ -1,12 +1,13 @@
 // The lines of a result by their numbers: 0 is the heading, then the pass lines, then 16,384 lines each of cells, holes and ambiguous cells,
 // most of them empty.
 ghost use mathlib.Core.Path.{_≡_};
+ghost use Prim.Native.Nat.{_≤_};
 ghost use lib.Dec.{ltb};
 ghost use lib.ListN.{length};
 ghost use Rattle.line_form.specs.Written.{Wrote};
 ghost use Rattle.report_line.specs.Result.{passLine};
 ghost use Rattle.report.specs.Lent.{statsAt};
-ghost use Rattle.report.specs.Asked.{HasOutcome, AllLent, HasLine, PassAsked, LineAsked, AllAsked, SomeAsked, WrotePiece, lineAt, textFrom, pieceFrom};
+ghost use Rattle.report.specs.Asked.{HasOutcome, AllLent, HasLine, PassAsked, LineAsked, AllAsked, SomeAsked, WrotePiece, Skipped, blankAt, lineAt, textFrom, pieceFrom};
 use report_line::length::fill_length;
 use report_line::length::grow_length;
 use report_line::length::local_length;
@@ -114,6 +115,33 @@ pub fn write_all(passes: usize, words: &[u32], sheet: &[u16], out: &mut [u8]) ->
     at
 }
 
+// Whether line k is one of the sheet's whose place holds nothing.
+fn is_blank(passes: usize, sheet: &[u16], k: usize) -> bool
+    requires { ⌜ 16384 ≤ length (now sheet) ⌝ }
+    ensures { λ r. ⌜ r ≡ blankAt passes (now (sheet .entry)) k ⌝ }
+{
+    if k <= passes {
+        return false;
+    }
+    sheet[(k - 1 - passes) % 16384] == 0
+}
+
+// The next line from line k on that may have something to say, or the last line: most lines are empty, and are passed over here.
+fn next_filled(passes: usize, words: &[u32], sheet: &[u16], k: usize) -> usize
+    requires { ⌜ HasLine passes (now words) (now sheet) k ⌝ }
+    ensures { λ r. ⌜ Skipped passes (now (words .entry)) (now (sheet .entry)) k r ⌝ }
+{
+    let last = passes + 49152;
+    let mut r = k;
+    while r < last {
+        if !is_blank(passes, sheet, r) {
+            return r;
+        }
+        r += 1;
+    }
+    r
+}
+
 // How far a piece goes: how many bytes were written, and which line comes next.
 pub struct PieceEnd {
     pub at: usize,
@@ -138,9 +166,10 @@ pub fn write_some(
         if out.len() - at < 128 {
             return PieceEnd { at, next: k };
         }
-        let n = write_line(passes, words, sheet, k, &mut out[at..]);
+        let filled = next_filled(passes, words, sheet, k);
+        let n = write_line(passes, words, sheet, filled, &mut out[at..]);
         at += n;
-        k += 1;
+        k = filled + 1;
     }
     PieceEnd { at, next: k }
 }
