@@ -114,7 +114,7 @@ unsigned-pattern b m e h = lt-of-not-le (λ (g : 0x8000_0000 ≤ b). untrue (sub
     untrue : false ≡ true → ⊥
     untrue e = subst (λ (t : Bool). T (not t)) e tt
 
-positive-pattern : (m : ℕ) (e : ℤ) → T (fits binary32 (fin false (suc m) e)) → (0 < toBits binary32 (fin false (suc m) e)) × (toBits binary32 (fin false (suc m) e) < 0x7f80_0000)
+pub positive-pattern : (m : ℕ) (e : ℤ) → T (fits binary32 (fin false (suc m) e)) → (0 < toBits binary32 (fin false (suc m) e)) × (toBits binary32 (fin false (suc m) e) < 0x7f80_0000)
 unfolding ofBits
 positive-pattern m e f =
     let b = toBits binary32 (fin false (suc m) e) in
@@ -127,6 +127,16 @@ positive-pattern m e f =
     go (yes z) back = absurd (no-zero m e (pos 0) (sym back ∙ ap (ofBits binary32) z))
     go (no z) back = omega arith
 
+-- the root of a positive finite pattern is what `climb` finds
+pub climbed : (b : ℕ) → 0 < b → b < 0x7f80_0000 → RootOf b (climb b 31 0)
+climbed b p h = go (root-exists b p h)
+  where
+    below : (r : ℕ) → r < 0x7f80_0000 → r < 0 + 2 ^ 31
+    below r h = omega arith
+
+    go : ((r : ℕ) × RootOf b r) → RootOf b (climb b 31 0)
+    go r = subst (RootOf b) (sym (climbs b (r .0) (r .1) 31 0 (omega arith) (below (r .0) (r .1 .finite)))) (r .1)
+
 -- the function answers what the relation asks, at every binary32 value
 pub answered : (x : Float) → T (fits binary32 x) → Answers x (rooted x)
 unfolding Answers rooted
@@ -137,11 +147,7 @@ answered (fin true (suc m) e) f = refl
 answered (fin false (suc m) e) f =
     let b = toBits binary32 (fin false (suc m) e) in
     let p = positive-pattern m e f in
-    let r = root-exists b (p .0) (p .1) in
-    (climb b 31 0, refl, subst (RootOf b) (sym (climbs b (r .0) (r .1) 31 0 (omega arith) (below (r .0) (r .1 .finite)))) (r .1))
-  where
-    below : (r : ℕ) → r < 0x7f80_0000 → r < 0 + 2 ^ 31
-    below r h = omega arith
+    (climb b 31 0, refl, climbed b (p .0) (p .1))
 
 -- ---- the root of an unsigned finite value is one too
 
@@ -160,11 +166,7 @@ sqrt-unsigned zero e f = (zero, e, refl)
 sqrt-unsigned (suc m) e f =
     let b = toBits binary32 (fin false (suc m) e) in
     let p = positive-pattern m e f in
-    let r = root-exists b (p .0) (p .1) in
-    unsigned-of (climb b 31 0) (subst (λ (k : ℕ). k < 0x7f80_0000) (sym (climbs b (r .0) (r .1) 31 0 (omega arith) (below (r .0) (r .1 .finite)))) (r .1 .finite))
-  where
-    below : (r : ℕ) → r < 0x7f80_0000 → r < 0 + 2 ^ 31
-    below r h = omega arith
+    unsigned-of (climb b 31 0) (climbed b (p .0) (p .1) .finite)
 
 pub sqrt-fits : (x : Float) → T (fits binary32 x) → T (fits binary32 (sqrtOrNan x))
 unfolding rooted

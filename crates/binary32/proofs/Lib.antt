@@ -8,5 +8,6 @@ pub mod Answered
 pub mod Unique
 pub mod Rooting
 pub mod Exists
+pub mod Monotone
 pub mod Finite
 pub mod Digits

@@ -1,8 +1,8 @@
--- `RootOf` says which: a pattern has one root at most. Assumes nothing.
+-- `RootOf` says which: a pattern has one root at most, and of two patterns the one with the larger number has no smaller root. Assumes nothing.
 use Prim.Native.Nat.{ℕ, zero, suc, _+_, _-_, _*_, _/_, _%_, _^_, _≤_, _<_}
 use mathlib.Core.Path.{_≡_, sym, ap, subst, _∙_}
 use mathlib.Core.Logic.{_⊎_, inl, inr}
-use native.Mathlib.Nat.{le-trans, le-of-eq, lt-irrefl, lt-trans, lt-of-le-of-lt, le-antisymm, le-of-suc-le-suc, lt-of-not-le, add-le-add, mul-le-mul, mul-le-mul-right, pow-succ', eq-or-lt-of-le}
+use native.Mathlib.Nat.{le-refl, le-trans, le-of-eq, lt-irrefl, lt-trans, lt-of-le-of-lt, lt-of-lt-of-le, le-antisymm, le-of-suc-le-suc, lt-of-not-le, add-le-add, mul-le-mul, mul-le-mul-left, mul-le-mul-right, pow-succ', eq-or-lt-of-le}
 use native.Mathlib.Decide.{decLe}
 use native.Mathlib.Omega.{arith}
 use lib.Pow.{pow-pos, pow-mono}
@@ -54,14 +54,20 @@ mono b c h = go (decLe 0x80_0000 b) (decLe 0x80_0000 c)
 
 -- ---- of two patterns, the upper midpoint of the lower is at most the lower midpoint of the upper
 
-apart : (b r s : ℕ) → RootOf b r → RootOf b s → r < s → ⊥
-apart b r s p q h = lt-irrefl (4 * (magnitude b * 2 ^ 149)) (lt-trans (p .under) (lt-of-le-of-lt (mul-le-mul between between) (q .above)))
+-- so of two numbers, the larger has no smaller root
+pub in-order : (b c r s : ℕ) → magnitude b ≤ magnitude c → RootOf b r → RootOf c s → r ≤ s
+in-order b c r s h p q = le-of-suc-le-suc (lt-of-not-le apart)
   where
-    between : magnitude r + magnitude (r + 1) ≤ magnitude (s - 1) + magnitude s
-    between = add-le-add (mono r (s - 1) (omega arith)) (mono (r + 1) s (omega arith))
+    between : s < r → magnitude s + magnitude (s + 1) ≤ magnitude (r - 1) + magnitude r
+    between k = add-le-add (mono s (r - 1) (omega arith)) (mono (s + 1) r (omega arith))
+
+    scaled : 4 * (magnitude b * 2 ^ 149) ≤ 4 * (magnitude c * 2 ^ 149)
+    scaled = mul-le-mul-left 4 (mul-le-mul-right (2 ^ 149) h)
+
+    apart : s < r → ⊥
+    apart k =
+        lt-irrefl (4 * (magnitude c * 2 ^ 149))
+        (lt-trans (q .under) (lt-of-le-of-lt (mul-le-mul (between k) (between k)) (lt-of-lt-of-le (p .above) scaled)))
 
 pub unique : (b r s : ℕ) → RootOf b r → RootOf b s → r ≡ s
-unique b r s p q = le-antisymm (no-less s r (apart b s r q p)) (no-less r s (apart b r s p q))
-  where
-    no-less : (x y : ℕ) → (x < y → ⊥) → y ≤ x
-    no-less x y f = le-of-suc-le-suc (lt-of-not-le f)
+unique b r s p q = le-antisymm (in-order b b r s (le-refl (magnitude b)) p q) (in-order b b s r (le-refl (magnitude b)) q p)
