@@ -1,4 +1,5 @@
 pub mod Listing
+pub mod Limit
 pub mod Scan
 pub mod Collected
 pub mod Radius

@@ -1,6 +1,6 @@
 -- The scan: what it keeps is the first two of the candidates in order. Assumes nothing.
-use mathlib.Core.Path.{_≡_, refl, ap, ap₂, _∙_}
-use mathlib.Core.Bool.{Bool, true, false, cond}
+use mathlib.Core.Path.{_≡_, refl, sym, ap, subst, _∙_}
+use mathlib.Core.Bool.{Bool, true, false, cond, and-eq-true-iff}
 use mathlib.Core.List.{List, [], _∷_, List·Memᴰ, List·Memᴰ·head, List·Memᴰ·tail}
 use Prim.Native.Nat.{ℕ, zero, suc, _+_, _≤_, _<_}
 use native.Mathlib.Numerals.{add-one}
@@ -13,9 +13,11 @@ use Rattle.sheet.specs.declared.Position.{Position}
 use Rattle.grow.specs.declared.Candidate.{Candidate}
 use Rattle.grow.specs.declared.Candidates.{Candidates}
 use Rattle.grow.specs.declared.Candidates.the-variants.{Empty, Several}
+use Rattle.grow.specs.declared.Found.{Found}
 use Rattle.grow.specs.Candidates.{positionsOf, unmarked, eligible, squaredDistance, squaredRadius, isCandidate, distanceOf, insert, ordered, candidatesAt, firstTwo}
-use Rattle.grow.specs.Steps.{kept, firstTwoBelow, Next, measured}
+use Rattle.grow.specs.Steps.{kept, narrowed, isWithin, firstTwoBelow, Next, measured}
 use Rattle.grow.proofs.Listing.{before-later, nth, exactly}
+use Rattle.grow.proofs.Limit.{Limited, squared, limited-within, passed-over, narrowed-found, narrowed-limited}
 
 -- ---- one more candidate
 
@@ -44,33 +46,55 @@ unfolding ordered
 grows distance candidate k e =
     rw e (keep-insert (nth distance k) (ordered distance candidate k) (λ x m. exactly distance candidate k .only x m .there))
 
-pub stays : (distance : ℕ → Float) (candidate : ℕ → Bool) (k : ℕ) → candidate k ≡ false
-    → firstTwo (ordered distance candidate k) ≡ firstTwo (ordered distance candidate (suc k))
+none : (distance : ℕ → Float) (candidate : ℕ → Bool) (k : ℕ) → candidate k ≡ false → firstTwo (ordered distance candidate k) ≡ firstTwo (ordered distance candidate (suc k))
 unfolding ordered
-stays distance candidate k e = rw e
+none distance candidate k e = rw e
 
--- ---- corners that are no candidates
-
-pub skips : (distance : ℕ → Float) (candidate : ℕ → Bool) (from r : ℕ) → from ≤ r → ((k : ℕ) → from ≤ k → k < r → candidate k ≡ false)
-    → firstTwo (ordered distance candidate from) ≡ firstTwo (ordered distance candidate r)
-skips distance candidate from zero h none = ap (λ (k : ℕ). firstTwo (ordered distance candidate k)) (omega arith)
-skips distance candidate from (suc r) h none = go (λ l. skips distance candidate from r l (λ k a b. none k a (omega arith))) (ℕ-discrete from (suc r))
+-- a corner that is no candidate, or that comes after the first two of those before it
+pub stays : (distance : ℕ → Float) (candidate : ℕ → Bool) (found : Candidates) (k : ℕ) → (candidate k ≡ true → kept found (nth distance k) ≡ found)
+    → found ≡ firstTwo (ordered distance candidate k) → found ≡ firstTwo (ordered distance candidate (suc k))
+stays distance candidate found k after e = go (candidate k) refl
   where
-    go : (from ≤ r → firstTwo (ordered distance candidate from) ≡ firstTwo (ordered distance candidate r)) → Dec (from ≡ suc r)
-        → firstTwo (ordered distance candidate from) ≡ firstTwo (ordered distance candidate (suc r))
-    go w (yes d) = ap (λ (k : ℕ). firstTwo (ordered distance candidate k)) d
-    go w (no d) = w (omega arith) ∙ stays distance candidate r (none r (omega arith) (omega arith))
+    go : (t : Bool) → candidate k ≡ t → found ≡ firstTwo (ordered distance candidate (suc k))
+    go true f = sym (after f) ∙ ap (λ (l : Candidates). kept l (nth distance k)) e ∙ grows distance candidate k f
+    go false f = e ∙ none distance candidate k f
+
+pub skips : (distance : ℕ → Float) (candidate : ℕ → Bool) (found : Candidates) (from r : ℕ) → from ≤ r
+    → ((k : ℕ) → from ≤ k → k < r → candidate k ≡ true → kept found (nth distance k) ≡ found)
+    → found ≡ firstTwo (ordered distance candidate from) → found ≡ firstTwo (ordered distance candidate r)
+skips distance candidate found from zero h after e = e ∙ ap (λ (k : ℕ). firstTwo (ordered distance candidate k)) (omega arith)
+skips distance candidate found from (suc r) h after e = go (λ l. skips distance candidate found from r l (λ k a b. after k a (omega arith)) e) (ℕ-discrete from (suc r))
+  where
+    go : (from ≤ r → found ≡ firstTwo (ordered distance candidate r)) → Dec (from ≡ suc r) → found ≡ firstTwo (ordered distance candidate (suc r))
+    go w (yes d) = e ∙ ap (λ (k : ℕ). firstTwo (ordered distance candidate k)) d
+    go w (no d) = stays distance candidate found r (after r (omega arith) (omega arith)) (w (omega arith))
 
 -- ---- the test of one corner
 
-module _ (position : ℕ → Position) (unlabelled : ℕ → Bool) (p : Position) (r : Float) (k : ℕ) where
-  pub labelled : eligible unlabelled k ≡ false → false ≡ isCandidate position unlabelled p r k
+module _ (position : ℕ → Position) (unlabelled : ℕ → Bool) (p : Position) (limit : Float) (k : ℕ) where
+  pub labelled : eligible unlabelled k ≡ false → false ≡ isWithin position unlabelled p limit k
   labelled e = rw e
 
-  pub free : eligible unlabelled k ≡ true → le (squaredDistance (position k) p) (squaredRadius r) ≡ isCandidate position unlabelled p r k
+  pub free : eligible unlabelled k ≡ true → le (squaredDistance (position k) p) limit ≡ isWithin position unlabelled p limit k
   free e = rw e
 
--- ---- the search for the next candidate: the corners passed are none
+-- the same test with a smaller limit than the squared radius
+module _ (position : ℕ → Position) (unlabelled : ℕ → Bool) (p : Position) (r limit : Float) (k : ℕ) where
+  -- what passes it is a candidate
+  hits : (le (squaredDistance (position k) p) limit ≡ true → le (squaredDistance (position k) p) (squaredRadius r) ≡ true)
+      → isWithin position unlabelled p limit k ≡ true → isCandidate position unlabelled p r k ≡ true
+  hits more h =
+      let b = and-eq-true-iff (eligible unlabelled k) (le (squaredDistance (position k) p) limit) .0 h in
+      rw (b .0, more (b .1))
+
+  -- and a candidate that does not pass it is beyond the limit
+  beyond : isCandidate position unlabelled p r k ≡ true → isWithin position unlabelled p limit k ≡ false
+      → (le (squaredDistance (position k) p) (squaredRadius r) ≡ true) × (le (squaredDistance (position k) p) limit ≡ false)
+  beyond h n =
+      let b = and-eq-true-iff (eligible unlabelled k) (le (squaredDistance (position k) p) (squaredRadius r)) .0 h in
+      (b .1, rw (b .0) at n)
+
+-- ---- the search for the next corner within the limit: the corners passed are not
 
 pub record Passing (candidate : ℕ → Bool) (n from k : ℕ) : Type 0 where
   pub on : from ≤ k
@@ -94,12 +118,14 @@ module _ (candidate : ℕ → Bool) (n from : ℕ) where
   pub passing-end : (k : ℕ) → Passing candidate n from k → n ≤ k → Next candidate n from k
   passing-end k p h = record { on = p .on; within = p .within; passed = p .passed; hit = λ m. absurd (omega arith) }
 
--- ---- the scan from one candidate to the next: corner k is the next candidate or there is none, and what was found is right for those before it
+-- ---- the scan from one hit to the next: corner k is the next within the limit or there is none, what was found is right for those before it,
+-- and so is what stands beside it
 
-pub record Scanned (xs ys : List Float) (used : List ℕ) (p : Position) (r : Float) (found : Candidates) (k : ℕ) : Type 0 where
+pub record Scanned (xs ys : List Float) (used : List ℕ) (p : Position) (r : Float) (found : Found) (k : ℕ) : Type 0 where
   pub within : k ≤ length xs
-  pub hit : k < length xs → isCandidate (positionsOf xs ys) (unmarked used) p r k ≡ true
-  pub so-far : found ≡ firstTwoBelow xs ys used k p r
+  pub hit : k < length xs → isWithin (positionsOf xs ys) (unmarked used) p (found .limit) k ≡ true
+  pub so-far : found .candidates ≡ firstTwoBelow xs ys used k p r
+  pub limited : Limited (squaredRadius r) found
 
 -- ---- the whole scan
 
@@ -112,37 +138,70 @@ module _ (xs ys : List Float) (used : List ℕ) (p : Position) (r : Float) where
   unfolding candidatesAt firstTwo
   nowhere-y e f = rw (e, f)
 
-  -- from a corner, before which what was found is right, to the next candidate
-  scanned-on : (found : Candidates) (from k : ℕ) → found ≡ firstTwoBelow xs ys used from p r
-      → Next (isCandidate (positionsOf xs ys) (unmarked used) p r) (length xs) from k → Scanned xs ys used p r found k
-  scanned-on found from k e s =
+  -- from a corner, before which what was found is right, to the next within the limit
+  scanned-on : (found : Found) (from k : ℕ) → found .candidates ≡ firstTwoBelow xs ys used from p r
+      → Limited (squaredRadius r) found
+      → Next (isWithin (positionsOf xs ys) (unmarked used) p (found .limit)) (length xs) from k → Scanned xs ys used p r found k
+  scanned-on found from k e l s =
       record {
         within = s .within;
         hit = s .hit;
-        so-far = e ∙ skips (distanceOf (positionsOf xs ys) p) (isCandidate (positionsOf xs ys) (unmarked used) p r) from k (s .on) (s .passed);
+        so-far = skips (distanceOf (positionsOf xs ys) p) (isCandidate (positionsOf xs ys) (unmarked used) p r) (found .candidates) from k (s .on) after e;
+        limited = l;
       }
+    where
+      after : (i : ℕ) → from ≤ i → i < k → isCandidate (positionsOf xs ys) (unmarked used) p r i ≡ true
+          → kept (found .candidates) (nth (distanceOf (positionsOf xs ys) p) i) ≡ found .candidates
+      after i a b h =
+          let n = beyond (positionsOf xs ys) (unmarked used) p r (found .limit) i h (s .passed i a b) in
+          passed-over (squaredRadius r) found (squaredDistance (positionsOf xs ys i) p) (nth (distanceOf (positionsOf xs ys) p) i)
+          l (squared (positionsOf xs ys i) p (squaredRadius r) (n .0)) (n .1)
 
   none-yet : Empty ≡ firstTwoBelow xs ys used 0 p r
   unfolding ordered firstTwo
   none-yet = refl
 
-  pub scanned-start : (k : ℕ) → Next (isCandidate (positionsOf xs ys) (unmarked used) p r) (length xs) 0 k → Scanned xs ys used p r Empty k
-  scanned-start k s = scanned-on Empty 0 k none-yet s
+  -- nothing is found, and beside it stands the squared radius
+  abbrev nothing : Float → Found
+  nothing square = record { candidates = Empty; square = square; limit = squaredRadius r }
+
+  pub scanned-start : (square : Float) (k : ℕ) → Next (isWithin (positionsOf xs ys) (unmarked used) p (squaredRadius r)) (length xs) 0 k → Scanned xs ys used p r (nothing square) k
+  scanned-start square k s = scanned-on (nothing square) 0 k none-yet refl s
 
   -- one more candidate
-  pub scanned-more : (found more : Candidates) (c : Candidate) (k k' : ℕ) → Scanned xs ys used p r found k → k < length xs
-      → c ≡ measured (positionsOf xs ys) p k → more ≡ kept found c
-      → Next (isCandidate (positionsOf xs ys) (unmarked used) p r) (length xs) (k + 1) k' → Scanned xs ys used p r more k'
-  scanned-more found more c k k' h l e f s =
+  pub scanned-more : (found more : Found) (k k' : ℕ) → Scanned xs ys used p r found k → k < length xs
+      → more ≡ narrowed found (measured (positionsOf xs ys) p k) (squaredDistance (positionsOf xs ys k) p)
+      → Next (isWithin (positionsOf xs ys) (unmarked used) p (more .limit)) (length xs) (k + 1) k' → Scanned xs ys used p r more k'
+  scanned-more found more k k' h l e s =
       scanned-on more (k + 1) k'
-      (f ∙ ap₂ kept (h .so-far) e ∙ rw add-one (grows (distanceOf (positionsOf xs ys) p) (isCandidate (positionsOf xs ys) (unmarked used) p r) k (h .hit l)))
+      (ap (λ (f : Found). f .candidates) e ∙ narrowed-found found c d2 ∙ ap (λ (f : Candidates). kept f c) (h .so-far)
+      ∙ rw add-one (grows (distanceOf (positionsOf xs ys) p) (isCandidate (positionsOf xs ys) (unmarked used) p r) k taken))
+      (subst (λ (f : Found). Limited (squaredRadius r) f) (sym e)
+      (narrowed-limited (squaredRadius r) found c d2 (h .limited) (squared (positionsOf xs ys k) p (squaredRadius r) near)))
       s
+    where
+      c : Candidate
+      c = measured (positionsOf xs ys) p k
+
+      d2 : Float
+      d2 = squaredDistance (positionsOf xs ys k) p
+
+      taken : isCandidate (positionsOf xs ys) (unmarked used) p r k ≡ true
+      taken = hits (positionsOf xs ys) (unmarked used) p r (found .limit) k (limited-within (squaredRadius r) found d2 (h .limited)) (h .hit l)
+
+      near : le d2 (squaredRadius r) ≡ true
+      near = and-eq-true-iff (eligible (unmarked used) k) (le d2 (squaredRadius r)) .0 taken .1
 
   whole : isFinite (p .x) ≡ true → isFinite (p .y) ≡ true → firstTwoBelow xs ys used (length xs) p r ≡ firstTwo (candidatesAt (positionsOf xs ys) (unmarked used) (length xs) p r)
   unfolding candidatesAt
   whole e f = rw (e, f)
 
-  -- no candidate is left
-  pub scanned-all : (found : Candidates) (k : ℕ) → Scanned xs ys used p r found k → length xs ≤ k → isFinite (p .x) ≡ true → isFinite (p .y) ≡ true
-      → found ≡ firstTwo (candidatesAt (positionsOf xs ys) (unmarked used) (length xs) p r)
+  -- no candidate is left that could change the first two
+  pub scanned-all : (found : Found) (k : ℕ) → Scanned xs ys used p r found k → length xs ≤ k → isFinite (p .x) ≡ true → isFinite (p .y) ≡ true
+      → found .candidates ≡ firstTwo (candidatesAt (positionsOf xs ys) (unmarked used) (length xs) p r)
   scanned-all found k h l e f = h .so-far ∙ ap (λ (n : ℕ). firstTwoBelow xs ys used n p r) (omega (arith, h .within)) ∙ whole e f
+
+  -- there was none at all
+  pub nowhere : (k : ℕ) → Next (isWithin (positionsOf xs ys) (unmarked used) p (squaredRadius r)) (length xs) 0 k → k ≡ length xs
+      → isFinite (p .x) ≡ true → isFinite (p .y) ≡ true → Empty ≡ firstTwo (candidatesAt (positionsOf xs ys) (unmarked used) (length xs) p r)
+  nowhere k s l e f = scanned-all (nothing (squaredRadius r)) k (scanned-start (squaredRadius r) k s) (omega arith) e f

@@ -1,15 +1,16 @@
 -- What the steps of the candidate scan ask and hand on, for their own contracts. Definitions only.
 use mathlib.Core.Path.{_≡_}
-use mathlib.Core.Bool.{Bool, true, false, cond}
+use mathlib.Core.Bool.{Bool, true, false, _&&_, cond}
 use mathlib.Core.List.{List}
 use Prim.Native.Nat.{ℕ, _≤_, _<_}
 use lib.ListN.{length}
-use lib.Ieee.{Float, lt}
+use lib.Ieee.{Float, lt, le}
 use Rattle.sheet.specs.declared.Position.{Position}
 use Rattle.grow.specs.declared.Candidate.{Candidate}
 use Rattle.grow.specs.declared.Candidates.{Candidates}
 use Rattle.grow.specs.declared.Candidates.the-variants.{Empty, One, Several}
-use Rattle.grow.specs.Candidates.{positionsOf, unmarked, isCandidate, distanceOf, ordered, firstTwo}
+use Rattle.grow.specs.declared.Found.{Found}
+use Rattle.grow.specs.Candidates.{positionsOf, unmarked, eligible, squaredDistance, isCandidate, distanceOf, ordered, firstTwo}
 
 -- every corner has a y and a mark
 pub record Lent (xs ys : List Float) : Type 0 where
@@ -23,6 +24,26 @@ kept (One a) c = cond (lt (c .distance) (a .distance)) (Several c (a .distance))
 kept (Several a second) c =
     cond (lt (c .distance) (a .distance)) (Several c (a .distance))
     (cond (lt (c .distance) second) (Several a (c .distance)) (Several a second))
+
+-- two candidates or more, and beside them the squared distances of the first and of the second
+abbrev pub twoFound : Candidate → Float → Float → Float → Found
+twoFound first square second limit = record { candidates = Several first second; square = square; limit = limit }
+
+-- `kept` with what stands beside: the squared distance of the first, and the limit of a further one's, which is that of the second once
+-- there are two. d2 is the squared distance of c.
+abbrev pub narrowedFrom : Candidates → Float → Float → Candidate → Float → Found
+narrowedFrom Empty square limit c d2 = record { candidates = One c; square = d2; limit = limit }
+narrowedFrom (One a) square limit c d2 = cond (lt (c .distance) (a .distance)) (twoFound c d2 (a .distance) square) (twoFound a square (c .distance) d2)
+narrowedFrom (Several a second) square limit c d2 =
+    cond (lt (c .distance) (a .distance)) (twoFound c d2 (a .distance) square)
+    (cond (lt (c .distance) second) (twoFound a square (c .distance) d2) (twoFound a square second limit))
+
+abbrev pub narrowed : Found → Candidate → Float → Found
+narrowed found c d2 = narrowedFrom (found .candidates) (found .square) (found .limit) c d2
+
+-- an unlabelled corner whose squared distance is at most the limit: a candidate, if the limit is the squared radius
+abbrev pub isWithin : (ℕ → Position) → (ℕ → Bool) → Position → Float → ℕ → Bool
+isWithin position unlabelled prediction limit k = eligible unlabelled k && le (squaredDistance (position k) prediction) limit
 
 -- the first two of the candidates among the first n corners, the prediction being finite
 abbrev pub firstTwoBelow : List Float → List Float → List ℕ → ℕ → Position → Float → Candidates

@@ -3,9 +3,9 @@
 ghost use mathlib.Core.Path.{_≡_};
 ghost use Prim.Native.Nat.{_≤_, _<_};
 ghost use lib.ListN.{length};
-ghost use Rattle.grow.specs.Candidates.{positionsOf, unmarked, eligible, squaredDistance, isCandidate, candidatesAt, firstTwo};
+ghost use Rattle.grow.specs.Candidates.{positionsOf, unmarked, eligible, squaredDistance, candidatesAt, firstTwo};
 ghost use Rattle.grow.specs.Choice.{byQuotient, chooseUnambiguous, raised, chooseWithFloor};
-ghost use Rattle.grow.specs.Steps.{Lent, Next, measured, kept};
+ghost use Rattle.grow.specs.Steps.{Lent, Next, isWithin, measured, twoFound, narrowed};
 use sheet::Position;
 
 // A corner's number, and its distance from the prediction.
@@ -19,6 +19,15 @@ pub enum Candidates {
     Empty,
     One(Candidate),
     Several(Candidate, f32),
+}
+
+// What was found so far, the squared distance of its first candidate, if there is one, and the squared distance that a further one may
+// not exceed: the squared radius while fewer than two are found, and then the squared distance of the second. A corner beyond it comes
+// after both, since of two squares the larger has no smaller root. So no root is taken for it.
+struct Found {
+    candidates: Candidates,
+    square: f32,
+    limit: f32,
 }
 
 // The choice at one cell.
@@ -48,68 +57,82 @@ fn squared_distance(corner: Position, prediction: Position) -> f32
     dx * dx + dy * dy
 }
 
-// One more candidate, whose number is above all others': of equal distances the earlier number stays ahead.
-fn keep(found: Candidates, c: Candidate) -> Candidates
-    ensures { λ r. ⌜ r ≡ kept found c ⌝ }
+// Two candidates or more: the first and its squared distance, and the distance and the squared distance of the second.
+fn several(first: Candidate, square: f32, second: f32, limit: f32) -> Found
+    ensures { λ r. ⌜ r ≡ twoFound first square second limit ⌝ }
 {
-    match found {
-        Candidates::Empty => Candidates::One(c),
+    Found {
+        candidates: Candidates::Several(first, second),
+        square,
+        limit,
+    }
+}
+
+// One more candidate, whose number is above all others', with its squared distance: of equal distances the earlier number stays ahead.
+fn keep(found: Found, c: Candidate, d2: f32) -> Found
+    ensures { λ r. ⌜ r ≡ narrowed found c d2 ⌝ }
+{
+    let candidates = found.candidates;
+    match candidates {
+        Candidates::Empty => Found {
+            candidates: Candidates::One(c),
+            square: d2,
+            limit: found.limit,
+        },
         Candidates::One(a) => {
             if c.distance < a.distance {
-                Candidates::Several(c, a.distance)
+                several(c, d2, a.distance, found.square)
             } else {
-                Candidates::Several(a, c.distance)
+                several(a, found.square, c.distance, d2)
             }
         }
         Candidates::Several(first, second) => {
             if c.distance < first.distance {
-                return Candidates::Several(c, first.distance);
+                return several(c, d2, first.distance, found.square);
             }
             if c.distance < second {
-                Candidates::Several(first, c.distance)
+                several(first, found.square, c.distance, d2)
             } else {
-                Candidates::Several(first, second)
+                found
             }
         }
     }
 }
 
-// Whether corner k is a candidate. No root is taken for it.
-fn is_candidate(
+// Whether corner k is unlabelled, and its squared distance at most the limit. No root is taken for it.
+fn is_within(
     xs: &[f32],
     ys: &[f32],
     used: &[u8; 1024],
     k: usize,
     prediction: Position,
-    search_r: f32,
+    limit: f32,
 ) -> bool
     requires { ⌜ Lent (now xs) (now ys) × (k < length (now xs)) ⌝ }
-    ensures { λ r. ⌜ r ≡ isCandidate (positionsOf (now (xs .entry)) (now (ys .entry))) (unmarked (now (used .entry))) prediction «search_r» k ⌝ }
+    ensures { λ r. ⌜ r ≡ isWithin (positionsOf (now (xs .entry)) (now (ys .entry))) (unmarked (now (used .entry))) prediction limit k ⌝ }
 {
     if !is_eligible(used, k) {
         return false;
     }
     let corner = Position { x: xs[k], y: ys[k] };
-    let d2 = squared_distance(corner, prediction);
-    let r2 = search_r * search_r;
-    d2 <= r2
+    squared_distance(corner, prediction) <= limit
 }
 
-// The number of the next candidate from this corner on, or the number of corners if there is none.
-fn next_candidate(
+// The number of the next corner within the limit from this one on, or the number of corners if there is none.
+fn next_within(
     xs: &[f32],
     ys: &[f32],
     used: &[u8; 1024],
     from: usize,
     prediction: Position,
-    search_r: f32,
+    limit: f32,
 ) -> usize
     requires { ⌜ Lent (now xs) (now ys) × (from ≤ length (now xs)) ⌝ }
-    ensures { λ r. ⌜ Next (isCandidate (positionsOf (now (xs .entry)) (now (ys .entry))) (unmarked (now (used .entry))) prediction «search_r») (length (now (xs .entry))) from r ⌝ }
+    ensures { λ r. ⌜ Next (isWithin (positionsOf (now (xs .entry)) (now (ys .entry))) (unmarked (now (used .entry))) prediction limit) (length (now (xs .entry))) from r ⌝ }
 {
     let mut k = from;
     while k < xs.len() {
-        if is_candidate(xs, ys, used, k, prediction, search_r) {
+        if is_within(xs, ys, used, k, prediction, limit) {
             return k;
         }
         k += 1;
@@ -117,18 +140,19 @@ fn next_candidate(
     k
 }
 
-// Corner k as a candidate, with the root of its squared distance.
-fn candidate_at(xs: &[f32], ys: &[f32], k: usize, prediction: Position) -> Candidate
+// Corner k as one more candidate, with the root of its squared distance.
+fn keep_corner(found: Found, xs: &[f32], ys: &[f32], k: usize, prediction: Position) -> Found
     requires { ⌜ Lent (now xs) (now ys) × (k < length (now xs)) ⌝ }
-    ensures { λ r. ⌜ r ≡ measured (positionsOf (now (xs .entry)) (now (ys .entry))) prediction k ⌝ }
+    ensures { λ r. ⌜ r ≡ narrowed found (measured (positionsOf (now (xs .entry)) (now (ys .entry))) prediction k) (squaredDistance (positionsOf (now (xs .entry)) (now (ys .entry)) k) prediction) ⌝ }
 {
     let corner = Position { x: xs[k], y: ys[k] };
     let d2 = squared_distance(corner, prediction);
     let distance = binary32::root::sqrt_or_nan(d2);
-    Candidate {
+    let c = Candidate {
         number: k,
         distance,
-    }
+    };
+    keep(found, c, d2)
 }
 
 // The first two of the candidates at the prediction, in order of distance and then corner number: all unlabelled corners whose
@@ -149,14 +173,22 @@ pub fn collect_candidates(
     if !binary32::ranges::is_finite(prediction.y) {
         return Candidates::Empty;
     }
-    let mut found = Candidates::Empty;
-    let mut k = next_candidate(xs, ys, used, 0, prediction, search_r);
-    while k < xs.len() {
-        let more = keep(found, candidate_at(xs, ys, k, prediction));
-        found = more;
-        k = next_candidate(xs, ys, used, k + 1, prediction, search_r);
+    let r2 = search_r * search_r;
+    let mut k = next_within(xs, ys, used, 0, prediction, r2);
+    if k == xs.len() {
+        return Candidates::Empty;
     }
-    found
+    let mut found = Found {
+        candidates: Candidates::Empty,
+        square: 0.0,
+        limit: r2,
+    };
+    while k < xs.len() {
+        let more = keep_corner(found, xs, ys, k, prediction);
+        found = more;
+        k = next_within(xs, ys, used, k + 1, prediction, more.limit);
+    }
+    found.candidates
 }
 
 // The quotient of the two first distances: ambiguous if second/first is below the factor, else the first corner.
