@@ -3,7 +3,7 @@
 use mathlib.Core.Path.{_≡_, refl, sym, ap, ap₂, _∙_}
 use mathlib.Core.Bool.{Bool, true, false, not, cond}
 use mathlib.Core.List.{List, [], _∷_, _++_}
-use Prim.Native.Nat.{ℕ, _+_, _<_, _≤_}
+use Prim.Native.Nat.{ℕ, _+_, _/_, _%_, _<_, _≤_}
 use native.Mathlib.Omega.{arith}
 use borrow.Author.Tests.{not-true, not-false}
 use lib.ListN.{length, getD, set, take, length-append, length-set}
@@ -19,6 +19,8 @@ use Rattle.sheet.proofs.Corners.{given-attached, given-cleared}
 use Rattle.sheet.proofs.Words.{attached-changes, cleared-changes}
 use Rattle.labels.specs.Labelled.{labelledPlaces, labelCount, Attaching}
 use Rattle.labels.specs.Used.{usedOn, Tied, OneCell}
+use Rattle.labels.specs.Box.{boxOf}
+use Rattle.labels.specs.declared.LabelBox.{LabelBox}
 use Rattle.labels.proofs.Labelled.{places-rise, places-in, count-attached, cleared-keeps, labels-places, same-count, word-else}
 use Rattle.labels.proofs.Used.{tied-attached, tied-cleared, one-attached, one-cleared}
 use Rattle.positions_policy.specs.declared.Tolerances.{Tolerances}
@@ -40,7 +42,7 @@ use Rattle.supports.specs.Fitted.{supportFitOf}
 use Rattle.supports.specs.declared.Supports.{Supports}
 use Rattle.supports.specs.declared.SupportFit.{SupportFit}
 use Rattle.supports.proofs.Fitted.{fit-none, fit-some}
-use Rattle.local.specs.Region.{RegionAsked}
+use Rattle.region.specs.Region.{Listed, Lines, RegionFound, regionOf}
 use Rattle.local.specs.Extending.{visits, countsChanged, noCandidateCounted, ambiguousCounted, edgeCounted, attachedCounted, stateOf, Extending, Holds, Left, Trying, Taking, attachedClear, Writable, Wrote}
 use Rattle.local.specs.declared.LocalProgress.{LocalProgress}
 
@@ -182,8 +184,12 @@ module _ {xs ys pitches : List Float} {sheet list used places : List ℕ} {made 
   pub listed-below : (a : ℕ) → a < labels → getD places a 0 < 16384
   listed-below a h = rw (listed-at a h) (places-in sheet a (omega (arith, listed-long)))
 
-  pub region-asked : RegionAsked sheet places labels
-  region-asked = record { long = f .given .long; listed = record { few = labels-in; size = f .size; below = listed-below }; places-are = f .places-are }
+  pub listed : Listed places labels
+  listed = record { few = labels-in; size = f .size; below = listed-below }
+
+  pub region-found : {around : LabelBox} {rows columns : List ℕ} → around ≡ boxOf sheet → Lines (λ p. p % 128) (take labels places) rows → Lines (λ p. p / 128) (take labels places) columns
+      → RegionFound sheet (regionOf around rows columns)
+  region-found a r c = record { around-is = a; rows-are = rw (f .places-are) at r; columns-are = rw (f .places-are) at c }
 
   pub nearby : (c : Cell) → OnSheet c → Nearby places labels c
   nearby c on =

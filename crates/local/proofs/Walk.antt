@@ -25,11 +25,10 @@ use Rattle.passes.specs.Outcome.{over}
 use Rattle.passes.specs.Fill.{cellsOf}
 use Rattle.passes.specs.Local.{depthOf, localRegion, localCells, LocalState, localVisit, localAll, localRound}
 use Rattle.passes.proofs.Over.{over-read, over-over}
-use Rattle.local.specs.Region.{RegionFound, regionAt}
+use Rattle.region.specs.Region.{Region, RegionFound, regionAt}
+use Rattle.region.proofs.Told.{region-is}
 use Rattle.local.specs.Extending.{visits, stateOf, Extending, Holds, Left, lookedAt}
 use Rattle.local.specs.declared.LocalProgress.{LocalProgress}
-use Rattle.local.specs.declared.Region.{Region}
-use Rattle.local.proofs.Told.{region-is}
 use Rattle.local.proofs.Visit.{Tried, passed, attaches, tried, tried-grows, tried-counted, attaching, clear-same, clear-else, untouched}
 
 -- ---- some cells
@@ -136,6 +135,10 @@ module _ (cs : Corners) (few : cs .count ≤ 1024) (set : Settings) (p : LocalEx
       go false e = sym (walked-miss cs set p s n e)
 
 -- ---- a place looked at, test by test
+
+-- the region's test, at the depth that the code has worked out
+pub told-at : (p : LocalExtensionParams) (region : Region) (n : ℕ) {d : ℕ} {t : Bool} → d ≡ depthOf p → t ≡ regionAt d region n → t ≡ regionAt (depthOf p) region n
+told-at p region n e f = f ∙ ap (λ (m : ℕ). regionAt m region n) e
 
 module _ (cs : Corners) (set : Settings) (p : LocalExtensionParams) (region : Region) (n : ℕ) (s : LocalState) where
   pub looked-out : regionAt (depthOf p) region n ≡ false → lookedAt cs set p region n s ≡ s

@@ -22,10 +22,9 @@ use Rattle.passes.specs.declared.Counts.{Counts}
 use Rattle.passes.specs.declared.LargestResidual.{LargestResidual}
 use Rattle.passes.specs.declared.LocalStats.{LocalStats}
 use Rattle.supports.specs.Nearest.{Gathered}
-use Rattle.local.specs.Region.{Telling, regionAt}
+use Rattle.region.specs.Region.{Region, Telling, regionAt}
 use Rattle.local.specs.declared.LocalProgress.{LocalProgress}
 use Rattle.local.specs.declared.RoundsDone.{RoundsDone}
-use Rattle.local.specs.declared.Region.{Region}
 
 -- ---- the counts
 

@@ -1,3 +1,2 @@
 -- The definitions of what local's functions ask and leave. Definitions only.
-pub mod Region
 pub mod Extending

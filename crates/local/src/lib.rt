@@ -2,21 +2,17 @@
 // on labelled rows and columns, and of four corner blocks, by i then j. Each is tried where the fit on its four nearest labels maps it to.
 
 ghost use mathlib.Core.Path.{_≡_};
-ghost use mathlib.Core.Bool.{_&&_, cond};
-ghost use Prim.Native.Nat.{ℕ, _/_, _%_, _+_, _<_, _≤_};
-ghost use lib.ListN.{length, take};
-ghost use lib.Ieee.{binary32, ofBits, lt};
+ghost use Prim.Native.Nat.{_+_, _<_};
+ghost use lib.ListN.{length};
 ghost use Rattle.extension_common.specs.TryCell.{cornersOf, tryAt};
 ghost use Rattle.homography.specs.Fit.{applied};
 ghost use Rattle.passes.specs.Outcome.{done};
 ghost use Rattle.passes.specs.Grow.{tolerancesOf};
-ghost use Rattle.passes.specs.Fill.{nearI, nearJ};
-ghost use Rattle.passes.specs.Local.{depthOf, pastI, pastJ, cellPoint, worst, recorded, recordedAll, localSearch, gateOf, localWith, localVisit, localRound, localFrom, localAfter};
+ghost use Rattle.passes.specs.Local.{depthOf, cellPoint, localSearch, gateOf, localWith, localVisit, localRound, localFrom, localAfter};
 ghost use Rattle.passes.specs.Step.{CornerLists, Rooms, localStep, localOut, localLeaves};
 ghost use Rattle.arguments.specs.Arguments.{lent};
 ghost use Rattle.arguments.specs.Accepted.{Accepted};
-ghost use Rattle.region.specs.Small.{SmallBounds};
-ghost use Rattle.local.specs.Region.{Listed, Lines, RegionAsked, RegionFound, Telling, marked, regionAt};
+ghost use Rattle.region.specs.Region.{regionOf};
 ghost use Rattle.local.specs.Extending.{visits, noCandidateCounted, ambiguousCounted, edgeCounted, countsChanged, stateOf, Left, Trying, Writable, Wrote, Looking, lookedAt, RoundAsked, noProgress, startOf, RoundsAsked, RoundsLeft, statsOf};
 use arguments::Checked;
 use arguments::LocalExtensionParams;
@@ -25,7 +21,6 @@ use arguments::Settings;
 use extension_common::ChoiceRule;
 use extension_common::Search;
 use extension_common::TryCellResult;
-use labels::Bounds;
 use labels::LabelBox;
 use passes::Counts;
 use passes::LargestResidual;
@@ -47,13 +42,6 @@ struct RoundsDone {
     rounds: usize,
 }
 
-// What a round's cells are told by: the label box, and the rows and the columns that have a label, 1 for each such line.
-struct Region {
-    around: LabelBox,
-    rows: [u8; 128],
-    columns: [u8; 128],
-}
-
 // Depth 0 acts as 1.
 fn depth_of(params: LocalExtensionParams) -> u32
     ensures { λ r. ⌜ r ≡ depthOf params ⌝ }
@@ -62,160 +50,6 @@ fn depth_of(params: LocalExtensionParams) -> u32
         return 1;
     }
     params.extend_depth
-}
-
-// The rows of the first `count` places.
-fn rows_of(places: &[u16; 1024], count: usize) -> [u8; 128]
-    requires { ⌜ Listed (now places) count ⌝ }
-    ensures { λ r. ⌜ Lines (λ p. p % 128) (take count (now (places .entry))) r ⌝ }
-{
-    let mut rows = [0u8; 128];
-    let mut k = 0usize;
-    while k < count {
-        rows[supports::wide(places[k]) % 128] = 1;
-        k += 1;
-    }
-    rows
-}
-
-// The columns of the first `count` places.
-fn columns_of(places: &[u16; 1024], count: usize) -> [u8; 128]
-    requires { ⌜ Listed (now places) count ⌝ }
-    ensures { λ r. ⌜ Lines (λ p. p / 128) (take count (now (places .entry))) r ⌝ }
-{
-    let mut columns = [0u8; 128];
-    let mut k = 0usize;
-    while k < count {
-        columns[supports::wide(places[k]) / 128] = 1;
-        k += 1;
-    }
-    columns
-}
-
-// What the cells of a round are told by, at its start (the Rust's `enumerate_extension_cells_deep` lists them instead).
-fn region_of(sheet: &[u16], places: &[u16; 1024], count: usize) -> Region
-    requires { ⌜ RegionAsked (now sheet) (now places) count ⌝ }
-    ensures { λ r. ⌜ RegionFound (now (sheet .entry)) r ⌝ }
-{
-    let around = labels::label_box(sheet);
-    let rows = rows_of(places, count);
-    let columns = columns_of(places, count);
-    Region {
-        around,
-        rows,
-        columns,
-    }
-}
-
-// Whether a cell is past the bounds by i, by at most `depth` lines.
-fn is_past_i(b: Bounds, depth: u32, c: Cell) -> bool
-    requires { ⌜ SmallBounds b × (depth ≤ 64) ⌝ }
-    ensures { λ r. ⌜ r ≡ pastI depth b c ⌝ }
-{
-    if !region::is_near_i(b, depth, c) {
-        return false;
-    }
-    !region::is_near_i(b, 0, c)
-}
-
-// Whether a cell is past the bounds by j, by at most `depth` lines.
-fn is_past_j(b: Bounds, depth: u32, c: Cell) -> bool
-    requires { ⌜ SmallBounds b × (depth ≤ 64) ⌝ }
-    ensures { λ r. ⌜ r ≡ pastJ depth b c ⌝ }
-{
-    if !region::is_near_j(b, depth, c) {
-        return false;
-    }
-    !region::is_near_j(b, 0, c)
-}
-
-// Whether a cell lies in the box.
-fn is_inside(b: Bounds, c: Cell) -> bool
-    requires { ⌜ SmallBounds b ⌝ }
-    ensures { λ r. ⌜ r ≡ (nearI 0 b c && nearJ 0 b c) ⌝ }
-{
-    if !region::is_near_i(b, 0, c) {
-        return false;
-    }
-    region::is_near_j(b, 0, c)
-}
-
-// Whether a line has a label.
-fn is_marked(lines: [u8; 128], line: usize) -> bool
-    requires { ⌜ line < 128 ⌝ }
-    ensures { λ r. ⌜ r ≡ marked lines line ⌝ }
-{
-    lines[line] == 1
-}
-
-// Whether a place's cell is one of a round, if it is unlabelled: it lies in the box, in a strip of the depth on a row or a column that has a
-// label, or in a corner block.
-fn is_local_cell(region: Region, place: usize, depth: u32) -> bool
-    requires { ⌜ Telling region place depth ⌝ }
-    ensures { λ r. ⌜ r ≡ regionAt depth region place ⌝ }
-{
-    let around = region.around;
-    let LabelBox::Around(b) = around else {
-        return false;
-    };
-    let c = sheet::cell_of(place);
-    if is_inside(b, c) {
-        return true;
-    }
-    if is_past_i(b, depth, c) {
-        let rows = region.rows;
-        if is_marked(rows, place % 128) {
-            return true;
-        }
-        return is_past_j(b, depth, c);
-    }
-    if is_past_j(b, depth, c) {
-        let columns = region.columns;
-        return is_marked(columns, place / 128);
-    }
-    false
-}
-
-// The larger of two numbers.
-fn larger(m: f32, r: f32) -> f32
-    ensures { λ x. ⌜ x ≡ cond (lt m r) r m ⌝ }
-{
-    if m < r {
-        return r;
-    }
-    m
-}
-
-// The largest of four residuals, from 0 on.
-fn worst_of(residuals: [f32; 4]) -> f32
-    requires { ⌜ length residuals ≡ 4 ⌝ }
-    ensures { λ r. ⌜ r ≡ worst (ofBits binary32 0) residuals ⌝ }
-{
-    let first = larger(0.0, residuals[0]);
-    let second = larger(first, residuals[1]);
-    let third = larger(second, residuals[2]);
-    larger(third, residuals[3])
-}
-
-// One residual more is recorded.
-fn record_residual(largest: LargestResidual, r: f32) -> LargestResidual
-    ensures { λ x. ⌜ x ≡ recorded largest r ⌝ }
-{
-    match largest {
-        LargestResidual::Nothing => LargestResidual::Residual(r),
-        LargestResidual::Residual(m) => LargestResidual::Residual(larger(m, r)),
-    }
-}
-
-// Four residuals are recorded.
-fn record_residuals(largest: LargestResidual, residuals: [f32; 4]) -> LargestResidual
-    requires { ⌜ length residuals ≡ 4 ⌝ }
-    ensures { λ x. ⌜ x ≡ recordedAll largest residuals ⌝ }
-{
-    let first = record_residual(largest, residuals[0]);
-    let second = record_residual(first, residuals[1]);
-    let third = record_residual(second, residuals[2]);
-    record_residual(third, residuals[3])
 }
 
 // How local searches a cell: search times cell size as the radius, and fill's and local's rule of choice.
@@ -400,13 +234,13 @@ fn try_local_cell(
     let residuals = fit.residuals;
     let counts = at.counts;
     let before = at.residual;
-    let residual = record_residuals(before, residuals);
+    let residual = residuals::record_residuals(before, residuals);
     let next = LocalProgress {
         counts,
         residual,
         labels: at.labels,
     };
-    if gate_of(settings, params) < worst_of(residuals) {
+    if gate_of(settings, params) < residuals::worst_of(residuals) {
         return next;
     }
     try_fitted_cell(
@@ -435,15 +269,17 @@ fn local_place(
     used: &mut [u8; 1024],
     places: &mut [u16; 1024],
     at: LocalProgress,
-    region: Region,
+    around: LabelBox,
+    rows: &[u8; 128],
+    columns: &[u8; 128],
     place: usize,
     settings: Settings,
     params: LocalExtensionParams,
 ) -> LocalProgress
-    requires { ⌜ Looking (now xs) (now ys) (now pitches) (now sheet) (now attached) (now used) (now places) at region place params ⌝ }
-    ensures { λ r. ⌜ Left (lookedAt (cornersOf (now (xs .entry)) (now (ys .entry)) (now (pitches .entry))) settings params region place (stateOf (now (sheet .entry)) (now (attached .entry)) at)) (now (xs .entry)) (now (ys .entry)) (now (pitches .entry)) (now (attached .entry)) (now (sheet .exit)) (now (attached .exit)) (now (used .exit)) (now (places .exit)) r ⌝ }
+    requires { ⌜ Looking (now xs) (now ys) (now pitches) (now sheet) (now attached) (now used) (now places) at (regionOf around (now rows) (now columns)) place params ⌝ }
+    ensures { λ r. ⌜ Left (lookedAt (cornersOf (now (xs .entry)) (now (ys .entry)) (now (pitches .entry))) settings params (regionOf around (now (rows .entry)) (now (columns .entry))) place (stateOf (now (sheet .entry)) (now (attached .entry)) at)) (now (xs .entry)) (now (ys .entry)) (now (pitches .entry)) (now (attached .entry)) (now (sheet .exit)) (now (attached .exit)) (now (used .exit)) (now (places .exit)) r ⌝ }
 {
-    if !is_local_cell(region, place, depth_of(params)) {
+    if !region::is_local_cell(around, rows, columns, place, depth_of(params)) {
         return at;
     }
     if labels::is_labelled(sheet[place]) {
@@ -480,7 +316,9 @@ fn local_round(
     requires { ⌜ RoundAsked (now xs) (now ys) (now pitches) (now sheet) (now attached) (now used) (now places) at params ⌝ }
     ensures { λ r. ⌜ Left (localRound (cornersOf (now (xs .entry)) (now (ys .entry)) (now (pitches .entry))) settings params (stateOf (now (sheet .entry)) (now (attached .entry)) at)) (now (xs .entry)) (now (ys .entry)) (now (pitches .entry)) (now (attached .entry)) (now (sheet .exit)) (now (attached .exit)) (now (used .exit)) (now (places .exit)) r ⌝ }
 {
-    let region = region_of(sheet, places, at.labels);
+    let around = labels::label_box(sheet);
+    let rows = region::rows_of(places, at.labels);
+    let columns = region::columns_of(places, at.labels);
     let mut reached = at;
     let mut place = 0usize;
     while place < 16384 {
@@ -493,7 +331,9 @@ fn local_round(
             used,
             places,
             reached,
-            region,
+            around,
+            &rows,
+            &columns,
             place,
             settings,
             params,

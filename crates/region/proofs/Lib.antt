@@ -1,2 +1,3 @@
--- Laws of the bounds: their ends as the machine has them, and that a label box has small ones.
+-- Laws of the bounds: their ends as the machine has them, and that a label box has small ones; and of the cells of a round of local.
 pub mod Near
+pub mod Told

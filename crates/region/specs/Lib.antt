@@ -1,2 +1,3 @@
--- The definitions of the bounds whose sums the machine holds. Definitions only.
+-- The definitions of the bounds whose sums the machine holds, and of the cells of a round of local as the code tells them. Definitions only.
 pub mod Small
+pub mod Region

@@ -1,11 +1,16 @@
-// Whether a cell lies inside the label box, or at most some lines past it, by i and by j: what fill's and local's cells of a round are told by
-// (01, "Sheet").
+// Which cells a round of fill or of local has (01, "Sheet"): whether a cell lies inside the label box, or at most some lines past it, by i and by
+// j; and for local the rows and columns that have a label, and a place told by these and by the box.
 
 ghost use mathlib.Core.Path.{_≡_};
-ghost use Prim.Native.Nat.{_≤_};
+ghost use mathlib.Core.Bool.{_&&_};
+ghost use Prim.Native.Nat.{_/_, _%_, _<_, _≤_};
+ghost use lib.ListN.{take};
 ghost use Rattle.passes.specs.Fill.{nearI, nearJ};
+ghost use Rattle.passes.specs.Local.{pastI, pastJ};
 ghost use Rattle.region.specs.Small.{SmallBounds};
+ghost use Rattle.region.specs.Region.{Listed, Lines, Telling, marked, regionOf, regionAt};
 use labels::Bounds;
+use labels::LabelBox;
 use sheet::Cell;
 
 // Whether a cell lies inside the bounds by i, or at most `past` lines beyond them.
@@ -34,4 +39,111 @@ pub fn is_near_j(b: Bounds, past: u32, c: Cell) -> bool
         return false;
     }
     c.j <= high
+}
+
+// A place of a list as a number.
+fn wide(place: u16) -> usize
+    ensures { λ r. ⌜ r ≡ place ⌝ }
+{
+    place as usize
+}
+
+// The rows of the first `count` places.
+pub fn rows_of(places: &[u16; 1024], count: usize) -> [u8; 128]
+    requires { ⌜ Listed (now places) count ⌝ }
+    ensures { λ r. ⌜ Lines (λ p. p % 128) (take count (now (places .entry))) r ⌝ }
+{
+    let mut rows = [0u8; 128];
+    let mut k = 0usize;
+    while k < count {
+        rows[wide(places[k]) % 128] = 1;
+        k += 1;
+    }
+    rows
+}
+
+// The columns of the first `count` places.
+pub fn columns_of(places: &[u16; 1024], count: usize) -> [u8; 128]
+    requires { ⌜ Listed (now places) count ⌝ }
+    ensures { λ r. ⌜ Lines (λ p. p / 128) (take count (now (places .entry))) r ⌝ }
+{
+    let mut columns = [0u8; 128];
+    let mut k = 0usize;
+    while k < count {
+        columns[wide(places[k]) / 128] = 1;
+        k += 1;
+    }
+    columns
+}
+
+// Whether a cell is past the bounds by i, by at most `depth` lines.
+fn is_past_i(b: Bounds, depth: u32, c: Cell) -> bool
+    requires { ⌜ SmallBounds b × (depth ≤ 64) ⌝ }
+    ensures { λ r. ⌜ r ≡ pastI depth b c ⌝ }
+{
+    if !is_near_i(b, depth, c) {
+        return false;
+    }
+    !is_near_i(b, 0, c)
+}
+
+// Whether a cell is past the bounds by j, by at most `depth` lines.
+fn is_past_j(b: Bounds, depth: u32, c: Cell) -> bool
+    requires { ⌜ SmallBounds b × (depth ≤ 64) ⌝ }
+    ensures { λ r. ⌜ r ≡ pastJ depth b c ⌝ }
+{
+    if !is_near_j(b, depth, c) {
+        return false;
+    }
+    !is_near_j(b, 0, c)
+}
+
+// Whether a cell lies in the box.
+fn is_inside(b: Bounds, c: Cell) -> bool
+    requires { ⌜ SmallBounds b ⌝ }
+    ensures { λ r. ⌜ r ≡ (nearI 0 b c && nearJ 0 b c) ⌝ }
+{
+    if !is_near_i(b, 0, c) {
+        return false;
+    }
+    is_near_j(b, 0, c)
+}
+
+// Whether a line has a label.
+fn is_marked(lines: &[u8; 128], line: usize) -> bool
+    requires { ⌜ line < 128 ⌝ }
+    ensures { λ r. ⌜ r ≡ marked (now (lines .entry)) line ⌝ }
+{
+    lines[line] == 1
+}
+
+// Whether a place's cell is one of a round, if it is unlabelled: it lies in the box, in a strip of the depth on a row or a column that has a
+// label, or in a corner block.
+pub fn is_local_cell(
+    around: LabelBox,
+    rows: &[u8; 128],
+    columns: &[u8; 128],
+    place: usize,
+    depth: u32,
+) -> bool
+    requires { ⌜ Telling (regionOf around (now rows) (now columns)) place depth ⌝ }
+    ensures { λ r. ⌜ r ≡ regionAt depth (regionOf around (now (rows .entry)) (now (columns .entry))) place ⌝ }
+{
+    let LabelBox::Around(b) = around else {
+        return false;
+    };
+    let c = sheet::cell_of(place);
+    if is_inside(b, c) {
+        return true;
+    }
+    if is_past_i(b, depth, c) {
+        if is_marked(rows, place % 128) {
+            return true;
+        }
+        return is_past_j(b, depth, c);
+    }
+    if is_past_j(b, depth, c) {
+        return is_marked(columns, place / 128);
+    }
+    false
 }

@@ -1,5 +1,5 @@
 -- `local::depth_of` meets its contract: by its test. Assumes nothing.
-use Rattle.local.proofs.Told.{depth-none, depth-some}
+use Rattle.local.proofs.Depth.{depth-none, depth-some}
 use Rattle.local.proofs.depth_of.Statement.{statement}
 use Rattle.local.proofs.depth_of.Tie as tie
 

@@ -2,7 +2,7 @@
 use Prim.Native.Nat.{ℕ}
 use borrow.Author.Needs.{needs}
 use lib.ListN.{length-replicate}
-use Rattle.local.proofs.Told.{depth-in}
+use Rattle.local.proofs.Depth.{depth-in}
 use Rattle.local.proofs.Rounds.{accepted-gatherable, accepted-asked, pass-few, pass-done}
 use Rattle.local.proofs.local_accepted.Statement.{statement}
 use Rattle.local.proofs.local_accepted.Tie as tie

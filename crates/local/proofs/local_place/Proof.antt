@@ -1,20 +1,19 @@
 -- `local::local_place` meets its contract: by the region's test and by the label that the place has now. Assumes nothing.
-use mathlib.Core.Path.{_≡_, sym, ap, _∙_}
-use Prim.Native.Nat.{ℕ}
+use mathlib.Core.Path.{_≡_, sym, _∙_}
 use borrow.Author.Tests.{not-true, not-false}
 use borrow.Author.Needs.{needs}
 use Rattle.sheet.proofs.Laws.{cell-on}
 use Rattle.labels.proofs.Labelled.{label-of-place, unlabelled-none}
 use Rattle.passes.specs.Local.{depthOf}
-use Rattle.local.specs.Region.{regionAt}
+use Rattle.region.specs.Region.{regionOf, regionAt}
 use Rattle.local.proofs.Visit.{untouched, left-as}
-use Rattle.local.proofs.Walk.{looked-out, looked-labelled, looked-bare}
+use Rattle.local.proofs.Walk.{told-at, looked-out, looked-labelled, looked-bare}
 use Rattle.local.proofs.local_place.Statement.{statement}
 use Rattle.local.proofs.local_place.Tie as tie
 
 -- what the region's test said of the place
-told : (c : tie.After-is-local-cell) → let a = c .before .before .before .before .before .before .before .args in c .is-local-cell .result ≡ regionAt (depthOf (a .params)) (a .region) (a .place)
-told c = let a = c .before .before .before .before .before .before .before .args in c .is-local-cell .ensures ∙ ap (λ (d : ℕ). regionAt d (a .region) (a .place)) (c .before .depth-of .ensures)
+told : (c : tie.After-is-local-cell) → let a = c .before .before .before .before .before .before .before .args in c .is-local-cell .result ≡ regionAt (depthOf (a .params)) (regionOf (a .around) (a .rows .now) (a .columns .now)) (a .place)
+told c = told-at _ _ _ (c .before .depth-of .ensures) (c .is-local-cell .ensures)
 
 depth-of-requires : tie.Need-depth-of-requires
 depth-of-requires c κs = search needs

@@ -14,8 +14,7 @@ use Rattle.labels.specs.Box.{boxOf}
 use Rattle.labels.specs.declared.LabelBox.{LabelBox}
 use Rattle.passes.specs.Fill.{nearI, nearJ}
 use Rattle.passes.specs.Local.{pastI, pastJ}
 use Rattle.region.specs.Small.{SmallBox}
-use Rattle.local.specs.declared.Region.{Region}
 
 -- ---- the lines that have a label
 
@@ -37,11 +36,14 @@ pub record Lines (line : ℕ → ℕ) (ps marks : List ℕ) : Type 0 where
 
 -- ---- the region
 
--- a sheet that is long enough, and its labelled places at the front of an array
-pub record RegionAsked (sheet places : List ℕ) (count : ℕ) : Type 0 where
-  pub long : 16384 ≤ length sheet
-  pub listed : Listed places count
-  pub places-are : take count places ≡ labelledPlaces sheet
+-- what the cells of a round are told by: the label box, and the rows and the columns that have a label, 1 for each such line
+pub record Region : Type 0 where
+  pub around : LabelBox
+  pub rows : List ℕ
+  pub columns : List ℕ
+
+abbrev pub regionOf : LabelBox → List ℕ → List ℕ → Region
+regionOf a r c = record { around = a; rows = r; columns = c }
 
 -- the label box of a sheet, and its labelled rows and columns
 pub record RegionFound (sheet : List ℕ) (region : Region) : Type 0 where

@@ -1,8 +1,8 @@
--- `local::record_residual` meets its contract: by what was recorded before. Assumes nothing.
+-- `residuals::record_residual` meets its contract: by what was recorded before. Assumes nothing.
 use borrow.Author.Needs.{needs}
 use Rattle.passes.specs.Local.{recorded}
-use Rattle.local.proofs.record_residual.Statement.{statement}
-use Rattle.local.proofs.record_residual.Tie as tie
+use Rattle.residuals.proofs.record_residual.Statement.{statement}
+use Rattle.residuals.proofs.record_residual.Tie as tie
 
 enum-told : tie.Need-enum-told
 enum-told c = search needs

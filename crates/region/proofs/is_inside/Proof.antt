@@ -1,10 +1,10 @@
--- `local::is_inside` meets its contract: by its two tests. Assumes nothing.
+-- `region::is_inside` meets its contract: by its two tests. Assumes nothing.
 use mathlib.Core.Path.{sym, _∙_}
 use borrow.Author.Tests.{not-true, not-false}
 use borrow.Author.Needs.{needs}
 use Rattle.region.proofs.Near.{first-fails, second-says}
-use Rattle.local.proofs.is_inside.Statement.{statement}
-use Rattle.local.proofs.is_inside.Tie as tie
+use Rattle.region.proofs.is_inside.Statement.{statement}
+use Rattle.region.proofs.is_inside.Tie as tie
 
 is-near-i-requires : tie.Need-is-near-i-requires
 is-near-i-requires c κs = search needs

@@ -1,6 +1,6 @@
--- `local::larger` meets its contract: by its test. Assumes nothing.
-use Rattle.local.proofs.larger.Statement.{statement}
-use Rattle.local.proofs.larger.Tie as tie
+-- `residuals::larger` meets its contract: by its test. Assumes nothing.
+use Rattle.residuals.proofs.larger.Statement.{statement}
+use Rattle.residuals.proofs.larger.Tie as tie
 
 returns : tie.Need-returns
 returns c = rw (c .if1 .taken)

@@ -19,28 +19,9 @@ use Rattle.labels.specs.Box.{boxOf}
 use Rattle.labels.specs.declared.Bounds.{Bounds}
 use Rattle.labels.specs.declared.LabelBox.{LabelBox}
 use Rattle.labels.proofs.Labelled.{places-in}
-use Rattle.arguments.specs.declared.LocalExtensionParams.{LocalExtensionParams}
 use Rattle.passes.specs.Fill.{nearI, nearJ}
-use Rattle.passes.specs.Local.{depthOf, rowAmong, columnAmong, pastI, pastJ, localRegion}
-use Rattle.supports.proofs.Nearest.{AllBelow}
-use Rattle.local.specs.Region.{Listed, onLine, Lines, RegionFound, marked, regionAround, regionAt}
-use Rattle.local.specs.declared.Region.{Region}
-
--- ---- the depth
-
-module _ (p : LocalExtensionParams) where
-  pub depth-none : p .«extend_depth» ≡ 0 → 1 ≡ depthOf p
-  unfolding depthOf
-  depth-none e = rw e
-
-  pub depth-some : (p .«extend_depth» ≡ 0 → ⊥) → p .«extend_depth» ≡ depthOf p
-  unfolding depthOf
-  depth-some e = omega arith
-
-  -- of an accepted call it is small
-  pub depth-in : p .«extend_depth» ≤ 4 → depthOf p ≤ 64
-  unfolding depthOf
-  depth-in h = omega arith
+use Rattle.passes.specs.Local.{rowAmong, columnAmong, pastI, pastJ, localRegion}
+use Rattle.region.specs.Region.{Listed, onLine, Lines, Region, RegionFound, marked, regionAround, regionAt}
 
 -- ---- the lines of some places
 
@@ -146,13 +127,17 @@ column-line : (p q : ℕ) → p < 16384 → q < 16384 → eqZ (cellOf p .i) (cel
 unfolding cellOf
 column-line p q g h = sym (line-eq (cellOf p .i) (cellOf q .i) (on-i (cellOf p) (cell-on p g)) (on-i (cellOf q) (cell-on q h))) ∙ ap₂ eqb (unlined (p / 128) (omega arith) .line) (unlined (q / 128) (omega arith) .line)
 
+-- places of the sheet
+record AllBelow (ps : List ℕ) : Type 0 where
+  below : (a : ℕ) → a < length ps → getD ps a 0 < 16384
+
 module _ (q : ℕ) (h : q < 16384) where
-  rows-among : (ps : List ℕ) → AllBelow 16384 ps → rowAmong ps (cellOf q .j) ≡ onLine (λ p. p % 128) (q % 128) ps
+  rows-among : (ps : List ℕ) → AllBelow ps → rowAmong ps (cellOf q .j) ≡ onLine (λ p. p % 128) (q % 128) ps
   unfolding rowAmong onLine
   rows-among [] b = refl
   rows-among (p ∷ ps) b = ap₂ _||_ (row-line p q (b .below 0 (omega arith)) h) (rows-among ps (record { below = λ a l. b .below (suc a) (omega arith) }))
 
-  columns-among : (ps : List ℕ) → AllBelow 16384 ps → columnAmong ps (cellOf q .i) ≡ onLine (λ p. p / 128) (q / 128) ps
+  columns-among : (ps : List ℕ) → AllBelow ps → columnAmong ps (cellOf q .i) ≡ onLine (λ p. p / 128) (q / 128) ps
   unfolding columnAmong onLine
   columns-among [] b = refl
   columns-among (p ∷ ps) b = ap₂ _||_ (column-line p q (b .below 0 (omega arith)) h) (columns-among ps (record { below = λ a l. b .below (suc a) (omega arith) }))
@@ -168,7 +153,7 @@ pub region-is : (depth : ℕ) (sheet : List ℕ) (region : Region) (q : ℕ) →
 unfolding regionAround localRegion
 region-is depth sheet region q h f = rw (f .around-is) (go (boxOf sheet))
   where
-    below : AllBelow 16384 (labelledPlaces sheet)
+    below : AllBelow (labelledPlaces sheet)
     below = record { below = places-in sheet }
 
     row : marked (region .rows) (q % 128) ≡ rowAmong (labelledPlaces sheet) (cellOf q .j)

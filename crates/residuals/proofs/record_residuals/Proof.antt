@@ -1,8 +1,8 @@
--- `local::record_residuals` meets its contract: the four one after the other. Assumes nothing.
+-- `residuals::record_residuals` meets its contract: the four one after the other. Assumes nothing.
 use borrow.Author.Needs.{needs}
-use Rattle.local.proofs.Residuals.{recorded-four}
-use Rattle.local.proofs.record_residuals.Statement.{statement}
-use Rattle.local.proofs.record_residuals.Tie as tie
+use Rattle.residuals.proofs.Residuals.{recorded-four}
+use Rattle.residuals.proofs.record_residuals.Statement.{statement}
+use Rattle.residuals.proofs.record_residuals.Tie as tie
 
 array-read-record-residual : tie.Need-array-read-record-residual
 array-read-record-residual c = search needs

@@ -1,8 +1,8 @@
--- `local::worst_of` meets its contract: the four one after the other. Assumes nothing.
+-- `residuals::worst_of` meets its contract: the four one after the other. Assumes nothing.
 use borrow.Author.Needs.{needs}
-use Rattle.local.proofs.Residuals.{worst-four}
-use Rattle.local.proofs.worst_of.Statement.{statement}
-use Rattle.local.proofs.worst_of.Tie as tie
+use Rattle.residuals.proofs.Residuals.{worst-four}
+use Rattle.residuals.proofs.worst_of.Statement.{statement}
+use Rattle.residuals.proofs.worst_of.Tie as tie
 
 array-read-larger : tie.Need-array-read-larger
 array-read-larger c = search needs

@@ -1,0 +1,2 @@
+-- Laws of four residuals.
+pub mod Residuals
