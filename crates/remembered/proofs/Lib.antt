@@ -1,0 +1,2 @@
+-- Laws of what local remembers of a cell.
+pub mod Words

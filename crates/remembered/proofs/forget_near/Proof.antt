@@ -1,0 +1,59 @@
+-- `remembered::forget_near` meets its contract: at each place the words before it are done. Assumes nothing.
+use Prim.Native.Nat.{_-_}
+use native.Mathlib.Omega.{arith}
+use Rattle.remembered.proofs.Words.{Forgetting, forgetting-start, forgetting-more, forgetting-end}
+use Rattle.remembered.proofs.forget_near.Statement.{statement}
+use Rattle.remembered.proofs.forget_near.Tie as tie
+
+abbrev Inv-loop : tie.InvT-loop
+Inv-loop memory₀ c place₀ memory place = Forgetting memory₀ c memory place
+
+abbrev μ-loop : tie.MeasureT-loop
+μ-loop memory₀ c place₀ memory place = 16384 - place
+
+loop-holds : tie.Need-loop-holds Inv-loop μ-loop
+loop-holds c = forgetting-start _ _
+
+mul-forget-if-near : tie.Need-mul-forget-if-near Inv-loop μ-loop
+mul-forget-if-near c = omega arith
+
+element-copy-out-forget-if-near : tie.Need-element-copy-out-forget-if-near Inv-loop μ-loop
+element-copy-out-forget-if-near c = omega arith
+
+forget-if-near-requires : tie.Need-forget-if-near-requires Inv-loop μ-loop
+forget-if-near-requires c κs = (c .before .loop-test .taken, c .before .before .before .pre .1)
+
+mul-memory : tie.Need-mul-memory Inv-loop μ-loop
+mul-memory c = omega arith
+
+element-write-memory : tie.Need-element-write-memory Inv-loop μ-loop
+element-write-memory c = omega arith
+
+add-place : tie.Need-add-place Inv-loop μ-loop
+add-place c = omega arith
+
+loop-less : tie.Need-loop-less Inv-loop μ-loop
+loop-less c = omega arith
+
+loop-again : tie.Need-loop-again Inv-loop μ-loop
+loop-again c = forgetting-more _ _ _ _ (c .before .before .before .loop .inv) (c .before .before .before .before .pre .0) (c .before .before .loop-test .taken) (c .forget-if-near .ensures)
+
+returns : tie.Need-returns Inv-loop μ-loop
+returns c = forgetting-end _ _ _ _ (c .before .loop .inv) (c .loop-test .left)
+
+pub forget-near-spec : {M : Type 1} → statement M
+forget-near-spec =
+    tie.close
+    (tie.spec
+    Inv-loop
+    μ-loop
+    loop-holds
+    mul-forget-if-near
+    element-copy-out-forget-if-near
+    forget-if-near-requires
+    mul-memory
+    element-write-memory
+    add-place
+    loop-less
+    loop-again
+    returns)
