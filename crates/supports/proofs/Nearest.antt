@@ -14,7 +14,7 @@ use Rattle.sheet.specs.declared.Cell.{Cell}
 use Rattle.sheet.proofs.Laws.{cell-on, place-cell, place-rises, line-i, line-j, abs-sub}
 use Rattle.labels.proofs.Below.{no-both}
 use Rattle.passes.specs.Local.{reachOf, nearer, placed, byReach}
-use Rattle.supports.specs.Nearest.{supportAt, nothingKept, keptOf, placesOf, ahead, InOrder, MoreKept, Nearby, filledUp, Keeping}
+use Rattle.supports.specs.Nearest.{supportAt, nothingKept, keptOf, placesOf, ahead, InOrder, MoreKept, Nearby, filledUp, Keeping, Reached}
 use Rattle.supports.specs.Fitted.{Pictured}
 use Rattle.supports.specs.declared.Support.{Support}
 use Rattle.supports.specs.declared.Supports.{Supports}
@@ -273,3 +273,42 @@ nearest-pictured {places} {count} {c} {s} asked e =
     let n : length (take count places) ≡ count = length-take-le count places (omega (arith, asked .size, asked .few)) in
     let b : AllBelow 16384 (take count places) = record { below = λ a l. let m : a < count = omega arith in rw (getD-take count places a 0 m) (asked .below a m) } in
     under-four s (rw e (under-take 16384 4 (byReach c (take count places)) (under-byReach 16384 c (take count places) b)))
+
+-- the reaches of four that are kept are those of their places
+record Measured (c : Cell) (s : Supports) : Type 0 where
+  first-is : s .first .reach ≡ reachOf c (s .first .place)
+  second-is : s .second .reach ≡ reachOf c (s .second .place)
+  third-is : s .third .reach ≡ reachOf c (s .third .place)
+  fourth-is : s .fourth .reach ≡ reachOf c (s .fourth .place)
+
+measured : (c : Cell) (s : Supports) (l : List ℕ) → 4 ≤ length l → keptOf s ≡ take 4 (filledUp c l) → Measured c s
+measured c s [] h e = absurd (omega arith)
+measured c s (p ∷ []) h e = absurd (omega arith)
+measured c s (p ∷ q ∷ []) h e = absurd (omega arith)
+measured c s (p ∷ q ∷ r ∷ []) h e = absurd (omega arith)
+measured c s (p ∷ q ∷ r ∷ t ∷ ts) h e =
+    let a : s .first ≡ supportAt c p = cc in
+    let b : s .second ≡ supportAt c q = cc in
+    let d : s .third ≡ supportAt c r = cc in
+    let f : s .fourth ≡ supportAt c t = cc in
+    record { first-is = rw a; second-is = rw b; third-is = rw d; fourth-is = rw f }
+
+module _ (places : List ℕ) (count : ℕ) (c : Cell) (asked : Nearby places count c) (kept : Supports) (k : ℕ) (g : Keeping places count c kept k) where
+  pub keeping-reached : count ≤ k → Reached c kept
+  keeping-reached h =
+      let e : k ≡ count = omega (arith, g .upto) in
+      let n : length (byReach c (take k places)) ≡ count = byReach-length c (take k places) ∙ length-take-le k places (omega (arith, asked .size, asked .few)) ∙ e in
+      let m = measured c kept (byReach c (take k places)) (omega (arith, n, asked .four)) (g .kept-are) in
+      let s = nearest-pictured {s = kept} asked (keeping-end places count c asked kept k g h) in
+      let o = g .in-order in
+      record {
+        first-near = omega (arith, m .first-is, o .first-second, o .second-third, o .third-fourth);
+        second-near = omega (arith, m .second-is, o .second-third, o .third-fourth);
+        third-near = omega (arith, m .third-is, o .third-fourth);
+        fourth-near = omega (arith, m .fourth-is);
+        small = omega (arith, m .fourth-is, reach-small c (kept .fourth .place) (asked .on) (s .fourth-below));
+      }
+
+  -- the four nearest, and how far they are
+  pub keeping-both : count ≤ k → (placesOf kept ≡ take 4 (byReach c (take count places))) × Reached c kept
+  keeping-both h = (keeping-end places count c asked kept k g h, keeping-reached h)

@@ -103,6 +103,14 @@ pub record Keeping (places : List ℕ) (count : ℕ) (c : Cell) (kept : Supports
   pub kept-are : keptOf kept ≡ take 4 (filledUp c (byReach c (take k places)))
   pub in-order : InOrder kept
 
+-- none of the four supports of a cell is farther than the fourth
+pub record Reached (c : Cell) (s : Supports) : Type 0 where
+  pub first-near : reachOf c (s .first .place) ≤ s .fourth .reach
+  pub second-near : reachOf c (s .second .place) ≤ s .fourth .reach
+  pub third-near : reachOf c (s .third .place) ≤ s .fourth .reach
+  pub fourth-near : reachOf c (s .fourth .place) ≤ s .fourth .reach
+  pub small : s .fourth .reach < 16384
+
 -- a shorter part of a span
 pub record Halved (span r : Span) : Type 0 where
   pub ordered : r .low ≤ r .high

@@ -10,7 +10,7 @@ ghost use Rattle.sheet.specs.Cells.{OnSheet, differenceOf, placeOf, cellOf};
 ghost use Rattle.sheet.specs.Corners.{cornerOf, seenOf, Given};
 ghost use Rattle.labels.specs.Labelled.{labelCount, labelledPlaces};
 ghost use Rattle.passes.specs.Local.{reachOf, byReach, cellPoint, picturedAt, residualOf, allFinite, none, localFit};
-ghost use Rattle.supports.specs.Nearest.{Listable, MoreListed, Gatherable, Gathered, supportAt, nothingKept, InOrder, MoreKept, EarlierKept, placesOf, Nearby, Keeping, Halved};
+ghost use Rattle.supports.specs.Nearest.{Listable, MoreListed, Gatherable, Gathered, supportAt, nothingKept, InOrder, MoreKept, EarlierKept, placesOf, Nearby, Keeping, Reached, Halved};
 ghost use Rattle.supports.specs.Fitted.{supportFitOf, pointsFit, Pictured};
 use sheet::Cell;
 use sheet::Position;
@@ -276,10 +276,10 @@ fn keep_before(places: &[u16; 1024], count: usize, from: usize, c: Cell) -> Supp
     kept
 }
 
-// The four nearest to a cell among at least four places, given in rising order: by |di| + |dj|, then i, then j.
+// The four nearest to a cell among at least four places, given in rising order: by |di| + |dj|, then i, then j. The fourth is the farthest.
 pub fn nearest_labelled_by_grid(places: &[u16; 1024], count: usize, c: Cell) -> Supports
     requires { ⌜ Nearby (now places) count c ⌝ }
-    ensures { λ r. ⌜ placesOf r ≡ take 4 (byReach c (take count (now (places .entry)))) ⌝ }
+    ensures { λ r. ⌜ (placesOf r ≡ take 4 (byReach c (take count (now (places .entry))))) × Reached c r ⌝ }
 {
     let row = row_of(c);
     let mut k = start_of(places, count, row);
