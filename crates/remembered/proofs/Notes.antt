@@ -71,3 +71,6 @@ known-notable w at h e = rw e (go (w % 4) (omega arith))
     go (suc zero) g = g
     go (suc (suc zero)) g = g
     go (suc (suc (suc k))) g = g
+
+pub told : (w : ℕ) (at : Position) {known : Known} → w < 65536 → known ≡ knownOf w at → (known ≡ knownOf w at) × Notable known
+told w at h e = (e, known-notable w at h e)

@@ -23,7 +23,7 @@ pub enum Known {
 
 // What a word says, with the prediction beside it.
 fn known_of(word: u16, at: Position) -> Known
-    ensures { λ r. ⌜ r ≡ knownOf word at ⌝ }
+    ensures { λ r. ⌜ (r ≡ knownOf word at) × Notable r ⌝ }
 {
     let kind = word % 4;
     let reach = (word / 4) as u32;
@@ -42,7 +42,7 @@ fn known_of(word: u16, at: Position) -> Known
 // What is known of a cell of the sheet.
 pub fn recall(memory: &[u16; 16384], predictions: &[f32; 32768], c: Cell) -> Known
     requires { ⌜ OnSheet c ⌝ }
-    ensures { λ r. ⌜ r ≡ entryOf (now (memory .entry)) (now (predictions .entry)) (placeOf c) ⌝ }
+    ensures { λ r. ⌜ (r ≡ entryOf (now (memory .entry)) (now (predictions .entry)) (placeOf c)) × Notable r ⌝ }
 {
     let place = sheet::place_of(c);
     let at = Position {

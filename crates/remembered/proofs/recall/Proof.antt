@@ -40,7 +40,7 @@ known-of-requires : tie.Need-known-of-requires
 known-of-requires c κs = search needs
 
 returns : tie.Need-returns
-returns c = entry-is (c .before .before .before .before .before .args .memory .now) (c .before .before .before .before .before .args .predictions .now) (c .before .before .before .before .place-of .ensures) (c .known-of .ensures)
+returns c = (entry-is (c .before .before .before .before .before .args .memory .now) (c .before .before .before .before .before .args .predictions .now) (c .before .before .before .before .place-of .ensures) (c .known-of .ensures .0), c .known-of .ensures .1)
 
 pub recall-spec : {M : Type 1} → statement M
 recall-spec =
