@@ -1,5 +1,5 @@
 -- Residuals that none is above: they stay so when more are recorded. Assumes nothing.
-use mathlib.Core.Path.{_≡_, refl, sym, _∙_}
+use mathlib.Core.Path.{_≡_, refl}
 use mathlib.Core.Bool.{Bool, true, false, cond}
 use mathlib.Core.List.{List, [], _∷_}
 use Prim.Native.Nat.{ℕ}
@@ -13,7 +13,7 @@ use Rattle.arguments.specs.declared.LocalExtensionParams.{LocalExtensionParams}
 use Rattle.extension_common.specs.TryCell.{Corners}
 use Rattle.passes.specs.Local.{LocalFit, recorded, recordedAll}
 use Rattle.passes.specs.declared.LargestResidual.{LargestResidual}
-use Rattle.remembered.specs.Remembered.{Covered, covered-none, covered-more, CoveredBy, nothing-yet, by, IdleFit, no-fit, above, Mapped, within, Missed, KnownAt, nothing, idle, unmatched, predicted, entryOf, Remembered}
+use Rattle.remembered.specs.Remembered.{Covered, covered-none, covered-more, CoveredBy, nothing-yet, by, IdleFit, no-fit, above, Mapped, within, KnownAt, nothing, idle, unmatched, predicted, Remembered}
 use Rattle.remembered.specs.declared.Known.{Known}
 
 -- ---- one residual more

@@ -1,7 +1,7 @@
 -- What comes to be known of a cell by its supports and the fit on them. Assumes nothing.
 use mathlib.Core.Path.{_≡_, refl, sym, subst}
 use mathlib.Core.Bool.{true, false}
-use mathlib.Core.List.{List, [], _∷_}
+use mathlib.Core.List.{List}
 use Prim.Native.Nat.{ℕ}
 use lib.Ieee.{Float, binary32, ofBits, lt}
 use Rattle.sheet.specs.declared.Cell.{Cell}

@@ -1,5 +1,5 @@
 -- What a visit of a cell does by what is known of the cell. Assumes nothing.
-use mathlib.Core.Path.{_≡_, refl, sym, ap, _∙_}
+use mathlib.Core.Path.{_≡_, refl, ap, _∙_}
 use mathlib.Core.Bool.{true, false}
 use mathlib.Core.List.{List}
 use Prim.Native.Nat.{ℕ}
@@ -13,7 +13,7 @@ use Rattle.arguments.specs.declared.LocalExtensionParams.{LocalExtensionParams}
 use Rattle.extension_common.specs.TryCell.{Corners, tryAt}
 use Rattle.extension_common.specs.declared.TryCellResult.{TryCellResult}
 use Rattle.passes.specs.Grow.{tolerancesOf}
-use Rattle.passes.specs.Local.{LocalState, supportsOf, cellPoint, LocalFit, none, fitted, localFit, worst, recordedAll, withResiduals, localSearch, gateOf, localWith, localAt, localVisit}
+use Rattle.passes.specs.Local.{LocalState, supportsOf, cellPoint, LocalFit, none, fitted, localFit, worst, withResiduals, localSearch, gateOf, localWith, localAt, localVisit}
 use Rattle.passes.specs.declared.LargestResidual.{LargestResidual}
 use Rattle.remembered.specs.Remembered.{fitAt, CoveredBy, IdleFit, no-fit, above, Mapped, within, KnownAt, idle, unmatched, predicted}
 use Rattle.remembered.specs.declared.Known.{Known}

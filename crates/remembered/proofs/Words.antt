@@ -1,12 +1,10 @@
 -- The words that say what is known of a cell: read, written and forgotten. Assumes nothing.
 use mathlib.Core.Path.{_≡_, refl, sym, ap, ap₂, _∙_}
-use mathlib.Core.Bool.{Bool, true, false, cond}
 use mathlib.Core.List.{List}
-use Prim.Native.Nat.{ℕ, zero, suc, _+_, _*_, _/_, _%_, _<_, _≤_}
+use Prim.Native.Nat.{ℕ, _+_, _*_, _/_, _%_, _<_, _≤_}
 use native.Mathlib.Decide.{ℕ-discrete}
 use native.Mathlib.Omega.{arith}
 use borrow.Author.Tests.{le-leb, lt-leb}
-use lib.Dec.{leb}
 use lib.ListN.{length, getD, set, length-set}
 use lib.Seq.{getD-set-same, getD-set-other}
 use lib.Ieee.{Float, nan}
@@ -15,7 +13,7 @@ use Rattle.sheet.specs.declared.Cell.{Cell}
 use Rattle.sheet.specs.declared.Position.{Position}
 use Rattle.sheet.proofs.Laws.{place-in}
 use Rattle.passes.specs.Local.{reachOf}
-use Rattle.remembered.specs.Remembered.{kindOf, knownOf, wordOf, noPrediction, predictionIn, reachIn, Notable, predictionOf, entryOf, Noted, forgottenWord, Forgotten}
+use Rattle.remembered.specs.Remembered.{kindOf, knownOf, wordOf, noPrediction, predictionIn, reachIn, Notable, entryOf, Noted, forgottenWord, Forgotten}
 use Rattle.remembered.specs.declared.Known.{Known}
 
 -- ---- a word read

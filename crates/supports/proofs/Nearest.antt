@@ -241,11 +241,11 @@ module _ (places : List ℕ) (count : ℕ) (c : Cell) (asked : Nearby places cou
 -- ---- what the four are
 
 -- all places of a list are below n
-data Under (n : ℕ) : List ℕ → Type 0 where
+pub data Under (n : ℕ) : List ℕ → Type 0 where
   none : Under n []
   one : {p : ℕ} {ps : List ℕ} → p < n → Under n ps → Under n (p ∷ ps)
 
-under-placed : (n : ℕ) (c : Cell) (p : ℕ) (l : List ℕ) → p < n → Under n l → Under n (placed c p l)
+pub under-placed : (n : ℕ) (c : Cell) (p : ℕ) (l : List ℕ) → p < n → Under n l → Under n (placed c p l)
 unfolding placed
 under-placed n c p [] h none = one h none
 under-placed n c p (q ∷ qs) h (one k u) = go (nearer c p q) (under-placed n c p qs h u)
@@ -259,7 +259,7 @@ unfolding byReach
 under-byReach n c [] b = none
 under-byReach n c (p ∷ ps) b = under-placed n c p (byReach c ps) (b .below 0 (omega arith)) (under-byReach n c ps (record { below = λ a l. b .below (suc a) (omega arith) }))
 
-under-take : (n m : ℕ) (l : List ℕ) → Under n l → Under n (take m l)
+pub under-take : (n m : ℕ) (l : List ℕ) → Under n l → Under n (take m l)
 under-take n zero l u = none
 under-take n (suc m) [] u = none
 under-take n (suc m) (p ∷ ps) (one h u) = one h (under-take n m ps u)

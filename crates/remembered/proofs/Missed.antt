@@ -1,0 +1,132 @@
+-- No candidate at a prediction: there is none later either, when more corners are labelled. Assumes nothing.
+use mathlib.Core.Path.{_≡_, refl, ap}
+use mathlib.Core.Bool.{Bool, true, false, not, cond, _&&_}
+use mathlib.Core.List.{List, [], _∷_}
+use Prim.Native.Nat.{ℕ, zero, suc, _<_}
+use native.Mathlib.Omega.{arith}
+use lib.Ieee.{Float, le, lt, div, binary32}
+use Rattle.sheet.specs.declared.Cell.{Cell}
+use Rattle.sheet.specs.declared.Position.{Position}
+use Rattle.sheet.specs.Corners.{seenOf}
+use Rattle.labels.proofs.Below.{no-both}
+use Rattle.grow.specs.Candidates.{eligible, squaredDistance, squaredRadius, isCandidate, distanceOf, before, insert, insertIf, ordered, finitePosition, candidatesAt, firstTwo}
+use Rattle.grow.specs.Choice.{epsilon, raised, byQuotient, chooseUnambiguous, chooseWithFloor}
+use Rattle.grow.specs.declared.Candidate.{Candidate}
+use Rattle.grow.specs.declared.Candidates.{Candidates}
+use Rattle.grow.specs.declared.CandidateChoice.{CandidateChoice}
+use Rattle.positions_policy.specs.Edge.{verdictOf, passes}
+use Rattle.positions_policy.specs.declared.Tolerances.{Tolerances}
+use Rattle.extension_common.specs.TryCell.{Corners, unlabelledOn, gathered, choiceBy, edgesOf, resultOf, tryAt}
+use Rattle.extension_common.specs.declared.ChoiceRule.{ChoiceRule}
+use Rattle.extension_common.specs.declared.Search.{Search}
+use Rattle.extension_common.specs.declared.TryCellResult.{TryCellResult}
+
+zero-one : _≡_ {A = ℕ} 0 1 → ⊥
+zero-one z = omega arith
+
+-- ---- an empty list of candidates
+
+insert-some : (c : Candidate) (l : List Candidate) → insert c l ≡ [] → ⊥
+unfolding insert
+insert-some c [] e = zero-one cc
+insert-some c (b ∷ l) e = go (before c b) e
+  where
+    go : (t : Bool) → cond t (c ∷ b ∷ l) (b ∷ insert c l) ≡ [] → ⊥
+    go true e = zero-one cc
+    go false e = zero-one cc
+
+-- fewer candidates of none are none
+ordered-fewer : (distance : ℕ → Float) (candidate candidate' : ℕ → Bool) (n : ℕ) → ((k : ℕ) → k < n → candidate' k ≡ true → candidate k ≡ true) → ordered distance candidate n ≡ []
+    → ordered distance candidate' n ≡ []
+unfolding ordered
+ordered-fewer distance candidate candidate' zero sub e = refl
+ordered-fewer distance candidate candidate' (suc n) sub e =
+    go (candidate n) refl (candidate' n) refl e (ordered-fewer distance candidate candidate' n (λ k h. sub k (omega arith)))
+  where
+    go : (t : Bool) → candidate n ≡ t → (u : Bool) → candidate' n ≡ u → insertIf t (record { number = n; distance = distance n }) (ordered distance candidate n) ≡ []
+        → (ordered distance candidate n ≡ [] → ordered distance candidate' n ≡ [])
+        → insertIf u (record { number = n; distance = distance n }) (ordered distance candidate' n) ≡ []
+    go true f u g e w = absurd (insert-some _ _ e)
+    go false f true g e w = absurd (no-both (candidate n) (sub n (omega arith) g) f)
+    go false f false g e w = w e
+
+module _ (position : ℕ → Position) (unlabelled unlabelled' : ℕ → Bool) (n : ℕ) (prediction : Position) (radius : Float) (sub : (k : ℕ) → k < n → unlabelled' k ≡ true → unlabelled k ≡ true) where
+  candidates-fewer : candidatesAt position unlabelled n prediction radius ≡ [] → candidatesAt position unlabelled' n prediction radius ≡ []
+  unfolding candidatesAt eligible
+  candidates-fewer e = go (finitePosition prediction) e
+    where
+      one : (k : ℕ) → k < n → (a b t : Bool) → unlabelled' k ≡ a → unlabelled k ≡ b → (a && t) ≡ true → (b && t) ≡ true
+      one k h true true t f g m = m
+      one k h true false t f g m = absurd (no-both (unlabelled k) (sub k h f) g)
+      one k h false b t f g m = absurd (no-both false m refl)
+
+      go : (t : Bool) → cond t (ordered (distanceOf position prediction) (isCandidate position unlabelled prediction radius) n) [] ≡ []
+          → cond t (ordered (distanceOf position prediction) (isCandidate position unlabelled' prediction radius) n) [] ≡ []
+      go true f =
+          ordered-fewer (distanceOf position prediction) (isCandidate position unlabelled prediction radius) (isCandidate position unlabelled' prediction radius) n
+          (λ k h m. one k h (unlabelled' k) (unlabelled k) (le (squaredDistance (position k) prediction) (squaredRadius radius)) refl refl m) f
+      go false f = refl
+
+-- ---- no candidate and no choice
+
+first-none : (l : List Candidate) → firstTwo l ≡ Candidates.Empty → l ≡ []
+unfolding firstTwo
+first-none [] e = refl
+first-none (a ∷ []) e = absurd (zero-one cc)
+first-none (a ∷ (b ∷ l)) e = absurd (zero-one cc)
+
+module _ (t : Bool) (k : ℕ) where
+  no-quotient : cond t CandidateChoice.Ambiguous (CandidateChoice.Unique k) ≡ CandidateChoice.Nothing → ⊥
+  no-quotient e = go t e
+    where
+      go : (t : Bool) → cond t CandidateChoice.Ambiguous (CandidateChoice.Unique k) ≡ CandidateChoice.Nothing → ⊥
+      go true e = zero-one cc
+      go false e = zero-one cc
+
+choice-none : (rule : ChoiceRule) (candidates : Candidates) (factor : Float) → choiceBy rule candidates factor ≡ CandidateChoice.Nothing → candidates ≡ Candidates.Empty
+unfolding choiceBy chooseUnambiguous chooseWithFloor
+choice-none ChoiceRule.Unambiguous Candidates.Empty factor e = refl
+choice-none ChoiceRule.Unambiguous (Candidates.One a) factor e = absurd (zero-one cc)
+choice-none ChoiceRule.Unambiguous (Candidates.Several a second) factor e = absurd (go (le (a .distance) epsilon) e)
+  where
+    go : (t : Bool) → cond t CandidateChoice.Ambiguous (byQuotient (a .number) (a .distance) second factor) ≡ CandidateChoice.Nothing → ⊥
+    go true e = zero-one cc
+    go false e = no-quotient (lt (div binary32 second (a .distance)) factor) (a .number) e
+choice-none ChoiceRule.WithFloor Candidates.Empty factor e = refl
+choice-none ChoiceRule.WithFloor (Candidates.One a) factor e = absurd (zero-one cc)
+choice-none ChoiceRule.WithFloor (Candidates.Several a second) factor e = absurd (no-quotient (lt (div binary32 second (raised (a .distance))) factor) (a .number) e)
+
+none-choice : (rule : ChoiceRule) (factor : Float) → choiceBy rule Candidates.Empty factor ≡ CandidateChoice.Nothing
+unfolding choiceBy chooseUnambiguous chooseWithFloor
+none-choice ChoiceRule.Unambiguous factor = refl
+none-choice ChoiceRule.WithFloor factor = refl
+
+result-none : (cs : Corners) (sheet : List ℕ) (tol : Tolerances) (c : Cell) (choice : CandidateChoice) → resultOf cs sheet tol c choice ≡ TryCellResult.NoCandidates
+    → choice ≡ CandidateChoice.Nothing
+unfolding resultOf edgesOf
+result-none cs sheet tol c CandidateChoice.Nothing e = refl
+result-none cs sheet tol c CandidateChoice.Ambiguous e = absurd (zero-one cc)
+result-none cs sheet tol c (CandidateChoice.Unique k) e = absurd (go (passes (verdictOf (seenOf (cs .corner) sheet) tol c (cs .corner k))) e)
+  where
+    go : (t : Bool) → cond t (TryCellResult.Attached k) TryCellResult.EdgeRejected ≡ TryCellResult.NoCandidates → ⊥
+    go true e = zero-one cc
+    go false e = zero-one cc
+
+-- ---- trying the cell
+
+-- a sheet on which no corner is unlabelled that was not so before
+module _ (cs : Corners) (sheet sheet' : List ℕ) (sub : (k : ℕ) → unlabelledOn sheet' k ≡ true → unlabelledOn sheet k ≡ true) where
+  gathered-none : (radius : Float) (prediction : Position) → gathered cs sheet radius prediction ≡ Candidates.Empty → gathered cs sheet' radius prediction ≡ Candidates.Empty
+  unfolding gathered firstTwo
+  gathered-none radius prediction e =
+      ap firstTwo
+      (candidates-fewer (λ k. cs .corner k .position) (unlabelledOn sheet) (unlabelledOn sheet') (cs .count) prediction radius (λ k h. sub k) (first-none _ e))
+
+  pub still-missed : (tol : Tolerances) (search : Search) (c : Cell) (at : Position) → tryAt cs sheet tol search c at ≡ TryCellResult.NoCandidates
+      → tryAt cs sheet' tol search c at ≡ TryCellResult.NoCandidates
+  unfolding tryAt resultOf
+  still-missed tol search c at e =
+      rw (
+        gathered-none (search .«search_r») at (choice-none (search .rule) _ (search .«ambiguity_factor») (result-none cs sheet tol c _ e)),
+        none-choice (search .rule) (search .«ambiguity_factor»),
+      )
