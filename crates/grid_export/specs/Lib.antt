@@ -1,0 +1,2 @@
+-- The public face as functions for other languages. Definitions only.
+pub mod Passes
