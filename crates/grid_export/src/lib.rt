@@ -1,6 +1,8 @@
 // The public face (crate `projective_grid`) for programs in other languages: numbers and lent slices in, a number out. 0 is done, 1 to 7 are
 // the refusals of 01, and a refused call changes nothing. What a call says beside that it writes as words to its last slice.
+pub mod frame_calls; // frame_calls.rt: the reader
 mod pass_calls; // pass_calls.rt: grow, fill and local
+pub mod text_calls; // text_calls.rt: the result's text
 
 ghost use mathlib.Core.Path.{_≡_};
 ghost use Rattle.grid_export.specs.Passes.{cornerLists, settingsOf, growParams, fillParams, localParams, growLeft, growExported, passLeft, fillExported, localExported};

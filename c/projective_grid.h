@@ -1,0 +1,191 @@
+/* The proved grid recovery for C: the three passes, the reader of a frame and the text of a result.
+ *
+ * The functions are those of the crate grid_export; `rt staticlib grid_export` proves them and writes
+ * target/staticlib/libgrid_export.a, which links on x86-64. "01" is the specification.
+ *
+ * WHAT HOLDS OF EVERY FUNCTION
+ *
+ * The answer is 0 (done) or the number of a refusal, 1 to 7. No function asks anything of the values that it is
+ * lent: each checks them and refuses what is wrong. A refused call changes no place of any buffer; the only
+ * exception is the reader, which says the line of a refused frame in out[0]. A call that is done writes what is
+ * said here, and leaves every other place of every buffer as it was. No function keeps a pointer, allocates,
+ * reads or writes anything else, or runs without end.
+ *
+ * WHAT THE CALLER OWES (the proof assumes it, and nothing checks it)
+ *
+ * - A buffer is its start and its length in places (not bytes). So many places must be there.
+ * - The buffers of one call must not overlap one another, not even where both are only read.
+ * - A start must not be null and must be aligned for its type, even where the length is 0.
+ * - No other thread may write to a buffer during a call, or read one that the call may write to.
+ *
+ * A buffer may be longer than needed.
+ */
+#ifndef PROJECTIVE_GRID_H
+#define PROJECTIVE_GRID_H
+
+#include <stddef.h>
+#include <stdint.h>
+
+#ifdef __cplusplus
+extern "C" {
+#endif
+
+/* The answers. The refusals have 01's numbers; 01's word for each stands beside it. The passes and the writers try
+ * 7, 2, 3, 5, 6 in this order; the reader tries 7, then the number of bytes (2, line 0), then line by line 1 to 6. */
+enum projective_grid_answer {
+    PROJECTIVE_GRID_DONE = 0,
+    PROJECTIVE_GRID_MALFORMED = 1,        /* bent: line missing, out of order or ill-formed */
+    PROJECTIVE_GRID_OVER_LIMIT = 2,       /* overfull: a limit on bytes, corners or passes passed */
+    PROJECTIVE_GRID_OUT_OF_RANGE = 3,     /* wild: number non-finite or out of range */
+    PROJECTIVE_GRID_OFF_SHEET = 4,        /* off sheet: label's cell outside */
+    PROJECTIVE_GRID_UNKNOWN_CORNER = 5,   /* stranger: label's corner not given */
+    PROJECTIVE_GRID_DUPLICATE = 6,        /* doubled: cell or corner labelled twice */
+    PROJECTIVE_GRID_BUFFER_TOO_SHORT = 7  /* short: lent buffer too short */
+};
+
+enum {
+    /* limits of a frame */
+    PROJECTIVE_GRID_FRAME_BYTES = 65536,
+    PROJECTIVE_GRID_CORNERS = 1024,
+    PROJECTIVE_GRID_PASSES = 16,
+    /* places needed */
+    PROJECTIVE_GRID_SHEET = 16384,
+    PROJECTIVE_GRID_QUEUE_PER_CORNER = 4,
+    PROJECTIVE_GRID_ATTACHED_PER_CORNER = 1,
+    PROJECTIVE_GRID_PASS_WORDS = 6,
+    PROJECTIVE_GRID_OUTCOME_WORDS = 9,
+    PROJECTIVE_GRID_SETTINGS = 6,
+    PROJECTIVE_GRID_READ_OUT = 3,
+    PROJECTIVE_GRID_WRITE_OUT = 1,
+    PROJECTIVE_GRID_PIECE_OUT = 2,
+    /* a piece needs room for any one line */
+    PROJECTIVE_GRID_LINE_BYTES = 128,
+    /* no result's text is longer: 16 + 49,153 lines of at most 127 bytes */
+    PROJECTIVE_GRID_LONGEST_TEXT = 6244463
+};
+
+/* THE SHEET: 128 by 128 cells, i and j from -64 to 63; the cell (i, j) has the place (i + 64) * 128 + (j + 64). A place
+ * holds 0 in its low 14 bits for no corner, or the number of its corner plus 1; 0x4000 is the hole mark, 0x8000 the
+ * ambiguous mark. */
+#define PROJECTIVE_GRID_PLACE(i, j) (((i) + 64) * 128 + ((j) + 64))
+#define PROJECTIVE_GRID_CORNER_BITS 0x3fff
+#define PROJECTIVE_GRID_HOLE 0x4000
+#define PROJECTIVE_GRID_AMBIGUOUS 0x8000
+
+/* A PASS OF A FRAME: six words. Floats are the bits of a float. */
+enum projective_grid_pass {
+    PROJECTIVE_GRID_PASS_KIND = 0,    /* a kind, see below */
+    PROJECTIVE_GRID_PASS_SEARCH = 1,  /* bits */
+    PROJECTIVE_GRID_PASS_FACTOR = 2,  /* bits */
+    PROJECTIVE_GRID_PASS_THIRD = 3,   /* bits: grow's boundary, local's residual; fill: 0 */
+    PROJECTIVE_GRID_PASS_ROUNDS = 4,  /* fill and local; grow: 0 */
+    PROJECTIVE_GRID_PASS_DEPTH = 5    /* local; grow and fill: 0 */
+};
+
+enum projective_grid_kind { PROJECTIVE_GRID_GROW = 0, PROJECTIVE_GRID_FILL = 1, PROJECTIVE_GRID_LOCAL = 2 };
+
+/* THE OUTCOME OF A PASS: nine words; 0 for what the pass does not have. A pass writes them, and the writers read them:
+ * lend pass k the words from 9 * k on, and the writers all of them. */
+enum projective_grid_outcome {
+    PROJECTIVE_GRID_OUTCOME_KIND = 0,
+    PROJECTIVE_GRID_OUTCOME_ATTACHED = 1,  /* fill: added. So many places of the attached list are new */
+    PROJECTIVE_GRID_OUTCOME_NO_CANDIDATE = 2,
+    PROJECTIVE_GRID_OUTCOME_AMBIGUOUS = 3,
+    PROJECTIVE_GRID_OUTCOME_EDGE = 4,
+    PROJECTIVE_GRID_OUTCOME_ROUNDS = 5,
+    PROJECTIVE_GRID_OUTCOME_HAS_RESIDUAL = 6,  /* 1 if local recorded a residual, else 0 */
+    PROJECTIVE_GRID_OUTCOME_RESIDUAL = 7,      /* the bits of the largest one */
+    PROJECTIVE_GRID_OUTCOME_RIM = 8            /* 1 for yes, 0 for no */
+};
+
+/* THE SETTINGS: six floats, as the reader writes them and in the order in which the passes take them. */
+enum projective_grid_setting {
+    PROJECTIVE_GRID_CELL_SIZE = 0,
+    PROJECTIVE_GRID_AXIS_I_X = 1,
+    PROJECTIVE_GRID_AXIS_I_Y = 2,
+    PROJECTIVE_GRID_AXIS_J_X = 3,
+    PROJECTIVE_GRID_AXIS_J_Y = 4,
+    PROJECTIVE_GRID_EDGE_LENGTH_TOL = 5  /* 01's band */
+};
+
+/* Grow. The corners are xs, ys and pitches; their number n is xs_len. Needed: n places each of ys, pitches and attached,
+ * 4 * n of queue, 16,384 of sheet, 9 of out.
+ * Done: the sheet holds what grow left there, the front of queue the places of the visited cells in order, the front of
+ * attached those of the new cells in order, the front of out grow's nine words. */
+uint32_t projective_grid_extend_from_labelled(
+    const float *xs, size_t xs_len,
+    const float *ys, size_t ys_len,
+    const float *pitches, size_t pitches_len,
+    uint16_t *sheet, size_t sheet_len,
+    uint16_t *queue, size_t queue_len,
+    uint16_t *attached, size_t attached_len,
+    float cell_size, float axis_i_x, float axis_i_y, float axis_j_x, float axis_j_y, float edge_length_tol,
+    float attach_search_rel, float attach_ambiguity_factor, float boundary_search_factor,
+    uint32_t *out, size_t out_len);
+
+/* Fill. As grow, but it is lent no queue. */
+uint32_t projective_grid_fill_grid_holes(
+    const float *xs, size_t xs_len,
+    const float *ys, size_t ys_len,
+    const float *pitches, size_t pitches_len,
+    uint16_t *sheet, size_t sheet_len,
+    uint16_t *attached, size_t attached_len,
+    float cell_size, float axis_i_x, float axis_i_y, float axis_j_x, float axis_j_y, float edge_length_tol,
+    float attach_search_rel, float attach_ambiguity_factor, uint32_t max_iters,
+    uint32_t *out, size_t out_len);
+
+/* Local. As grow, but it is lent no queue. */
+uint32_t projective_grid_extend_via_local_homography(
+    const float *xs, size_t xs_len,
+    const float *ys, size_t ys_len,
+    const float *pitches, size_t pitches_len,
+    uint16_t *sheet, size_t sheet_len,
+    uint16_t *attached, size_t attached_len,
+    float cell_size, float axis_i_x, float axis_i_y, float axis_j_x, float axis_j_y, float edge_length_tol,
+    float search_rel, float ambiguity_factor, uint32_t max_iters, float max_residual_rel, uint32_t extend_depth,
+    uint32_t *out, size_t out_len);
+
+/* Reads a frame. Needed: 1,024 places each of xs, ys and pitches, 16,384 of sheet, 96 of passes, 6 of settings, 3 of out.
+ * Done: the corners stand at the front of xs, ys and pitches, the sheet of the given labels in the first 16,384 places
+ * of sheet, six words for each pass at the front of passes, the six settings at the front of settings, and in out 0,
+ * the number of corners and the number of passes.
+ * Refused by 1 to 6: out[0] is the line, 0 where there are too many bytes. Refused by 7: nothing is written. */
+uint32_t projective_grid_read_frame(
+    const uint8_t *text, size_t text_len,
+    float *xs, size_t xs_len,
+    float *ys, size_t ys_len,
+    float *pitches, size_t pitches_len,
+    uint16_t *sheet, size_t sheet_len,
+    uint32_t *passes, size_t passes_len,
+    float *settings, size_t settings_len,
+    uint32_t *out, size_t out_len);
+
+/* Writes the whole text of a result. Needed: 9 * passes words, 16,384 places of sheet, the text's length of text, 1 of out.
+ * Done: the text stands at the front of text, and out[0] is its length in bytes. No NUL is written behind it.
+ * 3 is for words that no pass writes: a kind above 2, a count above 1,048,576, rounds above 64, a flag or a rim above 1,
+ * a residual that is not finite. */
+uint32_t projective_grid_write_result(
+    size_t corners, size_t passes,
+    const uint32_t *words, size_t words_len,
+    const uint16_t *sheet, size_t sheet_len,
+    uint8_t *text, size_t text_len,
+    uint32_t *out, size_t out_len);
+
+/* Writes a piece of it: whole lines from line `from` on, as long as 128 bytes are left before each. Needed: as above, but
+ * 128 of text and 2 of out.
+ * Done: the piece stands at the front of text, out[0] is its length in bytes and out[1] the next line. There are
+ * passes + 49,153 lines, most of them empty; pieces from line 0 on until that number is reached, joined, are the text.
+ * 3 also where `from` is above that number. */
+uint32_t projective_grid_write_result_piece(
+    size_t corners, size_t passes,
+    const uint32_t *words, size_t words_len,
+    const uint16_t *sheet, size_t sheet_len,
+    size_t from,
+    uint8_t *text, size_t text_len,
+    uint32_t *out, size_t out_len);
+
+#ifdef __cplusplus
+}
+#endif
+
+#endif

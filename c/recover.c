@@ -1,0 +1,75 @@
+/* Reads a frame from a file, or from standard input without one, runs its passes, and prints the result or the refusal:
+ * what the proved program `recover` prints for it. */
+#include <stdio.h>
+#include <string.h>
+
+#include "projective_grid.h"
+
+static uint8_t frame[PROJECTIVE_GRID_FRAME_BYTES + 1]; /* one more byte shows that there are too many */
+static float xs[PROJECTIVE_GRID_CORNERS], ys[PROJECTIVE_GRID_CORNERS], pitches[PROJECTIVE_GRID_CORNERS];
+static uint16_t sheet[PROJECTIVE_GRID_SHEET];
+static uint16_t queue[PROJECTIVE_GRID_QUEUE_PER_CORNER * PROJECTIVE_GRID_CORNERS], attached[PROJECTIVE_GRID_CORNERS];
+static uint32_t passes[PROJECTIVE_GRID_PASS_WORDS * PROJECTIVE_GRID_PASSES];
+static uint32_t words[PROJECTIVE_GRID_OUTCOME_WORDS * PROJECTIVE_GRID_PASSES];
+static float s[PROJECTIVE_GRID_SETTINGS];
+static uint8_t text[4096];
+
+static float float_of(uint32_t bits) {
+    float x;
+    memcpy(&x, &bits, sizeof x);
+    return x;
+}
+
+/* Runs the pass p on n corners; its outcome goes to out. */
+static uint32_t run_pass(const uint32_t *p, size_t n, uint32_t *out) {
+    float search = float_of(p[PROJECTIVE_GRID_PASS_SEARCH]), factor = float_of(p[PROJECTIVE_GRID_PASS_FACTOR]);
+    float third = float_of(p[PROJECTIVE_GRID_PASS_THIRD]);
+    uint32_t rounds = p[PROJECTIVE_GRID_PASS_ROUNDS], depth = p[PROJECTIVE_GRID_PASS_DEPTH];
+    if (p[PROJECTIVE_GRID_PASS_KIND] == PROJECTIVE_GRID_GROW)
+        return projective_grid_extend_from_labelled(
+            xs, n, ys, n, pitches, n, sheet, PROJECTIVE_GRID_SHEET, queue, 4 * n, attached, n,
+            s[0], s[1], s[2], s[3], s[4], s[5], search, factor, third, out, PROJECTIVE_GRID_OUTCOME_WORDS);
+    if (p[PROJECTIVE_GRID_PASS_KIND] == PROJECTIVE_GRID_FILL)
+        return projective_grid_fill_grid_holes(
+            xs, n, ys, n, pitches, n, sheet, PROJECTIVE_GRID_SHEET, attached, n,
+            s[0], s[1], s[2], s[3], s[4], s[5], search, factor, rounds, out, PROJECTIVE_GRID_OUTCOME_WORDS);
+    return projective_grid_extend_via_local_homography(
+        xs, n, ys, n, pitches, n, sheet, PROJECTIVE_GRID_SHEET, attached, n,
+        s[0], s[1], s[2], s[3], s[4], s[5], search, factor, rounds, third, depth, out, PROJECTIVE_GRID_OUTCOME_WORDS);
+}
+
+/* Writes the result of n corners and m passes piece by piece; 0 if all is done. */
+static int write_result(size_t n, size_t m) {
+    size_t line = 0;
+    while (line < m + 49153) {
+        uint32_t out[PROJECTIVE_GRID_PIECE_OUT];
+        uint32_t answer = projective_grid_write_result_piece(
+            n, m, words, PROJECTIVE_GRID_OUTCOME_WORDS * m, sheet, PROJECTIVE_GRID_SHEET, line, text, sizeof text, out, 2);
+        if (answer != PROJECTIVE_GRID_DONE || fwrite(text, 1, out[0], stdout) != out[0])
+            return 1;
+        line = out[1];
+    }
+    return fflush(stdout) != 0;
+}
+
+int main(int count, char **arguments) {
+    FILE *file = count > 1 ? fopen(arguments[1], "rb") : stdin;
+    if (!file)
+        return perror(arguments[1]), 1;
+    size_t bytes = fread(frame, 1, sizeof frame, file);
+    if (ferror(file))
+        return perror("recover"), 1;
+    uint32_t head[PROJECTIVE_GRID_READ_OUT];
+    uint32_t answer = projective_grid_read_frame(
+        frame, bytes, xs, PROJECTIVE_GRID_CORNERS, ys, PROJECTIVE_GRID_CORNERS, pitches, PROJECTIVE_GRID_CORNERS,
+        sheet, PROJECTIVE_GRID_SHEET, passes, PROJECTIVE_GRID_PASS_WORDS * PROJECTIVE_GRID_PASSES,
+        s, PROJECTIVE_GRID_SETTINGS, head, PROJECTIVE_GRID_READ_OUT);
+    if (answer != PROJECTIVE_GRID_DONE) {
+        printf("(refused %u %u)\n", (unsigned)answer, (unsigned)head[0]);
+        return 0;
+    }
+    for (size_t k = 0; k < head[2]; k++)
+        if (run_pass(passes + 6 * k, head[1], words + 9 * k) != PROJECTIVE_GRID_DONE)
+            return fprintf(stderr, "recover: a pass was refused\n"), 1;
+    return write_result(head[1], head[2]);
+}

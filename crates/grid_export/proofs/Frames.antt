@@ -1,0 +1,99 @@
+-- What the exported reader leaves, by what the reader answers. Assumes nothing.
+use mathlib.Core.Path.{_≡_, refl, sym, ap, _∙_, subst}
+use mathlib.Core.Bool.{Bool, true, false, _||_, true≢false}
+use mathlib.Core.List.{List, _∷_}
+use Prim.Native.Nat.{ℕ, _<_, _≤_}
+use native.Mathlib.Omega.{arith}
+use borrow.Author.Tests.{eq-eqb, ne-eqb, ltb-false}
+use lib.Dec.{ltb, eqb}
+use lib.ListN.{length, drop, set}
+use lib.Ieee.{Float}
+use Rattle.refusal.specs.declared.Refusal.{Refusal}
+use Rattle.refusal.specs.Refusal.{numberOf}
+use Rattle.binary32.specs.Hex.{pick}
+use Rattle.frame.specs.Frame.{Frame, FrameRead, refused-at, accepted, readFrame}
+use Rattle.frame.specs.Lent.{Buffers, FrameOut, frameOut, tooShort, leaves, unlessShort, readInto}
+use Rattle.frame.specs.declared.FrameHead.{FrameHead}
+use Rattle.frame.specs.declared.FrameAnswer.{FrameAnswer}
+use Rattle.frame_laws.proofs.Back.{frame-prints-back}
+use Rattle.recovery.proofs.Refusing.{refused-line}
+use Rattle.grid_export.specs.Frames.{Word, settingsEntered, countsEntered, lineEntered, Told, told, frameTold, FrameLeft, frameLeft, frameRead, headShort, frameUnless, frameExported, HeadRoom, Sayable}
+use Rattle.grid_export.proofs.Entering.{one}
+
+-- ---- a refused line
+
+module _ (r : Refusal) (line n : ℕ) (e : n ≡ numberOf r) where
+  pub no-line : (out : List ℕ) → n ≡ 7 → out ≡ lineEntered r line out
+  no-line out h = rw (eq-eqb (numberOf r) 7 (sym e ∙ h)) refl
+
+  pub a-line : (out out' : List ℕ) → (n ≡ 7 → ⊥) → 3 ≤ length out → out' ≡ set out 0 line → out' ≡ lineEntered r line out
+  a-line out out' h l w = rw (ne-eqb (numberOf r) 7 (λ s. h (e ∙ s))) (w ∙ one out line (omega arith))
+
+-- ---- an answer by its case
+
+module _ (answer : FrameAnswer) (settings : List Float) (out out' : List ℕ) where
+  pub tell-refused : (r : Refusal) (line n : ℕ) → answer ≡ FrameAnswer.Refused r line → n ≡ numberOf r → out' ≡ lineEntered r line out
+      → told n settings out' ≡ frameTold answer settings out
+  tell-refused r line n t e w = rw (t, e, w) refl
+
+  pub tell-accepted : (h : FrameHead) (settings' : List Float) → answer ≡ FrameAnswer.Accepted h → settings' ≡ settingsEntered (h .settings) settings
+      → out' ≡ countsEntered (h .corners) (h .passes) out → told 0 settings' out' ≡ frameTold answer settings out
+  tell-accepted h settings' t e w = rw (t, e, w) refl
+
+pub line-sayable : (answer : FrameAnswer) (r : Refusal) (line : ℕ) → Sayable answer → answer ≡ FrameAnswer.Refused r line → Word line
+line-sayable answer r line s t = subst (λ (a : FrameAnswer). Sayable a) t s
+
+pub counts-sayable : (answer : FrameAnswer) (h : FrameHead) → Sayable answer → answer ≡ FrameAnswer.Accepted h → Word (h .corners) × Word (h .passes)
+counts-sayable answer h s t = subst (λ (a : FrameAnswer). Sayable a) t s
+
+-- ---- the reader
+
+module _ (text : List ℕ) (b : Buffers) where
+  read-sayable : Sayable (readInto text b .answer)
+  unfolding readInto
+  read-sayable = go (tooShort b)
+    where
+      by-read : (a : FrameRead) → readFrame text ≡ a → Sayable (leaves a b .answer)
+      by-read (refused-at r n) q = omega (arith, refused-line text r n q)
+      by-read (accepted f) q =
+          let within = frame-prints-back text f q .within in
+          (omega (arith, within .corners), omega (arith, within .passes))
+
+      go : (t : Bool) → Sayable (unlessShort t text b .answer)
+      go true = omega arith
+      go false = by-read (readFrame text) refl
+
+  module _ (answer : FrameAnswer) (xs ys pitches : List Float) (sheet passes : List ℕ) (e : frameOut answer xs ys pitches sheet passes ≡ readInto text b) where
+    pub sayable : Sayable answer
+    sayable = subst (λ (a : FrameAnswer). Sayable a) (sym (ap (λ (o : FrameOut). o .answer) e)) read-sayable
+
+    pub read-left : (n : ℕ) (settings settings' : List Float) (out out' : List ℕ) → told n settings' out' ≡ frameTold answer settings out
+        → frameLeft n xs ys pitches sheet passes settings' out' ≡ frameRead (readInto text b) settings out
+    read-left n settings settings' out out' w =
+        let says : told n settings' out' ≡ frameTold (readInto text b .answer) settings out = w ∙ ap (λ (o : FrameOut). frameTold (o .answer) settings out) e in
+        λ t. record { said = says t; buffers = e t .buffers }
+
+-- ---- room for the head
+
+either : (a b : Bool) → (a || b) ≡ false → (a ≡ false) × (b ≡ false)
+either true b e = absurd (true≢false e)
+either false b e = (refl, e)
+
+module _ (settings : List Float) (out : List ℕ) (t : Bool) (e : t ≡ headShort settings out) where
+  pub head-room : t ≡ false → HeadRoom settings out
+  unfolding headShort
+  head-room f =
+      let p = either (ltb (length settings) 6) (ltb (length out) 3) (sym e ∙ f) in
+      record { floats = ltb-false (length settings) 6 (p .0); words = ltb-false (length out) 3 (p .1) }
+
+  module _ (text : List ℕ) (xs ys pitches : List Float) (sheet passes : List ℕ) where
+    abbrev lent : Buffers
+    lent = record { xs = xs; ys = ys; pitches = pitches; sheet = sheet; passes = passes }
+
+    pub read-short : t ≡ true → frameLeft 7 xs ys pitches sheet passes settings out ≡ frameExported text lent settings out
+    unfolding frameExported
+    read-short f = sym (ap (λ (s : Bool). frameUnless s text lent settings out) (sym e ∙ f))
+
+    pub read-room : t ≡ false → frameRead (readInto text lent) settings out ≡ frameExported text lent settings out
+    unfolding frameExported
+    read-room f = sym (ap (λ (s : Bool). frameUnless s text lent settings out) (sym e ∙ f))

@@ -1,0 +1,20 @@
+use mathlib.Core.Path.{refl}
+use borrow.Author.Tests.{lt-ltb, le-ltb}
+use Rattle.arguments.proofs.Tests.{holds, fails}
+use Rattle.grid_export.specs.Frames.{headShort}
+use borrow.Author.Needs.{needs}
+use Rattle.grid_export.proofs.frame_calls.head_short.Statement.{statement}
+use Rattle.grid_export.proofs.frame_calls.head_short.Tie as tie
+use Rattle.grid_export.proofs.frame_calls.head_short.Reads as reads
+use Rattle.grid_export.proofs.frame_calls.head_short.Lts as lts
+
+returns : tie.Need-returns
+unfolding headShort
+returns c = holds _ _ (lt-ltb _ _ (c .if1 .taken))
+
+returns-2 : tie.Need-returns-2
+unfolding headShort
+returns-2 c = fails _ _ _ (le-ltb _ _ (c .if1 .left)) refl
+
+pub head-short-spec : {M : Type 1} → statement M
+head-short-spec = tie.close (tie.spec returns returns-2)

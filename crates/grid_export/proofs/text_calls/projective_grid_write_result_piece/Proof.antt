@@ -1,0 +1,28 @@
+use mathlib.Core.Path.{_∙_}
+use Rattle.grid_export.proofs.Texts.{piece-short, piece-room}
+use borrow.Author.Needs.{needs}
+use Rattle.grid_export.proofs.text_calls.projective_grid_write_result_piece.Statement.{
+  statement,
+}
+use Rattle.grid_export.proofs.text_calls.projective_grid_write_result_piece.Tie as tie
+use Rattle.grid_export.proofs.text_calls.projective_grid_write_result_piece.Reads as reads
+use Rattle.grid_export.proofs.text_calls.projective_grid_write_result_piece.Lts as lts
+
+returns : tie.Need-returns
+returns c = piece-short _ (c .before .before .before .before .before .args .from) (c .before .before .before .before .before .args .text .now) (c .before .before .before .before .before .args .out .now) (c .if1 .taken)
+
+run-piece-requires : tie.Need-run-piece-requires
+run-piece-requires c κs = search needs
+
+same-length : tie.Need-same-length
+same-length c = search needs
+
+same-length-2 : tie.Need-same-length-2
+same-length-2 c = search needs
+
+returns-2 : tie.Need-returns-2
+returns-2 c = c .before .before .before .before .run-piece .ensures ∙ piece-room _ (c .before .before .before .before .before .before .before .before .before .before .before .before .args .from) (c .before .before .before .before .before .before .before .before .before .before .before .before .args .text .now) (c .before .before .before .before .before .before .before .before .before .before .before .before .args .out .now) (c .before .before .before .before .before .before .before .if1 .left)
+
+pub projective-grid-write-result-piece-spec : {M : Type 1} → statement M
+projective-grid-write-result-piece-spec =
+    tie.close (tie.spec returns run-piece-requires same-length same-length-2 returns-2)

@@ -1,0 +1,124 @@
+// The reader: 7 where there is no room for what a head says, else the frame is read, and what its answer says is entered.
+ghost use mathlib.Core.Path.{_≡_};
+ghost use Prim.Native.Nat.{_<_, _≤_};
+ghost use lib.ListN.{length, set};
+ghost use Rattle.frame.specs.Reading.{buffers};
+ghost use Rattle.frame.specs.Lent.{readInto};
+ghost use Rattle.grid_export.specs.Frames.{Word, settingsEntered, countsEntered, told, frameTold, frameLeft, frameRead, headShort, frameExported, lineEntered, HeadRoom, Sayable};
+ghost use Rattle.refusal.specs.Refusal.{numberOf};
+use arguments::Settings;
+use frame::FrameAnswer;
+use refusal::Refusal;
+
+// Enters a number at a place of a buffer of words.
+pub fn enter(out: &mut [u32], at: usize, n: usize)
+    requires { ⌜ at < length (now out) ⌝ }
+    requires { ⌜ Word n ⌝ }
+    ensures { λ _. ⌜ now (out .exit) ≡ set (now (out .entry)) at n ⌝ }
+{
+    out[at] = n as u32;
+}
+
+// Enters cell size, axes and band as six floats.
+fn enter_settings(floats: &mut [f32], settings: Settings)
+    requires { ⌜ 6 ≤ length (now floats) ⌝ }
+    ensures { λ _. ⌜ now (floats .exit) ≡ settingsEntered settings (now (floats .entry)) ⌝ }
+{
+    floats[0] = settings.grid.cell_size;
+    floats[1] = settings.grid.axis_i.x;
+    floats[2] = settings.grid.axis_i.y;
+    floats[3] = settings.grid.axis_j.x;
+    floats[4] = settings.grid.axis_j.y;
+    floats[5] = settings.edge_length_tol;
+}
+
+// Enters line 0 and the numbers of corners and passes as three words.
+fn enter_counts(out: &mut [u32], corners: usize, passes: usize)
+    requires { ⌜ 3 ≤ length (now out) ⌝ }
+    requires { ⌜ Word corners ⌝ }
+    requires { ⌜ Word passes ⌝ }
+    ensures { λ _. ⌜ now (out .exit) ≡ countsEntered corners passes (now (out .entry)) ⌝ }
+{
+    enter(out, 0, 0);
+    enter(out, 1, corners);
+    enter(out, 2, passes);
+}
+
+// Enters the line of a refusal as the first word, unless it is 7, which is about no line. Answers its number.
+fn enter_line(out: &mut [u32], refusal: Refusal, line: usize) -> u32
+    requires { ⌜ 3 ≤ length (now out) ⌝ }
+    requires { ⌜ Word line ⌝ }
+    ensures { λ r. ⌜ r ≡ numberOf refusal ⌝ }
+    ensures { λ _. ⌜ now (out .exit) ≡ lineEntered refusal line (now (out .entry)) ⌝ }
+{
+    let number = super::pass_calls::number_of(refusal);
+    if number == 7 {
+        return number;
+    }
+    enter(out, 0, line);
+    number
+}
+
+// Enters what the reader answers.
+fn tell(answer: FrameAnswer, settings: &mut [f32], out: &mut [u32]) -> u32
+    requires { ⌜ HeadRoom (now settings) (now out) ⌝ }
+    requires { ⌜ Sayable answer ⌝ }
+    ensures { λ r. ⌜ told r (now (settings .exit)) (now (out .exit)) ≡ frameTold answer (now (settings .entry)) (now (out .entry)) ⌝ }
+{
+    match answer {
+        FrameAnswer::Refused(refusal, line) => enter_line(out, refusal, line),
+        FrameAnswer::Accepted(head) => {
+            enter_settings(settings, head.settings);
+            enter_counts(out, head.corners, head.passes);
+            0
+        }
+    }
+}
+
+// Whether there is no room for six floats or three words.
+fn head_short(settings: &[f32], out: &[u32]) -> bool
+    ensures { λ r. ⌜ r ≡ headShort (now (settings .entry)) (now (out .entry)) ⌝ }
+{
+    if settings.len() < 6 {
+        return true;
+    }
+    out.len() < 3
+}
+
+// Reads a frame, with room for what its head says.
+fn run_read(
+    text: &[u8],
+    xs: &mut [f32],
+    ys: &mut [f32],
+    pitches: &mut [f32],
+    sheet: &mut [u16],
+    passes: &mut [u32],
+    settings: &mut [f32],
+    out: &mut [u32],
+) -> u32
+    requires { ⌜ HeadRoom (now settings) (now out) ⌝ }
+    ensures { λ r. ⌜ frameLeft r (now (xs .exit)) (now (ys .exit)) (now (pitches .exit)) (now (sheet .exit)) (now (passes .exit)) (now (settings .exit)) (now (out .exit)) ≡ frameRead (readInto (now (text .entry)) (buffers (now (xs .entry)) (now (ys .entry)) (now (pitches .entry)) (now (sheet .entry)) (now (passes .entry)))) (now (settings .entry)) (now (out .entry)) ⌝ }
+{
+    let answer = frame::read_frame(text, xs, ys, pitches, sheet, passes);
+    tell(answer, settings, out)
+}
+
+// Reads a frame. `settings` takes cell size, axes and band, `out` the refused line or 0 and the numbers of corners and passes.
+#[no_mangle]
+pub extern "C" fn projective_grid_read_frame(
+    text: &[u8],
+    xs: &mut [f32],
+    ys: &mut [f32],
+    pitches: &mut [f32],
+    sheet: &mut [u16],
+    passes: &mut [u32],
+    settings: &mut [f32],
+    out: &mut [u32],
+) -> u32
+    ensures { λ r. ⌜ frameLeft r (now (xs .exit)) (now (ys .exit)) (now (pitches .exit)) (now (sheet .exit)) (now (passes .exit)) (now (settings .exit)) (now (out .exit)) ≡ frameExported (now (text .entry)) (buffers (now (xs .entry)) (now (ys .entry)) (now (pitches .entry)) (now (sheet .entry)) (now (passes .entry))) (now (settings .entry)) (now (out .entry)) ⌝ }
+{
+    if head_short(settings, out) {
+        return 7;
+    }
+    run_read(text, xs, ys, pitches, sheet, passes, settings, out)
+}
