@@ -158,7 +158,7 @@ static void values(struct call *c) {
 static void too_many(struct call *c) {
     struct call many = *c;
     for (size_t k = 0; k < many.count; k++)
-        if (many.b[k].needed % corners == 0 && many.b[k].needed / corners <= 4 && many.b[k].start != sheet)
+        if (many.b[k].needed % corners == 0 && many.b[k].needed / corners <= 4 && many.b[k].start != sheet && many.b[k].start != out)
             many.b[k].needed = many.b[k].needed / corners * (PROJECTIVE_GRID_CORNERS + 1);
     refused(&many, PROJECTIVE_GRID_OVER_LIMIT, "overfull");
 }
@@ -194,12 +194,6 @@ static void reader(struct call *c) {
 }
 
 static void writer(struct call *c) {
-    pass_count += PROJECTIVE_GRID_PASSES;
-    struct call many = *c;
-    many.b[0].needed = 9 * pass_count;
-    static uint32_t zero[9];
-    (void)zero;
-    pass_count -= PROJECTIVE_GRID_PASSES;
     uint32_t wild[][2] = {{0, 3}, {1, 1048577}, {5, 65}, {6, 2}, {8, 2}};
     for (size_t k = 0; k < sizeof wild / sizeof wild[0]; k++) {
         uint32_t right = words[wild[k][0]];
@@ -237,13 +231,14 @@ static void joined(size_t bytes) {
         }
         check(at == bytes, "write_result_piece", "the pieces, joined, are not the text", "text");
     }
-    from = pass_count + 49154;
 }
 
 static void made(struct call *c) {
     for (size_t k = 0; k < c->count; k++)
-        if (!(c->b[k].before = malloc(c->b[k].places * c->b[k].size)))
-            exit(perror("short"), 1);
+        if (!(c->b[k].before = malloc(c->b[k].places * c->b[k].size))) {
+            perror("short");
+            exit(1);
+        }
 }
 
 int main(int count, char **arguments) {
@@ -295,6 +290,7 @@ int main(int count, char **arguments) {
     restore(writing.b, writing.count);
     writer(&writing);
     joined(writing.b[2].needed);
+    from = pass_count + 49154;
     refused(&cutting, PROJECTIVE_GRID_OUT_OF_RANGE, "a line behind the last");
     from = 0;
     writer(&cutting);

@@ -37,8 +37,14 @@ module _ {A : Type 0} where
 
   pub at-5 : (l : List A) (a b c d e : A) → 6 ≤ length l → 5 < length (set (set (set (set (set l 0 a) 1 b) 2 c) 3 d) 4 e)
   at-5 l a b c d e h =
-      omega (arith, length-set l 0 a, length-set (set l 0 a) 1 b, length-set (set (set l 0 a) 1 b) 2 c, length-set (set (set (set l 0 a) 1 b) 2 c) 3 d,
-      length-set (set (set (set (set l 0 a) 1 b) 2 c) 3 d) 4 e)
+      omega (
+        arith,
+        length-set l 0 a,
+        length-set (set l 0 a) 1 b,
+        length-set (set (set l 0 a) 1 b) 2 c,
+        length-set (set (set (set l 0 a) 1 b) 2 c) 3 d,
+        length-set (set (set (set (set l 0 a) 1 b) 2 c) 3 d) 4 e,
+      )
 
   pub six : (l : List A) (a b c d e f : A) → 6 ≤ length l → set (set (set (set (set (set l 0 a) 1 b) 2 c) 3 d) 4 e) 5 f ≡ a ∷ b ∷ c ∷ d ∷ e ∷ f ∷ drop 6 l
   six [] a b c d e f h = absurd (omega arith)

@@ -1,7 +1,7 @@
 // The reader: 7 where there is no room for what a head says, else the frame is read, and what its answer says is entered.
 ghost use mathlib.Core.Path.{_≡_};
-ghost use Prim.Native.Nat.{_<_, _≤_};
-ghost use lib.ListN.{length, set};
+ghost use Prim.Native.Nat.{_≤_};
+ghost use lib.ListN.{length};
 ghost use Rattle.frame.specs.Reading.{buffers};
 ghost use Rattle.frame.specs.Lent.{readInto};
 ghost use Rattle.grid_export.specs.Frames.{Word, settingsEntered, countsEntered, told, frameTold, frameLeft, frameRead, headShort, frameExported, lineEntered, HeadRoom, Sayable};
@@ -9,15 +9,6 @@ ghost use Rattle.refusal.specs.Refusal.{numberOf};
 use arguments::Settings;
 use frame::FrameAnswer;
 use refusal::Refusal;
-
-// Enters a number at a place of a buffer of words.
-pub fn enter(out: &mut [u32], at: usize, n: usize)
-    requires { ⌜ at < length (now out) ⌝ }
-    requires { ⌜ Word n ⌝ }
-    ensures { λ _. ⌜ now (out .exit) ≡ set (now (out .entry)) at n ⌝ }
-{
-    out[at] = n as u32;
-}
 
 // Enters cell size, axes and band as six floats.
 fn enter_settings(floats: &mut [f32], settings: Settings)
@@ -39,9 +30,9 @@ fn enter_counts(out: &mut [u32], corners: usize, passes: usize)
     requires { ⌜ Word passes ⌝ }
     ensures { λ _. ⌜ now (out .exit) ≡ countsEntered corners passes (now (out .entry)) ⌝ }
 {
-    enter(out, 0, 0);
-    enter(out, 1, corners);
-    enter(out, 2, passes);
+    super::words::enter(out, 0, 0);
+    super::words::enter(out, 1, corners);
+    super::words::enter(out, 2, passes);
 }
 
 // Enters the line of a refusal as the first word, unless it is 7, which is about no line. Answers its number.
@@ -51,11 +42,11 @@ fn enter_line(out: &mut [u32], refusal: Refusal, line: usize) -> u32
     ensures { λ r. ⌜ r ≡ numberOf refusal ⌝ }
     ensures { λ _. ⌜ now (out .exit) ≡ lineEntered refusal line (now (out .entry)) ⌝ }
 {
-    let number = super::pass_calls::number_of(refusal);
+    let number = super::words::number_of(refusal);
     if number == 7 {
         return number;
     }
-    enter(out, 0, line);
+    super::words::enter(out, 0, line);
     number
 }
 

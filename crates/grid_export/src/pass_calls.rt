@@ -1,9 +1,8 @@
-// The passes with their settings and params in one piece: 7 where there is no room for nine words, else the pass, and its outcome as nine words.
+// The passes: their numbers as settings and params, 7 where there is no room for nine words, else the pass, and its outcome as nine words.
 ghost use mathlib.Core.Path.{_≡_};
 ghost use Prim.Native.Nat.{_≤_};
 ghost use lib.ListN.{length};
-ghost use Rattle.refusal.specs.Refusal.{numberOf};
-ghost use Rattle.grid_export.specs.Passes.{cornerLists, growLeft, growTold, growOutcome, growExported, passLeft, passTold, fillOutcome, fillExported, localOutcome, localExported};
+ghost use Rattle.grid_export.specs.Passes.{cornerLists, settingsOf, growParams, fillParams, localParams, growLeft, growTold, growOutcome, growExported, passLeft, passTold, fillOutcome, fillExported, localOutcome, localExported};
 use arguments::FillParams;
 use arguments::GrowParams;
 use arguments::LocalExtensionParams;
@@ -11,13 +10,37 @@ use arguments::Settings;
 use passes::FillAnswer;
 use passes::GrowAnswer;
 use passes::LocalAnswer;
-use refusal::Refusal;
+use predict::Grid;
+use predict::Vector;
 
-// A refusal as an answer: its number.
-pub fn number_of(refusal: Refusal) -> u32
-    ensures { λ r. ⌜ r ≡ numberOf refusal ⌝ }
+// Cell size, axes and band.
+fn settings_of(
+    cell_size: f32,
+    axis_i_x: f32,
+    axis_i_y: f32,
+    axis_j_x: f32,
+    axis_j_y: f32,
+    edge_length_tol: f32,
+) -> Settings
+    ensures { λ r. ⌜ r ≡ settingsOf «cell_size» «axis_i_x» «axis_i_y» «axis_j_x» «axis_j_y» «edge_length_tol» ⌝ }
 {
-    refusal::number(refusal) as u32
+    let axis_i = Vector {
+        x: axis_i_x,
+        y: axis_i_y,
+    };
+    let axis_j = Vector {
+        x: axis_j_x,
+        y: axis_j_y,
+    };
+    let grid = Grid {
+        axis_i,
+        axis_j,
+        cell_size,
+    };
+    Settings {
+        grid,
+        edge_length_tol,
+    }
 }
 
 // Grow, with room for nine words.
@@ -46,7 +69,7 @@ fn run_grow(
         params,
     );
     match answer {
-        GrowAnswer::Refused(refusal) => number_of(refusal),
+        GrowAnswer::Refused(refusal) => super::words::number_of(refusal),
         GrowAnswer::Done(stats) => {
             report::words::put_grow(out, 0, stats);
             0
@@ -54,8 +77,8 @@ fn run_grow(
     }
 }
 
-// Grow.
-pub fn grow(
+// Grow, or 7.
+fn grow(
     xs: &[f32],
     ys: &[f32],
     pitches: &[f32],
@@ -71,7 +94,65 @@ pub fn grow(
     if out.len() < 9 {
         return 7;
     }
-    run_grow(xs, ys, pitches, sheet, queue, attached, settings, params, out)
+    run_grow(
+        xs,
+        ys,
+        pitches,
+        sheet,
+        queue,
+        attached,
+        settings,
+        params,
+        out,
+    )
+}
+
+// Grow. `out` takes the nine words of its outcome.
+#[no_mangle]
+pub extern "C" fn projective_grid_extend_from_labelled(
+    xs: &[f32],
+    ys: &[f32],
+    pitches: &[f32],
+    sheet: &mut [u16],
+    queue: &mut [u16],
+    attached: &mut [u16],
+    cell_size: f32,
+    axis_i_x: f32,
+    axis_i_y: f32,
+    axis_j_x: f32,
+    axis_j_y: f32,
+    edge_length_tol: f32,
+    attach_search_rel: f32,
+    attach_ambiguity_factor: f32,
+    boundary_search_factor: f32,
+    out: &mut [u32],
+) -> u32
+    ensures { λ r. ⌜ growLeft r (now (sheet .exit)) (now (queue .exit)) (now (attached .exit)) (now (out .exit)) ≡ growExported (cornerLists (now (xs .entry)) (now (ys .entry)) (now (pitches .entry))) (settingsOf «cell_size» «axis_i_x» «axis_i_y» «axis_j_x» «axis_j_y» «edge_length_tol») (growParams «attach_search_rel» «attach_ambiguity_factor» «boundary_search_factor») (now (sheet .entry)) (now (queue .entry)) (now (attached .entry)) (now (out .entry)) ⌝ }
+{
+    let settings = settings_of(
+        cell_size,
+        axis_i_x,
+        axis_i_y,
+        axis_j_x,
+        axis_j_y,
+        edge_length_tol,
+    );
+    let params = GrowParams {
+        attach_search_rel,
+        attach_ambiguity_factor,
+        boundary_search_factor,
+    };
+    grow(
+        xs,
+        ys,
+        pitches,
+        sheet,
+        queue,
+        attached,
+        settings,
+        params,
+        out,
+    )
 }
 
 // Fill, with room for nine words.
@@ -90,7 +171,7 @@ fn run_fill(
 {
     let answer = fill::fill_grid_holes(xs, ys, pitches, sheet, attached, settings, params);
     match answer {
-        FillAnswer::Refused(refusal) => number_of(refusal),
+        FillAnswer::Refused(refusal) => super::words::number_of(refusal),
         FillAnswer::Done(stats) => {
             report::words::put_fill(out, 0, stats);
             0
@@ -98,8 +179,8 @@ fn run_fill(
     }
 }
 
-// Fill.
-pub fn fill(
+// Fill, or 7.
+fn fill(
     xs: &[f32],
     ys: &[f32],
     pitches: &[f32],
@@ -115,6 +196,43 @@ pub fn fill(
         return 7;
     }
     run_fill(xs, ys, pitches, sheet, attached, settings, params, out)
+}
+
+// Fill. `out` takes the nine words of its outcome.
+#[no_mangle]
+pub extern "C" fn projective_grid_fill_grid_holes(
+    xs: &[f32],
+    ys: &[f32],
+    pitches: &[f32],
+    sheet: &mut [u16],
+    attached: &mut [u16],
+    cell_size: f32,
+    axis_i_x: f32,
+    axis_i_y: f32,
+    axis_j_x: f32,
+    axis_j_y: f32,
+    edge_length_tol: f32,
+    attach_search_rel: f32,
+    attach_ambiguity_factor: f32,
+    max_iters: u32,
+    out: &mut [u32],
+) -> u32
+    ensures { λ r. ⌜ passLeft r (now (sheet .exit)) (now (attached .exit)) (now (out .exit)) ≡ fillExported (cornerLists (now (xs .entry)) (now (ys .entry)) (now (pitches .entry))) (settingsOf «cell_size» «axis_i_x» «axis_i_y» «axis_j_x» «axis_j_y» «edge_length_tol») (fillParams «attach_search_rel» «attach_ambiguity_factor» «max_iters») (now (sheet .entry)) (now (attached .entry)) (now (out .entry)) ⌝ }
+{
+    let settings = settings_of(
+        cell_size,
+        axis_i_x,
+        axis_i_y,
+        axis_j_x,
+        axis_j_y,
+        edge_length_tol,
+    );
+    let params = FillParams {
+        attach_search_rel,
+        attach_ambiguity_factor,
+        max_iters,
+    };
+    fill(xs, ys, pitches, sheet, attached, settings, params, out)
 }
 
 // Local, with room for nine words.
@@ -141,7 +259,7 @@ fn run_local(
         params,
     );
     match answer {
-        LocalAnswer::Refused(refusal) => number_of(refusal),
+        LocalAnswer::Refused(refusal) => super::words::number_of(refusal),
         LocalAnswer::Done(stats) => {
             report::words::put_local(out, 0, stats);
             0
@@ -149,8 +267,8 @@ fn run_local(
     }
 }
 
-// Local.
-pub fn local(
+// Local, or 7.
+fn local(
     xs: &[f32],
     ys: &[f32],
     pitches: &[f32],
@@ -166,4 +284,45 @@ pub fn local(
         return 7;
     }
     run_local(xs, ys, pitches, sheet, attached, settings, params, out)
+}
+
+// Local. `out` takes the nine words of its outcome.
+#[no_mangle]
+pub extern "C" fn projective_grid_extend_via_local_homography(
+    xs: &[f32],
+    ys: &[f32],
+    pitches: &[f32],
+    sheet: &mut [u16],
+    attached: &mut [u16],
+    cell_size: f32,
+    axis_i_x: f32,
+    axis_i_y: f32,
+    axis_j_x: f32,
+    axis_j_y: f32,
+    edge_length_tol: f32,
+    search_rel: f32,
+    ambiguity_factor: f32,
+    max_iters: u32,
+    max_residual_rel: f32,
+    extend_depth: u32,
+    out: &mut [u32],
+) -> u32
+    ensures { λ r. ⌜ passLeft r (now (sheet .exit)) (now (attached .exit)) (now (out .exit)) ≡ localExported (cornerLists (now (xs .entry)) (now (ys .entry)) (now (pitches .entry))) (settingsOf «cell_size» «axis_i_x» «axis_i_y» «axis_j_x» «axis_j_y» «edge_length_tol») (localParams «search_rel» «ambiguity_factor» «max_iters» «max_residual_rel» «extend_depth») (now (sheet .entry)) (now (attached .entry)) (now (out .entry)) ⌝ }
+{
+    let settings = settings_of(
+        cell_size,
+        axis_i_x,
+        axis_i_y,
+        axis_j_x,
+        axis_j_y,
+        edge_length_tol,
+    );
+    let params = LocalExtensionParams {
+        search_rel,
+        ambiguity_factor,
+        max_iters,
+        max_residual_rel,
+        extend_depth,
+    };
+    local(xs, ys, pitches, sheet, attached, settings, params, out)
 }

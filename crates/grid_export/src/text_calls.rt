@@ -21,9 +21,9 @@ fn run_text(
 {
     let answer = report::write_result(corners, passes, words, sheet, text);
     match answer {
-        TextAnswer::Refused(refusal) => super::pass_calls::number_of(refusal),
+        TextAnswer::Refused(refusal) => super::words::number_of(refusal),
         TextAnswer::Written(bytes) => {
-            super::frame_calls::enter(out, 0, bytes);
+            super::words::enter(out, 0, bytes);
             0
         }
     }
@@ -62,10 +62,10 @@ fn run_piece(
 {
     let answer = report::write_result_piece(corners, passes, words, sheet, from, text);
     match answer {
-        PieceAnswer::Refused(refusal) => super::pass_calls::number_of(refusal),
+        PieceAnswer::Refused(refusal) => super::words::number_of(refusal),
         PieceAnswer::Written(bytes, next) => {
-            super::frame_calls::enter(out, 0, bytes);
-            super::frame_calls::enter(out, 1, next);
+            super::words::enter(out, 0, bytes);
+            super::words::enter(out, 1, next);
             0
         }
     }

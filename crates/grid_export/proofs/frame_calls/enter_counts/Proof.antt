@@ -1,9 +1,8 @@
+-- `frame_calls::enter_counts` meets its contract: three words one after the other. Assumes nothing.
 use Rattle.grid_export.proofs.Entering.{three}
 use borrow.Author.Needs.{needs}
 use Rattle.grid_export.proofs.frame_calls.enter_counts.Statement.{statement}
 use Rattle.grid_export.proofs.frame_calls.enter_counts.Tie as tie
-use Rattle.grid_export.proofs.frame_calls.enter_counts.Reads as reads
-use Rattle.grid_export.proofs.frame_calls.enter_counts.Lts as lts
 
 enter-requires : tie.Need-enter-requires
 enter-requires c κs = search needs

@@ -1,9 +1,8 @@
+-- `frame_calls::enter_line` meets its contract: 7 writes nothing, else the line is the first word. Assumes nothing.
 use Rattle.grid_export.proofs.Frames.{no-line, a-line}
 use borrow.Author.Needs.{needs}
 use Rattle.grid_export.proofs.frame_calls.enter_line.Statement.{statement}
 use Rattle.grid_export.proofs.frame_calls.enter_line.Tie as tie
-use Rattle.grid_export.proofs.frame_calls.enter_line.Reads as reads
-use Rattle.grid_export.proofs.frame_calls.enter_line.Lts as lts
 
 number-of-requires : tie.Need-number-of-requires
 number-of-requires c κs = search needs

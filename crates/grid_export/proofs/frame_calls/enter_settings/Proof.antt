@@ -1,9 +1,8 @@
+-- `frame_calls::enter_settings` meets its contract: six floats one after the other. Assumes nothing.
 use Rattle.grid_export.proofs.Entering.{at-1, at-2, at-3, at-4, at-5, six}
 use borrow.Author.Needs.{needs}
 use Rattle.grid_export.proofs.frame_calls.enter_settings.Statement.{statement}
 use Rattle.grid_export.proofs.frame_calls.enter_settings.Tie as tie
-use Rattle.grid_export.proofs.frame_calls.enter_settings.Reads as reads
-use Rattle.grid_export.proofs.frame_calls.enter_settings.Lts as lts
 
 slice-write-floats : tie.Need-slice-write-floats
 slice-write-floats c = search needs

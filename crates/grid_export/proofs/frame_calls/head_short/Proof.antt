@@ -1,3 +1,4 @@
+-- `frame_calls::head_short` meets its contract: a test after the other. Assumes nothing.
 use mathlib.Core.Path.{refl}
 use borrow.Author.Tests.{lt-ltb, le-ltb}
 use Rattle.arguments.proofs.Tests.{holds, fails}
@@ -5,8 +6,6 @@ use Rattle.grid_export.specs.Frames.{headShort}
 use borrow.Author.Needs.{needs}
 use Rattle.grid_export.proofs.frame_calls.head_short.Statement.{statement}
 use Rattle.grid_export.proofs.frame_calls.head_short.Tie as tie
-use Rattle.grid_export.proofs.frame_calls.head_short.Reads as reads
-use Rattle.grid_export.proofs.frame_calls.head_short.Lts as lts
 
 returns : tie.Need-returns
 unfolding headShort

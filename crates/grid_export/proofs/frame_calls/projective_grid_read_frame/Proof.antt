@@ -1,10 +1,9 @@
+-- `frame_calls::projective_grid_read_frame` meets its contract: no room for the head, or the reader. Assumes nothing.
 use mathlib.Core.Path.{_∙_}
 use Rattle.grid_export.proofs.Frames.{head-room, read-short, read-room}
 use borrow.Author.Needs.{needs}
 use Rattle.grid_export.proofs.frame_calls.projective_grid_read_frame.Statement.{statement}
 use Rattle.grid_export.proofs.frame_calls.projective_grid_read_frame.Tie as tie
-use Rattle.grid_export.proofs.frame_calls.projective_grid_read_frame.Reads as reads
-use Rattle.grid_export.proofs.frame_calls.projective_grid_read_frame.Lts as lts
 
 head-short-requires : tie.Need-head-short-requires
 head-short-requires c κs = search needs

@@ -1,9 +1,8 @@
+-- `frame_calls::run_read` meets its contract: the reader's answer is told. Assumes nothing.
 use Rattle.grid_export.proofs.Frames.{sayable, read-left}
 use borrow.Author.Needs.{needs}
 use Rattle.grid_export.proofs.frame_calls.run_read.Statement.{statement}
 use Rattle.grid_export.proofs.frame_calls.run_read.Tie as tie
-use Rattle.grid_export.proofs.frame_calls.run_read.Reads as reads
-use Rattle.grid_export.proofs.frame_calls.run_read.Lts as lts
 
 read-frame-requires : tie.Need-read-frame-requires
 read-frame-requires c κs = search needs

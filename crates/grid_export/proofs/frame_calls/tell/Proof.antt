@@ -1,10 +1,9 @@
+-- `frame_calls::tell` meets its contract: a refusal, or a head. Assumes nothing.
 use native.Mathlib.Omega.{arith}
 use Rattle.grid_export.proofs.Frames.{tell-refused, tell-accepted, line-sayable, counts-sayable}
 use borrow.Author.Needs.{needs}
 use Rattle.grid_export.proofs.frame_calls.tell.Statement.{statement}
 use Rattle.grid_export.proofs.frame_calls.tell.Tie as tie
-use Rattle.grid_export.proofs.frame_calls.tell.Reads as reads
-use Rattle.grid_export.proofs.frame_calls.tell.Lts as lts
 
 enum-known-answer : tie.Need-enum-known-answer
 enum-known-answer c = search needs

@@ -1,60 +1,44 @@
+-- `pass_calls::run_fill` meets its contract: a refusal, or fill's outcome as nine words. Assumes nothing.
 use native.Mathlib.Omega.{arith}
 use Rattle.recovery.proofs.Running.{fill-small}
 use Rattle.grid_export.proofs.Passes.{fill-refused, fill-done}
 use borrow.Author.Needs.{needs}
 use Rattle.grid_export.proofs.pass_calls.run_fill.Statement.{statement}
 use Rattle.grid_export.proofs.pass_calls.run_fill.Tie as tie
-use Rattle.grid_export.proofs.pass_calls.run_fill.Reads as reads
-use Rattle.grid_export.proofs.pass_calls.run_fill.Lts as lts
-use Rattle.fill.proofs.fill_grid_holes.Reads as fill-grid-holes-reads
-use Rattle.grid_export.proofs.pass_calls.number_of.Reads as number-of-reads
-use Rattle.report.proofs.words.put_fill.Reads as put-fill-reads
 
--- src/pass_calls.rt:91:9
 fill-grid-holes-requires : tie.Need-fill-grid-holes-requires
 fill-grid-holes-requires c κs = search needs
 
--- src/pass_calls.rt:93:29
 enum-known-answer : tie.Need-enum-known-answer
 enum-known-answer c = search needs
 
--- src/pass_calls.rt:93:41
 number-of-requires : tie.Need-number-of-requires
 number-of-requires c κs = search needs
 
--- src/pass_calls.rt:94:26
 enum-known-answer-2 : tie.Need-enum-known-answer-2
 enum-known-answer-2 c = search needs
 
--- src/pass_calls.rt:95:13
 put-fill-requires : tie.Need-put-fill-requires
 put-fill-requires c κs = let small = fill-small _ _ _ 0 (c .before .before .before .before .before .before .before .before .before .before .before .before .before .before .before .before .before .args .sheet .now) (c .before .before .before .before .before .before .before .before .before .before .before .before .before .before .before .before .before .args .attached .now) (c .before .before .before .before .before .before .before .before .fill-grid-holes .last .1 .1 .1 .0) (c .before .before .before .before .before .before .before .before .fill-grid-holes .last .1 .1 .1 .1 .0) _ _ (c .before .before .answer2 .given .1) (c .before .before .before .before .before .before .before .before .fill-grid-holes .ensures) in omega (arith, c .before .before .before .before .before .before .before .before .before .before .before .before .before .before .before .before .before .pre, small)
 
--- src/pass_calls.rt:78:1
 same-length : tie.Need-same-length
 same-length c = search needs
 
--- src/pass_calls.rt:78:1
 same-length-2 : tie.Need-same-length-2
 same-length-2 c = search needs
 
--- src/pass_calls.rt:78:1
 returns : tie.Need-returns
 returns c = rw (c .number-of .ensures) (fill-refused _ _ _ (c .before .before .before .before .before .before .before .before .before .before .before .before .before .before .before .before .before .args .sheet .now) (c .before .before .before .before .before .before .before .before .before .before .before .before .before .before .before .before .before .args .attached .now) (c .before .before .before .before .before .before .before .before .fill-grid-holes .last .1 .1 .1 .0) (c .before .before .before .before .before .before .before .before .fill-grid-holes .last .1 .1 .1 .1 .0) (c .before .before .before .before .before .before .before .before .before .before .before .before .before .before .before .before .before .args .out .now) _ (c .before .before .before .before .before .before .before .before .fill-grid-holes .ensures) _ (c .before .before .answer .given .1))
 
--- src/pass_calls.rt:78:1
 same-length-3 : tie.Need-same-length-3
 same-length-3 c = search needs
 
--- src/pass_calls.rt:78:1
 same-length-4 : tie.Need-same-length-4
 same-length-4 c = search needs
 
--- src/pass_calls.rt:78:1
 same-length-5 : tie.Need-same-length-5
 same-length-5 c = search needs
 
--- src/pass_calls.rt:78:1
 returns-2 : tie.Need-returns-2
 returns-2 c = fill-done _ _ _ (c .before .before .before .before .before .before .before .before .before .before .before .before .before .before .before .before .before .before .before .before .args .sheet .now) (c .before .before .before .before .before .before .before .before .before .before .before .before .before .before .before .before .before .before .before .before .args .attached .now) (c .before .before .before .before .before .before .before .before .before .before .before .fill-grid-holes .last .1 .1 .1 .0) (c .before .before .before .before .before .before .before .before .before .before .before .fill-grid-holes .last .1 .1 .1 .1 .0) (c .before .before .before .before .before .before .before .before .before .before .before .before .before .before .before .before .before .before .before .before .args .out .now) _ (c .before .before .before .before .before .before .before .before .before .before .before .fill-grid-holes .ensures) _ _ (c .before .before .before .before .before .answer2 .given .1) (c .before .before .put-fill .ensures)
 

@@ -1,68 +1,50 @@
+-- `pass_calls::run_grow` meets its contract: a refusal, or grow's outcome as nine words. Assumes nothing.
 use native.Mathlib.Omega.{arith}
 use Rattle.recovery.proofs.Running.{grow-small}
 use Rattle.grid_export.proofs.Passes.{grow-refused, grow-done}
 use borrow.Author.Needs.{needs}
 use Rattle.grid_export.proofs.pass_calls.run_grow.Statement.{statement}
 use Rattle.grid_export.proofs.pass_calls.run_grow.Tie as tie
-use Rattle.grid_export.proofs.pass_calls.run_grow.Reads as reads
-use Rattle.grid_export.proofs.pass_calls.run_grow.Lts as lts
-use Rattle.grid_export.proofs.pass_calls.number_of.Reads as number-of-reads
-use Rattle.grow_extend.proofs.extend_from_labelled.Reads as extend-from-labelled-reads
-use Rattle.report.proofs.words.put_grow.Reads as put-grow-reads
 
--- src/pass_calls.rt:38:9
 extend-from-labelled-requires : tie.Need-extend-from-labelled-requires
 extend-from-labelled-requires c κs = search needs
 
--- src/pass_calls.rt:49:29
 enum-known-answer : tie.Need-enum-known-answer
 enum-known-answer c = search needs
 
--- src/pass_calls.rt:49:41
 number-of-requires : tie.Need-number-of-requires
 number-of-requires c κs = search needs
 
--- src/pass_calls.rt:50:26
 enum-known-answer-2 : tie.Need-enum-known-answer-2
 enum-known-answer-2 c = search needs
 
--- src/pass_calls.rt:51:13
 put-grow-requires : tie.Need-put-grow-requires
 put-grow-requires c κs = let small = grow-small _ _ _ (c .before .before .before .before .before .before .before .before .before .before .before .before .before .before .before .before .before .before .before .before .before .args .sheet .now) (c .before .before .before .before .before .before .before .before .before .before .before .before .before .before .before .before .before .before .before .before .before .args .queue .now) (c .before .before .before .before .before .before .before .before .before .before .before .before .before .before .before .before .before .before .before .before .before .args .attached .now) (c .before .before .before .before .before .before .before .before .before .before .extend-from-labelled .last .1 .1 .1 .0) (c .before .before .before .before .before .before .before .before .before .before .extend-from-labelled .last .1 .1 .1 .1 .0) (c .before .before .before .before .before .before .before .before .before .before .extend-from-labelled .last .1 .1 .1 .1 .1 .0) _ _ (c .before .before .answer2 .given .1) (c .before .before .before .before .before .before .before .before .before .before .extend-from-labelled .ensures) in omega (arith, c .before .before .before .before .before .before .before .before .before .before .before .before .before .before .before .before .before .before .before .before .before .pre, small)
 
--- src/pass_calls.rt:24:1
 same-length : tie.Need-same-length
 same-length c = search needs
 
--- src/pass_calls.rt:24:1
 same-length-2 : tie.Need-same-length-2
 same-length-2 c = search needs
 
--- src/pass_calls.rt:24:1
 same-length-3 : tie.Need-same-length-3
 same-length-3 c = search needs
 
--- src/pass_calls.rt:24:1
 returns : tie.Need-returns
 returns c = rw (c .number-of .ensures) (grow-refused _ _ _ (c .before .before .before .before .before .before .before .before .before .before .before .before .before .before .before .before .before .before .before .before .before .args .sheet .now) (c .before .before .before .before .before .before .before .before .before .before .before .before .before .before .before .before .before .before .before .before .before .args .queue .now) (c .before .before .before .before .before .before .before .before .before .before .before .before .before .before .before .before .before .before .before .before .before .args .attached .now) (c .before .before .before .before .before .before .before .before .before .before .extend-from-labelled .last .1 .1 .1 .0) (c .before .before .before .before .before .before .before .before .before .before .extend-from-labelled .last .1 .1 .1 .1 .0) (c .before .before .before .before .before .before .before .before .before .before .extend-from-labelled .last .1 .1 .1 .1 .1 .0) (c .before .before .before .before .before .before .before .before .before .before .before .before .before .before .before .before .before .before .before .before .before .args .out .now) _ (c .before .before .before .before .before .before .before .before .before .before .extend-from-labelled .ensures) _ (c .before .before .answer .given .1))
 
--- src/pass_calls.rt:24:1
 same-length-4 : tie.Need-same-length-4
 same-length-4 c = search needs
 
--- src/pass_calls.rt:24:1
 same-length-5 : tie.Need-same-length-5
 same-length-5 c = search needs
 
--- src/pass_calls.rt:24:1
 same-length-6 : tie.Need-same-length-6
 same-length-6 c = search needs
 
--- src/pass_calls.rt:24:1
 same-length-7 : tie.Need-same-length-7
 same-length-7 c = search needs
 
--- src/pass_calls.rt:24:1
 returns-2 : tie.Need-returns-2
 returns-2 c = grow-done _ _ _ (c .before .before .before .before .before .before .before .before .before .before .before .before .before .before .before .before .before .before .before .before .before .before .before .before .args .sheet .now) (c .before .before .before .before .before .before .before .before .before .before .before .before .before .before .before .before .before .before .before .before .before .before .before .before .args .queue .now) (c .before .before .before .before .before .before .before .before .before .before .before .before .before .before .before .before .before .before .before .before .before .before .before .before .args .attached .now) (c .before .before .before .before .before .before .before .before .before .before .before .before .before .extend-from-labelled .last .1 .1 .1 .0) (c .before .before .before .before .before .before .before .before .before .before .before .before .before .extend-from-labelled .last .1 .1 .1 .1 .0) (c .before .before .before .before .before .before .before .before .before .before .before .before .before .extend-from-labelled .last .1 .1 .1 .1 .1 .0) (c .before .before .before .before .before .before .before .before .before .before .before .before .before .before .before .before .before .before .before .before .before .before .before .before .args .out .now) _ (c .before .before .before .before .before .before .before .before .before .before .before .before .before .extend-from-labelled .ensures) _ _ (c .before .before .before .before .before .answer2 .given .1) (c .before .before .put-grow .ensures)
 

@@ -1,60 +1,44 @@
+-- `pass_calls::run_local` meets its contract: a refusal, or local's outcome as nine words. Assumes nothing.
 use native.Mathlib.Omega.{arith}
 use Rattle.recovery.proofs.Running.{local-small}
 use Rattle.grid_export.proofs.Passes.{local-refused, local-done}
 use borrow.Author.Needs.{needs}
 use Rattle.grid_export.proofs.pass_calls.run_local.Statement.{statement}
 use Rattle.grid_export.proofs.pass_calls.run_local.Tie as tie
-use Rattle.grid_export.proofs.pass_calls.run_local.Reads as reads
-use Rattle.grid_export.proofs.pass_calls.run_local.Lts as lts
-use Rattle.grid_export.proofs.pass_calls.number_of.Reads as number-of-reads
-use Rattle.local.proofs.extend_via_local_homography.Reads as extend-via-local-homography-reads
-use Rattle.report.proofs.words.put_local.Reads as put-local-reads
 
--- src/pass_calls.rt:134:9
 extend-via-local-homography-requires : tie.Need-extend-via-local-homography-requires
 extend-via-local-homography-requires c κs = search needs
 
--- src/pass_calls.rt:144:30
 enum-known-answer : tie.Need-enum-known-answer
 enum-known-answer c = search needs
 
--- src/pass_calls.rt:144:42
 number-of-requires : tie.Need-number-of-requires
 number-of-requires c κs = search needs
 
--- src/pass_calls.rt:145:27
 enum-known-answer-2 : tie.Need-enum-known-answer-2
 enum-known-answer-2 c = search needs
 
--- src/pass_calls.rt:146:13
 put-local-requires : tie.Need-put-local-requires
 put-local-requires c κs = let small = local-small _ _ _ 0 (c .before .before .before .before .before .before .before .before .before .before .before .before .before .before .before .before .before .args .sheet .now) (c .before .before .before .before .before .before .before .before .before .before .before .before .before .before .before .before .before .args .attached .now) (c .before .before .before .before .before .before .before .before .extend-via-local-homography .last .1 .1 .1 .0) (c .before .before .before .before .before .before .before .before .extend-via-local-homography .last .1 .1 .1 .1 .0) _ _ (c .before .before .answer2 .given .1) (c .before .before .before .before .before .before .before .before .extend-via-local-homography .ensures) in omega (arith, c .before .before .before .before .before .before .before .before .before .before .before .before .before .before .before .before .before .pre, small .0, small .1 .0)
 
--- src/pass_calls.rt:121:1
 same-length : tie.Need-same-length
 same-length c = search needs
 
--- src/pass_calls.rt:121:1
 same-length-2 : tie.Need-same-length-2
 same-length-2 c = search needs
 
--- src/pass_calls.rt:121:1
 returns : tie.Need-returns
 returns c = rw (c .number-of .ensures) (local-refused _ _ _ (c .before .before .before .before .before .before .before .before .before .before .before .before .before .before .before .before .before .args .sheet .now) (c .before .before .before .before .before .before .before .before .before .before .before .before .before .before .before .before .before .args .attached .now) (c .before .before .before .before .before .before .before .before .extend-via-local-homography .last .1 .1 .1 .0) (c .before .before .before .before .before .before .before .before .extend-via-local-homography .last .1 .1 .1 .1 .0) (c .before .before .before .before .before .before .before .before .before .before .before .before .before .before .before .before .before .args .out .now) _ (c .before .before .before .before .before .before .before .before .extend-via-local-homography .ensures) _ (c .before .before .answer .given .1))
 
--- src/pass_calls.rt:121:1
 same-length-3 : tie.Need-same-length-3
 same-length-3 c = search needs
 
--- src/pass_calls.rt:121:1
 same-length-4 : tie.Need-same-length-4
 same-length-4 c = search needs
 
--- src/pass_calls.rt:121:1
 same-length-5 : tie.Need-same-length-5
 same-length-5 c = search needs
 
--- src/pass_calls.rt:121:1
 returns-2 : tie.Need-returns-2
 returns-2 c = local-done _ _ _ (c .before .before .before .before .before .before .before .before .before .before .before .before .before .before .before .before .before .before .before .before .args .sheet .now) (c .before .before .before .before .before .before .before .before .before .before .before .before .before .before .before .before .before .before .before .before .args .attached .now) (c .before .before .before .before .before .before .before .before .before .before .before .extend-via-local-homography .last .1 .1 .1 .0) (c .before .before .before .before .before .before .before .before .before .before .before .extend-via-local-homography .last .1 .1 .1 .1 .0) (c .before .before .before .before .before .before .before .before .before .before .before .before .before .before .before .before .before .before .before .before .args .out .now) _ (c .before .before .before .before .before .before .before .before .before .before .before .extend-via-local-homography .ensures) _ _ (c .before .before .before .before .before .answer2 .given .1) (c .before .before .put-local .ensures)
 

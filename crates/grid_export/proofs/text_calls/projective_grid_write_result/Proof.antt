@@ -1,10 +1,9 @@
+-- `text_calls::projective_grid_write_result` meets its contract: no room for the word, or the text. Assumes nothing.
 use mathlib.Core.Path.{_∙_}
 use Rattle.grid_export.proofs.Texts.{text-short, text-room}
 use borrow.Author.Needs.{needs}
 use Rattle.grid_export.proofs.text_calls.projective_grid_write_result.Statement.{statement}
 use Rattle.grid_export.proofs.text_calls.projective_grid_write_result.Tie as tie
-use Rattle.grid_export.proofs.text_calls.projective_grid_write_result.Reads as reads
-use Rattle.grid_export.proofs.text_calls.projective_grid_write_result.Lts as lts
 
 returns : tie.Need-returns
 returns c = text-short _ (c .before .before .before .before .before .args .text .now) (c .before .before .before .before .before .args .out .now) (c .if1 .taken)

@@ -1,3 +1,4 @@
+-- `text_calls::projective_grid_write_result_piece` meets its contract: no room for two words, or a piece. Assumes nothing.
 use mathlib.Core.Path.{_∙_}
 use Rattle.grid_export.proofs.Texts.{piece-short, piece-room}
 use borrow.Author.Needs.{needs}
@@ -5,8 +6,6 @@ use Rattle.grid_export.proofs.text_calls.projective_grid_write_result_p
   statement,
 }
 use Rattle.grid_export.proofs.text_calls.projective_grid_write_result_piece.Tie as tie
-use Rattle.grid_export.proofs.text_calls.projective_grid_write_result_piece.Reads as reads
-use Rattle.grid_export.proofs.text_calls.projective_grid_write_result_piece.Lts as lts
 
 returns : tie.Need-returns
 returns c = piece-short _ (c .before .before .before .before .before .args .from) (c .before .before .before .before .before .args .text .now) (c .before .before .before .before .before .args .out .now) (c .if1 .taken)

@@ -1,10 +1,9 @@
+-- `text_calls::run_piece` meets its contract: a refusal, or a piece, its length and the next line. Assumes nothing.
 use native.Mathlib.Omega.{arith}
 use Rattle.grid_export.proofs.Texts.{piece-words, piece-refused, piece-done}
 use borrow.Author.Needs.{needs}
 use Rattle.grid_export.proofs.text_calls.run_piece.Statement.{statement}
 use Rattle.grid_export.proofs.text_calls.run_piece.Tie as tie
-use Rattle.grid_export.proofs.text_calls.run_piece.Reads as reads
-use Rattle.grid_export.proofs.text_calls.run_piece.Lts as lts
 
 write-result-piece-requires : tie.Need-write-result-piece-requires
 write-result-piece-requires c κs = search needs

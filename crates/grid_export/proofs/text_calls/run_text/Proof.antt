@@ -1,10 +1,9 @@
+-- `text_calls::run_text` meets its contract: a refusal, or the text and its length. Assumes nothing.
 use native.Mathlib.Omega.{arith}
 use Rattle.grid_export.proofs.Texts.{text-word, text-refused, text-done}
 use borrow.Author.Needs.{needs}
 use Rattle.grid_export.proofs.text_calls.run_text.Statement.{statement}
 use Rattle.grid_export.proofs.text_calls.run_text.Tie as tie
-use Rattle.grid_export.proofs.text_calls.run_text.Reads as reads
-use Rattle.grid_export.proofs.text_calls.run_text.Lts as lts
 
 write-result-requires : tie.Need-write-result-requires
 write-result-requires c κs = search needs

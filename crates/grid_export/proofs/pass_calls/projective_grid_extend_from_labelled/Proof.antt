@@ -1,38 +1,28 @@
+-- `pass_calls::projective_grid_extend_from_labelled` meets its contract: its numbers are settings and params. Assumes nothing.
 use mathlib.Core.Path.{_∙_}
 use Rattle.grid_export.proofs.Passes.{grow-as}
 use borrow.Author.Needs.{needs}
-use Rattle.grid_export.proofs.projective_grid_extend_from_labelled.Statement.{statement}
-use Rattle.grid_export.proofs.projective_grid_extend_from_labelled.Tie as tie
-use Rattle.grid_export.proofs.projective_grid_extend_from_labelled.Reads as reads
-use Rattle.grid_export.proofs.projective_grid_extend_from_labelled.Lts as lts
-use Rattle.grid_export.proofs.pass_calls.grow.Reads as grow-reads
-use Rattle.grid_export.proofs.settings_of.Reads as settings-of-reads
+use Rattle.grid_export.proofs.pass_calls.projective_grid_extend_from_labelled.Statement.{statement}
+use Rattle.grid_export.proofs.pass_calls.projective_grid_extend_from_labelled.Tie as tie
 
--- src/lib.rt:66:9
 settings-of-requires : tie.Need-settings-of-requires
 settings-of-requires c κs = search needs
 
--- src/lib.rt:79:5
 grow-requires : tie.Need-grow-requires
 grow-requires c κs = search needs
 
--- src/lib.rt:45:1
 same-length : tie.Need-same-length
 same-length c = search needs
 
--- src/lib.rt:45:1
 same-length-2 : tie.Need-same-length-2
 same-length-2 c = search needs
 
--- src/lib.rt:45:1
 same-length-3 : tie.Need-same-length-3
 same-length-3 c = search needs
 
--- src/lib.rt:45:1
 same-length-4 : tie.Need-same-length-4
 same-length-4 c = search needs
 
--- src/lib.rt:45:1
 returns : tie.Need-returns
 returns c = c .before .before .before .before .before .before .before .before .grow .ensures ∙ grow-as _ _ _ (c .before .before .before .before .before .before .before .before .before .before .before .before .before .before .before .before .before .before .before .before .before .args .sheet .now) (c .before .before .before .before .before .before .before .before .before .before .before .before .before .before .before .before .before .before .before .before .before .args .queue .now) (c .before .before .before .before .before .before .before .before .before .before .before .before .before .before .before .before .before .before .before .before .before .args .attached .now) _ (c .before .before .before .before .before .before .before .before .before .before .before .before .before .settings-of .ensures) (c .before .before .before .before .before .before .before .before .before .before .before .before .before .before .before .before .before .before .before .before .before .args .out .now)
 

@@ -1,0 +1,105 @@
+#!/usr/bin/env python3
+"""Compares the C example over the proved static library with the proved program.
+
+    c/test.py                 builds (c/build), then compares c/out/recover with target/bin/recover byte for byte: the
+                              example frames, the frames of compare/, every text of compare/cases.py, refused ones
+                              included, and generated frames; then runs c/out/short on accepted frames
+    c/test.py --frames N      N generated frames (default 1000), --seed S from another seed
+    c/test.py --built         does not build first
+
+Fails at the first frame with another answer. target/bin/recover comes from `rt check recover`. Without gcc it says so
+and compares nothing.
+"""
+
+import argparse
+import glob
+import os
+import shutil
+import subprocess
+import sys
+import tempfile
+
+HERE = os.path.dirname(os.path.abspath(__file__))
+ROOT = os.path.dirname(HERE)
+sys.path.insert(0, os.path.join(ROOT, "compare"))
+
+import cases
+import generate
+
+OURS = os.path.join(HERE, "out", "recover")
+SHORT = os.path.join(HERE, "out", "short")
+PROVED = os.path.join(ROOT, "target", "bin", "recover")
+
+
+class Comparison:
+    def __init__(self, folder):
+        self.file = os.path.join(folder, "frame")
+        self.count = self.refused = 0
+
+    def compare(self, name, data):
+        """The text as a file and on standard input; the proved program reads standard input."""
+        with open(self.file, "wb") as out:
+            out.write(data)
+        expected = subprocess.run([PROVED], input=data, capture_output=True, timeout=600)
+        for how, done in (
+            ("as a file", subprocess.run([OURS, self.file], stdin=subprocess.DEVNULL, capture_output=True, timeout=600)),
+            ("on standard input", subprocess.run([OURS], input=data, capture_output=True, timeout=600)),
+        ):
+            if (done.stdout, done.stderr, done.returncode) != (expected.stdout, expected.stderr, expected.returncode):
+                shutil.copy(self.file, "differs.frame")
+                sys.exit(f"c/test.py: {name} {how}: {done.stdout[:200]!r} {done.stderr[:200]!r} {done.returncode}, the proved "
+                         f"program says {expected.stdout[:200]!r} {expected.stderr[:200]!r} {expected.returncode} (differs.frame)")
+        self.count += 1
+        self.refused += expected.stdout.startswith(b"(refused")
+        return expected.stdout
+
+    def say(self, what):
+        print(f"c/test.py: {what}: {self.count} texts, {self.refused} of them refused, all answers equal", flush=True)
+        self.count = self.refused = 0
+
+
+def files():
+    for pattern in ("examples/*.frame", "examples/bench/*.frame", "compare/frames/*.frame", "compare/vectors/*.frame"):
+        yield from sorted(glob.glob(os.path.join(ROOT, pattern)))
+
+
+def with_corners(data):
+    return b"\n(corner " in data
+
+
+def main():
+    options = argparse.ArgumentParser(description=__doc__, formatter_class=argparse.RawDescriptionHelpFormatter)
+    options.add_argument("--frames", type=int, default=1000)
+    options.add_argument("--seed", type=int, default=1)
+    options.add_argument("--built", action="store_true")
+    options = options.parse_args()
+    if not shutil.which("gcc"):
+        print("c/test.py: there is no gcc on this machine: nothing is built and nothing compared")
+        return
+    if not options.built:
+        subprocess.run([os.path.join(HERE, "build")], check=True)
+    if not os.path.exists(PROVED):
+        sys.exit("c/test.py: there is no target/bin/recover: run `rt check recover`")
+    accepted = []
+    with tempfile.TemporaryDirectory() as folder:
+        runs = Comparison(folder)
+        for path in files():
+            data = open(path, "rb").read()
+            if not runs.compare(os.path.relpath(path, ROOT), data).startswith(b"(refused") and with_corners(data):
+                accepted.append(path)
+        runs.say("frames of this repository")
+        for name, data, _ in cases.cases():
+            runs.compare(name, data)
+        runs.say("compare/cases.py")
+        for name, data in generate.frames(options.seed, options.frames):
+            runs.compare(name, data)
+        runs.say(f"generated frames of seed {options.seed}")
+    for path in accepted:
+        done = subprocess.run([SHORT, path], capture_output=True, text=True, timeout=600)
+        if done.returncode:
+            sys.exit(f"c/test.py: {os.path.relpath(path, ROOT)}: {done.stdout[-2000:]}{done.stderr[-2000:]}{done.returncode}")
+    print(f"c/test.py: every buffer one place short, on {len(accepted)} frames: {done.stdout.strip()} on the last")
+
+
+if __name__ == "__main__":
+    main()
