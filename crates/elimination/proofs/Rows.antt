@@ -6,13 +6,15 @@ use Prim.Native.Nat.{ℕ, suc, _+_, _-_, _<_, _≤_}
 use native.Mathlib.Numerals.{add-one}
 use native.Mathlib.Decide.{ℕ-discrete}
 use native.Mathlib.Omega.{arith}
-use borrow.Author.Tests.{eq-eqb, ne-eqb, lt-ltb, le-ltb}
+use borrow.Author.Tests.{eq-eqb, ne-eqb, lt-ltb, le-ltb, ltb-true, ltb-false}
 use lib.Dec.{eqb, ltb}
 use lib.ListN.{length, getD, set, length-set}
 use lib.Seq.{getD-set-same, getD-set-other}
 use lib.Ieee.{Float, nan, lt}
-use Rattle.elimination.specs.Rounded.{magnitude}
-use Rattle.elimination.specs.Solve.{Row, Matrix, row, entry, largest, swapped, pivoted, multiplier, gain, gained, cleared, eliminated, rightSides, answer, carry, carried, answered}
+use Rattle.elimination.specs.Rounded.{_⊗_, magnitude}
+use Rattle.elimination.specs.Solve.{Row, Matrix, row, entry, largest, swapped, pivoted, reciprocal, multiplier, gain, gained, cleared, eliminated, rightSides, answer, carry, carried, answered}
+use Rattle.elimination.specs.Shape.{EightByNine}
+use Rattle.elimination.proofs.Shape.{answered-long}
 use Rattle.elimination.proofs.Tables.{table-is, Filling, filling-start, filling-more, filling-end, filling-whole}
 
 -- ---- the pivot, chosen among the rows up to row i
@@ -82,8 +84,11 @@ pub record Gaining (r p : Row) (w : Float) (k : ℕ) (l : Row) (j : ℕ) : Type 
 pub gain-start : (r p : Row) (w : Float) (k : ℕ) → length r ≡ 9 → k < 8 → Gaining r p w k r (k + 1)
 gain-start r p w k e h = record { fill = filling-start 9 (k + 1) (gainedAt r p w k) nan r (omega arith) e (λ j l. rw (le-ltb k j (omega arith))) }
 
-pub gain-more : {r p : Row} {w : Float} {k : ℕ} {l : Row} {j : ℕ} → Gaining r p w k l j → j < 9 → Gaining r p w k (set l j (gain (getD r j nan) w (getD p j nan))) (j + 1)
-gain-more {k = k} {j = j} g h = record { fill = filling-more (g .fill) h (rw (lt-ltb k j (omega (arith, g .fill .from)))) }
+-- the row is written in place: what is read at column j is what stood there
+pub gain-more : {r p : Row} {w : Float} {k : ℕ} {l : Row} {j : ℕ} → Gaining r p w k l j → j < 9 → Gaining r p w k (set l j (gain (getD l j nan) w (getD p j nan))) (j + 1)
+gain-more {p = p} {w = w} {k = k} {j = j} g h = record {
+  fill = filling-more (g .fill) h (rw (lt-ltb k j (omega (arith, g .fill .from))) (ap (λ (x : Float). gain x w (getD p j nan)) (g .fill .kept j (omega arith))));
+}
 
 pub gain-end : {r p : Row} {w : Float} {k : ℕ} {l : Row} {j : ℕ} → Gaining r p w k l j → 9 ≤ j → l ≡ gained r p w k
 unfolding gained
@@ -95,13 +100,22 @@ abbrev clearedAt : Matrix → ℕ → ℕ → Row
 clearedAt m k i = cond (ltb k i) (gained (row m i) (row m k) (multiplier m k i) k) (row m i)
 
 pub record Clearing (m : Matrix) (k : ℕ) (n : Matrix) (i : ℕ) : Type 0 where
+  pub shape : EightByNine m
   pub fill : Filling 8 (k + 1) (clearedAt m k) [] m n i
 
-pub clear-start : (m : Matrix) (k : ℕ) → length m ≡ 8 → k < 8 → Clearing m k m (k + 1)
-clear-start m k e h = record { fill = filling-start 8 (k + 1) (clearedAt m k) [] m (omega arith) e (λ i l. rw (le-ltb k i (omega arith))) }
+pub clear-start : (m : Matrix) (k : ℕ) → EightByNine m → k < 8 → Clearing m k m (k + 1)
+clear-start m k e h = record { shape = e; fill = filling-start 8 (k + 1) (clearedAt m k) [] m (omega arith) (e .rows) (λ i l. rw (le-ltb k i (omega arith))) }
 
-pub clear-more : {m : Matrix} {k : ℕ} {n : Matrix} {i : ℕ} {x : Row} → Clearing m k n i → i < 8 → x ≡ gained (row m i) (row m k) (multiplier m k i) k → Clearing m k (set n i x) (i + 1)
-clear-more {k = k} {i = i} g h e = record { fill = filling-more (g .fill) h (rw (lt-ltb k i (omega (arith, g .fill .from))) e) }
+-- a row that is still to gain has nine entries
+pub clear-row : {m : Matrix} {k : ℕ} {n : Matrix} {i : ℕ} → Clearing m k n i → i < 8 → length (row n i) ≡ 9
+clear-row {i = i} g h = ap length (g .fill .kept i (omega arith)) ∙ g .shape .columns i h
+
+-- the rows are written in place: what row i holds, and row k, is what they held
+pub clear-more : {m : Matrix} {k : ℕ} {n : Matrix} {i : ℕ} {x : Row} → Clearing m k n i → i < 8 → x ≡ gained (row n i) (row m k) (entry n i k ⊗ reciprocal m k) k → Clearing m k (set n i x) (i + 1)
+clear-more {m} {k} {n} {i} {x} g h e = record {
+  shape = g .shape;
+  fill = filling-more (g .fill) h (rw (lt-ltb k i (omega (arith, g .fill .from))) (e ∙ ap (λ (r : Row). gained r (row m k) (getD r k nan ⊗ reciprocal m k) k) (g .fill .kept i (omega arith))));
+}
 
 pub clear-end : {m : Matrix} {k : ℕ} {n : Matrix} {i : ℕ} → Clearing m k n i → 8 ≤ i → n ≡ cleared m k
 unfolding cleared
@@ -109,24 +123,17 @@ clear-end g h = filling-whole (g .fill) h
 
 -- ---- the columns, one after the other
 
-pub record Eliminating (a m : Matrix) (k : ℕ) : Type 0 where
-  pub upto : k ≤ 8
-  pub now : m ≡ eliminated k a
-
-pub eliminating-start : (a : Matrix) → Eliminating a a 0
+pub eliminated-zero : (a : Matrix) → eliminated 0 a ≡ a
 unfolding eliminated
-eliminating-start a = record { upto = omega arith; now = refl }
+eliminated-zero a = refl
 
 pub eliminated-suc : (k : ℕ) (a : Matrix) → eliminated (suc k) a ≡ cleared (pivoted (eliminated k a) k) k
 unfolding eliminated
 eliminated-suc k a = refl
 
-pub eliminating-more : {a m : Matrix} {k b : ℕ} {s n : Matrix} → Eliminating a m k → k < 8 → b ≡ largest m k (7 - k) → s ≡ swapped m k b → n ≡ cleared s k → Eliminating a n (k + 1)
-eliminating-more {a} {m} {k} {b} {s} {n} g h eb es en =
-    record { upto = omega arith; now = rw (add-one, eliminated-suc k a) (en ∙ ap (λ (x : Matrix). cleared x k) (es ∙ rw (eb, g .now))) }
-
-pub eliminating-end : {a m : Matrix} {k : ℕ} → Eliminating a m k → 8 ≤ k → m ≡ eliminated 8 a
-eliminating-end {k = k} g h = let e : k ≡ 8 = omega arith in rw e at (g .now)
+-- one more column
+pub next-column : (k : ℕ) (a : Matrix) {m n : Matrix} → m ≡ eliminated k a → n ≡ cleared (pivoted m k) k → n ≡ eliminated (suc k) a
+next-column k a e q = q ∙ ap (λ (x : Matrix). cleared (pivoted x k) k) e ∙ sym (eliminated-suc k a)
 
 -- ---- back substitution: one answer, carried to the right sides above, up to row i
 
@@ -135,30 +142,35 @@ carriedAt m b k i = cond (eqb i k) (answer m b k) (cond (ltb i k) (carry (getD b
 
 pub record Carrying (m : Matrix) (b : Row) (k : ℕ) (l : Row) (i : ℕ) : Type 0 where
   pub within : k < 8
-  pub eight : length b ≡ 8
-  pub fill : Filling 8 0 (carriedAt m b k) nan (set b k (answer m b k)) l i
+  pub above : i ≤ k
+  pub fill : Filling 8 0 (carriedAt m b k) nan b l i
 
-pub carry-start : (m : Matrix) (b : Row) (k : ℕ) → length b ≡ 8 → k < 8 → Carrying m b k (set b k (answer m b k)) 0
-carry-start m b k e h = record {
-  within = h;
-  eight = e;
-  fill = filling-start 8 0 (carriedAt m b k) nan (set b k (answer m b k)) (omega arith) (length-set b k (answer m b k) ∙ e) (λ i l. absurd (omega arith));
-}
+pub carry-start : (m : Matrix) (b : Row) (k : ℕ) → length b ≡ 8 → k < 8 → Carrying m b k b 0
+carry-start m b k e h = record { within = h; above = omega arith; fill = filling-start 8 0 (carriedAt m b k) nan b (omega arith) e (λ i l. absurd (omega arith)) }
 
-pub carry-more : {m : Matrix} {b : Row} {k : ℕ} {l : Row} {i : ℕ} → Carrying m b k l i → i < k → Carrying m b k (set l i (carry (getD b i nan) (answer m b k) (entry m i k))) (i + 1)
-carry-more {k = k} {i = i} g h = record {
+-- the right sides are written in place: what is read at row i is what stood there
+pub carry-more : {m : Matrix} {b : Row} {k : ℕ} {l : Row} {i : ℕ} → Carrying m b k l i → i < k → Carrying m b k (set l i (carry (getD l i nan) (answer m b k) (entry m i k))) (i + 1)
+carry-more {m} {b} {k} {l} {i} g h = record {
   within = g .within;
-  eight = g .eight;
-  fill = filling-more (g .fill) (omega (arith, g .within)) (rw (ne-eqb i k (λ q. omega arith), lt-ltb i k h));
+  above = omega arith;
+  fill = filling-more (g .fill) (omega (arith, g .within)) (rw (ne-eqb i k apart, lt-ltb i k h) (ap (λ (x : Float). carry x (answer m b k) (entry m i k)) (g .fill .kept i (omega arith))));
 }
-
-pub carry-end : {m : Matrix} {b : Row} {k : ℕ} {l : Row} {i : ℕ} → Carrying m b k l i → k ≤ i → l ≡ carried m b k
-unfolding carried
-carry-end {m} {b} {k} {l} {i} g h = filling-end (g .fill) (λ j p q. at j (omega arith) (ℕ-discrete j k))
   where
-    at : (j : ℕ) → k ≤ j → Dec (j ≡ k) → getD (set b k (answer m b k)) j nan ≡ carriedAt m b k j
-    at j p (yes q) = rw (eq-eqb j k q) (ap (λ (x : ℕ). getD (set b k (answer m b k)) x nan) q ∙ getD-set-same b k (answer m b k) nan (omega (arith, g .within, g .eight)))
-    at j p (no q) = rw (ne-eqb j k q, le-ltb j k p) (getD-set-other b k j (answer m b k) nan q)
+    apart : i ≡ k → ⊥
+    apart q = omega arith
+
+-- at the end the answer comes into its own row
+pub carry-end : {m : Matrix} {b : Row} {k : ℕ} {l : Row} {i : ℕ} → Carrying m b k l i → k ≤ i → set l k (answer m b k) ≡ carried m b k
+unfolding carried
+carry-end {m} {b} {k} {l} {i} g h = table-is 8 (carriedAt m b k) (set l k x) nan (length-set l k x ∙ g .fill .long) (λ j p. at j (ℕ-discrete j k) (ltb j k) refl)
+  where
+    x : Float
+    x = answer m b k
+
+    at : (j : ℕ) → Dec (j ≡ k) → (t : Bool) → ltb j k ≡ t → getD (set l k x) j nan ≡ carriedAt m b k j
+    at j (yes q) t e = rw (eq-eqb j k q) (ap (λ (n : ℕ). getD (set l k x) n nan) q ∙ getD-set-same l k x nan (omega (arith, g .within, g .fill .long)))
+    at j (no q) true e = getD-set-other l k j x nan q ∙ g .fill .filled j (omega (arith, ltb-true j k e))
+    at j (no q) false e = rw (ne-eqb j k q, e) (getD-set-other l k j x nan q ∙ g .fill .kept j (omega (arith, ltb-false j k e, g .above)))
 
 -- ---- the answers, from the last to the first
 
@@ -173,6 +185,9 @@ answering-start m b e = record { upto = omega arith; sides = e }
 pub answered-suc : (n : ℕ) (m : Matrix) → answered (suc n) m ≡ carried m (answered n m) (7 - n)
 unfolding answered
 answered-suc n m = refl
+
+pub answering-long : {m : Matrix} {b : Row} {n : ℕ} → Answering m b n → length b ≡ 8
+answering-long {m} {b} {n} w = ap length (w .sides) ∙ answered-long n m
 
 pub answering-more : {m : Matrix} {b c : Row} {n : ℕ} → Answering m b n → n < 8 → c ≡ carried m b (7 - n) → Answering m c (n + 1)
 answering-more {m} {b} {c} {n} w h e = record { upto = omega arith; sides = rw (add-one, answered-suc n m) (e ∙ ap (λ (x : Row). carried m x (7 - n)) (w .sides)) }

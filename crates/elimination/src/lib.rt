@@ -4,9 +4,11 @@
 ghost use mathlib.Core.Path.{_≡_};
 ghost use mathlib.Core.Bool.{cond, _&&_};
 ghost use Prim.Native.Nat.{_-_, _<_};
+ghost use lib.ListN.{length};
 ghost use lib.Ieee.{lt};
 ghost use Rattle.elimination.specs.Rounded.{magnitude};
-ghost use Rattle.elimination.specs.Solve.{largest, swapped, gained, cleared, eliminated, rightSides, carried, answered, nonzeroDiagonal, finiteRow, finiteMatrix, finiteAnswers, solved};
+ghost use Rattle.elimination.specs.Solve.{largest, swapped, pivoted, gained, cleared, eliminated, rightSides, carried, answered, nonzeroDiagonal, finiteRow, finiteMatrix, finiteAnswers, solved};
+ghost use Rattle.elimination.specs.Shape.{EightByNine};
 
 // The eight answers, which count where `sound`.
 pub struct Solution {
@@ -32,113 +34,113 @@ fn larger(b: usize, x: f32, i: usize, y: f32) -> usize
 }
 
 // The row at or below the diagonal with the largest magnitude in column k, the first of equals.
-fn pivot(m: [[f32; 9]; 8], k: usize) -> usize
+fn pivot(m: &[[f32; 9]; 8], k: usize) -> usize
     requires { ⌜ k < 8 ⌝ }
-    ensures { λ r. ⌜ (r ≡ largest m k (7 - k)) × (r < 8) ⌝ }
+    ensures { λ r. ⌜ (r ≡ largest (now (m .entry)) k (7 - k)) × (r < 8) ⌝ }
 {
     let mut b = k;
     for i in k + 1..8usize {
-        let p = m[b];
-        let r = m[i];
-        b = larger(b, p[k], i, r[k]);
+        b = larger(b, m[b][k], i, m[i][k]);
     }
     b
 }
 
 // Rows a and b change places.
-fn swap(m: [[f32; 9]; 8], a: usize, b: usize) -> [[f32; 9]; 8]
-    requires { ⌜ (a < 8) × (b < 8) ⌝ }
-    ensures { λ r. ⌜ r ≡ swapped m a b ⌝ }
+fn swap(m: &mut [[f32; 9]; 8], a: usize, b: usize)
+    requires { ⌜ EightByNine (now m) × ((a < 8) × (b < 8)) ⌝ }
+    ensures { λ _. ⌜ now (m .exit) ≡ swapped (now (m .entry)) a b ⌝ }
 {
-    let mut n = m;
-    n[a] = m[b];
-    n[b] = m[a];
-    n
+    let r = m[a];
+    let t = m[b];
+    m[a] = t;
+    m[b] = r;
 }
 
 // The row gains w times the negated pivot row, in the columns right of k.
-fn gain(r: [f32; 9], p: [f32; 9], w: f32, k: usize) -> [f32; 9]
-    requires { ⌜ k < 8 ⌝ }
-    ensures { λ x. ⌜ x ≡ gained r p w k ⌝ }
+fn gain(r: &mut [f32; 9], p: &[f32; 9], w: f32, k: usize)
+    requires { ⌜ (length (now r) ≡ 9) × (k < 8) ⌝ }
+    ensures { λ _. ⌜ now (r .exit) ≡ gained (now (r .entry)) (now (p .entry)) w k ⌝ }
 {
-    let mut n = r;
     for j in k + 1..9usize {
-        n[j] = r[j] + w * (-p[j]);
+        r[j] = r[j] + w * (-p[j]);
     }
-    n
 }
 
 // Each row below row k gains.
-fn clear(m: [[f32; 9]; 8], k: usize) -> [[f32; 9]; 8]
-    requires { ⌜ k < 8 ⌝ }
-    ensures { λ r. ⌜ r ≡ cleared m k ⌝ }
+fn clear(m: &mut [[f32; 9]; 8], k: usize)
+    requires { ⌜ EightByNine (now m) × (k < 8) ⌝ }
+    ensures { λ _. ⌜ now (m .exit) ≡ cleared (now (m .entry)) k ⌝ }
 {
-    let mut n = m;
     let p = m[k];
     let w = 1.0 / p[k];
     for i in k + 1..8usize {
-        let r = m[i];
-        n[i] = gain(r, p, r[k] * w, k);
+        let x = m[i][k] * w;
+        gain(&mut m[i], &p, x, k);
     }
-    n
 }
 
-// All eight columns, one after the other.
-fn eliminate(a: [[f32; 9]; 8]) -> [[f32; 9]; 8]
-    ensures { λ r. ⌜ r ≡ eliminated 8 a ⌝ }
+// Column k: its pivot's row comes to the diagonal, and the rows below are cleared.
+fn column(m: &mut [[f32; 9]; 8], k: usize)
+    requires { ⌜ EightByNine (now m) × (k < 8) ⌝ }
+    ensures { λ _. ⌜ (now (m .exit) ≡ cleared (pivoted (now (m .entry)) k) k) × EightByNine (now (m .exit)) ⌝ }
 {
-    let mut m = a;
-    for k in 0..8usize {
-        let s = swap(m, k, pivot(m, k));
-        let n = clear(s, k);
-        m = n;
-    }
-    m
+    let b = pivot(m, k);
+    swap(m, k, b);
+    clear(m, k);
+}
+
+// All eight columns, one after the other. They are written out so that the compiler has each with its number.
+fn eliminate(m: &mut [[f32; 9]; 8])
+    requires { ⌜ EightByNine (now m) ⌝ }
+    ensures { λ _. ⌜ now (m .exit) ≡ eliminated 8 (now (m .entry)) ⌝ }
+{
+    column(m, 0);
+    column(m, 1);
+    column(m, 2);
+    column(m, 3);
+    column(m, 4);
+    column(m, 5);
+    column(m, 6);
+    column(m, 7);
 }
 
 // The right sides.
-fn right_sides(m: [[f32; 9]; 8]) -> [f32; 8]
-    ensures { λ r. ⌜ r ≡ rightSides m ⌝ }
+fn right_sides(m: &[[f32; 9]; 8]) -> [f32; 8]
+    ensures { λ r. ⌜ r ≡ rightSides (now (m .entry)) ⌝ }
 {
     let mut b = [0.0f32; 8];
     for i in 0..8usize {
-        let r = m[i];
-        b[i] = r[8];
+        b[i] = m[i][8];
     }
     b
 }
 
 // The right sides after answer k, which stands in its own row.
-fn carry(m: [[f32; 9]; 8], b: [f32; 8], k: usize) -> [f32; 8]
-    requires { ⌜ k < 8 ⌝ }
-    ensures { λ r. ⌜ r ≡ carried m b k ⌝ }
+fn carry(m: &[[f32; 9]; 8], b: &mut [f32; 8], k: usize)
+    requires { ⌜ (length (now b) ≡ 8) × (k < 8) ⌝ }
+    ensures { λ _. ⌜ now (b .exit) ≡ carried (now (m .entry)) (now (b .entry)) k ⌝ }
 {
-    let p = m[k];
-    let x = b[k] / p[k];
-    let mut n = b;
-    n[k] = x;
+    let x = b[k] / m[k][k];
     for i in 0..k {
-        let r = m[i];
-        n[i] = b[i] + (-x) * r[k];
+        b[i] = b[i] + (-x) * m[i][k];
     }
-    n
+    b[k] = x;
 }
 
 // From the last answer to the first.
-fn substitute(m: [[f32; 9]; 8]) -> [f32; 8]
-    ensures { λ r. ⌜ r ≡ answered 8 m ⌝ }
+fn substitute(m: &[[f32; 9]; 8]) -> [f32; 8]
+    ensures { λ r. ⌜ r ≡ answered 8 (now (m .entry)) ⌝ }
 {
     let mut b = right_sides(m);
     for n in 0..8usize {
-        let c = carry(m, b, 7 - n);
-        b = c;
+        carry(m, &mut b, 7 - n);
     }
     b
 }
 
 // Whether each entry of a row is finite.
-fn row_finite(r: [f32; 9]) -> bool
-    ensures { λ x. ⌜ x ≡ finiteRow r ⌝ }
+fn row_finite(r: &[f32; 9]) -> bool
+    ensures { λ x. ⌜ x ≡ finiteRow (now (r .entry)) ⌝ }
 {
     for j in 0..9usize {
         let f = binary32::ranges::is_finite(r[j]);
@@ -150,11 +152,11 @@ fn row_finite(r: [f32; 9]) -> bool
 }
 
 // Whether each row's entries are.
-fn all_finite(m: [[f32; 9]; 8]) -> bool
-    ensures { λ x. ⌜ x ≡ finiteMatrix m ⌝ }
+fn all_finite(m: &[[f32; 9]; 8]) -> bool
+    ensures { λ x. ⌜ x ≡ finiteMatrix (now (m .entry)) ⌝ }
 {
     for i in 0..8usize {
-        let f = row_finite(m[i]);
+        let f = row_finite(&m[i]);
         if !f {
             return false;
         }
@@ -163,8 +165,8 @@ fn all_finite(m: [[f32; 9]; 8]) -> bool
 }
 
 // Whether each answer is finite.
-fn answers_finite(b: [f32; 8]) -> bool
-    ensures { λ x. ⌜ x ≡ finiteAnswers b ⌝ }
+fn answers_finite(b: &[f32; 8]) -> bool
+    ensures { λ x. ⌜ x ≡ finiteAnswers (now (b .entry)) ⌝ }
 {
     for j in 0..8usize {
         let f = binary32::ranges::is_finite(b[j]);
@@ -176,12 +178,11 @@ fn answers_finite(b: [f32; 8]) -> bool
 }
 
 // Whether no entry on the diagonal is zero.
-fn diagonal_nonzero(m: [[f32; 9]; 8]) -> bool
-    ensures { λ x. ⌜ x ≡ nonzeroDiagonal m ⌝ }
+fn diagonal_nonzero(m: &[[f32; 9]; 8]) -> bool
+    ensures { λ x. ⌜ x ≡ nonzeroDiagonal (now (m .entry)) ⌝ }
 {
     for k in 0..8usize {
-        let r = m[k];
-        if r[k] == 0.0 {
+        if m[k][k] == 0.0 {
             return false;
         }
     }
@@ -189,8 +190,8 @@ fn diagonal_nonzero(m: [[f32; 9]; 8]) -> bool
 }
 
 // Whether the answers b count, m being what elimination left. A non-finite value of an earlier step leaves one in m or in b.
-fn counts(m: [[f32; 9]; 8], b: [f32; 8]) -> bool
-    ensures { λ x. ⌜ x ≡ (nonzeroDiagonal m && (finiteMatrix m && finiteAnswers b)) ⌝ }
+fn counts(m: &[[f32; 9]; 8], b: &[f32; 8]) -> bool
+    ensures { λ x. ⌜ x ≡ (nonzeroDiagonal (now (m .entry)) && (finiteMatrix (now (m .entry)) && finiteAnswers (now (b .entry)))) ⌝ }
 {
     if !diagonal_nonzero(m) {
         return false;
@@ -205,8 +206,9 @@ fn counts(m: [[f32; 9]; 8], b: [f32; 8]) -> bool
 pub fn solve(a: [[f32; 9]; 8]) -> Solution
     ensures { λ r. ⌜ r ≡ solved a ⌝ }
 {
-    let m = eliminate(a);
-    let x = substitute(m);
-    let sound = counts(m, x);
+    let mut m = a;
+    eliminate(&mut m);
+    let x = substitute(&m);
+    let sound = counts(&m, &x);
     Solution { answers: x, sound }
 }

@@ -18,8 +18,8 @@ loop-holds c = passing-start _ _
 mul-row-finite : tie.Need-mul-row-finite Inv-loop μ-loop
 mul-row-finite c = search needs
 
-array-copy-out-row-finite : tie.Need-array-copy-out-row-finite Inv-loop μ-loop
-array-copy-out-row-finite c = search needs
+index-1-row-finite : tie.Need-index-1-row-finite Inv-loop μ-loop
+index-1-row-finite c = search needs
 
 row-finite-requires : tie.Need-row-finite-requires Inv-loop μ-loop
 row-finite-requires c κs = search needs
@@ -47,7 +47,7 @@ all-finite-spec =
     μ-loop
     loop-holds
     mul-row-finite
-    array-copy-out-row-finite
+    index-1-row-finite
     row-finite-requires
     returns
     add-i

@@ -1,6 +1,6 @@
 -- `elimination::diagonal_nonzero` meets its contract. The loop's invariant: no entry passed is zero. Assumes nothing.
-use mathlib.Core.Path.{ap}
 use mathlib.Core.Bool.{not}
+use mathlib.Core.Path.{ap}
 use Prim.Native.Nat.{_-_}
 use borrow.Author.Needs.{needs}
 use lib.Ieee.{eq}
@@ -19,17 +19,17 @@ abbrev μ-loop : tie.MeasureT-loop
 loop-holds : tie.Need-loop-holds Inv-loop μ-loop
 loop-holds c = passing-start _ _
 
-mul-r : tie.Need-mul-r Inv-loop μ-loop
-mul-r c = search needs
-
-array-copy-out-r : tie.Need-array-copy-out-r Inv-loop μ-loop
-array-copy-out-r c = search needs
-
 mul-if1 : tie.Need-mul-if1 Inv-loop μ-loop
 mul-if1 c = search needs
 
-array-read-if1 : tie.Need-array-read-if1 Inv-loop μ-loop
-array-read-if1 c = search needs
+mul-if1-2 : tie.Need-mul-if1-2 Inv-loop μ-loop
+mul-if1-2 c = search needs
+
+index-1-if1 : tie.Need-index-1-if1 Inv-loop μ-loop
+index-1-if1 c = search needs
+
+index-2-if1 : tie.Need-index-2-if1 Inv-loop μ-loop
+index-2-if1 c = search needs
 
 returns : tie.Need-returns Inv-loop μ-loop
 returns c = passing-fail (c .before .before .before .loop .inv) (c .before .before .loop-test .taken) (ap not (c .if1 .taken))
@@ -53,10 +53,10 @@ diagonal-nonzero-spec =
     Inv-loop
     μ-loop
     loop-holds
-    mul-r
-    array-copy-out-r
     mul-if1
-    array-read-if1
+    mul-if1-2
+    index-1-if1
+    index-2-if1
     returns
     add-k
     loop-less

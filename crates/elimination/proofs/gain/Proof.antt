@@ -6,34 +6,34 @@ use Rattle.elimination.proofs.gain.Statement.{statement}
 use Rattle.elimination.proofs.gain.Tie as tie
 
 abbrev Inv-loop : tie.InvT-loop
-Inv-loop w k r p n₀ j₀ n j = Gaining r p w k n j
+Inv-loop r₀ p w k j₀ r j = Gaining r₀ p w k r j
 
 abbrev μ-loop : tie.MeasureT-loop
-μ-loop w k r p n₀ j₀ n j = 9 - j
+μ-loop r₀ p w k j₀ r j = 9 - j
 
 add-j : tie.Need-add-j Inv-loop μ-loop
 add-j c = search needs
 
 loop-holds : tie.Need-loop-holds Inv-loop μ-loop
-loop-holds c = gain-start _ _ _ _ (search needs) (search needs)
+loop-holds c = gain-start _ _ _ _ (c .pre .0) (c .pre .1)
 
-mul-n : tie.Need-mul-n Inv-loop μ-loop
-mul-n c = search needs
+mul-r : tie.Need-mul-r Inv-loop μ-loop
+mul-r c = search needs
 
-array-read-n : tie.Need-array-read-n Inv-loop μ-loop
-array-read-n c = search needs
+element-copy-out-r : tie.Need-element-copy-out-r Inv-loop μ-loop
+element-copy-out-r c = search needs
 
-mul-n-2 : tie.Need-mul-n-2 Inv-loop μ-loop
-mul-n-2 c = search needs
+mul-r-2 : tie.Need-mul-r-2 Inv-loop μ-loop
+mul-r-2 c = search needs
 
-array-read-n-2 : tie.Need-array-read-n-2 Inv-loop μ-loop
-array-read-n-2 c = search needs
+element-copy-out-r-2 : tie.Need-element-copy-out-r-2 Inv-loop μ-loop
+element-copy-out-r-2 c = search needs
 
-mul-n-3 : tie.Need-mul-n-3 Inv-loop μ-loop
-mul-n-3 c = search needs
+mul-r-3 : tie.Need-mul-r-3 Inv-loop μ-loop
+mul-r-3 c = search needs
 
-array-write-n : tie.Need-array-write-n Inv-loop μ-loop
-array-write-n c = search needs
+element-write-r : tie.Need-element-write-r Inv-loop μ-loop
+element-write-r c = search needs
 
 add-j-2 : tie.Need-add-j-2 Inv-loop μ-loop
 add-j-2 c = search needs
@@ -42,7 +42,7 @@ loop-less : tie.Need-loop-less Inv-loop μ-loop
 loop-less c = search needs
 
 loop-again : tie.Need-loop-again Inv-loop μ-loop
-loop-again c = gain-more (c .before .loop .inv) (c .loop-test .taken)
+loop-again c = gain-more (c .before .before .before .loop .inv) (c .before .before .loop-test .taken)
 
 returns : tie.Need-returns Inv-loop μ-loop
 returns c = gain-end (c .before .loop .inv) (c .loop-test .left)
@@ -55,12 +55,12 @@ gain-spec =
     μ-loop
     add-j
     loop-holds
-    mul-n
-    array-read-n
-    mul-n-2
-    array-read-n-2
-    mul-n-3
-    array-write-n
+    mul-r
+    element-copy-out-r
+    mul-r-2
+    element-copy-out-r-2
+    mul-r-3
+    element-write-r
     add-j-2
     loop-less
     loop-again

@@ -1,4 +1,4 @@
--- `elimination::pivot` meets its contract. The loop's invariant: b is the choice among the rows passed. Assumes nothing.
+-- `elimination::pivot` meets its contract. The loop's invariant: the row chosen among those passed. Assumes nothing.
 use Prim.Native.Nat.{_-_}
 use native.Mathlib.Omega.{arith}
 use borrow.Author.Needs.{needs}
@@ -7,40 +7,40 @@ use Rattle.elimination.proofs.pivot.Statement.{statement}
 use Rattle.elimination.proofs.pivot.Tie as tie
 
 abbrev Inv-loop : tie.InvT-loop
-Inv-loop k m b₀ i₀ b i = Chosen m k b i
+Inv-loop m k b₀ i₀ b i = Chosen m k b i
 
 abbrev μ-loop : tie.MeasureT-loop
-μ-loop k m b₀ i₀ b i = 8 - i
+μ-loop m k b₀ i₀ b i = 8 - i
 
 add-i : tie.Need-add-i Inv-loop μ-loop
 add-i c = search needs
 
 loop-holds : tie.Need-loop-holds Inv-loop μ-loop
-loop-holds c = chosen-start _ _ (c .pre)
-
-mul-p : tie.Need-mul-p Inv-loop μ-loop
-mul-p c = search needs
-
-array-copy-out-p : tie.Need-array-copy-out-p Inv-loop μ-loop
-array-copy-out-p c = search needs
-
-mul-r : tie.Need-mul-r Inv-loop μ-loop
-mul-r c = search needs
-
-array-copy-out-r : tie.Need-array-copy-out-r Inv-loop μ-loop
-array-copy-out-r c = search needs
+loop-holds c = chosen-start _ _ (search needs)
 
 mul-larger : tie.Need-mul-larger Inv-loop μ-loop
 mul-larger c = search needs
 
-array-read-larger : tie.Need-array-read-larger Inv-loop μ-loop
-array-read-larger c = search needs
-
 mul-larger-2 : tie.Need-mul-larger-2 Inv-loop μ-loop
 mul-larger-2 c = search needs
 
-array-read-larger-2 : tie.Need-array-read-larger-2 Inv-loop μ-loop
-array-read-larger-2 c = search needs
+index-1-larger : tie.Need-index-1-larger Inv-loop μ-loop
+index-1-larger c = search needs
+
+index-2-larger : tie.Need-index-2-larger Inv-loop μ-loop
+index-2-larger c = search needs
+
+mul-larger-3 : tie.Need-mul-larger-3 Inv-loop μ-loop
+mul-larger-3 c = search needs
+
+mul-larger-4 : tie.Need-mul-larger-4 Inv-loop μ-loop
+mul-larger-4 c = search needs
+
+index-1-larger-2 : tie.Need-index-1-larger-2 Inv-loop μ-loop
+index-1-larger-2 c = search needs
+
+index-2-larger-2 : tie.Need-index-2-larger-2 Inv-loop μ-loop
+index-2-larger-2 c = search needs
 
 larger-requires : tie.Need-larger-requires Inv-loop μ-loop
 larger-requires c κs = search needs
@@ -65,14 +65,14 @@ pivot-spec =
     μ-loop
     add-i
     loop-holds
-    mul-p
-    array-copy-out-p
-    mul-r
-    array-copy-out-r
     mul-larger
-    array-read-larger
     mul-larger-2
-    array-read-larger-2
+    index-1-larger
+    index-2-larger
+    mul-larger-3
+    mul-larger-4
+    index-1-larger-2
+    index-2-larger-2
     larger-requires
     add-i-2
     loop-less

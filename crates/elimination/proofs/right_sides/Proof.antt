@@ -18,17 +18,17 @@ abbrev μ-loop : tie.MeasureT-loop
 loop-holds : tie.Need-loop-holds Inv-loop μ-loop
 loop-holds c = filling-start _ _ _ _ _ (search needs) (search needs) (λ k l. absurd (omega arith))
 
-mul-r : tie.Need-mul-r Inv-loop μ-loop
-mul-r c = search needs
-
-array-copy-out-r : tie.Need-array-copy-out-r Inv-loop μ-loop
-array-copy-out-r c = search needs
-
-array-read-b : tie.Need-array-read-b Inv-loop μ-loop
-array-read-b c = search needs
-
 mul-b : tie.Need-mul-b Inv-loop μ-loop
 mul-b c = search needs
+
+index-1-b : tie.Need-index-1-b Inv-loop μ-loop
+index-1-b c = search needs
+
+index-2-b : tie.Need-index-2-b Inv-loop μ-loop
+index-2-b c = search needs
+
+mul-b-2 : tie.Need-mul-b-2 Inv-loop μ-loop
+mul-b-2 c = search needs
 
 array-write-b : tie.Need-array-write-b Inv-loop μ-loop
 array-write-b c = search needs
@@ -53,10 +53,10 @@ right-sides-spec =
     Inv-loop
     μ-loop
     loop-holds
-    mul-r
-    array-copy-out-r
-    array-read-b
     mul-b
+    index-1-b
+    index-2-b
+    mul-b-2
     array-write-b
     add-i
     loop-less

@@ -1,7 +1,7 @@
 -- `elimination::substitute` meets its contract. The loop's invariant: the last n answers are carried on. Assumes nothing.
 use Prim.Native.Nat.{_-_}
 use borrow.Author.Needs.{needs}
-use Rattle.elimination.proofs.Rows.{Answering, answering-start, answering-more, answering-end}
+use Rattle.elimination.proofs.Rows.{Answering, answering-start, answering-long, answering-more, answering-end}
 use Rattle.elimination.proofs.substitute.Statement.{statement}
 use Rattle.elimination.proofs.substitute.Tie as tie
 
@@ -21,7 +21,7 @@ sub-carry : tie.Need-sub-carry Inv-loop μ-loop
 sub-carry c = search needs
 
 carry-requires : tie.Need-carry-requires Inv-loop μ-loop
-carry-requires c κs = search needs
+carry-requires c κs = (answering-long (c .before .before .loop .inv), search needs)
 
 add-n : tie.Need-add-n Inv-loop μ-loop
 add-n c = search needs
@@ -30,7 +30,7 @@ loop-less : tie.Need-loop-less Inv-loop μ-loop
 loop-less c = search needs
 
 loop-again : tie.Need-loop-again Inv-loop μ-loop
-loop-again c = answering-more (c .before .before .loop .inv) (c .before .loop-test .taken) (c .carry .ensures)
+loop-again c = answering-more (c .before .before .before .loop .inv) (c .before .before .loop-test .taken) (c .carry .ensures)
 
 returns : tie.Need-returns Inv-loop μ-loop
 returns c = answering-end (c .before .loop .inv) (c .loop-test .left)
