@@ -14,7 +14,7 @@
  * WHAT THE CALLER OWES (the proof assumes it, and nothing checks it)
  *
  * - A buffer is its start and its length in places (not bytes). So many places must be there.
- * - The buffers of one call must not overlap one another, not even where both are only read.
+ * - The buffers of one call must not overlap one another.
  * - A start must not be null and must be aligned for its type, even where the length is 0.
  * - No other thread may write to a buffer during a call, or read one that the call may write to.
  *

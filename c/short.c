@@ -137,8 +137,18 @@ static void refused(struct call *c, uint32_t number, const char *what) {
     unchanged(c, what);
 }
 
-/* 3, 5 and 6 of a pass: a wild float of each kind, a corner that there is not, a corner on two places. */
-static void values(struct call *c) {
+/* 5 and 6: a corner that there is not, a corner on two places. */
+static void labels(struct call *c) {
+    uint16_t first = sheet[0], last = sheet[PROJECTIVE_GRID_SHEET - 1];
+    sheet[0] = (uint16_t)(corners + 1);
+    refused(c, PROJECTIVE_GRID_UNKNOWN_CORNER, "stranger");
+    sheet[0] = sheet[PROJECTIVE_GRID_SHEET - 1] = 1;
+    refused(c, PROJECTIVE_GRID_DUPLICATE, "doubled");
+    sheet[0] = first, sheet[PROJECTIVE_GRID_SHEET - 1] = last;
+}
+
+/* 3: a wild float of each kind. */
+static void floats(struct call *c) {
     float *wild[] = {&xs[0], &ys[corners - 1], &pitches[0], &cell_size, &settings[1], &band, &search, &factor};
     for (size_t k = 0; k < sizeof wild / sizeof wild[0]; k++) {
         float right = *wild[k];
@@ -146,12 +156,6 @@ static void values(struct call *c) {
         refused(c, PROJECTIVE_GRID_OUT_OF_RANGE, "wild");
         *wild[k] = right;
     }
-    uint16_t first = sheet[0], last = sheet[PROJECTIVE_GRID_SHEET - 1];
-    sheet[0] = (uint16_t)(corners + 1);
-    refused(c, PROJECTIVE_GRID_UNKNOWN_CORNER, "stranger");
-    sheet[0] = sheet[PROJECTIVE_GRID_SHEET - 1] = 1;
-    refused(c, PROJECTIVE_GRID_DUPLICATE, "doubled");
-    sheet[0] = first, sheet[PROJECTIVE_GRID_SHEET - 1] = last;
 }
 
 /* 2: 1,025 corners, with room for them. */
@@ -165,11 +169,12 @@ static void too_many(struct call *c) {
 
 static void pass(struct call *c) {
     too_many(c);
-    values(c);
+    floats(c);
+    labels(c);
     lengths(c);
 }
 
-/* ---- the reader, and the writers */
+/* ---- the reader and the writers */
 
 static void read_refused(struct call *c, const char *bytes, size_t length, uint32_t number, uint32_t line) {
     struct call bad = *c;
@@ -193,22 +198,21 @@ static void reader(struct call *c) {
     lengths(c);
 }
 
+/* 2, 3, 5 and 6 of a writer, with room for a longer text than the right one. */
 static void writer(struct call *c) {
+    struct call roomy = *c;
+    roomy.b[2].needed = TEXT;
     uint32_t wild[][2] = {{0, 3}, {1, 1048577}, {5, 65}, {6, 2}, {8, 2}};
     for (size_t k = 0; k < sizeof wild / sizeof wild[0]; k++) {
         uint32_t right = words[wild[k][0]];
         words[wild[k][0]] = wild[k][1];
-        /* a wild number may print longer: lend all there is */
-        struct call roomy = *c;
-        roomy.b[2].needed = TEXT;
         refused(&roomy, PROJECTIVE_GRID_OUT_OF_RANGE, "wild");
         words[wild[k][0]] = right;
     }
+    labels(&roomy);
     size_t right = corners;
-    corners = 1;
-    refused(c, PROJECTIVE_GRID_UNKNOWN_CORNER, "stranger");
-    corners = 1025;
-    refused(c, PROJECTIVE_GRID_OVER_LIMIT, "overfull");
+    corners = PROJECTIVE_GRID_CORNERS + 1;
+    refused(&roomy, PROJECTIVE_GRID_OVER_LIMIT, "overfull");
     corners = right;
     lengths(c);
 }
