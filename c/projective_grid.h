@@ -5,10 +5,9 @@
  *
  * WHAT HOLDS OF EVERY FUNCTION
  *
- * The answer is 0 (done) or the number of a refusal, 1 to 7. No function asks anything of the values that it is
- * lent: each checks them and refuses what is wrong. A refused call changes no place of any buffer; the only
- * exception is the reader, which says the line of a refused frame in out[0]. A call that is done writes what is
- * said here, and leaves every other place of every buffer as it was. No function keeps a pointer, allocates,
+ * The answer is 0 (done) or the number of a refusal, 1 to 7; the reader's has the line in it too, see there. No
+ * function asks anything of the values that it is lent: each checks them and refuses what is wrong. A refused call
+ * changes no place of any buffer. A call that is done writes what is said here, and leaves every other place of every buffer as it was. No function keeps a pointer, allocates,
  * reads or writes anything else, or runs without end.
  *
  * WHAT THE CALLER OWES (the proof assumes it, and nothing checks it)
@@ -55,7 +54,7 @@ enum {
     PROJECTIVE_GRID_PASS_WORDS = 6,
     PROJECTIVE_GRID_OUTCOME_WORDS = 9,
     PROJECTIVE_GRID_SETTINGS = 6,
-    PROJECTIVE_GRID_READ_OUT = 3,
+    PROJECTIVE_GRID_READ_OUT = 2,
     PROJECTIVE_GRID_WRITE_OUT = 1,
     PROJECTIVE_GRID_PIECE_OUT = 2,
     /* a piece needs room for any one line */
@@ -145,11 +144,15 @@ uint32_t projective_grid_extend_via_local_homography(
     float search_rel, float ambiguity_factor, uint32_t max_iters, float max_residual_rel, uint32_t extend_depth,
     uint32_t *out, size_t out_len);
 
-/* Reads a frame. Needed: 1,024 places each of xs, ys and pitches, 16,384 of sheet, 96 of passes, 6 of settings, 3 of out.
+/* Reads a frame. Needed: 1,024 places each of xs, ys and pitches, 16,384 of sheet, 96 of passes, 6 of settings, 2 of out.
  * Done: the corners stand at the front of xs, ys and pitches, the sheet of the given labels in the first 16,384 places
- * of sheet, six words for each pass at the front of passes, the six settings at the front of settings, and in out 0,
- * the number of corners and the number of passes.
- * Refused by 1 to 6: out[0] is the line, 0 where there are too many bytes. Refused by 7: nothing is written. */
+ * of sheet, six words for each pass at the front of passes, the six settings at the front of settings, and in out the
+ * number of corners and the number of passes.
+ * Refused: the answer is the number plus 8 times the line of the frame; the line is 0 where there are too many bytes, and
+ * for 7. PROJECTIVE_GRID_NUMBER and PROJECTIVE_GRID_LINE take it apart. */
+#define PROJECTIVE_GRID_NUMBER(answer) ((answer) % 8)
+#define PROJECTIVE_GRID_LINE(answer) ((answer) / 8)
+
 uint32_t projective_grid_read_frame(
     const uint8_t *text, size_t text_len,
     float *xs, size_t xs_len,

@@ -65,11 +65,11 @@ int main(int count, char **arguments) {
         sheet, PROJECTIVE_GRID_SHEET, passes, PROJECTIVE_GRID_PASS_WORDS * PROJECTIVE_GRID_PASSES,
         s, PROJECTIVE_GRID_SETTINGS, head, PROJECTIVE_GRID_READ_OUT);
     if (answer != PROJECTIVE_GRID_DONE) {
-        printf("(refused %u %u)\n", (unsigned)answer, (unsigned)head[0]);
+        printf("(refused %u %u)\n", (unsigned)PROJECTIVE_GRID_NUMBER(answer), (unsigned)PROJECTIVE_GRID_LINE(answer));
         return 0;
     }
-    for (size_t k = 0; k < head[2]; k++)
-        if (run_pass(passes + 6 * k, head[1], words + 9 * k) != PROJECTIVE_GRID_DONE)
+    for (size_t k = 0; k < head[1]; k++)
+        if (run_pass(passes + 6 * k, head[0], words + 9 * k) != PROJECTIVE_GRID_DONE)
             return fprintf(stderr, "recover: a pass was refused\n"), 1;
-    return write_result(head[1], head[2]);
+    return write_result(head[0], head[1]);
 }

@@ -1,6 +1,6 @@
 /* Lends every exported function every buffer one place short, once each: the answer has to be 7, and no place of any
  * buffer may change. With exactly the places that are needed it has to be done, and with more the rest has to stay as it
- * was. Then values that are refused by 1 to 6: again no place may change, but for the line that the reader says.
+ * was. Then values that are refused by 1 to 6: again no place may change.
  * Argument: an accepted frame. */
 #include <math.h>
 #include <stdio.h>
@@ -182,9 +182,9 @@ static void read_refused(struct call *c, const char *bytes, size_t length, uint3
     memcpy(right, frame, sizeof frame);
     memcpy(frame, bytes, length < sizeof frame ? length : sizeof frame);
     bad.b[0].needed = length;
-    check(run(&bad, bad.count, 0) == number, bad.name, "another refusal than expected", bytes);
-    check(out[0] == line, bad.name, "another line than expected", bytes);
-    out[0] = ((uint32_t *)bad.b[7].before)[0];
+    uint32_t answer = run(&bad, bad.count, 0);
+    check(PROJECTIVE_GRID_NUMBER(answer) == number, bad.name, "another refusal than expected", bytes);
+    check(PROJECTIVE_GRID_LINE(answer) == line, bad.name, "another line than expected", bytes);
     unchanged(&bad, "a refused frame changed a buffer");
     memcpy(frame, right, sizeof frame);
 }
@@ -257,10 +257,10 @@ int main(int count, char **arguments) {
 
     struct call reading = {"read_frame", call_read, 8,
                            {GIVEN(frame, frame_bytes), LENT(xs, 1024), LENT(ys, 1024), LENT(pitches, 1024),
-                            LENT(sheet, 16384), LENT(passes, 96), LENT(settings, 6), LENT(out, 3)}};
+                            LENT(sheet, 16384), LENT(passes, 96), LENT(settings, 6), LENT(out, 2)}};
     made(&reading);
     reader(&reading);
-    corners = out[1], pass_count = out[2];
+    corners = out[0], pass_count = out[1];
     cell_size = settings[0], band = settings[5], search = 0.35f, factor = 1.5f, boundary = 2.0f, residual = 0.5f;
     rounds = 4, depth = 1;
     if (!corners || corners > 1024 || failures)

@@ -15,12 +15,6 @@ module _ {A : Type 0} where
   two (x ∷ []) l1 l2 a b h e f = absurd (omega arith)
   two (x ∷ y ∷ l) l1 l2 a b h e f = f ∙ ap (λ (m : List A). set m 1 b) e
 
-  pub three : (l l1 l2 l3 : List A) (a b c : A) → 3 ≤ length l → l1 ≡ set l 0 a → l2 ≡ set l1 1 b → l3 ≡ set l2 2 c → l3 ≡ a ∷ b ∷ c ∷ drop 3 l
-  three [] l1 l2 l3 a b c h e f g = absurd (omega arith)
-  three (x ∷ []) l1 l2 l3 a b c h e f g = absurd (omega arith)
-  three (x ∷ y ∷ []) l1 l2 l3 a b c h e f g = absurd (omega arith)
-  three (x ∷ y ∷ z ∷ l) l1 l2 l3 a b c h e f g = g ∙ ap (λ (m : List A). set m 2 c) (f ∙ ap (λ (m : List A). set m 1 b) e)
-
   -- six, each of which finds the buffer as long as it was
   pub at-1 : (l : List A) (a : A) → 6 ≤ length l → 1 < length (set l 0 a)
   at-1 l a h = omega (arith, length-set l 0 a)

@@ -2,45 +2,44 @@
 use mathlib.Core.Path.{_≡_, refl, sym, ap, _∙_, subst}
 use mathlib.Core.Bool.{Bool, true, false, _||_, true≢false}
 use mathlib.Core.List.{List, _∷_}
-use Prim.Native.Nat.{ℕ, _<_, _≤_}
+use Prim.Native.Nat.{ℕ, _+_, _*_, _<_, _≤_}
 use native.Mathlib.Omega.{arith}
-use borrow.Author.Tests.{eq-eqb, ne-eqb, ltb-false}
-use lib.Dec.{ltb, eqb}
-use lib.ListN.{length, drop, set}
+use borrow.Author.Tests.{ltb-false}
+use lib.Dec.{ltb}
+use lib.ListN.{length}
 use lib.Ieee.{Float}
 use Rattle.refusal.specs.declared.Refusal.{Refusal}
 use Rattle.refusal.specs.Refusal.{numberOf}
-use Rattle.binary32.specs.Hex.{pick}
 use Rattle.frame.specs.Frame.{Frame, FrameRead, refused-at, accepted, readFrame}
 use Rattle.frame.specs.Lent.{Buffers, FrameOut, frameOut, tooShort, leaves, unlessShort, readInto}
 use Rattle.frame.specs.declared.FrameHead.{FrameHead}
 use Rattle.frame.specs.declared.FrameAnswer.{FrameAnswer}
 use Rattle.frame_laws.proofs.Back.{frame-prints-back}
 use Rattle.recovery.proofs.Refusing.{refused-line}
-use Rattle.grid_export.specs.Frames.{Word, settingsEntered, countsEntered, lineEntered, Told, told, frameTold, FrameLeft, frameLeft, frameRead, headShort, frameUnless, frameExported, HeadRoom, Sayable}
-use Rattle.grid_export.proofs.Entering.{one}
+use Rattle.grid_export.specs.Frames.{Word, settingsEntered, countsEntered, refusedAnswer, Told, told, frameTold, FrameLeft, frameLeft, frameRead, headShort, frameUnless, frameExported, HeadRoom, Sayable}
 
--- ---- a refused line
+-- ---- a refusal
 
-module _ (r : Refusal) (line n : ℕ) (e : n ≡ numberOf r) where
-  pub no-line : (out : List ℕ) → n ≡ 7 → out ≡ lineEntered r line out
-  no-line out h = rw (eq-eqb (numberOf r) 7 (sym e ∙ h)) refl
-
-  pub a-line : (out out' : List ℕ) → (n ≡ 7 → ⊥) → 3 ≤ length out → out' ≡ set out 0 line → out' ≡ lineEntered r line out
-  a-line out out' h l w = rw (ne-eqb (numberOf r) 7 (λ s. h (e ∙ s))) (w ∙ one out line (omega arith))
+pub number-small : (r : Refusal) → numberOf r ≤ 7
+number-small Refusal.Malformed = omega arith
+number-small Refusal.OverLimit = omega arith
+number-small Refusal.OutOfRange = omega arith
+number-small Refusal.OffSheet = omega arith
+number-small Refusal.UnknownCorner = omega arith
+number-small Refusal.Duplicate = omega arith
+number-small Refusal.BufferTooShort = omega arith
 
 -- ---- an answer by its case
 
 module _ (answer : FrameAnswer) (settings : List Float) (out out' : List ℕ) where
-  pub tell-refused : (r : Refusal) (line n : ℕ) → answer ≡ FrameAnswer.Refused r line → n ≡ numberOf r → out' ≡ lineEntered r line out
-      → told n settings out' ≡ frameTold answer settings out
-  tell-refused r line n t e w = rw (t, e, w) refl
+  pub tell-refused : (r : Refusal) (line n : ℕ) → answer ≡ FrameAnswer.Refused r line → n ≡ refusedAnswer r line → told n settings out ≡ frameTold answer settings out
+  tell-refused r line n t e = rw (t, e) refl
 
   pub tell-accepted : (h : FrameHead) (settings' : List Float) → answer ≡ FrameAnswer.Accepted h → settings' ≡ settingsEntered (h .settings) settings
       → out' ≡ countsEntered (h .corners) (h .passes) out → told 0 settings' out' ≡ frameTold answer settings out
   tell-accepted h settings' t e w = rw (t, e, w) refl
 
-pub line-sayable : (answer : FrameAnswer) (r : Refusal) (line : ℕ) → Sayable answer → answer ≡ FrameAnswer.Refused r line → Word line
+pub line-sayable : (answer : FrameAnswer) (r : Refusal) (line : ℕ) → Sayable answer → answer ≡ FrameAnswer.Refused r line → line ≤ 100000
 line-sayable answer r line s t = subst (λ (a : FrameAnswer). Sayable a) t s
 
 pub counts-sayable : (answer : FrameAnswer) (h : FrameHead) → Sayable answer → answer ≡ FrameAnswer.Accepted h → Word (h .corners) × Word (h .passes)
@@ -83,8 +82,8 @@ module _ (settings : List Float) (out : List ℕ) (t : Bool) (e : t ≡ headShor
   pub head-room : t ≡ false → HeadRoom settings out
   unfolding headShort
   head-room f =
-      let p = either (ltb (length settings) 6) (ltb (length out) 3) (sym e ∙ f) in
-      record { floats = ltb-false (length settings) 6 (p .0); words = ltb-false (length out) 3 (p .1) }
+      let p = either (ltb (length settings) 6) (ltb (length out) 2) (sym e ∙ f) in
+      record { floats = ltb-false (length settings) 6 (p .0); words = ltb-false (length out) 2 (p .1) }
 
   module _ (text : List ℕ) (xs ys pitches : List Float) (sheet passes : List ℕ) where
     abbrev lent : Buffers

@@ -1,13 +1,13 @@
--- The reader for another language: beside the buffers of a frame, six lent floats for what its head says and three lent words for line, corners and passes. Definitions only.
+-- The reader for another language: beside the buffers of a frame, six lent floats for what its head says and two lent words for the numbers
+-- of corners and passes. Definitions only.
 use mathlib.Core.Bool.{Bool, true, false, _||_}
 use mathlib.Core.List.{List, _∷_}
-use Prim.Native.Nat.{ℕ, _<_, _≤_}
-use lib.Dec.{ltb, eqb}
+use Prim.Native.Nat.{ℕ, _+_, _*_, _<_, _≤_}
+use lib.Dec.{ltb}
 use lib.ListN.{length, drop}
 use lib.Ieee.{Float}
 use Rattle.refusal.specs.declared.Refusal.{Refusal}
 use Rattle.refusal.specs.Refusal.{numberOf}
-use Rattle.binary32.specs.Hex.{pick}
 use Rattle.arguments.specs.declared.Settings.{Settings}
 use Rattle.frame.specs.Lent.{Buffers, FrameOut, readInto}
 use Rattle.frame.specs.declared.FrameHead.{FrameHead}
@@ -25,13 +25,13 @@ settingsEntered s floats =
     s .grid .«cell_size» ∷ s .grid .«axis_i» .x ∷ s .grid .«axis_i» .y ∷ s .grid .«axis_j» .x ∷ s .grid .«axis_j» .y ∷ s .«edge_length_tol»
     ∷ drop 6 floats
 
--- line, corners and passes of an accepted frame, which has no refused line
+-- corners and passes of an accepted frame
 abbrev pub countsEntered : ℕ → ℕ → List ℕ → List ℕ
-countsEntered corners passes out = 0 ∷ corners ∷ passes ∷ drop 3 out
+countsEntered corners passes out = corners ∷ passes ∷ drop 2 out
 
--- the line of a refused one; 7 is about no line and writes nothing
-abbrev pub lineEntered : Refusal → ℕ → List ℕ → List ℕ
-lineEntered r line out = pick (eqb (numberOf r) 7) out (line ∷ drop 1 out)
+-- the number and the line of a refused one: the answer modulo 8, and by 8
+abbrev pub refusedAnswer : Refusal → ℕ → ℕ
+refusedAnswer r line = numberOf r + 8 * line
 
 pub record Told : Type 0 where
   pub answer : ℕ
@@ -42,7 +42,7 @@ abbrev pub told : ℕ → List Float → List ℕ → Told
 told answer settings out = record { answer = answer; settings = settings; out = out }
 
 abbrev pub frameTold : FrameAnswer → List Float → List ℕ → Told
-frameTold (FrameAnswer.Refused r line) settings out = told (numberOf r) settings (lineEntered r line out)
+frameTold (FrameAnswer.Refused r line) settings out = told (refusedAnswer r line) settings out
 frameTold (FrameAnswer.Accepted h) settings out = told 0 (settingsEntered (h .settings) settings) (countsEntered (h .corners) (h .passes) out)
 
 -- ---- the call
@@ -60,9 +60,9 @@ frameLeft answer xs ys pitches sheet passes settings out =
 abbrev pub frameRead : FrameOut → List Float → List ℕ → FrameLeft
 frameRead o settings out = record { said = frameTold (o .answer) settings out; buffers = o .buffers }
 
--- 7 where there is no room for six floats or three words, before any byte is read
+-- 7 where there is no room for six floats or two words, before any byte is read
 unfoldable pub headShort : List Float → List ℕ → Bool
-headShort settings out = ltb (length settings) 6 || ltb (length out) 3
+headShort settings out = ltb (length settings) 6 || ltb (length out) 2
 
 abbrev pub frameUnless : Bool → List ℕ → Buffers → List Float → List ℕ → FrameLeft
 frameUnless true text b settings out = record { said = told 7 settings out; buffers = b }
@@ -75,9 +75,9 @@ frameExported text b settings out = frameUnless (headShort settings out) text b 
 
 pub record HeadRoom (settings : List Float) (out : List ℕ) : Type 0 where
   pub floats : 6 ≤ length settings
-  pub words : 3 ≤ length out
+  pub words : 2 ≤ length out
 
--- what an answer has to say are words
+-- what an answer has to say fits into words
 abbrev pub Sayable : FrameAnswer → Type 0
-Sayable (FrameAnswer.Refused r line) = Word line
+Sayable (FrameAnswer.Refused r line) = line ≤ 100000
 Sayable (FrameAnswer.Accepted h) = Word (h .corners) × Word (h .passes)

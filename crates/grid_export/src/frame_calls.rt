@@ -4,8 +4,7 @@ ghost use Prim.Native.Nat.{_≤_};
 ghost use lib.ListN.{length};
 ghost use Rattle.frame.specs.Reading.{buffers};
 ghost use Rattle.frame.specs.Lent.{readInto};
-ghost use Rattle.grid_export.specs.Frames.{Word, settingsEntered, countsEntered, told, frameTold, frameLeft, frameRead, headShort, frameExported, lineEntered, HeadRoom, Sayable};
-ghost use Rattle.refusal.specs.Refusal.{numberOf};
+ghost use Rattle.grid_export.specs.Frames.{Word, settingsEntered, countsEntered, told, frameTold, frameLeft, frameRead, headShort, frameExported, refusedAnswer, HeadRoom, Sayable};
 use arguments::Settings;
 use frame::FrameAnswer;
 use refusal::Refusal;
@@ -23,31 +22,23 @@ fn enter_settings(floats: &mut [f32], settings: Settings)
     floats[5] = settings.edge_length_tol;
 }
 
-// Enters line 0 and the numbers of corners and passes as three words.
+// Enters the numbers of corners and passes as two words.
 fn enter_counts(out: &mut [u32], corners: usize, passes: usize)
-    requires { ⌜ 3 ≤ length (now out) ⌝ }
+    requires { ⌜ 2 ≤ length (now out) ⌝ }
     requires { ⌜ Word corners ⌝ }
     requires { ⌜ Word passes ⌝ }
     ensures { λ _. ⌜ now (out .exit) ≡ countsEntered corners passes (now (out .entry)) ⌝ }
 {
-    super::words::enter(out, 0, 0);
-    super::words::enter(out, 1, corners);
-    super::words::enter(out, 2, passes);
+    super::words::enter(out, 0, corners);
+    super::words::enter(out, 1, passes);
 }
 
-// Enters the line of a refusal as the first word, unless it is 7, which is about no line. Answers its number.
-fn enter_line(out: &mut [u32], refusal: Refusal, line: usize) -> u32
-    requires { ⌜ 3 ≤ length (now out) ⌝ }
-    requires { ⌜ Word line ⌝ }
-    ensures { λ r. ⌜ r ≡ numberOf refusal ⌝ }
-    ensures { λ _. ⌜ now (out .exit) ≡ lineEntered refusal line (now (out .entry)) ⌝ }
+// The number of a refusal and its line in one answer.
+fn refused_answer(refusal: Refusal, line: usize) -> u32
+    requires { ⌜ line ≤ 100000 ⌝ }
+    ensures { λ r. ⌜ r ≡ refusedAnswer refusal line ⌝ }
 {
-    let number = super::words::number_of(refusal);
-    if number == 7 {
-        return number;
-    }
-    super::words::enter(out, 0, line);
-    number
+    super::words::number_of(refusal) + 8 * (line as u32)
 }
 
 // Enters what the reader answers.
@@ -57,7 +48,7 @@ fn tell(answer: FrameAnswer, settings: &mut [f32], out: &mut [u32]) -> u32
     ensures { λ r. ⌜ told r (now (settings .exit)) (now (out .exit)) ≡ frameTold answer (now (settings .entry)) (now (out .entry)) ⌝ }
 {
     match answer {
-        FrameAnswer::Refused(refusal, line) => enter_line(out, refusal, line),
+        FrameAnswer::Refused(refusal, line) => refused_answer(refusal, line),
         FrameAnswer::Accepted(head) => {
             enter_settings(settings, head.settings);
             enter_counts(out, head.corners, head.passes);
@@ -66,14 +57,14 @@ fn tell(answer: FrameAnswer, settings: &mut [f32], out: &mut [u32]) -> u32
     }
 }
 
-// Whether there is no room for six floats or three words.
+// Whether there is no room for six floats or two words.
 fn head_short(settings: &[f32], out: &[u32]) -> bool
     ensures { λ r. ⌜ r ≡ headShort (now (settings .entry)) (now (out .entry)) ⌝ }
 {
     if settings.len() < 6 {
         return true;
     }
-    out.len() < 3
+    out.len() < 2
 }
 
 // Reads a frame, with room for what its head says.
@@ -94,7 +85,8 @@ fn run_read(
     tell(answer, settings, out)
 }
 
-// Reads a frame. `settings` takes cell size, axes and band, `out` the refused line or 0 and the numbers of corners and passes.
+// Reads a frame. `settings` takes cell size, axes and band, `out` the numbers of corners and passes. A refusal's answer is its number plus 8 times the
+// line, so that a refused call changes no buffer.
 #[no_mangle]
 pub extern "C" fn projective_grid_read_frame(
     text: &[u8],

@@ -8,8 +8,8 @@ use Rattle.grid_export.proofs.frame_calls.tell.Tie as tie
 enum-known-answer : tie.Need-enum-known-answer
 enum-known-answer c = search needs
 
-enter-line-requires : tie.Need-enter-line-requires
-enter-line-requires c κs = (omega (arith, c .before .before .before .before .before .before .pre .0), line-sayable _ _ _ (c .before .before .before .before .before .before .pre .1) (c .before .before .answer .given .1))
+refused-answer-requires : tie.Need-refused-answer-requires
+refused-answer-requires c κs = line-sayable _ _ _ (c .before .before .before .before .before .pre .1) (c .before .answer .given .1)
 
 enum-known-answer-2 : tie.Need-enum-known-answer-2
 enum-known-answer-2 c = search needs
@@ -24,13 +24,10 @@ same-length : tie.Need-same-length
 same-length c = search needs
 
 returns : tie.Need-returns
-returns c = tell-refused (c .before .before .before .before .before .before .before .before .before .args .answer) (c .before .before .before .before .before .before .before .before .before .args .settings .now) (c .before .before .before .before .before .before .before .before .before .args .out .now) _ _ _ _ (c .before .before .before .before .before .answer .given .1) (c .before .before .enter-line .ensures .0) (c .before .before .enter-line .ensures .1)
+returns c = tell-refused (c .before .before .before .before .before .before .args .answer) (c .before .before .before .before .before .before .args .settings .now) (c .before .before .before .before .before .before .args .out .now) (c .before .before .before .before .before .before .args .out .now) _ _ _ (c .before .before .answer .given .1) (c .refused-answer .ensures)
 
 same-length-2 : tie.Need-same-length-2
 same-length-2 c = search needs
-
-same-length-3 : tie.Need-same-length-3
-same-length-3 c = search needs
 
 returns-2 : tie.Need-returns-2
 returns-2 c = tell-accepted (c .before .before .before .before .before .before .before .before .before .before .before .before .before .args .answer) (c .before .before .before .before .before .before .before .before .before .before .before .before .before .args .settings .now) (c .before .before .before .before .before .before .before .before .before .before .before .before .before .args .out .now) _ _ _ (c .before .before .before .before .before .before .before .before .before .answer2 .given .1) (c .before .before .before .before .before .before .enter-settings .ensures) (c .before .before .enter-counts .ensures)
@@ -40,12 +37,11 @@ tell-spec =
     tie.close
     (tie.spec
     enum-known-answer
-    enter-line-requires
+    refused-answer-requires
     enum-known-answer-2
     enter-settings-requires
     enter-counts-requires
-    same-length
     returns
+    same-length
     same-length-2
-    same-length-3
     returns-2)
