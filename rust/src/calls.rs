@@ -180,7 +180,7 @@ pub(crate) fn read_frame(text: &[u8]) -> Result<Read, RefusedFrame> {
     let mut sheet = Sheet::empty();
     let places = sheet.places_mut();
     let mut passes = vec![0; PASS_WORDS * MAX_PASSES];
-    let (mut floats, mut out) = ([0.0; 6], [0; 3]);
+    let (mut floats, mut out) = ([0.0; 6], [0; 2]);
     // SAFETY: each start stands beside the length of the same slice. All that is written are different locals, and
     // `text` is borrowed from elsewhere.
     #[rustfmt::skip]
@@ -192,8 +192,9 @@ pub(crate) fn read_frame(text: &[u8]) -> Result<Read, RefusedFrame> {
             floats.as_mut_ptr(), floats.len(), out.as_mut_ptr(), out.len(),
         )
     };
-    let [line, corner_count, pass_count] = out;
-    done(answer).map_err(|refusal| RefusedFrame { refusal, line })?;
+    // A refused frame's answer is the number plus 8 times the line.
+    done(answer % 8).map_err(|refusal| RefusedFrame { refusal, line: answer / 8 })?;
+    let [corner_count, pass_count] = out;
     for list in [&mut xs, &mut ys, &mut pitches] {
         list.truncate(corner_count as usize);
     }
