@@ -662,11 +662,12 @@ FAMILIES = {
 }
 
 
-def frames(seed, count, only=None):
-    """Yields (name, bytes), each frame from its own seed."""
+def frames(seed, count, only=None, share=(0, 1)):
+    """Yields (name, bytes), each frame from its own seed. A share (K, N) is
+    every Nth frame from number K on."""
     names = [only] if only else list(FAMILIES)
     weights = [FAMILIES[name][1] for name in names]
-    for k in range(count):
+    for k in range(share[0], count, share[1]):
         rng = random.Random(f"{seed} {k}")
         family = rng.choices(names, weights)[0]
         data = FAMILIES[family][0](rng).text()

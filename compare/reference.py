@@ -783,9 +783,13 @@ def result(data):
     except Refused as refused:
         return f"{refused}\n"
     sheet = frame.given()
-    lines = ["(result 1)"]
-    for number in range(len(frame.passes)):
-        lines.append(run_pass(frame, sheet, number).line)
+    lines = [run_pass(frame, sheet, number).line for number in range(len(frame.passes))]
+    return result_text(lines, sheet)
+
+
+def result_text(pass_lines, sheet):
+    """01's result: the pass lines as run, then the sheet."""
+    lines = ["(result 1)"] + pass_lines
     for (i, j), corner in sorted(sheet.corner.items()):
         lines.append(f"(cell ({i} {j}) {corner})")
     lines += [f"(hole ({i} {j}))" for i, j in sorted(sheet.holes)]

@@ -2,14 +2,17 @@
 """Compares our passes with the Rust's, pass by pass.
 
     run.py [--seed S] [--count N] [--only FAMILY]     generated frames
+    run.py --moved [--seed S] [--count N] ...         frames with numbers moved
+                                                      to values that decide
     run.py FRAME ...                                  frames from files
 
     --ours CMD      our program: a frame on standard input, every pass on
                     standard output, in the form of `reference.py --passes`;
                     without it reference.py itself is our side
-    --proved        our side is the proved passes (target/bin/passes_main), as
-                    with --ours compare/ours, but without a shell and a second
-                    python for every frame
+    --proved        our side is the proved programs: the passes one by one
+                    (target/bin/passes_main), as with --ours compare/ours, but
+                    without a shell and a second python for every frame, and
+                    the whole result of the frame program (target/bin/recover)
     --order ORDER   in which the Rust's tree finds corners: rising, falling or
                     mixed
     --edge EDGE     whether a corner at the radius itself is found: at-most or
@@ -18,6 +21,9 @@
                     The Rust's fit then also answers none where a residual of
                     a support is not finite, as ours does. Wants the default
                     order and edge
+    --both          each frame twice on the Rust's side: with 01's exclusions
+                    alone, and as with --beyond
+    --workers N     that many processes, each with its share of the frames
     --keep FOLDER   writes each differing frame there, made smaller
     --exhibit FOLDER  writes, for each kind of pass and each exclusion, the
                     smallest frame on which the Rust departs for that alone
@@ -40,14 +46,26 @@ itself: it runs reference.py's pass from our sheet and watches for
     prediction  a prediction that is not finite
     panic       the Rust panicked
 
+The text of recover is compared, byte for byte, with the one that reference.py
+gives for the frame and, where no pass of the frame is excluded, with the one
+that follows from the Rust's pass lines and its last sheet.
+
+Decisions that fell on their limit, or within two units in the last place of
+it, are counted with the passes in which they fell: squared distance and
+squared radius (units of their roots), quotient and factor, length by expected
+length and 1 - band or 1 + band, worst residual and gate, expected length and
+0.001.
+
 After an excluded pass the Rust is set to our sheet and goes on. Passes before
 the first such reset of their frame and after it are counted apart. Excluded
 passes are compared as well, and their answers counted, but owe nothing.
 """
 
 import argparse
+import multiprocessing
 import os
 import shlex
+import struct
 import subprocess
 import sys
 import tempfile
@@ -55,15 +73,19 @@ import time
 from collections import Counter
 
 import generate
+import moved
 import reference as ref
 import words
 
 HERE = os.path.dirname(os.path.abspath(__file__))
 PROVED = os.path.join(HERE, "..", "target", "bin", "passes_main")
+RECOVER = os.path.join(HERE, "..", "target", "bin", "recover")
 ORACLE = os.path.join(HERE, "rust", "out", "oracle")
 KINDS = ["grow", "fill", "local"]
 EXCLUSIONS = ["rim", "equal", "radius", "fit", "residual", "prediction", "panic"]
 BEYOND = {"equal", "radius", "fit", "residual", "prediction"}
+LIMIT_OF = {"radius": "radius", "quotient": "factor", "gate": "gate"}
+LIMITS = ["radius", "factor", "1 - band", "1 + band", "gate", "least pitch"]
 
 
 # ---- Both sides -----------------------------------------------------------
@@ -78,6 +100,8 @@ def call(command, data):
     if done.returncode != 0:
         why = done.stderr.decode(errors="replace").strip()
         raise Failed(f"{command[0]} ended with {done.returncode}: {why}")
+    if done.stderr:
+        raise Failed(f"{command[0]} wrote to standard error: {done.stderr[:200]!r}")
     return done.stdout.decode()
 
 
@@ -114,17 +138,30 @@ def sheet_of(lines):
     return sheet
 
 
-class Side:
-    """Runs one frame on both sides. `ours` is a command, a function from a
-    frame to its text, or None for reference.py."""
+class View:
+    """One way of running the Rust: its program, and which exclusions are
+    lifted."""
 
-    def __init__(self, folder, ours=None, order="rising", edge="at-most", beyond=False):
-        self.ours = ours
+    def __init__(self, order, edge, beyond):
+        self.name = "only rim and panic excluded" if beyond else "01's exclusions"
         self.oracle = [ORACLE, "--order", order, "--edge", edge]
         self.lifted = set()
         if beyond:
             self.oracle += ["--fit", "finite-residuals"]
             self.lifted = BEYOND
+
+
+class Side:
+    """Runs one frame on both sides. `ours` is a command, a function from a
+    frame to its text, or None for reference.py; `recover` is the command of
+    the frame program, or None."""
+
+    def __init__(self, folder, ours=None, order="rising", edge="at-most", beyond=False, both=False, recover=None):
+        self.ours = ours
+        self.recover = recover
+        self.views = [View(order, edge, beyond)]
+        if both:
+            self.views.append(View(order, edge, True))
         self.sheets = os.path.join(folder, "sheets")
 
     def our_passes(self, data, count):
@@ -134,7 +171,7 @@ class Side:
         text = self.ours(data) if callable(self.ours) else call(self.ours, data)
         return split_passes(text, count)
 
-    def rust_text(self, data, ours, excluded):
+    def rust_text(self, view, data, ours, excluded):
         """The Rust's text, set to our sheet after each excluded pass."""
         with open(self.sheets, "w") as file:
             for number, (lines, _) in enumerate(ours):
@@ -142,55 +179,115 @@ class Side:
                 if excluded[number]:
                     file.write("excluded\n")
                 file.write("\n".join(lines[1:]) + "\n")
-        return call(self.oracle + ["--sheets", self.sheets], data)
+        return call(view.oracle + ["--sheets", self.sheets], data)
+
+
+def ordered(value):
+    """The float's place among all floats: the next one has the next number."""
+    bits = struct.unpack(">i", struct.pack(">f", value))[0]
+    return bits if bits >= 0 else -(bits & 0x7FFFFFFF)
+
+
+class Near(ref.Watch):
+    """Counts the decisions on a limit or within two units of it: (limit,
+    "below", "at" or "above")."""
+
+    def __init__(self):
+        super().__init__()
+        self.near = Counter()
+
+    def decided(self, kind, value, limit):
+        if kind == "edge":
+            self.count("1 - band", value, ref.rnd(1.0 - limit))
+            self.count("1 + band", value, ref.rnd(1.0 + limit))
+        elif kind == "pitch":
+            self.count("least pitch", value, ref.LEAST_PITCH)
+        else:
+            self.count(LIMIT_OF[kind], value, limit)
+
+    def count(self, name, value, limit):
+        if value == limit:
+            self.near[name, "at"] += 1
+        elif abs(value - limit) <= abs(limit) * 2.0**-20 + 2.0**-147:
+            one, other = (ref.root(value), ref.root(limit)) if name == "radius" else (value, limit)
+            if abs(ordered(one) - ordered(other)) <= 2:
+                self.near[name, "below" if value < limit else "above"] += 1
 
 
 class Outcome:
-    """What came of one frame: for each pass its kind, the exclusions found,
-    whether it stands after a reset, and whether both sides agree."""
+    """What came of one frame. For each view its passes: kind, exclusions
+    found, whether it stands after a reset, whether both sides agree."""
 
     def __init__(self):
-        self.passes = []
+        self.views = []
+        self.near = []  # for each pass, its decisions near a limit
         self.model = []  # passes where --ours departs from reference.py
         self.text = ""
+        self.result = None  # of recover: (as reference.py's, as the Rust's in each view)
+
+    @property
+    def passes(self):
+        return self.views[0]
 
     def differences(self):
-        return [p for p in self.passes if not p["equal"] and not p["excluded"]]
+        return [p for passes in self.views for p in passes if not p["equal"] and not p["excluded"]]
+
+    def result_differs(self):
+        return self.result is not None and (not self.result[0] or "differ" in self.result[1])
+
+    def wrong(self):
+        return bool(self.differences() or self.model or self.result_differs())
 
 
-def compare(side, data):
+def compare(side, data, fits=None):
     """Runs a frame on both sides; each pass of reference.py starts from the
-    sheet that ours left."""
+    sheet that ours left. `fits` are what it has worked out for these corners."""
     frame = ref.read(data)
+    frame.fits = fits or {}
     count = len(frame.passes)
     given = side.our_passes(data, count)
     outcome = Outcome()
-    ours, excluded = [], []
+    ours, met, pass_lines = [], [], []
     sheet = frame.given()
     for number in range(count):
-        watch = ref.Watch()
+        watch = Near()
         answer = ref.run_pass(frame, sheet, number, watch)
-        text = ref.pass_text(frame, number, answer, sheet)
-        ours += split_passes(text, 1)
-        excluded.append(watch.kinds - side.lifted)
+        pass_lines.append(answer.line)
+        ours += split_passes(ref.pass_text(frame, number, answer, sheet), 1)
+        met.append(watch.kinds)
+        outcome.near.append(watch.near)
         if given and given[number] != ours[number]:
             outcome.model.append(number)
             ours[number] = given[number]
             sheet = sheet_of(ours[number][0])
 
-    outcome.text = side.rust_text(data, ours, excluded)
-    rust = split_passes(outcome.text, count)
+    rust = []
+    for view in side.views:
+        excluded = [kinds - view.lifted for kinds in met]
+        text = side.rust_text(view, data, ours, excluded)
+        outcome.text = outcome.text or text
+        rust.append(split_passes(text, count))
+        outcome.views.append(compare_passes(frame, ours, rust[-1], excluded))
+    if side.recover:
+        text = call(side.recover, data)
+        model = ref.result(data) if outcome.model else ref.result_text(pass_lines, sheet)
+        pairs = zip(outcome.views, rust)
+        outcome.result = (text == model, [compare_result(text, *pair) for pair in pairs])
+    return outcome
+
+
+def compare_passes(frame, ours, rust, excluded):
+    passes = []
     after = False
-    for number in range(count):
+    for number, (kind, _) in enumerate(frame.passes):
         kinds = set(excluded[number])
-        panicked = rust[number][0][1].startswith("panic")
-        if panicked:
+        if rust[number][0][1].startswith("panic"):
             kinds.add("panic")
         equal = rust[number][0] == ours[number][0]
-        outcome.passes.append(
+        passes.append(
             {
                 "number": number,
-                "kind": frame.passes[number][0],
+                "kind": kind,
                 "line": ours[number][0][1],
                 "excluded": kinds,
                 "after": after,
@@ -200,7 +297,17 @@ def compare(side, data):
         if not equal and not kinds:
             break  # what follows starts from different sheets
         after = after or bool(kinds)
-    return outcome
+    return passes
+
+
+def compare_result(text, passes, rust):
+    """Recover's text beside the one that follows from the Rust's passes."""
+    if not rust:
+        return "no pass"
+    if any(p["excluded"] for p in passes):
+        return "excluded"
+    last = sheet_of(rust[-1][0])
+    return "equal" if text == ref.result_text([lines[1] for lines, _ in rust], last) else "differ"
 
 
 def attempt(side, data):
@@ -262,49 +369,113 @@ def smaller(data, differs):
 
 
 class Tally:
+    """The counts of a run. Those of a view are by its number."""
+
     def __init__(self):
         self.frames = Counter()
-        self.compared = Counter()  # (kind, after, equal)
-        self.excluded = Counter()  # (kind, equal)
-        self.exclusions = Counter()  # (exclusion, kind)
+        self.compared = Counter()  # (view, kind, after, equal)
+        self.excluded = Counter()  # (view, kind, equal)
+        self.exclusions = Counter()  # (view, exclusion, kind)
         self.model = Counter()  # (kind, equal), --ours beside reference.py
-        self.work = Counter()  # what the compared passes did
+        self.work = Counter()  # (view, what), what the compared passes did
+        self.moves = Counter()  # (parameter, units)
+        self.near = Counter()  # (limit, below, at or above)
+        self.near_passes = Counter()  # (view, limit, equal, differ or excluded)
+        self.results = Counter()  # recover beside reference.py: equal
+        self.rust_results = Counter()  # (view, equal, differ, excluded or no pass)
+        self.result_exclusions = Counter()  # (view, exclusion): frames
 
-    def add(self, outcome):
+    def update(self, other):
+        for name, counter in vars(self).items():
+            counter.update(getattr(other, name))
+
+    def add(self, outcome, moves):
+        self.moves.update((parameter, units) for parameter, units, _ in moves)
+        for number in range(len(outcome.near)):
+            self.near.update(outcome.near[number])
         for p in outcome.passes:
-            kind = p["kind"]
-            self.model[kind, p["number"] not in outcome.model] += 1
-            if p["excluded"]:
-                self.excluded[kind, p["equal"]] += 1
-                for exclusion in p["excluded"]:
-                    self.exclusions[exclusion, kind] += 1
-                continue
-            self.compared[kind, p["after"], p["equal"]] += 1
-            if p["equal"]:
-                self.work.update(work_of(kind, p["line"]))
+            self.model[p["kind"], p["number"] not in outcome.model] += 1
+        for view, passes in enumerate(outcome.views):
+            for p in passes:
+                self.add_pass(view, p, {limit for limit, _ in outcome.near[p["number"]]})
+        if outcome.result is not None:
+            self.add_result(outcome)
 
-    def print(self, with_model):
+    def add_pass(self, view, p, limits):
+        kind = p["kind"]
+        word = "excluded" if p["excluded"] else "equal" if p["equal"] else "differ"
+        self.near_passes.update((view, limit, word) for limit in limits)
+        if p["excluded"]:
+            self.excluded[view, kind, p["equal"]] += 1
+            self.exclusions.update((view, exclusion, kind) for exclusion in p["excluded"])
+            return
+        self.compared[view, kind, p["after"], p["equal"]] += 1
+        if p["equal"]:
+            self.work.update({(view, what): n for what, n in work_of(kind, p["line"]).items()})
+
+    def add_result(self, outcome):
+        model, rust = outcome.result
+        self.results[model] += 1
+        for view, word in enumerate(rust):
+            self.rust_results[view, word] += 1
+            if word == "excluded":
+                reasons = set().union(*(p["excluded"] for p in outcome.views[view]))
+                self.result_exclusions.update((view, reason) for reason in reasons)
+
+    def print(self, side):
         print(f"{sum(self.frames.values())} frames:", end="")
         print(",".join(f" {n} {name}" for name, n in sorted(self.frames.items())))
         print()
+        for view in range(len(side.views)):
+            self.print_view(view, side.views[view].name)
+        if side.ours:
+            rows = [[k, self.model[k, True], self.model[k, False]] for k in KINDS]
+            table("compared with reference.py, every pass", ["pass", "equal", "differ"], rows)
+        self.print_near(side.views)
+        if side.recover:
+            self.print_results(side.views)
+        print("what the equal compared passes did:")
+        for (view, name), number in sorted(self.work.items()):
+            if view == 0:
+                print(f"  {name}: {number}")
+
+    def print_view(self, view, name):
         head = ["pass", "equal", "differ", "equal after reset", "differ after reset"]
         rows = []
         for kind in KINDS:
-            counts = [self.compared[kind, a, e] for a in (False, True) for e in (True, False)]
+            counts = [self.compared[view, kind, a, e] for a in (False, True) for e in (True, False)]
             rows.append([kind] + counts)
-        table("compared with the Rust", head, rows)
+        table(f"compared with the Rust ({name})", head, rows)
         rows = []
         for kind in KINDS:
-            counts = [self.excluded[kind, e] for e in (True, False)]
-            rows.append([kind] + counts + [self.exclusions[x, kind] for x in EXCLUSIONS])
+            counts = [self.excluded[view, kind, e] for e in (True, False)]
+            rows.append([kind] + counts + [self.exclusions[view, x, kind] for x in EXCLUSIONS])
         head = ["pass", "equal all the same", "differ"] + EXCLUSIONS
-        table("excluded by 01 (one pass may be excluded for several reasons)", head, rows)
-        if with_model:
-            rows = [[k, self.model[k, True], self.model[k, False]] for k in KINDS]
-            table("compared with reference.py, every pass", ["pass", "equal", "differ"], rows)
-        print("what the equal compared passes did:")
-        for name, number in sorted(self.work.items()):
-            print(f"  {name}: {number}")
+        table(f"excluded ({name}; one pass may be excluded for several reasons)", head, rows)
+
+    def print_near(self, views):
+        if self.moves:
+            units = [-2, -1, 0, 1, 2]
+            rows = [[p] + [self.moves[p, u] for u in units] for p in moved.PARAMETERS]
+            table("moved numbers, by units in the last place", ["number"] + units, rows)
+        head = ["limit", "below", "at", "above"]
+        rows = [[x] + [self.near[x, w] for w in head[1:]] for x in LIMITS]
+        table("decisions within two units of their limit", head, rows)
+        words = ["equal", "differ", "excluded"]
+        for view in range(len(views)):
+            rows = [[x] + [self.near_passes[view, x, w] for w in words] for x in LIMITS]
+            table(f"passes with such a decision, beside the Rust ({views[view].name})", ["limit"] + words, rows)
+
+    def print_results(self, views):
+        print("whole results of recover")
+        print(f"  with reference.py: {self.results[True]} equal, {self.results[False]} differ")
+        for view in range(len(views)):
+            words = ["equal", "differ", "excluded", "no pass"]
+            counts = ", ".join(f"{self.rust_results[view, w]} {w}" for w in words)
+            print(f"  with the Rust's ({views[view].name}): {counts}")
+            reasons = [f"{x} {self.result_exclusions[view, x]}" for x in EXCLUSIONS]
+            print(f"    frames with an excluded pass, by reason: {', '.join(reasons)}")
+        print()
 
 
 def work_of(kind, line):
@@ -333,13 +504,17 @@ def table(title, head, rows):
     print()
 
 
-def frames_of(options):
+def frames_of(options, share):
+    """Yields (name, bytes, moves, fits)."""
     if options.files:
-        for path in options.files:
+        for path in options.files[share[0] :: share[1]]:
             with open(path, "rb") as file:
-                yield os.path.basename(path), file.read()
+                yield os.path.basename(path), file.read(), [], None
+    elif options.moved:
+        yield from moved.frames(options.seed, options.count, options.only, share)
     else:
-        yield from generate.frames(options.seed, options.count, options.only)
+        for name, data in generate.frames(options.seed, options.count, options.only, share):
+            yield name, data, [], None
 
 
 def keep(folder, name, data):
@@ -359,17 +534,19 @@ class Run:
         self.failures = 0
         self.exhibits = {}
 
-    def frame(self, name, data):
+    def frame(self, name, data, moves, fits):
         try:
-            outcome = compare(self.side, data)
+            outcome = compare(self.side, data, fits)
         except (ref.Refused, Failed) as why:
             self.failures += 1
-            print(f"{name}: {why}")
+            print(f"{name}: {why}", flush=True)
+            if self.options.keep:
+                keep(self.options.keep, name + ".failed", data)
             return
         family = "files" if self.options.files else name.rsplit("-", 1)[-1]
         self.tally.frames[family] += 1
-        self.tally.add(outcome)
-        if outcome.differences() or outcome.model:
+        self.tally.add(outcome, moves)
+        if outcome.wrong():
             self.different(name, data, outcome)
         elif self.options.store and not any(p["excluded"] for p in outcome.passes):
             keep(self.options.store, name + ".frame", data)
@@ -383,16 +560,29 @@ class Run:
             print(f"{name}: pass {p['number'] + 1} {p['kind']} differs from the Rust")
         for number in outcome.model:
             print(f"{name}: pass {number + 1} differs from reference.py")
+        if outcome.result_differs():
+            print(f"{name}: the result of recover differs")
 
         def differs(data):
             outcome = attempt(self.side, data)
-            return outcome and (outcome.differences() or outcome.model)
+            return outcome and outcome.wrong()
 
         small = smaller(data, differs)
         if self.options.keep:
             keep(self.options.keep, name + ".frame", small)
-        if self.smallest is None or len(small) < len(self.smallest[1]):
-            self.smallest = (name, small)
+        self.take_smallest((name, small))
+
+    def take_smallest(self, found):
+        if found and (self.smallest is None or len(found[1]) < len(self.smallest[1])):
+            self.smallest = found
+
+    def merge(self, part):
+        tally, smallest, failures, exhibits = part
+        self.tally.update(tally)
+        self.take_smallest(smallest)
+        self.failures += failures
+        for departure, found in exhibits.items():
+            self.exhibits.setdefault(departure, []).extend(found)
 
     def keep_exhibits(self):
         for departure, found in sorted(self.exhibits.items()):
@@ -412,15 +602,34 @@ def arguments():
     parser.add_argument("--seed", type=int, default=1)
     parser.add_argument("--count", type=int, default=1000)
     parser.add_argument("--only", choices=list(generate.FAMILIES))
+    parser.add_argument("--moved", action="store_true")
     parser.add_argument("--ours")
     parser.add_argument("--proved", action="store_true")
     parser.add_argument("--order", choices=["rising", "falling", "mixed"], default="rising")
     parser.add_argument("--edge", choices=["at-most", "below"], default="at-most")
     parser.add_argument("--beyond", action="store_true")
+    parser.add_argument("--both", action="store_true")
+    parser.add_argument("--workers", type=int, default=1)
     parser.add_argument("--keep")
     parser.add_argument("--exhibit")
     parser.add_argument("--store")
     return parser.parse_args()
+
+
+def side_of(options, folder):
+    ours = proved if options.proved else shlex.split(options.ours) if options.ours else None
+    recover = [RECOVER] if options.proved else None
+    return Side(folder, ours, options.order, options.edge, options.beyond, options.both, recover)
+
+
+def work(task):
+    """One worker's share of the frames."""
+    options, share = task
+    with tempfile.TemporaryDirectory() as folder:
+        run = Run(options, side_of(options, folder))
+        for frame in frames_of(options, share):
+            run.frame(*frame)
+    return run.tally, run.smallest, run.failures, run.exhibits
 
 
 def main():
@@ -428,15 +637,19 @@ def main():
     if not os.path.exists(ORACLE):
         sys.exit("build the Rust side first: rust/build")
     began = time.time()
+    tasks = [(options, (k, options.workers)) for k in range(options.workers)]
     with tempfile.TemporaryDirectory() as folder:
-        ours = proved if options.proved else shlex.split(options.ours) if options.ours else None
-        side = Side(folder, ours, options.order, options.edge, options.beyond)
+        side = side_of(options, folder)
         run = Run(options, side)
-        for name, data in frames_of(options):
-            run.frame(name, data)
+        if options.workers == 1:
+            run.merge(work(tasks[0]))
+        else:
+            with multiprocessing.Pool(options.workers) as pool:
+                for part in pool.imap_unordered(work, tasks):
+                    run.merge(part)
         run.keep_exhibits()
 
-    run.tally.print(with_model=bool(ours))
+    run.tally.print(side)
     print(f"{time.time() - began:.0f} s, order {options.order}, edge {options.edge}")
     if run.failures:
         print(f"{run.failures} frames could not be run")
