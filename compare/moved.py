@@ -150,13 +150,13 @@ def move_band(rng, frame):
 
 
 def shortened(draft):
-    """At most four passes, and local with at most two rounds and depth two: the
+    """At most four passes, and local with at most two rounds and depth one: the
     same kinds of decision, in less time."""
     passes = []
     for kind, numbers in draft.passes[:4]:
         if kind == "local":
             search, factor, rounds, residual, depth = numbers
-            numbers = (search, factor, min(rounds, 2), residual, min(depth, 2))
+            numbers = (search, factor, min(rounds, 2), residual, min(depth, 1))
         passes.append((kind, numbers))
     draft.passes = passes
     return draft

@@ -24,6 +24,7 @@
     --both          each frame twice on the Rust's side: with 01's exclusions
                     alone, and as with --beyond
     --workers N     that many processes, each with its share of the frames
+    --seconds S     no frame is begun after that many seconds
     --keep FOLDER   writes each differing frame there, made smaller
     --exhibit FOLDER  writes, for each kind of pass and each exclusion, the
                     smallest frame on which the Rust departs for that alone
@@ -610,6 +611,7 @@ def arguments():
     parser.add_argument("--beyond", action="store_true")
     parser.add_argument("--both", action="store_true")
     parser.add_argument("--workers", type=int, default=1)
+    parser.add_argument("--seconds", type=float)
     parser.add_argument("--keep")
     parser.add_argument("--exhibit")
     parser.add_argument("--store")
@@ -625,10 +627,13 @@ def side_of(options, folder):
 def work(task):
     """One worker's share of the frames."""
     options, share = task
+    began = time.time()
     with tempfile.TemporaryDirectory() as folder:
         run = Run(options, side_of(options, folder))
         for frame in frames_of(options, share):
             run.frame(*frame)
+            if options.seconds and time.time() - began > options.seconds:
+                break
     return run.tally, run.smallest, run.failures, run.exhibits
 
 
