@@ -234,8 +234,8 @@ KINDS = {  # (how it is made, how often)
     "numbers": (Texts.numbers, 25),
     "cut": (Texts.cut, 6),
     "long": (Texts.long, 2),
-    "load": (Texts.load, 0.3),
-    "good": (Texts.frame, 3.7),
+    "load": (Texts.load, 0.1),
+    "good": (Texts.frame, 3.9),
 }
 
 

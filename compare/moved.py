@@ -25,6 +25,7 @@ import random
 import generate
 import reference as ref
 
+MOST_CORNERS = 50
 UNITS = [-2, -1, 0, 0, 1, 2]
 PARAMETERS = ["search", "boundary", "skirt", "factor", "gate", "band"]
 FAMILIES = {
@@ -149,11 +150,13 @@ def move_band(rng, frame):
     return "band", units, kind
 
 
-def shortened(draft):
-    """At most four passes, and local with at most two rounds and depth one: the
-    same kinds of decision, in less time."""
+def small(draft):
+    """Small enough to run often: few corners, at most three passes, and local
+    with at most two rounds and depth one. None if there are too many."""
+    if len(draft.corners) > MOST_CORNERS:
+        return None
     passes = []
-    for kind, numbers in draft.passes[:4]:
+    for kind, numbers in draft.passes[:3]:
         if kind == "local":
             search, factor, rounds, residual, depth = numbers
             numbers = (search, factor, min(rounds, 2), residual, min(depth, 1))
@@ -193,7 +196,9 @@ def frames(seed, count, only=None, share=(0, 1)):
         moves = []
         while not moves:
             family = rng.choices(names, weights)[0]
-            draft = shortened(generate.FAMILIES[family][0](rng))
+            draft = small(generate.FAMILIES[family][0](rng))
+            if draft is None:
+                continue
             frame = ref.read(draft.text())
             moves = move(rng, frame)
         draft.band, draft.passes = frame.band, frame.passes
