@@ -1,17 +1,16 @@
 -- One cell of local: what a visit does to the state, by the fit and by what trying the cell finds; and what the code has written when it has
 -- attached a corner. Assumes nothing.
 use mathlib.Core.Path.{_≡_, refl, sym, ap, ap₂, _∙_}
-use mathlib.Core.Bool.{Bool, true, false, not, cond}
+use mathlib.Core.Bool.{Bool, true, false, cond}
 use mathlib.Core.List.{List, [], _∷_, _++_}
 use Prim.Native.Nat.{ℕ, _+_, _/_, _%_, _<_, _≤_}
 use native.Mathlib.Omega.{arith}
-use borrow.Author.Tests.{not-true, not-false}
 use lib.ListN.{length, getD, set, take, length-append, length-set}
 use lib.Seq.{length-take-le, getD-take}
 use lib.Ieee.{Float, ofBits, binary32, lt}
 use Rattle.sheet.specs.Cells.{OnSheet, placeOf}
-use Rattle.sheet.specs.Words.{labelOf, labelAt, attached, marksCleared}
-use Rattle.sheet.specs.Corners.{Given, cornerOf, seenOf}
+use Rattle.sheet.specs.Words.{labelAt, attached, marksCleared}
+use Rattle.sheet.specs.Corners.{Given, seenOf}
 use Rattle.sheet.specs.declared.Cell.{Cell}
 use Rattle.sheet.specs.declared.Label.{Label}
 use Rattle.sheet.specs.declared.Position.{Position}
@@ -21,7 +20,7 @@ use Rattle.labels.specs.Labelled.{labelledPlaces, labelCount, Attaching}
 use Rattle.labels.specs.Used.{usedOn, Tied, OneCell}
 use Rattle.labels.specs.Box.{boxOf}
 use Rattle.labels.specs.declared.LabelBox.{LabelBox}
-use Rattle.labels.proofs.Labelled.{places-rise, places-in, count-attached, cleared-keeps, labels-places, same-count, word-else}
+use Rattle.labels.proofs.Labelled.{places-rise, places-in, count-attached, labels-places, same-count}
 use Rattle.labels.proofs.Used.{tied-attached, tied-cleared, one-attached, one-cleared}
 use Rattle.positions_policy.specs.declared.Tolerances.{Tolerances}
 use Rattle.arguments.specs.declared.Settings.{Settings}
@@ -38,11 +37,9 @@ use Rattle.passes.specs.declared.LargestResidual.{LargestResidual}
 use Rattle.passes.proofs.Over.{over-own, over-more, over-read, over-length}
 use Rattle.passes.proofs.Free.{labels-few, labels-fewer}
 use Rattle.supports.specs.Nearest.{Nearby, Gatherable, Gathered, placesOf}
-use Rattle.supports.specs.Fitted.{supportFitOf}
 use Rattle.supports.specs.declared.Supports.{Supports}
-use Rattle.supports.specs.declared.SupportFit.{SupportFit}
-use Rattle.supports.proofs.Fitted.{fit-none, fit-some}
 use Rattle.region.specs.Region.{Listed, Lines, RegionFound, regionOf}
+use Rattle.remembered.proofs.Attach.{clear-long, clear-labels}
 use Rattle.local.specs.Extending.{visits, countsChanged, noCandidateCounted, ambiguousCounted, edgeCounted, attachedCounted, stateOf, Extending, Holds, Left, Trying, Taking, attachedClear, Writable, Wrote}
 use Rattle.local.specs.declared.LocalProgress.{LocalProgress}
 
@@ -92,21 +89,11 @@ attaching few long on bare a = record { long = long; on = on; bare = bare; corne
 
 -- the sheet after it, but for the cell's marks, is that with the corner attached
 module _ {sheet : List ℕ} {c : Cell} {k : ℕ} (a : Attaching sheet c k) where
-  pub clear-long : length (attached sheet c k) ≡ length sheet
-  clear-long = attached-changes sheet c (a .long) (a .on) k (a .corner-fits) .same-length
-
   long' : 16384 ≤ length (attached sheet c k)
-  long' = rw clear-long (a .long)
-
-  pub clear-same : length (attachedClear sheet c k) ≡ length sheet
-  clear-same = cleared-changes (attached sheet c k) c long' (a .on) .same-length ∙ clear-long
-
-  -- the labels of all other places stay
-  pub clear-else : (q : ℕ) → q < 16384 → (q ≡ placeOf c → ⊥) → labelOf (getD (attachedClear sheet c k) q 0) ≡ labelOf (getD sheet q 0)
-  clear-else q h d = cleared-keeps (attached sheet c k) c long' (a .on) .same-label q h ∙ ap labelOf (word-else a q d)
+  long' = rw (clear-long a) (a .long)
 
   pub clear-count : labelCount (attachedClear sheet c k) ≡ labelCount sheet + 1
-  clear-count = same-count (attached sheet c k) (attachedClear sheet c k) (labels-places (cleared-keeps (attached sheet c k) c long' (a .on))) ∙ count-attached a
+  clear-count = same-count (attached sheet c k) (attachedClear sheet c k) (labels-places (clear-labels a)) ∙ count-attached a
 
   module _ {xs ys pitches : List Float} (given : Given xs ys pitches sheet) (there : k < length xs) where
     pub clear-given : Given xs ys pitches (attachedClear sheet c k)
@@ -149,23 +136,6 @@ module _ (sheet : List ℕ) (c : Cell) (k : ℕ) {first second : List ℕ} (e : 
         counts-are = refl;
         largest-is = refl;
       }
-
--- ---- by the fit and the gate
-
-module _ (cs : Corners) (set : Settings) (p : LocalExtensionParams) (c : Cell) (s : LocalState) (f : LocalFit) (e : f ≡ localFit (seenOf (cs .corner) (s .sheet)) (supportsOf c (s .sheet))) where
-  pub visit-none : f ≡ none → localVisit cs set p c s ≡ s
-  unfolding localVisit localAt
-  visit-none g = rw (← e, g)
-
-  module _ (h rs : List Float) (g : f ≡ fitted h rs) where
-    pub visit-gated : lt (gateOf set p) (worst (ofBits binary32 0) rs) ≡ true → localVisit cs set p c s ≡ withResiduals rs s
-    unfolding localVisit localAt
-    visit-gated k = rw (← e, g, k)
-
-    pub visit-fitted : lt (gateOf set p) (worst (ofBits binary32 0) rs) ≡ false
-        → localVisit cs set p c s ≡ localWith c (tryAt cs (s .sheet) (tolerancesOf set) (localSearch set p) c (applied h (cellPoint c))) (withResiduals rs s)
-    unfolding localVisit localAt
-    visit-fitted k = rw (← e, g, k)
 
 -- ---- the supports
 
@@ -234,35 +204,6 @@ module _ {xs ys pitches : List Float} {sheet list used places : List ℕ} {at : 
 
   pub untouched : {after : LocalState} → after ≡ stateOf sheet list at → Left after xs ys pitches list sheet list used places at
   untouched e = rw e (record { holds = stands; extending = f })
-
--- a visit by what the code has worked out: the fit on the supports, its residuals recorded, and the gate
-module _ (set : Settings) (p : LocalExtensionParams) {xs ys pitches : List Float} {sheet list used places : List ℕ} (at : LocalProgress) (c : Cell)
-    (f : Extending xs ys pitches sheet list used places (at .counts .attached) (at .labels)) (near : Supports) (four : placesOf near ≡ take 4 (byReach c (take (at .labels) places)))
-    {r : SupportFit} (fit : r ≡ supportFitOf (localFit (seenOf (cornerOf xs ys pitches) sheet) (placesOf near))) where
-  of : localFit (seenOf (cornerOf xs ys pitches) sheet) (placesOf near) ≡ localFit (seenOf (cornerOf xs ys pitches) sheet) (supportsOf c sheet)
-  of = ap (localFit (seenOf (cornerOf xs ys pitches) sheet)) (supports-are f c near four)
-
-  pub no-fit : not (r .found) ≡ true → localVisit (cornersOf xs ys pitches) set p c (stateOf sheet list at) ≡ stateOf sheet list at
-  no-fit e = visit-none (cornersOf xs ys pitches) set p c (stateOf sheet list at) _ of (fit-none _ fit (not-true (r .found) e))
-
-  module _ (found : not (r .found) ≡ false) {l : LargestResidual} (recorded : l ≡ recordedAll (at .residual) (r .residuals)) {gate most : Float} (gated : gate ≡ gateOf set p)
-      (largest : most ≡ worst (ofBits binary32 0) (r .residuals)) where
-    -- the state with the residuals recorded
-    next : withResiduals (r .residuals) (stateOf sheet list at) ≡ stateOf sheet list (record { counts = at .counts; residual = l; labels = at .labels })
-    next = rw recorded
-
-    has : localFit (seenOf (cornerOf xs ys pitches) sheet) (placesOf near) ≡ fitted (r .h) (r .residuals)
-    has = fit-some _ fit (not-false (r .found) found)
-
-    pub over-gate : lt gate most ≡ true → localVisit (cornersOf xs ys pitches) set p c (stateOf sheet list at) ≡ stateOf sheet list (record { counts = at .counts; residual = l; labels = at .labels })
-    over-gate e = visit-gated (cornersOf xs ys pitches) set p c (stateOf sheet list at) _ of _ _ has (sym (ap₂ lt gated largest) ∙ e) ∙ next
-
-    pub within-gate : lt gate most ≡ false
-        → localVisit (cornersOf xs ys pitches) set p c (stateOf sheet list at)
-        ≡ localWith c (tryAt (cornersOf xs ys pitches) sheet (tolerancesOf set) (localSearch set p) c (applied (r .h) (cellPoint c))) (stateOf sheet list (record { counts = at .counts; residual = l; labels = at .labels }))
-    within-gate e =
-        visit-fitted (cornersOf xs ys pitches) set p c (stateOf sheet list at) _ of _ _ has (sym (ap₂ lt gated largest) ∙ e)
-        ∙ ap (localWith c (tryAt (cornersOf xs ys pitches) sheet (tolerancesOf set) (localSearch set p) c (applied (r .h) (cellPoint c)))) next
 
 module _ {xs ys pitches : List Float} {sheet list used places : List ℕ} {at : LocalProgress} {c : Cell} {k : ℕ} (t : Taking xs ys pitches sheet list used places at c k) where
   pub taking-fits : k < 1024
@@ -333,9 +274,9 @@ module _ {xs ys pitches : List Float} {sheet list used places : List ℕ} {at : 
 -- ---- by what was found
 
 -- what was found is what the definition finds
-pub found-is : (cs : Corners) (sheet : List ℕ) (c : Cell) (h : List Float) {tol tol' : Tolerances} {search search' : Search} {point at : Position} {r : TryCellResult} → point ≡ cellPoint c
-    → at ≡ applied h point → search' ≡ search → tol' ≡ tol → r ≡ tryAt cs sheet tol' search' c at → r ≡ tryAt cs sheet tol search c (applied h (cellPoint c))
-found-is cs sheet c h p a s t e = e ∙ rw (t, s, a, p)
+pub found-is : (cs : Corners) (sheet : List ℕ) (c : Cell) (prediction : Position) {tol tol' : Tolerances} {search search' : Search} {r : TryCellResult} → search' ≡ search → tol' ≡ tol
+    → r ≡ tryAt cs sheet tol' search' c prediction → r ≡ tryAt cs sheet tol search c prediction
+found-is cs sheet c prediction s t e = e ∙ rw (t, s)
 
 -- a corner that was found is to be attached
 pub taking : {xs ys pitches : List Float} {sheet list used places : List ℕ} {at : LocalProgress} {c : Cell} {k : ℕ} {r : TryCellResult} (tol : Tolerances) (search : Search) (prediction : Position)

@@ -27,9 +27,10 @@ use Rattle.passes.specs.Local.{depthOf, localRegion, localCells, LocalState, lo
 use Rattle.passes.proofs.Over.{over-read, over-over}
 use Rattle.region.specs.Region.{Region, RegionFound, regionAt}
 use Rattle.region.proofs.Told.{region-is}
+use Rattle.remembered.proofs.Attach.{clear-same, clear-else}
 use Rattle.local.specs.Extending.{visits, stateOf, Extending, Holds, Left, lookedAt}
 use Rattle.local.specs.declared.LocalProgress.{LocalProgress}
-use Rattle.local.proofs.Visit.{Tried, passed, attaches, tried, tried-grows, tried-counted, attaching, clear-same, clear-else, untouched}
+use Rattle.local.proofs.Visit.{Tried, passed, attaches, tried, tried-grows, tried-counted, attaching, untouched}
 
 -- ---- some cells
 

@@ -10,18 +10,21 @@ use Rattle.sheet.specs.Words.{labelAt, attached, marksCleared, SheetCell}
 use Rattle.sheet.specs.Corners.{Given}
 use Rattle.sheet.specs.declared.Cell.{Cell}
 use Rattle.sheet.specs.declared.Label.{Label}
+use Rattle.sheet.specs.declared.Position.{Position}
 use Rattle.labels.specs.Labelled.{namesCorner, labelledPlaces, labelCount}
 use Rattle.labels.specs.Used.{usedOn, Tied, OneCell}
 use Rattle.arguments.specs.declared.Settings.{Settings}
 use Rattle.arguments.specs.declared.LocalExtensionParams.{LocalExtensionParams}
-use Rattle.extension_common.specs.TryCell.{Corners}
+use Rattle.extension_common.specs.TryCell.{Corners, cornersOf}
 use Rattle.passes.specs.Outcome.{over}
 use Rattle.passes.specs.Grow.{noCounts}
-use Rattle.passes.specs.Local.{depthOf, LocalState, LocalRounds, localVisit}
+use Rattle.passes.specs.Local.{depthOf, recordedAll, LocalState, LocalRounds, localVisit}
 use Rattle.passes.specs.declared.Counts.{Counts}
 use Rattle.passes.specs.declared.LargestResidual.{LargestResidual}
 use Rattle.passes.specs.declared.LocalStats.{LocalStats}
 use Rattle.supports.specs.Nearest.{Gathered}
+use Rattle.remembered.specs.Remembered.{KnownAt, Remembered}
+use Rattle.remembered.specs.declared.Known.{Known}
 use Rattle.region.specs.Region.{Region, Telling, regionAt}
 use Rattle.local.specs.declared.LocalProgress.{LocalProgress}
 use Rattle.local.specs.declared.RoundsDone.{RoundsDone}
@@ -49,6 +52,10 @@ attachedCounted n = record { attached = n .attached + 1; «rejected_no_candidate
 -- the progress with other counts
 abbrev pub countsChanged : LocalProgress → Counts → LocalProgress
 countsChanged at n = record { counts = n; residual = at .residual; labels = at .labels }
+
+-- the progress with some residuals recorded
+abbrev pub residualsRecorded : LocalProgress → List Float → LocalProgress
+residualsRecorded at rs = record { counts = at .counts; residual = recordedAll (at .residual) rs; labels = at .labels }
 
 -- ---- where the code stands
 
@@ -85,6 +92,10 @@ pub record Left (s : LocalState) (xs ys pitches : List Float) (before sheet list
   pub holds : Holds s before sheet list at
   pub extending : Extending xs ys pitches sheet list used places (at .counts .attached) (at .labels)
 
+-- what is remembered of the cells holds, on the sheet of now and with the largest residual of now
+abbrev pub Recalls : Settings → LocalExtensionParams → List Float → List Float → List Float → List ℕ → List ℕ → List Float → LocalProgress → Type 0
+Recalls set p xs ys pitches sheet memory predictions at = Remembered (cornersOf xs ys pitches) set p (at .residual) sheet memory predictions
+
 -- ---- one cell
 
 -- an unlabelled cell of the sheet is to be tried, and its visit can be counted
@@ -93,6 +104,11 @@ pub record Trying (xs ys pitches : List Float) (sheet list used places : List �
   pub on : OnSheet c
   pub bare : labelAt sheet c ≡ Label.Unlabelled
   pub countable : visits (at .counts) < 4294967296
+
+-- it is known where the fit maps the cell to
+pub record Foretold (set : Settings) (p : LocalExtensionParams) (xs ys pitches : List Float) (sheet : List ℕ) (at : LocalProgress) (c : Cell) (reach : ℕ) (prediction : Position) : Type 0 where
+  pub known : KnownAt (cornersOf xs ys pitches) set p (at .residual) sheet c (Known.Predicted reach prediction)
+  pub small : reach < 16384
 
 -- a corner that no cell holds is to be attached there
 pub record Taking (xs ys pitches : List Float) (sheet list used places : List ℕ) (at : LocalProgress) (c : Cell) (k : ℕ) : Type 0 where

@@ -5,15 +5,15 @@ ghost use mathlib.Core.Path.{_≡_};
 ghost use Prim.Native.Nat.{_+_, _<_};
 ghost use lib.ListN.{length};
 ghost use Rattle.extension_common.specs.TryCell.{cornersOf, tryAt};
-ghost use Rattle.homography.specs.Fit.{applied};
 ghost use Rattle.passes.specs.Outcome.{done};
 ghost use Rattle.passes.specs.Grow.{tolerancesOf};
-ghost use Rattle.passes.specs.Local.{depthOf, cellPoint, localSearch, gateOf, localWith, localVisit, localRound, localFrom, localAfter};
+ghost use Rattle.passes.specs.Local.{depthOf, localSearch, gateOf, localWith, localVisit, localRound, localFrom, localAfter};
 ghost use Rattle.passes.specs.Step.{CornerLists, Rooms, localStep, localOut, localLeaves};
 ghost use Rattle.arguments.specs.Arguments.{lent};
 ghost use Rattle.arguments.specs.Accepted.{Accepted};
 ghost use Rattle.region.specs.Region.{regionOf};
-ghost use Rattle.local.specs.Extending.{visits, noCandidateCounted, ambiguousCounted, edgeCounted, countsChanged, stateOf, Left, Trying, Writable, Wrote, Looking, lookedAt, RoundAsked, noProgress, startOf, RoundsAsked, RoundsLeft, statsOf};
+ghost use Rattle.remembered.specs.Remembered.{Forgotten};
+ghost use Rattle.local.specs.Extending.{visits, noCandidateCounted, ambiguousCounted, edgeCounted, countsChanged, residualsRecorded, stateOf, Left, Recalls, Foretold, Trying, Writable, Wrote, Looking, lookedAt, RoundAsked, noProgress, startOf, RoundsAsked, RoundsLeft, statsOf};
 use arguments::Checked;
 use arguments::LocalExtensionParams;
 use arguments::Pass;
@@ -27,7 +27,9 @@ use passes::LargestResidual;
 use passes::LocalAnswer;
 use passes::LocalStats;
 use positions_policy::Tolerances;
+use remembered::Known;
 use sheet::Cell;
+use sheet::Position;
 
 // How far the pass has come: the counts, the largest residual recorded, and how many cells are labelled.
 struct LocalProgress {
@@ -134,19 +136,35 @@ fn with_counts(at: LocalProgress, counts: Counts) -> LocalProgress
     }
 }
 
+// The progress with four residuals recorded.
+fn with_residuals(at: LocalProgress, residuals: [f32; 4]) -> LocalProgress
+    requires { ⌜ length residuals ≡ 4 ⌝ }
+    ensures { λ r. ⌜ r ≡ residualsRecorded at residuals ⌝ }
+{
+    let counts = at.counts;
+    let before = at.residual;
+    let residual = residuals::record_residuals(before, residuals);
+    LocalProgress {
+        counts,
+        residual,
+        labels: at.labels,
+    }
+}
+
 // Attaches a corner to a cell and clears both of its marks: the sheet, the next place of the attached list and the corner's entry are written,
-// and the labelled places are listed anew. Answers how far the pass has come.
+// the labelled places are listed anew, and what the new label may change is forgotten. Answers how far the pass has come.
 fn attach_corner(
     sheet: &mut [u16],
     attached: &mut [u16],
     used: &mut [u8; 1024],
     places: &mut [u16; 1024],
+    memory: &mut [u16; 16384],
     at: LocalProgress,
     c: Cell,
     k: usize,
 ) -> LocalProgress
-    requires { ⌜ Writable (now sheet) (now attached) (now places) at c k ⌝ }
-    ensures { λ r. ⌜ Wrote (now (sheet .entry)) (now (attached .entry)) (now (used .entry)) (now (places .entry)) at c k (now (sheet .exit)) (now (attached .exit)) (now (used .exit)) (now (places .exit)) r ⌝ }
+    requires { ⌜ Writable (now sheet) (now attached) (now places) at c k × (length (now memory) ≡ 16384) ⌝ }
+    ensures { λ r. ⌜ Wrote (now (sheet .entry)) (now (attached .entry)) (now (used .entry)) (now (places .entry)) at c k (now (sheet .exit)) (now (attached .exit)) (now (used .exit)) (now (places .exit)) r × Forgotten (now (memory .entry)) c (now (memory .exit)) ⌝ }
 {
     let n = at.counts;
     let made = n.attached;
@@ -155,6 +173,7 @@ fn attach_corner(
     attached[made] = sheet::place_of(c) as u16;
     used[k] = 1;
     let labels = supports::gather_labelled(sheet, places);
+    remembered::forget_near(memory, c);
     let counts = Counts {
         attached: made + 1,
         rejected_no_candidate: n.rejected_no_candidate,
@@ -169,8 +188,9 @@ fn attach_corner(
     }
 }
 
-// Tries an unlabelled cell where a fit maps it to: a corner that is found is attached, else nothing is written. Either is counted.
-fn try_fitted_cell(
+// Tries an unlabelled cell where a fit maps it to: a corner that is found is attached, else nothing is written. Either is counted, and where there
+// is no candidate that is noted.
+fn try_predicted_cell(
     xs: &[f32],
     ys: &[f32],
     pitches: &[f32],
@@ -178,16 +198,18 @@ fn try_fitted_cell(
     attached: &mut [u16],
     used: &mut [u8; 1024],
     places: &mut [u16; 1024],
+    memory: &mut [u16; 16384],
+    predictions: &mut [f32; 32768],
     at: LocalProgress,
     c: Cell,
-    h: [f32; 9],
+    reach: u32,
+    prediction: Position,
     settings: Settings,
     params: LocalExtensionParams,
 ) -> LocalProgress
-    requires { ⌜ Trying (now xs) (now ys) (now pitches) (now sheet) (now attached) (now used) (now places) at c ⌝ }
-    ensures { λ r. ⌜ Left (localWith c (tryAt (cornersOf (now (xs .entry)) (now (ys .entry)) (now (pitches .entry))) (now (sheet .entry)) (tolerancesOf settings) (localSearch settings params) c (applied h (cellPoint c))) (stateOf (now (sheet .entry)) (now (attached .entry)) at)) (now (xs .entry)) (now (ys .entry)) (now (pitches .entry)) (now (attached .entry)) (now (sheet .exit)) (now (attached .exit)) (now (used .exit)) (now (places .exit)) r ⌝ }
+    requires { ⌜ Trying (now xs) (now ys) (now pitches) (now sheet) (now attached) (now used) (now places) at c × (Recalls settings params (now xs) (now ys) (now pitches) (now sheet) (now memory) (now predictions) at × Foretold settings params (now xs) (now ys) (now pitches) (now sheet) at c reach prediction) ⌝ }
+    ensures { λ r. ⌜ Left (localWith c (tryAt (cornersOf (now (xs .entry)) (now (ys .entry)) (now (pitches .entry))) (now (sheet .entry)) (tolerancesOf settings) (localSearch settings params) c prediction) (stateOf (now (sheet .entry)) (now (attached .entry)) at)) (now (xs .entry)) (now (ys .entry)) (now (pitches .entry)) (now (attached .entry)) (now (sheet .exit)) (now (attached .exit)) (now (used .exit)) (now (places .exit)) r × Recalls settings params (now (xs .entry)) (now (ys .entry)) (now (pitches .entry)) (now (sheet .exit)) (now (memory .exit)) (now (predictions .exit)) r ⌝ }
 {
-    let prediction = homography::apply(h, supports::cell_point(c));
     let found = extension_common::try_attach_at_cell(
         xs,
         ys,
@@ -200,15 +222,81 @@ fn try_fitted_cell(
         tolerances_of(settings),
     );
     match found {
-        TryCellResult::NoCandidates => with_counts(at, count_no_candidate(at.counts)),
+        TryCellResult::NoCandidates => {
+            remembered::note(memory, predictions, c, Known::Unmatched(reach));
+            with_counts(at, count_no_candidate(at.counts))
+        }
         TryCellResult::Ambiguous => with_counts(at, count_ambiguous(at.counts)),
         TryCellResult::EdgeRejected => with_counts(at, count_edge(at.counts)),
-        TryCellResult::Attached(k) => attach_corner(sheet, attached, used, places, at, c, k),
+        TryCellResult::Attached(k) => attach_corner(
+            sheet,
+            attached,
+            used,
+            places,
+            memory,
+            at,
+            c,
+            k,
+        ),
     }
 }
 
-// Tries an unlabelled cell: by the fit on its four nearest labels, whose residuals are recorded. Without a fit, or with a residual above the
-// gate, nothing is counted.
+// Tries an unlabelled cell of which nothing is known: by the fit on its four nearest labels, whose residuals are recorded. Without a fit, or with a
+// residual above the gate, nothing is counted. What is worked out is noted.
+fn try_unknown_cell(
+    xs: &[f32],
+    ys: &[f32],
+    pitches: &[f32],
+    sheet: &mut [u16],
+    attached: &mut [u16],
+    used: &mut [u8; 1024],
+    places: &mut [u16; 1024],
+    memory: &mut [u16; 16384],
+    predictions: &mut [f32; 32768],
+    at: LocalProgress,
+    c: Cell,
+    settings: Settings,
+    params: LocalExtensionParams,
+) -> LocalProgress
+    requires { ⌜ Trying (now xs) (now ys) (now pitches) (now sheet) (now attached) (now used) (now places) at c × Recalls settings params (now xs) (now ys) (now pitches) (now sheet) (now memory) (now predictions) at ⌝ }
+    ensures { λ r. ⌜ Left (localVisit (cornersOf (now (xs .entry)) (now (ys .entry)) (now (pitches .entry))) settings params c (stateOf (now (sheet .entry)) (now (attached .entry)) at)) (now (xs .entry)) (now (ys .entry)) (now (pitches .entry)) (now (attached .entry)) (now (sheet .exit)) (now (attached .exit)) (now (used .exit)) (now (places .exit)) r × Recalls settings params (now (xs .entry)) (now (ys .entry)) (now (pitches .entry)) (now (sheet .exit)) (now (memory .exit)) (now (predictions .exit)) r ⌝ }
+{
+    let nearest = supports::nearest_labelled_by_grid(places, at.labels, c);
+    let reach = nearest.fourth.reach;
+    let fit = supports::local_fit(xs, ys, pitches, sheet, nearest);
+    if !fit.found {
+        remembered::note(memory, predictions, c, Known::Idle(reach));
+        return at;
+    }
+    let h = fit.h;
+    let residuals = fit.residuals;
+    let next = with_residuals(at, residuals);
+    if gate_of(settings, params) < residuals::worst_of(residuals) {
+        remembered::note(memory, predictions, c, Known::Idle(reach));
+        return next;
+    }
+    let prediction = homography::apply(h, supports::cell_point(c));
+    remembered::note(memory, predictions, c, Known::Predicted(reach, prediction));
+    try_predicted_cell(
+        xs,
+        ys,
+        pitches,
+        sheet,
+        attached,
+        used,
+        places,
+        memory,
+        predictions,
+        next,
+        c,
+        reach,
+        prediction,
+        settings,
+        params,
+    )
+}
+
+// Tries an unlabelled cell: by what is known of it from an earlier round, or anew.
 fn try_local_cell(
     xs: &[f32],
     ys: &[f32],
@@ -217,46 +305,53 @@ fn try_local_cell(
     attached: &mut [u16],
     used: &mut [u8; 1024],
     places: &mut [u16; 1024],
+    memory: &mut [u16; 16384],
+    predictions: &mut [f32; 32768],
     at: LocalProgress,
     c: Cell,
     settings: Settings,
     params: LocalExtensionParams,
 ) -> LocalProgress
-    requires { ⌜ Trying (now xs) (now ys) (now pitches) (now sheet) (now attached) (now used) (now places) at c ⌝ }
-    ensures { λ r. ⌜ Left (localVisit (cornersOf (now (xs .entry)) (now (ys .entry)) (now (pitches .entry))) settings params c (stateOf (now (sheet .entry)) (now (attached .entry)) at)) (now (xs .entry)) (now (ys .entry)) (now (pitches .entry)) (now (attached .entry)) (now (sheet .exit)) (now (attached .exit)) (now (used .exit)) (now (places .exit)) r ⌝ }
+    requires { ⌜ Trying (now xs) (now ys) (now pitches) (now sheet) (now attached) (now used) (now places) at c × Recalls settings params (now xs) (now ys) (now pitches) (now sheet) (now memory) (now predictions) at ⌝ }
+    ensures { λ r. ⌜ Left (localVisit (cornersOf (now (xs .entry)) (now (ys .entry)) (now (pitches .entry))) settings params c (stateOf (now (sheet .entry)) (now (attached .entry)) at)) (now (xs .entry)) (now (ys .entry)) (now (pitches .entry)) (now (attached .entry)) (now (sheet .exit)) (now (attached .exit)) (now (used .exit)) (now (places .exit)) r × Recalls settings params (now (xs .entry)) (now (ys .entry)) (now (pitches .entry)) (now (sheet .exit)) (now (memory .exit)) (now (predictions .exit)) r ⌝ }
 {
-    let nearest = supports::nearest_labelled_by_grid(places, at.labels, c);
-    let fit = supports::local_fit(xs, ys, pitches, sheet, nearest);
-    if !fit.found {
-        return at;
+    let known = remembered::recall(memory, predictions, c);
+    match known {
+        Known::Nothing => try_unknown_cell(
+            xs,
+            ys,
+            pitches,
+            sheet,
+            attached,
+            used,
+            places,
+            memory,
+            predictions,
+            at,
+            c,
+            settings,
+            params,
+        ),
+        Known::Idle(_) => at,
+        Known::Unmatched(_) => with_counts(at, count_no_candidate(at.counts)),
+        Known::Predicted(reach, prediction) => try_predicted_cell(
+            xs,
+            ys,
+            pitches,
+            sheet,
+            attached,
+            used,
+            places,
+            memory,
+            predictions,
+            at,
+            c,
+            reach,
+            prediction,
+            settings,
+            params,
+        ),
     }
-    let h = fit.h;
-    let residuals = fit.residuals;
-    let counts = at.counts;
-    let before = at.residual;
-    let residual = residuals::record_residuals(before, residuals);
-    let next = LocalProgress {
-        counts,
-        residual,
-        labels: at.labels,
-    };
-    if gate_of(settings, params) < residuals::worst_of(residuals) {
-        return next;
-    }
-    try_fitted_cell(
-        xs,
-        ys,
-        pitches,
-        sheet,
-        attached,
-        used,
-        places,
-        next,
-        c,
-        h,
-        settings,
-        params,
-    )
 }
 
 // Looks at a place: its cell is tried if it lies in the region and is unlabelled. Answers how far the pass has come.
@@ -268,6 +363,8 @@ fn local_place(
     attached: &mut [u16],
     used: &mut [u8; 1024],
     places: &mut [u16; 1024],
+    memory: &mut [u16; 16384],
+    predictions: &mut [f32; 32768],
     at: LocalProgress,
     around: LabelBox,
     rows: &[u8; 128],
@@ -276,8 +373,8 @@ fn local_place(
     settings: Settings,
     params: LocalExtensionParams,
 ) -> LocalProgress
-    requires { ⌜ Looking (now xs) (now ys) (now pitches) (now sheet) (now attached) (now used) (now places) at (regionOf around (now rows) (now columns)) place params ⌝ }
-    ensures { λ r. ⌜ Left (lookedAt (cornersOf (now (xs .entry)) (now (ys .entry)) (now (pitches .entry))) settings params (regionOf around (now (rows .entry)) (now (columns .entry))) place (stateOf (now (sheet .entry)) (now (attached .entry)) at)) (now (xs .entry)) (now (ys .entry)) (now (pitches .entry)) (now (attached .entry)) (now (sheet .exit)) (now (attached .exit)) (now (used .exit)) (now (places .exit)) r ⌝ }
+    requires { ⌜ Looking (now xs) (now ys) (now pitches) (now sheet) (now attached) (now used) (now places) at (regionOf around (now rows) (now columns)) place params × Recalls settings params (now xs) (now ys) (now pitches) (now sheet) (now memory) (now predictions) at ⌝ }
+    ensures { λ r. ⌜ Left (lookedAt (cornersOf (now (xs .entry)) (now (ys .entry)) (now (pitches .entry))) settings params (regionOf around (now (rows .entry)) (now (columns .entry))) place (stateOf (now (sheet .entry)) (now (attached .entry)) at)) (now (xs .entry)) (now (ys .entry)) (now (pitches .entry)) (now (attached .entry)) (now (sheet .exit)) (now (attached .exit)) (now (used .exit)) (now (places .exit)) r × Recalls settings params (now (xs .entry)) (now (ys .entry)) (now (pitches .entry)) (now (sheet .exit)) (now (memory .exit)) (now (predictions .exit)) r ⌝ }
 {
     if !region::is_local_cell(around, rows, columns, place, depth_of(params)) {
         return at;
@@ -293,6 +390,8 @@ fn local_place(
         attached,
         used,
         places,
+        memory,
+        predictions,
         at,
         sheet::cell_of(place),
         settings,
@@ -309,12 +408,14 @@ fn local_round(
     attached: &mut [u16],
     used: &mut [u8; 1024],
     places: &mut [u16; 1024],
+    memory: &mut [u16; 16384],
+    predictions: &mut [f32; 32768],
     at: LocalProgress,
     settings: Settings,
     params: LocalExtensionParams,
 ) -> LocalProgress
-    requires { ⌜ RoundAsked (now xs) (now ys) (now pitches) (now sheet) (now attached) (now used) (now places) at params ⌝ }
-    ensures { λ r. ⌜ Left (localRound (cornersOf (now (xs .entry)) (now (ys .entry)) (now (pitches .entry))) settings params (stateOf (now (sheet .entry)) (now (attached .entry)) at)) (now (xs .entry)) (now (ys .entry)) (now (pitches .entry)) (now (attached .entry)) (now (sheet .exit)) (now (attached .exit)) (now (used .exit)) (now (places .exit)) r ⌝ }
+    requires { ⌜ RoundAsked (now xs) (now ys) (now pitches) (now sheet) (now attached) (now used) (now places) at params × Recalls settings params (now xs) (now ys) (now pitches) (now sheet) (now memory) (now predictions) at ⌝ }
+    ensures { λ r. ⌜ Left (localRound (cornersOf (now (xs .entry)) (now (ys .entry)) (now (pitches .entry))) settings params (stateOf (now (sheet .entry)) (now (attached .entry)) at)) (now (xs .entry)) (now (ys .entry)) (now (pitches .entry)) (now (attached .entry)) (now (sheet .exit)) (now (attached .exit)) (now (used .exit)) (now (places .exit)) r × Recalls settings params (now (xs .entry)) (now (ys .entry)) (now (pitches .entry)) (now (sheet .exit)) (now (memory .exit)) (now (predictions .exit)) r ⌝ }
 {
     let around = labels::label_box(sheet);
     let rows = region::rows_of(places, at.labels);
@@ -330,6 +431,8 @@ fn local_round(
             attached,
             used,
             places,
+            memory,
+            predictions,
             reached,
             around,
             &rows,
@@ -371,12 +474,14 @@ fn local_rounds(
     attached: &mut [u16],
     used: &mut [u8; 1024],
     places: &mut [u16; 1024],
+    memory: &mut [u16; 16384],
+    predictions: &mut [f32; 32768],
     labels: usize,
     settings: Settings,
     params: LocalExtensionParams,
 ) -> RoundsDone
-    requires { ⌜ RoundsAsked (now xs) (now ys) (now pitches) (now sheet) (now attached) (now used) (now places) labels params ⌝ }
-    ensures { λ r. ⌜ RoundsLeft (localFrom (cornersOf (now (xs .entry)) (now (ys .entry)) (now (pitches .entry))) settings params (params .«max_iters») (startOf (now (sheet .entry)) (now (attached .entry)) labels)) (now (xs .entry)) (now (ys .entry)) (now (pitches .entry)) (now (attached .entry)) (now (sheet .exit)) (now (attached .exit)) (now (used .exit)) (now (places .exit)) r ⌝ }
+    requires { ⌜ RoundsAsked (now xs) (now ys) (now pitches) (now sheet) (now attached) (now used) (now places) labels params × Recalls settings params (now xs) (now ys) (now pitches) (now sheet) (now memory) (now predictions) (noProgress labels) ⌝ }
+    ensures { λ r. ⌜ RoundsLeft (localFrom (cornersOf (now (xs .entry)) (now (ys .entry)) (now (pitches .entry))) settings params (params .«max_iters») (startOf (now (sheet .entry)) (now (attached .entry)) labels)) (now (xs .entry)) (now (ys .entry)) (now (pitches .entry)) (now (attached .entry)) (now (sheet .exit)) (now (attached .exit)) (now (used .exit)) (now (places .exit)) r × Recalls settings params (now (xs .entry)) (now (ys .entry)) (now (pitches .entry)) (now (sheet .exit)) (now (memory .exit)) (now (predictions .exit)) (r .progress) ⌝ }
 {
     let limit = params.max_iters as usize;
     let mut at = no_progress(labels);
@@ -390,6 +495,8 @@ fn local_rounds(
             attached,
             used,
             places,
+            memory,
+            predictions,
             at,
             settings,
             params,
@@ -448,6 +555,8 @@ fn local_accepted(
         return stats_of(nothing, labels::rim_reached(sheet, depth));
     }
     let mut used = labels::mark_used(sheet);
+    let mut memory = [0u16; 16384];
+    let mut predictions = [0.0f32; 32768];
     let rounds = local_rounds(
         xs,
         ys,
@@ -456,6 +565,8 @@ fn local_accepted(
         attached,
         &mut used,
         &mut places,
+        &mut memory,
+        &mut predictions,
         labels,
         settings,
         params,

@@ -1,4 +1,4 @@
--- `local::attach_corner` meets its contract: each store as it stands. Assumes nothing.
+-- `local::attach_corner` meets its contract: each store as it stands, and what is forgotten. Assumes nothing.
 use Prim.Native.Nat.{_<_}
 use native.Mathlib.Omega.{arith}
 use borrow.Author.Needs.{needs}
@@ -17,7 +17,7 @@ place-of-requires : tie.Need-place-of-requires
 place-of-requires c κs = search needs
 
 cast-attached : tie.Need-cast-attached
-cast-attached c = let p : c .place-of .result < 16384 = rw (c .place-of .ensures) (place-in (c .before .before .before .before .before .before .before .before .before .before .before .before .args .c) (c .before .before .before .before .before .before .before .before .before .before .before .before .pre .sheet-cell .on)) in record { fits = omega arith }
+cast-attached c = let p : c .place-of .result < 16384 = rw (c .place-of .ensures) (place-in (c .before .before .before .before .before .before .before .before .before .before .before .before .args .c) (c .before .before .before .before .before .before .before .before .before .before .before .before .pre .0 .sheet-cell .on)) in record { fits = omega arith }
 
 mul-attached : tie.Need-mul-attached
 mul-attached c = search needs
@@ -29,10 +29,13 @@ element-write-used : tie.Need-element-write-used
 element-write-used c = search needs
 
 gather-labelled-requires : tie.Need-gather-labelled-requires
-gather-labelled-requires c κs = gatherable _ _ _ (c .before .before .before .before .before .before .before .before .before .attach .ensures) (c .before .before .before .before .before .clear-marks .ensures) (c .before .before .before .before .before .before .before .before .before .before .before .before .before .before .pre)
+gather-labelled-requires c κs = gatherable _ _ _ (c .before .before .before .before .before .before .before .before .before .attach .ensures) (c .before .before .before .before .before .clear-marks .ensures) (c .before .before .before .before .before .before .before .before .before .before .before .before .before .before .pre .0)
 
-add-t18 : tie.Need-add-t18
-add-t18 c = search needs
+forget-near-requires : tie.Need-forget-near-requires
+forget-near-requires c κs = (c .before .before .before .before .before .before .before .before .before .before .before .before .before .before .before .before .pre .1, c .before .before .before .before .before .before .before .before .before .before .before .before .before .before .before .before .pre .0 .sheet-cell .on)
+
+add-t21 : tie.Need-add-t21
+add-t21 c = search needs
 
 same-length : tie.Need-same-length
 same-length c = search needs
@@ -41,7 +44,7 @@ same-length-2 : tie.Need-same-length-2
 same-length-2 c = search needs
 
 returns : tie.Need-returns
-returns c = wrote _ _ _ (c .before .before .before .before .before .before .before .before .before .before .attach .ensures) (c .before .before .before .before .before .before .clear-marks .ensures) _ _ _ (c .before .before .before .before .before .before .before .before .before .before .before .before .before .before .before .args .at) (c .before .before .before .place-of .ensures) (c .gather-labelled .ensures)
+returns c = (wrote _ _ _ (c .before .before .before .before .before .before .before .before .before .before .before .before .attach .ensures) (c .before .before .before .before .before .before .before .before .clear-marks .ensures) _ _ _ (c .before .before .before .before .before .before .before .before .before .before .before .before .before .before .before .before .before .args .at) (c .before .before .before .before .before .place-of .ensures) (c .before .before .gather-labelled .ensures), c .forget-near .ensures)
 
 pub attach-corner-spec : {M : Type 1} → statement M
 attach-corner-spec =
@@ -55,7 +58,8 @@ attach-corner-spec =
     slice-write-attached
     element-write-used
     gather-labelled-requires
-    add-t18
+    forget-near-requires
+    add-t21
     same-length
     same-length-2
     returns)

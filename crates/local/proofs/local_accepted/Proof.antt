@@ -1,7 +1,11 @@
--- `local::local_accepted` meets its contract: under four labels nothing is done, else what the rounds leave. Assumes nothing.
+-- `local::local_accepted` meets its contract: under four labels nothing is done, else what the rounds leave, where at first nothing is remembered. Assumes nothing.
 use Prim.Native.Nat.{ℕ}
 use borrow.Author.Needs.{needs}
 use lib.ListN.{length-replicate}
+use lib.Ieee.{Float, ofBits, binary32}
+use Rattle.extension_common.specs.TryCell.{cornersOf}
+use Rattle.passes.specs.declared.LargestResidual.{LargestResidual}
+use Rattle.remembered.proofs.Notes.{started}
 use Rattle.local.proofs.Depth.{depth-in}
 use Rattle.local.proofs.Rounds.{accepted-gatherable, accepted-asked, pass-few, pass-done}
 use Rattle.local.proofs.local_accepted.Statement.{statement}
@@ -32,10 +36,10 @@ mark-used-requires : tie.Need-mark-used-requires
 mark-used-requires c κs = search needs
 
 local-rounds-requires : tie.Need-local-rounds-requires
-local-rounds-requires c κs = accepted-asked _ _ _ _ _ (c .before .before .before .before .before .before .before .before .before .before .before .before .before .before .before .before .args .settings) (c .before .before .before .before .before .before .before .before .before .before .before .before .before .before .before .before .args .params) (c .before .before .before .before .before .before .before .before .before .before .before .before .before .before .before .before .pre) (length-replicate {A = ℕ} 1024 0) (c .before .before .before .before .before .before .before .gather-labelled .ensures) (c .before .before .before .before .before .before .if1 .left) (c .before .before .before .before .mark-used .ensures)
+local-rounds-requires c κs = (accepted-asked _ _ _ _ _ (c .before .before .before .before .before .before .before .before .before .before .before .before .before .before .before .before .before .before .args .settings) (c .before .before .before .before .before .before .before .before .before .before .before .before .before .before .before .before .before .before .args .params) (c .before .before .before .before .before .before .before .before .before .before .before .before .before .before .before .before .before .before .pre) (length-replicate {A = ℕ} 1024 0) (c .before .before .before .before .before .before .before .before .before .gather-labelled .ensures) (c .before .before .before .before .before .before .before .before .if1 .left) (c .before .before .before .before .before .before .mark-used .ensures), started (cornersOf (c .before .before .before .before .before .before .before .before .before .before .before .before .before .before .before .before .before .before .args .xs .now) (c .before .before .before .before .before .before .before .before .before .before .before .before .before .before .before .before .before .before .args .ys .now) (c .before .before .before .before .before .before .before .before .before .before .before .before .before .before .before .before .before .before .args .pitches .now)) (c .before .before .before .before .before .before .before .before .before .before .before .before .before .before .before .before .before .before .args .settings) (c .before .before .before .before .before .before .before .before .before .before .before .before .before .before .before .before .before .before .args .params) LargestResidual.Nothing (c .before .before .before .before .before .before .before .before .before .before .before .before .before .before .before .before .before .before .args .sheet .now) (length-replicate {A = Float} 32768 (ofBits binary32 0)))
 
 rim-reached-requires-2 : tie.Need-rim-reached-requires-2
-rim-reached-requires-2 c κs = record { long = c .before .before .before .before .before .local-rounds .ensures .left .extending .given .long; shallow = rw (c .before .before .before .before .before .before .before .before .before .before .before .before .before .before .before .before .depth-of .ensures) (depth-in (c .before .before .before .before .before .before .before .before .before .before .before .before .before .before .before .before .before .before .before .before .before .before .args .params) (c .before .before .before .before .before .before .before .before .before .before .before .before .before .before .before .before .before .before .before .before .before .before .pre .pass-inside .depth)) }
+rim-reached-requires-2 c κs = record { long = c .before .before .before .before .before .local-rounds .ensures .0 .left .extending .given .long; shallow = rw (c .before .before .before .before .before .before .before .before .before .before .before .before .before .before .before .before .before .before .depth-of .ensures) (depth-in (c .before .before .before .before .before .before .before .before .before .before .before .before .before .before .before .before .before .before .before .before .before .before .before .before .args .params) (c .before .before .before .before .before .before .before .before .before .before .before .before .before .before .before .before .before .before .before .before .before .before .before .before .pre .pass-inside .depth)) }
 
 stats-of-requires-2 : tie.Need-stats-of-requires-2
 stats-of-requires-2 c κs = search needs
@@ -47,7 +51,7 @@ same-length-3 : tie.Need-same-length-3
 same-length-3 c = search needs
 
 returns-2 : tie.Need-returns-2
-returns-2 c = pass-done _ _ _ _ _ _ (c .before .before .before .before .before .before .before .before .before .before .before .before .before .before .before .before .before .before .before .before .before .before .before .before .args .params) (c .before .before .before .before .before .before .before .before .before .before .before .before .before .before .before .gather-labelled .ensures .count-is) (c .before .before .before .before .before .before .before .before .before .before .before .before .before .before .before .before .before .before .depth-of .ensures) (c .before .before .before .before .before .before .before .before .before .before .before .before .before .before .if1 .left) (c .before .before .before .before .before .before .before .local-rounds .ensures) (c .before .rim-reached2 .ensures) (c .stats-of2 .ensures)
+returns-2 c = pass-done _ _ _ _ _ _ (c .before .before .before .before .before .before .before .before .before .before .before .before .before .before .before .before .before .before .before .before .before .before .before .before .before .before .args .params) (c .before .before .before .before .before .before .before .before .before .before .before .before .before .before .before .before .before .gather-labelled .ensures .count-is) (c .before .before .before .before .before .before .before .before .before .before .before .before .before .before .before .before .before .before .before .before .depth-of .ensures) (c .before .before .before .before .before .before .before .before .before .before .before .before .before .before .before .before .if1 .left) (c .before .before .before .before .before .before .before .local-rounds .ensures .0) (c .before .rim-reached2 .ensures) (c .stats-of2 .ensures)
 
 pub local-accepted-spec : {M : Type 1} → statement M
 local-accepted-spec =

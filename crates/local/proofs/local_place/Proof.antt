@@ -22,7 +22,7 @@ is-local-cell-requires : tie.Need-is-local-cell-requires
 is-local-cell-requires c κs = search needs
 
 returns : tie.Need-returns
-returns c = untouched (c .before .before .before .before .before .before .before .before .pre .extending) (looked-out _ _ _ _ _ _ (sym (told (c .before)) ∙ not-true _ (c .if1 .taken)))
+returns c = (untouched (c .before .before .before .before .before .before .before .before .pre .0 .extending) (looked-out _ _ _ _ _ _ (sym (told (c .before)) ∙ not-true _ (c .if1 .taken))), c .before .before .before .before .before .before .before .before .pre .1)
 
 mul-is-labelled : tie.Need-mul-is-labelled
 mul-is-labelled c = search needs
@@ -34,19 +34,21 @@ is-labelled-requires : tie.Need-is-labelled-requires
 is-labelled-requires c κs = search needs
 
 returns-2 : tie.Need-returns-2
-returns-2 c = untouched (c .before .before .before .before .before .before .before .before .before .before .before .pre .extending) (looked-labelled _ _ _ _ _ _ (c .before .before .before .before .before .before .before .before .before .before .before .pre .telling .below) (sym (told (c .before .before .before .before)) ∙ not-false _ (c .before .before .before .if1 .left)) (sym (c .before .is-labelled .ensures) ∙ c .if2 .taken))
+returns-2 c = (untouched (c .before .before .before .before .before .before .before .before .before .before .before .pre .0 .extending) (looked-labelled _ _ _ _ _ _ (c .before .before .before .before .before .before .before .before .before .before .before .pre .0 .telling .below) (sym (told (c .before .before .before .before)) ∙ not-false _ (c .before .before .before .if1 .left)) (sym (c .before .is-labelled .ensures) ∙ c .if2 .taken)), c .before .before .before .before .before .before .before .before .before .before .before .pre .1)
 
 cell-of-requires : tie.Need-cell-of-requires
 cell-of-requires c κs = search needs
 
 try-local-cell-requires : tie.Need-try-local-cell-requires
-try-local-cell-requires c κs = rw (c .cell-of .ensures)
-    (record {
-      extending = c .before .before .before .before .before .before .before .before .before .before .before .before .before .before .before .before .pre .extending;
-      on = cell-on (c .before .before .before .before .before .before .before .before .before .before .before .before .before .before .before .before .args .place) (c .before .before .before .before .before .before .before .before .before .before .before .before .before .before .before .before .pre .telling .below);
-      bare = label-of-place (c .before .before .before .before .before .before .before .before .before .before .before .before .before .before .before .before .args .sheet .now) (c .before .before .before .before .before .before .before .before .before .before .before .before .before .before .before .before .args .place) (c .before .before .before .before .before .before .before .before .before .before .before .before .before .before .before .before .pre .telling .below) ∙ unlabelled-none _ (sym (c .before .before .before .before .before .before .is-labelled .ensures) ∙ c .before .before .before .before .before .if2 .left);
-      countable = c .before .before .before .before .before .before .before .before .before .before .before .before .before .before .before .before .pre .countable;
-    })
+try-local-cell-requires c κs = rw (c .cell-of .ensures) (
+  record {
+    extending = c .before .before .before .before .before .before .before .before .before .before .before .before .before .before .before .before .before .before .pre .0 .extending;
+    on = cell-on (c .before .before .before .before .before .before .before .before .before .before .before .before .before .before .before .before .before .before .args .place) (c .before .before .before .before .before .before .before .before .before .before .before .before .before .before .before .before .before .before .pre .0 .telling .below);
+    bare = label-of-place (c .before .before .before .before .before .before .before .before .before .before .before .before .before .before .before .before .before .before .args .sheet .now) (c .before .before .before .before .before .before .before .before .before .before .before .before .before .before .before .before .before .before .args .place) (c .before .before .before .before .before .before .before .before .before .before .before .before .before .before .before .before .before .before .pre .0 .telling .below) ∙ unlabelled-none _ (sym (c .before .before .before .before .before .before .before .before .is-labelled .ensures) ∙ c .before .before .before .before .before .before .before .if2 .left);
+    countable = c .before .before .before .before .before .before .before .before .before .before .before .before .before .before .before .before .before .before .pre .0 .countable;
+  },
+  c .before .before .before .before .before .before .before .before .before .before .before .before .before .before .before .before .before .before .pre .1,
+)
 
 same-length : tie.Need-same-length
 same-length c = search needs
@@ -55,7 +57,7 @@ same-length-2 : tie.Need-same-length-2
 same-length-2 c = search needs
 
 returns-3 : tie.Need-returns-3
-returns-3 c = left-as (looked-bare _ _ _ _ _ _ (c .before .before .before .before .before .before .before .before .before .before .before .before .before .before .before .before .before .before .before .before .before .pre .telling .below) (sym (told (c .before .before .before .before .before .before .before .before .before .before .before .before .before .before)) ∙ not-false _ (c .before .before .before .before .before .before .before .before .before .before .before .before .before .if1 .left)) _ (c .before .before .before .before .before .cell-of .ensures) (sym (c .before .before .before .before .before .before .before .before .before .before .before .is-labelled .ensures) ∙ c .before .before .before .before .before .before .before .before .before .before .if2 .left)) (c .before .before .before .before .try-local-cell .ensures)
+returns-3 c = (left-as (looked-bare _ _ _ _ _ _ (c .before .before .before .before .before .before .before .before .before .before .before .before .before .before .before .before .before .before .before .before .before .before .before .pre .0 .telling .below) (sym (told (c .before .before .before .before .before .before .before .before .before .before .before .before .before .before .before .before)) ∙ not-false _ (c .before .before .before .before .before .before .before .before .before .before .before .before .before .before .before .if1 .left)) _ (c .before .before .before .before .before .cell-of .ensures) (sym (c .before .before .before .before .before .before .before .before .before .before .before .before .before .is-labelled .ensures) ∙ c .before .before .before .before .before .before .before .before .before .before .before .before .if2 .left)) (c .before .before .before .before .try-local-cell .ensures .0), c .before .before .before .before .try-local-cell .ensures .1)
 
 pub local-place-spec : {M : Type 1} → statement M
 local-place-spec =

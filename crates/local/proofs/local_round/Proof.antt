@@ -1,8 +1,9 @@
-use borrow.Author.Needs.{needs}
--- `local::local_round` meets its contract: at each place the buffers hold what the round's list leaves after the places passed. Assumes nothing.
+-- `local::local_round` meets its contract: at each place the buffers hold what the round's list leaves after the places passed, and what is remembered holds. Assumes nothing.
 use Prim.Native.Nat.{_-_}
 use native.Mathlib.Omega.{arith}
+use borrow.Author.Needs.{needs}
 use Rattle.region.proofs.Near.{box-small}
+use Rattle.local.specs.Extending.{Recalls}
 use Rattle.local.proofs.Depth.{depth-in}
 use Rattle.local.proofs.Visit.{listed, region-found}
 use Rattle.local.proofs.Walk.{Walking, walking-start, walking-more, walking-end}
@@ -10,49 +11,55 @@ use Rattle.local.proofs.local_round.Statement.{statement}
 use Rattle.local.proofs.local_round.Tie as tie
 
 abbrev Inv-loop : tie.InvT-loop
-Inv-loop xs ys pitches sheet₀ attached₀ used₀ places₀ settings params around rows columns reached₀ place₀ sheet attached used places reached place =
-    Walking settings params xs ys pitches sheet₀ attached₀ reached₀ sheet attached used places reached place
+Inv-loop xs ys pitches sheet₀ attached₀ used₀ places₀ memory₀ predictions₀ settings params around rows columns reached₀ place₀ sheet attached used places memory predictions reached place =
+    Walking settings params xs ys pitches sheet₀ attached₀ reached₀ sheet attached used places reached place × Recalls settings params xs ys pitches sheet memory predictions reached
 
 abbrev μ-loop : tie.MeasureT-loop
-μ-loop xs ys pitches sheet₀ attached₀ used₀ places₀ settings params around rows columns reached₀ place₀ sheet attached used places reached place =
+μ-loop xs ys pitches sheet₀ attached₀ used₀ places₀ memory₀ predictions₀ settings params around rows columns reached₀ place₀ sheet attached used places memory predictions reached place =
     16384 - place
 
 label-box-requires : tie.Need-label-box-requires Inv-loop μ-loop
 label-box-requires c κs = search needs
 
 rows-of-requires : tie.Need-rows-of-requires Inv-loop μ-loop
-rows-of-requires c κs = listed (c .before .before .before .before .before .before .before .before .pre .extending)
+rows-of-requires c κs = listed (c .before .before .before .before .before .before .before .before .pre .0 .extending)
 
 columns-of-requires : tie.Need-columns-of-requires Inv-loop μ-loop
-columns-of-requires c κs = listed (c .before .before .before .before .before .before .before .before .before .before .pre .extending)
+columns-of-requires c κs = listed (c .before .before .before .before .before .before .before .before .before .before .pre .0 .extending)
 
 loop-holds : tie.Need-loop-holds Inv-loop μ-loop
-loop-holds c = walking-start _ _ _ _ _ _ _ _ _ _ (c .before .before .before .before .before .before .before .before .before .before .before .pre .extending)
+loop-holds c = (walking-start _ _ _ _ _ _ _ _ _ _ (c .before .before .before .before .before .before .before .before .before .before .before .pre .0 .extending), c .before .before .before .before .before .before .before .before .before .before .before .pre .1)
 
 local-place-requires : tie.Need-local-place-requires Inv-loop μ-loop
-local-place-requires c κs = record {
-  extending = c .before .before .before .before .before .before .before .loop .inv .left .extending;
-  telling = record { below = c .before .before .before .before .before .before .loop-test .taken; shallow = depth-in _ (c .before .before .before .before .before .before .before .before .before .before .before .before .before .before .before .before .before .before .before .pre .shallow); small = rw (c .before .before .before .before .before .before .before .before .before .before .before .before .label-box .ensures) (box-small _) };
-  countable = omega (arith, c .before .before .before .before .before .before .before .loop .inv .counted, c .before .before .before .before .before .before .before .before .before .before .before .before .before .before .before .before .before .before .before .pre .countable, c .before .before .before .before .before .before .loop-test .taken);
-}
+local-place-requires c κs = (
+  record {
+    extending = c .before .before .before .before .before .before .before .before .before .loop .inv .0 .left .extending;
+    telling = record { below = c .before .before .before .before .before .before .before .before .loop-test .taken; shallow = depth-in _ (c .before .before .before .before .before .before .before .before .before .before .before .before .before .before .before .before .before .before .before .before .before .pre .0 .shallow); small = rw (c .before .before .before .before .before .before .before .before .before .before .before .before .before .before .label-box .ensures) (box-small _) };
+    countable = omega (arith, c .before .before .before .before .before .before .before .before .before .loop .inv .0 .counted, c .before .before .before .before .before .before .before .before .before .before .before .before .before .before .before .before .before .before .before .before .before .pre .0 .countable, c .before .before .before .before .before .before .before .before .loop-test .taken);
+  },
+  c .before .before .before .before .before .before .before .before .before .loop .inv .1,
+)
 
 add-place : tie.Need-add-place Inv-loop μ-loop
-add-place c = record { fits = omega (arith, c .before .before .before .before .before .before .before .before .before .before .before .loop-test .taken) }
+add-place c = record { fits = omega (arith, c .before .before .before .before .before .before .before .before .before .before .before .before .before .loop-test .taken) }
 
 loop-less : tie.Need-loop-less Inv-loop μ-loop
-loop-less c = omega (arith, c .before .before .before .before .before .before .before .before .before .before .before .loop-test .taken)
+loop-less c = omega (arith, c .before .before .before .before .before .before .before .before .before .before .before .before .before .loop-test .taken)
 
 loop-again : tie.Need-loop-again Inv-loop μ-loop
-loop-again c = walking-more _ _ _ _ _ _ _ _ _ _ _ _ _ _ (c .before .before .before .before .before .before .before .before .before .before .before .before .loop .inv) _ _ _ _ _ _ (c .before .before .before .before .before .before .before .before .before .before .before .loop-test .taken) (region-found (c .before .before .before .before .before .before .before .before .before .before .before .before .before .before .before .before .before .before .before .before .before .before .before .before .pre .extending) (c .before .before .before .before .before .before .before .before .before .before .before .before .before .before .before .before .before .label-box .ensures) (c .before .before .before .before .before .before .before .before .before .before .before .before .before .before .before .rows-of .ensures) (c .before .before .before .before .before .before .before .before .before .before .before .before .before .columns-of .ensures)) (c .before .before .before .before .local-place .kept .1 .1 .1 .0) (c .before .before .before .before .local-place .kept .1 .1 .1 .1 .0) (c .before .before .before .before .local-place .ensures)
+loop-again c = (
+  walking-more _ _ _ _ _ _ _ _ _ _ _ _ _ _ (c .before .before .before .before .before .before .before .before .before .before .before .before .before .before .loop .inv .0) _ _ _ _ _ _ (c .before .before .before .before .before .before .before .before .before .before .before .before .before .loop-test .taken) (region-found (c .before .before .before .before .before .before .before .before .before .before .before .before .before .before .before .before .before .before .before .before .before .before .before .before .before .before .pre .0 .extending) (c .before .before .before .before .before .before .before .before .before .before .before .before .before .before .before .before .before .before .before .label-box .ensures) (c .before .before .before .before .before .before .before .before .before .before .before .before .before .before .before .before .before .rows-of .ensures) (c .before .before .before .before .before .before .before .before .before .before .before .before .before .before .before .columns-of .ensures)) (c .before .before .before .before .local-place .kept .1 .1 .1 .0) (c .before .before .before .before .local-place .kept .1 .1 .1 .1 .0) (c .before .before .before .before .local-place .ensures .0),
+  c .before .before .before .before .local-place .ensures .1,
+)
 
 same-length : tie.Need-same-length Inv-loop μ-loop
-same-length c = c .before .loop .inv .same-sheet
+same-length c = c .before .loop .inv .0 .same-sheet
 
 same-length-2 : tie.Need-same-length-2 Inv-loop μ-loop
-same-length-2 c = c .before .loop .inv .same-list
+same-length-2 c = c .before .loop .inv .0 .same-list
 
 returns : tie.Need-returns Inv-loop μ-loop
-returns c = walking-end _ _ _ _ _ _ _ _ _ _ _ _ _ _ (c .before .loop .inv) (c .loop-test .left)
+returns c = (walking-end _ _ _ _ _ _ _ _ _ _ _ _ _ _ (c .before .loop .inv .0) (c .loop-test .left), c .before .loop .inv .1)
 
 pub local-round-spec : {M : Type 1} → statement M
 local-round-spec =

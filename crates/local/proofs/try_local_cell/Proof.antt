@@ -1,39 +1,52 @@
--- `local::try_local_cell` meets its contract: by the fit and by the gate. Assumes nothing.
+-- `local::try_local_cell` meets its contract: by what is known of the cell. Assumes nothing.
+use mathlib.Core.Path.{refl}
 use borrow.Author.Needs.{needs}
-use Rattle.supports.proofs.Nearest.{nearest-pictured}
-use Rattle.local.proofs.Visit.{nearby, no-fit, over-gate, within-gate, untouched, left-as}
+use Rattle.local.proofs.Visit.{untouched, left-as, found-none}
+use Rattle.local.proofs.Memory.{recalls-counted, known-idle, known-unmatched, known-predicted, known-foretold}
 use Rattle.local.proofs.try_local_cell.Statement.{statement}
 use Rattle.local.proofs.try_local_cell.Tie as tie
 
-nearest-labelled-by-grid-requires : tie.Need-nearest-labelled-by-grid-requires
-nearest-labelled-by-grid-requires c κs = nearby (c .before .before .before .before .before .before .pre .extending) _ (c .before .before .before .before .before .before .pre .on)
+recall-requires : tie.Need-recall-requires
+recall-requires c κs = c .before .before .before .before .before .before .before .pre .0 .on
 
-local-fit-requires : tie.Need-local-fit-requires
-local-fit-requires c κs = (c .before .before .before .before .before .before .before .before .pre .extending .given, nearest-pictured (nearby (c .before .before .before .before .before .before .before .before .pre .extending) _ (c .before .before .before .before .before .before .before .before .pre .on)) (c .before .nearest-labelled-by-grid .ensures))
+enum-told : tie.Need-enum-told
+enum-told c = search needs
+
+try-unknown-cell-requires : tie.Need-try-unknown-cell-requires
+try-unknown-cell-requires c κs = c .before .before .before .before .before .before .before .before .before .before .before .before .before .before .before .before .pre
+
+enum-told-2 : tie.Need-enum-told-2
+enum-told-2 c = search needs
+
+enum-told-3 : tie.Need-enum-told-3
+enum-told-3 c = search needs
+
+count-no-candidate-requires : tie.Need-count-no-candidate-requires
+count-no-candidate-requires c κs = c .before .before .before .before .before .before .before .before .before .before .pre .0 .countable
+
+with-counts-requires : tie.Need-with-counts-requires
+with-counts-requires c κs = search needs
+
+enum-known-known : tie.Need-enum-known-known
+enum-known-known c = search needs
+
+try-predicted-cell-requires : tie.Need-try-predicted-cell-requires
+try-predicted-cell-requires c κs = (c .before .before .before .before .before .before .before .before .before .before .before .before .before .before .before .before .before .pre .0, (c .before .before .before .before .before .before .before .before .before .before .before .before .before .before .before .before .before .pre .1, known-foretold _ _ (c .before .before .before .before .before .before .before .before .before .before .before .before .before .before .before .before .before .pre .0) (c .before .before .before .before .before .before .before .before .before .before .before .before .before .before .before .before .before .pre .1) (c .before .before .before .before .before .before .before .before .before .recall .ensures .0) (c .before .before .before .before .before .before .before .known .given .1) (c .before .before .before .before .before .before .before .before .before .recall .ensures .1)))
 
 same-length : tie.Need-same-length
 same-length c = search needs
 
-returns : tie.Need-returns
-returns c = untouched (c .before .before .before .before .before .before .before .before .before .before .before .pre .extending) (no-fit _ _ _ _ (c .before .before .before .before .before .before .before .before .before .before .before .pre .extending) (c .before .before .before .before .nearest-labelled-by-grid .result) (c .before .before .before .before .nearest-labelled-by-grid .ensures) (c .before .before .local-fit .ensures) (c .if1 .taken))
-
-record-residuals-requires : tie.Need-record-residuals-requires
-record-residuals-requires c κs = search needs
-
-gate-of-requires : tie.Need-gate-of-requires
-gate-of-requires c κs = search needs
-
-worst-of-requires : tie.Need-worst-of-requires
-worst-of-requires c κs = search needs
-
 same-length-2 : tie.Need-same-length-2
 same-length-2 c = search needs
 
-returns-2 : tie.Need-returns-2
-returns-2 c = untouched (c .before .before .before .before .before .before .before .before .before .before .before .before .before .before .before .before .before .before .pre .extending) (over-gate _ _ _ _ (c .before .before .before .before .before .before .before .before .before .before .before .before .before .before .before .before .before .before .pre .extending) (c .before .before .before .before .before .before .before .before .before .before .before .nearest-labelled-by-grid .result) (c .before .before .before .before .before .before .before .before .before .before .before .nearest-labelled-by-grid .ensures) (c .before .before .before .before .before .before .before .before .before .local-fit .ensures) (c .before .before .before .before .before .before .before .if1 .left) (c .before .before .before .record-residuals .ensures) (c .before .before .gate-of .ensures) (c .before .worst-of .ensures) (c .if2 .taken))
+returns : tie.Need-returns
+returns c = c .before .before .before .before .try-unknown-cell .ensures
 
-try-fitted-cell-requires : tie.Need-try-fitted-cell-requires
-try-fitted-cell-requires c κs = record { extending = c .before .before .before .before .before .before .before .before .before .before .before .before .before .before .before .before .before .before .before .before .before .before .pre .extending; on = c .before .before .before .before .before .before .before .before .before .before .before .before .before .before .before .before .before .before .before .before .before .before .pre .on; bare = c .before .before .before .before .before .before .before .before .before .before .before .before .before .before .before .before .before .before .before .before .before .before .pre .bare; countable = c .before .before .before .before .before .before .before .before .before .before .before .before .before .before .before .before .before .before .before .before .before .before .pre .countable }
+returns-2 : tie.Need-returns-2
+returns-2 c = (untouched (c .before .before .before .before .before .before .before .before .before .before .pre .0 .extending) (known-idle _ _ (c .before .before .before .before .before .before .before .before .before .before .pre .0) (c .before .before .before .before .before .before .before .before .before .before .pre .1) (c .before .before .recall .ensures .0) (c .enum-told2 .given .1)), c .before .before .before .before .before .before .before .before .before .before .pre .1)
+
+returns-3 : tie.Need-returns-3
+returns-3 c = (left-as (known-unmatched _ _ (c .before .before .before .before .before .before .before .before .before .before .before .before .pre .0) (c .before .before .before .before .before .before .before .before .before .before .before .before .pre .1) (c .before .before .before .before .recall .ensures .0) (c .before .before .enum-told3 .given .1)) (found-none _ _ refl (c .before .before .before .before .before .before .before .before .before .before .before .before .pre .0 .extending) (c .with-counts .ensures) refl (c .before .count-no-candidate .ensures)), recalls-counted (c .before .before .before .before .before .before .before .before .before .before .before .before .pre .1) (c .before .before .before .before .before .before .before .before .before .before .before .before .pre .0) (c .with-counts .ensures))
 
 same-length-3 : tie.Need-same-length-3
 same-length-3 c = search needs
@@ -41,23 +54,27 @@ same-length-3 c = search needs
 same-length-4 : tie.Need-same-length-4
 same-length-4 c = search needs
 
-returns-3 : tie.Need-returns-3
-returns-3 c = left-as (within-gate _ _ _ _ (c .before .before .before .before .before .before .before .before .before .before .before .before .before .before .before .before .before .before .before .before .before .before .before .before .before .before .before .pre .extending) (c .before .before .before .before .before .before .before .before .before .before .before .before .before .before .before .before .before .before .before .before .nearest-labelled-by-grid .result) (c .before .before .before .before .before .before .before .before .before .before .before .before .before .before .before .before .before .before .before .before .nearest-labelled-by-grid .ensures) (c .before .before .before .before .before .before .before .before .before .before .before .before .before .before .before .before .before .before .local-fit .ensures) (c .before .before .before .before .before .before .before .before .before .before .before .before .before .before .before .before .if1 .left) (c .before .before .before .before .before .before .before .before .before .before .before .before .record-residuals .ensures) (c .before .before .before .before .before .before .before .before .before .before .before .gate-of .ensures) (c .before .before .before .before .before .before .before .before .before .before .worst-of .ensures) (c .before .before .before .before .before .before .before .before .before .if2 .left)) (c .before .before .before .before .try-fitted-cell .ensures)
+returns-4 : tie.Need-returns-4
+returns-4 c = (left-as (known-predicted _ _ (c .before .before .before .before .before .before .before .before .before .before .before .before .before .before .before .before .before .before .before .before .before .before .pre .0) (c .before .before .before .before .before .before .before .before .before .before .before .before .before .before .before .before .before .before .before .before .before .before .pre .1) (c .before .before .before .before .before .before .before .before .before .before .before .before .before .before .recall .ensures .0) (c .before .before .before .before .before .before .before .before .before .before .before .before .known .given .1)) (c .before .before .before .before .try-predicted-cell .ensures .0), c .before .before .before .before .try-predicted-cell .ensures .1)
 
 pub try-local-cell-spec : {M : Type 1} → statement M
 try-local-cell-spec =
     tie.close
     (tie.spec
-    nearest-labelled-by-grid-requires
-    local-fit-requires
+    recall-requires
+    enum-told
+    try-unknown-cell-requires
+    enum-told-2
+    enum-told-3
+    count-no-candidate-requires
+    with-counts-requires
+    enum-known-known
+    try-predicted-cell-requires
     same-length
-    returns
-    record-residuals-requires
-    gate-of-requires
-    worst-of-requires
     same-length-2
+    returns
     returns-2
-    try-fitted-cell-requires
+    returns-3
     same-length-3
     same-length-4
-    returns-3)
+    returns-4)
