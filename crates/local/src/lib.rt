@@ -1,5 +1,6 @@
 // Local (01, "Sheet" and "Fit"; port of shared/extension/local.rs): rounds over the unlabelled cells of the label box, of strips of the depth
-// on labelled rows and columns, and of four corner blocks, by i then j. Each is tried where the fit on its four nearest labels maps it to.
+// on labelled rows and columns, and of four corner blocks, by i then j. Each is tried where the fit on its four nearest labels maps it to. What was
+// worked out of a cell is remembered until a new label may change it (crate remembered).
 
 ghost use mathlib.Core.Path.{_≡_};
 ghost use Prim.Native.Nat.{_+_, _<_};
