@@ -1,10 +1,10 @@
 -- Rounding a root to the nearest whole number, from the root rounded down. Assumes nothing.
-use Prim.Native.Nat.{ℕ, suc, _+_, _-_, _*_, _^_, _≤_, _<_}
+use Prim.Native.Nat.{ℕ, suc, _+_, _-_, _*_, _/_, _^_, _≤_, _<_}
 use mathlib.Core.Path.{_≡_, refl, sym, ap, subst, _∙_}
-use native.Mathlib.Nat.{mul-add, add-mul, mul-one, one-mul, mul-le-mul, lt-of-not-le, add-sub-cancel, mul-lt-mul-of-pos-right, mul-le-mul-left, lt-of-lt-of-le, lt-of-le-of-lt}
+use native.Mathlib.Nat.{div-le-self, mul-add, add-mul, mul-one, one-mul, mul-le-mul, lt-of-not-le, add-sub-cancel, mul-lt-mul-of-pos-right, mul-le-mul-left, lt-of-lt-of-le, lt-of-le-of-lt}
 use native.Mathlib.Omega.{arith}
 use Rattle.binary32.specs.Sqrt.{square}
-use Rattle.binary32.specs.Steps.{Near, Enclosed, WholeRoot}
+use Rattle.binary32.specs.Steps.{Near, Asked, Enclosed, WholeRoot}
 
 pub odd-square : (s : ℕ) → square (s + (s + 1)) ≡ 4 * square s + 4 * s + 1
 odd-square s = simp (mul-add, add-mul, mul-one, one-mul) (omega arith)
@@ -15,6 +15,18 @@ even-square s = simp (mul-add, add-mul) (omega arith)
 -- a smaller number has a smaller square
 pub square-lt : (a b : ℕ) → a < b → square a < square b
 square-lt a b h = lt-of-le-of-lt (mul-le-mul-left a (omega arith)) (mul-lt-mul-of-pos-right h (omega arith))
+
+-- a number up to 2 ^ 24 has a square up to 2 ^ 48
+pub square-small : (k : ℕ) → k ≤ 2 ^ 24 → square k ≤ 2 ^ 48
+square-small k h = mul-le-mul h h
+
+-- twice a step of Newton's: a quotient is at most the number divided
+pub step-small : (n a : ℕ) → n < 2 ^ 48 → a < 2 ^ 48 → a + n / a < 2 ^ 49
+step-small n a h g = omega (arith, div-le-self n a)
+
+-- the widest guess encloses every root
+pub widest-encloses : {n low high : ℕ} → Asked n → (low ≡ 2 ^ 23) × (high ≡ 2 ^ 24) → Enclosed n low high
+widest-encloses a (e, f) = rw (e, f) (record { from = a .least; to = a .most; least = omega arith; most = omega arith })
 
 -- the last root below 2 ^ 24 that is rounded up is not 2 ^ 24 - 1
 no-carry : (n s : ℕ) → square s + s < n → n ≤ 2 ^ 48 - 2 ^ 24 → s + 1 < 2 ^ 24

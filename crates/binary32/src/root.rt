@@ -2,7 +2,7 @@
 ghost use mathlib.Core.Path.{_≡_};
 ghost use Prim.Native.Nat.{_+_, _-_, _*_, _^_, _≤_, _<_};
 ghost use Rattle.binary32.specs.Sqrt.{Answers, RootOf, rooted, sqrtOrNan};
-ghost use Rattle.binary32.specs.Steps.{Normalized, Near, Enclosed, WholeRoot};
+ghost use Rattle.binary32.specs.Steps.{Normalized, Near, Asked, Digits, Enclosed, WholeRoot};
 use refusal::Refusal;
 
 // The root, or refusal number 3 (01: "any other gets number 3").
@@ -23,15 +23,46 @@ struct Guess {
     high: u64,
 }
 
-// The first guess at the whole root of n. It may be any that encloses the root: the answers do not depend on it.
-fn first_guess(n: u64) -> Guess
-    requires { ⌜ (2 ^ 46 ≤ n) × (n < 2 ^ 48) ⌝ }
-    ensures { λ g. ⌜ Enclosed n (g .low) (g .high) ⌝ }
+// The widest guess: every root of 24 digits lies in it.
+fn widest() -> Guess
+    ensures { λ g. ⌜ (g .low ≡ 2 ^ 23) × (g .high ≡ 2 ^ 24) ⌝ }
 {
     Guess {
         low: 0x80_0000,
         high: 0x100_0000,
     }
+}
+
+// A guess of two numbers of 24 digits if they enclose the root of n, else the widest.
+fn tested(n: u64, low: u64, high: u64) -> Guess
+    requires { ⌜ Asked n × Digits low high ⌝ }
+    ensures { λ g. ⌜ Enclosed n (g .low) (g .high) ⌝ }
+{
+    if n < low * low {
+        return widest();
+    }
+    if high * high <= n {
+        return widest();
+    }
+    Guess { low, high }
+}
+
+// The first guess at the whole root of n. It may be any that encloses the root: the answers do not depend on it. A line close to the
+// root and two of Newton's steps lead to the root or one or two above it.
+fn first_guess(n: u64) -> Guess
+    requires { ⌜ Asked n ⌝ }
+    ensures { λ g. ⌜ Enclosed n (g .low) (g .high) ⌝ }
+{
+    let line = n / 0x170_0000 + 0x56_0000;
+    let once = (line + n / line) / 2;
+    let twice = (once + n / once) / 2;
+    if twice < 0x80_0003 {
+        return tested(n, 0x80_0000, 0x80_0004);
+    }
+    if twice > 0xff_ffff {
+        return tested(n, 0xff_fffc, 0x100_0000);
+    }
+    tested(n, twice - 3, twice + 1)
 }
 
 // The largest s with s * s <= n, by halving what lies between the two numbers of a guess.

@@ -1,10 +1,9 @@
 -- `root::refine` meets its contract. The root lies from lo up and below hi, and each turn halves what is between. Assumes nothing.
 use Prim.Native.Nat.{ℕ, _+_, _-_, _*_, _/_, _^_, _≤_, _<_}
 use mathlib.Core.Path.{_≡_}
-use native.Mathlib.Nat.{mul-le-mul}
 use native.Mathlib.Omega.{arith}
 use Rattle.binary32.specs.Steps.{Enclosed}
-use Rattle.binary32.proofs.Squares.{enclosed-apart}
+use Rattle.binary32.proofs.Squares.{square-small, enclosed-apart}
 use Rattle.binary32.proofs.root.refine.Statement.{statement}
 use Rattle.binary32.proofs.root.refine.Tie as tie
 
@@ -13,10 +12,6 @@ Inv-loop n lo₀ hi₀ lo hi = Enclosed n lo hi
 
 abbrev μ-loop : tie.MeasureT-loop
 μ-loop n lo₀ hi₀ lo hi = hi - lo
-
--- a number up to 2 ^ 24 has a square up to 2 ^ 48
-square : (k : ℕ) → k ≤ 2 ^ 24 → k * k ≤ 2 ^ 48
-square k h = mul-le-mul h h
 
 -- where nothing is left between, hi is lo + 1
 met : (n lo hi : ℕ) → hi ≡ lo + 1 → n < hi * hi → n < (lo + 1) * (lo + 1)
@@ -32,7 +27,7 @@ add-mid : tie.Need-add-mid Inv-loop μ-loop
 add-mid c = omega arith
 
 mul-if1 : tie.Need-mul-if1 Inv-loop μ-loop
-mul-if1 c = omega (arith, square ((c .before .loop .lo + c .before .loop .hi) / 2) (omega arith))
+mul-if1 c = omega (arith, square-small ((c .before .loop .lo + c .before .loop .hi) / 2) (omega arith))
 
 loop-less : tie.Need-loop-less Inv-loop μ-loop
 loop-less c = omega arith
