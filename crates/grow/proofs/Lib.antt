@@ -6,3 +6,4 @@ pub mod Radius
 pub mod Nearest
 pub mod Choice
 pub mod Pairing
+pub mod Without

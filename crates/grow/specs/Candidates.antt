@@ -5,7 +5,7 @@ use mathlib.Core.List.{List, [], _∷_}
 use Prim.Native.Nat.{ℕ, zero, suc}
 use lib.Dec.{eqb, ltb}
 use lib.ListN.{getD}
-use lib.Ieee.{Float, nan, binary32, add, sub, mul, lt, le}
+use lib.Ieee.{Float, nan, binary32, add, sub, mul, lt, le, ofBits}
 use Rattle.binary32.specs.Ranges.{isFinite}
 use Rattle.binary32.specs.Sqrt.{sqrtOrNan}
 use Rattle.sheet.specs.declared.Position.{Position}
@@ -82,3 +82,9 @@ unfoldable pub firstTwo : List Candidate → Candidates
 firstTwo [] = Empty
 firstTwo (a ∷ []) = One a
 firstTwo (a ∷ (b ∷ l)) = Several a (b .distance)
+
+-- the distance of the last of these: the second's, or that of the only one; where there is none, zero
+unfoldable pub lastDistance : Candidates → Float
+lastDistance Empty = ofBits binary32 0
+lastDistance (One a) = a .distance
+lastDistance (Several a second) = second

@@ -3,7 +3,8 @@
 ghost use mathlib.Core.Path.{_≡_};
 ghost use Prim.Native.Nat.{_≤_, _<_};
 ghost use lib.ListN.{length};
-ghost use Rattle.grow.specs.Candidates.{positionsOf, unmarked, eligible, squaredDistance, candidatesAt, firstTwo};
+ghost use Rattle.binary32.specs.Sqrt.{sqrtOrNan};
+ghost use Rattle.grow.specs.Candidates.{positionsOf, unmarked, eligible, squaredDistance, candidatesAt, firstTwo, lastDistance};
 ghost use Rattle.grow.specs.Choice.{byQuotient, chooseUnambiguous, raised, chooseWithFloor};
 ghost use Rattle.grow.specs.Steps.{Lent, Next, isWithin, measured, twoFound, narrowed};
 use sheet::Position;
@@ -55,6 +56,24 @@ fn squared_distance(corner: Position, prediction: Position) -> f32
     let dx = corner.x - prediction.x;
     let dy = corner.y - prediction.y;
     dx * dx + dy * dy
+}
+
+// The distance of a corner from the prediction: the rounded root of the squared distance.
+pub fn distance(corner: Position, prediction: Position) -> f32
+    ensures { λ r. ⌜ r ≡ sqrtOrNan (squaredDistance corner prediction) ⌝ }
+{
+    binary32::root::sqrt_or_nan(squared_distance(corner, prediction))
+}
+
+// The distance of the last of the first two candidates: the second's, or that of the only one. A corner that is farther is neither of them.
+pub fn last_distance(candidates: Candidates) -> f32
+    ensures { λ r. ⌜ r ≡ lastDistance candidates ⌝ }
+{
+    match candidates {
+        Candidates::Empty => 0.0,
+        Candidates::One(a) => a.distance,
+        Candidates::Several(_, second) => second,
+    }
 }
 
 // Two candidates or more: the first and its squared distance, and the distance and the squared distance of the second.
