@@ -53,11 +53,11 @@ module _ (cs : Corners) (sheet : List ℕ) (tol : Tolerances) (c : Cell) (k : �
   unfolding edgesOf
   edges-are = ap (λ (w : EdgeVerdict). cond (passes w) (TryCellResult.Attached k) TryCellResult.EdgeRejected) e
 
--- what is found, by the choice
-pub tried-as : (cs : Corners) (sheet : List ℕ) (tol : Tolerances) (search : Search) (c : Cell) (p : Position) (choice : CandidateChoice)
-    → choice ≡ choiceBy (search .rule) (gathered cs sheet (search .«search_r») p) (search .«ambiguity_factor») → resultOf cs sheet tol c choice ≡ tryAt cs sheet tol search c p
+-- what is found, by what was gathered
+pub tried-with : (cs : Corners) (sheet : List ℕ) (tol : Tolerances) (search : Search) (c : Cell) (p : Position) {candidates : Candidates} {r : TryCellResult}
+    → candidates ≡ gathered cs sheet (search .«search_r») p → r ≡ resultOf cs sheet tol c (choiceBy (search .rule) candidates (search .«ambiguity_factor»)) → r ≡ tryAt cs sheet tol search c p
 unfolding tryAt
-tried-as cs sheet tol search c p choice e = ap (resultOf cs sheet tol c) e
+tried-with cs sheet tol search c p e f = f ∙ ap (λ (g : Candidates). resultOf cs sheet tol c (choiceBy (search .rule) g (search .«ambiguity_factor»))) e
 
 -- ---- what is to be attached
 

@@ -66,6 +66,13 @@ pub record Ready (xs ys pitches : List Float) (sheet used : List ℕ) (c : Cell)
   pub tied : Tied sheet used
   pub on : OnSheet c
 
+-- what was gathered at some prediction for a cell of the sheet
+pub record Gathered (xs ys pitches : List Float) (sheet : List ℕ) (c : Cell) (search : Search) (candidates : Candidates) : Type 0 where
+  pub given : Given xs ys pitches sheet
+  pub on : OnSheet c
+  pub at : Position
+  pub are : candidates ≡ gathered (cornersOf xs ys pitches) sheet (search .«search_r») at
+
 -- a corner that was chosen among those given, at a cell of the sheet
 pub record Chosen (xs ys pitches : List Float) (sheet : List ℕ) (c : Cell) (k : ℕ) : Type 0 where
   pub given : Given xs ys pitches sheet

@@ -1,7 +1,7 @@
 // What all three passes do at a cell once they have a prediction: gather the candidates, choose, and try the edges (port of
 // shared/extension/common.rs). Whatever this answers, nothing is written.
 ghost use mathlib.Core.Path.{_≡_};
-ghost use Rattle.extension_common.specs.TryCell.{cornersOf, tryAt, Ready, Chosen, edgesOf, choiceBy};
+ghost use Rattle.extension_common.specs.TryCell.{cornersOf, tryAt, Ready, Gathered, Chosen, edgesOf, choiceBy, resultOf};
 use grow::CandidateChoice;
 use grow::Candidates;
 use positions_policy::EdgeVerdict;
@@ -56,8 +56,25 @@ pub fn try_attach_at_cell(
     requires { ⌜ Ready (now xs) (now ys) (now pitches) (now sheet) (now used) c ⌝ }
     ensures { λ r. ⌜ r ≡ tryAt (cornersOf (now (xs .entry)) (now (ys .entry)) (now (pitches .entry))) (now (sheet .entry)) tol search c prediction ⌝ }
 {
-    let rule = search.rule;
     let candidates = grow::collect_candidates(xs, ys, used, prediction, search.search_r);
+    try_candidates(xs, ys, pitches, sheet, c, candidates, search, tol)
+}
+
+// Tries a cell with the candidates that were gathered at its prediction.
+pub fn try_candidates(
+    xs: &[f32],
+    ys: &[f32],
+    pitches: &[f32],
+    sheet: &[u16],
+    c: Cell,
+    candidates: Candidates,
+    search: Search,
+    tol: Tolerances,
+) -> TryCellResult
+    requires { ⌜ Gathered (now xs) (now ys) (now pitches) (now sheet) c search candidates ⌝ }
+    ensures { λ r. ⌜ r ≡ resultOf (cornersOf (now (xs .entry)) (now (ys .entry)) (now (pitches .entry))) (now (sheet .entry)) tol c (choiceBy (search .rule) candidates (search .«ambiguity_factor»)) ⌝ }
+{
+    let rule = search.rule;
     let choice = choose(rule, candidates, search.ambiguity_factor);
     match choice {
         CandidateChoice::Nothing => TryCellResult::NoCandidates,

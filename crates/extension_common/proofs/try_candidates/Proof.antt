@@ -1,0 +1,47 @@
+-- `extension_common::try_candidates` meets its contract: each arm is given the choice. Assumes nothing.
+use mathlib.Core.Path.{_≡_, sym, ap, _∙_}
+use Rattle.grow.specs.declared.Candidates.{Candidates}
+use Rattle.extension_common.specs.TryCell.{cornersOf, gathered, choiceBy, resultOf}
+use Rattle.extension_common.proofs.Laws.{chosen}
+use borrow.Author.Needs.{needs}
+use Rattle.extension_common.proofs.try_candidates.Statement.{statement}
+use Rattle.extension_common.proofs.try_candidates.Tie as tie
+
+-- the choice among what the definition gathers
+picked : (c : tie.After-choose) → let s = c .before .before .before .before .before in choiceBy (s .args .search .rule) (gathered (cornersOf (s .args .xs .now) (s .args .ys .now) (s .args .pitches .now)) (s .args .sheet .now) (s .args .search .«search_r») (s .pre .at)) (s .args .search .«ambiguity_factor») ≡ c .choose .result
+picked c =
+    let s = c .before .before .before .before .before in
+    sym (c .choose .ensures ∙ ap (λ (g : Candidates). choiceBy (s .args .search .rule) g (s .args .search .«ambiguity_factor»)) (s .pre .are))
+
+choose-requires : tie.Need-choose-requires
+choose-requires c κs = search needs
+
+enum-told : tie.Need-enum-told
+enum-told c = search needs
+
+enum-told-2 : tie.Need-enum-told-2
+enum-told-2 c = search needs
+
+enum-known-choice : tie.Need-enum-known-choice
+enum-known-choice c = search needs
+
+try-edges-requires : tie.Need-try-edges-requires
+try-edges-requires c κs =
+    let g = c .before .before .before .before .before .before .before .before .pre in
+    record { given = g .given; on = g .on; there = chosen _ _ _ _ _ _ _ (picked (c .before .before .before) ∙ c .before .choice .given .1) .there }
+
+returns : tie.Need-returns
+unfolding resultOf
+returns c = ap (resultOf _ _ _ _) (sym (c .enum-told .given .1) ∙ c .before .before .choose .ensures)
+
+returns-2 : tie.Need-returns-2
+unfolding resultOf
+returns-2 c = ap (resultOf _ _ _ _) (sym (c .enum-told2 .given .1) ∙ c .before .before .choose .ensures)
+
+returns-3 : tie.Need-returns-3
+unfolding resultOf
+returns-3 c = c .try-edges .ensures ∙ ap (resultOf _ _ _ _) (sym (c .before .before .choice .given .1) ∙ c .before .before .before .before .choose .ensures)
+
+pub try-candidates-spec : {M : Type 1} → statement M
+try-candidates-spec =
+    tie.close (tie.spec choose-requires enum-told enum-told-2 enum-known-choice try-edges-requires returns returns-2 returns-3)
