@@ -10,10 +10,13 @@ use lib.Ieee.{Float, ofBits, binary32, lt}
 use Rattle.sheet.specs.Cells.{placeOf}
 use Rattle.sheet.specs.Corners.{cornerOf, seenOf}
 use Rattle.sheet.specs.declared.Cell.{Cell}
+use Rattle.sheet.specs.declared.Corner.{Corner}
 use Rattle.sheet.specs.declared.Position.{Position}
 use Rattle.arguments.specs.declared.Settings.{Settings}
 use Rattle.arguments.specs.declared.LocalExtensionParams.{LocalExtensionParams}
-use Rattle.extension_common.specs.TryCell.{cornersOf, tryAt}
+use Rattle.grow.specs.Candidates.{lastDistance}
+use Rattle.grow.specs.declared.Candidates.{Candidates}
+use Rattle.extension_common.specs.TryCell.{cornersOf, gathered, tryAt}
 use Rattle.extension_common.specs.declared.TryCellResult.{TryCellResult}
 use Rattle.homography.specs.Fit.{applied}
 use Rattle.passes.specs.Grow.{tolerancesOf}
@@ -29,8 +32,8 @@ use Rattle.remembered.specs.declared.Known.{Known}
 use Rattle.remembered.proofs.Words.{predicted-below}
 use Rattle.remembered.proofs.Notes.{recalled, noted}
 use Rattle.remembered.proofs.Larger.{larger}
-use Rattle.remembered.proofs.Visits.{visit-none, visit-gated, visit-fitted, visit-idle, visit-unmatched, visit-predicted}
-use Rattle.remembered.proofs.Made.{made-none, made-above, made-within, made-unmatched}
+use Rattle.remembered.proofs.Visits.{visit-none, visit-gated, visit-fitted, visit-idle, visit-unmatched, visit-ambiguous, visit-predicted}
+use Rattle.remembered.proofs.Made.{made-none, made-above, made-within, made-unmatched, made-ambiguous}
 use Rattle.remembered.proofs.Attach.{attach-remembered}
 use Rattle.local.specs.Extending.{countsChanged, residualsRecorded, stateOf, Left, Recalls, Trying, Foretold, Taking, Wrote}
 use Rattle.local.specs.declared.LocalProgress.{LocalProgress}
@@ -115,9 +118,10 @@ module _ {set : Settings} {p : LocalExtensionParams} {xs ys pitches : List Float
     recalls-counted t e = rw e r
 
     -- a corner attached
-    pub recalls-attached : {k : ℕ} {sheet' list' used' places' memory' : List ℕ} {at' : LocalProgress} → Taking xs ys pitches sheet list used places at c k
-        → Wrote sheet list used places at c k sheet' list' used' places' at' → Forgotten memory c memory' → Recalls set p xs ys pitches sheet' memory' predictions at'
-    recalls-attached t w f = rw (w .sheet-is, w .largest-is) (attach-remembered (taking-attaching t) (t .trying .extending .four) r f)
+    pub recalls-attached : {k : ℕ} {taken : Corner} {sheet' list' used' places' memory' : List ℕ} {at' : LocalProgress} → Taking xs ys pitches sheet list used places at c k
+        → taken ≡ cornerOf xs ys pitches k → Wrote sheet list used places at c k sheet' list' used' places' at' → Forgotten memory predictions c (taken .position) memory'
+        → Recalls set p xs ys pitches sheet' memory' predictions at'
+    recalls-attached t e w f = rw (w .sheet-is, w .largest-is) (attach-remembered (taking-attaching t) (t .trying .extending .four) r (rw e at f))
 
     -- no candidate
     pub recalls-missed : {reach : ℕ} {prediction : Position} {n : Counts} {at' : LocalProgress} {found : TryCellResult} {memory' : List ℕ} {predictions' : List Float}
@@ -125,6 +129,14 @@ module _ {set : Settings} {p : LocalExtensionParams} {xs ys pitches : List Float
         → found ≡ tryAt (cornersOf xs ys pitches) sheet (tolerancesOf set) (localSearch set p) c prediction → found ≡ TryCellResult.NoCandidates → at' ≡ countsChanged at n
         → Noted memory predictions c (Known.Unmatched reach) memory' predictions' → Recalls set p xs ys pitches sheet memory' predictions' at'
     recalls-missed t k d g e n = rw e (noted r (t .on) (made-unmatched (k .known) (sym d ∙ g)) n)
+
+    -- an ambiguous choice
+    pub recalls-ambiguous : {reach : ℕ} {prediction : Position} {n : Counts} {at' : LocalProgress} {candidates : Candidates} {limit : Float} {found : TryCellResult} {memory' : List ℕ} {predictions' : List Float}
+        → Trying xs ys pitches sheet list used places at c → Foretold set p xs ys pitches sheet at c reach prediction
+        → candidates ≡ gathered (cornersOf xs ys pitches) sheet (localSearch set p .«search_r») prediction → limit ≡ lastDistance candidates
+        → found ≡ tryAt (cornersOf xs ys pitches) sheet (tolerancesOf set) (localSearch set p) c prediction → found ≡ TryCellResult.Ambiguous → at' ≡ countsChanged at n
+        → Noted memory predictions c (Known.Ambiguous reach prediction limit) memory' predictions' → Recalls set p xs ys pitches sheet memory' predictions' at'
+    recalls-ambiguous t k i h d g e n = rw e (noted r (t .on) (made-ambiguous (k .known) (sym d ∙ g) (h ∙ ap lastDistance i)) n)
 
 -- ---- by what is known of a cell
 
@@ -139,6 +151,10 @@ module _ {set : Settings} {p : LocalExtensionParams} {xs ys pitches : List Float
   pub known-unmatched : {reach : ℕ} → known ≡ Known.Unmatched reach
       → localVisit (cornersOf xs ys pitches) set p c (stateOf sheet list at) ≡ localWith c TryCellResult.NoCandidates (stateOf sheet list at)
   known-unmatched e = visit-unmatched (cornersOf xs ys pitches) set p c (stateOf sheet list at) (says e)
+
+  pub known-ambiguous : {reach : ℕ} {prediction : Position} {limit : Float} → known ≡ Known.Ambiguous reach prediction limit
+      → localVisit (cornersOf xs ys pitches) set p c (stateOf sheet list at) ≡ localWith c TryCellResult.Ambiguous (stateOf sheet list at)
+  known-ambiguous e = visit-ambiguous (cornersOf xs ys pitches) set p c (stateOf sheet list at) (says e)
 
   module _ {reach : ℕ} {prediction : Position} (e : known ≡ Known.Predicted reach prediction) where
     pub known-predicted : localVisit (cornersOf xs ys pitches) set p c (stateOf sheet list at)

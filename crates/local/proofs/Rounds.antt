@@ -6,7 +6,9 @@ use Prim.Native.Nat.{ℕ, suc, _+_, _-_, _*_, _<_, _≤_}
 use native.Mathlib.Omega.{arith}
 use borrow.Author.Tests.{eq-eqb, ne-eqb, lt-ltb, le-ltb}
 use lib.ListN.{length}
+use lib.Dec.{T}
 use lib.Ieee.{Float}
+use lib.Ieee.Scale.{finite}
 use Rattle.refusal.specs.declared.Refusal.{Refusal}
 use Rattle.labels.specs.Labelled.{labelCount}
 use Rattle.labels.specs.Rim.{rim}
@@ -18,9 +20,11 @@ use Rattle.arguments.specs.declared.Pass.{Pass}
 use Rattle.arguments.specs.declared.Settings.{Settings}
 use Rattle.arguments.specs.declared.LocalExtensionParams.{LocalExtensionParams}
 use Rattle.arguments.proofs.Laws.{accepted}
+use Rattle.grow.specs.Candidates.{squaredRadius}
+use Rattle.grow.proofs.Radius.{search-radius}
 use Rattle.extension_common.specs.TryCell.{Corners, cornersOf}
 use Rattle.passes.specs.Outcome.{done}
-use Rattle.passes.specs.Local.{depthOf, LocalState, LocalRounds, localRound, localFrom, localLimit, localRun, localAfter}
+use Rattle.passes.specs.Local.{depthOf, localSearch, LocalState, LocalRounds, localRound, localFrom, localLimit, localRun, localAfter}
 use Rattle.passes.specs.Step.{LocalOut, localStep, localOut, localLeaves}
 use Rattle.passes.specs.declared.LocalStats.{LocalStats}
 use Rattle.passes.specs.declared.LocalAnswer.{LocalAnswer}
@@ -142,6 +146,11 @@ module _ (xs ys pitches : List Float) (sheet list : List ℕ) (set : Settings) (
   module _ (a : Accepted (lent xs ys pitches sheet 0 (length list)) set (Pass.Local p)) where
     pub accepted-gatherable : {places : List ℕ} → length places ≡ 1024 → Gatherable sheet places
     accepted-gatherable n = record { long = a .given .long; few = omega (arith, labels-few (a .given) (a .one-cell), a .few); size = n }
+
+    -- the squared radius is finite
+    pub accepted-radius : T (finite (squaredRadius (localSearch set p .«search_r»)))
+    unfolding localSearch
+    accepted-radius = search-radius (p .«search_rel») (set .grid .«cell_size») (a .pass-inside .search) (a .settings-inside .cell-size)
 
     pub accepted-asked : {used places before : List ℕ} {labels : ℕ} → length before ≡ 1024 → Gathered sheet before places labels → 4 ≤ labels → Tied sheet used
         → RoundsAsked xs ys pitches sheet list used places labels p

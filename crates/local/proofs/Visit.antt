@@ -10,6 +10,7 @@ use lib.Seq.{length-take-le, getD-take}
 use lib.Ieee.{Float, ofBits, binary32, lt}
 use Rattle.sheet.specs.Cells.{OnSheet, placeOf}
 use Rattle.sheet.specs.Words.{labelAt, attached, marksCleared}
+use Rattle.sheet.specs.Corners as corners
 use Rattle.sheet.specs.Corners.{Given, seenOf}
 use Rattle.sheet.specs.declared.Cell.{Cell}
 use Rattle.sheet.specs.declared.Label.{Label}
@@ -25,10 +26,12 @@ use Rattle.labels.proofs.Used.{tied-attached, tied-cleared, one-attached, one-c
 use Rattle.positions_policy.specs.declared.Tolerances.{Tolerances}
 use Rattle.arguments.specs.declared.Settings.{Settings}
 use Rattle.arguments.specs.declared.LocalExtensionParams.{LocalExtensionParams}
-use Rattle.extension_common.specs.TryCell.{Corners, cornersOf, tryAt}
+use Rattle.grow.specs.Candidates.{positionsOf, unmarked, candidatesAt, firstTwo}
+use Rattle.grow.specs.declared.Candidates.{Candidates}
+use Rattle.extension_common.specs.TryCell.{Corners, cornersOf, gathered, tryAt}
 use Rattle.extension_common.specs.declared.Search.{Search}
 use Rattle.extension_common.specs.declared.TryCellResult.{TryCellResult}
-use Rattle.extension_common.proofs.Laws.{Attachable, attachable}
+use Rattle.extension_common.proofs.Laws.{gathered-tied, Attachable, attachable}
 use Rattle.homography.specs.Fit.{applied}
 use Rattle.passes.specs.Grow.{tolerancesOf}
 use Rattle.passes.specs.Local.{LocalState, supportsOf, byReach, cellPoint, LocalFit, none, fitted, localFit, worst, recordedAll, withResiduals, localSearch, gateOf, localWith, localAt, localVisit}
@@ -238,6 +241,11 @@ module _ {xs ys pitches : List Float} {sheet list used places : List ℕ} {at : 
         size = t .trying .extending .size;
       }
 
+  pub taking-listed : corners.Listed xs ys pitches k
+  taking-listed =
+      let g = t .trying .extending .given in
+      record { in-x = t .there; in-y = omega (arith, t .there, g .ys-long); in-pitch = omega (arith, t .there, g .pitches-long) }
+
   -- a corner attached
   pub took : {sheet' list' used' places' : List ℕ} {at' : LocalProgress} → Wrote sheet list used places at c k sheet' list' used' places' at'
       → Left (localWith c (TryCellResult.Attached k) (stateOf sheet list at)) xs ys pitches list sheet' list' used' places' at'
@@ -277,6 +285,12 @@ module _ {xs ys pitches : List Float} {sheet list used places : List ℕ} {at : 
 pub found-is : (cs : Corners) (sheet : List ℕ) (c : Cell) (prediction : Position) {tol tol' : Tolerances} {search search' : Search} {r : TryCellResult} → search' ≡ search → tol' ≡ tol
     → r ≡ tryAt cs sheet tol' search' c prediction → r ≡ tryAt cs sheet tol search c prediction
 found-is cs sheet c prediction s t e = e ∙ rw (t, s)
+
+-- what was gathered by the array of used corners
+pub gathered-is : {xs ys pitches : List Float} {sheet list used places : List ℕ} {at : LocalProgress} {c : Cell} {candidates : Candidates} (radius : Float) (prediction : Position)
+    → Trying xs ys pitches sheet list used places at c → candidates ≡ firstTwo (candidatesAt (positionsOf xs ys) (unmarked used) (length xs) prediction radius)
+    → candidates ≡ gathered (cornersOf xs ys pitches) sheet radius prediction
+gathered-is {xs} {ys} {pitches} {sheet} {used = used} radius prediction t e = e ∙ gathered-tied xs ys pitches sheet used radius prediction (t .extending .few) (t .extending .tied)
 
 -- a corner that was found is to be attached
 pub taking : {xs ys pitches : List Float} {sheet list used places : List ℕ} {at : LocalProgress} {c : Cell} {k : ℕ} {r : TryCellResult} (tol : Tolerances) (search : Search) (prediction : Position)

@@ -108,7 +108,7 @@ pub record Trying (xs ys pitches : List Float) (sheet list used places : List �
 -- it is known where the fit maps the cell to
 pub record Foretold (set : Settings) (p : LocalExtensionParams) (xs ys pitches : List Float) (sheet : List ℕ) (at : LocalProgress) (c : Cell) (reach : ℕ) (prediction : Position) : Type 0 where
   pub known : KnownAt (cornersOf xs ys pitches) set p (at .residual) sheet c (Known.Predicted reach prediction)
-  pub small : reach < 16384
+  pub small : reach < 8192
 
 -- a corner that no cell holds is to be attached there
 pub record Taking (xs ys pitches : List Float) (sheet list used places : List ℕ) (at : LocalProgress) (c : Cell) (k : ℕ) : Type 0 where

@@ -160,12 +160,14 @@ fn attach_corner(
     used: &mut [u8; 1024],
     places: &mut [u16; 1024],
     memory: &mut [u16; 16384],
+    predictions: &[f32; 49152],
     at: LocalProgress,
     c: Cell,
     k: usize,
+    corner: Position,
 ) -> LocalProgress
     requires { ⌜ Writable (now sheet) (now attached) (now places) at c k × (length (now memory) ≡ 16384) ⌝ }
-    ensures { λ r. ⌜ Wrote (now (sheet .entry)) (now (attached .entry)) (now (used .entry)) (now (places .entry)) at c k (now (sheet .exit)) (now (attached .exit)) (now (used .exit)) (now (places .exit)) r × Forgotten (now (memory .entry)) c (now (memory .exit)) ⌝ }
+    ensures { λ r. ⌜ Wrote (now (sheet .entry)) (now (attached .entry)) (now (used .entry)) (now (places .entry)) at c k (now (sheet .exit)) (now (attached .exit)) (now (used .exit)) (now (places .exit)) r × Forgotten (now (memory .entry)) (now (predictions .entry)) c corner (now (memory .exit)) ⌝ }
 {
     let n = at.counts;
     let made = n.attached;
@@ -174,7 +176,7 @@ fn attach_corner(
     attached[made] = sheet::place_of(c) as u16;
     used[k] = 1;
     let labels = supports::gather_labelled(sheet, places);
-    remembered::forget_near(memory, c);
+    remembered::forget_near(memory, predictions, c, corner);
     let counts = Counts {
         attached: made + 1,
         rejected_no_candidate: n.rejected_no_candidate,
@@ -189,8 +191,8 @@ fn attach_corner(
     }
 }
 
-// Tries an unlabelled cell where a fit maps it to: a corner that is found is attached, else nothing is written. Either is counted, and where there
-// is no candidate that is noted.
+// Tries an unlabelled cell where a fit maps it to: a corner that is found is attached, else nothing is written. Either is counted, and that there
+// is no candidate, or that the choice is ambiguous, is noted.
 fn try_predicted_cell(
     xs: &[f32],
     ys: &[f32],
@@ -200,7 +202,7 @@ fn try_predicted_cell(
     used: &mut [u8; 1024],
     places: &mut [u16; 1024],
     memory: &mut [u16; 16384],
-    predictions: &mut [f32; 32768],
+    predictions: &mut [f32; 49152],
     at: LocalProgress,
     c: Cell,
     reach: u32,
@@ -211,34 +213,50 @@ fn try_predicted_cell(
     requires { ⌜ Trying (now xs) (now ys) (now pitches) (now sheet) (now attached) (now used) (now places) at c × (Recalls settings params (now xs) (now ys) (now pitches) (now sheet) (now memory) (now predictions) at × Foretold settings params (now xs) (now ys) (now pitches) (now sheet) at c reach prediction) ⌝ }
     ensures { λ r. ⌜ Left (localWith c (tryAt (cornersOf (now (xs .entry)) (now (ys .entry)) (now (pitches .entry))) (now (sheet .entry)) (tolerancesOf settings) (localSearch settings params) c prediction) (stateOf (now (sheet .entry)) (now (attached .entry)) at)) (now (xs .entry)) (now (ys .entry)) (now (pitches .entry)) (now (attached .entry)) (now (sheet .exit)) (now (attached .exit)) (now (used .exit)) (now (places .exit)) r × Recalls settings params (now (xs .entry)) (now (ys .entry)) (now (pitches .entry)) (now (sheet .exit)) (now (memory .exit)) (now (predictions .exit)) r ⌝ }
 {
-    let found = extension_common::try_attach_at_cell(
+    let search = search_of(settings, params);
+    let candidates = grow::collect_candidates(xs, ys, used, prediction, search.search_r);
+    let tol = tolerances_of(settings);
+    let found = extension_common::try_candidates(
         xs,
         ys,
         pitches,
         sheet,
-        used,
         c,
-        prediction,
-        search_of(settings, params),
-        tolerances_of(settings),
+        candidates,
+        search,
+        tol,
     );
     match found {
         TryCellResult::NoCandidates => {
             remembered::note(memory, predictions, c, Known::Unmatched(reach));
             with_counts(at, count_no_candidate(at.counts))
         }
-        TryCellResult::Ambiguous => with_counts(at, count_ambiguous(at.counts)),
+        TryCellResult::Ambiguous => {
+            let limit = grow::last_distance(candidates);
+            remembered::note(
+                memory,
+                predictions,
+                c,
+                Known::Ambiguous(reach, prediction, limit),
+            );
+            with_counts(at, count_ambiguous(at.counts))
+        }
         TryCellResult::EdgeRejected => with_counts(at, count_edge(at.counts)),
-        TryCellResult::Attached(k) => attach_corner(
-            sheet,
-            attached,
-            used,
-            places,
-            memory,
-            at,
-            c,
-            k,
-        ),
+        TryCellResult::Attached(k) => {
+            let taken = sheet::corner_at(xs, ys, pitches, k);
+            attach_corner(
+                sheet,
+                attached,
+                used,
+                places,
+                memory,
+                predictions,
+                at,
+                c,
+                k,
+                taken.position,
+            )
+        }
     }
 }
 
@@ -253,7 +271,7 @@ fn try_unknown_cell(
     used: &mut [u8; 1024],
     places: &mut [u16; 1024],
     memory: &mut [u16; 16384],
-    predictions: &mut [f32; 32768],
+    predictions: &mut [f32; 49152],
     at: LocalProgress,
     c: Cell,
     settings: Settings,
@@ -307,7 +325,7 @@ fn try_local_cell(
     used: &mut [u8; 1024],
     places: &mut [u16; 1024],
     memory: &mut [u16; 16384],
-    predictions: &mut [f32; 32768],
+    predictions: &mut [f32; 49152],
     at: LocalProgress,
     c: Cell,
     settings: Settings,
@@ -335,6 +353,7 @@ fn try_local_cell(
         ),
         Known::Idle(_) => at,
         Known::Unmatched(_) => with_counts(at, count_no_candidate(at.counts)),
+        Known::Ambiguous(_, _, _) => with_counts(at, count_ambiguous(at.counts)),
         Known::Predicted(reach, prediction) => try_predicted_cell(
             xs,
             ys,
@@ -365,7 +384,7 @@ fn local_place(
     used: &mut [u8; 1024],
     places: &mut [u16; 1024],
     memory: &mut [u16; 16384],
-    predictions: &mut [f32; 32768],
+    predictions: &mut [f32; 49152],
     at: LocalProgress,
     around: LabelBox,
     rows: &[u8; 128],
@@ -410,7 +429,7 @@ fn local_round(
     used: &mut [u8; 1024],
     places: &mut [u16; 1024],
     memory: &mut [u16; 16384],
-    predictions: &mut [f32; 32768],
+    predictions: &mut [f32; 49152],
     at: LocalProgress,
     settings: Settings,
     params: LocalExtensionParams,
@@ -476,7 +495,7 @@ fn local_rounds(
     used: &mut [u8; 1024],
     places: &mut [u16; 1024],
     memory: &mut [u16; 16384],
-    predictions: &mut [f32; 32768],
+    predictions: &mut [f32; 49152],
     labels: usize,
     settings: Settings,
     params: LocalExtensionParams,
@@ -557,7 +576,7 @@ fn local_accepted(
     }
     let mut used = labels::mark_used(sheet);
     let mut memory = [0u16; 16384];
-    let mut predictions = [0.0f32; 32768];
+    let mut predictions = [0.0f32; 49152];
     let rounds = local_rounds(
         xs,
         ys,

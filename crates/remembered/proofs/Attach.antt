@@ -1,13 +1,15 @@
 -- A corner attached at a cell: what is remembered of the cells that are not near it holds on the new sheet. Assumes nothing.
 use mathlib.Core.Path.{_≡_, refl, sym, ap, _∙_, subst}
-use mathlib.Core.Bool.{Bool, true, false, not, cond, _||_}
+use mathlib.Core.Bool.{Bool, true, false, not, cond, _||_, _&&_}
 use mathlib.Core.List.{List}
-use Prim.Native.Nat.{ℕ, zero, suc, _/_, _%_, _<_, _≤_}
+use Prim.Native.Nat.{ℕ, zero, suc, _+_, _*_, _/_, _%_, _<_, _≤_}
 use native.Mathlib.Omega.{arith}
-use borrow.Author.Tests.{leb-false}
-use lib.Dec.{leb, eqb}
+use borrow.Author.Tests.{leb-true, leb-false}
+use lib.Dec.{T, leb, eqb}
 use lib.ListN.{length, getD}
-use lib.Ieee.{Float}
+use lib.Ieee.{Float, lt}
+use lib.Ieee.Scale.{finite}
+use Rattle.binary32.specs.Sqrt.{sqrtOrNan}
 use Rattle.sheet.specs.Cells.{placeOf, cellOf}
 use Rattle.sheet.specs.Words.{labelOf, attached, marksCleared}
 use Rattle.sheet.specs.Corners.{seenThrough, seenOf}
@@ -25,16 +27,17 @@ use Rattle.labels.proofs.Below.{no-both}
 use Rattle.labels.proofs.Used.{same-used, used-attached}
 use Rattle.arguments.specs.declared.Settings.{Settings}
 use Rattle.arguments.specs.declared.LocalExtensionParams.{LocalExtensionParams}
-use Rattle.extension_common.specs.TryCell.{Corners, unlabelledOn}
+use Rattle.grow.specs.Candidates.{squaredDistance, squaredRadius, lastDistance}
+use Rattle.extension_common.specs.TryCell.{Corners, unlabelledOn, gathered}
 use Rattle.passes.specs.Grow.{tolerancesOf}
 use Rattle.passes.specs.Local.{reachOf, byReach, supportsOf, picturedAs, picturedAt, LocalFit, localFit, localSearch}
 use Rattle.passes.specs.declared.LargestResidual.{LargestResidual}
 use Rattle.supports.proofs.Nearest.{Under, none, one, under-take}
-use Rattle.remembered.specs.Remembered.{fitAt, Near, near-none, near-more, Within, IdleFit, Mapped, KnownAt, nothing, idle, unmatched, predicted, kindOf, knownOf, reachIn, predictionOf, entryOf, Remembered, forgottenWord, Forgotten}
+use Rattle.remembered.specs.Remembered.{fitAt, Near, near-none, near-more, Within, IdleFit, Mapped, Undecided, KnownAt, nothing, idle, unmatched, predicted, ambiguous, kindOf, knownOf, predictionIn, limitIn, reachIn, predictionOf, limitOf, entryOf, Remembered, forgottenWord, doubtedWord, Forgotten}
 use Rattle.remembered.specs.declared.Known.{Known}
-use Rattle.remembered.proofs.Words.{known-nothing}
+use Rattle.remembered.proofs.Words.{known-nothing, known-predicted, known-ambiguous, certain-stays, far-stays, doubts}
 use Rattle.remembered.proofs.Supported.{Inserted, passing-inserted, under-all, under-sorted, nearest-stay}
-use Rattle.remembered.proofs.Missed.{still-missed}
+use Rattle.remembered.proofs.Missed.{still-missed, gathered-stays, still-ambiguous}
 use Rattle.remembered.proofs.Alike.{Alike, alike-none, alike-more, fit-alike}
 
 -- ---- the sheet after it
@@ -64,6 +67,14 @@ module _ {sheet : List ℕ} {c : Cell} {k : ℕ} (a : Attaching sheet c k) where
       go : (s t : Bool) → not (s || t) ≡ true → not t ≡ true
       go true t e = absurd (no-both false e refl)
       go false t e = e
+
+  -- one more corner is labelled
+  pub clear-unlabelled : (j : ℕ) → unlabelledOn (marksCleared (attached sheet c k) c) j ≡ (not (eqb k j) && unlabelledOn sheet j)
+  clear-unlabelled j = ap not (same-used (attached sheet c k) (marksCleared (attached sheet c k) c) clear-labels j ∙ used-attached a j) ∙ go (eqb k j) (usedOn sheet j)
+    where
+      go : (s t : Bool) → not (s || t) ≡ (not s && not t)
+      go true t = refl
+      go false t = refl
 
   -- the labelled places are those before it and the new one
   pub clear-inserted : Inserted (placeOf c) (labelledPlaces sheet) (labelledPlaces (marksCleared (attached sheet c k) c))
@@ -113,49 +124,124 @@ module _ {sheet : List ℕ} {c : Cell} {k : ℕ} (a : Attaching sheet c k) (four
 
 -- ---- what is known
 
-module _ {cs : Corners} {set : Settings} {p : LocalExtensionParams} {l : LargestResidual} {sheet : List ℕ} {c : Cell} {k : ℕ} (a : Attaching sheet c k) (four : 4 ≤ labelCount sheet) where
-  pub known-stays : (d : Cell) (known : Known) → reachIn known < reachOf d (placeOf c) → KnownAt cs set p l sheet d known → KnownAt cs set p l (marksCleared (attached sheet c k) c) d known
-  unfolding reachIn
+-- the sheet after a corner was attached to a cell
+abbrev after : List ℕ → Cell → ℕ → List ℕ
+after sheet c k = marksCleared (attached sheet c k) c
+
+-- what is left of what is known once a corner is labelled: an ambiguous choice is doubted unless the corner is far
+pub doubted : Bool → Known → Known
+doubted far Known.Nothing = Known.Nothing
+doubted far (Known.Idle r) = Known.Idle r
+doubted far (Known.Unmatched r) = Known.Unmatched r
+doubted far (Known.Predicted r at) = Known.Predicted r at
+doubted far (Known.Ambiguous r at limit) = cond far (Known.Ambiguous r at limit) (Known.Predicted r at)
+
+module _ (cs : Corners) (set : Settings) (p : LocalExtensionParams) (l : LargestResidual) {sheet : List ℕ} {c : Cell} {k : ℕ} (a : Attaching sheet c k) (four : 4 ≤ labelCount sheet)
+    (small : T (finite (squaredRadius (localSearch set p .«search_r»)))) where
+  -- the fit of a cell that is not near maps it to where it did
+  mapped-stays : (d : Cell) {r : ℕ} {at : Position} → r < reachOf d (placeOf c) → Within r sheet d → Mapped set p l d (fitAt cs sheet d) at → Mapped set p l d (fitAt cs (after sheet c k) d) at
+  mapped-stays d {r} {at} far n m = subst (λ (f : LocalFit). Mapped set p l d f at) (sym (fit-stays a four d n far cs)) m
+
+  ambiguous-stays : (d : Cell) {r : ℕ} {at : Position} {limit : Float} → r < reachOf d (placeOf c) → Within r sheet d → Undecided cs set p l sheet d at limit
+      → (t : Bool) → lt limit (sqrtOrNan (squaredDistance (cs .corner k .position) at)) ≡ t → KnownAt cs set p l (after sheet c k) d (cond t (Known.Ambiguous r at limit) (Known.Predicted r at))
+  ambiguous-stays d far n u false e = predicted (within-stays a four d n far) (mapped-stays d far n (u .mapped))
+  ambiguous-stays d {r} {at} {limit} far n u true e =
+      ambiguous (within-stays a four d n far)
+      (record {
+        mapped = mapped-stays d far n (u .mapped);
+        undecided = still-ambiguous cs sheet (after sheet c k) k (clear-unlabelled a) (tolerancesOf set) (localSearch set p) d at same (u .undecided);
+        last = u .last ∙ ap lastDistance (sym same);
+      })
+    where
+      same : gathered cs (after sheet c k) (localSearch set p .«search_r») at ≡ gathered cs sheet (localSearch set p .«search_r») at
+      same = gathered-stays cs sheet (after sheet c k) k (clear-unlabelled a) (localSearch set p .«search_r») small at (sym (ap (λ (x : Float). lt x (sqrtOrNan (squaredDistance (cs .corner k .position) at))) (u .last)) ∙ e)
+
+  pub known-stays : (d : Cell) (known : Known) → reachIn known < reachOf d (placeOf c) → KnownAt cs set p l sheet d known
+      → KnownAt cs set p l (after sheet c k) d (doubted (lt (limitIn known) (sqrtOrNan (squaredDistance (cs .corner k .position) (predictionIn known)))) known)
+  unfolding reachIn doubted limitIn predictionIn
   known-stays d Known.Nothing far nothing = nothing
   known-stays d (Known.Idle r) far (idle n f) = idle (within-stays a four d n far) (subst (IdleFit set p l) (sym (fit-stays a four d n far cs)) f)
   known-stays d (Known.Unmatched r) far (unmatched n m) =
       unmatched (within-stays a four d n far)
       (record {
         at = m .at;
-        mapped = subst (λ (f : LocalFit). Mapped set p l d f (m .at)) (sym (fit-stays a four d n far cs)) (m .mapped);
-        missed = still-missed cs sheet (marksCleared (attached sheet c k) c) (clear-used a) (tolerancesOf set) (localSearch set p) d (m .at) (m .missed);
+        mapped = mapped-stays d far n (m .mapped);
+        missed = still-missed cs sheet (after sheet c k) (clear-used a) (tolerancesOf set) (localSearch set p) d (m .at) (m .missed);
       })
-  known-stays d (Known.Predicted r at) far (predicted n m) =
-      predicted (within-stays a four d n far) (subst (λ (f : LocalFit). Mapped set p l d f at) (sym (fit-stays a four d n far cs)) m)
+  known-stays d (Known.Predicted r at) far (predicted n m) = predicted (within-stays a four d n far) (mapped-stays d far n m)
+  known-stays d (Known.Ambiguous r at limit) far (ambiguous n u) = ambiguous-stays d far n u (lt limit (sqrtOrNan (squaredDistance (cs .corner k .position) at))) refl
 
 -- the reach in a word
-reach-in-word : (w : ℕ) (at : Position) → reachIn (knownOf w at) ≤ w / 4
+reach-in-word : (w : ℕ) (at : Position) (limit : Float) → reachIn (knownOf w at limit) ≤ w / 8
 unfolding knownOf kindOf reachIn
-reach-in-word w at = go (w % 4)
+reach-in-word w at limit = go (w % 8)
   where
-    go : (n : ℕ) → reachIn (kindOf n (w / 4) at) ≤ w / 4
+    go : (n : ℕ) → reachIn (kindOf n (w / 8) at limit) ≤ w / 8
     go zero = omega arith
     go (suc zero) = omega arith
     go (suc (suc zero)) = omega arith
-    go (suc (suc (suc n))) = omega arith
+    go (suc (suc (suc zero))) = omega arith
+    go (suc (suc (suc (suc n)))) = omega arith
+
+-- a word doubted says what it said, doubted
+doubted-certain : (far : Bool) (k r : ℕ) (at : Position) (limit : Float) → k < 4 → kindOf k r at limit ≡ doubted far (kindOf k r at limit)
+unfolding doubted kindOf
+doubted-certain far zero r at limit h = refl
+doubted-certain far (suc zero) r at limit h = refl
+doubted-certain far (suc (suc zero)) r at limit h = refl
+doubted-certain far (suc (suc (suc zero))) r at limit h = refl
+doubted-certain far (suc (suc (suc (suc k)))) r at limit h = absurd (omega arith)
+
+doubted-word : (far : Position → Float → Bool) (w : ℕ) (at : Position) (limit : Float)
+    → knownOf (doubtedWord (far at limit) w) at limit ≡ doubted (far (predictionIn (knownOf w at limit)) (limitIn (knownOf w at limit))) (knownOf w at limit)
+unfolding doubted knownOf predictionIn limitIn
+doubted-word far w at limit = go (leb 4 (w % 8)) refl
+  where
+    said : ℕ → Known
+    said v = knownOf v at limit
+
+    split : 4 ≤ w % 8 → (t : Bool) → far at limit ≡ t → said (doubtedWord (far at limit) w) ≡ cond t (Known.Ambiguous (w / 8) at limit) (Known.Predicted (w / 8) at)
+    split h true e = ap said (sym (far-stays (far at limit) w e)) ∙ sym (known-ambiguous w at limit h)
+    split h false e =
+        let z : (w / 8 * 8 + 3) / 8 ≡ w / 8 = omega arith in
+        ap said (sym (doubts (far at limit) w h e)) ∙ sym (known-predicted (w / 8 * 8 + 3) at limit (omega arith)) ∙ ap (λ (r : ℕ). Known.Predicted r at) z
+
+    torn : Known.Ambiguous (w / 8) at limit ≡ said w
+        → doubted (far at limit) (Known.Ambiguous (w / 8) at limit) ≡ doubted (far (predictionIn (said w)) (limitIn (said w))) (said w)
+    torn e = ap (λ (k : Known). doubted (far (predictionIn k) (limitIn k)) k) e
+
+    go : (t : Bool) → leb 4 (w % 8) ≡ t → said (doubtedWord (far at limit) w) ≡ doubted (far (predictionIn (said w)) (limitIn (said w))) (said w)
+    go false e =
+        ap said (sym (certain-stays (far at limit) w (leb-false 4 (w % 8) e)))
+        ∙ doubted-certain (far (predictionIn (said w)) (limitIn (said w))) (w % 8) (w / 8) at limit (leb-false 4 (w % 8) e)
+    go true e = split (leb-true 4 (w % 8) e) (far at limit) refl ∙ torn (known-ambiguous w at limit (leb-true 4 (w % 8) e))
 
 -- what is left is remembered on the new sheet
 pub attach-remembered : {cs : Corners} {set : Settings} {p : LocalExtensionParams} {l : LargestResidual} {sheet memory memory' : List ℕ} {predictions : List Float} {c : Cell} {k : ℕ}
-    → Attaching sheet c k → 4 ≤ labelCount sheet → Remembered cs set p l sheet memory predictions → Forgotten memory c memory'
+    → Attaching sheet c k → 4 ≤ labelCount sheet → Remembered cs set p l sheet memory predictions → Forgotten memory predictions c (cs .corner k .position) memory'
     → Remembered cs set p l (marksCleared (attached sheet c k) c) memory' predictions
 unfolding forgottenWord
 attach-remembered {cs} {set} {p} {l} {sheet} {memory} {memory'} {predictions} {c} {k} a four m f =
     record {
       size = f .size ∙ m .size;
       room = m .room;
-      at = λ b h. subst (λ (w : ℕ). Holds b (knownOf w (predictionOf predictions b))) (sym (f .at b h)) (go b h (leb (reachOf (cellOf b) (placeOf c)) (getD memory b 0 / 4)) refl);
+      at = λ b h. subst (λ (w : ℕ). Holds b (knownOf w (predictionOf predictions b) (limitOf predictions b))) (sym (f .at b h)) (go b h (leb (reachOf (cellOf b) (placeOf c)) (getD memory b 0 / 8)) refl);
+      bounded = m .bounded;
     }
   where
     Holds : ℕ → Known → Type 0
     Holds b known = KnownAt cs set p l (marksCleared (attached sheet c k) c) (cellOf b) known
 
-    go : (b : ℕ) → b < 16384 → (t : Bool) → leb (reachOf (cellOf b) (placeOf c)) (getD memory b 0 / 4) ≡ t → Holds b (knownOf (cond t 0 (getD memory b 0)) (predictionOf predictions b))
-    go b h true e = subst (Holds b) (known-nothing 0 (predictionOf predictions b) (omega arith)) nothing
+    far : Position → Float → Bool
+    far at limit = lt limit (sqrtOrNan (squaredDistance (cs .corner k .position) at))
+
+    go : (b : ℕ) → b < 16384 → (t : Bool) → leb (reachOf (cellOf b) (placeOf c)) (getD memory b 0 / 8) ≡ t
+        → Holds b (knownOf (doubtedWord (far (predictionOf predictions b) (limitOf predictions b)) (cond t 0 (getD memory b 0))) (predictionOf predictions b) (limitOf predictions b))
+    go b h true e =
+        subst (Holds b)
+        (known-nothing 0 (predictionOf predictions b) (limitOf predictions b) (omega arith)
+        ∙ ap (λ (w : ℕ). knownOf w (predictionOf predictions b) (limitOf predictions b)) (certain-stays (far (predictionOf predictions b) (limitOf predictions b)) 0 (omega arith))) nothing
     go b h false e =
-        known-stays a four (cellOf b) (entryOf memory predictions b)
-        (omega (arith, reach-in-word (getD memory b 0) (predictionOf predictions b), leb-false (reachOf (cellOf b) (placeOf c)) (getD memory b 0 / 4) e)) (m .at b h)
+        subst (Holds b) (sym (doubted-word far (getD memory b 0) (predictionOf predictions b) (limitOf predictions b)))
+        (known-stays cs set p l a four (m .bounded) (cellOf b) (entryOf memory predictions b)
+        (omega (arith, reach-in-word (getD memory b 0) (predictionOf predictions b) (limitOf predictions b), leb-false (reachOf (cellOf b) (placeOf c)) (getD memory b 0 / 8) e)) (m .at b h))

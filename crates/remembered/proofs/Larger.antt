@@ -13,7 +13,7 @@ use Rattle.arguments.specs.declared.LocalExtensionParams.{LocalExtensionParams}
 use Rattle.extension_common.specs.TryCell.{Corners}
 use Rattle.passes.specs.Local.{LocalFit, recorded, recordedAll}
 use Rattle.passes.specs.declared.LargestResidual.{LargestResidual}
-use Rattle.remembered.specs.Remembered.{Covered, covered-none, covered-more, CoveredBy, nothing-yet, by, IdleFit, no-fit, above, Mapped, within, KnownAt, nothing, idle, unmatched, predicted, Remembered}
+use Rattle.remembered.specs.Remembered.{Covered, covered-none, covered-more, CoveredBy, nothing-yet, by, IdleFit, no-fit, above, Mapped, within, KnownAt, nothing, idle, unmatched, predicted, ambiguous, Remembered}
 use Rattle.remembered.specs.declared.Known.{Known}
 
 -- ---- one residual more
@@ -94,6 +94,7 @@ module _ {cs : Corners} {set : Settings} {p : LocalExtensionParams} {l : Largest
   known-all (idle n f) = idle n (idle-all rs f)
   known-all (unmatched n m) = unmatched n (record { at = m .at; mapped = mapped-all rs (m .mapped); missed = m .missed })
   known-all (predicted n m) = predicted n (mapped-all rs m)
+  known-all (ambiguous n u) = ambiguous n (record { mapped = mapped-all rs (u .mapped); undecided = u .undecided; last = u .last })
 
   pub larger : {memory : List ℕ} {predictions : List Float} → Remembered cs set p l sheet memory predictions → Remembered cs set p (recordedAll l rs) sheet memory predictions
-  larger m = record { size = m .size; room = m .room; at = λ a h. known-all (m .at a h) }
+  larger m = record { size = m .size; room = m .room; at = λ a h. known-all (m .at a h); bounded = m .bounded }

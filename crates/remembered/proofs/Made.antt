@@ -9,14 +9,15 @@ use Rattle.sheet.specs.declared.Position.{Position}
 use Rattle.homography.specs.Fit.{applied}
 use Rattle.arguments.specs.declared.Settings.{Settings}
 use Rattle.arguments.specs.declared.LocalExtensionParams.{LocalExtensionParams}
-use Rattle.extension_common.specs.TryCell.{Corners, tryAt}
+use Rattle.grow.specs.Candidates.{lastDistance}
+use Rattle.extension_common.specs.TryCell.{Corners, gathered, tryAt}
 use Rattle.extension_common.specs.declared.TryCellResult.{TryCellResult}
 use Rattle.passes.specs.Grow.{tolerancesOf}
 use Rattle.passes.specs.Local.{supportsOf, cellPoint, LocalFit, none, fitted, worst, recordedAll, localSearch, gateOf}
 use Rattle.passes.specs.declared.LargestResidual.{LargestResidual}
 use Rattle.supports.specs.Nearest.{placesOf, Reached}
 use Rattle.supports.specs.declared.Supports.{Supports}
-use Rattle.remembered.specs.Remembered.{fitAt, Near, near-none, near-more, Within, IdleFit, no-fit, above, Mapped, within, KnownAt, idle, unmatched, predicted}
+use Rattle.remembered.specs.Remembered.{fitAt, Near, near-none, near-more, Within, IdleFit, no-fit, above, Mapped, within, KnownAt, idle, unmatched, predicted, ambiguous}
 use Rattle.remembered.specs.declared.Known.{Known}
 use Rattle.remembered.proofs.Larger.{covers}
 
@@ -41,3 +42,9 @@ pub made-unmatched : {cs : Corners} {set : Settings} {p : LocalExtensionParams} 
     → KnownAt cs set p l sheet c (Known.Predicted r at) → tryAt cs sheet (tolerancesOf set) (localSearch set p) c at ≡ TryCellResult.NoCandidates
     → KnownAt cs set p l sheet c (Known.Unmatched r)
 made-unmatched {at = at} (predicted n m) e = unmatched n (record { at = at; mapped = m; missed = e })
+
+-- an ambiguous choice there
+pub made-ambiguous : {cs : Corners} {set : Settings} {p : LocalExtensionParams} {l : LargestResidual} {sheet : List ℕ} {c : Cell} {r : ℕ} {at : Position} {limit : Float}
+    → KnownAt cs set p l sheet c (Known.Predicted r at) → tryAt cs sheet (tolerancesOf set) (localSearch set p) c at ≡ TryCellResult.Ambiguous
+    → limit ≡ lastDistance (gathered cs sheet (localSearch set p .«search_r») at) → KnownAt cs set p l sheet c (Known.Ambiguous r at limit)
+made-ambiguous (predicted n m) e f = ambiguous n (record { mapped = m; undecided = e; last = f })

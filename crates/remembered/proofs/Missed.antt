@@ -1,19 +1,24 @@
--- No candidate at a prediction: there is none later either, when more corners are labelled. Assumes nothing.
+-- No candidate at a prediction: there is none later either, when more corners are labelled. An ambiguous choice: it stays so when a corner is labelled
+-- that is farther than the last of the first two candidates. Assumes nothing.
 use mathlib.Core.Path.{_≡_, refl, ap}
 use mathlib.Core.Bool.{Bool, true, false, not, cond, _&&_}
 use mathlib.Core.List.{List, [], _∷_}
 use Prim.Native.Nat.{ℕ, zero, suc, _<_}
 use native.Mathlib.Omega.{arith}
+use lib.Dec.{T, eqb}
 use lib.Ieee.{Float, le, lt, div, binary32}
+use lib.Ieee.Scale.{finite}
+use Rattle.binary32.specs.Sqrt.{sqrtOrNan}
 use Rattle.sheet.specs.declared.Cell.{Cell}
 use Rattle.sheet.specs.declared.Position.{Position}
 use Rattle.sheet.specs.Corners.{seenOf}
 use Rattle.labels.proofs.Below.{no-both}
-use Rattle.grow.specs.Candidates.{eligible, squaredDistance, squaredRadius, isCandidate, distanceOf, before, insert, insertIf, ordered, finitePosition, candidatesAt, firstTwo}
+use Rattle.grow.specs.Candidates.{eligible, squaredDistance, squaredRadius, isCandidate, distanceOf, before, insert, insertIf, ordered, finitePosition, candidatesAt, firstTwo, lastDistance}
 use Rattle.grow.specs.Choice.{epsilon, raised, byQuotient, chooseUnambiguous, chooseWithFloor}
 use Rattle.grow.specs.declared.Candidate.{Candidate}
 use Rattle.grow.specs.declared.Candidates.{Candidates}
 use Rattle.grow.specs.declared.CandidateChoice.{CandidateChoice}
+use Rattle.grow.proofs.Without.{first-two-stay}
 use Rattle.positions_policy.specs.Edge.{verdictOf, passes}
 use Rattle.positions_policy.specs.declared.Tolerances.{Tolerances}
 use Rattle.extension_common.specs.TryCell.{Corners, unlabelledOn, gathered, choiceBy, edgesOf, resultOf, tryAt}
@@ -130,3 +135,28 @@ module _ (cs : Corners) (sheet sheet' : List ℕ) (sub : (k : ℕ) → unlabelle
         gathered-none (search .«search_r») at (choice-none (search .rule) _ (search .«ambiguity_factor») (result-none cs sheet tol c _ e)),
         none-choice (search .rule) (search .«ambiguity_factor»),
       )
+
+-- ---- an ambiguous choice
+
+result-ambiguous : (cs : Corners) (sheet : List ℕ) (tol : Tolerances) (c : Cell) (choice : CandidateChoice) → resultOf cs sheet tol c choice ≡ TryCellResult.Ambiguous
+    → choice ≡ CandidateChoice.Ambiguous
+unfolding resultOf edgesOf
+result-ambiguous cs sheet tol c CandidateChoice.Nothing e = absurd (zero-one cc)
+result-ambiguous cs sheet tol c CandidateChoice.Ambiguous e = refl
+result-ambiguous cs sheet tol c (CandidateChoice.Unique k) e = absurd (go (passes (verdictOf (seenOf (cs .corner) sheet) tol c (cs .corner k))) e)
+  where
+    go : (t : Bool) → cond t (TryCellResult.Attached k) TryCellResult.EdgeRejected ≡ TryCellResult.Ambiguous → ⊥
+    go true e = zero-one cc
+    go false e = zero-one cc
+
+-- a sheet on which one more corner is labelled
+module _ (cs : Corners) (sheet sheet' : List ℕ) (k : ℕ) (same : (j : ℕ) → unlabelledOn sheet' j ≡ (not (eqb k j) && unlabelledOn sheet j)) where
+  module _ (radius : Float) (small : T (finite (squaredRadius radius))) (at : Position) (far : lt (lastDistance (gathered cs sheet radius at)) (sqrtOrNan (squaredDistance (cs .corner k .position) at)) ≡ true) where
+    pub gathered-stays : gathered cs sheet' radius at ≡ gathered cs sheet radius at
+    unfolding gathered
+    gathered-stays = first-two-stay (λ j. cs .corner j .position) (unlabelledOn sheet) (unlabelledOn sheet') (cs .count) at radius small k same far
+
+  pub still-ambiguous : (tol : Tolerances) (search : Search) (c : Cell) (at : Position) → gathered cs sheet' (search .«search_r») at ≡ gathered cs sheet (search .«search_r») at
+      → tryAt cs sheet tol search c at ≡ TryCellResult.Ambiguous → tryAt cs sheet' tol search c at ≡ TryCellResult.Ambiguous
+  unfolding tryAt resultOf
+  still-ambiguous tol search c at g e = rw (g, result-ambiguous cs sheet tol c (choiceBy (search .rule) (gathered cs sheet (search .«search_r») at) (search .«ambiguity_factor»)) e)

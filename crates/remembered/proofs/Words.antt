@@ -1,44 +1,62 @@
 -- The words that say what is known of a cell: read, written and forgotten. Assumes nothing.
 use mathlib.Core.Path.{_≡_, refl, sym, ap, ap₂, _∙_}
 use mathlib.Core.List.{List}
-use Prim.Native.Nat.{ℕ, _+_, _*_, _/_, _%_, _<_, _≤_}
+use mathlib.Core.Bool.{Bool, true, false, not, _&&_, cond}
+use Prim.Native.Nat.{ℕ, zero, suc, _+_, _*_, _/_, _%_, _<_, _≤_}
 use native.Mathlib.Decide.{ℕ-discrete}
 use native.Mathlib.Omega.{arith}
 use borrow.Author.Tests.{le-leb, lt-leb}
 use lib.ListN.{length, getD, set, length-set}
 use lib.Seq.{getD-set-same, getD-set-other}
-use lib.Ieee.{Float, nan}
+use lib.Dec.{leb}
+use lib.Ieee.{Float, nan, binary32, ofBits}
 use Rattle.sheet.specs.Cells.{OnSheet, placeOf, cellOf}
 use Rattle.sheet.specs.declared.Cell.{Cell}
 use Rattle.sheet.specs.declared.Position.{Position}
 use Rattle.sheet.proofs.Laws.{place-in}
 use Rattle.passes.specs.Local.{reachOf}
-use Rattle.remembered.specs.Remembered.{kindOf, knownOf, wordOf, noPrediction, predictionIn, reachIn, Notable, entryOf, Noted, forgottenWord, Forgotten}
+use Rattle.remembered.specs.Remembered.{kindOf, knownOf, wordOf, noPrediction, predictionIn, limitIn, reachIn, Notable, predictionOf, limitOf, entryOf, Noted, forgottenWord, doubtedWord, leftWord, Forgotten}
 use Rattle.remembered.specs.declared.Known.{Known}
 
 -- ---- a word read
 
-module _ (w : ℕ) (at : Position) where
-  pub known-nothing : w % 4 ≡ 0 → Known.Nothing ≡ knownOf w at
+-- a kind of four or more
+kind-four : (k r : ℕ) (at : Position) (limit : Float) → 4 ≤ k → Known.Ambiguous r at limit ≡ kindOf k r at limit
+unfolding kindOf
+kind-four zero r at limit h = absurd (omega arith)
+kind-four (suc zero) r at limit h = absurd (omega arith)
+kind-four (suc (suc zero)) r at limit h = absurd (omega arith)
+kind-four (suc (suc (suc zero))) r at limit h = absurd (omega arith)
+kind-four (suc (suc (suc (suc k)))) r at limit h = refl
+
+module _ (w : ℕ) (at : Position) (limit : Float) where
+  pub known-nothing : w % 8 ≡ 0 → Known.Nothing ≡ knownOf w at limit
   unfolding knownOf kindOf
   known-nothing e = rw e
 
-  pub known-idle : w % 4 ≡ 1 → Known.Idle (w / 4) ≡ knownOf w at
+  pub known-idle : w % 8 ≡ 1 → Known.Idle (w / 8) ≡ knownOf w at limit
   unfolding knownOf kindOf
   known-idle e = rw e
 
-  pub known-unmatched : w % 4 ≡ 2 → Known.Unmatched (w / 4) ≡ knownOf w at
+  pub known-unmatched : w % 8 ≡ 2 → Known.Unmatched (w / 8) ≡ knownOf w at limit
   unfolding knownOf kindOf
   known-unmatched e = rw e
 
-  pub known-predicted : (w % 4 ≡ 0 → ⊥) → (w % 4 ≡ 1 → ⊥) → (w % 4 ≡ 2 → ⊥) → Known.Predicted (w / 4) at ≡ knownOf w at
+  pub known-predicted : w % 8 ≡ 3 → Known.Predicted (w / 8) at ≡ knownOf w at limit
   unfolding knownOf kindOf
-  known-predicted a b c = let e : w % 4 ≡ 3 = omega arith in rw e
+  known-predicted e = rw e
+
+  pub known-ambiguous : 4 ≤ w % 8 → Known.Ambiguous (w / 8) at limit ≡ knownOf w at limit
+  unfolding knownOf
+  known-ambiguous h = kind-four (w % 8) (w / 8) at limit h
+
+  pub known-last : (w % 8 ≡ 0 → ⊥) → (w % 8 ≡ 1 → ⊥) → (w % 8 ≡ 2 → ⊥) → (w % 8 ≡ 3 → ⊥) → Known.Ambiguous (w / 8) at limit ≡ knownOf w at limit
+  known-last a b c d = known-ambiguous (omega arith)
 
 -- at a place
-pub entry-is : (memory : List ℕ) (predictions : List Float) {place q : ℕ} {known : Known} → place ≡ q
-    → known ≡ knownOf (getD memory place 0) (record { x = getD predictions (place * 2) nan; y = getD predictions (place * 2 + 1) nan }) → known ≡ entryOf memory predictions q
-entry-is memory predictions e f = f ∙ rw e
+pub entry-is : (memory : List ℕ) (predictions : List Float) {place q : ℕ} {at : Position} {limit : Float} {known : Known} → place ≡ q
+    → at ≡ predictionOf predictions place → limit ≡ limitOf predictions place → known ≡ knownOf (getD memory place 0) at limit → known ≡ entryOf memory predictions q
+entry-is memory predictions e f g h = h ∙ rw (f, g, e)
 
 -- ---- a word written
 
@@ -48,6 +66,7 @@ word-below Known.Nothing h = omega arith
 word-below (Known.Idle r) h = omega arith
 word-below (Known.Unmatched r) h = omega arith
 word-below (Known.Predicted r at) h = omega arith
+word-below (Known.Ambiguous r at limit) h = omega arith
 
 -- by what is known
 module _ {known : Known} where
@@ -59,12 +78,16 @@ module _ {known : Known} where
   unfolding predictionIn
   nothing-prediction e = rw e
 
+  pub nothing-limit : known ≡ Known.Nothing → ofBits binary32 0 ≡ limitIn known
+  unfolding limitIn
+  nothing-limit e = rw e
+
   module _ {r : ℕ} where
-    pub idle-below : known ≡ Known.Idle r → Notable known → r < 16384
+    pub idle-below : known ≡ Known.Idle r → Notable known → r < 8192
     unfolding reachIn
     idle-below e h = rw e at h
 
-    pub idle-word : known ≡ Known.Idle r → r * 4 + 1 ≡ wordOf known
+    pub idle-word : known ≡ Known.Idle r → r * 8 + 1 ≡ wordOf known
     unfolding wordOf
     idle-word e = rw e
 
@@ -72,11 +95,15 @@ module _ {known : Known} where
     unfolding predictionIn
     idle-prediction e = rw e
 
-    pub unmatched-below : known ≡ Known.Unmatched r → Notable known → r < 16384
+    pub idle-limit : known ≡ Known.Idle r → ofBits binary32 0 ≡ limitIn known
+    unfolding limitIn
+    idle-limit e = rw e
+
+    pub unmatched-below : known ≡ Known.Unmatched r → Notable known → r < 8192
     unfolding reachIn
     unmatched-below e h = rw e at h
 
-    pub unmatched-word : known ≡ Known.Unmatched r → r * 4 + 2 ≡ wordOf known
+    pub unmatched-word : known ≡ Known.Unmatched r → r * 8 + 2 ≡ wordOf known
     unfolding wordOf
     unmatched-word e = rw e
 
@@ -84,90 +111,165 @@ module _ {known : Known} where
     unfolding predictionIn
     unmatched-prediction e = rw e
 
-    pub predicted-below : {at : Position} → known ≡ Known.Predicted r at → Notable known → r < 16384
-    unfolding reachIn
-    predicted-below e h = rw e at h
+    pub unmatched-limit : known ≡ Known.Unmatched r → ofBits binary32 0 ≡ limitIn known
+    unfolding limitIn
+    unmatched-limit e = rw e
 
-    pub predicted-word : {at : Position} → known ≡ Known.Predicted r at → r * 4 + 3 ≡ wordOf known
-    unfolding wordOf
-    predicted-word e = rw e
+    module _ {at : Position} where
+      pub predicted-below : known ≡ Known.Predicted r at → Notable known → r < 8192
+      unfolding reachIn
+      predicted-below e h = rw e at h
 
-    pub predicted-prediction : {at : Position} → known ≡ Known.Predicted r at → at ≡ predictionIn known
-    unfolding predictionIn
-    predicted-prediction e = rw e
+      pub predicted-word : known ≡ Known.Predicted r at → r * 8 + 3 ≡ wordOf known
+      unfolding wordOf
+      predicted-word e = rw e
+
+      pub predicted-prediction : known ≡ Known.Predicted r at → at ≡ predictionIn known
+      unfolding predictionIn
+      predicted-prediction e = rw e
+
+      pub predicted-limit : known ≡ Known.Predicted r at → ofBits binary32 0 ≡ limitIn known
+      unfolding limitIn
+      predicted-limit e = rw e
+
+      module _ {limit : Float} where
+        pub ambiguous-below : known ≡ Known.Ambiguous r at limit → Notable known → r < 8192
+        unfolding reachIn
+        ambiguous-below e h = rw e at h
+
+        pub ambiguous-word : known ≡ Known.Ambiguous r at limit → r * 8 + 4 ≡ wordOf known
+        unfolding wordOf
+        ambiguous-word e = rw e
+
+        pub ambiguous-prediction : known ≡ Known.Ambiguous r at limit → at ≡ predictionIn known
+        unfolding predictionIn
+        ambiguous-prediction e = rw e
+
+        pub ambiguous-limit : known ≡ Known.Ambiguous r at limit → limit ≡ limitIn known
+        unfolding limitIn
+        ambiguous-limit e = rw e
 
 -- what was written is read
-pub word-back : (known : Known) → knownOf (wordOf known) (predictionIn known) ≡ known
-unfolding wordOf predictionIn
-word-back Known.Nothing = sym (known-nothing 0 _ (omega arith))
+pub word-back : (known : Known) → knownOf (wordOf known) (predictionIn known) (limitIn known) ≡ known
+unfolding wordOf predictionIn limitIn
+word-back Known.Nothing = sym (known-nothing 0 _ _ (omega arith))
 word-back (Known.Idle r) =
-    let e : (r * 4 + 1) / 4 ≡ r = omega arith in sym (known-idle (r * 4 + 1) _ (omega arith)) ∙ ap Known.Idle e
+    let e : (r * 8 + 1) / 8 ≡ r = omega arith in sym (known-idle (r * 8 + 1) _ _ (omega arith)) ∙ ap Known.Idle e
 word-back (Known.Unmatched r) =
-    let e : (r * 4 + 2) / 4 ≡ r = omega arith in sym (known-unmatched (r * 4 + 2) _ (omega arith)) ∙ ap Known.Unmatched e
+    let e : (r * 8 + 2) / 8 ≡ r = omega arith in sym (known-unmatched (r * 8 + 2) _ _ (omega arith)) ∙ ap Known.Unmatched e
 word-back (Known.Predicted r at) =
-    let e : (r * 4 + 3) / 4 ≡ r = omega arith in
-    sym (known-predicted (r * 4 + 3) at (λ z. omega arith) (λ z. omega arith) (λ z. omega arith)) ∙ ap (λ (n : ℕ). Known.Predicted n at) e
+    let e : (r * 8 + 3) / 8 ≡ r = omega arith in sym (known-predicted (r * 8 + 3) at _ (omega arith)) ∙ ap (λ (n : ℕ). Known.Predicted n at) e
+word-back (Known.Ambiguous r at limit) =
+    let e : (r * 8 + 4) / 8 ≡ r = omega arith in
+    sym (known-ambiguous (r * 8 + 4) at limit (omega arith)) ∙ ap (λ (n : ℕ). Known.Ambiguous n at limit) e
 
--- ---- a word and a prediction put in their places
+-- ---- a word, a prediction and a limit put in their places
 
-module _ (memory : List ℕ) (predictions : List Float) (c : Cell) (known : Known) {word place : ℕ} {at : Position} where
-  pub put : OnSheet c → length memory ≡ 16384 → length predictions ≡ 32768 → place ≡ placeOf c → word ≡ wordOf known → at ≡ predictionIn known
-      → Noted memory predictions c known (set memory place word) (set (set predictions (place * 2) (at .x)) (place * 2 + 1) (at .y))
-  put on m n e f g =
-      rw (e, f, g)
+-- three floats put behind each other
+module _ (l : List Float) (i : ℕ) (x y z : Float) where
+  abbrev pub three : List Float
+  three = set (set (set l i x) (i + 1) y) (i + 2) z
+
+  three-long : length three ≡ length l
+  three-long = length-set (set (set l i x) (i + 1) y) (i + 2) z ∙ length-set (set l i x) (i + 1) y ∙ length-set l i x
+
+  three-else : (b : ℕ) → (b ≡ i → ⊥) → (b ≡ i + 1 → ⊥) → (b ≡ i + 2 → ⊥) → getD three b nan ≡ getD l b nan
+  three-else b f g h =
+      getD-set-other (set (set l i x) (i + 1) y) (i + 2) b z nan h ∙ getD-set-other (set l i x) (i + 1) b y nan g ∙ getD-set-other l i b x nan f
+
+  module _ (room : i + 2 < length l) where
+    three-first : getD three i nan ≡ x
+    three-first =
+        getD-set-other (set (set l i x) (i + 1) y) (i + 2) i z nan (λ e. omega arith) ∙ getD-set-other (set l i x) (i + 1) i y nan (λ e. omega arith)
+        ∙ getD-set-same l i x nan (omega arith)
+
+    three-second : getD three (i + 1) nan ≡ y
+    three-second =
+        getD-set-other (set (set l i x) (i + 1) y) (i + 2) (i + 1) z nan (λ e. omega arith) ∙ getD-set-same (set l i x) (i + 1) y nan (omega (arith, length-set l i x))
+
+    three-third : getD three (i + 2) nan ≡ z
+    three-third = getD-set-same (set (set l i x) (i + 1) y) (i + 2) z nan (omega (arith, length-set (set l i x) (i + 1) y, length-set l i x))
+
+module _ (memory : List ℕ) (predictions : List Float) (c : Cell) (known : Known) {word place : ℕ} {at : Position} {limit : Float} where
+  pub put : OnSheet c → length memory ≡ 16384 → length predictions ≡ 49152 → place ≡ placeOf c → word ≡ wordOf known → at ≡ predictionIn known → limit ≡ limitIn known
+      → Noted memory predictions c known (set memory place word) (three predictions (place * 3) (at .x) (at .y) limit)
+  put on m n e f g h =
+      rw (e, f, g, h)
       (record {
         size = length-set memory (placeOf c) (wordOf known);
-        room = length-set (set predictions (placeOf c * 2) (predictionIn known .x)) (placeOf c * 2 + 1) (predictionIn known .y) ∙ length-set predictions (placeOf c * 2) (predictionIn known .x);
+        room = three-long predictions (placeOf c * 3) _ _ _;
         here =
-            ap₂ knownOf (getD-set-same memory (placeOf c) (wordOf known) 0 (omega (arith, m, in-sheet)))
-            (ap₂ (λ (x y : Float). record { x = x; y = y }) first second)
+            ap₂ (λ (k : Position → Float → Known) (l : Float). k (record { x = x'; y = y' }) l) (ap knownOf (getD-set-same memory (placeOf c) (wordOf known) 0 (omega (arith, m, in-sheet)))) refl
+            ∙ ap₂ (λ (p : Position) (l : Float). knownOf (wordOf known) p l)
+            (ap₂ (λ (x y : Float). record { x = x; y = y }) (three-first predictions (placeOf c * 3) _ _ _ wide) (three-second predictions (placeOf c * 3) _ _ _ wide))
+            (three-third predictions (placeOf c * 3) _ _ _ wide)
             ∙ word-back known;
-        else = λ a d. ap₂ knownOf (getD-set-other memory (placeOf c) a (wordOf known) 0 d) (ap₂ (λ (x y : Float). record { x = x; y = y }) (other a d (a * 2) (λ z. omega arith) (λ z. omega arith)) (other a d (a * 2 + 1) (λ z. omega arith) (λ z. omega arith)));
+        else = λ a d.
+            ap₂ (λ (w : ℕ) (q : Position). knownOf w q (getD put-there (a * 3 + 2) nan)) (getD-set-other memory (placeOf c) a (wordOf known) 0 d)
+            (ap₂ (λ (x y : Float). record { x = x; y = y }) (other a d (a * 3) (λ z. omega arith) (λ z. omega arith) (λ z. omega arith)) (other a d (a * 3 + 1) (λ z. omega arith) (λ z. omega arith) (λ z. omega arith)))
+            ∙ ap (knownOf (getD memory a 0) (predictionOf predictions a)) (other a d (a * 3 + 2) (λ z. omega arith) (λ z. omega arith) (λ z. omega arith));
       })
     where
       in-sheet : placeOf c < 16384
       in-sheet = place-in c on
 
-      first : getD (set (set predictions (placeOf c * 2) (predictionIn known .x)) (placeOf c * 2 + 1) (predictionIn known .y)) (placeOf c * 2) nan ≡ predictionIn known .x
-      first =
-          getD-set-other (set predictions (placeOf c * 2) (predictionIn known .x)) (placeOf c * 2 + 1) (placeOf c * 2) (predictionIn known .y) nan (λ z. omega arith)
-          ∙ getD-set-same predictions (placeOf c * 2) (predictionIn known .x) nan (omega (arith, n, in-sheet))
+      wide : placeOf c * 3 + 2 < length predictions
+      wide = omega (arith, n, in-sheet)
 
-      second : getD (set (set predictions (placeOf c * 2) (predictionIn known .x)) (placeOf c * 2 + 1) (predictionIn known .y)) (placeOf c * 2 + 1) nan ≡ predictionIn known .y
-      second =
-          getD-set-same (set predictions (placeOf c * 2) (predictionIn known .x)) (placeOf c * 2 + 1) (predictionIn known .y) nan
-          (omega (arith, n, in-sheet, length-set predictions (placeOf c * 2) (predictionIn known .x)))
+      put-there : List Float
+      put-there = three predictions (placeOf c * 3) (predictionIn known .x) (predictionIn known .y) (limitIn known)
 
-      other : (a : ℕ) → (a ≡ placeOf c → ⊥) → (b : ℕ) → (b ≡ placeOf c * 2 → ⊥) → (b ≡ placeOf c * 2 + 1 → ⊥)
-          → getD (set (set predictions (placeOf c * 2) (predictionIn known .x)) (placeOf c * 2 + 1) (predictionIn known .y)) b nan ≡ getD predictions b nan
-      other a d b f g =
-          getD-set-other (set predictions (placeOf c * 2) (predictionIn known .x)) (placeOf c * 2 + 1) b (predictionIn known .y) nan g
-          ∙ getD-set-other predictions (placeOf c * 2) b (predictionIn known .x) nan f
+      x' : Float
+      x' = getD put-there (placeOf c * 3) nan
+
+      y' : Float
+      y' = getD put-there (placeOf c * 3 + 1) nan
+
+      other : (a : ℕ) → (a ≡ placeOf c → ⊥) → (b : ℕ) → (b ≡ placeOf c * 3 → ⊥) → (b ≡ placeOf c * 3 + 1 → ⊥) → (b ≡ placeOf c * 3 + 2 → ⊥) → getD put-there b nan ≡ getD predictions b nan
+      other a d b f g h = three-else predictions (placeOf c * 3) (predictionIn known .x) (predictionIn known .y) (limitIn known) b f g h
 
 -- ---- words forgotten
 
 module _ (c : Cell) (q w : ℕ) {r : ℕ} (e : r ≡ reachOf c q) where
-  pub forgets : r ≤ w / 4 → 0 ≡ forgottenWord c q w
+  pub forgets : r ≤ w / 8 → 0 ≡ forgottenWord c q w
   unfolding forgottenWord
-  forgets h = rw (le-leb (reachOf c q) (w / 4) (omega arith))
+  forgets h = rw (le-leb (reachOf c q) (w / 8) (omega arith))
 
-  pub keeps : w / 4 < r → w ≡ forgottenWord c q w
+  pub keeps : w / 8 < r → w ≡ forgottenWord c q w
   unfolding forgottenWord
-  keeps h = rw (lt-leb (reachOf c q) (w / 4) (omega arith))
+  keeps h = rw (lt-leb (reachOf c q) (w / 8) (omega arith))
+
+module _ (far : Bool) (w : ℕ) where
+  pub certain-stays : w % 8 < 4 → w ≡ doubtedWord far w
+  unfolding doubtedWord
+  certain-stays h = rw (lt-leb 4 (w % 8) (omega arith))
+
+  pub far-stays : far ≡ true → w ≡ doubtedWord far w
+  unfolding doubtedWord
+  far-stays e = rw e (go (leb 4 (w % 8)))
+    where
+      go : (t : Bool) → w ≡ cond (t && false) (w / 8 * 8 + 3) w
+      go true = refl
+      go false = refl
+
+  pub doubts : 4 ≤ w % 8 → far ≡ false → w / 8 * 8 + 3 ≡ doubtedWord far w
+  unfolding doubtedWord
+  doubts h e = rw (e, le-leb 4 (w % 8) h)
 
 -- the words of the places before p are done, the others are as they were
-pub record Forgetting (before : List ℕ) (c : Cell) (memory : List ℕ) (p : ℕ) : Type 0 where
+pub record Forgetting (before : List ℕ) (predictions : List Float) (c : Cell) (corner : Position) (memory : List ℕ) (p : ℕ) : Type 0 where
   pub upto : p ≤ 16384
   pub size : length memory ≡ length before
-  pub done : (a : ℕ) → a < p → getD memory a 0 ≡ forgottenWord (cellOf a) (placeOf c) (getD before a 0)
+  pub done : (a : ℕ) → a < p → getD memory a 0 ≡ leftWord (cellOf a) (placeOf c) corner (predictionOf predictions a) (limitOf predictions a) (getD before a 0)
   pub rest : (a : ℕ) → p ≤ a → getD memory a 0 ≡ getD before a 0
 
-pub forgetting-start : (before : List ℕ) (c : Cell) → Forgetting before c before 0
-forgetting-start before c = record { upto = omega arith; size = refl; done = λ a h. absurd (omega arith); rest = λ a h. refl }
+pub forgetting-start : (before : List ℕ) (predictions : List Float) (c : Cell) (corner : Position) → Forgetting before predictions c corner before 0
+forgetting-start before predictions c corner = record { upto = omega arith; size = refl; done = λ a h. absurd (omega arith); rest = λ a h. refl }
 
-module _ (before : List ℕ) (c : Cell) (memory : List ℕ) (p : ℕ) (g : Forgetting before c memory p) where
-  pub forgetting-more : {word : ℕ} → length before ≡ 16384 → p < 16384 → word ≡ forgottenWord (cellOf p) (placeOf c) (getD memory p 0) → Forgetting before c (set memory p word) (p + 1)
-  forgetting-more {word} n h e =
+module _ (before : List ℕ) (predictions : List Float) (c : Cell) (corner : Position) (memory : List ℕ) (p : ℕ) (g : Forgetting before predictions c corner memory p) where
+  pub forgetting-more : {word : ℕ} {at : Position} {limit : Float} → length before ≡ 16384 → p < 16384 → at ≡ predictionOf predictions p → limit ≡ limitOf predictions p
+      → word ≡ leftWord (cellOf p) (placeOf c) corner at limit (getD memory p 0) → Forgetting before predictions c corner (set memory p word) (p + 1)
+  forgetting-more {word} n h e f k =
       record {
         upto = omega arith;
         size = length-set memory p word ∙ g .size;
@@ -175,11 +277,11 @@ module _ (before : List ℕ) (c : Cell) (memory : List ℕ) (p : ℕ) (g : Forge
         rest = λ a l. getD-set-other memory p a word 0 (λ z. omega arith) ∙ g .rest a (omega arith);
       }
     where
-      go : (a : ℕ) → a < p + 1 → Dec (a ≡ p) → getD (set memory p word) a 0 ≡ forgottenWord (cellOf a) (placeOf c) (getD before a 0)
+      go : (a : ℕ) → a < p + 1 → Dec (a ≡ p) → getD (set memory p word) a 0 ≡ leftWord (cellOf a) (placeOf c) corner (predictionOf predictions a) (limitOf predictions a) (getD before a 0)
       go a l (yes d) =
           rw d
-          (getD-set-same memory p word 0 (omega (arith, n, g .size)) ∙ e ∙ ap (forgottenWord (cellOf p) (placeOf c)) (g .rest p (omega arith)))
+          (getD-set-same memory p word 0 (omega (arith, n, g .size)) ∙ k ∙ rw (e, f, g .rest p (omega arith)))
       go a l (no d) = getD-set-other memory p a word 0 d ∙ g .done a (omega arith)
 
-  pub forgetting-end : 16384 ≤ p → Forgotten before c memory
+  pub forgetting-end : 16384 ≤ p → Forgotten before predictions c corner memory
   forgetting-end h = record { size = g .size; at = λ a l. g .done a (omega arith) }

@@ -1,11 +1,13 @@
 -- What local remembers of a cell, and when it holds (crate passes, Local, has what a visit is). Definitions only.
 use mathlib.Core.Path.{_≡_}
-use mathlib.Core.Bool.{true, false, cond}
+use mathlib.Core.Bool.{Bool, true, false, not, _&&_, cond}
 use mathlib.Core.List.{List, [], _∷_}
 use Prim.Native.Nat.{ℕ, zero, suc, _+_, _*_, _/_, _%_, _<_, _≤_}
-use lib.Dec.{leb}
+use lib.Dec.{T, leb}
 use lib.ListN.{length, getD}
 use lib.Ieee.{Float, nan, binary32, ofBits, lt}
+use lib.Ieee.Scale.{finite}
+use Rattle.binary32.specs.Sqrt.{sqrtOrNan}
 use Rattle.sheet.specs.Cells.{OnSheet, placeOf, cellOf}
 use Rattle.sheet.specs.Corners.{seenOf}
 use Rattle.sheet.specs.declared.Cell.{Cell}
@@ -13,7 +15,8 @@ use Rattle.sheet.specs.declared.Position.{Position}
 use Rattle.homography.specs.Fit.{applied}
 use Rattle.arguments.specs.declared.Settings.{Settings}
 use Rattle.arguments.specs.declared.LocalExtensionParams.{LocalExtensionParams}
-use Rattle.extension_common.specs.TryCell.{Corners, tryAt}
+use Rattle.grow.specs.Candidates.{squaredDistance, squaredRadius, lastDistance}
+use Rattle.extension_common.specs.TryCell.{Corners, gathered, tryAt}
 use Rattle.extension_common.specs.declared.TryCellResult.{TryCellResult}
 use Rattle.passes.specs.Grow.{tolerancesOf}
 use Rattle.passes.specs.Local.{reachOf, supportsOf, cellPoint, LocalFit, none, fitted, localFit, worst, gateOf, localSearch}
@@ -60,32 +63,41 @@ pub record Missed (cs : Corners) (set : Settings) (p : LocalExtensionParams) (l 
   pub mapped : Mapped set p l c (fitAt cs sheet c) at
   pub missed : tryAt cs sheet (tolerancesOf set) (localSearch set p) c at ≡ TryCellResult.NoCandidates
 
+-- such a visit finds the choice ambiguous, and so far lies the last of the first two candidates
+pub record Undecided (cs : Corners) (set : Settings) (p : LocalExtensionParams) (l : LargestResidual) (sheet : List ℕ) (c : Cell) (at : Position) (limit : Float) : Type 0 where
+  pub mapped : Mapped set p l c (fitAt cs sheet c) at
+  pub undecided : tryAt cs sheet (tolerancesOf set) (localSearch set p) c at ≡ TryCellResult.Ambiguous
+  pub last : limit ≡ lastDistance (gathered cs sheet (localSearch set p .«search_r») at)
+
 -- what is known of a cell holds
 pub data KnownAt (cs : Corners) (set : Settings) (p : LocalExtensionParams) (l : LargestResidual) (sheet : List ℕ) (c : Cell) : Known → Type 0 where
   nothing : KnownAt cs set p l sheet c Known.Nothing
   idle : {r : ℕ} → Within r sheet c → IdleFit set p l (fitAt cs sheet c) → KnownAt cs set p l sheet c (Known.Idle r)
   unmatched : {r : ℕ} → Within r sheet c → Missed cs set p l sheet c → KnownAt cs set p l sheet c (Known.Unmatched r)
   predicted : {r : ℕ} {at : Position} → Within r sheet c → Mapped set p l c (fitAt cs sheet c) at → KnownAt cs set p l sheet c (Known.Predicted r at)
+  ambiguous : {r : ℕ} {at : Position} {limit : Float} → Within r sheet c → Undecided cs set p l sheet c at limit → KnownAt cs set p l sheet c (Known.Ambiguous r at limit)
 
 -- ---- the words
 
--- what a word says, by its last two bits: the rest of it is the reach
-unfoldable pub kindOf : ℕ → ℕ → Position → Known
-kindOf zero r at = Known.Nothing
-kindOf (suc zero) r at = Known.Idle r
-kindOf (suc (suc zero)) r at = Known.Unmatched r
-kindOf (suc (suc (suc k))) r at = Known.Predicted r at
+-- what a word says, by its last three bits: the rest of it is the reach
+unfoldable pub kindOf : ℕ → ℕ → Position → Float → Known
+kindOf zero r at limit = Known.Nothing
+kindOf (suc zero) r at limit = Known.Idle r
+kindOf (suc (suc zero)) r at limit = Known.Unmatched r
+kindOf (suc (suc (suc zero))) r at limit = Known.Predicted r at
+kindOf (suc (suc (suc (suc k)))) r at limit = Known.Ambiguous r at limit
 
-unfoldable pub knownOf : ℕ → Position → Known
-knownOf w at = kindOf (w % 4) (w / 4) at
+unfoldable pub knownOf : ℕ → Position → Float → Known
+knownOf w at limit = kindOf (w % 8) (w / 8) at limit
 
 unfoldable pub wordOf : Known → ℕ
 wordOf Known.Nothing = 0
-wordOf (Known.Idle r) = r * 4 + 1
-wordOf (Known.Unmatched r) = r * 4 + 2
-wordOf (Known.Predicted r at) = r * 4 + 3
+wordOf (Known.Idle r) = r * 8 + 1
+wordOf (Known.Unmatched r) = r * 8 + 2
+wordOf (Known.Predicted r at) = r * 8 + 3
+wordOf (Known.Ambiguous r at limit) = r * 8 + 4
 
--- the prediction to be noted with it: any where there is none
+-- the prediction and the limit to be noted with it: any where there is none
 abbrev pub noPrediction : Position
 noPrediction = record { x = ofBits binary32 0; y = ofBits binary32 0 }
 
@@ -94,6 +106,14 @@ predictionIn Known.Nothing = noPrediction
 predictionIn (Known.Idle r) = noPrediction
 predictionIn (Known.Unmatched r) = noPrediction
 predictionIn (Known.Predicted r at) = at
+predictionIn (Known.Ambiguous r at limit) = at
+
+unfoldable pub limitIn : Known → Float
+limitIn Known.Nothing = ofBits binary32 0
+limitIn (Known.Idle r) = ofBits binary32 0
+limitIn (Known.Unmatched r) = ofBits binary32 0
+limitIn (Known.Predicted r at) = ofBits binary32 0
+limitIn (Known.Ambiguous r at limit) = limit
 
 -- a reach that a word holds
 unfoldable pub reachIn : Known → ℕ
@@ -101,27 +121,32 @@ reachIn Known.Nothing = 0
 reachIn (Known.Idle r) = r
 reachIn (Known.Unmatched r) = r
 reachIn (Known.Predicted r at) = r
+reachIn (Known.Ambiguous r at limit) = r
 
 abbrev pub Notable : Known → Type 0
-Notable known = reachIn known < 16384
+Notable known = reachIn known < 8192
 
--- the prediction beside the word of a place, and what is known of the place's cell
+-- the prediction and the limit beside the word of a place, and what is known of the place's cell
 abbrev pub predictionOf : List Float → ℕ → Position
-predictionOf predictions a = record { x = getD predictions (a * 2) nan; y = getD predictions (a * 2 + 1) nan }
+predictionOf predictions a = record { x = getD predictions (a * 3) nan; y = getD predictions (a * 3 + 1) nan }
+
+abbrev pub limitOf : List Float → ℕ → Float
+limitOf predictions a = getD predictions (a * 3 + 2) nan
 
 abbrev pub entryOf : List ℕ → List Float → ℕ → Known
-entryOf memory predictions a = knownOf (getD memory a 0) (predictionOf predictions a)
+entryOf memory predictions a = knownOf (getD memory a 0) (predictionOf predictions a) (limitOf predictions a)
 
--- a word and a prediction for each place of the sheet, and what they say holds
+-- a word, a prediction and a limit for each place of the sheet, and what they say holds; and the squared radius is finite
 pub record Remembered (cs : Corners) (set : Settings) (p : LocalExtensionParams) (l : LargestResidual) (sheet memory : List ℕ) (predictions : List Float) : Type 0 where
   pub size : length memory ≡ 16384
-  pub room : length predictions ≡ 32768
+  pub room : length predictions ≡ 49152
   pub at : (a : ℕ) → a < 16384 → KnownAt cs set p l sheet (cellOf a) (entryOf memory predictions a)
+  pub bounded : T (finite (squaredRadius (localSearch set p .«search_r»)))
 
 -- two arrays of these sizes, a cell of the sheet, and a reach that a word holds
 pub record Noting (memory : List ℕ) (predictions : List Float) (c : Cell) (known : Known) : Type 0 where
   pub size : length memory ≡ 16384
-  pub room : length predictions ≡ 32768
+  pub room : length predictions ≡ 49152
   pub on : OnSheet c
   pub notable : Notable known
 
@@ -136,9 +161,23 @@ pub record Noted (memory : List ℕ) (predictions : List Float) (c : Cell) (know
 
 -- what is left of a word of a cell once a place is labelled: nothing if the fourth support of the cell is as far as that place, or farther
 unfoldable pub forgottenWord : Cell → ℕ → ℕ → ℕ
-forgottenWord c q w = cond (leb (reachOf c q) (w / 4)) 0 w
+forgottenWord c q w = cond (leb (reachOf c q) (w / 8)) 0 w
 
--- all words after a cell was labelled
-pub record Forgotten (memory : List ℕ) (c : Cell) (memory' : List ℕ) : Type 0 where
+-- what is left of it once a corner is labelled: an ambiguous choice is doubted, so that only the prediction stays, unless the corner is farther than the
+-- limit
+unfoldable pub doubtedWord : Bool → ℕ → ℕ
+doubtedWord far w = cond (leb 4 (w % 8) && not far) (w / 8 * 8 + 3) w
+
+-- both, for a corner that was attached to a place
+abbrev pub leftWord : Cell → ℕ → Position → Position → Float → ℕ → ℕ
+leftWord c q corner at limit w = doubtedWord (lt limit (sqrtOrNan (squaredDistance corner at))) (forgottenWord c q w)
+
+-- a place of the sheet, and a cell of the sheet
+pub record Leaving (place : ℕ) (c : Cell) : Type 0 where
+  pub inside : place < 16384
+  pub on : OnSheet c
+
+-- all words after a corner was attached to a cell
+pub record Forgotten (memory : List ℕ) (predictions : List Float) (c : Cell) (corner : Position) (memory' : List ℕ) : Type 0 where
   pub size : length memory' ≡ length memory
-  pub at : (a : ℕ) → a < 16384 → getD memory' a 0 ≡ forgottenWord (cellOf a) (placeOf c) (getD memory a 0)
+  pub at : (a : ℕ) → a < 16384 → getD memory' a 0 ≡ leftWord (cellOf a) (placeOf c) corner (predictionOf predictions a) (limitOf predictions a) (getD memory a 0)

@@ -1,6 +1,7 @@
 // What local remembers of a cell from one round to the next: a visit that attached nothing gives the same again until a label comes that is as
-// near to the cell as the fourth of its supports, or nearer. So one word is kept for each place of the sheet, and those near a new label are
-// forgotten. A word is the reach of the fourth support times 4, plus what is known; beside it two floats are kept, where the fit maps the cell to.
+// near to the cell as the fourth of its supports, or nearer, or, where the choice was ambiguous, until a corner is labelled that is no farther
+// than the second candidate. So one word is kept for each place of the sheet, and those near a new label are forgotten. A word is the reach of the
+// fourth support times 8, plus what is known; beside it three floats are kept, where the fit maps the cell to and how far that second candidate is.
 
 ghost use mathlib.Core.Path.{_≡_};
 ghost use Prim.Native.Nat.{_<_};
@@ -8,25 +9,30 @@ ghost use lib.ListN.{length};
 ghost use Rattle.sheet.specs.Cells.{OnSheet, placeOf, cellOf};
 ghost use Rattle.sheet.specs.declared.Position.{Position};
 ghost use Rattle.passes.specs.Local.{reachOf};
-ghost use Rattle.remembered.specs.Remembered.{knownOf, wordOf, noPrediction, predictionIn, forgottenWord, entryOf, Notable, Noting, Noted, Forgotten};
+ghost use lib.Ieee.{lt};
+ghost use Rattle.binary32.specs.Sqrt.{sqrtOrNan};
+ghost use Rattle.grow.specs.Candidates.{squaredDistance};
+ghost use Rattle.remembered.specs.Remembered.{knownOf, wordOf, noPrediction, predictionIn, limitIn, predictionOf, limitOf, forgottenWord, doubtedWord, leftWord, entryOf, Notable, Noting, Noted, Leaving, Forgotten};
 use sheet::Cell;
 use sheet::Position;
 
 // What is known of a cell: nothing; or how far its fourth support is, and that its visit changes nothing (no fit, or a residual above the gate),
-// that there is no candidate where the fit maps it to, or where the fit maps it to.
+// that there is no candidate where the fit maps it to, where the fit maps it to, or also that the choice there is ambiguous, and how far the last of
+// the first two candidates is.
 pub enum Known {
     Nothing,
     Idle(u32),
     Unmatched(u32),
     Predicted(u32, Position),
+    Ambiguous(u32, Position, f32),
 }
 
-// What a word says, with the prediction beside it.
-fn known_of(word: u16, at: Position) -> Known
-    ensures { λ r. ⌜ (r ≡ knownOf word at) × Notable r ⌝ }
+// What a word says, with the prediction and the limit beside it.
+fn known_of(word: u16, at: Position, limit: f32) -> Known
+    ensures { λ r. ⌜ (r ≡ knownOf word at limit) × Notable r ⌝ }
 {
-    let kind = word % 4;
-    let reach = (word / 4) as u32;
+    let kind = word % 8;
+    let reach = (word / 8) as u32;
     if kind == 0 {
         return Known::Nothing;
     }
@@ -36,20 +42,39 @@ fn known_of(word: u16, at: Position) -> Known
     if kind == 2 {
         return Known::Unmatched(reach);
     }
-    Known::Predicted(reach, at)
+    if kind == 3 {
+        return Known::Predicted(reach, at);
+    }
+    Known::Ambiguous(reach, at, limit)
+}
+
+// The prediction beside the word of a place.
+fn prediction_at(predictions: &[f32; 49152], place: usize) -> Position
+    requires { ⌜ place < 16384 ⌝ }
+    ensures { λ r. ⌜ r ≡ predictionOf (now (predictions .entry)) place ⌝ }
+{
+    Position {
+        x: predictions[place * 3],
+        y: predictions[place * 3 + 1],
+    }
+}
+
+// The limit beside the word of a place.
+fn limit_at(predictions: &[f32; 49152], place: usize) -> f32
+    requires { ⌜ place < 16384 ⌝ }
+    ensures { λ r. ⌜ r ≡ limitOf (now (predictions .entry)) place ⌝ }
+{
+    predictions[place * 3 + 2]
 }
 
 // What is known of a cell of the sheet.
-pub fn recall(memory: &[u16; 16384], predictions: &[f32; 32768], c: Cell) -> Known
+pub fn recall(memory: &[u16; 16384], predictions: &[f32; 49152], c: Cell) -> Known
     requires { ⌜ OnSheet c ⌝ }
     ensures { λ r. ⌜ (r ≡ entryOf (now (memory .entry)) (now (predictions .entry)) (placeOf c)) × Notable r ⌝ }
 {
     let place = sheet::place_of(c);
-    let at = Position {
-        x: predictions[place * 2],
-        y: predictions[place * 2 + 1],
-    };
-    known_of(memory[place], at)
+    let at = prediction_at(predictions, place);
+    known_of(memory[place], at, limit_at(predictions, place))
 }
 
 // The word for what is known.
@@ -59,9 +84,10 @@ fn word_of(known: Known) -> u16
 {
     match known {
         Known::Nothing => 0,
-        Known::Idle(reach) => (reach * 4 + 1) as u16,
-        Known::Unmatched(reach) => (reach * 4 + 2) as u16,
-        Known::Predicted(reach, at) => (reach * 4 + 3) as u16,
+        Known::Idle(reach) => (reach * 8 + 1) as u16,
+        Known::Unmatched(reach) => (reach * 8 + 2) as u16,
+        Known::Predicted(reach, _) => (reach * 8 + 3) as u16,
+        Known::Ambiguous(reach, _, _) => (reach * 8 + 4) as u16,
     }
 }
 
@@ -81,19 +107,35 @@ fn prediction_in(known: Known) -> Position
         Known::Idle(_) => nowhere(),
         Known::Unmatched(_) => nowhere(),
         Known::Predicted(_, at) => at,
+        Known::Ambiguous(_, at, _) => at,
+    }
+}
+
+// The limit that is noted with it; where there is none, one that is not read.
+fn limit_in(known: Known) -> f32
+    ensures { λ r. ⌜ r ≡ limitIn known ⌝ }
+{
+    match known {
+        Known::Nothing => 0.0,
+        Known::Idle(_) => 0.0,
+        Known::Unmatched(_) => 0.0,
+        Known::Predicted(_, _) => 0.0,
+        Known::Ambiguous(_, _, limit) => limit,
     }
 }
 
 // Notes what is known of a cell of the sheet, in place of what was known of it.
-pub fn note(memory: &mut [u16; 16384], predictions: &mut [f32; 32768], c: Cell, known: Known)
+pub fn note(memory: &mut [u16; 16384], predictions: &mut [f32; 49152], c: Cell, known: Known)
     requires { ⌜ Noting (now memory) (now predictions) c known ⌝ }
     ensures { λ r. ⌜ Noted (now (memory .entry)) (now (predictions .entry)) c known (now (memory .exit)) (now (predictions .exit)) ⌝ }
 {
     let place = sheet::place_of(c);
     let at = prediction_in(known);
+    let limit = limit_in(known);
     memory[place] = word_of(known);
-    predictions[place * 2] = at.x;
-    predictions[place * 2 + 1] = at.y;
+    predictions[place * 3] = at.x;
+    predictions[place * 3 + 1] = at.y;
+    predictions[place * 3 + 2] = limit;
 }
 
 // How far a cell lies from the cell of a place: |di| + |dj|.
@@ -110,21 +152,45 @@ fn forget_if_near(word: u16, place: usize, c: Cell) -> u16
     requires { ⌜ (place < 16384) × OnSheet c ⌝ }
     ensures { λ r. ⌜ r ≡ forgottenWord (cellOf place) (placeOf c) word ⌝ }
 {
-    let reach = (word / 4) as u32;
+    let reach = (word / 8) as u32;
     if reach_of(place, c) <= reach {
         return 0;
     }
     word
 }
 
-// Forgets what is known of every cell whose fourth support is as far as a new label's cell, or farther.
-pub fn forget_near(memory: &mut [u16; 16384], c: Cell)
+// What is left of a word once a corner is labelled: of an ambiguous choice the prediction alone, unless the corner is farther than the limit.
+fn doubt_if_near(word: u16, at: Position, limit: f32, corner: Position) -> u16
+    ensures { λ r. ⌜ r ≡ doubtedWord (lt limit (sqrtOrNan (squaredDistance corner at))) word ⌝ }
+{
+    if word % 8 < 4 {
+        return word;
+    }
+    if limit < grow::distance(corner, at) {
+        return word;
+    }
+    word / 8 * 8 + 3
+}
+
+// What is left of a place's word once a corner is attached to a cell.
+fn left_of(word: u16, at: Position, limit: f32, place: usize, c: Cell, corner: Position) -> u16
+    requires { ⌜ Leaving place c ⌝ }
+    ensures { λ r. ⌜ r ≡ leftWord (cellOf place) (placeOf c) corner at limit word ⌝ }
+{
+    doubt_if_near(forget_if_near(word, place, c), at, limit, corner)
+}
+
+// Forgets what may be another once a corner is attached to a cell: what is known of every cell whose fourth support is as far as that cell, or
+// farther, and every ambiguous choice where the corner may have been one of the first two candidates.
+pub fn forget_near(memory: &mut [u16; 16384], predictions: &[f32; 49152], c: Cell, corner: Position)
     requires { ⌜ (length (now memory) ≡ 16384) × OnSheet c ⌝ }
-    ensures { λ r. ⌜ Forgotten (now (memory .entry)) c (now (memory .exit)) ⌝ }
+    ensures { λ r. ⌜ Forgotten (now (memory .entry)) (now (predictions .entry)) c corner (now (memory .exit)) ⌝ }
 {
     let mut place = 0usize;
     while place < 16384 {
-        memory[place] = forget_if_near(memory[place], place, c);
+        let at = prediction_at(predictions, place);
+        let limit = limit_at(predictions, place);
+        memory[place] = left_of(memory[place], at, limit, place, c, corner);
         place += 1;
     }
 }

@@ -109,7 +109,7 @@ pub record Reached (c : Cell) (s : Supports) : Type 0 where
   pub second-near : reachOf c (s .second .place) ≤ s .fourth .reach
   pub third-near : reachOf c (s .third .place) ≤ s .fourth .reach
   pub fourth-near : reachOf c (s .fourth .place) ≤ s .fourth .reach
-  pub small : s .fourth .reach < 16384
+  pub small : s .fourth .reach < 8192
 
 -- a shorter part of a span
 pub record Halved (span r : Span) : Type 0 where

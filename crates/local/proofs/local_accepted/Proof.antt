@@ -7,7 +7,7 @@ use Rattle.extension_common.specs.TryCell.{cornersOf}
 use Rattle.passes.specs.declared.LargestResidual.{LargestResidual}
 use Rattle.remembered.proofs.Notes.{started}
 use Rattle.local.proofs.Depth.{depth-in}
-use Rattle.local.proofs.Rounds.{accepted-gatherable, accepted-asked, pass-few, pass-done}
+use Rattle.local.proofs.Rounds.{accepted-gatherable, accepted-radius, accepted-asked, pass-few, pass-done}
 use Rattle.local.proofs.local_accepted.Statement.{statement}
 use Rattle.local.proofs.local_accepted.Tie as tie
 
@@ -36,7 +36,7 @@ mark-used-requires : tie.Need-mark-used-requires
 mark-used-requires c κs = search needs
 
 local-rounds-requires : tie.Need-local-rounds-requires
-local-rounds-requires c κs = (accepted-asked _ _ _ _ _ (c .before .before .before .before .before .before .before .before .before .before .before .before .before .before .before .before .before .before .args .settings) (c .before .before .before .before .before .before .before .before .before .before .before .before .before .before .before .before .before .before .args .params) (c .before .before .before .before .before .before .before .before .before .before .before .before .before .before .before .before .before .before .pre) (length-replicate {A = ℕ} 1024 0) (c .before .before .before .before .before .before .before .before .before .gather-labelled .ensures) (c .before .before .before .before .before .before .before .before .if1 .left) (c .before .before .before .before .before .before .mark-used .ensures), started (cornersOf (c .before .before .before .before .before .before .before .before .before .before .before .before .before .before .before .before .before .before .args .xs .now) (c .before .before .before .before .before .before .before .before .before .before .before .before .before .before .before .before .before .before .args .ys .now) (c .before .before .before .before .before .before .before .before .before .before .before .before .before .before .before .before .before .before .args .pitches .now)) (c .before .before .before .before .before .before .before .before .before .before .before .before .before .before .before .before .before .before .args .settings) (c .before .before .before .before .before .before .before .before .before .before .before .before .before .before .before .before .before .before .args .params) LargestResidual.Nothing (c .before .before .before .before .before .before .before .before .before .before .before .before .before .before .before .before .before .before .args .sheet .now) (length-replicate {A = Float} 32768 (ofBits binary32 0)))
+local-rounds-requires c κs = (accepted-asked _ _ _ _ _ (c .before .before .before .before .before .before .before .before .before .before .before .before .before .before .before .before .before .before .args .settings) (c .before .before .before .before .before .before .before .before .before .before .before .before .before .before .before .before .before .before .args .params) (c .before .before .before .before .before .before .before .before .before .before .before .before .before .before .before .before .before .before .pre) (length-replicate {A = ℕ} 1024 0) (c .before .before .before .before .before .before .before .before .before .gather-labelled .ensures) (c .before .before .before .before .before .before .before .before .if1 .left) (c .before .before .before .before .before .before .mark-used .ensures), started (cornersOf (c .before .before .before .before .before .before .before .before .before .before .before .before .before .before .before .before .before .before .args .xs .now) (c .before .before .before .before .before .before .before .before .before .before .before .before .before .before .before .before .before .before .args .ys .now) (c .before .before .before .before .before .before .before .before .before .before .before .before .before .before .before .before .before .before .args .pitches .now)) (c .before .before .before .before .before .before .before .before .before .before .before .before .before .before .before .before .before .before .args .settings) (c .before .before .before .before .before .before .before .before .before .before .before .before .before .before .before .before .before .before .args .params) LargestResidual.Nothing (c .before .before .before .before .before .before .before .before .before .before .before .before .before .before .before .before .before .before .args .sheet .now) (length-replicate {A = Float} 49152 (ofBits binary32 0)) (accepted-radius _ _ _ _ (c .before .before .before .before .before .before .before .before .before .before .before .before .before .before .before .before .before .before .args .attached .now) _ _ (c .before .before .before .before .before .before .before .before .before .before .before .before .before .before .before .before .before .before .pre)))
 
 rim-reached-requires-2 : tie.Need-rim-reached-requires-2
 rim-reached-requires-2 c κs = record { long = c .before .before .before .before .before .local-rounds .ensures .0 .left .extending .given .long; shallow = rw (c .before .before .before .before .before .before .before .before .before .before .before .before .before .before .before .before .before .before .depth-of .ensures) (depth-in (c .before .before .before .before .before .before .before .before .before .before .before .before .before .before .before .before .before .before .before .before .before .before .before .before .args .params) (c .before .before .before .before .before .before .before .before .before .before .before .before .before .before .before .before .before .before .before .before .before .before .before .before .pre .pass-inside .depth)) }

@@ -6,22 +6,28 @@ use Rattle.remembered.proofs.forget_near.Statement.{statement}
 use Rattle.remembered.proofs.forget_near.Tie as tie
 
 abbrev Inv-loop : tie.InvT-loop
-Inv-loop memory₀ c place₀ memory place = Forgetting memory₀ c memory place
+Inv-loop memory₀ predictions c corner place₀ memory place = Forgetting memory₀ predictions c corner memory place
 
 abbrev μ-loop : tie.MeasureT-loop
-μ-loop memory₀ c place₀ memory place = 16384 - place
+μ-loop memory₀ predictions c corner place₀ memory place = 16384 - place
 
 loop-holds : tie.Need-loop-holds Inv-loop μ-loop
-loop-holds c = forgetting-start _ _
+loop-holds c = forgetting-start _ _ _ _
 
-mul-forget-if-near : tie.Need-mul-forget-if-near Inv-loop μ-loop
-mul-forget-if-near c = omega arith
+prediction-at-requires : tie.Need-prediction-at-requires Inv-loop μ-loop
+prediction-at-requires c κs = omega arith
 
-element-copy-out-forget-if-near : tie.Need-element-copy-out-forget-if-near Inv-loop μ-loop
-element-copy-out-forget-if-near c = omega arith
+limit-at-requires : tie.Need-limit-at-requires Inv-loop μ-loop
+limit-at-requires c κs = omega arith
 
-forget-if-near-requires : tie.Need-forget-if-near-requires Inv-loop μ-loop
-forget-if-near-requires c κs = (c .before .loop-test .taken, c .before .before .before .pre .1)
+mul-left-of : tie.Need-mul-left-of Inv-loop μ-loop
+mul-left-of c = omega arith
+
+element-copy-out-left-of : tie.Need-element-copy-out-left-of Inv-loop μ-loop
+element-copy-out-left-of c = omega arith
+
+left-of-requires : tie.Need-left-of-requires Inv-loop μ-loop
+left-of-requires c κs = record { inside = c .before .before .before .loop-test .taken; on = c .before .before .before .before .before .pre .1 }
 
 mul-memory : tie.Need-mul-memory Inv-loop μ-loop
 mul-memory c = omega arith
@@ -36,10 +42,12 @@ loop-less : tie.Need-loop-less Inv-loop μ-loop
 loop-less c = omega arith
 
 loop-again : tie.Need-loop-again Inv-loop μ-loop
-loop-again c = forgetting-more _ _ _ _ (c .before .before .before .loop .inv) (c .before .before .before .before .pre .0) (c .before .before .loop-test .taken) (c .forget-if-near .ensures)
+loop-again c =
+    forgetting-more _ _ _ _ _ _ (c .before .before .before .before .before .loop .inv) (c .before .before .before .before .before .before .pre .0) (c .before .before .before .before .loop-test .taken)
+    (c .before .before .before .prediction-at .ensures) (c .before .before .limit-at .ensures) (c .left-of .ensures)
 
 returns : tie.Need-returns Inv-loop μ-loop
-returns c = forgetting-end _ _ _ _ (c .before .loop .inv) (c .loop-test .left)
+returns c = forgetting-end _ _ _ _ _ _ (c .before .loop .inv) (c .loop-test .left)
 
 pub forget-near-spec : {M : Type 1} → statement M
 forget-near-spec =
@@ -48,9 +56,11 @@ forget-near-spec =
     Inv-loop
     μ-loop
     loop-holds
-    mul-forget-if-near
-    element-copy-out-forget-if-near
-    forget-if-near-requires
+    prediction-at-requires
+    limit-at-requires
+    mul-left-of
+    element-copy-out-left-of
+    left-of-requires
     mul-memory
     element-write-memory
     add-place

@@ -1,7 +1,7 @@
 -- `remembered::prediction_in` meets its contract, by what is known. Assumes nothing.
-use mathlib.Core.Path.{_∙_}
 use borrow.Author.Needs.{needs}
-use Rattle.remembered.proofs.Words.{nothing-prediction, idle-prediction, unmatched-prediction, predicted-prediction}
+use mathlib.Core.Path.{_∙_}
+use Rattle.remembered.proofs.Words.{nothing-prediction, idle-prediction, unmatched-prediction, predicted-prediction, ambiguous-prediction}
 use Rattle.remembered.proofs.prediction_in.Statement.{statement}
 use Rattle.remembered.proofs.prediction_in.Tie as tie
 
@@ -26,6 +26,9 @@ nowhere-requires-3 c κs = search needs
 enum-known-known : tie.Need-enum-known-known
 enum-known-known c = search needs
 
+enum-known-known-2 : tie.Need-enum-known-known-2
+enum-known-known-2 c = search needs
+
 returns : tie.Need-returns
 returns c = c .nowhere .ensures ∙ nothing-prediction (c .before .enum-told .given .1)
 
@@ -38,6 +41,9 @@ returns-3 c = c .nowhere3 .ensures ∙ unmatched-prediction (c .before .enum-tol
 returns-4 : tie.Need-returns-4
 returns-4 c = predicted-prediction (c .before .known .given .1)
 
+returns-5 : tie.Need-returns-5
+returns-5 c = ambiguous-prediction (c .before .known2 .given .1)
+
 pub prediction-in-spec : {M : Type 1} → statement M
 prediction-in-spec =
     tie.close
@@ -49,7 +55,9 @@ prediction-in-spec =
     enum-told-3
     nowhere-requires-3
     enum-known-known
+    enum-known-known-2
     returns
     returns-2
     returns-3
-    returns-4)
+    returns-4
+    returns-5)

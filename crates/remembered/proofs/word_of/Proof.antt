@@ -1,7 +1,7 @@
 -- `remembered::word_of` meets its contract, by what is known. Assumes nothing.
-use native.Mathlib.Omega.{arith}
 use borrow.Author.Needs.{needs}
-use Rattle.remembered.proofs.Words.{nothing-word, idle-below, idle-word, unmatched-below, unmatched-word, predicted-below, predicted-word}
+use native.Mathlib.Omega.{arith}
+use Rattle.remembered.proofs.Words.{nothing-word, idle-below, idle-word, unmatched-below, unmatched-word, predicted-below, predicted-word, ambiguous-below, ambiguous-word}
 use Rattle.remembered.proofs.word_of.Statement.{statement}
 use Rattle.remembered.proofs.word_of.Tie as tie
 
@@ -44,6 +44,18 @@ add-result-3 c = omega (arith, predicted-below (c .before .known3 .given .1) (c 
 cast-result-3 : tie.Need-cast-result-3
 cast-result-3 c = omega (arith, predicted-below (c .before .known3 .given .1) (c .before .before .before .pre))
 
+enum-known-known-4 : tie.Need-enum-known-known-4
+enum-known-known-4 c = search needs
+
+mul-result-4 : tie.Need-mul-result-4
+mul-result-4 c = omega (arith, ambiguous-below (c .before .known4 .given .1) (c .before .before .before .pre))
+
+add-result-4 : tie.Need-add-result-4
+add-result-4 c = omega (arith, ambiguous-below (c .before .known4 .given .1) (c .before .before .before .pre))
+
+cast-result-4 : tie.Need-cast-result-4
+cast-result-4 c = omega (arith, ambiguous-below (c .before .known4 .given .1) (c .before .before .before .pre))
+
 returns : tie.Need-returns
 returns c = nothing-word (c .enum-told .given .1)
 
@@ -55,6 +67,9 @@ returns-3 c = unmatched-word (c .before .known2 .given .1)
 
 returns-4 : tie.Need-returns-4
 returns-4 c = predicted-word (c .before .known3 .given .1)
+
+returns-5 : tie.Need-returns-5
+returns-5 c = ambiguous-word (c .before .known4 .given .1)
 
 pub word-of-spec : {M : Type 1} → statement M
 word-of-spec =
@@ -73,7 +88,12 @@ word-of-spec =
     mul-result-3
     add-result-3
     cast-result-3
+    enum-known-known-4
+    mul-result-4
+    add-result-4
+    cast-result-4
     returns
     returns-2
     returns-3
-    returns-4)
+    returns-4
+    returns-5)
