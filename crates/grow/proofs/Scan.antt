@@ -1,11 +1,13 @@
 -- The scan: what it keeps is the first two of the candidates in order. Assumes nothing.
 use mathlib.Core.Path.{_≡_, refl, sym, ap, subst, _∙_}
-use mathlib.Core.Bool.{Bool, true, false, cond, and-eq-true-iff}
+use mathlib.Core.Bool.{Bool, true, false, cond, _&&_, and-eq-true-iff}
 use mathlib.Core.List.{List, [], _∷_, List·Memᴰ, List·Memᴰ·head, List·Memᴰ·tail}
 use Prim.Native.Nat.{ℕ, zero, suc, _+_, _≤_, _<_}
 use native.Mathlib.Numerals.{add-one}
 use native.Mathlib.Decide.{ℕ-discrete}
 use native.Mathlib.Omega.{arith}
+use borrow.Author.Tests.{leb-true, leb-false}
+use lib.Dec.{leb}
 use lib.ListN.{length}
 use lib.Ieee.{Float, lt, le}
 use Rattle.binary32.specs.Ranges.{isFinite}
@@ -15,7 +17,7 @@ use Rattle.grow.specs.declared.Candidates.{Candidates}
 use Rattle.grow.specs.declared.Candidates.the-variants.{Empty, Several}
 use Rattle.grow.specs.declared.Found.{Found}
 use Rattle.grow.specs.Candidates.{positionsOf, unmarked, eligible, squaredDistance, squaredRadius, isCandidate, distanceOf, insert, ordered, candidatesAt, firstTwo}
-use Rattle.grow.specs.Steps.{kept, narrowed, isWithin, firstTwoBelow, Next, measured}
+use Rattle.grow.specs.Steps.{kept, narrowed, isNear, isWithin, oneIf, countFrom, firstTwoBelow, Next, measured}
 use Rattle.grow.proofs.Listing.{before-later, nth, exactly}
 use Rattle.grow.proofs.Limit.{Limited, squared, limited-within, passed-over, narrowed-found, narrowed-limited}
 
@@ -117,6 +119,66 @@ module _ (candidate : ℕ → Bool) (n from : ℕ) where
 
   pub passing-end : (k : ℕ) → Passing candidate n from k → n ≤ k → Next candidate n from k
   passing-end k p h = record { on = p .on; within = p .within; passed = p .passed; hit = λ m. absurd (omega arith) }
+
+  -- from a corner up to which none is within, on to the next
+  pub passing-next : (k r : ℕ) → Passing candidate n from k → Next candidate n k r → Next candidate n from r
+  passing-next k r p s = record { on = omega (arith, p .on, s .on); within = s .within; passed = λ i a b. go i a b (leb k i) refl; hit = s .hit }
+    where
+      go : (i : ℕ) → from ≤ i → i < r → (t : Bool) → leb k i ≡ t → candidate i ≡ false
+      go i a b true h = s .passed i (leb-true k i h) b
+      go i a b false h = p .passed i a (leb-false k i h)
+
+-- ---- several corners at once
+
+module _ (test : ℕ → Bool) (from : ℕ) where
+  pub count-most : (k : ℕ) → countFrom test from k ≤ k
+  unfolding countFrom
+  count-most zero = omega arith
+  count-most (suc k) = let h = count-most k in go (test (from + k)) h
+    where
+      go : (t : Bool) → countFrom test from k ≤ k → countFrom test from k + cond t 1 0 ≤ suc k
+      go true h = omega arith
+      go false h = omega arith
+
+  pub count-more : (k : ℕ) {n : ℕ} {m : ℕ} → n ≡ countFrom test from k → m ≡ oneIf test (from + k) → n + m ≡ countFrom test from (k + 1)
+  unfolding countFrom
+  count-more k e f = rw add-one (rw (e, f))
+
+  -- where none is counted, none passes
+  pub count-none : (k : ℕ) → countFrom test from k ≡ 0 → (i : ℕ) → from ≤ i → i < from + k → test i ≡ false
+  unfolding countFrom
+  count-none zero e i a b = absurd (omega arith)
+  count-none (suc k) e i a b = go (test (from + k)) refl e (λ z. count-none k z i a) (ℕ-discrete i (from + k))
+    where
+      go : (t : Bool) → test (from + k) ≡ t → countFrom test from k + cond t 1 0 ≡ 0 → (countFrom test from k ≡ 0 → i < from + k → test i ≡ false) → Dec (i ≡ from + k) → test i ≡ false
+      go true f z w d = absurd (omega arith)
+      go false f z w (yes d) = ap test d ∙ f
+      go false f z w (no d) = w (omega arith) (omega arith)
+
+-- one corner, by its squared distance
+module _ (position : ℕ → Position) (p : Position) (limit : Float) (k : ℕ) {d2 : Float} (e : d2 ≡ squaredDistance (position k) p) where
+  pub one-near : le d2 limit ≡ true → 1 ≡ oneIf (isNear position p limit) k
+  one-near h = rw (← e, h)
+
+  pub one-far : le d2 limit ≡ false → 0 ≡ oneIf (isNear position p limit) k
+  one-far h = rw (← e, h)
+
+-- none of them lies within the limit, so none is a candidate
+module _ (position : ℕ → Position) (unlabelled : ℕ → Bool) (p : Position) (limit : Float) where
+  pub passing-block : (n from k : ℕ) {count : ℕ} → Passing (isWithin position unlabelled p limit) n from k → k + 32 ≤ n → count ≡ countFrom (isNear position p limit) k 32 → count ≡ 0
+      → Passing (isWithin position unlabelled p limit) n from (k + 32)
+  passing-block n from k h room e z = record { on = omega (arith, h .on); within = room; passed = λ i a b. go i a b (leb k i) refl }
+    where
+      far : (i : ℕ) → k ≤ i → i < k + 32 → isWithin position unlabelled p limit i ≡ false
+      far i a b = rw (count-none (isNear position p limit) k 32 (sym e ∙ z) i a b) (both (eligible unlabelled i))
+        where
+          both : (t : Bool) → (t && false) ≡ false
+          both true = refl
+          both false = refl
+
+      go : (i : ℕ) → from ≤ i → i < k + 32 → (t : Bool) → leb k i ≡ t → isWithin position unlabelled p limit i ≡ false
+      go i a b true l = far i (leb-true k i l) b
+      go i a b false l = h .passed i a (leb-false k i l)
 
 -- ---- the scan from one hit to the next: corner k is the next within the limit or there is none, what was found is right for those before it,
 -- and so is what stands beside it

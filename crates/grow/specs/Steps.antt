@@ -2,7 +2,7 @@
 use mathlib.Core.Path.{_≡_}
 use mathlib.Core.Bool.{Bool, true, false, _&&_, cond}
 use mathlib.Core.List.{List}
-use Prim.Native.Nat.{ℕ, _≤_, _<_}
+use Prim.Native.Nat.{ℕ, zero, suc, _+_, _≤_, _<_}
 use lib.ListN.{length}
 use lib.Ieee.{Float, lt, le}
 use Rattle.sheet.specs.declared.Position.{Position}
@@ -41,9 +41,22 @@ narrowedFrom (Several a second) square limit c d2 =
 abbrev pub narrowed : Found → Candidate → Float → Found
 narrowed found c d2 = narrowedFrom (found .candidates) (found .square) (found .limit) c d2
 
--- an unlabelled corner whose squared distance is at most the limit: a candidate, if the limit is the squared radius
+-- a corner whose squared distance is at most the limit
+abbrev pub isNear : (ℕ → Position) → Position → Float → ℕ → Bool
+isNear position prediction limit k = le (squaredDistance (position k) prediction) limit
+
+-- an unlabelled one: a candidate, if the limit is the squared radius
 abbrev pub isWithin : (ℕ → Position) → (ℕ → Bool) → Position → Float → ℕ → Bool
-isWithin position unlabelled prediction limit k = eligible unlabelled k && le (squaredDistance (position k) prediction) limit
+isWithin position unlabelled prediction limit k = eligible unlabelled k && isNear position prediction limit k
+
+-- 1 where a test is passed, and else 0
+abbrev pub oneIf : (ℕ → Bool) → ℕ → ℕ
+oneIf test k = cond (test k) 1 0
+
+-- how many of n numbers from one on pass a test
+unfoldable pub countFrom : (ℕ → Bool) → ℕ → ℕ → ℕ
+countFrom test from zero = 0
+countFrom test from (suc k) = countFrom test from k + oneIf test (from + k)
 
 -- the first two of the candidates among the first n corners, the prediction being finite
 abbrev pub firstTwoBelow : List Float → List Float → List ℕ → ℕ → Position → Float → Candidates

@@ -1,12 +1,12 @@
 // Candidates and choice (document 01): the unlabelled corners near a prediction, in order of distance and then number, and the
 // two rules by which one of them is chosen. Port of shared/grow/mod.rs and of the quotients of extension/common.rs and fill.rs.
 ghost use mathlib.Core.Path.{_≡_};
-ghost use Prim.Native.Nat.{_≤_, _<_};
+ghost use Prim.Native.Nat.{_+_, _≤_, _<_};
 ghost use lib.ListN.{length};
 ghost use Rattle.binary32.specs.Sqrt.{sqrtOrNan};
 ghost use Rattle.grow.specs.Candidates.{positionsOf, unmarked, eligible, squaredDistance, candidatesAt, firstTwo, lastDistance};
 ghost use Rattle.grow.specs.Choice.{byQuotient, chooseUnambiguous, raised, chooseWithFloor};
-ghost use Rattle.grow.specs.Steps.{Lent, Next, isWithin, measured, twoFound, narrowed};
+ghost use Rattle.grow.specs.Steps.{Lent, Next, isNear, isWithin, oneIf, countFrom, measured, twoFound, narrowed};
 use sheet::Position;
 
 // A corner's number, and its distance from the prediction.
@@ -137,8 +137,36 @@ fn is_within(
     squared_distance(corner, prediction) <= limit
 }
 
-// The number of the next corner within the limit from this one on, or the number of corners if there is none.
-fn next_within(
+// 1 if corner k, labelled or not, lies within the limit, and else 0.
+fn one_if_near(xs: &[f32], ys: &[f32], k: usize, prediction: Position, limit: f32) -> u32
+    requires { ⌜ Lent (now xs) (now ys) × (k < length (now xs)) ⌝ }
+    ensures { λ r. ⌜ r ≡ oneIf (isNear (positionsOf (now (xs .entry)) (now (ys .entry))) prediction limit) k ⌝ }
+{
+    let corner = Position { x: xs[k], y: ys[k] };
+    if squared_distance(corner, prediction) <= limit {
+        1
+    } else {
+        0
+    }
+}
+
+// How many of the 32 corners from this one on, labelled or not, lie within the limit. No corner ends the loop early, so that the
+// compiler tests several at once.
+fn count_near(xs: &[f32], ys: &[f32], from: usize, prediction: Position, limit: f32) -> u32
+    requires { ⌜ Lent (now xs) (now ys) × (from + 32 ≤ length (now xs)) ⌝ }
+    ensures { λ r. ⌜ r ≡ countFrom (isNear (positionsOf (now (xs .entry)) (now (ys .entry))) prediction limit) from 32 ⌝ }
+{
+    let mut count = 0u32;
+    let mut k = 0usize;
+    while k < 32 {
+        count += one_if_near(xs, ys, from + k, prediction, limit);
+        k += 1;
+    }
+    count
+}
+
+// The number of the next corner within the limit from this one on, or the number of corners if there is none. Each is tested.
+fn next_tested(
     xs: &[f32],
     ys: &[f32],
     used: &[u8; 1024],
@@ -157,6 +185,28 @@ fn next_within(
         k += 1;
     }
     k
+}
+
+// The same, 32 corners at once as long as none of them lies within the limit.
+fn next_within(
+    xs: &[f32],
+    ys: &[f32],
+    used: &[u8; 1024],
+    from: usize,
+    prediction: Position,
+    limit: f32,
+) -> usize
+    requires { ⌜ Lent (now xs) (now ys) × (from ≤ length (now xs)) ⌝ }
+    ensures { λ r. ⌜ Next (isWithin (positionsOf (now (xs .entry)) (now (ys .entry))) (unmarked (now (used .entry))) prediction limit) (length (now (xs .entry))) from r ⌝ }
+{
+    let mut k = from;
+    while k + 32 <= xs.len() {
+        if count_near(xs, ys, k, prediction, limit) != 0 {
+            return next_tested(xs, ys, used, k, prediction, limit);
+        }
+        k += 32;
+    }
+    next_tested(xs, ys, used, k, prediction, limit)
 }
 
 // Corner k as one more candidate, with the root of its squared distance.

@@ -9,7 +9,9 @@ use borrow.Author.Tests.{le-leb, lt-leb}
 use lib.ListN.{length, getD, set, length-set}
 use lib.Seq.{getD-set-same, getD-set-other}
 use lib.Dec.{leb}
-use lib.Ieee.{Float, nan, binary32, ofBits}
+use lib.Ieee.{Float, nan, binary32, ofBits, lt}
+use Rattle.binary32.specs.Sqrt.{sqrtOrNan}
+use Rattle.grow.specs.Candidates.{squaredDistance}
 use Rattle.sheet.specs.Cells.{OnSheet, placeOf, cellOf}
 use Rattle.sheet.specs.declared.Cell.{Cell}
 use Rattle.sheet.specs.declared.Position.{Position}
@@ -256,6 +258,20 @@ module _ (far : Bool) (w : ℕ) where
   unfolding doubtedWord
   doubts h e = rw (e, le-leb 4 (w % 8) h)
 
+-- where nothing is known, nothing is left
+pub nothing-left : (far : Bool) (c : Cell) (q : ℕ) {w : ℕ} → w ≡ 0 → 0 ≡ doubtedWord far (forgottenWord c q w)
+unfolding forgottenWord
+nothing-left far c q e = rw e (certain-stays far 0 (omega arith) ∙ go (leb (reachOf c q) 0))
+  where
+    go : (t : Bool) → doubtedWord far 0 ≡ doubtedWord far (cond t 0 0)
+    go true = refl
+    go false = refl
+
+-- and where a choice is ambiguous, what is left of it is doubted
+pub left-doubted : (c : Cell) (q w : ℕ) (corner : Position) {at at' : Position} {limit limit' : Float} {kept r : ℕ} → kept ≡ forgottenWord c q w → at ≡ at' → limit ≡ limit'
+    → r ≡ doubtedWord (lt limit (sqrtOrNan (squaredDistance corner at))) kept → r ≡ leftWord c q corner at' limit' w
+left-doubted c q w corner e f g h = h ∙ rw (e, f, g)
+
 -- the words of the places before p are done, the others are as they were
 pub record Forgetting (before : List ℕ) (predictions : List Float) (c : Cell) (corner : Position) (memory : List ℕ) (p : ℕ) : Type 0 where
   pub upto : p ≤ 16384
@@ -267,9 +283,9 @@ pub forgetting-start : (before : List ℕ) (predictions : List Float) (c : Cell)
 forgetting-start before predictions c corner = record { upto = omega arith; size = refl; done = λ a h. absurd (omega arith); rest = λ a h. refl }
 
 module _ (before : List ℕ) (predictions : List Float) (c : Cell) (corner : Position) (memory : List ℕ) (p : ℕ) (g : Forgetting before predictions c corner memory p) where
-  pub forgetting-more : {word : ℕ} {at : Position} {limit : Float} → length before ≡ 16384 → p < 16384 → at ≡ predictionOf predictions p → limit ≡ limitOf predictions p
-      → word ≡ leftWord (cellOf p) (placeOf c) corner at limit (getD memory p 0) → Forgetting before predictions c corner (set memory p word) (p + 1)
-  forgetting-more {word} n h e f k =
+  pub forgetting-more : {word : ℕ} → length before ≡ 16384 → p < 16384
+      → word ≡ leftWord (cellOf p) (placeOf c) corner (predictionOf predictions p) (limitOf predictions p) (getD memory p 0) → Forgetting before predictions c corner (set memory p word) (p + 1)
+  forgetting-more {word} n h k =
       record {
         upto = omega arith;
         size = length-set memory p word ∙ g .size;
@@ -280,7 +296,7 @@ module _ (before : List ℕ) (predictions : List Float) (c : Cell) (corner : Pos
       go : (a : ℕ) → a < p + 1 → Dec (a ≡ p) → getD (set memory p word) a 0 ≡ leftWord (cellOf a) (placeOf c) corner (predictionOf predictions a) (limitOf predictions a) (getD before a 0)
       go a l (yes d) =
           rw d
-          (getD-set-same memory p word 0 (omega (arith, n, g .size)) ∙ k ∙ rw (e, f, g .rest p (omega arith)))
+          (getD-set-same memory p word 0 (omega (arith, n, g .size)) ∙ k ∙ rw (g .rest p (omega arith)))
       go a l (no d) = getD-set-other memory p a word 0 d ∙ g .done a (omega arith)
 
   pub forgetting-end : 16384 ≤ p → Forgotten before predictions c corner memory

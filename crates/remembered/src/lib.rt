@@ -4,7 +4,7 @@
 // fourth support times 8, plus what is known; beside it three floats are kept, where the fit maps the cell to and how far that second candidate is.
 
 ghost use mathlib.Core.Path.{_≡_};
-ghost use Prim.Native.Nat.{_<_};
+ghost use Prim.Native.Nat.{_%_, _≤_, _<_};
 ghost use lib.ListN.{length};
 ghost use Rattle.sheet.specs.Cells.{OnSheet, placeOf, cellOf};
 ghost use Rattle.sheet.specs.declared.Position.{Position};
@@ -159,25 +159,32 @@ fn forget_if_near(word: u16, place: usize, c: Cell) -> u16
     word
 }
 
-// What is left of a word once a corner is labelled: of an ambiguous choice the prediction alone, unless the corner is farther than the limit.
+// What is left of the word of an ambiguous choice once a corner is labelled: the prediction alone, unless the corner is farther than the limit.
 fn doubt_if_near(word: u16, at: Position, limit: f32, corner: Position) -> u16
+    requires { ⌜ 4 ≤ word % 8 ⌝ }
     ensures { λ r. ⌜ r ≡ doubtedWord (lt limit (sqrtOrNan (squaredDistance corner at))) word ⌝ }
 {
-    if word % 8 < 4 {
-        return word;
-    }
     if limit < grow::distance(corner, at) {
         return word;
     }
     word / 8 * 8 + 3
 }
 
-// What is left of a place's word once a corner is attached to a cell.
-fn left_of(word: u16, at: Position, limit: f32, place: usize, c: Cell, corner: Position) -> u16
+// What is left of a place's word once a corner is attached to a cell. Of most places nothing is known, and few choices are ambiguous.
+fn left_of(word: u16, predictions: &[f32; 49152], place: usize, c: Cell, corner: Position) -> u16
     requires { ⌜ Leaving place c ⌝ }
-    ensures { λ r. ⌜ r ≡ leftWord (cellOf place) (placeOf c) corner at limit word ⌝ }
+    ensures { λ r. ⌜ r ≡ leftWord (cellOf place) (placeOf c) corner (predictionOf (now (predictions .entry)) place) (limitOf (now (predictions .entry)) place) word ⌝ }
 {
-    doubt_if_near(forget_if_near(word, place, c), at, limit, corner)
+    if word == 0 {
+        return 0;
+    }
+    let kept = forget_if_near(word, place, c);
+    if kept % 8 < 4 {
+        return kept;
+    }
+    let at = prediction_at(predictions, place);
+    let limit = limit_at(predictions, place);
+    doubt_if_near(kept, at, limit, corner)
 }
 
 // Forgets what may be another once a corner is attached to a cell: what is known of every cell whose fourth support is as far as that cell, or
@@ -188,9 +195,7 @@ pub fn forget_near(memory: &mut [u16; 16384], predictions: &[f32; 49152], c: Cel
 {
     let mut place = 0usize;
     while place < 16384 {
-        let at = prediction_at(predictions, place);
-        let limit = limit_at(predictions, place);
-        memory[place] = left_of(memory[place], at, limit, place, c, corner);
+        memory[place] = left_of(memory[place], predictions, place, c, corner);
         place += 1;
     }
 }

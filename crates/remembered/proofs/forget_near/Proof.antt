@@ -14,12 +14,6 @@ abbrev μ-loop : tie.MeasureT-loop
 loop-holds : tie.Need-loop-holds Inv-loop μ-loop
 loop-holds c = forgetting-start _ _ _ _
 
-prediction-at-requires : tie.Need-prediction-at-requires Inv-loop μ-loop
-prediction-at-requires c κs = omega arith
-
-limit-at-requires : tie.Need-limit-at-requires Inv-loop μ-loop
-limit-at-requires c κs = omega arith
-
 mul-left-of : tie.Need-mul-left-of Inv-loop μ-loop
 mul-left-of c = omega arith
 
@@ -27,7 +21,7 @@ element-copy-out-left-of : tie.Need-element-copy-out-left-of Inv-loop μ-loop
 element-copy-out-left-of c = omega arith
 
 left-of-requires : tie.Need-left-of-requires Inv-loop μ-loop
-left-of-requires c κs = record { inside = c .before .before .before .loop-test .taken; on = c .before .before .before .before .before .pre .1 }
+left-of-requires c κs = record { inside = c .before .loop-test .taken; on = c .before .before .before .pre .1 }
 
 mul-memory : tie.Need-mul-memory Inv-loop μ-loop
 mul-memory c = omega arith
@@ -42,9 +36,7 @@ loop-less : tie.Need-loop-less Inv-loop μ-loop
 loop-less c = omega arith
 
 loop-again : tie.Need-loop-again Inv-loop μ-loop
-loop-again c =
-    forgetting-more _ _ _ _ _ _ (c .before .before .before .before .before .loop .inv) (c .before .before .before .before .before .before .pre .0) (c .before .before .before .before .loop-test .taken)
-    (c .before .before .before .prediction-at .ensures) (c .before .before .limit-at .ensures) (c .left-of .ensures)
+loop-again c = forgetting-more _ _ _ _ _ _ (c .before .before .before .loop .inv) (c .before .before .before .before .pre .0) (c .before .before .loop-test .taken) (c .left-of .ensures)
 
 returns : tie.Need-returns Inv-loop μ-loop
 returns c = forgetting-end _ _ _ _ _ _ (c .before .loop .inv) (c .loop-test .left)
@@ -56,8 +48,6 @@ forget-near-spec =
     Inv-loop
     μ-loop
     loop-holds
-    prediction-at-requires
-    limit-at-requires
     mul-left-of
     element-copy-out-left-of
     left-of-requires
