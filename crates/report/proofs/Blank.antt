@@ -5,7 +5,7 @@ use mathlib.Core.List.{List, []}
 use Prim.Native.Nat.{ℕ, zero, suc, _+_, _-_, _%_, _≤_, _<_}
 use native.Mathlib.Decide.{decLt}
 use native.Mathlib.Omega.{arith}
-use borrow.Author.Tests.{ltb-true, ltb-false, leb-false, eqb-true, le-leb, lt-leb}
+use borrow.Author.Tests.{ltb-true, ltb-false, leb-false, eqb-true, lt-leb}
 use lib.Dec.{ltb, leb, eqb}
 use lib.ListN.{length, getD}
 use Rattle.binary32.specs.Hex.{pick}
@@ -13,7 +13,7 @@ use Rattle.sheet.specs.Words.{labelOf, holeOf, ambiguousOf}
 use Rattle.sheet.specs.Cells.{cellOf}
 use Rattle.sheet.proofs.Words.{label-none}
 use Rattle.report_line.specs.Result.{labelLine, cellLine, holeLine, ambiguousLine, sheetLine, lineCount, joined}
-use Rattle.report.specs.Asked.{blankAt, SomeAsked, Skipped, lineAt, pieceFrom}
+use Rattle.report.specs.Asked.{blankAt, BlankLines, SomeAsked, Skipped, lineAt, pieceFrom}
 use Rattle.report.proofs.Numbered.{sheet-line}
 use Rattle.report.proofs.Writing.{Cutting, cutting-length, piece-more}
 
@@ -57,11 +57,7 @@ blank-line passes words sheet k h e = go (leb k passes) refl e
         sym (sheet-line passes words sheet k (k - 1) (λ z. omega arith) refl (omega arith))
         ∙ blank-sheet sheet (k - 1 - passes) (omega arith) (eqb-true _ 0 b)
 
--- the test, by its two ways
-pub blank-early : (passes : ℕ) (sheet : List ℕ) (k : ℕ) → k ≤ passes → false ≡ blankAt passes sheet k
-unfolding blankAt
-blank-early passes sheet k h = rw (le-leb k passes h)
-
+-- a line of a place, by what the place holds
 pub blank-late : (passes : ℕ) (sheet : List ℕ) (k : ℕ) → passes < k → eqb (getD sheet ((k - 1 - passes) % 16384) 0) 0 ≡ blankAt passes sheet k
 unfolding blankAt
 blank-late passes sheet k h = rw (lt-leb k passes h)
@@ -107,11 +103,11 @@ module _ (passes : ℕ) (words sheet : List ℕ) where
       absurd-of : (a : ℕ) → k ≤ a → a < k → lineAt passes words sheet a ≡ []
       absurd-of a p q = absurd (omega arith)
 
-  pub skip-more : (k r : ℕ) → Skipped passes words sheet k r → r + 1 < lineCount passes → blankAt passes sheet r ≡ true → Skipped passes words sheet k (r + 1)
-  skip-more k r s h e =
+  pub skip-lines : (k r n m : ℕ) → Skipped passes words sheet k r → BlankLines passes sheet r n → r ≤ m → m ≤ r + n → m < lineCount passes → Skipped passes words sheet k m
+  skip-lines k r n m s b h u below =
       let l = s .from in
-      record { from = omega arith; below = h; empty = λ a p q. go a p q (decLt a r) }
+      record { from = omega arith; below = below; empty = λ a p q. go a p q (decLt a r) }
     where
-      go : (a : ℕ) → k ≤ a → a < r + 1 → Dec (a < r) → lineAt passes words sheet a ≡ []
+      go : (a : ℕ) → k ≤ a → a < m → Dec (a < r) → lineAt passes words sheet a ≡ []
       go a p q (yes y) = s .empty a p y
-      go a p q (no n) = let d : a ≡ r = omega (arith, n) in rw d (blank-line passes words sheet r (s .below) e)
+      go a p q (no x) = blank-line passes words sheet a (omega arith) (b .blank a (omega (arith, x)) (omega arith))
