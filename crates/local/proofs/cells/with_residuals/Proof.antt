@@ -1,7 +1,7 @@
--- `local::with_residuals` meets its contract: the residuals recorded one after the other. Assumes nothing.
+-- `local::cells::with_residuals` meets its contract: the residuals recorded one after the other. Assumes nothing.
 use borrow.Author.Needs.{needs}
-use Rattle.local.proofs.with_residuals.Statement.{statement}
-use Rattle.local.proofs.with_residuals.Tie as tie
+use Rattle.local.proofs.cells.with_residuals.Statement.{statement}
+use Rattle.local.proofs.cells.with_residuals.Tie as tie
 
 record-residuals-requires : tie.Need-record-residuals-requires
 record-residuals-requires c κs = search needs

@@ -1,99 +1,71 @@
+-- `local::cells::try_local_cell` meets its contract: by what is known of the cell. Assumes nothing.
 use mathlib.Core.Path.{refl}
 use Rattle.local.proofs.Visit.{untouched, left-as, found-none, found-ambiguous}
 use Rattle.local.proofs.Memory.{recalls-counted, known-idle, known-unmatched, known-ambiguous, known-predicted, known-foretold}
 use borrow.Author.Needs.{needs}
-use Rattle.local.proofs.try_local_cell.Statement.{statement}
-use Rattle.local.proofs.try_local_cell.Tie as tie
-use Rattle.local.proofs.try_local_cell.Reads as reads
-use Rattle.local.proofs.try_local_cell.Lts as lts
-use Rattle.local.proofs.count_ambiguous.Reads as count-ambiguous-reads
-use Rattle.local.proofs.count_no_candidate.Reads as count-no-candidate-reads
-use Rattle.local.proofs.try_predicted_cell.Reads as try-predicted-cell-reads
-use Rattle.local.proofs.try_unknown_cell.Reads as try-unknown-cell-reads
-use Rattle.local.proofs.with_counts.Reads as with-counts-reads
-use Rattle.remembered.proofs.recall.Reads as recall-reads
+use Rattle.local.proofs.cells.try_local_cell.Statement.{statement}
+use Rattle.local.proofs.cells.try_local_cell.Tie as tie
 
--- src/lib.rt:337:9
 recall-requires : tie.Need-recall-requires
 recall-requires c κs = c .before .before .before .before .before .before .before .pre .0 .on
 
--- src/lib.rt:343:13
 enum-told : tie.Need-enum-told
 enum-told c = search needs
 
--- src/lib.rt:339:27
 try-unknown-cell-requires : tie.Need-try-unknown-cell-requires
 try-unknown-cell-requires c κs = c .before .before .before .before .before .before .before .before .before .before .before .before .before .before .before .before .pre
 
--- src/lib.rt:354:27
 enum-told-2 : tie.Need-enum-told-2
 enum-told-2 c = search needs
 
--- src/lib.rt:355:48
 enum-told-3 : tie.Need-enum-told-3
 enum-told-3 c = search needs
 
--- src/lib.rt:355:48
 count-no-candidate-requires : tie.Need-count-no-candidate-requires
 count-no-candidate-requires c κs = c .before .before .before .before .before .before .before .before .before .before .pre .0 .countable
 
--- src/lib.rt:355:32
 with-counts-requires : tie.Need-with-counts-requires
 with-counts-requires c κs = search needs
 
--- src/lib.rt:356:54
 enum-told-4 : tie.Need-enum-told-4
 enum-told-4 c = search needs
 
--- src/lib.rt:356:54
 count-ambiguous-requires : tie.Need-count-ambiguous-requires
 count-ambiguous-requires c κs = c .before .before .before .before .before .before .before .before .before .before .pre .0 .countable
 
--- src/lib.rt:356:38
 with-counts-requires-2 : tie.Need-with-counts-requires-2
 with-counts-requires-2 c κs = search needs
 
--- src/lib.rt:357:26
 enum-known-known : tie.Need-enum-known-known
 enum-known-known c = search needs
 
--- src/lib.rt:357:48
 try-predicted-cell-requires : tie.Need-try-predicted-cell-requires
 try-predicted-cell-requires c κs = (c .before .before .before .before .before .before .before .before .before .before .before .before .before .before .before .before .before .pre .0, (c .before .before .before .before .before .before .before .before .before .before .before .before .before .before .before .before .before .pre .1, known-foretold _ _ (c .before .before .before .before .before .before .before .before .before .before .before .before .before .before .before .before .before .pre .0) (c .before .before .before .before .before .before .before .before .before .before .before .before .before .before .before .before .before .pre .1) (c .before .before .before .before .before .before .before .before .before .recall .ensures .0) (c .before .before .before .before .before .before .before .known .given .1) (c .before .before .before .before .before .before .before .before .before .recall .ensures .1)))
 
--- src/lib.rt:319:1
 same-length : tie.Need-same-length
 same-length c = search needs
 
--- src/lib.rt:319:1
 same-length-2 : tie.Need-same-length-2
 same-length-2 c = search needs
 
--- src/lib.rt:319:1
 returns : tie.Need-returns
 returns c = c .before .before .before .before .try-unknown-cell .ensures
 
--- src/lib.rt:319:1
 returns-2 : tie.Need-returns-2
 returns-2 c = (untouched (c .before .before .before .before .before .before .before .before .before .before .pre .0 .extending) (known-idle _ _ (c .before .before .before .before .before .before .before .before .before .before .pre .0) (c .before .before .before .before .before .before .before .before .before .before .pre .1) (c .before .before .recall .ensures .0) (c .enum-told2 .given .1)), c .before .before .before .before .before .before .before .before .before .before .pre .1)
 
--- src/lib.rt:319:1
 returns-3 : tie.Need-returns-3
 returns-3 c = (left-as (known-unmatched _ _ (c .before .before .before .before .before .before .before .before .before .before .before .before .pre .0) (c .before .before .before .before .before .before .before .before .before .before .before .before .pre .1) (c .before .before .before .before .recall .ensures .0) (c .before .before .enum-told3 .given .1)) (found-none _ _ refl (c .before .before .before .before .before .before .before .before .before .before .before .before .pre .0 .extending) (c .with-counts .ensures) refl (c .before .count-no-candidate .ensures)), recalls-counted (c .before .before .before .before .before .before .before .before .before .before .before .before .pre .1) (c .before .before .before .before .before .before .before .before .before .before .before .before .pre .0) (c .with-counts .ensures))
 
--- src/lib.rt:319:1
 returns-4 : tie.Need-returns-4
 returns-4 c = (left-as (known-ambiguous _ _ (c .before .before .before .before .before .before .before .before .before .before .before .before .pre .0) (c .before .before .before .before .before .before .before .before .before .before .before .before .pre .1) (c .before .before .before .before .recall .ensures .0) (c .before .before .enum-told4 .given .1)) (found-ambiguous _ _ refl (c .before .before .before .before .before .before .before .before .before .before .before .before .pre .0 .extending) (c .with-counts2 .ensures) refl (c .before .count-ambiguous .ensures)), recalls-counted (c .before .before .before .before .before .before .before .before .before .before .before .before .pre .1) (c .before .before .before .before .before .before .before .before .before .before .before .before .pre .0) (c .with-counts2 .ensures))
 
--- src/lib.rt:319:1
 same-length-3 : tie.Need-same-length-3
 same-length-3 c = search needs
 
--- src/lib.rt:319:1
 same-length-4 : tie.Need-same-length-4
 same-length-4 c = search needs
 
--- src/lib.rt:319:1
 returns-5 : tie.Need-returns-5
 returns-5 c = (left-as (known-predicted _ _ (c .before .before .before .before .before .before .before .before .before .before .before .before .before .before .before .before .before .before .before .before .before .before .pre .0) (c .before .before .before .before .before .before .before .before .before .before .before .before .before .before .before .before .before .before .before .before .before .before .pre .1) (c .before .before .before .before .before .before .before .before .before .before .before .before .before .before .recall .ensures .0) (c .before .before .before .before .before .before .before .before .before .before .before .before .known .given .1)) (c .before .before .before .before .try-predicted-cell .ensures .0), c .before .before .before .before .try-predicted-cell .ensures .1)
 

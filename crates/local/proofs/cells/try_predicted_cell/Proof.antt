@@ -1,4 +1,4 @@
--- `local::try_predicted_cell` meets its contract: by what trying the cell with its candidates finds. Assumes nothing.
+-- `local::cells::try_predicted_cell` meets its contract: by what trying the cell with its candidates finds. Assumes nothing.
 use mathlib.Core.Path.{_≡_, ap, _∙_}
 use Rattle.extension_common.specs.TryCell.{cornersOf, gathered, tryAt}
 use Rattle.extension_common.specs.declared.Search.{Search}
@@ -10,8 +10,8 @@ use Rattle.local.specs.Extending.{Taking}
 use Rattle.local.proofs.Visit.{gathered-is, found-is, taking, taking-writable, taking-listed, found-none, found-ambiguous, found-refused, found-corner}
 use Rattle.local.proofs.Memory.{noting, recalls-counted, recalls-attached, recalls-missed, recalls-ambiguous}
 use borrow.Author.Needs.{needs}
-use Rattle.local.proofs.try_predicted_cell.Statement.{statement}
-use Rattle.local.proofs.try_predicted_cell.Tie as tie
+use Rattle.local.proofs.cells.try_predicted_cell.Statement.{statement}
+use Rattle.local.proofs.cells.try_predicted_cell.Tie as tie
 
 -- what was gathered is what the definition gathers
 held : (c : tie.After-collect-candidates) → let a = c .before .before .before .before .before .before .before .before .args in c .collect-candidates .result ≡ gathered (cornersOf (a .xs .now) (a .ys .now) (a .pitches .now)) (a .sheet .now) (c .before .before .search-of .result .«search_r») (a .prediction)

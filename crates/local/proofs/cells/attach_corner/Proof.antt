@@ -1,67 +1,48 @@
+-- `local::cells::attach_corner` meets its contract: each store as it stands, and what is forgotten. Assumes nothing.
 use Prim.Native.Nat.{_<_}
 use native.Mathlib.Omega.{arith}
 use Rattle.sheet.proofs.Laws.{place-in}
 use Rattle.local.proofs.Visit.{wrote, gatherable}
 use borrow.Author.Needs.{needs}
-use Rattle.local.proofs.attach_corner.Statement.{statement}
-use Rattle.local.proofs.attach_corner.Tie as tie
-use Rattle.local.proofs.attach_corner.Reads as reads
-use Rattle.local.proofs.attach_corner.Lts as lts
-use Rattle.remembered.proofs.forget_near.Reads as forget-near-reads
-use Rattle.sheet.proofs.attach.Reads as attach-reads
-use Rattle.sheet.proofs.clear_marks.Reads as clear-marks-reads
-use Rattle.sheet.proofs.place_of.Reads as place-of-reads
-use Rattle.supports.proofs.gather_labelled.Reads as gather-labelled-reads
+use Rattle.local.proofs.cells.attach_corner.Statement.{statement}
+use Rattle.local.proofs.cells.attach_corner.Tie as tie
 
--- src/lib.rt:174:5
 attach-requires : tie.Need-attach-requires
 attach-requires c κs = search needs
 
--- src/lib.rt:175:5
 clear-marks-requires : tie.Need-clear-marks-requires
 clear-marks-requires c κs = search needs
 
--- src/lib.rt:176:22
 place-of-requires : tie.Need-place-of-requires
 place-of-requires c κs = search needs
 
--- src/lib.rt:176:22
 cast-attached : tie.Need-cast-attached
 cast-attached c = let p : c .place-of .result < 16384 = rw (c .place-of .ensures) (place-in (c .before .before .before .before .before .before .before .before .before .before .before .before .args .c) (c .before .before .before .before .before .before .before .before .before .before .before .before .pre .0 .sheet-cell .on)) in record { fits = omega arith }
 
--- src/lib.rt:176:5
 mul-attached : tie.Need-mul-attached
 mul-attached c = search needs
 
--- src/lib.rt:176:5
 slice-write-attached : tie.Need-slice-write-attached
 slice-write-attached c = search needs
 
--- src/lib.rt:177:5
 element-write-used : tie.Need-element-write-used
 element-write-used c = search needs
 
--- src/lib.rt:178:9
 gather-labelled-requires : tie.Need-gather-labelled-requires
 gather-labelled-requires c κs = gatherable _ _ _ (c .before .before .before .before .before .before .before .before .before .attach .ensures) (c .before .before .before .before .before .clear-marks .ensures) (c .before .before .before .before .before .before .before .before .before .before .before .before .before .before .pre .0)
 
--- src/lib.rt:179:5
 forget-near-requires : tie.Need-forget-near-requires
 forget-near-requires c κs = (c .before .before .before .before .before .before .before .before .before .before .before .before .before .before .before .before .pre .1, c .before .before .before .before .before .before .before .before .before .before .before .before .before .before .before .before .pre .0 .sheet-cell .on)
 
--- src/lib.rt:181:19
 add-t23 : tie.Need-add-t23
 add-t23 c = search needs
 
--- src/lib.rt:157:1
 same-length : tie.Need-same-length
 same-length c = search needs
 
--- src/lib.rt:157:1
 same-length-2 : tie.Need-same-length-2
 same-length-2 c = search needs
 
--- src/lib.rt:157:1
 returns : tie.Need-returns
 returns c = (wrote _ _ _ (c .before .before .before .before .before .before .before .before .before .before .before .before .attach .ensures) (c .before .before .before .before .before .before .before .before .clear-marks .ensures) _ _ _ (c .before .before .before .before .before .before .before .before .before .before .before .before .before .before .before .before .before .args .at) (c .before .before .before .before .before .place-of .ensures) (c .before .before .gather-labelled .ensures), c .forget-near .ensures)
 

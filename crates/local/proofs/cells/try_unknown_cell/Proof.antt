@@ -1,11 +1,11 @@
--- `local::try_unknown_cell` meets its contract: by the fit and by the gate. Assumes nothing.
+-- `local::cells::try_unknown_cell` meets its contract: by the fit and by the gate. Assumes nothing.
 use borrow.Author.Needs.{needs}
 use Rattle.supports.proofs.Nearest.{nearest-pictured}
 use Rattle.remembered.proofs.Notes.{notable-idle, notable-predicted}
 use Rattle.local.proofs.Visit.{nearby, left-as}
 use Rattle.local.proofs.Memory.{noting, unknown-none, unknown-above, unknown-asked, unknown-visit}
-use Rattle.local.proofs.try_unknown_cell.Statement.{statement}
-use Rattle.local.proofs.try_unknown_cell.Tie as tie
+use Rattle.local.proofs.cells.try_unknown_cell.Statement.{statement}
+use Rattle.local.proofs.cells.try_unknown_cell.Tie as tie
 
 nearest-labelled-by-grid-requires : tie.Need-nearest-labelled-by-grid-requires
 nearest-labelled-by-grid-requires c κs = nearby (c .before .before .before .before .before .before .pre .0 .extending) _ (c .before .before .before .before .before .before .pre .0 .on)
