@@ -16,6 +16,7 @@
  * - The buffers of one call must not overlap one another.
  * - A start must not be null and must be aligned for its type, even where the length is 0.
  * - No other thread may write to a buffer during a call, or read one that the call may write to.
+ * - Stack: local needs some 240 KB of it, the reader some 60 KB, the others less; a thread of 300 KB is enough for all.
  *
  * A buffer may be longer than needed.
  */

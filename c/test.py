@@ -7,8 +7,8 @@
     c/test.py --frames N      N generated frames (default 1000), --seed S from another seed
     c/test.py --built         does not build first
 
-Fails at the first frame with another answer. target/bin/recover comes from `rt check recover`. Without gcc it says so
-and compares nothing.
+Fails at the first frame with another answer. target/bin/recover comes from `rt check recover`. Without gcc it says so,
+compares nothing and ends with status 1.
 """
 
 import argparse
@@ -74,12 +74,13 @@ def main():
     options.add_argument("--built", action="store_true")
     options = options.parse_args()
     if not shutil.which("gcc"):
-        print("c/test.py: there is no gcc on this machine: nothing is built and nothing compared")
-        return
+        sys.exit("c/test.py: there is no gcc on this machine: nothing is built and nothing compared")
     if not options.built:
-        subprocess.run([os.path.join(HERE, "build")], check=True)
-    if not os.path.exists(PROVED):
-        sys.exit("c/test.py: there is no target/bin/recover: run `rt check recover`")
+        if subprocess.run([os.path.join(HERE, "build")]).returncode:
+            sys.exit("c/test.py: c/build failed")
+    for path, built in ((PROVED, "rt check recover"), (OURS, "c/build"), (SHORT, "c/build")):
+        if not os.path.exists(path):
+            sys.exit(f"c/test.py: {os.path.relpath(path, ROOT)} is missing: {built} builds it")
     accepted = []
     with tempfile.TemporaryDirectory() as folder:
         runs = Comparison(folder)

@@ -479,6 +479,8 @@ def main():
     if options.replay is not None:
         sys.stdout.buffer.write(Texts(options.seed).text(options.replay)[1])
         return 0
+    if not os.path.exists(PROGRAM):
+        sys.exit("fuzz.py: target/bin/recover is missing: rt check recover builds it")
     began = time.monotonic()
     tally = Tally()
     tasks = [(options.seed, options.count, options.limit, k, options.workers) for k in range(options.workers)]

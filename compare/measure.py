@@ -325,7 +325,7 @@ def main():
     parser.add_argument("--count", type=int)
     options = parser.parse_args()
     if not os.path.exists(os.path.join(OUT, "fit")):
-        sys.exit("build the Rust side first: rust/build")
+        sys.exit("measure.py: compare/rust/out/measure is missing: compare/rust/build builds it")
     run, usual = {
         "frames": (on_frames, 300), "kinds": (on_kinds, 100000), "plain": (on_plain, 5000)
     }[options.on]

@@ -423,6 +423,8 @@ def main():
     parser.add_argument("--shuffles", type=int, default=3)
     parser.add_argument("--keep")
     options = parser.parse_args()
+    if not os.path.exists(PROGRAM):
+        sys.exit("permute.py: target/bin/passes_main is missing: rt check passes_main builds it")
     began = time.time()
     run = Run(options)
     for k in range(options.count):

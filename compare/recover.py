@@ -52,6 +52,8 @@ def main():
     options.add_argument("--damaged", type=int, default=0)
     options.add_argument("--seed", type=int, default=1)
     options = options.parse_args()
+    if not os.path.exists(PROGRAM):
+        sys.exit("recover.py: target/bin/recover is missing: rt check recover builds it")
     runs = Runs()
     for name, data, result in cases.checked():
         runs.run(name, data, result)

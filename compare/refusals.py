@@ -178,6 +178,8 @@ def is_fine(call, what, number):
 
 
 def main():
+    if not os.path.exists(PROGRAM):
+        sys.exit("refusals.py: target/bin/passes_main is missing: rt check passes_main builds it")
     wrong = count = 0
     for kind, name in ((GROW, "grow"), (FILL, "fill"), (LOCAL, "local")):
         for what, change, number in cases(kind):

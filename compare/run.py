@@ -637,10 +637,18 @@ def work(task):
     return run.tally, run.smallest, run.failures, run.exhibits
 
 
+def missing(options):
+    """Ends the run where a program is not built, and says what builds it."""
+    if not os.path.exists(ORACLE):
+        sys.exit("run.py: compare/rust/out/oracle is missing: compare/rust/build builds it")
+    for path, crate in ((PROVED, "passes_main"), (RECOVER, "recover")):
+        if options.proved and not os.path.exists(path):
+            sys.exit(f"run.py: target/bin/{crate} is missing: rt check {crate} builds it")
+
+
 def main():
     options = arguments()
-    if not os.path.exists(ORACLE):
-        sys.exit("build the Rust side first: rust/build")
+    missing(options)
     began = time.time()
     tasks = [(options, (k, options.workers)) for k in range(options.workers)]
     with tempfile.TemporaryDirectory() as folder:

@@ -231,6 +231,8 @@ def main():
     parser.add_argument("--seed", type=int, default=1)
     parser.add_argument("--count", type=int, default=1000)
     options = parser.parse_args()
+    if not os.path.exists(run.ORACLE):
+        sys.exit("slips.py: compare/rust/out/oracle is missing: compare/rust/build builds it")
     frames = list(generate.frames(options.seed, options.count))
     modules = {name: changed(name) for name in options.names or SLIPS}
     seen = unseen = 0
