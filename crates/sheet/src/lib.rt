@@ -1,11 +1,12 @@
 // The sheet of 01: cells and their places, what a place holds, and the corners as they are seen through it.
 
 ghost use mathlib.Core.Path.{_≡_};
-ghost use Prim.Native.Nat.{_<_, _≤_};
+ghost use Prim.Native.Nat.{_+_, _-_, _%_, _<_, _≤_};
 ghost use lib.ListN.{length};
 ghost use Rattle.sheet.specs.Cells.{onSheet, OnSheet, placeOf, cellOf, moved, differenceOf, magnitudeOf, Within, NearSheet};
 ghost use Rattle.sheet.specs.Words.{labelOf, holeOf, ambiguousOf, withLabel, withHole, withAmbiguous, withoutMarks, labelAt, attached, holeMarked, ambiguousMarked, marksCleared, SheetCell};
 ghost use Rattle.sheet.specs.Corners.{cornerOf, seenOf, Listed, Given};
+ghost use Rattle.sheet.specs.Blank.{allBlank, BlankRun, NextWritten};
 ghost use lib.IntN.{natAbs};
 
 // A cell of the checkerboard, by its two numbers. On the sheet both are from -64 to 63.
@@ -251,4 +252,63 @@ pub fn seen_at(xs: &[f32], ys: &[f32], pitches: &[f32], sheet: &[u16], c: Cell) 
         Label::Unlabelled => Seen::Nothing,
         Label::Corner(k) => Seen::At(corner_at(xs, ys, pitches, k)),
     }
+}
+
+// Whether the 128 places from one on all hold nothing. It looks at all of them in any case, so that the compiler can take several words at once.
+fn row_is_blank(sheet: &[u16], at: usize) -> bool
+    requires { ⌜ at + 128 ≤ length (now sheet) ⌝ }
+    ensures { λ r. ⌜ r ≡ allBlank (now (sheet .entry)) at 128 ⌝ }
+{
+    let mut all = 0u16;
+    let mut i = 0usize;
+    while i < 128 {
+        all = all | sheet[at + i];
+        i += 1;
+    }
+    all == 0
+}
+
+// How many places from one on hold nothing, up to the first that holds something, and at most a number.
+fn blank_run(sheet: &[u16], at: usize, most: usize) -> usize
+    requires { ⌜ at + most ≤ length (now sheet) ⌝ }
+    ensures { λ r. ⌜ BlankRun (now (sheet .entry)) at most r ⌝ }
+{
+    let mut n = 0usize;
+    while n < most {
+        if sheet[at + n] != 0 {
+            return n;
+        }
+        n += 1;
+    }
+    n
+}
+
+// How many places from one on hold nothing, as far as its row of 128 places goes. From the row's start on the whole row is tried first.
+pub fn blank_places(sheet: &[u16], at: usize) -> usize
+    requires { ⌜ (at < 16384) × (16384 ≤ length (now sheet)) ⌝ }
+    ensures { λ r. ⌜ BlankRun (now (sheet .entry)) at (128 - at % 128) r ⌝ }
+{
+    let left = 128 - at % 128;
+    if left == 128 {
+        if row_is_blank(sheet, at) {
+            return 128;
+        }
+    }
+    blank_run(sheet, at, left)
+}
+
+// The next place from one on that holds something, or 16,384 where there is none: most places hold nothing, and are passed over here row by row.
+pub fn next_written(sheet: &[u16], from: usize) -> usize
+    requires { ⌜ (from ≤ 16384) × (16384 ≤ length (now sheet)) ⌝ }
+    ensures { λ r. ⌜ NextWritten (now (sheet .entry)) from r ⌝ }
+{
+    let mut r = from;
+    while r < 16384 {
+        let n = blank_places(sheet, r);
+        if n == 0 {
+            return r;
+        }
+        r += n;
+    }
+    r
 }
