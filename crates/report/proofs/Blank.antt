@@ -11,7 +11,7 @@ use lib.ListN.{length, getD}
 use Rattle.binary32.specs.Hex.{pick}
 use Rattle.sheet.specs.Words.{holeOf, ambiguousOf}
 use Rattle.sheet.specs.Cells.{cellOf}
-use Rattle.sheet.specs.Blank.{BlankRun}
+use Rattle.sheet.specs.Blank.{BlankPlaces}
 use Rattle.sheet.proofs.Blank.{blank-label, blank-place}
 use Rattle.report_line.specs.Result.{labelLine, cellLine, holeLine, ambiguousLine, sheetLine, lineCount, joined}
 use Rattle.report.specs.Asked.{blankAt, BlankLines, SomeAsked, Skipped, lineAt, pieceFrom}
@@ -70,7 +70,7 @@ no-lines passes sheet k = record { blank = λ a p q. absurd (omega arith) }
 
 -- the places from that of line k on, up to the end of its row
 pub lines-of : (passes : ℕ) (sheet : List ℕ) (k n : ℕ) → passes < k
-    → BlankRun sheet ((k - 1 - passes) % 16384) (128 - (k - 1 - passes) % 16384 % 128) n → BlankLines passes sheet k n
+    → BlankPlaces sheet ((k - 1 - passes) % 16384) n → BlankLines passes sheet k n
 lines-of passes sheet k n h s = record { blank = one }
   where
     one : (a : ℕ) → k ≤ a → a < k + n → blankAt passes sheet a ≡ true

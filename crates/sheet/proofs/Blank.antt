@@ -1,4 +1,4 @@
--- Places that hold nothing, one after the other: a row of them is found by one word that joins all its words, and a walk over the sheet passes
+-- Places that hold nothing, one after the other: many of them are found by one word that joins all their words, and a walk over the sheet passes
 -- over them. Assumes nothing.
 use mathlib.Core.Path.{_≡_, refl, sym, ap, _∙_, subst}
 use mathlib.Core.Bool.{Bool, true, false, _&&_}
@@ -12,7 +12,7 @@ use lib.Bits.{bitOr, and-le-l, and-le-r, or-add-and}
 use lib.Dec.{eqb}
 use lib.ListN.{getD}
 use Rattle.sheet.specs.Words.{labelOf}
-use Rattle.sheet.specs.Blank.{allBlank, BlankRun, Passed, NextWritten}
+use Rattle.sheet.specs.Blank.{allBlank, BlankRun, BlankPlaces, Passed, NextWritten}
 use Rattle.sheet.specs.declared.Label.{Label}
 use Rattle.sheet.proofs.Words.{label-none}
 
@@ -66,6 +66,15 @@ module _ (sheet : List ℕ) (at : ℕ) where
       go f l (yes y) = f y
       go f l (no m) = let d : i ≡ n = omega (arith, m) in rw d l
 
+  -- a row, or 16 places of it; or a run of places up to the next 16
+  pub blank-block : (n : ℕ) → 0 < n → n ≤ 128 - at % 128 → allBlank sheet at n ≡ true → BlankPlaces sheet at n
+  blank-block n some u e = record { upto = u; blank = e; none = λ z w. omega arith }
+
+  pub blank-rest : (n : ℕ) → BlankRun sheet at (16 - at % 16) n → BlankPlaces sheet at n
+  blank-rest n b =
+      let u = b .upto in
+      record { upto = omega arith; blank = b .blank; none = λ z e. b .stops (omega arith) (let d : at + n ≡ at = omega arith in rw d e) }
+
 -- ---- the places passed
 
 module _ (sheet : List ℕ) (from : ℕ) where
@@ -73,7 +82,7 @@ module _ (sheet : List ℕ) (from : ℕ) where
   passed-start h = record { start = omega arith; upto = h; blank = λ p a b. absurd (omega arith) }
 
   -- a run of places more, as far as the row goes
-  pub passed-more : (r n : ℕ) → Passed sheet from r → r < 16384 → BlankRun sheet r (128 - r % 128) n → Passed sheet from (r + n)
+  pub passed-more : (r n : ℕ) → Passed sheet from r → r < 16384 → BlankPlaces sheet r n → Passed sheet from (r + n)
   passed-more r n s h b =
       let u = b .upto in
       let l = s .start in
@@ -88,9 +97,8 @@ module _ (sheet : List ℕ) (from : ℕ) where
   pub passed-end : (r : ℕ) → Passed sheet from r → 16384 ≤ r → NextWritten sheet from r
   passed-end r s h = record { passed = s; written = λ a b. omega arith }
 
-  pub passed-hit : (r n : ℕ) → Passed sheet from r → BlankRun sheet r (128 - r % 128) n → n ≡ 0 → NextWritten sheet from r
-  passed-hit r n s b e =
-      record { passed = s; written = λ h z. b .stops (omega arith) (ap (λ (q : ℕ). getD sheet q 0) (let d : r + n ≡ r = omega arith in d) ∙ z) }
+  pub passed-hit : (r n : ℕ) → Passed sheet from r → BlankPlaces sheet r n → n ≡ 0 → NextWritten sheet from r
+  passed-hit r n s b e = record { passed = s; written = λ h z. b .none e z }
 
 -- ---- a walk over the sheet
 

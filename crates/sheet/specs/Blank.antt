@@ -2,7 +2,7 @@
 use mathlib.Core.Path.{_≡_}
 use mathlib.Core.Bool.{Bool, true, _&&_}
 use mathlib.Core.List.{List}
-use Prim.Native.Nat.{ℕ, zero, suc, _+_, _≤_, _<_}
+use Prim.Native.Nat.{ℕ, zero, suc, _+_, _-_, _%_, _≤_, _<_}
 use lib.Dec.{eqb}
 use lib.ListN.{getD}
 
@@ -16,6 +16,12 @@ pub record BlankRun (sheet : List ℕ) (at most n : ℕ) : Type 0 where
   pub upto : n ≤ most
   pub blank : allBlank sheet at n ≡ true
   pub stops : n < most → getD sheet (at + n) 0 ≡ 0 → ⊥
+
+-- n places from one on, all of its row of 128 places, hold nothing; there is none only if the place itself holds something
+pub record BlankPlaces (sheet : List ℕ) (at n : ℕ) : Type 0 where
+  pub upto : n ≤ 128 - at % 128
+  pub blank : allBlank sheet at n ≡ true
+  pub none : n ≡ 0 → getD sheet at 0 ≡ 0 → ⊥
 
 -- the places from one on and before another hold nothing
 pub record Passed (sheet : List ℕ) (from r : ℕ) : Type 0 where
