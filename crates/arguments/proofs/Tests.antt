@@ -1,6 +1,6 @@
 -- Laws of the tests, for the functions that make them: a chain of tests of which one is enough, a chain of refusals, the
 -- queue's length, a label's corner, and the corners seen place by place. Assumes nothing.
-use mathlib.Core.Path.{_≡_, refl, sym, _∙_}
+use mathlib.Core.Path.{_≡_, refl, sym, ap, _∙_}
 use mathlib.Core.Bool.{Bool, true, false, not, _||_}
 use mathlib.Core.List.{List}
 use Prim.Native.Nat.{ℕ, _+_, _*_, _/_, _<_, _≤_}
@@ -10,12 +10,14 @@ use lib.Dec.{eqb, ltb}
 use lib.ListN.{length, getD, set}
 use Rattle.refusal.specs.declared.Refusal.{Refusal}
 use Rattle.sheet.specs.Words.{bitOf, labelOf}
+use Rattle.sheet.specs.Blank.{NextWritten}
+use Rattle.sheet.proofs.Blank.{skips, blank-label}
 use Rattle.sheet.specs.declared.Label.{Label}
 use Rattle.labels.specs.Labelled.{anyBelow}
 use Rattle.labels.specs.Used.{names}
-use Rattle.labels.proofs.Below.{any-no, Searching, searching-start, searching-more, searching-hit, searching-end}
+use Rattle.labels.proofs.Below.{any-no, Searching, searching-start, searching-more, searching-hit, searching-end, searching-skips}
 use Rattle.labels.proofs.Used.{Marking, marking-start, marking-more, noted-none, noted-entry}
-use Rattle.arguments.specs.Arguments.{Lent, cornerCount, queueNeeded, tooShort, overLimit, outOfRange, unknownCorner, sameCorner, doubledAt, doubledCorner, refusedIf, checked}
+use Rattle.arguments.specs.Arguments.{Lent, cornerCount, queueNeeded, tooShort, overLimit, outOfRange, unknown, unknownAt, unknownCorner, sameCorner, doubledAt, doubledCorner, refusedIf, checked}
 use Rattle.arguments.specs.Asked.{HasEntry, HasEntries, seenBefore, Noted, Unseen}
 use Rattle.arguments.specs.declared.GrowParams.{GrowParams}
 use Rattle.arguments.specs.declared.FillParams.{FillParams}
@@ -149,3 +151,13 @@ module _ (seen : List ℕ) (label : Label) where
   pub note-corner : (k : ℕ) → label ≡ Label.Corner k → k < 1024 → Noted seen label (set seen k 1) (not (eqb (getD seen k 0) 0))
   unfolding seenBefore
   note-corner k e h = record { said = rw e; written = noted-entry seen label k e h }
+
+-- ---- places that hold nothing
+
+-- the search for a corner from n on, and the walk that notes the corners, are at the next place that holds something where they were
+pub unknown-skips : (n : ℕ) (sheet : List ℕ) {p r : ℕ} → Searching (unknownAt n sheet) 16384 p → NextWritten sheet p r → Searching (unknownAt n sheet) 16384 r
+unfolding unknownAt unknown
+unknown-skips n sheet g w = searching-skips sheet (unknownAt n sheet) (λ q e. ap (unknown n) (blank-label e)) g w
+
+pub seeing-skips : (sheet seen : List ℕ) {p r : ℕ} → Seeing sheet seen p → NextWritten sheet p r → Seeing sheet seen r
+seeing-skips sheet seen g w = skips sheet (Seeing sheet seen) (λ q h e s. seeing-more sheet seen q s h seen false (note-none seen _ (blank-label e)) refl) w g

@@ -228,12 +228,12 @@ pub fn unknown_corner(n: usize, sheet: &[u16]) -> bool
     requires { ⌜ 16384 ≤ length (now sheet) ⌝ }
     ensures { λ r. ⌜ r ≡ unknownCorner n (now (sheet .entry)) ⌝ }
 {
-    let mut place = 0usize;
+    let mut place = sheet::next_written(sheet, 0);
     while place < 16384 {
         if is_unknown(n, sheet::label_of(sheet[place])) {
             return true;
         }
-        place += 1;
+        place = sheet::next_written(sheet, place + 1);
     }
     false
 }
@@ -256,12 +256,12 @@ fn seen_twice(sheet: &[u16], seen: &mut [u8; 1024]) -> bool
     requires { ⌜ Unseen (now sheet) (now seen) ⌝ }
     ensures { λ r. ⌜ r ≡ doubledCorner (now (sheet .entry)) ⌝ }
 {
-    let mut place = 0usize;
+    let mut place = sheet::next_written(sheet, 0);
     while place < 16384 {
         if note(seen, sheet::label_of(sheet[place])) {
             return true;
         }
-        place += 1;
+        place = sheet::next_written(sheet, place + 1);
     }
     false
 }

@@ -16,10 +16,13 @@ use Rattle.sheet.specs.Cells.{onSheet, OnSheet, placeOf, cellOf, moved}
 use Rattle.sheet.specs.Words.{bitOf, labelAt}
 use Rattle.sheet.specs.declared.Cell.{Cell}
 use Rattle.sheet.specs.declared.Offset.{Offset}
+use Rattle.sheet.specs.Blank.{NextWritten}
+use Rattle.sheet.proofs.Blank.{skips}
 use Rattle.sheet.proofs.Laws.{place-in}
 use Rattle.sheet.proofs.Words.{label-on}
 use Rattle.labels.specs.Labelled.{passing, namesCorner, isLabelled, labelledBelow, labelledPlaces, labelCount}
 use Rattle.labels.proofs.Below.{passing-none, passing-hit, passing-miss}
+use Rattle.labels.proofs.Labelled.{blank-unlabelled}
 use Rattle.positions_policy.specs.Edge.{cardinalOffsets, cardinalAt}
 use Rattle.passes.specs.Outcome.{over}
 use Rattle.passes.specs.Grow.{member, wanted, enqueued, enqueuedAt, spread, seededFrom}
@@ -268,3 +271,9 @@ module _ (sheet queue : List ℕ) (tail p : ℕ) where
   pub seed-bare : {seen : List ℕ} → SeedRoom sheet queue seen tail p → isLabelled (getD sheet p 0) ≡ false → Holds queue queue seen tail (seededAt sheet p (soFar queue tail))
   unfolding seededAt
   seed-bare {seen} w e = rw e (holds-own queue seen tail (w .upto) (w .flagged))
+
+-- ---- places that hold nothing
+
+pub seeding-skips : {sheet queue seen : List ℕ} → Unqueued sheet queue seen → {after flags : List ℕ} {tail p r : ℕ} → Seeding sheet queue after flags tail p → NextWritten sheet p r → Seeding sheet queue after flags tail r
+seeding-skips {sheet} {queue} {seen} w {after} {flags} {tail} s n =
+    skips sheet (λ p. Seeding sheet queue after flags tail p) (λ p h e g. seeding-more w g h (seed-bare sheet after tail p (seeding-room w g h) (blank-unlabelled e))) n s

@@ -76,10 +76,10 @@ pub fn seed(sheet: &[u16], queue: &mut [u16], seen: &mut [u8; 16384]) -> usize
     ensures { λ r. ⌜ Holds (now (queue .entry)) (now (queue .exit)) (now (seen .exit)) r (seeded (now (sheet .entry))) ⌝ }
 {
     let mut tail = 0usize;
-    let mut place = 0usize;
+    let mut place = sheet::next_written(sheet, 0);
     while place < 16384 {
         tail = seed_at(sheet, queue, seen, tail, place);
-        place += 1;
+        place = sheet::next_written(sheet, place + 1);
     }
     tail
 }

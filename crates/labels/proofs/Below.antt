@@ -10,6 +10,8 @@ use native.Mathlib.Numerals.{add-one}
 use native.Mathlib.Omega.{arith}
 use lib.ListN.{length, getD, length-append, List·getD-append}
 use lib.Seq.{getD-append-seam}
+use Rattle.sheet.specs.Blank.{NextWritten}
+use Rattle.sheet.proofs.Blank.{skips}
 use Rattle.labels.specs.Labelled.{passing, anyBelow, Rising}
 
 pub no-both : (t : Bool) → t ≡ true → t ≡ false → ⊥
@@ -207,3 +209,7 @@ module _ (f : ℕ → Bool) (n i : ℕ) (s : Searching f n i) where
 
   pub searching-end : n ≤ i → false ≡ anyBelow n f
   searching-end h = let q : n ≡ i = omega arith in rw q (sym (s .so-far))
+
+-- a search over the places of a sheet for what a place that holds nothing never is
+pub searching-skips : (sheet : List ℕ) (f : ℕ → Bool) → ((p : ℕ) → getD sheet p 0 ≡ 0 → f p ≡ false) → {p r : ℕ} → Searching f 16384 p → NextWritten sheet p r → Searching f 16384 r
+searching-skips sheet f none g w = skips sheet (Searching f 16384) (λ q h e s. searching-more f 16384 q s h (none q e)) w g

@@ -13,13 +13,15 @@ use lib.Signed.{leZ, _≤ℤ_, ≤ℤ-refl}
 use mir.Facts.{and-yes, yes-and}
 use Rattle.sheet.specs.Cells.{inRange, OnSheet, placeOf, cellOf}
 use Rattle.sheet.specs.Words.{attached, emptySheet}
+use Rattle.sheet.specs.Blank.{NextWritten}
+use Rattle.sheet.proofs.Blank.{skips}
 use Rattle.sheet.proofs.Laws.{cell-place, on-i, on-j, on-both}
 use Rattle.sheet.specs.declared.Cell.{Cell}
 use Rattle.labels.specs.Labelled.{isLabelled, LabelledCell, labelledBelow, labelledPlaces, Attaching}
 use Rattle.labels.specs.Box.{Inside, Taken, IsBoxOf, IsBox, lowerOf, higherOf, widened, boxAround, boxOf, boxWith}
 use Rattle.labels.proofs.Signed.{leZ-true, leZ-false, leZ-trans, ≤ℤ-trans, ≤ℤ-antisym}
 use Rattle.labels.proofs.Below.{passing-none, passing-hit, passing-miss}
-use Rattle.labels.proofs.Labelled.{SamePlaces, same-places, cell-listed, listed-cell, labelled-cell-on, labelled-new, labelled-still, labelled-cases, empty-unlabelled}
+use Rattle.labels.proofs.Labelled.{SamePlaces, same-places, cell-listed, listed-cell, labelled-cell-on, labelled-new, labelled-still, labelled-cases, empty-unlabelled, blank-unlabelled}
 use Rattle.labels.specs.declared.Bounds.{Bounds}
 use Rattle.labels.specs.declared.LabelBox.{LabelBox}
 
@@ -293,6 +295,13 @@ module _ (sheet : List ℕ) (box : LabelBox) (p : ℕ) (g : Boxing sheet box p) 
           ∙ ap boxAround (sym (passing-hit (λ q. isLabelled (getD sheet q 0)) p q))
       go false q = g .so-far ∙ ap boxAround (sym (passing-miss (λ q. isLabelled (getD sheet q 0)) p q))
 
+  boxing-blank : p < 16384 → getD sheet p 0 ≡ 0 → Boxing sheet box (p + 1)
+  unfolding boxWith
+  boxing-blank h e = boxing-more box h (rw (blank-unlabelled e))
+
   pub boxing-end : 16384 ≤ p → box ≡ boxOf sheet
   unfolding boxOf labelledPlaces
   boxing-end h = let e : p ≡ 16384 = omega (arith, g .upto) in g .so-far ∙ ap (λ (q : ℕ). boxAround (labelledBelow sheet q)) e
+
+pub boxing-skips : (sheet : List ℕ) (box : LabelBox) (p : ℕ) → Boxing sheet box p → {r : ℕ} → NextWritten sheet p r → Boxing sheet box r
+boxing-skips sheet box p g w = skips sheet (Boxing sheet box) (λ q h e s. boxing-blank sheet box q s h e) w g

@@ -12,6 +12,8 @@ use lib.ListN.{length, getD, length-append}
 use Rattle.sheet.specs.Cells.{OnSheet, placeOf, cellOf, earlier}
 use Rattle.sheet.specs.Words.{Content, labelOfNumber, labelOf, wordAt, labelAt, holeAt, ambiguousAt, attached, holeMarked, ambiguousMarked, marksCleared, emptySheet}
 use Rattle.sheet.proofs.Laws.{place-in, cell-on, place-cell, place-one, place-rises}
+use Rattle.sheet.specs.Blank.{NextWritten}
+use Rattle.sheet.proofs.Blank.{skips, blank-label}
 use Rattle.sheet.proofs.Words.{label-on, labelled-on, no-corner, Changed, attached-changes, hole-changes, ambiguous-changes, cleared-changes, label-here, label-else, empty-word}
 use Rattle.sheet.specs.declared.Cell.{Cell}
 use Rattle.sheet.specs.declared.Label.{Label}
@@ -27,6 +29,10 @@ corner-labelled w k e = ap namesCorner e
 pub none-unlabelled : (w : ℕ) → labelOf w ≡ Label.Unlabelled → isLabelled w ≡ false
 unfolding isLabelled namesCorner
 none-unlabelled w e = ap namesCorner e
+
+-- a place that holds nothing
+pub blank-unlabelled : {w : ℕ} → w ≡ 0 → isLabelled w ≡ false
+blank-unlabelled {w} e = none-unlabelled w (blank-label e)
 
 -- the corner that a word names
 pub record Named (w : ℕ) : Type 0 where
@@ -204,6 +210,13 @@ module _ (sheet : List ℕ) (n p : ℕ) (g : Counting sheet n p) where
       go true q = rw (passing-hit (λ q. isLabelled (getD sheet q 0)) p q, length-append) (omega (arith, g .so-far))
       go false q = rw (passing-miss (λ q. isLabelled (getD sheet q 0)) p q) (g .so-far)
 
+  counting-blank : p < 16384 → getD sheet p 0 ≡ 0 → Counting sheet n (p + 1)
+  unfolding counted
+  counting-blank h e = counting-more n h (rw (blank-unlabelled e))
+
   pub counting-end : 16384 ≤ p → n ≡ labelCount sheet
   unfolding labelCount labelledPlaces
   counting-end h = let e : p ≡ 16384 = omega (arith, g .upto) in g .so-far ∙ ap (λ (q : ℕ). length (labelledBelow sheet q)) e
+
+pub counting-skips : (sheet : List ℕ) (n p : ℕ) → Counting sheet n p → {r : ℕ} → NextWritten sheet p r → Counting sheet n r
+counting-skips sheet n p g w = skips sheet (Counting sheet n) (λ q h e s. counting-blank sheet n q s h e) w g

@@ -14,12 +14,13 @@ use mir.Val.{SFits, toZ}
 use mir.Facts.{toZ-pos}
 use Rattle.sheet.specs.Cells.{placeOf, cellOf}
 use Rattle.sheet.specs.Words.{attached, emptySheet}
+use Rattle.sheet.specs.Blank.{NextWritten}
 use Rattle.sheet.proofs.Laws.{abs-sub, fits, place-in, cell-place}
 use Rattle.sheet.specs.declared.Cell.{Cell}
 use Rattle.labels.specs.Labelled.{isLabelled, LabelledCell, Attaching}
 use Rattle.labels.specs.Rim.{onRim, RimReached, rimAt, rim}
-use Rattle.labels.proofs.Below.{no-both, both, any-hit, any-yes, any-ext}
-use Rattle.labels.proofs.Labelled.{SamePlaces, cell-labelled, labelled-cell-on, labelled-word, labelled-new, labelled-still, labelled-cases, empty-unlabelled}
+use Rattle.labels.proofs.Below.{no-both, both, any-hit, any-yes, any-ext, Searching, searching-skips}
+use Rattle.labels.proofs.Labelled.{SamePlaces, cell-labelled, labelled-cell-on, labelled-word, labelled-new, labelled-still, labelled-cases, empty-unlabelled, blank-unlabelled}
 
 -- ---- the rule
 
@@ -102,3 +103,9 @@ module _ (depth : ℕ) (c : Cell) where
       pub rim-high-j : ltZ (c .j) (pos depth -ℤ pos 64) ≡ false → ltZ (pos 63 -ℤ pos depth) (c .j) ≡ onRim depth c
       unfolding onRim
       rim-high-j e = rw (not-low-i, not-high-i, e)
+
+-- ---- places that hold nothing
+
+pub rim-skips : (depth : ℕ) (sheet : List ℕ) {p r : ℕ} → Searching (λ q. rimAt depth (getD sheet q 0) q) 16384 p → NextWritten sheet p r → Searching (λ q. rimAt depth (getD sheet q 0) q) 16384 r
+unfolding rimAt
+rim-skips depth sheet g w = searching-skips sheet (λ q. rimAt depth (getD sheet q 0) q) (λ q e. rw (blank-unlabelled e)) g w

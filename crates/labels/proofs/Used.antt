@@ -14,6 +14,8 @@ use lib.ListN.{length, getD, set, length-set, length-append}
 use lib.Seq.{getD-set-same, getD-set-other}
 use Rattle.sheet.specs.Cells.{OnSheet, placeOf}
 use Rattle.sheet.specs.Words.{bitOf, labelOfNumber, labelOf, labelAt, attached, holeMarked, ambiguousMarked, marksCleared, emptySheet}
+use Rattle.sheet.specs.Blank.{NextWritten}
+use Rattle.sheet.proofs.Blank.{skips, blank-label}
 use Rattle.sheet.proofs.Laws.{place-in}
 use Rattle.sheet.proofs.Words.{label-on, labelled-on, no-corner, empty-word}
 use Rattle.sheet.specs.declared.Cell.{Cell}
@@ -319,6 +321,12 @@ module _ (sheet used : List ℕ) (p : ℕ) (g : Marking sheet used p) where
       go j m Label.Unlabelled = g .so-far j m
       go j m (Label.Corner k) = at j k m (ltb k 1024) refl (ℕ-discrete k j)
 
+  pub marking-blank : p < 16384 → getD sheet p 0 ≡ 0 → Marking sheet used (p + 1)
+  marking-blank h e = marking-more used h (noted-none used (labelOf (getD sheet p 0)) (blank-label e))
+
   pub marking-end : 16384 ≤ p → Tied sheet used
   unfolding usedOn
   marking-end h = let e : p ≡ 16384 = omega (arith, g .upto) in record { size = g .size; at = λ k l. rw (← e) (g .so-far k l) }
+
+pub marking-skips : (sheet used : List ℕ) (p : ℕ) → Marking sheet used p → {r : ℕ} → NextWritten sheet p r → Marking sheet used r
+marking-skips sheet used p g w = skips sheet (Marking sheet used) (λ q h e s. marking-blank sheet used q s h e) w g

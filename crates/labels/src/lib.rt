@@ -40,10 +40,10 @@ pub fn label_count(sheet: &[u16]) -> usize
     ensures { λ r. ⌜ r ≡ labelCount (now (sheet .entry)) ⌝ }
 {
     let mut count = 0usize;
-    let mut place = 0usize;
+    let mut place = sheet::next_written(sheet, 0);
     while place < 16384 {
         count = count_word(count, sheet[place]);
-        place += 1;
+        place = sheet::next_written(sheet, place + 1);
     }
     count
 }
@@ -119,11 +119,11 @@ pub fn label_box(sheet: &[u16]) -> LabelBox
     ensures { λ r. ⌜ r ≡ boxOf (now (sheet .entry)) ⌝ }
 {
     let mut around = LabelBox::Empty;
-    let mut place = 0usize;
+    let mut place = sheet::next_written(sheet, 0);
     while place < 16384 {
         let next = box_place(around, sheet[place], place);
         around = next;
-        place += 1;
+        place = sheet::next_written(sheet, place + 1);
     }
     around
 }
@@ -164,12 +164,12 @@ pub fn rim_reached(sheet: &[u16], depth: u32) -> bool
     requires { ⌜ RimAsked (now sheet) depth ⌝ }
     ensures { λ r. ⌜ r ≡ rim depth (now (sheet .entry)) ⌝ }
 {
-    let mut place = 0usize;
+    let mut place = sheet::next_written(sheet, 0);
     while place < 16384 {
         if place_on_rim(sheet[place], place, depth) {
             return true;
         }
-        place += 1;
+        place = sheet::next_written(sheet, place + 1);
     }
     false
 }
@@ -193,10 +193,10 @@ pub fn mark_used(sheet: &[u16]) -> [u8; 1024]
     ensures { λ r. ⌜ Tied (now (sheet .entry)) r ⌝ }
 {
     let mut used = [0u8; 1024];
-    let mut place = 0usize;
+    let mut place = sheet::next_written(sheet, 0);
     while place < 16384 {
         note_used(&mut used, sheet[place]);
-        place += 1;
+        place = sheet::next_written(sheet, place + 1);
     }
     used
 }

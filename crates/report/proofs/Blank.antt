@@ -5,13 +5,14 @@ use mathlib.Core.List.{List, []}
 use Prim.Native.Nat.{ℕ, zero, suc, _+_, _-_, _%_, _≤_, _<_}
 use native.Mathlib.Decide.{decLt}
 use native.Mathlib.Omega.{arith}
-use borrow.Author.Tests.{ltb-true, ltb-false, leb-false, eqb-true, lt-leb}
+use borrow.Author.Tests.{ltb-true, ltb-false, leb-false, eqb-true, eq-eqb, lt-leb}
 use lib.Dec.{ltb, leb, eqb}
 use lib.ListN.{length, getD}
 use Rattle.binary32.specs.Hex.{pick}
-use Rattle.sheet.specs.Words.{labelOf, holeOf, ambiguousOf}
+use Rattle.sheet.specs.Words.{holeOf, ambiguousOf}
 use Rattle.sheet.specs.Cells.{cellOf}
-use Rattle.sheet.proofs.Words.{label-none}
+use Rattle.sheet.specs.Blank.{BlankPlaces}
+use Rattle.sheet.proofs.Blank.{blank-label, blank-place}
 use Rattle.report_line.specs.Result.{labelLine, cellLine, holeLine, ambiguousLine, sheetLine, lineCount, joined}
 use Rattle.report.specs.Asked.{blankAt, BlankLines, SomeAsked, Skipped, lineAt, pieceFrom}
 use Rattle.report.proofs.Numbered.{sheet-line}
@@ -22,7 +23,7 @@ use Rattle.report.proofs.Writing.{Cutting, cutting-length, piece-more}
 module _ (sheet : List ℕ) (p : ℕ) (e : getD sheet p 0 ≡ 0) where
   no-cell : cellLine sheet p ≡ []
   unfolding cellLine
-  no-cell = ap (labelLine (cellOf p)) (ap labelOf e ∙ sym (label-none 0 (omega arith)))
+  no-cell = ap (labelLine (cellOf p)) (blank-label e)
 
   no-hole : holeLine sheet p ≡ []
   unfolding holeLine holeOf
@@ -58,9 +59,25 @@ blank-line passes words sheet k h e = go (leb k passes) refl e
         ∙ blank-sheet sheet (k - 1 - passes) (omega arith) (eqb-true _ 0 b)
 
 -- a line of a place, by what the place holds
-pub blank-late : (passes : ℕ) (sheet : List ℕ) (k : ℕ) → passes < k → eqb (getD sheet ((k - 1 - passes) % 16384) 0) 0 ≡ blankAt passes sheet k
+blank-late : (passes : ℕ) (sheet : List ℕ) (k : ℕ) → passes < k → eqb (getD sheet ((k - 1 - passes) % 16384) 0) 0 ≡ blankAt passes sheet k
 unfolding blankAt
 blank-late passes sheet k h = rw (lt-leb k passes h)
+
+-- ---- the lines of a row
+
+pub no-lines : (passes : ℕ) (sheet : List ℕ) (k : ℕ) → BlankLines passes sheet k 0
+no-lines passes sheet k = record { blank = λ a p q. absurd (omega arith) }
+
+-- the places from that of line k on, up to the end of its row
+pub lines-of : (passes : ℕ) (sheet : List ℕ) (k n : ℕ) → passes < k
+    → BlankPlaces sheet ((k - 1 - passes) % 16384) n → BlankLines passes sheet k n
+lines-of passes sheet k n h s = record { blank = one }
+  where
+    one : (a : ℕ) → k ≤ a → a < k + n → blankAt passes sheet a ≡ true
+    one a p q =
+        let u = s .upto in
+        let d : (a - 1 - passes) % 16384 ≡ (k - 1 - passes) % 16384 + (a - k) = omega arith in
+        sym (blank-late passes sheet a (omega arith)) ∙ eq-eqb (getD sheet ((a - 1 - passes) % 16384) 0) 0 (rw d (blank-place sheet ((k - 1 - passes) % 16384) n (s .blank) (a - k) (omega arith)))
 
 -- ---- a piece without them
 

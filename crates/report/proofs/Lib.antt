@@ -8,5 +8,4 @@ pub mod Laws
 pub mod Checking
 pub mod Writing
 pub mod Blank
-pub mod Rows
 pub mod Answers

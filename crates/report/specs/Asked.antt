@@ -1,8 +1,8 @@
 -- What the inner functions ask of what is lent, and the lines of a result by what is lent. Definitions only.
 use mathlib.Core.Path.{_≡_}
-use mathlib.Core.Bool.{Bool, true, false, cond, _&&_}
+use mathlib.Core.Bool.{Bool, true, false, cond}
 use mathlib.Core.List.{List, [], _++_}
-use Prim.Native.Nat.{ℕ, zero, suc, _+_, _-_, _*_, _%_, _≤_, _<_}
+use Prim.Native.Nat.{ℕ, _+_, _-_, _*_, _%_, _≤_, _<_}
 use lib.ListN.{length, getD, take, drop}
 use lib.Dec.{T, eqb, leb}
 use lib.Ieee.{binary32, ofBits, toBits, fits}
@@ -136,16 +136,6 @@ pub record HasLine (passes : ℕ) (words sheet : List ℕ) (k : ℕ) : Type 0 wh
 -- a line of the sheet whose place holds nothing: no corner and no mark
 unfoldable pub blankAt : ℕ → List ℕ → ℕ → Bool
 blankAt passes sheet k = cond (leb k passes) false (eqb (getD sheet ((k - 1 - passes) % 16384) 0) 0)
-
--- the n places from one on hold nothing
-unfoldable pub allBlank : List ℕ → ℕ → ℕ → Bool
-allBlank sheet at zero = true
-allBlank sheet at (suc n) = allBlank sheet at n && eqb (getD sheet (at + n) 0) 0
-
--- n places from one on, at most a number of them, hold nothing
-pub record BlankRun (sheet : List ℕ) (at most n : ℕ) : Type 0 where
-  pub upto : n ≤ most
-  pub blank : allBlank sheet at n ≡ true
 
 -- the n lines from line k on are of places that hold nothing
 pub record BlankLines (passes : ℕ) (sheet : List ℕ) (k n : ℕ) : Type 0 where

@@ -7,7 +7,7 @@ ghost use lib.ListN.{length};
 ghost use Rattle.line_form.specs.Written.{Wrote};
 ghost use Rattle.report_line.specs.Result.{passLine};
 ghost use Rattle.report.specs.Lent.{statsAt};
-ghost use Rattle.report.specs.Asked.{HasOutcome, AllLent, HasLine, PassAsked, LineAsked, AllAsked, SomeAsked, WrotePiece, BlankRun, BlankLines, Skipped, allBlank, lineAt, textFrom, pieceFrom};
+ghost use Rattle.report.specs.Asked.{HasOutcome, AllLent, HasLine, PassAsked, LineAsked, AllAsked, SomeAsked, WrotePiece, BlankLines, Skipped, lineAt, textFrom, pieceFrom};
 use report_line::length::fill_length;
 use report_line::length::grow_length;
 use report_line::length::local_length;
@@ -115,36 +115,7 @@ pub fn write_all(passes: usize, words: &[u32], sheet: &[u16], out: &mut [u8]) ->
     at
 }
 
-// Whether the 128 places from one on all hold nothing. It looks at all of them in any case, so that the compiler can take several words at once.
-fn row_is_blank(sheet: &[u16], at: usize) -> bool
-    requires { ⌜ at + 128 ≤ length (now sheet) ⌝ }
-    ensures { λ r. ⌜ r ≡ allBlank (now (sheet .entry)) at 128 ⌝ }
-{
-    let mut all = 0u16;
-    let mut i = 0usize;
-    while i < 128 {
-        all = all | sheet[at + i];
-        i += 1;
-    }
-    all == 0
-}
-
-// How many places from one on hold nothing, up to the first that holds something, and at most a number.
-fn blank_run(sheet: &[u16], at: usize, most: usize) -> usize
-    requires { ⌜ at + most ≤ length (now sheet) ⌝ }
-    ensures { λ r. ⌜ BlankRun (now (sheet .entry)) at most r ⌝ }
-{
-    let mut n = 0usize;
-    while n < most {
-        if sheet[at + n] != 0 {
-            return n;
-        }
-        n += 1;
-    }
-    n
-}
-
-// How many lines from line k on are of places that hold nothing, as far as a row of the sheet goes. From the row's start on the whole row is tried first.
+// How many lines from line k on are of places that hold nothing, as far as a row of the sheet goes.
 fn blank_lines(passes: usize, sheet: &[u16], k: usize) -> usize
     requires { ⌜ 16384 ≤ length (now sheet) ⌝ }
     ensures { λ r. ⌜ BlankLines passes (now (sheet .entry)) k r ⌝ }
@@ -152,14 +123,7 @@ fn blank_lines(passes: usize, sheet: &[u16], k: usize) -> usize
     if k <= passes {
         return 0;
     }
-    let place = (k - 1 - passes) % 16384;
-    let left = 128 - place % 128;
-    if left == 128 {
-        if row_is_blank(sheet, place) {
-            return 128;
-        }
-    }
-    blank_run(sheet, place, left)
+    sheet::blank_places(sheet, (k - 1 - passes) % 16384)
 }
 
 // The next line from line k on that may have something to say, or the last line: most lines are empty, and are passed over here row by row.

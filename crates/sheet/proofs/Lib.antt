@@ -1,5 +1,6 @@
 -- The laws of the sheet, a module for each of the definitions. Assumes nothing.
 pub mod Laws
 pub mod Words
+pub mod Blank
 pub mod Corners
 pub mod Pairing

@@ -1,11 +1,12 @@
 // The sheet of 01: cells and their places, what a place holds, and the corners as they are seen through it.
 
 ghost use mathlib.Core.Path.{_≡_};
-ghost use Prim.Native.Nat.{_<_, _≤_};
+ghost use Prim.Native.Nat.{_+_, _<_, _≤_};
 ghost use lib.ListN.{length};
 ghost use Rattle.sheet.specs.Cells.{onSheet, OnSheet, placeOf, cellOf, moved, differenceOf, magnitudeOf, Within, NearSheet};
 ghost use Rattle.sheet.specs.Words.{labelOf, holeOf, ambiguousOf, withLabel, withHole, withAmbiguous, withoutMarks, labelAt, attached, holeMarked, ambiguousMarked, marksCleared, SheetCell};
 ghost use Rattle.sheet.specs.Corners.{cornerOf, seenOf, Listed, Given};
+ghost use Rattle.sheet.specs.Blank.{allBlank, BlankRun, BlankPlaces, NextWritten};
 ghost use lib.IntN.{natAbs};
 
 // A cell of the checkerboard, by its two numbers. On the sheet both are from -64 to 63.
@@ -251,4 +252,68 @@ pub fn seen_at(xs: &[f32], ys: &[f32], pitches: &[f32], sheet: &[u16], c: Cell) 
         Label::Unlabelled => Seen::Nothing,
         Label::Corner(k) => Seen::At(corner_at(xs, ys, pitches, k)),
     }
+}
+
+// Whether so many places from one on all hold nothing. It looks at all of them in any case, so that the compiler can take several words at once.
+fn all_blank(sheet: &[u16], at: usize, count: usize) -> bool
+    requires { ⌜ at + count ≤ length (now sheet) ⌝ }
+    ensures { λ r. ⌜ r ≡ allBlank (now (sheet .entry)) at count ⌝ }
+{
+    let mut all = 0u16;
+    let mut i = 0usize;
+    while i < count {
+        all = all | sheet[at + i];
+        i += 1;
+    }
+    all == 0
+}
+
+// How many places from one on hold nothing, up to the first that holds something, and at most a number.
+fn blank_run(sheet: &[u16], at: usize, most: usize) -> usize
+    requires { ⌜ at + most ≤ length (now sheet) ⌝ }
+    ensures { λ r. ⌜ BlankRun (now (sheet .entry)) at most r ⌝ }
+{
+    let mut n = 0usize;
+    while n < most {
+        if sheet[at + n] != 0 {
+            return n;
+        }
+        n += 1;
+    }
+    n
+}
+
+// Some places from one on that hold nothing, all of its row of 128 places; none only if the place itself holds something. From the row's start
+// on the whole row is tried first, and then 16 places at once.
+pub fn blank_places(sheet: &[u16], at: usize) -> usize
+    requires { ⌜ (at < 16384) × (16384 ≤ length (now sheet)) ⌝ }
+    ensures { λ r. ⌜ BlankPlaces (now (sheet .entry)) at r ⌝ }
+{
+    if at % 128 == 0 {
+        if all_blank(sheet, at, 128) {
+            return 128;
+        }
+    }
+    if at % 16 == 0 {
+        if all_blank(sheet, at, 16) {
+            return 16;
+        }
+    }
+    blank_run(sheet, at, 16 - at % 16)
+}
+
+// The next place from one on that holds something, or 16,384 where there is none: most places hold nothing, and are passed over here row by row.
+pub fn next_written(sheet: &[u16], from: usize) -> usize
+    requires { ⌜ (from ≤ 16384) × (16384 ≤ length (now sheet)) ⌝ }
+    ensures { λ r. ⌜ NextWritten (now (sheet .entry)) from r ⌝ }
+{
+    let mut r = from;
+    while r < 16384 {
+        let n = blank_places(sheet, r);
+        if n == 0 {
+            return r;
+        }
+        r += n;
+    }
+    r
 }

@@ -5,8 +5,11 @@ use mathlib.Core.List.{List, [], _∷_}
 use Prim.Native.Nat.{ℕ, zero, suc, _+_, _-_, _<_, _≤_}
 use native.Mathlib.Omega.{arith}
 use lib.ListN.{length, getD, set, length-append}
+use Rattle.sheet.specs.Blank.{NextWritten}
+use Rattle.sheet.proofs.Blank.{skips}
 use Rattle.labels.specs.Labelled.{passing, isLabelled, counted, labelledBelow, labelledPlaces, labelCount}
 use Rattle.labels.proofs.Below.{passing-none, passing-more, passing-hit, passing-miss}
+use Rattle.labels.proofs.Labelled.{blank-unlabelled}
 use Rattle.passes.specs.Outcome.{over}
 use Rattle.passes.proofs.Over.{over-more}
 use Rattle.supports.specs.Nearest.{MoreListed, Gatherable, Gathered}
@@ -83,3 +86,8 @@ module _ (sheet before places : List ℕ) (count p : ℕ) (asked : Gatherable sh
   pub listing-end : 16384 ≤ p → Gathered sheet before places count
   unfolding labelCount labelledPlaces
   listing-end h = let e : p ≡ 16384 = omega (arith, g .upto) in record { count-is = rw (← e) (g .count-is); places-are = rw (← e) (g .places-are) }
+
+-- places that hold nothing
+pub listing-skips : (sheet before places : List ℕ) (count : ℕ) → Gatherable sheet before → {p r : ℕ} → Listing sheet before places count p → NextWritten sheet p r → Listing sheet before places count r
+listing-skips sheet before places count asked g w =
+    skips sheet (Listing sheet before places count) (λ p h e s. listing-more sheet before places count p asked s h places count (listed-same places count _ p (blank-unlabelled e))) w g

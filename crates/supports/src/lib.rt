@@ -51,11 +51,11 @@ pub fn gather_labelled(sheet: &[u16], places: &mut [u16; 1024]) -> usize
     ensures { λ r. ⌜ Gathered (now (sheet .entry)) (now (places .entry)) (now (places .exit)) r ⌝ }
 {
     let mut count = 0usize;
-    let mut place = 0usize;
+    let mut place = sheet::next_written(sheet, 0);
     while place < 16384 {
         let next = list_place(places, count, sheet[place], place);
         count = next;
-        place += 1;
+        place = sheet::next_written(sheet, place + 1);
     }
     count
 }

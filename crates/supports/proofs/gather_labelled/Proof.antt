@@ -1,7 +1,7 @@
 -- `supports::gather_labelled` meets its contract: at each place the labelled ones before it are listed. Assumes nothing.
 use Prim.Native.Nat.{_-_}
 use native.Mathlib.Omega.{arith}
-use Rattle.supports.proofs.Listing.{Listing, listing-start, listing-room, listing-more, listing-end}
+use Rattle.supports.proofs.Listing.{Listing, listing-start, listing-room, listing-more, listing-skips, listing-end}
 use Rattle.supports.proofs.gather_labelled.Statement.{statement}
 use Rattle.supports.proofs.gather_labelled.Tie as tie
 
@@ -11,8 +11,11 @@ Inv-loop sheet places₀ count₀ place₀ places count place = Listing sheet pl
 abbrev μ-loop : tie.MeasureT-loop
 μ-loop sheet places₀ count₀ place₀ places count place = 16384 - place
 
+next-written-requires : tie.Need-next-written-requires Inv-loop μ-loop
+next-written-requires c κs = (omega arith, omega arith)
+
 loop-holds : tie.Need-loop-holds Inv-loop μ-loop
-loop-holds c = listing-start _ _
+loop-holds c = listing-skips _ _ _ _ (c .before .before .pre) (listing-start _ _) (c .next-written .ensures)
 
 mul-list-place : tie.Need-mul-list-place Inv-loop μ-loop
 mul-list-place c = omega arith
@@ -21,19 +24,22 @@ shared-slice-read-list-place : tie.Need-shared-slice-read-list-place Inv-loop μ
 shared-slice-read-list-place c = omega arith
 
 list-place-requires : tie.Need-list-place-requires Inv-loop μ-loop
-list-place-requires c κs = record { below = c .before .before .loop-test .taken; room = listing-room _ _ _ _ _ (c .before .before .before .before .before .pre) (c .before .before .before .loop .inv) (c .before .before .loop-test .taken) }
+list-place-requires c κs = record { below = c .before .before .loop-test .taken; room = listing-room _ _ _ _ _ (c .before .before .before .before .before .before .pre) (c .before .before .before .loop .inv) (c .before .before .loop-test .taken) }
 
-add-place : tie.Need-add-place Inv-loop μ-loop
-add-place c = omega arith
+add-next-written : tie.Need-add-next-written Inv-loop μ-loop
+add-next-written c = omega arith
+
+next-written-requires-2 : tie.Need-next-written-requires-2 Inv-loop μ-loop
+next-written-requires-2 c κs = (omega arith, omega arith)
 
 loop-less : tie.Need-loop-less Inv-loop μ-loop
-loop-less c = omega arith
+loop-less c = let l = c .next-written2 .ensures .passed .start in omega arith
 
 loop-again : tie.Need-loop-again Inv-loop μ-loop
-loop-again c = listing-more _ _ _ _ _ (c .before .before .before .before .before .before .pre) (c .before .before .before .before .loop .inv) (c .before .before .before .loop-test .taken) _ _ (c .list-place .ensures)
+loop-again c = listing-skips _ _ _ _ (c .before .before .before .before .before .before .before .before .pre) (listing-more _ _ _ _ _ (c .before .before .before .before .before .before .before .before .pre) (c .before .before .before .before .before .loop .inv) (c .before .before .before .before .loop-test .taken) _ _ (c .before .list-place .ensures)) (c .next-written2 .ensures)
 
 returns : tie.Need-returns Inv-loop μ-loop
-returns c = listing-end _ _ _ _ _ (c .before .before .before .pre) (c .before .loop .inv) (c .loop-test .left)
+returns c = listing-end _ _ _ _ _ (c .before .before .before .before .pre) (c .before .loop .inv) (c .loop-test .left)
 
 pub gather-labelled-spec : {M : Type 1} → statement M
 gather-labelled-spec =
@@ -41,11 +47,13 @@ gather-labelled-spec =
     (tie.spec
     Inv-loop
     μ-loop
+    next-written-requires
     loop-holds
     mul-list-place
     shared-slice-read-list-place
     list-place-requires
-    add-place
+    add-next-written
+    next-written-requires-2
     loop-less
     loop-again
     returns)

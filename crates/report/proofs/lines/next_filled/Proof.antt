@@ -5,9 +5,6 @@ use Rattle.report.specs.Asked.{Skipped}
 use Rattle.report.proofs.Blank.{skip-start, skip-lines}
 use Rattle.report.proofs.lines.next_filled.Statement.{statement}
 use Rattle.report.proofs.lines.next_filled.Tie as tie
-use Rattle.report.proofs.lines.next_filled.Reads as reads
-use Rattle.report.proofs.lines.next_filled.Lts as lts
-use Rattle.report.proofs.lines.blank_lines.Reads as blank-lines-reads
 
 abbrev Inv-loop : tie.InvT-loop
 Inv-loop passes words sheet k last r₀ r = Skipped passes words sheet k r

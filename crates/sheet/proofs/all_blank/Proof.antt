@@ -1,20 +1,18 @@
--- `lines::row_is_blank` meets its contract: the joined word is 0 where each word looked at is. Assumes nothing.
+-- `sheet::all_blank` meets its contract: the joined word is 0 where each word looked at is. Assumes nothing.
 use mathlib.Core.Path.{_≡_, ap, _∙_}
 use Prim.Native.Nat.{_-_, _≤_}
 use native.Mathlib.Omega.{arith}
 use lib.Dec.{eqb}
-use Rattle.report.specs.Asked.{allBlank}
-use Rattle.report.proofs.Rows.{none-blank, joined-more}
-use Rattle.report.proofs.lines.row_is_blank.Statement.{statement}
-use Rattle.report.proofs.lines.row_is_blank.Tie as tie
-use Rattle.report.proofs.lines.row_is_blank.Reads as reads
-use Rattle.report.proofs.lines.row_is_blank.Lts as lts
+use Rattle.sheet.specs.Blank.{allBlank}
+use Rattle.sheet.proofs.Blank.{none-blank, joined-more}
+use Rattle.sheet.proofs.all_blank.Statement.{statement}
+use Rattle.sheet.proofs.all_blank.Tie as tie
 
 abbrev Inv-loop : tie.InvT-loop
-Inv-loop sheet at all₀ i₀ all i = (i ≤ 128) × (eqb all 0 ≡ allBlank sheet at i)
+Inv-loop sheet at count all₀ i₀ all i = (i ≤ count) × (eqb all 0 ≡ allBlank sheet at i)
 
 abbrev μ-loop : tie.MeasureT-loop
-μ-loop sheet at all₀ i₀ all i = 128 - i
+μ-loop sheet at count all₀ i₀ all i = count - i
 
 loop-holds : tie.Need-loop-holds Inv-loop μ-loop
 loop-holds c = (omega arith, none-blank _ _)
@@ -38,10 +36,10 @@ loop-again : tie.Need-loop-again Inv-loop μ-loop
 loop-again c = (omega arith, joined-more _ _ _ (c .before .before .loop .all) (c .before .before .loop .inv .1))
 
 returns : tie.Need-returns Inv-loop μ-loop
-returns c = let e : c .before .loop .i ≡ 128 = omega arith in c .before .loop .inv .1 ∙ ap (allBlank _ _) e
+returns c = let e : c .before .loop .i ≡ c .before .before .args .count = omega arith in c .before .loop .inv .1 ∙ ap (allBlank _ _) e
 
-pub row-is-blank-spec : {M : Type 1} → statement M
-row-is-blank-spec =
+pub all-blank-spec : {M : Type 1} → statement M
+all-blank-spec =
     tie.close
     (tie.spec
     Inv-loop
