@@ -60,12 +60,14 @@ pub record AttachedAt (cs : Corners) (tol : Tolerances) (first made last : List 
 
 -- ---- several passes, one after the other
 
--- from the first sheet to the last by passes, each with its own tolerances, that attached the listed places in order
+-- from the first sheet to the last by passes, each with some tolerances of its own, that attached the listed places in order
 pub data Histories (cs : Corners) (first : List ℕ) : List ℕ → List ℕ → Type 0 where
   before : Histories cs first [] first
   pass : {made last more after : List ℕ} (tol : Tolerances) → Histories cs first made last → History cs tol last more after → Histories cs first (made ++ more) after
 
--- the n-th of all new cells, with the tolerances of its pass
+-- The n-th of all new cells, counted over all passes: it was attached with some tolerances, on the sheet to which all before it had led. Which
+-- tolerances is not said here. It is said call by call: `Invariant.each-call` (Calls.antt) holds for each call that ran a `Ran`, whose `each`
+-- has that call's own cell size and band.
 pub record AttachedInTurn (cs : Corners) (first made last : List ℕ) (n : ℕ) : Type 0 where
   pub tol : Tolerances
   pub sheet : List ℕ

@@ -4,7 +4,7 @@ use mathlib.Core.List.{List}
 use Prim.Native.Nat.{ℕ, zero, suc, _+_}
 use lib.ListN.{length}
 use Rattle.report_line.specs.Result.{Piece}
-use Rattle.recovery.specs.Answer.{heldLines, heldPiece, Recovers, WrotePiece}
+use Rattle.recovery.specs.Answer.{heldLines, heldPiece, Lent, Recovers, WrotePiece}
 use Rattle.recovery.specs.declared.Recovered.{Recovered}
 use Rattle.recovery.specs.declared.PieceWritten.{PieceWritten}
 use Rattle.recovery.proofs.Saying.{says}
@@ -31,7 +31,7 @@ unfolding lineAfter
 same-after f g e zero = refl
 same-after f g e (suc n) = ap (λ (p : Piece). p .next) (e (lineAfter f n)) ∙ ap (λ (k : ℕ). g k .next) (same-after f g e n)
 
-pub told : (text sheet words : List ℕ) (answer : Recovered) {r : Said} → Recovers text sheet words answer → ToldOf answer words sheet r → Told text r
-told text sheet words answer w t =
-    let s = says text sheet words answer w in
+pub told : (text : List ℕ) (before after : Lent) (answer : Recovered) {r : Said} → Recovers text before after answer → ToldOf answer (after .words) (after .frame .sheet) r → Told text r
+told text before after answer w t =
+    let s = says text before after answer w in
     record { pieces = t .pieces; lines-so = t .lines-so ∙ s .lines-so; next-so = t .next-so ∙ same-after _ _ (λ k. s .piece-so k 4096) (t .pieces) }

@@ -1,5 +1,8 @@
-// The answer to a text, worked out by the crate `recovery` and written to standard output: the pieces that are written here, joined, are
-// `answerText` of the text.
+// The answer to a text, worked out by the crate `recovery` and written to standard output piece by piece.
+// Proved of each piece: `recovery::answer_piece` puts it at the front of the buffer, from a line on, as `answerPiece` of the text has it; and all
+// pieces from line 0 on, joined, are `answerText` of the text (`PiecesJoin`). Proved of `answer`: it stopped after some number of pieces, at the
+// line that comes after them, and how many lines there are. That the bytes of each piece reach standard output, once and in order, no contract can
+// say: it is tested, by the programs `recover` and `recover_vectors`, and not proved.
 ghost use mathlib.Core.Path.{_≡_};
 ghost use lib.ListN.{length};
 ghost use Rattle.recovery.specs.Answer.{CanSay, FewPasses};

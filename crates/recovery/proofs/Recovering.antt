@@ -23,7 +23,7 @@ use Rattle.frame.specs.declared.FrameAnswer.{FrameAnswer}
 use Rattle.frame_laws.specs.Calls.{cornersOf, callsOf}
 use Rattle.frame_laws.proofs.Back.{frame-prints-back}
 use Rattle.recovery.specs.Running.{cornerLists, callAt, Left, left, leftByAll, PassWords, AtFront, FrameRoom, PassRoom}
-use Rattle.recovery.specs.Answer.{Recorded, Recovers, recovers-not, recovers}
+use Rattle.recovery.specs.Answer.{Recorded, Lent, lentAs, Recovers, recovers-not, recovers}
 use Rattle.recovery.specs.declared.Recovered.{Recovered}
 use Rattle.recovery.proofs.Ran.{recorded}
 
@@ -100,7 +100,7 @@ module _ (text : List ℕ) (xs ys pitches : List Float) (sheet passes : List ℕ
   into = ap (λ (b : Bool). unlessShort b text lent) long-enough
 
   module _ (answer : FrameAnswer) (xs' ys' pitches' : List Float) (sheet' passes' : List ℕ) (e : frameOut answer xs' ys' pitches' sheet' passes' ≡ readInto text lent) where
-    pub read-refused : (r : Refusal) (n : ℕ) → answer ≡ FrameAnswer.Refused r n → readFrame text ≡ refused-at r n
+    read-refused : (r : Refusal) (n : ℕ) → answer ≡ FrameAnswer.Refused r n → readFrame text ≡ refused-at r n
     read-refused r n t = go (readFrame text) (e ∙ into)
       where
         go : (a : FrameRead) → frameOut answer xs' ys' pitches' sheet' passes' ≡ leaves a lent → a ≡ refused-at r n
@@ -108,6 +108,13 @@ module _ (text : List ℕ) (xs ys pitches : List Float) (sheet passes : List ℕ
         go (accepted f) w =
             absurd (let s : answer ≡ FrameAnswer.Accepted (record { settings = settingsOf f; corners = length (f .corners); passes = length (f .passes) }) = ap (λ (o : FrameOut). o .answer) w in
             let z : _≡_ {A = ℕ} 0 1 = cc in omega arith)
+
+    -- so a refused frame leaves all as it was
+    pub recovered-not : (r : Refusal) (n : ℕ) → answer ≡ FrameAnswer.Refused r n → (queue places words : List ℕ) → Recovers text (lentAs xs ys pitches sheet passes queue places words) (lentAs xs' ys' pitches' sheet' passes' queue places words) (Recovered.Refused r n)
+    recovered-not r n t queue places words =
+        let q = read-refused r n t in
+        let w : frameOut answer xs' ys' pitches' sheet' passes' ≡ leaves (refused-at r n) lent = e ∙ into ∙ ap (λ (a : FrameRead). leaves a lent) q in
+        recovers-not r n q (ap (λ (o : FrameOut). record { frame = o .buffers; queue = queue; attached = places; words = words }) w)
 
     -- what an accepted frame leaves
     pub record Read (head : FrameHead) : Type 0 where
@@ -179,13 +186,13 @@ module _ (text : List ℕ) (xs ys pitches : List Float) (sheet passes : List ℕ
     same words l set q a ps m s = λ t. leftByAll (l t) (callAt (set t) (q t) (a t) (ps t)) (m t) 0 (left (s t) words)
 
     -- what it leads to
-    pub recovered : (head : FrameHead) → Read head → (queue places words : List ℕ) → PassRoom queue places words → (sheet'' words'' : List ℕ)
-        → left sheet'' words'' ≡ leftByAll (cornerLists (take (head .corners) xs') (take (head .corners) ys') (take (head .corners) pitches')) (callAt (head .settings) (length queue) (length places) passes') (head .passes) 0 (left sheet' words)
-        → Recovers text sheet'' words'' (Recovered.Done (head .corners) (head .passes))
-    recovered head w queue places words r sheet'' words'' g =
+    pub recovered : (head : FrameHead) → Read head → (queue places words : List ℕ) → PassRoom queue places words → (before after : Lent)
+        → left (after .frame .sheet) (after .words) ≡ leftByAll (cornerLists (take (head .corners) xs') (take (head .corners) ys') (take (head .corners) pitches')) (callAt (head .settings) (length queue) (length places) passes') (head .passes) 0 (left sheet' words)
+        → Recovers text before after (Recovered.Done (head .corners) (head .passes))
+    recovered head w queue places words r before after g =
         recovers f (head .corners) (head .passes) (w .is-accepted)
-        (subst (λ (n : ℕ). Recorded f n (head .passes) sheet'' words'') (sym corners-so)
-        (subst (λ (m : ℕ). Recorded f (length (f .corners)) m sheet'' words'') (sym passes-count)
+        (subst (λ (n : ℕ). Recorded f n (head .passes) (after .frame .sheet) (after .words)) (sym corners-so)
+        (subst (λ (m : ℕ). Recorded f (length (f .corners)) m (after .frame .sheet) (after .words)) (sym passes-count)
         (subst (λ (s : Left). Recorded f (length (f .corners)) (length (f .passes)) (s .sheet) (s .words)) (sym so)
         (recorded text f (w .is-accepted) passes words (room .passes-long) (r .words-long)))))
       where
@@ -201,7 +208,7 @@ module _ (text : List ℕ) (xs ys pitches : List Float) (sheet passes : List ℕ
         settings-so : head .settings ≡ settingsOf f
         settings-so = ap (λ (h : FrameHead). h .settings) (w .head-so)
 
-        so : left sheet'' words'' ≡ leftByAll (cornersOf f) (callAt (settingsOf f) 4096 1024 (over (allWords (f .passes)) passes)) (length (f .passes)) 0 (left (sheetOf f) words)
+        so : left (after .frame .sheet) (after .words) ≡ leftByAll (cornersOf f) (callAt (settingsOf f) 4096 1024 (over (allWords (f .passes)) passes)) (length (f .passes)) 0 (left (sheetOf f) words)
         so =
             g
             ∙ same words (corners-read head w) settings-so (r .queue-whole) (r .attached-whole) (w .passes-so) passes-count (sheet-read head w)

@@ -9,29 +9,29 @@ use Rattle.passes.specs.Run.{PassStats}
 use Rattle.report_line.specs.Result.{resultPiece, lineCount}
 use Rattle.report.specs.Lent.{statsFrom}
 use Rattle.report.proofs.Outcomes.{stats-length}
-use Rattle.recovery.specs.Answer.{frameStats, Recorded, Recovers, recovers-not, recovers, answerLines, answerPiece, heldLines, heldPiece, CanSay, FewPasses, Says}
+use Rattle.recovery.specs.Answer.{frameStats, Recorded, Lent, Recovers, recovers-not, recovers, answerLines, answerPiece, heldLines, heldPiece, CanSay, FewPasses, Says}
 use Rattle.recovery.specs.declared.Recovered.{Recovered}
 use Rattle.recovery.proofs.Refusing.{refused-line}
 
-pub says : (text sheet words : List ℕ) (r : Recovered) → Recovers text sheet words r → Says text sheet words r
+pub says : (text : List ℕ) (before after : Lent) (r : Recovered) → Recovers text before after r → Says text (after .frame .sheet) (after .words) r
 unfolding CanSay heldLines heldPiece answerLines answerPiece
-says text sheet words _ (recovers-not r line e) =
+says text before after _ (recovers-not r line e kept) =
     record {
       can-say = omega (arith, refused-line text r line e);
       lines-so = rw e refl;
       piece-so = λ k room. rw e refl;
     }
-says text sheet words _ (recovers f corners passes e w) =
+says text before after _ (recovers f corners passes e w) =
     record {
       can-say = record { few-corners = w .few-corners; few-passes = w .few-passes; words-long = w .words-long; sheet-long = w .sheet-long; tame = w .tame; known = w .known; once = w .once };
-      lines-so = rw e (ap lineCount (sym (stats-length words 0 passes) ∙ ap (λ (s : List PassStats). length s) (w .stats-so)));
+      lines-so = rw e (ap lineCount (sym (stats-length (after .words) 0 passes) ∙ ap (λ (s : List PassStats). length s) (w .stats-so)));
       piece-so = λ k room. rw (e, w .stats-so, w .sheet-so) refl;
     }
 
 -- so it can be said
-pub can-say : (text sheet words : List ℕ) (r : Recovered) → Recovers text sheet words r → CanSay r words sheet × FewPasses r
-can-say text sheet words r w = (says text sheet words r w .can-say, few w)
+pub can-say : (text : List ℕ) (before after : Lent) (r : Recovered) → Recovers text before after r → CanSay r (after .words) (after .frame .sheet) × FewPasses r
+can-say text before after r w = (says text before after r w .can-say, few w)
   where
-    few : {r : Recovered} → Recovers text sheet words r → FewPasses r
-    few (recovers-not r line e) = tt
+    few : {r : Recovered} → Recovers text before after r → FewPasses r
+    few (recovers-not r line e kept) = tt
     few (recovers f corners passes e w) = w .few-passes

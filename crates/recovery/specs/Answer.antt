@@ -6,6 +6,7 @@ use mathlib.Core.List.{List, [], _∷_, _++_}
 use Prim.Native.Nat.{ℕ, zero, suc, _+_, _*_, _<_, _≤_}
 use lib.Dec.{ltb}
 use lib.ListN.{length}
+use lib.Ieee.{Float}
 use Rattle.refusal.specs.declared.Refusal.{Refusal}
 use Rattle.refusal.specs.Refusal.{numberOf}
 use Rattle.binary32.specs.Hex.{pick}
@@ -14,7 +15,7 @@ use Rattle.line_form.specs.Forms.{bytes, printed}
 use Rattle.passes.specs.Outcome.{After, Outcome, refused, done}
 use Rattle.passes.specs.Run.{PassStats, run, sheetOf as sheetAfterAll}
 use Rattle.frame.specs.Frame.{Frame, FrameRead, refused-at, accepted, readFrame}
-use Rattle.frame.specs.Lent.{sheetOf}
+use Rattle.frame.specs.Lent.{sheetOf, Buffers}
 use Rattle.frame_laws.specs.Calls.{cornersOf, callsOf}
 use Rattle.report_line.specs.Result.{count, resultText, resultFrom, Piece, resultPiece, lineCount}
 use Rattle.report.specs.Lent.{statsIn, wildOutcome}
@@ -64,10 +65,22 @@ pub record Recorded (f : Frame) (corners passes : ℕ) (sheet words : List ℕ) 
   pub known : unknownCorner corners sheet ≡ false
   pub once : doubledCorner sheet ≡ false
 
--- the answer to a text, with the sheet and the words that go with it
-pub data Recovers (text : List ℕ) (sheet words : List ℕ) : Recovered → Type 0 where
-  recovers-not : (r : Refusal) (line : ℕ) → readFrame text ≡ refused-at r line → Recovers text sheet words (Recovered.Refused r line)
-  recovers : (f : Frame) (corners passes : ℕ) → readFrame text ≡ accepted f → Recorded f corners passes sheet words → Recovers text sheet words (Recovered.Done corners passes)
+-- what a frame is read into, and what its passes are lent beside that
+pub record Lent : Type 0 where
+  pub frame : Buffers
+  pub queue : List ℕ
+  pub attached : List ℕ
+  pub words : List ℕ
+
+abbrev pub lentAs : List Float → List Float → List Float → List ℕ → List ℕ → List ℕ → List ℕ → List ℕ → Lent
+lentAs xs ys pitches sheet passes queue attached words =
+    record { frame = record { xs = xs; ys = ys; pitches = pitches; sheet = sheet; passes = passes }; queue = queue; attached = attached; words = words }
+
+-- the answer to a text, with the buffers before and after: a refused frame changes none of them, and after an accepted one the sheet and the
+-- words go with the answer
+pub data Recovers (text : List ℕ) (before after : Lent) : Recovered → Type 0 where
+  recovers-not : (r : Refusal) (line : ℕ) → readFrame text ≡ refused-at r line → after ≡ before → Recovers text before after (Recovered.Refused r line)
+  recovers : (f : Frame) (corners passes : ℕ) → readFrame text ≡ accepted f → Recorded f corners passes (after .frame .sheet) (after .words) → Recovers text before after (Recovered.Done corners passes)
 
 -- ---- piece by piece
 

@@ -5,7 +5,7 @@ ghost use lib.ListN.{length, take};
 ghost use lib.Ieee.{binary32, ofBits};
 ghost use Rattle.passes.specs.Run.{grow, fill, local};
 ghost use Rattle.recovery.specs.Running.{passAt, calledAs, cornerLists, callOf, callAt, left, leftBy, leftByAll, RoomFor, PassWords, AtFront, FrameRoom, PassRoom};
-ghost use Rattle.recovery.specs.Answer.{refusedText, Recovers, heldLines, heldPiece, FewPasses, Printable, CanSay, WrotePiece, Moves};
+ghost use Rattle.recovery.specs.Answer.{refusedText, Recovers, lentAs, heldLines, heldPiece, FewPasses, Printable, CanSay, WrotePiece, Moves};
 ghost use mathlib.Core.List.{[]};
 ghost use Rattle.report_line.specs.Result.{lineCount};
 ghost use Rattle.line_form.specs.Written.{unheldWhole, Wrote};
@@ -308,7 +308,7 @@ pub fn recover_frame(
 ) -> Recovered
     requires { ⌜ FrameRoom (now xs) (now ys) (now pitches) (now sheet) (now passes) ⌝ }
     requires { ⌜ PassRoom (now queue) (now attached) (now words) ⌝ }
-    ensures { λ r. ⌜ Recovers (now (text .entry)) (now (sheet .exit)) (now (words .exit)) r ⌝ }
+    ensures { λ r. ⌜ Recovers (now (text .entry)) (lentAs (now (xs .entry)) (now (ys .entry)) (now (pitches .entry)) (now (sheet .entry)) (now (passes .entry)) (now (queue .entry)) (now (attached .entry)) (now (words .entry))) (lentAs (now (xs .exit)) (now (ys .exit)) (now (pitches .exit)) (now (sheet .exit)) (now (passes .exit)) (now (queue .exit)) (now (attached .exit)) (now (words .exit))) r ⌝ }
 {
     let answer = frame::read_frame(text, xs, ys, pitches, sheet, passes);
     match answer {

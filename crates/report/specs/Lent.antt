@@ -88,7 +88,7 @@ textOf l = resultText (statsIn (l .passes) (l .words)) (l .sheet)
 unfoldable pub inputShort : Lent → Bool
 inputShort l = ltb (length (l .words)) (9 * l .passes) || ltb (length (l .sheet)) 16384
 
--- 2: "over 16 outcomes or 1,024 corners"
+-- 2: over 16 outcomes or 1,024 corners
 unfoldable pub overLimit : Lent → Bool
 overLimit l = ltb 16 (l .passes) || ltb 1024 (l .corners)
 

@@ -1,16 +1,16 @@
 -- The examples that document 01 marks M, as a table. `proofs/Examples.antt` proves `Right table`. Definitions only.
 -- Numbers are given by their binary32 bits.
-use Prim.Native.Nat.{ℕ}
+use Prim.Native.Nat.{ℕ, _+_}
 use mathlib.Core.Path.{_≡_}
 use mathlib.Core.Bool.{Bool, true, false}
 use mathlib.Core.List.{List, [], _∷_}
 use lib.ListN.{length}
+use lib.IntN.{pos}
 use lib.Ieee.{Float, binary32, ofBits}
-use Rattle.sheet.specs.Cells.{placeOf}
-use Rattle.labels.specs.Box.{boxAround}
-use Rattle.passes.specs.Grow.{member}
-use Rattle.passes.specs.Fill.{boxAndStrips, cellsOf}
-use Rattle.passes.specs.Local.{localRegion}
+use Rattle.sheet.specs.Words.{attached, emptySheet}
+use Rattle.sheet.specs.declared.Cell.{Cell}
+use Rattle.passes.specs.Fill.{fillCells}
+use Rattle.passes.specs.Local.{localCells}
 use Rattle.binary32.specs.declared.root.Rooted.the-variants.{Root}
 use Rattle.binary32.specs.Sqrt.{Answers, rooted}
 use Rattle.grow.specs.Choice.{chooseUnambiguous, chooseWithFloor}
@@ -43,16 +43,18 @@ pub data Example : Type 0 where
   edge : ℕ → ℕ → ℕ → Bool → Example
   -- the expected length of an edge by both pitches and the cell size
   expected : ℕ → ℕ → ℕ → ℕ → Example
-  -- the cells that are labelled, by their places: how many cells the first round of fill walks, or that of local with a depth
-  fillWalks : List ℕ → ℕ → Example
-  localWalks : ℕ → List ℕ → ℕ → Example
+  -- the cells that are labelled: how many cells the first round of fill walks, or that of local with a depth
+  fillWalks : List Cell → ℕ → Example
+  localWalks : ℕ → List Cell → ℕ → Example
 
--- the cells that a round walks where these places are labelled and no other
-abbrev pub fillWalk : List ℕ → List ℕ
-fillWalk places = cellsOf (boxAndStrips (boxAround places)) (λ c. member (placeOf c) places)
+-- a sheet with the corners k, k + 1 and so on attached to some cells, in order
+unfoldable pub withLabels : List ℕ → ℕ → List Cell → List ℕ
+withLabels sheet k [] = sheet
+withLabels sheet k (c ∷ cs) = withLabels (attached sheet c k) (k + 1) cs
 
-abbrev pub localWalk : ℕ → List ℕ → List ℕ
-localWalk depth places = cellsOf (localRegion depth places (boxAround places)) (λ c. member (placeOf c) places)
+-- the sheet on which these cells are labelled and no other
+abbrev pub labelled : List Cell → List ℕ
+labelled cells = withLabels emptySheet 0 cells
 
 -- what an example claims, of the definitions that the contracts cite
 abbrev pub Holds : Example → Type 0
@@ -60,14 +62,18 @@ Holds (root x r) = Answers (f32 x) (Root (f32 r)) × (rooted (f32 x) ≡ Root (f
 Holds (grows first second factor c) = chooseUnambiguous (twoAt first second) (f32 factor) ≡ choiceOf c
 Holds (fills first second factor c) = chooseWithFloor (twoAt first second) (f32 factor) ≡ choiceOf c
 Holds (edge length expectation band b) = inBand (f32 length) (f32 expectation) (f32 band) ≡ b
-Holds (fillWalks places n) = length (fillWalk places) ≡ n
-Holds (localWalks depth places n) = length (localWalk depth places) ≡ n
+Holds (fillWalks cells n) = length (fillCells (labelled cells)) ≡ n
+Holds (localWalks depth cells n) = length (localCells depth (labelled cells)) ≡ n
 Holds (expected candidate neighbour size r) = expectedLength (f32 size) (f32 candidate) (f32 neighbour) ≡ f32 r
 
 -- every row of a table holds
 abbrev pub Right : List Example → Type 0
 Right [] = Unit {0}
 Right (row ∷ rest) = Holds row × Right rest
+
+-- a cell, by an i and a j that are not negative
+abbrev pub at : ℕ → ℕ → Cell
+at i j = record { i = pos i; j = pos j }
 
 abbrev pub table : List Example
 table =
@@ -91,8 +97,8 @@ table =
     ∷ edge 0x40e0_0000 0x4120_0000 0x3e80_0000 false
     -- M7: both pitches 0.001: cell size used (here 10)
     ∷ expected 0x3a83_126f 0x3a83_126f 0x4120_0000 0x4120_0000
-    -- M8: labels (0,0), (2,0): fill walks 9 cells. Their places are 64 * 128 + 64 and 66 * 128 + 64
-    ∷ fillWalks (8256 ∷ 8512 ∷ []) 9
+    -- M8: labels (0,0), (2,0): fill walks 9 cells
+    ∷ fillWalks (at 0 0 ∷ at 2 0 ∷ []) 9
     -- M9: local depth 1 would walk 11
-    ∷ localWalks 1 (8256 ∷ 8512 ∷ []) 11
+    ∷ localWalks 1 (at 0 0 ∷ at 2 0 ∷ []) 11
     ∷ []

@@ -1,3 +1,4 @@
+-- `answer_lines` meets its contract. Assumes nothing.
 use native.Mathlib.Omega.{arith}
 use mathlib.Core.Path.{_≡_, refl, sym, ap, _∙_, subst}
 use Rattle.recovery.specs.Answer.{heldLines, FewPasses}
@@ -7,28 +8,22 @@ use Rattle.recovery.proofs.answer_lines.Tie as tie
 use Rattle.recovery.proofs.answer_lines.Reads as reads
 use Rattle.recovery.proofs.answer_lines.Lts as lts
 
--- src/lib.rt:362:37
 enum-told : tie.Need-enum-told
 enum-told c = search needs
 
--- src/lib.rt:363:28
 enum-known-answer : tie.Need-enum-known-answer
 enum-known-answer c = search needs
 
--- src/lib.rt:363:39
 add-result : tie.Need-add-result
 add-result c = let few = subst FewPasses (c .before .answer .given .1) (c .before .before .before .pre) in omega (arith, few)
 
--- src/lib.rt:363:39
 add-result-2 : tie.Need-add-result-2
 add-result-2 c = let few = subst FewPasses (c .before .answer .given .1) (c .before .before .before .pre) in omega (arith, few)
 
--- src/lib.rt:357:1
 returns : tie.Need-returns
 unfolding heldLines
 returns c = rw (c .enum-told .given .1) refl
 
--- src/lib.rt:357:1
 returns-2 : tie.Need-returns-2
 unfolding heldLines
 returns-2 c = rw (c .before .answer .given .1) (omega arith)

@@ -1,3 +1,4 @@
+-- `answer_piece` meets its contract. Assumes nothing.
 use Rattle.recovery.proofs.Printing.{case-refused, case-done, case-below, case-wrote, case-first}
 use borrow.Author.Needs.{needs}
 use Rattle.recovery.proofs.answer_piece.Statement.{statement}
@@ -7,35 +8,27 @@ use Rattle.recovery.proofs.answer_piece.Lts as lts
 use Rattle.recovery.proofs.refused_piece.Reads as refused-piece-reads
 use Rattle.recovery.proofs.result_piece.Reads as result-piece-reads
 
--- src/lib.rt:428:28
 enum-known-answer : tie.Need-enum-known-answer
 enum-known-answer c = search needs
 
--- src/lib.rt:428:46
 refused-piece-requires : tie.Need-refused-piece-requires
 refused-piece-requires c κs = (case-refused (c .before .before .before .before .before .before .before .args .answer) (c .before .before .before .before .before .before .before .args .words .now) (c .before .before .before .before .before .before .before .args .sheet .now) (c .before .before .before .before .before .before .before .pre .0) (c .before .before .before .before .before .before .before .args .from) (c .before .before .before .before .before .before .before .pre .1 .0) _ _ (c .before .before .answer .given .1), c .before .before .before .before .before .before .before .pre .1 .1)
 
--- src/lib.rt:429:25
 enum-known-answer-2 : tie.Need-enum-known-answer-2
 enum-known-answer-2 c = search needs
 
--- src/lib.rt:430:13
 result-piece-requires : tie.Need-result-piece-requires
 result-piece-requires c κs = (case-done (c .before .before .before .before .before .before .before .args .answer) (c .before .before .before .before .before .before .before .args .words .now) (c .before .before .before .before .before .before .before .args .sheet .now) (c .before .before .before .before .before .before .before .pre .0) (c .before .before .before .before .before .before .before .args .from) (c .before .before .before .before .before .before .before .pre .1 .0) _ _ (c .before .before .answer2 .given .1), (case-below (c .before .before .before .before .before .before .before .args .answer) (c .before .before .before .before .before .before .before .args .words .now) (c .before .before .before .before .before .before .before .args .sheet .now) (c .before .before .before .before .before .before .before .pre .0) (c .before .before .before .before .before .before .before .args .from) (c .before .before .before .before .before .before .before .pre .1 .0) _ _ (c .before .before .answer2 .given .1), c .before .before .before .before .before .before .before .pre .1 .1))
 
--- src/lib.rt:414:1
 same-length : tie.Need-same-length
 same-length c = search needs
 
--- src/lib.rt:414:1
 returns : tie.Need-returns
 returns c = case-first (c .before .before .before .before .before .before .before .before .before .before .args .answer) (c .before .before .before .before .before .before .before .before .before .before .args .words .now) (c .before .before .before .before .before .before .before .before .before .before .args .sheet .now) (c .before .before .before .before .before .before .before .before .before .before .pre .0) (c .before .before .before .before .before .before .before .before .before .before .args .from) (c .before .before .before .before .before .before .before .before .before .before .pre .1 .0) _ _ (c .before .before .before .before .before .answer .given .1) _ _ _ _ (c .before .before .refused-piece .ensures .0) (c .before .before .refused-piece .ensures .1)
 
--- src/lib.rt:414:1
 same-length-2 : tie.Need-same-length-2
 same-length-2 c = search needs
 
--- src/lib.rt:414:1
 returns-2 : tie.Need-returns-2
 returns-2 c = (case-wrote (c .before .before .before .before .before .before .before .before .before .before .args .answer) (c .before .before .before .before .before .before .before .before .before .before .args .words .now) (c .before .before .before .before .before .before .before .before .before .before .args .sheet .now) (c .before .before .before .before .before .before .before .before .before .before .pre .0) (c .before .before .before .before .before .before .before .before .before .before .args .from) (c .before .before .before .before .before .before .before .before .before .before .pre .1 .0) _ (c .before .before .before .before .before .answer2 .given .1) _ _ _ _ (c .before .before .result-piece .ensures .0), c .before .before .result-piece .ensures .1)
 

@@ -10,16 +10,13 @@ use Rattle.recovery.proofs.Words.{nan-pattern}
 use lib.Ieee.{ofBits, div}
 use native.Mathlib.Omega.{arith}
 
--- src/lib.rt:27:9
 returns : tie.Need-returns
 unfolding ofBits div
 returns c = sym (nan-pattern (c .before .args .bits) (c .if1 .taken))
 
--- src/lib.rt:29:5
 float-from-bits-result : tie.Need-float-from-bits-result
 float-from-bits-result c = pattern (c .before .args .bits) (omega arith)
 
--- src/lib.rt:23:1
 returns-2 : tie.Need-returns-2
 returns-2 c = search needs
 

@@ -1,3 +1,4 @@
+-- `refused_piece` meets its contract. Assumes nothing.
 use Rattle.recovery.proofs.Printing.{wrote-refused, moves-refused}
 use mathlib.Core.List.{[]}
 use borrow.Author.Needs.{needs}
@@ -7,15 +8,12 @@ use Rattle.recovery.proofs.refused_piece.Reads as reads
 use Rattle.recovery.proofs.refused_piece.Lts as lts
 use Rattle.recovery.proofs.write_refused.Reads as write-refused-reads
 
--- src/lib.rt:383:9
 write-refused-requires : tie.Need-write-refused-requires
 write-refused-requires c κs = search needs
 
--- src/lib.rt:377:1
 same-length : tie.Need-same-length
 same-length c = search needs
 
--- src/lib.rt:377:1
 returns : tie.Need-returns
 returns c = (wrote-refused (c .before .before .before .before .before .args .refusal) (c .before .before .before .before .before .args .line) [] [] _ _ _ _ (c .before .before .write-refused .ensures), moves-refused (c .before .before .before .before .before .args .refusal) (c .before .before .before .before .before .args .line) (c .before .before .write-refused .ensures) (c .before .before .write-refused .kept .1 .1 .0))
 

@@ -1,3 +1,4 @@
+-- `result_piece` meets its contract. Assumes nothing.
 use Rattle.recovery.proofs.Printing.{wrote-piece, not-refused, moves-result}
 use borrow.Author.Needs.{needs}
 use Rattle.recovery.proofs.result_piece.Statement.{statement}
@@ -6,31 +7,24 @@ use Rattle.recovery.proofs.result_piece.Reads as reads
 use Rattle.recovery.proofs.result_piece.Lts as lts
 use Rattle.report.proofs.write_result_piece.Reads as write-result-piece-reads
 
--- src/lib.rt:402:9
 write-result-piece-requires : tie.Need-write-result-piece-requires
 write-result-piece-requires c κs = search needs
 
--- src/lib.rt:404:30
 enum-known-answer : tie.Need-enum-known-answer
 enum-known-answer c = search needs
 
--- src/lib.rt:405:36
 enum-told : tie.Need-enum-told
 enum-told c = search needs
 
--- src/lib.rt:388:1
 same-length : tie.Need-same-length
 same-length c = search needs
 
--- src/lib.rt:388:1
 returns : tie.Need-returns
 returns c = let w = wrote-piece (c .before .before .before .before .before .before .before .before .before .before .args .corners) (c .before .before .before .before .before .before .before .before .before .before .args .passes) (c .before .before .before .before .before .before .before .before .before .before .args .words .now) (c .before .before .before .before .before .before .before .before .before .before .args .sheet .now) (c .before .before .before .before .before .before .before .before .before .before .pre .0) (c .before .before .before .before .before .before .before .before .before .before .args .from) (c .before .before .before .before .before .before .before .before .before .before .pre .1 .0) (c .before .before .before .before .before .before .before .before .before .before .args .out .now) (c .before .before .before .before .before .before .before .before .before .before .pre .1 .1) _ (c .before .before .before .before .before .write-result-piece .last .1 .1 .1 .1 .1 .0) (c .before .before .before .before .before .write-result-piece .ensures) _ _ (c .before .answer .given .1) in (w, moves-result (c .before .before .before .before .before .before .before .before .before .before .args .corners) (c .before .before .before .before .before .before .before .before .before .before .args .passes) (c .before .before .before .before .before .before .before .before .before .before .args .words .now) (c .before .before .before .before .before .before .before .before .before .before .args .sheet .now) (c .before .before .before .before .before .before .before .before .before .before .args .out .now) _ (c .before .before .before .before .before .before .before .before .before .before .args .from) _ (c .before .before .before .before .before .before .before .before .before .before .pre .1 .0) (c .before .before .before .before .before .before .before .before .before .before .pre .1 .1) w (c .before .before .before .before .before .write-result-piece .kept .1 .1 .1 .1 .1 .0))
 
--- src/lib.rt:388:1
 same-length-2 : tie.Need-same-length-2
 same-length-2 c = search needs
 
--- src/lib.rt:388:1
 returns-2 : tie.Need-returns-2
 returns-2 c = absurd (not-refused (c .before .before .before .before .before .before .before .before .before .args .corners) (c .before .before .before .before .before .before .before .before .before .args .passes) (c .before .before .before .before .before .before .before .before .before .args .words .now) (c .before .before .before .before .before .before .before .before .before .args .sheet .now) (c .before .before .before .before .before .before .before .before .before .pre .0) (c .before .before .before .before .before .before .before .before .before .args .from) (c .before .before .before .before .before .before .before .before .before .pre .1 .0) (c .before .before .before .before .before .before .before .before .before .args .out .now) (c .before .before .before .before .before .before .before .before .before .pre .1 .1) _ (c .before .before .before .before .write-result-piece .last .1 .1 .1 .1 .1 .0) (c .before .before .before .before .write-result-piece .ensures) _ (c .enum-told .given .1))
 

@@ -1,3 +1,4 @@
+-- `run_fill` meets its contract. Assumes nothing.
 use native.Mathlib.Omega.{arith}
 use mathlib.Core.Path.{_≡_, refl, sym, ap, _∙_, subst}
 use Rattle.recovery.proofs.Running.{fill-small, fill-left, fill-refused}
@@ -9,46 +10,36 @@ use Rattle.recovery.proofs.run_fill.Lts as lts
 use Rattle.fill.proofs.fill_grid_holes.Reads as fill-grid-holes-reads
 use Rattle.report.proofs.words.put_fill.Reads as put-fill-reads
 
--- src/lib.rt:110:9
 fill-grid-holes-requires : tie.Need-fill-grid-holes-requires
 fill-grid-holes-requires c κs = search needs
 
 enum-told : tie.Need-enum-told
 enum-told c = search needs
 
--- src/lib.rt:113:26
 enum-known-answer : tie.Need-enum-known-answer
 enum-known-answer c = search needs
 
--- src/lib.rt:113:36
 put-fill-requires : tie.Need-put-fill-requires
 put-fill-requires c κs = let small = fill-small _ _ _ (c .before .before .before .before .before .before .before .before .before .before .before .before .before .before .before .before .before .args .queue) (c .before .before .before .before .before .before .before .before .before .before .before .before .before .before .before .before .before .args .sheet .now) (c .before .before .before .before .before .before .before .before .before .before .before .before .before .before .before .before .before .args .attached .now) (c .before .before .before .before .before .before .before .before .fill-grid-holes .last .1 .1 .1 .0) (c .before .before .before .before .before .before .before .before .fill-grid-holes .last .1 .1 .1 .1 .0) _ _ (c .before .before .answer .given .1) (c .before .before .before .before .before .before .before .before .fill-grid-holes .ensures) in omega (arith, c .before .before .before .before .before .before .before .before .before .before .before .before .before .before .before .before .before .pre, small)
 
--- src/lib.rt:95:1
 same-length : tie.Need-same-length
 same-length c = search needs
 
--- src/lib.rt:95:1
 same-length-2 : tie.Need-same-length-2
 same-length-2 c = search needs
 
--- src/lib.rt:95:1
 returns : tie.Need-returns
 returns c = fill-refused _ _ _ (c .before .before .before .before .before .before .before .before .before .before .before .before .before .before .before .args .queue) (c .before .before .before .before .before .before .before .before .before .before .before .before .before .before .before .args .sheet .now) (c .before .before .before .before .before .before .before .before .before .before .before .before .before .before .before .args .attached .now) (c .before .before .before .before .before .before .fill-grid-holes .last .1 .1 .1 .0) (c .before .before .before .before .before .before .fill-grid-holes .last .1 .1 .1 .1 .0) (c .before .before .before .before .before .before .before .before .before .before .before .before .before .before .before .args .k) (c .before .before .before .before .before .before .before .before .before .before .before .before .before .before .before .args .words .now) _ _ (c .enum-told .given .1) (c .before .before .before .before .before .before .fill-grid-holes .ensures)
 
--- src/lib.rt:95:1
 same-length-3 : tie.Need-same-length-3
 same-length-3 c = search needs
 
--- src/lib.rt:95:1
 same-length-4 : tie.Need-same-length-4
 same-length-4 c = search needs
 
--- src/lib.rt:95:1
 same-length-5 : tie.Need-same-length-5
 same-length-5 c = search needs
 
--- src/lib.rt:95:1
 returns-2 : tie.Need-returns-2
 returns-2 c = rw (c .before .before .put-fill .ensures) (fill-left _ _ _ (c .before .before .before .before .before .before .before .before .before .before .before .before .before .before .before .before .before .before .before .before .args .queue) (c .before .before .before .before .before .before .before .before .before .before .before .before .before .before .before .before .before .before .before .before .args .sheet .now) (c .before .before .before .before .before .before .before .before .before .before .before .before .before .before .before .before .before .before .before .before .args .attached .now) (c .before .before .before .before .before .before .before .before .before .before .before .fill-grid-holes .last .1 .1 .1 .0) (c .before .before .before .before .before .before .before .before .before .before .before .fill-grid-holes .last .1 .1 .1 .1 .0) (c .before .before .before .before .before .before .before .before .before .before .before .before .before .before .before .before .before .before .before .before .args .k) (c .before .before .before .before .before .before .before .before .before .before .before .before .before .before .before .before .before .before .before .before .args .words .now) _ _ (c .before .before .before .before .before .answer .given .1) (c .before .before .before .before .before .before .before .before .before .before .before .fill-grid-holes .ensures))
 

@@ -1,3 +1,4 @@
+-- `run_frame` meets its contract. Assumes nothing.
 use native.Mathlib.Omega.{arith}
 use lib.ListN.{length-take}
 use borrow.Author.Needs.{needs}
@@ -7,39 +8,30 @@ use Rattle.recovery.proofs.run_frame.Reads as reads
 use Rattle.recovery.proofs.run_frame.Lts as lts
 use Rattle.recovery.proofs.run_passes.Reads as run-passes-reads
 
--- src/lib.rt:231:9
 slice-aggregate-run-passes : tie.Need-slice-aggregate-run-passes
 slice-aggregate-run-passes c = simp length-take (omega (arith, c .before .before .before .before .before .before .before .before .before .pre))
 
--- src/lib.rt:232:9
 slice-aggregate-run-passes-2 : tie.Need-slice-aggregate-run-passes-2
 slice-aggregate-run-passes-2 c = simp length-take (omega (arith, c .before .before .before .before .before .before .before .before .before .before .pre))
 
--- src/lib.rt:233:9
 slice-aggregate-run-passes-3 : tie.Need-slice-aggregate-run-passes-3
 slice-aggregate-run-passes-3 c = simp length-take (omega (arith, c .before .before .before .before .before .before .before .before .before .before .before .pre))
 
--- src/lib.rt:228:5
 run-passes-requires : tie.Need-run-passes-requires
 run-passes-requires c κs = search needs
 
--- src/lib.rt:210:1
 same-length : tie.Need-same-length
 same-length c = search needs
 
--- src/lib.rt:210:1
 same-length-2 : tie.Need-same-length-2
 same-length-2 c = search needs
 
--- src/lib.rt:210:1
 same-length-3 : tie.Need-same-length-3
 same-length-3 c = search needs
 
--- src/lib.rt:210:1
 same-length-4 : tie.Need-same-length-4
 same-length-4 c = search needs
 
--- src/lib.rt:210:1
 returns : tie.Need-returns
 returns c = search needs
 

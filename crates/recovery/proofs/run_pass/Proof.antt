@@ -1,3 +1,4 @@
+-- `run_pass` meets its contract. Assumes nothing.
 use mathlib.Core.Path.{_≡_, refl, sym, ap, _∙_, subst}
 use borrow.Author.Needs.{needs}
 use Rattle.recovery.proofs.run_pass.Statement.{statement}
@@ -8,79 +9,60 @@ use Rattle.recovery.proofs.run_fill.Reads as run-fill-reads
 use Rattle.recovery.proofs.run_grow.Reads as run-grow-reads
 use Rattle.recovery.proofs.run_local.Reads as run-local-reads
 
--- src/lib.rt:309:20
 enum-known-pass : tie.Need-enum-known-pass
 enum-known-pass c = search needs
 
--- src/lib.rt:310:13
 run-grow-requires : tie.Need-run-grow-requires
 run-grow-requires c κs = search needs
 
--- src/lib.rt:312:20
 enum-known-pass-2 : tie.Need-enum-known-pass-2
 enum-known-pass-2 c = search needs
 
--- src/lib.rt:313:13
 run-fill-requires : tie.Need-run-fill-requires
 run-fill-requires c κs = search needs
 
--- src/lib.rt:315:21
 enum-known-pass-3 : tie.Need-enum-known-pass-3
 enum-known-pass-3 c = search needs
 
--- src/lib.rt:316:13
 run-local-requires : tie.Need-run-local-requires
 run-local-requires c κs = search needs
 
--- src/lib.rt:292:1
 same-length : tie.Need-same-length
 same-length c = search needs
 
--- src/lib.rt:292:1
 same-length-2 : tie.Need-same-length-2
 same-length-2 c = search needs
 
--- src/lib.rt:292:1
 same-length-3 : tie.Need-same-length-3
 same-length-3 c = search needs
 
--- src/lib.rt:292:1
 same-length-4 : tie.Need-same-length-4
 same-length-4 c = search needs
 
--- src/lib.rt:292:1
 returns : tie.Need-returns
 returns c = c .before .before .before .before .before .before .before .before .run-grow .ensures ∙ rw (c .before .before .before .before .before .before .before .before .before .before .before .before .before .before .pass .given .1) refl
 
--- src/lib.rt:292:1
 same-length-5 : tie.Need-same-length-5
 same-length-5 c = search needs
 
--- src/lib.rt:292:1
 same-length-6 : tie.Need-same-length-6
 same-length-6 c = search needs
 
--- src/lib.rt:292:1
 same-length-7 : tie.Need-same-length-7
 same-length-7 c = search needs
 
--- src/lib.rt:292:1
 returns-2 : tie.Need-returns-2
 returns-2 c = c .before .before .before .before .before .before .run-fill .ensures ∙ rw (c .before .before .before .before .before .before .before .before .before .before .before .pass2 .given .1) refl
 
--- src/lib.rt:292:1
 same-length-8 : tie.Need-same-length-8
 same-length-8 c = search needs
 
--- src/lib.rt:292:1
 same-length-9 : tie.Need-same-length-9
 same-length-9 c = search needs
 
--- src/lib.rt:292:1
 same-length-10 : tie.Need-same-length-10
 same-length-10 c = search needs
 
--- src/lib.rt:292:1
 returns-3 : tie.Need-returns-3
 returns-3 c = c .before .before .before .before .before .before .run-local .ensures ∙ rw (c .before .before .before .before .before .before .before .before .before .before .before .pass3 .given .1) refl
 

@@ -1,3 +1,4 @@
+-- `run_passes` meets its contract. Assumes nothing.
 use Prim.Native.Nat.{_-_}
 use native.Mathlib.Omega.{arith}
 use native.Mathlib.Numerals.{add-one}
@@ -18,47 +19,36 @@ abbrev μ-loop : tie.MeasureT-loop
 μ-loop passes n xs ys pitches sheet₀ queue₀ attached₀ settings words₀ k₀ sheet queue attached words k =
     n - k
 
--- src/lib.rt:339:5
 loop-holds : tie.Need-loop-holds Inv-loop μ-loop
 loop-holds c = first-turn _ _ _ _ _ _ _ _
 
--- src/lib.rt:340:13
 pass-at-requires : tie.Need-pass-at-requires Inv-loop μ-loop
 pass-at-requires c κs = omega (arith, c .before .before .before .before .before .before .before .before .before .before .pre, c .loop-test .taken)
 
--- src/lib.rt:341:9
 run-pass-requires : tie.Need-run-pass-requires Inv-loop μ-loop
 run-pass-requires c κs = omega (arith, c .before .before .before .before .before .before .before .before .before .before .before .before .before .before .before .pre, c .before .before .before .before .before .loop-test .taken, c .before .before .before .before .before .before .loop .inv .same-words)
 
--- src/lib.rt:344:9
 add-k : tie.Need-add-k Inv-loop μ-loop
 add-k c = omega (arith, c .before .before .before .before .before .before .before .before .before .before .before .before .before .before .before .before .before .before .before .before .before .before .before .before .pre, c .before .before .before .before .before .before .before .before .before .before .before .before .before .before .loop-test .taken)
 
--- src/lib.rt:339:5
 loop-less : tie.Need-loop-less Inv-loop μ-loop
 loop-less c = omega (arith, c .before .before .before .before .before .before .before .before .before .before .before .before .before .before .loop-test .taken)
 
--- src/lib.rt:339:5
 loop-again : tie.Need-loop-again Inv-loop μ-loop
 loop-again c = rw (add-one (c .before .before .before .before .before .before .before .before .before .before .before .before .before .before .before .loop .k)) (next-turn _ _ _ _ _ _ _ _ _ _ _ _ _ (c .before .before .before .before .before .before .before .before .before .before .before .before .before .before .before .loop .inv) (c .before .before .before .before .before .before .before .before .before .before .before .before .before .before .loop-test .taken) _ (c .before .before .before .before .before .before .before .before .before .before .before .before .before .pass-at .ensures) _ _ _ _ (c .before .before .before .before .before .before .before .before .run-pass .kept .1 .1 .1 .0) (c .before .before .before .before .before .before .before .before .run-pass .kept .1 .1 .1 .1 .0) (c .before .before .before .before .before .before .before .before .run-pass .kept .1 .1 .1 .1 .1 .0) (c .before .before .before .before .before .before .before .before .run-pass .kept .1 .1 .1 .1 .1 .1 .1 .1 .1 .0) (c .before .before .before .before .before .before .before .before .run-pass .ensures))
 
--- src/lib.rt:322:1
 same-length : tie.Need-same-length Inv-loop μ-loop
 same-length c = c .before .loop .inv .same-sheet
 
--- src/lib.rt:322:1
 same-length-2 : tie.Need-same-length-2 Inv-loop μ-loop
 same-length-2 c = c .before .loop .inv .same-queue
 
--- src/lib.rt:322:1
 same-length-3 : tie.Need-same-length-3 Inv-loop μ-loop
 same-length-3 c = c .before .loop .inv .same-attached
 
--- src/lib.rt:322:1
 same-length-4 : tie.Need-same-length-4 Inv-loop μ-loop
 same-length-4 c = c .before .loop .inv .same-words
 
--- src/lib.rt:322:1
 returns : tie.Need-returns Inv-loop μ-loop
 returns c = last-turn _ _ _ _ _ _ _ _ _ _ _ _ _ (c .before .loop .inv) (c .loop-test .left)
 

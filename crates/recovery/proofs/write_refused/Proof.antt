@@ -1,3 +1,4 @@
+-- `write_refused` meets its contract. Assumes nothing.
 use Rattle.recovery.proofs.Refusing.{refused-room, refused-wrote}
 use mathlib.Core.Path.{_≡_, refl, sym, ap, _∙_}
 use lib.IntN.{ℤ, pos}
@@ -10,39 +11,30 @@ use Rattle.line_form.proofs.write.write_form.Reads as write-form-reads
 use Rattle.recovery.proofs.held.Reads as held-reads
 use Rattle.refusal.proofs.number.Reads as number-reads
 
--- src/lib.rt:351:9
 number-requires : tie.Need-number-requires
 number-requires c κs = search needs
 
--- src/lib.rt:352:23
 cast-held : tie.Need-cast-held
 cast-held c = search needs
 
--- src/lib.rt:352:18
 held-requires : tie.Need-held-requires
 held-requires c κs = search needs
 
--- src/lib.rt:352:41
 held-requires-2 : tie.Need-held-requires-2
 held-requires-2 c κs = search needs
 
--- src/lib.rt:353:34
 slice-aggregate-write-form : tie.Need-slice-aggregate-write-form
 slice-aggregate-write-form c = search needs
 
--- src/lib.rt:353:54
 slice-aggregate-write-form-2 : tie.Need-slice-aggregate-write-form-2
 slice-aggregate-write-form-2 c = search needs
 
--- src/lib.rt:353:5
 write-form-requires : tie.Need-write-form-requires
 write-form-requires c κs = refused-room (c .before .before .before .before .before .before .before .args .refusal) (c .before .before .before .before .before .before .before .args .line) _ _ (c .before .before .before .before .held .ensures ∙ ap (λ (n : _). pos n) (c .before .before .before .before .before .number .ensures)) (c .before .before .before .held2 .ensures) (c .before .before .before .before .before .before .before .args .out .now) (c .before .before .before .before .before .before .before .pre .0) (c .before .before .before .before .before .before .before .pre .1)
 
--- src/lib.rt:346:1
 same-length : tie.Need-same-length
 same-length c = search needs
 
--- src/lib.rt:346:1
 returns : tie.Need-returns
 returns c = refused-wrote (c .before .before .before .before .before .before .before .before .before .before .args .refusal) (c .before .before .before .before .before .before .before .before .before .before .args .line) _ _ (c .before .before .before .before .before .before .before .held .ensures ∙ ap (λ (n : _). pos n) (c .before .before .before .before .before .before .before .before .number .ensures)) (c .before .before .before .before .before .before .held2 .ensures) _ _ _ (c .before .before .write-form .ensures)
 
