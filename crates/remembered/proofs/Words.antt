@@ -15,7 +15,9 @@ use Rattle.grow.specs.Candidates.{squaredDistance}
 use Rattle.sheet.specs.Cells.{OnSheet, placeOf, cellOf}
 use Rattle.sheet.specs.declared.Cell.{Cell}
 use Rattle.sheet.specs.declared.Position.{Position}
+use Rattle.sheet.specs.Blank.{NextWritten}
 use Rattle.sheet.proofs.Laws.{place-in}
+use Rattle.sheet.proofs.Blank.{skips}
 use Rattle.passes.specs.Local.{reachOf}
 use Rattle.remembered.specs.Remembered.{kindOf, knownOf, wordOf, noPrediction, predictionIn, limitIn, reachIn, Notable, predictionOf, limitOf, entryOf, Noted, forgottenWord, doubtedWord, leftWord, Forgotten}
 use Rattle.remembered.specs.declared.Known.{Known}
@@ -259,7 +261,7 @@ module _ (far : Bool) (w : ℕ) where
   doubts h e = rw (e, le-leb 4 (w % 8) h)
 
 -- where nothing is known, nothing is left
-pub nothing-left : (far : Bool) (c : Cell) (q : ℕ) {w : ℕ} → w ≡ 0 → 0 ≡ doubtedWord far (forgottenWord c q w)
+nothing-left : (far : Bool) (c : Cell) (q : ℕ) {w : ℕ} → w ≡ 0 → 0 ≡ doubtedWord far (forgottenWord c q w)
 unfolding forgottenWord
 nothing-left far c q e = rw e (certain-stays far 0 (omega arith) ∙ go (leb (reachOf c q) 0))
   where
@@ -299,5 +301,18 @@ module _ (before : List ℕ) (predictions : List Float) (c : Cell) (corner : Pos
           (getD-set-same memory p word 0 (omega (arith, n, g .size)) ∙ k ∙ rw (g .rest p (omega arith)))
       go a l (no d) = getD-set-other memory p a word 0 d ∙ g .done a (omega arith)
 
+  -- of this place nothing is known
+  forgetting-none : p < 16384 → getD memory p 0 ≡ 0 → Forgetting before predictions c corner memory (p + 1)
+  forgetting-none h e = record { upto = omega arith; size = g .size; done = λ a l. go a l (ℕ-discrete a p); rest = λ a l. g .rest a (omega arith) }
+    where
+      go : (a : ℕ) → a < p + 1 → Dec (a ≡ p) → getD memory a 0 ≡ leftWord (cellOf a) (placeOf c) corner (predictionOf predictions a) (limitOf predictions a) (getD before a 0)
+      go a l (yes d) = rw d (e ∙ nothing-left _ (cellOf p) (placeOf c) (sym (g .rest p (omega arith)) ∙ e))
+      go a l (no d) = g .done a (omega arith)
+
   pub forgetting-end : 16384 ≤ p → Forgotten before predictions c corner memory
   forgetting-end h = record { size = g .size; at = λ a l. g .done a (omega arith) }
+
+pub forgetting-skips : (before : List ℕ) (predictions : List Float) (c : Cell) (corner : Position) (memory : List ℕ) {p r : ℕ} → Forgetting before predictions c corner memory p
+    → NextWritten memory p r → Forgetting before predictions c corner memory r
+forgetting-skips before predictions c corner memory g w =
+    skips memory (Forgetting before predictions c corner memory) (λ q h e s. forgetting-none before predictions c corner memory q s h e) w g

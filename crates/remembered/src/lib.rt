@@ -170,14 +170,11 @@ fn doubt_if_near(word: u16, at: Position, limit: f32, corner: Position) -> u16
     word / 8 * 8 + 3
 }
 
-// What is left of a place's word once a corner is attached to a cell. Of most places nothing is known, and few choices are ambiguous.
+// What is left of a place's word once a corner is attached to a cell. Few choices are ambiguous.
 fn left_of(word: u16, predictions: &[f32; 49152], place: usize, c: Cell, corner: Position) -> u16
     requires { ⌜ Leaving place c ⌝ }
     ensures { λ r. ⌜ r ≡ leftWord (cellOf place) (placeOf c) corner (predictionOf (now (predictions .entry)) place) (limitOf (now (predictions .entry)) place) word ⌝ }
 {
-    if word == 0 {
-        return 0;
-    }
     let kept = forget_if_near(word, place, c);
     if kept % 8 < 4 {
         return kept;
@@ -188,14 +185,14 @@ fn left_of(word: u16, predictions: &[f32; 49152], place: usize, c: Cell, corner:
 }
 
 // Forgets what may be another once a corner is attached to a cell: what is known of every cell whose fourth support is as far as that cell, or
-// farther, and every ambiguous choice where the corner may have been one of the first two candidates.
+// farther, and every ambiguous choice where the corner may have been one of the first two candidates. Places of which nothing is known are passed over.
 pub fn forget_near(memory: &mut [u16; 16384], predictions: &[f32; 49152], c: Cell, corner: Position)
     requires { ⌜ (length (now memory) ≡ 16384) × OnSheet c ⌝ }
     ensures { λ r. ⌜ Forgotten (now (memory .entry)) (now (predictions .entry)) c corner (now (memory .exit)) ⌝ }
 {
-    let mut place = 0usize;
+    let mut place = sheet::next_written(memory, 0);
     while place < 16384 {
         memory[place] = left_of(memory[place], predictions, place, c, corner);
-        place += 1;
+        place = sheet::next_written(memory, place + 1);
     }
 }

@@ -68,12 +68,16 @@ module _ (sheet : List ℕ) (at : ℕ) where
 
   -- a row, or 16 places of it; or a run of places up to the next 16
   pub blank-block : (n : ℕ) → 0 < n → n ≤ 128 - at % 128 → allBlank sheet at n ≡ true → BlankPlaces sheet at n
-  blank-block n some u e = record { upto = u; blank = e; none = λ z w. omega arith }
+  blank-block n some u e = record { upto = u; blank = e; some = λ z. some }
 
   pub blank-rest : (n : ℕ) → BlankRun sheet at (16 - at % 16) n → BlankPlaces sheet at n
   blank-rest n b =
       let u = b .upto in
-      record { upto = omega arith; blank = b .blank; none = λ z e. b .stops (omega arith) (let d : at + n ≡ at = omega arith in rw d e) }
+      record { upto = omega arith; blank = b .blank; some = λ e. go e (decLt 0 n) }
+    where
+      go : getD sheet at 0 ≡ 0 → Dec (0 < n) → 0 < n
+      go e (yes y) = y
+      go e (no m) = absurd (b .stops (omega (arith, m)) (let d : at + n ≡ at = omega (arith, m) in rw d e))
 
 -- ---- the places passed
 
@@ -97,8 +101,8 @@ module _ (sheet : List ℕ) (from : ℕ) where
   pub passed-end : (r : ℕ) → Passed sheet from r → 16384 ≤ r → NextWritten sheet from r
   passed-end r s h = record { passed = s; written = λ a b. omega arith }
 
-  pub passed-hit : (r n : ℕ) → Passed sheet from r → BlankPlaces sheet r n → n ≡ 0 → NextWritten sheet from r
-  passed-hit r n s b e = record { passed = s; written = λ h z. b .none e z }
+  pub passed-hit : (r : ℕ) → Passed sheet from r → (getD sheet r 0 ≡ 0 → ⊥) → NextWritten sheet from r
+  passed-hit r s e = record { passed = s; written = λ h z. e z }
 
 -- ---- a walk over the sheet
 

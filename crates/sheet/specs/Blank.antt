@@ -17,11 +17,11 @@ pub record BlankRun (sheet : List ℕ) (at most n : ℕ) : Type 0 where
   pub blank : allBlank sheet at n ≡ true
   pub stops : n < most → getD sheet (at + n) 0 ≡ 0 → ⊥
 
--- n places from one on, all of its row of 128 places, hold nothing; there is none only if the place itself holds something
+-- n places from one on, all of its row of 128 places, hold nothing; there are some where the place itself holds nothing
 pub record BlankPlaces (sheet : List ℕ) (at n : ℕ) : Type 0 where
   pub upto : n ≤ 128 - at % 128
   pub blank : allBlank sheet at n ≡ true
-  pub none : n ≡ 0 → getD sheet at 0 ≡ 0 → ⊥
+  pub some : getD sheet at 0 ≡ 0 → 0 < n
 
 -- the places from one on and before another hold nothing
 pub record Passed (sheet : List ℕ) (from r : ℕ) : Type 0 where

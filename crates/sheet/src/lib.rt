@@ -283,8 +283,8 @@ fn blank_run(sheet: &[u16], at: usize, most: usize) -> usize
     n
 }
 
-// Some places from one on that hold nothing, all of its row of 128 places; none only if the place itself holds something. From the row's start
-// on the whole row is tried first, and then 16 places at once.
+// Some places from one on that hold nothing, all of its row of 128 places, if the place itself holds nothing. From the row's start on the
+// whole row is tried first, and then 16 places at once.
 pub fn blank_places(sheet: &[u16], at: usize) -> usize
     requires { ⌜ (at < 16384) × (16384 ≤ length (now sheet)) ⌝ }
     ensures { λ r. ⌜ BlankPlaces (now (sheet .entry)) at r ⌝ }
@@ -309,11 +309,10 @@ pub fn next_written(sheet: &[u16], from: usize) -> usize
 {
     let mut r = from;
     while r < 16384 {
-        let n = blank_places(sheet, r);
-        if n == 0 {
+        if sheet[r] != 0 {
             return r;
         }
-        r += n;
+        r += blank_places(sheet, r);
     }
     r
 }

@@ -15,20 +15,26 @@ abbrev μ-loop : tie.MeasureT-loop
 loop-holds : tie.Need-loop-holds Inv-loop μ-loop
 loop-holds c = passed-start _ _ (c .before .pre .0)
 
-blank-places-requires : tie.Need-blank-places-requires Inv-loop μ-loop
-blank-places-requires c κs = (c .loop-test .taken, c .before .before .before .pre .1)
+mul-if1 : tie.Need-mul-if1 Inv-loop μ-loop
+mul-if1 c = omega arith
+
+shared-slice-read-if1 : tie.Need-shared-slice-read-if1 Inv-loop μ-loop
+shared-slice-read-if1 c = omega arith
 
 returns : tie.Need-returns Inv-loop μ-loop
-returns c = passed-hit _ _ _ _ (c .before .before .before .loop .inv) (c .before .blank-places .ensures) (c .if1 .taken)
+returns c = passed-hit _ _ _ (c .before .before .before .loop .inv) (c .if1 .taken)
+
+blank-places-requires : tie.Need-blank-places-requires Inv-loop μ-loop
+blank-places-requires c κs = (c .before .before .loop-test .taken, c .before .before .before .before .before .pre .1)
 
 add-r : tie.Need-add-r Inv-loop μ-loop
-add-r c = omega (arith, c .before .blank-places .ensures .upto)
+add-r c = omega (arith, c .blank-places .ensures .upto)
 
 loop-less : tie.Need-loop-less Inv-loop μ-loop
-loop-less c = omega (arith, c .before .blank-places .ensures .upto)
+loop-less c = omega (arith, c .blank-places .ensures .some (c .before .if1 .left))
 
 loop-again : tie.Need-loop-again Inv-loop μ-loop
-loop-again c = passed-more _ _ _ _ (c .before .before .before .loop .inv) (c .before .before .loop-test .taken) (c .before .blank-places .ensures)
+loop-again c = passed-more _ _ _ _ (c .before .before .before .before .loop .inv) (c .before .before .before .loop-test .taken) (c .blank-places .ensures)
 
 returns-2 : tie.Need-returns-2 Inv-loop μ-loop
 returns-2 c = passed-end _ _ _ (c .before .loop .inv) (c .loop-test .left)
@@ -40,8 +46,10 @@ next-written-spec =
     Inv-loop
     μ-loop
     loop-holds
-    blank-places-requires
+    mul-if1
+    shared-slice-read-if1
     returns
+    blank-places-requires
     add-r
     loop-less
     loop-again
