@@ -35,7 +35,8 @@ use Rattle.frame_laws.proofs.Back.{frame-prints-back}
 use Rattle.frame_laws.proofs.Runs.{accepted-runs}
 use Rattle.bounds.specs.Bounds.{FewCounts, FiniteResidual, Small, small-grow, small-fill, small-local}
 use Rattle.bounds.proofs.Small.{small}
-use Rattle.report.specs.Lent.{bitOf, residualWords, outcomeWords, wordAt, statsFrom, statsIn, largestCount, wildCounts, wildResidual, wildOutcome}
+use Rattle.sheet.specs.Words.{bitOf}
+use Rattle.report.specs.Lent.{residualWords, outcomeWords, wordAt, statsFrom, statsIn, largestCount, wildCounts, wildResidual, wildOutcome}
 use Rattle.report.specs.Asked.{Tame, put, withOutcome, FloatOrNone, IsFloat}
 use Rattle.report.proofs.Laws.{put-last}
 use Rattle.recovery.specs.Running.{passAt, calledAs, callOf, callAt, Left, left, noted, leftBy, leftByAll}
@@ -111,6 +112,7 @@ module _ (f : Frame) (rest : List ℕ) where
 -- ---- the words of an outcome
 
 bit-few : (b : Bool) → bitOf b ≤ 1
+unfolding bitOf
 bit-few true = omega arith
 bit-few false = omega arith
 

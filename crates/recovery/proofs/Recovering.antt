@@ -1,7 +1,7 @@
 -- What reading a frame and running its passes comes to. Assumes nothing.
 use mathlib.Core.Path.{_≡_, refl, sym, ap, _∙_, subst}
 use mathlib.Core.Bool.{Bool, true, false, _||_}
-use mathlib.Core.List.{List, [], _∷_, _++_, map}
+use mathlib.Core.List.{List, [], _∷_, _++_, append-nil, map}
 use Prim.Native.Nat.{ℕ, zero, suc, _+_, _*_, _≤_, _<_}
 use native.Mathlib.Omega.{arith}
 use borrow.Author.Tests.{le-ltb}
@@ -30,10 +30,6 @@ use Rattle.recovery.proofs.Ran.{recorded}
 drop-all : (l : List ℕ) → drop (length l) l ≡ []
 drop-all [] = refl
 drop-all (a ∷ l) = drop-all l
-
-append-nil : (l : List ℕ) → l ++ [] ≡ l
-append-nil [] = refl
-append-nil (a ∷ l) = ap (λ (m : List ℕ). a ∷ m) (append-nil l)
 
 -- a list read again from the front of a buffer
 take-over : {A : Type 0} (written buffer : List A) → take (length written) (over written buffer) ≡ written

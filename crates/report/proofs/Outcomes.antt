@@ -24,7 +24,8 @@ use Rattle.passes.specs.declared.LargestResidual.{LargestResidual}
 use Rattle.passes.specs.Run.{PassStats, growStats, fillStats, localStats}
 use Rattle.arguments.proofs.Chains.{or-false-both}
 use Rattle.report_line.specs.Result.{passLine, passLineAt}
-use Rattle.report.specs.Lent.{Lent, bitOf, residualWords, outcomeWords, wordAt, yesAt, residualAt, largestCount, statsAt, statsFrom, wildCounts, wildResidual, wildOutcome, wild}
+use Rattle.sheet.specs.Words.{bitOf}
+use Rattle.report.specs.Lent.{Lent, residualWords, outcomeWords, wordAt, yesAt, residualAt, largestCount, statsAt, statsFrom, wildCounts, wildResidual, wildOutcome, wild}
 use Rattle.report.specs.Asked.{Tame, FloatOrNone, IsFloat}
 
 at-most : (a b : ℕ) → ltb a b ≡ false → b ≤ a
@@ -77,6 +78,7 @@ pass-line-at words k (suc n) (suc i) j h e = pass-line-at words (suc k) n i j (o
 -- ---- an outcome put at its place is read there again
 
 bit-read : (b : Bool) → not (eqb (bitOf b) 0) ≡ b
+unfolding bitOf
 bit-read true = refl
 bit-read false = refl
 
