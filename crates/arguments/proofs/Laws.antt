@@ -1,7 +1,7 @@
 -- What the checks say: a call is accepted exactly if its buffers are long enough, its corners at most 1,024, its numbers in
 -- their ranges, and its sheet names given corners only, each at one place. Assumes nothing.
 use mathlib.Core.Path.{_≡_, refl, sym, ap, _∙_}
-use mathlib.Core.Bool.{Bool, true, false, not, _||_}
+use mathlib.Core.Bool.{Bool, true, false, not}
 use mathlib.Core.List.{List}
 use Prim.Native.Nat.{ℕ, _<_, _≤_}
 use native.Mathlib.Decide.{ℕ-discrete, decLt}
@@ -29,25 +29,17 @@ use Rattle.arguments.specs.declared.LocalExtensionParams.{LocalExtension
 use Rattle.arguments.specs.declared.Pass.{Pass}
 use Rattle.arguments.specs.declared.Settings.{Settings}
 use Rattle.arguments.specs.declared.Checked.{Checked}
-
--- ---- none of several tests holds
-
-either : (a b : Bool) → (a || b) ≡ false → (a ≡ false) × (b ≡ false)
-either true b e = absurd (no-both true refl e)
-either false b e = (refl, e)
-
-neither : (a b : Bool) → a ≡ false → b ≡ false → (a || b) ≡ false
-neither a b e f = rw e f
+use Rattle.arguments.proofs.Chains.{or-false, or-false-both, not-refused}
 
 -- ---- 7: the buffers are long enough
 
 pub long-enough : (l : Lent) (pass : Pass) → tooShort l pass ≡ false → LongEnough l pass
 unfolding tooShort
 long-enough l pass e =
-    let ys = either (ltb (length (l .ys)) (cornerCount l)) _ e in
-    let pitches = either (ltb (length (l .pitches)) (cornerCount l)) _ (ys .1) in
-    let sheet = either (ltb (length (l .sheet)) 16384) _ (pitches .1) in
-    let queue = either (ltb (l .queue) (queueNeeded pass (cornerCount l))) _ (sheet .1) in
+    let ys = or-false-both (ltb (length (l .ys)) (cornerCount l)) _ e in
+    let pitches = or-false-both (ltb (length (l .pitches)) (cornerCount l)) _ (ys .1) in
+    let sheet = or-false-both (ltb (length (l .sheet)) 16384) _ (pitches .1) in
+    let queue = or-false-both (ltb (l .queue) (queueNeeded pass (cornerCount l))) _ (sheet .1) in
     record {
       ys-long = ltb-false _ _ (ys .0);
       pitches-long = ltb-false _ _ (pitches .0);
@@ -59,9 +51,9 @@ long-enough l pass e =
 pub not-short : (l : Lent) (pass : Pass) → LongEnough l pass → tooShort l pass ≡ false
 unfolding tooShort
 not-short l pass w =
-    neither _ _ (le-ltb _ _ (w .ys-long))
-    (neither _ _ (le-ltb _ _ (w .pitches-long))
-    (neither _ _ (le-ltb _ _ (w .sheet-long)) (neither _ _ (le-ltb _ _ (w .queue-long)) (le-ltb _ _ (w .attached-long)))))
+    or-false _ _ (le-ltb _ _ (w .ys-long))
+    (or-false _ _ (le-ltb _ _ (w .pitches-long))
+    (or-false _ _ (le-ltb _ _ (w .sheet-long)) (or-false _ _ (le-ltb _ _ (w .queue-long)) (le-ltb _ _ (w .attached-long)))))
 
 -- ---- 3: numbers in their ranges
 
@@ -77,65 +69,65 @@ module _ (q : Quantity) (x : Float) where
 pub corner-inside : (c : Corner) → cornerOutside c ≡ false → CornerInside c
 unfolding cornerOutside
 corner-inside c e =
-    let a = either (outside Quantity.Position (c .position .x)) _ e in
-    let b = either (outside Quantity.Position (c .position .y)) _ (a .1) in
+    let a = or-false-both (outside Quantity.Position (c .position .x)) _ e in
+    let b = or-false-both (outside Quantity.Position (c .position .y)) _ (a .1) in
     record { x = inside _ _ (a .0); y = inside _ _ (b .0); pitch = inside _ _ (b .1) }
 
 pub corner-not-outside : (c : Corner) → CornerInside c → cornerOutside c ≡ false
 unfolding cornerOutside
-corner-not-outside c i = neither _ _ (not-outside _ _ (i .x)) (neither _ _ (not-outside _ _ (i .y)) (not-outside _ _ (i .pitch)))
+corner-not-outside c i = or-false _ _ (not-outside _ _ (i .x)) (or-false _ _ (not-outside _ _ (i .y)) (not-outside _ _ (i .pitch)))
 
 pub axis-inside : (v : Vector) → axisOutside v ≡ false → AxisInside v
 unfolding axisOutside
-axis-inside v e = let a = either (outside Quantity.AxisPart (v .x)) _ e in record { x = inside _ _ (a .0); y = inside _ _ (a .1) }
+axis-inside v e = let a = or-false-both (outside Quantity.AxisPart (v .x)) _ e in record { x = inside _ _ (a .0); y = inside _ _ (a .1) }
 
 pub axis-not-outside : (v : Vector) → AxisInside v → axisOutside v ≡ false
 unfolding axisOutside
-axis-not-outside v i = neither _ _ (not-outside _ _ (i .x)) (not-outside _ _ (i .y))
+axis-not-outside v i = or-false _ _ (not-outside _ _ (i .x)) (not-outside _ _ (i .y))
 
 pub settings-inside : (s : Settings) → settingsOutside s ≡ false → SettingsInside s
 unfolding settingsOutside
 settings-inside s e =
-    let a = either (outside Quantity.CellSize (s .grid .«cell_size»)) _ e in
-    let b = either (axisOutside (s .grid .«axis_i»)) _ (a .1) in
-    let d = either (axisOutside (s .grid .«axis_j»)) _ (b .1) in
+    let a = or-false-both (outside Quantity.CellSize (s .grid .«cell_size»)) _ e in
+    let b = or-false-both (axisOutside (s .grid .«axis_i»)) _ (a .1) in
+    let d = or-false-both (axisOutside (s .grid .«axis_j»)) _ (b .1) in
     record { cell-size = inside _ _ (a .0); axis-i = axis-inside _ (b .0); axis-j = axis-inside _ (d .0); band = inside _ _ (d .1) }
 
 pub settings-not-outside : (s : Settings) → SettingsInside s → settingsOutside s ≡ false
 unfolding settingsOutside
 settings-not-outside s i =
-    neither _ _ (not-outside _ _ (i .cell-size))
-    (neither _ _ (axis-not-outside _ (i .axis-i)) (neither _ _ (axis-not-outside _ (i .axis-j)) (not-outside _ _ (i .band))))
+    or-false _ _ (not-outside _ _ (i .cell-size))
+    (or-false _ _ (axis-not-outside _ (i .axis-i)) (or-false _ _ (axis-not-outside _ (i .axis-j)) (not-outside _ _ (i .band))))
 
 pub grow-inside : (p : GrowParams) → growOutside p ≡ false → GrowInside p
 unfolding growOutside
 grow-inside p e =
-    let a = either (outside Quantity.Multiple (p .«attach_search_rel»)) _ e in
-    let b = either (outside Quantity.Factor (p .«attach_ambiguity_factor»)) _ (a .1) in
+    let a = or-false-both (outside Quantity.Multiple (p .«attach_search_rel»)) _ e in
+    let b = or-false-both (outside Quantity.Factor (p .«attach_ambiguity_factor»)) _ (a .1) in
     record { search = inside _ _ (a .0); factor = inside _ _ (b .0); boundary = inside _ _ (b .1) }
 
 pub grow-not-outside : (p : GrowParams) → GrowInside p → growOutside p ≡ false
 unfolding growOutside
-grow-not-outside p i = neither _ _ (not-outside _ _ (i .search)) (neither _ _ (not-outside _ _ (i .factor)) (not-outside _ _ (i .boundary)))
+grow-not-outside p i = or-false _ _ (not-outside _ _ (i .search)) (or-false _ _ (not-outside _ _ (i .factor)) (not-outside _ _ (i .boundary)))
 
 pub fill-inside : (p : FillParams) → fillOutside p ≡ false → FillInside p
 unfolding fillOutside
 fill-inside p e =
-    let a = either (outside Quantity.Multiple (p .«attach_search_rel»)) _ e in
-    let b = either (outside Quantity.Factor (p .«attach_ambiguity_factor»)) _ (a .1) in
+    let a = or-false-both (outside Quantity.Multiple (p .«attach_search_rel»)) _ e in
+    let b = or-false-both (outside Quantity.Factor (p .«attach_ambiguity_factor»)) _ (a .1) in
     record { search = inside _ _ (a .0); factor = inside _ _ (b .0); rounds = ltb-false 64 (p .«max_iters») (b .1) }
 
 pub fill-not-outside : (p : FillParams) → FillInside p → fillOutside p ≡ false
 unfolding fillOutside
-fill-not-outside p i = neither _ _ (not-outside _ _ (i .search)) (neither _ _ (not-outside _ _ (i .factor)) (le-ltb 64 (p .«max_iters») (i .rounds)))
+fill-not-outside p i = or-false _ _ (not-outside _ _ (i .search)) (or-false _ _ (not-outside _ _ (i .factor)) (le-ltb 64 (p .«max_iters») (i .rounds)))
 
 pub local-inside : (p : LocalExtensionParams) → localOutside p ≡ false → LocalInside p
 unfolding localOutside
 local-inside p e =
-    let a = either (outside Quantity.Multiple (p .«search_rel»)) _ e in
-    let b = either (outside Quantity.Factor (p .«ambiguity_factor»)) _ (a .1) in
-    let d = either (ltb 64 (p .«max_iters»)) _ (b .1) in
-    let f = either (outside Quantity.Multiple (p .«max_residual_rel»)) _ (d .1) in
+    let a = or-false-both (outside Quantity.Multiple (p .«search_rel»)) _ e in
+    let b = or-false-both (outside Quantity.Factor (p .«ambiguity_factor»)) _ (a .1) in
+    let d = or-false-both (ltb 64 (p .«max_iters»)) _ (b .1) in
+    let f = or-false-both (outside Quantity.Multiple (p .«max_residual_rel»)) _ (d .1) in
     record {
       search = inside _ _ (a .0);
       factor = inside _ _ (b .0);
@@ -147,10 +139,10 @@ local-inside p e =
 pub local-not-outside : (p : LocalExtensionParams) → LocalInside p → localOutside p ≡ false
 unfolding localOutside
 local-not-outside p i =
-    neither _ _ (not-outside _ _ (i .search))
-    (neither _ _ (not-outside _ _ (i .factor))
-    (neither _ _ (le-ltb 64 (p .«max_iters») (i .rounds))
-    (neither _ _ (not-outside _ _ (i .residual)) (le-ltb 4 (p .«extend_depth») (i .depth)))))
+    or-false _ _ (not-outside _ _ (i .search))
+    (or-false _ _ (not-outside _ _ (i .factor))
+    (or-false _ _ (le-ltb 64 (p .«max_iters») (i .rounds))
+    (or-false _ _ (not-outside _ _ (i .residual)) (le-ltb 4 (p .«extend_depth») (i .depth)))))
 
 pub pass-inside : (pass : Pass) → passOutside pass ≡ false → PassInside pass
 unfolding passOutside
@@ -230,25 +222,21 @@ not-doubled sheet o = go (doubledCorner sheet) refl
 
 -- ---- a call that is not refused
 
-fine : (b : Bool) (r : Refusal) (rest : Checked) → refusedIf b r rest ≡ Checked.Fine → (b ≡ false) × (rest ≡ Checked.Fine)
-fine true r rest e = let y : _≡_ {A = ℕ} 0 1 = cc in absurd (omega arith)
-fine false r rest e = (refl, e)
-
-not-refused : (b : Bool) (r : Refusal) (rest : Checked) → b ≡ false → rest ≡ Checked.Fine → refusedIf b r rest ≡ Checked.Fine
-not-refused b r rest e f = rw e f
+still-fine : (b : Bool) (r : Refusal) (rest : Checked) → b ≡ false → rest ≡ Checked.Fine → refusedIf b r rest ≡ Checked.Fine
+still-fine b r rest e f = rw e f
 
 module _ (l : Lent) (settings : Settings) (pass : Pass) where
   pub accepted : checked l settings pass ≡ Checked.Fine → Accepted l settings pass
   unfolding checked overLimit outOfRange someCornerOutside outsideAt
   accepted e =
-      let a7 = fine (tooShort l pass) Refusal.BufferTooShort _ e in
-      let a2 = fine (overLimit l) Refusal.OverLimit _ (a7 .1) in
-      let a3 = fine (outOfRange l settings pass) Refusal.OutOfRange _ (a2 .1) in
-      let a5 = fine (unknownCorner (cornerCount l) (l .sheet)) Refusal.UnknownCorner _ (a3 .1) in
-      let a6 = fine (doubledCorner (l .sheet)) Refusal.Duplicate Checked.Fine (a5 .1) in
+      let a7 = not-refused (tooShort l pass) Refusal.BufferTooShort _ e in
+      let a2 = not-refused (overLimit l) Refusal.OverLimit _ (a7 .1) in
+      let a3 = not-refused (outOfRange l settings pass) Refusal.OutOfRange _ (a2 .1) in
+      let a5 = not-refused (unknownCorner (cornerCount l) (l .sheet)) Refusal.UnknownCorner _ (a3 .1) in
+      let a6 = not-refused (doubledCorner (l .sheet)) Refusal.Duplicate Checked.Fine (a5 .1) in
       let long = long-enough l pass (a7 .0) in
-      let numbers = either (someCornerOutside (l .xs) (l .ys) (l .pitches)) _ (a3 .0) in
-      let others = either (settingsOutside settings) _ (numbers .1) in
+      let numbers = or-false-both (someCornerOutside (l .xs) (l .ys) (l .pitches)) _ (a3 .0) in
+      let others = or-false-both (settingsOutside settings) _ (numbers .1) in
       record {
         queue-long = long .queue-long;
         attached-long = long .attached-long;
@@ -263,14 +251,14 @@ module _ (l : Lent) (settings : Settings) (pass : Pass) where
   pub accepted-fine : Accepted l settings pass → checked l settings pass ≡ Checked.Fine
   unfolding checked overLimit outOfRange someCornerOutside outsideAt
   accepted-fine w =
-      not-refused _ _ _
+      still-fine _ _ _
       (not-short l pass
       (record { ys-long = w .given .ys-long; pitches-long = w .given .pitches-long; sheet-long = w .given .long; queue-long = w .queue-long; attached-long = w .attached-long }))
-      (not-refused _ _ _ (le-ltb _ _ (w .few))
-      (not-refused _ _ _
-      (neither _ _ (any-no (outsideAt (l .xs) (l .ys) (l .pitches)) _ (λ k h. corner-not-outside _ (w .corners-inside k h)))
-      (neither _ _ (settings-not-outside _ (w .settings-inside)) (pass-not-outside _ (w .pass-inside))))
-      (not-refused _ _ _ (not-unknown _ _ (record { known = w .given .known })) (not-refused _ _ _ (not-doubled _ (w .one-cell)) refl))))
+      (still-fine _ _ _ (le-ltb _ _ (w .few))
+      (still-fine _ _ _
+      (or-false _ _ (any-no (outsideAt (l .xs) (l .ys) (l .pitches)) _ (λ k h. corner-not-outside _ (w .corners-inside k h)))
+      (or-false _ _ (settings-not-outside _ (w .settings-inside)) (pass-not-outside _ (w .pass-inside))))
+      (still-fine _ _ _ (not-unknown _ _ (record { known = w .given .known })) (still-fine _ _ _ (not-doubled _ (w .one-cell)) refl))))
 
 -- a corner's numbers, read from their lists
 module _ {l : Lent} {settings : Settings} {pass : Pass} (w : Accepted l settings pass) (k : ℕ) (h : k < cornerCount l) where

@@ -17,7 +17,7 @@ use Rattle.labels.specs.Labelled.{anyBelow}
 use Rattle.labels.specs.Used.{names}
 use Rattle.labels.proofs.Below.{any-no, Searching, searching-start, searching-more, searching-hit, searching-end, searching-skips}
 use Rattle.labels.proofs.Used.{Marking, marking-start, marking-more, noted-none, noted-entry}
-use Rattle.arguments.specs.Arguments.{Lent, cornerCount, queueNeeded, tooShort, overLimit, outOfRange, unknown, unknownAt, unknownCorner, sameCorner, doubledAt, doubledCorner, refusedIf, checked}
+use Rattle.arguments.specs.Arguments.{Lent, cornerCount, queueNeeded, tooShort, overLimit, outOfRange, unknown, unknownAt, unknownCorner, sameCorner, doubledAt, doubledCorner, checked}
 use Rattle.arguments.specs.Asked.{HasEntry, HasEntries, seenBefore, Noted, Unseen}
 use Rattle.arguments.specs.declared.GrowParams.{GrowParams}
 use Rattle.arguments.specs.declared.FillParams.{FillParams}
@@ -25,6 +25,7 @@ use Rattle.arguments.specs.declared.LocalExtensionParams.{LocalExtension
 use Rattle.arguments.specs.declared.Pass.{Pass}
 use Rattle.arguments.specs.declared.Settings.{Settings}
 use Rattle.arguments.specs.declared.Checked.{Checked}
+use Rattle.arguments.proofs.Chains.{refused, passed}
 
 -- ---- chains
 
@@ -36,12 +37,6 @@ pub fails : (a b t : Bool) → a ≡ false → t ≡ b → t ≡ (a || b)
 fails a b t e f = rw e f
 
 -- ---- the refusals, tried in 01's order
-
-refused : (b : Bool) (r : Refusal) (rest : Checked) → b ≡ true → Checked.Refused r ≡ refusedIf b r rest
-refused b r rest e = rw e
-
-passed : (b : Bool) (r : Refusal) (rest t : Checked) → b ≡ false → t ≡ rest → t ≡ refusedIf b r rest
-passed b r rest t e f = rw e f
 
 module _ (l : Lent) (settings : Settings) (pass : Pass) where
   pub refused-7 : tooShort l pass ≡ true → Checked.Refused Refusal.BufferTooShort ≡ checked l settings pass

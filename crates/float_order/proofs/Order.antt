@@ -182,10 +182,6 @@ not-lt-trans (fin s m e) (fin t n d) (inf false) v h k = absurd (true≢false k)
 not-lt-trans (fin s m e) (fin t n d) (fin u o g) v h k =
     past s (m * up e) (down e) t (n * up d) (down d) u (o * up g) (down g) (down-pos e) (down-pos d) (down-pos g) h k
 
--- if x is below y, and z is not below y, then z is not below x
-pub not-lt-under : (x y z : Float) → lt x y ≡ true → lt z y ≡ false → lt z x ≡ false
-not-lt-under x y z h k = not-lt-trans z y x (lt-no-nan x y h .1) k (lt-asym x y h)
-
 -- if x is below y, and z, which is no nan, is not below y, then x is below z
 pub lt-not-lt-trans : (x y z : Float) → isNan z ≡ false → lt x y ≡ true → lt z y ≡ false → lt x z ≡ true
 lt-not-lt-trans x y z w h k = go (lt x z) refl
@@ -231,9 +227,6 @@ not-lt→le x y v w h = le-is-not-lt x y v w ∙ ap not h
 
 pub not-le→lt : (x y : Float) → isNan x ≡ false → isNan y ≡ false → le x y ≡ false → lt y x ≡ true
 not-le→lt x y v w h = not-false _ (sym (le-is-not-lt x y v w) ∙ h)
-
-pub lt→not-le : (x y : Float) → lt y x ≡ true → le x y ≡ false
-lt→not-le x y h = let n = lt-no-nan y x h in le-is-not-lt x y (n .1) (n .0) ∙ ap not h
 
 pub lt→le : (x y : Float) → lt x y ≡ true → le x y ≡ true
 lt→le x y h = let n = lt-no-nan x y h in not-lt→le x y (n .0) (n .1) (lt-asym x y h)

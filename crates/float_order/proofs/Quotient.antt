@@ -1,5 +1,5 @@
 -- Quotients of values with no sign: x / x is 1, and x / y is at most 1 where x is at most y. Assumes nothing.
-use mathlib.Core.Path.{_≡_, refl, sym, _∙_, subst}
+use mathlib.Core.Path.{_≡_, refl, subst}
 use mathlib.Core.Bool.{Bool, true, false}
 use Prim.Native.Nat.{ℕ, zero, suc, _*_, _≤_, _<_}
 use native.Mathlib.Nat.{mul-pos, mul-comm}
@@ -43,9 +43,6 @@ div-self f (fin s (suc m) e) p q =
     unlike-same true = refl
     unlike-same false = refl
 
-pub div-self-bits : (x : Float) → T (finite x) → T (nonzero x) → div binary32 x x ≡ ofBits binary32 0x3f80_0000
-div-self-bits x p q = div-self binary32 x p q ∙ sym one-bits
-
 -- x / y is at most 1, for an x with no sign that is at most y, a finite y with no sign that is not zero
 pub div-at-most-one : (f : Format) (x y : Float) → T (plain x) → T (plain y) → T (finite y) → T (nonzero y) → le x y ≡ true → le (div f x y) one ≡ true
 unfolding div
@@ -62,10 +59,6 @@ div-at-most-one f (fin false m e) (fin false (suc n) d) p q u v h =
     let P : 0 < b = mul-pos (mul-pos (some n) (up-pos d)) (down-pos e) in
     let l : a ≤ b = ltb-false b a (unfold lt in le→not-lt (fin false m e) (fin false (suc n) d) h) in
     rw (eqb·suc-zero n) (subst (λ (z : Float). le (round f false a b) z ≡ true) (round-one f) (is-true _ (round-mono f a b 1 1 P (omega arith) (omega arith))))
-
--- so 1 is not below x / y
-pub div-not-above-one : (f : Format) (x y : Float) → T (plain x) → T (plain y) → T (finite y) → T (nonzero y) → le x y ≡ true → lt one (div f x y) ≡ false
-div-not-above-one f x y p q u v h = le→not-lt (div f x y) one (div-at-most-one f x y p q u v h)
 
 -- and x / y is below whatever is above 1
 pub div-below : (f : Format) (x y z : Float) → T (plain x) → T (plain y) → T (finite y) → T (nonzero y) → le x y ≡ true → lt one z ≡ true → lt (div f x y) z ≡ true

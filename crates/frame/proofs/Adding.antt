@@ -1,7 +1,7 @@
 -- A line added as the code adds it is held as the definition adds it. Assumes nothing.
 use mathlib.Core.Path.{_≡_, refl, sym, ap, ap₂, subst, _∙_}
 use mathlib.Core.Bool.{Bool, true, false, not, _&&_, _||_, true≢false}
-use mathlib.Core.List.{List, [], _∷_, _++_, append-assoc, append-nil}
+use mathlib.Core.List.{List, [], _∷_, _++_, append-assoc, append-nil, map}
 use Prim.Native.Nat.{ℕ, suc, _+_, _*_, _<_, _≤_}
 use native.Mathlib.Omega.{arith}
 use native.Mathlib.Numerals.{add-one}
@@ -22,14 +22,13 @@ use Rattle.arguments.specs.declared.Settings.{Settings}
 use Rattle.frame_line.specs.Lines.{CornerLine, LabelLine, PassLine, bare-grow, grow, bare-fill, fill, local, Axes, Line, frame-line, cell-line, axes-line, band-line, corner-line, label-line, pass-line}
 use Rattle.frame_line.specs.Held.{countOf, heldPass, heldLine}
 use Rattle.frame_check.specs.Checks.{isSet}
-use Rattle.frame_check.proofs.Laws.{not-refused, neither}
 use Rattle.frame_state.specs.State.{wordsOf as wordsHeld, wordsPut, State, adds}
 use Rattle.frame_state.specs.declared.PassWords.{PassWords}
 use Rattle.frame.specs.Frame.{Frame, floatOf, inOrder, rankOf, overLimit, wild, wildCount, wildPass, outOfRange, ofLabel, offSheet, unknownCorner, sameCell, checkedLine, adding}
-use Rattle.frame.specs.Text.{map}
 use Rattle.frame.specs.Lent.{settingsOf, labelled, fullOf, wordsOf, allWords}
 use Rattle.frame.specs.Reading.{HoldsCorners, cellTaken, cornerTaken, HoldsLabels, HoldsPasses, Holds}
 use Rattle.frame.proofs.Agree.{counted, tame-count, count-below, cell-same}
+use Rattle.arguments.proofs.Chains.{or-false-both, not-refused}
 
 -- ---- one more at the end
 
@@ -202,14 +201,14 @@ words-agree bare-grow e = refl
 words-agree (grow s f b) e = refl
 words-agree bare-fill e = refl
 words-agree (fill s f r) e =
-    let a = neither (wild Quantity.Multiple s) (wild Quantity.Factor f || wildCount 64 r) e in
-    let b = neither (wild Quantity.Factor f) (wildCount 64 r) (a .1) in
+    let a = or-false-both (wild Quantity.Multiple s) (wild Quantity.Factor f || wildCount 64 r) e in
+    let b = or-false-both (wild Quantity.Factor f) (wildCount 64 r) (a .1) in
     ap (λ (k : ℕ). 1 ∷ s ∷ f ∷ 0 ∷ k ∷ 0 ∷ []) (tame-count 64 r (omega arith) (b .1))
 words-agree (local s f r g d) e =
-    let a = neither (wild Quantity.Multiple s) (wild Quantity.Factor f || (wildCount 64 r || (wild Quantity.Multiple g || wildCount 4 d))) e in
-    let b = neither (wild Quantity.Factor f) (wildCount 64 r || (wild Quantity.Multiple g || wildCount 4 d)) (a .1) in
-    let c = neither (wildCount 64 r) (wild Quantity.Multiple g || wildCount 4 d) (b .1) in
-    let h = neither (wild Quantity.Multiple g) (wildCount 4 d) (c .1) in
+    let a = or-false-both (wild Quantity.Multiple s) (wild Quantity.Factor f || (wildCount 64 r || (wild Quantity.Multiple g || wildCount 4 d))) e in
+    let b = or-false-both (wild Quantity.Factor f) (wildCount 64 r || (wild Quantity.Multiple g || wildCount 4 d)) (a .1) in
+    let c = or-false-both (wildCount 64 r) (wild Quantity.Multiple g || wildCount 4 d) (b .1) in
+    let h = or-false-both (wild Quantity.Multiple g) (wildCount 4 d) (c .1) in
     ap₂ (λ (j k : ℕ). 2 ∷ s ∷ f ∷ g ∷ j ∷ k ∷ []) (tame-count 64 r (omega arith) (c .0)) (tame-count 4 d (omega arith) (h .1))
 
 -- ---- any line

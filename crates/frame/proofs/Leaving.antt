@@ -14,7 +14,6 @@ use Rattle.sheet.specs.Cells.{placeOf}
 use Rattle.sheet.specs.Words.{emptySheet}
 use Rattle.sheet.proofs.Laws.{place-in}
 use Rattle.frame_check.specs.Checks.{isSet}
-use Rattle.frame_check.proofs.Laws.{neither}
 use Rattle.frame_state.specs.State.{Arrays, arrays, state, nothing-said}
 use Rattle.frame_state.specs.declared.Progress.{Progress}
 use Rattle.frame.specs.Frame.{Frame, linesOf, FrameRead, refused-at, accepted, readLines, nothing-read, readFrame}
@@ -22,6 +21,7 @@ use Rattle.frame.specs.Lent.{xsOf, ysOf, pitchesOf, settingsOf, labelled
 use Rattle.frame.specs.Reading.{HoldsCorners, cellTaken, cornerTaken, HoldsLabels, HoldsPasses, Holds, ReadAs, refused-as, held-as, LongEnough, buffers, Copies}
 use Rattle.frame.specs.declared.FrameAnswer.{FrameAnswer}
 use Rattle.frame.specs.declared.LinesRead.{LinesRead}
+use Rattle.arguments.proofs.Chains.{or-false-both}
 
 -- ---- before the first line
 
@@ -129,10 +129,10 @@ module _ (text : List ℕ) (b : Buffers) where
   pub long-enough : tooShort b ≡ false → LongEnough b
   unfolding tooShort
   long-enough e =
-      let i = neither (ltb (length (b .xs)) 1024) _ e in
-      let j = neither (ltb (length (b .ys)) 1024) _ (i .1) in
-      let k = neither (ltb (length (b .pitches)) 1024) _ (j .1) in
-      let l = neither (ltb (length (b .sheet)) 16384) _ (k .1) in
+      let i = or-false-both (ltb (length (b .xs)) 1024) _ e in
+      let j = or-false-both (ltb (length (b .ys)) 1024) _ (i .1) in
+      let k = or-false-both (ltb (length (b .pitches)) 1024) _ (j .1) in
+      let l = or-false-both (ltb (length (b .sheet)) 16384) _ (k .1) in
       record {
         xs-long = ltb-false (length (b .xs)) 1024 (i .0);
         ys-long = ltb-false (length (b .ys)) 1024 (j .0);

@@ -20,10 +20,10 @@ use Rattle.frame.specs.Frame.{Frame, linesOf, rankOf, stageAfter, checke
 use Rattle.frame.specs.Reading.{lineLength, Holds, Room, Went, went, afterHeld, heldStep, ReadAs, refused-as, held-as}
 use Rattle.frame.specs.declared.Stepped.{Stepped}
 use Rattle.frame.specs.declared.LinesRead.{LinesRead}
-use Rattle.frame_check.proofs.Laws.{not-refused}
 use Rattle.frame.proofs.Lines.{end-after, end-inside, lines-from, no-lines}
 use Rattle.frame.proofs.Agree.{rank-agrees, checks-agree}
 use Rattle.frame.proofs.Adding.{line-held}
+use Rattle.arguments.proofs.Chains.{not-refused}
 
 -- ---- one line
 

@@ -1,7 +1,7 @@
 -- What the library call that reads a frame leaves (document 01, "Frame and result"), and the corners, sheet, settings and passes that a frame
 -- gives. Definitions only.
 use mathlib.Core.Bool.{Bool, true, false, _||_}
-use mathlib.Core.List.{List, [], _∷_, _++_}
+use mathlib.Core.List.{List, [], _∷_, _++_, map}
 use Prim.Native.Nat.{ℕ, zero, suc}
 use lib.IntN.{ℤ, pos, natAbs}
 use lib.Dec.{ltb}
@@ -18,7 +18,6 @@ use Rattle.arguments.specs.declared.Pass.{Pass}
 use Rattle.arguments.specs.declared.Settings.{Settings}
 use Rattle.frame_line.specs.Lines.{CornerLine, LabelLine, PassLine, bare-grow, grow, bare-fill, fill, local, Axes}
 use Rattle.frame.specs.Frame.{Frame, floatOf, FrameRead, refused-at, accepted, readFrame}
-use Rattle.frame.specs.Text.{map}
 use Rattle.frame.specs.declared.FrameHead.{FrameHead}
 use Rattle.frame.specs.declared.FrameAnswer.{FrameAnswer}
 

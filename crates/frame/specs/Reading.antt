@@ -2,7 +2,7 @@
 -- only.
 use mathlib.Core.Path.{_≡_}
 use mathlib.Core.Bool.{Bool, false, _||_}
-use mathlib.Core.List.{List, [], _∷_}
+use mathlib.Core.List.{List, [], _∷_, map}
 use Prim.Native.Nat.{ℕ, suc, _*_, _<_, _≤_}
 use lib.IntN.{ℤ, pos}
 use lib.Dec.{eqb}
@@ -20,7 +20,6 @@ use Rattle.frame_check.specs.Checks.{heldRank, isSet, checkedHeld}
 use Rattle.frame_state.specs.State.{Arrays, State, state, adds}
 use Rattle.frame_state.specs.declared.Progress.{Progress}
 use Rattle.frame.specs.Frame.{Frame, floatOf, stageAfter, sameCell, FrameRead, refused-at, accepted}
-use Rattle.frame.specs.Text.{map}
 use Rattle.frame.specs.Lent.{settingsOf, labelled, allWords, Buffers}
 use Rattle.frame.specs.declared.Stepped.{Stepped}
 use Rattle.frame.specs.declared.LinesRead.{LinesRead}

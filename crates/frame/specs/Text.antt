@@ -2,7 +2,7 @@
 -- Definitions only; the laws are proved in the crate frame_laws.
 use mathlib.Core.Path.{_≡_}
 use mathlib.Core.Bool.{Bool, true, false}
-use mathlib.Core.List.{List, [], _∷_, _++_}
+use mathlib.Core.List.{List, [], _∷_, _++_, map}
 use Prim.Native.Nat.{ℕ, zero, suc, _+_, _<_, _≤_}
 use lib.Dec.{T}
 use lib.ListN.{length, getD, take}
@@ -11,10 +11,6 @@ use Rattle.refusal.specs.declared.Refusal.{Refusal}
 use Rattle.sheet.specs.Cells.{OnSheet}
 use Rattle.frame_line.specs.Lines.{CornerLine, LabelLine, PassLine, Axes, Line, frame-line, cell-line, axes-line, band-line, corner-line, label-line, pass-line, numbersOf, AllPatterns, lineText, LineRead, ill-formed, line, readLine}
 use Rattle.frame.specs.Frame.{Frame, inOrder, rankOf, overLimit, outOfRange, ofLabel, offSheet, unknownCorner, doubled, linesOf, Step, stopped, onward, stepLine, FrameRead, refused-at, accepted, readFrame, nothing-read}
-
-abbrev pub map : {A B : Type 0} → (A → B) → List A → List B
-map f [] = []
-map f (a ∷ rest) = f a ∷ map f rest
 
 -- ---- printed
 

@@ -1,13 +1,13 @@
 -- Two accepted frames that differ only in the order of their corner lines are a reordering, so every list of calls from them, the frames' own
 -- passes among them, runs alike. Assumes nothing.
 use mathlib.Core.Path.{_≡_, refl, sym, ap, _∙_, subst}
-use mathlib.Core.List.{List, [], _∷_}
+use mathlib.Core.List.{List, [], _∷_, map}
 use Prim.Native.Nat.{ℕ, zero, suc, _<_, _≤_}
 use native.Mathlib.Nat.{not-suc-le-zero}
 use native.Mathlib.Omega.{arith}
 use lib.IntN.{natAbs}
 use lib.Ieee.{Float, nan}
-use lib.ListN.{length, getD, length-set}
+use lib.ListN.{length, getD, length-set, length-map}
 use Rattle.sheet.specs.Words.{emptySheet, attached}
 use Rattle.sheet.specs.Corners.{cornerOf}
 use Rattle.sheet.specs.Pairing.{Shuffle, PairedCorners, PairedSheets}
@@ -18,10 +18,9 @@ use Rattle.agreement.specs.Agreement.{Reordered, Agree}
 use Rattle.agreement.proofs.Run.{agreement}
 use Rattle.frame_line.specs.Lines.{CornerLine, LabelLine, PassLine}
 use Rattle.frame.specs.Frame.{Frame, floatOf, readFrame, accepted}
-use Rattle.frame.specs.Text.{map, All, Sound, WithinLimits}
+use Rattle.frame.specs.Text.{All, Sound, WithinLimits}
 use Rattle.frame.specs.Lent.{xsOf, ysOf, pitchesOf, labelled, sheetOf, settingsOf}
 use Rattle.frame_laws.specs.Calls.{cornersOf, callOf, callsOf}
-use Rattle.frame_laws.proofs.Lists.{length-map}
 use Rattle.frame_laws.proofs.Back.{frame-prints-back}
 use Rattle.frame_laws.proofs.Runs.{frame-standing}
 use Rattle.frame_agreement.specs.Reordering.{renumbered, SameButOrder, RunAlike, FramesRunAlike}
@@ -55,7 +54,7 @@ module _ {n m : ℕ} (s : Shuffle n) (in-m : (k : ℕ) → k < m → k < n) (few
 module _ (f f' : Frame) (w : WithinLimits f) (same : SameButOrder f f') where
   same-length : length (xsOf f) ≡ length (f .corners)
   unfolding xsOf
-  same-length = length-map (λ c. floatOf (c .x)) (f .corners)
+  same-length = length-map (f .corners) (λ c. floatOf (c .x))
 
   -- the pairing, of as many numbers as there are xs
   pairs : Shuffle (length (xsOf f))
@@ -79,7 +78,7 @@ module _ (f f' : Frame) (w : WithinLimits f) (same : SameButOrder f f') where
       ∙ ap g (same .same-line i h) ∙ sym (getD-map g (f .corners) i _ nan h)
 
   as-long : (g : CornerLine → Float) → length (map g (f' .corners)) ≡ length (map g (f .corners))
-  as-long g = length-map g (f' .corners) ∙ same .count ∙ sym (length-map g (f .corners))
+  as-long g = length-map (f' .corners) g ∙ same .count ∙ sym (length-map (f .corners) g)
 
   corners-paired : PairedCorners (xsOf f) (ysOf f) (pitchesOf f) (xsOf f') (ysOf f') (pitchesOf f')
   unfolding xsOf ysOf pitchesOf cornerOf pairs

@@ -2,7 +2,7 @@
 -- corner lines of both frames one to one, each with an equal line; a pair is one physical corner. The labels name paired corners, and the
 -- calls' other arguments and buffer lengths are equal." Definitions only.
 use mathlib.Core.Path.{_≡_}
-use mathlib.Core.List.{List}
+use mathlib.Core.List.{List, map}
 use Prim.Native.Nat.{ℕ, _<_}
 use lib.IntN.{pos, natAbs}
 use lib.ListN.{length, getD}
@@ -11,7 +11,6 @@ use Rattle.passes.specs.Run.{Call, run}
 use Rattle.agreement.specs.Agreement.{Reordered, Agree, FactorsAbove, Holds}
 use Rattle.frame_line.specs.Lines.{CornerLine, LabelLine}
 use Rattle.frame.specs.Frame.{Frame, readFrame, accepted}
-use Rattle.frame.specs.Text.{map}
 use Rattle.frame.specs.Lent.{sheetOf}
 use Rattle.frame_laws.specs.Calls.{cornersOf, callsOf}
 

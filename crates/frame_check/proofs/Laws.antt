@@ -3,33 +3,16 @@ use mathlib.Core.Path.{_≡_, refl, sym, ap, _∙_}
 use mathlib.Core.Bool.{Bool, true, false, not, _||_, true≢false}
 use mathlib.Core.List.{List}
 use Prim.Native.Nat.{ℕ, _%_, _<_, _≤_}
-use native.Mathlib.Omega.{arith}
 use borrow.Author.Tests.{eq-eqb, ne-eqb, leb-true, leb-false}
 use lib.Dec.{leb}
 use lib.ListN.{getD}
 use lib.Ieee.{binary32, ofBits}
-use Rattle.refusal.specs.declared.Refusal.{Refusal}
 use Rattle.binary32.specs.Ranges.{inRange}
 use Rattle.binary32.specs.declared.ranges.Quantity.{Quantity}
 use Rattle.binary32.proofs.Finite.{infinite-bits, in-range-finite}
-use Rattle.arguments.specs.Arguments.{outside, refusedIf}
-use Rattle.arguments.specs.declared.Checked.{Checked}
+use Rattle.arguments.specs.Arguments.{outside}
 use Rattle.frame_line.specs.declared.HeldLine.{HeldLine}
 use Rattle.frame_check.specs.Checks.{heldRank, mayCome, wildBits, isSet}
-
--- ---- refusals in order
-
--- this test refuses; it does not, and the rest says t
-pub refused : (b : Bool) (r : Refusal) (rest : Checked) → b ≡ true → Checked.Refused r ≡ refusedIf b r rest
-refused b r rest e = rw e
-
-pub passed : (b : Bool) (r : Refusal) (rest t : Checked) → b ≡ false → t ≡ rest → t ≡ refusedIf b r rest
-passed b r rest t e f = rw e f
-
--- what is fine was not refused, by this test or by the rest
-pub not-refused : (b : Bool) (r : Refusal) (rest : Checked) → refusedIf b r rest ≡ Checked.Fine → (b ≡ false) × (rest ≡ Checked.Fine)
-not-refused true r rest e = absurd (let z : _≡_ {A = ℕ} 0 1 = cc in omega arith)
-not-refused false r rest e = (refl, e)
 
 -- ---- 1
 
@@ -66,11 +49,6 @@ module _ (entries : List ℕ) (p k : ℕ) (e : p ≡ k) where
 
 pub first-of : (a b : Bool) → a ≡ true → (a || b) ≡ true
 first-of a b e = rw e
-
--- no test of a chain holds
-pub neither : (a b : Bool) → (a || b) ≡ false → (a ≡ false) × (b ≡ false)
-neither true b e = absurd (true≢false e)
-neither false b e = (refl, e)
 
 pub second-of : (a b t : Bool) → a ≡ false → b ≡ t → (a || b) ≡ t
 second-of a b t e f = rw e f

@@ -1,7 +1,7 @@
 -- What is printed of a frame within the limits is accepted and read back: the reader refuses nothing that 01 allows. Assumes nothing.
 use mathlib.Core.Path.{_≡_, refl, sym, ap, _∙_, subst}
 use mathlib.Core.Bool.{Bool, true, false, _&&_, _||_}
-use mathlib.Core.List.{List, [], _∷_, _++_, append-nil}
+use mathlib.Core.List.{List, [], _∷_, _++_, append-nil, map}
 use Prim.Native.Nat.{ℕ, suc, _≤_}
 use native.Mathlib.Omega.{arith}
 use borrow.Author.Tests.{le-ltb, lt-ltb, le-leb, lt-leb}
@@ -15,7 +15,7 @@ use Rattle.sheet.proofs.Laws.{eqZ-equal}
 use Rattle.frame_line.specs.Lines.{CornerLine, LabelLine, PassLine, Line, frame-line, cell-line, axes-line, band-line, corner-line, label-line, pass-line, numbersOf, AllPatterns, lineText}
 use Rattle.frame_line.proofs.Laws.{line-reads-back}
 use Rattle.frame.specs.Frame.{Frame, rankOf, inOrder, stageAfter, overLimit, offSheet, unknownCorner, clash, doubled, adding, Step, accepted, atEnd, going, readLines, readFrame, nothing-read}
-use Rattle.frame.specs.Text.{map, linesIn, frameText, All, InRange, Sound, Apart, WithinLimits, FrameReadsBack}
+use Rattle.frame.specs.Text.{linesIn, frameText, All, InRange, Sound, Apart, WithinLimits, FrameReadsBack}
 use Rattle.frame_laws.proofs.Lists.{all-left, all-right}
 use Rattle.frame_laws.proofs.Lines.{lines-printed}
 use Rattle.frame_laws.proofs.Steps.{Passes, added-step}

@@ -1,7 +1,7 @@
 -- A text that is accepted is what is printed of the frame that was read, and that frame is within the limits. Assumes nothing.
 use mathlib.Core.Path.{_≡_, refl, sym, ap, _∙_, subst, subst₂}
 use mathlib.Core.Bool.{Bool, true, false, not, _&&_}
-use mathlib.Core.List.{List, [], _∷_, _++_, append-assoc, append-nil}
+use mathlib.Core.List.{List, [], _∷_, _++_, append-assoc, append-nil, map, map-append}
 use Prim.Native.Nat.{ℕ, _<_, _≤_}
 use native.Mathlib.Omega.{arith}
 use borrow.Author.Tests.{ltb-true, ltb-false, leb-true, leb-false, eqb-true, le-ltb, not-false}
@@ -17,11 +17,12 @@ use Rattle.sheet.proofs.Laws.{equal-eqZ}
 use Rattle.frame_line.specs.Lines.{CornerLine, LabelLine, PassLine, Line, frame-line, cell-line, axes-line, band-line, corner-line, label-line, pass-line, lineText, LinePrintsBack}
 use Rattle.frame_line.proofs.Laws.{line-prints-back}
 use Rattle.frame.specs.Frame.{Frame, linesOf, rankOf, inOrder, stageAfter, overLimit, offSheet, unknownCorner, sameCell, clash, doubled, adding, FrameRead, refused-at, accepted, readLines, readFrame, nothing-read}
-use Rattle.frame.specs.Text.{map, linesIn, textOfLines, frameText, All, InRange, Sound, Apart, FramePrintsBack, Passed, none-yet, one-more}
-use Rattle.frame_laws.proofs.Lists.{map-then, all-then, neither}
+use Rattle.frame.specs.Text.{linesIn, textOfLines, frameText, All, InRange, Sound, Apart, FramePrintsBack, Passed, none-yet, one-more}
+use Rattle.frame_laws.proofs.Lists.{all-then}
 use Rattle.frame_laws.proofs.Lines.{joined, lines-joined}
 use Rattle.frame_laws.proofs.Steps.{Passes, step-added}
 use Rattle.frame_laws.proofs.Refusals.{Ending, all-read, one-fails, one-missing, ending}
+use Rattle.arguments.proofs.Chains.{or-false-both}
 
 -- ---- texts
 
@@ -44,13 +45,13 @@ linesUpTo : ℕ → Frame → List Line
 linesUpTo stage f = pick (ltb stage 4) (take stage (headLines f)) (linesIn f)
 
 corner-last : (cs : List CornerLine) (c : CornerLine) → later (cs ++ (c ∷ [])) [] [] ≡ later cs [] [] ++ (corner-line c ∷ [])
-corner-last cs c = simp (map-then, append-nil)
+corner-last cs c = simp (map-append, append-nil)
 
 label-last : (cs : List CornerLine) (ls : List LabelLine) (l : LabelLine) → later cs (ls ++ (l ∷ [])) [] ≡ later cs ls [] ++ (label-line l ∷ [])
-label-last cs ls l = simp (map-then, append-nil, append-assoc)
+label-last cs ls l = simp (map-append, append-nil, append-assoc)
 
 pass-last : (cs : List CornerLine) (ls : List LabelLine) (ps : List PassLine) (p : PassLine) → later cs ls (ps ++ (p ∷ [])) ≡ later cs ls ps ++ (pass-line p ∷ [])
-pass-last cs ls ps p = simp (map-then, append-assoc)
+pass-last cs ls ps p = simp (map-append, append-assoc)
 
 -- ---- whose turn it is
 
@@ -180,7 +181,7 @@ Differ l m = (l .cell ≡ m .cell → ⊥) × (l .corner ≡ m .corner → ⊥)
 
 differ : (m l : LabelLine) → clash m l ≡ false → Differ m l
 differ m l e =
-    let n = neither _ _ e in (
+    let n = or-false-both _ _ e in (
       λ q. no-both (sameCell (m .cell) (l .cell)) (rw (equal-eqZ (m .cell .i) (l .cell .i) (ap (λ (c : Cell). c .i) q), equal-eqZ (m .cell .j) (l .cell .j) (ap (λ (c : Cell). c .j) q))) (n .0),
       λ q. no-both (eqZ (m .corner) (l .corner)) (equal-eqZ (m .corner) (l .corner) q) (n .1),
     )
@@ -189,7 +190,7 @@ once-more : (ls : List LabelLine) (l : LabelLine) → Apart ls → doubled ls l 
 unfolding doubled
 once-more [] l a e = (tt, tt)
 once-more (m ∷ ls) l a e =
-    let n = neither (clash m l) (doubled ls l) e in
+    let n = or-false-both (clash m l) (doubled ls l) e in
     (all-then (Differ m) ls (l ∷ []) (a .0) (differ m l (n .0), tt), once-more ls l (a .1) (n .1))
 
 -- what the limits say of the lines after the first four

@@ -1,6 +1,6 @@
 -- Frames read by the definition: 01's own example, which printing gives back, and texts that are refused. One theorem for the table.
 use mathlib.Core.Path.{_≡_, refl}
-use mathlib.Core.List.{List, [], _∷_, _++_}
+use mathlib.Core.List.{List, [], _∷_, _++_, map}
 use Prim.Native.Nat.{ℕ}
 use lib.IntN.{pos}
 use lib.Ieee.{ofBits, ofInt, le, lt, eq}
@@ -13,7 +13,7 @@ use Rattle.line_form.specs.Integers.{decimalUpTo, decimal, integerText, digitsA
 use Rattle.line_form.specs.Forms.{bytes, numberText, printed, pieceOf, fitOf}
 use Rattle.frame_line.specs.Lines.{bare-grow, lineText, bitsAt, wholeAt, lineOf, firstFit, readLine}
 use Rattle.frame.specs.Frame.{Frame, linesOf, inOrder, stageAfter, overLimit, outOfRange, wildPass, offSheet, unknownCorner, doubled, checkedLine, adding, FrameRead, refused-at, accepted, stepLine, atEnd, readLines, readFrame}
-use Rattle.frame.specs.Text.{map, textOfLines, frameText}
+use Rattle.frame.specs.Text.{textOfLines, frameText}
 
 abbrev pub first-four : List ℕ
 first-four = bytes "(frame 1)\n(cell 41200000)\n(axes (3f800000 00000000) (00000000 3f800000))\n(band 3e800000)\n"

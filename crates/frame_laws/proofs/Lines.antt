@@ -2,7 +2,7 @@
 -- joined, are the text. Assumes nothing.
 use mathlib.Core.Path.{_≡_, refl, ap, _∙_, subst}
 use mathlib.Core.Bool.{Bool, true, false, cond}
-use mathlib.Core.List.{List, [], _∷_, _++_}
+use mathlib.Core.List.{List, [], _∷_, _++_, map}
 use Prim.Native.Nat.{ℕ, zero, suc, _+_, _*_, _/_, _%_, _^_, _<_}
 use native.Mathlib.Omega.{arith}
 use borrow.Author.Tests.{eqb-true, ne-eqb}
@@ -14,7 +14,7 @@ use Rattle.line_form.specs.Integers.{decimalUpTo, decimal, integerText}
 use Rattle.line_form.specs.Forms.{Number, bits, whole, numberText, isSlot, firstText, printed}
 use Rattle.frame_line.specs.Lines.{Line, Kind, frame-kind, cell-kind, axes-kind, band-kind, corner-kind, label-kind, bare-grow-kind, grow-kind, bare-fill-kind, fill-kind, local-kind, formOf, kindOf, numbersOf, lineText}
 use Rattle.frame.specs.Frame.{longer, onto, linesOf}
-use Rattle.frame.specs.Text.{map, textOfLines}
+use Rattle.frame.specs.Text.{textOfLines}
 
 -- ---- a printed line ends with its only LF
 

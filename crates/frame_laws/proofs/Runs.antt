@@ -2,7 +2,7 @@
 -- its numbers in range, so that none is refused, after whatever list of calls. Assumes nothing.
 use mathlib.Core.Path.{_≡_, refl, sym, subst}
 use mathlib.Core.Bool.{Bool, true, false, not, _&&_}
-use mathlib.Core.List.{List, [], _∷_, _++_}
+use mathlib.Core.List.{List, [], _∷_, _++_, map}
 use Prim.Native.Nat.{ℕ, zero, suc, _<_, _≤_}
 use native.Mathlib.Nat.{not-suc-le-zero}
 use native.Mathlib.Omega.{arith}
@@ -10,7 +10,7 @@ use borrow.Author.Tests.{leb-true, not-false}
 use lib.Dec.{leb}
 use lib.IntN.{ℤ, pos, negsuc, natAbs}
 use lib.Ieee.{Float, nan, ofBits, ofInt, le}
-use lib.ListN.{length, getD}
+use lib.ListN.{length, getD, length-map}
 use Rattle.binary32.specs.Ranges.{endsOf, inRange}
 use Rattle.binary32.specs.declared.ranges.Quantity.{Quantity}
 use Rattle.sheet.specs.Corners.{cornerOf}
@@ -24,13 +24,14 @@ use Rattle.invariants.specs.Calls.{Standing, Fit, Accepts, passOf as passChecke
 use Rattle.invariants.proofs.Run.{standing-step, fit-accepts, never-refused, invariants}
 use Rattle.frame_line.specs.Lines.{CornerLine, PassLine, bare-grow, grow, bare-fill, fill, local, corner-line, label-line, pass-line}
 use Rattle.frame.specs.Frame.{Frame, floatOf, wild, wildCount, wildPass, outOfRange}
-use Rattle.frame.specs.Text.{map, All, InRange, Sound, WithinLimits}
+use Rattle.frame.specs.Text.{All, InRange, Sound, WithinLimits}
 use Rattle.frame.specs.Lent.{xsOf, ysOf, pitchesOf, sheetOf, settingsOf, fullOf, passOf}
 use Rattle.frame_laws.specs.Calls.{cornersOf, frameRooms, passCall, callOf, callsOf, NoneRefused, Starts, AcceptedRuns}
-use Rattle.frame_laws.proofs.Lists.{length-map, all-left, all-right, neither}
+use Rattle.frame_laws.proofs.Lists.{all-left, all-right}
 use Rattle.frame_laws.proofs.Back.{frame-prints-back}
 use Rattle.frame_laws.proofs.Labels.{given-labels}
 use Rattle.frame_laws.proofs.Given.{labels-given, labels-one}
+use Rattle.arguments.proofs.Chains.{or-false-both}
 
 -- ---- numbers in range
 
@@ -69,8 +70,8 @@ module _ (f : Frame) (w : WithinLimits f) where
   corner-tame : (c : CornerLine) → outOfRange (corner-line c) ≡ false → CornerTame c
   unfolding outOfRange
   corner-tame c e =
-      let a = neither _ _ e in
-      let b = neither _ _ (a .1) in
+      let a = or-false-both _ _ e in
+      let b = or-false-both _ _ (a .1) in
       record { x-in = inside Quantity.Position (c .x) (a .0); y-in = inside Quantity.Position (c .y) (b .0); pitch-in = inside Quantity.Pitch (c .pitch) (b .1) }
 
   picked : (P : CornerLine → Type 0) → ((c : CornerLine) → CornerTame c → P c) → (cs : List CornerLine) → All InRange (map corner-line cs) → All P cs
@@ -79,7 +80,7 @@ module _ (f : Frame) (w : WithinLimits f) where
 
   same-length : length (xsOf f) ≡ length (f .corners)
   unfolding xsOf
-  same-length = length-map (λ c. floatOf (c .x)) (f .corners)
+  same-length = length-map (f .corners) (λ c. floatOf (c .x))
 
   corners-inside : (k : ℕ) → k < length (xsOf f) → CornerInside (cornerOf (xsOf f) (ysOf f) (pitchesOf f) k)
   unfolding cornerOf xsOf ysOf pitchesOf
@@ -97,9 +98,9 @@ module _ (f : Frame) (w : WithinLimits f) where
   unfolding settingsOf outOfRange
   settings-inside =
       let n = w .numbers in
-      let a = neither _ _ (n .1 .1 .0 .ranges) in
-      let b = neither _ _ (a .1) in
-      let c = neither _ _ (b .1) in
+      let a = or-false-both _ _ (n .1 .1 .0 .ranges) in
+      let b = or-false-both _ _ (a .1) in
+      let c = or-false-both _ _ (b .1) in
       record {
         cell-size = inside Quantity.CellSize (f .cell) (n .1 .0 .ranges);
         axis-i = record { x = inside Quantity.AxisPart (f .axes .ix) (a .0); y = inside Quantity.AxisPart (f .axes .iy) (b .0) };
@@ -124,19 +125,19 @@ module _ (f : Frame) (w : WithinLimits f) where
   unfolding wildPass fullOf passOf endsOf le ofBits ofInt
   pass-inside bare-grow e = record { search = refl; factor = refl; boundary = refl }
   pass-inside (grow s a b) e =
-      let x = neither _ _ e in
-      let y = neither _ _ (x .1) in
+      let x = or-false-both _ _ e in
+      let y = or-false-both _ _ (x .1) in
       record { search = inside Quantity.Multiple s (x .0); factor = inside Quantity.Factor a (y .0); boundary = inside Quantity.Multiple b (y .1) }
   pass-inside bare-fill e = record { search = refl; factor = refl; rounds = omega arith }
   pass-inside (fill s a r) e =
-      let x = neither _ _ e in
-      let y = neither _ _ (x .1) in
+      let x = or-false-both _ _ e in
+      let y = or-false-both _ _ (x .1) in
       record { search = inside Quantity.Multiple s (x .0); factor = inside Quantity.Factor a (y .0); rounds = counted 64 r (y .1) }
   pass-inside (local s a r g d) e =
-      let x = neither _ _ e in
-      let y = neither _ _ (x .1) in
-      let z = neither _ _ (y .1) in
-      let t = neither _ _ (z .1) in
+      let x = or-false-both _ _ e in
+      let y = or-false-both _ _ (x .1) in
+      let z = or-false-both _ _ (y .1) in
+      let t = or-false-both _ _ (z .1) in
       record {
         search = inside Quantity.Multiple s (x .0);
         factor = inside Quantity.Factor a (y .0);
@@ -174,8 +175,8 @@ module _ (f : Frame) (w : WithinLimits f) where
   pub frame-standing : Standing (cornersOf f) (sheetOf f)
   unfolding sheetOf xsOf ysOf pitchesOf
   frame-standing =
-      let ys-long : length (xsOf f) ≤ length (ysOf f) = omega (arith, same-length, length-map (λ c. floatOf (c .y)) (f .corners)) in
-      let pitches-long : length (xsOf f) ≤ length (pitchesOf f) = omega (arith, same-length, length-map (λ c. floatOf (c .pitch)) (f .corners)) in
+      let ys-long : length (xsOf f) ≤ length (ysOf f) = omega (arith, same-length, length-map (f .corners) (λ c. floatOf (c .y))) in
+      let pitches-long : length (xsOf f) ≤ length (pitchesOf f) = omega (arith, same-length, length-map (f .corners) (λ c. floatOf (c .pitch))) in
       let sound : All (Sound (length (xsOf f))) (f .labels) = subst (λ (n : ℕ). All (Sound n) (f .labels)) (sym same-length) (w .labels) in
       record {
         given = labels-given (xsOf f) (ysOf f) (pitchesOf f) few ys-long pitches-long (f .labels) sound (w .once);

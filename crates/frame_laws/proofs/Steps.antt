@@ -10,6 +10,7 @@ use lib.ListN.{length}
 use Rattle.refusal.specs.declared.Refusal.{Refusal}
 use Rattle.arguments.specs.Arguments.{refusedIf}
 use Rattle.arguments.specs.declared.Checked.{Checked}
+use Rattle.arguments.proofs.Chains.{not-refused}
 use Rattle.frame_line.specs.Lines.{Line, frame-line, cell-line, axes-line, band-line, corner-line, label-line, pass-line, LineRead, ill-formed, line, readLine}
 use Rattle.frame.specs.Frame.{Frame, rankOf, inOrder, stageAfter, overLimit, outOfRange, ofLabel, offSheet, unknownCorner, doubled, checkedLine, adding, stopped, onward, afterCheck, stepWith, stepLine}
 use Rattle.frame.specs.Text.{FirstFault, has-no-form, not-its-turn, too-many, is-wild, is-off-sheet, is-unknown, is-doubled}
@@ -25,19 +26,15 @@ pub record Passes (stage : ℕ) (f : Frame) (l : Line) : Type 0 where
   pub known : ofLabel (unknownCorner (length (f .corners))) l ≡ false
   pub new : ofLabel (doubled (f .labels)) l ≡ false
 
-fine-if : (t : Bool) (r : Refusal) (rest : Checked) → refusedIf t r rest ≡ Checked.Fine → (t ≡ false) × (rest ≡ Checked.Fine)
-fine-if true r rest e = absurd (let z : _≡_ {A = ℕ} 0 1 = cc in omega arith)
-fine-if false r rest e = (refl, e)
-
 fine-passes : (stage : ℕ) (f : Frame) (l : Line) → checkedLine stage f l ≡ Checked.Fine → Passes stage f l
 unfolding checkedLine
 fine-passes stage f l e =
-    let a = fine-if _ _ _ e in
-    let b = fine-if _ _ _ (a .1) in
-    let c = fine-if _ _ _ (b .1) in
-    let d = fine-if _ _ _ (c .1) in
-    let g = fine-if _ _ _ (d .1) in
-    let h = fine-if _ _ _ (g .1) in
+    let a = not-refused _ _ _ e in
+    let b = not-refused _ _ _ (a .1) in
+    let c = not-refused _ _ _ (b .1) in
+    let d = not-refused _ _ _ (c .1) in
+    let g = not-refused _ _ _ (d .1) in
+    let h = not-refused _ _ _ (g .1) in
     record { its-turn = not-false _ (a .0); room = b .0; tame = c .0; on-sheet = d .0; known = g .0; new = h .0 }
 
 passes-fine : (stage : ℕ) (f : Frame) (l : Line) → Passes stage f l → checkedLine stage f l ≡ Checked.Fine

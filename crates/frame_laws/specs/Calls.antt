@@ -2,7 +2,7 @@
 -- its given labels, those of the label lines"; and "a frame's passes are one such list". Definitions only.
 use mathlib.Core.Path.{_≡_}
 use mathlib.Core.Bool.{false}
-use mathlib.Core.List.{List, [], _∷_, List·Memᴰ}
+use mathlib.Core.List.{List, [], _∷_, List·Memᴰ, map}
 use Prim.Native.Nat.{ℕ}
 use lib.IntN.{pos, natAbs}
 use Rattle.sheet.specs.Words.{labelAt, holeAt, ambiguousAt}
@@ -15,7 +15,7 @@ use Rattle.passes.specs.Run.{PassCall, grow, fill, local, Call, PassStats, run,
 use Rattle.invariants.specs.Calls.{Standing, Invariant, Fit, Accepts}
 use Rattle.frame_line.specs.Lines.{LabelLine, PassLine}
 use Rattle.frame.specs.Frame.{Frame, readFrame, accepted}
-use Rattle.frame.specs.Text.{map, All}
+use Rattle.frame.specs.Text.{All}
 use Rattle.frame.specs.Lent.{xsOf, ysOf, pitchesOf, sheetOf, settingsOf, fullOf, passOf}
 
 -- the corners of a frame, as each call is lent them

@@ -17,9 +17,10 @@ use Rattle.frame_line.specs.declared.HeldLabel.{HeldLabel}
 use Rattle.frame_line.specs.declared.HeldPass.{HeldPass}
 use Rattle.frame_line.specs.declared.HeldLine.{HeldLine}
 use Rattle.frame_check.specs.Checks.{overLimit, wildBits, wildAxes, wildCorner, outOfRange, checkedLabel, ofLabel, checkedSaid}
-use Rattle.frame_check.proofs.Laws.{not-refused, tame-finite, neither}
+use Rattle.frame_check.proofs.Laws.{tame-finite}
 use Rattle.frame_state.specs.State.{Tame, TameAxes, withCellSize, withAxes, withBand, withCorner, withPass, CornerFits, CornerPut, LabelFits, LabelPut, wordsOf, wordsPut, Arrays, arrays, state, LineFits, adds}
 use Rattle.frame_state.specs.declared.Progress.{Progress}
+use Rattle.arguments.proofs.Chains.{or-false-both, not-refused}
 
 -- ---- what the checks say
 
@@ -50,9 +51,9 @@ module _ {p : Progress} {a : Arrays} {line : HeldLine} (f : LineFits p a line) w
   pub axes-fit : (x : HeldAxes) → line ≡ HeldLine.Axes x → TameAxes x
   unfolding outOfRange wildAxes
   axes-fit x e =
-      let i = neither _ _ (it-is (HeldLine.Axes x) e .ranges) in
-      let j = neither _ _ (i .1) in
-      let k = neither _ _ (j .1) in
+      let i = or-false-both _ _ (it-is (HeldLine.Axes x) e .ranges) in
+      let j = or-false-both _ _ (i .1) in
+      let k = or-false-both _ _ (j .1) in
       record { ix = tame _ _ (i .0); iy = tame _ _ (j .0); jx = tame _ _ (k .0); jy = tame _ _ (k .1) }
 
   pub band-fits : (b : ℕ) → line ≡ HeldLine.Band b → Tame b
@@ -63,8 +64,8 @@ module _ {p : Progress} {a : Arrays} {line : HeldLine} (f : LineFits p a line) w
   unfolding overLimit outOfRange wildCorner
   corner-fits c e =
       let s = it-is (HeldLine.Corner c) e in
-      let i = neither _ _ (s .ranges) in
-      let j = neither _ _ (i .1) in
+      let i = or-false-both _ _ (s .ranges) in
+      let j = or-false-both _ _ (i .1) in
       record { room = leb-false 1024 (p .corners) (s .room); x = tame _ _ (i .0); y = tame _ _ (j .0); pitch = tame _ _ (j .1) }
 
   pub label-fits : (l : HeldLabel) → line ≡ HeldLine.Label l → LabelFits (a .sheet) l

@@ -1,6 +1,6 @@
 -- What the exported reader leaves, by what the reader answers. Assumes nothing.
 use mathlib.Core.Path.{_≡_, refl, sym, ap, _∙_, subst}
-use mathlib.Core.Bool.{Bool, true, false, _||_, true≢false}
+use mathlib.Core.Bool.{Bool, true, false}
 use mathlib.Core.List.{List, _∷_}
 use Prim.Native.Nat.{ℕ, _+_, _*_, _<_, _≤_}
 use native.Mathlib.Omega.{arith}
@@ -17,6 +17,7 @@ use Rattle.frame.specs.declared.FrameAnswer.{FrameAnswer}
 use Rattle.frame_laws.proofs.Back.{frame-prints-back}
 use Rattle.recovery.proofs.Refusing.{refused-line}
 use Rattle.grid_export.specs.Frames.{Word, settingsEntered, countsEntered, refusedAnswer, Told, told, frameTold, FrameLeft, frameLeft, frameRead, headShort, frameUnless, frameExported, HeadRoom, Sayable}
+use Rattle.arguments.proofs.Chains.{or-false-both}
 
 -- ---- a refusal
 
@@ -74,15 +75,11 @@ module _ (text : List ℕ) (b : Buffers) where
 
 -- ---- room for the head
 
-either : (a b : Bool) → (a || b) ≡ false → (a ≡ false) × (b ≡ false)
-either true b e = absurd (true≢false e)
-either false b e = (refl, e)
-
 module _ (settings : List Float) (out : List ℕ) (t : Bool) (e : t ≡ headShort settings out) where
   pub head-room : t ≡ false → HeadRoom settings out
   unfolding headShort
   head-room f =
-      let p = either (ltb (length settings) 6) (ltb (length out) 2) (sym e ∙ f) in
+      let p = or-false-both (ltb (length settings) 6) (ltb (length out) 2) (sym e ∙ f) in
       record { floats = ltb-false (length settings) 6 (p .0); words = ltb-false (length out) 2 (p .1) }
 
   module _ (text : List ℕ) (xs ys pitches : List Float) (sheet passes : List ℕ) where

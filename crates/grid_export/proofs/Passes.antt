@@ -14,7 +14,7 @@ use Rattle.arguments.specs.declared.GrowParams.{GrowParams}
 use Rattle.arguments.specs.declared.FillParams.{FillParams}
 use Rattle.arguments.specs.declared.LocalExtensionParams.{LocalExtensionParams}
 use Rattle.passes.specs.Outcome.{After, Outcome, refused, done}
-use Rattle.passes.specs.Step.{CornerLists, growStep, GrowOut, growOut, growLeaves, fillStep, FillOut, fillOut, fillLeaves, localStep, LocalOut, localOut, localLeaves}
+use Rattle.passes.specs.Step.{CornerLists, growStep, GrowOut, growOut, growLeaves, fillStep, FillOut, fillOut, fillLeaves, localStep, LocalOut, localOut, localLeaves, rooms}
 use Rattle.passes.specs.Run.{PassStats, growStats, fillStats, localStats, renamed}
 use Rattle.passes.specs.declared.GrowStats.{GrowStats}
 use Rattle.passes.specs.declared.FillStats.{FillStats}
@@ -23,7 +23,7 @@ use Rattle.passes.specs.declared.GrowAnswer.{GrowAnswer}
 use Rattle.passes.specs.declared.FillAnswer.{FillAnswer}
 use Rattle.passes.specs.declared.LocalAnswer.{LocalAnswer}
 use Rattle.report.specs.Asked.{withOutcome}
-use Rattle.grid_export.specs.Passes.{rooms, GrowLeft, growLeft, growTold, growUnless, growOutcome, growExported, PassLeft, passLeft, passTold, passUnless, fillOutcome, fillExported, localOutcome, localExported}
+use Rattle.grid_export.specs.Passes.{GrowLeft, growLeft, growTold, growUnless, growOutcome, growExported, PassLeft, passLeft, passTold, passUnless, fillOutcome, fillExported, localOutcome, localExported}
 
 -- ---- grow
 

@@ -1,6 +1,6 @@
 -- What the exported writers of a result leave, and that its length and the numbers of its lines are words. Assumes nothing.
 use mathlib.Core.Path.{_≡_, refl, sym, ap, _∙_}
-use mathlib.Core.Bool.{Bool, true, false, _||_, true≢false}
+use mathlib.Core.Bool.{false, _||_}
 use mathlib.Core.List.{List, [], _∷_, _++_}
 use Prim.Native.Nat.{ℕ, zero, suc, _+_, _-_, _*_, _<_, _≤_}
 use native.Mathlib.Omega.{arith}
@@ -9,8 +9,8 @@ use lib.Dec.{ltb}
 use lib.ListN.{length, drop, set, length-append}
 use Rattle.refusal.specs.declared.Refusal.{Refusal}
 use Rattle.refusal.specs.Refusal.{numberOf}
-use Rattle.arguments.specs.Arguments.{refusedIf}
 use Rattle.arguments.specs.declared.Checked.{Checked}
+use Rattle.arguments.proofs.Chains.{or-false-both, not-refused}
 use Rattle.passes.specs.Run.{PassStats}
 use Rattle.report_line.specs.Result.{linesFrom, resultLine, lineCount, resultFrom, Piece}
 use Rattle.report.specs.Lent.{Lent, statsIn, textOf, inputShort, overLimit, wild, checkedRest, checkedText, TextOut, textOut, textLeaves, writesText, pieceIn, checkedPiece, PieceOut, pieceOut, pieceLeaves, writesPiece}
@@ -33,14 +33,6 @@ lines-length line k (suc n) h =
     let rest = lines-length line (suc k) n (λ i a b. h i (omega arith) (omega arith)) in
     omega (arith, ap length (one-line-more line k n), length-append (line k) (linesFrom line (suc k) n), here, rest)
 
-cleared : (b : Bool) (r : Refusal) (rest : Checked) → refusedIf b r rest ≡ Checked.Fine → (b ≡ false) × (rest ≡ Checked.Fine)
-cleared true r rest e = absurd (let z : _≡_ {A = ℕ} 0 1 = cc in omega arith)
-cleared false r rest e = (refl, e)
-
-either : (a b : Bool) → (a || b) ≡ false → (a ≡ false) × (b ≡ false)
-either true b e = absurd (true≢false e)
-either false b e = (refl, e)
-
 -- what nothing is refused of has few passes, and outcomes that can be printed
 record Few (l : Lent) : Type 0 where
   passes : l .passes ≤ 16
@@ -48,7 +40,7 @@ record Few (l : Lent) : Type 0 where
 
 few-passes : (l : Lent) → overLimit l ≡ false → l .passes ≤ 16
 unfolding overLimit
-few-passes l e = ltb-false 16 (l .passes) (either (ltb 16 (l .passes)) _ e .0)
+few-passes l e = ltb-false 16 (l .passes) (or-false-both (ltb 16 (l .passes)) _ e .0)
 
 module _ (l : Lent) (few : Few l) where
   abbrev stats : List PassStats
@@ -80,9 +72,9 @@ module _ (l : Lent) (text out : List ℕ) where
   text-cleared : checkedText l (length text) ≡ Checked.Fine → Few l
   unfolding checkedText checkedRest
   text-cleared e =
-      let seven = cleared (inputShort l || ltb (length text) (length (textOf l))) _ _ e in
-      let limits = cleared (overLimit l) _ _ (seven .1) in
-      record { passes = few-passes l (limits .0); tame = cleared (wild l) _ _ (limits .1) .0 }
+      let seven = not-refused (inputShort l || ltb (length text) (length (textOf l))) _ _ e in
+      let limits = not-refused (overLimit l) _ _ (seven .1) in
+      record { passes = few-passes l (limits .0); tame = not-refused (wild l) _ _ (limits .1) .0 }
 
   pub text-short : length out < 1 → textLeft 7 text out ≡ textExported l text out
   unfolding textExported
@@ -122,10 +114,10 @@ module _ (l : Lent) (from : ℕ) (text out : List ℕ) where
   piece-cleared : checkedPiece l from (length text) ≡ Checked.Fine → Few l × (from ≤ lineCount (l .passes))
   unfolding checkedPiece
   piece-cleared e =
-      let seven = cleared (inputShort l || ltb (length text) 128) _ _ e in
-      let limits = cleared (overLimit l) _ _ (seven .1) in
-      let three = cleared (wild l || ltb (lineCount (l .passes)) from) _ _ (limits .1) in
-      let range = either (wild l) _ (three .0) in
+      let seven = not-refused (inputShort l || ltb (length text) 128) _ _ e in
+      let limits = not-refused (overLimit l) _ _ (seven .1) in
+      let three = not-refused (wild l || ltb (lineCount (l .passes)) from) _ _ (limits .1) in
+      let range = or-false-both (wild l) _ (three .0) in
       (record { passes = few-passes l (limits .0); tame = range .0 }, ltb-false (lineCount (l .passes)) from (range .1))
 
   pub piece-short : length out < 2 → textLeft 7 text out ≡ pieceExported l from text out

@@ -11,17 +11,11 @@ use Rattle.arguments.specs.declared.GrowParams.{GrowParams}
 use Rattle.arguments.specs.declared.FillParams.{FillParams}
 use Rattle.arguments.specs.declared.LocalExtensionParams.{LocalExtensionParams}
 use Rattle.passes.specs.Outcome.{After, Outcome, refused, done, over}
-use Rattle.passes.specs.Step.{CornerLists, Rooms, growStep, fillStep, localStep}
+use Rattle.passes.specs.Step.{CornerLists, growStep, fillStep, localStep, rooms}
 use Rattle.passes.specs.Run.{PassStats, growStats, fillStats, localStats, renamed}
 use Rattle.report.specs.Asked.{withOutcome}
 
 -- ---- numbers as the calls have them
-
-abbrev pub cornerLists : List Float → List Float → List Float → CornerLists
-cornerLists xs ys pitches = record { xs = xs; ys = ys; pitches = pitches }
-
-abbrev pub rooms : ℕ → ℕ → Rooms
-rooms queue attached = record { queue = queue; attached = attached }
 
 -- cell size, both axes and the band
 abbrev pub settingsOf : Float → Float → Float → Float → Float → Float → Settings

@@ -2,7 +2,8 @@
 ghost use mathlib.Core.Path.{_≡_};
 ghost use Prim.Native.Nat.{_≤_};
 ghost use lib.ListN.{length};
-ghost use Rattle.grid_export.specs.Passes.{cornerLists, settingsOf, growParams, fillParams, localParams, growLeft, growTold, growOutcome, growExported, passLeft, passTold, fillOutcome, fillExported, localOutcome, localExported};
+ghost use Rattle.passes.specs.Step.{cornerLists};
+ghost use Rattle.grid_export.specs.Passes.{settingsOf, growParams, fillParams, localParams, growLeft, growTold, growOutcome, growExported, passLeft, passTold, fillOutcome, fillExported, localOutcome, localExported};
 use arguments::FillParams;
 use arguments::GrowParams;
 use arguments::LocalExtensionParams;

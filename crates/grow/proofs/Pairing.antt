@@ -2,25 +2,21 @@
 -- Ties need no condition: the two first distances are the same in both orders, and if they are equal, the quotient is at most 1 and both are ambiguous.
 use mathlib.Core.Path.{_≡_, refl, sym, ap, ap₂, _∙_, subst}
 use mathlib.Core.Bool.{Bool, true, false, _&&_, cond, true≢false}
-use mathlib.Core.List.{List}
 use Prim.Native.Nat.{ℕ, _<_}
 use native.Mathlib.Decide.{ℕ-discrete}
 use lib.Dec.{T}
-use lib.ListN.{length}
 use lib.Ieee.{Float, binary32, div, lt, le}
 use lib.Ieee.Scale.{finite}
 use Rattle.float_order.specs.Unsigned.{one}
 use Rattle.float_order.proofs.Unsigned.{plain-unique}
 use Rattle.binary32.specs.Sqrt.{sqrtOrNan}
-use Rattle.sheet.specs.Corners.{cornerOf}
-use Rattle.sheet.specs.Pairing.{Shuffle, PairedCorners}
-use Rattle.sheet.specs.declared.Corner.{Corner}
+use Rattle.sheet.specs.Pairing.{Shuffle}
 use Rattle.sheet.specs.declared.Position.{Position}
 use Rattle.grow.specs.declared.Candidate.{Candidate}
 use Rattle.grow.specs.declared.Candidates.{Candidates}
 use Rattle.grow.specs.declared.Candidates.the-variants.{Empty, One, Several}
 use Rattle.grow.specs.declared.CandidateChoice.the-variants.{Ambiguous, Unique}
-use Rattle.grow.specs.Candidates.{positionsOf, eligible, squaredDistance, squaredRadius, isCandidate, distanceOf, finitePosition, candidatesAt, firstTwo}
+use Rattle.grow.specs.Candidates.{eligible, squaredDistance, squaredRadius, isCandidate, distanceOf, finitePosition, candidatesAt, firstTwo}
 use Rattle.grow.specs.Choice.{epsilon, byQuotient, chooseUnambiguous, raised, chooseWithFloor, renumbered}
 use Rattle.grow.proofs.Listing.{nth}
 use Rattle.grow.proofs.Collected.{Sound, sound-no-nan, distance-sound, candidates-none, candidates-are}
@@ -179,10 +175,3 @@ module _ {n : ℕ} (s : Shuffle n) (position position' : ℕ → Position) (unla
   pub paired-with-floor : (factor : Float) → lt one factor ≡ true
       → chooseWithFloor (firstTwo (candidatesAt position' unlabelled' n p r)) factor ≡ renumbered (s .to) (chooseWithFloor (firstTwo (candidatesAt position unlabelled n p r)) factor)
   paired-with-floor factor above = floor-alike (s .to) factor above _ _ found-alike
-
--- ---- of the corners as they are lent
-
-pub paired-positions : (xs ys pitches xs' ys' pitches' : List Float) (c : PairedCorners xs ys pitches xs' ys' pitches') (i : ℕ) → i < length xs
-    → positionsOf xs' ys' (c .pairs .to i) ≡ positionsOf xs ys i
-unfolding cornerOf
-paired-positions xs ys pitches xs' ys' pitches' c i h = ap (λ (k : Corner). k .position) (c .same-corner i h)

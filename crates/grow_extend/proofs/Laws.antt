@@ -33,7 +33,7 @@ use Rattle.extension_common.specs.declared.Search.{Search}
 use Rattle.extension_common.specs.declared.TryCellResult.{TryCellResult}
 use Rattle.passes.specs.Outcome.{done, over}
 use Rattle.passes.specs.Grow.{GrowState, noCounts, tolerancesOf, searchOf, spread, startOf, growWith, growAt, growVisit, growFrom, growRun, growAfter}
-use Rattle.passes.specs.Step.{growStep, GrowOut, growOut, growLeaves}
+use Rattle.passes.specs.Step.{growStep, GrowOut, growOut, growLeaves, cornerLists, rooms}
 use Rattle.passes.specs.declared.Counts.{Counts}
 use Rattle.passes.specs.declared.GrowAnswer.{GrowAnswer}
 use Rattle.passes.proofs.Over.{over-length, over-at, over-read, over-own, over-put, over-over}
@@ -41,7 +41,7 @@ use Rattle.passes.proofs.Queue.{more-length, spread-longer, seeded-longer}
 use Rattle.passes.proofs.Enough.{Fit, fit-accepted, Going, Free, found-free, nextOf, next-on, room-left, slot-left, queue-few, made-few, start-going, visit-going, from-ended, from-next, labels-few}
 use Rattle.grow_queue.specs.Queue.{Flagged, Room, Holds, Unqueued, seeded}
 use Rattle.grow_queue.proofs.Laws.{holds-read, holds-length}
-use Rattle.grow_extend.specs.Grow.{cornerLists, rooms, foundFrom, foundAt, withAttached, withNoCandidate, withAmbiguous, withEdge, SmallCounts, stateOf, Leaves, Spare, Attachable, Settleable, Visitable, Startable}
+use Rattle.grow_extend.specs.Grow.{foundFrom, foundAt, withAttached, withNoCandidate, withAmbiguous, withEdge, SmallCounts, stateOf, Leaves, Spare, Attachable, Settleable, Visitable, Startable}
 use Rattle.grow_extend.specs.declared.Progress.{Progress}
 
 -- ---- what is found at a cell

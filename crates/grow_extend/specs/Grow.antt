@@ -21,18 +21,11 @@ use Rattle.extension_common.specs.TryCell.{Corners, tryAt}
 use Rattle.extension_common.specs.declared.TryCellResult.{TryCellResult}
 use Rattle.passes.specs.Outcome.{over}
 use Rattle.passes.specs.Grow.{GrowState, tolerancesOf, searchOf}
-use Rattle.passes.specs.Step.{CornerLists, Rooms}
 use Rattle.passes.specs.declared.Counts.{Counts}
 use Rattle.grow_queue.specs.Queue.{Flagged, seeded}
 use Rattle.grow_extend.specs.declared.Progress.{Progress}
 
 -- ---- what is lent, as the definitions have it
-
-abbrev pub cornerLists : List Float → List Float → List Float → CornerLists
-cornerLists xs ys pitches = record { xs = xs; ys = ys; pitches = pitches }
-
-abbrev pub rooms : ℕ → ℕ → Rooms
-rooms queue attached = record { queue = queue; attached = attached }
 
 -- ---- what is found at a cell
 

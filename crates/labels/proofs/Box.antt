@@ -7,19 +7,18 @@ use mathlib.Core.Logic.{_⊎_, inl, inr}
 use Prim.Native.Nat.{ℕ, _+_, _<_, _≤_}
 use native.Mathlib.Omega.{arith}
 use lib.Dec.{T}
-use lib.IntN.{ℤ, pos, negsuc}
+use lib.IntN.{ℤ}
 use lib.ListN.{getD}
 use lib.Signed.{leZ, _≤ℤ_, ≤ℤ-refl}
-use mir.Facts.{and-yes, yes-and}
 use Rattle.sheet.specs.Cells.{inRange, OnSheet, placeOf, cellOf}
 use Rattle.sheet.specs.Words.{attached, emptySheet}
 use Rattle.sheet.specs.Blank.{NextWritten}
 use Rattle.sheet.proofs.Blank.{skips}
-use Rattle.sheet.proofs.Laws.{cell-place, on-i, on-j, on-both}
+use Rattle.sheet.proofs.Laws.{cell-place, on-i, on-j}
 use Rattle.sheet.specs.declared.Cell.{Cell}
 use Rattle.labels.specs.Labelled.{isLabelled, LabelledCell, labelledBelow, labelledPlaces, Attaching}
 use Rattle.labels.specs.Box.{Inside, Taken, IsBoxOf, IsBox, lowerOf, higherOf, widened, boxAround, boxOf, boxWith}
-use Rattle.labels.proofs.Signed.{leZ-true, leZ-false, leZ-trans, ≤ℤ-trans, ≤ℤ-antisym}
+use Rattle.labels.proofs.Signed.{leZ-true, leZ-false, ≤ℤ-trans, ≤ℤ-antisym}
 use Rattle.labels.proofs.Below.{passing-none, passing-hit, passing-miss}
 use Rattle.labels.proofs.Labelled.{SamePlaces, same-places, cell-listed, listed-cell, labelled-cell-on, labelled-new, labelled-still, labelled-cases, empty-unlabelled, blank-unlabelled}
 use Rattle.labels.specs.declared.Bounds.{Bounds}
@@ -216,6 +215,9 @@ box-found sheet box h = box-only (LabelledCell sheet) (boxOf sheet) box (box-is 
 
 -- ---- the box of changed sheets
 
+-- What attaching a corner does to the box, and what box a sheet starts with, are for a label box that is kept with the sheet; today each pass
+-- finds the box anew.
+
 pub same-box : (sheet after : List ℕ) → SamePlaces sheet after → boxOf after ≡ boxOf sheet
 unfolding boxOf
 same-box sheet after s = ap boxAround (same-places sheet after s)
@@ -259,19 +261,6 @@ box-framed sheet b h =
 
 pub box-of-framed : (sheet : List ℕ) (b : Bounds) → boxOf sheet ≡ LabelBox.Around b → Framed b
 box-of-framed sheet b e = box-framed sheet b (subst (IsBox sheet) e (box-is sheet))
-
-between : (low z high : ℤ) → T (inRange low) → T (inRange high) → low ≤ℤ z → z ≤ℤ high → T (inRange z)
-between low z high g h a b =
-    yes-and (leZ (negsuc 63) z) (leZ z (pos 63))
-    (leZ-trans (negsuc 63) low z (and-yes (leZ (negsuc 63) low) (leZ low (pos 63)) g .0) (a .le))
-    (leZ-trans z high (pos 63) (b .le) (and-yes (leZ (negsuc 63) high) (leZ high (pos 63)) h .1))
-
--- a cell inside such bounds is on the sheet
-pub inside-on : (b : Bounds) (c : Cell) → Framed b → Inside b c → OnSheet c
-inside-on b c f w =
-    on-both c
-    (between (b .«low_i») (c .i) (b .«high_i») (f .low-i-in) (f .high-i-in) (w .from-low-i) (w .to-high-i))
-    (between (b .«low_j») (c .j) (b .«high_j») (f .low-j-in) (f .high-j-in) (w .from-low-j) (w .to-high-j))
 
 -- ---- the box, a place at a time
 

@@ -55,6 +55,8 @@ same-rim depth sheet after s =
     any-ext (λ q. isLabelled (getD after q 0) && onRim depth (cellOf q)) (λ q. isLabelled (getD sheet q 0) && onRim depth (cellOf q)) 16384
     (λ p h. ap (λ (t : Bool). t && onRim depth (cellOf p)) (s .same-place p h))
 
+-- What attaching a corner does to the rim, and what rim a sheet starts with, are for a rim that is kept with the sheet beside the label box;
+-- today each pass finds it at its end.
 pub rim-attached : {sheet : List ℕ} {c : Cell} {k : ℕ} (depth : ℕ) → Attaching sheet c k → rim depth (attached sheet c k) ≡ (onRim depth c || rim depth sheet)
 rim-attached {sheet} {c} {k} depth a = go (onRim depth c) refl (rim depth sheet) refl
   where

@@ -36,14 +36,6 @@ unfolding names
 it-names k Label.Unlabelled e = absurd (no-both false e refl)
 it-names k (Label.Corner j) e = ap Label.Corner (eqb-true j k e)
 
-names-none : (k : ℕ) (l : Label) → l ≡ Label.Unlabelled → names k l ≡ false
-unfolding names
-names-none k l e = rw e
-
-names-corner : (j k : ℕ) (l : Label) → l ≡ Label.Corner k → names j l ≡ eqb k j
-unfolding names
-names-corner j k l e = rw e
-
 one-corner : (j k : ℕ) → Label.Corner j ≡ Label.Corner k → j ≡ k
 one-corner j k e = cc
 

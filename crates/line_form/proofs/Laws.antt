@@ -3,7 +3,7 @@
 use mathlib.Core.Path.{_≡_, refl, sym, ap, _∙_, subst}
 use mathlib.Core.Bool.{Bool, true, false, _||_}
 use mathlib.Core.List.{List, [], _∷_, _++_}
-use Prim.Native.Nat.{ℕ, zero, suc, _+_, _-_, _*_, _/_, _%_, _≤_, _<_, min}
+use Prim.Native.Nat.{ℕ, suc, _+_, _-_, _*_, _/_, _%_, _≤_, _<_, min}
 use native.Mathlib.Omega.{arith}
 use borrow.Author.Tests.{lt-leb, le-leb, lt-ltb, le-ltb, ltb-true, ltb-false, eq-eqb, eqb-true}
 use lib.Dec.{ltb, eqb}
@@ -14,11 +14,11 @@ use Rattle.binary32.specs.Hex.{pick, hexText, readBits}
 use Rattle.binary32.specs.declared.hex.Bits.{Bits}
 use Rattle.binary32.specs.declared.hex.Bits.the-variants.{Number as EightDigits, Broken}
 use Rattle.binary32.proofs.Digits.{digits-length, bits-read-written, bits-written-read}
-use Rattle.line_form.specs.Integers.{decimal, negated, integerText, Front, broken, front, isDigit, readInteger}
+use Rattle.line_form.specs.Integers.{decimal, integerText, Front, broken, front, isDigit, readInteger}
 use Rattle.line_form.specs.Forms.{Number, bits, whole, numberText, isSlot, firstText, printed, no-piece, same, bitsPiece, wholePiece, bytePiece, pieceOf, Fitted, misfit, fitted, before, then, fitOf, Suits, none-left, a-float, an-integer, a-byte, endsFirst, apart, ReadsBack, PrintsBack}
 use Rattle.line_form.specs.Lengths.{slots, Short}
 use Rattle.line_form.specs.Held.{heldWhole}
-use Rattle.line_form.specs.Written.{unheldWhole, unheld, formText}
+use Rattle.line_form.specs.Written.{unheldWhole}
 use Rattle.line_form.proofs.Decimal as integers
 use Rattle.line_form.proofs.Decimal.{Ended, integer-read, integer-told}
 
@@ -215,11 +215,6 @@ printed-length (c ∷ form) ns h = go (isSlot c) (printed-length form ns h) (pri
     go true p q = let l = number-length ns h in simp length-append (omega arith)
     go false p q = omega arith
 
--- the same of a line written from words, of which those that hold integers are at most 2,000,000
-pub text-length : (form ws : List ℕ) → Short (unheld form ws) → length (formText form ws) ≤ length form + 7 * slots form
-unfolding formText
-text-length form ws h = printed-length form (unheld form ws) h
-
 -- ---- words that hold integers
 
 pub unheld-above : (n : ℕ) → unheldWhole (1000000 + n) ≡ pos n
@@ -241,28 +236,3 @@ pub held-exact : (z : ℤ) → 0 < heldWhole z → heldWhole z < 2000000 → z �
 unfolding heldWhole
 held-exact (pos n) h k = let e : min 1000000 n ≡ n = omega arith in rw e (sym (unheld-above n))
 held-exact (negsuc n) h k = sym (unheld-below n (omega arith))
-
-pub held-unheld : (w : ℕ) → w ≤ 2000000 → heldWhole (unheldWhole w) ≡ w
-unfolding heldWhole unheldWhole
-held-unheld w h = go (ltb w 1000000) refl
-  where
-    below : (w n : ℕ) → w < 1000000 → 1000000 - w ≡ n → heldWhole (negated n) ≡ w
-    below w zero l e = absurd (omega arith)
-    below w (suc n) l e = omega arith
-
-    go : (t : Bool) → ltb w 1000000 ≡ t → heldWhole (pick t (negated (1000000 - w)) (pos (w - 1000000))) ≡ w
-    go true e = below w (1000000 - w) (ltb-true w 1000000 e) refl
-    go false e = let l = ltb-false w 1000000 e in omega arith
-
--- a word of at most 2,000,000 has a short text
-pub word-short : (w : ℕ) → w ≤ 2000000 → natAbs (unheldWhole w) < 10000000
-unfolding unheldWhole
-word-short w h = go (ltb w 1000000) refl
-  where
-    size : (n : ℕ) → natAbs (negated n) ≡ n
-    size zero = refl
-    size (suc n) = refl
-
-    go : (t : Bool) → ltb w 1000000 ≡ t → natAbs (pick t (negated (1000000 - w)) (pos (w - 1000000))) < 10000000
-    go true e = rw (size (1000000 - w)) (omega arith)
-    go false e = omega arith

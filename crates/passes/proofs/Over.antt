@@ -1,6 +1,6 @@
 -- Laws of a lent buffer that holds a list at its front, the rest untouched: its length, what it holds, one more written, written over
 -- twice, and the list read back. Assumes nothing.
-use mathlib.Core.Path.{_≡_, refl, sym, ap, _∙_}
+use mathlib.Core.Path.{_≡_, sym, ap, _∙_}
 use mathlib.Core.List.{List, [], _∷_, _++_}
 use Prim.Native.Nat.{ℕ, _+_, _-_, _<_, _≤_}
 use native.Mathlib.Numerals.{add-one}
@@ -8,10 +8,6 @@ use native.Mathlib.Omega.{arith}
 use lib.ListN.{length, getD, take, drop, set, length-append, length-drop, take-append-drop, List·getD-append}
 use lib.Seq.{take-append-seam, drop-append-add, drop-drop, drop-cons, set-append-seam, append-snoc, length-take-le}
 use Rattle.passes.specs.Outcome.{over}
-
--- nothing written
-pub over-none : (buffer : List ℕ) → over [] buffer ≡ buffer
-over-none buffer = refl
 
 -- a list that the buffer has room for leaves the buffer's length
 pub over-length : (written buffer : List ℕ) → length written ≤ length buffer → length (over written buffer) ≡ length buffer

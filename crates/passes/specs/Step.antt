@@ -34,6 +34,12 @@ pub record Rooms : Type 0 where
   pub queue : ℕ
   pub attached : ℕ
 
+abbrev pub cornerLists : List Float → List Float → List Float → CornerLists
+cornerLists xs ys pitches = record { xs = xs; ys = ys; pitches = pitches }
+
+abbrev pub rooms : ℕ → ℕ → Rooms
+rooms queue attached = record { queue = queue; attached = attached }
+
 abbrev pub lentOf : CornerLists → List ℕ → Rooms → Lent
 lentOf l sheet r = record { xs = l .xs; ys = l .ys; pitches = l .pitches; sheet = sheet; queue = r .queue; attached = r .attached }
 

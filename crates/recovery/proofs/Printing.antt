@@ -13,7 +13,8 @@ use Rattle.arguments.specs.declared.Checked.{Checked}
 use Rattle.labels.proofs.Below.{any-no}
 use Rattle.line_form.specs.Written.{Wrote}
 use Rattle.report_line.specs.Result.{Piece, resultPiece, lineCount}
-use Rattle.report.specs.Lent.{Lent, lent, statsIn, inputShort, overLimit, wildOutcome, wild, checkedPiece, pieceIn, PieceOut, pieceOut, pieceLeaves, writesPiece, over}
+use Rattle.passes.specs.Outcome.{over}
+use Rattle.report.specs.Lent.{Lent, lent, statsIn, inputShort, overLimit, wildOutcome, wild, checkedPiece, pieceIn, PieceOut, pieceOut, pieceLeaves, writesPiece}
 use Rattle.report.specs.declared.PieceAnswer.{PieceAnswer}
 use Rattle.report.proofs.Laws.{piece-moves}
 use Rattle.report.proofs.Outcomes.{stats-length}

@@ -1,15 +1,15 @@
 -- What is left when the passes of an accepted frame have run: the sheet and the outcomes of the definition, and nothing that the printer refuses.
 -- Assumes nothing.
 use mathlib.Core.Path.{_≡_, refl, sym, ap, _∙_, subst}
-use mathlib.Core.Bool.{Bool, true, false, not, _&&_, _||_}
-use mathlib.Core.List.{List, [], _∷_, _++_, append-assoc, append-nil}
+use mathlib.Core.Bool.{Bool, true, false, not, _&&_}
+use mathlib.Core.List.{List, [], _∷_, _++_, append-assoc, append-nil, map}
 use Prim.Native.Nat.{ℕ, suc, _+_, _*_, _<_, _≤_}
 use native.Mathlib.Nat.{not-suc-le-zero}
 use native.Mathlib.Decide.{decLt}
 use native.Mathlib.Omega.{arith}
 use borrow.Author.Tests.{le-ltb, eqb-true}
 use lib.Dec.{eqb}
-use lib.ListN.{length, getD, take, drop, length-append, length-drop, List·getD-append}
+use lib.ListN.{length, getD, take, drop, length-append, length-drop, List·getD-append, length-map}
 use lib.Seq.{getD-append-add, getD-take, length-take-le}
 use lib.Ieee.{binary32, ofBits}
 use lib.Ieee.Bits.{ofBits-toBits}
@@ -28,19 +28,20 @@ use Rattle.invariants.specs.Calls.{Standing, checkedCall, afterCall}
 use Rattle.invariants.proofs.Run.{step-as, call-accepted, standing-after}
 use Rattle.frame_line.specs.Lines.{PassLine}
 use Rattle.frame.specs.Frame.{Frame, floatOf, readFrame, accepted}
-use Rattle.frame.specs.Text.{map, WithinLimits}
+use Rattle.frame.specs.Text.{WithinLimits}
 use Rattle.frame.specs.Lent.{xsOf, sheetOf, settingsOf, FullPass, full-grow, full-fill, full-local, fullOf, passOf, wordsOf, allWords, over}
 use Rattle.frame_laws.specs.Calls.{cornersOf, passCall, callOf as frameCall, callsOf, NoneRefused}
-use Rattle.frame_laws.proofs.Lists.{length-map}
 use Rattle.frame_laws.proofs.Back.{frame-prints-back}
 use Rattle.frame_laws.proofs.Runs.{accepted-runs}
 use Rattle.bounds.specs.Bounds.{FewCounts, FiniteResidual, Small, small-grow, small-fill, small-local}
 use Rattle.bounds.proofs.Small.{small}
-use Rattle.report.specs.Lent.{bitOf, residualWords, outcomeWords, wordAt, statsFrom, statsIn, largestCount, wildCounts, wildResidual, wildOutcome}
+use Rattle.sheet.specs.Words.{bitOf}
+use Rattle.report.specs.Lent.{residualWords, outcomeWords, wordAt, statsFrom, statsIn, largestCount, wildCounts, wildResidual, wildOutcome}
 use Rattle.report.specs.Asked.{Tame, put, withOutcome, FloatOrNone, IsFloat}
 use Rattle.report.proofs.Laws.{put-last}
 use Rattle.recovery.specs.Running.{passAt, calledAs, callOf, callAt, Left, left, noted, leftBy, leftByAll}
 use Rattle.recovery.specs.Answer.{statsOf, frameStats, frameSheet, Recorded}
+use Rattle.arguments.proofs.Chains.{or-false}
 
 -- ---- a pass from its six words
 
@@ -111,20 +112,18 @@ module _ (f : Frame) (rest : List ℕ) where
 -- ---- the words of an outcome
 
 bit-few : (b : Bool) → bitOf b ≤ 1
+unfolding bitOf
 bit-few true = omega arith
 bit-few false = omega arith
-
-either : (a b : Bool) → a ≡ false → b ≡ false → (a || b) ≡ false
-either a b e f = rw e f
 
 -- outcomes as they can be are let pass
 not-wild : (words : List ℕ) (k : ℕ) → Tame words k → wildOutcome words k ≡ false
 unfolding wildOutcome wildCounts wildResidual
 not-wild words k t =
-    either _ _ (le-ltb 2 (wordAt words k 0) (t .kind))
-    (either _ _ (either _ _ (le-ltb largestCount (wordAt words k 1) (t .attached)) (either _ _ (le-ltb largestCount (wordAt words k 2) (t .no-candidate)) (either _ _ (le-ltb largestCount (wordAt words k 3) (t .ambiguous)) (le-ltb largestCount (wordAt words k 4) (t .edge)))))
-    (either _ _ (le-ltb 64 (wordAt words k 5) (t .rounds))
-    (either _ _ (either _ _ (le-ltb 1 (wordAt words k 6) (t .flag)) (go (eqb (wordAt words k 6) 1) refl)) (le-ltb 1 (wordAt words k 8) (t .rim)))))
+    or-false _ _ (le-ltb 2 (wordAt words k 0) (t .kind))
+    (or-false _ _ (or-false _ _ (le-ltb largestCount (wordAt words k 1) (t .attached)) (or-false _ _ (le-ltb largestCount (wordAt words k 2) (t .no-candidate)) (or-false _ _ (le-ltb largestCount (wordAt words k 3) (t .ambiguous)) (le-ltb largestCount (wordAt words k 4) (t .edge)))))
+    (or-false _ _ (le-ltb 64 (wordAt words k 5) (t .rounds))
+    (or-false _ _ (or-false _ _ (le-ltb 1 (wordAt words k 6) (t .flag)) (go (eqb (wordAt words k 6) 1) refl)) (le-ltb 1 (wordAt words k 8) (t .rim)))))
   where
     go : (b : Bool) → eqb (wordAt words k 6) 1 ≡ b → (b && not (isFinite (ofBits binary32 (wordAt words k 7)))) ≡ false
     go true e = ap not (t .finite (eqb-true (wordAt words k 6) 1 e))
@@ -301,11 +300,11 @@ ranOf f passes₀ words₀ = leftByAll (cornersOf f) (callAt (settingsOf f) 4096
 module _ (f : Frame) (w : WithinLimits f) (stands : Standing (cornersOf f) (sheetOf f)) (runs : NoneRefused (run (cornersOf f) (sheetOf f) (callsOf f))) where
   as-many : length (xsOf f) ≡ length (f .corners)
   unfolding xsOf
-  as-many = length-map (λ c. floatOf (c .x)) (f .corners)
+  as-many = length-map (f .corners) (λ c. floatOf (c .x))
 
   as-many-calls : length (callsOf f) ≡ length (f .passes)
   unfolding callsOf
-  as-many-calls = length-map (frameCall f) (f .passes)
+  as-many-calls = length-map (f .passes) (frameCall f)
 
   as-list : (passes₀ words₀ : List ℕ) → ranOf f passes₀ words₀ ≡ leftByList (cornersOf f) (callsOf f) 0 (left (sheetOf f) words₀)
   unfolding callsOf

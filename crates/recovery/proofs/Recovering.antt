@@ -1,19 +1,19 @@
 -- What reading a frame and running its passes comes to. Assumes nothing.
 use mathlib.Core.Path.{_≡_, refl, sym, ap, _∙_, subst}
 use mathlib.Core.Bool.{Bool, true, false, _||_}
-use mathlib.Core.List.{List, [], _∷_, _++_}
+use mathlib.Core.List.{List, [], _∷_, _++_, append-nil, map}
 use Prim.Native.Nat.{ℕ, zero, suc, _+_, _*_, _≤_, _<_}
 use native.Mathlib.Omega.{arith}
 use borrow.Author.Tests.{le-ltb}
 use lib.Dec.{ltb}
 use lib.IntN.{natAbs}
-use lib.ListN.{length, take, drop, set, length-set, length-append, length-drop}
+use lib.ListN.{length, take, drop, set, length-set, length-append, length-drop, length-map}
 use lib.Ieee.{Float}
 use Rattle.refusal.specs.declared.Refusal.{Refusal}
 use Rattle.arguments.specs.declared.Settings.{Settings}
-use Rattle.passes.specs.Step.{CornerLists}
+use Rattle.passes.specs.Step.{CornerLists, cornerLists}
 use Rattle.frame.specs.Frame.{Frame, FrameRead, refused-at, accepted, readFrame, floatOf}
-use Rattle.frame.specs.Text.{map, WithinLimits}
+use Rattle.frame.specs.Text.{WithinLimits}
 use Rattle.frame.specs.Lent.{xsOf, ysOf, pitchesOf, sheetOf, labelled, settingsOf, FullPass, full-grow, full-fill, full-local, fullOf, wordsOf, allWords, Buffers, FrameOut, frameOut, tooShort, over, leaves, unlessShort, readInto}
 use Rattle.frame_line.specs.Lines.{CornerLine, LabelLine, PassLine}
 use Rattle.sheet.specs.Words.{emptySheet, attached}
@@ -22,7 +22,7 @@ use Rattle.frame.specs.declared.FrameHead.{FrameHead}
 use Rattle.frame.specs.declared.FrameAnswer.{FrameAnswer}
 use Rattle.frame_laws.specs.Calls.{cornersOf, callsOf}
 use Rattle.frame_laws.proofs.Back.{frame-prints-back}
-use Rattle.recovery.specs.Running.{cornerLists, callAt, Left, left, leftByAll, PassWords, AtFront, FrameRoom, PassRoom}
+use Rattle.recovery.specs.Running.{callAt, Left, left, leftByAll, PassWords, AtFront, FrameRoom, PassRoom}
 use Rattle.recovery.specs.Answer.{Recorded, Lent, lentAs, Recovers, recovers-not, recovers}
 use Rattle.recovery.specs.declared.Recovered.{Recovered}
 use Rattle.recovery.proofs.Ran.{recorded}
@@ -30,10 +30,6 @@ use Rattle.recovery.proofs.Ran.{recorded}
 drop-all : (l : List ℕ) → drop (length l) l ≡ []
 drop-all [] = refl
 drop-all (a ∷ l) = drop-all l
-
-append-nil : (l : List ℕ) → l ++ [] ≡ l
-append-nil [] = refl
-append-nil (a ∷ l) = ap (λ (m : List ℕ). a ∷ m) (append-nil l)
 
 -- a list read again from the front of a buffer
 take-over : {A : Type 0} (written buffer : List A) → take (length written) (over written buffer) ≡ written
@@ -47,13 +43,9 @@ take-over (w ∷ written) buffer = ap (λ (l : List _). w ∷ l) (take-front wri
 over-long : {A : Type 0} (written buffer : List A) → length written ≤ length buffer → length (over written buffer) ≡ length buffer
 over-long written buffer h = simp (length-append, length-drop) (omega (arith, h))
 
-map-length : {A B : Type 0} (f : A → B) (l : List A) → length (map f l) ≡ length l
-map-length f [] = refl
-map-length f (a ∷ l) = ap suc (map-length f l)
-
 -- the front of a buffer that a list was put into
 front : {A B : Type 0} (f : A → B) (l : List A) (buffer : List B) → take (length l) (over (map f l) buffer) ≡ map f l
-front f l buffer = rw (sym (map-length f l)) (take-over (map f l) buffer)
+front f l buffer = rw (sym (length-map l f)) (take-over (map f l) buffer)
 
 -- a buffer as long as what is put into it
 over-whole : (written buffer : List ℕ) → length written ≡ length buffer → over written buffer ≡ written
@@ -161,9 +153,9 @@ module _ (text : List ℕ) (xs ys pitches : List Float) (sheet passes : List ℕ
         let f = w .frame in
         let few = w .within .corners in
         let count : head .corners ≡ length (f .corners) = ap (λ (h : FrameHead). h .corners) (w .head-so) in
-        let a : length xs' ≡ length xs = ap length (w .xs-so) ∙ over-long (xsOf f) xs (omega (arith, map-length (λ (c : CornerLine). floatOf (c .x)) (f .corners), few, room .xs-long)) in
-        let b : length ys' ≡ length ys = ap length (w .ys-so) ∙ over-long (ysOf f) ys (omega (arith, map-length (λ (c : CornerLine). floatOf (c .y)) (f .corners), few, room .ys-long)) in
-        let d : length pitches' ≡ length pitches = ap length (w .pitches-so) ∙ over-long (pitchesOf f) pitches (omega (arith, map-length (λ (c : CornerLine). floatOf (c .pitch)) (f .corners), few, room .pitches-long)) in
+        let a : length xs' ≡ length xs = ap length (w .xs-so) ∙ over-long (xsOf f) xs (omega (arith, length-map (f .corners) (λ (c : CornerLine). floatOf (c .x)), few, room .xs-long)) in
+        let b : length ys' ≡ length ys = ap length (w .ys-so) ∙ over-long (ysOf f) ys (omega (arith, length-map (f .corners) (λ (c : CornerLine). floatOf (c .y)), few, room .ys-long)) in
+        let d : length pitches' ≡ length pitches = ap length (w .pitches-so) ∙ over-long (pitchesOf f) pitches (omega (arith, length-map (f .corners) (λ (c : CornerLine). floatOf (c .pitch)), few, room .pitches-long)) in
         record { in-xs = omega (arith, count, a, few, room .xs-long); in-ys = omega (arith, count, b, few, room .ys-long); in-pitches = omega (arith, count, d, few, room .pitches-long) }
 
     corners-read : (head : FrameHead) (w : Read head) → cornerLists (take (head .corners) xs') (take (head .corners) ys') (take (head .corners) pitches') ≡ cornersOf (w .frame)

@@ -21,7 +21,7 @@ use Rattle.passes.specs.Outcome.{After, Outcome, refused, done}
 use Rattle.passes.specs.Grow.{growAfter}
 use Rattle.passes.specs.Fill.{fillAfter}
 use Rattle.passes.specs.Local.{localAfter}
-use Rattle.passes.specs.Step.{CornerLists, Rooms, lentOf, unless, growStep, GrowOut, growOut, growLeaves, fillStep, FillOut, fillOut, fillLeaves, localStep, LocalOut, localOut, localLeaves}
+use Rattle.passes.specs.Step.{CornerLists, Rooms, lentOf, unless, growStep, GrowOut, growOut, growLeaves, fillStep, FillOut, fillOut, fillLeaves, localStep, LocalOut, localOut, localLeaves, rooms}
 use Rattle.passes.specs.Run.{PassCall, grow, fill, local, Call, PassStats, growStats, fillStats, localStats, renamed, step, sheetAfter}
 use Rattle.passes.specs.declared.GrowStats.{GrowStats}
 use Rattle.passes.specs.declared.FillStats.{FillStats}
@@ -33,7 +33,7 @@ use Rattle.invariants.proofs.Run.{call-accepted}
 use Rattle.bounds.specs.Bounds.{Small, small-grow, small-fill, small-local, FewCounts, FiniteResidual}
 use Rattle.bounds.proofs.Small.{small}
 use Rattle.report.specs.Asked.{withOutcome}
-use Rattle.recovery.specs.Running.{rooms, passAt, calledAs, callOf, callAt, noted, Left, left, leftBy, leftByAll}
+use Rattle.recovery.specs.Running.{passAt, calledAs, callOf, callAt, noted, Left, left, leftBy, leftByAll}
 
 -- fill and local are lent no queue: how long one is changes nothing
 no-queue : (l : CornerLists) (sheet : List ℕ) (queue attached : ℕ) (set : Settings) (p : Pass) → ((n : ℕ) → queueNeeded p n ≡ 0)

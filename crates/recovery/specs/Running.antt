@@ -10,7 +10,7 @@ use Rattle.binary32.specs.Hex.{pick}
 use Rattle.arguments.specs.declared.Pass.{Pass}
 use Rattle.arguments.specs.declared.Settings.{Settings}
 use Rattle.passes.specs.Outcome.{After, Outcome, refused, done}
-use Rattle.passes.specs.Step.{CornerLists, Rooms}
+use Rattle.passes.specs.Step.{CornerLists, rooms}
 use Rattle.passes.specs.Run.{PassCall, grow, fill, local, Call, PassStats, step, sheetAfter}
 use Rattle.frame.specs.Lent.{growOf, fillOf, localOf}
 use Rattle.report.specs.Asked.{withOutcome}
@@ -31,12 +31,6 @@ abbrev pub calledAs : Pass → PassCall
 calledAs (Pass.Grow p) = grow p
 calledAs (Pass.Fill p) = fill p
 calledAs (Pass.Local p) = local p
-
-abbrev pub cornerLists : List Float → List Float → List Float → CornerLists
-cornerLists xs ys pitches = record { xs = xs; ys = ys; pitches = pitches }
-
-abbrev pub rooms : ℕ → ℕ → Rooms
-rooms queue attached = record { queue = queue; attached = attached }
 
 abbrev pub callOf : Settings → ℕ → ℕ → PassCall → Call
 callOf set queue attached p = record { pass = p; settings = set; rooms = rooms queue attached }

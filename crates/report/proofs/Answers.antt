@@ -1,19 +1,18 @@
 -- What the two calls answer and leave, by what the check of what they are lent says. Assumes nothing.
-use mathlib.Core.Path.{_≡_, refl, sym, ap, ap₂, _∙_}
-use mathlib.Core.Bool.{Bool, true, false, _||_}
+use mathlib.Core.Path.{_≡_, sym, ap, ap₂, _∙_}
+use mathlib.Core.Bool.{false, _||_}
 use mathlib.Core.List.{List}
 use Prim.Native.Nat.{ℕ}
-use native.Mathlib.Omega.{arith}
 use borrow.Author.Tests.{ltb-false}
 use lib.Dec.{ltb}
 use lib.ListN.{length}
 use Rattle.refusal.specs.declared.Refusal.{Refusal}
-use Rattle.labels.proofs.Below.{no-both}
-use Rattle.arguments.specs.Arguments.{refusedIf}
 use Rattle.arguments.specs.declared.Checked.{Checked}
+use Rattle.arguments.proofs.Chains.{or-false-both, not-refused}
 use Rattle.line_form.specs.Written.{Wrote}
 use Rattle.report_line.specs.Result.{lineCount, Piece}
-use Rattle.report.specs.Lent.{Lent, statsIn, textOf, inputShort, overLimit, wild, checkedRest, checkedText, textOut, textLeaves, writesText, pieceIn, checkedPiece, pieceOut, pieceLeaves, writesPiece, over}
+use Rattle.passes.specs.Outcome.{over}
+use Rattle.report.specs.Lent.{Lent, statsIn, textOf, inputShort, overLimit, wild, checkedRest, checkedText, textOut, textLeaves, writesText, pieceIn, checkedPiece, pieceOut, pieceLeaves, writesPiece}
 use Rattle.report.specs.Asked.{Sound, textFrom, pieceFrom, AllAsked, SomeAsked, WrotePiece}
 use Rattle.report.specs.declared.TextAnswer.{TextAnswer}
 use Rattle.report.specs.declared.PieceAnswer.{PieceAnswer}
@@ -21,16 +20,6 @@ use Rattle.report.specs.declared.lines.PieceEnd.{PieceEnd}
 use Rattle.report.proofs.Laws.{from-the-start}
 use Rattle.report.proofs.Outcomes.{all-tame}
 use Rattle.report.proofs.Checking.{all-lent}
-
--- ---- nothing was refused
-
-cleared : (b : Bool) (r : Refusal) (rest : Checked) → refusedIf b r rest ≡ Checked.Fine → (b ≡ false) × (rest ≡ Checked.Fine)
-cleared true r rest e = absurd (let z : _≡_ {A = ℕ} 0 1 = cc in omega arith)
-cleared false r rest e = (refl, e)
-
-either : (a b : Bool) → (a || b) ≡ false → (a ≡ false) × (b ≡ false)
-either true b e = absurd (no-both true refl e)
-either false b e = (refl, e)
 
 module _ (l : Lent) where
   sound : inputShort l ≡ false → wild l ≡ false → Sound (l .passes) (l .words) (l .sheet)
@@ -46,10 +35,10 @@ module _ (l : Lent) where
     pub text-asked : checkedText l (length out) ≡ Checked.Fine → AllAsked (l .passes) (l .words) (l .sheet) out
     unfolding checkedText checkedRest
     text-asked e =
-        let seven = cleared (inputShort l || ltb (length out) (length (textOf l))) _ _ e in
-        let short = either (inputShort l) _ (seven .0) in
-        let two = cleared (overLimit l) _ _ (seven .1) in
-        let three = cleared (wild l) _ _ (two .1) in
+        let seven = not-refused (inputShort l || ltb (length out) (length (textOf l))) _ _ e in
+        let short = or-false-both (inputShort l) _ (seven .0) in
+        let two = not-refused (overLimit l) _ _ (seven .1) in
+        let three = not-refused (wild l) _ _ (two .1) in
         record { sound = sound (short .0) (three .0); room = rw same-text (ltb-false (length out) (length (textOf l)) (short .1)) }
 
     pub text-refused : (r : Refusal) → checkedText l (length out) ≡ Checked.Refused r → textOut (TextAnswer.Refused r) out ≡ writesText l out
@@ -69,11 +58,11 @@ module _ (l : Lent) where
     pub piece-asked : checkedPiece l from (length out) ≡ Checked.Fine → SomeAsked (l .passes) (l .words) (l .sheet) from
     unfolding checkedPiece
     piece-asked e =
-        let seven = cleared (inputShort l || ltb (length out) 128) _ _ e in
-        let short = either (inputShort l) _ (seven .0) in
-        let two = cleared (overLimit l) _ _ (seven .1) in
-        let three = cleared (wild l || ltb (lineCount (l .passes)) from) _ _ (two .1) in
-        let range = either (wild l) _ (three .0) in
+        let seven = not-refused (inputShort l || ltb (length out) 128) _ _ e in
+        let short = or-false-both (inputShort l) _ (seven .0) in
+        let two = not-refused (overLimit l) _ _ (seven .1) in
+        let three = not-refused (wild l || ltb (lineCount (l .passes)) from) _ _ (two .1) in
+        let range = or-false-both (wild l) _ (three .0) in
         record { sound = sound (short .0) (range .0); upto = ltb-false (lineCount (l .passes)) from (range .1) }
 
     pub piece-refused : (r : Refusal) → checkedPiece l from (length out) ≡ Checked.Refused r → pieceOut (PieceAnswer.Refused r) out ≡ writesPiece l from out

@@ -12,10 +12,9 @@ use lib.Ieee.{binary32, ofBits}
 use Rattle.refusal.specs.declared.Refusal.{Refusal}
 use Rattle.binary32.specs.Ranges.{isFinite}
 use Rattle.binary32.proofs.Finite.{finite-bits, infinite-bits}
-use Rattle.arguments.specs.Arguments.{refusedIf}
 use Rattle.arguments.specs.declared.Checked.{Checked}
 use Rattle.arguments.proofs.Tests.{holds, fails}
-use Rattle.labels.proofs.Below.{no-both}
+use Rattle.arguments.proofs.Chains.{or-false, or-false-both, refused, passed}
 use Rattle.report_line.specs.Result.{lineCount}
 use Rattle.report.specs.Lent.{Lent, wordAt, statsIn, textOf, inputShort, overLimit, wildResidual, wild, checkedRest, checkedText, checkedPiece}
 use Rattle.report.specs.Asked.{AllLent, textFrom, CornersAsked, cornersChecked}
@@ -67,19 +66,6 @@ module _ (words : List ℕ) (k flag : ℕ) (e : flag ≡ wordAt words k 6) where
 
 -- ---- one refusal after the other
 
-pub refused : (b : Bool) (r : Refusal) (rest : Checked) → b ≡ true → Checked.Refused r ≡ refusedIf b r rest
-refused b r rest e = rw e
-
-pub passed : (b : Bool) (r : Refusal) (rest t : Checked) → b ≡ false → t ≡ rest → t ≡ refusedIf b r rest
-passed b r rest t e f = rw e f
-
-either : (a b : Bool) → (a || b) ≡ false → (a ≡ false) × (b ≡ false)
-either true b e = absurd (no-both true refl e)
-either false b e = (refl, e)
-
-neither : (a b : Bool) → a ≡ false → b ≡ false → (a || b) ≡ false
-neither a b e f = rw e f
-
 module _ (l : Lent) where
   -- 7, by its two tests
   pub words-short : length (l .words) / 9 < l .passes → true ≡ inputShort l
@@ -93,12 +79,12 @@ module _ (l : Lent) where
   pub all-lent : inputShort l ≡ false → AllLent (l .passes) (l .words) (l .sheet)
   unfolding inputShort
   all-lent e =
-      let r = either (ltb (length (l .words)) (9 * l .passes)) _ e in
+      let r = or-false-both (ltb (length (l .words)) (9 * l .passes)) _ e in
       record { words-long = ltb-false _ _ (r .0); sheet-long = ltb-false _ _ (r .1) }
 
   pub corners-few : overLimit l ≡ false → l .corners ≤ 1024
   unfolding overLimit
-  corners-few e = ltb-false _ _ (either (ltb 16 (l .passes)) _ e .1)
+  corners-few e = ltb-false _ _ (or-false-both (ltb 16 (l .passes)) _ e .1)
 
   pub corners-asked : inputShort l ≡ false → overLimit l ≡ false → CornersAsked (l .corners) (l .sheet)
   corners-asked e f = record { few = corners-few f; long = all-lent e .sheet-long }
@@ -120,7 +106,7 @@ module _ (l : Lent) where
 
       module _ (b : ltb room (length (textFrom (l .passes) (l .words) (l .sheet) 0)) ≡ false) where
         long : (inputShort l || ltb room (length (textOf l))) ≡ false
-        long = neither _ _ a (sym same-text ∙ b)
+        long = or-false _ _ a (sym same-text ∙ b)
 
         pub text-2 : overLimit l ≡ true → Checked.Refused Refusal.OverLimit ≡ checkedText l room
         unfolding checkedText checkedRest
@@ -148,7 +134,7 @@ module _ (l : Lent) where
 
       module _ (b : 128 ≤ room) where
         wide : (inputShort l || ltb room 128) ≡ false
-        wide = neither _ _ a (le-ltb _ _ b)
+        wide = or-false _ _ a (le-ltb _ _ b)
 
         pub piece-2 : overLimit l ≡ true → Checked.Refused Refusal.OverLimit ≡ checkedPiece l from room
         unfolding checkedPiece
@@ -166,4 +152,4 @@ module _ (l : Lent) where
 
             pub piece-rest : from ≤ lineCount (l .passes) → cornersChecked (l .corners) (l .sheet) ≡ checkedPiece l from room
             unfolding checkedPiece
-            piece-rest h = passed _ _ _ _ wide (passed _ _ _ _ c (passed _ _ _ _ (neither _ _ d (le-ltb _ _ h)) refl))
+            piece-rest h = passed _ _ _ _ wide (passed _ _ _ _ c (passed _ _ _ _ (or-false _ _ d (le-ltb _ _ h)) refl))

@@ -1,6 +1,6 @@
 -- Outcomes as words: what the check of them says, the outcomes from a number on, and that reading what was put gives the outcome back. Assumes nothing.
 use mathlib.Core.Path.{_≡_, refl, sym, ap, _∙_}
-use mathlib.Core.Bool.{Bool, true, false, not, _&&_, _||_}
+use mathlib.Core.Bool.{Bool, true, false, not, _&&_}
 use mathlib.Core.List.{List, [], _∷_, _++_}
 use Prim.Native.Nat.{ℕ, zero, suc, _+_, _*_, _%_, _≤_, _<_}
 use native.Mathlib.Nat.{not-suc-le-zero}
@@ -22,15 +22,11 @@ use Rattle.passes.specs.declared.FillStats.{FillStats}
 use Rattle.passes.specs.declared.LocalStats.{LocalStats}
 use Rattle.passes.specs.declared.LargestResidual.{LargestResidual}
 use Rattle.passes.specs.Run.{PassStats, growStats, fillStats, localStats}
+use Rattle.arguments.proofs.Chains.{or-false-both}
 use Rattle.report_line.specs.Result.{passLine, passLineAt}
-use Rattle.report.specs.Lent.{Lent, bitOf, residualWords, outcomeWords, wordAt, yesAt, residualAt, largestCount, statsAt, statsFrom, wildCounts, wildResidual, wildOutcome, wild}
+use Rattle.sheet.specs.Words.{bitOf}
+use Rattle.report.specs.Lent.{Lent, residualWords, outcomeWords, wordAt, yesAt, residualAt, largestCount, statsAt, statsFrom, wildCounts, wildResidual, wildOutcome, wild}
 use Rattle.report.specs.Asked.{Tame, FloatOrNone, IsFloat}
-
--- ---- none of several tests holds
-
-neither : (a b : Bool) → (a || b) ≡ false → (a ≡ false) × (b ≡ false)
-neither true b e = absurd (no-both true refl e)
-neither false b e = (refl, e)
 
 at-most : (a b : ℕ) → ltb a b ≡ false → b ≤ a
 at-most a b e = ltb-false a b e
@@ -42,14 +38,14 @@ finite-if false b e h = absurd (no-both false h refl)
 pub tame : (words : List ℕ) (k : ℕ) → wildOutcome words k ≡ false → Tame words k
 unfolding wildOutcome wildCounts wildResidual
 tame words k e =
-    let kind = neither (ltb 2 (wordAt words k 0)) _ e in
-    let counts = neither (wildCounts words k) _ (kind .1) in
-    let one = neither (ltb largestCount (wordAt words k 1)) _ (counts .0) in
-    let two = neither (ltb largestCount (wordAt words k 2)) _ (one .1) in
-    let three = neither (ltb largestCount (wordAt words k 3)) _ (two .1) in
-    let rounds = neither (ltb 64 (wordAt words k 5)) _ (counts .1) in
-    let residual = neither (wildResidual words k) _ (rounds .1) in
-    let flag = neither (ltb 1 (wordAt words k 6)) _ (residual .0) in
+    let kind = or-false-both (ltb 2 (wordAt words k 0)) _ e in
+    let counts = or-false-both (wildCounts words k) _ (kind .1) in
+    let one = or-false-both (ltb largestCount (wordAt words k 1)) _ (counts .0) in
+    let two = or-false-both (ltb largestCount (wordAt words k 2)) _ (one .1) in
+    let three = or-false-both (ltb largestCount (wordAt words k 3)) _ (two .1) in
+    let rounds = or-false-both (ltb 64 (wordAt words k 5)) _ (counts .1) in
+    let residual = or-false-both (wildResidual words k) _ (rounds .1) in
+    let flag = or-false-both (ltb 1 (wordAt words k 6)) _ (residual .0) in
     record {
       kind = at-most _ _ (kind .0);
       attached = at-most _ _ (one .0);
@@ -82,6 +78,7 @@ pass-line-at words k (suc n) (suc i) j h e = pass-line-at words (suc k) n i j (o
 -- ---- an outcome put at its place is read there again
 
 bit-read : (b : Bool) → not (eqb (bitOf b) 0) ≡ b
+unfolding bitOf
 bit-read true = refl
 bit-read false = refl
 

@@ -1,10 +1,10 @@
 -- The library calls that write a result's text (document 01, "Frame and result": "Needed are .. for a text its whole length. The library tries 7, 2,
 -- 3, 5, 6; a refusal changes no buffer"). The outcomes of the passes are lent as words. Definitions only.
-use mathlib.Core.Bool.{Bool, true, false, not, _&&_, _||_}
-use mathlib.Core.List.{List, [], _∷_, _++_}
+use mathlib.Core.Bool.{Bool, not, _&&_, _||_}
+use mathlib.Core.List.{List, [], _∷_}
 use Prim.Native.Nat.{ℕ, zero, suc, _+_, _*_}
 use lib.Dec.{ltb, leb, eqb}
-use lib.ListN.{length, getD, drop}
+use lib.ListN.{length, getD}
 use lib.Ieee.{binary32, toBits, ofBits}
 use Rattle.refusal.specs.declared.Refusal.{Refusal}
 use Rattle.binary32.specs.Hex.{pick}
@@ -12,6 +12,8 @@ use Rattle.binary32.specs.Ranges.{isFinite}
 use Rattle.labels.specs.Labelled.{anyBelow}
 use Rattle.arguments.specs.Arguments.{refusedIf, unknownCorner, doubledCorner}
 use Rattle.arguments.specs.declared.Checked.{Checked}
+use Rattle.sheet.specs.Words.{bitOf}
+use Rattle.passes.specs.Outcome.{over}
 use Rattle.passes.specs.declared.Counts.{Counts}
 use Rattle.passes.specs.declared.GrowStats.{GrowStats}
 use Rattle.passes.specs.declared.FillStats.{FillStats}
@@ -24,10 +26,6 @@ use Rattle.report.specs.declared.PieceAnswer.{PieceAnswer}
 
 -- ---- an outcome as nine words: kind (0 grow, 1 fill, 2 local), attached or added, no candidate, ambiguous, edge, rounds, 1 if there is a residual
 -- and else 0, its bits, 1 for rim yes and 0 for no; 0 for what the pass has not
-
-abbrev pub bitOf : Bool → ℕ
-bitOf true = 1
-bitOf false = 0
 
 abbrev pub residualWords : LargestResidual → List ℕ → List ℕ
 residualWords LargestResidual.Nothing rest = 0 ∷ 0 ∷ rest
@@ -131,10 +129,6 @@ pub record TextOut : Type 0 where
 
 abbrev pub textOut : TextAnswer → List ℕ → TextOut
 textOut r out = record { answer = r; out = out }
-
--- a text at the front of a buffer, the rest untouched
-abbrev pub over : List ℕ → List ℕ → List ℕ
-over written buffer = written ++ drop (length written) buffer
 
 abbrev pub textLeaves : Checked → Lent → List ℕ → TextOut
 textLeaves Checked.Fine l out = textOut (TextAnswer.Written (length (textOf l))) (over (textOf l) out)

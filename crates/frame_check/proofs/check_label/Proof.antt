@@ -9,10 +9,11 @@ use lib.Dec.{T}
 use Rattle.sheet.specs.Cells.{OnSheet}
 use Rattle.sheet.proofs.Laws.{place-in}
 use Rattle.frame_check.specs.Checks.{checkedLabel}
-use Rattle.frame_check.proofs.Laws.{refused, passed, is-set, not-set, first-of, second-of}
+use Rattle.frame_check.proofs.Laws.{is-set, not-set, first-of, second-of}
 use borrow.Author.Needs.{needs}
 use Rattle.frame_check.proofs.check_label.Statement.{statement}
 use Rattle.frame_check.proofs.check_label.Tie as tie
+use Rattle.arguments.proofs.Chains.{refused, passed}
 
 on : (c : tie.Else1) → OnSheet (c .before .before .before .args .label .cell)
 on c = subst T (sym (sym (c .before .on-sheet .ensures) ∙ not-false _ (c .if1 .left))) tt

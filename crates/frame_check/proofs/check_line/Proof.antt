@@ -1,9 +1,10 @@
 -- `frame_check::check_line` meets its contract: 1 before all others. Assumes nothing.
 use Rattle.frame_check.specs.Checks.{checkedHeld}
-use Rattle.frame_check.proofs.Laws.{may-be, refused, passed}
+use Rattle.frame_check.proofs.Laws.{may-be}
 use borrow.Author.Needs.{needs}
 use Rattle.frame_check.proofs.check_line.Statement.{statement}
 use Rattle.frame_check.proofs.check_line.Tie as tie
+use Rattle.arguments.proofs.Chains.{refused, passed}
 
 rank-of-requires : tie.Need-rank-of-requires
 rank-of-requires c κs = search needs

@@ -1,10 +1,10 @@
 -- `frame_check::check_said` meets its contract, a test after the other. Assumes nothing.
 use mathlib.Core.Path.{sym, _∙_}
 use Rattle.frame_check.specs.Checks.{checkedSaid}
-use Rattle.frame_check.proofs.Laws.{refused, passed}
 use borrow.Author.Needs.{needs}
 use Rattle.frame_check.proofs.check_said.Statement.{statement}
 use Rattle.frame_check.proofs.check_said.Tie as tie
+use Rattle.arguments.proofs.Chains.{refused, passed}
 
 over-limit-requires : tie.Need-over-limit-requires
 over-limit-requires c κs = search needs

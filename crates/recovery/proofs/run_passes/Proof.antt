@@ -2,7 +2,7 @@
 use Prim.Native.Nat.{_-_}
 use native.Mathlib.Omega.{arith}
 use native.Mathlib.Numerals.{add-one}
-use Rattle.recovery.specs.Running.{cornerLists}
+use Rattle.passes.specs.Step.{cornerLists}
 use Rattle.recovery.proofs.Running.{Turning, first-turn, next-turn, last-turn}
 use Rattle.recovery.proofs.run_passes.Statement.{statement}
 use Rattle.recovery.proofs.run_passes.Tie as tie

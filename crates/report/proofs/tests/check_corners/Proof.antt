@@ -1,7 +1,7 @@
 -- `tests::check_corners` meets its contract: 5, then 6. Assumes nothing.
 use mathlib.Core.Path.{refl, sym, _∙_}
 use Rattle.arguments.proofs.Laws.{known, known-more}
-use Rattle.report.proofs.Checking.{refused, passed}
+use Rattle.arguments.proofs.Chains.{refused, passed}
 use borrow.Author.Needs.{needs}
 use Rattle.report.proofs.tests.check_corners.Statement.{statement}
 use Rattle.report.proofs.tests.check_corners.Tie as tie
