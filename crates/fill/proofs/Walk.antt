@@ -26,7 +26,11 @@ use Rattle.positions_policy.specs.declared.Tolerances.{Tolerances}
 use Rattle.passes.specs.Outcome.{over}
 use Rattle.passes.specs.Fill.{FillState, boxAndStrips, cellsOf, fillCells, fillVisit, fillAll, fillRound}
 use Rattle.passes.proofs.Over.{over-read, over-over}
+use Rattle.region.specs.Windowed.{InWindow, Windowed, NextIn}
+use Rattle.region.specs.declared.Window.{Window}
+use Rattle.region.proofs.Jumps.{jumps}
 use Rattle.fill.specs.Filling.{stateOf, Filling, Holds, Left, lookedAt}
+use Rattle.fill.proofs.Region.{in-window}
 use Rattle.fill.proofs.Visit.{Tried, passed, attaches, tried, tried-grows, attaching, untouched}
 
 -- ---- some cells
@@ -235,3 +239,12 @@ module _ (set : Settings) (p : FillParams) (xs ys pitches : List Float) (sheet�
     walking-end h =
         let e : n ≡ 16384 = omega (arith, w .upto) in
         rw (← walked-round (cornersOf xs ys pitches) set p (stateOf sheet₀ list₀ made₀), ← e) (w .left)
+
+  -- to the next place of the window: no place before it is in the region
+  pub walking-jumps : (sheet list used : List ℕ) (made : ℕ) (around : LabelBox) (window : Window) → around ≡ boxOf sheet₀ → Windowed 1 around window → {n r : ℕ}
+      → Walking set p xs ys pitches sheet₀ list₀ made₀ sheet list used made n → NextIn window n r → Walking set p xs ys pitches sheet₀ list₀ made₀ sheet list used made r
+  walking-jumps sheet list used made around window b c w t =
+      jumps window (Walking set p xs ys pitches sheet₀ list₀ made₀ sheet list used made)
+      (λ q h out v. walking-more sheet list used made q v around sheet list used made h b refl refl
+      (untouched (v .left .filling) (looked-out (cornersOf xs ys pitches) set p around q (stateOf sheet list made) (in-window around window q c h out))))
+      t w

@@ -208,8 +208,9 @@ fn fill_round(
     ensures { λ r. ⌜ Left (fillRound (cornersOf (now (xs .entry)) (now (ys .entry)) (now (pitches .entry))) settings params (stateOf (now (sheet .entry)) (now (attached .entry)) made)) (now (xs .entry)) (now (ys .entry)) (now (pitches .entry)) (now (attached .entry)) (now (sheet .exit)) (now (attached .exit)) (now (used .exit)) r ⌝ }
 {
     let around = labels::label_box(sheet);
+    let window = region::window_of(around, 1);
     let mut reached = made;
-    let mut place = 0usize;
+    let mut place = region::next_inside(window, 0);
     while place < 16384 {
         reached = fill_place(
             xs,
@@ -224,7 +225,7 @@ fn fill_round(
             settings,
             params,
         );
-        place += 1;
+        place = region::next_inside(window, place + 1);
     }
     reached
 }

@@ -26,7 +26,10 @@ use Rattle.passes.specs.Fill.{cellsOf}
 use Rattle.passes.specs.Local.{depthOf, localRegion, localCells, LocalState, localVisit, localAll, localRound}
 use Rattle.passes.proofs.Over.{over-read, over-over}
 use Rattle.region.specs.Region.{Region, RegionFound, regionAt}
+use Rattle.region.specs.Windowed.{InWindow, Windowed, NextIn}
+use Rattle.region.specs.declared.Window.{Window}
 use Rattle.region.proofs.Told.{region-is}
+use Rattle.region.proofs.Jumps.{jumps, told-far}
 use Rattle.remembered.proofs.Attach.{clear-same, clear-else}
 use Rattle.local.specs.Extending.{visits, stateOf, Extending, Holds, Left, lookedAt}
 use Rattle.local.specs.declared.LocalProgress.{LocalProgress}
@@ -280,3 +283,12 @@ module _ (set : Settings) (p : LocalExtensionParams) (xs ys pitches : List Float
     walking-end h =
         let e : n ≡ 16384 = omega (arith, w .upto) in
         rw (← walked-round (cornersOf xs ys pitches) set p (stateOf sheet₀ list₀ at₀), ← e) (w .left)
+
+  -- to the next place of the window: no place before it is in the region
+  pub walking-jumps : (sheet list used places : List ℕ) (at : LocalProgress) (region : Region) (window : Window) → RegionFound sheet₀ region → {d : ℕ} → d ≡ depthOf p → Windowed d (region .around) window → {n r : ℕ}
+      → Walking set p xs ys pitches sheet₀ list₀ at₀ sheet list used places at n → NextIn window n r → Walking set p xs ys pitches sheet₀ list₀ at₀ sheet list used places at r
+  walking-jumps sheet list used places at region window f e c w t =
+      jumps window (Walking set p xs ys pitches sheet₀ list₀ at₀ sheet list used places at)
+      (λ q h out v. walking-more sheet list used places at q v region sheet list used places at h f refl refl
+      (untouched (v .left .extending) (looked-out (cornersOf xs ys pitches) set p region q (stateOf sheet list at) (told-far (depthOf p) sheet₀ region window q f (rw e at c) h out))))
+      t w

@@ -147,8 +147,9 @@ fn local_round(
     let around = labels::label_box(sheet);
     let rows = region::rows_of(places, at.labels);
     let columns = region::columns_of(places, at.labels);
+    let window = region::window_of(around, depth_of(params));
     let mut reached = at;
-    let mut place = 0usize;
+    let mut place = region::next_inside(window, 0);
     while place < 16384 {
         let next = local_place(
             xs,
@@ -169,7 +170,7 @@ fn local_round(
             params,
         );
         reached = next;
-        place += 1;
+        place = region::next_inside(window, place + 1);
     }
     reached
 }

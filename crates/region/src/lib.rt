@@ -3,12 +3,13 @@
 
 ghost use mathlib.Core.Path.{_≡_};
 ghost use mathlib.Core.Bool.{_&&_};
-ghost use Prim.Native.Nat.{_/_, _%_, _<_, _≤_};
+ghost use Prim.Native.Nat.{_+_, _-_, _/_, _%_, min, _<_, _≤_};
 ghost use lib.ListN.{take};
 ghost use Rattle.passes.specs.Fill.{nearI, nearJ};
 ghost use Rattle.passes.specs.Local.{pastI, pastJ};
 ghost use Rattle.region.specs.Small.{SmallBounds};
 ghost use Rattle.region.specs.Region.{Listed, Lines, Telling, marked, regionOf, regionAt};
+ghost use Rattle.region.specs.Windowed.{BoxOn, WindowFits, Windowed, NextIn};
 use labels::Bounds;
 use labels::LabelBox;
 use sheet::Cell;
@@ -146,4 +147,89 @@ pub fn is_local_cell(
         return is_marked(columns, place / 128);
     }
     false
+}
+
+// The lines of the sheet within which a round walks, as numbers from 0 to 127: from the start up to the end, which is not one of them.
+pub struct Window {
+    pub start_i: usize,
+    pub end_i: usize,
+    pub start_j: usize,
+    pub end_j: usize,
+}
+
+// A line less some lines, or the first.
+fn line_before(line: usize, past: usize) -> usize
+    ensures { λ r. ⌜ r ≡ line - past ⌝ }
+{
+    if line < past {
+        return 0;
+    }
+    line - past
+}
+
+// The end after a line and some lines more, or that of the sheet.
+fn line_after(line: usize, past: usize) -> usize
+    requires { ⌜ (line < 128) × (past ≤ 64) ⌝ }
+    ensures { λ r. ⌜ r ≡ min 128 (line + past + 1) ⌝ }
+{
+    let end = line + past + 1;
+    if end < 128 {
+        return end;
+    }
+    128
+}
+
+// The window about a box: all its lines, and so many past them, as far as the sheet goes. About an empty box there is none.
+pub fn window_of(around: LabelBox, past: u32) -> Window
+    requires { ⌜ BoxOn around × (past ≤ 64) ⌝ }
+    ensures { λ r. ⌜ Windowed past around r ⌝ }
+{
+    let LabelBox::Around(b) = around else {
+        return Window {
+            start_i: 0,
+            end_i: 0,
+            start_j: 0,
+            end_j: 0,
+        };
+    };
+    let low = sheet::place_of(Cell {
+        i: b.low_i,
+        j: b.low_j,
+    });
+    let high = sheet::place_of(Cell {
+        i: b.high_i,
+        j: b.high_j,
+    });
+    let n = past as usize;
+    Window {
+        start_i: line_before(low / 128, n),
+        end_i: line_after(high / 128, n),
+        start_j: line_before(low % 128, n),
+        end_j: line_after(high % 128, n),
+    }
+}
+
+// The next place from one on that lies in the window, or 16,384 where there is none: a walk over the sheet passes over all others.
+pub fn next_inside(w: Window, from: usize) -> usize
+    requires { ⌜ WindowFits w × (from ≤ 16384) ⌝ }
+    ensures { λ r. ⌜ NextIn w from r ⌝ }
+{
+    let i = from / 128;
+    let j = from % 128;
+    if w.end_i <= i {
+        return 16384;
+    }
+    if i < w.start_i {
+        return w.start_i * 128 + w.start_j;
+    }
+    if j < w.start_j {
+        return i * 128 + w.start_j;
+    }
+    if j < w.end_j {
+        return from;
+    }
+    if w.end_i <= i + 1 {
+        return 16384;
+    }
+    (i + 1) * 128 + w.start_j
 }
