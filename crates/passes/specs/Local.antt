@@ -6,12 +6,12 @@ use Prim.Native.Nat.{ℕ, zero, suc, _+_, max}
 use lib.Dec.{eqb, ltb}
 use lib.ListN.{length, getD, take}
 use lib.IntN.{ℤ}
-use lib.Ieee.{Float, nan, binary32, ofBits, ofInt, add, sub, mul, lt}
+use lib.Ieee.{Float, nan, binary32, ofBits, ofInt, mul, lt}
 use Rattle.binary32.specs.Ranges.{isFinite, allFinite}
 use Rattle.binary32.specs.Sqrt.{sqrtOrNan}
 use Rattle.sheet.specs.Cells.{placeOf, cellOf, differenceOf, magnitudeOf, eqZ, earlier}
 use Rattle.sheet.specs.Words.{labelAt, attached, marksCleared}
-use Rattle.sheet.specs.Corners.{seenOf}
+use Rattle.sheet.specs.Corners.{seenOf, squaredDistance}
 use Rattle.sheet.specs.declared.Cell.{Cell}
 use Rattle.sheet.specs.declared.Position.{Position}
 use Rattle.sheet.specs.declared.Seen.{Seen}
