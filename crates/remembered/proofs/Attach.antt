@@ -33,7 +33,7 @@ use Rattle.passes.specs.Grow.{tolerancesOf}
 use Rattle.passes.specs.Local.{reachOf, byReach, supportsOf, picturedAs, picturedAt, LocalFit, localFit, localSearch}
 use Rattle.passes.specs.declared.LargestResidual.{LargestResidual}
 use Rattle.supports.proofs.Nearest.{Under, none, one, under-take}
-use Rattle.remembered.specs.Remembered.{fitAt, Near, near-none, near-more, SupportsWithin, IdleFit, Mapped, Undecided, KnownAt, nothing, idle, unmatched, predicted, ambiguous, kindOf, knownOf, predictionIn, limitIn, reachIn, predictionAt, limitAt, entryOf, Remembered, forgottenWord, doubtedWord, Forgotten}
+use Rattle.remembered.specs.Remembered.{fitAt, Near, near-none, near-more, SupportsWithin, IdleFit, Mapped, Undecided, KnownAt, nothing, idle, no-candidates, predicted, ambiguous, kindOf, knownOf, predictionIn, limitIn, reachIn, predictionAt, limitAt, entryOf, Remembered, forgottenWord, doubtedWord, Forgotten}
 use Rattle.remembered.specs.declared.Known.{Known}
 use Rattle.remembered.proofs.Words.{known-nothing, known-predicted, known-ambiguous, certain-stays, far-stays, doubts}
 use Rattle.remembered.proofs.Supported.{Inserted, passing-inserted, under-all, under-sorted, nearest-stay}
@@ -132,7 +132,7 @@ after sheet c k = marksCleared (attached sheet c k) c
 pub doubted : Bool → Known → Known
 doubted far Known.Nothing = Known.Nothing
 doubted far (Known.Idle r) = Known.Idle r
-doubted far (Known.Unmatched r) = Known.Unmatched r
+doubted far (Known.NoCandidates r) = Known.NoCandidates r
 doubted far (Known.Predicted r at) = Known.Predicted r at
 doubted far (Known.Ambiguous r at limit) = cond far (Known.Ambiguous r at limit) (Known.Predicted r at)
 
@@ -161,8 +161,8 @@ module _ (cs : Corners) (set : Settings) (p : LocalExtensionParams) (l : Largest
   unfolding reachIn doubted limitIn predictionIn
   known-stays d Known.Nothing far nothing = nothing
   known-stays d (Known.Idle r) far (idle n f) = idle (within-stays a four d n far) (subst (IdleFit set p l) (sym (fit-stays a four d n far cs)) f)
-  known-stays d (Known.Unmatched r) far (unmatched n m) =
-      unmatched (within-stays a four d n far)
+  known-stays d (Known.NoCandidates r) far (no-candidates n m) =
+      no-candidates (within-stays a four d n far)
       (record {
         at = m .at;
         mapped = mapped-stays d far n (m .mapped);

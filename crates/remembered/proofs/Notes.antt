@@ -59,9 +59,9 @@ module _ {r : ℕ} (h : r < 8192) where
   unfolding reachIn
   notable-idle = h
 
-  pub notable-unmatched : Notable (Known.Unmatched r)
+  pub notable-no-candidates : Notable (Known.NoCandidates r)
   unfolding reachIn
-  notable-unmatched = h
+  notable-no-candidates = h
 
   pub notable-predicted : (at : Position) → Notable (Known.Predicted r at)
   unfolding reachIn

@@ -42,9 +42,9 @@ module _ (w : ℕ) (at : Position) (limit : Float) where
   unfolding knownOf kindOf
   known-idle e = rw e
 
-  pub known-unmatched : w % 8 ≡ 2 → Known.Unmatched (w / 8) ≡ knownOf w at limit
+  pub known-no-candidates : w % 8 ≡ 2 → Known.NoCandidates (w / 8) ≡ knownOf w at limit
   unfolding knownOf kindOf
-  known-unmatched e = rw e
+  known-no-candidates e = rw e
 
   pub known-predicted : w % 8 ≡ 3 → Known.Predicted (w / 8) at ≡ knownOf w at limit
   unfolding knownOf kindOf
@@ -68,7 +68,7 @@ pub word-below : (known : Known) → Notable known → knownWord known < 65536
 unfolding knownWord reachIn
 word-below Known.Nothing h = omega arith
 word-below (Known.Idle r) h = omega arith
-word-below (Known.Unmatched r) h = omega arith
+word-below (Known.NoCandidates r) h = omega arith
 word-below (Known.Predicted r at) h = omega arith
 word-below (Known.Ambiguous r at limit) h = omega arith
 
@@ -103,21 +103,21 @@ module _ {known : Known} where
     unfolding limitIn
     idle-limit e = rw e
 
-    pub unmatched-below : known ≡ Known.Unmatched r → Notable known → r < 8192
+    pub no-candidates-below : known ≡ Known.NoCandidates r → Notable known → r < 8192
     unfolding reachIn
-    unmatched-below e h = rw e at h
+    no-candidates-below e h = rw e at h
 
-    pub unmatched-word : known ≡ Known.Unmatched r → r * 8 + 2 ≡ knownWord known
+    pub no-candidates-word : known ≡ Known.NoCandidates r → r * 8 + 2 ≡ knownWord known
     unfolding knownWord
-    unmatched-word e = rw e
+    no-candidates-word e = rw e
 
-    pub unmatched-prediction : known ≡ Known.Unmatched r → noPrediction ≡ predictionIn known
+    pub no-candidates-prediction : known ≡ Known.NoCandidates r → noPrediction ≡ predictionIn known
     unfolding predictionIn
-    unmatched-prediction e = rw e
+    no-candidates-prediction e = rw e
 
-    pub unmatched-limit : known ≡ Known.Unmatched r → ofBits binary32 0 ≡ limitIn known
+    pub no-candidates-limit : known ≡ Known.NoCandidates r → ofBits binary32 0 ≡ limitIn known
     unfolding limitIn
-    unmatched-limit e = rw e
+    no-candidates-limit e = rw e
 
     module _ {at : Position} where
       pub predicted-below : known ≡ Known.Predicted r at → Notable known → r < 8192
@@ -159,8 +159,8 @@ unfolding knownWord predictionIn limitIn
 word-back Known.Nothing = sym (known-nothing 0 _ _ (omega arith))
 word-back (Known.Idle r) =
     let e : (r * 8 + 1) / 8 ≡ r = omega arith in sym (known-idle (r * 8 + 1) _ _ (omega arith)) ∙ ap Known.Idle e
-word-back (Known.Unmatched r) =
-    let e : (r * 8 + 2) / 8 ≡ r = omega arith in sym (known-unmatched (r * 8 + 2) _ _ (omega arith)) ∙ ap Known.Unmatched e
+word-back (Known.NoCandidates r) =
+    let e : (r * 8 + 2) / 8 ≡ r = omega arith in sym (known-no-candidates (r * 8 + 2) _ _ (omega arith)) ∙ ap Known.NoCandidates e
 word-back (Known.Predicted r at) =
     let e : (r * 8 + 3) / 8 ≡ r = omega arith in sym (known-predicted (r * 8 + 3) at _ (omega arith)) ∙ ap (λ (n : ℕ). Known.Predicted n at) e
 word-back (Known.Ambiguous r at limit) =

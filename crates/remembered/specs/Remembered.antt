@@ -73,7 +73,7 @@ pub record Undecided (cs : Corners) (set : Settings) (p : LocalExtensionParams) 
 pub data KnownAt (cs : Corners) (set : Settings) (p : LocalExtensionParams) (l : LargestResidual) (sheet : List ℕ) (c : Cell) : Known → Type 0 where
   nothing : KnownAt cs set p l sheet c Known.Nothing
   idle : {r : ℕ} → SupportsWithin r sheet c → IdleFit set p l (fitAt cs sheet c) → KnownAt cs set p l sheet c (Known.Idle r)
-  unmatched : {r : ℕ} → SupportsWithin r sheet c → Missed cs set p l sheet c → KnownAt cs set p l sheet c (Known.Unmatched r)
+  no-candidates : {r : ℕ} → SupportsWithin r sheet c → Missed cs set p l sheet c → KnownAt cs set p l sheet c (Known.NoCandidates r)
   predicted : {r : ℕ} {at : Position} → SupportsWithin r sheet c → Mapped set p l c (fitAt cs sheet c) at → KnownAt cs set p l sheet c (Known.Predicted r at)
   ambiguous : {r : ℕ} {at : Position} {limit : Float} → SupportsWithin r sheet c → Undecided cs set p l sheet c at limit → KnownAt cs set p l sheet c (Known.Ambiguous r at limit)
 
@@ -83,7 +83,7 @@ pub data KnownAt (cs : Corners) (set : Settings) (p : LocalExtensionParams) (l :
 unfoldable pub kindOf : ℕ → ℕ → Position → Float → Known
 kindOf zero r at limit = Known.Nothing
 kindOf (suc zero) r at limit = Known.Idle r
-kindOf (suc (suc zero)) r at limit = Known.Unmatched r
+kindOf (suc (suc zero)) r at limit = Known.NoCandidates r
 kindOf (suc (suc (suc zero))) r at limit = Known.Predicted r at
 kindOf (suc (suc (suc (suc k)))) r at limit = Known.Ambiguous r at limit
 
@@ -93,7 +93,7 @@ knownOf w at limit = kindOf (w % 8) (w / 8) at limit
 unfoldable pub knownWord : Known → ℕ
 knownWord Known.Nothing = 0
 knownWord (Known.Idle r) = r * 8 + 1
-knownWord (Known.Unmatched r) = r * 8 + 2
+knownWord (Known.NoCandidates r) = r * 8 + 2
 knownWord (Known.Predicted r at) = r * 8 + 3
 knownWord (Known.Ambiguous r at limit) = r * 8 + 4
 
@@ -104,14 +104,14 @@ noPrediction = record { x = ofBits binary32 0; y = ofBits binary32 0 }
 unfoldable pub predictionIn : Known → Position
 predictionIn Known.Nothing = noPrediction
 predictionIn (Known.Idle r) = noPrediction
-predictionIn (Known.Unmatched r) = noPrediction
+predictionIn (Known.NoCandidates r) = noPrediction
 predictionIn (Known.Predicted r at) = at
 predictionIn (Known.Ambiguous r at limit) = at
 
 unfoldable pub limitIn : Known → Float
 limitIn Known.Nothing = ofBits binary32 0
 limitIn (Known.Idle r) = ofBits binary32 0
-limitIn (Known.Unmatched r) = ofBits binary32 0
+limitIn (Known.NoCandidates r) = ofBits binary32 0
 limitIn (Known.Predicted r at) = ofBits binary32 0
 limitIn (Known.Ambiguous r at limit) = limit
 
@@ -119,7 +119,7 @@ limitIn (Known.Ambiguous r at limit) = limit
 unfoldable pub reachIn : Known → ℕ
 reachIn Known.Nothing = 0
 reachIn (Known.Idle r) = r
-reachIn (Known.Unmatched r) = r
+reachIn (Known.NoCandidates r) = r
 reachIn (Known.Predicted r at) = r
 reachIn (Known.Ambiguous r at limit) = r
 

@@ -22,7 +22,7 @@ use sheet::Position;
 pub enum Known {
     Nothing,
     Idle(u32),
-    Unmatched(u32),
+    NoCandidates(u32),
     Predicted(u32, Position),
     Ambiguous(u32, Position, f32),
 }
@@ -40,7 +40,7 @@ fn known_of(word: u16, at: Position, limit: f32) -> Known
         return Known::Idle(reach);
     }
     if kind == 2 {
-        return Known::Unmatched(reach);
+        return Known::NoCandidates(reach);
     }
     if kind == 3 {
         return Known::Predicted(reach, at);
@@ -85,7 +85,7 @@ fn word_of(known: Known) -> u16
     match known {
         Known::Nothing => 0,
         Known::Idle(reach) => (reach * 8 + 1) as u16,
-        Known::Unmatched(reach) => (reach * 8 + 2) as u16,
+        Known::NoCandidates(reach) => (reach * 8 + 2) as u16,
         Known::Predicted(reach, _) => (reach * 8 + 3) as u16,
         Known::Ambiguous(reach, _, _) => (reach * 8 + 4) as u16,
     }
@@ -105,7 +105,7 @@ fn prediction_in(known: Known) -> Position
     match known {
         Known::Nothing => nowhere(),
         Known::Idle(_) => nowhere(),
-        Known::Unmatched(_) => nowhere(),
+        Known::NoCandidates(_) => nowhere(),
         Known::Predicted(_, at) => at,
         Known::Ambiguous(_, at, _) => at,
     }
@@ -118,7 +118,7 @@ fn limit_in(known: Known) -> f32
     match known {
         Known::Nothing => 0.0,
         Known::Idle(_) => 0.0,
-        Known::Unmatched(_) => 0.0,
+        Known::NoCandidates(_) => 0.0,
         Known::Predicted(_, _) => 0.0,
         Known::Ambiguous(_, _, limit) => limit,
     }
