@@ -31,7 +31,7 @@ use Rattle.arguments.proofs.Laws.{not-short}
 use Rattle.passes.specs.Outcome.{Outcome, refused}
 use Rattle.passes.specs.Step.{CornerLists, lentOf, unless}
 use Rattle.passes.specs.Run.{PassCall, Call, PassStats, step, sheetAfter, run}
-use Rattle.invariants.specs.Calls.{Standing, passOf, checkedCall, afterCall, Fit}
+use Rattle.invariants.specs.Calls.{Standing, passOf, checkedCall, afterCall, CallInside}
 use Rattle.invariants.proofs.Run.{step-as, standing-step, fit-accepts}
 use Rattle.agreement.specs.Agreement.{Reordered, AboveOne, FactorsAbove, no-more, was-refused, ran}
 use Rattle.agreement.specs.Example.{first, second, numbersInSecond, numbersInFirst, cellAt, given, given', settings, rooms, callOf, growCall, fillCall, localCall, refusedCall, calls, saidOf, Met, Agreed}
@@ -161,19 +161,19 @@ unfolding endsOf ofBits ofInt le
 settings-inside = record { cell-size = refl; axis-i = record { x = refl; y = refl }; axis-j = record { x = refl; y = refl }; band = refl }
 
 -- a call with these settings and buffers, if its pass's own numbers are in range
-fits : (p : PassCall) → queueNeeded (passOf p) 5 ≤ 20 → PassInside (passOf p) → Fit first (callOf p)
+fits : (p : PassCall) → queueNeeded (passOf p) 5 ≤ 20 → PassInside (passOf p) → CallInside first (callOf p)
 fits p q i =
     record { few = omega arith; queue-long = q; attached-long = omega arith; corners-inside = corners-inside; settings-inside = settings-inside; pass-inside = i }
 
-grow-fits : Fit first growCall
+grow-fits : CallInside first growCall
 unfolding queueNeeded endsOf ofBits ofInt le
 grow-fits = fits (growCall .pass) (omega arith) (record { search = refl; factor = refl; boundary = refl })
 
-fill-fits : Fit first fillCall
+fill-fits : CallInside first fillCall
 unfolding queueNeeded endsOf ofBits ofInt le
 fill-fits = fits (fillCall .pass) (omega arith) (record { search = refl; factor = refl; rounds = omega arith })
 
-local-fits : Fit first localCall
+local-fits : CallInside first localCall
 unfolding queueNeeded endsOf ofBits ofInt le
 local-fits = fits (localCall .pass) (omega arith) (record { search = refl; factor = refl; rounds = omega arith; residual = refl; depth = omega arith })
 
@@ -223,7 +223,7 @@ unfolding run
 ends sheet = record { factors = no-more; outcomes = refl }
 
 module _ {sheet : List ℕ} {c : Call} {cs : List Call} {said : List ℕ} (rest : Going (sheetAfter sheet (step first sheet c)) cs said) where
-  runs : Standing first sheet → Fit first c → AboveOne c → Going sheet (c ∷ cs) (0 ∷ said)
+  runs : Standing first sheet → CallInside first c → AboveOne c → Going sheet (c ∷ cs) (0 ∷ said)
   unfolding run
   runs s f above =
       let e = fit-accepts first sheet c s f .done-so in

@@ -9,7 +9,6 @@ use lib.Dec.{T, eqb}
 use lib.ListN.{length}
 use lib.Ieee.{lt}
 use lib.Ieee.Scale.{finite}
-use Rattle.float_order.specs.Unsigned.{one}
 use Rattle.sheet.specs.Cells.{OnSheet, placeOf, cellOf}
 use Rattle.sheet.specs.Corners.{cornerOf, seenOf, Given}
 use Rattle.sheet.specs.Pairing.{Shuffle, PairedCorners, PairedSheets}
@@ -31,7 +30,7 @@ use Rattle.extension_common.specs.TryCell.{tryAt}
 use Rattle.extension_common.specs.declared.TryCellResult.{TryCellResult}
 use Rattle.extension_common.proofs.Laws.{attachable}
 use Rattle.passes.specs.Grow.{tolerancesOf}
-use Rattle.passes.specs.Fill.{boxAndStrips, fillCells, FillState, fillSearch, fillWith, fillAt, fillVisit, fillAll, fillRound, FillRounds, fillFrom, limitOf, fillRun}
+use Rattle.passes.specs.Fill.{boxAndStrips, fillCells, FillState, fillSearch, fillWith, fillAt, fillVisit, fillAll, fillRound, FillRounds, fillFrom, fillLimit, fillRun}
 use Rattle.passes.specs.Step.{CornerLists}
 use Rattle.passes.specs.History.{History, begun}
 use Rattle.invariants.specs.Kept.{Sound}
@@ -39,6 +38,7 @@ use Rattle.invariants.specs.Calls.{cornersIn, Standing}
 use Rattle.invariants.proofs.Waiting.{first-on}
 use Rattle.invariants.proofs.Fill.{Filling, cells-listed, sound-then, filling-visit, filling-round}
 use Rattle.invariants.proofs.Run.{standing-sound, sound-standing}
+use Rattle.binary32.specs.Numbers.{one}
 use Rattle.agreement.proofs.Try.{pairedResult, try-paired}
 use Rattle.agreement.proofs.Cells.{cells-same}
 
@@ -146,5 +146,5 @@ module _ (l l' : CornerLists) (corners : PairedCorners (l .xs) (l .ys) (l .pitch
     unfolding fillRun
     fill-same first' paired =
         rw (paired-count paired)
-        (from-same (limitOf (labelCount first) (params .«max_iters»)) (record { state = record { sheet = first; made = [] }; rounds = 0 })
+        (from-same (fillLimit (labelCount first) (params .«max_iters»)) (record { state = record { sheet = first; made = [] }; rounds = 0 })
         (record { state = record { sheet = first'; made = [] }; rounds = 0 }) begun (record { state = record { sheet = paired; made = refl }; rounds = refl }))

@@ -10,7 +10,6 @@ use lib.Dec.{T, ltb}
 use lib.ListN.{length, getD}
 use lib.Ieee.{lt}
 use lib.Ieee.Scale.{finite}
-use Rattle.float_order.specs.Unsigned.{one}
 use Rattle.sheet.specs.Cells.{onSheet, OnSheet, placeOf, cellOf, moved}
 use Rattle.sheet.specs.Words.{attached}
 use Rattle.sheet.specs.Corners.{cornerOf, seenOf, Given}
@@ -41,6 +40,7 @@ use Rattle.invariants.specs.Calls.{cornersIn, Standing}
 use Rattle.invariants.proofs.Waiting.{first-on}
 use Rattle.invariants.proofs.Grow.{Growing, growing-start, turn, sound-now, growing-visit}
 use Rattle.invariants.proofs.Run.{standing-sound, sound-standing}
+use Rattle.binary32.specs.Numbers.{one}
 use Rattle.agreement.proofs.Try.{pairedResult, try-paired}
 use Rattle.agreement.proofs.Cells.{names-same}
 

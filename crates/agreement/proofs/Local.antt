@@ -9,7 +9,6 @@ use lib.Dec.{T, eqb}
 use lib.ListN.{length, take}
 use lib.Ieee.{Float, binary32, ofBits, lt}
 use lib.Ieee.Scale.{finite}
-use Rattle.float_order.specs.Unsigned.{one}
 use Rattle.sheet.specs.Cells.{OnSheet, placeOf, cellOf}
 use Rattle.sheet.specs.Words.{attached}
 use Rattle.sheet.specs.Corners.{seenOf, Given}
@@ -40,6 +39,7 @@ use Rattle.invariants.specs.Calls.{cornersIn, Standing}
 use Rattle.invariants.proofs.Waiting.{first-on}
 use Rattle.invariants.proofs.Local.{Trying, Tried, round-begins, sound-tried, trying-visit, tried-round}
 use Rattle.invariants.proofs.Run.{standing-sound, sound-standing}
+use Rattle.binary32.specs.Numbers.{one}
 use Rattle.agreement.proofs.Try.{pairedResult, try-paired}
 use Rattle.agreement.proofs.Cells.{cells-same}
 

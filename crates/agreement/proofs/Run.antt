@@ -8,7 +8,6 @@ use native.Mathlib.Omega.{arith}
 use lib.ListN.{length}
 use lib.Ieee.{lt}
 use Rattle.refusal.specs.declared.Refusal.{Refusal}
-use Rattle.float_order.specs.Unsigned.{one}
 use Rattle.sheet.specs.Pairing.{Shuffle, PairedCorners, PairedSheets}
 use Rattle.sheet.proofs.Pairing.{given-paired}
 use Rattle.labels.proofs.Pairing.{paired-rim, paired-one}
@@ -30,6 +29,7 @@ use Rattle.passes.specs.Step.{CornerLists, Rooms, lentOf, unless, growStep, fil
 use Rattle.passes.specs.Run.{PassCall, grow, fill, local, Call, PassStats, growStats, fillStats, localStats, step, sheetAfter, run}
 use Rattle.invariants.specs.Calls.{cornersIn, Standing, passOf, checkedCall, answering, afterPass, afterCall}
 use Rattle.invariants.proofs.Run.{step-as, call-accepted, standing-step, invariants}
+use Rattle.binary32.specs.Numbers.{one}
 use Rattle.agreement.specs.Agreement.{SameAfter, SameOutcome, both-refused, both-done, Agree, agree-end, agree-call, factorOf, AboveOne, FactorsAbove, was-refused, ran, Agreement}
 use Rattle.agreement.proofs.Grow.{grow-same}
 use Rattle.agreement.proofs.Fill.{fill-same}

@@ -7,7 +7,6 @@ use lib.Dec.{T}
 use lib.ListN.{length}
 use lib.Ieee.{Float, lt}
 use lib.Ieee.Scale.{finite}
-use Rattle.float_order.specs.Unsigned.{one}
 use Rattle.sheet.specs.Corners.{cornerOf, seenOf, Given}
 use Rattle.sheet.specs.Pairing.{PairedCorners, PairedSheets}
 use Rattle.sheet.specs.declared.Cell.{Cell}
@@ -28,6 +27,7 @@ use Rattle.extension_common.specs.declared.TryCellResult.{TryCellResult}
 use Rattle.extension_common.proofs.Laws.{chosen}
 use Rattle.passes.specs.Step.{CornerLists}
 use Rattle.invariants.specs.Calls.{cornersIn}
+use Rattle.binary32.specs.Numbers.{one}
 
 -- what is found, with the paired corner
 unfoldable pub pairedResult : (ℕ → ℕ) → TryCellResult → TryCellResult

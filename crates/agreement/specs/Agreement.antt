@@ -6,12 +6,12 @@ use mathlib.Core.List.{List, [], _∷_}
 use Prim.Native.Nat.{ℕ}
 use lib.Ieee.{Float, lt}
 use Rattle.refusal.specs.declared.Refusal.{Refusal}
-use Rattle.float_order.specs.Unsigned.{one}
 use Rattle.sheet.specs.Pairing.{Shuffle, PairedCorners, PairedSheets}
 use Rattle.passes.specs.Outcome.{After, Outcome, refused, done}
 use Rattle.passes.specs.Step.{CornerLists}
 use Rattle.passes.specs.Run.{PassCall, grow, fill, local, Call, PassStats, sheetAfter, run}
 use Rattle.invariants.specs.Calls.{Standing, Invariant}
+use Rattle.binary32.specs.Numbers.{one}
 
 -- ---- the two frames
 
@@ -67,7 +67,7 @@ pub data FactorsAbove : List Call → List (Outcome PassStats) → Type 0 where
 -- For two frames and a list of calls: in both runs, whatever the factors, given labels are kept, no corner holds two cells, and each new corner
 -- had an accepted edge to a labelled cardinal neighbour, or no such neighbour, when attached. If each call that runs has an ambiguity factor
 -- above 1, the two runs agree after every call.
-pub record Holds (l l' : CornerLists) (given given' : List ℕ) (frames : Reordered l l' given given') (calls : List Call) : Type 0 where
+pub record BothRuns (l l' : CornerLists) (given given' : List ℕ) (frames : Reordered l l' given given') (calls : List Call) : Type 0 where
   pub first-run : Invariant l given calls
   pub second-run : Invariant l' given' calls
   pub agree : FactorsAbove calls (run l given calls) → Agree (frames .corners .pairs) given given' (run l given calls) (run l' given' calls)
@@ -75,4 +75,4 @@ pub record Holds (l l' : CornerLists) (given given' : List ℕ) (frames : Reorde
 -- Any list of calls, refused ones among them, each on the sheet that the last one left, from the given labels of two accepted frames that
 -- differ only in the order of their corner lines, labels renumbered to match.
 abbrev pub Agreement : Type 0
-Agreement = (l l' : CornerLists) (given given' : List ℕ) (frames : Reordered l l' given given') (calls : List Call) → Holds l l' given given' frames calls
+Agreement = (l l' : CornerLists) (given given' : List ℕ) (frames : Reordered l l' given given') (calls : List Call) → BothRuns l l' given given' frames calls

@@ -15,7 +15,7 @@ use Rattle.arguments.specs.declared.Settings.{Settings}
 use Rattle.passes.specs.Outcome.{Outcome, refused, done}
 use Rattle.passes.specs.Step.{CornerLists, Rooms}
 use Rattle.passes.specs.Run.{PassCall, grow, fill, local, Call, PassStats, run}
-use Rattle.agreement.specs.Agreement.{Reordered, Agree, FactorsAbove, Holds}
+use Rattle.agreement.specs.Agreement.{Reordered, Agree, FactorsAbove, BothRuns}
 
 abbrev pub f32 : ℕ → Float
 f32 bits = ofBits binary32 bits
@@ -129,5 +129,5 @@ pub record Met : Type 0 where
 
 -- what the agreement says of them: all of it, and that the runs agree
 pub record Agreed (m : Met) : Type 0 where
-  pub holds : Holds first second given given' (m .frames) calls
+  pub holds : BothRuns first second given given' (m .frames) calls
   pub agree : Agree (m .frames .corners .pairs) given given' (run first given calls) (run second given' calls)

@@ -2,3 +2,4 @@
 pub mod Arguments
 pub mod Accepted
 pub mod Asked
+pub mod Front

@@ -17,7 +17,7 @@ use Rattle.refusal.specs.declared.Refusal.{Refusal}
 use Rattle.refusal.specs.declared.Refusal.the-variants.{OutOfRange}
 use Rattle.binary32.specs.declared.root.Rooted.{Rooted}
 use Rattle.binary32.specs.declared.root.Rooted.the-variants.{Root, Refused}
-use Rattle.binary32.specs.Sqrt.{magnitude, RootOf, Answers}
+use Rattle.binary32.specs.Sqrt.{unitsOf, RootOf, Answers}
 use Rattle.binary32.proofs.Patterns.{value, beyond, magnitude-pos}
 
 -- ---- a NaN, which alone differs from itself
@@ -84,8 +84,8 @@ refused b h l z = go (decLe 0x7f80_0000 (b % 0x8000_0000))
     go : Dec (0x7f80_0000 ≤ b % 0x8000_0000) → Answers (ofBits binary32 b) (Refused OutOfRange)
     go (yes k) = at-infinite (ofBits binary32 b) (leb 0x8000_0000 b) (beyond b k)
     go (no f) =
-        negative (ofBits binary32 b) (magnitude (b % 0x8000_0000)) (2 ^ 149) (magnitude-pos (b % 0x8000_0000) (omega arith))
-        (subst (λ (s : Bool). HasValue (ofBits binary32 b) s (magnitude (b % 0x8000_0000)) (2 ^ 149)) (le-leb 0x8000_0000 b (omega arith)) (value b (omega arith)))
+        negative (ofBits binary32 b) (unitsOf (b % 0x8000_0000)) (2 ^ 149) (magnitude-pos (b % 0x8000_0000) (omega arith))
+        (subst (λ (s : Bool). HasValue (ofBits binary32 b) s (unitsOf (b % 0x8000_0000)) (2 ^ 149)) (le-leb 0x8000_0000 b (omega arith)) (value b (omega arith)))
 
 pub at-others : (x : Float) → T (fits binary32 x) → 0x7f80_0000 ≤ toBits binary32 x → (toBits binary32 x ≡ 0x8000_0000 → ⊥) → Answers x (Refused OutOfRange)
 at-others x f l z = subst (λ (v : Float). Answers v (Refused OutOfRange)) (ofBits-toBits binary32 x f) (refused (toBits binary32 x) (toBits-lt binary32 x f) l z)
@@ -99,9 +99,9 @@ pattern r h = rw (nanBits-above binary32 r, le-ltb 0x7f80_0000 (r % 0x8000_0000)
 pub at-positive : (x : Float) (r : ℕ) → T (fits binary32 x) → 0 < toBits binary32 x → toBits binary32 x < 0x7f80_0000 → RootOf (toBits binary32 x) r → Answers x (Root (ofBits binary32 r))
 at-positive x r f p h k =
     let b = toBits binary32 x in
-    positive x r (magnitude (b % 0x8000_0000)) (2 ^ 149) (magnitude-pos (b % 0x8000_0000) (omega arith))
-    (subst (λ (v : Float). HasValue v false (magnitude (b % 0x8000_0000)) (2 ^ 149)) (ofBits-toBits binary32 x f)
-    (subst (λ (s : Bool). HasValue (ofBits binary32 b) s (magnitude (b % 0x8000_0000)) (2 ^ 149)) (lt-leb 0x8000_0000 b (omega arith)) (value b (omega arith))))
+    positive x r (unitsOf (b % 0x8000_0000)) (2 ^ 149) (magnitude-pos (b % 0x8000_0000) (omega arith))
+    (subst (λ (v : Float). HasValue v false (unitsOf (b % 0x8000_0000)) (2 ^ 149)) (ofBits-toBits binary32 x f)
+    (subst (λ (s : Bool). HasValue (ofBits binary32 b) s (unitsOf (b % 0x8000_0000)) (2 ^ 149)) (lt-leb 0x8000_0000 b (omega arith)) (value b (omega arith))))
     k
 
 -- ---- what is answered is no NaN

@@ -5,7 +5,7 @@ use mathlib.Core.Logic.{_⊎_, inl, inr}
 use native.Mathlib.Nat.{mul-assoc, mul-comm, mul-mul-mul-comm, add-mul, eq-or-lt-of-le, lt-of-lt-of-le, le-of-eq, mul-pos, mul-lt-mul-of-pos-right, mul-le-mul-left, mul-le-mul-right, le-trans, pow-suc}
 use native.Mathlib.Omega.{arith}
 use lib.Pow.{pow-add, pow-pos}
-use Rattle.binary32.specs.Sqrt.{square, magnitude, RootOf}
+use Rattle.binary32.specs.Sqrt.{square, unitsOf, RootOf}
 use Rattle.binary32.specs.Steps.{Near, Normalized}
 use Rattle.binary32.proofs.Squares.{square-lt, even-square}
 use Rattle.binary32.proofs.Magnitude.{at, at-next}
@@ -26,7 +26,7 @@ scaled-above a n p x P e h =
 
 module _ (g q : ℕ) (l : 0x80_0000 ≤ q) (h : q < 0x100_0000) where
   -- the one above, also where it is at the next field
-  next : magnitude (g * 0x80_0000 + q + 1) ≡ (q + 1) * 2 ^ g
+  next : unitsOf (g * 0x80_0000 + q + 1) ≡ (q + 1) * 2 ^ g
   next = go (eq-or-lt-of-le h)
     where
       at-top : suc q ≡ 0x100_0000 → g * 0x80_0000 + q + 1 ≡ g * 0x80_0000 + 0x100_0000
@@ -38,20 +38,20 @@ module _ (g q : ℕ) (l : 0x80_0000 ≤ q) (h : q < 0x100_0000) where
       inside : g * 0x80_0000 + q + 1 ≡ g * 0x80_0000 + (q + 1)
       inside = omega arith
 
-      go : (suc q ≡ 0x100_0000) ⊎ (suc q < 0x100_0000) → magnitude (g * 0x80_0000 + q + 1) ≡ (q + 1) * 2 ^ g
-      go (inl e) = ap magnitude (at-top e) ∙ at-next g ∙ ap (λ (x : ℕ). x * 2 ^ g) (is-top e)
-      go (inr k) = ap magnitude inside ∙ at g (q + 1) (omega arith) (omega arith)
+      go : (suc q ≡ 0x100_0000) ⊎ (suc q < 0x100_0000) → unitsOf (g * 0x80_0000 + q + 1) ≡ (q + 1) * 2 ^ g
+      go (inl e) = ap unitsOf (at-top e) ∙ at-next g ∙ ap (λ (x : ℕ). x * 2 ^ g) (is-top e)
+      go (inr k) = ap unitsOf inside ∙ at g (q + 1) (omega arith) (omega arith)
 
   -- the one below, at the same field
-  before : 0x80_0000 < q → magnitude (g * 0x80_0000 + q - 1) ≡ (q - 1) * 2 ^ g
-  before k = ap magnitude same ∙ at g (q - 1) (omega arith) (omega arith)
+  before : 0x80_0000 < q → unitsOf (g * 0x80_0000 + q - 1) ≡ (q - 1) * 2 ^ g
+  before k = ap unitsOf same ∙ at g (q - 1) (omega arith) (omega arith)
     where
       same : g * 0x80_0000 + q - 1 ≡ g * 0x80_0000 + (q - 1)
       same = omega arith
 
 -- the one below the first significand of a field
-before-first : (g : ℕ) → magnitude (suc g * 0x80_0000 + 0x80_0000 - 1) ≡ 0xff_ffff * 2 ^ g
-before-first g = ap magnitude (lower g) ∙ at g 0xff_ffff (omega arith) (omega arith)
+before-first : (g : ℕ) → unitsOf (suc g * 0x80_0000 + 0x80_0000 - 1) ≡ 0xff_ffff * 2 ^ g
+before-first g = ap unitsOf (lower g) ∙ at g 0xff_ffff (omega arith) (omega arith)
   where
     lower : (g : ℕ) → suc g * 0x80_0000 + 0x80_0000 - 1 ≡ g * 0x80_0000 + 0xff_ffff
     lower g = omega arith
@@ -59,11 +59,11 @@ before-first g = ap magnitude (lower g) ∙ at g 0xff_ffff (omega arith) (omega 
 -- ---- the root's pattern
 
 module _ (b n : ℕ) (low : 2 ^ 46 ≤ n) where
-  first : (g : ℕ) → n * square (2 ^ suc g) ≡ magnitude b * 2 ^ 149
-      → square (magnitude (suc g * 0x80_0000 + 0x80_0000 - 1) + magnitude (suc g * 0x80_0000 + 0x80_0000)) < 4 * (magnitude b * 2 ^ 149)
+  first : (g : ℕ) → n * square (2 ^ suc g) ≡ unitsOf b * 2 ^ 149
+      → square (unitsOf (suc g * 0x80_0000 + 0x80_0000 - 1) + unitsOf (suc g * 0x80_0000 + 0x80_0000)) < 4 * (unitsOf b * 2 ^ 149)
   first g e =
       lt-of-lt-of-le
-      (square-lt (magnitude (suc g * 0x80_0000 + 0x80_0000 - 1) + magnitude (suc g * 0x80_0000 + 0x80_0000)) (0x80_0000 * 2 ^ suc g + 0x80_0000 * 2 ^ suc g)
+      (square-lt (unitsOf (suc g * 0x80_0000 + 0x80_0000 - 1) + unitsOf (suc g * 0x80_0000 + 0x80_0000)) (0x80_0000 * 2 ^ suc g + 0x80_0000 * 2 ^ suc g)
       (rw (before-first g, at (suc g) 0x80_0000 (omega arith) (omega arith), pow-suc 2 g) (less (2 ^ g) (pow-pos g))))
       (le-trans (le-of-eq (even-square (0x80_0000 * 2 ^ suc g)))
       (mul-le-mul-left 4 (le-trans (le-of-eq (mul-mul-mul-comm 0x80_0000 (2 ^ suc g) 0x80_0000 (2 ^ suc g))) (le-trans (mul-le-mul-right (square (2 ^ suc g)) low) (le-of-eq e)))))
@@ -71,22 +71,22 @@ module _ (b n : ℕ) (low : 2 ^ 46 ≤ n) where
       less : (p : ℕ) → 0 < p → 0xff_ffff * p + 0x80_0000 * (p * 2) < 0x80_0000 * (p * 2) + 0x80_0000 * (p * 2)
       less p h = omega arith
 
-  pub assembled : (g q : ℕ) → suc g * 0x80_0000 + q < 0x7f80_0000 → n * square (2 ^ suc g) ≡ magnitude b * 2 ^ 149 → Near n q → RootOf b (suc g * 0x80_0000 + q)
+  pub assembled : (g q : ℕ) → suc g * 0x80_0000 + q < 0x7f80_0000 → n * square (2 ^ suc g) ≡ unitsOf b * 2 ^ 149 → Near n q → RootOf b (suc g * 0x80_0000 + q)
   assembled g q f e k = record {
     finite = f;
     above = above (eq-or-lt-of-le (k .low));
     under =
-        subst (λ (x : ℕ). 4 * (magnitude b * 2 ^ 149) < square x)
+        subst (λ (x : ℕ). 4 * (unitsOf b * 2 ^ 149) < square x)
         (add-mul q (q + 1) (2 ^ suc g) ∙ sym (ap₂ _+_ (at (suc g) q (k .low) (k .high)) (next (suc g) q (k .low) (k .high))))
-        (scaled-above (q + (q + 1)) n (2 ^ suc g) (magnitude b * 2 ^ 149) (pow-pos (suc g)) e (k .under));
+        (scaled-above (q + (q + 1)) n (2 ^ suc g) (unitsOf b * 2 ^ 149) (pow-pos (suc g)) e (k .under));
   }
     where
-      above : (0x80_0000 ≡ q) ⊎ (0x80_0000 < q) → square (magnitude (suc g * 0x80_0000 + q - 1) + magnitude (suc g * 0x80_0000 + q)) < 4 * (magnitude b * 2 ^ 149)
-      above (inl f) = subst (λ (x : ℕ). square (magnitude (suc g * 0x80_0000 + x - 1) + magnitude (suc g * 0x80_0000 + x)) < 4 * (magnitude b * 2 ^ 149)) f (first g e)
+      above : (0x80_0000 ≡ q) ⊎ (0x80_0000 < q) → square (unitsOf (suc g * 0x80_0000 + q - 1) + unitsOf (suc g * 0x80_0000 + q)) < 4 * (unitsOf b * 2 ^ 149)
+      above (inl f) = subst (λ (x : ℕ). square (unitsOf (suc g * 0x80_0000 + x - 1) + unitsOf (suc g * 0x80_0000 + x)) < 4 * (unitsOf b * 2 ^ 149)) f (first g e)
       above (inr f) =
-          subst (λ (x : ℕ). square x < 4 * (magnitude b * 2 ^ 149))
+          subst (λ (x : ℕ). square x < 4 * (unitsOf b * 2 ^ 149))
           (add-mul (q - 1) q (2 ^ suc g) ∙ sym (ap₂ _+_ (before (suc g) q (k .low) (k .high) f) (at (suc g) q (k .low) (k .high))))
-          (scaled (q - 1 + q) n (2 ^ suc g) (magnitude b * 2 ^ 149) (pow-pos (suc g)) e (k .above))
+          (scaled (q - 1 + q) n (2 ^ suc g) (unitsOf b * 2 ^ 149) (pow-pos (suc g)) e (k .above))
 
 -- the exponent is even once 23 or 24 of it went into n
 pub halved : (m e g d : ℕ) → d + (g + g) ≡ e → m * 2 ^ d * square (2 ^ g) ≡ m * 2 ^ e

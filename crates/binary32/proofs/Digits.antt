@@ -22,7 +22,7 @@ use Rattle.binary32.specs.declared.hex.Bits.the-variants.{Number, Broken
 use Rattle.binary32.specs.declared.hex.FloatRead.{FloatRead}
 use Rattle.binary32.specs.declared.hex.FloatRead.the-variants.{Float as Finite, Refused}
 use Rattle.binary32.specs.Ranges.{isFinite}
-use Rattle.binary32.specs.Hex.{pick, digitOf, digits, hexText, digitValue, readDigits, readBits, floatOf, floatOfBits, readFloat}
+use Rattle.binary32.specs.Hex.{digitOf, digits, hexText, digitValue, readDigits, readBits, floatOf, floatOfBits, readFloat}
 
 -- ---- one digit
 
@@ -92,7 +92,7 @@ one-left : (i : ℕ) → i < 8 → 8 - i ≡ suc (8 - (i + 1))
 one-left i h = omega arith
 
 turn : (text : List ℕ) (n i : ℕ) → i < 8 → i < length text
-    → readDigits (8 - i) n (drop i text) ≡ pick (eqb (digitValue (getD text i 0)) 16) Broken (readDigits (8 - (i + 1)) (n * 16 + digitValue (getD text i 0)) (drop (i + 1) text))
+    → readDigits (8 - i) n (drop i text) ≡ cond (eqb (digitValue (getD text i 0)) 16) Broken (readDigits (8 - (i + 1)) (n * 16 + digitValue (getD text i 0)) (drop (i + 1) text))
 unfolding readDigits
 turn text n i h l = rw (one-left i h, drop-cons text i 0 l, ← add-one i)
 

@@ -16,7 +16,7 @@ use lib.Ieee.{Float, nan, inf, fin, binary32, fits, ofBits, toBits}
 use lib.Ieee.Bits.{ofBits-toBits, ofBits-fits, toBits-lt}
 use lib.Ieee.Exact.{HasValue}
 use lib.Ieee.Fits.{nan-fits}
-use Rattle.binary32.specs.Sqrt.{magnitude, square, RootOf, Answers, climb, rooted, sqrtOrNan, valueOf}
+use Rattle.binary32.specs.Sqrt.{unitsOf, square, RootOf, Answers, climb, rooted, sqrtOrNan, valueOf}
 use Rattle.binary32.specs.Steps.{WholeRoot, Near, Normalized}
 use Rattle.binary32.proofs.Squares.{square-lt, rounded-down, rounded-up}
 use Rattle.binary32.proofs.Normalize.{normal, lifted, subnormal}
@@ -108,8 +108,8 @@ finite-pattern b s m e h = lt-of-not-le (λ (g : 0x7f80_0000 ≤ b % 0x8000_0000
 pub unsigned-pattern : (b m : ℕ) (e : ℤ) → ofBits binary32 b ≡ fin false m e → b < 0x8000_0000
 unsigned-pattern b m e h = lt-of-not-le (λ (g : 0x8000_0000 ≤ b). untrue (subst (λ (t : Bool). false ≡ t) (le-leb 0x8000_0000 b g) (signed .0)))
   where
-    signed : HasValue (fin false m e) (leb 0x8000_0000 b) (magnitude (b % 0x8000_0000)) (2 ^ 149)
-    signed = subst (λ (v : Float). HasValue v (leb 0x8000_0000 b) (magnitude (b % 0x8000_0000)) (2 ^ 149)) h (value b (finite-pattern b false m e h))
+    signed : HasValue (fin false m e) (leb 0x8000_0000 b) (unitsOf (b % 0x8000_0000)) (2 ^ 149)
+    signed = subst (λ (v : Float). HasValue v (leb 0x8000_0000 b) (unitsOf (b % 0x8000_0000)) (2 ^ 149)) h (value b (finite-pattern b false m e h))
 
     untrue : false ≡ true → ⊥
     untrue e = subst (λ (t : Bool). T (not t)) e tt
@@ -155,7 +155,7 @@ answered (fin false (suc m) e) f =
 pub unsigned-of : (r : ℕ) → r < 0x7f80_0000 → (m : ℕ) × (e : ℤ) × (ofBits binary32 r ≡ fin false m e)
 unsigned-of r h = go (ofBits binary32 r) (value r (omega arith))
   where
-    go : (v : Float) → HasValue v (leb 0x8000_0000 r) (magnitude (r % 0x8000_0000)) (2 ^ 149) → (m : ℕ) × (e : ℤ) × (v ≡ fin false m e)
+    go : (v : Float) → HasValue v (leb 0x8000_0000 r) (unitsOf (r % 0x8000_0000)) (2 ^ 149) → (m : ℕ) × (e : ℤ) × (v ≡ fin false m e)
     go nan v = absurd v
     go (inf s) v = absurd v
     go (fin s m e) v = (m, e, ap (λ (t : Bool). fin t m e) (v .0 ∙ lt-leb 0x8000_0000 r (omega arith)))

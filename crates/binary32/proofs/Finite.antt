@@ -8,7 +8,7 @@ use lib.Dec.{leb}
 use lib.IntN.{ℤ, pos}
 use lib.Ieee.{Float, nan, inf, fin, binary32, ofBits, ofInt, lt, le, eq}
 use lib.Ieee.Exact.{HasValue}
-use Rattle.binary32.specs.Sqrt.{magnitude}
+use Rattle.binary32.specs.Sqrt.{unitsOf}
 use Rattle.binary32.specs.Ranges.{isFinite, endsOf, between, inRange}
 use Rattle.binary32.specs.declared.ranges.Ends.{Ends}
 use Rattle.binary32.proofs.Patterns.{value, beyond}
@@ -35,7 +35,7 @@ pub finite-bits : (b : ℕ) → b % 0x8000_0000 < 0x7f80_0000 → isFinite (ofBi
 unfolding isFinite
 finite-bits b h = go (ofBits binary32 b) (value b h)
   where
-    go : (v : Float) → HasValue v (leb 0x8000_0000 b) (magnitude (b % 0x8000_0000)) (2 ^ 149) → isFinite v ≡ true
+    go : (v : Float) → HasValue v (leb 0x8000_0000 b) (unitsOf (b % 0x8000_0000)) (2 ^ 149) → isFinite v ≡ true
     go nan w = absurd w
     go (inf s) w = absurd w
     go (fin s m e) w = refl

@@ -14,7 +14,7 @@ use lib.Ieee.Bits.{ofBits-toBits}
 use lib.Ieee.Exact.{HasValue}
 use lib.Ieee.Fits.{up-pos, down-pos}
 use lib.Ieee.Order.{transfer}
-use Rattle.binary32.specs.Sqrt.{magnitude, climb, rooted, sqrtOrNan}
+use Rattle.binary32.specs.Sqrt.{unitsOf, climb, rooted, sqrtOrNan}
 use Rattle.binary32.proofs.Patterns.{value}
 use Rattle.binary32.proofs.Unique.{mono, in-order}
 use Rattle.binary32.proofs.Exists.{positive-pattern, climbed, sqrt-unsigned}
@@ -42,10 +42,10 @@ numbers m e n d a b c C v w h =
     C
 
 -- a pattern below the infinity's, as an unsigned value
-number : (b : ℕ) → b < 0x7f80_0000 → HasValue (ofBits binary32 b) false (magnitude b) (2 ^ 149)
+number : (b : ℕ) → b < 0x7f80_0000 → HasValue (ofBits binary32 b) false (unitsOf b) (2 ^ 149)
 number b h =
-    subst (λ (k : ℕ). HasValue (ofBits binary32 b) false (magnitude k) (2 ^ 149)) same
-    (subst (λ (s : Bool). HasValue (ofBits binary32 b) s (magnitude (b % 0x8000_0000)) (2 ^ 149)) (lt-leb 0x8000_0000 b (omega arith)) (value b (omega arith)))
+    subst (λ (k : ℕ). HasValue (ofBits binary32 b) false (unitsOf k) (2 ^ 149)) same
+    (subst (λ (s : Bool). HasValue (ofBits binary32 b) s (unitsOf (b % 0x8000_0000)) (2 ^ 149)) (lt-leb 0x8000_0000 b (omega arith)) (value b (omega arith)))
   where
     same : b % 0x8000_0000 ≡ b
     same = omega arith
@@ -60,14 +60,14 @@ positive m e n d f g h =
     let c = toBits binary32 (fin false (suc n) d) in
     let p = positive-pattern m e f in
     let q = positive-pattern n d g in
-    let v = subst (λ (x : Float). HasValue x false (magnitude b) (2 ^ 149)) (ofBits-toBits binary32 (fin false (suc m) e) f) (number b (p .1)) in
-    let w = subst (λ (x : Float). HasValue x false (magnitude c) (2 ^ 149)) (ofBits-toBits binary32 (fin false (suc n) d) g) (number c (q .1)) in
+    let v = subst (λ (x : Float). HasValue x false (unitsOf b) (2 ^ 149)) (ofBits-toBits binary32 (fin false (suc m) e) f) (number b (p .1)) in
+    let w = subst (λ (x : Float). HasValue x false (unitsOf c) (2 ^ 149)) (ofBits-toBits binary32 (fin false (suc n) d) g) (number c (q .1)) in
     let r = climbed b (p .0) (p .1) in
     let s = climbed c (q .0) (q .1) in
-    not-below (ofBits binary32 (climb b 31 0)) (ofBits binary32 (climb c 31 0)) (magnitude (climb b 31 0)) (magnitude (climb c 31 0)) (2 ^ 149) (pow-pos 149)
+    not-below (ofBits binary32 (climb b 31 0)) (ofBits binary32 (climb c 31 0)) (unitsOf (climb b 31 0)) (unitsOf (climb c 31 0)) (2 ^ 149) (pow-pos 149)
     (number (climb b 31 0) (r .finite)) (number (climb c 31 0) (s .finite))
     (mono (climb b 31 0) (climb c 31 0)
-    (in-order b c (climb b 31 0) (climb c 31 0) (numbers (suc m) e (suc n) d (magnitude b) (magnitude c) (2 ^ 149) (pow-pos 149) (v .1) (w .1) h) r s))
+    (in-order b c (climb b 31 0) (climb c 31 0) (numbers (suc m) e (suc n) d (unitsOf b) (unitsOf c) (2 ^ 149) (pow-pos 149) (v .1) (w .1) h) r s))
 
 -- ---- the zeros
 

@@ -6,7 +6,7 @@ use native.Mathlib.Omega.{arith}
 use lib.Dec.{lit<}
 use lib.Count.{leadingZeros, leading-top}
 use lib.Pow.{pow-add, pow-pos, pow-mono}
-use Rattle.binary32.specs.Sqrt.{magnitude}
+use Rattle.binary32.specs.Sqrt.{unitsOf}
 use Rattle.binary32.specs.Steps.{Normalized}
 use Rattle.binary32.proofs.Magnitude.{large, small}
 

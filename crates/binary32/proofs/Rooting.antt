@@ -11,27 +11,27 @@ use lib.Dec.{ltb}
 use lib.Ieee.{Float, nan, inf, fin, binary32, ofBits, toBits}
 use Rattle.binary32.specs.declared.root.Rooted.{Rooted}
 use Rattle.binary32.specs.declared.root.Rooted.the-variants.{Root, Refused}
-use Rattle.binary32.specs.Sqrt.{square, magnitude, RootOf, Answers, reaches, climb, rooted}
+use Rattle.binary32.specs.Sqrt.{square, unitsOf, RootOf, Answers, reaches, climb, rooted}
 use Rattle.binary32.proofs.Unique.{mono}
 
 -- the midpoints go up with the patterns
-midpoints : (r s : ℕ) → r ≤ s → square (magnitude (r - 1) + magnitude r) ≤ square (magnitude (s - 1) + magnitude s)
+midpoints : (r s : ℕ) → r ≤ s → square (unitsOf (r - 1) + unitsOf r) ≤ square (unitsOf (s - 1) + unitsOf s)
 midpoints r s h = mul-le-mul between between
   where
-    between : magnitude (r - 1) + magnitude r ≤ magnitude (s - 1) + magnitude s
+    between : unitsOf (r - 1) + unitsOf r ≤ unitsOf (s - 1) + unitsOf s
     between = add-le-add (mono (r - 1) (s - 1) (omega arith)) (mono r s h)
 
 module _ (b r : ℕ) (k : RootOf b r) where
   low-reaches : (t : ℕ) → t ≤ r → reaches b t ≡ true
   unfolding reaches
-  low-reaches t h = lt-ltb (square (magnitude (t - 1) + magnitude t)) (4 * (magnitude b * 2 ^ 149)) (lt-of-le-of-lt (midpoints t r h) (k .above))
+  low-reaches t h = lt-ltb (square (unitsOf (t - 1) + unitsOf t)) (4 * (unitsOf b * 2 ^ 149)) (lt-of-le-of-lt (midpoints t r h) (k .above))
 
   high-fails : (t : ℕ) → r < t → reaches b t ≡ false
   unfolding reaches
   high-fails t h =
-      le-ltb (square (magnitude (t - 1) + magnitude t)) (4 * (magnitude b * 2 ^ 149))
+      le-ltb (square (unitsOf (t - 1) + unitsOf t)) (4 * (unitsOf b * 2 ^ 149))
       (le-of-lt (lt-of-lt-of-le (k .under)
-      (subst (λ (n : ℕ). square (magnitude n + magnitude (r + 1)) ≤ square (magnitude (t - 1) + magnitude t)) same (midpoints (r + 1) t (omega arith)))))
+      (subst (λ (n : ℕ). square (unitsOf n + unitsOf (r + 1)) ≤ square (unitsOf (t - 1) + unitsOf t)) same (midpoints (r + 1) t (omega arith)))))
     where
       same : r + 1 - 1 ≡ r
       same = omega arith

@@ -13,10 +13,6 @@ use Rattle.binary32.specs.declared.hex.FloatRead.{FloatRead}
 use Rattle.binary32.specs.declared.hex.FloatRead.the-variants.{Float as Finite, Refused}
 use Rattle.binary32.specs.Ranges.{isFinite}
 
-abbrev pub pick {ℓ} : {A : Type ℓ} → Bool → A → A → A
-pick true a b = a
-pick false a b = b
-
 -- the digits of the numbers below 16: 0 to 9 from byte 48 on, a to f from byte 97 on
 abbrev pub digitOf : ℕ → ℕ
 digitOf n = cond (ltb n 10) (48 + n) (87 + n)
@@ -40,14 +36,14 @@ digitValue b = cond (leb 48 b && leb b 57) (b - 48) (cond (leb 97 b && leb b 102
 unfoldable pub readDigits : ℕ → ℕ → List ℕ → Bits
 readDigits zero n text = Number n
 readDigits (suc k) n [] = Broken
-readDigits (suc k) n (b ∷ text) = pick (eqb (digitValue b) 16) Broken (readDigits k (n * 16 + digitValue b) text)
+readDigits (suc k) n (b ∷ text) = cond (eqb (digitValue b) 16) Broken (readDigits k (n * 16 + digitValue b) text)
 
 abbrev pub readBits : List ℕ → Bits
 readBits text = readDigits 8 0 text
 
 -- a pattern's float, if it is finite: else number 3
 unfoldable pub floatOf : ℕ → FloatRead
-floatOf bits = pick (isFinite (ofBits binary32 bits)) (Finite (ofBits binary32 bits)) (Refused OutOfRange)
+floatOf bits = cond (isFinite (ofBits binary32 bits)) (Finite (ofBits binary32 bits)) (Refused OutOfRange)
 
 -- what is no eight digits is ill-formed: number 1
 unfoldable pub floatOfBits : Bits → FloatRead

@@ -2,3 +2,4 @@ pub mod Sqrt
 pub mod Steps
 pub mod Ranges
 pub mod Hex
+pub mod Numbers

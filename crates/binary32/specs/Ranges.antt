@@ -1,16 +1,21 @@
 -- The ranges of document 01, "Frame and result", by value: -0 counts as 0, and what is not finite lies in none. Definitions only.
 use mathlib.Core.Bool.{Bool, true, false, _&&_}
+use mathlib.Core.List.{List, [], _∷_}
 use Prim.Native.Nat.{ℕ}
 use lib.IntN.{ℤ, pos, negsuc, negℤ}
-use lib.Ieee.{Float, nan, inf, fin, binary32, ofInt, le}
+use lib.Ieee.{Float, fin, binary32, ofInt, le}
+use lib.Ieee.Scale.{finite}
 use Rattle.binary32.specs.declared.ranges.Ends.{Ends}
 use Rattle.binary32.specs.declared.ranges.Quantity.{Quantity}
 use Rattle.binary32.specs.declared.ranges.Quantity.the-variants.{Position, Pitch, CellSize, AxisPart, Band, Multiple, Factor}
 
+-- neither a NaN nor an infinity, and the same of each value of a list
 unfoldable pub isFinite : Float → Bool
-isFinite nan = false
-isFinite (inf s) = false
-isFinite (fin s m e) = true
+isFinite x = finite x
+
+unfoldable pub allFinite : List Float → Bool
+allFinite [] = true
+allFinite (x ∷ xs) = isFinite x && allFinite xs
 
 -- the range from 0 to n, and that from -n to n
 abbrev pub upTo : ℕ → Ends

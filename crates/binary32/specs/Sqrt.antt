@@ -13,8 +13,8 @@ use Rattle.binary32.specs.declared.root.Rooted.the-variants.{Root, Refus
 
 -- The number that a pattern below the infinity's stands for, in units of 2 ^ -149, the smallest above zero:
 -- 23 digits, with a 1 before them unless the exponent's field is 0, times two to the field less one.
-unfoldable pub magnitude : ℕ → ℕ
-magnitude b = (cond (ltb b 0x80_0000) 0 0x80_0000 + b % 0x80_0000) * 2 ^ (b / 0x80_0000 - 1)
+unfoldable pub unitsOf : ℕ → ℕ
+unitsOf b = (cond (ltb b 0x80_0000) 0 0x80_0000 + b % 0x80_0000) * 2 ^ (b / 0x80_0000 - 1)
 
 abbrev pub square : ℕ → ℕ
 square n = n * n
@@ -24,8 +24,8 @@ square n = n * n
 -- Both sides are strict: no midpoint's square is a binary32 number, so there is never a tie to break.
 pub record RootOf (b r : ℕ) : Type 0 where
   pub finite : r < 0x7f80_0000
-  pub above : square (magnitude (r - 1) + magnitude r) < 4 * (magnitude b * 2 ^ 149)
-  pub under : 4 * (magnitude b * 2 ^ 149) < square (magnitude r + magnitude (r + 1))
+  pub above : square (unitsOf (r - 1) + unitsOf r) < 4 * (unitsOf b * 2 ^ 149)
+  pub under : 4 * (unitsOf b * 2 ^ 149) < square (unitsOf r + unitsOf (r + 1))
 
 -- What is answered at x: any non-negative finite float gets its root, either zero itself, and any other gets number 3.
 unfoldable pub Answers : Float → Rooted → Type 0
@@ -39,7 +39,7 @@ Answers (fin false (suc m) e) a = (r : ℕ) × (a ≡ Root (ofBits binary32 r)) 
 
 -- r's lower midpoint is below the root of b
 unfoldable pub reaches : ℕ → ℕ → Bool
-reaches b r = ltb (square (magnitude (r - 1) + magnitude r)) (4 * (magnitude b * 2 ^ 149))
+reaches b r = ltb (square (unitsOf (r - 1) + unitsOf r)) (4 * (unitsOf b * 2 ^ 149))
 
 -- the last pattern that reaches, from r up and below r + 2 ^ k
 unfoldable pub climb : ℕ → ℕ → ℕ → ℕ

@@ -8,7 +8,7 @@ use lib.Dec.{T, eqb, ltb}
 use lib.ListN.{length, getD}
 use lib.Ieee.{Float, binary32, fits, ofBits, add, sub, mul, lt}
 use lib.Ieee.Fits.{add-fits}
-use Rattle.binary32.specs.Ranges.{isFinite}
+use Rattle.binary32.specs.Ranges.{isFinite, allFinite}
 use Rattle.binary32.specs.Sqrt.{sqrtOrNan}
 use Rattle.binary32.proofs.Exists.{sqrt-fits}
 use Rattle.homography.specs.Fit.{Answer, NoFit, Entries, homographyOf}
@@ -27,8 +27,8 @@ use Rattle.extension_common.specs.declared.TryCellResult.{TryCellResult}
 use Rattle.passes.specs.declared.Counts.{Counts}
 use Rattle.passes.specs.declared.LargestResidual.{LargestResidual}
 use Rattle.passes.specs.Grow.{noCounts, growRun, growAfter}
-use Rattle.passes.specs.Fill.{FillState, fillRound, FillRounds, fillFrom, limitOf, fillRun, fillAfter}
-use Rattle.passes.specs.Local.{depthOf, localCells, supportsOf, cellPoint, picturedAt, residualOf, residualsOf, allFinite, LocalFit, none, fitted, trusted, localFit, LocalState, recorded, recordedAll, worst, withResiduals, gateOf, localWith, localAt, localVisit, localAll, localRound, LocalRounds, localFrom, localLimit, localRun, localAfter}
+use Rattle.passes.specs.Fill.{FillState, fillRound, FillRounds, fillFrom, fillLimit, fillRun, fillAfter}
+use Rattle.passes.specs.Local.{depthOf, localCells, supportsOf, cellPoint, picturedAt, residualOf, residualsOf, LocalFit, none, fitted, trusted, localFit, LocalState, recorded, recordedAll, worst, withResiduals, gateOf, localWith, localAt, localVisit, localAll, localRound, LocalRounds, localFrom, localLimit, localRun, localAfter}
 use Rattle.passes.specs.Step.{CornerLists, lentOf}
 use Rattle.passes.specs.Run.{PassCall, grow, fill, local, Call, PassStats}
 use Rattle.invariants.specs.Calls.{passOf, afterPass, afterCall, attachedCount}
@@ -145,8 +145,8 @@ module _ (cs : Corners) (set : Settings) (p : LocalExtensionParams) where
 few-counts : (m n : ℕ) (c : Counts) → total c ≤ n → n ≤ m → FewCounts m c
 few-counts m n c t l = record { attached = omega (arith, t, l); no-candidate = omega (arith, t, l); ambiguous = omega (arith, t, l); edge = omega (arith, t, l) }
 
-limit-few : (n limit : ℕ) → limit ≤ 64 → limitOf n limit ≤ 64
-unfolding limitOf
+limit-few : (n limit : ℕ) → limit ≤ 64 → fillLimit n limit ≤ 64
+unfolding fillLimit
 limit-few zero limit l = omega arith
 limit-few (suc n) limit l = omega arith
 
@@ -173,7 +173,7 @@ small l sheet c w = go (c .pass) (w .pass-inside) (let r = call-ran l sheet c w 
     go (grow p) i a = small-grow {s = growAfter cs set p sheet .answer} (few-counts 1048576 (4 * cs .count) _ (grow-counts cs set p sheet) (omega (arith, w .few)))
     go (fill p) i a =
         let first : FillRounds = record { state = record { sheet = sheet; made = [] }; rounds = 0 } in
-        let m = limitOf (labelCount sheet) (p .«max_iters») in
+        let m = fillLimit (labelCount sheet) (p .«max_iters») in
         small-fill {s = fillAfter cs set p sheet .answer} (omega (arith, a)) (omega (arith, fill-from cs set p m first, limit-few (labelCount sheet) (p .«max_iters») (i .rounds)))
     go (local p) i a =
         let first : LocalRounds = record { state = record { sheet = sheet; made = []; counts = noCounts; largest = LargestResidual.Nothing }; rounds = 0 } in

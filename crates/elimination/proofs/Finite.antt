@@ -8,8 +8,8 @@ use native.Mathlib.Omega.{arith}
 use lib.Dec.{eqb}
 use lib.ListN.{length, getD}
 use lib.Ieee.{Float, Format, nan, inf, fin, add, mul, div, unlike}
-use Rattle.binary32.specs.Ranges.{isFinite}
-use Rattle.elimination.specs.Tables.{table, gathered, every, allFinite}
+use Rattle.binary32.specs.Ranges.{isFinite, allFinite}
+use Rattle.elimination.specs.Tables.{table, concatenated, every}
 use Rattle.elimination.proofs.Tables.{both, same, every-true, every-at}
 
 -- ---- sums, products, quotients
@@ -81,15 +81,15 @@ joined xs ys e f = append-finite xs ys ∙ rw (e, f)
 pub apart : (xs ys : List Float) → allFinite (xs ++ ys) ≡ true → (allFinite xs ≡ true) × (allFinite ys ≡ true)
 apart xs ys e = both (allFinite xs) (allFinite ys) (sym (append-finite xs ys) ∙ e)
 
-pub gathered-finite : (n : ℕ) (f : ℕ → List Float) → allFinite (gathered n f) ≡ every n (λ i. allFinite (f i))
-unfolding gathered allFinite every
+pub gathered-finite : (n : ℕ) (f : ℕ → List Float) → allFinite (concatenated n f) ≡ every n (λ i. allFinite (f i))
+unfolding concatenated allFinite every
 gathered-finite zero f = refl
-gathered-finite (suc n) f = append-finite (gathered n f) (f n) ∙ rw (gathered-finite n f)
+gathered-finite (suc n) f = append-finite (concatenated n f) (f n) ∙ rw (gathered-finite n f)
 
-pub gathered-at : (n : ℕ) (f : ℕ → List Float) → allFinite (gathered n f) ≡ true → (i : ℕ) → i < n → allFinite (f i) ≡ true
+pub gathered-at : (n : ℕ) (f : ℕ → List Float) → allFinite (concatenated n f) ≡ true → (i : ℕ) → i < n → allFinite (f i) ≡ true
 gathered-at n f e = every-at n (λ i. allFinite (f i)) (sym (gathered-finite n f) ∙ e)
 
-pub gathered-true : (n : ℕ) (f : ℕ → List Float) → ((i : ℕ) → i < n → allFinite (f i) ≡ true) → allFinite (gathered n f) ≡ true
+pub gathered-true : (n : ℕ) (f : ℕ → List Float) → ((i : ℕ) → i < n → allFinite (f i) ≡ true) → allFinite (concatenated n f) ≡ true
 gathered-true n f h = gathered-finite n f ∙ every-true n (λ i. allFinite (f i)) h
 
 -- of a list that counts only under a test

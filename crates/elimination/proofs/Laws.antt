@@ -9,9 +9,10 @@ use borrow.Author.Tests.{not-true}
 use mathlib.Core.List.{List}
 use lib.Ieee.{Float, nan, inf, fin, neg, lt, eq, isNan}
 use Rattle.float_order.proofs.Order.{lt-asym, lt-irrefl, not-lt-trans}
-use Rattle.binary32.specs.Ranges.{isFinite}
-use Rattle.elimination.specs.Rounded.{nought, magnitude}
-use Rattle.elimination.specs.Tables.{gathered, every, allFinite}
+use Rattle.binary32.specs.Ranges.{isFinite, allFinite}
+use Rattle.binary32.specs.Numbers.{nought}
+use Rattle.elimination.specs.Rounded.{magnitude}
+use Rattle.elimination.specs.Tables.{concatenated, every}
 use Rattle.elimination.specs.Solve.{Matrix, row, entry, values, largest, pivoted, eliminated, pivotOf, noZeroPivot, columnSteps, eliminationSteps, answerSteps, solveSteps, soundOf}
 use Rattle.elimination.proofs.Tables.{both, every-at}
 use Rattle.elimination.proofs.Finite.{apart, gathered-at, gathered-true}
@@ -97,5 +98,5 @@ module _ (m : Matrix) (e : soundOf m ≡ true) where
   unfolding solveSteps eliminationSteps
   sound-first k h =
       let f : ℕ → List Float = λ k. columnSteps (pivoted (eliminated k m) k) k in
-      let s = apart (gathered 8 f) (answerSteps 8 (eliminated 8 m)) sound-steps .0 in
+      let s = apart (concatenated 8 f) (answerSteps 8 (eliminated 8 m)) sound-steps .0 in
       pivot-first (eliminated k m) k (columns-after k m (omega arith) (matrix-at m (sym (values-finite m) ∙ sound-values)) (gathered-true k f (λ i l. gathered-at 8 f s i (omega arith)))) h

@@ -10,9 +10,10 @@ use borrow.Author.Tests.{eq-eqb, ne-eqb, lt-ltb, le-ltb, ltb-true}
 use lib.Dec.{eqb, ltb}
 use lib.ListN.{getD}
 use lib.Ieee.{Float, nan, binary32, neg, lt, eq}
-use Rattle.binary32.specs.Ranges.{isFinite}
-use Rattle.elimination.specs.Rounded.{_⊗_, nought, one, magnitude}
-use Rattle.elimination.specs.Tables.{table, gathered, every, allFinite}
+use Rattle.binary32.specs.Ranges.{isFinite, allFinite}
+use Rattle.binary32.specs.Numbers.{nought, one}
+use Rattle.elimination.specs.Rounded.{_⊗_, magnitude}
+use Rattle.elimination.specs.Tables.{table, concatenated, every}
 use Rattle.elimination.specs.Solve.{Row, Matrix, row, entry, values, largest, swapped, pivoted, reciprocal, multiplier, gain, gained, cleared, eliminated, pivotOf, noZeroPivot, gainSteps, lowerSteps, columnSteps, eliminationSteps, rightSides, answer, carry, carried, answered, carrySteps, answerSteps, solveSteps, answersOf, soundOf, solved, nonzeroDiagonal, finiteMatrix, finiteAnswers}
 use Rattle.elimination.proofs.Tables.{getD-table, both, same, every-true, every-at, every-same}
 use Rattle.elimination.proofs.Finite.{add-finite, mul-finite, div-finite, one-finite, none-finite, parts-finite, append-finite, gathered-finite, gathered-at, gathered-true, where-true, table-finite}
@@ -157,11 +158,11 @@ pub pivot-below : (m : Matrix) (k : ℕ) → k < 8 → largest m k (7 - k) < 8
 pivot-below m k h = omega (arith, largest-range m k (7 - k) .1)
 
 steps-suc : (n : ℕ) (a : Matrix) → allFinite (eliminationSteps (suc n) a) ≡ (allFinite (eliminationSteps n a) && allFinite (columnSteps (pivoted (eliminated n a) n) n))
-unfolding eliminationSteps gathered
-steps-suc n a = append-finite (gathered n (λ k. columnSteps (pivoted (eliminated k a) k) k)) (columnSteps (pivoted (eliminated n a) n) n)
+unfolding eliminationSteps concatenated
+steps-suc n a = append-finite (concatenated n (λ k. columnSteps (pivoted (eliminated k a) k) k)) (columnSteps (pivoted (eliminated n a) n) n)
 
 steps-none : (a : Matrix) → allFinite (eliminationSteps 0 a) ≡ true
-unfolding eliminationSteps gathered
+unfolding eliminationSteps concatenated
 steps-none a = none-finite
 
 pub columns-before : (n : ℕ) (a : Matrix) → n ≤ 8 → FiniteMatrix (eliminated n a) → FiniteMatrix a × (allFinite (eliminationSteps n a) ≡ true)
@@ -235,7 +236,7 @@ module _ (m : Matrix) (b : Row) (k : ℕ) where
   unfolding carrySteps
   sides-after f e i a = ap isFinite (carried-at i a) ∙ go (eqb i k) (ltb i k) refl
     where
-      w : (isFinite (answer m b k) ≡ true) × (allFinite (gathered k (λ i. neg (answer m b k) ⊗ entry m i k ∷ carry (getD b i nan) (answer m b k) (entry m i k) ∷ [])) ≡ true)
+      w : (isFinite (answer m b k) ≡ true) × (allFinite (concatenated k (λ i. neg (answer m b k) ⊗ entry m i k ∷ carry (getD b i nan) (answer m b k) (entry m i k) ∷ [])) ≡ true)
       w = parts-finite (answer m b k) _ e
 
       go : (s t : Bool) → ltb i k ≡ t → isFinite (sideAt s t i) ≡ true
@@ -248,11 +249,11 @@ unfolding rightSides
 rights-finite m f i h = ap isFinite (getD-table 8 (λ i. entry m i 8) i nan h) ∙ f i 8 h (omega arith)
 
 answers-suc : (n : ℕ) (m : Matrix) → allFinite (answerSteps (suc n) m) ≡ (allFinite (answerSteps n m) && allFinite (carrySteps m (answered n m) (7 - n)))
-unfolding answerSteps gathered
-answers-suc n m = append-finite (gathered n (λ k. carrySteps m (answered k m) (7 - k))) (carrySteps m (answered n m) (7 - n))
+unfolding answerSteps concatenated
+answers-suc n m = append-finite (concatenated n (λ k. carrySteps m (answered k m) (7 - k))) (carrySteps m (answered n m) (7 - n))
 
 answers-none : (m : Matrix) → allFinite (answerSteps 0 m) ≡ true
-unfolding answerSteps gathered
+unfolding answerSteps concatenated
 answers-none m = none-finite
 
 pub answers-before : (n : ℕ) (m : Matrix) → n ≤ 8 → FiniteRow (answered n m) → allFinite (answerSteps n m) ≡ true

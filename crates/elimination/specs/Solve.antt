@@ -6,9 +6,10 @@ use Prim.Native.Nat.{ℕ, zero, suc, _+_, _-_}
 use lib.ListN.{getD}
 use lib.Dec.{eqb, ltb}
 use lib.Ieee.{Float, nan, neg, lt, eq}
-use Rattle.binary32.specs.Ranges.{isFinite}
-use Rattle.elimination.specs.Rounded.{_⊕_, _⊗_, _⊘_, nought, one, magnitude}
-use Rattle.elimination.specs.Tables.{table, gathered, every, allFinite}
+use Rattle.binary32.specs.Ranges.{isFinite, allFinite}
+use Rattle.binary32.specs.Numbers.{nought, one}
+use Rattle.elimination.specs.Rounded.{_⊕_, _⊗_, _⊘_, magnitude}
+use Rattle.elimination.specs.Tables.{table, concatenated, every}
 use Rattle.elimination.specs.declared.Solution.{Solution}
 
 -- an equation: eight coefficients, and the right side in column 8
@@ -27,7 +28,7 @@ entry m i j = getD (row m i) j nan
 
 -- all its values
 abbrev pub values : Matrix → List Float
-values m = gathered 8 (λ i. table 9 (entry m i))
+values m = concatenated 8 (λ i. table 9 (entry m i))
 
 -- ---- elimination, column by column
 
@@ -87,15 +88,15 @@ gainSteps m k i j = multiplier m k i ⊗ neg (entry m k j) ∷ gain (entry m i j
 
 -- at a lower row i: the pivot's reciprocal, the multiplier, and the gain of each column right of the pivot
 abbrev pub lowerSteps : Matrix → ℕ → ℕ → List Float
-lowerSteps m k i = reciprocal m k ∷ multiplier m k i ∷ gathered 9 (λ j. cond (ltb k j) (gainSteps m k i j) [])
+lowerSteps m k i = reciprocal m k ∷ multiplier m k i ∷ concatenated 9 (λ j. cond (ltb k j) (gainSteps m k i j) [])
 
 -- at column k: there is no lower row in the last, so its pivot's reciprocal is no step
 unfoldable pub columnSteps : Matrix → ℕ → List Float
-columnSteps m k = gathered 8 (λ i. cond (ltb k i) (lowerSteps m k i) [])
+columnSteps m k = concatenated 8 (λ i. cond (ltb k i) (lowerSteps m k i) [])
 
 -- of the first n columns
 unfoldable pub eliminationSteps : ℕ → Matrix → List Float
-eliminationSteps n m = gathered n (λ k. columnSteps (pivoted (eliminated k m) k) k)
+eliminationSteps n m = concatenated n (λ k. columnSteps (pivoted (eliminated k m) k) k)
 
 -- ---- back substitution, from the last row to the first
 
@@ -124,11 +125,11 @@ answered (suc n) m = carried m (answered n m) (7 - n)
 -- the values of the steps at answer k: the answer, and for each right side above the product and the sum
 unfoldable pub carrySteps : Matrix → Row → ℕ → List Float
 carrySteps m b k =
-    answer m b k ∷ gathered k (λ i. neg (answer m b k) ⊗ entry m i k ∷ carry (getD b i nan) (answer m b k) (entry m i k) ∷ [])
+    answer m b k ∷ concatenated k (λ i. neg (answer m b k) ⊗ entry m i k ∷ carry (getD b i nan) (answer m b k) (entry m i k) ∷ [])
 
 -- of the last n answers
 unfoldable pub answerSteps : ℕ → Matrix → List Float
-answerSteps n m = gathered n (λ k. carrySteps m (answered k m) (7 - k))
+answerSteps n m = concatenated n (λ k. carrySteps m (answered k m) (7 - k))
 
 -- ---- both
 

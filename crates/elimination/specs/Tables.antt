@@ -11,16 +11,11 @@ table zero f = []
 table (suc n) f = f zero ∷ table n (λ k. f (suc k))
 
 -- n lists, one after the other: f 0, f 1, ..
-unfoldable pub gathered {ℓ} : {A : Type ℓ} → ℕ → (ℕ → List A) → List A
-gathered zero f = []
-gathered (suc n) f = gathered n f ++ f n
+unfoldable pub concatenated {ℓ} : {A : Type ℓ} → ℕ → (ℕ → List A) → List A
+concatenated zero f = []
+concatenated (suc n) f = concatenated n f ++ f n
 
 -- whether each number below n passes
 unfoldable pub every : ℕ → (ℕ → Bool) → Bool
 every zero p = true
 every (suc n) p = every n p && p n
-
--- whether each value of a list is finite
-unfoldable pub allFinite : List Float → Bool
-allFinite [] = true
-allFinite (x ∷ xs) = isFinite x && allFinite xs

@@ -20,7 +20,7 @@ use Rattle.arguments.specs.declared.FillParams.{FillParams}
 use Rattle.arguments.proofs.Laws.{accepted}
 use Rattle.extension_common.specs.TryCell.{Corners, cornersOf}
 use Rattle.passes.specs.Outcome.{done}
-use Rattle.passes.specs.Fill.{FillState, FillRounds, fillRound, fillFrom, limitOf, fillRun, fillAfter}
+use Rattle.passes.specs.Fill.{FillState, FillRounds, fillRound, fillFrom, fillLimit, fillRun, fillAfter}
 use Rattle.passes.specs.Step.{FillOut, fillStep, fillOut, fillLeaves}
 use Rattle.passes.specs.declared.FillAnswer.{FillAnswer}
 use Rattle.fill.specs.Filling.{stateOf, Filling, Left, startOf, RoundsLeft}
@@ -50,20 +50,20 @@ module _ (cs : Corners) (set : Settings) (p : FillParams) where
     from-more e = rw (ne-eqb _ _ e)
 
 -- the limit, by its cases
-pub limit-none : (labels limit : ℕ) → labels ≡ 0 → 0 ≡ limitOf labels limit
-unfolding limitOf
+pub limit-none : (labels limit : ℕ) → labels ≡ 0 → 0 ≡ fillLimit labels limit
+unfolding fillLimit
 limit-none labels limit e = rw e
 
 module _ (labels limit : ℕ) (some : labels ≡ 0 → ⊥) where
   more : labels ≡ suc (labels - 1)
   more = omega arith
 
-  pub limit-one : limit ≡ 0 → 1 ≡ limitOf labels limit
-  unfolding limitOf
+  pub limit-one : limit ≡ 0 → 1 ≡ fillLimit labels limit
+  unfolding fillLimit
   limit-one e = rw (more, e)
 
-  pub limit-own : (limit ≡ 0 → ⊥) → limit ≡ limitOf labels limit
-  unfolding limitOf
+  pub limit-own : (limit ≡ 0 → ⊥) → limit ≡ fillLimit labels limit
+  unfolding fillLimit
   limit-own e = rw more (omega arith)
 
 -- ---- the loop over the rounds
@@ -131,7 +131,7 @@ module _ (xs ys pitches : List Float) (sheet list : List ℕ) (set : Settings) (
   accepted-filling used a t = record { given = a .given; few = a .few; one-cell = a .one-cell; tied = t; list-long = a .attached-long; room = omega arith }
 
   -- all rounds done
-  pub pass-done : (limit : ℕ) (sheet' list' used' : List ℕ) (progress : FillProgress) (edge : Bool) → limit ≡ limitOf (labelCount sheet) (p .«max_iters») → edge ≡ rim 1 sheet'
+  pub pass-done : (limit : ℕ) (sheet' list' used' : List ℕ) (progress : FillProgress) (edge : Bool) → limit ≡ fillLimit (labelCount sheet) (p .«max_iters») → edge ≡ rim 1 sheet'
       → RoundsLeft (fillFrom (cornersOf xs ys pitches) set p limit (startOf sheet list)) xs ys pitches list sheet' list' used' progress
       → fillOut (FillAnswer.Done (record { added = progress .made; iterations = progress .rounds; rim = edge })) sheet' list'
       ≡ fillLeaves (done (fillAfter (cornersOf xs ys pitches) set p sheet)) sheet list

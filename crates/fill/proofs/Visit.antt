@@ -29,7 +29,7 @@ use Rattle.passes.specs.Grow.{tolerancesOf}
 use Rattle.passes.specs.Fill.{FillState, fillSearch, fillWith, fillAt, fillVisit}
 use Rattle.passes.proofs.Over.{over-own, over-more}
 use Rattle.passes.proofs.Free.{labels-few, labels-fewer}
-use Rattle.fill.specs.Filling.{stateOf, Filling, Holds, Left, Taking, Wrote}
+use Rattle.fill.specs.Filling.{stateOf, Filling, StateHeld, Left, Taking, Wrote}
 
 -- ---- what a visit does: nothing, or it attaches a corner that may be attached
 
@@ -89,7 +89,7 @@ module _ {xs ys pitches : List Float} {sheet list used : List ℕ} {made : ℕ} 
   made-in = omega (arith, made-few, f .list-long)
 
   -- nothing written
-  pub stands : Holds (stateOf sheet list made) list sheet list made
+  pub stands : StateHeld (stateOf sheet list made) list sheet list made
   stands = record { sheet-is = refl; list-is = sym (over-own list made made-in); made-is = sym (length-take-le made list made-in) }
 
   pub untouched : {after : FillState} → after ≡ stateOf sheet list made → Left after xs ys pitches list sheet list used made

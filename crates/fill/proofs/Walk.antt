@@ -23,13 +23,13 @@ use Rattle.arguments.specs.declared.Settings.{Settings}
 use Rattle.arguments.specs.declared.FillParams.{FillParams}
 use Rattle.extension_common.specs.TryCell.{Corners, cornersOf}
 use Rattle.positions_policy.specs.declared.Tolerances.{Tolerances}
-use Rattle.passes.specs.Outcome.{over}
 use Rattle.passes.specs.Fill.{FillState, boxAndStrips, cellsOf, fillCells, fillVisit, fillAll, fillRound}
 use Rattle.passes.proofs.Over.{over-read, over-over}
 use Rattle.region.specs.Windowed.{InWindow, Windowed, NextIn}
 use Rattle.region.specs.declared.Window.{Window}
 use Rattle.region.proofs.Jumps.{jumps}
-use Rattle.fill.specs.Filling.{stateOf, Filling, Holds, Left, lookedAt}
+use Rattle.arguments.specs.Front.{over}
+use Rattle.fill.specs.Filling.{stateOf, Filling, StateHeld, Left, lookedAt}
 use Rattle.fill.proofs.Region.{in-window}
 use Rattle.fill.proofs.Visit.{Tried, passed, attaches, tried, tried-grows, attaching, untouched}
 
@@ -177,11 +177,11 @@ looked-grows cs set p around n s = go (boxAndStrips around (cellOf n) && not (na
 -- ---- what the code has written
 
 -- the buffers give the state back
-pub holds-state : {s : FillState} {before sheet list : List ℕ} {made : ℕ} → Holds s before sheet list made → stateOf sheet list made ≡ s
+pub holds-state : {s : FillState} {before sheet list : List ℕ} {made : ℕ} → StateHeld s before sheet list made → stateOf sheet list made ≡ s
 holds-state {s} {before} h = rw (h .sheet-is, h .list-is, h .made-is) (ap (λ (l : List ℕ). record { sheet = s .sheet; made = l }) (over-read (s .made) before))
 
 -- one function after another: the rest of the list is as it was before the first
-pub left-then : {s after : FillState} {xs ys pitches : List Float} {before sheet list sheet' list' used' : List ℕ} {made made' : ℕ} → Holds s before sheet list made
+pub left-then : {s after : FillState} {xs ys pitches : List Float} {before sheet list sheet' list' used' : List ℕ} {made made' : ℕ} → StateHeld s before sheet list made
     → length (s .made) ≤ length (after .made) → Left after xs ys pitches list sheet' list' used' made' → Left after xs ys pitches before sheet' list' used' made'
 left-then {s} {after} {before = before} h g l =
     record {

@@ -16,9 +16,9 @@ use Rattle.labels.specs.declared.LabelBox.{LabelBox}
 use Rattle.arguments.specs.declared.Settings.{Settings}
 use Rattle.arguments.specs.declared.FillParams.{FillParams}
 use Rattle.extension_common.specs.TryCell.{Corners}
-use Rattle.passes.specs.Outcome.{over}
 use Rattle.passes.specs.Fill.{FillState, FillRounds, boxAndStrips, fillVisit}
 use Rattle.region.specs.Small.{SmallBox}
+use Rattle.arguments.specs.Front.{over}
 use Rattle.fill.specs.declared.FillProgress.{FillProgress}
 
 -- ---- where the code stands
@@ -38,14 +38,14 @@ pub record Filling (xs ys pitches : List Float) (sheet list used : List ℕ) (ma
   pub room : made ≤ labelCount sheet
 
 -- the buffers hold a state: its sheet, and its new cells at the front of the attached list, whose rest is as it was before
-pub record Holds (s : FillState) (before sheet list : List ℕ) (made : ℕ) : Type 0 where
+pub record StateHeld (s : FillState) (before sheet list : List ℕ) (made : ℕ) : Type 0 where
   pub sheet-is : sheet ≡ s .sheet
   pub list-is : list ≡ over (s .made) before
   pub made-is : made ≡ length (s .made)
 
 -- what a function leaves: the buffers hold a state, and all may go on
 pub record Left (s : FillState) (xs ys pitches : List Float) (before sheet list used : List ℕ) (made : ℕ) : Type 0 where
-  pub holds : Holds s before sheet list made
+  pub holds : StateHeld s before sheet list made
   pub filling : Filling xs ys pitches sheet list used made
 
 -- ---- one cell

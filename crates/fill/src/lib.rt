@@ -9,7 +9,7 @@ ghost use Rattle.arguments.specs.Accepted.{Accepted};
 ghost use Rattle.extension_common.specs.TryCell.{cornersOf};
 ghost use Rattle.passes.specs.Outcome.{done};
 ghost use Rattle.passes.specs.Grow.{tolerancesOf};
-ghost use Rattle.passes.specs.Fill.{nearI, nearJ, boxAndStrips, fillSearch, fillVisit, fillRound, fillFrom, limitOf, fillAfter};
+ghost use Rattle.passes.specs.Fill.{nearI, nearJ, boxAndStrips, fillSearch, fillVisit, fillRound, fillFrom, fillLimit, fillAfter};
 ghost use Rattle.passes.specs.Step.{fillStep, fillOut, fillLeaves};
 ghost use Rattle.region.specs.Small.{SmallBounds, SmallBox};
 ghost use Rattle.fill.specs.Filling.{stateOf, Filling, Left, Trying, Writable, Wrote, Looking, lookedAt, startOf, RoundsLeft};
@@ -232,7 +232,7 @@ fn fill_round(
 
 // How many rounds there may be: none where no cell is labelled, else the limit, where 0 acts as 1.
 fn round_limit(labels: usize, max_iters: u32) -> usize
-    ensures { λ r. ⌜ r ≡ limitOf labels «max_iters» ⌝ }
+    ensures { λ r. ⌜ r ≡ fillLimit labels «max_iters» ⌝ }
 {
     if labels == 0 {
         return 0;

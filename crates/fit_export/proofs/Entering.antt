@@ -7,7 +7,7 @@ use native.Mathlib.Numerals.{add-one}
 use native.Mathlib.Omega.{arith}
 use lib.ListN.{length, take, drop, getD, set, length-append, length-take, length-drop}
 use lib.Ieee.{Float, nan}
-use Rattle.fit_export.specs.Lent.{entered}
+use Rattle.fit_export.specs.FitCall.{entered}
 
 -- one more is written
 one-more : (h e : List Float) (i : ℕ) → i < length h → i < length e → set (take i h ++ drop i e) i (getD h i nan) ≡ take (suc i) h ++ drop (suc i) e

@@ -11,7 +11,7 @@ use Rattle.homography.specs.declared.Fit.{Fit}
 use Rattle.homography.specs.Fit.{Answer, NoFit, Entries, fitOf, homographyOf}
 use Rattle.homography.proofs.Laws.{found-entries, not-found}
 use Rattle.sheet.specs.declared.Position.{Position}
-use Rattle.fit_export.specs.Lent.{left, Left, pointsOf, tooShort, entered, fitLeaves, exported}
+use Rattle.fit_export.specs.FitCall.{left, Left, pointsOf, tooShort, entered, fitLeaves, exported}
 
 -- ---- lengths
 

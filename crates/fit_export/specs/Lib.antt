@@ -1,2 +1,2 @@
 -- The fit as a function for other languages. Definitions only.
-pub mod Lent
+pub mod FitCall

@@ -3,7 +3,7 @@
 ghost use mathlib.Core.Path.{_≡_};
 ghost use Prim.Native.Nat.{_≤_};
 ghost use lib.ListN.{length};
-ghost use Rattle.fit_export.specs.Lent.{left, pointsOf, tooShort, entered, exported};
+ghost use Rattle.fit_export.specs.FitCall.{left, pointsOf, tooShort, entered, exported};
 use sheet::Position;
 
 // Whether one of four slices with these lengths has fewer than four, or there are fewer than nine places.

@@ -11,17 +11,13 @@ use lib.Ieee.Bits.{is-true}
 use lib.Ieee.Fits.{up-pos, down-pos}
 use lib.Ieee.Order.{round-mono}
 use lib.Ieee.Scale.{finite, round-same}
-use Rattle.float_order.specs.Unsigned.{plain, nonzero, one}
+use Rattle.binary32.specs.Numbers.{one}
+use Rattle.float_order.specs.Unsigned.{plain, nonzero}
 use Rattle.float_order.proofs.Order.{le→not-lt, le-lt-trans}
 use Rattle.float_order.proofs.Unsigned.{finite-under}
 
--- the bits of 1
-pub one-bits : ofBits binary32 0x3f80_0000 ≡ one
-unfolding ofBits
-one-bits = refl
-
 round-one : (f : Format) → round f false 1 1 ≡ one
-unfolding round
+unfolding round ofBits
 round-one binary32 = refl
 round-one binary64 = refl
 

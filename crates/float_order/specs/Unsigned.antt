@@ -1,8 +1,9 @@
--- Words for the laws on floats: a value with no sign, one that is not zero, a value without its sign, and the number 1. Definitions only.
+-- Words for the laws on floats: a value with no sign, one that is not zero, and a value without its sign. Definitions only.
 use mathlib.Core.Bool.{Bool, true, false, not}
 use Prim.Native.Nat.{zero, suc}
 use lib.IntN.{pos}
 use lib.Ieee.{Float, nan, inf, fin}
+use Rattle.binary32.specs.Numbers.{one}
 
 -- x is no nan and has no minus sign: +0, a positive number, or the positive infinity
 abbrev pub plain : Float → Bool
@@ -18,11 +19,7 @@ nonzero (fin s zero e) = false
 nonzero (fin s (suc m) e) = true
 
 -- x without its sign
-abbrev pub magnitude : Float → Float
-magnitude nan = nan
-magnitude (inf s) = inf false
-magnitude (fin s m e) = fin false m e
-
--- the number 1, which the bits 0x3f80_0000 stand for
-abbrev pub one : Float
-one = fin false 1 (pos 0)
+abbrev pub unsigned : Float → Float
+unsigned nan = nan
+unsigned (inf s) = inf false
+unsigned (fin s m e) = fin false m e

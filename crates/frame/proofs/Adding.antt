@@ -25,8 +25,8 @@ use Rattle.frame_check.specs.Checks.{isSet}
 use Rattle.frame_state.specs.State.{wordsOf as wordsHeld, wordsPut, State, adds}
 use Rattle.frame_state.specs.declared.PassWords.{PassWords}
 use Rattle.frame.specs.Frame.{Frame, floatOf, inOrder, rankOf, overLimit, wild, wildCount, wildPass, outOfRange, ofLabel, offSheet, unknownCorner, sameCell, checkedLine, adding}
-use Rattle.frame.specs.Lent.{settingsOf, labelled, fullOf, wordsOf, allWords}
-use Rattle.frame.specs.Reading.{HoldsCorners, cellTaken, cornerTaken, HoldsLabels, HoldsPasses, Holds}
+use Rattle.frame.specs.ReadFrame.{settingsOf, labelled, fullOf, wordsOf, allWords}
+use Rattle.frame.specs.Reading.{HoldsCorners, cellTaken, cornerTaken, HoldsLabels, HoldsPasses, FrameHeld}
 use Rattle.frame.proofs.Agree.{counted, tame-count, count-below, cell-same}
 use Rattle.arguments.proofs.Chains.{or-false-both, not-refused}
 
@@ -230,8 +230,8 @@ fine stage f l e =
     let g = not-refused (ofLabel (unknownCorner (length (f .corners))) l) Refusal.UnknownCorner _ (d .1) in
     record { room = b .0; ranges = c .0; on = d .0; known = g .0 }
 
-module _ (f : Frame) (s : State) (g : Holds f s) where
-  cell-added : (b : ℕ) → Holds (adding f (cell-line b)) (adds (heldLine (cell-line b)) s)
+module _ (f : Frame) (s : State) (g : FrameHeld f s) where
+  cell-added : (b : ℕ) → FrameHeld (adding f (cell-line b)) (adds (heldLine (cell-line b)) s)
   unfolding adding adds heldLine settingsOf
   cell-added b =
       record {
@@ -241,7 +241,7 @@ module _ (f : Frame) (s : State) (g : Holds f s) where
         passes = g .passes;
       }
 
-  axes-added : (a : Axes) → Holds (adding f (axes-line a)) (adds (heldLine (axes-line a)) s)
+  axes-added : (a : Axes) → FrameHeld (adding f (axes-line a)) (adds (heldLine (axes-line a)) s)
   unfolding adding adds heldLine settingsOf
   axes-added a =
       record {
@@ -251,7 +251,7 @@ module _ (f : Frame) (s : State) (g : Holds f s) where
         passes = g .passes;
       }
 
-  band-added : (b : ℕ) → Holds (adding f (band-line b)) (adds (heldLine (band-line b)) s)
+  band-added : (b : ℕ) → FrameHeld (adding f (band-line b)) (adds (heldLine (band-line b)) s)
   unfolding adding adds heldLine settingsOf
   band-added b =
       record {
@@ -261,7 +261,7 @@ module _ (f : Frame) (s : State) (g : Holds f s) where
         passes = g .passes;
       }
 
-  corner-added : (c : CornerLine) → Fine f (corner-line c) → Holds (adding f (corner-line c)) (adds (heldLine (corner-line c)) s)
+  corner-added : (c : CornerLine) → Fine f (corner-line c) → FrameHeld (adding f (corner-line c)) (adds (heldLine (corner-line c)) s)
   unfolding adding adds heldLine settingsOf overLimit
   corner-added c w =
       let room : length (f .corners) < 1024 = leb-false 1024 (length (f .corners)) (w .room) in
@@ -272,7 +272,7 @@ module _ (f : Frame) (s : State) (g : Holds f s) where
         passes = g .passes;
       }
 
-  label-added : (l : LabelLine) → Fine f (label-line l) → Holds (adding f (label-line l)) (adds (heldLine (label-line l)) s)
+  label-added : (l : LabelLine) → Fine f (label-line l) → FrameHeld (adding f (label-line l)) (adds (heldLine (label-line l)) s)
   unfolding adding adds heldLine settingsOf offSheet
   label-added l w =
       let few : length (f .corners) ≤ 1024 = omega (arith, g .corners .count, g .corners .few) in
@@ -288,7 +288,7 @@ module _ (f : Frame) (s : State) (g : Holds f s) where
         passes = g .passes;
       }
 
-  pass-added : (p : PassLine) → Fine f (pass-line p) → Holds (adding f (pass-line p)) (adds (heldLine (pass-line p)) s)
+  pass-added : (p : PassLine) → Fine f (pass-line p) → FrameHeld (adding f (pass-line p)) (adds (heldLine (pass-line p)) s)
   unfolding adding adds heldLine settingsOf overLimit outOfRange
   pass-added p w =
       let room : length (f .passes) < 16 = leb-false 16 (length (f .passes)) (w .room) in
@@ -299,11 +299,11 @@ module _ (f : Frame) (s : State) (g : Holds f s) where
         passes = pass-held (f .passes) (s .progress .passes) (s .held .passes) (g .passes) (omega (arith, g .passes .count)) p (wordsHeld (heldPass p)) (words-agree p (w .ranges));
       }
 
-  frame-added : Holds (adding f frame-line) (adds (heldLine frame-line) s)
+  frame-added : FrameHeld (adding f frame-line) (adds (heldLine frame-line) s)
   unfolding adding adds heldLine
   frame-added = g
 
-  pub line-held : (stage : ℕ) (l : Line) → checkedLine stage f l ≡ Checked.Fine → Holds (adding f l) (adds (heldLine l) s)
+  pub line-held : (stage : ℕ) (l : Line) → checkedLine stage f l ≡ Checked.Fine → FrameHeld (adding f l) (adds (heldLine l) s)
   line-held stage frame-line e = frame-added
   line-held stage (cell-line b) e = cell-added b
   line-held stage (axes-line a) e = axes-added a

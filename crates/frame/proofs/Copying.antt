@@ -6,7 +6,7 @@ use native.Mathlib.Omega.{arith}
 use native.Mathlib.Numerals.{add-one}
 use lib.ListN.{length, getD, set, take, drop, length-set}
 use lib.Seq.{length-take-le, drop-cons, set-at, append-snoc, take-suc}
-use Rattle.frame.specs.Lent.{over}
+use Rattle.arguments.specs.Front.{over}
 use Rattle.frame.specs.Reading.{Copies}
 
 -- i entries are copied

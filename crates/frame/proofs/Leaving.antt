@@ -16,9 +16,10 @@ use Rattle.sheet.proofs.Laws.{place-in}
 use Rattle.frame_check.specs.Checks.{isSet}
 use Rattle.frame_state.specs.State.{Arrays, arrays, state, nothing-said}
 use Rattle.frame_state.specs.declared.Progress.{Progress}
+use Rattle.arguments.specs.Front.{over}
 use Rattle.frame.specs.Frame.{Frame, linesOf, FrameRead, refused-at, accepted, readLines, nothing-read, readFrame}
-use Rattle.frame.specs.Lent.{xsOf, ysOf, pitchesOf, settingsOf, labelled, sheetOf, allWords, Buffers, frameOut, tooShort, over, leaves, readInto}
-use Rattle.frame.specs.Reading.{HoldsCorners, cellTaken, cornerTaken, HoldsLabels, HoldsPasses, Holds, ReadAs, refused-as, held-as, LongEnough, buffers, Copies}
+use Rattle.frame.specs.ReadFrame.{xsOf, ysOf, pitchesOf, settingsOf, labelled, sheetOf, allWords, Buffers, frameOut, tooShort, leaves, readInto}
+use Rattle.frame.specs.Reading.{HoldsCorners, cellTaken, cornerTaken, HoldsLabels, HoldsPasses, FrameHeld, ReadAs, refused-as, held-as, LongEnough, buffers, Copies}
 use Rattle.frame.specs.declared.FrameAnswer.{FrameAnswer}
 use Rattle.frame.specs.declared.LinesRead.{LinesRead}
 use Rattle.arguments.proofs.Chains.{or-false-both}
@@ -56,7 +57,7 @@ no-passes : HoldsPasses [] 0 (replicate 96 0)
 unfolding allWords
 no-passes = record { count = refl; few = omega arith; long = length-replicate {A = ℕ} 96 0; words-are = refl }
 
-pub nothing-held : (x : Float) → Holds nothing-read (state nothing-said (arrays (replicate 1024 x) (replicate 1024 x) (replicate 1024 x) (replicate 16384 0) (replicate 1024 0) (replicate 96 0)))
+pub nothing-held : (x : Float) → FrameHeld nothing-read (state nothing-said (arrays (replicate 1024 x) (replicate 1024 x) (replicate 1024 x) (replicate 16384 0) (replicate 1024 0) (replicate 96 0)))
 unfolding settingsOf
 nothing-held x = record { settings-are = refl; corners = no-corners x; labels = no-labels; passes = no-passes }
 
@@ -70,11 +71,11 @@ refused-read (held-as f p g) r n e = absurd (let z : _≡_ {A = ℕ} 0 1 = cc in
 pub record Accepting (f : FrameRead) (p : Progress) (a : Arrays) : Type 0 where
   pub frame : Frame
   pub is : f ≡ accepted frame
-  pub holds : Holds frame (state p a)
+  pub holds : FrameHeld frame (state p a)
 
 pub whole-read : {f : FrameRead} {l : LinesRead} {a : Arrays} → ReadAs f l a → (p : Progress) → l ≡ LinesRead.Whole p → Accepting f p a
 whole-read (refused-as q k) p e = absurd (let z : _≡_ {A = ℕ} 0 1 = cc in omega arith)
-whole-read {a = a} (held-as f q g) p e = let d : q ≡ p = cc in record { frame = f; is = refl; holds = subst (λ (x : Progress). Holds f (state x a)) d g }
+whole-read {a = a} (held-as f q g) p e = let d : q ≡ p = cc in record { frame = f; is = refl; holds = subst (λ (x : Progress). FrameHeld f (state x a)) d g }
 
 -- a refusal leaves the buffers as they were
 pub text-refused : {f : FrameRead} {l : LinesRead} {a : Arrays} → ReadAs f l a → (r : Refusal) (n : ℕ) → l ≡ LinesRead.Refused r n → (xs ys pitches : List Float) (sheet passes : List ℕ)

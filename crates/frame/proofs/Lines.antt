@@ -1,6 +1,6 @@
 -- The lines of a text: the first one, and the end of the line that starts at a position. Assumes nothing.
 use mathlib.Core.Path.{_≡_, refl, sym, ap, _∙_}
-use mathlib.Core.Bool.{Bool, true, false}
+use mathlib.Core.Bool.{Bool, true, false, cond}
 use mathlib.Core.List.{List, [], _∷_}
 use Prim.Native.Nat.{ℕ, suc, _+_, _-_, _<_, _≤_}
 use native.Mathlib.Omega.{arith}
@@ -9,7 +9,6 @@ use borrow.Author.Tests.{eq-eqb, ne-eqb}
 use lib.Dec.{eqb}
 use lib.ListN.{length, getD, take, drop, length-drop, drop-of-length-le}
 use lib.Seq.{drop-cons, drop-drop}
-use Rattle.binary32.specs.Hex.{pick}
 use Rattle.frame.specs.Frame.{longer, linesOf}
 use Rattle.frame.specs.Reading.{lineLength}
 
@@ -20,7 +19,7 @@ unfolding lineLength
 line-within [] = omega arith
 line-within (b ∷ text) = go (eqb b 10) (line-within text)
   where
-    go : (t : Bool) → lineLength text ≤ length text → pick t 1 (suc (lineLength text)) ≤ suc (length text)
+    go : (t : Bool) → lineLength text ≤ length text → cond t 1 (suc (lineLength text)) ≤ suc (length text)
     go true h = omega arith
     go false h = omega arith
 
@@ -29,7 +28,7 @@ unfolding lineLength
 line-some [] h = absurd (omega arith)
 line-some (b ∷ text) h = go (eqb b 10)
   where
-    go : (t : Bool) → 0 < pick t 1 (suc (lineLength text))
+    go : (t : Bool) → 0 < cond t 1 (suc (lineLength text))
     go true = omega arith
     go false = omega arith
 
@@ -39,14 +38,14 @@ unfolding linesOf lineLength
 lines-split [] h = absurd (omega arith)
 lines-split (b ∷ []) h = go (eqb b 10)
   where
-    go : (t : Bool) → pick t ((b ∷ []) ∷ []) ((b ∷ []) ∷ []) ≡ take (pick t 1 1) (b ∷ []) ∷ linesOf (drop (pick t 1 1) (b ∷ []))
+    go : (t : Bool) → cond t ((b ∷ []) ∷ []) ((b ∷ []) ∷ []) ≡ take (cond t 1 1) (b ∷ []) ∷ linesOf (drop (cond t 1 1) (b ∷ []))
     go true = refl
     go false = refl
 lines-split (b ∷ c ∷ text) h = go (eqb b 10) (lines-split (c ∷ text) (omega arith))
   where
     go : (t : Bool) → linesOf (c ∷ text) ≡ take (lineLength (c ∷ text)) (c ∷ text) ∷ linesOf (drop (lineLength (c ∷ text)) (c ∷ text))
-        → pick t ((b ∷ []) ∷ linesOf (c ∷ text)) (longer b (linesOf (c ∷ text)))
-        ≡ take (pick t 1 (suc (lineLength (c ∷ text)))) (b ∷ c ∷ text) ∷ linesOf (drop (pick t 1 (suc (lineLength (c ∷ text)))) (b ∷ c ∷ text))
+        → cond t ((b ∷ []) ∷ linesOf (c ∷ text)) (longer b (linesOf (c ∷ text)))
+        ≡ take (cond t 1 (suc (lineLength (c ∷ text)))) (b ∷ c ∷ text) ∷ linesOf (drop (cond t 1 (suc (lineLength (c ∷ text)))) (b ∷ c ∷ text))
     go true rest = refl
     go false rest = ap (longer b) rest
 
@@ -82,16 +81,16 @@ pub record Seeking (text : List ℕ) (at i : ℕ) : Type 0 where
 
 module _ {text : List ℕ} {at i : ℕ} (g : Seeking text at i) where
   module _ (h : i < length text) where
-    here : lineLength (drop i text) ≡ pick (eqb (getD text i 0) 10) 1 (suc (lineLength (drop (suc i) text)))
+    here : lineLength (drop i text) ≡ cond (eqb (getD text i 0) 10) 1 (suc (lineLength (drop (suc i) text)))
     unfolding lineLength
     here = ap lineLength (drop-cons text i 0 h)
 
     pub seek-found : getD text i 0 ≡ 10 → i + 1 ≡ at + lineLength (drop at text)
-    seek-found e = let k : lineLength (drop i text) ≡ 1 = here ∙ ap (λ (t : Bool). pick t 1 (suc (lineLength (drop (suc i) text)))) (eq-eqb (getD text i 0) 10 e) in omega (arith, g .same)
+    seek-found e = let k : lineLength (drop i text) ≡ 1 = here ∙ ap (λ (t : Bool). cond t 1 (suc (lineLength (drop (suc i) text)))) (eq-eqb (getD text i 0) 10 e) in omega (arith, g .same)
 
     pub seek-more : (getD text i 0 ≡ 10 → ⊥) → Seeking text at (i + 1)
     seek-more f =
-        let k : lineLength (drop i text) ≡ suc (lineLength (drop (suc i) text)) = here ∙ ap (λ (t : Bool). pick t 1 (suc (lineLength (drop (suc i) text)))) (ne-eqb (getD text i 0) 10 f) in
+        let k : lineLength (drop i text) ≡ suc (lineLength (drop (suc i) text)) = here ∙ ap (λ (t : Bool). cond t 1 (suc (lineLength (drop (suc i) text)))) (ne-eqb (getD text i 0) 10 f) in
         record { inside = omega arith; same = rw add-one (omega (arith, g .same)) }
 
   pub seek-end : length text ≤ i → i ≡ at + lineLength (drop at text)

@@ -1,6 +1,6 @@
 -- A line as the code takes it leads where the definition says, and so do all lines, turn by turn. Assumes nothing.
 use mathlib.Core.Path.{_≡_, refl, sym, ap, subst, _∙_}
-use mathlib.Core.Bool.{Bool, not}
+use mathlib.Core.Bool.{Bool, not, cond}
 use mathlib.Core.List.{List}
 use Prim.Native.Nat.{ℕ, suc, _+_, _-_, _<_, _≤_}
 use native.Mathlib.Omega.{arith}
@@ -8,7 +8,6 @@ use native.Mathlib.Numerals.{add-one}
 use borrow.Author.Tests.{lt-ltb, le-ltb}
 use lib.ListN.{length, take, drop}
 use Rattle.refusal.specs.declared.Refusal.{Refusal}
-use Rattle.binary32.specs.Hex.{pick}
 use Rattle.arguments.specs.declared.Checked.{Checked}
 use Rattle.frame_line.specs.Lines.{LineRead, ill-formed, line, readLine}
 use Rattle.frame_line.specs.Held.{heldLine, held}
@@ -17,7 +16,7 @@ use Rattle.frame_check.specs.Checks.{heldRank, mayCome, checkedHeld}
 use Rattle.frame_state.specs.State.{Arrays, State, state, LineFits, adds}
 use Rattle.frame_state.specs.declared.Progress.{Progress}
 use Rattle.frame.specs.Frame.{Frame, linesOf, rankOf, stageAfter, checkedLine, adding, FrameRead, refused-at, accepted, Step, stopped, onward, afterCheck, stepWith, stepLine, atEnd, going, readLines, nothing-read}
-use Rattle.frame.specs.Reading.{lineLength, Holds, Room, Went, went, afterHeld, heldStep, ReadAs, refused-as, held-as}
+use Rattle.frame.specs.Reading.{lineLength, FrameHeld, Room, Went, went, afterHeld, heldStep, ReadAs, refused-as, held-as}
 use Rattle.frame.specs.declared.Stepped.{Stepped}
 use Rattle.frame.specs.declared.LinesRead.{LinesRead}
 use Rattle.frame.proofs.Lines.{end-after, end-inside, lines-from, no-lines}
@@ -30,13 +29,13 @@ use Rattle.arguments.proofs.Chains.{not-refused}
 -- where a line leads, in the definition and in the code
 data SteppedAs : Step → Went → Type 0 where
   stopped-as : (r : Refusal) (a : Arrays) → SteppedAs (stopped r) (went (Stepped.Stopped r) a)
-  onward-as : (stage : ℕ) (f : Frame) (s : State) → Holds f s → SteppedAs (onward stage f) (went (Stepped.Onward stage (s .progress)) (s .held))
+  onward-as : (stage : ℕ) (f : Frame) (s : State) → FrameHeld f s → SteppedAs (onward stage f) (went (Stepped.Onward stage (s .progress)) (s .held))
 
 ill-refused : (stage n m : ℕ) (sheet used : List ℕ) → checkedHeld stage n m sheet used HeldLine.IllFormed ≡ Checked.Refused Refusal.Malformed
 unfolding checkedHeld heldRank mayCome
 ill-refused stage n m sheet used = refl
 
-steps-agree : (f : Frame) (s : State) → Holds f s → (stage : ℕ) (r : LineRead) → SteppedAs (stepWith stage f r) (heldStep stage (held r) s)
+steps-agree : (f : Frame) (s : State) → FrameHeld f s → (stage : ℕ) (r : LineRead) → SteppedAs (stepWith stage f r) (heldStep stage (held r) s)
 unfolding heldStep held
 steps-agree f s g stage ill-formed =
     subst (λ (c : Checked). SteppedAs (stopped Refusal.Malformed) (afterHeld c (stageAfter stage (heldRank HeldLine.IllFormed)) (adds HeldLine.IllFormed s) (s .held)))
@@ -61,14 +60,14 @@ where-stopped (onward-as stage f s g) r e = absurd (let z : _≡_ {A = ℕ} 0 1 
 record WentOn (step : Step) (stage : ℕ) (p : Progress) (a : Arrays) : Type 0 where
   frame : Frame
   step-is : step ≡ onward stage frame
-  holds : Holds frame (state p a)
+  holds : FrameHeld frame (state p a)
 
 where-onward : {step : Step} {w : Went} → SteppedAs step w → (stage : ℕ) (p : Progress) → w .answer ≡ Stepped.Onward stage p → WentOn step stage p (w .held)
 where-onward (stopped-as q a) stage p e = absurd (let z : _≡_ {A = ℕ} 0 1 = cc in omega arith)
 where-onward (onward-as n f s g) stage p e =
     let d : n ≡ stage = cc in
     let q : s .progress ≡ p = cc in
-    record { frame = f; step-is = ap (λ (k : ℕ). onward k f) d; holds = subst (λ (x : Progress). Holds f (state x (s .held))) q g }
+    record { frame = f; step-is = ap (λ (k : ℕ). onward k f) d; holds = subst (λ (x : Progress). FrameHeld f (state x (s .held))) q g }
 
 -- ---- the code's step, from its parts
 
@@ -94,10 +93,10 @@ pub record Turning (text : List ℕ) (p : Progress) (stage n at : ℕ) (a : Arra
   pub inside : at ≤ length text
   pub lines : n ≤ at + 1
   pub frame : Frame
-  pub holds : Holds frame (state p a)
+  pub holds : FrameHeld frame (state p a)
   pub rest : readLines n stage frame (linesOf (drop at text)) ≡ readLines 1 0 nothing-read (linesOf text)
 
-pub turning-start : (text : List ℕ) (p : Progress) (a : Arrays) → Holds nothing-read (state p a) → Turning text p 0 1 0 a
+pub turning-start : (text : List ℕ) (p : Progress) (a : Arrays) → FrameHeld nothing-read (state p a) → Turning text p 0 1 0 a
 turning-start text p a g = record { inside = omega arith; lines = omega arith; frame = nothing-read; holds = g; rest = refl }
 
 module _ {text : List ℕ} {p : Progress} {stage n at : ℕ} {a : Arrays} (g : Turning text p stage n at a) where
@@ -144,10 +143,10 @@ module _ {text : List ℕ} {p : Progress} {stage n at : ℕ} {a : Arrays} (g : T
   unfolding atEnd
   end-missing h k =
       subst (λ (x : FrameRead). ReadAs x (LinesRead.Refused Refusal.Malformed n) a)
-      (sym (at-the-end h ∙ ap (λ (t : Bool). pick t (refused-at Refusal.Malformed n) (accepted (g .frame))) (lt-ltb stage 4 k))) (refused-as Refusal.Malformed n)
+      (sym (at-the-end h ∙ ap (λ (t : Bool). cond t (refused-at Refusal.Malformed n) (accepted (g .frame))) (lt-ltb stage 4 k))) (refused-as Refusal.Malformed n)
 
   pub end-whole : length text ≤ at → 4 ≤ stage → ReadAs (readLines 1 0 nothing-read (linesOf text)) (LinesRead.Whole p) a
   unfolding atEnd
   end-whole h k =
       subst (λ (x : FrameRead). ReadAs x (LinesRead.Whole p) a)
-      (sym (at-the-end h ∙ ap (λ (t : Bool). pick t (refused-at Refusal.Malformed n) (accepted (g .frame))) (le-ltb stage 4 k))) (held-as (g .frame) p (g .holds))
+      (sym (at-the-end h ∙ ap (λ (t : Bool). cond t (refused-at Refusal.Malformed n) (accepted (g .frame))) (le-ltb stage 4 k))) (held-as (g .frame) p (g .holds))

@@ -1,6 +1,6 @@
 -- A frame read from a text (document 01, "Frame and result"): "Byte length is tried first, as line 0; then lines from the top, each in order
 -- 1 to 6. A missing line counts as the one after the last." Any bytes give one accepted frame or one refusal. Definitions only.
-use mathlib.Core.Bool.{Bool, true, false, not, _&&_, _||_}
+use mathlib.Core.Bool.{Bool, true, false, not, _&&_, _||_, cond}
 use mathlib.Core.List.{List, [], _∷_, _++_}
 use Prim.Native.Nat.{ℕ, zero, suc, _+_}
 use lib.IntN.{ℤ, pos, negsuc}
@@ -9,7 +9,6 @@ use lib.Dec.{ltb, leb, eqb}
 use lib.ListN.{length}
 use lib.Ieee.{Float, binary32, ofBits}
 use Rattle.refusal.specs.declared.Refusal.{Refusal}
-use Rattle.binary32.specs.Hex.{pick}
 use Rattle.binary32.specs.declared.ranges.Quantity.{Quantity}
 use Rattle.sheet.specs.Cells.{onSheet, eqZ}
 use Rattle.sheet.specs.declared.Cell.{Cell}
@@ -33,7 +32,7 @@ longer b [] = (b ∷ []) ∷ []
 longer b (l ∷ ls) = (b ∷ l) ∷ ls
 
 abbrev pub onto : ℕ → List (List ℕ) → List (List ℕ)
-onto b ls = pick (eqb b 10) ((b ∷ []) ∷ ls) (longer b ls)
+onto b ls = cond (eqb b 10) ((b ∷ []) ∷ ls) (longer b ls)
 
 unfoldable pub linesOf : List ℕ → List (List ℕ)
 linesOf [] = []
@@ -54,10 +53,10 @@ rankOf (pass-line p) = 6
 -- "The first four lines must stand; the others may be none": up to 3, the stage is the rank of the line that must come; from 4 on, the
 -- lowest rank that still may
 unfoldable pub inOrder : ℕ → ℕ → Bool
-inOrder stage rank = pick (ltb stage 4) (eqb rank stage) (leb stage rank)
+inOrder stage rank = cond (ltb stage 4) (eqb rank stage) (leb stage rank)
 
 unfoldable pub stageAfter : ℕ → ℕ → ℕ
-stageAfter stage rank = pick (ltb stage 4) (suc stage) rank
+stageAfter stage rank = cond (ltb stage 4) (suc stage) rank
 
 -- ---- 2, overfull: "At most .. 1,024 corners, 16 passes"
 
@@ -184,7 +183,7 @@ stepLine stage f text = stepWith stage f (readLine text)
 
 -- after the last line: one of the first four is missing, or the frame is whole
 unfoldable pub atEnd : ℕ → ℕ → Frame → FrameRead
-atEnd n stage f = pick (ltb stage 4) (refused-at Refusal.Malformed n) (accepted f)
+atEnd n stage f = cond (ltb stage 4) (refused-at Refusal.Malformed n) (accepted f)
 
 abbrev pub going : ℕ → Step → (ℕ → Frame → FrameRead) → FrameRead
 going n (stopped r) rest = refused-at r n
@@ -201,4 +200,4 @@ nothing-read = record { cell = 0; axes = record { ix = 0; iy = 0; jx = 0; jy = 0
 
 -- "At most 65,536 bytes": byte length first, as line 0
 unfoldable pub readFrame : List ℕ → FrameRead
-readFrame text = pick (ltb 65536 (length text)) (refused-at Refusal.OverLimit 0) (readLines 1 0 nothing-read (linesOf text))
+readFrame text = cond (ltb 65536 (length text)) (refused-at Refusal.OverLimit 0) (readLines 1 0 nothing-read (linesOf text))

@@ -2,5 +2,5 @@
 -- only.
 pub mod Frame
 pub mod Text
-pub mod Lent
+pub mod ReadFrame
 pub mod Reading

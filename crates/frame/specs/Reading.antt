@@ -1,7 +1,7 @@
 -- How the reader holds what it has read: its arrays and numbers, tied to the definition's frame, and what its functions leave. Definitions
 -- only.
 use mathlib.Core.Path.{_≡_}
-use mathlib.Core.Bool.{Bool, false, _||_}
+use mathlib.Core.Bool.{Bool, false, _||_, cond}
 use mathlib.Core.List.{List, [], _∷_, map}
 use Prim.Native.Nat.{ℕ, suc, _*_, _<_, _≤_}
 use lib.IntN.{ℤ, pos}
@@ -9,7 +9,6 @@ use lib.Dec.{eqb}
 use lib.ListN.{length, take}
 use lib.Ieee.{Float}
 use Rattle.refusal.specs.declared.Refusal.{Refusal}
-use Rattle.binary32.specs.Hex.{pick}
 use Rattle.sheet.specs.Cells.{OnSheet, placeOf, eqZ}
 use Rattle.sheet.specs.Words.{emptySheet}
 use Rattle.sheet.specs.declared.Cell.{Cell}
@@ -20,7 +19,7 @@ use Rattle.frame_check.specs.Checks.{heldRank, isSet, checkedHeld}
 use Rattle.frame_state.specs.State.{Arrays, State, state, adds}
 use Rattle.frame_state.specs.declared.Progress.{Progress}
 use Rattle.frame.specs.Frame.{Frame, floatOf, stageAfter, sameCell, FrameRead, refused-at, accepted}
-use Rattle.frame.specs.Lent.{settingsOf, labelled, allWords, Buffers}
+use Rattle.frame.specs.ReadFrame.{settingsOf, labelled, allWords, Buffers}
 use Rattle.frame.specs.declared.Stepped.{Stepped}
 use Rattle.frame.specs.declared.LinesRead.{LinesRead}
 
@@ -29,7 +28,7 @@ use Rattle.frame.specs.declared.LinesRead.{LinesRead}
 -- how long the first line of a text is, its LF included
 unfoldable pub lineLength : List ℕ → ℕ
 lineLength [] = 0
-lineLength (b ∷ text) = pick (eqb b 10) 1 (suc (lineLength text))
+lineLength (b ∷ text) = cond (eqb b 10) 1 (suc (lineLength text))
 
 -- ---- what the arrays hold
 
@@ -78,7 +77,7 @@ pub record HoldsPasses (ps : List PassLine) (m : ℕ) (words : List ℕ) : Type 
   pub words-are : take (6 * m) words ≡ allWords ps
 
 -- a frame is held
-pub record Holds (f : Frame) (s : State) : Type 0 where
+pub record FrameHeld (f : Frame) (s : State) : Type 0 where
   pub settings-are : s .progress .settings ≡ settingsOf f
   pub corners : HoldsCorners (f .corners) (s .progress .corners) (s .held .xs) (s .held .ys) (s .held .pitches)
   pub labels : HoldsLabels (f .labels) (s .held .sheet) (s .held .used)
@@ -114,7 +113,7 @@ heldStep stage line s =
 -- a frame read as the definition reads it: the same refusal at the same line, or the frame held
 pub data ReadAs : FrameRead → LinesRead → Arrays → Type 0 where
   refused-as : {a : Arrays} (r : Refusal) (n : ℕ) → ReadAs (refused-at r n) (LinesRead.Refused r n) a
-  held-as : {a : Arrays} (f : Frame) (p : Progress) → Holds f (state p a) → ReadAs (accepted f) (LinesRead.Whole p) a
+  held-as : {a : Arrays} (f : Frame) (p : Progress) → FrameHeld f (state p a) → ReadAs (accepted f) (LinesRead.Whole p) a
 
 -- ---- the lent buffers
 

@@ -7,9 +7,10 @@ ghost use lib.ListN.{length, take, drop};
 ghost use Rattle.frame_line.specs.Lines.{readLine};
 ghost use Rattle.frame_line.specs.Held.{held};
 ghost use Rattle.frame_state.specs.State.{nothing-said, arrays, state};
+ghost use Rattle.arguments.specs.Front.{over};
 ghost use Rattle.frame.specs.Frame.{linesOf, stageAfter, readLines, nothing-read};
-ghost use Rattle.frame.specs.Lent.{frameOut, tooShort, over, leaves, readInto};
-ghost use Rattle.frame.specs.Reading.{lineLength, Holds, Room, went, heldStep, ReadAs, buffers, Copies, LongEnough};
+ghost use Rattle.frame.specs.ReadFrame.{frameOut, tooShort, leaves, readInto};
+ghost use Rattle.frame.specs.Reading.{lineLength, FrameHeld, Room, went, heldStep, ReadAs, buffers, Copies, LongEnough};
 use arguments::Checked;
 use arguments::Settings;
 use frame_state::Progress;
@@ -101,7 +102,7 @@ fn read_lines(
     used: &mut [u8; 1024],
     passes: &mut [u32; 96],
 ) -> LinesRead
-    requires { ⌜ Holds nothing-read (state nothing-said (arrays (now xs) (now ys) (now pitches) (now sheet) (now used) (now passes))) ⌝ }
+    requires { ⌜ FrameHeld nothing-read (state nothing-said (arrays (now xs) (now ys) (now pitches) (now sheet) (now used) (now passes))) ⌝ }
     ensures { λ r. ⌜ ReadAs (readLines 1 0 nothing-read (linesOf (now (text .entry)))) r (arrays (now (xs .exit)) (now (ys .exit)) (now (pitches .exit)) (now (sheet .exit)) (now (used .exit)) (now (passes .exit))) ⌝ }
 {
     let mut p = frame_state::start();

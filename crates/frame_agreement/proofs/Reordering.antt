@@ -19,7 +19,7 @@ use Rattle.agreement.proofs.Run.{agreement}
 use Rattle.frame_line.specs.Lines.{CornerLine, LabelLine, PassLine}
 use Rattle.frame.specs.Frame.{Frame, floatOf, readFrame, accepted}
 use Rattle.frame.specs.Text.{All, Sound, WithinLimits}
-use Rattle.frame.specs.Lent.{xsOf, ysOf, pitchesOf, labelled, sheetOf, settingsOf}
+use Rattle.frame.specs.ReadFrame.{xsOf, ysOf, pitchesOf, labelled, sheetOf, settingsOf}
 use Rattle.frame_laws.specs.Calls.{cornersOf, callOf, callsOf}
 use Rattle.frame_laws.proofs.Back.{frame-prints-back}
 use Rattle.frame_laws.proofs.Runs.{frame-standing}

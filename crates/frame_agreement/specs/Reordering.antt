@@ -8,10 +8,10 @@ use lib.IntN.{pos, natAbs}
 use lib.ListN.{length, getD}
 use Rattle.sheet.specs.Pairing.{Shuffle}
 use Rattle.passes.specs.Run.{Call, run}
-use Rattle.agreement.specs.Agreement.{Reordered, Agree, FactorsAbove, Holds}
+use Rattle.agreement.specs.Agreement.{Reordered, Agree, FactorsAbove, BothRuns}
 use Rattle.frame_line.specs.Lines.{CornerLine, LabelLine}
 use Rattle.frame.specs.Frame.{Frame, readFrame, accepted}
-use Rattle.frame.specs.Lent.{sheetOf}
+use Rattle.frame.specs.ReadFrame.{sheetOf}
 use Rattle.frame_laws.specs.Calls.{cornersOf, callsOf}
 
 -- the corner line of a number; zeros where there is none
@@ -38,7 +38,7 @@ pub record SameButOrder (f f' : Frame) : Type 0 where
 -- passes are such a list, the same for both.
 pub record RunAlike (f f' : Frame) : Type 0 where
   pub reordered : Reordered (cornersOf f) (cornersOf f') (sheetOf f) (sheetOf f')
-  pub any-list : (calls : List Call) → Holds (cornersOf f) (cornersOf f') (sheetOf f) (sheetOf f') reordered calls
+  pub any-list : (calls : List Call) → BothRuns (cornersOf f) (cornersOf f') (sheetOf f) (sheetOf f') reordered calls
   pub same-calls : callsOf f' ≡ callsOf f
   pub own-list : FactorsAbove (callsOf f) (run (cornersOf f) (sheetOf f) (callsOf f))
       → Agree (reordered .corners .pairs) (sheetOf f) (sheetOf f') (run (cornersOf f) (sheetOf f) (callsOf f)) (run (cornersOf f') (sheetOf f') (callsOf f'))

@@ -1,13 +1,12 @@
 -- The checks of a line in the terms of what the code holds: each is what Frame (crate frame) says of the line, as `frame/proofs` shows.
 -- Definitions only.
-use mathlib.Core.Bool.{Bool, false, not, _&&_, _||_}
+use mathlib.Core.Bool.{Bool, false, not, _&&_, _||_, cond}
 use mathlib.Core.List.{List}
 use Prim.Native.Nat.{ℕ}
 use lib.Dec.{ltb, leb, eqb}
 use lib.ListN.{getD}
 use lib.Ieee.{binary32, ofBits}
 use Rattle.refusal.specs.declared.Refusal.{Refusal}
-use Rattle.binary32.specs.Hex.{pick}
 use Rattle.binary32.specs.declared.ranges.Quantity.{Quantity}
 use Rattle.sheet.specs.Cells.{onSheet, placeOf}
 use Rattle.arguments.specs.Arguments.{outside, refusedIf}
@@ -36,7 +35,7 @@ heldRank (HeldLine.Pass p) = 6
 
 -- up to 3, the stage is the rank of the line that must come; from 4 on, the lowest rank that still may
 unfoldable pub mayCome : ℕ → ℕ → Bool
-mayCome stage rank = ltb rank 7 && pick (ltb stage 4) (eqb rank stage) (leb stage rank)
+mayCome stage rank = ltb rank 7 && cond (ltb stage 4) (eqb rank stage) (leb stage rank)
 
 -- ---- 2, with n corners and m passes
 

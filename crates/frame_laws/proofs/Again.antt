@@ -1,6 +1,6 @@
 -- What is printed of a frame within the limits is accepted and read back: the reader refuses nothing that 01 allows. Assumes nothing.
 use mathlib.Core.Path.{_≡_, refl, sym, ap, _∙_, subst}
-use mathlib.Core.Bool.{Bool, true, false, _&&_, _||_}
+use mathlib.Core.Bool.{Bool, true, false, _&&_, _||_, cond}
 use mathlib.Core.List.{List, [], _∷_, _++_, append-nil, map}
 use Prim.Native.Nat.{ℕ, suc, _≤_}
 use native.Mathlib.Omega.{arith}
@@ -8,7 +8,6 @@ use borrow.Author.Tests.{le-ltb, lt-ltb, le-leb, lt-leb}
 use lib.Dec.{leb}
 use lib.ListN.{length, length-append}
 use lib.Seq.{append-snoc}
-use Rattle.binary32.specs.Hex.{pick}
 use Rattle.sheet.specs.Cells.{onSheet, OnSheet, eqZ}
 use Rattle.sheet.proofs.Words.{yes}
 use Rattle.sheet.proofs.Laws.{eqZ-equal}
@@ -77,7 +76,7 @@ module _ (f : Frame) where
   passes-read n stage cs ls done (p ∷ rest) h k few r =
       read-one n stage (framed f cs ls done) (pass-line p) (map lineText (map pass-line rest)) (r .0 .patterns)
       (record { its-turn = in-turn stage 6 h k; room = fewer 16 done rest p few; tame = r .0 .ranges; on-sheet = refl; known = refl; new = refl })
-      ∙ ap (λ (s : ℕ). readLines (suc n) s (framed f cs ls (done ++ (p ∷ []))) (map lineText (map pass-line rest))) (ap (λ (x : Bool). pick x (suc stage) 6) (le-ltb stage 4 h))
+      ∙ ap (λ (s : ℕ). readLines (suc n) s (framed f cs ls (done ++ (p ∷ []))) (map lineText (map pass-line rest))) (ap (λ (x : Bool). cond x (suc stage) 6) (le-ltb stage 4 h))
       ∙ passes-read (suc n) 6 cs ls (done ++ (p ∷ [])) rest (omega arith) (omega arith) (subst (λ (ps : List PassLine). length ps ≤ 16) (sym (append-snoc done p rest)) few) (r .1)
       ∙ ap (λ (ps : List PassLine). accepted (framed f cs ls ps)) (append-snoc done p rest)
 
@@ -90,7 +89,7 @@ module _ (f : Frame) where
     labels-read n stage cs done (l ∷ rest) h k r s a =
         read-one n stage (framed f cs done []) (label-line l) (map lineText (map label-line rest ++ map pass-line ps)) (r .0 .patterns)
         (record { its-turn = in-turn stage 5 h k; room = refl; tame = r .0 .ranges; on-sheet = on-sheet l (s .0 .on-sheet); known = known (length cs) l (s .0); new = new done rest l a })
-        ∙ ap (λ (t : ℕ). readLines (suc n) t (framed f cs (done ++ (l ∷ [])) []) (map lineText (map label-line rest ++ map pass-line ps))) (ap (λ (x : Bool). pick x (suc stage) 5) (le-ltb stage 4 h))
+        ∙ ap (λ (t : ℕ). readLines (suc n) t (framed f cs (done ++ (l ∷ [])) []) (map lineText (map label-line rest ++ map pass-line ps))) (ap (λ (x : Bool). cond x (suc stage) 5) (le-ltb stage 4 h))
         ∙ labels-read (suc n) 5 cs (done ++ (l ∷ [])) rest (omega arith) (omega arith) (r .1) (s .1) (subst Apart (sym (append-snoc done l rest)) a)
         ∙ ap (λ (ls : List LabelLine). accepted (framed f cs ls ps)) (append-snoc done l rest)
 

@@ -1,6 +1,6 @@
 -- A text that is accepted is what is printed of the frame that was read, and that frame is within the limits. Assumes nothing.
 use mathlib.Core.Path.{_≡_, refl, sym, ap, _∙_, subst, subst₂}
-use mathlib.Core.Bool.{Bool, true, false, not, _&&_}
+use mathlib.Core.Bool.{Bool, true, false, not, _&&_, cond}
 use mathlib.Core.List.{List, [], _∷_, _++_, append-assoc, append-nil, map, map-append}
 use Prim.Native.Nat.{ℕ, _<_, _≤_}
 use native.Mathlib.Omega.{arith}
@@ -10,7 +10,6 @@ use lib.IntN.{ℤ, pos, negsuc}
 use lib.Signed.{leZ, ltZ}
 use lib.ListN.{length, take, length-append}
 use Rattle.refusal.specs.declared.Refusal.{Refusal}
-use Rattle.binary32.specs.Hex.{pick}
 use Rattle.sheet.specs.Cells.{onSheet, OnSheet, eqZ}
 use Rattle.sheet.specs.declared.Cell.{Cell}
 use Rattle.sheet.proofs.Laws.{equal-eqZ}
@@ -42,7 +41,7 @@ headLines f = frame-line ∷ cell-line (f .cell) ∷ axes-line (f .axes) ∷ ban
 
 -- up to stage 3 as many of the first four as the stage says, and from stage 4 on all lines of the frame
 linesUpTo : ℕ → Frame → List Line
-linesUpTo stage f = pick (ltb stage 4) (take stage (headLines f)) (linesIn f)
+linesUpTo stage f = cond (ltb stage 4) (take stage (headLines f)) (linesIn f)
 
 corner-last : (cs : List CornerLine) (c : CornerLine) → later (cs ++ (c ∷ [])) [] [] ≡ later cs [] [] ++ (corner-line c ∷ [])
 corner-last cs c = simp (map-append, append-nil)
@@ -59,7 +58,7 @@ turn-first : (stage rank : ℕ) → rank < 4 → inOrder stage rank ≡ true →
 unfolding inOrder
 turn-first stage rank h e = go (ltb stage 4) refl e
   where
-    go : (x : Bool) → ltb stage 4 ≡ x → pick x (eqb rank stage) (leb stage rank) ≡ true → stage ≡ rank
+    go : (x : Bool) → ltb stage 4 ≡ x → cond x (eqb rank stage) (leb stage rank) ≡ true → stage ≡ rank
     go true p q = sym (eqb-true rank stage q)
     go false p q = let a = ltb-false stage 4 p in let b = leb-true stage rank q in absurd (omega arith)
 
@@ -67,7 +66,7 @@ turn-later : (stage rank : ℕ) → 4 ≤ rank → inOrder stage rank ≡ true �
 unfolding inOrder
 turn-later stage rank h e = go (ltb stage 4) refl e
   where
-    go : (x : Bool) → ltb stage 4 ≡ x → pick x (eqb rank stage) (leb stage rank) ≡ true → (4 ≤ stage) × (stage ≤ rank)
+    go : (x : Bool) → ltb stage 4 ≡ x → cond x (eqb rank stage) (leb stage rank) ≡ true → (4 ≤ stage) × (stage ≤ rank)
     go true p q = let a = ltb-true stage 4 p in let b = eqb-true rank stage q in absurd (omega arith)
     go false p q = (ltb-false stage 4 p, leb-true stage rank q)
 
@@ -295,6 +294,6 @@ frame-prints-back text f e = go (ltb 65536 (length text)) refl e
     ends h o (one-fails k m last g s l a p w) q = absurd (let z : _≡_ {A = ℕ} 0 1 = cc in omega arith)
     ends h o (one-missing m last g a p k) q = absurd (let z : _≡_ {A = ℕ} 0 1 = cc in omega arith)
 
-    go : (x : Bool) → ltb 65536 (length text) ≡ x → pick x (refused-at Refusal.OverLimit 0) (readLines 1 0 nothing-read (linesOf text)) ≡ accepted f → FramePrintsBack text f
+    go : (x : Bool) → ltb 65536 (length text) ≡ x → cond x (refused-at Refusal.OverLimit 0) (readLines 1 0 nothing-read (linesOf text)) ≡ accepted f → FramePrintsBack text f
     go true p h = absurd (let z : _≡_ {A = ℕ} 0 1 = cc in omega arith)
     go false p h = ends (ltb-false 65536 (length text) p) (readLines 1 0 nothing-read (linesOf text)) (ending 1 0 nothing-read (linesOf text)) h

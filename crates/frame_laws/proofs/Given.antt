@@ -17,7 +17,7 @@ use Rattle.labels.specs.Labelled.{Attaching}
 use Rattle.labels.specs.Used.{usedOn, OneCell}
 use Rattle.labels.proofs.Used.{used-attached, used-empty, one-attached, one-empty}
 use Rattle.frame_line.specs.Lines.{LabelLine}
-use Rattle.frame.specs.Lent.{labelled}
+use Rattle.frame.specs.ReadFrame.{labelled}
 use Rattle.frame.specs.Text.{All, Sound, Apart}
 
 -- a label whose cell and corner are still free on the sheet

@@ -12,7 +12,7 @@ use Rattle.sheet.specs.declared.Label.{Label}
 use Rattle.sheet.proofs.Words.{Changed, attached-changes, label-here, hole-here, ambiguous-here, label-else, hole-else, ambiguous-else, no-corner, empty-length, empty-label, empty-hole, empty-ambiguous}
 use Rattle.frame_line.specs.Lines.{LabelLine}
 use Rattle.frame.specs.Frame.{Frame}
-use Rattle.frame.specs.Lent.{labelled, sheetOf}
+use Rattle.frame.specs.ReadFrame.{labelled, sheetOf}
 use Rattle.frame.specs.Text.{All, Sound, Apart, WithinLimits}
 use Rattle.frame_laws.specs.Calls.{NamedBy, GivenLabels}
 

@@ -9,7 +9,7 @@ use borrow.Author.Tests.{eqb-true, ne-eqb}
 use lib.Dec.{eqb, ltb}
 use lib.IntN.{pos, negsuc}
 use lib.ListN.{drop}
-use Rattle.binary32.specs.Hex.{pick, digitOf, digits}
+use Rattle.binary32.specs.Hex.{digitOf, digits}
 use Rattle.line_form.specs.Integers.{decimalUpTo, decimal, integerText}
 use Rattle.line_form.specs.Forms.{Number, bits, whole, numberText, isSlot, firstText, printed}
 use Rattle.frame_line.specs.Lines.{Line, Kind, frame-kind, cell-kind, axes-kind, band-kind, corner-kind, label-kind, bare-grow-kind, grow-kind, bare-fill-kind, fill-kind, local-kind, formOf, kindOf, numbersOf, lineText}
@@ -21,7 +21,7 @@ use Rattle.frame.specs.Text.{textOfLines}
 -- no LF, byte 10
 noEnd : List ℕ → Bool
 noEnd [] = true
-noEnd (b ∷ text) = pick (eqb b 10) false (noEnd text)
+noEnd (b ∷ text) = cond (eqb b 10) false (noEnd text)
 
 isNone : List ℕ → Bool
 isNone [] = true
@@ -30,14 +30,14 @@ isNone (b ∷ text) = false
 -- an LF at the end, and none before it
 endsOnce : List ℕ → Bool
 endsOnce [] = false
-endsOnce (b ∷ text) = pick (eqb b 10) (isNone text) (endsOnce text)
+endsOnce (b ∷ text) = cond (eqb b 10) (isNone text) (endsOnce text)
 
 no-end-then : (a b : List ℕ) → noEnd a ≡ true → noEnd b ≡ true → noEnd (a ++ b) ≡ true
 unfolding noEnd
 no-end-then [] b e f = f
 no-end-then (c ∷ a) b e f = go (eqb c 10) (λ h. no-end-then a b h f) e
   where
-    go : (x : Bool) → (noEnd a ≡ true → noEnd (a ++ b) ≡ true) → pick x false (noEnd a) ≡ true → pick x false (noEnd (a ++ b)) ≡ true
+    go : (x : Bool) → (noEnd a ≡ true → noEnd (a ++ b) ≡ true) → cond x false (noEnd a) ≡ true → cond x false (noEnd (a ++ b)) ≡ true
     go true ih h = h
     go false ih h = ih h
 
@@ -65,7 +65,7 @@ decimal-no-end (suc f) n = go (ltb n 10) (decimal-no-end f (n / 10))
     last : noEnd ((48 + n % 10) ∷ []) ≡ true
     last = no-end-cons (48 + n % 10) [] (omega arith) refl
 
-    go : (x : Bool) → noEnd (decimalUpTo f (n / 10)) ≡ true → noEnd (pick x [] (decimalUpTo f (n / 10)) ++ ((48 + n % 10) ∷ [])) ≡ true
+    go : (x : Bool) → noEnd (decimalUpTo f (n / 10)) ≡ true → noEnd (cond x [] (decimalUpTo f (n / 10)) ++ ((48 + n % 10) ∷ [])) ≡ true
     go true e = last
     go false e = no-end-then (decimalUpTo f (n / 10)) ((48 + n % 10) ∷ []) e last
 
@@ -85,7 +85,7 @@ unfolding noEnd endsOnce
 ends-then [] b e f = f
 ends-then (c ∷ a) b e f = go (eqb c 10) (λ h. ends-then a b h f) e
   where
-    go : (x : Bool) → (noEnd a ≡ true → endsOnce (a ++ b) ≡ true) → pick x false (noEnd a) ≡ true → pick x (isNone (a ++ b)) (endsOnce (a ++ b)) ≡ true
+    go : (x : Bool) → (noEnd a ≡ true → endsOnce (a ++ b) ≡ true) → cond x false (noEnd a) ≡ true → cond x (isNone (a ++ b)) (endsOnce (a ++ b)) ≡ true
     go true ih h = absurd (let z : _≡_ {A = ℕ} 0 1 = cc in omega arith)
     go false ih h = ih h
 
@@ -99,7 +99,7 @@ printed-ends [] ns e = e
 printed-ends (c ∷ form) ns e = go (isSlot c) (eqb c 10) refl refl form ns (λ ms h. printed-ends form ms h) e
   where
     go : (x y : Bool) → isSlot c ≡ x → eqb c 10 ≡ y → (form : List ℕ) (ns : List Number) → ((ms : List Number) → endsOnce form ≡ true → endsOnce (printed form ms) ≡ true)
-        → pick y (isNone form) (endsOnce form) ≡ true → endsOnce (pick x (firstText ns) (c ∷ []) ++ printed form (pick x (drop 1 ns) ns)) ≡ true
+        → cond y (isNone form) (endsOnce form) ≡ true → endsOnce (cond x (firstText ns) (c ∷ []) ++ printed form (cond x (drop 1 ns) ns)) ≡ true
     go true true p q form ns ih h = absurd (slot-no-end c p q)
     go true false p q form ns ih h = ends-then (firstText ns) (printed form (drop 1 ns)) (first-no-end ns) (ih (drop 1 ns) h)
     go false true p q [] ns ih h = rw q
@@ -131,7 +131,7 @@ unfolding endsOnce isNone linesOf
 first-line [] rest e = absurd (let z : _≡_ {A = ℕ} 0 1 = cc in omega arith)
 first-line (b ∷ text) rest e = go (eqb b 10) refl text (λ h. first-line text rest h) e
   where
-    go : (x : Bool) → eqb b 10 ≡ x → (text : List ℕ) → (endsOnce text ≡ true → linesOf (text ++ rest) ≡ text ∷ linesOf rest) → pick x (isNone text) (endsOnce text) ≡ true
+    go : (x : Bool) → eqb b 10 ≡ x → (text : List ℕ) → (endsOnce text ≡ true → linesOf (text ++ rest) ≡ text ∷ linesOf rest) → cond x (isNone text) (endsOnce text) ≡ true
         → onto b (linesOf (text ++ rest)) ≡ (b ∷ text) ∷ linesOf rest
     go true p [] ih h = rw p
     go true p (c ∷ text) ih h = absurd (let z : _≡_ {A = ℕ} 0 1 = cc in omega arith)
@@ -159,6 +159,6 @@ unfolding joined linesOf
 lines-joined [] = refl
 lines-joined (b ∷ text) = go (eqb b 10) ∙ ap (λ (t : List ℕ). b ∷ t) (lines-joined text)
   where
-    go : (x : Bool) → joined (pick x ((b ∷ []) ∷ linesOf text) (longer b (linesOf text))) ≡ b ∷ joined (linesOf text)
+    go : (x : Bool) → joined (cond x ((b ∷ []) ∷ linesOf text) (longer b (linesOf text))) ≡ b ∷ joined (linesOf text)
     go true = refl
     go false = joined-longer b (linesOf text)

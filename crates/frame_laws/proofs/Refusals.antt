@@ -1,6 +1,6 @@
 -- How the reading of a frame ends, that each refusal means what the table says, and that what the table says is refused so. Assumes nothing.
 use mathlib.Core.Path.{_≡_, refl, sym, ap, _∙_, subst}
-use mathlib.Core.Bool.{Bool, true, false}
+use mathlib.Core.Bool.{Bool, true, false, cond}
 use mathlib.Core.List.{List, [], _∷_, _++_, append-nil}
 use Prim.Native.Nat.{ℕ, suc, _+_, _<_, _≤_}
 use native.Mathlib.Omega.{arith}
@@ -9,7 +9,6 @@ use lib.Dec.{ltb}
 use lib.ListN.{length, getD, take, drop}
 use lib.Seq.{length-take-le, split-at}
 use Rattle.refusal.specs.declared.Refusal.{Refusal}
-use Rattle.binary32.specs.Hex.{pick}
 use Rattle.frame_line.specs.Lines.{LineRead, readLine}
 use Rattle.frame.specs.Frame.{Frame, linesOf, overLimit, outOfRange, checkedLine, Step, stopped, onward, stepWith, stepLine, FrameRead, refused-at, accepted, atEnd, going, readLines, readFrame, nothing-read}
 use Rattle.frame.specs.Text.{FirstFault, has-no-form, not-its-turn, too-many, is-wild, is-off-sheet, is-unknown, is-doubled, Passed, none-yet, one-more, Refused, too-long, at-line, missing, RefusalsMean}
@@ -34,7 +33,7 @@ pub ending : (n stage : ℕ) (f : Frame) (texts : List (List ℕ)) → Ending n 
 unfolding readLines atEnd
 ending n stage f [] = go (ltb stage 4) refl
   where
-    go : (x : Bool) → ltb stage 4 ≡ x → Ending n stage f [] (pick x (refused-at Refusal.Malformed n) (accepted f))
+    go : (x : Bool) → ltb stage 4 ≡ x → Ending n stage f [] (cond x (refused-at Refusal.Malformed n) (accepted f))
     go true e = one-missing n stage f (omega arith) none-yet (ltb-true stage 4 e)
     go false e = all-read stage f none-yet (ltb-false stage 4 e)
 ending n stage f (text ∷ texts) = go (stepLine stage f text) refl (λ stage' f'. ending (suc n) stage' f' texts)
@@ -63,7 +62,7 @@ refusals-mean text r n e = go (ltb 65536 (length text)) refl e
         let here : suc (length (linesOf text)) ≡ n = omega arith in
         subst (λ (s : Refusal). Refused text s n) same (subst (Refused text Refusal.Malformed) here (missing last g h p k))
 
-    go : (x : Bool) → ltb 65536 (length text) ≡ x → pick x (refused-at Refusal.OverLimit 0) (readLines 1 0 nothing-read (linesOf text)) ≡ refused-at r n → Refused text r n
+    go : (x : Bool) → ltb 65536 (length text) ≡ x → cond x (refused-at Refusal.OverLimit 0) (readLines 1 0 nothing-read (linesOf text)) ≡ refused-at r n → Refused text r n
     go true p h =
         let same : Refusal.OverLimit ≡ r = cc in
         let number : 0 ≡ n = cc in

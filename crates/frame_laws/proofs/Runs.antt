@@ -20,12 +20,12 @@ use Rattle.arguments.specs.Accepted.{CornerInside, SettingsInside, PassInside}
 use Rattle.passes.specs.Outcome.{After, Outcome, done}
 use Rattle.passes.specs.Step.{CornerLists}
 use Rattle.passes.specs.Run.{Call, PassStats, step, sheetAfter, run, sheetOf as sheetLeft}
-use Rattle.invariants.specs.Calls.{Standing, Fit, Accepts, passOf as passChecked}
+use Rattle.invariants.specs.Calls.{Standing, CallInside, Accepts, passOf as passChecked}
 use Rattle.invariants.proofs.Run.{standing-step, fit-accepts, never-refused, invariants}
 use Rattle.frame_line.specs.Lines.{CornerLine, PassLine, bare-grow, grow, bare-fill, fill, local, corner-line, label-line, pass-line}
 use Rattle.frame.specs.Frame.{Frame, floatOf, wild, wildCount, wildPass, outOfRange}
 use Rattle.frame.specs.Text.{All, InRange, Sound, WithinLimits}
-use Rattle.frame.specs.Lent.{xsOf, ysOf, pitchesOf, sheetOf, settingsOf, fullOf, passOf}
+use Rattle.frame.specs.ReadFrame.{xsOf, ysOf, pitchesOf, sheetOf, settingsOf, fullOf, passOf}
 use Rattle.frame_laws.specs.Calls.{cornersOf, frameRooms, passCall, callOf, callsOf, NoneRefused, Starts, AcceptedRuns}
 use Rattle.frame_laws.proofs.Lists.{all-left, all-right}
 use Rattle.frame_laws.proofs.Back.{frame-prints-back}
@@ -149,7 +149,7 @@ module _ (f : Frame) (w : WithinLimits f) where
   few : length (xsOf f) ≤ 1024
   few = omega (arith, same-length, w .corners)
 
-  pass-fit : (p : PassLine) → outOfRange (pass-line p) ≡ false → Fit (cornersOf f) (callOf f p)
+  pass-fit : (p : PassLine) → outOfRange (pass-line p) ≡ false → CallInside (cornersOf f) (callOf f p)
   unfolding outOfRange
   pass-fit p e =
       let q = sym (checked-so (passOf (fullOf p))) in
@@ -162,11 +162,11 @@ module _ (f : Frame) (w : WithinLimits f) where
         pass-inside = subst PassInside q (pass-inside p e);
       }
 
-  passes-fit : (ps : List PassLine) → All InRange (map pass-line ps) → All (Fit (cornersOf f)) (map (callOf f) ps)
+  passes-fit : (ps : List PassLine) → All InRange (map pass-line ps) → All (CallInside (cornersOf f)) (map (callOf f) ps)
   passes-fit [] r = tt
   passes-fit (p ∷ ps) r = (pass-fit p (r .0 .ranges), passes-fit ps (r .1))
 
-  calls-fit : All (Fit (cornersOf f)) (callsOf f)
+  calls-fit : All (CallInside (cornersOf f)) (callsOf f)
   unfolding callsOf
   calls-fit = passes-fit (f .passes) pass-lines
 
@@ -185,14 +185,14 @@ module _ (f : Frame) (w : WithinLimits f) where
 
 -- ---- none is refused
 
-all-accepted : (l : CornerLists) (sheet : List ℕ) → Standing l sheet → (before cs : List Call) → All (Fit l) cs → All (Accepts l (sheetLeft l sheet before)) cs
+all-accepted : (l : CornerLists) (sheet : List ℕ) → Standing l sheet → (before cs : List Call) → All (CallInside l) cs → All (Accepts l (sheetLeft l sheet before)) cs
 all-accepted l sheet s before [] g = tt
 all-accepted l sheet s before (c ∷ cs) g = (never-refused l sheet s before c (g .0), all-accepted l sheet s before cs (g .1))
 
 not-refused : (o : Outcome PassStats) (a : After PassStats) (os : List (Outcome PassStats)) → o ≡ done a → NoneRefused os → NoneRefused (o ∷ os)
 not-refused o a os e h = subst (λ (x : Outcome PassStats). NoneRefused (x ∷ os)) (sym e) h
 
-none-refused : (l : CornerLists) (sheet : List ℕ) → Standing l sheet → (cs : List Call) → All (Fit l) cs → NoneRefused (run l sheet cs)
+none-refused : (l : CornerLists) (sheet : List ℕ) → Standing l sheet → (cs : List Call) → All (CallInside l) cs → NoneRefused (run l sheet cs)
 unfolding run
 none-refused l sheet s [] g = tt
 none-refused l sheet s (c ∷ cs) g =

@@ -12,11 +12,11 @@ use Rattle.arguments.specs.declared.Pass.{Pass}
 use Rattle.passes.specs.Outcome.{Outcome, refused, done}
 use Rattle.passes.specs.Step.{CornerLists, Rooms}
 use Rattle.passes.specs.Run.{PassCall, grow, fill, local, Call, PassStats, run, sheetOf as sheetLeft}
-use Rattle.invariants.specs.Calls.{Standing, Invariant, Fit, Accepts}
+use Rattle.invariants.specs.Calls.{Standing, Invariant, CallInside, Accepts}
 use Rattle.frame_line.specs.Lines.{LabelLine, PassLine}
 use Rattle.frame.specs.Frame.{Frame, readFrame, accepted}
 use Rattle.frame.specs.Text.{All}
-use Rattle.frame.specs.Lent.{xsOf, ysOf, pitchesOf, sheetOf, settingsOf, fullOf, passOf}
+use Rattle.frame.specs.ReadFrame.{xsOf, ysOf, pitchesOf, sheetOf, settingsOf, fullOf, passOf}
 
 -- the corners of a frame, as each call is lent them
 abbrev pub cornersOf : Frame → CornerLists
@@ -71,7 +71,7 @@ pub record Starts (f : Frame) : Type 0 where
   pub given : GivenLabels f
   pub standing : Standing (cornersOf f) (sheetOf f)
   pub invariant : (calls : List Call) → Invariant (cornersOf f) (sheetOf f) calls
-  pub fit : All (Fit (cornersOf f)) (callsOf f)
+  pub fit : All (CallInside (cornersOf f)) (callsOf f)
   pub accepts : (calls : List Call) → All (Accepts (cornersOf f) (sheetLeft (cornersOf f) (sheetOf f) calls)) (callsOf f)
   pub runs : NoneRefused (run (cornersOf f) (sheetOf f) (callsOf f))
 

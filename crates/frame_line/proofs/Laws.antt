@@ -1,7 +1,7 @@
 -- Laws of a frame's lines: a line that is printed is read back, and a line that was read is what would be printed of it. A line of one kind has
 -- none of the forms tried before its own: they differ at a byte before any number. Assumes nothing.
 use mathlib.Core.Path.{_≡_, refl, sym, ap, _∙_, subst}
-use mathlib.Core.Bool.{Bool, true, false, _||_}
+use mathlib.Core.Bool.{Bool, true, false, _||_, cond}
 use mathlib.Core.List.{List, [], _∷_, _++_}
 use Prim.Native.Nat.{ℕ, suc, _<_}
 use native.Mathlib.Omega.{arith}
@@ -9,7 +9,6 @@ use borrow.Author.Tests.{eqb-true, eq-eqb}
 use lib.Dec.{eqb}
 use lib.IntN.{ℤ}
 use lib.ListN.{take, drop}
-use Rattle.binary32.specs.Hex.{pick}
 use Rattle.line_form.specs.Forms.{Number, bits, whole, isSlot, printed, pieceOf, bytePiece, Fitted, misfit, fitted, fitOf, Suits, none-left, a-float, an-integer, a-byte, apart, PrintsBack}
 use Rattle.line_form.proofs.Laws.{reads-back, prints-back}
 use Rattle.frame_line.specs.Lines.{Line, frame-line, cell-line, axes-line, band-line, corner-line, label-line, pass-line, bare-grow, grow, bare-fill, fill, local, Kind, frame-kind, cell-kind, axes-kind, band-kind, corner-kind, label-kind, bare-grow-kind, grow-kind, bare-fill-kind, fill-kind, local-kind, formOf, kinds, kindOf, numbersOf, lineText, bitsAt, wholeAt, lineOf, line, orElse, firstFit, readLine, AllPatterns, LineReadsBack, LinePrintsBack}
@@ -19,7 +18,7 @@ use Rattle.frame_line.specs.Lines.{Line, frame-line, cell-line, axes-lin
 -- the kinds of a form's numbers in order: true for a float, false for an integer
 slots : List ℕ → List Bool
 slots [] = []
-slots (c ∷ form) = pick (eqb c 37) (true ∷ slots form) (pick (eqb c 35) (false ∷ slots form) (slots form))
+slots (c ∷ form) = cond (eqb c 37) (true ∷ slots form) (cond (eqb c 35) (false ∷ slots form) (slots form))
 
 -- numbers of these kinds
 data OfKinds : List Bool → List Number → Type 0 where
@@ -53,7 +52,7 @@ kinds-suit [] ns no-number = none-left
 kinds-suit (c ∷ form) ns k = go (eqb c 37) (eqb c 35) refl refl ns (λ ms. kinds-suit form ms) k
   where
     go : (x y : Bool) → eqb c 37 ≡ x → eqb c 35 ≡ y → (ns : List Number) → ((ms : List Number) → OfKinds (slots form) ms → Suits form ms)
-        → OfKinds (pick x (true ∷ slots form) (pick y (false ∷ slots form) (slots form))) ns → Suits (c ∷ form) ns
+        → OfKinds (cond x (true ∷ slots form) (cond y (false ∷ slots form) (slots form))) ns → Suits (c ∷ form) ns
     go true y p q ns rest (float-first {ns = ms} b h k) = subst (λ (d : ℕ). Suits (d ∷ form) (bits b ∷ ms)) (sym (eqb-true c 37 p)) (a-float b h (rest ms k))
     go false true p q ns rest (integer-first {ns = ms} z k) = subst (λ (d : ℕ). Suits (d ∷ form) (whole z ∷ ms)) (sym (eqb-true c 35 q)) (an-integer z (rest ms k))
     go false false p q ns rest k = a-byte c (rw (p, q)) (rest ns k)
@@ -144,7 +143,7 @@ forms-apart local-kind = refl
 told : List ℕ → List ℕ → Bool
 told [] form = false
 told (c ∷ other) [] = false
-told (c ∷ other) (d ∷ form) = pick (isSlot c || isSlot d) false (pick (eqb d c) (told other form) true)
+told (c ∷ other) (d ∷ form) = cond (isSlot c || isSlot d) false (cond (eqb d c) (told other form) true)
 
 -- a byte at the front of a text
 byte-piece : (c : ℕ) (text : List ℕ) → isSlot c ≡ false → pieceOf c text ≡ bytePiece c text
@@ -170,7 +169,7 @@ told-misfits (c ∷ other) [] ns e = absurd (let z : _≡_ {A = ℕ} 0 1 = cc in
 told-misfits (c ∷ other) (d ∷ form) ns e = go (isSlot c) (isSlot d) (eqb d c) refl refl refl (λ h. told-misfits other form ns h) e
   where
     go : (x y z : Bool) → isSlot c ≡ x → isSlot d ≡ y → eqb d c ≡ z → (told other form ≡ true → fitOf other (printed form ns) ≡ misfit)
-        → pick (x || y) false (pick z (told other form) true) ≡ true → fitOf (c ∷ other) (printed (d ∷ form) ns) ≡ misfit
+        → cond (x || y) false (cond z (told other form) true) ≡ true → fitOf (c ∷ other) (printed (d ∷ form) ns) ≡ misfit
     go true y z p q r ih h = absurd (let z : _≡_ {A = ℕ} 0 1 = cc in omega arith)
     go false true z p q r ih h = absurd (let z : _≡_ {A = ℕ} 0 1 = cc in omega arith)
     go false false true p q r ih h =
@@ -180,7 +179,7 @@ told-misfits (c ∷ other) (d ∷ form) ns e = go (isSlot c) (isSlot d) (eqb d c
 -- the forms of these kinds are told from the form of k
 allTold : List Kind → Kind → Bool
 allTold [] k = true
-allTold (j ∷ js) k = pick (told (formOf j) (formOf k)) (allTold js k) false
+allTold (j ∷ js) k = cond (told (formOf j) (formOf k)) (allTold js k) false
 
 -- a line of the kind k is not taken for a line of these kinds
 passed-over : (js ks : List Kind) (k : Kind) (ns : List Number) → allTold js k ≡ true → firstFit (js ++ ks) (printed (formOf k) ns) ≡ firstFit ks (printed (formOf k) ns)
@@ -189,7 +188,7 @@ passed-over [] ks k ns e = refl
 passed-over (j ∷ js) ks k ns e = go (told (formOf j) (formOf k)) refl (λ h. passed-over js ks k ns h) e
   where
     go : (x : Bool) → told (formOf j) (formOf k) ≡ x → (allTold js k ≡ true → firstFit (js ++ ks) (printed (formOf k) ns) ≡ firstFit ks (printed (formOf k) ns))
-        → pick x (allTold js k) false ≡ true
+        → cond x (allTold js k) false ≡ true
         → orElse j (fitOf (formOf j) (printed (formOf k) ns)) (firstFit (js ++ ks) (printed (formOf k) ns)) ≡ firstFit ks (printed (formOf k) ns)
     go true p ih h = ap (λ (f : Fitted). orElse j f (firstFit (js ++ ks) (printed (formOf k) ns))) (told-misfits (formOf j) (formOf k) ns p) ∙ ih h
     go false p ih h = absurd (let z : _≡_ {A = ℕ} 0 1 = cc in omega arith)

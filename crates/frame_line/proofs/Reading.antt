@@ -1,13 +1,12 @@
 -- A line read by the forms in order: the words of a form's numbers hold what the line of its kind says. Assumes nothing.
 use mathlib.Core.Path.{_≡_, refl, sym, ap, ap₂, subst, _∙_}
-use mathlib.Core.Bool.{Bool, true, false, _||_, true≢false}
+use mathlib.Core.Bool.{Bool, true, false, _||_, true≢false, cond}
 use mathlib.Core.List.{List, [], _∷_}
 use Prim.Native.Nat.{ℕ, suc, _+_, _-_, min}
 use native.Mathlib.Omega.{arith}
 use borrow.Author.Tests.{lt-ltb, le-ltb}
 use lib.IntN.{ℤ, pos, negsuc, _-ℤ_}
 use lib.Dec.{eqb}
-use Rattle.binary32.specs.Hex.{pick}
 use Rattle.sheet.specs.declared.Cell.{Cell}
 use Rattle.sheet.proofs.Laws.{sub-lo, sub-hi}
 use Rattle.line_form.specs.Forms.{Number, bits, whole, Fitted, misfit, fitted, fitOf, isSlot, Suits, none-left, a-float, an-integer, a-byte}
@@ -37,7 +36,7 @@ cell-held i j = λ t. record { i = cut-held i t; j = cut-held j t }
 
 abbrev slotsOf : List ℕ → List Bool
 slotsOf [] = []
-slotsOf (c ∷ form) = pick (eqb c 37) (true ∷ slotsOf form) (pick (eqb c 35) (false ∷ slotsOf form) (slotsOf form))
+slotsOf (c ∷ form) = cond (eqb c 37) (true ∷ slotsOf form) (cond (eqb c 35) (false ∷ slotsOf form) (slotsOf form))
 
 data Sorted : List Bool → List Number → Type 0 where
   no-more : Sorted [] []
@@ -47,7 +46,7 @@ data Sorted : List Bool → List Number → Type 0 where
 no-slot : (c : ℕ) (form : List ℕ) → isSlot c ≡ false → slotsOf form ≡ slotsOf (c ∷ form)
 no-slot c form e = go (eqb c 37) (eqb c 35) e
   where
-    go : (a b : Bool) → (a || b) ≡ false → slotsOf form ≡ pick a (true ∷ slotsOf form) (pick b (false ∷ slotsOf form) (slotsOf form))
+    go : (a b : Bool) → (a || b) ≡ false → slotsOf form ≡ cond a (true ∷ slotsOf form) (cond b (false ∷ slotsOf form) (slotsOf form))
     go true b h = absurd (true≢false h)
     go false true h = absurd (true≢false h)
     go false false h = refl

@@ -1,10 +1,10 @@
 -- A line as the code holds it: floats as their bits, integers cut to a size that a word has room for. Definitions only.
+use mathlib.Core.Bool.{cond}
 use mathlib.Core.List.{List, [], _∷_}
 use Prim.Native.Nat.{ℕ, _-_, min}
 use lib.IntN.{ℤ, pos, negsuc, _-ℤ_}
 use lib.Dec.{ltb}
 use lib.ListN.{getD}
-use Rattle.binary32.specs.Hex.{pick}
 use Rattle.sheet.specs.declared.Cell.{Cell}
 use Rattle.frame_line.specs.Lines.{CornerLine, LabelLine, PassLine, bare-grow, grow, bare-fill, fill, local, Axes, Line, frame-line, cell-line, axes-line, band-line, corner-line, label-line, pass-line, Kind, frame-kind, cell-kind, axes-kind, band-kind, corner-kind, label-kind, bare-grow-kind, grow-kind, bare-fill-kind, fill-kind, local-kind, LineRead, ill-formed, line}
 use Rattle.frame_line.specs.declared.HeldAxes.{HeldAxes}
@@ -59,7 +59,7 @@ held (line l) = heldLine l
 -- ---- from the words of a form's numbers (crate line_form, Held), in which an integer stands 1,000,000 higher
 
 abbrev pub countIn : ℕ → ℕ
-countIn w = pick (ltb w 1000000) 1000000 (w - 1000000)
+countIn w = cond (ltb w 1000000) 1000000 (w - 1000000)
 
 abbrev pub cellIn : ℕ → ℕ → Cell
 cellIn i j = record { i = pos (min 2000000 i) -ℤ pos 1000000; j = pos (min 2000000 j) -ℤ pos 1000000 }

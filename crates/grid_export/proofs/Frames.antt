@@ -11,7 +11,7 @@ use lib.Ieee.{Float}
 use Rattle.refusal.specs.declared.Refusal.{Refusal}
 use Rattle.refusal.specs.Refusal.{numberOf}
 use Rattle.frame.specs.Frame.{Frame, FrameRead, refused-at, accepted, readFrame}
-use Rattle.frame.specs.Lent.{Buffers, FrameOut, frameOut, tooShort, leaves, unlessShort, readInto}
+use Rattle.frame.specs.ReadFrame.{Buffers, FrameOut, frameOut, tooShort, leaves, unlessShort, readInto}
 use Rattle.frame.specs.declared.FrameHead.{FrameHead}
 use Rattle.frame.specs.declared.FrameAnswer.{FrameAnswer}
 use Rattle.frame_laws.proofs.Back.{frame-prints-back}

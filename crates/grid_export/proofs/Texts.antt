@@ -13,7 +13,7 @@ use Rattle.arguments.specs.declared.Checked.{Checked}
 use Rattle.arguments.proofs.Chains.{or-false-both, not-refused}
 use Rattle.passes.specs.Run.{PassStats}
 use Rattle.report_line.specs.Result.{linesFrom, resultLine, lineCount, resultFrom, Piece}
-use Rattle.report.specs.Lent.{Lent, statsIn, textOf, inputShort, overLimit, wild, checkedRest, checkedText, TextOut, textOut, textLeaves, writesText, pieceIn, checkedPiece, PieceOut, pieceOut, pieceLeaves, writesPiece}
+use Rattle.report.specs.WriteResult.{TextLent, statsIn, textOf, inputShort, overLimit, wild, checkedRest, checkedText, TextOut, textOut, textLeaves, writesText, pieceIn, checkedPiece, PieceOut, pieceOut, pieceLeaves, writesPiece}
 use Rattle.report.specs.declared.TextAnswer.{TextAnswer}
 use Rattle.report.specs.declared.PieceAnswer.{PieceAnswer}
 use Rattle.report.proofs.Joining.{no-lines, one-line-more}
@@ -34,15 +34,15 @@ lines-length line k (suc n) h =
     omega (arith, ap length (one-line-more line k n), length-append (line k) (linesFrom line (suc k) n), here, rest)
 
 -- what nothing is refused of has few passes, and outcomes that can be printed
-record Few (l : Lent) : Type 0 where
+record Few (l : TextLent) : Type 0 where
   passes : l .passes ≤ 16
   tame : wild l ≡ false
 
-few-passes : (l : Lent) → overLimit l ≡ false → l .passes ≤ 16
+few-passes : (l : TextLent) → overLimit l ≡ false → l .passes ≤ 16
 unfolding overLimit
 few-passes l e = ltb-false 16 (l .passes) (or-false-both (ltb 16 (l .passes)) _ e .0)
 
-module _ (l : Lent) (few : Few l) where
+module _ (l : TextLent) (few : Few l) where
   abbrev stats : List PassStats
   stats = statsIn (l .passes) (l .words)
 
@@ -68,7 +68,7 @@ module _ (l : Lent) (few : Few l) where
 
 -- ---- the whole text
 
-module _ (l : Lent) (text out : List ℕ) where
+module _ (l : TextLent) (text out : List ℕ) where
   text-cleared : checkedText l (length text) ≡ Checked.Fine → Few l
   unfolding checkedText checkedRest
   text-cleared e =
@@ -110,7 +110,7 @@ module _ (l : Lent) (text out : List ℕ) where
 
 -- ---- a piece
 
-module _ (l : Lent) (from : ℕ) (text out : List ℕ) where
+module _ (l : TextLent) (from : ℕ) (text out : List ℕ) where
   piece-cleared : checkedPiece l from (length text) ≡ Checked.Fine → Few l × (from ≤ lineCount (l .passes))
   unfolding checkedPiece
   piece-cleared e =

@@ -9,7 +9,7 @@ use lib.Ieee.{Float}
 use Rattle.refusal.specs.declared.Refusal.{Refusal}
 use Rattle.refusal.specs.Refusal.{numberOf}
 use Rattle.arguments.specs.declared.Settings.{Settings}
-use Rattle.frame.specs.Lent.{Buffers, FrameOut, readInto}
+use Rattle.frame.specs.ReadFrame.{Buffers, FrameOut, readInto}
 use Rattle.frame.specs.declared.FrameHead.{FrameHead}
 use Rattle.frame.specs.declared.FrameAnswer.{FrameAnswer}
 

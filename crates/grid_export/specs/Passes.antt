@@ -10,10 +10,11 @@ use Rattle.arguments.specs.declared.Settings.{Settings}
 use Rattle.arguments.specs.declared.GrowParams.{GrowParams}
 use Rattle.arguments.specs.declared.FillParams.{FillParams}
 use Rattle.arguments.specs.declared.LocalExtensionParams.{LocalExtensionParams}
-use Rattle.passes.specs.Outcome.{After, Outcome, refused, done, over}
+use Rattle.passes.specs.Outcome.{After, Outcome, refused, done}
 use Rattle.passes.specs.Step.{CornerLists, growStep, fillStep, localStep, rooms}
 use Rattle.passes.specs.Run.{PassStats, growStats, fillStats, localStats, renamed}
 use Rattle.report.specs.Asked.{withOutcome}
+use Rattle.arguments.specs.Front.{over}
 
 -- ---- numbers as the calls have them
 

@@ -5,7 +5,7 @@ use Prim.Native.Nat.{ℕ}
 use lib.Dec.{ltb}
 use lib.ListN.{length, drop}
 use Rattle.refusal.specs.Refusal.{numberOf}
-use Rattle.report.specs.Lent.{Lent, TextOut, writesText, PieceOut, writesPiece}
+use Rattle.report.specs.WriteResult.{TextLent, TextOut, writesText, PieceOut, writesPiece}
 use Rattle.report.specs.declared.TextAnswer.{TextAnswer}
 use Rattle.report.specs.declared.PieceAnswer.{PieceAnswer}
 
@@ -28,11 +28,11 @@ abbrev pub textWritten : TextOut → List ℕ → TextLeft
 textWritten o out = textTold (o .answer) (o .out) out
 
 -- 7 where there is no room for the word, before anything is tried
-abbrev pub textUnless : Bool → Lent → List ℕ → List ℕ → TextLeft
+abbrev pub textUnless : Bool → TextLent → List ℕ → List ℕ → TextLeft
 textUnless true l text out = textLeft 7 text out
 textUnless false l text out = textWritten (writesText l text) out
 
-unfoldable pub textExported : Lent → List ℕ → List ℕ → TextLeft
+unfoldable pub textExported : TextLent → List ℕ → List ℕ → TextLeft
 textExported l text out = textUnless (ltb (length out) 1) l text out
 
 -- ---- a piece of it: its length and the next line in two words
@@ -44,9 +44,9 @@ pieceTold (PieceAnswer.Written bytes next) text out = textLeft 0 text (bytes ∷
 abbrev pub pieceWritten : PieceOut → List ℕ → TextLeft
 pieceWritten o out = pieceTold (o .answer) (o .out) out
 
-abbrev pub pieceUnless : Bool → Lent → ℕ → List ℕ → List ℕ → TextLeft
+abbrev pub pieceUnless : Bool → TextLent → ℕ → List ℕ → List ℕ → TextLeft
 pieceUnless true l from text out = textLeft 7 text out
 pieceUnless false l from text out = pieceWritten (writesPiece l from text) out
 
-unfoldable pub pieceExported : Lent → ℕ → List ℕ → List ℕ → TextLeft
+unfoldable pub pieceExported : TextLent → ℕ → List ℕ → List ℕ → TextLeft
 pieceExported l from text out = pieceUnless (ltb (length out) 2) l from text out

@@ -3,7 +3,7 @@ ghost use mathlib.Core.Path.{_≡_};
 ghost use Prim.Native.Nat.{_≤_};
 ghost use lib.ListN.{length};
 ghost use Rattle.frame.specs.Reading.{buffers};
-ghost use Rattle.frame.specs.Lent.{readInto};
+ghost use Rattle.frame.specs.ReadFrame.{readInto};
 ghost use Rattle.grid_export.specs.Frames.{Word, settingsEntered, countsEntered, told, frameTold, frameLeft, frameRead, headShort, frameExported, refusedAnswer, HeadRoom, Sayable};
 use arguments::Settings;
 use frame::FrameAnswer;

@@ -2,7 +2,7 @@
 ghost use mathlib.Core.Path.{_≡_};
 ghost use Prim.Native.Nat.{_≤_};
 ghost use lib.ListN.{length};
-ghost use Rattle.report.specs.Lent.{lent, writesText, writesPiece};
+ghost use Rattle.report.specs.WriteResult.{textLent, writesText, writesPiece};
 ghost use Rattle.grid_export.specs.Texts.{textLeft, textWritten, textExported, pieceWritten, pieceExported};
 use report::PieceAnswer;
 use report::TextAnswer;
@@ -17,7 +17,7 @@ fn run_text(
     out: &mut [u32],
 ) -> u32
     requires { ⌜ 1 ≤ length (now out) ⌝ }
-    ensures { λ r. ⌜ textLeft r (now (text .exit)) (now (out .exit)) ≡ textWritten (writesText (lent corners passes (now (words .entry)) (now (sheet .entry))) (now (text .entry))) (now (out .entry)) ⌝ }
+    ensures { λ r. ⌜ textLeft r (now (text .exit)) (now (out .exit)) ≡ textWritten (writesText (textLent corners passes (now (words .entry)) (now (sheet .entry))) (now (text .entry))) (now (out .entry)) ⌝ }
 {
     let answer = report::write_result(corners, passes, words, sheet, text);
     match answer {
@@ -39,7 +39,7 @@ pub extern "C" fn projective_grid_write_result(
     text: &mut [u8],
     out: &mut [u32],
 ) -> u32
-    ensures { λ r. ⌜ textLeft r (now (text .exit)) (now (out .exit)) ≡ textExported (lent corners passes (now (words .entry)) (now (sheet .entry))) (now (text .entry)) (now (out .entry)) ⌝ }
+    ensures { λ r. ⌜ textLeft r (now (text .exit)) (now (out .exit)) ≡ textExported (textLent corners passes (now (words .entry)) (now (sheet .entry))) (now (text .entry)) (now (out .entry)) ⌝ }
 {
     if out.len() < 1 {
         return 7;
@@ -58,7 +58,7 @@ fn run_piece(
     out: &mut [u32],
 ) -> u32
     requires { ⌜ 2 ≤ length (now out) ⌝ }
-    ensures { λ r. ⌜ textLeft r (now (text .exit)) (now (out .exit)) ≡ pieceWritten (writesPiece (lent corners passes (now (words .entry)) (now (sheet .entry))) from (now (text .entry))) (now (out .entry)) ⌝ }
+    ensures { λ r. ⌜ textLeft r (now (text .exit)) (now (out .exit)) ≡ pieceWritten (writesPiece (textLent corners passes (now (words .entry)) (now (sheet .entry))) from (now (text .entry))) (now (out .entry)) ⌝ }
 {
     let answer = report::write_result_piece(corners, passes, words, sheet, from, text);
     match answer {
@@ -82,7 +82,7 @@ pub extern "C" fn projective_grid_write_result_piece(
     text: &mut [u8],
     out: &mut [u32],
 ) -> u32
-    ensures { λ r. ⌜ textLeft r (now (text .exit)) (now (out .exit)) ≡ pieceExported (lent corners passes (now (words .entry)) (now (sheet .entry))) from (now (text .entry)) (now (out .entry)) ⌝ }
+    ensures { λ r. ⌜ textLeft r (now (text .exit)) (now (out .exit)) ≡ pieceExported (textLent corners passes (now (words .entry)) (now (sheet .entry))) from (now (text .entry)) (now (out .entry)) ⌝ }
 {
     if out.len() < 2 {
         return 7;

@@ -8,14 +8,16 @@ use lib.Dec.{T}
 use lib.IntN.{negsuc}
 use lib.Ieee.{Float, fin, binary32, div, lt, le, isNan, ofBits}
 use lib.Ieee.Scale.{finite}
-use Rattle.float_order.specs.Unsigned.{plain, nonzero, one}
+use Rattle.float_order.specs.Unsigned.{plain, nonzero}
 use Rattle.float_order.proofs.Order.{not-le→lt, not-lt→le, le-lt-trans, lt→le}
 use Rattle.float_order.proofs.Unsigned.{plain-above, plain-at-least}
 use Rattle.float_order.proofs.Quotient.{div-below}
 use Rattle.sheet.specs.declared.Position.{Position}
+use Rattle.binary32.specs.Numbers.{one}
+use Rattle.sheet.specs.Corners.{squaredDistance, finitePosition}
 use Rattle.grow.specs.declared.Candidate.{Candidate}
 use Rattle.grow.specs.declared.CandidateChoice.the-variants.{Nothing, Ambiguous, Unique}
-use Rattle.grow.specs.Candidates.{eligible, squaredDistance, squaredRadius, finitePosition, candidatesAt, firstTwo}
+use Rattle.grow.specs.Candidates.{eligible, squaredRadius, candidatesAt, firstTwo}
 use Rattle.grow.specs.Choice.{epsilon, byQuotient, chooseUnambiguous, raised, chooseWithFloor}
 use Rattle.grow.proofs.Collected.{Sound, sound-no-nan, within, candidates-none, candidates-exactly}
 

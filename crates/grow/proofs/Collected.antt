@@ -15,9 +15,9 @@ use Rattle.float_order.proofs.Unsigned.{plain-no-nan, squares-plain, finite-und
 use Rattle.binary32.specs.Sqrt.{sqrtOrNan}
 use Rattle.binary32.proofs.Exists.{sqrt-unsigned, sqrt-fits}
 use Rattle.sheet.specs.declared.Position.{Position}
-use Rattle.sheet.specs.Corners.{cornerOf}
+use Rattle.sheet.specs.Corners.{cornerOf, squaredDistance, finitePosition}
 use Rattle.grow.specs.declared.Candidate.{Candidate}
-use Rattle.grow.specs.Candidates.{positionsOf, eligible, squaredDistance, squaredRadius, isCandidate, distanceOf, finitePosition, insertIf, ordered, candidatesAt}
+use Rattle.grow.specs.Candidates.{positionsOf, eligible, squaredRadius, isCandidate, distanceOf, insertIf, ordered, candidatesAt}
 use Rattle.grow.specs.Listing.{Exactly, Sorted}
 use Rattle.grow.proofs.Listing.{nth, longer, exactly, sorted}
 

@@ -12,11 +12,11 @@ use Rattle.binary32.specs.Sqrt.{sqrtOrNan}
 use Rattle.binary32.proofs.Exists.{sqrt-unsigned}
 use Rattle.binary32.proofs.Monotone.{sqrt-mono}
 use Rattle.sheet.specs.declared.Position.{Position}
+use Rattle.sheet.specs.Corners.{squaredDistance}
 use Rattle.grow.specs.declared.Candidate.{Candidate}
 use Rattle.grow.specs.declared.Candidates.{Candidates}
 use Rattle.grow.specs.declared.Candidates.the-variants.{Empty, One, Several}
 use Rattle.grow.specs.declared.Found.{Found}
-use Rattle.grow.specs.Candidates.{squaredDistance}
 use Rattle.grow.specs.Steps.{kept, twoFound, narrowedFrom, narrowed}
 
 -- a candidate's squared distance, for a squared radius, and its distance

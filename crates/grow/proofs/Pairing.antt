@@ -7,16 +7,17 @@ use native.Mathlib.Decide.{ℕ-discrete}
 use lib.Dec.{T}
 use lib.Ieee.{Float, binary32, div, lt, le}
 use lib.Ieee.Scale.{finite}
-use Rattle.float_order.specs.Unsigned.{one}
 use Rattle.float_order.proofs.Unsigned.{plain-unique}
 use Rattle.binary32.specs.Sqrt.{sqrtOrNan}
 use Rattle.sheet.specs.Pairing.{Shuffle}
 use Rattle.sheet.specs.declared.Position.{Position}
+use Rattle.binary32.specs.Numbers.{one}
+use Rattle.sheet.specs.Corners.{squaredDistance, finitePosition}
 use Rattle.grow.specs.declared.Candidate.{Candidate}
 use Rattle.grow.specs.declared.Candidates.{Candidates}
 use Rattle.grow.specs.declared.Candidates.the-variants.{Empty, One, Several}
 use Rattle.grow.specs.declared.CandidateChoice.the-variants.{Ambiguous, Unique}
-use Rattle.grow.specs.Candidates.{eligible, squaredDistance, squaredRadius, isCandidate, distanceOf, finitePosition, candidatesAt, firstTwo}
+use Rattle.grow.specs.Candidates.{eligible, squaredRadius, isCandidate, distanceOf, candidatesAt, firstTwo}
 use Rattle.grow.specs.Choice.{epsilon, byQuotient, chooseUnambiguous, raised, chooseWithFloor, renumbered}
 use Rattle.grow.proofs.Listing.{nth}
 use Rattle.grow.proofs.Collected.{Sound, sound-no-nan, distance-sound, candidates-none, candidates-are}

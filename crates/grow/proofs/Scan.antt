@@ -12,11 +12,12 @@ use lib.ListN.{length}
 use lib.Ieee.{Float, lt, le}
 use Rattle.binary32.specs.Ranges.{isFinite}
 use Rattle.sheet.specs.declared.Position.{Position}
+use Rattle.sheet.specs.Corners.{squaredDistance}
 use Rattle.grow.specs.declared.Candidate.{Candidate}
 use Rattle.grow.specs.declared.Candidates.{Candidates}
 use Rattle.grow.specs.declared.Candidates.the-variants.{Empty, Several}
 use Rattle.grow.specs.declared.Found.{Found}
-use Rattle.grow.specs.Candidates.{positionsOf, unmarked, eligible, squaredDistance, squaredRadius, isCandidate, distanceOf, insert, ordered, candidatesAt, firstTwo}
+use Rattle.grow.specs.Candidates.{positionsOf, unmarked, eligible, squaredRadius, isCandidate, distanceOf, insert, ordered, candidatesAt, firstTwo}
 use Rattle.grow.specs.Steps.{kept, narrowed, isNear, isWithin, oneIf, countFrom, firstTwoBelow, Next, measured}
 use Rattle.grow.proofs.Listing.{before-later, nth, exactly}
 use Rattle.grow.proofs.Limit.{Limited, squared, limited-within, passed-over, narrowed-found, narrowed-limited}

@@ -10,9 +10,10 @@ use lib.Ieee.{Float, le, lt, isNan}
 use lib.Ieee.Scale.{finite}
 use Rattle.float_order.proofs.Order.{lt-irrefl}
 use Rattle.sheet.specs.declared.Position.{Position}
+use Rattle.sheet.specs.Corners.{squaredDistance, finitePosition}
 use Rattle.grow.specs.declared.Candidate.{Candidate}
 use Rattle.grow.specs.declared.Candidates.{Candidates}
-use Rattle.grow.specs.Candidates.{eligible, squaredDistance, squaredRadius, isCandidate, distanceOf, before, insert, insertIf, ordered, finitePosition, candidatesAt, firstTwo, lastDistance}
+use Rattle.grow.specs.Candidates.{eligible, squaredRadius, isCandidate, distanceOf, before, insert, insertIf, ordered, candidatesAt, firstTwo, lastDistance}
 use Rattle.grow.specs.Listing.{Exactly, Sorted}
 use Rattle.grow.proofs.Listing.{before-trans, before-not-farther, nth, exactly, sorted}
 use Rattle.grow.proofs.Collected.{sound-no-nan, distance-sound, candidates-none, candidates-are}

@@ -9,6 +9,7 @@ use lib.Ieee.{Float, nan, binary32, add, sub, mul, lt, le, ofBits}
 use Rattle.binary32.specs.Ranges.{isFinite}
 use Rattle.binary32.specs.Sqrt.{sqrtOrNan}
 use Rattle.sheet.specs.declared.Position.{Position}
+use Rattle.sheet.specs.Corners.{squaredDistance, finitePosition}
 use Rattle.grow.specs.declared.Candidate.{Candidate}
 use Rattle.grow.specs.declared.Candidates.{Candidates}
 use Rattle.grow.specs.declared.Candidates.the-variants.{Empty, One, Several}
@@ -26,13 +27,6 @@ unmarked used k = eqb (getD used k 0) 0
 -- Which corners may be candidates at all: the unlabelled ones.
 unfoldable pub eligible : (ℕ → Bool) → ℕ → Bool
 eligible unlabelled k = unlabelled k
-
--- The squared distance of a corner from the prediction, each operation rounded: dx · dx + dy · dy.
-unfoldable pub squaredDistance : Position → Position → Float
-squaredDistance corner prediction =
-    let dx = sub binary32 (corner .x) (prediction .x) in
-    let dy = sub binary32 (corner .y) (prediction .y) in
-    add binary32 (mul binary32 dx dx) (mul binary32 dy dy)
 
 abbrev pub squaredRadius : Float → Float
 squaredRadius radius = mul binary32 radius radius
@@ -67,10 +61,6 @@ ordered distance candidate zero = []
 ordered distance candidate (suc k) = insertIf (candidate k) (record { number = k; distance = distance k }) (ordered distance candidate k)
 
 -- ---- the candidates at a prediction
-
--- neither part is nan or infinite
-abbrev pub finitePosition : Position → Bool
-finitePosition p = isFinite (p .x) && isFinite (p .y)
 
 -- All candidates of n corners, in order. A non-finite prediction has none.
 unfoldable pub candidatesAt : (ℕ → Position) → (ℕ → Bool) → ℕ → Position → Float → List Candidate

@@ -6,11 +6,12 @@ use Prim.Native.Nat.{ℕ, zero, suc, _+_, _≤_, _<_}
 use lib.ListN.{length}
 use lib.Ieee.{Float, lt, le}
 use Rattle.sheet.specs.declared.Position.{Position}
+use Rattle.sheet.specs.Corners.{squaredDistance}
 use Rattle.grow.specs.declared.Candidate.{Candidate}
 use Rattle.grow.specs.declared.Candidates.{Candidates}
 use Rattle.grow.specs.declared.Candidates.the-variants.{Empty, One, Several}
 use Rattle.grow.specs.declared.Found.{Found}
-use Rattle.grow.specs.Candidates.{positionsOf, unmarked, eligible, squaredDistance, isCandidate, distanceOf, ordered, firstTwo}
+use Rattle.grow.specs.Candidates.{positionsOf, unmarked, eligible, isCandidate, distanceOf, ordered, firstTwo}
 
 -- every corner has a y and a mark
 pub record Lent (xs ys : List Float) : Type 0 where

@@ -31,7 +31,7 @@ use Rattle.arguments.specs.declared.Settings.{Settings}
 use Rattle.extension_common.specs.TryCell.{Corners, cornersOf, tryAt}
 use Rattle.extension_common.specs.declared.Search.{Search}
 use Rattle.extension_common.specs.declared.TryCellResult.{TryCellResult}
-use Rattle.passes.specs.Outcome.{done, over}
+use Rattle.passes.specs.Outcome.{done}
 use Rattle.passes.specs.Grow.{GrowState, noCounts, tolerancesOf, searchOf, spread, startOf, growWith, growAt, growVisit, growFrom, growRun, growAfter}
 use Rattle.passes.specs.Step.{growStep, GrowOut, growOut, growLeaves, cornerLists, rooms}
 use Rattle.passes.specs.declared.Counts.{Counts}
@@ -39,8 +39,9 @@ use Rattle.passes.specs.declared.GrowAnswer.{GrowAnswer}
 use Rattle.passes.proofs.Over.{over-length, over-at, over-read, over-own, over-put, over-over}
 use Rattle.passes.proofs.Queue.{more-length, spread-longer, seeded-longer}
 use Rattle.passes.proofs.Enough.{Fit, fit-accepted, Going, Free, found-free, nextOf, next-on, room-left, slot-left, queue-few, made-few, start-going, visit-going, from-ended, from-next, labels-few}
-use Rattle.grow_queue.specs.Queue.{Flagged, Room, Holds, Unqueued, seeded}
+use Rattle.grow_queue.specs.Queue.{Flagged, Room, QueueHeld, Unqueued, seeded}
 use Rattle.grow_queue.proofs.Laws.{holds-read, holds-length}
+use Rattle.arguments.specs.Front.{over}
 use Rattle.grow_extend.specs.Grow.{foundFrom, foundAt, withAttached, withNoCandidate, withAmbiguous, withEdge, SmallCounts, stateOf, Leaves, Spare, Attachable, Settleable, Visitable, Startable}
 use Rattle.grow_extend.specs.declared.Progress.{Progress}
 
@@ -147,11 +148,11 @@ module _ {sheet queue news used seen : List ℕ} {c : Cell} {k : ℕ} {at : Prog
   attached-room e = record { long = rw (e, length-set) (w .attaching .long); room = w .spare .queue-room; flagged = w .seen-flagged }
 
   pub settled-attached : {after queue' seen' : List ℕ} {place tail : ℕ} {counts : Counts} → after ≡ attached sheet c k → place ≡ placeOf c
-      → Holds queue queue' seen' tail (spread after c (take (at .tail) queue)) → counts ≡ withAttached (at .counts)
+      → QueueHeld queue queue' seen' tail (spread after c (take (at .tail) queue)) → counts ≡ withAttached (at .counts)
       → Leaves queue news after queue' (set news (at .counts .attached) place) (set used k 1) seen' (record { tail = tail; counts = counts }) (growWith c (TryCellResult.Attached k) (stateOf sheet queue news at))
   unfolding growWith
   settled-attached {queue' = queue'} {seen' = seen'} {tail = tail} m p h n =
-      let g : Holds queue queue' seen' tail (spread (attached sheet c k) c (take (at .tail) queue)) = rw m at h in
+      let g : QueueHeld queue queue' seen' tail (spread (attached sheet c k) c (take (at .tail) queue)) = rw m at h in
       rw (m, p, n)
       (record {
         sheet-is = refl;
@@ -356,7 +357,7 @@ module _ (xs ys pitches : List Float) (set : Settings) (p : GrowParams) (sheet q
     pub call-unqueued : {seen : List ℕ} → Flagged [] seen → Unqueued sheet queue seen
     call-unqueued f = record { long = a .given .long; room = seeds-few; flagged = f }
 
-    module _ {queue' seen' : List ℕ} {tail : ℕ} (h : Holds queue queue' seen' tail (seeded sheet)) where
+    module _ {queue' seen' : List ℕ} {tail : ℕ} (h : QueueHeld queue queue' seen' tail (seeded sheet)) where
       same : length queue' ≡ length queue
       unfolding labelCount
       same = holds-length h (omega (arith, seeded-longer sheet (labelledPlaces sheet) [] .few, seeds-few))

@@ -19,10 +19,10 @@ use Rattle.arguments.specs.declared.GrowParams.{GrowParams}
 use Rattle.arguments.specs.declared.Settings.{Settings}
 use Rattle.extension_common.specs.TryCell.{Corners, tryAt}
 use Rattle.extension_common.specs.declared.TryCellResult.{TryCellResult}
-use Rattle.passes.specs.Outcome.{over}
 use Rattle.passes.specs.Grow.{GrowState, tolerancesOf, searchOf}
 use Rattle.passes.specs.declared.Counts.{Counts}
 use Rattle.grow_queue.specs.Queue.{Flagged, seeded}
+use Rattle.arguments.specs.Front.{over}
 use Rattle.grow_extend.specs.declared.Progress.{Progress}
 
 -- ---- what is lent, as the definitions have it

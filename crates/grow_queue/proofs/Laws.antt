@@ -24,11 +24,11 @@ use Rattle.labels.specs.Labelled.{passing, namesCorner, isLabelled, labelledBel
 use Rattle.labels.proofs.Below.{passing-none, passing-hit, passing-miss}
 use Rattle.labels.proofs.Labelled.{blank-unlabelled}
 use Rattle.positions_policy.specs.Edge.{cardinalOffsets, cardinalAt}
-use Rattle.passes.specs.Outcome.{over}
 use Rattle.passes.specs.Grow.{member, wanted, enqueued, enqueuedAt, spread, seededFrom}
 use Rattle.passes.proofs.Over.{over-length, over-read, over-own, over-put, over-over}
 use Rattle.passes.proofs.Queue.{member-more, enqueued-longer, seeded-longer, spread-longer}
-use Rattle.grow_queue.specs.Queue.{soFar, Flagged, Room, Holds, seededAt, seeded, SeedRoom, Unqueued}
+use Rattle.arguments.specs.Front.{over}
+use Rattle.grow_queue.specs.Queue.{soFar, Flagged, Room, QueueHeld, seededAt, seeded, SeedRoom, Unqueued}
 
 -- ---- the array
 
@@ -58,18 +58,18 @@ flagged-more {queued} {seen} f p h = record { size = length-set seen p 1 ∙ f .
 -- ---- what a queue holds, one step after the other
 
 -- it is read back
-pub holds-read : {queue after seen : List ℕ} {r : ℕ} {queued : List ℕ} → Holds queue after seen r queued → soFar after r ≡ queued
+pub holds-read : {queue after seen : List ℕ} {r : ℕ} {queued : List ℕ} → QueueHeld queue after seen r queued → soFar after r ≡ queued
 holds-read {queue} {queued = queued} h = rw (h .written, h .count) (over-read queued queue)
 
-pub holds-then : {q0 q1 s1 : List ℕ} {t1 : ℕ} {l1 q2 s2 : List ℕ} {t2 : ℕ} {l2 : List ℕ} → Holds q0 q1 s1 t1 l1 → Holds q1 q2 s2 t2 l2 → length l1 ≤ length l2 → Holds q0 q2 s2 t2 l2
+pub holds-then : {q0 q1 s1 : List ℕ} {t1 : ℕ} {l1 q2 s2 : List ℕ} {t2 : ℕ} {l2 : List ℕ} → QueueHeld q0 q1 s1 t1 l1 → QueueHeld q1 q2 s2 t2 l2 → length l1 ≤ length l2 → QueueHeld q0 q2 s2 t2 l2
 holds-then {q0} {l1 = l1} {l2 = l2} a b h =
     record { written = b .written ∙ ap (over l2) (a .written) ∙ over-over l1 l2 q0 h; count = b .count; flagged = b .flagged }
 
-pub holds-length : {queue after seen : List ℕ} {r : ℕ} {queued : List ℕ} → Holds queue after seen r queued → length queued ≤ length queue → length after ≡ length queue
+pub holds-length : {queue after seen : List ℕ} {r : ℕ} {queued : List ℕ} → QueueHeld queue after seen r queued → length queued ≤ length queue → length after ≡ length queue
 holds-length {queue} {queued = queued} h l = rw (h .written) (over-length queued queue l)
 
 -- nothing done
-pub holds-own : (queue seen : List ℕ) (tail : ℕ) → tail ≤ length queue → Flagged (soFar queue tail) seen → Holds queue queue seen tail (soFar queue tail)
+pub holds-own : (queue seen : List ℕ) (tail : ℕ) → tail ≤ length queue → Flagged (soFar queue tail) seen → QueueHeld queue queue seen tail (soFar queue tail)
 holds-own queue seen tail h f = record { written = sym (over-own queue tail h); count = sym (length-take-le tail queue h); flagged = f }
 
 -- ---- a cell queued, by each way
@@ -78,10 +78,10 @@ module _ {sheet queue seen : List ℕ} {tail : ℕ} (c : Cell) (w : Room 1 sheet
   upto : tail ≤ length queue
   upto = omega (arith, w .room)
 
-  kept : enqueued sheet c (soFar queue tail) ≡ soFar queue tail → Holds queue queue seen tail (enqueued sheet c (soFar queue tail))
+  kept : enqueued sheet c (soFar queue tail) ≡ soFar queue tail → QueueHeld queue queue seen tail (enqueued sheet c (soFar queue tail))
   kept e = rw e (holds-own queue seen tail upto (w .flagged))
 
-  pub queue-off : onSheet c ≡ false → Holds queue queue seen tail (enqueued sheet c (soFar queue tail))
+  pub queue-off : onSheet c ≡ false → QueueHeld queue queue seen tail (enqueued sheet c (soFar queue tail))
   unfolding enqueued wanted
   queue-off e = kept (rw e)
 
@@ -96,18 +96,18 @@ module _ {sheet queue seen : List ℕ} {tail : ℕ} (c : Cell) (w : Room 1 sheet
     unfolding isLabelled
     label = rw is (ap namesCorner (label-on sheet c here))
 
-    pub queue-labelled : isLabelled (getD sheet p 0) ≡ true → Holds queue queue seen tail (enqueued sheet c (soFar queue tail))
+    pub queue-labelled : isLabelled (getD sheet p 0) ≡ true → QueueHeld queue queue seen tail (enqueued sheet c (soFar queue tail))
     unfolding enqueued wanted
     queue-labelled e = kept (rw (on, label, e))
 
     module _ (bare : isLabelled (getD sheet p 0) ≡ false) where
-      pub queue-seen : (getD seen p 0 ≡ 0 → ⊥) → Holds queue queue seen tail (enqueued sheet c (soFar queue tail))
+      pub queue-seen : (getD seen p 0 ≡ 0 → ⊥) → QueueHeld queue queue seen tail (enqueued sheet c (soFar queue tail))
       unfolding enqueued wanted
       queue-seen h =
           let m : member p (soFar queue tail) ≡ true = bit-yes _ (λ z. h (w .flagged .at p place-below ∙ z)) in
           kept (rw (on, label, bare, ← is, m))
 
-      pub queue-new : getD seen p 0 ≡ 0 → Holds queue (set queue tail p) (set seen p 1) (tail + 1) (enqueued sheet c (soFar queue tail))
+      pub queue-new : getD seen p 0 ≡ 0 → QueueHeld queue (set queue tail p) (set seen p 1) (tail + 1) (enqueued sheet c (soFar queue tail))
       unfolding enqueued wanted
       queue-new h =
           let m : member p (soFar queue tail) ≡ false = bit-no _ (sym (w .flagged .at p place-below) ∙ h) in
@@ -129,7 +129,7 @@ four k h = h
 pub record Spreading (sheet : List ℕ) (c : Cell) (queue : List ℕ) (tail : ℕ) (after seen : List ℕ) (end k : ℕ) : Type 0 where
   pub upto : k ≤ 4
   pub queued : List ℕ
-  pub holds : Holds queue after seen end queued
+  pub holds : QueueHeld queue after seen end queued
   pub more : tail ≤ end
   pub few : end ≤ tail + k
   pub rest : enqueuedAt sheet c (drop k cardinalOffsets) queued ≡ spread sheet c (soFar queue tail)
@@ -152,11 +152,11 @@ module _ {sheet : List ℕ} (c : Cell) {queue seen : List ℕ} {tail : ℕ} (w :
           flagged = rw (holds-read (s .holds)) (s .holds .flagged);
         }
 
-    pub spreading-more : k < 4 → {d : Cell} {after' flags' : List ℕ} {end' : ℕ} → d ≡ moved c (cardinalAt k) → Holds after after' flags' end' (enqueued sheet d (soFar after end)) → Spreading sheet c queue tail after' flags' end' (k + 1)
+    pub spreading-more : k < 4 → {d : Cell} {after' flags' : List ℕ} {end' : ℕ} → d ≡ moved c (cardinalAt k) → QueueHeld after after' flags' end' (enqueued sheet d (soFar after end)) → Spreading sheet c queue tail after' flags' end' (k + 1)
     unfolding enqueuedAt
     spreading-more h {after' = after'} {flags' = flags'} {end' = end'} e m =
         let next = enqueued sheet (moved c (cardinalAt k)) (s .queued) in
-        let a : Holds after after' flags' end' next = rw (e, holds-read (s .holds)) at m in
+        let a : QueueHeld after after' flags' end' next = rw (e, holds-read (s .holds)) at m in
         let l = enqueued-longer sheet (moved c (cardinalAt k)) (s .queued) in
         record {
           upto = omega arith;
@@ -170,12 +170,12 @@ module _ {sheet : List ℕ} (c : Cell) {queue seen : List ℕ} {tail : ℕ} (w :
         next-offsets : k < 4 → drop k cardinalOffsets ≡ cardinalAt k ∷ drop (k + 1) cardinalOffsets
         next-offsets h = drop-cons cardinalOffsets k (record { di = pos 0; dj = pos 0 }) (four k h) ∙ ap (λ (n : ℕ). cardinalAt k ∷ drop n cardinalOffsets) (sym (add-one k))
 
-    pub spreading-end : 4 ≤ k → Holds queue after flags end (spread sheet c (soFar queue tail))
+    pub spreading-end : 4 ≤ k → QueueHeld queue after flags end (spread sheet c (soFar queue tail))
     unfolding cardinalOffsets enqueuedAt
     spreading-end h =
         let e : k ≡ 4 = omega (arith, s .upto) in
         let r : s .queued ≡ spread sheet c (soFar queue tail) = rw e at (s .rest) in
-        subst (λ (l : List ℕ). Holds queue after flags end l) r (s .holds)
+        subst (λ (l : List ℕ). QueueHeld queue after flags end l) r (s .holds)
 
 -- ---- the seeds
 
@@ -216,7 +216,7 @@ passing-up f n (suc m) h = go (ℕ-discrete n (suc m)) (passing-up f n m)
 -- before the place p: the neighbours of the labelled cells before it are queued
 pub record Seeding (sheet queue after seen : List ℕ) (tail p : ℕ) : Type 0 where
   pub upto : p ≤ 16384
-  pub holds : Holds queue after seen tail (seededFrom sheet (labelledBelow sheet p) [])
+  pub holds : QueueHeld queue after seen tail (seededFrom sheet (labelledBelow sheet p) [])
 
 module _ {sheet queue seen : List ℕ} (w : Unqueued sheet queue seen) where
   pub seeding-start : Seeding sheet queue queue seen 0 0
@@ -253,22 +253,22 @@ module _ {sheet queue seen : List ℕ} (w : Unqueued sheet queue seen) where
           flagged = rw (holds-read (s .holds)) (s .holds .flagged);
         }
 
-    pub seeding-more : p < 16384 → {after' flags' : List ℕ} {tail' : ℕ} → Holds after after' flags' tail' (seededAt sheet p (soFar after tail)) → Seeding sheet queue after' flags' tail' (p + 1)
+    pub seeding-more : p < 16384 → {after' flags' : List ℕ} {tail' : ℕ} → QueueHeld after after' flags' tail' (seededAt sheet p (soFar after tail)) → Seeding sheet queue after' flags' tail' (p + 1)
     seeding-more h {after'} {flags'} {tail'} m =
-        let a : Holds after after' flags' tail' (seededBelow sheet (p + 1)) = rw (holds-read (s .holds), seeded-step sheet p) at m in
+        let a : QueueHeld after after' flags' tail' (seededBelow sheet (p + 1)) = rw (holds-read (s .holds), seeded-step sheet p) at m in
         record { upto = omega arith; holds = holds-then (s .holds) a (seeded-rises sheet p) }
 
-    pub seeding-end : 16384 ≤ p → Holds queue after flags tail (seeded sheet)
+    pub seeding-end : 16384 ≤ p → QueueHeld queue after flags tail (seeded sheet)
     unfolding labelledPlaces
     seeding-end h = let e : p ≡ 16384 = omega (arith, s .upto) in rw (← e) (s .holds)
 
 -- one place, by both ways
 module _ (sheet queue : List ℕ) (tail p : ℕ) where
-  pub seed-labelled : isLabelled (getD sheet p 0) ≡ true → {c : Cell} {after flags : List ℕ} {end : ℕ} → c ≡ cellOf p → Holds queue after flags end (spread sheet c (soFar queue tail)) → Holds queue after flags end (seededAt sheet p (soFar queue tail))
+  pub seed-labelled : isLabelled (getD sheet p 0) ≡ true → {c : Cell} {after flags : List ℕ} {end : ℕ} → c ≡ cellOf p → QueueHeld queue after flags end (spread sheet c (soFar queue tail)) → QueueHeld queue after flags end (seededAt sheet p (soFar queue tail))
   unfolding seededAt
   seed-labelled e is h = rw e (rw is at h)
 
-  pub seed-bare : {seen : List ℕ} → SeedRoom sheet queue seen tail p → isLabelled (getD sheet p 0) ≡ false → Holds queue queue seen tail (seededAt sheet p (soFar queue tail))
+  pub seed-bare : {seen : List ℕ} → SeedRoom sheet queue seen tail p → isLabelled (getD sheet p 0) ≡ false → QueueHeld queue queue seen tail (seededAt sheet p (soFar queue tail))
   unfolding seededAt
   seed-bare {seen} w e = rw e (holds-own queue seen tail (w .upto) (w .flagged))
 

@@ -8,8 +8,8 @@ use lib.ListN.{length, getD, take}
 use Rattle.sheet.specs.Cells.{cellOf}
 use Rattle.sheet.specs.Words.{bitOf}
 use Rattle.labels.specs.Labelled.{isLabelled, labelledPlaces, labelCount}
-use Rattle.passes.specs.Outcome.{over}
 use Rattle.passes.specs.Grow.{member, spread, seededFrom}
+use Rattle.arguments.specs.Front.{over}
 
 -- the cells queued so far: the first `tail` places of the queue
 abbrev pub soFar : List ℕ → ℕ → List ℕ
@@ -27,7 +27,7 @@ pub record Room (n : ℕ) (sheet queue seen : List ℕ) (tail : ℕ) : Type 0 wh
   pub flagged : Flagged (soFar queue tail) seen
 
 -- what the queue is left with: these cells at its front, r in number, the rest as it was, and the array in step
-pub record Holds (queue after seen : List ℕ) (r : ℕ) (queued : List ℕ) : Type 0 where
+pub record QueueHeld (queue after seen : List ℕ) (r : ℕ) (queued : List ℕ) : Type 0 where
   pub written : after ≡ over queued queue
   pub count : r ≡ length queued
   pub flagged : Flagged queued seen

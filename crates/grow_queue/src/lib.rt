@@ -4,13 +4,13 @@
 
 ghost use Rattle.sheet.specs.Cells.{OnSheet};
 ghost use Rattle.passes.specs.Grow.{enqueued, spread};
-ghost use Rattle.grow_queue.specs.Queue.{soFar, Room, Holds, seededAt, SeedRoom, seeded, Unqueued};
+ghost use Rattle.grow_queue.specs.Queue.{soFar, Room, QueueHeld, seededAt, SeedRoom, seeded, Unqueued};
 use sheet::Cell;
 
 // Queues a cell: it goes to the queue's end if it lies on the sheet, is unlabelled, and was not queued before. Returns the new end.
 fn enqueue(sheet: &[u16], queue: &mut [u16], seen: &mut [u8; 16384], tail: usize, c: Cell) -> usize
     requires { ⌜ Room 1 (now sheet) (now queue) (now seen) tail ⌝ }
-    ensures { λ r. ⌜ Holds (now (queue .entry)) (now (queue .exit)) (now (seen .exit)) r (enqueued (now (sheet .entry)) c (soFar (now (queue .entry)) tail)) ⌝ }
+    ensures { λ r. ⌜ QueueHeld (now (queue .entry)) (now (queue .exit)) (now (seen .exit)) r (enqueued (now (sheet .entry)) c (soFar (now (queue .entry)) tail)) ⌝ }
 {
     if !sheet::on_sheet(c) {
         return tail;
@@ -36,7 +36,7 @@ pub fn enqueue_cardinal_neighbours(
     c: Cell,
 ) -> usize
     requires { ⌜ Room 4 (now sheet) (now queue) (now seen) tail × OnSheet c ⌝ }
-    ensures { λ r. ⌜ Holds (now (queue .entry)) (now (queue .exit)) (now (seen .exit)) r (spread (now (sheet .entry)) c (soFar (now (queue .entry)) tail)) ⌝ }
+    ensures { λ r. ⌜ QueueHeld (now (queue .entry)) (now (queue .exit)) (now (seen .exit)) r (spread (now (sheet .entry)) c (soFar (now (queue .entry)) tail)) ⌝ }
 {
     let mut end = tail;
     let mut k = 0usize;
@@ -62,7 +62,7 @@ fn seed_at(
     place: usize,
 ) -> usize
     requires { ⌜ SeedRoom (now sheet) (now queue) (now seen) tail place ⌝ }
-    ensures { λ r. ⌜ Holds (now (queue .entry)) (now (queue .exit)) (now (seen .exit)) r (seededAt (now (sheet .entry)) place (soFar (now (queue .entry)) tail)) ⌝ }
+    ensures { λ r. ⌜ QueueHeld (now (queue .entry)) (now (queue .exit)) (now (seen .exit)) r (seededAt (now (sheet .entry)) place (soFar (now (queue .entry)) tail)) ⌝ }
 {
     if labels::is_labelled(sheet[place]) {
         return enqueue_cardinal_neighbours(sheet, queue, seen, tail, sheet::cell_of(place));
@@ -73,7 +73,7 @@ fn seed_at(
 // Queues the neighbours of all labelled cells, by i, then j, from an empty queue. Returns the queue's end.
 pub fn seed(sheet: &[u16], queue: &mut [u16], seen: &mut [u8; 16384]) -> usize
     requires { ⌜ Unqueued (now sheet) (now queue) (now seen) ⌝ }
-    ensures { λ r. ⌜ Holds (now (queue .entry)) (now (queue .exit)) (now (seen .exit)) r (seeded (now (sheet .entry))) ⌝ }
+    ensures { λ r. ⌜ QueueHeld (now (queue .entry)) (now (queue .exit)) (now (seen .exit)) r (seeded (now (sheet .entry))) ⌝ }
 {
     let mut tail = 0usize;
     let mut place = sheet::next_written(sheet, 0);

@@ -7,15 +7,15 @@ use native.Mathlib.Omega.{arith}
 use lib.Dec.{eqb}
 use lib.ListN.{getD}
 use lib.Ieee.{nan, ofBits}
-use Rattle.binary32.specs.Ranges.{isFinite}
-use Rattle.elimination.specs.Rounded.{nought, one}
-use Rattle.elimination.specs.Tables.{allFinite}
+use Rattle.binary32.specs.Ranges.{isFinite, allFinite}
 use Rattle.elimination.specs.Solve.{Row, row, values}
 use Rattle.elimination.proofs.Tables.{getD-table, both, every-at}
 use Rattle.elimination.proofs.Finite.{one-finite, none-finite, parts-finite, gathered-at, gathered-true, at-finite}
 use Rattle.elimination.proofs.Sound.{FiniteMatrix, matrix-at, matrix-true, values-finite}
 use Rattle.sheet.specs.declared.Position.{Position}
-use Rattle.homography.specs.Normalize.{point, finitePoint, finitePoints}
+use Rattle.binary32.specs.Numbers.{nought, one}
+use Rattle.sheet.specs.Corners.{finitePosition}
+use Rattle.homography.specs.Normalize.{point, finitePoints}
 use Rattle.homography.specs.Equations.{firstOf, secondOf, equation, equations, productsOf, equationSteps}
 
 nought-finite : isFinite nought ≡ true
@@ -26,7 +26,7 @@ one-is-finite : isFinite one ≡ true
 unfolding isFinite ofBits
 one-is-finite = refl
 
-module _ (p q : Position) (fp : finitePoint p ≡ true) (fq : finitePoint q ≡ true) (e : allFinite (productsOf p q) ≡ true) where
+module _ (p q : Position) (fp : finitePosition p ≡ true) (fq : finitePosition q ≡ true) (e : allFinite (productsOf p q) ≡ true) where
   px : (isFinite (p .x) ≡ true) × (isFinite (p .y) ≡ true)
   px = both (isFinite (p .x)) (isFinite (p .y)) fp
 
@@ -89,5 +89,5 @@ module _ (ps qs : List Position) where
   equations-finite fp fq e =
       values-finite (equations ps qs) ∙ matrix-true (equations ps qs) (λ i j h l.
       ap (λ (r : Row). isFinite (getD r j nan)) (equation-at i h) ∙ equation-finite (point ps (i / 2)) (point qs (i / 2))
-      (every-at 4 (λ k. finitePoint (point ps k)) fp (i / 2) (omega arith)) (every-at 4 (λ k. finitePoint (point qs k)) fq (i / 2) (omega arith))
+      (every-at 4 (λ k. finitePosition (point ps k)) fp (i / 2) (omega arith)) (every-at 4 (λ k. finitePosition (point qs k)) fq (i / 2) (omega arith))
       (gathered-at 4 (λ k. productsOf (point ps k) (point qs k)) e (i / 2) (omega arith)) i j l)

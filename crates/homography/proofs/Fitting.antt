@@ -6,9 +6,9 @@ use Prim.Native.Nat.{ℕ}
 use borrow.Author.Tests.{not-true, not-false}
 use lib.ListN.{getD}
 use lib.Ieee.{Float, nan, binary32}
-use Rattle.binary32.specs.Ranges.{isFinite}
+use Rattle.binary32.specs.Ranges.{isFinite, allFinite}
 use Rattle.elimination.specs.Rounded.{_⊘_}
-use Rattle.elimination.specs.Tables.{table, allFinite}
+use Rattle.elimination.specs.Tables.{table}
 use Rattle.elimination.specs.Solve.{Matrix, values, noZeroPivot, solveSteps, answersOf, soundOf, solved}
 use Rattle.elimination.proofs.Tables.{getD-table, both, same, every-at, every-same}
 use Rattle.elimination.proofs.Finite.{div-finite, joined, apart, table-finite}

@@ -6,14 +6,14 @@ use Prim.Native.Nat.{ℕ, _-_, _<_}
 use borrow.Author.Tests.{not-true}
 use lib.ListN.{length, getD}
 use lib.Ieee.{Float, nan, eq}
-use Rattle.binary32.specs.Ranges.{isFinite}
-use Rattle.elimination.specs.Rounded.{_⊘_, nought, magnitude}
-use Rattle.elimination.specs.Tables.{allFinite}
+use Rattle.binary32.specs.Ranges.{isFinite, allFinite}
+use Rattle.elimination.specs.Rounded.{_⊘_, magnitude}
 use Rattle.elimination.specs.Solve.{entry, largest, eliminated, pivotOf, noZeroPivot, soundOf}
 use Rattle.elimination.proofs.Tables.{length-table, both, every-at}
 use Rattle.elimination.proofs.Finite.{at-finite}
 use Rattle.elimination.proofs.Laws.{FirstLargest, sound-first}
 use Rattle.sheet.specs.declared.Position.{Position}
+use Rattle.binary32.specs.Numbers.{nought}
 use Rattle.homography.specs.Normalize.{normalSteps}
 use Rattle.homography.specs.Fit.{Answer, NoFit, Entries, fitOf, lastOf, small, quotients, equationsOf, unscaled, fitSteps, fits, homographyOf}
 use Rattle.homography.proofs.Fitting.{reached, passed, fits-down}

@@ -6,19 +6,21 @@ use mathlib.Core.List.{List, [], _∷_, _++_}
 use Prim.Native.Nat.{ℕ, zero, suc, _<_}
 use native.Mathlib.Omega.{arith}
 use lib.Ieee.{Float, nan, inf, fin, binary32, neg, lt, ofBits, toBits}
-use Rattle.binary32.specs.Ranges.{isFinite}
-use Rattle.binary32.specs.Sqrt.{magnitude, reaches, climb, rooted, sqrtOrNan}
-use Rattle.elimination.specs.Rounded.{_⊕_, _⊖_, _⊗_, _⊘_, nought, one}
-use Rattle.elimination.specs.Tables.{table, gathered, every, allFinite}
+use Rattle.binary32.specs.Ranges.{isFinite, allFinite}
+use Rattle.binary32.specs.Sqrt.{unitsOf, reaches, climb, rooted, sqrtOrNan}
+use Rattle.elimination.specs.Rounded.{_⊕_, _⊖_, _⊗_, _⊘_}
+use Rattle.elimination.specs.Tables.{table, concatenated, every}
 use Rattle.elimination.proofs.Tables.{getD-table, both, same, every-true, every-at}
 use Rattle.elimination.proofs.Finite.{add-finite, mul-finite, div-finite, one-finite, none-finite, parts-finite, joined, apart, gathered-at, gathered-true}
 use Rattle.sheet.specs.declared.Position.{Position}
+use Rattle.binary32.specs.Numbers.{nought, one}
+use Rattle.sheet.specs.Corners.{finitePosition}
 use Rattle.homography.specs.declared.Normalization.{Normalization}
-use Rattle.homography.specs.Normalize.{two, four, tiny, point, total, mean, meanSteps, ofFour, squares, distance, distanceSteps, scaleOf, scaleSteps, centreX, centreY, distanceAt, meanDistance, normalizationOf, rowSum, rowSteps, forward, forwardSteps, mapRow, mapSteps, moved, normalized, centreSteps, spreadSteps, matrixSteps, movedSteps, pointsSteps, normalSteps, finitePoint, finitePoints, normalizedOf}
+use Rattle.homography.specs.Normalize.{two, four, tiny, point, total, mean, meanSteps, ofFour, squares, distance, distanceSteps, scaleOf, scaleSteps, centreX, centreY, distanceAt, meanDistance, normalizationOf, rowSum, rowSteps, forward, forwardSteps, mapRow, mapSteps, moved, normalized, centreSteps, spreadSteps, matrixSteps, movedSteps, pointsSteps, normalSteps, finitePoints, normalizedOf}
 
 -- the root of two
 pub root-two : sqrtOrNan two ≡ ofBits binary32 0x3fb5_04f3
-unfolding rooted climb reaches magnitude toBits ofBits
+unfolding rooted climb reaches unitsOf toBits ofBits
 root-two = refl
 
 -- ---- a mean
@@ -134,7 +136,7 @@ module _ (ps : List Position) where
   module _ (d : isFinite (meanDistance ps) ≡ true) (f : finitePoints (normalized ps) ≡ true) where
     at-row : (i : ℕ) → i < 4 → (isFinite (mapRow t 0 (point ps i)) ≡ true) × (isFinite (mapRow t 1 (point ps i)) ≡ true)
     unfolding moved
-    at-row i h = both _ _ (sym (ap finitePoint (at-point i h)) ∙ every-at 4 (λ i. finitePoint (point (normalized ps) i)) f i h)
+    at-row i h = both _ _ (sym (ap finitePosition (at-point i h)) ∙ every-at 4 (λ i. finitePosition (point (normalized ps) i)) f i h)
 
     steps-at : (i : ℕ) → i < 4 → allFinite (mapSteps t 0 (point ps i) ++ mapSteps t 1 (point ps i)) ≡ true
     unfolding mapRow mapSteps
@@ -188,17 +190,17 @@ module _ (ps : List Position) where
     spread : allFinite (spreadSteps ps) ≡ true
     spread = apart (centreSteps ps) (spreadSteps ps) (apart (centreSteps ps ++ spreadSteps ps) (matrixSteps ps) (parts .0) .0) .1
 
-    point-up : (i : ℕ) → i < 4 → finitePoint (point (normalized ps) i) ≡ true
+    point-up : (i : ℕ) → i < 4 → finitePosition (point (normalized ps) i) ≡ true
     unfolding moved mapRow mapSteps
     point-up i h =
         let w = apart (mapSteps t 0 (point ps i)) (mapSteps t 1 (point ps i)) (gathered-at 4 (λ i. movedSteps t (point ps i)) (parts .1) i h) in
-        ap finitePoint (at-point i h) ∙ ap₂ (λ (s t : Bool). s && t) (row-last _ _ _ _ _ _ (w .0)) (row-last _ _ _ _ _ _ (w .1))
+        ap finitePosition (at-point i h) ∙ ap₂ (λ (s t : Bool). s && t) (row-last _ _ _ _ _ _ (w .0)) (row-last _ _ _ _ _ _ (w .1))
 
     -- the mean distance and the points are finite where every step is
     pub normal-up : (isFinite (meanDistance ps) ≡ true) × (finitePoints (normalized ps) ≡ true)
     normal-up = (
-      mean-last _ _ _ _ (apart (gathered 4 (λ i. distanceSteps (centreX ps) (centreY ps) (point ps i))) (ofFour meanSteps (distanceAt ps)) spread .1),
-      every-true 4 (λ i. finitePoint (point (normalized ps) i)) point-up,
+      mean-last _ _ _ _ (apart (concatenated 4 (λ i. distanceSteps (centreX ps) (centreY ps) (point ps i))) (ofFour meanSteps (distanceAt ps)) spread .1),
+      every-true 4 (λ i. finitePosition (point (normalized ps) i)) point-up,
     )
 
   pub normal-finite : (isFinite (meanDistance ps) && finitePoints (normalized ps)) ≡ allFinite (normalSteps ps)

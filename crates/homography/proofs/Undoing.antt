@@ -6,11 +6,11 @@ use Prim.Native.Nat.{ℕ, zero, suc, _+_, _*_, _/_, _%_, _<_}
 use native.Mathlib.Omega.{arith}
 use lib.ListN.{length, getD}
 use lib.Ieee.{Float, nan}
-use Rattle.binary32.specs.Ranges.{isFinite}
-use Rattle.elimination.specs.Rounded.{one}
-use Rattle.elimination.specs.Tables.{table, allFinite}
+use Rattle.binary32.specs.Ranges.{isFinite, allFinite}
+use Rattle.elimination.specs.Tables.{table}
 use Rattle.elimination.proofs.Tables.{getD-table, table-is}
 use Rattle.elimination.proofs.Finite.{one-finite, none-finite, joined, gathered-true}
+use Rattle.binary32.specs.Numbers.{one}
 use Rattle.homography.specs.declared.Normalization.{Normalization}
 use Rattle.homography.specs.Normalize.{rowSum, rowSteps, forward}
 use Rattle.homography.specs.Undo.{backward, backwardSteps, crossed, multiplied, multipliedSteps, answersAndOne, halfUndone, undone, undoSteps}

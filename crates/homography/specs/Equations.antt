@@ -4,10 +4,11 @@ use mathlib.Core.List.{List, [], _∷_}
 use Prim.Native.Nat.{ℕ, _/_, _%_}
 use lib.Dec.{eqb}
 use lib.Ieee.{Float, neg}
-use Rattle.elimination.specs.Rounded.{_⊗_, nought, one}
-use Rattle.elimination.specs.Tables.{table, gathered}
+use Rattle.elimination.specs.Rounded.{_⊗_}
+use Rattle.elimination.specs.Tables.{table, concatenated}
 use Rattle.elimination.specs.Solve.{Row, Matrix}
 use Rattle.sheet.specs.declared.Position.{Position}
+use Rattle.binary32.specs.Numbers.{nought, one}
 use Rattle.homography.specs.Normalize.{point}
 
 -- of p, which goes to q: the first of the two has u, the second v
@@ -28,4 +29,4 @@ abbrev pub productsOf : Position → Position → List Float
 productsOf p q = neg (q .x) ⊗ p .x ∷ neg (q .x) ⊗ p .y ∷ neg (q .y) ⊗ p .x ∷ neg (q .y) ⊗ p .y ∷ []
 
 unfoldable pub equationSteps : List Position → List Position → List Float
-equationSteps ps qs = gathered 4 (λ k. productsOf (point ps k) (point qs k))
+equationSteps ps qs = concatenated 4 (λ k. productsOf (point ps k) (point qs k))

@@ -4,11 +4,12 @@ use mathlib.Core.Bool.{Bool, true, false, cond, _&&_, not}
 use mathlib.Core.List.{List, _++_}
 use lib.ListN.{getD, replicate}
 use lib.Ieee.{Float, nan, lt}
-use Rattle.binary32.specs.Ranges.{isFinite}
-use Rattle.elimination.specs.Rounded.{_⊘_, nought, magnitude}
-use Rattle.elimination.specs.Tables.{table, every, allFinite}
+use Rattle.binary32.specs.Ranges.{isFinite, allFinite}
+use Rattle.elimination.specs.Rounded.{_⊘_, magnitude}
+use Rattle.elimination.specs.Tables.{table, every}
 use Rattle.elimination.specs.Solve.{Matrix, noZeroPivot, solveSteps, answersOf}
 use Rattle.sheet.specs.declared.Position.{Position}
+use Rattle.binary32.specs.Numbers.{nought}
 use Rattle.homography.specs.declared.Fit.{Fit}
 use Rattle.homography.specs.Normalize.{tiny, mapRow, normalizationOf, normalized, normalSteps}
 use Rattle.homography.specs.Equations.{equations, equationSteps}

@@ -5,11 +5,13 @@ use mathlib.Core.List.{List, [], _∷_, _++_}
 use Prim.Native.Nat.{ℕ, _+_, _*_}
 use lib.ListN.{getD}
 use lib.Ieee.{Float, nan, binary32, neg, lt, ofBits}
-use Rattle.binary32.specs.Ranges.{isFinite}
+use Rattle.binary32.specs.Ranges.{isFinite, allFinite}
 use Rattle.binary32.specs.Sqrt.{sqrtOrNan}
-use Rattle.elimination.specs.Rounded.{_⊕_, _⊖_, _⊗_, _⊘_, nought, one}
-use Rattle.elimination.specs.Tables.{table, gathered, every, allFinite}
+use Rattle.elimination.specs.Rounded.{_⊕_, _⊖_, _⊗_, _⊘_}
+use Rattle.elimination.specs.Tables.{table, concatenated, every}
 use Rattle.sheet.specs.declared.Position.{Position}
+use Rattle.binary32.specs.Numbers.{nought, one}
+use Rattle.sheet.specs.Corners.{finitePosition}
 use Rattle.homography.specs.declared.Normalization.{Normalization}
 use Rattle.homography.specs.declared.Normalized.{Normalized}
 
@@ -121,7 +123,7 @@ abbrev pub centreSteps : List Position → List Float
 centreSteps ps = ofFour meanSteps (λ i. point ps i .x) ++ ofFour meanSteps (λ i. point ps i .y)
 
 abbrev pub spreadSteps : List Position → List Float
-spreadSteps ps = gathered 4 (λ i. distanceSteps (centreX ps) (centreY ps) (point ps i)) ++ ofFour meanSteps (distanceAt ps)
+spreadSteps ps = concatenated 4 (λ i. distanceSteps (centreX ps) (centreY ps) (point ps i)) ++ ofFour meanSteps (distanceAt ps)
 
 abbrev pub matrixSteps : List Position → List Float
 matrixSteps ps = scaleSteps (meanDistance ps) ++ forwardSteps (normalizationOf ps)
@@ -130,7 +132,7 @@ abbrev pub movedSteps : List Float → Position → List Float
 movedSteps t p = mapSteps t 0 p ++ mapSteps t 1 p
 
 abbrev pub pointsSteps : List Position → List Float
-pointsSteps ps = gathered 4 (λ i. movedSteps (forward (normalizationOf ps)) (point ps i))
+pointsSteps ps = concatenated 4 (λ i. movedSteps (forward (normalizationOf ps)) (point ps i))
 
 unfoldable pub normalSteps : List Position → List Float
 normalSteps ps = centreSteps ps ++ spreadSteps ps ++ matrixSteps ps ++ pointsSteps ps
@@ -141,8 +143,5 @@ normalizedOf ps = record { points = normalized ps; by = normalizationOf ps; soun
 
 -- ---- what is looked at once the work is done: whether both numbers of each point are finite
 
-abbrev pub finitePoint : Position → Bool
-finitePoint p = isFinite (p .x) && isFinite (p .y)
-
 abbrev pub finitePoints : List Position → Bool
-finitePoints ps = every 4 (λ i. finitePoint (point ps i))
+finitePoints ps = every 4 (λ i. finitePosition (point ps i))

@@ -4,8 +4,9 @@ use mathlib.Core.List.{List, [], _∷_, _++_}
 use Prim.Native.Nat.{ℕ, _+_, _*_, _/_, _%_}
 use lib.ListN.{getD}
 use lib.Ieee.{Float, nan}
-use Rattle.elimination.specs.Rounded.{_⊘_, nought, one}
-use Rattle.elimination.specs.Tables.{table, gathered}
+use Rattle.elimination.specs.Rounded.{_⊘_}
+use Rattle.elimination.specs.Tables.{table, concatenated}
+use Rattle.binary32.specs.Numbers.{nought, one}
 use Rattle.homography.specs.declared.Normalization.{Normalization}
 use Rattle.homography.specs.Normalize.{rowSum, rowSteps, forward}
 
@@ -30,7 +31,7 @@ unfoldable pub multiplied : List Float → List Float → List Float
 multiplied a b = table 9 (crossed rowSum a b)
 
 unfoldable pub multipliedSteps : List Float → List Float → List Float
-multipliedSteps a b = gathered 9 (crossed rowSteps a b)
+multipliedSteps a b = concatenated 9 (crossed rowSteps a b)
 
 -- H: the eight answers row by row and a 1
 abbrev pub answersAndOne : List Float → List Float

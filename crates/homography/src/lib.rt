@@ -4,7 +4,8 @@ ghost use mathlib.Core.Path.{_≡_};
 ghost use mathlib.Core.Bool.{_&&_};
 ghost use Prim.Native.Nat.{_<_};
 ghost use Rattle.binary32.specs.Ranges.{isFinite};
-ghost use Rattle.homography.specs.Normalize.{mean, distance, scaleOf, rowSum, forward, mapRow, moved, finitePoint, finitePoints, normalizedOf};
+ghost use Rattle.sheet.specs.Corners.{finitePosition};
+ghost use Rattle.homography.specs.Normalize.{mean, distance, scaleOf, rowSum, forward, mapRow, moved, finitePoints, normalizedOf};
 ghost use Rattle.homography.specs.Equations.{equation, equations};
 ghost use Rattle.homography.specs.Undo.{backward, crossed, multiplied, answersAndOne, undone};
 ghost use Rattle.homography.specs.Fit.{NoFit, fitOf, quotients, finiteEntries, scaledOf, homographyOf, applied};
@@ -91,7 +92,7 @@ fn moved(t: [f32; 9], p: Position) -> Position
 
 // Whether both numbers of a point are finite.
 fn point_finite(p: Position) -> bool
-    ensures { λ r. ⌜ r ≡ finitePoint p ⌝ }
+    ensures { λ r. ⌜ r ≡ finitePosition p ⌝ }
 {
     if !binary32::ranges::is_finite(p.x) {
         return false;

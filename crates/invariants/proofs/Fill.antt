@@ -18,7 +18,7 @@ use Rattle.arguments.specs.declared.FillParams.{FillParams}
 use Rattle.extension_common.specs.TryCell.{Corners}
 use Rattle.extension_common.specs.declared.TryCellResult.{TryCellResult}
 use Rattle.passes.specs.Grow.{tolerancesOf}
-use Rattle.passes.specs.Fill.{boxAndStrips, fillCells, FillState, fillWith, fillAt, fillVisit, fillAll, fillRound, FillRounds, fillFrom, limitOf, fillRun}
+use Rattle.passes.specs.Fill.{boxAndStrips, fillCells, FillState, fillWith, fillAt, fillVisit, fillAll, fillRound, FillRounds, fillFrom, fillLimit, fillRun}
 use Rattle.passes.specs.History.{Attaches, History, begun, attaches}
 use Rattle.invariants.specs.Kept.{Sound}
 use Rattle.invariants.proofs.History.{history-extended}
@@ -88,4 +88,4 @@ module _ {cs : Corners} {first : List ℕ} (few : cs .count ≤ 1024) (begins : 
     -- the whole run
     pub fill-history : History cs (tolerancesOf set) first (fillRun cs set params first .state .made) (fillRun cs set params first .state .sheet)
     unfolding fillRun
-    fill-history = filling-from (limitOf (labelCount first) (params .«max_iters»)) (record { state = record { sheet = first; made = [] }; rounds = 0 }) begun
+    fill-history = filling-from (fillLimit (labelCount first) (params .«max_iters»)) (record { state = record { sheet = first; made = [] }; rounds = 0 }) begun

@@ -21,7 +21,7 @@ use Rattle.passes.specs.Step.{CornerLists, lentOf, unless, growStep, fillStep, 
 use Rattle.passes.specs.Run.{PassCall, grow, fill, local, Call, PassStats, growStats, fillStats, localStats, renamed, stepAs, step, sheetAfter, run, sheetOf}
 use Rattle.passes.specs.History.{History}
 use Rattle.invariants.specs.Kept.{Sound, Kept, Extended, Histories, before, pass, AttachedInTurn}
-use Rattle.invariants.specs.Calls.{cornersIn, Standing, passOf, checkedCall, answering, afterPass, afterCall, attachedCount, Ran, Goes, ended, refuses, runs, attachedIn, Invariants, Fit, Accepts}
+use Rattle.invariants.specs.Calls.{cornersIn, Standing, passOf, checkedCall, answering, afterPass, afterCall, attachedCount, Ran, Goes, ended, refuses, runs, attachedIn, Invariants, CallInside, Accepts}
 use Rattle.invariants.proofs.Extended.{extended-marked, extended-then}
 use Rattle.invariants.proofs.History.{history-extended, attached-at, histories-then, attached-in-turn}
 use Rattle.invariants.proofs.Grow.{grow-history}
@@ -162,7 +162,7 @@ module _ (l : CornerLists) where
 
   -- ---- no refusal in mid-list
 
-  pub fit-accepts : (sheet : List ℕ) (c : Call) → Standing l sheet → Fit l c → Accepts l sheet c
+  pub fit-accepts : (sheet : List ℕ) (c : Call) → Standing l sheet → CallInside l c → Accepts l sheet c
   fit-accepts sheet c s f = record { done-so = step-as l sheet c ∙ ap (λ (k : Checked). unless k (afterCall l sheet c)) (accepted-fine (lentOf l sheet (c .rooms)) (c .settings) (passOf (c .pass)) right) }
     where
       right : Accepted (lentOf l sheet (c .rooms)) (c .settings) (passOf (c .pass))
@@ -178,7 +178,7 @@ module _ (l : CornerLists) where
             one-cell = s .one-cell;
           }
 
-  pub never-refused : (sheet : List ℕ) → Standing l sheet → (cs : List Call) (c : Call) → Fit l c → Accepts l (sheetOf l sheet cs) c
+  pub never-refused : (sheet : List ℕ) → Standing l sheet → (cs : List Call) (c : Call) → CallInside l c → Accepts l (sheetOf l sheet cs) c
   never-refused sheet s cs c f = fit-accepts (sheetOf l sheet cs) c (standing-after sheet s cs) f
 
 -- ---- the claim

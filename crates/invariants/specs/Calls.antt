@@ -97,7 +97,7 @@ Invariants = (l : CornerLists) (given : List ℕ) → Standing l given → (cs :
 -- ---- no refusal in mid-list
 
 -- a call whose numbers are in range and whose buffers are long enough
-pub record Fit (l : CornerLists) (c : Call) : Type 0 where
+pub record CallInside (l : CornerLists) (c : Call) : Type 0 where
   pub few : length (l .xs) ≤ 1024
   pub queue-long : queueNeeded (passOf (c .pass)) (length (l .xs)) ≤ c .rooms .queue
   pub attached-long : length (l .xs) ≤ c .rooms .attached

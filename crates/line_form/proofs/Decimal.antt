@@ -1,7 +1,7 @@
 -- Integers in text: the fuel of `decimal` is enough, reading what was written gives the integer back, writing what was read gives the bytes
 -- back, and how long an integer's text can be. Assumes nothing.
 use mathlib.Core.Path.{_≡_, refl, sym, ap, _∙_}
-use mathlib.Core.Bool.{Bool, true, false, _&&_}
+use mathlib.Core.Bool.{Bool, true, false, _&&_, cond}
 use mathlib.Core.List.{List, [], _∷_, _++_, append-assoc}
 use Prim.Native.Nat.{ℕ, zero, suc, _+_, _-_, _*_, _/_, _%_, _^_, _≤_, _<_}
 use native.Mathlib.Nat.{mod-lt, div-add-mod', not-suc-le-zero, pow-suc}
@@ -11,7 +11,6 @@ use lib.Arith.{digits-div, digits-mod}
 use lib.Dec.{ltb, leb, eqb}
 use lib.IntN.{ℤ, pos, negsuc, natAbs}
 use lib.ListN.{length, length-append}
-use Rattle.binary32.specs.Hex.{pick}
 use Rattle.line_form.specs.Integers.{decimalUpTo, decimal, integerText, Front, broken, front, isDigit, digitsAfter, readPositive, negated, mapped, readInteger}
 
 -- ---- written
@@ -23,16 +22,16 @@ fuel (suc f) zero n h k = absurd (not-suc-le-zero k)
 fuel (suc f) (suc g) n h k = go (ltb n 10) refl (λ l m. fuel f g (n / 10) l m)
   where
     go : (t : Bool) → ltb n 10 ≡ t → (n / 10 < f → n / 10 < g → decimalUpTo f (n / 10) ≡ decimalUpTo g (n / 10))
-        → pick t [] (decimalUpTo f (n / 10)) ++ ((48 + n % 10) ∷ []) ≡ pick t [] (decimalUpTo g (n / 10)) ++ ((48 + n % 10) ∷ [])
+        → cond t [] (decimalUpTo f (n / 10)) ++ ((48 + n % 10) ∷ []) ≡ cond t [] (decimalUpTo g (n / 10)) ++ ((48 + n % 10) ∷ [])
     go true e ih = refl
     go false e ih = let l = ltb-false n 10 e in ap (λ (s : List ℕ). s ++ ((48 + n % 10) ∷ [])) (ih (omega arith) (omega arith))
 
 -- the fuel is enough: the digits of n are those of its tenth, and its last
-pub decimal-digits : (n : ℕ) → decimal n ≡ pick (ltb n 10) [] (decimal (n / 10)) ++ ((48 + n % 10) ∷ [])
+pub decimal-digits : (n : ℕ) → decimal n ≡ cond (ltb n 10) [] (decimal (n / 10)) ++ ((48 + n % 10) ∷ [])
 unfolding decimal decimalUpTo
 decimal-digits n = go (ltb n 10) refl
   where
-    go : (t : Bool) → ltb n 10 ≡ t → pick t [] (decimalUpTo n (n / 10)) ++ ((48 + n % 10) ∷ []) ≡ pick t [] (decimal (n / 10)) ++ ((48 + n % 10) ∷ [])
+    go : (t : Bool) → ltb n 10 ≡ t → cond t [] (decimalUpTo n (n / 10)) ++ ((48 + n % 10) ∷ []) ≡ cond t [] (decimal (n / 10)) ++ ((48 + n % 10) ∷ [])
     go true e = refl
     go false e = let l = ltb-false n 10 e in ap (λ (s : List ℕ). s ++ ((48 + n % 10) ∷ [])) (fuel n (suc (n / 10)) (n / 10) (omega arith) (omega arith))
 
@@ -137,7 +136,7 @@ digits-told v (b ∷ text) n rest h e = go (leb 48 b) (leb b 57) refl refl (λ k
   where
     go : (s t : Bool) → leb 48 b ≡ s → leb b 57 ≡ t
         → (0 < v * 10 + (b - 48) → digitsAfter (v * 10 + (b - 48)) text ≡ front n rest → Told (decimal (v * 10 + (b - 48))) text n rest)
-        → pick (s && t) (digitsAfter (v * 10 + (b - 48)) text) (front v (b ∷ text)) ≡ front n rest → Told (decimal v) (b ∷ text) n rest
+        → cond (s && t) (digitsAfter (v * 10 + (b - 48)) text) (front v (b ∷ text)) ≡ front n rest → Told (decimal v) (b ∷ text) n rest
     go false t p q ih k = here v n (b ∷ text) rest h k
     go true false p q ih k = here v n (b ∷ text) rest h k
     go true true p q ih k =
@@ -158,7 +157,7 @@ unfolding readPositive
 positive-told [] n rest e = absurd (no-front n rest e)
 positive-told (b ∷ text) n rest e = go (leb 49 b) (leb b 57) refl refl e
   where
-    go : (s t : Bool) → leb 49 b ≡ s → leb b 57 ≡ t → pick (s && t) (digitsAfter (b - 48) text) broken ≡ front n rest → Told [] (b ∷ text) n rest
+    go : (s t : Bool) → leb 49 b ≡ s → leb b 57 ≡ t → cond (s && t) (digitsAfter (b - 48) text) broken ≡ front n rest → Told [] (b ∷ text) n rest
     go false t p q k = absurd (no-front n rest k)
     go true false p q k = absurd (no-front n rest k)
     go true true p q k =
@@ -199,7 +198,7 @@ integer-told [] z rest e = absurd (no-front z rest e)
 integer-told (b ∷ text) z rest e = go (eqb b 48) (eqb b 45) refl refl e
   where
     go : (s t : Bool) → eqb b 48 ≡ s → eqb b 45 ≡ t
-        → pick s (front (pos 0) text) (pick t (mapped negated (readPositive text)) (mapped pos (readPositive (b ∷ text)))) ≡ front z rest → b ∷ text ≡ integerText z ++ rest
+        → cond s (front (pos 0) text) (cond t (mapped negated (readPositive text)) (mapped pos (readPositive (b ∷ text)))) ≡ front z rest → b ∷ text ≡ integerText z ++ rest
     go true t p q k = ap (λ (c : ℕ). c ∷ text) (eqb-true b 48 p) ∙ zero-told text z rest k
     go false true p q k = ap (λ (c : ℕ). c ∷ text) (eqb-true b 45 q) ∙ minus-told text (readPositive text) z rest refl k
     go false false p q k = plain-told (b ∷ text) (readPositive (b ∷ text)) z rest refl k

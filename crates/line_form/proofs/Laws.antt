@@ -1,7 +1,7 @@
 -- The laws of integers in text and of lines that have a form: reading what was printed gives the numbers back, printing what was read gives the
 -- line back, how long a printed line can be, and words that hold integers. Assumes nothing.
 use mathlib.Core.Path.{_≡_, refl, sym, ap, _∙_, subst}
-use mathlib.Core.Bool.{Bool, true, false, _||_}
+use mathlib.Core.Bool.{Bool, true, false, _||_, cond}
 use mathlib.Core.List.{List, [], _∷_, _++_}
 use Prim.Native.Nat.{ℕ, suc, _+_, _-_, _*_, _/_, _%_, _≤_, _<_, min}
 use native.Mathlib.Omega.{arith}
@@ -10,7 +10,7 @@ use lib.Dec.{ltb, eqb}
 use lib.IntN.{ℤ, pos, negsuc, natAbs}
 use lib.ListN.{length, drop, length-append}
 use lib.Seq.{drop-at}
-use Rattle.binary32.specs.Hex.{pick, hexText, readBits}
+use Rattle.binary32.specs.Hex.{hexText, readBits}
 use Rattle.binary32.specs.declared.hex.Bits.{Bits}
 use Rattle.binary32.specs.declared.hex.Bits.the-variants.{Number as EightDigits, Broken}
 use Rattle.binary32.proofs.Digits.{digits-length, bits-read-written, bits-written-read}
@@ -25,7 +25,7 @@ use Rattle.line_form.proofs.Decimal.{Ended, integer-read, integer-told}
 -- ---- integers
 
 -- the digits of n are those of its tenth, and its last: the fuel of `decimal` is enough
-pub decimal-digits : (n : ℕ) → decimal n ≡ pick (ltb n 10) [] (decimal (n / 10)) ++ ((48 + n % 10) ∷ [])
+pub decimal-digits : (n : ℕ) → decimal n ≡ cond (ltb n 10) [] (decimal (n / 10)) ++ ((48 + n % 10) ∷ [])
 decimal-digits n = integers.decimal-digits n
 
 -- an integer of seven digits has no more than eight bytes
@@ -46,7 +46,7 @@ piece-byte : (c : ℕ) (text : List ℕ) → isSlot c ≡ false → pieceOf c te
 unfolding pieceOf
 piece-byte c text e = go (eqb c 37) (eqb c 35) e
   where
-    go : (s t : Bool) → (s || t) ≡ false → pick s (bitsPiece (readBits text) (drop 8 text)) (pick t (wholePiece (readInteger text)) (bytePiece c text)) ≡ bytePiece c text
+    go : (s t : Bool) → (s || t) ≡ false → cond s (bitsPiece (readBits text) (drop 8 text)) (cond t (wholePiece (readInteger text)) (bytePiece c text)) ≡ bytePiece c text
     go true t p = absurd (let z : _≡_ {A = ℕ} 0 1 = cc in omega arith)
     go false true p = absurd (let z : _≡_ {A = ℕ} 0 1 = cc in omega arith)
     go false false p = refl
@@ -80,7 +80,7 @@ end-printed (c ∷ form) ns e = go (isSlot c) refl e
     no-digit false true p q h = rw (le-leb 48 c (ltb-false c 48 p), lt-leb c 57 (ltb-true 57 c q))
     no-digit false false p q h = absurd (let z : _≡_ {A = ℕ} 0 1 = cc in omega arith)
 
-    go : (s : Bool) → isSlot c ≡ s → pick s false (ltb c 48 || ltb 57 c) ≡ true → Ended (printed (c ∷ form) ns)
+    go : (s : Bool) → isSlot c ≡ s → cond s false (ltb c 48 || ltb 57 c) ≡ true → Ended (printed (c ∷ form) ns)
     go true p h = absurd (let z : _≡_ {A = ℕ} 0 1 = cc in omega arith)
     go false p h = rw (byte-printed c form ns p) (no-digit (ltb c 48) (ltb 57 c) refl refl h)
 
@@ -93,7 +93,7 @@ after-whole : (form : List ℕ) → apart (35 ∷ form) ≡ true → Apart form
 unfolding apart
 after-whole form e = go (endsFirst form) refl e
   where
-    go : (s : Bool) → endsFirst form ≡ s → pick s (apart form) false ≡ true → Apart form
+    go : (s : Bool) → endsFirst form ≡ s → cond s (apart form) false ≡ true → Apart form
     go true p h = record { ends = p; rest = h }
     go false p h = absurd (let z : _≡_ {A = ℕ} 0 1 = cc in omega arith)
 
@@ -101,7 +101,7 @@ after-byte : (c : ℕ) (form : List ℕ) → isSlot c ≡ false → apart (c ∷
 unfolding apart
 after-byte c form e h = go (eqb c 37) (eqb c 35) e h
   where
-    go : (s t : Bool) → (s || t) ≡ false → pick t (pick (endsFirst form) (apart form) false) (apart form) ≡ true → apart form ≡ true
+    go : (s t : Bool) → (s || t) ≡ false → cond t (cond (endsFirst form) (apart form) false) (apart form) ≡ true → apart form ≡ true
     go true t p k = absurd (let z : _≡_ {A = ℕ} 0 1 = cc in omega arith)
     go false true p k = absurd (let z : _≡_ {A = ℕ} 0 1 = cc in omega arith)
     go false false p k = k
@@ -161,7 +161,7 @@ byte-back : (c : ℕ) (form line : List ℕ) (ns : List Number) → isSlot c ≡
 byte-back c form [] ns e ih h = absurd (no-fit ns h)
 byte-back c form (b ∷ line) ns e ih h = go (eqb b c) refl h
   where
-    go : (t : Bool) → eqb b c ≡ t → then (pick t (same line) no-piece) (λ text. fitOf form text) ≡ fitted ns → PrintsBack (c ∷ form) (b ∷ line) ns
+    go : (t : Bool) → eqb b c ≡ t → then (cond t (same line) no-piece) (λ text. fitOf form text) ≡ fitted ns → PrintsBack (c ∷ form) (b ∷ line) ns
     go false p k = absurd (no-fit ns k)
     go true p k =
         let r = ih line ns k in
@@ -211,7 +211,7 @@ printed-length [] ns h = omega arith
 printed-length (c ∷ form) ns h = go (isSlot c) (printed-length form ns h) (printed-length form (drop 1 ns) (short-rest ns h))
   where
     go : (s : Bool) → length (printed form ns) ≤ length form + 7 * slots form → length (printed form (drop 1 ns)) ≤ length form + 7 * slots form
-        → length (pick s (firstText ns) (c ∷ []) ++ printed form (pick s (drop 1 ns) ns)) ≤ suc (length form) + 7 * (pick s 1 0 + slots form)
+        → length (cond s (firstText ns) (c ∷ []) ++ printed form (cond s (drop 1 ns) ns)) ≤ suc (length form) + 7 * (cond s 1 0 + slots form)
     go true p q = let l = number-length ns h in simp length-append (omega arith)
     go false p q = omega arith
 

@@ -1,6 +1,6 @@
 -- The turns of the reader: digits, integers, what stands for a byte of a form, and the whole line. Assumes nothing.
 use mathlib.Core.Path.{_≡_, refl, sym, ap, _∙_}
-use mathlib.Core.Bool.{Bool, true, false, _&&_}
+use mathlib.Core.Bool.{Bool, true, false, _&&_, cond}
 use mathlib.Core.List.{List, [], _∷_, _++_}
 use Prim.Native.Nat.{ℕ, zero, suc, _+_, _-_, _*_, _≤_, _<_, min}
 use native.Mathlib.Numerals.{add-one}
@@ -10,7 +10,7 @@ use lib.Dec.{leb, eqb}
 use lib.IntN.{ℤ, pos}
 use lib.ListN.{length, getD, take, drop, replicate, length-append, length-drop, drop-of-length-le}
 use lib.Seq.{drop-cons, drop-drop, drop-at, take-all}
-use Rattle.binary32.specs.Hex.{pick, hexText, readBits}
+use Rattle.binary32.specs.Hex.{hexText, readBits}
 use Rattle.binary32.specs.declared.hex.Bits.{Bits}
 use Rattle.binary32.specs.declared.hex.Bits.the-variants.{Number as EightDigits, Broken}
 use Rattle.binary32.proofs.Digits.{digits-length, bits-written-read}
@@ -58,7 +58,7 @@ alike u v [] e = rw e
 alike u v (b ∷ text) e = go (isDigit b) (alike (u * 10 + (b - 48)) (v * 10 + (b - 48)) text (omega arith))
   where
     go : (t : Bool) → heldDigits (digitsAfter (u * 10 + (b - 48)) text) ≡ heldDigits (digitsAfter (v * 10 + (b - 48)) text)
-        → heldDigits (pick t (digitsAfter (u * 10 + (b - 48)) text) (front u (b ∷ text))) ≡ heldDigits (pick t (digitsAfter (v * 10 + (b - 48)) text) (front v (b ∷ text)))
+        → heldDigits (cond t (digitsAfter (u * 10 + (b - 48)) text) (front u (b ∷ text))) ≡ heldDigits (cond t (digitsAfter (v * 10 + (b - 48)) text) (front v (b ∷ text)))
     go true h = h
     go false h = rw e
 
@@ -131,7 +131,7 @@ positive [] e = absurd (let z : _≡_ {A = ℕ} 0 1 = cc in omega arith)
 positive (b ∷ text) e = go (leb 49 b) (leb b 57) refl refl e
   where
     go : (s t : Bool) → leb 49 b ≡ s → leb b 57 ≡ t → (s && t) ≡ true
-        → pick (s && t) (digitsAfter (b - 48) text) broken ≡ pick (leb 48 b && t) (digitsAfter (0 * 10 + (b - 48)) text) (front 0 (b ∷ text))
+        → cond (s && t) (digitsAfter (b - 48) text) broken ≡ cond (leb 48 b && t) (digitsAfter (0 * 10 + (b - 48)) text) (front 0 (b ∷ text))
     go true true p q h = let l = leb-true 49 b p in let k : 0 * 10 + (b - 48) ≡ b - 48 = omega arith in rw (le-leb 48 b (omega arith), k)
     go true false p q h = absurd (let z : _≡_ {A = ℕ} 0 1 = cc in omega arith)
     go false t p q h = absurd (let z : _≡_ {A = ℕ} 0 1 = cc in omega arith)
@@ -142,7 +142,7 @@ unfolding digitsAfter
 some-digits v [] e = let z : _≡_ {A = ℕ} 0 1 = cc in omega arith
 some-digits v (b ∷ text) e = go (isDigit b) (λ h. some-digits (v * 10 + (b - 48)) text h) e
   where
-    go : (t : Bool) → (digitsAfter (v * 10 + (b - 48)) text ≡ broken → ⊥) → pick t (digitsAfter (v * 10 + (b - 48)) text) (front v (b ∷ text)) ≡ broken → ⊥
+    go : (t : Bool) → (digitsAfter (v * 10 + (b - 48)) text ≡ broken → ⊥) → cond t (digitsAfter (v * 10 + (b - 48)) text) (front v (b ∷ text)) ≡ broken → ⊥
     go true f h = f h
     go false f h = let z : _≡_ {A = ℕ} 0 1 = cc in omega arith
 
@@ -263,7 +263,7 @@ byte-number : (c : ℕ) (text : List ℕ) (n : Number) (rest : List ℕ) → byt
 byte-number c [] n rest h = let z : _≡_ {A = ℕ} 0 1 = cc in omega arith
 byte-number c (b ∷ text) n rest h = go (eqb b c) h
   where
-    go : (t : Bool) → pick t (same text) no-piece ≡ number n rest → ⊥
+    go : (t : Bool) → cond t (same text) no-piece ≡ number n rest → ⊥
     go true k = let z : _≡_ {A = ℕ} 0 1 = cc in omega arith
     go false k = let z : _≡_ {A = ℕ} 0 1 = cc in omega arith
 
@@ -271,7 +271,7 @@ number-told : (c : ℕ) (text : List ℕ) (n : Number) (rest : List ℕ) → pie
 unfolding pieceOf
 number-told c text n rest h = go (eqb c 37) (eqb c 35) h
   where
-    go : (s t : Bool) → pick s (bitsPiece (readBits text) (drop 8 text)) (pick t (wholePiece (readInteger text)) (bytePiece c text)) ≡ number n rest → text ≡ numberText n ++ rest
+    go : (s t : Bool) → cond s (bitsPiece (readBits text) (drop 8 text)) (cond t (wholePiece (readInteger text)) (bytePiece c text)) ≡ number n rest → text ≡ numberText n ++ rest
     go true t k = float-told text (readBits text) n rest refl k
     go false true k = whole-told text (readInteger text) n rest refl k
     go false false k = absurd (byte-number c text n rest k)
@@ -293,7 +293,7 @@ byte-told : (c : ℕ) (text rest : List ℕ) → bytePiece c text ≡ same rest 
 byte-told c [] rest h = absurd (let z : _≡_ {A = ℕ} 0 1 = cc in omega arith)
 byte-told c (b ∷ text) rest h = go (eqb b c) h
   where
-    go : (t : Bool) → pick t (same text) no-piece ≡ same rest → OneByte (b ∷ text) rest
+    go : (t : Bool) → cond t (same text) no-piece ≡ same rest → OneByte (b ∷ text) rest
     go true k = record { some = omega arith; behind = cc }
     go false k = absurd (let z : _≡_ {A = ℕ} 0 1 = cc in omega arith)
 
@@ -301,7 +301,7 @@ same-told : (c : ℕ) (text rest : List ℕ) → pieceOf c text ≡ same rest �
 unfolding pieceOf
 same-told c text rest h = go (eqb c 37) (eqb c 35) h
   where
-    go : (s t : Bool) → pick s (bitsPiece (readBits text) (drop 8 text)) (pick t (wholePiece (readInteger text)) (bytePiece c text)) ≡ same rest → OneByte text rest
+    go : (s t : Bool) → cond s (bitsPiece (readBits text) (drop 8 text)) (cond t (wholePiece (readInteger text)) (bytePiece c text)) ≡ same rest → OneByte text rest
     go true t k = absurd (float-same (readBits text) (drop 8 text) rest k)
     go false true k = absurd (whole-same (readInteger text) rest k)
     go false false k = byte-told c text rest k

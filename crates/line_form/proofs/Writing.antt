@@ -1,6 +1,6 @@
 -- The turns of the writer: the digits of a number, an integer, what is written for a byte of a form, and the whole line. Assumes nothing.
 use mathlib.Core.Path.{_≡_, refl, sym, ap, ap₂, _∙_}
-use mathlib.Core.Bool.{Bool, true, false}
+use mathlib.Core.Bool.{Bool, true, false, cond}
 use mathlib.Core.List.{List, [], _∷_, _++_, append-assoc, append-nil}
 use Prim.Native.Nat.{ℕ, zero, suc, _+_, _-_, _/_, _%_, _^_, _≤_, _<_}
 use native.Mathlib.Nat.{not-suc-le-zero, add-zero}
@@ -11,7 +11,7 @@ use borrow.Rule.Slice.PartMut.{putMid}
 use lib.Dec.{ltb}
 use lib.ListN.{length, getD, take, drop, set, length-append, length-take, length-drop, length-set, take-append-drop, drop-of-length-le}
 use lib.Seq.{drop-cons, drop-drop, drop-at, take-at, drop-set-lt, getD-set-same, getD-drop, take-all, length-take-le}
-use Rattle.binary32.specs.Hex.{pick, hexText}
+use Rattle.binary32.specs.Hex.{hexText}
 use Rattle.binary32.proofs.Digits.{digits-length}
 use Rattle.line_form.specs.Integers.{decimal, integerText, negated}
 use Rattle.line_form.specs.Forms.{whole, numberText, isSlot, firstText, printed}
@@ -140,13 +140,13 @@ above-text w h = rw (le-ltb w 1000000 h)
 -- ---- one byte of a form
 
 module _ (c : ℕ) where
-  pub takes-float : c ≡ 37 → _≡_ {A = ℕ} 1 (pick (isSlot c) 1 0)
+  pub takes-float : c ≡ 37 → _≡_ {A = ℕ} 1 (cond (isSlot c) 1 0)
   takes-float h = rw (eq-eqb c 37 h)
 
-  pub takes-integer : (c ≡ 37 → ⊥) → c ≡ 35 → _≡_ {A = ℕ} 1 (pick (isSlot c) 1 0)
+  pub takes-integer : (c ≡ 37 → ⊥) → c ≡ 35 → _≡_ {A = ℕ} 1 (cond (isSlot c) 1 0)
   takes-integer h k = rw (ne-eqb c 37 h, eq-eqb c 35 k)
 
-  pub takes-none : (c ≡ 37 → ⊥) → (c ≡ 35 → ⊥) → _≡_ {A = ℕ} 0 (pick (isSlot c) 1 0)
+  pub takes-none : (c ≡ 37 → ⊥) → (c ≡ 35 → ⊥) → _≡_ {A = ℕ} 0 (cond (isSlot c) 1 0)
   takes-none h k = rw (ne-eqb c 37 h, ne-eqb c 35 k)
 
   float-text : (w : ℕ) → c ≡ 37 → pieceText c w ≡ hexText w
@@ -236,13 +236,13 @@ module _ (c w : ℕ) (old : List ℕ) (room : length (pieceText c w) ≤ length 
 -- ---- the whole line
 
 -- the text of a form: that of its first byte, then that of the others
-text-turn : (c : ℕ) (form ws : List ℕ) → formText (c ∷ form) ws ≡ pieceText c (getD ws 0 0) ++ formText form (drop (pick (isSlot c) 1 0) ws)
+text-turn : (c : ℕ) (form ws : List ℕ) → formText (c ∷ form) ws ≡ pieceText c (getD ws 0 0) ++ formText form (drop (cond (isSlot c) 1 0) ws)
 unfolding formText pieceText unheld printed
 text-turn c form ws = go (isSlot c)
   where
-    go : (t : Bool) → pick t (firstText (pick t (unheldNumber c (getD ws 0 0) ∷ []) [] ++ unheld form (pick t (drop 1 ws) ws))) (c ∷ [])
-        ++ printed form (pick t (drop 1 (pick t (unheldNumber c (getD ws 0 0) ∷ []) [] ++ unheld form (pick t (drop 1 ws) ws))) (pick t (unheldNumber c (getD ws 0 0) ∷ []) [] ++ unheld form (pick t (drop 1 ws) ws)))
-        ≡ pick t (numberText (unheldNumber c (getD ws 0 0))) (c ∷ []) ++ printed form (unheld form (drop (pick t 1 0) ws))
+    go : (t : Bool) → cond t (firstText (cond t (unheldNumber c (getD ws 0 0) ∷ []) [] ++ unheld form (cond t (drop 1 ws) ws))) (c ∷ [])
+        ++ printed form (cond t (drop 1 (cond t (unheldNumber c (getD ws 0 0) ∷ []) [] ++ unheld form (cond t (drop 1 ws) ws))) (cond t (unheldNumber c (getD ws 0 0) ∷ []) [] ++ unheld form (cond t (drop 1 ws) ws)))
+        ≡ cond t (numberText (unheldNumber c (getD ws 0 0))) (c ∷ []) ++ printed form (unheld form (drop (cond t 1 0) ws))
     go true = refl
     go false = refl
 
@@ -250,7 +250,7 @@ nothing : (ws : List ℕ) → [] ≡ formText [] ws
 unfolding formText printed
 nothing ws = refl
 
-one-word : (t : Bool) (m : ℕ) → m ≡ pick t 1 0 → m ≤ 1
+one-word : (t : Bool) (m : ℕ) → m ≡ cond t 1 0 → m ≤ 1
 one-word true m e = omega arith
 one-word false m e = omega arith
 
@@ -273,13 +273,13 @@ module _ (form ws old out : List ℕ) (i at k : ℕ) (g : Filling form ws old ou
     piece = pieceText (getD form i 0) w
 
     abbrev later : List ℕ
-    later = formText (drop (i + 1) form) (drop (k + pick (isSlot (getD form i 0)) 1 0) ws)
+    later = formText (drop (i + 1) form) (drop (k + cond (isSlot (getD form i 0)) 1 0) ws)
 
     split : formText (drop i form) (drop k ws) ≡ piece ++ later
     split =
         ap (λ (s : List ℕ). formText s (drop k ws)) (front-of form i h)
         ∙ text-turn (getD form i 0) (drop (i + 1) form) (drop k ws)
-        ∙ ap₂ (λ (a : ℕ) (s : List ℕ). pieceText (getD form i 0) a ++ formText (drop (i + 1) form) s) (first k ws v) (drop-drop (pick (isSlot (getD form i 0)) 1 0) k ws)
+        ∙ ap₂ (λ (a : ℕ) (s : List ℕ). pieceText (getD form i 0) a ++ formText (drop (i + 1) form) s) (first k ws v) (drop-drop (cond (isSlot (getD form i 0)) 1 0) k ws)
       where
         first : (k : ℕ) (ws : List ℕ) → w ≡ getD ws k 0 → getD (drop k ws) 0 0 ≡ w
         first k ws e = getD-drop k ws 0 0 ∙ ap (λ (j : ℕ). getD ws j 0) (add-zero k) ∙ sym e
@@ -289,13 +289,13 @@ module _ (form ws old out : List ℕ) (i at k : ℕ) (g : Filling form ws old ou
         omega
         (arith, g .room, g .sized, g .inside, ap length (g .done), length-append (take at out) (formText (drop i form) (drop k ws)), length-take at out, ap length split, length-append piece later)
 
-    pub word-room : (m : ℕ) → m ≡ pick (isSlot (getD form i 0)) 1 0 → k + m ≤ length form
+    pub word-room : (m : ℕ) → m ≡ cond (isSlot (getD form i 0)) 1 0 → k + m ≤ length form
     word-room m e = omega (arith, g .few, one-word (isSlot (getD form i 0)) m e)
 
     pub piece-part : length piece ≤ length (take (length out - at) (drop at out))
     piece-part = rw (part out at, length-drop at out) (omega (arith, piece-room))
 
-    pub piece-written : (new : List ℕ) (n m : ℕ) → Wrote piece (take (length out - at) (drop at out)) new n → m ≡ pick (isSlot (getD form i 0)) 1 0
+    pub piece-written : (new : List ℕ) (n m : ℕ) → Wrote piece (take (length out - at) (drop at out)) new n → m ≡ cond (isSlot (getD form i 0)) 1 0
         → Filling form ws old (putMid at (length out - at) out new) (i + 1) (at + n) (k + m)
     piece-written new n m r e =
         let behind = drop (length piece) (drop at out) in

@@ -1,7 +1,7 @@
 -- Lines that have a form (document 01, "Frame and result"). A form is a text in which the byte % stands for a float, # for an integer, and
 -- every other byte for itself; "One space between parts, LF after each line": both stand in the form. Definitions only.
 use mathlib.Core.Path.{_≡_}
-use mathlib.Core.Bool.{Bool, true, false, _||_}
+use mathlib.Core.Bool.{Bool, true, false, _||_, cond}
 use mathlib.Core.List.{List, [], _∷_, _++_}
 use Prim.Native.Nat.{ℕ, _+_, _<_, _≤_}
 use Prim.Native.Char.{code}
@@ -9,7 +9,7 @@ use Prim.Native.String.{String, [] as []ˢ, _∷_ as _∷ˢ_}
 use lib.IntN.{ℤ, pos, negsuc}
 use lib.Dec.{ltb, leb, eqb}
 use lib.ListN.{drop}
-use Rattle.binary32.specs.Hex.{pick, hexText, readBits}
+use Rattle.binary32.specs.Hex.{hexText, readBits}
 use Rattle.binary32.specs.declared.hex.Bits.{Bits}
 use Rattle.binary32.specs.declared.hex.Bits.the-variants.{Number as EightDigits, Broken}
 use Rattle.line_form.specs.Integers.{integerText, Front, broken, front, readInteger}
@@ -41,7 +41,7 @@ firstText (n ∷ ns) = numberText n
 
 unfoldable pub printed : List ℕ → List Number → List ℕ
 printed [] ns = []
-printed (c ∷ form) ns = pick (isSlot c) (firstText ns) (c ∷ []) ++ printed form (pick (isSlot c) (drop 1 ns) ns)
+printed (c ∷ form) ns = cond (isSlot c) (firstText ns) (c ∷ []) ++ printed form (cond (isSlot c) (drop 1 ns) ns)
 
 -- ---- a line read by its form
 
@@ -61,10 +61,10 @@ wholePiece (front z text) = number (whole z) text
 
 abbrev pub bytePiece : ℕ → List ℕ → Piece
 bytePiece c [] = no-piece
-bytePiece c (b ∷ text) = pick (eqb b c) (same text) no-piece
+bytePiece c (b ∷ text) = cond (eqb b c) (same text) no-piece
 
 unfoldable pub pieceOf : ℕ → List ℕ → Piece
-pieceOf c text = pick (eqb c 37) (bitsPiece (readBits text) (drop 8 text)) (pick (eqb c 35) (wholePiece (readInteger text)) (bytePiece c text))
+pieceOf c text = cond (eqb c 37) (bitsPiece (readBits text) (drop 8 text)) (cond (eqb c 35) (wholePiece (readInteger text)) (bytePiece c text))
 
 -- a line that has the form, with its numbers in order; or it has not
 pub data Fitted : Type 0 where
@@ -97,7 +97,7 @@ pub data Suits : List ℕ → List Number → Type 0 where
 
 -- a byte that ends an integer: itself in a form, and no digit
 abbrev pub isEnd : ℕ → Bool
-isEnd c = pick (isSlot c) false (ltb c 48 || ltb 57 c)
+isEnd c = cond (isSlot c) false (ltb c 48 || ltb 57 c)
 
 abbrev pub endsFirst : List ℕ → Bool
 endsFirst [] = false
@@ -106,7 +106,7 @@ endsFirst (c ∷ form) = isEnd c
 -- after each # of a form stands a byte that ends an integer
 unfoldable pub apart : List ℕ → Bool
 apart [] = true
-apart (c ∷ form) = pick (eqb c 35) (pick (endsFirst form) (apart form) false) (apart form)
+apart (c ∷ form) = cond (eqb c 35) (cond (endsFirst form) (apart form) false) (apart form)
 
 -- ---- the laws, proved in proofs/
 

@@ -1,11 +1,10 @@
 -- Numbers of a line as the code holds them, one word of 32 bits each. Definitions only.
-use mathlib.Core.Bool.{Bool, true, false, _&&_}
+use mathlib.Core.Bool.{Bool, true, false, _&&_, cond}
 use mathlib.Core.List.{List, [], _∷_}
 use Prim.Native.Nat.{ℕ, zero, suc, _+_, _-_, min}
 use lib.IntN.{ℤ, pos, negsuc}
 use lib.Dec.{ltb, leb}
 use lib.ListN.{length, replicate, set}
-use Rattle.binary32.specs.Hex.{pick}
 use Rattle.line_form.specs.Integers.{Front, broken, front}
 use Rattle.line_form.specs.Forms.{Number, bits, whole, Piece, no-piece, same, number, Fitted, misfit, fitted}
 use Rattle.line_form.specs.declared.read.Fit.{Fit}
@@ -54,4 +53,4 @@ startsPositive (b ∷ text) = leb 49 b && leb b 57
 
 -- a number at place k, if there is one
 unfoldable pub kept : List ℕ → ℕ → ℕ → List ℕ
-kept vs k v = pick (ltb k 5) (set vs k v) vs
+kept vs k v = cond (ltb k 5) (set vs k v) vs

@@ -1,18 +1,17 @@
 -- Integers in text (document 01, "Frame and result"): "Integers are decimal, of any length, no leading zero, minus only before non-zero".
 -- Definitions only. `proofs/` shows that reading what was written gives the integer back, and that writing what was read gives the bytes back.
-use mathlib.Core.Bool.{Bool, true, false, _&&_}
+use mathlib.Core.Bool.{Bool, true, false, _&&_, cond}
 use mathlib.Core.List.{List, [], _∷_, _++_}
 use Prim.Native.Nat.{ℕ, zero, suc, _+_, _-_, _*_, _/_, _%_}
 use lib.IntN.{ℤ, pos, negsuc}
 use lib.Dec.{ltb, leb, eqb}
-use Rattle.binary32.specs.Hex.{pick}
 
 -- ---- written
 
 -- the digits of n in base ten, at most f of them, the most significant first
 unfoldable pub decimalUpTo : ℕ → ℕ → List ℕ
 decimalUpTo zero n = []
-decimalUpTo (suc f) n = pick (ltb n 10) [] (decimalUpTo f (n / 10)) ++ ((48 + n % 10) ∷ [])
+decimalUpTo (suc f) n = cond (ltb n 10) [] (decimalUpTo f (n / 10)) ++ ((48 + n % 10) ∷ [])
 
 -- all digits of n: it has no more than n + 1 (`proofs/`: `decimal-digits`)
 unfoldable pub decimal : ℕ → List ℕ
@@ -36,12 +35,12 @@ isDigit b = leb 48 b && leb b 57
 -- the digits at the front, as far as they go, after those that made v
 unfoldable pub digitsAfter : ℕ → List ℕ → Front ℕ
 digitsAfter v [] = front v []
-digitsAfter v (b ∷ text) = pick (isDigit b) (digitsAfter (v * 10 + (b - 48)) text) (front v (b ∷ text))
+digitsAfter v (b ∷ text) = cond (isDigit b) (digitsAfter (v * 10 + (b - 48)) text) (front v (b ∷ text))
 
 -- a number above 0: its first digit is not 0
 unfoldable pub readPositive : List ℕ → Front ℕ
 readPositive [] = broken
-readPositive (b ∷ text) = pick (leb 49 b && leb b 57) (digitsAfter (b - 48) text) broken
+readPositive (b ∷ text) = cond (leb 49 b && leb b 57) (digitsAfter (b - 48) text) broken
 
 abbrev pub negated : ℕ → ℤ
 negated zero = pos zero
@@ -54,4 +53,4 @@ mapped f (front n text) = front (f n) text
 -- 0; or a minus and a number above 0; or a number above 0
 unfoldable pub readInteger : List ℕ → Front ℤ
 readInteger [] = broken
-readInteger (b ∷ text) = pick (eqb b 48) (front (pos 0) text) (pick (eqb b 45) (mapped negated (readPositive text)) (mapped pos (readPositive (b ∷ text))))
+readInteger (b ∷ text) = cond (eqb b 48) (front (pos 0) text) (cond (eqb b 45) (mapped negated (readPositive text)) (mapped pos (readPositive (b ∷ text))))

@@ -1,17 +1,17 @@
 -- How long a printed line can be. Definitions only; the bound is `printed-length` of `proofs/Laws.antt`.
+use mathlib.Core.Bool.{cond}
 use mathlib.Core.Path.{_≡_}
 use mathlib.Core.List.{List, [], _∷_}
 use Prim.Native.Nat.{ℕ, _+_, _≤_, _<_}
 use lib.IntN.{natAbs}
 use lib.ListN.{length}
-use Rattle.binary32.specs.Hex.{pick}
 use Rattle.line_form.specs.Integers.{decimal}
 use Rattle.line_form.specs.Forms.{Number, bits, whole, isSlot}
 
 -- how many numbers a form has
 unfoldable pub slots : List ℕ → ℕ
 slots [] = 0
-slots (c ∷ form) = pick (isSlot c) 1 0 + slots form
+slots (c ∷ form) = cond (isSlot c) 1 0 + slots form
 
 -- every integer has at most seven digits
 abbrev pub Short : List Number → Type 0

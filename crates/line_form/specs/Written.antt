@@ -1,26 +1,26 @@
 -- A line written from its form and the words that hold its numbers. Definitions only.
+use mathlib.Core.Bool.{cond}
 use mathlib.Core.Path.{_≡_}
 use mathlib.Core.List.{List, [], _∷_, _++_}
 use Prim.Native.Nat.{ℕ, _-_}
 use lib.Dec.{ltb, eqb}
 use lib.IntN.{ℤ, pos}
 use lib.ListN.{length, getD, drop}
-use Rattle.binary32.specs.Hex.{pick}
 use Rattle.line_form.specs.Integers.{negated}
 use Rattle.line_form.specs.Forms.{Number, bits, whole, numberText, isSlot, printed}
 
 -- the integer that a word holds: 1,000,000 less
 unfoldable pub unheldWhole : ℕ → ℤ
-unheldWhole w = pick (ltb w 1000000) (negated (1000000 - w)) (pos (w - 1000000))
+unheldWhole w = cond (ltb w 1000000) (negated (1000000 - w)) (pos (w - 1000000))
 
 -- the number that a word holds for a byte of a form: % has its bits, # an integer
 unfoldable pub unheldNumber : ℕ → ℕ → Number
-unheldNumber c w = pick (eqb c 37) (bits w) (whole (unheldWhole w))
+unheldNumber c w = cond (eqb c 37) (bits w) (whole (unheldWhole w))
 
 -- the numbers that words hold for a form, in order; 0 stands for a word that is wanting
 unfoldable pub unheld : List ℕ → List ℕ → List Number
 unheld [] ws = []
-unheld (c ∷ form) ws = pick (isSlot c) (unheldNumber c (getD ws 0 0) ∷ []) [] ++ unheld form (pick (isSlot c) (drop 1 ws) ws)
+unheld (c ∷ form) ws = cond (isSlot c) (unheldNumber c (getD ws 0 0) ∷ []) [] ++ unheld form (cond (isSlot c) (drop 1 ws) ws)
 
 -- the line
 unfoldable pub formText : List ℕ → List ℕ → List ℕ
@@ -28,7 +28,7 @@ formText form ws = printed form (unheld form ws)
 
 -- what is written for one byte of a form
 unfoldable pub pieceText : ℕ → ℕ → List ℕ
-pieceText c w = pick (isSlot c) (numberText (unheldNumber c w)) (c ∷ [])
+pieceText c w = cond (isSlot c) (numberText (unheldNumber c w)) (c ∷ [])
 
 -- a text was written to the front of a part, which is else as it was; n is how many bytes
 pub record Wrote (text old new : List ℕ) (n : ℕ) : Type 0 where

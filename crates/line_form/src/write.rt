@@ -1,8 +1,8 @@
 // A line written from its form, and from words that hold its numbers: a float as its bits, an integer as 1,000,000 more than it is.
+ghost use mathlib.Core.Bool.{cond};
 ghost use mathlib.Core.Path.{_≡_};
 ghost use Prim.Native.Nat.{_+_, _%_, _≤_};
 ghost use lib.ListN.{length, getD};
-ghost use Rattle.binary32.specs.Hex.{pick};
 ghost use Rattle.line_form.specs.Integers.{decimal, integerText};
 ghost use Rattle.line_form.specs.Forms.{isSlot};
 ghost use Rattle.line_form.specs.Lengths.{DigitCount};
@@ -76,7 +76,7 @@ fn write_piece(c: u8, w: u32, out: &mut [u8]) -> usize
 
 // How many words a byte of a form takes.
 fn words_of(c: u8) -> usize
-    ensures { λ r. ⌜ r ≡ pick (isSlot c) 1 0 ⌝ }
+    ensures { λ r. ⌜ r ≡ cond (isSlot c) 1 0 ⌝ }
 {
     if c == 37 {
         return 1;

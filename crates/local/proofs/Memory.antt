@@ -32,8 +32,8 @@ use Rattle.remembered.specs.declared.Known.{Known}
 use Rattle.remembered.proofs.Words.{predicted-below}
 use Rattle.remembered.proofs.Notes.{recalled, noted}
 use Rattle.remembered.proofs.Larger.{larger}
-use Rattle.remembered.proofs.Visits.{visit-none, visit-gated, visit-fitted, visit-idle, visit-unmatched, visit-ambiguous, visit-predicted}
-use Rattle.remembered.proofs.Made.{made-none, made-above, made-within, made-unmatched, made-ambiguous}
+use Rattle.remembered.proofs.Visits.{visit-none, visit-gated, visit-fitted, visit-idle, visit-no-candidates, visit-ambiguous, visit-predicted}
+use Rattle.remembered.proofs.Made.{made-none, made-above, made-within, made-no-candidates, made-ambiguous}
 use Rattle.remembered.proofs.Attach.{attach-remembered}
 use Rattle.local.specs.Extending.{countsChanged, residualsRecorded, stateOf, Left, Recalls, Trying, Foretold, Taking, Wrote}
 use Rattle.local.specs.declared.LocalProgress.{LocalProgress}
@@ -127,8 +127,8 @@ module _ {set : Settings} {p : LocalExtensionParams} {xs ys pitches : List Float
     pub recalls-missed : {reach : ℕ} {prediction : Position} {n : Counts} {at' : LocalProgress} {found : TryCellResult} {memory' : List ℕ} {predictions' : List Float}
         → Trying xs ys pitches sheet list used places at c → Foretold set p xs ys pitches sheet at c reach prediction
         → found ≡ tryAt (cornersOf xs ys pitches) sheet (tolerancesOf set) (localSearch set p) c prediction → found ≡ TryCellResult.NoCandidates → at' ≡ countsChanged at n
-        → Noted memory predictions c (Known.Unmatched reach) memory' predictions' → Recalls set p xs ys pitches sheet memory' predictions' at'
-    recalls-missed t k d g e n = rw e (noted r (t .on) (made-unmatched (k .known) (sym d ∙ g)) n)
+        → Noted memory predictions c (Known.NoCandidates reach) memory' predictions' → Recalls set p xs ys pitches sheet memory' predictions' at'
+    recalls-missed t k d g e n = rw e (noted r (t .on) (made-no-candidates (k .known) (sym d ∙ g)) n)
 
     -- an ambiguous choice
     pub recalls-ambiguous : {reach : ℕ} {prediction : Position} {n : Counts} {at' : LocalProgress} {candidates : Candidates} {limit : Float} {found : TryCellResult} {memory' : List ℕ} {predictions' : List Float}
@@ -148,9 +148,9 @@ module _ {set : Settings} {p : LocalExtensionParams} {xs ys pitches : List Float
   pub known-idle : {reach : ℕ} → known ≡ Known.Idle reach → localVisit (cornersOf xs ys pitches) set p c (stateOf sheet list at) ≡ stateOf sheet list at
   known-idle e = visit-idle (cornersOf xs ys pitches) set p c (stateOf sheet list at) (says e)
 
-  pub known-unmatched : {reach : ℕ} → known ≡ Known.Unmatched reach
+  pub known-no-candidates : {reach : ℕ} → known ≡ Known.NoCandidates reach
       → localVisit (cornersOf xs ys pitches) set p c (stateOf sheet list at) ≡ localWith c TryCellResult.NoCandidates (stateOf sheet list at)
-  known-unmatched e = visit-unmatched (cornersOf xs ys pitches) set p c (stateOf sheet list at) (says e)
+  known-no-candidates e = visit-no-candidates (cornersOf xs ys pitches) set p c (stateOf sheet list at) (says e)
 
   pub known-ambiguous : {reach : ℕ} {prediction : Position} {limit : Float} → known ≡ Known.Ambiguous reach prediction limit
       → localVisit (cornersOf xs ys pitches) set p c (stateOf sheet list at) ≡ localWith c TryCellResult.Ambiguous (stateOf sheet list at)

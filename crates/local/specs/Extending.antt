@@ -16,7 +16,6 @@ use Rattle.labels.specs.Used.{usedOn, Tied, OneCell}
 use Rattle.arguments.specs.declared.Settings.{Settings}
 use Rattle.arguments.specs.declared.LocalExtensionParams.{LocalExtensionParams}
 use Rattle.extension_common.specs.TryCell.{Corners, cornersOf}
-use Rattle.passes.specs.Outcome.{over}
 use Rattle.passes.specs.Grow.{noCounts}
 use Rattle.passes.specs.Local.{depthOf, recordedAll, LocalState, LocalRounds, localVisit}
 use Rattle.passes.specs.declared.Counts.{Counts}
@@ -26,6 +25,7 @@ use Rattle.supports.specs.Nearest.{Gathered}
 use Rattle.remembered.specs.Remembered.{KnownAt, Remembered}
 use Rattle.remembered.specs.declared.Known.{Known}
 use Rattle.region.specs.Region.{Region, Telling, regionAt}
+use Rattle.arguments.specs.Front.{over}
 use Rattle.local.specs.declared.LocalProgress.{LocalProgress}
 use Rattle.local.specs.declared.RoundsDone.{RoundsDone}
 

@@ -158,7 +158,7 @@ fn try_predicted_cell(
     );
     match found {
         TryCellResult::NoCandidates => {
-            remembered::note(memory, predictions, c, Known::Unmatched(reach));
+            remembered::note(memory, predictions, c, Known::NoCandidates(reach));
             with_counts(at, count_no_candidate(at.counts))
         }
         TryCellResult::Ambiguous => {
@@ -282,7 +282,7 @@ pub fn try_local_cell(
             params,
         ),
         Known::Idle(_) => at,
-        Known::Unmatched(_) => with_counts(at, count_no_candidate(at.counts)),
+        Known::NoCandidates(_) => with_counts(at, count_no_candidate(at.counts)),
         Known::Ambiguous(_, _, _) => with_counts(at, count_ambiguous(at.counts)),
         Known::Predicted(reach, prediction) => try_predicted_cell(
             xs,

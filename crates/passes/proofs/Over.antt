@@ -7,7 +7,7 @@ use native.Mathlib.Numerals.{add-one}
 use native.Mathlib.Omega.{arith}
 use lib.ListN.{length, getD, take, drop, set, length-append, length-drop, take-append-drop, List·getD-append}
 use lib.Seq.{take-append-seam, drop-append-add, drop-drop, drop-cons, set-append-seam, append-snoc, length-take-le}
-use Rattle.passes.specs.Outcome.{over}
+use Rattle.arguments.specs.Front.{over}
 
 -- a list that the buffer has room for leaves the buffer's length
 pub over-length : (written buffer : List ℕ) → length written ≤ length buffer → length (over written buffer) ≡ length buffer

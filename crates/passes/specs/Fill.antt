@@ -107,12 +107,12 @@ fillFrom cs set p (suc m) r =
     cond (eqb (length (next .state .made)) (length (r .state .made))) next (fillFrom cs set p m next)
 
 -- "Fill's round limit 0 acts as 1"; under 1 label there is no round
-unfoldable pub limitOf : ℕ → ℕ → ℕ
-limitOf zero limit = 0
-limitOf (suc n) limit = max 1 limit
+unfoldable pub fillLimit : ℕ → ℕ → ℕ
+fillLimit zero limit = 0
+fillLimit (suc n) limit = max 1 limit
 
 unfoldable pub fillRun : Corners → Settings → FillParams → List ℕ → FillRounds
-fillRun cs set p sheet = fillFrom cs set p (limitOf (labelCount sheet) (p .«max_iters»)) (record { state = record { sheet = sheet; made = [] }; rounds = 0 })
+fillRun cs set p sheet = fillFrom cs set p (fillLimit (labelCount sheet) (p .«max_iters»)) (record { state = record { sheet = sheet; made = [] }; rounds = 0 })
 
 -- what an accepted call answers and leaves
 abbrev pub fillLeft : FillRounds → After FillStats

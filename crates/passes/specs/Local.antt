@@ -6,12 +6,12 @@ use Prim.Native.Nat.{ℕ, zero, suc, _+_, max}
 use lib.Dec.{eqb, ltb}
 use lib.ListN.{length, getD, take}
 use lib.IntN.{ℤ}
-use lib.Ieee.{Float, nan, binary32, ofBits, ofInt, add, sub, mul, lt}
-use Rattle.binary32.specs.Ranges.{isFinite}
+use lib.Ieee.{Float, nan, binary32, ofBits, ofInt, mul, lt}
+use Rattle.binary32.specs.Ranges.{isFinite, allFinite}
 use Rattle.binary32.specs.Sqrt.{sqrtOrNan}
 use Rattle.sheet.specs.Cells.{placeOf, cellOf, differenceOf, magnitudeOf, eqZ, earlier}
 use Rattle.sheet.specs.Words.{labelAt, attached, marksCleared}
-use Rattle.sheet.specs.Corners.{seenOf}
+use Rattle.sheet.specs.Corners.{seenOf, squaredDistance}
 use Rattle.sheet.specs.declared.Cell.{Cell}
 use Rattle.sheet.specs.declared.Position.{Position}
 use Rattle.sheet.specs.declared.Seen.{Seen}
@@ -109,18 +109,10 @@ picturedAt seen p = picturedAs (seen (cellOf p))
 
 -- how far the fit maps a support from its pictured corner
 unfoldable pub residualOf : List Float → Position → Position → Float
-residualOf h cell corner =
-    let at = applied h cell in
-    let dx = sub binary32 (at .x) (corner .x) in
-    let dy = sub binary32 (at .y) (corner .y) in
-    sqrtOrNan (add binary32 (mul binary32 dx dx) (mul binary32 dy dy))
+residualOf h cell corner = sqrtOrNan (squaredDistance (applied h cell) corner)
 
 unfoldable pub residualsOf : (Cell → Seen) → List Float → List ℕ → List Float
 residualsOf seen h ps = map (λ p. residualOf h (cellPoint (cellOf p)) (picturedAt seen p)) ps
-
-unfoldable pub allFinite : List Float → Bool
-allFinite [] = true
-allFinite (x ∷ xs) = isFinite x && allFinite xs
 
 -- what the supports of a cell give: no fit, or the nine entries and the residuals
 pub data LocalFit : Type 0 where

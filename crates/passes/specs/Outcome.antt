@@ -15,7 +15,3 @@ pub record After (A : Type 0) : Type 0 where
 pub data Outcome (A : Type 0) : Type 0 where
   refused : Refusal → Outcome A
   done : After A → Outcome A
-
--- a lent buffer that now holds a list at its front, the rest untouched
-abbrev pub over : List ℕ → List ℕ → List ℕ
-over written buffer = written ++ drop (length written) buffer

@@ -3,9 +3,10 @@
 use mathlib.Core.Path.{_≡_, refl}
 use mathlib.Core.Bool.{true, false}
 use lib.Ieee.{Float, binary32, ofBits, toBits, add, sub, mul, div, neg, lt, le, eq}
-use Rattle.binary32.specs.Sqrt.{magnitude, reaches, climb, rooted}
+use Rattle.binary32.specs.Sqrt.{unitsOf, reaches, climb, rooted}
 use Rattle.sheet.specs.declared.Corner.{Corner}
-use Rattle.positions_policy.specs.Edge.{leastPitch, squaredLength, lengthOf, meanPitch, expectedLength, inBand, edgeOk}
+use Rattle.sheet.specs.Corners.{squaredDistance}
+use Rattle.positions_policy.specs.Edge.{leastPitch, lengthOf, meanPitch, expectedLength, inBand, edgeOk}
 
 -- 0, 0.25, 7, 7.5, 10 and 12.5 by their bits
 abbrev nought : Float
@@ -43,5 +44,5 @@ cornerAt x y = record { position = record { x = x; y = y }; pitch = ten }
 pub computed :
     (edgeOk (cornerAt ten sevenAndHalf) (cornerAt ten nought) ten quarter ≡ true)
     × (edgeOk (cornerAt ten seven) (cornerAt ten nought) ten quarter ≡ false)
-unfolding edgeOk lengthOf squaredLength rooted climb reaches magnitude inBand expectedLength meanPitch ofBits toBits add sub mul div neg lt le eq
+unfolding edgeOk lengthOf squaredDistance rooted climb reaches unitsOf inBand expectedLength meanPitch ofBits toBits add sub mul div neg lt le eq
 computed = (refl, refl)

@@ -15,32 +15,21 @@ use Rattle.sheet.specs.declared.Offset.{Offset}
 use Rattle.sheet.specs.declared.Position.{Position}
 use Rattle.sheet.specs.declared.Corner.{Corner}
 use Rattle.sheet.specs.declared.Seen.{Seen}
+use Rattle.binary32.specs.Numbers.{half, one}
+use Rattle.sheet.specs.Corners.{squaredDistance}
 use Rattle.positions_policy.specs.declared.Tolerances.{Tolerances}
 use Rattle.positions_policy.specs.declared.EdgeVerdict.{EdgeVerdict}
 use Rattle.positions_policy.specs.declared.EdgeVerdict.the-variants.{Accepted, Refused, NonePresent}
 
 -- ---- one edge: its length, the expected length, the band
 
--- The square of the length, to the candidate from the neighbour: dx * dx + dy * dy.
-unfoldable pub squaredLength : Position → Position → Float
-squaredLength to from =
-    let dx = sub binary32 (to .x) (from .x) in
-    let dy = sub binary32 (to .y) (from .y) in
-    add binary32 (mul binary32 dx dx) (mul binary32 dy dy)
-
 -- The length, its rounded root.
 unfoldable pub lengthOf : Position → Position → Float
-lengthOf to from = sqrtOrNan (squaredLength to from)
+lengthOf to from = sqrtOrNan (squaredDistance to from)
 
--- one half, 0.001 and 1 in binary32
-abbrev pub half : Float
-half = ofBits binary32 0x3f00_0000
-
+-- 0.001 in binary32
 abbrev pub leastPitch : Float
 leastPitch = ofBits binary32 0x3a83_126f
-
-abbrev pub one : Float
-one = ofBits binary32 0x3f80_0000
 
 -- Half the sum of both pitches, the candidate's first.
 unfoldable pub meanPitch : Float → Float → Float

@@ -14,6 +14,7 @@ use Rattle.sheet.specs.declared.Cell.{Cell}
 use Rattle.sheet.specs.declared.Offset.{Offset}
 use Rattle.sheet.specs.declared.Position.{Position}
 use Rattle.sheet.specs.declared.Seen.{Seen}
+use Rattle.binary32.specs.Numbers.{nought, half, one}
 use Rattle.predict.specs.declared.Neighbour.{Neighbour}
 use Rattle.predict.specs.declared.Direction.{Direction}
 use Rattle.predict.specs.declared.LocalStep.{LocalStep}
@@ -22,16 +23,6 @@ use Rattle.predict.specs.declared.Grid.{Grid}
 use Rattle.predict.specs.declared.Sums.{Sums}
 use Rattle.predict.specs.declared.Prediction.{Prediction}
 use Rattle.predict.specs.declared.Side.{Side}
-
--- 0.0, 0.5 and 1.0
-abbrev pub nought : Float
-nought = ofBits binary32 0
-
-abbrev pub half : Float
-half = ofBits binary32 0x3f00_0000
-
-abbrev pub one : Float
-one = ofBits binary32 0x3f80_0000
 
 -- ---- neighbours
 

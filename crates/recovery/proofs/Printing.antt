@@ -13,17 +13,17 @@ use Rattle.arguments.specs.declared.Checked.{Checked}
 use Rattle.labels.proofs.Below.{any-no}
 use Rattle.line_form.specs.Written.{Wrote}
 use Rattle.report_line.specs.Result.{Piece, resultPiece, lineCount}
-use Rattle.passes.specs.Outcome.{over}
-use Rattle.report.specs.Lent.{Lent, lent, statsIn, inputShort, overLimit, wildOutcome, wild, checkedPiece, pieceIn, PieceOut, pieceOut, pieceLeaves, writesPiece}
+use Rattle.report.specs.WriteResult.{TextLent, textLent, statsIn, inputShort, overLimit, wildOutcome, wild, checkedPiece, pieceIn, PieceOut, pieceOut, pieceLeaves, writesPiece}
 use Rattle.report.specs.declared.PieceAnswer.{PieceAnswer}
 use Rattle.report.proofs.Laws.{piece-moves}
 use Rattle.report.proofs.Outcomes.{stats-length}
+use Rattle.arguments.specs.Front.{over}
 use Rattle.recovery.specs.Answer.{refusedText, refusedPiece, heldLines, heldPiece, CanSay, Printable, WrotePiece, Moves}
 use Rattle.recovery.specs.declared.Recovered.{Recovered}
 use Rattle.recovery.specs.declared.PieceWritten.{PieceWritten}
 
 module _ (corners passes : ℕ) (words sheet : List ℕ) (p : Printable corners passes words sheet) (from : ℕ) (below : from < lineCount passes) (out : List ℕ) (room : 128 ≤ length out) where
-  fine : checkedPiece (lent corners passes words sheet) from (length out) ≡ Checked.Fine
+  fine : checkedPiece (textLent corners passes words sheet) from (length out) ≡ Checked.Fine
   unfolding checkedPiece inputShort overLimit wild
   fine =
       rw (
@@ -41,11 +41,11 @@ module _ (corners passes : ℕ) (words sheet : List ℕ) (p : Printable corners 
   abbrev held : Piece
   held = resultPiece (statsIn passes words) sheet from (length out)
 
-  leaves : writesPiece (lent corners passes words sheet) from out ≡ pieceOut (PieceAnswer.Written (length (held .text)) (held .next)) (over (held .text) out)
+  leaves : writesPiece (textLent corners passes words sheet) from out ≡ pieceOut (PieceAnswer.Written (length (held .text)) (held .next)) (over (held .text) out)
   unfolding writesPiece
-  leaves = ap (λ (k : Checked). pieceLeaves k (pieceIn (lent corners passes words sheet) from (length out)) out) fine
+  leaves = ap (λ (k : Checked). pieceLeaves k (pieceIn (textLent corners passes words sheet) from (length out)) out) fine
 
-  module _ (answer : PieceAnswer) (out' : List ℕ) (e : pieceOut answer out' ≡ writesPiece (lent corners passes words sheet) from out) where
+  module _ (answer : PieceAnswer) (out' : List ℕ) (e : pieceOut answer out' ≡ writesPiece (textLent corners passes words sheet) from out) where
     pub wrote-piece : (n next : ℕ) → answer ≡ PieceAnswer.Written n next
         → WrotePiece (heldPiece (Recovered.Done corners passes) words sheet from (length out)) out out' (record { bytes = n; next = next })
     unfolding heldPiece

@@ -29,16 +29,17 @@ use Rattle.invariants.proofs.Run.{step-as, call-accepted, standing-after}
 use Rattle.frame_line.specs.Lines.{PassLine}
 use Rattle.frame.specs.Frame.{Frame, floatOf, readFrame, accepted}
 use Rattle.frame.specs.Text.{WithinLimits}
-use Rattle.frame.specs.Lent.{xsOf, sheetOf, settingsOf, FullPass, full-grow, full-fill, full-local, fullOf, passOf, wordsOf, allWords, over}
+use Rattle.frame.specs.ReadFrame.{xsOf, sheetOf, settingsOf, FullPass, full-grow, full-fill, full-local, fullOf, passOf, wordsOf, allWords}
 use Rattle.frame_laws.specs.Calls.{cornersOf, passCall, callOf as frameCall, callsOf, NoneRefused}
 use Rattle.frame_laws.proofs.Back.{frame-prints-back}
 use Rattle.frame_laws.proofs.Runs.{accepted-runs}
 use Rattle.bounds.specs.Bounds.{FewCounts, FiniteResidual, Small, small-grow, small-fill, small-local}
 use Rattle.bounds.proofs.Small.{small}
 use Rattle.sheet.specs.Words.{bitOf}
-use Rattle.report.specs.Lent.{residualWords, outcomeWords, wordAt, statsFrom, statsIn, largestCount, wildCounts, wildResidual, wildOutcome}
+use Rattle.report.specs.WriteResult.{residualWords, outcomeWords, wordAt, statsFrom, statsIn, largestCount, wildCounts, wildResidual, wildOutcome}
 use Rattle.report.specs.Asked.{Tame, put, withOutcome, FloatOrNone, IsFloat}
 use Rattle.report.proofs.Laws.{put-last}
+use Rattle.arguments.specs.Front.{over}
 use Rattle.recovery.specs.Running.{passAt, calledAs, callOf, callAt, Left, left, noted, leftBy, leftByAll}
 use Rattle.recovery.specs.Answer.{statsOf, frameStats, frameSheet, Recorded}
 use Rattle.arguments.proofs.Chains.{or-false}

@@ -14,7 +14,7 @@ use Rattle.arguments.specs.declared.Settings.{Settings}
 use Rattle.passes.specs.Step.{CornerLists, cornerLists}
 use Rattle.frame.specs.Frame.{Frame, FrameRead, refused-at, accepted, readFrame, floatOf}
 use Rattle.frame.specs.Text.{WithinLimits}
-use Rattle.frame.specs.Lent.{xsOf, ysOf, pitchesOf, sheetOf, labelled, settingsOf, FullPass, full-grow, full-fill, full-local, fullOf, wordsOf, allWords, Buffers, FrameOut, frameOut, tooShort, over, leaves, unlessShort, readInto}
+use Rattle.frame.specs.ReadFrame.{xsOf, ysOf, pitchesOf, sheetOf, labelled, settingsOf, FullPass, full-grow, full-fill, full-local, fullOf, wordsOf, allWords, Buffers, FrameOut, frameOut, tooShort, leaves, unlessShort, readInto}
 use Rattle.frame_line.specs.Lines.{CornerLine, LabelLine, PassLine}
 use Rattle.sheet.specs.Words.{emptySheet, attached}
 use Rattle.sheet.proofs.Words.{empty-length}
@@ -22,6 +22,7 @@ use Rattle.frame.specs.declared.FrameHead.{FrameHead}
 use Rattle.frame.specs.declared.FrameAnswer.{FrameAnswer}
 use Rattle.frame_laws.specs.Calls.{cornersOf, callsOf}
 use Rattle.frame_laws.proofs.Back.{frame-prints-back}
+use Rattle.arguments.specs.Front.{over}
 use Rattle.recovery.specs.Running.{callAt, Left, left, leftByAll, PassWords, AtFront, FrameRoom, PassRoom}
 use Rattle.recovery.specs.Answer.{Recorded, Lent, lentAs, Recovers, recovers-not, recovers}
 use Rattle.recovery.specs.declared.Recovered.{Recovered}

@@ -1,6 +1,6 @@
 -- The line of a refusal from its form and the words that hold its numbers, and its length; which lines there are. Assumes nothing.
 use mathlib.Core.Path.{_≡_, refl, sym, ap, _∙_, subst}
-use mathlib.Core.Bool.{Bool, true, false}
+use mathlib.Core.Bool.{Bool, true, false, cond}
 use mathlib.Core.List.{List, [], _∷_, _++_}
 use Prim.Native.Nat.{ℕ, zero, suc, _+_, _*_, _≤_, _<_}
 use native.Mathlib.Omega.{arith}
@@ -9,7 +9,6 @@ use lib.IntN.{ℤ, pos, natAbs}
 use lib.ListN.{length}
 use Rattle.refusal.specs.declared.Refusal.{Refusal}
 use Rattle.refusal.specs.Refusal.{numberOf}
-use Rattle.binary32.specs.Hex.{pick}
 use Rattle.line_form.specs.Forms.{bytes, printed}
 use Rattle.line_form.specs.Lengths.{Short, slots}
 use Rattle.line_form.specs.Written.{unheldWhole, unheldNumber, unheld, formText, Wrote}
@@ -46,7 +45,7 @@ unfolding linesOf
 lines-few [] = omega arith
 lines-few (b ∷ text) = go (eqb b 10) (linesOf text) (lines-few text)
   where
-    go : (t : Bool) (ls : List (List ℕ)) → length ls ≤ length text → length (pick t ((b ∷ []) ∷ ls) (longer b ls)) ≤ suc (length text)
+    go : (t : Bool) (ls : List (List ℕ)) → length ls ≤ length text → length (cond t ((b ∷ []) ∷ ls) (longer b ls)) ≤ suc (length text)
     go true ls h = omega arith
     go false [] h = omega arith
     go false (l ∷ ls) h = omega arith

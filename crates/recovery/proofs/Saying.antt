@@ -7,7 +7,7 @@ use lib.ListN.{length}
 use Rattle.frame.specs.Frame.{Frame, FrameRead, refused-at, accepted, readFrame}
 use Rattle.passes.specs.Run.{PassStats}
 use Rattle.report_line.specs.Result.{resultPiece, lineCount}
-use Rattle.report.specs.Lent.{statsFrom}
+use Rattle.report.specs.WriteResult.{statsFrom}
 use Rattle.report.proofs.Outcomes.{stats-length}
 use Rattle.recovery.specs.Answer.{frameStats, Recorded, Lent, Recovers, recovers-not, recovers, answerLines, answerPiece, heldLines, heldPiece, CanSay, FewPasses, Says}
 use Rattle.recovery.specs.declared.Recovered.{Recovered}

@@ -9,16 +9,15 @@ use lib.ListN.{length}
 use lib.Ieee.{Float}
 use Rattle.refusal.specs.declared.Refusal.{Refusal}
 use Rattle.refusal.specs.Refusal.{numberOf}
-use Rattle.binary32.specs.Hex.{pick}
 use Rattle.arguments.specs.Arguments.{unknownCorner, doubledCorner}
 use Rattle.line_form.specs.Forms.{bytes, printed}
 use Rattle.passes.specs.Outcome.{After, Outcome, refused, done}
 use Rattle.passes.specs.Run.{PassStats, run, sheetOf as sheetAfterAll}
 use Rattle.frame.specs.Frame.{Frame, FrameRead, refused-at, accepted, readFrame}
-use Rattle.frame.specs.Lent.{sheetOf, Buffers}
+use Rattle.frame.specs.ReadFrame.{sheetOf, Buffers}
 use Rattle.frame_laws.specs.Calls.{cornersOf, callsOf}
 use Rattle.report_line.specs.Result.{count, resultText, resultFrom, Piece, resultPiece, lineCount}
-use Rattle.report.specs.Lent.{statsIn, wildOutcome}
+use Rattle.report.specs.WriteResult.{statsIn, wildOutcome}
 use Rattle.line_form.specs.Written.{Wrote}
 use Rattle.recovery.specs.declared.Recovered.{Recovered}
 use Rattle.recovery.specs.declared.PieceWritten.{PieceWritten}

@@ -1,4 +1,5 @@
 -- The passes of a frame, run in order on one sheet (document 01, "Lists of passes, for demand 3": "a frame's passes are one such list"). Definitions only.
+use mathlib.Core.Bool.{cond}
 use mathlib.Core.Path.{_≡_}
 use mathlib.Core.List.{List, [], _∷_, _++_}
 use Prim.Native.Nat.{ℕ, zero, suc, _+_, _*_, _<_, _≤_}
@@ -6,13 +7,12 @@ use lib.Dec.{eqb}
 use lib.ListN.{length, getD, take, drop}
 use lib.Ieee.{Float}
 use Rattle.refusal.specs.declared.Refusal.{Refusal}
-use Rattle.binary32.specs.Hex.{pick}
 use Rattle.arguments.specs.declared.Pass.{Pass}
 use Rattle.arguments.specs.declared.Settings.{Settings}
 use Rattle.passes.specs.Outcome.{After, Outcome, refused, done}
 use Rattle.passes.specs.Step.{CornerLists, rooms}
 use Rattle.passes.specs.Run.{PassCall, grow, fill, local, Call, PassStats, step, sheetAfter}
-use Rattle.frame.specs.Lent.{growOf, fillOf, localOf}
+use Rattle.frame.specs.ReadFrame.{growOf, fillOf, localOf}
 use Rattle.report.specs.Asked.{withOutcome}
 
 -- ---- a pass from its six words: kind (0 grow, 1 fill, 2 local), search, factor, boundary or residual, rounds, depth
@@ -22,8 +22,8 @@ wordOf words k m = getD words (6 * k + m) 0
 
 unfoldable pub passAt : List ℕ → ℕ → Pass
 passAt words k =
-    pick (eqb (wordOf words k 0) 0) (growOf (wordOf words k 1) (wordOf words k 2) (wordOf words k 3))
-    (pick (eqb (wordOf words k 0) 1) (fillOf (wordOf words k 1) (wordOf words k 2) (wordOf words k 4))
+    cond (eqb (wordOf words k 0) 0) (growOf (wordOf words k 1) (wordOf words k 2) (wordOf words k 3))
+    (cond (eqb (wordOf words k 0) 1) (fillOf (wordOf words k 1) (wordOf words k 2) (wordOf words k 4))
     (localOf (wordOf words k 1) (wordOf words k 2) (wordOf words k 4) (wordOf words k 3) (wordOf words k 5)))
 
 -- the call of a pass

@@ -9,7 +9,8 @@ use Rattle.sheet.specs.declared.Cell.{Cell}
 use Rattle.sheet.specs.declared.Position.{Position}
 use Rattle.sheet.specs.declared.Seen.{Seen}
 use Rattle.homography.specs.Fit.{Answer, NoFit, Entries, homographyOf}
-use Rattle.passes.specs.Local.{cellPoint, picturedAt, residualOf, residualsOf, allFinite, none, fitted, trusted, localFit}
+use Rattle.passes.specs.Local.{cellPoint, picturedAt, residualOf, residualsOf, none, fitted, trusted, localFit}
+use Rattle.binary32.specs.Ranges.{allFinite}
 
 -- the places of a list have the same pictured corners
 pub data Alike (seen seen' : Cell → Seen) : List ℕ → Type 0 where

@@ -12,7 +12,7 @@ use lib.Ieee.Scale.{finite}
 use Rattle.binary32.specs.Sqrt.{sqrtOrNan}
 use Rattle.sheet.specs.Cells.{placeOf, cellOf}
 use Rattle.sheet.specs.Words.{labelOf, attached, marksCleared}
-use Rattle.sheet.specs.Corners.{seenThrough, seenOf}
+use Rattle.sheet.specs.Corners.{seenThrough, seenOf, squaredDistance}
 use Rattle.sheet.specs.declared.Cell.{Cell}
 use Rattle.sheet.specs.declared.Corner.{Corner}
 use Rattle.sheet.specs.declared.Label.{Label}
@@ -27,13 +27,13 @@ use Rattle.labels.proofs.Below.{no-both}
 use Rattle.labels.proofs.Used.{same-used, used-attached}
 use Rattle.arguments.specs.declared.Settings.{Settings}
 use Rattle.arguments.specs.declared.LocalExtensionParams.{LocalExtensionParams}
-use Rattle.grow.specs.Candidates.{squaredDistance, squaredRadius, lastDistance}
+use Rattle.grow.specs.Candidates.{squaredRadius, lastDistance}
 use Rattle.extension_common.specs.TryCell.{Corners, unlabelledOn, gathered}
 use Rattle.passes.specs.Grow.{tolerancesOf}
 use Rattle.passes.specs.Local.{reachOf, byReach, supportsOf, picturedAs, picturedAt, LocalFit, localFit, localSearch}
 use Rattle.passes.specs.declared.LargestResidual.{LargestResidual}
 use Rattle.supports.proofs.Nearest.{Under, none, one, under-take}
-use Rattle.remembered.specs.Remembered.{fitAt, Near, near-none, near-more, Within, IdleFit, Mapped, Undecided, KnownAt, nothing, idle, unmatched, predicted, ambiguous, kindOf, knownOf, predictionIn, limitIn, reachIn, predictionOf, limitOf, entryOf, Remembered, forgottenWord, doubtedWord, Forgotten}
+use Rattle.remembered.specs.Remembered.{fitAt, Near, near-none, near-more, SupportsWithin, IdleFit, Mapped, Undecided, KnownAt, nothing, idle, no-candidates, predicted, ambiguous, kindOf, knownOf, predictionIn, limitIn, reachIn, predictionAt, limitAt, entryOf, Remembered, forgottenWord, doubtedWord, Forgotten}
 use Rattle.remembered.specs.declared.Known.{Known}
 use Rattle.remembered.proofs.Words.{known-nothing, known-predicted, known-ambiguous, certain-stays, far-stays, doubts}
 use Rattle.remembered.proofs.Supported.{Inserted, passing-inserted, under-all, under-sorted, nearest-stay}
@@ -108,12 +108,12 @@ alike-far d r q far same near-none none = alike-none
 alike-far d r q far same (near-more {p} h n) (one k u) =
     alike-more (same p k (λ e. let z = ap (λ (x : ℕ). reachOf d x) e in omega arith)) (alike-far d r q far same n u)
 
-module _ {sheet : List ℕ} {c : Cell} {k : ℕ} (a : Attaching sheet c k) (four : 4 ≤ labelCount sheet) (d : Cell) {r : ℕ} (near : Within r sheet d) (far : r < reachOf d (placeOf c)) where
+module _ {sheet : List ℕ} {c : Cell} {k : ℕ} (a : Attaching sheet c k) (four : 4 ≤ labelCount sheet) (d : Cell) {r : ℕ} (near : SupportsWithin r sheet d) (far : r < reachOf d (placeOf c)) where
   pub supports-stay : supportsOf d (marksCleared (attached sheet c k) c) ≡ supportsOf d sheet
   unfolding supportsOf labelCount
   supports-stay = nearest-stay d (placeOf c) r 4 (place-in c (a .on)) (clear-inserted a) (all-under sheet) four near far
 
-  pub within-stays : Within r (marksCleared (attached sheet c k) c) d
+  pub within-stays : SupportsWithin r (marksCleared (attached sheet c k) c) d
   within-stays = rw supports-stay near
 
   pub fit-stays : (cs : Corners) → fitAt cs (marksCleared (attached sheet c k) c) d ≡ fitAt cs sheet d
@@ -132,17 +132,17 @@ after sheet c k = marksCleared (attached sheet c k) c
 pub doubted : Bool → Known → Known
 doubted far Known.Nothing = Known.Nothing
 doubted far (Known.Idle r) = Known.Idle r
-doubted far (Known.Unmatched r) = Known.Unmatched r
+doubted far (Known.NoCandidates r) = Known.NoCandidates r
 doubted far (Known.Predicted r at) = Known.Predicted r at
 doubted far (Known.Ambiguous r at limit) = cond far (Known.Ambiguous r at limit) (Known.Predicted r at)
 
 module _ (cs : Corners) (set : Settings) (p : LocalExtensionParams) (l : LargestResidual) {sheet : List ℕ} {c : Cell} {k : ℕ} (a : Attaching sheet c k) (four : 4 ≤ labelCount sheet)
     (small : T (finite (squaredRadius (localSearch set p .«search_r»)))) where
   -- the fit of a cell that is not near maps it to where it did
-  mapped-stays : (d : Cell) {r : ℕ} {at : Position} → r < reachOf d (placeOf c) → Within r sheet d → Mapped set p l d (fitAt cs sheet d) at → Mapped set p l d (fitAt cs (after sheet c k) d) at
+  mapped-stays : (d : Cell) {r : ℕ} {at : Position} → r < reachOf d (placeOf c) → SupportsWithin r sheet d → Mapped set p l d (fitAt cs sheet d) at → Mapped set p l d (fitAt cs (after sheet c k) d) at
   mapped-stays d {r} {at} far n m = subst (λ (f : LocalFit). Mapped set p l d f at) (sym (fit-stays a four d n far cs)) m
 
-  ambiguous-stays : (d : Cell) {r : ℕ} {at : Position} {limit : Float} → r < reachOf d (placeOf c) → Within r sheet d → Undecided cs set p l sheet d at limit
+  ambiguous-stays : (d : Cell) {r : ℕ} {at : Position} {limit : Float} → r < reachOf d (placeOf c) → SupportsWithin r sheet d → Undecided cs set p l sheet d at limit
       → (t : Bool) → lt limit (sqrtOrNan (squaredDistance (cs .corner k .position) at)) ≡ t → KnownAt cs set p l (after sheet c k) d (cond t (Known.Ambiguous r at limit) (Known.Predicted r at))
   ambiguous-stays d far n u false e = predicted (within-stays a four d n far) (mapped-stays d far n (u .mapped))
   ambiguous-stays d {r} {at} {limit} far n u true e =
@@ -161,8 +161,8 @@ module _ (cs : Corners) (set : Settings) (p : LocalExtensionParams) (l : Largest
   unfolding reachIn doubted limitIn predictionIn
   known-stays d Known.Nothing far nothing = nothing
   known-stays d (Known.Idle r) far (idle n f) = idle (within-stays a four d n far) (subst (IdleFit set p l) (sym (fit-stays a four d n far cs)) f)
-  known-stays d (Known.Unmatched r) far (unmatched n m) =
-      unmatched (within-stays a four d n far)
+  known-stays d (Known.NoCandidates r) far (no-candidates n m) =
+      no-candidates (within-stays a four d n far)
       (record {
         at = m .at;
         mapped = mapped-stays d far n (m .mapped);
@@ -225,7 +225,7 @@ attach-remembered {cs} {set} {p} {l} {sheet} {memory} {memory'} {predictions} {c
     record {
       size = f .size ∙ m .size;
       room = m .room;
-      at = λ b h. subst (λ (w : ℕ). Holds b (knownOf w (predictionOf predictions b) (limitOf predictions b))) (sym (f .at b h)) (go b h (leb (reachOf (cellOf b) (placeOf c)) (getD memory b 0 / 8)) refl);
+      at = λ b h. subst (λ (w : ℕ). Holds b (knownOf w (predictionAt predictions b) (limitAt predictions b))) (sym (f .at b h)) (go b h (leb (reachOf (cellOf b) (placeOf c)) (getD memory b 0 / 8)) refl);
       bounded = m .bounded;
     }
   where
@@ -236,12 +236,12 @@ attach-remembered {cs} {set} {p} {l} {sheet} {memory} {memory'} {predictions} {c
     far at limit = lt limit (sqrtOrNan (squaredDistance (cs .corner k .position) at))
 
     go : (b : ℕ) → b < 16384 → (t : Bool) → leb (reachOf (cellOf b) (placeOf c)) (getD memory b 0 / 8) ≡ t
-        → Holds b (knownOf (doubtedWord (far (predictionOf predictions b) (limitOf predictions b)) (cond t 0 (getD memory b 0))) (predictionOf predictions b) (limitOf predictions b))
+        → Holds b (knownOf (doubtedWord (far (predictionAt predictions b) (limitAt predictions b)) (cond t 0 (getD memory b 0))) (predictionAt predictions b) (limitAt predictions b))
     go b h true e =
         subst (Holds b)
-        (known-nothing 0 (predictionOf predictions b) (limitOf predictions b) (omega arith)
-        ∙ ap (λ (w : ℕ). knownOf w (predictionOf predictions b) (limitOf predictions b)) (certain-stays (far (predictionOf predictions b) (limitOf predictions b)) 0 (omega arith))) nothing
+        (known-nothing 0 (predictionAt predictions b) (limitAt predictions b) (omega arith)
+        ∙ ap (λ (w : ℕ). knownOf w (predictionAt predictions b) (limitAt predictions b)) (certain-stays (far (predictionAt predictions b) (limitAt predictions b)) 0 (omega arith))) nothing
     go b h false e =
-        subst (Holds b) (sym (doubted-word far (getD memory b 0) (predictionOf predictions b) (limitOf predictions b)))
+        subst (Holds b) (sym (doubted-word far (getD memory b 0) (predictionAt predictions b) (limitAt predictions b)))
         (known-stays cs set p l a four (m .bounded) (cellOf b) (entryOf memory predictions b)
-        (omega (arith, reach-in-word (getD memory b 0) (predictionOf predictions b) (limitOf predictions b), leb-false (reachOf (cellOf b) (placeOf c)) (getD memory b 0 / 8) e)) (m .at b h))
+        (omega (arith, reach-in-word (getD memory b 0) (predictionAt predictions b) (limitAt predictions b), leb-false (reachOf (cellOf b) (placeOf c)) (getD memory b 0 / 8) e)) (m .at b h))

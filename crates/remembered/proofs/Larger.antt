@@ -13,7 +13,7 @@ use Rattle.arguments.specs.declared.LocalExtensionParams.{LocalExtensionParams}
 use Rattle.extension_common.specs.TryCell.{Corners}
 use Rattle.passes.specs.Local.{LocalFit, recorded, recordedAll}
 use Rattle.passes.specs.declared.LargestResidual.{LargestResidual}
-use Rattle.remembered.specs.Remembered.{Covered, covered-none, covered-more, CoveredBy, nothing-yet, by, IdleFit, no-fit, above, Mapped, within, KnownAt, nothing, idle, unmatched, predicted, ambiguous, Remembered}
+use Rattle.remembered.specs.Remembered.{Covered, covered-none, covered-more, CoveredBy, nothing-yet, by, IdleFit, no-fit, above, Mapped, within, KnownAt, nothing, idle, no-candidates, predicted, ambiguous, Remembered}
 use Rattle.remembered.specs.declared.Known.{Known}
 
 -- ---- one residual more
@@ -92,7 +92,7 @@ module _ {cs : Corners} {set : Settings} {p : LocalExtensionParams} {l : Largest
   pub known-all : {c : Cell} {known : Known} → KnownAt cs set p l sheet c known → KnownAt cs set p (recordedAll l rs) sheet c known
   known-all nothing = nothing
   known-all (idle n f) = idle n (idle-all rs f)
-  known-all (unmatched n m) = unmatched n (record { at = m .at; mapped = mapped-all rs (m .mapped); missed = m .missed })
+  known-all (no-candidates n m) = no-candidates n (record { at = m .at; mapped = mapped-all rs (m .mapped); missed = m .missed })
   known-all (predicted n m) = predicted n (mapped-all rs m)
   known-all (ambiguous n u) = ambiguous n (record { mapped = mapped-all rs (u .mapped); undecided = u .undecided; last = u .last })
 

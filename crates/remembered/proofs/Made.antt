@@ -17,12 +17,12 @@ use Rattle.passes.specs.Local.{supportsOf, cellPoint, LocalFit, none, fitted, w
 use Rattle.passes.specs.declared.LargestResidual.{LargestResidual}
 use Rattle.supports.specs.Nearest.{placesOf, Reached}
 use Rattle.supports.specs.declared.Supports.{Supports}
-use Rattle.remembered.specs.Remembered.{fitAt, Near, near-none, near-more, Within, IdleFit, no-fit, above, Mapped, within, KnownAt, idle, unmatched, predicted, ambiguous}
+use Rattle.remembered.specs.Remembered.{fitAt, Near, near-none, near-more, SupportsWithin, IdleFit, no-fit, above, Mapped, within, KnownAt, idle, no-candidates, predicted, ambiguous}
 use Rattle.remembered.specs.declared.Known.{Known}
 use Rattle.remembered.proofs.Larger.{covers}
 
 module _ (cs : Corners) (set : Settings) (p : LocalExtensionParams) (l : LargestResidual) (sheet : List ℕ) (c : Cell) (near : Supports) (four : placesOf near ≡ supportsOf c sheet) (far : Reached c near) where
-  reached : Within (near .fourth .reach) sheet c
+  reached : SupportsWithin (near .fourth .reach) sheet c
   reached = subst (Near c (near .fourth .reach)) four (near-more (far .first-near) (near-more (far .second-near) (near-more (far .third-near) (near-more (far .fourth-near) near-none))))
 
   pub made-none : fitAt cs sheet c ≡ none → KnownAt cs set p l sheet c (Known.Idle (near .fourth .reach))
@@ -38,10 +38,10 @@ module _ (cs : Corners) (set : Settings) (p : LocalExtensionParams) (l : Largest
       predicted reached (subst (λ (f : LocalFit). Mapped set p (recordedAll l rs) c f (applied h (cellPoint c))) (sym e) (within k (covers l rs) refl))
 
 -- no candidate at the prediction
-pub made-unmatched : {cs : Corners} {set : Settings} {p : LocalExtensionParams} {l : LargestResidual} {sheet : List ℕ} {c : Cell} {r : ℕ} {at : Position}
+pub made-no-candidates : {cs : Corners} {set : Settings} {p : LocalExtensionParams} {l : LargestResidual} {sheet : List ℕ} {c : Cell} {r : ℕ} {at : Position}
     → KnownAt cs set p l sheet c (Known.Predicted r at) → tryAt cs sheet (tolerancesOf set) (localSearch set p) c at ≡ TryCellResult.NoCandidates
-    → KnownAt cs set p l sheet c (Known.Unmatched r)
-made-unmatched {at = at} (predicted n m) e = unmatched n (record { at = at; mapped = m; missed = e })
+    → KnownAt cs set p l sheet c (Known.NoCandidates r)
+made-no-candidates {at = at} (predicted n m) e = no-candidates n (record { at = at; mapped = m; missed = e })
 
 -- an ambiguous choice there
 pub made-ambiguous : {cs : Corners} {set : Settings} {p : LocalExtensionParams} {l : LargestResidual} {sheet : List ℕ} {c : Cell} {r : ℕ} {at : Position} {limit : Float}

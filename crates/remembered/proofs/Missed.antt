@@ -11,9 +11,9 @@ use lib.Ieee.Scale.{finite}
 use Rattle.binary32.specs.Sqrt.{sqrtOrNan}
 use Rattle.sheet.specs.declared.Cell.{Cell}
 use Rattle.sheet.specs.declared.Position.{Position}
-use Rattle.sheet.specs.Corners.{seenOf}
+use Rattle.sheet.specs.Corners.{seenOf, squaredDistance, finitePosition}
 use Rattle.labels.proofs.Below.{no-both}
-use Rattle.grow.specs.Candidates.{eligible, squaredDistance, squaredRadius, isCandidate, distanceOf, before, insert, insertIf, ordered, finitePosition, candidatesAt, firstTwo, lastDistance}
+use Rattle.grow.specs.Candidates.{eligible, squaredRadius, isCandidate, distanceOf, before, insert, insertIf, ordered, candidatesAt, firstTwo, lastDistance}
 use Rattle.grow.specs.Choice.{epsilon, raised, byQuotient, chooseUnambiguous, chooseWithFloor}
 use Rattle.grow.specs.declared.Candidate.{Candidate}
 use Rattle.grow.specs.declared.Candidates.{Candidates}

@@ -18,7 +18,7 @@ use Rattle.grow.specs.Candidates.{squaredRadius}
 use Rattle.extension_common.specs.TryCell.{Corners}
 use Rattle.passes.specs.Local.{localSearch}
 use Rattle.passes.specs.declared.LargestResidual.{LargestResidual}
-use Rattle.remembered.specs.Remembered.{KnownAt, nothing, knownOf, kindOf, reachIn, Notable, predictionOf, limitOf, entryOf, Remembered, Noted}
+use Rattle.remembered.specs.Remembered.{KnownAt, nothing, knownOf, kindOf, reachIn, Notable, predictionAt, limitAt, entryOf, Remembered, Noted}
 use Rattle.remembered.specs.declared.Known.{Known}
 use Rattle.remembered.proofs.Words.{known-nothing}
 
@@ -31,8 +31,8 @@ started cs set p l sheet {predictions} n small =
       room = n;
       at = λ a h.
           subst (KnownAt cs set p l sheet (cellOf a))
-          (known-nothing 0 (predictionOf predictions a) (limitOf predictions a) (omega arith)
-          ∙ ap (λ (w : ℕ). knownOf w (predictionOf predictions a) (limitOf predictions a)) (sym (getD-replicate {A = ℕ} 16384 a 0 0 h))) nothing;
+          (known-nothing 0 (predictionAt predictions a) (limitAt predictions a) (omega arith)
+          ∙ ap (λ (w : ℕ). knownOf w (predictionAt predictions a) (limitAt predictions a)) (sym (getD-replicate {A = ℕ} 16384 a 0 0 h))) nothing;
       bounded = small;
     }
 
@@ -59,9 +59,9 @@ module _ {r : ℕ} (h : r < 8192) where
   unfolding reachIn
   notable-idle = h
 
-  pub notable-unmatched : Notable (Known.Unmatched r)
+  pub notable-no-candidates : Notable (Known.NoCandidates r)
   unfolding reachIn
-  notable-unmatched = h
+  notable-no-candidates = h
 
   pub notable-predicted : (at : Position) → Notable (Known.Predicted r at)
   unfolding reachIn

@@ -15,7 +15,7 @@ use Rattle.extension_common.specs.declared.TryCellResult.{TryCellResult}
 use Rattle.passes.specs.Grow.{tolerancesOf}
 use Rattle.passes.specs.Local.{LocalState, supportsOf, cellPoint, LocalFit, none, fitted, localFit, worst, withResiduals, localSearch, gateOf, localWith, localAt, localVisit}
 use Rattle.passes.specs.declared.LargestResidual.{LargestResidual}
-use Rattle.remembered.specs.Remembered.{fitAt, CoveredBy, IdleFit, no-fit, above, Mapped, within, KnownAt, idle, unmatched, predicted, ambiguous}
+use Rattle.remembered.specs.Remembered.{fitAt, CoveredBy, IdleFit, no-fit, above, Mapped, within, KnownAt, idle, no-candidates, predicted, ambiguous}
 use Rattle.remembered.specs.declared.Known.{Known}
 use Rattle.remembered.proofs.Larger.{covered-same}
 
@@ -60,8 +60,8 @@ module _ (cs : Corners) (set : Settings) (p : LocalExtensionParams) (c : Cell) (
       → localVisit cs set p c s ≡ localWith c (tryAt cs (s .sheet) (tolerancesOf set) (localSearch set p) c at) s
   visit-predicted (predicted n m) = by-mapped (fitAt cs (s .sheet) c) refl m
 
-  pub visit-unmatched : {r : ℕ} → KnownAt cs set p (s .largest) (s .sheet) c (Known.Unmatched r) → localVisit cs set p c s ≡ localWith c TryCellResult.NoCandidates s
-  visit-unmatched (unmatched n m) = by-mapped (fitAt cs (s .sheet) c) refl (m .mapped) ∙ ap (λ (r : TryCellResult). localWith c r s) (m .missed)
+  pub visit-no-candidates : {r : ℕ} → KnownAt cs set p (s .largest) (s .sheet) c (Known.NoCandidates r) → localVisit cs set p c s ≡ localWith c TryCellResult.NoCandidates s
+  visit-no-candidates (no-candidates n m) = by-mapped (fitAt cs (s .sheet) c) refl (m .mapped) ∙ ap (λ (r : TryCellResult). localWith c r s) (m .missed)
 
   pub visit-ambiguous : {r : ℕ} {at : Position} {limit : Float} → KnownAt cs set p (s .largest) (s .sheet) c (Known.Ambiguous r at limit) → localVisit cs set p c s ≡ localWith c TryCellResult.Ambiguous s
   visit-ambiguous (ambiguous n u) = by-mapped (fitAt cs (s .sheet) c) refl (u .mapped) ∙ ap (λ (r : TryCellResult). localWith c r s) (u .undecided)

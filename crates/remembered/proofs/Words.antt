@@ -11,7 +11,6 @@ use lib.Seq.{getD-set-same, getD-set-other}
 use lib.Dec.{leb}
 use lib.Ieee.{Float, nan, binary32, ofBits, lt}
 use Rattle.binary32.specs.Sqrt.{sqrtOrNan}
-use Rattle.grow.specs.Candidates.{squaredDistance}
 use Rattle.sheet.specs.Cells.{OnSheet, placeOf, cellOf}
 use Rattle.sheet.specs.declared.Cell.{Cell}
 use Rattle.sheet.specs.declared.Position.{Position}
@@ -19,7 +18,8 @@ use Rattle.sheet.specs.Blank.{NextWritten}
 use Rattle.sheet.proofs.Laws.{place-in}
 use Rattle.sheet.proofs.Blank.{skips}
 use Rattle.passes.specs.Local.{reachOf}
-use Rattle.remembered.specs.Remembered.{kindOf, knownOf, wordOf, noPrediction, predictionIn, limitIn, reachIn, Notable, predictionOf, limitOf, entryOf, Noted, forgottenWord, doubtedWord, leftWord, Forgotten}
+use Rattle.sheet.specs.Corners.{squaredDistance}
+use Rattle.remembered.specs.Remembered.{kindOf, knownOf, knownWord, noPrediction, predictionIn, limitIn, reachIn, Notable, predictionAt, limitAt, entryOf, Noted, forgottenWord, doubtedWord, leftWord, Forgotten}
 use Rattle.remembered.specs.declared.Known.{Known}
 
 -- ---- a word read
@@ -42,9 +42,9 @@ module _ (w : ℕ) (at : Position) (limit : Float) where
   unfolding knownOf kindOf
   known-idle e = rw e
 
-  pub known-unmatched : w % 8 ≡ 2 → Known.Unmatched (w / 8) ≡ knownOf w at limit
+  pub known-no-candidates : w % 8 ≡ 2 → Known.NoCandidates (w / 8) ≡ knownOf w at limit
   unfolding knownOf kindOf
-  known-unmatched e = rw e
+  known-no-candidates e = rw e
 
   pub known-predicted : w % 8 ≡ 3 → Known.Predicted (w / 8) at ≡ knownOf w at limit
   unfolding knownOf kindOf
@@ -59,23 +59,23 @@ module _ (w : ℕ) (at : Position) (limit : Float) where
 
 -- at a place
 pub entry-is : (memory : List ℕ) (predictions : List Float) {place q : ℕ} {at : Position} {limit : Float} {known : Known} → place ≡ q
-    → at ≡ predictionOf predictions place → limit ≡ limitOf predictions place → known ≡ knownOf (getD memory place 0) at limit → known ≡ entryOf memory predictions q
+    → at ≡ predictionAt predictions place → limit ≡ limitAt predictions place → known ≡ knownOf (getD memory place 0) at limit → known ≡ entryOf memory predictions q
 entry-is memory predictions e f g h = h ∙ rw (f, g, e)
 
 -- ---- a word written
 
-pub word-below : (known : Known) → Notable known → wordOf known < 65536
-unfolding wordOf reachIn
+pub word-below : (known : Known) → Notable known → knownWord known < 65536
+unfolding knownWord reachIn
 word-below Known.Nothing h = omega arith
 word-below (Known.Idle r) h = omega arith
-word-below (Known.Unmatched r) h = omega arith
+word-below (Known.NoCandidates r) h = omega arith
 word-below (Known.Predicted r at) h = omega arith
 word-below (Known.Ambiguous r at limit) h = omega arith
 
 -- by what is known
 module _ {known : Known} where
-  pub nothing-word : known ≡ Known.Nothing → 0 ≡ wordOf known
-  unfolding wordOf
+  pub nothing-word : known ≡ Known.Nothing → 0 ≡ knownWord known
+  unfolding knownWord
   nothing-word e = rw e
 
   pub nothing-prediction : known ≡ Known.Nothing → noPrediction ≡ predictionIn known
@@ -91,8 +91,8 @@ module _ {known : Known} where
     unfolding reachIn
     idle-below e h = rw e at h
 
-    pub idle-word : known ≡ Known.Idle r → r * 8 + 1 ≡ wordOf known
-    unfolding wordOf
+    pub idle-word : known ≡ Known.Idle r → r * 8 + 1 ≡ knownWord known
+    unfolding knownWord
     idle-word e = rw e
 
     pub idle-prediction : known ≡ Known.Idle r → noPrediction ≡ predictionIn known
@@ -103,29 +103,29 @@ module _ {known : Known} where
     unfolding limitIn
     idle-limit e = rw e
 
-    pub unmatched-below : known ≡ Known.Unmatched r → Notable known → r < 8192
+    pub no-candidates-below : known ≡ Known.NoCandidates r → Notable known → r < 8192
     unfolding reachIn
-    unmatched-below e h = rw e at h
+    no-candidates-below e h = rw e at h
 
-    pub unmatched-word : known ≡ Known.Unmatched r → r * 8 + 2 ≡ wordOf known
-    unfolding wordOf
-    unmatched-word e = rw e
+    pub no-candidates-word : known ≡ Known.NoCandidates r → r * 8 + 2 ≡ knownWord known
+    unfolding knownWord
+    no-candidates-word e = rw e
 
-    pub unmatched-prediction : known ≡ Known.Unmatched r → noPrediction ≡ predictionIn known
+    pub no-candidates-prediction : known ≡ Known.NoCandidates r → noPrediction ≡ predictionIn known
     unfolding predictionIn
-    unmatched-prediction e = rw e
+    no-candidates-prediction e = rw e
 
-    pub unmatched-limit : known ≡ Known.Unmatched r → ofBits binary32 0 ≡ limitIn known
+    pub no-candidates-limit : known ≡ Known.NoCandidates r → ofBits binary32 0 ≡ limitIn known
     unfolding limitIn
-    unmatched-limit e = rw e
+    no-candidates-limit e = rw e
 
     module _ {at : Position} where
       pub predicted-below : known ≡ Known.Predicted r at → Notable known → r < 8192
       unfolding reachIn
       predicted-below e h = rw e at h
 
-      pub predicted-word : known ≡ Known.Predicted r at → r * 8 + 3 ≡ wordOf known
-      unfolding wordOf
+      pub predicted-word : known ≡ Known.Predicted r at → r * 8 + 3 ≡ knownWord known
+      unfolding knownWord
       predicted-word e = rw e
 
       pub predicted-prediction : known ≡ Known.Predicted r at → at ≡ predictionIn known
@@ -141,8 +141,8 @@ module _ {known : Known} where
         unfolding reachIn
         ambiguous-below e h = rw e at h
 
-        pub ambiguous-word : known ≡ Known.Ambiguous r at limit → r * 8 + 4 ≡ wordOf known
-        unfolding wordOf
+        pub ambiguous-word : known ≡ Known.Ambiguous r at limit → r * 8 + 4 ≡ knownWord known
+        unfolding knownWord
         ambiguous-word e = rw e
 
         pub ambiguous-prediction : known ≡ Known.Ambiguous r at limit → at ≡ predictionIn known
@@ -154,13 +154,13 @@ module _ {known : Known} where
         ambiguous-limit e = rw e
 
 -- what was written is read
-pub word-back : (known : Known) → knownOf (wordOf known) (predictionIn known) (limitIn known) ≡ known
-unfolding wordOf predictionIn limitIn
+pub word-back : (known : Known) → knownOf (knownWord known) (predictionIn known) (limitIn known) ≡ known
+unfolding knownWord predictionIn limitIn
 word-back Known.Nothing = sym (known-nothing 0 _ _ (omega arith))
 word-back (Known.Idle r) =
     let e : (r * 8 + 1) / 8 ≡ r = omega arith in sym (known-idle (r * 8 + 1) _ _ (omega arith)) ∙ ap Known.Idle e
-word-back (Known.Unmatched r) =
-    let e : (r * 8 + 2) / 8 ≡ r = omega arith in sym (known-unmatched (r * 8 + 2) _ _ (omega arith)) ∙ ap Known.Unmatched e
+word-back (Known.NoCandidates r) =
+    let e : (r * 8 + 2) / 8 ≡ r = omega arith in sym (known-no-candidates (r * 8 + 2) _ _ (omega arith)) ∙ ap Known.NoCandidates e
 word-back (Known.Predicted r at) =
     let e : (r * 8 + 3) / 8 ≡ r = omega arith in sym (known-predicted (r * 8 + 3) at _ (omega arith)) ∙ ap (λ (n : ℕ). Known.Predicted n at) e
 word-back (Known.Ambiguous r at limit) =
@@ -195,23 +195,23 @@ module _ (l : List Float) (i : ℕ) (x y z : Float) where
     three-third = getD-set-same (set (set l i x) (i + 1) y) (i + 2) z nan (omega (arith, length-set (set l i x) (i + 1) y, length-set l i x))
 
 module _ (memory : List ℕ) (predictions : List Float) (c : Cell) (known : Known) {word place : ℕ} {at : Position} {limit : Float} where
-  pub put : OnSheet c → length memory ≡ 16384 → length predictions ≡ 49152 → place ≡ placeOf c → word ≡ wordOf known → at ≡ predictionIn known → limit ≡ limitIn known
+  pub put : OnSheet c → length memory ≡ 16384 → length predictions ≡ 49152 → place ≡ placeOf c → word ≡ knownWord known → at ≡ predictionIn known → limit ≡ limitIn known
       → Noted memory predictions c known (set memory place word) (three predictions (place * 3) (at .x) (at .y) limit)
   put on m n e f g h =
       rw (e, f, g, h)
       (record {
-        size = length-set memory (placeOf c) (wordOf known);
+        size = length-set memory (placeOf c) (knownWord known);
         room = three-long predictions (placeOf c * 3) _ _ _;
         here =
-            ap₂ (λ (k : Position → Float → Known) (l : Float). k (record { x = x'; y = y' }) l) (ap knownOf (getD-set-same memory (placeOf c) (wordOf known) 0 (omega (arith, m, in-sheet)))) refl
-            ∙ ap₂ (λ (p : Position) (l : Float). knownOf (wordOf known) p l)
+            ap₂ (λ (k : Position → Float → Known) (l : Float). k (record { x = x'; y = y' }) l) (ap knownOf (getD-set-same memory (placeOf c) (knownWord known) 0 (omega (arith, m, in-sheet)))) refl
+            ∙ ap₂ (λ (p : Position) (l : Float). knownOf (knownWord known) p l)
             (ap₂ (λ (x y : Float). record { x = x; y = y }) (three-first predictions (placeOf c * 3) _ _ _ wide) (three-second predictions (placeOf c * 3) _ _ _ wide))
             (three-third predictions (placeOf c * 3) _ _ _ wide)
             ∙ word-back known;
         else = λ a d.
-            ap₂ (λ (w : ℕ) (q : Position). knownOf w q (getD put-there (a * 3 + 2) nan)) (getD-set-other memory (placeOf c) a (wordOf known) 0 d)
+            ap₂ (λ (w : ℕ) (q : Position). knownOf w q (getD put-there (a * 3 + 2) nan)) (getD-set-other memory (placeOf c) a (knownWord known) 0 d)
             (ap₂ (λ (x y : Float). record { x = x; y = y }) (other a d (a * 3) (λ z. omega arith) (λ z. omega arith) (λ z. omega arith)) (other a d (a * 3 + 1) (λ z. omega arith) (λ z. omega arith) (λ z. omega arith)))
-            ∙ ap (knownOf (getD memory a 0) (predictionOf predictions a)) (other a d (a * 3 + 2) (λ z. omega arith) (λ z. omega arith) (λ z. omega arith));
+            ∙ ap (knownOf (getD memory a 0) (predictionAt predictions a)) (other a d (a * 3 + 2) (λ z. omega arith) (λ z. omega arith) (λ z. omega arith));
       })
     where
       in-sheet : placeOf c < 16384
@@ -278,7 +278,7 @@ left-doubted c q w corner e f g h = h ∙ rw (e, f, g)
 pub record Forgetting (before : List ℕ) (predictions : List Float) (c : Cell) (corner : Position) (memory : List ℕ) (p : ℕ) : Type 0 where
   pub upto : p ≤ 16384
   pub size : length memory ≡ length before
-  pub done : (a : ℕ) → a < p → getD memory a 0 ≡ leftWord (cellOf a) (placeOf c) corner (predictionOf predictions a) (limitOf predictions a) (getD before a 0)
+  pub done : (a : ℕ) → a < p → getD memory a 0 ≡ leftWord (cellOf a) (placeOf c) corner (predictionAt predictions a) (limitAt predictions a) (getD before a 0)
   pub rest : (a : ℕ) → p ≤ a → getD memory a 0 ≡ getD before a 0
 
 pub forgetting-start : (before : List ℕ) (predictions : List Float) (c : Cell) (corner : Position) → Forgetting before predictions c corner before 0
@@ -286,7 +286,7 @@ forgetting-start before predictions c corner = record { upto = omega arith; size
 
 module _ (before : List ℕ) (predictions : List Float) (c : Cell) (corner : Position) (memory : List ℕ) (p : ℕ) (g : Forgetting before predictions c corner memory p) where
   pub forgetting-more : {word : ℕ} → length before ≡ 16384 → p < 16384
-      → word ≡ leftWord (cellOf p) (placeOf c) corner (predictionOf predictions p) (limitOf predictions p) (getD memory p 0) → Forgetting before predictions c corner (set memory p word) (p + 1)
+      → word ≡ leftWord (cellOf p) (placeOf c) corner (predictionAt predictions p) (limitAt predictions p) (getD memory p 0) → Forgetting before predictions c corner (set memory p word) (p + 1)
   forgetting-more {word} n h k =
       record {
         upto = omega arith;
@@ -295,7 +295,7 @@ module _ (before : List ℕ) (predictions : List Float) (c : Cell) (corner : Pos
         rest = λ a l. getD-set-other memory p a word 0 (λ z. omega arith) ∙ g .rest a (omega arith);
       }
     where
-      go : (a : ℕ) → a < p + 1 → Dec (a ≡ p) → getD (set memory p word) a 0 ≡ leftWord (cellOf a) (placeOf c) corner (predictionOf predictions a) (limitOf predictions a) (getD before a 0)
+      go : (a : ℕ) → a < p + 1 → Dec (a ≡ p) → getD (set memory p word) a 0 ≡ leftWord (cellOf a) (placeOf c) corner (predictionAt predictions a) (limitAt predictions a) (getD before a 0)
       go a l (yes d) =
           rw d
           (getD-set-same memory p word 0 (omega (arith, n, g .size)) ∙ k ∙ rw (g .rest p (omega arith)))
@@ -305,7 +305,7 @@ module _ (before : List ℕ) (predictions : List Float) (c : Cell) (corner : Pos
   forgetting-none : p < 16384 → getD memory p 0 ≡ 0 → Forgetting before predictions c corner memory (p + 1)
   forgetting-none h e = record { upto = omega arith; size = g .size; done = λ a l. go a l (ℕ-discrete a p); rest = λ a l. g .rest a (omega arith) }
     where
-      go : (a : ℕ) → a < p + 1 → Dec (a ≡ p) → getD memory a 0 ≡ leftWord (cellOf a) (placeOf c) corner (predictionOf predictions a) (limitOf predictions a) (getD before a 0)
+      go : (a : ℕ) → a < p + 1 → Dec (a ≡ p) → getD memory a 0 ≡ leftWord (cellOf a) (placeOf c) corner (predictionAt predictions a) (limitAt predictions a) (getD before a 0)
       go a l (yes d) = rw d (e ∙ nothing-left _ (cellOf p) (placeOf c) (sym (g .rest p (omega arith)) ∙ e))
       go a l (no d) = g .done a (omega arith)
 

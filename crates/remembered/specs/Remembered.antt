@@ -9,13 +9,13 @@ use lib.Ieee.{Float, nan, binary32, ofBits, lt}
 use lib.Ieee.Scale.{finite}
 use Rattle.binary32.specs.Sqrt.{sqrtOrNan}
 use Rattle.sheet.specs.Cells.{OnSheet, placeOf, cellOf}
-use Rattle.sheet.specs.Corners.{seenOf}
+use Rattle.sheet.specs.Corners.{seenOf, squaredDistance}
 use Rattle.sheet.specs.declared.Cell.{Cell}
 use Rattle.sheet.specs.declared.Position.{Position}
 use Rattle.homography.specs.Fit.{applied}
 use Rattle.arguments.specs.declared.Settings.{Settings}
 use Rattle.arguments.specs.declared.LocalExtensionParams.{LocalExtensionParams}
-use Rattle.grow.specs.Candidates.{squaredDistance, squaredRadius, lastDistance}
+use Rattle.grow.specs.Candidates.{squaredRadius, lastDistance}
 use Rattle.extension_common.specs.TryCell.{Corners, gathered, tryAt}
 use Rattle.extension_common.specs.declared.TryCellResult.{TryCellResult}
 use Rattle.passes.specs.Grow.{tolerancesOf}
@@ -35,8 +35,8 @@ pub data Near (c : Cell) (r : ℕ) : List ℕ → Type 0 where
   near-more : {p : ℕ} {ps : List ℕ} → reachOf c p ≤ r → Near c r ps → Near c r (p ∷ ps)
 
 -- none of the supports of a cell is farther than a reach
-abbrev pub Within : ℕ → List ℕ → Cell → Type 0
-Within r sheet c = Near c r (supportsOf c sheet)
+abbrev pub SupportsWithin : ℕ → List ℕ → Cell → Type 0
+SupportsWithin r sheet c = Near c r (supportsOf c sheet)
 
 -- none of some residuals is above the largest that was recorded
 pub data Covered (m : Float) : List Float → Type 0 where
@@ -72,10 +72,10 @@ pub record Undecided (cs : Corners) (set : Settings) (p : LocalExtensionParams) 
 -- what is known of a cell holds
 pub data KnownAt (cs : Corners) (set : Settings) (p : LocalExtensionParams) (l : LargestResidual) (sheet : List ℕ) (c : Cell) : Known → Type 0 where
   nothing : KnownAt cs set p l sheet c Known.Nothing
-  idle : {r : ℕ} → Within r sheet c → IdleFit set p l (fitAt cs sheet c) → KnownAt cs set p l sheet c (Known.Idle r)
-  unmatched : {r : ℕ} → Within r sheet c → Missed cs set p l sheet c → KnownAt cs set p l sheet c (Known.Unmatched r)
-  predicted : {r : ℕ} {at : Position} → Within r sheet c → Mapped set p l c (fitAt cs sheet c) at → KnownAt cs set p l sheet c (Known.Predicted r at)
-  ambiguous : {r : ℕ} {at : Position} {limit : Float} → Within r sheet c → Undecided cs set p l sheet c at limit → KnownAt cs set p l sheet c (Known.Ambiguous r at limit)
+  idle : {r : ℕ} → SupportsWithin r sheet c → IdleFit set p l (fitAt cs sheet c) → KnownAt cs set p l sheet c (Known.Idle r)
+  no-candidates : {r : ℕ} → SupportsWithin r sheet c → Missed cs set p l sheet c → KnownAt cs set p l sheet c (Known.NoCandidates r)
+  predicted : {r : ℕ} {at : Position} → SupportsWithin r sheet c → Mapped set p l c (fitAt cs sheet c) at → KnownAt cs set p l sheet c (Known.Predicted r at)
+  ambiguous : {r : ℕ} {at : Position} {limit : Float} → SupportsWithin r sheet c → Undecided cs set p l sheet c at limit → KnownAt cs set p l sheet c (Known.Ambiguous r at limit)
 
 -- ---- the words
 
@@ -83,19 +83,19 @@ pub data KnownAt (cs : Corners) (set : Settings) (p : LocalExtensionParams) (l :
 unfoldable pub kindOf : ℕ → ℕ → Position → Float → Known
 kindOf zero r at limit = Known.Nothing
 kindOf (suc zero) r at limit = Known.Idle r
-kindOf (suc (suc zero)) r at limit = Known.Unmatched r
+kindOf (suc (suc zero)) r at limit = Known.NoCandidates r
 kindOf (suc (suc (suc zero))) r at limit = Known.Predicted r at
 kindOf (suc (suc (suc (suc k)))) r at limit = Known.Ambiguous r at limit
 
 unfoldable pub knownOf : ℕ → Position → Float → Known
 knownOf w at limit = kindOf (w % 8) (w / 8) at limit
 
-unfoldable pub wordOf : Known → ℕ
-wordOf Known.Nothing = 0
-wordOf (Known.Idle r) = r * 8 + 1
-wordOf (Known.Unmatched r) = r * 8 + 2
-wordOf (Known.Predicted r at) = r * 8 + 3
-wordOf (Known.Ambiguous r at limit) = r * 8 + 4
+unfoldable pub knownWord : Known → ℕ
+knownWord Known.Nothing = 0
+knownWord (Known.Idle r) = r * 8 + 1
+knownWord (Known.NoCandidates r) = r * 8 + 2
+knownWord (Known.Predicted r at) = r * 8 + 3
+knownWord (Known.Ambiguous r at limit) = r * 8 + 4
 
 -- the prediction and the limit to be noted with it: any where there is none
 abbrev pub noPrediction : Position
@@ -104,14 +104,14 @@ noPrediction = record { x = ofBits binary32 0; y = ofBits binary32 0 }
 unfoldable pub predictionIn : Known → Position
 predictionIn Known.Nothing = noPrediction
 predictionIn (Known.Idle r) = noPrediction
-predictionIn (Known.Unmatched r) = noPrediction
+predictionIn (Known.NoCandidates r) = noPrediction
 predictionIn (Known.Predicted r at) = at
 predictionIn (Known.Ambiguous r at limit) = at
 
 unfoldable pub limitIn : Known → Float
 limitIn Known.Nothing = ofBits binary32 0
 limitIn (Known.Idle r) = ofBits binary32 0
-limitIn (Known.Unmatched r) = ofBits binary32 0
+limitIn (Known.NoCandidates r) = ofBits binary32 0
 limitIn (Known.Predicted r at) = ofBits binary32 0
 limitIn (Known.Ambiguous r at limit) = limit
 
@@ -119,7 +119,7 @@ limitIn (Known.Ambiguous r at limit) = limit
 unfoldable pub reachIn : Known → ℕ
 reachIn Known.Nothing = 0
 reachIn (Known.Idle r) = r
-reachIn (Known.Unmatched r) = r
+reachIn (Known.NoCandidates r) = r
 reachIn (Known.Predicted r at) = r
 reachIn (Known.Ambiguous r at limit) = r
 
@@ -127,14 +127,14 @@ abbrev pub Notable : Known → Type 0
 Notable known = reachIn known < 8192
 
 -- the prediction and the limit beside the word of a place, and what is known of the place's cell
-abbrev pub predictionOf : List Float → ℕ → Position
-predictionOf predictions a = record { x = getD predictions (a * 3) nan; y = getD predictions (a * 3 + 1) nan }
+abbrev pub predictionAt : List Float → ℕ → Position
+predictionAt predictions a = record { x = getD predictions (a * 3) nan; y = getD predictions (a * 3 + 1) nan }
 
-abbrev pub limitOf : List Float → ℕ → Float
-limitOf predictions a = getD predictions (a * 3 + 2) nan
+abbrev pub limitAt : List Float → ℕ → Float
+limitAt predictions a = getD predictions (a * 3 + 2) nan
 
 abbrev pub entryOf : List ℕ → List Float → ℕ → Known
-entryOf memory predictions a = knownOf (getD memory a 0) (predictionOf predictions a) (limitOf predictions a)
+entryOf memory predictions a = knownOf (getD memory a 0) (predictionAt predictions a) (limitAt predictions a)
 
 -- a word, a prediction and a limit for each place of the sheet, and what they say holds; and the squared radius is finite
 pub record Remembered (cs : Corners) (set : Settings) (p : LocalExtensionParams) (l : LargestResidual) (sheet memory : List ℕ) (predictions : List Float) : Type 0 where
@@ -180,4 +180,4 @@ pub record Leaving (place : ℕ) (c : Cell) : Type 0 where
 -- all words after a corner was attached to a cell
 pub record Forgotten (memory : List ℕ) (predictions : List Float) (c : Cell) (corner : Position) (memory' : List ℕ) : Type 0 where
   pub size : length memory' ≡ length memory
-  pub at : (a : ℕ) → a < 16384 → getD memory' a 0 ≡ leftWord (cellOf a) (placeOf c) corner (predictionOf predictions a) (limitOf predictions a) (getD memory a 0)
+  pub at : (a : ℕ) → a < 16384 → getD memory' a 0 ≡ leftWord (cellOf a) (placeOf c) corner (predictionAt predictions a) (limitAt predictions a) (getD memory a 0)

@@ -11,8 +11,8 @@ ghost use Rattle.sheet.specs.declared.Position.{Position};
 ghost use Rattle.passes.specs.Local.{reachOf};
 ghost use lib.Ieee.{lt};
 ghost use Rattle.binary32.specs.Sqrt.{sqrtOrNan};
-ghost use Rattle.grow.specs.Candidates.{squaredDistance};
-ghost use Rattle.remembered.specs.Remembered.{knownOf, wordOf, noPrediction, predictionIn, limitIn, predictionOf, limitOf, forgottenWord, doubtedWord, leftWord, entryOf, Notable, Noting, Noted, Leaving, Forgotten};
+ghost use Rattle.sheet.specs.Corners.{squaredDistance};
+ghost use Rattle.remembered.specs.Remembered.{knownOf, knownWord, noPrediction, predictionIn, limitIn, predictionAt, limitAt, forgottenWord, doubtedWord, leftWord, entryOf, Notable, Noting, Noted, Leaving, Forgotten};
 use sheet::Cell;
 use sheet::Position;
 
@@ -22,7 +22,7 @@ use sheet::Position;
 pub enum Known {
     Nothing,
     Idle(u32),
-    Unmatched(u32),
+    NoCandidates(u32),
     Predicted(u32, Position),
     Ambiguous(u32, Position, f32),
 }
@@ -40,7 +40,7 @@ fn known_of(word: u16, at: Position, limit: f32) -> Known
         return Known::Idle(reach);
     }
     if kind == 2 {
-        return Known::Unmatched(reach);
+        return Known::NoCandidates(reach);
     }
     if kind == 3 {
         return Known::Predicted(reach, at);
@@ -51,7 +51,7 @@ fn known_of(word: u16, at: Position, limit: f32) -> Known
 // The prediction beside the word of a place.
 fn prediction_at(predictions: &[f32; 49152], place: usize) -> Position
     requires { ⌜ place < 16384 ⌝ }
-    ensures { λ r. ⌜ r ≡ predictionOf (now (predictions .entry)) place ⌝ }
+    ensures { λ r. ⌜ r ≡ predictionAt (now (predictions .entry)) place ⌝ }
 {
     Position {
         x: predictions[place * 3],
@@ -62,7 +62,7 @@ fn prediction_at(predictions: &[f32; 49152], place: usize) -> Position
 // The limit beside the word of a place.
 fn limit_at(predictions: &[f32; 49152], place: usize) -> f32
     requires { ⌜ place < 16384 ⌝ }
-    ensures { λ r. ⌜ r ≡ limitOf (now (predictions .entry)) place ⌝ }
+    ensures { λ r. ⌜ r ≡ limitAt (now (predictions .entry)) place ⌝ }
 {
     predictions[place * 3 + 2]
 }
@@ -80,12 +80,12 @@ pub fn recall(memory: &[u16; 16384], predictions: &[f32; 49152], c: Cell) -> Kno
 // The word for what is known.
 fn word_of(known: Known) -> u16
     requires { ⌜ Notable known ⌝ }
-    ensures { λ r. ⌜ r ≡ wordOf known ⌝ }
+    ensures { λ r. ⌜ r ≡ knownWord known ⌝ }
 {
     match known {
         Known::Nothing => 0,
         Known::Idle(reach) => (reach * 8 + 1) as u16,
-        Known::Unmatched(reach) => (reach * 8 + 2) as u16,
+        Known::NoCandidates(reach) => (reach * 8 + 2) as u16,
         Known::Predicted(reach, _) => (reach * 8 + 3) as u16,
         Known::Ambiguous(reach, _, _) => (reach * 8 + 4) as u16,
     }
@@ -105,7 +105,7 @@ fn prediction_in(known: Known) -> Position
     match known {
         Known::Nothing => nowhere(),
         Known::Idle(_) => nowhere(),
-        Known::Unmatched(_) => nowhere(),
+        Known::NoCandidates(_) => nowhere(),
         Known::Predicted(_, at) => at,
         Known::Ambiguous(_, at, _) => at,
     }
@@ -118,7 +118,7 @@ fn limit_in(known: Known) -> f32
     match known {
         Known::Nothing => 0.0,
         Known::Idle(_) => 0.0,
-        Known::Unmatched(_) => 0.0,
+        Known::NoCandidates(_) => 0.0,
         Known::Predicted(_, _) => 0.0,
         Known::Ambiguous(_, _, limit) => limit,
     }
@@ -173,7 +173,7 @@ fn doubt_if_near(word: u16, at: Position, limit: f32, corner: Position) -> u16
 // What is left of a place's word once a corner is attached to a cell. Few choices are ambiguous.
 fn left_of(word: u16, predictions: &[f32; 49152], place: usize, c: Cell, corner: Position) -> u16
     requires { ⌜ Leaving place c ⌝ }
-    ensures { λ r. ⌜ r ≡ leftWord (cellOf place) (placeOf c) corner (predictionOf (now (predictions .entry)) place) (limitOf (now (predictions .entry)) place) word ⌝ }
+    ensures { λ r. ⌜ r ≡ leftWord (cellOf place) (placeOf c) corner (predictionAt (now (predictions .entry)) place) (limitAt (now (predictions .entry)) place) word ⌝ }
 {
     let kept = forget_if_near(word, place, c);
     if kept % 8 < 4 {

@@ -11,8 +11,8 @@ use Rattle.arguments.specs.declared.Checked.{Checked}
 use Rattle.arguments.proofs.Chains.{or-false-both, not-refused}
 use Rattle.line_form.specs.Written.{Wrote}
 use Rattle.report_line.specs.Result.{lineCount, Piece}
-use Rattle.passes.specs.Outcome.{over}
-use Rattle.report.specs.Lent.{Lent, statsIn, textOf, inputShort, overLimit, wild, checkedRest, checkedText, textOut, textLeaves, writesText, pieceIn, checkedPiece, pieceOut, pieceLeaves, writesPiece}
+use Rattle.arguments.specs.Front.{over}
+use Rattle.report.specs.WriteResult.{TextLent, statsIn, textOf, inputShort, overLimit, wild, checkedRest, checkedText, textOut, textLeaves, writesText, pieceIn, checkedPiece, pieceOut, pieceLeaves, writesPiece}
 use Rattle.report.specs.Asked.{Sound, textFrom, pieceFrom, AllAsked, SomeAsked, WrotePiece}
 use Rattle.report.specs.declared.TextAnswer.{TextAnswer}
 use Rattle.report.specs.declared.PieceAnswer.{PieceAnswer}
@@ -21,7 +21,7 @@ use Rattle.report.proofs.Laws.{from-the-start}
 use Rattle.report.proofs.Outcomes.{all-tame}
 use Rattle.report.proofs.Checking.{all-lent}
 
-module _ (l : Lent) where
+module _ (l : TextLent) where
   sound : inputShort l ≡ false → wild l ≡ false → Sound (l .passes) (l .words) (l .sheet)
   sound a b = record { all = all-lent l a; tame = all-tame l b }
 

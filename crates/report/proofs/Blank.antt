@@ -8,7 +8,6 @@ use native.Mathlib.Omega.{arith}
 use borrow.Author.Tests.{ltb-true, ltb-false, leb-false, eqb-true, eq-eqb, lt-leb}
 use lib.Dec.{ltb, leb, eqb}
 use lib.ListN.{length, getD}
-use Rattle.binary32.specs.Hex.{pick}
 use Rattle.sheet.specs.Words.{holeOf, ambiguousOf}
 use Rattle.sheet.specs.Cells.{cellOf}
 use Rattle.sheet.specs.Blank.{BlankPlaces}
@@ -37,7 +36,7 @@ blank-sheet : (sheet : List ℕ) (n : ℕ) → n < 49152 → getD sheet (n % 163
 unfolding sheetLine
 blank-sheet sheet n h e = go (ltb n 16384) (ltb n 32768) refl refl
   where
-    go : (a b : Bool) → ltb n 16384 ≡ a → ltb n 32768 ≡ b → pick a (cellLine sheet n) (pick b (holeLine sheet (n - 16384)) (ambiguousLine sheet (n - 32768))) ≡ []
+    go : (a b : Bool) → ltb n 16384 ≡ a → ltb n 32768 ≡ b → cond a (cellLine sheet n) (cond b (holeLine sheet (n - 16384)) (ambiguousLine sheet (n - 32768))) ≡ []
     go true b p q = let l = ltb-true n 16384 p in let d : n % 16384 ≡ n = omega arith in no-cell sheet n (rw d at e)
     go false true p q =
         let l = ltb-false n 16384 p in

@@ -16,7 +16,7 @@ use Rattle.arguments.specs.declared.Checked.{Checked}
 use Rattle.arguments.proofs.Tests.{holds, fails}
 use Rattle.arguments.proofs.Chains.{or-false, or-false-both, refused, passed}
 use Rattle.report_line.specs.Result.{lineCount}
-use Rattle.report.specs.Lent.{Lent, wordAt, statsIn, textOf, inputShort, overLimit, wildResidual, wild, checkedRest, checkedText, checkedPiece}
+use Rattle.report.specs.WriteResult.{TextLent, wordAt, statsIn, textOf, inputShort, overLimit, wildResidual, wild, checkedRest, checkedText, checkedPiece}
 use Rattle.report.specs.Asked.{AllLent, textFrom, CornersAsked, cornersChecked}
 use Rattle.report.proofs.Laws.{from-the-start}
 
@@ -66,7 +66,7 @@ module _ (words : List ℕ) (k flag : ℕ) (e : flag ≡ wordAt words k 6) where
 
 -- ---- one refusal after the other
 
-module _ (l : Lent) where
+module _ (l : TextLent) where
   -- 7, by its two tests
   pub words-short : length (l .words) / 9 < l .passes → true ≡ inputShort l
   unfolding inputShort

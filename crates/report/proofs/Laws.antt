@@ -1,16 +1,15 @@
 -- Laws of a result's text: from line 0 on it is the whole text, its pieces join to it, no line is longer than 127 bytes, and an outcome that was put
 -- is read again. Assumes nothing.
 use mathlib.Core.Path.{_≡_, refl, ap, ap₂, _∙_}
-use mathlib.Core.Bool.{Bool, false}
+use mathlib.Core.Bool.{Bool, false, cond}
 use mathlib.Core.List.{List, [], _∷_, _++_}
 use Prim.Native.Nat.{ℕ, suc, _+_, _-_, _*_, _≤_, _<_}
 use native.Mathlib.Omega.{arith}
 use borrow.Author.Tests.{lt-ltb, le-ltb}
 use lib.ListN.{length}
-use Rattle.binary32.specs.Hex.{pick}
 use Rattle.passes.specs.Run.{PassStats}
 use Rattle.report_line.specs.Result.{passLine, passLines, cellLine, holeLine, ambiguousLine, linesFrom, allPlaces, heading, resultText, passLineAt, sheetLine, afterHeading, resultLine, lineCount, resultFrom, Piece, resultPiece}
-use Rattle.report.specs.Lent.{Lent, outcomeWords, statsAt, statsIn, wild, pieceIn}
+use Rattle.report.specs.WriteResult.{TextLent, outcomeWords, statsAt, statsIn, wild, pieceIn}
 use Rattle.report.specs.Asked.{HasOutcome, withOutcome, IsFloat}
 use Rattle.report.proofs.Outcomes as outcomes
 use Rattle.report.proofs.Putting as putting
@@ -60,13 +59,13 @@ module _ (stats : List PassStats) (sheet : List ℕ) where
   pass-part = lines-same (afterHeading stats sheet) (passLineAt stats) 0 0 (length stats) (λ a b l m e. same a b (omega arith) (omega arith)) ∙ pass-lines stats
     where
       same : (a b : ℕ) → a ≡ b → a < length stats → afterHeading stats sheet a ≡ passLineAt stats b
-      same a b e l = ap (λ (t : Bool). pick t (passLineAt stats a) (sheetLine sheet (a - length stats))) (lt-ltb a (length stats) l) ∙ ap (passLineAt stats) e
+      same a b e l = ap (λ (t : Bool). cond t (passLineAt stats a) (sheetLine sheet (a - length stats))) (lt-ltb a (length stats) l) ∙ ap (passLineAt stats) e
 
   sheet-part : (n : ℕ) → linesFrom (afterHeading stats sheet) (length stats) n ≡ linesFrom (sheetLine sheet) 0 n
   sheet-part n = lines-same (afterHeading stats sheet) (sheetLine sheet) (length stats) 0 n (λ a b l m e. same a b (omega arith) l)
     where
       same : (a b : ℕ) → a - length stats ≡ b → length stats ≤ a → afterHeading stats sheet a ≡ sheetLine sheet b
-      same a b e l = ap (λ (t : Bool). pick t (passLineAt stats a) (sheetLine sheet (a - length stats))) (le-ltb a (length stats) l) ∙ ap (sheetLine sheet) e
+      same a b e l = ap (λ (t : Bool). cond t (passLineAt stats a) (sheetLine sheet (a - length stats))) (le-ltb a (length stats) l) ∙ ap (sheetLine sheet) e
 
   pub from-the-start : resultFrom stats sheet 0 ≡ resultText stats sheet
   unfolding resultFrom resultText resultLine
@@ -117,7 +116,7 @@ module _ (stats : List PassStats) (sheet : List ℕ) where
 
 -- ---- what is lent
 
-module _ (l : Lent) (tame : wild l ≡ false) where
+module _ (l : TextLent) (tame : wild l ≡ false) where
   -- "No line is longer than 127 bytes"
   pub line-short : (k : ℕ) → k < lineCount (l .passes) → length (resultLine (statsIn (l .passes) (l .words)) (l .sheet) k) ≤ 127
   line-short k h = short.line-short l tame k h

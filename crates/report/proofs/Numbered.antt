@@ -1,6 +1,6 @@
 -- The lines of a result by their numbers: which line a number has, and the text line by line. Assumes nothing.
 use mathlib.Core.Path.{_≡_, refl, sym, ap, _∙_}
-use mathlib.Core.Bool.{Bool, true, false}
+use mathlib.Core.Bool.{Bool, true, false, cond}
 use mathlib.Core.List.{List, [], _++_}
 use Prim.Native.Nat.{ℕ, suc, _+_, _-_, _≤_, _<_}
 use native.Mathlib.Omega.{arith}
@@ -8,12 +8,11 @@ use borrow.Author.Tests.{lt-ltb, le-ltb, ltb-true, ltb-false, eq-eqb, ne-eqb}
 use lib.Dec.{ltb}
 use lib.ListN.{length, length-append}
 use lib.Ieee.{binary32, ofBits}
-use Rattle.binary32.specs.Hex.{pick}
 use Rattle.passes.specs.declared.LargestResidual.{LargestResidual}
 use Rattle.report_line.specs.Result.{growLine, fillLine, localLine, passLine, passLineAt, sheetLine, linesFrom, resultLine, lineCount, resultFrom}
 use Rattle.report_line.specs.Lengths.{localLength}
 use Rattle.report_line.proofs.Lengths.{isRecorded, local-length}
-use Rattle.report.specs.Lent.{wordAt, yesAt, countsAt, residualAt, statsAt, statsIn}
+use Rattle.report.specs.WriteResult.{wordAt, yesAt, countsAt, residualAt, statsAt, statsIn}
 use Rattle.report.specs.Asked.{growAt, fillAt, localAt, lineAt, textFrom}
 use Rattle.report.proofs.Joining.{no-lines, one-line-more}
 use Rattle.report.proofs.Outcomes.{stats-length, pass-line-at}
@@ -36,7 +35,7 @@ module _ (words : List ℕ) (k kind : ℕ) (e : kind ≡ wordAt words k 0) where
   recorded-is : isRecorded (residualAt words k) ≡ yesAt words k 6
   recorded-is = go (yesAt words k 6)
     where
-      go : (t : Bool) → isRecorded (pick t (LargestResidual.Residual (ofBits binary32 (wordAt words k 7))) LargestResidual.Nothing) ≡ t
+      go : (t : Bool) → isRecorded (cond t (LargestResidual.Residual (ofBits binary32 (wordAt words k 7))) LargestResidual.Nothing) ≡ t
       go true = refl
       go false = refl
 
@@ -55,7 +54,7 @@ module _ (passes : ℕ) (words sheet : List ℕ) where
   heading-line k e = rw e
 
   -- the line after line 0
-  after : (k : ℕ) → lineAt passes words sheet (suc k) ≡ pick (ltb k passes) (passLineAt (statsIn passes words) k) (sheetLine sheet (k - passes))
+  after : (k : ℕ) → lineAt passes words sheet (suc k) ≡ cond (ltb k passes) (passLineAt (statsIn passes words) k) (sheetLine sheet (k - passes))
   unfolding lineAt resultLine
   after k = rw (stats-length words 0 passes)
 
@@ -65,13 +64,13 @@ module _ (passes : ℕ) (words sheet : List ℕ) where
   pub pass-line : (k j : ℕ) → (k ≡ 0 → ⊥) → j ≡ k - 1 → j < passes → passLine (statsAt words j) ≡ lineAt passes words sheet k
   pass-line k j h e l =
       sym (pass-line-at words 0 passes j j l (omega arith))
-      ∙ sym (ap (λ (t : Bool). pick t (passLineAt (statsIn passes words) j) (sheetLine sheet (j - passes))) (lt-ltb j passes l))
+      ∙ sym (ap (λ (t : Bool). cond t (passLineAt (statsIn passes words) j) (sheetLine sheet (j - passes))) (lt-ltb j passes l))
       ∙ sym (after j)
       ∙ ap (lineAt passes words sheet) (sym (one-less k j h e))
 
   pub sheet-line : (k j : ℕ) → (k ≡ 0 → ⊥) → j ≡ k - 1 → passes ≤ j → sheetLine sheet (j - passes) ≡ lineAt passes words sheet k
   sheet-line k j h e l =
-      sym (ap (λ (t : Bool). pick t (passLineAt (statsIn passes words) j) (sheetLine sheet (j - passes))) (le-ltb j passes l))
+      sym (ap (λ (t : Bool). cond t (passLineAt (statsIn passes words) j) (sheetLine sheet (j - passes))) (le-ltb j passes l))
       ∙ sym (after j)
       ∙ ap (lineAt passes words sheet) (sym (one-less k j h e))
 

@@ -1,6 +1,6 @@
 -- Outcomes as words: what the check of them says, the outcomes from a number on, and that reading what was put gives the outcome back. Assumes nothing.
 use mathlib.Core.Path.{_≡_, refl, sym, ap, _∙_}
-use mathlib.Core.Bool.{Bool, true, false, not, _&&_}
+use mathlib.Core.Bool.{Bool, true, false, not, _&&_, cond}
 use mathlib.Core.List.{List, [], _∷_, _++_}
 use Prim.Native.Nat.{ℕ, zero, suc, _+_, _*_, _%_, _≤_, _<_}
 use native.Mathlib.Nat.{not-suc-le-zero}
@@ -12,7 +12,6 @@ use lib.ListN.{length, getD}
 use lib.Seq.{getD-append-add}
 use lib.Ieee.{Float, binary32, ofBits, toBits, fits, nanBits}
 use lib.Ieee.Bits.{ofBits-toBits}
-use Rattle.binary32.specs.Hex.{pick}
 use Rattle.binary32.specs.Ranges.{isFinite}
 use Rattle.binary32.proofs.Answered.{pattern}
 use Rattle.binary32.proofs.Finite.{infinite-bits}
@@ -25,7 +24,7 @@ use Rattle.passes.specs.Run.{PassStats, growStats, fillStats, localStats}
 use Rattle.arguments.proofs.Chains.{or-false-both}
 use Rattle.report_line.specs.Result.{passLine, passLineAt}
 use Rattle.sheet.specs.Words.{bitOf}
-use Rattle.report.specs.Lent.{Lent, residualWords, outcomeWords, wordAt, yesAt, residualAt, largestCount, statsAt, statsFrom, wildCounts, wildResidual, wildOutcome, wild}
+use Rattle.report.specs.WriteResult.{TextLent, residualWords, outcomeWords, wordAt, yesAt, residualAt, largestCount, statsAt, statsFrom, wildCounts, wildResidual, wildOutcome, wild}
 use Rattle.report.specs.Asked.{Tame, FloatOrNone, IsFloat}
 
 at-most : (a b : ℕ) → ltb a b ≡ false → b ≤ a
@@ -58,7 +57,7 @@ tame words k e =
       rim = at-most _ _ (residual .1);
     }
 
-pub all-tame : (l : Lent) → wild l ≡ false → (k : ℕ) → k < l .passes → Tame (l .words) k
+pub all-tame : (l : TextLent) → wild l ≡ false → (k : ℕ) → k < l .passes → Tame (l .words) k
 unfolding wild
 all-tame l e k h = tame (l .words) k (any-none (wildOutcome (l .words)) (l .passes) k e h)
 
@@ -174,7 +173,7 @@ module _ (words : List ℕ) (k : ℕ) where
 pub residual-finite : (words : List ℕ) (k : ℕ) → Tame words k → (x : Float) → residualAt words k ≡ LargestResidual.Residual x → isFinite x ≡ true
 residual-finite words k w x e = go (eqb (wordAt words k 6) 0) refl e
   where
-    go : (t : Bool) → eqb (wordAt words k 6) 0 ≡ t → pick (not t) (LargestResidual.Residual (ofBits binary32 (wordAt words k 7))) LargestResidual.Nothing ≡ LargestResidual.Residual x
+    go : (t : Bool) → eqb (wordAt words k 6) 0 ≡ t → cond (not t) (LargestResidual.Residual (ofBits binary32 (wordAt words k 7))) LargestResidual.Nothing ≡ LargestResidual.Residual x
         → isFinite x ≡ true
     go true p q = absurd (let z : _≡_ {A = ℕ} 0 1 = cc in omega arith)
     go false p q =

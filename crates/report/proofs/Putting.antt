@@ -12,7 +12,7 @@ use Rattle.passes.specs.declared.LocalStats.{LocalStats}
 use Rattle.passes.specs.declared.LargestResidual.{LargestResidual}
 use Rattle.passes.specs.Run.{PassStats, growStats, fillStats, localStats}
 use Rattle.sheet.specs.Words.{bitOf}
-use Rattle.report.specs.Lent.{residualWords, outcomeWords, wordAt, statsAt, statsFrom, statsIn}
+use Rattle.report.specs.WriteResult.{residualWords, outcomeWords, wordAt, statsAt, statsFrom, statsIn}
 use Rattle.report.specs.Asked.{HasOutcome, put, withOutcome, flagOf, bitsOf, IsFloat}
 use Rattle.report.proofs.Outcomes.{decode-encode}
 

@@ -1,16 +1,15 @@
 -- No line of a result is longer than 127 bytes. Assumes nothing.
 use mathlib.Core.Path.{_≡_, refl}
-use mathlib.Core.Bool.{Bool, true, false}
+use mathlib.Core.Bool.{Bool, true, false, cond}
 use mathlib.Core.List.{List}
 use Prim.Native.Nat.{ℕ, zero, suc, _-_, _≤_, _<_}
 use native.Mathlib.Omega.{arith}
 use borrow.Author.Tests.{ltb-true, ltb-false}
 use lib.Dec.{ltb, eqb}
 use lib.ListN.{length}
-use Rattle.binary32.specs.Hex.{pick}
 use Rattle.report_line.specs.Result.{passLine, sheetLine, passLineAt, resultLine, lineCount}
 use Rattle.passes.specs.Run.{growStats, fillStats, localStats}
-use Rattle.report.specs.Lent.{Lent, wordAt, countsAt, statsAt, statsIn, wild}
+use Rattle.report.specs.WriteResult.{TextLent, wordAt, countsAt, statsAt, statsIn, wild}
 use Rattle.report_line.specs.Written.{Few}
 use Rattle.report_line.proofs.Short.{grow-short, fill-short, local-short, sheet-short}
 use Rattle.report.specs.Asked.{growAt, fillAt, localAt, Tame, lineAt}
@@ -24,7 +23,7 @@ pass-short words k h = go (eqb (wordAt words k 0) 0) (eqb (wordAt words k 0) 1)
     few : Few (countsAt words k)
     few = record { attached = h .attached; no-candidate = h .no-candidate; ambiguous = h .ambiguous; edge = h .edge }
 
-    go : (a b : Bool) → length (passLine (pick a (growStats (growAt words k)) (pick b (fillStats (fillAt words k)) (localStats (localAt words k))))) ≤ 127
+    go : (a b : Bool) → length (passLine (cond a (growStats (growAt words k)) (cond b (fillStats (fillAt words k)) (localStats (localAt words k))))) ≤ 127
     go true b = grow-short _ few
     go false true = fill-short _ (h .attached) (h .rounds)
     go false false = local-short _ few (h .rounds)
@@ -37,12 +36,12 @@ unfolding lineAt resultLine
 tame-short passes words sheet t zero h = omega arith
 tame-short passes words sheet t (suc k) h = rw (stats-length words 0 passes) (go (ltb k passes) refl)
   where
-    go : (b : Bool) → ltb k passes ≡ b → length (pick b (passLineAt (statsIn passes words) k) (sheetLine sheet (k - passes))) ≤ 127
+    go : (b : Bool) → ltb k passes ≡ b → length (cond b (passLineAt (statsIn passes words) k) (sheetLine sheet (k - passes))) ≤ 127
     go true p =
         let l = ltb-true k passes p in
         rw (pass-line-at words 0 passes k k l (omega arith)) (pass-short words k (t k l))
     go false p = let l = ltb-false k passes p in sheet-short sheet (k - passes) (omega arith)
 
-pub line-short : (l : Lent) → wild l ≡ false → (k : ℕ) → k < lineCount (l .passes) → length (resultLine (statsIn (l .passes) (l .words)) (l .sheet) k) ≤ 127
+pub line-short : (l : TextLent) → wild l ≡ false → (k : ℕ) → k < lineCount (l .passes) → length (resultLine (statsIn (l .passes) (l .words)) (l .sheet) k) ≤ 127
 unfolding lineAt
 line-short l e k h = tame-short (l .passes) (l .words) (l .sheet) (all-tame l e) k h

@@ -16,8 +16,8 @@ use Rattle.line_form.proofs.Writing.{put-back}
 use Rattle.report_line.specs.Result.{heading, growLine, fillLine, localLine, passLine, sheetLine, lineCount, resultLine, Piece, ending, joined, pieceOf, resultPiece}
 use Rattle.report_line.specs.Written.{Few, GrowAsked, FillAsked, LocalAsked, LineAsked as SheetAsked}
 use Rattle.report_line.proofs.Forms.{same-room}
-use Rattle.passes.specs.Outcome.{over}
-use Rattle.report.specs.Lent.{wordAt, countsAt, statsAt, statsIn}
+use Rattle.arguments.specs.Front.{over}
+use Rattle.report.specs.WriteResult.{wordAt, countsAt, statsAt, statsIn}
 use Rattle.report.specs.Asked.{growAt, fillAt, localAt, Tame, PassAsked, LineAsked, AllAsked, SomeAsked, WrotePiece, lineAt, textFrom, pieceFrom}
 use Rattle.report.specs.declared.lines.PieceEnd.{PieceEnd}
 use Rattle.report.proofs.Numbered.{grow-kind, fill-kind, local-kind, pass-line, sheet-line, text-more, text-ends}

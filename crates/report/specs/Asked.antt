@@ -19,7 +19,7 @@ use Rattle.passes.specs.Run.{PassStats, growStats, fillStats, localStats}
 use Rattle.report_line.specs.Result.{passLine, resultLine, lineCount, resultFrom, Piece, resultPiece}
 use Rattle.line_form.specs.Written.{Wrote}
 use Rattle.report.specs.declared.lines.PieceEnd.{PieceEnd}
-use Rattle.report.specs.Lent.{outcomeWords, wordAt, countsAt, yesAt, residualAt, statsAt, statsIn, largestCount}
+use Rattle.report.specs.WriteResult.{outcomeWords, wordAt, countsAt, yesAt, residualAt, statsAt, statsIn, largestCount}
 
 -- ---- outcomes
 

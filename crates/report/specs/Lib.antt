@@ -1,3 +1,3 @@
 -- The definitions of what the library calls that write a result's text are lent, answer and leave. Definitions only.
-pub mod Lent
+pub mod WriteResult
 pub mod Asked

@@ -4,7 +4,7 @@ mod tests; // tests.rt: refusals 7, 2, 3, 5 and 6
 pub mod words; // words.rt: outcomes as words
 
 ghost use mathlib.Core.Path.{_≡_};
-ghost use Rattle.report.specs.Lent.{lent, textOut, writesText, pieceOut, writesPiece};
+ghost use Rattle.report.specs.WriteResult.{textLent, textOut, writesText, pieceOut, writesPiece};
 use arguments::Checked;
 use refusal::Refusal;
 
@@ -29,7 +29,7 @@ pub fn write_result(
     sheet: &[u16],
     out: &mut [u8],
 ) -> TextAnswer
-    ensures { λ r. ⌜ textOut r (now (out .exit)) ≡ writesText (lent corners passes (now (words .entry)) (now (sheet .entry))) (now (out .entry)) ⌝ }
+    ensures { λ r. ⌜ textOut r (now (out .exit)) ≡ writesText (textLent corners passes (now (words .entry)) (now (sheet .entry))) (now (out .entry)) ⌝ }
 {
     let checked = tests::check_text(corners, passes, words, sheet, out.len());
     match checked {
@@ -47,7 +47,7 @@ pub fn write_result_piece(
     from: usize,
     out: &mut [u8],
 ) -> PieceAnswer
-    ensures { λ r. ⌜ pieceOut r (now (out .exit)) ≡ writesPiece (lent corners passes (now (words .entry)) (now (sheet .entry))) from (now (out .entry)) ⌝ }
+    ensures { λ r. ⌜ pieceOut r (now (out .exit)) ≡ writesPiece (textLent corners passes (now (words .entry)) (now (sheet .entry))) from (now (out .entry)) ⌝ }
 {
     let checked = tests::check_piece(corners, passes, words, sheet, from, out.len());
     if let Checked::Refused(r) = checked {

@@ -6,7 +6,7 @@ ghost use lib.Dec.{ltb};
 ghost use lib.ListN.{length};
 ghost use Rattle.line_form.specs.Written.{Wrote};
 ghost use Rattle.report_line.specs.Result.{passLine};
-ghost use Rattle.report.specs.Lent.{statsAt};
+ghost use Rattle.report.specs.WriteResult.{statsAt};
 ghost use Rattle.report.specs.Asked.{HasOutcome, AllLent, HasLine, PassAsked, LineAsked, AllAsked, SomeAsked, WrotePiece, BlankLines, Skipped, lineAt, textFrom, pieceFrom};
 use report_line::length::fill_length;
 use report_line::length::grow_length;

@@ -2,14 +2,14 @@
 ghost use mathlib.Core.Path.{_≡_};
 ghost use Prim.Native.Nat.{_*_, _≤_};
 ghost use lib.ListN.{length};
-ghost use Rattle.report.specs.Lent.{lent, inputShort, overLimit, wildCounts, wildResidual, wildOutcome, wild, checkedRest, checkedText, checkedPiece};
+ghost use Rattle.report.specs.WriteResult.{textLent, inputShort, overLimit, wildCounts, wildResidual, wildOutcome, wild, checkedRest, checkedText, checkedPiece};
 ghost use Rattle.report.specs.Asked.{HasOutcome, CornersAsked, cornersChecked};
 use arguments::Checked;
 use refusal::Refusal;
 
 // 7: whether the words or the sheet are not all there.
 fn input_short(corners: usize, passes: usize, words: &[u32], sheet: &[u16]) -> bool
-    ensures { λ r. ⌜ r ≡ inputShort (lent corners passes (now (words .entry)) (now (sheet .entry))) ⌝ }
+    ensures { λ r. ⌜ r ≡ inputShort (textLent corners passes (now (words .entry)) (now (sheet .entry))) ⌝ }
 {
     if words.len() / 9 < passes {
         return true;
@@ -19,7 +19,7 @@ fn input_short(corners: usize, passes: usize, words: &[u32], sheet: &[u16]) -> b
 
 // 2: whether there are over 16 outcomes or 1,024 corners.
 fn over_limit(corners: usize, passes: usize, words: &[u32], sheet: &[u16]) -> bool
-    ensures { λ r. ⌜ r ≡ overLimit (lent corners passes (now (words .entry)) (now (sheet .entry))) ⌝ }
+    ensures { λ r. ⌜ r ≡ overLimit (textLent corners passes (now (words .entry)) (now (sheet .entry))) ⌝ }
 {
     if 16 < passes {
         return true;
@@ -82,7 +82,7 @@ fn wild_outcome(words: &[u32], k: usize) -> bool
 // 3: whether some outcome's are not.
 fn is_wild(corners: usize, passes: usize, words: &[u32], sheet: &[u16]) -> bool
     requires { ⌜ 9 * passes ≤ length (now words) ⌝ }
-    ensures { λ r. ⌜ r ≡ wild (lent corners passes (now (words .entry)) (now (sheet .entry))) ⌝ }
+    ensures { λ r. ⌜ r ≡ wild (textLent corners passes (now (words .entry)) (now (sheet .entry))) ⌝ }
 {
     let mut k = 0usize;
     while k < passes {
@@ -116,7 +116,7 @@ pub fn check_text(
     sheet: &[u16],
     room: usize,
 ) -> Checked
-    ensures { λ r. ⌜ r ≡ checkedText (lent corners passes (now (words .entry)) (now (sheet .entry))) room ⌝ }
+    ensures { λ r. ⌜ r ≡ checkedText (textLent corners passes (now (words .entry)) (now (sheet .entry))) room ⌝ }
 {
     if input_short(corners, passes, words, sheet) {
         return Checked::Refused(Refusal::BufferTooShort);
@@ -142,7 +142,7 @@ pub fn check_piece(
     from: usize,
     room: usize,
 ) -> Checked
-    ensures { λ r. ⌜ r ≡ checkedPiece (lent corners passes (now (words .entry)) (now (sheet .entry))) from room ⌝ }
+    ensures { λ r. ⌜ r ≡ checkedPiece (textLent corners passes (now (words .entry)) (now (sheet .entry))) from room ⌝ }
 {
     if input_short(corners, passes, words, sheet) {
         return Checked::Refused(Refusal::BufferTooShort);

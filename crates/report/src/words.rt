@@ -5,7 +5,7 @@ ghost use lib.Ieee.{binary32, toBits};
 ghost use lib.ListN.{length};
 ghost use Rattle.passes.specs.Run.{growStats, fillStats, localStats};
 ghost use Rattle.sheet.specs.Words.{bitOf};
-ghost use Rattle.report.specs.Lent.{wordAt, countsAt, yesAt, residualAt};
+ghost use Rattle.report.specs.WriteResult.{wordAt, countsAt, yesAt, residualAt};
 ghost use Rattle.report.specs.Asked.{HasOutcome, TameOutcome, growAt, fillAt, localAt, flagOf, bitsOf, put, withOutcome, GrowFits, FillFits, LocalFits};
 use passes::Counts;
 use passes::FillStats;

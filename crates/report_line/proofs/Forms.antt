@@ -1,6 +1,6 @@
 -- The lines of a result from their forms and the words that hold their numbers. Assumes nothing.
 use mathlib.Core.Path.{_≡_, refl, sym, ap, _∙_}
-use mathlib.Core.Bool.{Bool, true, false, not}
+use mathlib.Core.Bool.{Bool, true, false, not, cond}
 use mathlib.Core.List.{List, [], _∷_}
 use Prim.Native.Nat.{ℕ, suc, _+_, _-_, _≤_, _<_}
 use native.Mathlib.Omega.{arith}
@@ -13,7 +13,6 @@ use mir.Syntax.{w32}
 use mir.Val.{toZ, ofZ}
 use Rattle.binary32.specs.Ranges.{isFinite}
 use Rattle.labels.proofs.Below.{no-both}
-use Rattle.binary32.specs.Hex.{pick}
 use Rattle.sheet.specs.Cells.{OnSheet, cellOf}
 use Rattle.sheet.specs.Words.{labelOf, holeOf, ambiguousOf}
 use Rattle.sheet.specs.declared.Label.{Label}
@@ -224,11 +223,11 @@ module _ (sheet : List ℕ) (place : ℕ) where
 
     pub hole-is : holeOf (getD sheet place 0) ≡ true → holeText c ≡ holeLine sheet place
     unfolding holeLine
-    hole-is e = ap holeText here ∙ ap (λ (t : Bool). pick t (holeText (cellOf place)) []) (sym e)
+    hole-is e = ap holeText here ∙ ap (λ (t : Bool). cond t (holeText (cellOf place)) []) (sym e)
 
     pub ambiguous-is : ambiguousOf (getD sheet place 0) ≡ true → ambiguousText c ≡ ambiguousLine sheet place
     unfolding ambiguousLine
-    ambiguous-is e = ap ambiguousText here ∙ ap (λ (t : Bool). pick t (ambiguousText (cellOf place)) []) (sym e)
+    ambiguous-is e = ap ambiguousText here ∙ ap (λ (t : Bool). cond t (ambiguousText (cellOf place)) []) (sym e)
 
     on-sheet : place < 16384 → OnSheet c
     on-sheet h = rw here (cell-on place h)

@@ -1,6 +1,6 @@
 -- How long the lines of a result are. Assumes nothing.
 use mathlib.Core.Path.{_≡_, refl, sym, ap, _∙_}
-use mathlib.Core.Bool.{Bool, true, false}
+use mathlib.Core.Bool.{Bool, true, false, cond}
 use mathlib.Core.List.{List, [], _∷_, _++_}
 use Prim.Native.Nat.{ℕ, suc, _+_, _-_, _/_, _≤_, _<_}
 use native.Mathlib.Omega.{arith}
@@ -9,7 +9,6 @@ use lib.IntN.{ℤ, pos, negsuc, natAbs}
 use lib.Signed.{ltZ}
 use lib.Ieee.{binary32, toBits}
 use lib.ListN.{length, getD, drop, length-append}
-use Rattle.binary32.specs.Hex.{pick}
 use Rattle.line_form.specs.Integers.{decimal, integerText}
 use Rattle.line_form.proofs.Decimal.{one-digit, more-digits, decimal-length}
 use Rattle.binary32.proofs.Digits.{digits-length}
@@ -51,7 +50,7 @@ module _ (z : ℤ) (d : ℕ) (r : DigitCount (natAbs z) d) where
 
 unfoldable plainBytes : List ℕ → ℕ
 plainBytes [] = 0
-plainBytes (c ∷ form) = pick (isSlot c) 0 1 + plainBytes form
+plainBytes (c ∷ form) = cond (isSlot c) 0 1 + plainBytes form
 
 unfoldable numberBytes : List Number → ℕ
 numberBytes [] = 0
@@ -63,28 +62,28 @@ printed-bytes [] [] e = refl
 printed-bytes [] (n ∷ ns) e = absurd (omega arith)
 printed-bytes (c ∷ form) ns e = go (isSlot c) ns e (λ ms. printed-bytes form ms)
   where
-    go : (t : Bool) (ms : List Number) → length ms ≡ pick t 1 0 + slots form
+    go : (t : Bool) (ms : List Number) → length ms ≡ cond t 1 0 + slots form
         → ((ls : List Number) → length ls ≡ slots form → length (printed form ls) ≡ plainBytes form + numberBytes ls)
-        → length (pick t (firstText ms) (c ∷ []) ++ printed form (pick t (drop 1 ms) ms)) ≡ pick t 0 1 + plainBytes form + numberBytes ms
+        → length (cond t (firstText ms) (c ∷ []) ++ printed form (cond t (drop 1 ms) ms)) ≡ cond t 0 1 + plainBytes form + numberBytes ms
     go true [] h ih = absurd (omega arith)
     go true (m ∷ ms) h ih = length-append (numberText m) (printed form ms) ∙ (let r = ih ms (omega arith) in omega arith)
     go false ms h ih = let r = ih ms (omega arith) in omega arith
 
 -- ---- pass lines
 
-pub grow-length : (s : GrowStats) → length (growLine s) ≡ fourDigits (s .counts) + pick (s .rim) 15 14
+pub grow-length : (s : GrowStats) → length (growLine s) ≡ fourDigits (s .counts) + cond (s .rim) 15 14
 unfolding growLine slots plainBytes numberBytes numberText integerText
 grow-length s = go (s .rim)
   where
-    go : (t : Bool) → length (printed (growForm t) (fourCounts (s .counts) [])) ≡ fourDigits (s .counts) + pick t 15 14
+    go : (t : Bool) → length (printed (growForm t) (fourCounts (s .counts) [])) ≡ fourDigits (s .counts) + cond t 15 14
     go true = printed-bytes (growForm true) (fourCounts (s .counts) []) refl ∙ omega arith
     go false = printed-bytes (growForm false) (fourCounts (s .counts) []) refl ∙ omega arith
 
-pub fill-length : (s : FillStats) → length (fillLine s) ≡ length (decimal (s .added)) + length (decimal (s .iterations)) + pick (s .rim) 13 12
+pub fill-length : (s : FillStats) → length (fillLine s) ≡ length (decimal (s .added)) + length (decimal (s .iterations)) + cond (s .rim) 13 12
 unfolding fillLine slots plainBytes numberBytes numberText integerText
 fill-length s = go (s .rim)
   where
-    go : (t : Bool) → length (printed (fillForm t) (count (s .added) ∷ count (s .iterations) ∷ [])) ≡ length (decimal (s .added)) + length (decimal (s .iterations)) + pick t 13 12
+    go : (t : Bool) → length (printed (fillForm t) (count (s .added) ∷ count (s .iterations) ∷ [])) ≡ length (decimal (s .added)) + length (decimal (s .iterations)) + cond t 13 12
     go true = printed-bytes (fillForm true) (count (s .added) ∷ count (s .iterations) ∷ []) refl ∙ omega arith
     go false = printed-bytes (fillForm false) (count (s .added) ∷ count (s .iterations) ∷ []) refl ∙ omega arith
 

@@ -1,6 +1,6 @@
 -- The lines of a result are short: none is longer than 127 bytes. Assumes nothing.
 use mathlib.Core.Path.{_≡_, refl}
-use mathlib.Core.Bool.{Bool, true, false}
+use mathlib.Core.Bool.{Bool, true, false, cond}
 use mathlib.Core.List.{List, [], _∷_}
 use Prim.Native.Nat.{ℕ, zero, suc, _+_, _-_, _*_, _%_, _≤_, _<_}
 use native.Mathlib.Omega.{arith}
@@ -8,7 +8,6 @@ use borrow.Author.Tests.{ltb-true}
 use lib.Dec.{ltb}
 use lib.ListN.{length, getD}
 use lib.Ieee.{binary32, toBits}
-use Rattle.binary32.specs.Hex.{pick}
 use Rattle.sheet.specs.Cells.{OnSheet, cellOf}
 use Rattle.sheet.specs.Words.{labelOf, labelOfNumber, holeOf, ambiguousOf}
 use Rattle.sheet.specs.declared.Cell.{Cell}
@@ -73,7 +72,7 @@ module _ (c : Cell) (on : OnSheet c) where
       let j = line-j c on .small in
       let l : _ ≤ 15 + 7 * 3 = printed-length (bytes "(cell (# #) #)\n") (cellNumbers c (count k ∷ [])) (omega arith, (omega arith, (omega arith, tt))) in omega arith
 
-  pub hole-short : (t : Bool) → length (pick t (printed (bytes "(hole (# #))\n") (cellNumbers c [])) []) ≤ 127
+  pub hole-short : (t : Bool) → length (cond t (printed (bytes "(hole (# #))\n") (cellNumbers c [])) []) ≤ 127
   unfolding slots
   hole-short true =
       let i = line-i c on .small in
@@ -81,7 +80,7 @@ module _ (c : Cell) (on : OnSheet c) where
       let l : _ ≤ 13 + 7 * 2 = printed-length (bytes "(hole (# #))\n") (cellNumbers c []) (omega arith, (omega arith, tt)) in omega arith
   hole-short false = omega arith
 
-  pub ambiguous-short : (t : Bool) → length (pick t (printed (bytes "(ambiguous (# #))\n") (cellNumbers c [])) []) ≤ 127
+  pub ambiguous-short : (t : Bool) → length (cond t (printed (bytes "(ambiguous (# #))\n") (cellNumbers c [])) []) ≤ 127
   unfolding slots
   ambiguous-short true =
       let i = line-i c on .small in
@@ -94,7 +93,7 @@ unfolding sheetLine cellLine holeLine ambiguousLine
 sheet-short sheet k h = go (ltb k 16384) (ltb k 32768) refl refl
   where
     go : (a b : Bool) → ltb k 16384 ≡ a → ltb k 32768 ≡ b
-        → length (pick a (cellLine sheet k) (pick b (holeLine sheet (k - 16384)) (ambiguousLine sheet (k - 32768)))) ≤ 127
+        → length (cond a (cellLine sheet k) (cond b (holeLine sheet (k - 16384)) (ambiguousLine sheet (k - 32768)))) ≤ 127
     go true b p q = label-short (cellOf k) (cell-on k (ltb-true k 16384 p)) (labelOf (getD sheet k 0)) (corner-small (getD sheet k 0))
     go false true p q = let l = ltb-true k 32768 q in hole-short (cellOf (k - 16384)) (cell-on (k - 16384) (omega arith)) (holeOf (getD sheet (k - 16384) 0))
     go false false p q = ambiguous-short (cellOf (k - 32768)) (cell-on (k - 32768) (omega arith)) (ambiguousOf (getD sheet (k - 32768) 0))

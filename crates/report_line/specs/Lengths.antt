@@ -1,10 +1,9 @@
 -- How long the lines of a result are, as they are counted without being written. Definitions only; `proofs/Lengths.antt` shows that they are so long.
 use mathlib.Core.Path.{_≡_}
-use mathlib.Core.Bool.{Bool, true, false}
+use mathlib.Core.Bool.{Bool, true, false, cond}
 use Prim.Native.Nat.{ℕ, _+_, _≤_}
 use lib.IntN.{ℤ}
 use lib.ListN.{length}
-use Rattle.binary32.specs.Hex.{pick}
 use Rattle.sheet.specs.declared.Cell.{Cell}
 use Rattle.line_form.specs.Integers.{decimal, integerText}
 use Rattle.passes.specs.declared.Counts.{Counts}
@@ -33,8 +32,8 @@ pub record TwoCounted (c : Cell) (r : ℕ) : Type 0 where
 
 -- the bytes of a local line besides its integers, with a residual or `none`, and rim yes or no
 abbrev pub restOfLocal : Bool → Bool → ℕ
-restOfLocal true rim = pick rim 26 25
-restOfLocal false rim = pick rim 22 21
+restOfLocal true rim = cond rim 26 25
+restOfLocal false rim = cond rim 22 21
 
 abbrev pub localLength : Counts → ℕ → Bool → Bool → ℕ
 localLength c rounds recorded rim = fourDigits c + length (decimal rounds) + restOfLocal recorded rim

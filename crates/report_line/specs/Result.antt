@@ -1,13 +1,12 @@
 -- The text of a result (document 01, "Frame and result"): `(result 1)`, "After the first line stand the pass lines as run. .. Then cells (cell,
 -- corner), holes, `(ambiguous (i j))`, each by i, then j." Definitions only.
-use mathlib.Core.Bool.{Bool, true, false}
+use mathlib.Core.Bool.{Bool, true, false, cond}
 use mathlib.Core.List.{List, [], _∷_, _++_}
 use Prim.Native.Nat.{ℕ, zero, suc, _+_, _-_}
 use lib.IntN.{pos}
 use lib.Dec.{ltb}
 use lib.ListN.{length, getD}
 use lib.Ieee.{binary32, toBits}
-use Rattle.binary32.specs.Hex.{pick}
 use Rattle.sheet.specs.Cells.{cellOf}
 use Rattle.sheet.specs.Words.{labelOf, holeOf, ambiguousOf}
 use Rattle.sheet.specs.declared.Cell.{Cell}
@@ -84,10 +83,10 @@ unfoldable pub cellLine : List ℕ → ℕ → List ℕ
 cellLine sheet p = labelLine (cellOf p) (labelOf (getD sheet p 0))
 
 unfoldable pub holeLine : List ℕ → ℕ → List ℕ
-holeLine sheet p = pick (holeOf (getD sheet p 0)) (printed (bytes "(hole (# #))\n") (cellNumbers (cellOf p) [])) []
+holeLine sheet p = cond (holeOf (getD sheet p 0)) (printed (bytes "(hole (# #))\n") (cellNumbers (cellOf p) [])) []
 
 unfoldable pub ambiguousLine : List ℕ → ℕ → List ℕ
-ambiguousLine sheet p = pick (ambiguousOf (getD sheet p 0)) (printed (bytes "(ambiguous (# #))\n") (cellNumbers (cellOf p) [])) []
+ambiguousLine sheet p = cond (ambiguousOf (getD sheet p 0)) (printed (bytes "(ambiguous (# #))\n") (cellNumbers (cellOf p) [])) []
 
 -- n lines from number k on
 unfoldable pub linesFrom : (ℕ → List ℕ) → ℕ → ℕ → List ℕ
@@ -116,10 +115,10 @@ passLineAt (s ∷ ss) (suc k) = passLineAt ss k
 
 unfoldable pub sheetLine : List ℕ → ℕ → List ℕ
 sheetLine sheet k =
-    pick (ltb k 16384) (cellLine sheet k) (pick (ltb k 32768) (holeLine sheet (k - 16384)) (ambiguousLine sheet (k - 32768)))
+    cond (ltb k 16384) (cellLine sheet k) (cond (ltb k 32768) (holeLine sheet (k - 16384)) (ambiguousLine sheet (k - 32768)))
 
 abbrev pub afterHeading : List PassStats → List ℕ → ℕ → List ℕ
-afterHeading stats sheet k = pick (ltb k (length stats)) (passLineAt stats k) (sheetLine sheet (k - length stats))
+afterHeading stats sheet k = cond (ltb k (length stats)) (passLineAt stats k) (sheetLine sheet (k - length stats))
 
 unfoldable pub resultLine : List PassStats → List ℕ → ℕ → List ℕ
 resultLine stats sheet zero = heading

@@ -13,7 +13,7 @@ use Rattle.passes.specs.Step.{CornerLists}
 use Rattle.passes.specs.Run.{Call, PassStats, step, sheetAfter, run, sheetOf as sheetAfterAll}
 use Rattle.agreement.specs.Agreement.{both-refused, both-done, Agree, agree-end, agree-call}
 use Rattle.frame.specs.Frame.{Frame, readFrame, accepted}
-use Rattle.frame.specs.Lent.{sheetOf}
+use Rattle.frame.specs.ReadFrame.{sheetOf}
 use Rattle.frame_laws.specs.Calls.{cornersOf, callsOf}
 use Rattle.frame_agreement.proofs.Reordering.{frames-run-alike, frames-paired-so}
 use Rattle.report_line.specs.Result.{passLines, labelLine, cellLine, holeLine, ambiguousLine, linesFrom, allPlaces, heading, resultText}

@@ -10,7 +10,7 @@ use Rattle.sheet.specs.declared.Label.{Label}
 use Rattle.passes.specs.Run.{PassStats, run}
 use Rattle.agreement.specs.Agreement.{FactorsAbove}
 use Rattle.frame.specs.Frame.{Frame, readFrame, accepted}
-use Rattle.frame.specs.Lent.{sheetOf}
+use Rattle.frame.specs.ReadFrame.{sheetOf}
 use Rattle.frame_laws.specs.Calls.{cornersOf, callsOf}
 use Rattle.frame_agreement.specs.Reordering.{SameButOrder}
 use Rattle.report_line.specs.Result.{passLines, labelLine, holeLine, ambiguousLine, allPlaces, heading, resultText}

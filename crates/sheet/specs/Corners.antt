@@ -1,14 +1,28 @@
--- The corners, given as three lists (x, y, pitch), and what is seen of them through the sheet at a cell. Definitions only.
+-- Positions, the corners, given as three lists (x, y, pitch), and what is seen of them through the sheet at a cell. Definitions only.
 use mathlib.Core.Path.{_≡_}
+use mathlib.Core.Bool.{Bool, _&&_}
 use mathlib.Core.List.{List}
 use Prim.Native.Nat.{ℕ, _<_, _≤_}
 use lib.ListN.{length, getD}
-use lib.Ieee.{Float, nan}
+use lib.Ieee.{Float, nan, binary32, add, sub, mul}
+use Rattle.binary32.specs.Ranges.{isFinite}
 use Rattle.sheet.specs.Words.{labelOf, labelAt}
 use Rattle.sheet.specs.declared.Cell.{Cell}
 use Rattle.sheet.specs.declared.Label.{Label}
 use Rattle.sheet.specs.declared.Corner.{Corner}
+use Rattle.sheet.specs.declared.Position.{Position}
 use Rattle.sheet.specs.declared.Seen.{Seen}
+
+-- the squared distance of two positions, each operation rounded: dx · dx + dy · dy
+unfoldable pub squaredDistance : Position → Position → Float
+squaredDistance to from =
+    let dx = sub binary32 (to .x) (from .x) in
+    let dy = sub binary32 (to .y) (from .y) in
+    add binary32 (mul binary32 dx dx) (mul binary32 dy dy)
+
+-- neither part is nan or infinite
+abbrev pub finitePosition : Position → Bool
+finitePosition p = isFinite (p .x) && isFinite (p .y)
 
 -- the corner of a number
 unfoldable pub cornerOf : List Float → List Float → List Float → ℕ → Corner

@@ -10,7 +10,7 @@ use lib.IntN.{ℤ, pos, negsuc, natAbs}
 use lib.Ieee.{Float, binary32, ofBits, div, inFloat, ofInt}
 use mir.Syntax.{w32}
 use mir.Val.{toZ, ofZ}
-use Rattle.binary32.specs.Ranges.{isFinite}
+use Rattle.binary32.specs.Ranges.{isFinite, allFinite}
 use Rattle.sheet.specs.Cells.{OnSheet, cellOf}
 use Rattle.sheet.specs.declared.Cell.{Cell}
 use Rattle.sheet.specs.declared.Corner.{Corner}
@@ -20,7 +20,7 @@ use Rattle.sheet.proofs.Laws.{read-back, line-i, line-j}
 use Rattle.homography.specs.Normalize.{point}
 use Rattle.homography.specs.Fit.{Answer, NoFit, Entries, fitOf, homographyOf}
 use Rattle.homography.specs.declared.Fit.{Fit}
-use Rattle.passes.specs.Local.{cellPoint, picturedAt, residualOf, residualsOf, allFinite, LocalFit, none, fitted, trusted, localFit}
+use Rattle.passes.specs.Local.{cellPoint, picturedAt, residualOf, residualsOf, LocalFit, none, fitted, trusted, localFit}
 use Rattle.supports.specs.Nearest.{placesOf}
 use Rattle.supports.specs.Fitted.{supportFitOf, fourResiduals, trustedPoints, pointsFit}
 use Rattle.supports.specs.declared.Supports.{Supports}

@@ -10,8 +10,8 @@ use Rattle.sheet.proofs.Blank.{skips}
 use Rattle.labels.specs.Labelled.{passing, isLabelled, counted, labelledBelow, labelledPlaces, labelCount}
 use Rattle.labels.proofs.Below.{passing-none, passing-more, passing-hit, passing-miss}
 use Rattle.labels.proofs.Labelled.{blank-unlabelled}
-use Rattle.passes.specs.Outcome.{over}
 use Rattle.passes.proofs.Over.{over-more}
+use Rattle.arguments.specs.Front.{over}
 use Rattle.supports.specs.Nearest.{MoreListed, Gatherable, Gathered}
 
 -- fewer numbers pass below a smaller number

@@ -5,10 +5,11 @@ use Prim.Native.Nat.{_<_}
 use lib.ListN.{replicate}
 use lib.Ieee.{Float}
 use Rattle.sheet.specs.declared.Position.{Position}
-use Rattle.elimination.specs.Rounded.{nought}
 use Rattle.homography.specs.Normalize.{point}
 use Rattle.homography.specs.Fit.{Answer, NoFit, Entries, homographyOf}
-use Rattle.passes.specs.Local.{residualOf, allFinite, LocalFit, none, fitted}
+use Rattle.passes.specs.Local.{residualOf, LocalFit, none, fitted}
+use Rattle.binary32.specs.Ranges.{allFinite}
+use Rattle.binary32.specs.Numbers.{nought}
 use Rattle.supports.specs.declared.Supports.{Supports}
 use Rattle.supports.specs.declared.SupportFit.{SupportFit}
 

@@ -9,8 +9,8 @@ use lib.ListN.{length, getD, set, take}
 use Rattle.sheet.specs.Cells.{OnSheet}
 use Rattle.sheet.specs.declared.Cell.{Cell}
 use Rattle.labels.specs.Labelled.{isLabelled, counted, labelledPlaces, labelCount}
-use Rattle.passes.specs.Outcome.{over}
 use Rattle.passes.specs.Local.{reachOf, byReach}
+use Rattle.arguments.specs.Front.{over}
 use Rattle.supports.specs.declared.Support.{Support}
 use Rattle.supports.specs.declared.Supports.{Supports}
 use Rattle.supports.specs.declared.Span.{Span}

@@ -8,7 +8,7 @@ use lib.Ieee.{binary32, ofBits, toBits, add, sub, mul, div, lt, le}
 use lib.Ieee.Bits.{ofBits-fits}
 use Rattle.binary32.specs.declared.root.Rooted.{Rooted}
 use Rattle.binary32.specs.declared.root.Rooted.the-variants.{Root}
-use Rattle.binary32.specs.Sqrt.{magnitude, Answers, reaches, climb, rooted}
+use Rattle.binary32.specs.Sqrt.{unitsOf, Answers, reaches, climb, rooted}
 use Rattle.binary32.proofs.Exists.{answered}
 use Rattle.grow.specs.Choice.{chooseUnambiguous, chooseWithFloor}
 use Rattle.positions_policy.specs.Edge.{inBand, expectedLength, meanPitch}
@@ -19,11 +19,11 @@ use Rattle.labels.specs.Box.{widened, lowerOf, higherOf}
 use Rattle.passes.specs.Grow.{member}
 use Rattle.passes.specs.Fill.{cellsOf, fillCells}
 use Rattle.passes.specs.Local.{localRegion, rowAmong, columnAmong, localCells}
-use Rattle.worked_examples.specs.Table.{Right, Holds, root, f32, at, labelled, table}
+use Rattle.worked_examples.specs.Table.{Right, Claims, root, f32, at, labelled, table}
 use Rattle.worked_examples.proofs.Walks.{LabelledAt, labelled-at, fill-walks, local-walks}
 
 -- a root that is computed meets the relation too
-holds : (x r : ℕ) → rooted (f32 x) ≡ Root (f32 r) → Holds (root x r)
+holds : (x r : ℕ) → rooted (f32 x) ≡ Root (f32 r) → Claims (root x r)
 holds x r e = (subst (λ (a : Rooted). Answers (f32 x) a) e (answered (f32 x) (ofBits-fits binary32 x)), e)
 
 -- ---- the labels (0,0) and (2,0), at the places 64 * 128 + 64 and 66 * 128 + 64
@@ -46,7 +46,7 @@ local-two = ap length (local-walks (labelled twoCells) (8256 ∷ 8512 ∷ []) tw
 -- ---- the table
 
 pub right : Right table
-unfolding rooted climb reaches magnitude ofBits toBits add sub mul div lt le chooseUnambiguous chooseWithFloor inBand expectedLength meanPitch
+unfolding rooted climb reaches unitsOf ofBits toBits add sub mul div lt le chooseUnambiguous chooseWithFloor inBand expectedLength meanPitch
 right = (
   holds 0x4080_0000 0x4000_0000 refl,
   (

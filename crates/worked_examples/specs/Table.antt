@@ -57,19 +57,19 @@ abbrev pub labelled : List Cell → List ℕ
 labelled cells = withLabels emptySheet 0 cells
 
 -- what an example claims, of the definitions that the contracts cite
-abbrev pub Holds : Example → Type 0
-Holds (root x r) = Answers (f32 x) (Root (f32 r)) × (rooted (f32 x) ≡ Root (f32 r))
-Holds (grows first second factor c) = chooseUnambiguous (twoAt first second) (f32 factor) ≡ choiceOf c
-Holds (fills first second factor c) = chooseWithFloor (twoAt first second) (f32 factor) ≡ choiceOf c
-Holds (edge length expectation band b) = inBand (f32 length) (f32 expectation) (f32 band) ≡ b
-Holds (fillWalks cells n) = length (fillCells (labelled cells)) ≡ n
-Holds (localWalks depth cells n) = length (localCells depth (labelled cells)) ≡ n
-Holds (expected candidate neighbour size r) = expectedLength (f32 size) (f32 candidate) (f32 neighbour) ≡ f32 r
+abbrev pub Claims : Example → Type 0
+Claims (root x r) = Answers (f32 x) (Root (f32 r)) × (rooted (f32 x) ≡ Root (f32 r))
+Claims (grows first second factor c) = chooseUnambiguous (twoAt first second) (f32 factor) ≡ choiceOf c
+Claims (fills first second factor c) = chooseWithFloor (twoAt first second) (f32 factor) ≡ choiceOf c
+Claims (edge length expectation band b) = inBand (f32 length) (f32 expectation) (f32 band) ≡ b
+Claims (fillWalks cells n) = length (fillCells (labelled cells)) ≡ n
+Claims (localWalks depth cells n) = length (localCells depth (labelled cells)) ≡ n
+Claims (expected candidate neighbour size r) = expectedLength (f32 size) (f32 candidate) (f32 neighbour) ≡ f32 r
 
 -- every row of a table holds
 abbrev pub Right : List Example → Type 0
 Right [] = Unit {0}
-Right (row ∷ rest) = Holds row × Right rest
+Right (row ∷ rest) = Claims row × Right rest
 
 -- a cell, by an i and a j that are not negative
 abbrev pub at : ℕ → ℕ → Cell

@@ -4,7 +4,7 @@ use mathlib.Core.Path.{ap}
 use Prim.Native.Nat.{_-_}
 use borrow.Author.Needs.{needs}
 use lib.Ieee.{eq}
-use Rattle.elimination.specs.Rounded.{nought}
+use Rattle.binary32.specs.Numbers.{nought}
 use Rattle.elimination.specs.Solve.{entry}
 use Rattle.elimination.proofs.Tables.{Passing, passing-start, passing-next, passing-fail, passing-end}
 use Rattle.elimination.proofs.diagonal_nonzero.Statement.{statement}

@@ -2,7 +2,7 @@
 use mathlib.Core.Path.{ap, _∙_}
 use Prim.Native.Nat.{ℕ}
 use borrow.Author.Needs.{needs}
-use Rattle.passes.specs.Fill.{limitOf}
+use Rattle.passes.specs.Fill.{fillLimit}
 use Rattle.fill.proofs.Rounds.{accepted-filling, pass-done}
 use Rattle.fill.proofs.fill_accepted.Statement.{statement}
 use Rattle.fill.proofs.fill_accepted.Tie as tie
@@ -31,7 +31,7 @@ same-length-2 c = search needs
 returns : tie.Need-returns
 returns c =
     pass-done _ _ _ _ _ _ _ _ _ _ _ _ _
-    (c .before .before .before .before .before .before .before .before .before .before .before .before .round-limit .ensures ∙ ap (λ (n : ℕ). limitOf n (c .before .before .before .before .before .before .before .before .before .before .before .before .before .before .before .before .before .before .before .before .args .params .«max_iters»)) (c .before .before .before .before .before .before .before .before .before .before .before .before .before .label-count .ensures)) (c .rim-reached .ensures) (c .before .before .before .before .before .before .fill-rounds .ensures)
+    (c .before .before .before .before .before .before .before .before .before .before .before .before .round-limit .ensures ∙ ap (λ (n : ℕ). fillLimit n (c .before .before .before .before .before .before .before .before .before .before .before .before .before .before .before .before .before .before .before .before .args .params .«max_iters»)) (c .before .before .before .before .before .before .before .before .before .before .before .before .before .label-count .ensures)) (c .rim-reached .ensures) (c .before .before .before .before .before .before .fill-rounds .ensures)
 
 pub fill-accepted-spec : {M : Type 1} → statement M
 fill-accepted-spec =

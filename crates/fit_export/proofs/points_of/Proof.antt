@@ -1,7 +1,7 @@
 -- `fit_export::points_of` meets its contract. Assumes nothing.
 use mathlib.Core.Path.{refl}
 use Rattle.elimination.specs.Tables.{table}
-use Rattle.fit_export.specs.Lent.{pointsOf}
+use Rattle.fit_export.specs.FitCall.{pointsOf}
 use borrow.Author.Needs.{needs}
 use Rattle.fit_export.proofs.points_of.Statement.{statement}
 use Rattle.fit_export.proofs.points_of.Tie as tie

@@ -1,7 +1,7 @@
 -- `fit_export::too_short` meets its contract, a test after the other. Assumes nothing.
 use mathlib.Core.Path.{refl}
 use borrow.Author.Tests.{lt-ltb, le-ltb}
-use Rattle.fit_export.specs.Lent.{tooShort}
+use Rattle.fit_export.specs.FitCall.{tooShort}
 use Rattle.fit_export.proofs.Leaving.{holds, fails}
 use Rattle.fit_export.proofs.too_short.Statement.{statement}
 use Rattle.fit_export.proofs.too_short.Tie as tie

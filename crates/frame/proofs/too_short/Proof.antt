@@ -2,7 +2,7 @@
 use mathlib.Core.Path.{refl}
 use borrow.Author.Tests.{lt-ltb, le-ltb}
 use Rattle.arguments.proofs.Tests.{holds, fails}
-use Rattle.frame.specs.Lent.{tooShort}
+use Rattle.frame.specs.ReadFrame.{tooShort}
 use Rattle.frame.proofs.too_short.Statement.{statement}
 use Rattle.frame.proofs.too_short.Tie as tie
 

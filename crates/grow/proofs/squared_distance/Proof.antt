@@ -1,6 +1,6 @@
 -- `squared_distance` meets its contract: the operations are the definition's, in its order. Assumes nothing.
 use mathlib.Core.Path.{refl}
-use Rattle.grow.specs.Candidates.{squaredDistance}
+use Rattle.sheet.specs.Corners.{squaredDistance}
 use Rattle.grow.proofs.squared_distance.Statement.{statement}
 use Rattle.grow.proofs.squared_distance.Tie as tie
 

@@ -1,13 +1,14 @@
 -- `homography::points_finite` meets its contract. The loop's invariant: the points passed are finite. Assumes nothing.
 use Prim.Native.Nat.{_-_}
 use borrow.Author.Needs.{needs}
-use Rattle.homography.specs.Normalize.{point, finitePoint}
+use Rattle.sheet.specs.Corners.{finitePosition}
+use Rattle.homography.specs.Normalize.{point}
 use Rattle.elimination.proofs.Tables.{Passing, passing-start, passing-more, passing-stop, passing-end}
 use Rattle.homography.proofs.points_finite.Statement.{statement}
 use Rattle.homography.proofs.points_finite.Tie as tie
 
 abbrev Inv-loop : tie.InvT-loop
-Inv-loop points i₀ i = Passing 4 (λ h. finitePoint (point points h)) i
+Inv-loop points i₀ i = Passing 4 (λ h. finitePosition (point points h)) i
 
 abbrev μ-loop : tie.MeasureT-loop
 μ-loop points i₀ i = 4 - i

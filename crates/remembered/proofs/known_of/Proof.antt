@@ -2,7 +2,7 @@
 use borrow.Author.Needs.{needs}
 use native.Mathlib.Omega.{arith}
 use Rattle.remembered.proofs.Notes.{told}
-use Rattle.remembered.proofs.Words.{known-nothing, known-idle, known-unmatched, known-predicted, known-last}
+use Rattle.remembered.proofs.Words.{known-nothing, known-idle, known-no-candidates, known-predicted, known-last}
 use Rattle.remembered.proofs.known_of.Statement.{statement}
 use Rattle.remembered.proofs.known_of.Tie as tie
 
@@ -16,7 +16,7 @@ returns-2 : tie.Need-returns-2
 returns-2 c = told _ _ _ (omega arith) (known-idle _ _ _ (c .if2 .taken))
 
 returns-3 : tie.Need-returns-3
-returns-3 c = told _ _ _ (omega arith) (known-unmatched _ _ _ (c .if3 .taken))
+returns-3 c = told _ _ _ (omega arith) (known-no-candidates _ _ _ (c .if3 .taken))
 
 returns-4 : tie.Need-returns-4
 returns-4 c = told _ _ _ (omega arith) (known-predicted _ _ _ (c .if4 .taken))

@@ -1,6 +1,6 @@
 -- `remembered::limit_in` meets its contract, by what is known. Assumes nothing.
 use borrow.Author.Needs.{needs}
-use Rattle.remembered.proofs.Words.{nothing-limit, idle-limit, unmatched-limit, predicted-limit, ambiguous-limit}
+use Rattle.remembered.proofs.Words.{nothing-limit, idle-limit, no-candidates-limit, predicted-limit, ambiguous-limit}
 use Rattle.remembered.proofs.limit_in.Statement.{statement}
 use Rattle.remembered.proofs.limit_in.Tie as tie
 
@@ -26,7 +26,7 @@ returns-2 : tie.Need-returns-2
 returns-2 c = idle-limit (c .enum-told2 .given .1)
 
 returns-3 : tie.Need-returns-3
-returns-3 c = unmatched-limit (c .enum-told3 .given .1)
+returns-3 c = no-candidates-limit (c .enum-told3 .given .1)
 
 returns-4 : tie.Need-returns-4
 returns-4 c = predicted-limit (c .enum-told4 .given .1)

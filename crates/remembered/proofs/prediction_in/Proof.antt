@@ -1,7 +1,7 @@
 -- `remembered::prediction_in` meets its contract, by what is known. Assumes nothing.
 use borrow.Author.Needs.{needs}
 use mathlib.Core.Path.{_∙_}
-use Rattle.remembered.proofs.Words.{nothing-prediction, idle-prediction, unmatched-prediction, predicted-prediction, ambiguous-prediction}
+use Rattle.remembered.proofs.Words.{nothing-prediction, idle-prediction, no-candidates-prediction, predicted-prediction, ambiguous-prediction}
 use Rattle.remembered.proofs.prediction_in.Statement.{statement}
 use Rattle.remembered.proofs.prediction_in.Tie as tie
 
@@ -36,7 +36,7 @@ returns-2 : tie.Need-returns-2
 returns-2 c = c .nowhere2 .ensures ∙ idle-prediction (c .before .enum-told2 .given .1)
 
 returns-3 : tie.Need-returns-3
-returns-3 c = c .nowhere3 .ensures ∙ unmatched-prediction (c .before .enum-told3 .given .1)
+returns-3 c = c .nowhere3 .ensures ∙ no-candidates-prediction (c .before .enum-told3 .given .1)
 
 returns-4 : tie.Need-returns-4
 returns-4 c = predicted-prediction (c .before .known .given .1)

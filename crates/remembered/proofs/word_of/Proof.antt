@@ -1,7 +1,7 @@
 -- `remembered::word_of` meets its contract, by what is known. Assumes nothing.
 use borrow.Author.Needs.{needs}
 use native.Mathlib.Omega.{arith}
-use Rattle.remembered.proofs.Words.{nothing-word, idle-below, idle-word, unmatched-below, unmatched-word, predicted-below, predicted-word, ambiguous-below, ambiguous-word}
+use Rattle.remembered.proofs.Words.{nothing-word, idle-below, idle-word, no-candidates-below, no-candidates-word, predicted-below, predicted-word, ambiguous-below, ambiguous-word}
 use Rattle.remembered.proofs.word_of.Statement.{statement}
 use Rattle.remembered.proofs.word_of.Tie as tie
 
@@ -24,13 +24,13 @@ enum-known-known-2 : tie.Need-enum-known-known-2
 enum-known-known-2 c = search needs
 
 mul-result-2 : tie.Need-mul-result-2
-mul-result-2 c = omega (arith, unmatched-below (c .before .known2 .given .1) (c .before .before .before .pre))
+mul-result-2 c = omega (arith, no-candidates-below (c .before .known2 .given .1) (c .before .before .before .pre))
 
 add-result-2 : tie.Need-add-result-2
-add-result-2 c = omega (arith, unmatched-below (c .before .known2 .given .1) (c .before .before .before .pre))
+add-result-2 c = omega (arith, no-candidates-below (c .before .known2 .given .1) (c .before .before .before .pre))
 
 cast-result-2 : tie.Need-cast-result-2
-cast-result-2 c = omega (arith, unmatched-below (c .before .known2 .given .1) (c .before .before .before .pre))
+cast-result-2 c = omega (arith, no-candidates-below (c .before .known2 .given .1) (c .before .before .before .pre))
 
 enum-known-known-3 : tie.Need-enum-known-known-3
 enum-known-known-3 c = search needs
@@ -63,7 +63,7 @@ returns-2 : tie.Need-returns-2
 returns-2 c = idle-word (c .before .known .given .1)
 
 returns-3 : tie.Need-returns-3
-returns-3 c = unmatched-word (c .before .known2 .given .1)
+returns-3 c = no-candidates-word (c .before .known2 .given .1)
 
 returns-4 : tie.Need-returns-4
 returns-4 c = predicted-word (c .before .known3 .given .1)

@@ -1,7 +1,7 @@
 -- `local::cells::try_local_cell` meets its contract: by what is known of the cell. Assumes nothing.
 use mathlib.Core.Path.{refl}
 use Rattle.local.proofs.Visit.{untouched, left-as, found-none, found-ambiguous}
-use Rattle.local.proofs.Memory.{recalls-counted, known-idle, known-unmatched, known-ambiguous, known-predicted, known-foretold}
+use Rattle.local.proofs.Memory.{recalls-counted, known-idle, known-no-candidates, known-ambiguous, known-predicted, known-foretold}
 use borrow.Author.Needs.{needs}
 use Rattle.local.proofs.cells.try_local_cell.Statement.{statement}
 use Rattle.local.proofs.cells.try_local_cell.Tie as tie
@@ -55,7 +55,7 @@ returns-2 : tie.Need-returns-2
 returns-2 c = (untouched (c .before .before .before .before .before .before .before .before .before .before .pre .0 .extending) (known-idle _ _ (c .before .before .before .before .before .before .before .before .before .before .pre .0) (c .before .before .before .before .before .before .before .before .before .before .pre .1) (c .before .before .recall .ensures .0) (c .enum-told2 .given .1)), c .before .before .before .before .before .before .before .before .before .before .pre .1)
 
 returns-3 : tie.Need-returns-3
-returns-3 c = (left-as (known-unmatched _ _ (c .before .before .before .before .before .before .before .before .before .before .before .before .pre .0) (c .before .before .before .before .before .before .before .before .before .before .before .before .pre .1) (c .before .before .before .before .recall .ensures .0) (c .before .before .enum-told3 .given .1)) (found-none _ _ refl (c .before .before .before .before .before .before .before .before .before .before .before .before .pre .0 .extending) (c .with-counts .ensures) refl (c .before .count-no-candidate .ensures)), recalls-counted (c .before .before .before .before .before .before .before .before .before .before .before .before .pre .1) (c .before .before .before .before .before .before .before .before .before .before .before .before .pre .0) (c .with-counts .ensures))
+returns-3 c = (left-as (known-no-candidates _ _ (c .before .before .before .before .before .before .before .before .before .before .before .before .pre .0) (c .before .before .before .before .before .before .before .before .before .before .before .before .pre .1) (c .before .before .before .before .recall .ensures .0) (c .before .before .enum-told3 .given .1)) (found-none _ _ refl (c .before .before .before .before .before .before .before .before .before .before .before .before .pre .0 .extending) (c .with-counts .ensures) refl (c .before .count-no-candidate .ensures)), recalls-counted (c .before .before .before .before .before .before .before .before .before .before .before .before .pre .1) (c .before .before .before .before .before .before .before .before .before .before .before .before .pre .0) (c .with-counts .ensures))
 
 returns-4 : tie.Need-returns-4
 returns-4 c = (left-as (known-ambiguous _ _ (c .before .before .before .before .before .before .before .before .before .before .before .before .pre .0) (c .before .before .before .before .before .before .before .before .before .before .before .before .pre .1) (c .before .before .before .before .recall .ensures .0) (c .before .before .enum-told4 .given .1)) (found-ambiguous _ _ refl (c .before .before .before .before .before .before .before .before .before .before .before .before .pre .0 .extending) (c .with-counts2 .ensures) refl (c .before .count-ambiguous .ensures)), recalls-counted (c .before .before .before .before .before .before .before .before .before .before .before .before .pre .1) (c .before .before .before .before .before .before .before .before .before .before .before .before .pre .0) (c .with-counts2 .ensures))

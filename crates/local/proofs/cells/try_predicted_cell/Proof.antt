@@ -5,7 +5,7 @@ use Rattle.extension_common.specs.declared.Search.{Search}
 use Rattle.extension_common.proofs.Laws.{tried-with}
 use Rattle.passes.specs.Grow.{tolerancesOf}
 use Rattle.passes.specs.Local.{localSearch}
-use Rattle.remembered.proofs.Notes.{notable-unmatched, notable-ambiguous}
+use Rattle.remembered.proofs.Notes.{notable-no-candidates, notable-ambiguous}
 use Rattle.local.specs.Extending.{Taking}
 use Rattle.local.proofs.Visit.{gathered-is, found-is, taking, taking-writable, taking-listed, found-none, found-ambiguous, found-refused, found-corner}
 use Rattle.local.proofs.Memory.{noting, recalls-counted, recalls-attached, recalls-missed, recalls-ambiguous}
@@ -45,7 +45,7 @@ enum-told : tie.Need-enum-told
 enum-told c = search needs
 
 note-requires : tie.Need-note-requires
-note-requires c κs = noting (c .before .before .before .before .before .before .before .before .before .before .before .before .before .before .before .pre .0) (c .before .before .before .before .before .before .before .before .before .before .before .before .before .before .before .pre .1 .0) (notable-unmatched (c .before .before .before .before .before .before .before .before .before .before .before .before .before .before .before .pre .1 .1 .small))
+note-requires c κs = noting (c .before .before .before .before .before .before .before .before .before .before .before .before .before .before .before .pre .0) (c .before .before .before .before .before .before .before .before .before .before .before .before .before .before .before .pre .1 .0) (notable-no-candidates (c .before .before .before .before .before .before .before .before .before .before .before .before .before .before .before .pre .1 .1 .small))
 
 count-no-candidate-requires : tie.Need-count-no-candidate-requires
 count-no-candidate-requires c κs = c .before .before .before .before .before .before .before .before .before .before .before .before .before .before .before .before .pre .0 .countable

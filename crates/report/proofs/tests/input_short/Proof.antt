@@ -1,12 +1,12 @@
 -- `tests::input_short` meets its contract, by its two tests. Assumes nothing.
-use Rattle.report.specs.Lent.{Lent, lent}
+use Rattle.report.specs.WriteResult.{TextLent, textLent}
 use Rattle.report.proofs.Checking.{words-short, sheet-short}
 use Rattle.report.proofs.tests.input_short.Statement.{statement}
 use Rattle.report.proofs.tests.input_short.Tie as tie
 
 -- what is lent
-abbrev at : tie.Start → Lent
-at c = lent (c .args .corners) (c .args .passes) (c .args .words .now) (c .args .sheet .now)
+abbrev at : tie.Start → TextLent
+at c = textLent (c .args .corners) (c .args .passes) (c .args .words .now) (c .args .sheet .now)
 
 returns : tie.Need-returns
 returns c = words-short (at (c .before)) (c .if1 .taken)

@@ -1,6 +1,6 @@
 -- `tests::over_limit` meets its contract, by its two tests. Assumes nothing.
 use Rattle.arguments.proofs.Tests.{holds, fails}
-use Rattle.report.specs.Lent.{overLimit}
+use Rattle.report.specs.WriteResult.{overLimit}
 use mathlib.Core.Path.{refl}
 use borrow.Author.Tests.{lt-ltb, le-ltb}
 use Rattle.report.proofs.tests.over_limit.Statement.{statement}

@@ -1,6 +1,6 @@
 -- `tests::wild_counts` meets its contract, count by count. Assumes nothing.
 use Rattle.arguments.proofs.Tests.{holds, fails}
-use Rattle.report.specs.Lent.{wildCounts}
+use Rattle.report.specs.WriteResult.{wildCounts}
 use Rattle.report.proofs.Checking.{above, not-above, as-above}
 use borrow.Author.Needs.{needs}
 use Rattle.report.proofs.tests.wild_counts.Statement.{statement}

@@ -1,7 +1,7 @@
 -- `tests::wild_outcome` meets its contract, word by word. Assumes nothing.
 use Rattle.arguments.proofs.Tests.{holds, fails}
 use mathlib.Core.Path.{sym, _∙_}
-use Rattle.report.specs.Lent.{wildOutcome}
+use Rattle.report.specs.WriteResult.{wildOutcome}
 use Rattle.report.proofs.Checking.{above, not-above, as-above}
 use borrow.Author.Needs.{needs}
 use Rattle.report.proofs.tests.wild_outcome.Statement.{statement}

@@ -17,6 +17,7 @@ use Rattle.arguments.specs.declared.LocalExtensionParams.{LocalExtensionParams}
 use Rattle.arguments.specs.declared.Pass.{Pass}
 use Rattle.arguments.specs.declared.Settings.{Settings}
 use Rattle.frame_line.specs.Lines.{CornerLine, LabelLine, PassLine, bare-grow, grow, bare-fill, fill, local, Axes}
+use Rattle.arguments.specs.Front.{over}
 use Rattle.frame.specs.Frame.{Frame, floatOf, FrameRead, refused-at, accepted, readFrame}
 use Rattle.frame.specs.declared.FrameHead.{FrameHead}
 use Rattle.frame.specs.declared.FrameAnswer.{FrameAnswer}
@@ -129,10 +130,6 @@ tooShort b =
     || (ltb (length (b .pitches)) 1024
     || (ltb (length (b .sheet)) 16384
     || ltb (length (b .passes)) 96)))
-
--- a list at the front of a buffer, the rest untouched
-abbrev pub over : {A : Type 0} → List A → List A → List A
-over written buffer = written ++ drop (length written) buffer
 
 -- only an accepted frame writes: the corners and passes at the front of their buffers, and all 16,384 places of the sheet
 abbrev pub leaves : FrameRead → Buffers → FrameOut

@@ -1,19 +1,17 @@
 -- The library calls that write a result's text (document 01, "Frame and result": "Needed are .. for a text its whole length. The library tries 7, 2,
 -- 3, 5, 6; a refusal changes no buffer"). The outcomes of the passes are lent as words. Definitions only.
-use mathlib.Core.Bool.{Bool, not, _&&_, _||_}
+use mathlib.Core.Bool.{Bool, not, _&&_, _||_, cond}
 use mathlib.Core.List.{List, [], _∷_}
 use Prim.Native.Nat.{ℕ, zero, suc, _+_, _*_}
 use lib.Dec.{ltb, leb, eqb}
 use lib.ListN.{length, getD}
 use lib.Ieee.{binary32, toBits, ofBits}
 use Rattle.refusal.specs.declared.Refusal.{Refusal}
-use Rattle.binary32.specs.Hex.{pick}
 use Rattle.binary32.specs.Ranges.{isFinite}
 use Rattle.labels.specs.Labelled.{anyBelow}
 use Rattle.arguments.specs.Arguments.{refusedIf, unknownCorner, doubledCorner}
 use Rattle.arguments.specs.declared.Checked.{Checked}
 use Rattle.sheet.specs.Words.{bitOf}
-use Rattle.passes.specs.Outcome.{over}
 use Rattle.passes.specs.declared.Counts.{Counts}
 use Rattle.passes.specs.declared.GrowStats.{GrowStats}
 use Rattle.passes.specs.declared.FillStats.{FillStats}
@@ -21,6 +19,7 @@ use Rattle.passes.specs.declared.LocalStats.{LocalStats}
 use Rattle.passes.specs.declared.LargestResidual.{LargestResidual}
 use Rattle.passes.specs.Run.{PassStats, growStats, fillStats, localStats}
 use Rattle.report_line.specs.Result.{resultText, Piece, resultPiece, lineCount}
+use Rattle.arguments.specs.Front.{over}
 use Rattle.report.specs.declared.TextAnswer.{TextAnswer}
 use Rattle.report.specs.declared.PieceAnswer.{PieceAnswer}
 
@@ -51,13 +50,13 @@ abbrev pub yesAt : List ℕ → ℕ → ℕ → Bool
 yesAt words k m = not (eqb (wordAt words k m) 0)
 
 abbrev pub residualAt : List ℕ → ℕ → LargestResidual
-residualAt words k = pick (yesAt words k 6) (LargestResidual.Residual (ofBits binary32 (wordAt words k 7))) LargestResidual.Nothing
+residualAt words k = cond (yesAt words k 6) (LargestResidual.Residual (ofBits binary32 (wordAt words k 7))) LargestResidual.Nothing
 
 -- what outcome k says
 unfoldable pub statsAt : List ℕ → ℕ → PassStats
 statsAt words k =
-    pick (eqb (wordAt words k 0) 0) (growStats (record { counts = countsAt words k; rim = yesAt words k 8 }))
-    (pick (eqb (wordAt words k 0) 1) (fillStats (record { added = wordAt words k 1; iterations = wordAt words k 5; rim = yesAt words k 8 }))
+    cond (eqb (wordAt words k 0) 0) (growStats (record { counts = countsAt words k; rim = yesAt words k 8 }))
+    (cond (eqb (wordAt words k 0) 1) (fillStats (record { added = wordAt words k 1; iterations = wordAt words k 5; rim = yesAt words k 8 }))
     (localStats (record { counts = countsAt words k; iterations = wordAt words k 5; residual = residualAt words k; rim = yesAt words k 8 })))
 
 -- the outcomes from number k on, n of them
@@ -70,24 +69,24 @@ statsIn passes words = statsFrom words 0 passes
 
 -- ---- what is lent: how many corners and passes, the outcomes' words, the sheet, and how long the buffer for the text is
 
-pub record Lent : Type 0 where
+pub record TextLent : Type 0 where
   pub corners : ℕ
   pub passes : ℕ
   pub words : List ℕ
   pub sheet : List ℕ
 
-abbrev pub lent : ℕ → ℕ → List ℕ → List ℕ → Lent
-lent corners passes words sheet = record { corners = corners; passes = passes; words = words; sheet = sheet }
+abbrev pub textLent : ℕ → ℕ → List ℕ → List ℕ → TextLent
+textLent corners passes words sheet = record { corners = corners; passes = passes; words = words; sheet = sheet }
 
-abbrev pub textOf : Lent → List ℕ
+abbrev pub textOf : TextLent → List ℕ
 textOf l = resultText (statsIn (l .passes) (l .words)) (l .sheet)
 
 -- 7: words and sheet are there
-unfoldable pub inputShort : Lent → Bool
+unfoldable pub inputShort : TextLent → Bool
 inputShort l = ltb (length (l .words)) (9 * l .passes) || ltb (length (l .sheet)) 16384
 
 -- 2: over 16 outcomes or 1,024 corners
-unfoldable pub overLimit : Lent → Bool
+unfoldable pub overLimit : TextLent → Bool
 overLimit l = ltb 16 (l .passes) || ltb 1024 (l .corners)
 
 -- 3: no count is above 64 rounds of 16,384 cells, no number of rounds above 64, and a residual is finite; kind, residual flag and rim are those that
@@ -106,11 +105,11 @@ unfoldable pub wildOutcome : List ℕ → ℕ → Bool
 wildOutcome words k =
     ltb 2 (wordAt words k 0) || (wildCounts words k || (ltb 64 (wordAt words k 5) || (wildResidual words k || ltb 1 (wordAt words k 8))))
 
-unfoldable pub wild : Lent → Bool
+unfoldable pub wild : TextLent → Bool
 wild l = anyBelow (l .passes) (wildOutcome (l .words))
 
 -- 2, 3, 5 and 6 in order
-unfoldable pub checkedRest : Lent → Checked
+unfoldable pub checkedRest : TextLent → Checked
 checkedRest l =
     refusedIf (overLimit l) Refusal.OverLimit
     (refusedIf (wild l) Refusal.OutOfRange
@@ -120,7 +119,7 @@ checkedRest l =
 -- ---- the whole text
 
 -- 7 first: "for a text its whole length"
-unfoldable pub checkedText : Lent → ℕ → Checked
+unfoldable pub checkedText : TextLent → ℕ → Checked
 checkedText l room = refusedIf (inputShort l || ltb room (length (textOf l))) Refusal.BufferTooShort (checkedRest l)
 
 pub record TextOut : Type 0 where
@@ -130,20 +129,20 @@ pub record TextOut : Type 0 where
 abbrev pub textOut : TextAnswer → List ℕ → TextOut
 textOut r out = record { answer = r; out = out }
 
-abbrev pub textLeaves : Checked → Lent → List ℕ → TextOut
+abbrev pub textLeaves : Checked → TextLent → List ℕ → TextOut
 textLeaves Checked.Fine l out = textOut (TextAnswer.Written (length (textOf l))) (over (textOf l) out)
 textLeaves (Checked.Refused r) l out = textOut (TextAnswer.Refused r) out
 
-unfoldable pub writesText : Lent → List ℕ → TextOut
+unfoldable pub writesText : TextLent → List ℕ → TextOut
 writesText l out = textLeaves (checkedText l (length out)) l out
 
 -- ---- a piece of it
 
-abbrev pub pieceIn : Lent → ℕ → ℕ → Piece
+abbrev pub pieceIn : TextLent → ℕ → ℕ → Piece
 pieceIn l from room = resultPiece (statsIn (l .passes) (l .words)) (l .sheet) from room
 
 -- 7: there is room for any line; 3: there is such a line, or it is the one after the last
-unfoldable pub checkedPiece : Lent → ℕ → ℕ → Checked
+unfoldable pub checkedPiece : TextLent → ℕ → ℕ → Checked
 checkedPiece l from room =
     refusedIf (inputShort l || ltb room 128) Refusal.BufferTooShort
     (refusedIf (overLimit l) Refusal.OverLimit
@@ -162,5 +161,5 @@ abbrev pub pieceLeaves : Checked → Piece → List ℕ → PieceOut
 pieceLeaves Checked.Fine p out = pieceOut (PieceAnswer.Written (length (p .text)) (p .next)) (over (p .text) out)
 pieceLeaves (Checked.Refused r) p out = pieceOut (PieceAnswer.Refused r) out
 
-unfoldable pub writesPiece : Lent → ℕ → List ℕ → PieceOut
+unfoldable pub writesPiece : TextLent → ℕ → List ℕ → PieceOut
 writesPiece l from out = pieceLeaves (checkedPiece l from (length out)) (pieceIn l from (length out)) out
