@@ -5,4 +5,3 @@ pub mod Grow
 pub mod Fill
 pub mod Local
 pub mod Run
-pub mod Example

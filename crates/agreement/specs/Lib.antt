@@ -1,3 +1,2 @@
--- What is compared of two runs, the claim that they agree, and a small pair of frames. Definitions only.
+-- What is compared of two runs, and the claim that they agree. Definitions only.
 pub mod Agreement
-pub mod Example

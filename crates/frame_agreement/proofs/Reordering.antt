@@ -132,11 +132,14 @@ module _ (f f' : Frame) (w : WithinLimits f) (same : SameButOrder f f') where
 
   -- ---- the claim
 
-  pub limits-alike : RunAlike f f'
+  pub limits-alike : RunAlike f f' same
+  unfolding frames-reordered corners-paired pairs
   limits-alike =
       let holds = agreement (cornersOf f) (cornersOf f') (sheetOf f) (sheetOf f') frames-reordered in
       record {
         reordered = frames-reordered;
+        paired-to = λ k. refl;
+        paired-from = λ k. refl;
         any-list = holds;
         same-calls = calls-same;
         own-list =
@@ -147,9 +150,3 @@ module _ (f f' : Frame) (w : WithinLimits f) (same : SameButOrder f f') where
 
 pub frames-run-alike : FramesRunAlike
 frames-run-alike text text' f f' e e' same = limits-alike f f' (frame-prints-back text f e .within) same
-
--- the pairing of the runs is that of the corner lines
-pub frames-paired-so : (text text' : List ℕ) (f f' : Frame) (e : readFrame text ≡ accepted f) (e' : readFrame text' ≡ accepted f') (same : SameButOrder f f') (k : ℕ)
-    → frames-run-alike text text' f f' e e' same .reordered .corners .pairs .to k ≡ same .pairs .to k
-unfolding frames-run-alike limits-alike frames-reordered corners-paired pairs
-frames-paired-so text text' f f' e e' same k = refl

@@ -33,15 +33,18 @@ pub record SameButOrder (f f' : Frame) : Type 0 where
   pub labels : f' .labels ≡ map (renumbered pairs) (f .labels)
   pub passes : f' .passes ≡ f .passes
 
--- Demand 3 of two such frames: their corners and the sheets of their given labels are a reordering; every list of calls from there has the
--- invariants in both runs and, if each call that runs has an ambiguity factor above 1, both runs agree after every call; the frames' own
--- passes are such a list, the same for both.
-pub record RunAlike (f f' : Frame) : Type 0 where
+-- Demand 3 of two such frames: their corners and the sheets of their given labels are a reordering, paired as the corner lines are; every list of
+-- calls from there has the invariants in both runs and, if each call that runs has an ambiguity factor above 1, both runs agree after every call;
+-- the frames' own passes are such a list, the same for both.
+pub record RunAlike (f f' : Frame) (same : SameButOrder f f') : Type 0 where
   pub reordered : Reordered (cornersOf f) (cornersOf f') (sheetOf f) (sheetOf f')
+  pub paired-to : (k : ℕ) → reordered .corners .pairs .to k ≡ same .pairs .to k
+  pub paired-from : (k : ℕ) → reordered .corners .pairs .from k ≡ same .pairs .from k
   pub any-list : (calls : List Call) → BothRuns (cornersOf f) (cornersOf f') (sheetOf f) (sheetOf f') reordered calls
   pub same-calls : callsOf f' ≡ callsOf f
   pub own-list : FactorsAbove (callsOf f) (run (cornersOf f) (sheetOf f) (callsOf f))
       → Agree (reordered .corners .pairs) (sheetOf f) (sheetOf f') (run (cornersOf f) (sheetOf f) (callsOf f)) (run (cornersOf f') (sheetOf f') (callsOf f'))
 
 abbrev pub FramesRunAlike : Type 0
-FramesRunAlike = (text text' : List ℕ) (f f' : Frame) → readFrame text ≡ accepted f → readFrame text' ≡ accepted f' → SameButOrder f f' → RunAlike f f'
+FramesRunAlike =
+    (text text' : List ℕ) (f f' : Frame) → readFrame text ≡ accepted f → readFrame text' ≡ accepted f' → (same : SameButOrder f f') → RunAlike f f' same

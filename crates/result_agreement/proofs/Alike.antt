@@ -15,7 +15,7 @@ use Rattle.agreement.specs.Agreement.{both-refused, both-done, Agree, agree-end
 use Rattle.frame.specs.Frame.{Frame, readFrame, accepted}
 use Rattle.frame.specs.ReadFrame.{sheetOf}
 use Rattle.frame_laws.specs.Calls.{cornersOf, callsOf}
-use Rattle.frame_agreement.proofs.Reordering.{frames-run-alike, frames-paired-so}
+use Rattle.frame_agreement.proofs.Reordering.{frames-run-alike}
 use Rattle.report_line.specs.Result.{passLines, labelLine, cellLine, holeLine, ambiguousLine, linesFrom, allPlaces, heading, resultText}
 use Rattle.recovery.specs.Answer.{statsOf, frameStats, frameSheet, answerOf, answerText}
 use Rattle.result_agreement.specs.Alike.{numberedAnew, cellLineAnew, renumberedText, KeptNumbers, numbers, FramesAnswerAlike}
@@ -111,7 +111,7 @@ frames-answer-alike text text' f f' e e' same above =
     subst (λ (calls : List Call). PairedSheets s (frameSheet f) (sheetAfterAll (cornersOf f') (sheetOf f') calls)) (sym (alike .same-calls))
     (agree-sheets s (cornersOf f) (cornersOf f') (callsOf f) (sheetOf f) (sheetOf f') agree) in
     let to = numbers same in
-    let so = frames-paired-so text text' f f' e e' same in
+    let so = alike .paired-to in
     record {
       stats = stats;
       labels = labels-anew s to so (frameSheet f) (frameSheet f') both;

@@ -41,8 +41,8 @@ pub data Example : Type 0 where
   grows fills : ℕ → ℕ → ℕ → Chosen → Example
   -- an edge of a length passes, or not, with an expected length and a band
   edge : ℕ → ℕ → ℕ → Bool → Example
-  -- the expected length of an edge by both pitches and the cell size
-  expected : ℕ → ℕ → ℕ → ℕ → Example
+  -- with these pitches the expected length of an edge is the cell size, whatever that is
+  expectedIsSize : ℕ → ℕ → Example
   -- the cells that are labelled: how many cells the first round of fill walks, or that of local with a depth
   fillWalks : List Cell → ℕ → Example
   localWalks : ℕ → List Cell → ℕ → Example
@@ -61,10 +61,10 @@ abbrev pub Claims : Example → Type 0
 Claims (root x r) = Answers (f32 x) (Root (f32 r)) × (rooted (f32 x) ≡ Root (f32 r))
 Claims (grows first second factor c) = chooseUnambiguous (twoAt first second) (f32 factor) ≡ choiceOf c
 Claims (fills first second factor c) = chooseWithFloor (twoAt first second) (f32 factor) ≡ choiceOf c
-Claims (edge length expectation band b) = inBand (f32 length) (f32 expectation) (f32 band) ≡ b
+Claims (edge edgeLength expectation band b) = inBand (f32 edgeLength) (f32 expectation) (f32 band) ≡ b
+Claims (expectedIsSize candidate neighbour) = (size : Float) → expectedLength size (f32 candidate) (f32 neighbour) ≡ size
 Claims (fillWalks cells n) = length (fillCells (labelled cells)) ≡ n
 Claims (localWalks depth cells n) = length (localCells depth (labelled cells)) ≡ n
-Claims (expected candidate neighbour size r) = expectedLength (f32 size) (f32 candidate) (f32 neighbour) ≡ f32 r
 
 -- every row of a table holds
 abbrev pub Right : List Example → Type 0
@@ -95,8 +95,8 @@ table =
     ∷ edge 0x4148_0000 0x4120_0000 0x3e80_0000 true
     -- M6: 7 fails
     ∷ edge 0x40e0_0000 0x4120_0000 0x3e80_0000 false
-    -- M7: both pitches 0.001: cell size used (here 10)
-    ∷ expected 0x3a83_126f 0x3a83_126f 0x4120_0000 0x4120_0000
+    -- M7: both pitches 0.001: cell size used
+    ∷ expectedIsSize 0x3a83_126f 0x3a83_126f
     -- M8: labels (0,0), (2,0): fill walks 9 cells
     ∷ fillWalks (at 0 0 ∷ at 2 0 ∷ []) 9
     -- M9: local depth 1 would walk 11

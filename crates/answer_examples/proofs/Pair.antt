@@ -1,0 +1,190 @@
+-- The two texts meet what demand 3 asks, so it speaks of them: their runs are alike, and the second answer is the first with the corners of its cell lines
+-- numbered anew. Assumes nothing.
+use mathlib.Core.Path.{_≡_, refl, sym, ap, ap₂, _∙_, subst}
+use mathlib.Core.Bool.{Bool, true, false, _||_}
+use mathlib.Core.List.{List, [], _∷_, _++_, map}
+use Prim.Native.Nat.{ℕ, _<_}
+use native.Mathlib.Omega.{arith}
+use lib.ListN.{length, getD}
+use lib.Ieee.{ofBits, ofInt, toBits, lt, le}
+use Rattle.refusal.specs.declared.Refusal.{Refusal}
+use Rattle.binary32.specs.Ranges.{endsOf}
+use Rattle.sheet.specs.Cells.{cellOf}
+use Rattle.sheet.specs.Words.{labelOfNumber, labelOf, holeOf, ambiguousOf}
+use Rattle.arguments.specs.Arguments.{queueNeeded, tooShort, overLimit, outside, someCornerOutside, settingsOutside, localOutside, passOutside, outOfRange, checked}
+use Rattle.arguments.specs.declared.Checked.{Checked}
+use Rattle.arguments.proofs.Laws.{not-short}
+use Rattle.passes.specs.Outcome.{Outcome, refused, done}
+use Rattle.passes.specs.Step.{lentOf, unless}
+use Rattle.passes.specs.Run.{Call, PassStats, step, run}
+use Rattle.invariants.specs.Calls.{Standing, passOf as passChecked, checkedCall, afterCall, CallInside}
+use Rattle.invariants.proofs.Run.{step-as}
+use Rattle.agreement.specs.Agreement.{AboveOne, FactorsAbove, no-more, was-refused as was-not-run, ran}
+use Rattle.frame.specs.Frame.{readFrame, accepted}
+use Rattle.frame.specs.Text.{All}
+use Rattle.frame.specs.ReadFrame.{xsOf, ysOf, pitchesOf, sheetOf, settingsOf, fullOf, passOf}
+use Rattle.frame_line.specs.Lines.{PassLine}
+use Rattle.binary32.specs.Hex.{digits}
+use Rattle.line_form.specs.Integers.{decimalUpTo, decimal, integerText}
+use Rattle.line_form.specs.Forms.{numberText, printed}
+use Rattle.report_line.specs.Result.{localLine as localSays, growLine as growSays, fillLine as fillSays, passLine, passLines}
+use Rattle.frame_laws.specs.Calls.{cornersOf, frameRooms, callOf, callsOf}
+use Rattle.frame_laws.proofs.Runs.{accepted-runs}
+use Rattle.frame_agreement.proofs.Reordering.{frames-run-alike}
+use Rattle.written_places.specs.Written.{Written, Rise, sheetWith, told}
+use Rattle.written_places.specs.Passes.{AfterIn, afterOf}
+use Rattle.written_places.specs.Run.{Asked, runs, refuses, callsOf as callsAsked, Goes, ends, one-runs, one-refused, runIn}
+use Rattle.written_places.specs.Text.{textIn}
+use Rattle.recovery.specs.Answer.{statsOf, answerText}
+use Rattle.result_agreement.specs.Alike.{numberedAnew, renumberedText, numbers, ResultsAlike}
+use Rattle.result_agreement.proofs.Alike.{frames-answer-alike}
+use Rattle.answer_examples.specs.Answer.{givenIn, frameRun, runText, renumberedIn}
+use Rattle.answer_examples.specs.Pair.{firstText, secondText, localLine, firstFrame, secondFrame, firstResult, secondResult}
+use Rattle.answer_examples.specs.Claims.{refusedLine, growLine, fillLine, calls, Told, was-refused, grow-attached, fill-added, local-attached, toldOf, Met, Agreed}
+use Rattle.answer_examples.proofs.Answer.{given-so, renumbered-so, frame-went, own-run, own-stats, own-sheet, own-rises, answer-so}
+use Rattle.answer_examples.proofs.Pairing.{first-read, second-read, same}
+use Rattle.answer_examples.proofs.Ran.{localLeft, growLeft, fillLeft, after, local-did, grow-did, fill-did}
+
+-- ---- the factors
+
+local-above : AboveOne (callOf firstFrame localLine)
+unfolding ofBits lt fullOf passOf
+local-above = refl
+
+grow-above : AboveOne (callOf firstFrame growLine)
+unfolding ofBits lt fullOf passOf
+grow-above = refl
+
+fill-above : AboveOne (callOf firstFrame fillLine)
+unfolding ofBits lt fullOf passOf
+fill-above = refl
+
+-- ---- which calls run
+
+-- each pass of the frame is one that runs
+fits : All (CallInside (cornersOf firstFrame)) (callsOf firstFrame)
+fits = accepted-runs firstText firstFrame first-read .fit
+
+list : List Asked
+list =
+    runs (callOf firstFrame localLine)
+    ∷ refuses (callOf firstFrame refusedLine) Refusal.OutOfRange
+    ∷ runs (callOf firstFrame growLine)
+    ∷ runs (callOf firstFrame fillLine)
+    ∷ []
+
+-- the refused call, on any sheet
+or-last : (a b : Bool) → (a || (b || true)) ≡ true
+or-last true b = refl
+or-last false true = refl
+or-last false false = refl
+
+module _ (sheet : List ℕ) (s : Standing (cornersOf firstFrame) sheet) where
+  abbrev c : Call
+  c = callOf firstFrame refusedLine
+
+  long : tooShort (lentOf (cornersOf firstFrame) sheet frameRooms) (passChecked (c .pass)) ≡ false
+  unfolding queueNeeded fullOf passOf xsOf
+  long =
+      not-short _ _
+      (record { ys-long = s .given .ys-long; pitches-long = s .given .pitches-long; sheet-long = s .given .long; queue-long = omega arith; attached-long = omega arith })
+
+  deep : outOfRange (lentOf (cornersOf firstFrame) sheet frameRooms) (c .settings) (passChecked (c .pass)) ≡ true
+  unfolding outOfRange passOutside localOutside outside endsOf ofBits ofInt le fullOf passOf
+  deep = or-last (someCornerOutside (xsOf firstFrame) (ysOf firstFrame) (pitchesOf firstFrame)) (settingsOutside (c .settings))
+
+  wild : checkedCall (cornersOf firstFrame) sheet c ≡ Checked.Refused Refusal.OutOfRange
+  unfolding checked overLimit xsOf
+  wild = rw (long, deep) refl
+
+  refused-so : step (cornersOf firstFrame) sheet c ≡ refused Refusal.OutOfRange
+  refused-so = step-as (cornersOf firstFrame) sheet c ∙ ap (λ (k : Checked). unless k (afterCall (cornersOf firstFrame) sheet c)) wild
+
+list-goes : Goes (cornersOf firstFrame) list
+unfolding list callsOf fullOf
+list-goes = one-runs (fits .0) (one-refused refused-so (one-runs (fits .1 .0) (one-runs (fits .1 .1 .0) ends)))
+
+-- ---- what they do
+
+-- each pass after the ones before it
+grow-next : after growLine (after localLine (givenIn firstFrame) .sheet) ≡ growLeft
+grow-next = ap (λ (a : AfterIn PassStats). after growLine (a .sheet)) local-did ∙ grow-did
+
+fill-next : after fillLine (after growLine (after localLine (givenIn firstFrame) .sheet) .sheet) ≡ fillLeft
+fill-next = ap (λ (a : AfterIn PassStats). after fillLine (a .sheet)) grow-next ∙ fill-did
+
+-- the frame's own passes
+abbrev outcomes : List (Outcome PassStats)
+outcomes = done (afterOf localLeft) ∷ done (afterOf growLeft) ∷ done (afterOf fillLeft) ∷ []
+
+own-outcomes : frameRun firstFrame .outcomes ≡ outcomes
+unfolding runIn callsOf fullOf
+own-outcomes = λ t. done (afterOf (local-did t)) ∷ done (afterOf (grow-next t)) ∷ done (afterOf (fill-next t)) ∷ []
+
+own-left : frameRun firstFrame .left ≡ fillLeft .sheet
+unfolding runIn callsOf fullOf
+own-left = ap (λ (a : AfterIn PassStats). a .sheet) fill-next
+
+-- the list of calls
+list-run : run (cornersOf firstFrame) (sheetOf firstFrame) calls ≡ done (afterOf localLeft) ∷ refused Refusal.OutOfRange ∷ done (afterOf growLeft) ∷ done (afterOf fillLeft) ∷ []
+unfolding list callsAsked runIn
+list-run =
+    ap (λ (sheet : List ℕ). run (cornersOf firstFrame) sheet calls) (given-so firstFrame) ∙ frame-went firstText firstFrame first-read list list-goes .run-so
+    ∙ (λ t. done (afterOf (local-did t)) ∷ refused Refusal.OutOfRange ∷ done (afterOf (grow-next t)) ∷ done (afterOf (fill-next t)) ∷ [])
+
+own-factors : FactorsAbove (callsOf firstFrame) (run (cornersOf firstFrame) (sheetOf firstFrame) (callsOf firstFrame))
+unfolding callsOf fullOf
+own-factors =
+    subst (FactorsAbove (callsOf firstFrame)) (sym (own-run firstText firstFrame first-read ∙ own-outcomes)) (ran local-above (ran grow-above (ran fill-above no-more)))
+
+list-factors : FactorsAbove calls (run (cornersOf firstFrame) (sheetOf firstFrame) calls)
+list-factors = subst (FactorsAbove calls) (sym list-run) (ran local-above (was-not-run (ran grow-above (ran fill-above no-more))))
+
+-- ---- the claims
+
+pub met : Met
+met =
+    record {
+      first-read = first-read;
+      second-read = second-read;
+      same = same;
+      pairing = λ k h. refl;
+      equal-lines = refl;
+      factors = own-factors;
+      outcomes = ap (map toldOf) list-run;
+      list-factors = list-factors;
+    }
+
+-- the answers: of the first text by its run, of the second by demand 3
+first-text : textIn (statsOf outcomes) (fillLeft .sheet) ≡ firstResult
+unfolding textIn told statsOf passLines passLine localSays growSays fillSays printed numberText integerText decimal decimalUpTo digits toBits ofBits cellOf labelOfNumber labelOf holeOf ambiguousOf
+first-text = refl
+
+second-text : renumberedIn (numbers same) (statsOf outcomes) (fillLeft .sheet) ≡ secondResult
+unfolding renumberedIn numberedAnew told statsOf passLines passLine localSays growSays fillSays printed numberText integerText decimal decimalUpTo digits toBits ofBits cellOf labelOfNumber labelOf holeOf ambiguousOf
+second-text = refl
+
+first-said : answerText firstText ≡ firstResult
+unfolding runText
+first-said =
+    answer-so firstText firstFrame first-read ∙ ap₂ (λ (os : List (Outcome PassStats)) (w : List Written). textIn (statsOf os) w) own-outcomes own-left ∙ first-text
+
+second-said : ResultsAlike firstText secondText firstFrame secondFrame same → answerText secondText ≡ secondResult
+second-said results =
+    results .second-answer
+    ∙ ap₂ (renumberedText (numbers same)) (own-stats firstText firstFrame first-read ∙ ap statsOf own-outcomes) (own-sheet firstText firstFrame first-read ∙ ap sheetWith own-left)
+    ∙ renumbered-so (numbers same) (statsOf outcomes) (fillLeft .sheet) (subst (Rise 0) own-left (own-rises firstText firstFrame first-read))
+    ∙ second-text
+
+pub agreed : Agreed met
+unfolding met
+agreed =
+    let alike = frames-run-alike firstText secondText firstFrame secondFrame first-read second-read same in
+    let results = frames-answer-alike firstText secondText firstFrame secondFrame first-read second-read same own-factors in
+    record {
+      runs = alike;
+      list-agrees = alike .any-list calls .agree list-factors;
+      results = results;
+      first-answer = first-said;
+      second-answer = second-said results;
+    }

@@ -1,0 +1,72 @@
+-- Both texts are read as the frames that stand beside them, and the frames differ only in the order of their corner lines. Assumes nothing.
+use mathlib.Core.Path.{_≡_, refl, subst, sym}
+use mathlib.Core.List.{List, [], _∷_}
+use Prim.Native.Nat.{ℕ, zero, suc, _<_}
+use native.Mathlib.Nat.{not-suc-le-zero}
+use native.Mathlib.Decide.{ℕ-discrete}
+use native.Mathlib.Omega.{arith}
+use lib.ListN.{length, getD}
+use lib.Ieee.{ofBits, ofInt, le, lt, eq}
+use Rattle.binary32.specs.Hex.{digitValue, readDigits}
+use Rattle.binary32.specs.Ranges.{endsOf}
+use Rattle.sheet.specs.Cells.{onSheet}
+use Rattle.sheet.specs.Pairing.{Shuffle}
+use Rattle.arguments.specs.Arguments.{outside}
+use Rattle.line_form.specs.Integers.{digitsAfter, readPositive, readInteger}
+use Rattle.line_form.specs.Forms.{pieceOf, fitOf}
+use Rattle.frame_line.specs.Lines.{bitsAt, wholeAt, lineOf, firstFit, readLine}
+use Rattle.frame.specs.Frame.{Frame, linesOf, inOrder, stageAfter, overLimit, outOfRange, wildPass, offSheet, unknownCorner, doubled, checkedLine, adding, accepted, stepLine, atEnd, readLines, readFrame}
+use Rattle.frame_agreement.specs.Reordering.{cornerLine, SameButOrder}
+use Rattle.answer_examples.specs.Pair.{firstText, secondText, firstFrame, secondFrame, numbersInSecond, numbersInFirst}
+
+-- ---- the texts are read
+
+pub first-read : readFrame firstText ≡ accepted firstFrame
+unfolding ofBits ofInt le lt eq digitValue readDigits endsOf onSheet outside digitsAfter readPositive readInteger pieceOf fitOf bitsAt wholeAt lineOf firstFit readLine linesOf inOrder stageAfter overLimit outOfRange wildPass offSheet unknownCorner doubled checkedLine adding stepLine atEnd readLines readFrame
+first-read = refl
+
+pub second-read : readFrame secondText ≡ accepted secondFrame
+unfolding ofBits ofInt le lt eq digitValue readDigits endsOf onSheet outside digitsAfter readPositive readInteger pieceOf fitOf bitsAt wholeAt lineOf firstFit readLine linesOf inOrder stageAfter overLimit outOfRange wildPass offSheet unknownCorner doubled checkedLine adding stepLine atEnd readLines readFrame
+second-read = refl
+
+-- ---- the pairing
+
+-- what holds of each number below n
+abbrev pub Upto : (ℕ → Type 0) → ℕ → Type 0
+Upto P zero = Unit {0}
+Upto P (suc n) = Upto P n × P n
+
+pub below : (P : ℕ → Type 0) (n : ℕ) → Upto P n → (k : ℕ) → k < n → P k
+below P zero u k h = absurd (not-suc-le-zero h)
+below P (suc n) u k h = go (below P n (u .0) k) (ℕ-discrete k n)
+  where
+    go : (k < n → P k) → Dec (k ≡ n) → P k
+    go f (yes d) = subst P (sym d) (u .1)
+    go f (no d) = f (omega arith)
+
+abbrev pub pairs : Shuffle 10
+pairs =
+    record {
+      to = λ k. getD numbersInSecond k 0;
+      from = λ k. getD numbersInFirst k 0;
+      to-in =
+          below (λ k. getD numbersInSecond k 0 < 10) 10
+          ((((((((((tt, omega arith), omega arith), omega arith), omega arith), omega arith), omega arith), omega arith), omega arith), omega arith), omega arith);
+      from-in =
+          below (λ k. getD numbersInFirst k 0 < 10) 10
+          ((((((((((tt, omega arith), omega arith), omega arith), omega arith), omega arith), omega arith), omega arith), omega arith), omega arith), omega arith);
+      from-to =
+          below (λ k. getD numbersInFirst (getD numbersInSecond k 0) 0 ≡ k) 10
+          ((((((((((tt, refl), refl), refl), refl), refl), refl), refl), refl), refl), refl);
+      to-from =
+          below (λ k. getD numbersInSecond (getD numbersInFirst k 0) 0 ≡ k) 10
+          ((((((((((tt, refl), refl), refl), refl), refl), refl), refl), refl), refl), refl);
+    }
+
+pub same-lines : (k : ℕ) → k < 10 → cornerLine secondFrame (pairs .to k) ≡ cornerLine firstFrame k
+same-lines =
+    below (λ k. cornerLine secondFrame (pairs .to k) ≡ cornerLine firstFrame k) 10
+    ((((((((((tt, refl), refl), refl), refl), refl), refl), refl), refl), refl), refl)
+
+abbrev pub same : SameButOrder firstFrame secondFrame
+same = record { cell = refl; axes = refl; band = refl; count = refl; pairs = pairs; same-line = same-lines; labels = refl; passes = refl }

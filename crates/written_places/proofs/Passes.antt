@@ -1,0 +1,404 @@
+-- Each pass on the sheet of some written places does what its definition on these places says, and the places still rise. Assumes nothing.
+use mathlib.Core.Path.{_≡_, refl, sym, ap, ap₂, _∙_, fun-ext}
+use mathlib.Core.Bool.{Bool, true, false, not, _&&_, cond}
+use mathlib.Core.List.{List, [], _∷_, _++_, map}
+use Prim.Native.Nat.{ℕ, zero, suc, _+_, _*_}
+use lib.Dec.{eqb, ltb}
+use lib.ListN.{length, getD, take}
+use lib.Ieee.{Float, binary32, ofBits, lt}
+use Rattle.elimination.specs.Solve.{Row, eliminated, answered, answersOf, soundOf}
+use Rattle.elimination.proofs.Sound.{sound-is}
+use Rattle.homography.specs.Normalize.{normalSteps, normalizationOf}
+use Rattle.homography.specs.Undo.{undone}
+use Rattle.homography.specs.Fit.{Answer, NoFit, scaledOf, equationsOf, unscaled, homographyOf, applied}
+use Rattle.homography.proofs.Normalizing.{normal-finite}
+use Rattle.homography.proofs.Fitting.{homography-is}
+use Rattle.sheet.specs.Cells.{onSheet, placeOf, cellOf, moved}
+use Rattle.sheet.specs.Words.{attached, marksCleared}
+use Rattle.sheet.specs.Corners.{seenOf}
+use Rattle.sheet.specs.declared.Cell.{Cell}
+use Rattle.sheet.specs.declared.Offset.{Offset}
+use Rattle.sheet.specs.declared.Position.{Position}
+use Rattle.sheet.specs.declared.Seen.{Seen}
+use Rattle.labels.specs.Box.{boxAround}
+use Rattle.labels.specs.declared.LabelBox.{LabelBox}
+use Rattle.grow.specs.Candidates.{candidatesAt, firstTwo}
+use Rattle.grow.specs.declared.CandidateChoice.{CandidateChoice}
+use Rattle.positions_policy.specs.Edge.{cardinalOffsets, verdictOf, passes}
+use Rattle.positions_policy.specs.declared.Tolerances.{Tolerances}
+use Rattle.predict.specs.Predict.{predictionOf, extrapolating}
+use Rattle.predict.specs.declared.Prediction.{Prediction}
+use Rattle.arguments.specs.declared.Settings.{Settings}
+use Rattle.arguments.specs.declared.GrowParams.{GrowParams}
+use Rattle.arguments.specs.declared.FillParams.{FillParams}
+use Rattle.arguments.specs.declared.LocalExtensionParams.{LocalExtensionParams}
+use Rattle.extension_common.specs.TryCell.{Corners, unlabelledOn, gathered, choiceBy, edgesOf, resultOf, tryAt}
+use Rattle.extension_common.specs.declared.Search.{Search}
+use Rattle.extension_common.specs.declared.TryCellResult.{TryCellResult}
+use Rattle.passes.specs.Outcome.{After}
+use Rattle.passes.specs.Grow.{GrowState, tolerancesOf, noCounts, member, wanted, enqueued, enqueuedAt, spread, seededFrom, startOf, searchOf, missed, growWith, growAt, growVisit, growFrom, growRun, growLeft, growAfter}
+use Rattle.passes.specs.Fill.{FillRounds, boxAndStrips, cellsOf, fillCells, fillSearch, fillWith, fillAt, fillVisit, fillAll, fillRound, fillFrom, fillLimit, fillRun, fillLeft, fillAfter}
+use Rattle.passes.specs.Local.{LocalState, LocalFit, none, fitted, LocalRounds, depthOf, localRegion, localCells, byReach, supportsOf, cellPoint, picturedAt, trusted, localFit, worst, localSearch, gateOf, localWith, localAt, localVisit, localAll, localRound, localFrom, localLimit, localRun, localLeft, localAfter}
+use Rattle.passes.specs.declared.LargestResidual.{LargestResidual}
+use Rattle.binary32.specs.Ranges.{allFinite}
+use Rattle.written_places.specs.Written.{Written, Rise, sheetWith, labelledIn, seenIn, placesIn, usedIn, attachedIn, clearedIn}
+use Rattle.written_places.specs.Passes.{AfterIn, afterOf, gatheredIn, edgesIn, resultIn, tryIn, oneAttached, oneMissed, oneAmbiguous, oneEdge, GrowStateIn, growStateOf, enqueuedIn, enqueuedAtIn, spreadIn, seededFromIn, missedIn, growWithIn, growAtIn, growVisitIn, growFromIn, growRunIn, growLeftIn, growAfterIn, FillStateIn, fillStateOf, fillCellsIn, fillWithIn, fillAtIn, fillVisitIn, fillAllIn, FillRoundsIn, fillFromIn, fillLeftIn, fillAfterIn, soundPoints, soundAnswers, quickFitWith, quickFitFrom, quickFit, LocalStateIn, localStateOf, localCellsIn, supportsIn, localFitIn, withResidualsIn, localWithIn, localAtIn, localVisitIn, localAllIn, LocalRoundsIn, localFromIn, localLeftIn, localAfterIn}
+use Rattle.written_places.proofs.Written.{rise-put, attached-so, hole-so, ambiguous-so, cleared-so, label-so, seen-so, labelled-so, places-so, box-so, count-so, used-so, rim-so}
+
+-- ---- one cell
+
+module _ (cs : Corners) (w : List Written) (r : Rise 0 w) where
+  gathered-so : (radius : Float) (at : Position) → gathered cs (sheetWith w) radius at ≡ gatheredIn cs w radius at
+  unfolding gathered gatheredIn
+  gathered-so radius at =
+      ap (λ (free : ℕ → Bool). firstTwo (candidatesAt (λ k. cs .corner k .position) free (cs .count) at radius)) (fun-ext (λ k. ap not (used-so w r k)))
+
+  edges-so : (tol : Tolerances) (c : Cell) (k : ℕ) → edgesOf cs (sheetWith w) tol c k ≡ edgesIn cs w tol c k
+  unfolding edgesOf edgesIn
+  edges-so tol c k =
+      ap (λ (seen : Cell → Seen). cond (passes (verdictOf seen tol c (cs .corner k))) (TryCellResult.Attached k) TryCellResult.EdgeRejected) (seen-so w (cs .corner))
+
+  result-so : (tol : Tolerances) (c : Cell) (choice : CandidateChoice) → resultOf cs (sheetWith w) tol c choice ≡ resultIn cs w tol c choice
+  unfolding resultOf resultIn
+  result-so tol c CandidateChoice.Nothing = refl
+  result-so tol c CandidateChoice.Ambiguous = refl
+  result-so tol c (CandidateChoice.Unique k) = edges-so tol c k
+
+  try-so : (tol : Tolerances) (search : Search) (c : Cell) (at : Position) → tryAt cs (sheetWith w) tol search c at ≡ tryIn cs w tol search c at
+  unfolding tryAt tryIn
+  try-so tol search c at =
+      ap (λ found. resultOf cs (sheetWith w) tol c (choiceBy (search .rule) found (search .«ambiguity_factor»))) (gathered-so (search .«search_r») at)
+      ∙ result-so tol c (choiceBy (search .rule) (gatheredIn cs w (search .«search_r») at) (search .«ambiguity_factor»))
+
+-- ---- grow
+
+enqueued-so : (w : List Written) (c : Cell) (queued : List ℕ) → enqueued (sheetWith w) c queued ≡ enqueuedIn w c queued
+unfolding enqueued wanted enqueuedIn
+enqueued-so w c queued =
+    ap (λ (labelled : Cell → Bool). cond (onSheet c && (not (labelled c) && not (member (placeOf c) queued))) (queued ++ (placeOf c ∷ [])) queued) (labelled-so w)
+
+enqueued-at-so : (w : List Written) (c : Cell) (os : List Offset) (queued : List ℕ) → enqueuedAt (sheetWith w) c os queued ≡ enqueuedAtIn w c os queued
+unfolding enqueuedAt enqueuedAtIn
+enqueued-at-so w c [] queued = refl
+enqueued-at-so w c (o ∷ os) queued =
+    ap (enqueuedAt (sheetWith w) c os) (enqueued-so w (moved c o) queued) ∙ enqueued-at-so w c os (enqueuedIn w (moved c o) queued)
+
+spread-so : (w : List Written) (c : Cell) (queued : List ℕ) → spread (sheetWith w) c queued ≡ spreadIn w c queued
+unfolding spread
+spread-so w c queued = enqueued-at-so w c cardinalOffsets queued
+
+seeded-so : (w : List Written) (ps queued : List ℕ) → seededFrom (sheetWith w) ps queued ≡ seededFromIn w ps queued
+unfolding seededFrom seededFromIn
+seeded-so w [] queued = refl
+seeded-so w (p ∷ ps) queued = ap (seededFrom (sheetWith w) ps) (spread-so w (cellOf p) queued) ∙ seeded-so w ps (spreadIn w (cellOf p) queued)
+
+missed-so : (c : Cell) (s : GrowStateIn) → missed c (growStateOf s) ≡ growStateOf (missedIn c s)
+missed-so c s = λ t. record { sheet = hole-so (s .sheet) c t; queued = s .queued; made = s .made; counts = oneMissed (s .counts) }
+
+grow-with-so : (c : Cell) (r : TryCellResult) (s : GrowStateIn) → growWith c r (growStateOf s) ≡ growStateOf (growWithIn c r s)
+unfolding growWith growWithIn
+grow-with-so c TryCellResult.NoCandidates s = missed-so c s
+grow-with-so c TryCellResult.Ambiguous s = λ t. record { sheet = ambiguous-so (s .sheet) c t; queued = s .queued; made = s .made; counts = oneAmbiguous (s .counts) }
+grow-with-so c TryCellResult.EdgeRejected s = λ t. record { sheet = hole-so (s .sheet) c t; queued = s .queued; made = s .made; counts = oneEdge (s .counts) }
+grow-with-so c (TryCellResult.Attached k) s =
+    let more : spread (attached (sheetWith (s .sheet)) c k) c (s .queued) ≡ spreadIn (attachedIn (s .sheet) c k) c (s .queued) =
+    ap (λ (sheet : List ℕ). spread sheet c (s .queued)) (attached-so (s .sheet) c k) ∙ spread-so (attachedIn (s .sheet) c k) c (s .queued) in
+    λ t. record { sheet = attached-so (s .sheet) c k t; queued = more t; made = s .made ++ (placeOf c ∷ []); counts = oneAttached (s .counts) }
+
+grow-with-rises : (c : Cell) (r : TryCellResult) (s : GrowStateIn) → Rise 0 (s .sheet) → Rise 0 (growWithIn c r s .sheet)
+unfolding growWithIn
+grow-with-rises c TryCellResult.NoCandidates s h = rise-put (s .sheet) (placeOf c) _ h
+grow-with-rises c TryCellResult.Ambiguous s h = rise-put (s .sheet) (placeOf c) _ h
+grow-with-rises c TryCellResult.EdgeRejected s h = rise-put (s .sheet) (placeOf c) _ h
+grow-with-rises c (TryCellResult.Attached k) s h = rise-put (s .sheet) (placeOf c) _ h
+
+module _ (cs : Corners) (set : Settings) (p : GrowParams) where
+  grow-at-so : (c : Cell) (at : Prediction) (s : GrowStateIn) → Rise 0 (s .sheet) → growAt cs set p c at (growStateOf s) ≡ growStateOf (growAtIn cs set p c at s)
+  unfolding growAt growAtIn
+  grow-at-so c Prediction.NoNeighbour s h = missed-so c s
+  grow-at-so c (Prediction.At at) s h =
+      ap (λ (seen : Cell → Seen). growWith c (tryAt cs (sheetWith (s .sheet)) (tolerancesOf set) (searchOf set p (extrapolating seen c)) c at) (growStateOf s)) (seen-so (s .sheet) (cs .corner))
+      ∙ ap (λ (r : TryCellResult). growWith c r (growStateOf s)) (try-so cs (s .sheet) h (tolerancesOf set) (searchOf set p (extrapolating (seenIn (cs .corner) (s .sheet)) c)) c at)
+      ∙ grow-with-so c (tryIn cs (s .sheet) (tolerancesOf set) (searchOf set p (extrapolating (seenIn (cs .corner) (s .sheet)) c)) c at) s
+
+  grow-at-rises : (c : Cell) (at : Prediction) (s : GrowStateIn) → Rise 0 (s .sheet) → Rise 0 (growAtIn cs set p c at s .sheet)
+  unfolding growAtIn
+  grow-at-rises c Prediction.NoNeighbour s h = rise-put (s .sheet) (placeOf c) _ h
+  grow-at-rises c (Prediction.At at) s h =
+      grow-with-rises c (tryIn cs (s .sheet) (tolerancesOf set) (searchOf set p (extrapolating (seenIn (cs .corner) (s .sheet)) c)) c at) s h
+
+  grow-visit-so : (c : Cell) (s : GrowStateIn) → Rise 0 (s .sheet) → growVisit cs set p c (growStateOf s) ≡ growStateOf (growVisitIn cs set p c s)
+  unfolding growVisit growVisitIn
+  grow-visit-so c s h =
+      ap (λ (seen : Cell → Seen). growAt cs set p c (predictionOf seen (set .grid) c) (growStateOf s)) (seen-so (s .sheet) (cs .corner))
+      ∙ grow-at-so c (predictionOf (seenIn (cs .corner) (s .sheet)) (set .grid) c) s h
+
+  grow-visit-rises : (c : Cell) (s : GrowStateIn) → Rise 0 (s .sheet) → Rise 0 (growVisitIn cs set p c s .sheet)
+  unfolding growVisitIn
+  grow-visit-rises c s h = grow-at-rises c (predictionOf (seenIn (cs .corner) (s .sheet)) (set .grid) c) s h
+
+  grow-from-so : (m head : ℕ) (s : GrowStateIn) → Rise 0 (s .sheet)
+      → (growFrom cs set p m head (growStateOf s) ≡ growStateOf (growFromIn cs set p m head s)) × Rise 0 (growFromIn cs set p m head s .sheet)
+  unfolding growFrom growFromIn
+  grow-from-so zero head s h = (refl, h)
+  grow-from-so (suc m) head s h =
+      let c = cellOf (getD (s .queued) head 0) in
+      let next = growVisitIn cs set p c s in
+      let rest = grow-from-so m (head + 1) next (grow-visit-rises c s h) in
+      go (ltb head (length (s .queued))) (ap (growFrom cs set p m (head + 1)) (grow-visit-so c s h) ∙ rest .0) (rest .1)
+    where
+      go : (t : Bool) {a : GrowState} {b : GrowStateIn} → a ≡ growStateOf b → Rise 0 (b .sheet) → (cond t a (growStateOf s) ≡ growStateOf (cond t b s)) × Rise 0 (cond t b s .sheet)
+      go true e l = (e, l)
+      go false e l = (refl, h)
+
+  module _ (w : List Written) (h : Rise 0 w) where
+    start-so : startOf (sheetWith w) ≡ growStateOf (record { sheet = w; queued = seededFromIn w (placesIn w) []; made = []; counts = noCounts })
+    unfolding startOf
+    start-so =
+        let e : seededFrom (sheetWith w) _ [] ≡ seededFromIn w (placesIn w) [] = ap (λ (ps : List ℕ). seededFrom (sheetWith w) ps []) (places-so w h) ∙ seeded-so w (placesIn w) [] in
+        λ t. record { sheet = sheetWith w; queued = e t; made = []; counts = noCounts }
+
+    grow-run-so : (growRun cs set p (sheetWith w) ≡ growStateOf (growRunIn cs set p w)) × Rise 0 (growRunIn cs set p w .sheet)
+    unfolding growRun growRunIn
+    grow-run-so =
+        let start : GrowStateIn = record { sheet = w; queued = seededFromIn w (placesIn w) []; made = []; counts = noCounts } in
+        let r = grow-from-so (4 * cs .count) 0 start h in
+        (ap (growFrom cs set p (4 * cs .count) 0) start-so ∙ r .0, r .1)
+
+    pub grow-rises : Rise 0 (growAfterIn cs set p w .sheet)
+    unfolding growAfterIn
+    grow-rises = grow-run-so .1
+
+    pub grow-so : growAfter cs set p (sheetWith w) ≡ afterOf (growAfterIn cs set p w)
+    unfolding growAfter growAfterIn
+    grow-so =
+        let s = growRunIn cs set p w in
+        let rim = rim-so (s .sheet) (grow-run-so .1) 1 in
+        ap growLeft (grow-run-so .0) ∙ (λ t. record { answer = record { counts = s .counts; rim = rim t }; sheet = sheetWith (s .sheet); attached = s .made; visited = s .queued })
+
+-- ---- fill
+
+pub fill-cells-so : (w : List Written) → Rise 0 w → fillCells (sheetWith w) ≡ fillCellsIn w
+unfolding fillCells
+fill-cells-so w h = ap₂ (λ (box : LabelBox) (labelled : Cell → Bool). cellsOf (boxAndStrips box) labelled) (box-so w h) (labelled-so w)
+
+fill-with-so : (c : Cell) (r : TryCellResult) (s : FillStateIn) → fillWith c r (fillStateOf s) ≡ fillStateOf (fillWithIn c r s)
+unfolding fillWith fillWithIn
+fill-with-so c TryCellResult.NoCandidates s = refl
+fill-with-so c TryCellResult.Ambiguous s = refl
+fill-with-so c TryCellResult.EdgeRejected s = refl
+fill-with-so c (TryCellResult.Attached k) s = λ t. record { sheet = attached-so (s .sheet) c k t; made = s .made ++ (placeOf c ∷ []) }
+
+fill-with-rises : (c : Cell) (r : TryCellResult) (s : FillStateIn) → Rise 0 (s .sheet) → Rise 0 (fillWithIn c r s .sheet)
+unfolding fillWithIn
+fill-with-rises c TryCellResult.NoCandidates s h = h
+fill-with-rises c TryCellResult.Ambiguous s h = h
+fill-with-rises c TryCellResult.EdgeRejected s h = h
+fill-with-rises c (TryCellResult.Attached k) s h = rise-put (s .sheet) (placeOf c) _ h
+
+module _ (cs : Corners) (set : Settings) (p : FillParams) where
+  fill-at-so : (c : Cell) (at : Prediction) (s : FillStateIn) → Rise 0 (s .sheet) → fillAt cs set p c at (fillStateOf s) ≡ fillStateOf (fillAtIn cs set p c at s)
+  unfolding fillAt fillAtIn
+  fill-at-so c Prediction.NoNeighbour s h = refl
+  fill-at-so c (Prediction.At at) s h =
+      ap (λ (r : TryCellResult). fillWith c r (fillStateOf s)) (try-so cs (s .sheet) h (tolerancesOf set) (fillSearch set p) c at)
+      ∙ fill-with-so c (tryIn cs (s .sheet) (tolerancesOf set) (fillSearch set p) c at) s
+
+  fill-at-rises : (c : Cell) (at : Prediction) (s : FillStateIn) → Rise 0 (s .sheet) → Rise 0 (fillAtIn cs set p c at s .sheet)
+  unfolding fillAtIn
+  fill-at-rises c Prediction.NoNeighbour s h = h
+  fill-at-rises c (Prediction.At at) s h = fill-with-rises c (tryIn cs (s .sheet) (tolerancesOf set) (fillSearch set p) c at) s h
+
+  fill-visit-so : (c : Cell) (s : FillStateIn) → Rise 0 (s .sheet) → fillVisit cs set p c (fillStateOf s) ≡ fillStateOf (fillVisitIn cs set p c s)
+  unfolding fillVisit fillVisitIn
+  fill-visit-so c s h =
+      ap (λ (seen : Cell → Seen). fillAt cs set p c (predictionOf seen (set .grid) c) (fillStateOf s)) (seen-so (s .sheet) (cs .corner))
+      ∙ fill-at-so c (predictionOf (seenIn (cs .corner) (s .sheet)) (set .grid) c) s h
+
+  fill-visit-rises : (c : Cell) (s : FillStateIn) → Rise 0 (s .sheet) → Rise 0 (fillVisitIn cs set p c s .sheet)
+  unfolding fillVisitIn
+  fill-visit-rises c s h = fill-at-rises c (predictionOf (seenIn (cs .corner) (s .sheet)) (set .grid) c) s h
+
+  fill-all-so : (qs : List ℕ) (s : FillStateIn) → Rise 0 (s .sheet)
+      → (fillAll cs set p qs (fillStateOf s) ≡ fillStateOf (fillAllIn cs set p qs s)) × Rise 0 (fillAllIn cs set p qs s .sheet)
+  unfolding fillAll fillAllIn
+  fill-all-so [] s h = (refl, h)
+  fill-all-so (q ∷ qs) s h =
+      let rest = fill-all-so qs (fillVisitIn cs set p (cellOf q) s) (fill-visit-rises (cellOf q) s h) in
+      (ap (fillAll cs set p qs) (fill-visit-so (cellOf q) s h) ∙ rest .0, rest .1)
+
+  fill-round-so : (s : FillStateIn) → Rise 0 (s .sheet) → fillRound cs set p (fillStateOf s) ≡ fillStateOf (fillAllIn cs set p (fillCellsIn (s .sheet)) s)
+  unfolding fillRound
+  fill-round-so s h = ap (λ (qs : List ℕ). fillAll cs set p qs (fillStateOf s)) (fill-cells-so (s .sheet) h) ∙ fill-all-so (fillCellsIn (s .sheet)) s h .0
+
+  abbrev fillRoundsOf : FillRoundsIn → FillRounds
+  fillRoundsOf r = record { state = fillStateOf (r .state); rounds = r .rounds }
+
+  fill-from-so : (m : ℕ) (r : FillRoundsIn) → Rise 0 (r .state .sheet)
+      → (fillFrom cs set p m (fillRoundsOf r) ≡ fillRoundsOf (fillFromIn cs set p m r)) × Rise 0 (fillFromIn cs set p m r .state .sheet)
+  unfolding fillFrom fillFromIn
+  fill-from-so zero r h = (refl, h)
+  fill-from-so (suc m) r h =
+      let next : FillRoundsIn = record { state = fillAllIn cs set p (fillCellsIn (r .state .sheet)) (r .state); rounds = r .rounds + 1 } in
+      let up = fill-all-so (fillCellsIn (r .state .sheet)) (r .state) h .1 in
+      let e : record { state = fillRound cs set p (fillStateOf (r .state)); rounds = r .rounds + 1 } ≡ fillRoundsOf next = λ t. record { state = fill-round-so (r .state) h t; rounds = r .rounds + 1 } in
+      let rest = fill-from-so m next up in
+      let done = go (eqb (length (next .state .made)) (length (r .state .made))) next up rest in
+      (ap (λ (n : FillRounds). cond (eqb (length (n .state .made)) (length (r .state .made))) n (fillFrom cs set p m n)) e ∙ done .0, done .1)
+    where
+      go : (t : Bool) (next : FillRoundsIn) → Rise 0 (next .state .sheet) → {a : FillRounds} {b : FillRoundsIn} → (a ≡ fillRoundsOf b) × Rise 0 (b .state .sheet)
+          → (cond t (fillRoundsOf next) a ≡ fillRoundsOf (cond t next b)) × Rise 0 (cond t next b .state .sheet)
+      go true next up f = (refl, up)
+      go false next up f = f
+
+  module _ (w : List Written) (h : Rise 0 w) where
+    fill-run-so : (fillRun cs set p (sheetWith w) ≡ fillRoundsOf (fillFromIn cs set p (fillLimit (length (placesIn w)) (p .«max_iters»)) (record { state = record { sheet = w; made = [] }; rounds = 0 })))
+        × Rise 0 (fillFromIn cs set p (fillLimit (length (placesIn w)) (p .«max_iters»)) (record { state = record { sheet = w; made = [] }; rounds = 0 }) .state .sheet)
+    unfolding fillRun
+    fill-run-so =
+        let start : FillRoundsIn = record { state = record { sheet = w; made = [] }; rounds = 0 } in
+        let r = fill-from-so (fillLimit (length (placesIn w)) (p .«max_iters»)) start h in
+        (ap (λ (n : ℕ). fillFrom cs set p (fillLimit n (p .«max_iters»)) (fillRoundsOf start)) (count-so w h) ∙ r .0, r .1)
+
+    pub fill-rises : Rise 0 (fillAfterIn cs set p w .sheet)
+    unfolding fillAfterIn
+    fill-rises = fill-run-so .1
+
+    pub fill-so : fillAfter cs set p (sheetWith w) ≡ afterOf (fillAfterIn cs set p w)
+    unfolding fillAfter fillAfterIn
+    fill-so =
+        let r = fillFromIn cs set p (fillLimit (length (placesIn w)) (p .«max_iters»)) (record { state = record { sheet = w; made = [] }; rounds = 0 }) in
+        let rim = rim-so (r .state .sheet) (fill-run-so .1) 1 in
+        ap fillLeft (fill-run-so .0)
+        ∙ (λ t. record { answer = record { added = length (r .state .made); iterations = r .rounds; rim = rim t }; sheet = sheetWith (r .state .sheet); attached = r .state .made; visited = [] })
+
+-- ---- local
+
+pub local-cells-so : (depth : ℕ) (w : List Written) → Rise 0 w → localCells depth (sheetWith w) ≡ localCellsIn depth w
+unfolding localCells
+local-cells-so depth w h =
+    let ps = places-so w h in
+    let box = box-so w h in
+    λ t. cellsOf (localRegion depth (ps t) (box t)) (labelled-so w t)
+
+-- the fit
+quick-so : (cells corners : List Position) → homographyOf cells corners ≡ quickFit cells corners
+unfolding quickFit quickFitFrom quickFitWith unscaled answersOf
+quick-so cells corners =
+    let m = eliminated 8 (equationsOf cells corners) in
+    let b = answered 8 m in
+    let sound = sound-is (equationsOf cells corners) m b (soundAnswers m b) refl refl refl in
+    homography-is cells corners
+    ∙ (λ t. cond (sym (normal-finite cells) t && (sym (normal-finite corners) t && sym sound t)) (scaledOf (undone b (normalizationOf cells) (normalizationOf corners))) NoFit)
+
+local-fit-so : (cs : Corners) (w : List Written) (ps : List ℕ) → localFit (seenOf (cs .corner) (sheetWith w)) ps ≡ localFitIn cs w ps
+unfolding localFit localFitIn
+local-fit-so cs w ps =
+    ap (λ (seen : Cell → Seen). trusted seen ps (homographyOf (map (λ p. cellPoint (cellOf p)) ps) (map (picturedAt seen) ps))) (seen-so w (cs .corner))
+    ∙ ap (trusted (seenIn (cs .corner) w) ps) (quick-so (map (λ p. cellPoint (cellOf p)) ps) (map (picturedAt (seenIn (cs .corner) w)) ps))
+
+local-with-so : (c : Cell) (r : TryCellResult) (s : LocalStateIn) → localWith c r (localStateOf s) ≡ localStateOf (localWithIn c r s)
+unfolding localWith localWithIn
+local-with-so c TryCellResult.NoCandidates s = refl
+local-with-so c TryCellResult.Ambiguous s = refl
+local-with-so c TryCellResult.EdgeRejected s = refl
+local-with-so c (TryCellResult.Attached k) s =
+    let e : marksCleared (attached (sheetWith (s .sheet)) c k) c ≡ sheetWith (clearedIn (attachedIn (s .sheet) c k) c) =
+    ap (λ (sheet : List ℕ). marksCleared sheet c) (attached-so (s .sheet) c k) ∙ cleared-so (attachedIn (s .sheet) c k) c in
+    λ t. record { sheet = e t; made = s .made ++ (placeOf c ∷ []); counts = oneAttached (s .counts); largest = s .largest }
+
+local-with-rises : (c : Cell) (r : TryCellResult) (s : LocalStateIn) → Rise 0 (s .sheet) → Rise 0 (localWithIn c r s .sheet)
+unfolding localWithIn
+local-with-rises c TryCellResult.NoCandidates s h = h
+local-with-rises c TryCellResult.Ambiguous s h = h
+local-with-rises c TryCellResult.EdgeRejected s h = h
+local-with-rises c (TryCellResult.Attached k) s h = rise-put (attachedIn (s .sheet) c k) (placeOf c) _ (rise-put (s .sheet) (placeOf c) _ h)
+
+module _ (cs : Corners) (set : Settings) (p : LocalExtensionParams) where
+  local-at-so : (c : Cell) (f : LocalFit) (s : LocalStateIn) → Rise 0 (s .sheet)
+      → (localAt cs set p c f (localStateOf s) ≡ localStateOf (localAtIn cs set p c f s)) × Rise 0 (localAtIn cs set p c f s .sheet)
+  unfolding localAt localAtIn
+  local-at-so c none s h = (refl, h)
+  local-at-so c (fitted m rs) s h =
+      let found = tryIn cs (s .sheet) (tolerancesOf set) (localSearch set p) c (applied m (cellPoint c)) in
+      let e =
+      ap (λ (r : TryCellResult). localWith c r (localStateOf (withResidualsIn rs s))) (try-so cs (s .sheet) h (tolerancesOf set) (localSearch set p) c (applied m (cellPoint c)))
+      ∙ local-with-so c found (withResidualsIn rs s) in
+      go (lt (gateOf set p) (worst (ofBits binary32 0) rs)) e (local-with-rises c found (withResidualsIn rs s) h)
+    where
+      go : (t : Bool) {a : LocalState} {b : LocalStateIn} → a ≡ localStateOf b → Rise 0 (b .sheet)
+          → (cond t (localStateOf (withResidualsIn rs s)) a ≡ localStateOf (cond t (withResidualsIn rs s) b)) × Rise 0 (cond t (withResidualsIn rs s) b .sheet)
+      go true e l = (refl, h)
+      go false e l = (e, l)
+
+  local-visit-so : (c : Cell) (s : LocalStateIn) → Rise 0 (s .sheet)
+      → (localVisit cs set p c (localStateOf s) ≡ localStateOf (localVisitIn cs set p c s)) × Rise 0 (localVisitIn cs set p c s .sheet)
+  unfolding localVisit localVisitIn supportsOf
+  local-visit-so c s h =
+      let ps = supportsIn c (s .sheet) in
+      let f : localFit (seenOf (cs .corner) (sheetWith (s .sheet))) (supportsOf c (sheetWith (s .sheet))) ≡ localFitIn cs (s .sheet) ps =
+      ap (λ (places : List ℕ). localFit (seenOf (cs .corner) (sheetWith (s .sheet))) (take 4 (byReach c places))) (places-so (s .sheet) h) ∙ local-fit-so cs (s .sheet) ps in
+      let r = local-at-so c (localFitIn cs (s .sheet) ps) s h in
+      (ap (λ (x : LocalFit). localAt cs set p c x (localStateOf s)) f ∙ r .0, r .1)
+
+  local-all-so : (qs : List ℕ) (s : LocalStateIn) → Rise 0 (s .sheet)
+      → (localAll cs set p qs (localStateOf s) ≡ localStateOf (localAllIn cs set p qs s)) × Rise 0 (localAllIn cs set p qs s .sheet)
+  unfolding localAll localAllIn
+  local-all-so [] s h = (refl, h)
+  local-all-so (q ∷ qs) s h =
+      let one = local-visit-so (cellOf q) s h in
+      let rest = local-all-so qs (localVisitIn cs set p (cellOf q) s) (one .1) in
+      (ap (localAll cs set p qs) (one .0) ∙ rest .0, rest .1)
+
+  local-round-so : (s : LocalStateIn) → Rise 0 (s .sheet) → localRound cs set p (localStateOf s) ≡ localStateOf (localAllIn cs set p (localCellsIn (depthOf p) (s .sheet)) s)
+  unfolding localRound
+  local-round-so s h =
+      ap (λ (qs : List ℕ). localAll cs set p qs (localStateOf s)) (local-cells-so (depthOf p) (s .sheet) h) ∙ local-all-so (localCellsIn (depthOf p) (s .sheet)) s h .0
+
+  abbrev localRoundsOf : LocalRoundsIn → LocalRounds
+  localRoundsOf r = record { state = localStateOf (r .state); rounds = r .rounds }
+
+  local-from-so : (m : ℕ) (r : LocalRoundsIn) → Rise 0 (r .state .sheet)
+      → (localFrom cs set p m (localRoundsOf r) ≡ localRoundsOf (localFromIn cs set p m r)) × Rise 0 (localFromIn cs set p m r .state .sheet)
+  unfolding localFrom localFromIn
+  local-from-so zero r h = (refl, h)
+  local-from-so (suc m) r h =
+      let next : LocalRoundsIn = record { state = localAllIn cs set p (localCellsIn (depthOf p) (r .state .sheet)) (r .state); rounds = r .rounds + 1 } in
+      let up = local-all-so (localCellsIn (depthOf p) (r .state .sheet)) (r .state) h .1 in
+      let e : record { state = localRound cs set p (localStateOf (r .state)); rounds = r .rounds + 1 } ≡ localRoundsOf next = λ t. record { state = local-round-so (r .state) h t; rounds = r .rounds + 1 } in
+      let rest = local-from-so m next up in
+      let done = go (eqb (length (next .state .made)) (length (r .state .made))) next up rest in
+      (ap (λ (n : LocalRounds). cond (eqb (length (n .state .made)) (length (r .state .made))) n (localFrom cs set p m n)) e ∙ done .0, done .1)
+    where
+      go : (t : Bool) (next : LocalRoundsIn) → Rise 0 (next .state .sheet) → {a : LocalRounds} {b : LocalRoundsIn} → (a ≡ localRoundsOf b) × Rise 0 (b .state .sheet)
+          → (cond t (localRoundsOf next) a ≡ localRoundsOf (cond t next b)) × Rise 0 (cond t next b .state .sheet)
+      go true next up f = (refl, up)
+      go false next up f = f
+
+  abbrev localStart : List Written → LocalRoundsIn
+  localStart w = record { state = record { sheet = w; made = []; counts = noCounts; largest = LargestResidual.Nothing }; rounds = 0 }
+
+  module _ (w : List Written) (h : Rise 0 w) where
+    local-run-so : (localRun cs set p (sheetWith w) ≡ localRoundsOf (localFromIn cs set p (localLimit (length (placesIn w)) (p .«max_iters»)) (localStart w)))
+        × Rise 0 (localFromIn cs set p (localLimit (length (placesIn w)) (p .«max_iters»)) (localStart w) .state .sheet)
+    unfolding localRun
+    local-run-so =
+        let r = local-from-so (localLimit (length (placesIn w)) (p .«max_iters»)) (localStart w) h in
+        (ap (λ (n : ℕ). localFrom cs set p (localLimit n (p .«max_iters»)) (localRoundsOf (localStart w))) (count-so w h) ∙ r .0, r .1)
+
+    pub local-rises : Rise 0 (localAfterIn cs set p w .sheet)
+    unfolding localAfterIn
+    local-rises = local-run-so .1
+
+    pub local-so : localAfter cs set p (sheetWith w) ≡ afterOf (localAfterIn cs set p w)
+    unfolding localAfter localAfterIn
+    local-so =
+        let r = localFromIn cs set p (localLimit (length (placesIn w)) (p .«max_iters»)) (localStart w) in
+        let rim = rim-so (r .state .sheet) (local-run-so .1) (depthOf p) in
+        ap (localLeft (depthOf p)) (local-run-so .0)
+        ∙ (λ t. record {
+          answer = record { counts = r .state .counts; iterations = r .rounds; residual = r .state .largest; rim = rim t };
+          sheet = sheetWith (r .state .sheet);
+          attached = r .state .made;
+          visited = [];
+        })

@@ -1,0 +1,63 @@
+-- A list of calls on the sheet of some written places goes as its definition on these places says. Assumes nothing.
+use mathlib.Core.Path.{_≡_, refl, sym, ap, _∙_, subst}
+use mathlib.Core.List.{List, [], _∷_}
+use Prim.Native.Nat.{ℕ}
+use Rattle.refusal.specs.declared.Refusal.{Refusal}
+use Rattle.arguments.specs.declared.Settings.{Settings}
+use Rattle.passes.specs.Outcome.{After, Outcome, refused, done}
+use Rattle.passes.specs.Step.{CornerLists}
+use Rattle.passes.specs.Run.{PassCall, grow, fill, local, Call, PassStats, growStats, fillStats, localStats, step, sheetAfter, run, sheetOf}
+use Rattle.invariants.specs.Calls.{cornersIn, Standing, CallInside, answering, afterPass, afterCall}
+use Rattle.invariants.proofs.Run.{standing-step, fit-accepts}
+use Rattle.written_places.specs.Written.{Written, Rise, sheetWith}
+use Rattle.written_places.specs.Passes.{AfterIn, afterOf}
+use Rattle.written_places.specs.Run.{afterPassIn, Asked, runs, refuses, callsOf, Goes, ends, one-runs, one-refused, runIn}
+use Rattle.written_places.proofs.Passes.{grow-so, grow-rises, fill-so, fill-rises, local-so, local-rises}
+
+module _ (l : CornerLists) (w : List Written) (h : Rise 0 w) (set : Settings) where
+  after-so : (p : PassCall) → afterPass l (sheetWith w) set p ≡ afterOf (afterPassIn l w set p)
+  unfolding afterPassIn
+  after-so (grow p) = ap (answering growStats) (grow-so (cornersIn l) set p w h)
+  after-so (fill p) = ap (answering fillStats) (fill-so (cornersIn l) set p w h)
+  after-so (local p) = ap (answering localStats) (local-so (cornersIn l) set p w h)
+
+  after-rises : (p : PassCall) → Rise 0 (afterPassIn l w set p .sheet)
+  unfolding afterPassIn
+  after-rises (grow p) = grow-rises (cornersIn l) set p w h
+  after-rises (fill p) = fill-rises (cornersIn l) set p w h
+  after-rises (local p) = local-rises (cornersIn l) set p w h
+
+-- one call that runs
+step-so : (l : CornerLists) (w : List Written) → Rise 0 w → (c : Call) → Standing l (sheetWith w) → CallInside l c → step l (sheetWith w) c ≡ done (afterOf (afterPassIn l w (c .settings) (c .pass)))
+step-so l w h c s f = fit-accepts l (sheetWith w) c s f .done-so ∙ ap done (after-so l w h (c .settings) (c .pass))
+
+-- what holds of a list of calls
+pub record Went (l : CornerLists) (w : List Written) (qs : List Asked) : Type 0 where
+  pub run-so : run l (sheetWith w) (callsOf qs) ≡ runIn l w qs .outcomes
+  pub left-so : sheetOf l (sheetWith w) (callsOf qs) ≡ sheetWith (runIn l w qs .left)
+  pub left-rises : Rise 0 (runIn l w qs .left)
+
+pub went : (l : CornerLists) (qs : List Asked) (w : List Written) → Rise 0 w → Standing l (sheetWith w) → Goes l qs → Went l w qs
+unfolding run sheetOf callsOf runIn
+went l [] w h s ends = record { run-so = refl; left-so = refl; left-rises = h }
+went l (runs c ∷ qs) w h s (one-runs f g) =
+    let a = afterPassIn l w (c .settings) (c .pass) in
+    let e = step-so l w h c s f in
+    let next : sheetAfter (sheetWith w) (step l (sheetWith w) c) ≡ sheetWith (a .sheet) = ap (sheetAfter (sheetWith w)) e in
+    let rest = went l qs (a .sheet) (after-rises l w h (c .settings) (c .pass)) (subst (Standing l) next (standing-step l (sheetWith w) s c)) g in
+    let all = ap (λ (sheet : List ℕ). run l sheet (callsOf qs)) next ∙ rest .run-so in
+    record {
+      run-so = λ t. e t ∷ all t;
+      left-so = ap (λ (sheet : List ℕ). sheetOf l sheet (callsOf qs)) next ∙ rest .left-so;
+      left-rises = rest .left-rises;
+    }
+went l (refuses c r ∷ qs) w h s (one-refused f g) =
+    let e = f (sheetWith w) s in
+    let next : sheetAfter (sheetWith w) (step l (sheetWith w) c) ≡ sheetWith w = ap (sheetAfter (sheetWith w)) e in
+    let rest = went l qs w h s g in
+    let all = ap (λ (sheet : List ℕ). run l sheet (callsOf qs)) next ∙ rest .run-so in
+    record {
+      run-so = λ t. e t ∷ all t;
+      left-so = ap (λ (sheet : List ℕ). sheetOf l sheet (callsOf qs)) next ∙ rest .left-so;
+      left-rises = rest .left-rises;
+    }
