@@ -3,3 +3,4 @@ pub mod Chains
 pub mod Tests
 pub mod Laws
 pub mod Pairing
+pub mod Meaning

@@ -3,3 +3,4 @@ pub mod Arguments
 pub mod Accepted
 pub mod Asked
 pub mod Front
+pub mod Meaning

@@ -18,7 +18,7 @@ use Rattle.sheet.specs.declared.Cell.{Cell}
 use Rattle.sheet.specs.declared.Seen.{Seen}
 use Rattle.labels.specs.Labelled.{isLabelled, labelledPlaces, labelCount}
 use Rattle.labels.proofs.Below.{both, passing-few}
-use Rattle.arguments.specs.Accepted.{PassInside, Accepted}
+use Rattle.arguments.specs.Accepted.{PassInside}
 use Rattle.arguments.specs.declared.Settings.{Settings}
 use Rattle.arguments.specs.declared.FillParams.{FillParams}
 use Rattle.arguments.specs.declared.LocalExtensionParams.{LocalExtensionParams}
@@ -29,11 +29,10 @@ use Rattle.passes.specs.declared.LargestResidual.{LargestResidual}
 use Rattle.passes.specs.Grow.{noCounts, growRun, growAfter}
 use Rattle.passes.specs.Fill.{FillState, fillRound, FillRounds, fillFrom, fillLimit, fillRun, fillAfter}
 use Rattle.passes.specs.Local.{depthOf, localCells, supportsOf, cellPoint, picturedAt, residualOf, residualsOf, LocalFit, none, fitted, trusted, localFit, LocalState, recorded, recordedAll, worst, withResiduals, gateOf, localWith, localAt, localVisit, localAll, localRound, LocalRounds, localFrom, localLimit, localRun, localAfter}
-use Rattle.passes.specs.Step.{CornerLists, lentOf}
-use Rattle.passes.specs.Run.{PassCall, grow, fill, local, Call, PassStats}
+use Rattle.passes.specs.Run.{PassCall, grow, fill, local}
 use Rattle.invariants.specs.Calls.{passOf, afterPass, afterCall, attachedCount}
 use Rattle.invariants.proofs.Run.{call-ran}
-use Rattle.bounds.specs.Bounds.{FewCounts, FiniteFloat, FiniteResidual, Small, small-grow, small-fill, small-local}
+use Rattle.bounds.specs.Bounds.{FewCounts, FiniteFloat, FiniteResidual, Small, small-grow, small-fill, small-local, SmallAnswers}
 use Rattle.bounds.proofs.Counts.{total, grow-counts, Turned, local-from}
 
 -- ---- fill's rounds
@@ -159,7 +158,7 @@ local-limit-few n limit l = go (ltb n 4)
     go false = l
 
 -- What a call that is not refused says is small.
-pub small : (l : CornerLists) (sheet : List ℕ) (c : Call) → Accepted (lentOf l sheet (c .rooms)) (c .settings) (passOf (c .pass)) → Small (afterCall l sheet c .answer)
+pub small : SmallAnswers
 unfolding growAfter fillAfter localAfter fillRun localRun labelCount labelledPlaces
 small l sheet c w = go (c .pass) (w .pass-inside) (let r = call-ran l sheet c w in omega (arith, r .counted, r .extended .count, passing-few (λ p. isLabelled (getD (afterCall l sheet c .sheet) p 0)) 16384))
   where

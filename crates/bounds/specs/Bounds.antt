@@ -1,16 +1,20 @@
 -- How large the numbers of a pass line can get (document 01, "Frame and result": rounds 0 to 64; the sheet has 16,384 cells). Definitions only.
 use mathlib.Core.Path.{_≡_}
 use mathlib.Core.Bool.{true}
+use mathlib.Core.List.{List}
 use Prim.Native.Nat.{ℕ, _≤_}
 use lib.Dec.{T}
 use lib.Ieee.{Float, binary32, fits}
 use Rattle.binary32.specs.Ranges.{isFinite}
+use Rattle.arguments.specs.Accepted.{Accepted}
 use Rattle.passes.specs.declared.Counts.{Counts}
 use Rattle.passes.specs.declared.GrowStats.{GrowStats}
 use Rattle.passes.specs.declared.FillStats.{FillStats}
 use Rattle.passes.specs.declared.LocalStats.{LocalStats}
 use Rattle.passes.specs.declared.LargestResidual.{LargestResidual}
-use Rattle.passes.specs.Run.{PassStats, growStats, fillStats, localStats}
+use Rattle.passes.specs.Step.{CornerLists, lentOf}
+use Rattle.passes.specs.Run.{Call, PassStats, growStats, fillStats, localStats}
+use Rattle.invariants.specs.Calls.{passOf, afterCall}
 
 -- no count is above m
 pub record FewCounts (m : ℕ) (c : Counts) : Type 0 where
@@ -34,3 +38,9 @@ pub data Small : PassStats → Type 0 where
   small-grow : {s : GrowStats} → FewCounts 1048576 (s .counts) → Small (growStats s)
   small-fill : {s : FillStats} → s .added ≤ 1048576 → s .iterations ≤ 64 → Small (fillStats s)
   small-local : {s : LocalStats} → FewCounts 1048576 (s .counts) → s .iterations ≤ 64 → FiniteResidual (s .residual) → Small (localStats s)
+
+-- so it is for every call that is not refused
+abbrev pub SmallAnswers : Type 0
+SmallAnswers =
+    (l : CornerLists) (sheet : List ℕ) (c : Call) → Accepted (lentOf l sheet (c .rooms)) (c .settings) (passOf (c .pass))
+    → Small (afterCall l sheet c .answer)

@@ -47,11 +47,18 @@ unfolding choiceBy gathered
 chosen ChoiceRule.Unambiguous cs sheet radius factor p k e = chosen-unambiguous (λ k. cs .corner k .position) (unlabelledOn sheet) (cs .count) p radius factor k e
 chosen ChoiceRule.WithFloor cs sheet radius factor p k e = chosen-with-floor (λ k. cs .corner k .position) (unlabelledOn sheet) (cs .count) p radius factor k e
 
--- the edges, by their verdict
-module _ (cs : Corners) (sheet : List ℕ) (tol : Tolerances) (c : Cell) (k : ℕ) (v : EdgeVerdict) (e : verdictOf (seenOf (cs .corner) sheet) tol c (cs .corner k) ≡ v) where
-  pub edges-are : edgesOf cs sheet tol c k ≡ cond (passes v) (TryCellResult.Attached k) TryCellResult.EdgeRejected
+-- the edges, by whether the verdict on the chosen corner passes
+module _ (cs : Corners) (sheet : List ℕ) (tol : Tolerances) (c : Cell) (k : ℕ) {candidate : Corner} {v : EdgeVerdict} {b : Bool}
+    (at : candidate ≡ cs .corner k) (is : v ≡ verdictOf (seenOf (cs .corner) sheet) tol c candidate) (e : b ≡ passes v) where
+  edges-are : edgesOf cs sheet tol c k ≡ cond b (TryCellResult.Attached k) TryCellResult.EdgeRejected
   unfolding edgesOf
-  edges-are = ap (λ (w : EdgeVerdict). cond (passes w) (TryCellResult.Attached k) TryCellResult.EdgeRejected) e
+  edges-are = rw (e, is, at)
+
+  pub edges-refuse : b ≡ false → TryCellResult.EdgeRejected ≡ edgesOf cs sheet tol c k
+  edges-refuse f = sym (edges-are ∙ rw f)
+
+  pub edges-pass : b ≡ true → TryCellResult.Attached k ≡ edgesOf cs sheet tol c k
+  edges-pass f = sym (edges-are ∙ rw f)
 
 -- what is found, by what was gathered
 pub tried-with : (cs : Corners) (sheet : List ℕ) (tol : Tolerances) (search : Search) (c : Cell) (p : Position) {candidates : Candidates} {r : TryCellResult}

@@ -4,7 +4,6 @@ ghost use mathlib.Core.Path.{_≡_};
 ghost use Rattle.extension_common.specs.TryCell.{cornersOf, tryAt, Ready, Gathered, Chosen, edgesOf, choiceBy, resultOf};
 use grow::CandidateChoice;
 use grow::Candidates;
-use positions_policy::EdgeVerdict;
 use positions_policy::Tolerances;
 use sheet::Cell;
 use sheet::Position;
@@ -83,7 +82,7 @@ pub fn try_candidates(
     }
 }
 
-// The edges of a chosen corner: refused, or the corner is to be attached.
+// The edges of a chosen corner: it does not pass, or it is to be attached.
 fn try_edges(
     xs: &[f32],
     ys: &[f32],
@@ -98,9 +97,8 @@ fn try_edges(
 {
     let candidate = sheet::corner_at(xs, ys, pitches, k);
     let verdict = positions_policy::any_cardinal_edge_ok(xs, ys, pitches, sheet, c, candidate, tol);
-    match verdict {
-        EdgeVerdict::Refused => TryCellResult::EdgeRejected,
-        EdgeVerdict::Accepted => TryCellResult::Attached(k),
-        EdgeVerdict::NonePresent => TryCellResult::Attached(k),
+    if !positions_policy::passes(verdict) {
+        return TryCellResult::EdgeRejected;
     }
+    TryCellResult::Attached(k)
 }

@@ -38,7 +38,7 @@ use Rattle.passes.specs.declared.Counts.{Counts}
 use Rattle.passes.specs.declared.GrowAnswer.{GrowAnswer}
 use Rattle.passes.proofs.Over.{over-length, over-at, over-read, over-own, over-put, over-over}
 use Rattle.passes.proofs.Queue.{more-length, spread-longer, seeded-longer}
-use Rattle.passes.proofs.Enough.{Fit, fit-accepted, Going, Free, found-free, nextOf, next-on, room-left, slot-left, queue-few, made-few, start-going, visit-going, from-ended, from-next, labels-few}
+use Rattle.passes.proofs.Enough.{Belongs, belongs-accepted, Going, Free, found-free, nextOf, next-on, room-left, slot-left, queue-few, made-few, start-going, visit-going, from-ended, from-next, labels-few}
 use Rattle.grow_queue.specs.Queue.{Flagged, Room, QueueHeld, Unqueued, seeded}
 use Rattle.grow_queue.proofs.Laws.{holds-read, holds-length}
 use Rattle.arguments.specs.Front.{over}
@@ -233,7 +233,7 @@ pub record Running (xs ys pitches : List Float) (set : Settings) (p : GrowParams
   pub rest : growFrom (cornersOf xs ys pitches) set p (4 * length xs - head) head state ≡ growRun (cornersOf xs ys pitches) set p sheet
 
 module _ {xs ys pitches : List Float} {sheet queue news used seen : List ℕ} {tail : ℕ} (w : Startable xs ys pitches sheet queue news used seen tail) where
-  start-fit : Fit (cornersOf xs ys pitches) sheet
+  start-fit : Belongs (cornersOf xs ys pitches) sheet
   start-fit = record { long = w .given .long; few = w .few; known = w .given .known; one-cell = w .one-cell }
 
   start-in : tail ≤ length queue
@@ -351,7 +351,7 @@ module _ (xs ys pitches : List Float) (set : Settings) (p : GrowParams) (sheet q
   module _ (a : Accepted (lent xs ys pitches sheet (length queue) (length news)) set (Pass.Grow p)) where
     seeds-few : 4 * labelCount sheet ≤ length queue
     unfolding queueNeeded
-    seeds-few = omega (arith, a .queue-long, labels-few (fit-accepted a))
+    seeds-few = omega (arith, a .queue-long, labels-few (belongs-accepted a))
 
     -- the queue has room for the seeds
     pub call-unqueued : {seen : List ℕ} → Flagged [] seen → Unqueued sheet queue seen

@@ -5,4 +5,6 @@ pub mod Waiting
 pub mod Grow
 pub mod Fill
 pub mod Local
+pub mod Marks
+pub mod GrowMarks
 pub mod Run

@@ -1,13 +1,21 @@
 -- Laws of every list of calls, refused ones among them, whatever their factors: after each call the corners and the sheet belong together and
 -- no corner holds two cells, the given labels are kept, and each call that ran has its history; so each new corner had an accepted edge to a
--- labelled cardinal neighbour, or no such neighbour, when attached. A call whose numbers and buffers are right is not refused in mid-list.
+-- labelled cardinal neighbour, or no such neighbour, when attached. Only grow sets marks, and only local clears them. A call whose numbers and
+-- buffers are right is not refused in mid-list.
 -- Assumes nothing.
 use mathlib.Core.Path.{_≡_, refl, sym, ap, _∙_, subst}
-use mathlib.Core.List.{List, [], _∷_}
+use mathlib.Core.List.{List, [], _∷_, List·Memᴰ, List·Memᴰ·not-nil, List·Memᴰ·append-cases, Memᴰ·append-left, Memᴰ·append-right}
+use mathlib.Core.Logic.{inr, ⊎-elim}
 use Prim.Native.Nat.{ℕ, _<_, _≤_}
 use native.Mathlib.Nat.{not-suc-le-zero}
 use lib.ListN.{length}
 use Rattle.refusal.specs.declared.Refusal.{Refusal}
+use Rattle.sheet.specs.Cells.{cellOf}
+use Rattle.sheet.specs.Words.{labelAt}
+use Rattle.sheet.specs.declared.Cell.{Cell}
+use Rattle.sheet.specs.declared.Label.{Label}
+use Rattle.sheet.proofs.Words.{no-corner}
+use Rattle.labels.specs.Labelled.{LabelledCell}
 use Rattle.arguments.specs.Arguments.{checked}
 use Rattle.arguments.specs.Accepted.{Accepted}
 use Rattle.arguments.specs.declared.Checked.{Checked}
@@ -20,13 +28,18 @@ use Rattle.passes.specs.Local.{localAfter}
 use Rattle.passes.specs.Step.{CornerLists, lentOf, unless, growStep, fillStep, localStep}
 use Rattle.passes.specs.Run.{PassCall, grow, fill, local, Call, PassStats, growStats, fillStats, localStats, renamed, stepAs, step, sheetAfter, run, sheetOf}
 use Rattle.passes.specs.History.{History}
+use Rattle.passes.specs.Changes.{NoMarks}
+use Rattle.passes.proofs.Changes.{same-marks}
 use Rattle.invariants.specs.Kept.{Sound, Kept, Extended, Histories, before, pass, AttachedInTurn}
-use Rattle.invariants.specs.Calls.{cornersIn, Standing, passOf, checkedCall, answering, afterPass, afterCall, attachedCount, Ran, Goes, ended, refuses, runs, attachedIn, Invariants, CallInside, Accepts}
-use Rattle.invariants.proofs.Extended.{extended-marked, extended-then}
+use Rattle.invariants.specs.Calls.{cornersIn, Standing, passOf, checkedCall, answering, afterPass, afterCall, attachedCount, Ran, Goes, ended, refuses, runs, attachedIn, Invariants, CallInside, Accepts, NeverRefused}
+use Rattle.invariants.specs.Marks.{MarksStand, NotIn, PassMarks, clearedBy, clearedIn, visitedIn, MarksOver}
+use Rattle.invariants.proofs.Extended.{still-labelled, extended-marked, extended-then}
 use Rattle.invariants.proofs.History.{history-extended, attached-at, histories-then, attached-in-turn}
 use Rattle.invariants.proofs.Grow.{grow-history}
 use Rattle.invariants.proofs.Fill.{fill-history}
 use Rattle.invariants.proofs.Local.{local-history}
+use Rattle.invariants.proofs.Marks.{stand-same, stood-same, stand-then, none-same, fill-marks, local-marks}
+use Rattle.invariants.proofs.GrowMarks.{grow-marks, grow-bare}
 
 -- ---- one call
 
@@ -69,6 +82,13 @@ module _ (l : CornerLists) (sheet : List ℕ) (set : Settings) (few : length (l 
   pass-counted (fill p) = refl
   pass-counted (local p) = local-history few s set p .counted
 
+  -- what each pass does to the marks
+  pass-marks : (p : PassCall) → PassMarks p sheet (afterPass l sheet set p)
+  unfolding growAfter fillAfter localAfter
+  pass-marks (grow p) = grow-marks (cornersIn l) set p sheet (record { long = s .long; few = few; known = s .known .known; one-cell = s .one-cell })
+  pass-marks (fill p) = fill-marks (cornersIn l) few sheet set p (s .long)
+  pass-marks (local p) = local-marks (cornersIn l) few sheet set p (s .long)
+
 -- a call that is not refused
 pub call-accepted : (l : CornerLists) (sheet : List ℕ) (c : Call) → checkedCall l sheet c ≡ Checked.Fine → Accepted (lentOf l sheet (c .rooms)) (c .settings) (passOf (c .pass))
 call-accepted l sheet c e = accepted (lentOf l sheet (c .rooms)) (c .settings) (passOf (c .pass)) e
@@ -77,7 +97,13 @@ pub call-ran : (l : CornerLists) (sheet : List ℕ) (c : Call) → Accepted (len
 call-ran l sheet c w =
     let s = standing-sound {l = l} (record { given = w .given; one-cell = w .one-cell }) in
     let h = pass-history l sheet (c .settings) (w .few) s (c .pass) in
-    record { history = h; extended = history-extended (w .few) s h; each = attached-at (w .few) s h; counted = pass-counted l sheet (c .settings) (w .few) s (c .pass) }
+    record {
+      history = h;
+      extended = history-extended (w .few) s h;
+      each = attached-at (w .few) s h;
+      counted = pass-counted l sheet (c .settings) (w .few) s (c .pass);
+      marks = pass-marks l sheet (c .settings) (w .few) s (c .pass);
+    }
 
 -- a call's outcome: refused, or it was accepted and ran
 pub data Outcomes (l : CornerLists) (sheet : List ℕ) (c : Call) : Outcome PassStats → Type 0 where
@@ -90,6 +116,48 @@ outcomes l sheet c = subst (Outcomes l sheet c) (sym (step-as l sheet c)) (go (c
     go : (k : Checked) → checkedCall l sheet c ≡ k → Outcomes l sheet c (unless k (afterCall l sheet c))
     go Checked.Fine e = let w = call-accepted l sheet c e in ran _ w (call-ran l sheet c w)
     go (Checked.Refused r) e = was-refused r
+
+-- ---- the marks over one call
+
+module _ {l : CornerLists} {c : Call} {sheet : List ℕ} {a : After PassStats} (r : Ran l c sheet a) where
+  -- marks that the call did not clear stand
+  call-stand : (d : Cell) → NotIn (clearedBy (c .pass) a) d → MarksStand sheet (a .sheet) d
+  call-stand d n = go (c .pass) (r .marks) n
+    where
+      go : (p : PassCall) → PassMarks p sheet a → NotIn (clearedBy p a) d → MarksStand sheet (a .sheet) d
+      go (grow p) m n = m .stand d
+      go (fill p) m n = stand-same (m d)
+      go (local p) m n = stand-same (m .others d n)
+
+  -- marks are new at visited cells only
+  call-new : (d : Cell) → NotIn (a .visited) d → MarksStand (a .sheet) sheet d
+  call-new d n = go (c .pass) (r .marks)
+    where
+      go : (p : PassCall) → PassMarks p sheet a → MarksStand (a .sheet) sheet d
+      go (grow p) m = stood-same (m .others d n)
+      go (fill p) m = stood-same (m d)
+      go (local p) m = m .none-new d
+
+  -- a cell whose marks were cleared has none, and is labelled
+  call-cleared : (p : ℕ) → List·Memᴰ p (clearedBy (c .pass) a) → LabelledCell (a .sheet) (cellOf p) × NoMarks (a .sheet) (cellOf p)
+  call-cleared p m = go (c .pass) (r .marks) m
+    where
+      go : (q : PassCall) → PassMarks q sheet a → List·Memᴰ p (clearedBy q a) → LabelledCell (a .sheet) (cellOf p) × NoMarks (a .sheet) (cellOf p)
+      go (grow q) w m = absurd (List·Memᴰ·not-nil m)
+      go (fill q) w m = absurd (List·Memᴰ·not-nil m)
+      go (local q) w m = (r .extended .labelled p (r .extended .on p m) .1 (inr m), w .cleared p m)
+
+  -- a labelled cell without marks gets none
+  call-unmarked : (d : Cell) → LabelledCell sheet d → NoMarks sheet d → NoMarks (a .sheet) d
+  call-unmarked d b n = go (c .pass) (r .marks)
+    where
+      apart : (ps : List ℕ) → ((p : ℕ) → List·Memᴰ p ps → labelAt sheet (cellOf p) ≡ Label.Unlabelled) → NotIn ps d
+      apart ps bare p m e = no-corner (b .corner) (sym (bare p m) ∙ ap (labelAt sheet) e ∙ b .holds)
+
+      go : (p : PassCall) → PassMarks p sheet a → NoMarks (a .sheet) d
+      go (grow p) m = none-same (m .others d (apart (a .visited) (grow-bare m))) n
+      go (fill p) m = none-same (m d) n
+      go (local p) m = none-same (m .others d (apart (a .attached) (r .extended .bare))) n
 
 -- ---- a list of calls
 
@@ -160,6 +228,44 @@ module _ (l : CornerLists) where
       → AttachedInTurn (cornersIn l) sheet (attachedIn (run l sheet cs)) (sheetOf l sheet cs) n
   run-attached sheet s cs n h = attached-in-turn (few-corners sheet cs n h) (standing-sound s) (run-histories sheet cs) n h
 
+  -- ---- marks
+
+  -- over a list of calls a labelled cell without marks gets none
+  run-unmarked : (sheet : List ℕ) (cs : List Call) (d : Cell) → LabelledCell sheet d → NoMarks sheet d → NoMarks (sheetOf l sheet cs) d
+  unfolding sheetOf
+  run-unmarked sheet [] d b n = n
+  run-unmarked sheet (c ∷ cs) d b n = go (step l sheet c) (outcomes l sheet c) (λ after. run-unmarked after cs d)
+    where
+      go : (o : Outcome PassStats) → Outcomes l sheet c o → ((after : List ℕ) → LabelledCell after d → NoMarks after d → NoMarks (sheetOf l after cs) d)
+          → NoMarks (sheetOf l (sheetAfter sheet o) cs) d
+      go o (was-refused r) w = w sheet b n
+      go o (ran a x r) w = w (a .sheet) (still-labelled (r .extended .kept) d b) (call-unmarked r d b n)
+
+  pub run-marks : (sheet : List ℕ) (cs : List Call) → MarksOver sheet cs (run l sheet cs) (sheetOf l sheet cs)
+  unfolding run sheetOf clearedIn visitedIn
+  run-marks sheet [] =
+      record {
+        stand = λ c n. stand-same (same-marks sheet c);
+        new-visited = λ c n. stand-same (same-marks sheet c);
+        cleared = λ p m. absurd (List·Memᴰ·not-nil m);
+      }
+  run-marks sheet (c ∷ cs) = go (step l sheet c) (outcomes l sheet c) (λ after. run-marks after cs)
+    where
+      go : (o : Outcome PassStats) → Outcomes l sheet c o → ((after : List ℕ) → MarksOver after cs (run l after cs) (sheetOf l after cs))
+          → MarksOver sheet (c ∷ cs) (o ∷ run l (sheetAfter sheet o) cs) (sheetOf l (sheetAfter sheet o) cs)
+      go o (was-refused r) w =
+          record { stand = w sheet .stand; new-visited = w sheet .new-visited; cleared = w sheet .cleared }
+      go o (ran a x r) w =
+          let now = clearedBy (c .pass) a in
+          let rest = w (a .sheet) in
+          record {
+            stand = λ d n. stand-then (call-stand r d (λ p m e. n p (Memᴰ·append-left _ m) e)) (rest .stand d (λ p m e. n p (Memᴰ·append-right now m) e));
+            new-visited = λ d n.
+                stand-then (rest .new-visited d (λ p m e. n p (Memᴰ·append-right (a .visited) m) e)) (call-new r d (λ p m e. n p (Memᴰ·append-left _ m) e));
+            cleared = λ p m.
+                ⊎-elim (λ b. let k = call-cleared r p b in run-unmarked (a .sheet) cs (cellOf p) (k .0) (k .1)) (rest .cleared p) (List·Memᴰ·append-cases now m);
+          }
+
   -- ---- no refusal in mid-list
 
   pub fit-accepts : (sheet : List ℕ) (c : Call) → Standing l sheet → CallInside l c → Accepts l sheet c
@@ -178,10 +284,10 @@ module _ (l : CornerLists) where
             one-cell = s .one-cell;
           }
 
-  pub never-refused : (sheet : List ℕ) → Standing l sheet → (cs : List Call) (c : Call) → CallInside l c → Accepts l (sheetOf l sheet cs) c
-  never-refused sheet s cs c f = fit-accepts (sheetOf l sheet cs) c (standing-after sheet s cs) f
+-- ---- the claims
 
--- ---- the claim
+pub never-refused : NeverRefused
+never-refused l sheet s cs c f = fit-accepts l (sheetOf l sheet cs) c (standing-after l sheet s cs) f
 
 pub invariants : Invariants
 invariants l given s cs =
@@ -189,4 +295,5 @@ invariants l given s cs =
       each-call = goes l given given s (record { kept = λ c k e. e }) cs;
       whole = run-extended l given s cs;
       each-corner = run-attached l given s cs;
+      marks = run-marks l given cs;
     }

@@ -21,6 +21,7 @@ use Rattle.passes.specs.Step.{CornerLists, lentOf}
 use Rattle.passes.specs.Run.{PassCall, grow, fill, local, Call, PassStats, growStats, fillStats, localStats, step, run, sheetOf}
 use Rattle.passes.specs.History.{History}
 use Rattle.invariants.specs.Kept.{Kept, Extended, AttachedAt, AttachedInTurn}
+use Rattle.invariants.specs.Marks.{PassMarks, MarksOver}
 
 -- the corners of a frame as the passes see them
 abbrev pub cornersIn : CornerLists → Corners
@@ -62,12 +63,13 @@ attachedCount (localStats s) = s .counts .attached
 
 -- A call that ran, from a sheet: what happened to the labels, with the call's cell size and band; so each new corner had an accepted edge to a
 -- labelled cardinal neighbour, or no such neighbour, when attached, and the labelled cells after the call are those before it and those of its
--- attached list, "whose length is attached (fill: added)".
+-- attached list, "whose length is attached (fill: added)"; and what its pass did to the marks.
 pub record Ran (l : CornerLists) (c : Call) (sheet : List ℕ) (a : After PassStats) : Type 0 where
   pub history : History (cornersIn l) (tolerancesOf (c .settings)) sheet (a .attached) (a .sheet)
   pub extended : Extended (cornersIn l) sheet (a .attached) (a .sheet)
   pub each : (n : ℕ) → n < length (a .attached) → AttachedAt (cornersIn l) (tolerancesOf (c .settings)) sheet (a .attached) (a .sheet) n
   pub counted : attachedCount (a .answer) ≡ length (a .attached)
+  pub marks : PassMarks (c .pass) sheet a
 
 -- the calls of a list with their outcomes, from a sheet on: a refused call leaves the sheet as it was; after each that ran, the sheet and the
 -- corners still belong together, and the given labels are kept
@@ -84,11 +86,13 @@ attachedIn (refused r ∷ os) = attachedIn os
 attachedIn (done a ∷ os) = a .attached ++ attachedIn os
 
 -- "In every such run, whatever the factors, given labels are kept, no corner holds two cells, and each new corner had an accepted edge to a
--- labelled cardinal neighbour, or no such neighbour, when attached": after each call, at the end, and of each new corner
+-- labelled cardinal neighbour, or no such neighbour, when attached": after each call, at the end, and of each new corner; and over the whole
+-- list only grow sets marks and only local clears them
 pub record Invariant (l : CornerLists) (given : List ℕ) (cs : List Call) : Type 0 where
   pub each-call : Goes l given given cs (run l given cs)
   pub whole : Extended (cornersIn l) given (attachedIn (run l given cs)) (sheetOf l given cs)
   pub each-corner : (n : ℕ) → n < length (attachedIn (run l given cs)) → AttachedInTurn (cornersIn l) given (attachedIn (run l given cs)) (sheetOf l given cs) n
+  pub marks : MarksOver given cs (run l given cs) (sheetOf l given cs)
 
 -- for any list of calls from corners and a sheet that belong together
 abbrev pub Invariants : Type 0
@@ -108,3 +112,7 @@ pub record CallInside (l : CornerLists) (c : Call) : Type 0 where
 -- a call on a sheet is not refused
 pub record Accepts (l : CornerLists) (sheet : List ℕ) (c : Call) : Type 0 where
   pub done-so : step l sheet c ≡ done (afterCall l sheet c)
+
+-- after any list of calls, from corners and a sheet that belong together, such a call is not refused
+abbrev pub NeverRefused : Type 0
+NeverRefused = (l : CornerLists) (sheet : List ℕ) → Standing l sheet → (cs : List Call) (c : Call) → CallInside l c → Accepts l (sheetOf l sheet cs) c

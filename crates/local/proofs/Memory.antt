@@ -20,13 +20,14 @@ use Rattle.extension_common.specs.TryCell.{cornersOf, gathered, tryAt}
 use Rattle.extension_common.specs.declared.TryCellResult.{TryCellResult}
 use Rattle.homography.specs.Fit.{applied}
 use Rattle.passes.specs.Grow.{tolerancesOf}
-use Rattle.passes.specs.Local.{supportsOf, byReach, cellPoint, fitted, localFit, worst, localSearch, gateOf, localWith, localVisit}
+use Rattle.passes.specs.Local.{supportsOf, cellPoint, fitted, localFit, worst, localSearch, gateOf, localWith, localVisit}
 use Rattle.passes.specs.declared.Counts.{Counts}
-use Rattle.supports.specs.Nearest.{placesOf, Reached}
+use Rattle.supports.specs.Nearest.{keptOf, placesOf, nearestAmong}
 use Rattle.supports.specs.Fitted.{supportFitOf}
 use Rattle.supports.specs.declared.Supports.{Supports}
 use Rattle.supports.specs.declared.SupportFit.{SupportFit}
 use Rattle.supports.proofs.Fitted.{fit-none, fit-some}
+use Rattle.supports.proofs.Nearest.{Reached, ReachesSmall, nearest-places, nearest-reached, nearest-small}
 use Rattle.remembered.specs.Remembered.{fitAt, KnownAt, Notable, Noting, Noted, Forgotten, entryOf}
 use Rattle.remembered.specs.declared.Known.{Known}
 use Rattle.remembered.proofs.Words.{predicted-below}
@@ -37,7 +38,7 @@ use Rattle.remembered.proofs.Made.{made-none, made-above, made-within, made-no-
 use Rattle.remembered.proofs.Attach.{attach-remembered}
 use Rattle.local.specs.Extending.{countsChanged, residualsRecorded, stateOf, Left, Recalls, Trying, Foretold, Taking, Wrote}
 use Rattle.local.specs.declared.LocalProgress.{LocalProgress}
-use Rattle.local.proofs.Visit.{supports-are, untouched, taking-attaching}
+use Rattle.local.proofs.Visit.{nearby, supports-are, untouched, taking-attaching}
 
 -- an entry can be noted
 module _ {set : Settings} {p : LocalExtensionParams} {xs ys pitches : List Float} {sheet list used places memory : List ℕ} {predictions : List Float} {at : LocalProgress} {c : Cell}
@@ -45,14 +46,22 @@ module _ {set : Settings} {p : LocalExtensionParams} {xs ys pitches : List Float
   pub noting : {known : Known} → Notable known → Noting memory predictions c known
   noting h = record { size = r .size; room = r .room; on = t .on; notable = h }
 
+-- how far a support is can be noted
+pub reaches-small : {xs ys pitches : List Float} {sheet list used places : List ℕ} {at : LocalProgress} {c : Cell} {near : Supports} → Trying xs ys pitches sheet list used places at c
+    → keptOf near ≡ nearestAmong c (take (at .labels) places) → ReachesSmall near
+reaches-small {c = c} t e = nearest-small (nearby (t .extending) c (t .on)) e
+
 -- ---- a cell of which nothing is known
 
 module _ (set : Settings) (p : LocalExtensionParams) {xs ys pitches : List Float} {sheet list used places memory : List ℕ} {predictions : List Float} (at : LocalProgress) (c : Cell)
     (t : Trying xs ys pitches sheet list used places at c) (r : Recalls set p xs ys pitches sheet memory predictions at) (near : Supports)
-    (four : placesOf near ≡ take 4 (byReach c (take (at .labels) places))) (far : Reached c near) {fit : SupportFit}
+    (nearest : keptOf near ≡ nearestAmong c (take (at .labels) places)) {fit : SupportFit}
     (is : fit ≡ supportFitOf (localFit (seenOf (cornerOf xs ys pitches) sheet) (placesOf near))) where
   supports : placesOf near ≡ supportsOf c sheet
-  supports = supports-are (t .extending) c near four
+  supports = supports-are (t .extending) c near (nearest-places (nearby (t .extending) c (t .on)) nearest)
+
+  far : Reached c near
+  far = nearest-reached (nearby (t .extending) c (t .on)) nearest
 
   of : localFit (seenOf (cornerOf xs ys pitches) sheet) (placesOf near) ≡ fitAt (cornersOf xs ys pitches) sheet c
   of = ap (localFit (seenOf (cornerOf xs ys pitches) sheet)) supports
@@ -100,7 +109,7 @@ module _ (set : Settings) (p : LocalExtensionParams) {xs ys pitches : List Float
               record { extending = t .extending; on = t .on; bare = t .bare; countable = t .countable },
               (
                 noted (larger (fit .residuals) r) (t .on) unknown-known n,
-                record { known = unknown-known; small = far .small },
+                record { known = unknown-known; small = reaches-small t nearest .fourth-small },
               ),
             )
 

@@ -24,10 +24,9 @@ use Rattle.labels.proofs.Labelled.{labels-places, same-count, hole-keeps, ambig
 use Rattle.labels.proofs.Used.{one-same, one-attached, count-bounded}
 use Rattle.predict.specs.Predict.{predictionOf, extrapolating}
 use Rattle.predict.specs.declared.Prediction.{Prediction}
-use Rattle.arguments.specs.Arguments.{Lent, checked}
+use Rattle.arguments.specs.Arguments.{Lent}
 use Rattle.arguments.specs.Accepted.{Accepted}
 use Rattle.arguments.proofs.Laws.{accepted}
-use Rattle.arguments.specs.declared.Checked.{Checked}
 use Rattle.arguments.specs.declared.GrowParams.{GrowParams}
 use Rattle.arguments.specs.declared.Pass.{Pass}
 use Rattle.arguments.specs.declared.Settings.{Settings}
@@ -35,35 +34,36 @@ use Rattle.extension_common.specs.TryCell.{Corners, cornersOf, tryAt}
 use Rattle.extension_common.specs.declared.TryCellResult.{TryCellResult}
 use Rattle.extension_common.proofs.Laws.{attachable}
 use Rattle.passes.specs.Grow.{GrowState, startOf, tolerancesOf, searchOf, growWith, growAt, growVisit, growFrom, growRun}
+use Rattle.passes.specs.Enough.{tally, Enough, NothingCutOff}
 use Rattle.passes.specs.declared.Counts.{Counts}
 use Rattle.passes.proofs.Queue.{more-length, spread-longer, seeded-longer, Lined, lined-none, lined-same, lined-attached, spread-lined, seeded-lined}
 
 -- ---- a sheet that belongs to the corners
 
 -- long enough, at most 1,024 corners, every corner on it given, and each at one place
-pub record Fit (cs : Corners) (sheet : List ℕ) : Type 0 where
+pub record Belongs (cs : Corners) (sheet : List ℕ) : Type 0 where
   pub long : 16384 ≤ length sheet
   pub few : cs .count ≤ 1024
   pub known : (p k : ℕ) → p < 16384 → labelOf (getD sheet p 0) ≡ Label.Corner k → k < cs .count
   pub one-cell : OneCell sheet
 
 -- the sheet of every accepted call is one
-pub fit-accepted : {l : Lent} {set : Settings} {pass : Pass} → Accepted l set pass → Fit (cornersOf (l .xs) (l .ys) (l .pitches)) (l .sheet)
-fit-accepted w = record { long = w .given .long; few = w .few; known = w .given .known; one-cell = w .one-cell }
+pub belongs-accepted : {l : Lent} {set : Settings} {pass : Pass} → Accepted l set pass → Belongs (cornersOf (l .xs) (l .ys) (l .pitches)) (l .sheet)
+belongs-accepted w = record { long = w .given .long; few = w .few; known = w .given .known; one-cell = w .one-cell }
 
-module _ {cs : Corners} {sheet : List ℕ} (f : Fit cs sheet) where
+module _ {cs : Corners} {sheet : List ℕ} (f : Belongs cs sheet) where
   -- at most as many labelled cells as corners
   pub labels-few : labelCount sheet ≤ cs .count
   labels-few = count-bounded sheet (cs .count) (f .known) (f .one-cell)
 
   -- marks change nothing of it
-  pub fit-same : (after : List ℕ) → length after ≡ length sheet → SameLabels sheet after → Fit cs after
-  fit-same after e s =
+  pub belongs-same : (after : List ℕ) → length after ≡ length sheet → SameLabels sheet after → Belongs cs after
+  belongs-same after e s =
       record { long = rw e (f .long); few = f .few; known = λ p k h l. f .known p k h (sym (s .same-label p h) ∙ l); one-cell = one-same s (f .one-cell) }
 
   -- nor does a given corner that no cell holds, attached to an unlabelled cell
-  pub fit-attached : {c : Cell} {k : ℕ} → Attaching sheet c k → k < cs .count → usedOn sheet k ≡ false → Fit cs (attached sheet c k)
-  fit-attached {c} {k} a given free =
+  pub belongs-attached : {c : Cell} {k : ℕ} → Attaching sheet c k → k < cs .count → usedOn sheet k ≡ false → Belongs cs (attached sheet c k)
+  belongs-attached {c} {k} a given free =
       record {
         long = rw (attached-changes sheet c (a .long) (a .on) k (a .corner-fits) .same-length) (f .long);
         few = f .few;
@@ -80,21 +80,17 @@ module _ {cs : Corners} {sheet : List ℕ} (f : Fit cs sheet) where
 
 -- ---- where a run stands
 
--- the cells that the counts speak of
-abbrev pub tally : Counts → ℕ
-tally n = n .attached + n .«rejected_no_candidate» + n .«rejected_ambiguous» + n .«rejected_edge»
-
 -- A run that has visited `head` cells: the queue holds at most four cells a labelled one, the new cells are labelled ones, and the counts
 -- are those of the cells visited.
 pub record Going (cs : Corners) (head : ℕ) (s : GrowState) : Type 0 where
-  pub fit : Fit cs (s .sheet)
+  pub fit : Belongs cs (s .sheet)
   pub lined : Lined (s .sheet) head (s .queued)
   pub room : length (s .queued) ≤ 4 * labelCount (s .sheet)
   pub slots : length (s .made) ≤ labelCount (s .sheet)
   pub made-counted : s .counts .attached ≡ length (s .made)
   pub tallied : tally (s .counts) ≡ head
 
-pub start-going : (cs : Corners) (sheet : List ℕ) → Fit cs sheet → Going cs 0 (startOf sheet)
+pub start-going : (cs : Corners) (sheet : List ℕ) → Belongs cs sheet → Going cs 0 (startOf sheet)
 unfolding startOf labelCount
 start-going cs sheet f =
     record {
@@ -141,19 +137,19 @@ module _ {cs : Corners} {head : ℕ} {s : GrowState} (g : Going cs head s) (left
   pub slot-left : (k : ℕ) → Free cs (s .sheet) k → length (s .made) < cs .count
   slot-left k f =
       let a = next-attaching k (f .given) in
-      omega (arith, g .slots, count-attached a, labels-few (fit-attached (g .fit) a (f .given) (f .free)))
+      omega (arith, g .slots, count-attached a, labels-few (belongs-attached (g .fit) a (f .given) (f .free)))
 
   -- and the queue four
   pub room-left : (k : ℕ) → Free cs (s .sheet) k → length (s .queued) + 4 ≤ 4 * cs .count
   room-left k f =
       let a = next-attaching k (f .given) in
-      omega (arith, g .room, count-attached a, labels-few (fit-attached (g .fit) a (f .given) (f .free)))
+      omega (arith, g .room, count-attached a, labels-few (belongs-attached (g .fit) a (f .given) (f .free)))
 
   marked-going : (after : List ℕ) (counts : Counts) → length after ≡ length (s .sheet) → SameLabels (s .sheet) after → counts .attached ≡ s .counts .attached → tally counts ≡ tally (s .counts) + 1
       → Going cs (head + 1) (markedAs s after counts)
   marked-going after counts e m same more =
       record {
-        fit = fit-same (g .fit) after e m;
+        fit = belongs-same (g .fit) after e m;
         lined = lined-same (s .sheet) head (s .queued) (g .lined) left after m;
         room = omega (arith, g .room, same-count (s .sheet) after (labels-places m));
         slots = omega (arith, g .slots, same-count (s .sheet) after (labels-places m));
@@ -182,7 +178,7 @@ module _ {cs : Corners} {head : ℕ} {s : GrowState} (g : Going cs head s) (left
       let a = next-attaching k (h .given) in
       let after = attached (s .sheet) (nextOf s head) k in
       record {
-        fit = fit-attached (g .fit) a (h .given) (h .free);
+        fit = belongs-attached (g .fit) a (h .given) (h .free);
         lined = spread-lined after (head + 1) (nextOf s head) (s .queued) (lined-attached (s .sheet) head (s .queued) (g .lined) left k a);
         room = omega (arith, g .room, count-attached a, spread-longer after (nextOf s head) (s .queued) .few);
         slots = omega (arith, g .slots, count-attached a, more-length (s .made) (placeOf (nextOf s head)));
@@ -250,22 +246,17 @@ module _ (cs : Corners) (set : Settings) (p : GrowParams) where
 
 -- ---- four places a corner are enough
 
--- A run on a sheet that belongs to the corners: the queue holds at most four places a corner, all different and on the sheet, and the new
--- cells are at most as many as the corners; every queued cell was visited, so nothing is left; and no step was cut off, since a run with
--- more fuel leaves the same.
-pub record Enough (cs : Corners) (set : Settings) (p : GrowParams) (sheet : List ℕ) : Type 0 where
-  pub visited-few : length (growRun cs set p sheet .queued) ≤ 4 * cs .count
-  pub attached-few : length (growRun cs set p sheet .made) ≤ cs .count
-  pub whole : Going cs (length (growRun cs set p sheet .queued)) (growRun cs set p sheet)
-  pub same : (m : ℕ) → growFrom cs set p (4 * cs .count + m) 0 (startOf sheet) ≡ growRun cs set p sheet
-
-pub enough : (cs : Corners) (set : Settings) (p : GrowParams) (sheet : List ℕ) → Fit cs sheet → Enough cs set p sheet
+-- a run on a sheet that belongs to the corners
+pub enough : (cs : Corners) (set : Settings) (p : GrowParams) (sheet : List ℕ) → Belongs cs sheet → Enough cs set p sheet
 unfolding growRun
 enough cs set p sheet f =
     let g = start-going cs sheet f in
     let w = from-going cs set p (4 * cs .count) 0 (startOf sheet) g (omega arith) in
-    record { visited-few = queue-few w; attached-few = made-few w; whole = w; same = λ m. from-more cs set p (4 * cs .count) m 0 (startOf sheet) g (omega arith) }
+    record {
+      same = λ m. from-more cs set p (4 * cs .count) m 0 (startOf sheet) g (omega arith);
+      all-visited = record { each-counted = w .tallied; few = queue-few w; on = w .lined .places; once = w .lined .distinct; made-few = made-few w };
+    }
 
 -- so for every call that the checks let pass
-pub enough-accepted : (l : Lent) (set : Settings) (p : GrowParams) → checked l set (Pass.Grow p) ≡ Checked.Fine → Enough (cornersOf (l .xs) (l .ys) (l .pitches)) set p (l .sheet)
-enough-accepted l set p e = enough (cornersOf (l .xs) (l .ys) (l .pitches)) set p (l .sheet) (fit-accepted (accepted l set (Pass.Grow p) e))
+pub nothing-cut-off : NothingCutOff
+nothing-cut-off l set p e = enough (cornersOf (l .xs) (l .ys) (l .pitches)) set p (l .sheet) (belongs-accepted (accepted l set (Pass.Grow p) e))

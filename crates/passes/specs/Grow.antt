@@ -132,7 +132,7 @@ growFrom cs set p zero head s = s
 growFrom cs set p (suc m) head s =
     cond (ltb head (length (s .queued))) (growFrom cs set p m (head + 1) (growVisit cs set p (cellOf (getD (s .queued) head 0)) s)) s
 
--- The whole run. Four places a corner are enough: `proofs/Enough.antt` shows that no step is ever cut off.
+-- The whole run. Four places a corner are enough: by `Enough.NothingCutOff` no step is ever cut off.
 unfoldable pub growRun : Corners → Settings → GrowParams → List ℕ → GrowState
 growRun cs set p sheet = growFrom cs set p (4 * cs .count) 0 (startOf sheet)
 

@@ -2,6 +2,9 @@ pub mod Outcome
 pub mod Grow
 pub mod Fill
 pub mod Local
+pub mod Nearest
 pub mod Step
 pub mod Run
 pub mod History
+pub mod Enough
+pub mod Changes

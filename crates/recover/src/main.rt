@@ -1,28 +1,62 @@
 // The frame program (01, "Frame and result"): reads a frame from standard input and prints its result, or `(refused number line)` alone.
-// What it prints is worked out and written by the crate `recover_say`.
+// What it reads is told by the crate `recover_read`; what it prints is worked out and written by the crate `recover_say`.
+ghost use mathlib.Core.Path.{_≡_};
+ghost use lib.ListN.{length};
+ghost use Rattle.recover_read.specs.Reading.{ReadInto};
+ghost use Rattle.recover.specs.Program.{Ran};
 use libc::STDERR_FILENO;
 use libc::STDIN_FILENO;
+use recover_read::Input;
+use recover_say::Said;
 
-// Whether the input ended: one more read has nothing to give. A failed read is not the end.
-fn has_ended() -> bool {
-    let mut more = [0u8; 1];
-    libc::read(STDIN_FILENO, &mut more) == 0
+// What became of a run: so far the answer was said; or the input could not be read, and nothing was said.
+enum Outcome {
+    Answered(Said),
+    NotRead,
+}
+
+// Answers the input that stands at the front of the buffer.
+fn reply(buffer: &[u8], input: Input) -> Outcome
+    requires { ⌜ 65537 ≡ length (now buffer) ⌝ }
+    requires { ⌜ ReadInto (now buffer) input ⌝ }
+    ensures { λ r. ⌜ Ran r ⌝ }
+{
+    match input {
+        Input::Whole(n) => {
+            let said = recover_say::answer(&buffer[..n]);
+            Outcome::Answered(said)
+        }
+        Input::Failed => Outcome::NotRead,
+    }
+}
+
+// Reads standard input and answers it.
+fn run() -> Outcome
+    ensures { λ r. ⌜ Ran r ⌝ }
+{
+    let mut buffer = recover_say::text_buffer();
+    let input = recover_read::read_input(STDIN_FILENO, &mut buffer);
+    reply(&buffer, input)
+}
+
+// Says on standard error what went wrong, if anything did.
+fn complain(outcome: Outcome) {
+    match outcome {
+        Outcome::NotRead => {
+            io::write_all(STDERR_FILENO, b"recover: standard input cannot be read\n");
+        }
+        Outcome::Answered(said) => {
+            if said.next < said.lines {
+                io::write_all(
+                    STDERR_FILENO,
+                    b"recover: standard output cannot be written\n",
+                );
+            }
+        }
+    }
 }
 
 fn main() {
-    let mut buffer = recover_say::text_buffer();
-    let n = io::read_full(STDIN_FILENO, &mut buffer);
-    if n < 65537 {
-        if !has_ended() {
-            io::write_all(STDERR_FILENO, b"recover: standard input cannot be read\n");
-            return;
-        }
-    }
-    let said = recover_say::answer(&buffer[..n]);
-    if said.next < said.lines {
-        io::write_all(
-            STDERR_FILENO,
-            b"recover: standard output cannot be written\n",
-        );
-    }
+    let outcome = run();
+    complain(outcome);
 }

@@ -1,2 +1,3 @@
--- Laws of how far an answer was said.
+-- Laws of how far an answer was said, and what was printed of it.
 pub mod Telling
+pub mod Printing

@@ -1,12 +1,13 @@
 // The answer to a text, worked out by the crate `recovery` and written to standard output piece by piece.
-// Proved of each piece: `recovery::answer_piece` puts it at the front of the buffer, from a line on, as `answerPiece` of the text has it; and all
-// pieces from line 0 on, joined, are `answerText` of the text (`PiecesJoin`). Proved of `answer`: it stopped after some number of pieces, at the
-// line that comes after them, and how many lines there are. That the bytes of each piece reach standard output, once and in order, no contract can
-// say: it is tested, by the programs `recover` and `recover_vectors`, and not proved.
+// Proved of each piece: `recovery::answer_piece` puts it at the front of the buffer, and `put_piece` is lent exactly its text (`PieceText`). Proved
+// of `answer`: how many pieces were written, from the first on, and that they are all of the answer where the next line is past the last
+// (`Told`, `Prints`). Not proved is that the one call of `io::write_all` in `put_piece` takes those bytes to standard output and answers true only
+// then: no contract can say what happens outside the program. It is tested (`compare/faults.py`).
 ghost use mathlib.Core.Path.{_≡_};
+ghost use Prim.Native.Nat.{_<_};
 ghost use lib.ListN.{length};
 ghost use Rattle.recovery.specs.Answer.{CanSay, FewPasses};
-ghost use Rattle.recover_say.specs.Said.{Told, ToldOf};
+ghost use Rattle.recover_say.specs.Said.{PieceText, PutSo, Told, ToldOf};
 use libc::STDOUT_FILENO;
 use recovery::Recovered;
 
@@ -57,10 +58,31 @@ fn word_buffer() -> [u32; 144]
 
 // ---- the answer
 
-// How far an answer was said: the line after the last piece that could be written, and how many lines it has. All was said where the two are equal.
+// How far an answer was said: how many pieces were written, the line after them, and how many lines the answer has. All was said where the
+// line after them is not below the number of lines.
 pub struct Said {
+    pub pieces: usize,
     pub next: usize,
     pub lines: usize,
+}
+
+// What became of a piece: it was written, and so many are now; or it could not be written.
+pub enum Put {
+    Written(usize),
+    Failed,
+}
+
+// Writes a piece of an answer to standard output: its number is how many were written before it. The answer, the words and the sheet say in the
+// contract which piece that is.
+fn put_piece(answer: Recovered, words: &[u32], sheet: &[u16], pieces: usize, text: &[u8]) -> Put
+    requires { ⌜ PieceText answer (now words) (now sheet) pieces (now text) ⌝ }
+    requires { ⌜ pieces < 65536 ⌝ }
+    ensures { λ r. ⌜ PutSo pieces r ⌝ }
+{
+    if io::write_all(STDOUT_FILENO, text) {
+        return Put::Written(pieces + 1);
+    }
+    Put::Failed
 }
 
 // Writes the answer to standard output, piece by piece, until one cannot be written.
@@ -71,16 +93,32 @@ fn say(answer: Recovered, words: &[u32], sheet: &[u16]) -> Said
 {
     let mut out = io::buffer();
     let lines = recovery::answer_lines(answer);
+    let mut pieces = 0usize;
     let mut from = 0usize;
     while from < lines {
         let piece = recovery::answer_piece(answer, words, sheet, from, &mut out);
         let n = piece.bytes;
-        if !io::write_all(STDOUT_FILENO, &out[..n]) {
-            return Said { next: from, lines };
+        let next = piece.next;
+        let put = put_piece(answer, words, sheet, pieces, &out[..n]);
+        match put {
+            Put::Failed => {
+                return Said {
+                    pieces,
+                    next: from,
+                    lines,
+                };
+            }
+            Put::Written(more) => {
+                pieces = more;
+                from = next;
+            }
         }
-        from = piece.next;
     }
-    Said { next: from, lines }
+    Said {
+        pieces,
+        next: from,
+        lines,
+    }
 }
 
 // Reads a frame from its text, runs its passes and writes the answer to standard output; tells how far.

@@ -2,11 +2,12 @@
 // one run (EXPECTED.md).
 //
 // Before each text stands a line of eight hexadecimal digits in lower case, its length in bytes, at most 65,537. It ends where the input
-// ends; where a length or a text is not as said, it says so on standard error and ends.
+// ends; where a length or a text is not as said, or a read fails, it says so on standard error and ends.
 ghost use Prim.Native.Nat.{_≤_};
 use binary32::hex::Bits;
 use libc::STDERR_FILENO;
 use libc::STDIN_FILENO;
+use recover_read::Input;
 
 // Says what is wrong; nothing can follow.
 fn stops(why: &[u8]) -> bool {
@@ -14,9 +15,21 @@ fn stops(why: &[u8]) -> bool {
     false
 }
 
+// How many bytes of the buffer were filled; where a read failed, none.
+fn filled(buffer: &mut [u8]) -> usize {
+    let input = recover_read::read_input(STDIN_FILENO, buffer);
+    match input {
+        Input::Whole(n) => n,
+        Input::Failed => {
+            stops(b"recover_vectors: standard input cannot be read\n");
+            0
+        }
+    }
+}
+
 // Reads a text that fills the buffer, and answers it. Whether another text may follow.
 fn answer_filled(buffer: &mut [u8]) -> bool {
-    let got = io::read_full(STDIN_FILENO, buffer);
+    let got = filled(buffer);
     if got < buffer.len() {
         return stops(b"recover_vectors: a text ends too early\n");
     }
@@ -53,7 +66,7 @@ fn answer_line(line: &[u8]) -> bool {
 // Answers the next text. Whether another may follow: not at the end of the input.
 fn answer_next() -> bool {
     let mut line = [0u8; 9];
-    let got = io::read_full(STDIN_FILENO, &mut line);
+    let got = filled(&mut line);
     if got == 0 {
         return false;
     }

@@ -15,8 +15,9 @@ use Rattle.extension_common.specs.declared.TryCellResult.{TryCellResult}
 use Rattle.passes.specs.Grow.{tolerancesOf}
 use Rattle.passes.specs.Local.{supportsOf, cellPoint, LocalFit, none, fitted, worst, recordedAll, localSearch, gateOf}
 use Rattle.passes.specs.declared.LargestResidual.{LargestResidual}
-use Rattle.supports.specs.Nearest.{placesOf, Reached}
+use Rattle.supports.specs.Nearest.{placesOf}
 use Rattle.supports.specs.declared.Supports.{Supports}
+use Rattle.supports.proofs.Nearest.{Reached}
 use Rattle.remembered.specs.Remembered.{fitAt, Near, near-none, near-more, SupportsWithin, IdleFit, no-fit, above, Mapped, within, KnownAt, idle, no-candidates, predicted, ambiguous}
 use Rattle.remembered.specs.declared.Known.{Known}
 use Rattle.remembered.proofs.Larger.{covers}

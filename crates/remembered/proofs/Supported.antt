@@ -1,49 +1,20 @@
 -- A place put into a list, farther from a cell than the nearest of it: these stay the nearest. Assumes nothing.
 use mathlib.Core.Path.{_≡_, refl, sym, ap, _∙_}
-use mathlib.Core.Bool.{Bool, true, false, cond, _&&_, _||_}
+use mathlib.Core.Bool.{Bool, true, false, cond}
 use mathlib.Core.List.{List, [], _∷_, _++_}
-use Prim.Native.Nat.{ℕ, zero, suc, _+_, _*_, _<_, _≤_}
+use Prim.Native.Nat.{ℕ, zero, suc, _<_, _≤_}
 use native.Mathlib.Nat.{not-suc-le-zero}
 use native.Mathlib.Decide.{ℕ-discrete}
 use native.Mathlib.Omega.{arith}
-use borrow.Author.Tests.{lt-ltb, le-ltb, ne-eqb, ltb-true, ltb-false, eqb-true, eqb-false}
-use lib.Dec.{ltb, eqb}
+use borrow.Author.Tests.{le-ltb, ne-eqb}
 use lib.ListN.{length, take}
-use Rattle.sheet.specs.Cells.{cellOf, earlier}
 use Rattle.sheet.specs.declared.Cell.{Cell}
-use Rattle.sheet.proofs.Laws.{cell-on, place-cell, place-rises}
 use Rattle.labels.specs.Labelled.{passing}
 use Rattle.labels.proofs.Below.{passing-ext}
 use Rattle.passes.specs.Local.{reachOf, nearer, placed, byReach}
-use Rattle.supports.proofs.Nearest.{AllBelow, Under, none, one, under-placed, byReach-length}
+use Rattle.passes.proofs.Nearest.{rank-less, rank-least, byReach-length}
+use Rattle.supports.proofs.Nearest.{AllBelow, Under, none, one, under-placed}
 use Rattle.remembered.specs.Remembered.{Near, near-more}
-
--- ---- the order of places as one of numbers
-
--- by reach, then by place
-abbrev rank : Cell → ℕ → ℕ
-rank c p = reachOf c p * 16384 + p
-
-earlier-places : (p q : ℕ) → p < 16384 → q < 16384 → earlier (cellOf p) (cellOf q) ≡ ltb p q
-earlier-places p q h k =
-    sym (place-rises (cellOf p) (cellOf q) (cell-on p h) (cell-on q k)) ∙ rw (place-cell p h, place-cell q k)
-
-nearer-rank : (c : Cell) (p q : ℕ) → p < 16384 → q < 16384 → nearer c p q ≡ ltb (rank c p) (rank c q)
-unfolding nearer
-nearer-rank c p q h k = rw (earlier-places p q h k) (go (reachOf c p) (reachOf c q) (ltb (reachOf c p) (reachOf c q)) refl (eqb (reachOf c p) (reachOf c q)) refl (ltb p q) refl)
-  where
-    go : (a b : ℕ) (t : Bool) → ltb a b ≡ t → (u : Bool) → eqb a b ≡ u → (v : Bool) → ltb p q ≡ v → (t || (u && v)) ≡ ltb (a * 16384 + p) (b * 16384 + q)
-    go a b true e u f v g = sym (lt-ltb (a * 16384 + p) (b * 16384 + q) (omega (arith, ltb-true a b e)))
-    go a b false e true f true g = sym (lt-ltb (a * 16384 + p) (b * 16384 + q) (omega (arith, eqb-true a b f, ltb-true p q g)))
-    go a b false e true f false g = sym (le-ltb (a * 16384 + p) (b * 16384 + q) (omega (arith, eqb-true a b f, ltb-false p q g)))
-    go a b false e false f v g = sym (le-ltb (a * 16384 + p) (b * 16384 + q) (omega (arith, ltb-false a b e, eqb-false a b f)))
-
-module _ (c : Cell) (p q : ℕ) (h : p < 16384) (k : q < 16384) where
-  rank-less : nearer c p q ≡ true → rank c p < rank c q
-  rank-less e = ltb-true (rank c p) (rank c q) (sym (nearer-rank c p q h k) ∙ e)
-
-  rank-least : nearer c p q ≡ false → rank c q ≤ rank c p
-  rank-least e = ltb-false (rank c p) (rank c q) (sym (nearer-rank c p q h k) ∙ e)
 
 -- ---- it is the same which of two places is put in first
 

@@ -1,8 +1,8 @@
 -- The four nearest places: kept one at a time in rising order, they are the first four by reach, then i, then j. Assumes nothing.
 use mathlib.Core.Path.{_≡_, refl, sym, ap, _∙_}
 use mathlib.Core.Bool.{Bool, true, false, not, cond, _&&_, _||_}
-use mathlib.Core.List.{List, [], _∷_, _++_, map}
-use Prim.Native.Nat.{ℕ, zero, suc, _+_, _-_, _<_, _≤_}
+use mathlib.Core.List.{List, [], _∷_, _++_, map, List·Memᴰ·head, List·Memᴰ·tail}
+use Prim.Native.Nat.{ℕ, zero, suc, _+_, _<_, _≤_}
 use native.Mathlib.Numerals.{add-one}
 use native.Mathlib.Omega.{arith}
 use borrow.Author.Tests.{lt-ltb, le-ltb, ltb-true, ltb-false, eqb-true, eqb-false}
@@ -11,10 +11,13 @@ use lib.ListN.{length, getD, take}
 use lib.Seq.{take-suc, take-take, getD-take, length-take-le}
 use Rattle.sheet.specs.Cells.{OnSheet, cellOf, earlier}
 use Rattle.sheet.specs.declared.Cell.{Cell}
-use Rattle.sheet.proofs.Laws.{cell-on, place-cell, place-rises, line-i, line-j, abs-sub}
+use Rattle.sheet.proofs.Laws.{cell-on, line-i, line-j, abs-sub}
+use Rattle.labels.specs.Labelled.{Rising}
 use Rattle.labels.proofs.Below.{no-both}
 use Rattle.passes.specs.Local.{reachOf, nearer, placed, byReach}
-use Rattle.supports.specs.Nearest.{supportAt, nothingKept, keptOf, placesOf, ahead, InOrder, MoreKept, Nearby, filledUp, Keeping, Reached}
+use Rattle.passes.specs.Nearest.{NearestFirst, by-reach}
+use Rattle.passes.proofs.Nearest.{nearer-so, so-nearer, nearer-reach, earlier-places, byReach-length, byReach-first, take-first, rising-apart}
+use Rattle.supports.specs.Nearest.{supportAt, keptOf, placesOf, nearestAmong, ahead, InOrder, MoreKept, Nearby, filledUp, Keeping}
 use Rattle.supports.specs.Fitted.{Pictured}
 use Rattle.supports.specs.declared.Support.{Support}
 use Rattle.supports.specs.declared.Supports.{Supports}
@@ -25,20 +28,6 @@ use Rattle.supports.specs.declared.Supports.{Supports}
 unfoldable pub last : Cell → ℕ → List ℕ → List ℕ
 last c p [] = p ∷ []
 last c p (q ∷ qs) = cond (ltb (reachOf c p) (reachOf c q)) (p ∷ q ∷ qs) (q ∷ last c p qs)
-
--- by the two parts of the order
-less-nearer : (c : Cell) (q r : ℕ) → reachOf c q < reachOf c r → nearer c q r ≡ true
-unfolding nearer
-less-nearer c q r h = rw (lt-ltb (reachOf c q) (reachOf c r) h)
-
-nearer-most : (c : Cell) (q r : ℕ) → nearer c q r ≡ true → reachOf c q ≤ reachOf c r
-unfolding nearer
-nearer-most c q r e = go (ltb (reachOf c q) (reachOf c r)) refl (eqb (reachOf c q) (reachOf c r)) refl e
-  where
-    go : (t : Bool) → ltb (reachOf c q) (reachOf c r) ≡ t → (u : Bool) → eqb (reachOf c q) (reachOf c r) ≡ u → (t || (u && earlier (cellOf q) (cellOf r))) ≡ true → reachOf c q ≤ reachOf c r
-    go true f u g k = omega (arith, ltb-true (reachOf c q) (reachOf c r) f)
-    go false f true g k = omega (arith, eqb-true (reachOf c q) (reachOf c r) g)
-    go false f false g k = absurd (no-both false k refl)
 
 module _ (c : Cell) (q p : ℕ) (before : earlier (cellOf q) (cellOf p) ≡ true) where
   -- an earlier place is nearer if the later one is not strictly nearer
@@ -71,11 +60,11 @@ module _ (c : Cell) (q p : ℕ) (before : earlier (cellOf q) (cellOf p) ≡ true
       go true e false f false g w =
           let h = ltb-true (reachOf c p) (reachOf c r) e in
           let k = ltb-false (reachOf c p) (reachOf c q) g in
-          absurd (no-both (nearer c q r) (less-nearer c q r (omega arith)) f)
+          absurd (no-both (nearer c q r) (so-nearer c q r (by-reach (omega arith))) f)
       go false e true f true g w =
           let h = ltb-false (reachOf c p) (reachOf c r) e in
           let k = ltb-true (reachOf c p) (reachOf c q) g in
-          absurd (omega (arith, nearer-most c q r f))
+          absurd (omega (arith, nearer-reach (nearer-so c q r f)))
       go false e true f false g w = simp (e, f, g)
       go false e false f v g w = simp (e, f) (ap (λ (l : List ℕ). r ∷ l) w)
 
@@ -85,9 +74,7 @@ pub record AllBelow (p : ℕ) (ps : List ℕ) : Type 0 where
 
 -- places rise by i, then j
 pub earlier-cells : (q p : ℕ) → q < p → p < 16384 → earlier (cellOf q) (cellOf p) ≡ true
-earlier-cells q p l h =
-    sym (place-rises (cellOf q) (cellOf p) (cell-on q (omega arith)) (cell-on p h))
-    ∙ rw (place-cell q (omega arith), place-cell p h) (lt-ltb q p l)
+earlier-cells q p l h = earlier-places q p (omega arith) h ∙ lt-ltb q p l
 
 pub byReach-last : (c : Cell) (p : ℕ) → p < 16384 → (ps : List ℕ) → AllBelow p ps → byReach c (ps ++ (p ∷ [])) ≡ last c p (byReach c ps)
 unfolding byReach placed last
@@ -95,20 +82,6 @@ byReach-last c p h [] b = refl
 byReach-last c p h (q ∷ qs) b =
     ap (placed c q) (byReach-last c p h qs (record { below = λ a l. b .below (suc a) (omega arith) }))
     ∙ last-after c q p (earlier-cells q p (b .below 0 (omega arith)) h) (byReach c qs)
-
-placed-length : (c : Cell) (p : ℕ) (l : List ℕ) → length (placed c p l) ≡ suc (length l)
-unfolding placed
-placed-length c p [] = refl
-placed-length c p (q ∷ qs) = go (nearer c p q) (placed-length c p qs)
-  where
-    go : (t : Bool) → length (placed c p qs) ≡ suc (length qs) → length (cond t (p ∷ q ∷ qs) (q ∷ placed c p qs)) ≡ suc (suc (length qs))
-    go true w = refl
-    go false w = ap suc w
-
-pub byReach-length : (c : Cell) (l : List ℕ) → length (byReach c l) ≡ length l
-unfolding byReach
-byReach-length c [] = refl
-byReach-length c (p ∷ ps) = placed-length c p (byReach c ps) ∙ ap suc (byReach-length c ps)
 
 -- ---- the first four of five
 
@@ -221,22 +194,17 @@ module _ (places : List ℕ) (count : ℕ) (c : Cell) (asked : Nearby places cou
         in-order = w .in-order;
       }
 
-  pub keeping-end : count ≤ k → placesOf kept ≡ take 4 (byReach c (take count places))
+  -- all places looked at
+  pub keeping-end : count ≤ k → keptOf kept ≡ nearestAmong c (take count places)
   keeping-end h =
       let e : k ≡ count = omega (arith, g .upto) in
-      ap (map (λ (s : Support). s .place)) (g .kept-are) ∙ rw e (front (byReach c (take count places)) (omega (arith, byReach-length c (take count places), length-take-le count places (omega (arith, asked .size, asked .few)), asked .four)))
+      let n = length-take-le count places (omega (arith, asked .size, asked .few)) in
+      g .kept-are ∙ rw e (front 4 (byReach c (take count places)) (omega (arith, byReach-length c (take count places), n, asked .four)))
     where
-      back : (l : List ℕ) → map (λ (s : Support). s .place) (map (supportAt c) l) ≡ l
-      back [] = refl
-      back (p ∷ ps) = ap (λ (m : List ℕ). p ∷ m) (back ps)
-
-      fewer : (n : ℕ) (l : List ℕ) → n ≤ length l → map (λ (s : Support). s .place) (take n (filledUp c l)) ≡ take n l
-      fewer zero l m = refl
-      fewer (suc n) [] m = absurd (omega arith)
-      fewer (suc n) (p ∷ ps) m = ap (λ (q : List ℕ). p ∷ q) (fewer n ps (omega arith))
-
-      front : (l : List ℕ) → 4 ≤ length l → map (λ (s : Support). s .place) (take 4 (filledUp c l)) ≡ take 4 l
-      front l m = fewer 4 l m
+      front : (n : ℕ) (l : List ℕ) → n ≤ length l → take n (filledUp c l) ≡ map (supportAt c) (take n l)
+      front zero l m = refl
+      front (suc n) [] m = absurd (omega arith)
+      front (suc n) (p ∷ ps) m = ap (λ (q : List Support). supportAt c p ∷ q) (front n ps (omega arith))
 
 -- ---- what the four are
 
@@ -267,48 +235,82 @@ under-take n (suc m) (p ∷ ps) (one h u) = one h (under-take n m ps u)
 under-four : (s : Supports) → Under 16384 (placesOf s) → Pictured s
 under-four s (one a (one b (one c (one d none)))) = record { first-below = a; second-below = b; third-below = c; fourth-below = d }
 
--- the four nearest are places of the sheet
-pub nearest-pictured : {places : List ℕ} {count : ℕ} {c : Cell} {s : Supports} → Nearby places count c → placesOf s ≡ take 4 (byReach c (take count places)) → Pictured s
-nearest-pictured {places} {count} {c} {s} asked e =
-    let n : length (take count places) ≡ count = length-take-le count places (omega (arith, asked .size, asked .few)) in
-    let b : AllBelow 16384 (take count places) = record { below = λ a l. let m : a < count = omega arith in rw (getD-take count places a 0 m) (asked .below a m) } in
-    under-four s (rw e (under-take 16384 4 (byReach c (take count places)) (under-byReach 16384 c (take count places) b)))
+-- none of the four supports of a cell is farther than the fourth
+pub record Reached (c : Cell) (s : Supports) : Type 0 where
+  pub first-near : reachOf c (s .first .place) ≤ s .fourth .reach
+  pub second-near : reachOf c (s .second .place) ≤ s .fourth .reach
+  pub third-near : reachOf c (s .third .place) ≤ s .fourth .reach
+  pub fourth-near : reachOf c (s .fourth .place) ≤ s .fourth .reach
 
--- the reaches of four that are kept are those of their places
-record Measured (c : Cell) (s : Supports) : Type 0 where
-  first-is : s .first .reach ≡ reachOf c (s .first .place)
-  second-is : s .second .reach ≡ reachOf c (s .second .place)
-  third-is : s .third .reach ≡ reachOf c (s .third .place)
-  fourth-is : s .fourth .reach ≡ reachOf c (s .fourth .place)
+-- each is as near as the sheet is small
+pub record ReachesSmall (s : Supports) : Type 0 where
+  pub first-small : s .first .reach < 8192
+  pub second-small : s .second .reach < 8192
+  pub third-small : s .third .reach < 8192
+  pub fourth-small : s .fourth .reach < 8192
 
-measured : (c : Cell) (s : Supports) (l : List ℕ) → 4 ≤ length l → keptOf s ≡ take 4 (filledUp c l) → Measured c s
-measured c s [] h e = absurd (omega arith)
-measured c s (p ∷ []) h e = absurd (omega arith)
-measured c s (p ∷ q ∷ []) h e = absurd (omega arith)
-measured c s (p ∷ q ∷ r ∷ []) h e = absurd (omega arith)
-measured c s (p ∷ q ∷ r ∷ t ∷ ts) h e =
+reached : (c : Cell) (s : Supports) (l : List ℕ) → keptOf s ≡ map (supportAt c) l → NearestFirst c l → OnSheet c → Under 16384 l → Reached c s × ReachesSmall s
+reached c s [] e o on u = absurd (omega (arith, ap length e))
+reached c s (p ∷ []) e o on u = absurd (omega (arith, ap length e))
+reached c s (p ∷ q ∷ []) e o on u = absurd (omega (arith, ap length e))
+reached c s (p ∷ q ∷ r ∷ []) e o on u = absurd (omega (arith, ap length e))
+reached c s (p ∷ q ∷ r ∷ t ∷ []) e o on (one i (one j (one k (one h none)))) =
     let a : s .first ≡ supportAt c p = cc in
     let b : s .second ≡ supportAt c q = cc in
     let d : s .third ≡ supportAt c r = cc in
-    let f : s .fourth ≡ supportAt c t = cc in
-    record { first-is = rw a; second-is = rw b; third-is = rw d; fourth-is = rw f }
-
-module _ (places : List ℕ) (count : ℕ) (c : Cell) (asked : Nearby places count c) (kept : Supports) (k : ℕ) (g : Keeping places count c kept k) where
-  pub keeping-reached : count ≤ k → Reached c kept
-  keeping-reached h =
-      let e : k ≡ count = omega (arith, g .upto) in
-      let n : length (byReach c (take k places)) ≡ count = byReach-length c (take k places) ∙ length-take-le k places (omega (arith, asked .size, asked .few)) ∙ e in
-      let m = measured c kept (byReach c (take k places)) (omega (arith, n, asked .four)) (g .kept-are) in
-      let s = nearest-pictured {s = kept} asked (keeping-end places count c asked kept k g h) in
-      let o = g .in-order in
+    let f : s .fourth ≡ supportAt c t = cc in (
       record {
-        first-near = omega (arith, m .first-is, o .first-second, o .second-third, o .third-fourth);
-        second-near = omega (arith, m .second-is, o .second-third, o .third-fourth);
-        third-near = omega (arith, m .third-is, o .third-fourth);
-        fourth-near = omega (arith, m .fourth-is);
-        small = omega (arith, m .fourth-is, reach-small c (kept .fourth .place) (asked .on) (s .fourth-below));
+        first-near = rw (a, f) (nearer-reach (o .0 t (List·Memᴰ·tail (List·Memᴰ·tail (List·Memᴰ·head refl)))));
+        second-near = rw (b, f) (nearer-reach (o .1 .0 t (List·Memᴰ·tail (List·Memᴰ·head refl))));
+        third-near = rw (d, f) (nearer-reach (o .1 .1 .0 t (List·Memᴰ·head refl)));
+        fourth-near = rw f (omega arith);
+      },
+      record {
+        first-small = rw a (omega (arith, reach-small c p on i));
+        second-small = rw b (omega (arith, reach-small c q on j));
+        third-small = rw d (omega (arith, reach-small c r on k));
+        fourth-small = rw f (omega (arith, reach-small c t on h));
+      },
+    )
+reached c s (p ∷ q ∷ r ∷ t ∷ v ∷ vs) e o on u = absurd (omega (arith, ap length e))
+
+-- by the equation that promises the nearest four: their places, that these are of the sheet, and how far they are
+module _ {places : List ℕ} {count : ℕ} {c : Cell} {s : Supports} (asked : Nearby places count c) (e : keptOf s ≡ nearestAmong c (take count places)) where
+  front : length (take count places) ≡ count
+  front = length-take-le count places (omega (arith, asked .size, asked .few))
+
+  on-sheet : AllBelow 16384 (take count places)
+  on-sheet = record { below = λ a l. let m : a < count = omega (arith, front) in rw (getD-take count places a 0 m) (asked .below a m) }
+
+  rises : Rising (take count places)
+  rises =
+      record {
+        rises = λ a b l h.
+            let m : b < count = omega (arith, front) in
+            let k : a < count = omega arith in
+            rw (getD-take count places a 0 k, getD-take count places b 0 m) (asked .rising a b l m);
       }
 
-  -- the four nearest, and how far they are
-  pub keeping-both : count ≤ k → (placesOf kept ≡ take 4 (byReach c (take count places))) × Reached c kept
-  keeping-both h = (keeping-end places count c asked kept k g h, keeping-reached h)
+  under : Under 16384 (take 4 (byReach c (take count places)))
+  under = under-take 16384 4 (byReach c (take count places)) (under-byReach 16384 c (take count places) on-sheet)
+
+  pub nearest-places : placesOf s ≡ take 4 (byReach c (take count places))
+  nearest-places = ap (map (λ (s : Support). s .place)) e ∙ back (take 4 (byReach c (take count places)))
+    where
+      back : (l : List ℕ) → map (λ (s : Support). s .place) (map (supportAt c) l) ≡ l
+      back [] = refl
+      back (p ∷ ps) = ap (λ (m : List ℕ). p ∷ m) (back ps)
+
+  pub nearest-pictured : Pictured s
+  nearest-pictured = under-four s (rw nearest-places under)
+
+  both : Reached c s × ReachesSmall s
+  both =
+      reached c s (take 4 (byReach c (take count places))) e
+      (take-first c 4 (byReach c (take count places)) (byReach-first c (take count places) (rising-apart (take count places) rises (on-sheet .below)))) (asked .on) under
+
+  pub nearest-reached : Reached c s
+  nearest-reached = both .0
+
+  pub nearest-small : ReachesSmall s
+  nearest-small = both .1

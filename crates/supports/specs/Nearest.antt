@@ -58,6 +58,10 @@ keptOf s = s .first ∷ s .second ∷ s .third ∷ s .fourth ∷ []
 abbrev pub placesOf : Supports → List ℕ
 placesOf s = s .first .place ∷ s .second .place ∷ s .third .place ∷ s .fourth .place ∷ []
 
+-- "the 4 nearest" of some places, each with its reach
+abbrev pub nearestAmong : Cell → List ℕ → List Support
+nearestAmong c places = map (supportAt c) (take 4 (byReach c places))
+
 -- a support before those that are farther
 unfoldable pub ahead : Support → List Support → List Support
 ahead new [] = new ∷ []
@@ -102,14 +106,6 @@ pub record Keeping (places : List ℕ) (count : ℕ) (c : Cell) (kept : Supports
   pub upto : k ≤ count
   pub kept-are : keptOf kept ≡ take 4 (filledUp c (byReach c (take k places)))
   pub in-order : InOrder kept
-
--- none of the four supports of a cell is farther than the fourth
-pub record Reached (c : Cell) (s : Supports) : Type 0 where
-  pub first-near : reachOf c (s .first .place) ≤ s .fourth .reach
-  pub second-near : reachOf c (s .second .place) ≤ s .fourth .reach
-  pub third-near : reachOf c (s .third .place) ≤ s .fourth .reach
-  pub fourth-near : reachOf c (s .fourth .place) ≤ s .fourth .reach
-  pub small : s .fourth .reach < 8192
 
 -- a shorter part of a span
 pub record Halved (span r : Span) : Type 0 where

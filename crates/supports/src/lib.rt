@@ -5,13 +5,12 @@ ghost use mathlib.Core.Path.{_≡_};
 ghost use mathlib.Core.List.{[], _∷_};
 ghost use Prim.Native.Nat.{_+_, _/_, _<_, _≤_};
 ghost use lib.Dec.{ltb, leb};
-ghost use lib.ListN.{length, take};
-ghost use Rattle.sheet.specs.Cells.{OnSheet, differenceOf, placeOf, cellOf};
+ghost use lib.ListN.{take};
+ghost use Rattle.sheet.specs.Cells.{OnSheet, placeOf, cellOf};
 ghost use Rattle.sheet.specs.Corners.{cornerOf, seenOf, Given};
-ghost use Rattle.labels.specs.Labelled.{labelCount, labelledPlaces};
-ghost use Rattle.passes.specs.Local.{reachOf, byReach, cellPoint, picturedAt, residualOf, none, localFit};
+ghost use Rattle.passes.specs.Local.{cellPoint, picturedAt, residualOf, none, localFit};
 ghost use Rattle.binary32.specs.Ranges.{allFinite};
-ghost use Rattle.supports.specs.Nearest.{Listable, MoreListed, Gatherable, Gathered, supportAt, nothingKept, InOrder, MoreKept, EarlierKept, placesOf, Nearby, Keeping, Reached, Halved};
+ghost use Rattle.supports.specs.Nearest.{Listable, MoreListed, Gatherable, Gathered, supportAt, nothingKept, InOrder, MoreKept, EarlierKept, keptOf, placesOf, nearestAmong, Nearby, Keeping, Halved};
 ghost use Rattle.supports.specs.Fitted.{supportFitOf, pointsFit, Pictured};
 use sheet::Cell;
 use sheet::Position;
@@ -277,10 +276,10 @@ fn keep_before(places: &[u16; 1024], count: usize, from: usize, c: Cell) -> Supp
     kept
 }
 
-// The four nearest to a cell among at least four places, given in rising order: by |di| + |dj|, then i, then j. The fourth is the farthest.
+// The four nearest to a cell among at least four places, given in rising order: by |di| + |dj|, then i, then j. Each has its own reach.
 pub fn nearest_labelled_by_grid(places: &[u16; 1024], count: usize, c: Cell) -> Supports
     requires { ⌜ Nearby (now places) count c ⌝ }
-    ensures { λ r. ⌜ (placesOf r ≡ take 4 (byReach c (take count (now (places .entry))))) × Reached c r ⌝ }
+    ensures { λ r. ⌜ keptOf r ≡ nearestAmong c (take count (now (places .entry))) ⌝ }
 {
     let row = row_of(c);
     let mut k = start_of(places, count, row);

@@ -1,25 +1,26 @@
--- `recover_say::say` meets its contract: the pieces before each line are written. Assumes nothing.
+-- `recover_say::say` meets its contract: the pieces before each line are written, and each is lent whole. Assumes nothing.
 use Prim.Native.Nat.{_-_}
 use native.Mathlib.Omega.{arith}
 use mathlib.Core.Path.{_≡_, refl, sym, ap, _∙_}
 use lib.ListN.{length, length-take}
 use borrow.Author.Needs.{needs}
-use Rattle.recover_say.specs.Said.{Telling}
-use Rattle.recover_say.proofs.Telling.{begun, one-more, told-of}
+use Rattle.recover_say.specs.Said.{Telling, PutSo}
+use Rattle.recover_say.specs.declared.Put.{Put}
+use Rattle.recover_say.proofs.Telling.{begun, few-lines, text-so, one-more, told-of}
 use Rattle.recover_say.proofs.say.Statement.{statement}
 use Rattle.recover_say.proofs.say.Tie as tie
 use Rattle.recover_say.proofs.say.Reads as reads
 use Rattle.recover_say.proofs.say.Lts as lts
 use Rattle.io.proofs.buffer.Reads as buffer-reads
-use Rattle.io.proofs.write_all.Reads as write-all-reads
+use Rattle.recover_say.proofs.put_piece.Reads as put-piece-reads
 use Rattle.recovery.proofs.answer_lines.Reads as answer-lines-reads
 use Rattle.recovery.proofs.answer_piece.Reads as answer-piece-reads
 
 abbrev Inv-loop : tie.InvT-loop
-Inv-loop answer words sheet out₀ lines from₀ out from = Telling answer words sheet out from
+Inv-loop answer words sheet out₀ lines pieces₀ from₀ out pieces from = Telling answer words sheet out pieces from
 
 abbrev μ-loop : tie.MeasureT-loop
-μ-loop answer words sheet out₀ lines from₀ out from = lines - from
+μ-loop answer words sheet out₀ lines pieces₀ from₀ out pieces from = lines - from
 
 buffer-requires : tie.Need-buffer-requires Inv-loop μ-loop
 buffer-requires c κs = tt
@@ -39,20 +40,33 @@ answer-piece-requires c κs = (c .before .before .before .before .before .before
 array-share-prefix-out : tie.Need-array-share-prefix-out Inv-loop μ-loop
 array-share-prefix-out c = omega (arith, c .before .answer-piece .ensures .1 .in-room, c .before .before .before .before .loop .inv .whole)
 
-slice-aggregate-write-all : tie.Need-slice-aggregate-write-all Inv-loop μ-loop
-slice-aggregate-write-all c = simp length-take (omega (arith, c .before .before .answer-piece .ensures .1 .in-room, c .before .before .before .before .before .loop .inv .whole))
+slice-aggregate-put-piece : tie.Need-slice-aggregate-put-piece Inv-loop μ-loop
+slice-aggregate-put-piece c = simp length-take (omega (arith, c .before .before .answer-piece .ensures .1 .in-room, c .before .before .before .before .before .loop .inv .whole))
 
-write-all-requires : tie.Need-write-all-requires Inv-loop μ-loop
-write-all-requires c κs = tt
+put-piece-requires : tie.Need-put-piece-requires Inv-loop μ-loop
+put-piece-requires c κs =
+    let l = c .before .before .before .before .before .loop in
+    let p = c .before .before .answer-piece in
+    (text-so _ _ _ (l .inv) (p .ensures .0), omega (arith, l .inv .behind, c .before .before .before .before .loop-test .taken, c .before .before .before .before .before .before .answer-lines .ensures, few-lines (c .before .before .before .before .before .before .before .before .before .before .args .answer) (c .before .before .before .before .before .before .before .before .before .before .pre .1)))
+
+enum-told : tie.Need-enum-told Inv-loop μ-loop
+enum-told c = search needs
 
 returns : tie.Need-returns Inv-loop μ-loop
-returns c = told-of _ _ _ (c .before .before .before .before .before .before .before .loop .inv) (c .before .before .before .before .before .before .before .before .answer-lines .ensures)
+returns c = told-of _ _ _ (c .before .before .before .before .before .before .before .before .loop .inv) (c .before .before .before .before .before .before .before .before .before .answer-lines .ensures)
+
+enum-known-put : tie.Need-enum-known-put Inv-loop μ-loop
+enum-known-put c = search needs
 
 loop-less : tie.Need-loop-less Inv-loop μ-loop
-loop-less c = omega (arith, c .before .before .before .before .answer-piece .ensures .1 .later, c .before .before .before .before .before .before .loop-test .taken)
+loop-less c = omega (arith, c .before .before .before .before .before .before .answer-piece .ensures .1 .later, c .before .before .before .before .before .before .before .before .loop-test .taken)
 
 loop-again : tie.Need-loop-again Inv-loop μ-loop
-loop-again c = one-more _ _ _ (c .before .before .before .before .before .before .before .loop .inv) (c .before .before .before .before .answer-piece .ensures .0) (c .before .before .before .before .before .before .before .loop .inv .whole ∙ sym (c .before .before .before .before .answer-piece .kept .1 .1 .1 .1 .0))
+loop-again c =
+    let l = c .before .before .before .before .before .before .before .before .before .loop in
+    let p = c .before .before .before .before .before .before .answer-piece in
+    let more : PutSo (l .pieces) (Put.Written (c .before .put .given .0 .0)) = rw (c .before .put .given .1) at (c .before .before .before .put-piece .ensures) in
+    one-more _ _ _ (l .inv) (p .ensures .0) _ _ (omega (arith, c .before .before .before .before .before .before .before .before .loop-test .taken, c .before .before .before .before .before .before .before .before .before .before .answer-lines .ensures)) (p .ensures .1) (l .inv .whole ∙ sym (p .kept .1 .1 .1 .1 .0)) more
 
 returns-2 : tie.Need-returns-2 Inv-loop μ-loop
 returns-2 c = told-of _ _ _ (c .before .loop .inv) (c .before .before .answer-lines .ensures)
@@ -69,9 +83,11 @@ say-spec =
     slice-aggregate-answer-piece
     answer-piece-requires
     array-share-prefix-out
-    slice-aggregate-write-all
-    write-all-requires
+    slice-aggregate-put-piece
+    put-piece-requires
+    enum-told
     returns
+    enum-known-put
     loop-less
     loop-again
     returns-2)

@@ -5,7 +5,7 @@ use native.Mathlib.Omega.{arith}
 use borrow.Author.Needs.{needs}
 use Rattle.sheet.proofs.Laws.{place-in}
 use Rattle.supports.specs.Nearest.{supportAt, Keeping}
-use Rattle.supports.proofs.Nearest.{keeping-more, keeping-both}
+use Rattle.supports.proofs.Nearest.{keeping-more, keeping-end}
 use Rattle.supports.proofs.Outward.{keeping-stop}
 use Rattle.supports.proofs.nearest_labelled_by_grid.Statement.{statement}
 use Rattle.supports.proofs.nearest_labelled_by_grid.Tie as tie
@@ -43,7 +43,7 @@ far-behind-requires c κs = omega (arith, c .before .before .before .before .bef
 returns : tie.Need-returns Inv-loop μ-loop
 returns c = let l = c .before .before .before .before .before in
     let p = c .before .before .before .before .before .before .before .before .before .pre in
-    keeping-both _ _ _ p _ _
+    keeping-end _ _ _ p _ _
     (keeping-stop _ _ _ p _ _ _ _ (c .before .before .before .before .loop-test .taken) (l .loop .inv) (c .before .before .wide .ensures) (c .before .before .before .before .before .before .before .before .row-of .ensures) (sym (c .before .far-behind .ensures) ∙ c .if1 .taken))
     (omega arith)
 
@@ -66,7 +66,7 @@ loop-again c = let l = c .before .before .before .before .before .before .before
     keeping-more _ _ _ p _ _ (l .loop .inv) _ _ (c .before .before .before .before .before .before .loop-test .taken) (c .before .support-of .ensures ∙ ap (supportAt (c .before .before .before .before .before .before .before .before .before .before .before .args .c)) (c .before .before .before .before .wide .ensures)) (c .keep-support .ensures)
 
 returns-2 : tie.Need-returns-2 Inv-loop μ-loop
-returns-2 c = keeping-both _ _ _ (c .before .before .before .before .before .pre) _ _ (c .before .loop .inv) (c .loop-test .left)
+returns-2 c = keeping-end _ _ _ (c .before .before .before .before .before .pre) _ _ (c .before .loop .inv) (c .loop-test .left)
 
 pub nearest-labelled-by-grid-spec : {M : Type 1} → statement M
 nearest-labelled-by-grid-spec =

@@ -1,5 +1,6 @@
 -- `supports::support_of` meets its contract: cells of the sheet are near each other. Assumes nothing.
 use mathlib.Core.Path.{sym, subst}
+use native.Mathlib.Omega.{arith}
 use borrow.Author.Needs.{needs}
 use Rattle.sheet.specs.Cells.{NearSheet, Within}
 use Rattle.sheet.proofs.Laws.{cell-on, on-near, difference-within}
@@ -10,10 +11,10 @@ cell-of-requires : tie.Need-cell-of-requires
 cell-of-requires c κs = search needs
 
 difference-requires : tie.Need-difference-requires
-difference-requires c κs = (subst NearSheet (sym (c .cell-of .ensures)) (on-near _ (cell-on _ (c .before .pre .0))), on-near _ (c .before .pre .1))
+difference-requires c κs = (subst NearSheet (sym (c .cell-of .ensures)) (on-near _ (cell-on _ (omega arith))), on-near _ (c .before .pre .1))
 
 magnitude-requires : tie.Need-magnitude-requires
-magnitude-requires c κs = subst (Within 1000) (sym (c .difference .ensures)) (difference-within _ _ (subst NearSheet (sym (c .before .cell-of .ensures)) (on-near _ (cell-on _ (c .before .before .pre .0)))) (on-near _ (c .before .before .pre .1)))
+magnitude-requires c κs = subst (Within 1000) (sym (c .difference .ensures)) (difference-within _ _ (subst NearSheet (sym (c .before .cell-of .ensures)) (on-near _ (cell-on _ (omega arith)))) (on-near _ (c .before .before .pre .1)))
 
 returns : tie.Need-returns
 returns c = rw (c .magnitude .ensures, c .before .difference .ensures, c .before .before .cell-of .ensures)

@@ -1,0 +1,2 @@
+-- A run of the frame program.
+pub mod Program

@@ -1,0 +1,2 @@
+-- Laws of reading an input.
+pub mod Laws

@@ -1,0 +1,2 @@
+-- Reading an input to its end.
+pub mod Reading
