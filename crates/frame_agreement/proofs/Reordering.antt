@@ -17,7 +17,7 @@ use Rattle.passes.specs.Run.{Call, run}
 use Rattle.agreement.specs.Agreement.{Reordered, Agree}
 use Rattle.agreement.proofs.Run.{agreement}
 use Rattle.frame_line.specs.Lines.{CornerLine, LabelLine, PassLine}
-use Rattle.frame.specs.Frame.{Frame, floatOf, readFrame, accepted}
+use Rattle.frame.specs.Frame.{Frame, floatOf}
 use Rattle.frame.specs.Text.{All, Sound, WithinLimits}
 use Rattle.frame.specs.ReadFrame.{xsOf, ysOf, pitchesOf, labelled, sheetOf, settingsOf}
 use Rattle.frame_laws.specs.Calls.{cornersOf, callOf, callsOf}

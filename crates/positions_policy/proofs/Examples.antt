@@ -1,14 +1,13 @@
--- Computed examples, 01's marked cases M5 to M7: the ends of the band, a length below it, and pitches that are not above 0.001.
--- Assumes nothing.
+-- A computed example, the whole test of an edge. 01's marked cases are computed in the crate `worked_examples`. Assumes nothing.
 use mathlib.Core.Path.{_≡_, refl}
 use mathlib.Core.Bool.{true, false}
 use lib.Ieee.{Float, binary32, ofBits, toBits, add, sub, mul, div, neg, lt, le, eq}
 use Rattle.binary32.specs.Sqrt.{unitsOf, reaches, climb, rooted}
 use Rattle.sheet.specs.declared.Corner.{Corner}
 use Rattle.sheet.specs.Corners.{squaredDistance}
-use Rattle.positions_policy.specs.Edge.{leastPitch, lengthOf, meanPitch, expectedLength, inBand, edgeOk}
+use Rattle.positions_policy.specs.Edge.{lengthOf, meanPitch, expectedLength, inBand, edgeOk}
 
--- 0, 0.25, 7, 7.5, 10 and 12.5 by their bits
+-- 0, 0.25, 7, 7.5 and 10 by their bits
 abbrev nought : Float
 nought = ofBits binary32 0
 
@@ -23,18 +22,6 @@ sevenAndHalf = ofBits binary32 0x40f0_0000
 
 abbrev ten : Float
 ten = ofBits binary32 0x4120_0000
-
-abbrev twelveAndHalf : Float
-twelveAndHalf = ofBits binary32 0x4148_0000
-
--- Expected 10, band 0.25: lengths 7.5 and 12.5 pass, and 7 fails. Both pitches 0.001: the cell size is used.
-pub marked :
-    (inBand sevenAndHalf ten quarter ≡ true)
-    × (inBand twelveAndHalf ten quarter ≡ true)
-    × (inBand seven ten quarter ≡ false)
-    × ((cellSize : Float) → expectedLength cellSize leastPitch leastPitch ≡ cellSize)
-unfolding inBand expectedLength meanPitch ofBits add sub mul div neg lt le eq
-marked = (refl, refl, refl, λ cellSize. refl)
 
 -- a corner of pitch 10
 abbrev cornerAt : Float → Float → Corner
