@@ -4,7 +4,6 @@ use mathlib.Core.List.{List, [], _∷_, _++_, map}
 use Prim.Native.Nat.{ℕ}
 use lib.IntN.{natAbs}
 use Rattle.sheet.specs.Words.{labelOf, labelOfNumber}
-use Rattle.passes.specs.Outcome.{Outcome}
 use Rattle.passes.specs.Step.{CornerLists}
 use Rattle.passes.specs.Run.{Call, PassStats, run, sheetOf as sheetAfterAll}
 use Rattle.invariants.specs.Calls.{Standing, CallInside}
@@ -17,8 +16,7 @@ use Rattle.frame_laws.proofs.Runs.{accepted-runs}
 use Rattle.report_line.specs.Result.{passLines, heading, resultText}
 use Rattle.recovery.specs.Answer.{statsOf, frameStats, frameSheet, answerOf, answerText}
 use Rattle.written_places.specs.Written.{Written, Rise, no-more, sheetWith, attachedIn}
-use Rattle.written_places.specs.Run.{Asked, runs, callsOf as callsAsked, Goes, ends, one-runs, runIn}
-use Rattle.written_places.specs.Text.{textIn}
+use Rattle.written_places.specs.Run.{Asked, runs, callsOf as callsAsked, AsAsked, ends, one-runs}
 use Rattle.written_places.proofs.Written.{rise-put, attached-so, all-told}
 use Rattle.written_places.proofs.Run.{Went, went}
 use Rattle.written_places.proofs.Text.{holes-so, ambiguous-so, text-so}
@@ -47,7 +45,7 @@ given-rises f = labelled-rises (f .labels) [] no-more
 
 -- ---- the passes
 
-all-run : (l : CornerLists) (cs : List Call) → All (CallInside l) cs → Goes l (map runs cs)
+all-run : (l : CornerLists) (cs : List Call) → All (CallInside l) cs → AsAsked l (map runs cs)
 all-run l [] h = ends
 all-run l (c ∷ cs) h = one-runs (h .0) (all-run l cs (h .1))
 
@@ -68,7 +66,7 @@ renumbered-so to stats w h =
 
 module _ (text : List ℕ) (f : Frame) (e : readFrame text ≡ accepted f) where
   -- a list of calls from the frame's corners and given labels
-  pub frame-went : (qs : List Asked) → Goes (cornersOf f) qs → Went (cornersOf f) (givenIn f) qs
+  pub frame-went : (qs : List Asked) → AsAsked (cornersOf f) qs → Went (cornersOf f) (givenIn f) qs
   frame-went qs g = went (cornersOf f) qs (givenIn f) (given-rises f) (subst (Standing (cornersOf f)) (given-so f) (accepted-runs text f e .standing)) g
 
   own : Went (cornersOf f) (givenIn f) (asked f)

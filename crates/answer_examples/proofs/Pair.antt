@@ -2,10 +2,9 @@
 -- numbered anew. Assumes nothing.
 use mathlib.Core.Path.{_≡_, refl, sym, ap, ap₂, _∙_, subst}
 use mathlib.Core.Bool.{Bool, true, false, _||_}
-use mathlib.Core.List.{List, [], _∷_, _++_, map}
-use Prim.Native.Nat.{ℕ, _<_}
+use mathlib.Core.List.{List, [], _∷_, map}
+use Prim.Native.Nat.{ℕ}
 use native.Mathlib.Omega.{arith}
-use lib.ListN.{length, getD}
 use lib.Ieee.{ofBits, ofInt, toBits, lt, le}
 use Rattle.refusal.specs.declared.Refusal.{Refusal}
 use Rattle.binary32.specs.Ranges.{endsOf}
@@ -20,10 +19,8 @@ use Rattle.passes.specs.Run.{Call, PassStats, step, run}
 use Rattle.invariants.specs.Calls.{Standing, passOf as passChecked, checkedCall, afterCall, CallInside}
 use Rattle.invariants.proofs.Run.{step-as}
 use Rattle.agreement.specs.Agreement.{AboveOne, FactorsAbove, no-more, was-refused as was-not-run, ran}
-use Rattle.frame.specs.Frame.{readFrame, accepted}
 use Rattle.frame.specs.Text.{All}
-use Rattle.frame.specs.ReadFrame.{xsOf, ysOf, pitchesOf, sheetOf, settingsOf, fullOf, passOf}
-use Rattle.frame_line.specs.Lines.{PassLine}
+use Rattle.frame.specs.ReadFrame.{xsOf, ysOf, pitchesOf, sheetOf, fullOf, passOf}
 use Rattle.binary32.specs.Hex.{digits}
 use Rattle.line_form.specs.Integers.{decimalUpTo, decimal, integerText}
 use Rattle.line_form.specs.Forms.{numberText, printed}
@@ -33,14 +30,14 @@ use Rattle.frame_laws.proofs.Runs.{accepted-runs}
 use Rattle.frame_agreement.proofs.Reordering.{frames-run-alike}
 use Rattle.written_places.specs.Written.{Written, Rise, sheetWith, told}
 use Rattle.written_places.specs.Passes.{AfterIn, afterOf}
-use Rattle.written_places.specs.Run.{Asked, runs, refuses, callsOf as callsAsked, Goes, ends, one-runs, one-refused, runIn}
+use Rattle.written_places.specs.Run.{Asked, runs, refuses, callsOf as callsAsked, AsAsked, ends, one-runs, one-refused, runIn}
 use Rattle.written_places.specs.Text.{textIn}
 use Rattle.recovery.specs.Answer.{statsOf, answerText}
 use Rattle.result_agreement.specs.Alike.{numberedAnew, renumberedText, numbers, ResultsAlike}
 use Rattle.result_agreement.proofs.Alike.{frames-answer-alike}
 use Rattle.answer_examples.specs.Answer.{givenIn, frameRun, runText, renumberedIn}
 use Rattle.answer_examples.specs.Pair.{firstText, secondText, localLine, firstFrame, secondFrame, firstResult, secondResult}
-use Rattle.answer_examples.specs.Claims.{refusedLine, growLine, fillLine, calls, Told, was-refused, grow-attached, fill-added, local-attached, toldOf, Met, Agreed}
+use Rattle.answer_examples.specs.Claims.{refusedLine, growLine, fillLine, calls, toldOf, Met, Agreed}
 use Rattle.answer_examples.proofs.Answer.{given-so, renumbered-so, frame-went, own-run, own-stats, own-sheet, own-rises, answer-so}
 use Rattle.answer_examples.proofs.Pairing.{first-read, second-read, same}
 use Rattle.answer_examples.proofs.Ran.{localLeft, growLeft, fillLeft, after, local-did, grow-did, fill-did}
@@ -100,7 +97,7 @@ module _ (sheet : List ℕ) (s : Standing (cornersOf firstFrame) sheet) where
   refused-so : step (cornersOf firstFrame) sheet c ≡ refused Refusal.OutOfRange
   refused-so = step-as (cornersOf firstFrame) sheet c ∙ ap (λ (k : Checked). unless k (afterCall (cornersOf firstFrame) sheet c)) wild
 
-list-goes : Goes (cornersOf firstFrame) list
+list-goes : AsAsked (cornersOf firstFrame) list
 unfolding list callsOf fullOf
 list-goes = one-runs (fits .0) (one-refused refused-so (one-runs (fits .1 .0) (one-runs (fits .1 .1 .0) ends)))
 

@@ -1,11 +1,10 @@
 -- Both texts are read as the frames that stand beside them, and the frames differ only in the order of their corner lines. Assumes nothing.
 use mathlib.Core.Path.{_≡_, refl, subst, sym}
-use mathlib.Core.List.{List, [], _∷_}
 use Prim.Native.Nat.{ℕ, zero, suc, _<_}
 use native.Mathlib.Nat.{not-suc-le-zero}
 use native.Mathlib.Decide.{ℕ-discrete}
 use native.Mathlib.Omega.{arith}
-use lib.ListN.{length, getD}
+use lib.ListN.{getD}
 use lib.Ieee.{ofBits, ofInt, le, lt, eq}
 use Rattle.binary32.specs.Hex.{digitValue, readDigits}
 use Rattle.binary32.specs.Ranges.{endsOf}
@@ -15,7 +14,7 @@ use Rattle.arguments.specs.Arguments.{outside}
 use Rattle.line_form.specs.Integers.{digitsAfter, readPositive, readInteger}
 use Rattle.line_form.specs.Forms.{pieceOf, fitOf}
 use Rattle.frame_line.specs.Lines.{bitsAt, wholeAt, lineOf, firstFit, readLine}
-use Rattle.frame.specs.Frame.{Frame, linesOf, inOrder, stageAfter, overLimit, outOfRange, wildPass, offSheet, unknownCorner, doubled, checkedLine, adding, accepted, stepLine, atEnd, readLines, readFrame}
+use Rattle.frame.specs.Frame.{linesOf, inOrder, stageAfter, overLimit, outOfRange, wildPass, offSheet, unknownCorner, doubled, checkedLine, adding, accepted, stepLine, atEnd, readLines, readFrame}
 use Rattle.frame_agreement.specs.Reordering.{cornerLine, SameButOrder}
 use Rattle.answer_examples.specs.Pair.{firstText, secondText, firstFrame, secondFrame, numbersInSecond, numbersInFirst}
 

@@ -27,7 +27,7 @@ use Rattle.extension_common.specs.TryCell.{choiceBy}
 use Rattle.passes.specs.Grow.{member, radiusOf, searchOf}
 use Rattle.passes.specs.Fill.{cellsOf, fillSearch, fillLimit}
 use Rattle.passes.specs.Local.{depthOf, rowAmong, columnAmong, localRegion, nearer, placed, byReach, cellPoint, picturedAt, residualOf, residualsOf, allFinite as allFiniteResiduals, trusted, worst, recorded, recordedAll, localSearch, localLimit}
-use Rattle.passes.specs.Run.{PassCall, Call, PassStats, growStats, fillStats, localStats}
+use Rattle.passes.specs.Run.{PassStats, growStats, fillStats, localStats}
 use Rattle.passes.specs.declared.LargestResidual.{LargestResidual}
 use Rattle.frame_line.specs.Lines.{PassLine}
 use Rattle.frame.specs.ReadFrame.{xsOf, ysOf, pitchesOf, settingsOf, fullOf, passOf}

@@ -53,9 +53,9 @@ toldOf (done a) = toldBy (a .answer)
 
 -- ---- the claims
 
--- Both texts are accepted; the frames differ only in the order of their corner lines, paired as listed, and two lines are equal. Each of the frames' passes has
--- a factor above 1. Of the list of calls, local attaches a corner by a fit whose residual is recorded, the next call is refused, and grow and fill attach a
--- corner each; those that run have a factor above 1.
+-- Both texts are accepted; the frames differ only in the order of their corner lines, paired as listed, and two lines are equal. Each of the frames'
+-- passes has a factor above 1. Of the list of calls, local attaches a corner by a fit whose residual is recorded, the next call is refused, and grow and
+-- fill attach a corner each; those that run have a factor above 1.
 pub record Met : Type 0 where
   pub first-read : readFrame firstText ≡ accepted firstFrame
   pub second-read : readFrame secondText ≡ accepted secondFrame
@@ -67,8 +67,8 @@ pub record Met : Type 0 where
       ≡ local-attached 1 (LargestResidual.Residual (ofBits binary32 0x3635_04f3)) ∷ was-refused 3 ∷ grow-attached 1 ∷ fill-added 1 ∷ []
   pub list-factors : FactorsAbove calls (run (cornersOf firstFrame) (sheetOf firstFrame) calls)
 
--- So demand 3 holds of them: the runs of both frames are alike, those of the list of calls agree, and the answers differ only in the corner numbers of their
--- cell lines. The second answer is had from the first, by demand 3.
+-- So demand 3 holds of them: the runs of both frames are alike, those of the list of calls agree, and the answers differ only in the corner numbers of
+-- their cell lines. The second answer is had from the first, by demand 3.
 pub record Agreed (m : Met) : Type 0 where
   pub runs : RunAlike firstFrame secondFrame (m .same)
   pub list-agrees :

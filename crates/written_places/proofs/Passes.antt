@@ -6,11 +6,11 @@ use Prim.Native.Nat.{ℕ, zero, suc, _+_, _*_}
 use lib.Dec.{eqb, ltb}
 use lib.ListN.{length, getD, take}
 use lib.Ieee.{Float, binary32, ofBits, lt}
-use Rattle.elimination.specs.Solve.{Row, eliminated, answered, answersOf, soundOf}
+use Rattle.elimination.specs.Solve.{eliminated, answered, answersOf}
 use Rattle.elimination.proofs.Sound.{sound-is}
-use Rattle.homography.specs.Normalize.{normalSteps, normalizationOf}
+use Rattle.homography.specs.Normalize.{normalizationOf}
 use Rattle.homography.specs.Undo.{undone}
-use Rattle.homography.specs.Fit.{Answer, NoFit, scaledOf, equationsOf, unscaled, homographyOf, applied}
+use Rattle.homography.specs.Fit.{NoFit, scaledOf, equationsOf, unscaled, homographyOf, applied}
 use Rattle.homography.proofs.Normalizing.{normal-finite}
 use Rattle.homography.proofs.Fitting.{homography-is}
 use Rattle.sheet.specs.Cells.{onSheet, placeOf, cellOf, moved}
@@ -20,7 +20,6 @@ use Rattle.sheet.specs.declared.Cell.{Cell}
 use Rattle.sheet.specs.declared.Offset.{Offset}
 use Rattle.sheet.specs.declared.Position.{Position}
 use Rattle.sheet.specs.declared.Seen.{Seen}
-use Rattle.labels.specs.Box.{boxAround}
 use Rattle.labels.specs.declared.LabelBox.{LabelBox}
 use Rattle.grow.specs.Candidates.{candidatesAt, firstTwo}
 use Rattle.grow.specs.declared.CandidateChoice.{CandidateChoice}
@@ -32,18 +31,16 @@ use Rattle.arguments.specs.declared.Settings.{Settings}
 use Rattle.arguments.specs.declared.GrowParams.{GrowParams}
 use Rattle.arguments.specs.declared.FillParams.{FillParams}
 use Rattle.arguments.specs.declared.LocalExtensionParams.{LocalExtensionParams}
-use Rattle.extension_common.specs.TryCell.{Corners, unlabelledOn, gathered, choiceBy, edgesOf, resultOf, tryAt}
+use Rattle.extension_common.specs.TryCell.{Corners, gathered, choiceBy, edgesOf, resultOf, tryAt}
 use Rattle.extension_common.specs.declared.Search.{Search}
 use Rattle.extension_common.specs.declared.TryCellResult.{TryCellResult}
-use Rattle.passes.specs.Outcome.{After}
 use Rattle.passes.specs.Grow.{GrowState, tolerancesOf, noCounts, member, wanted, enqueued, enqueuedAt, spread, seededFrom, startOf, searchOf, missed, growWith, growAt, growVisit, growFrom, growRun, growLeft, growAfter}
 use Rattle.passes.specs.Fill.{FillRounds, boxAndStrips, cellsOf, fillCells, fillSearch, fillWith, fillAt, fillVisit, fillAll, fillRound, fillFrom, fillLimit, fillRun, fillLeft, fillAfter}
 use Rattle.passes.specs.Local.{LocalState, LocalFit, none, fitted, LocalRounds, depthOf, localRegion, localCells, byReach, supportsOf, cellPoint, picturedAt, trusted, localFit, worst, localSearch, gateOf, localWith, localAt, localVisit, localAll, localRound, localFrom, localLimit, localRun, localLeft, localAfter}
 use Rattle.passes.specs.declared.LargestResidual.{LargestResidual}
-use Rattle.binary32.specs.Ranges.{allFinite}
-use Rattle.written_places.specs.Written.{Written, Rise, sheetWith, labelledIn, seenIn, placesIn, usedIn, attachedIn, clearedIn}
-use Rattle.written_places.specs.Passes.{AfterIn, afterOf, gatheredIn, edgesIn, resultIn, tryIn, oneAttached, oneMissed, oneAmbiguous, oneEdge, GrowStateIn, growStateOf, enqueuedIn, enqueuedAtIn, spreadIn, seededFromIn, missedIn, growWithIn, growAtIn, growVisitIn, growFromIn, growRunIn, growLeftIn, growAfterIn, FillStateIn, fillStateOf, fillCellsIn, fillWithIn, fillAtIn, fillVisitIn, fillAllIn, FillRoundsIn, fillFromIn, fillLeftIn, fillAfterIn, soundPoints, soundAnswers, quickFitWith, quickFitFrom, quickFit, LocalStateIn, localStateOf, localCellsIn, supportsIn, localFitIn, withResidualsIn, localWithIn, localAtIn, localVisitIn, localAllIn, LocalRoundsIn, localFromIn, localLeftIn, localAfterIn}
-use Rattle.written_places.proofs.Written.{rise-put, attached-so, hole-so, ambiguous-so, cleared-so, label-so, seen-so, labelled-so, places-so, box-so, count-so, used-so, rim-so}
+use Rattle.written_places.specs.Written.{Written, Rise, sheetWith, seenIn, placesIn, attachedIn, clearedIn}
+use Rattle.written_places.specs.Passes.{afterOf, gatheredIn, edgesIn, resultIn, tryIn, oneAttached, oneMissed, oneAmbiguous, oneEdge, GrowStateIn, growStateOf, enqueuedIn, enqueuedAtIn, spreadIn, seededFromIn, missedIn, growWithIn, growAtIn, growVisitIn, growFromIn, growRunIn, growAfterIn, FillStateIn, fillStateOf, fillCellsIn, fillWithIn, fillAtIn, fillVisitIn, fillAllIn, FillRoundsIn, fillFromIn, fillAfterIn, soundAnswers, quickFitWith, quickFitFrom, quickFit, LocalStateIn, localStateOf, localCellsIn, supportsIn, localFitIn, withResidualsIn, localWithIn, localAtIn, localVisitIn, localAllIn, LocalRoundsIn, localFromIn, localAfterIn}
+use Rattle.written_places.proofs.Written.{rise-put, attached-so, hole-so, ambiguous-so, cleared-so, seen-so, labelled-so, places-so, box-so, count-so, used-so, rim-so}
 
 -- ---- one cell
 

@@ -1,17 +1,16 @@
 -- A list of calls on the sheet of some written places goes as its definition on these places says. Assumes nothing.
-use mathlib.Core.Path.{_≡_, refl, sym, ap, _∙_, subst}
+use mathlib.Core.Path.{_≡_, refl, ap, _∙_, subst}
 use mathlib.Core.List.{List, [], _∷_}
 use Prim.Native.Nat.{ℕ}
-use Rattle.refusal.specs.declared.Refusal.{Refusal}
 use Rattle.arguments.specs.declared.Settings.{Settings}
-use Rattle.passes.specs.Outcome.{After, Outcome, refused, done}
+use Rattle.passes.specs.Outcome.{done}
 use Rattle.passes.specs.Step.{CornerLists}
-use Rattle.passes.specs.Run.{PassCall, grow, fill, local, Call, PassStats, growStats, fillStats, localStats, step, sheetAfter, run, sheetOf}
-use Rattle.invariants.specs.Calls.{cornersIn, Standing, CallInside, answering, afterPass, afterCall}
+use Rattle.passes.specs.Run.{PassCall, grow, fill, local, Call, growStats, fillStats, localStats, step, sheetAfter, run, sheetOf}
+use Rattle.invariants.specs.Calls.{cornersIn, Standing, CallInside, answering, afterPass}
 use Rattle.invariants.proofs.Run.{standing-step, fit-accepts}
 use Rattle.written_places.specs.Written.{Written, Rise, sheetWith}
-use Rattle.written_places.specs.Passes.{AfterIn, afterOf}
-use Rattle.written_places.specs.Run.{afterPassIn, Asked, runs, refuses, callsOf, Goes, ends, one-runs, one-refused, runIn}
+use Rattle.written_places.specs.Passes.{afterOf}
+use Rattle.written_places.specs.Run.{afterPassIn, Asked, runs, refuses, callsOf, AsAsked, ends, one-runs, one-refused, runIn}
 use Rattle.written_places.proofs.Passes.{grow-so, grow-rises, fill-so, fill-rises, local-so, local-rises}
 
 module _ (l : CornerLists) (w : List Written) (h : Rise 0 w) (set : Settings) where
@@ -37,7 +36,7 @@ pub record Went (l : CornerLists) (w : List Written) (qs : List Asked) : Type 0 
   pub left-so : sheetOf l (sheetWith w) (callsOf qs) ≡ sheetWith (runIn l w qs .left)
   pub left-rises : Rise 0 (runIn l w qs .left)
 
-pub went : (l : CornerLists) (qs : List Asked) (w : List Written) → Rise 0 w → Standing l (sheetWith w) → Goes l qs → Went l w qs
+pub went : (l : CornerLists) (qs : List Asked) (w : List Written) → Rise 0 w → Standing l (sheetWith w) → AsAsked l qs → Went l w qs
 unfolding run sheetOf callsOf runIn
 went l [] w h s ends = record { run-so = refl; left-so = refl; left-rises = h }
 went l (runs c ∷ qs) w h s (one-runs f g) =

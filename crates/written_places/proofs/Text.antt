@@ -1,7 +1,6 @@
 -- The text of a result whose sheet has few written places is that of these places. Assumes nothing.
 use mathlib.Core.Path.{_≡_, refl}
 use mathlib.Core.List.{List, _++_}
-use Prim.Native.Nat.{ℕ}
 use Rattle.sheet.specs.Words.{labelOf, labelOfNumber, holeOf, ambiguousOf}
 use Rattle.passes.specs.Run.{PassStats}
 use Rattle.report_line.specs.Result.{passLines, cellLine, holeLine, ambiguousLine, allPlaces, heading, resultText}

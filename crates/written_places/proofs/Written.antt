@@ -4,7 +4,6 @@ use mathlib.Core.Bool.{Bool, true, false, cond, _||_}
 use mathlib.Core.List.{List, [], _∷_, _++_, append-assoc, append-nil}
 use Prim.Native.Nat.{ℕ, zero, suc, _+_, _<_, _≤_}
 use native.Mathlib.Decide.{ℕ-discrete}
-use native.Mathlib.Numerals.{add-one}
 use native.Mathlib.Omega.{arith}
 use borrow.Author.Tests.{eq-eqb, ne-eqb, eqb-true, eqb-false, ltb-true, ltb-false}
 use lib.Dec.{T, eqb, ltb}
@@ -16,15 +15,13 @@ use Rattle.sheet.specs.Corners.{seenThrough, seenOf}
 use Rattle.sheet.specs.declared.Cell.{Cell}
 use Rattle.sheet.specs.declared.Corner.{Corner}
 use Rattle.sheet.specs.declared.Label.{Label}
-use Rattle.sheet.specs.declared.Seen.{Seen}
 use Rattle.sheet.proofs.Laws.{place-in}
 use Rattle.sheet.proofs.Words.{empty-length, empty-word}
 use Rattle.labels.specs.Labelled.{passing, anyBelow, namesCorner, isLabelled, labelledPlaces, labelCount}
 use Rattle.labels.specs.Used.{names, usedOn}
-use Rattle.labels.specs.Rim.{onRim, rimAt, rim}
+use Rattle.labels.specs.Rim.{rimAt, rim}
 use Rattle.labels.specs.Box.{boxAround, boxOf}
-use Rattle.labels.specs.declared.LabelBox.{LabelBox}
-use Rattle.labels.proofs.Below.{passing-ext, any-hit, any-no, any-ext}
+use Rattle.labels.proofs.Below.{any-hit, any-no, any-ext}
 use Rattle.report_line.specs.Result.{linesFrom}
 use Rattle.written_places.specs.Written.{Written, written, Rise, no-more, then, sheetWith, wordIn, told, anyIn, labelIn, labelledIn, seenIn, placeIf, placesIn, usedIn, rimIn, putIn, put, attachedIn, holeIn, ambiguousIn, clearedIn}
 

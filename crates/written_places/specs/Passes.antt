@@ -1,6 +1,6 @@
 -- The passes on a sheet of which only the written places are kept: each definition is that of the crate `passes` or `extension_common` of the same name
 -- without the ending, its sheet kept so. `proofs/Passes.antt` shows that the passes do the same. Definitions only.
-use mathlib.Core.Bool.{Bool, true, false, not, _&&_, cond}
+use mathlib.Core.Bool.{Bool, not, _&&_, cond}
 use mathlib.Core.List.{List, [], _∷_, _++_, map}
 use Prim.Native.Nat.{ℕ, zero, suc, _+_, _*_}
 use lib.Dec.{eqb, ltb}

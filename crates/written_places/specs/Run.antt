@@ -31,11 +31,11 @@ callsOf (runs c ∷ qs) = c ∷ callsOf qs
 callsOf (refuses c r ∷ qs) = c ∷ callsOf qs
 
 -- each is as it says, on every sheet that belongs to the corners
-pub data Goes (l : CornerLists) : List Asked → Type 0 where
-  ends : Goes l []
-  one-runs : {c : Call} {qs : List Asked} → CallInside l c → Goes l qs → Goes l (runs c ∷ qs)
-  one-refused : {c : Call} {r : Refusal} {qs : List Asked} → ((sheet : List ℕ) → Standing l sheet → step l sheet c ≡ refused r) → Goes l qs
-      → Goes l (refuses c r ∷ qs)
+pub data AsAsked (l : CornerLists) : List Asked → Type 0 where
+  ends : AsAsked l []
+  one-runs : {c : Call} {qs : List Asked} → CallInside l c → AsAsked l qs → AsAsked l (runs c ∷ qs)
+  one-refused : {c : Call} {r : Refusal} {qs : List Asked} → ((sheet : List ℕ) → Standing l sheet → step l sheet c ≡ refused r) → AsAsked l qs
+      → AsAsked l (refuses c r ∷ qs)
 
 -- the outcomes, and the sheet after all
 pub record RunIn : Type 0 where

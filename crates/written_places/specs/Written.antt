@@ -1,5 +1,5 @@
 -- A sheet of which only the written places are kept, each with its word: what is asked of a sheet, and how it changes. Definitions only.
-use mathlib.Core.Bool.{Bool, true, false, cond, _||_}
+use mathlib.Core.Bool.{Bool, false, cond, _||_}
 use mathlib.Core.List.{List, [], _∷_, _++_}
 use Prim.Native.Nat.{ℕ, suc, _<_, _≤_}
 use lib.Dec.{eqb, ltb}
