@@ -27,7 +27,7 @@ use Rattle.arguments.specs.declared.GrowParams.{GrowParams}
 use Rattle.extension_common.specs.TryCell.{Corners, tryAt}
 use Rattle.extension_common.specs.declared.TryCellResult.{TryCellResult}
 use Rattle.passes.specs.Grow.{tolerancesOf, GrowState, wanted, enqueued, enqueuedAt, spread, startOf, searchOf, growWith, growAt, growVisit, growFrom, growRun}
-use Rattle.passes.specs.Changes.{isAttached, isNoCandidate, isAmbiguous, isEdgeRefusal, one, SameMarks, MarksSet, GrowVisit}
+use Rattle.passes.specs.Changes.{isAttached, isNoCandidate, isAmbiguous, isEdgeRefusal, oneIf, SameMarks, MarksSet, GrowVisit}
 use Rattle.passes.specs.declared.Counts.{Counts}
 use Rattle.passes.proofs.Changes.{same-marks, marks-then, visits}
 use Rattle.passes.proofs.Enough.{Belongs, Going, nextOf, next-on, queue-few, start-going, visit-going, from-ended, from-next}
@@ -58,7 +58,7 @@ module _ {l m : List ℕ} (b : Begins l m) where
   begins-take n h = rw (b .is) (take-append-le n l (b .more) h)
 
 -- one finding more
-many-more : (f : TryCellResult → Bool) (rs : List TryCellResult) (r : TryCellResult) → howMany f (rs ++ (r ∷ [])) ≡ howMany f rs + one (f r)
+many-more : (f : TryCellResult → Bool) (rs : List TryCellResult) (r : TryCellResult) → howMany f (rs ++ (r ∷ [])) ≡ howMany f rs + oneIf (f r)
 unfolding howMany
 many-more f [] r = omega arith
 many-more f (x ∷ rs) r = omega (arith, many-more f rs r)

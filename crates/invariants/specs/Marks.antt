@@ -13,7 +13,7 @@ use Rattle.extension_common.specs.declared.TryCellResult.{TryCellResult}
 use Rattle.passes.specs.Outcome.{After, Outcome, refused, done}
 use Rattle.passes.specs.Grow.{noCounts}
 use Rattle.passes.specs.Run.{PassCall, grow, fill, local, Call, PassStats, growStats, fillStats, localStats}
-use Rattle.passes.specs.Changes.{isAttached, isNoCandidate, isAmbiguous, isEdgeRefusal, one, SameMarks, NoMarks, MarksSet}
+use Rattle.passes.specs.Changes.{isAttached, isNoCandidate, isAmbiguous, isEdgeRefusal, oneIf, SameMarks, NoMarks, MarksSet}
 use Rattle.passes.specs.declared.Counts.{Counts}
 
 -- the marks of a cell that stood still stand
@@ -30,7 +30,7 @@ NotIn ps c = (p : ℕ) → List·Memᴰ p ps → cellOf p ≡ c → ⊥
 -- how many of some findings are of a kind
 unfoldable pub howMany : (TryCellResult → Bool) → List TryCellResult → ℕ
 howMany f [] = 0
-howMany f (r ∷ rs) = one (f r) + howMany f rs
+howMany f (r ∷ rs) = oneIf (f r) + howMany f rs
 
 -- the places of some visited cells at which a corner was attached, in order
 unfoldable pub attachedAmong : List ℕ → List TryCellResult → List ℕ

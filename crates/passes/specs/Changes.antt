@@ -95,15 +95,15 @@ abbrev pub madeWith : TryCellResult → Cell → List ℕ → List ℕ
 madeWith r c made = cond (isAttached r) (made ++ (placeOf c ∷ [])) made
 
 -- 1 if so, else 0
-abbrev pub one : Bool → ℕ
-one b = cond b 1 0
+abbrev pub oneIf : Bool → ℕ
+oneIf b = cond b 1 0
 
 -- the counts after a visit: one more of what was found
 pub record Counted (r : TryCellResult) (before after : Counts) : Type 0 where
-  pub attached : after .attached ≡ before .attached + one (isAttached r)
-  pub no-candidate : after .«rejected_no_candidate» ≡ before .«rejected_no_candidate» + one (isNoCandidate r)
-  pub ambiguous : after .«rejected_ambiguous» ≡ before .«rejected_ambiguous» + one (isAmbiguous r)
-  pub edge : after .«rejected_edge» ≡ before .«rejected_edge» + one (isEdgeRefusal r)
+  pub attached : after .attached ≡ before .attached + oneIf (isAttached r)
+  pub no-candidate : after .«rejected_no_candidate» ≡ before .«rejected_no_candidate» + oneIf (isNoCandidate r)
+  pub ambiguous : after .«rejected_ambiguous» ≡ before .«rejected_ambiguous» + oneIf (isAmbiguous r)
+  pub edge : after .«rejected_edge» ≡ before .«rejected_edge» + oneIf (isEdgeRefusal r)
 
 -- ---- one visit of each pass
 
