@@ -1,4 +1,4 @@
--- `rooted` is what `Answers` says. Assumes nothing.
+-- `rooted` is what `Answers` says, and what it says is due. Assumes nothing.
 use Prim.Native.Nat.{ℕ, zero, suc, _+_, _-_, _*_, _^_, _≤_, _<_}
 use mathlib.Core.Path.{_≡_, refl, sym, ap, subst, _∙_}
 use mathlib.Core.Bool.{Bool, true, false, cond}
@@ -12,6 +12,7 @@ use lib.Ieee.{Float, nan, inf, fin, binary32, ofBits, toBits}
 use Rattle.binary32.specs.declared.root.Rooted.{Rooted}
 use Rattle.binary32.specs.declared.root.Rooted.the-variants.{Root, Refused}
 use Rattle.binary32.specs.Sqrt.{square, unitsOf, RootOf, Answers, reaches, climb, rooted}
+use Rattle.binary32.specs.Said.{rootSaid, takesRoot, rootDue}
 use Rattle.binary32.proofs.Unique.{mono}
 
 -- the midpoints go up with the patterns
@@ -57,6 +58,14 @@ agrees (fin false (suc m) e) a h =
     below : (r : ℕ) → r < 0x7f80_0000 → r < 0 + 2 ^ 31
     below r h = omega arith
 
--- both promises of `sqrt` at once
-pub promised : (x : Float) (a : Rooted) → Answers x a → Answers x a × (a ≡ rooted x)
-promised x a h = (h, agrees x a h)
+root-said : (x : Float) → rootSaid (rooted x) ≡ rootDue x
+unfolding rootSaid rooted takesRoot rootDue
+root-said nan = refl
+root-said (inf s) = refl
+root-said (fin s zero e) = refl
+root-said (fin true (suc m) e) = refl
+root-said (fin false (suc m) e) = refl
+
+-- all promises of `sqrt` at once
+pub promised : (x : Float) (a : Rooted) → Answers x a → Answers x a × ((a ≡ rooted x) × (rootSaid a ≡ rootDue x))
+promised x a h = (h, (agrees x a h, ap rootSaid (agrees x a h) ∙ root-said x))

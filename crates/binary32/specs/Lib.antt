@@ -3,3 +3,4 @@ pub mod Steps
 pub mod Ranges
 pub mod Hex
 pub mod Numbers
+pub mod Said

@@ -2,6 +2,7 @@
 ghost use mathlib.Core.Path.{_≡_};
 ghost use Prim.Native.Nat.{_+_, _-_, _*_, _^_, _≤_, _<_};
 ghost use Rattle.binary32.specs.Sqrt.{Answers, RootOf, rooted, sqrtOrNan};
+ghost use Rattle.binary32.specs.Said.{rootSaid, rootDue};
 ghost use Rattle.binary32.specs.Steps.{Normalized, Near, Asked, Digits, Enclosed, WholeRoot};
 use refusal::Refusal;
 
@@ -134,10 +135,12 @@ fn root_bits(b: u32) -> u32
 }
 
 // The square root of any non-negative finite float, rounded to nearest even; either zero gives itself; any other float is
-// refused with number 3. The promise is made twice: as the relation that is read beside 01, and as the computable `rooted`.
+// refused with number 3. The promise is made three times: as the relation that is read beside 01, as the computable `rooted`, and as the number or value
+// that the answer says.
 pub fn sqrt(x: f32) -> Rooted
     ensures rounded { λ a. ⌜ Answers x a ⌝ }
     ensures computed { λ a. ⌜ a ≡ rooted x ⌝ }
+    ensures said { λ a. ⌜ rootSaid a ≡ rootDue x ⌝ }
 {
     if x != x {
         return Rooted::Refused(Refusal::OutOfRange);

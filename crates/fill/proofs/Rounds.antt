@@ -22,7 +22,9 @@ use Rattle.extension_common.specs.TryCell.{Corners, cornersOf}
 use Rattle.passes.specs.Outcome.{done}
 use Rattle.passes.specs.Fill.{FillState, FillRounds, fillRound, fillFrom, fillLimit, fillRun, fillAfter}
 use Rattle.passes.specs.Step.{FillOut, fillStep, fillOut, fillLeaves}
+use Rattle.passes.specs.Said.{fillValues, fillSaid, outcomeDue}
 use Rattle.passes.specs.declared.FillAnswer.{FillAnswer}
+use Rattle.passes.proofs.Said.{fill-said}
 use Rattle.fill.specs.Filling.{stateOf, Filling, Left, startOf, RoundsLeft}
 use Rattle.fill.specs.declared.FillProgress.{FillProgress}
 use Rattle.fill.proofs.Visit.{stands, left-as}
@@ -141,19 +143,33 @@ module _ (xs ys pitches : List Float) (sheet list : List ℕ) (set : Settings) (
 
   -- ---- the call
 
+  -- what it promises of its answer and its buffers, and of what the answer says
+  abbrev pub Promised : FillOut → Type 0
+  Promised out =
+      let o = fillStep (record { xs = xs; ys = ys; pitches = pitches }) sheet set p (record { queue = 0; attached = length list }) in
+      (out ≡ fillLeaves o sheet list) × (fillSaid (out .answer) ≡ outcomeDue fillValues o)
+
+  promised : {out : FillOut} → out ≡ fillLeaves (fillStep (record { xs = xs; ys = ys; pitches = pitches }) sheet set p (record { queue = 0; attached = length list })) sheet list → Promised out
+  promised e = (e, fill-said _ sheet list _ e)
+
   -- its check refuses it, or lets it pass
   module _ (check : Checked) (is : check ≡ checked (lent xs ys pitches sheet 0 (length list)) set (Pass.Fill p)) where
-    pub call-refused : (r : Refusal) → check ≡ Checked.Refused r
+    leaves-refused : (r : Refusal) → check ≡ Checked.Refused r
         → fillOut (FillAnswer.Refused r) sheet list
         ≡ fillLeaves (fillStep (record { xs = xs; ys = ys; pitches = pitches }) sheet set p (record { queue = 0; attached = length list })) sheet list
     unfolding fillStep
-    call-refused r e = rw (← is, e)
+    leaves-refused r e = rw (← is, e)
+
+    pub call-refused : (r : Refusal) → check ≡ Checked.Refused r → Promised (fillOut (FillAnswer.Refused r) sheet list)
+    call-refused r e = promised (leaves-refused r e)
 
     module _ (e : check ≡ Checked.Fine) where
       pub call-accepted : Accepted (lent xs ys pitches sheet 0 (length list)) set (Pass.Fill p)
       call-accepted = accepted (lent xs ys pitches sheet 0 (length list)) set (Pass.Fill p) (sym is ∙ e)
 
-      pub call-done : (out : FillOut) → out ≡ fillLeaves (done (fillAfter (cornersOf xs ys pitches) set p sheet)) sheet list
-          → out ≡ fillLeaves (fillStep (record { xs = xs; ys = ys; pitches = pitches }) sheet set p (record { queue = 0; attached = length list })) sheet list
+      leaves-done : (out : FillOut) → out ≡ fillLeaves (done (fillAfter (cornersOf xs ys pitches) set p sheet)) sheet list → out ≡ fillLeaves (fillStep (record { xs = xs; ys = ys; pitches = pitches }) sheet set p (record { queue = 0; attached = length list })) sheet list
       unfolding fillStep
-      call-done out f = rw (← is, e) f
+      leaves-done out h = rw (← is, e) h
+
+      pub call-done : (out : FillOut) → out ≡ fillLeaves (done (fillAfter (cornersOf xs ys pitches) set p sheet)) sheet list → Promised out
+      call-done out h = promised (leaves-done out h)

@@ -11,6 +11,7 @@ ghost use Rattle.passes.specs.Outcome.{done};
 ghost use Rattle.passes.specs.Grow.{tolerancesOf};
 ghost use Rattle.passes.specs.Fill.{nearI, nearJ, boxAndStrips, fillSearch, fillVisit, fillRound, fillFrom, fillLimit, fillAfter};
 ghost use Rattle.passes.specs.Step.{fillStep, fillOut, fillLeaves};
+ghost use Rattle.passes.specs.Said.{fillValues, fillSaid, outcomeDue};
 ghost use Rattle.region.specs.Small.{SmallBounds, SmallBox};
 ghost use Rattle.fill.specs.Filling.{stateOf, Filling, Left, Trying, Writable, Wrote, Looking, lookedAt, startOf, RoundsLeft};
 use arguments::Checked;
@@ -318,7 +319,7 @@ fn fill_accepted(
 // Fills the sheet: each round walks, by i then j, the unlabelled cells of the label box and one strip along each whole side, and attaches a
 // corner where one is found; a round that attaches nothing is the last. The attached list holds the new cells' places in order at its front,
 // its rest untouched; no mark changes. The answer has the number of new cells, the number of rounds, and the rim. A refused call changes
-// nothing and answers why.
+// nothing and answers why. `said` is the same answer in 01's number or values.
 pub fn fill_grid_holes(
     xs: &[f32],
     ys: &[f32],
@@ -329,6 +330,8 @@ pub fn fill_grid_holes(
     params: FillParams,
 ) -> FillAnswer
     ensures { λ r. ⌜ fillOut r (now (sheet .exit)) (now (attached .exit)) ≡ fillLeaves (fillStep (record { xs = now (xs .entry); ys = now (ys .entry); pitches = now (pitches .entry) }) (now (sheet .entry)) settings params (record { queue = 0; attached = length (now (attached .entry)) })) (now (sheet .entry)) (now (attached .entry)) ⌝ }
+    ensures said { λ r. ⌜ fillSaid r ≡ outcomeDue fillValues (fillStep (record { xs = now (xs .entry); ys = now (ys .entry); pitches = now (pitches .entry) })
+        (now (sheet .entry)) settings params (record { queue = 0; attached = length (now (attached .entry)) })) ⌝ }
 {
     let checked = arguments::check_arguments(
         xs,

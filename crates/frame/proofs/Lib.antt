@@ -5,3 +5,4 @@ pub mod Agree
 pub mod Adding
 pub mod Turn
 pub mod Leaving
+pub mod Said

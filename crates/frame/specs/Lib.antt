@@ -3,4 +3,5 @@
 pub mod Frame
 pub mod Text
 pub mod ReadFrame
+pub mod Said
 pub mod Reading

@@ -10,6 +10,7 @@ ghost use Rattle.frame_state.specs.State.{nothing-said, arrays, state};
 ghost use Rattle.arguments.specs.Front.{over};
 ghost use Rattle.frame.specs.Frame.{linesOf, stageAfter, readLines, nothing-read};
 ghost use Rattle.frame.specs.ReadFrame.{frameOut, tooShort, leaves, readInto};
+ghost use Rattle.frame.specs.Said.{frameSaid, frameDue};
 ghost use Rattle.frame.specs.Reading.{lineLength, FrameHeld, Room, went, heldStep, ReadAs, buffers, Copies, LongEnough};
 use arguments::Checked;
 use arguments::Settings;
@@ -242,7 +243,8 @@ fn read_text(
 
 // Reads a frame. An accepted one is written to the buffers: its corners to the front of the first three, the sheet of its labels to the
 // first 16,384 places of the fourth, and its passes, six words each, to the front of the last; the rest of them stays. A refused one
-// writes nothing, and the answer has the refusal and the line, 0 where it is about no line.
+// writes nothing, and the answer has the refusal and the line, 0 where it is about no line. `said` is the same answer in 01's number with the line,
+// or values.
 pub fn read_frame(
     text: &[u8],
     xs: &mut [f32],
@@ -252,6 +254,8 @@ pub fn read_frame(
     passes: &mut [u32],
 ) -> FrameAnswer
     ensures { λ r. ⌜ frameOut r (now (xs .exit)) (now (ys .exit)) (now (pitches .exit)) (now (sheet .exit)) (now (passes .exit)) ≡ readInto (now (text .entry)) (buffers (now (xs .entry)) (now (ys .entry)) (now (pitches .entry)) (now (sheet .entry)) (now (passes .entry))) ⌝ }
+    ensures said { λ r. ⌜ frameSaid r ≡ frameDue (now (text .entry))
+        (buffers (now (xs .entry)) (now (ys .entry)) (now (pitches .entry)) (now (sheet .entry)) (now (passes .entry))) ⌝ }
 {
     if too_short(xs, ys, pitches, sheet, passes) {
         return FrameAnswer::Refused(Refusal::BufferTooShort, 0);

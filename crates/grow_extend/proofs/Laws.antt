@@ -34,10 +34,12 @@ use Rattle.extension_common.specs.declared.TryCellResult.{TryCellResult}
 use Rattle.passes.specs.Outcome.{done}
 use Rattle.passes.specs.Grow.{GrowState, noCounts, tolerancesOf, searchOf, spread, startOf, growWith, growAt, growVisit, growFrom, growRun, growAfter}
 use Rattle.passes.specs.Step.{growStep, GrowOut, growOut, growLeaves, cornerLists, rooms}
+use Rattle.passes.specs.Said.{growValues, growSaid, outcomeDue}
 use Rattle.passes.specs.declared.Counts.{Counts}
 use Rattle.passes.specs.declared.GrowAnswer.{GrowAnswer}
 use Rattle.passes.proofs.Over.{over-length, over-at, over-read, over-own, over-put, over-over}
 use Rattle.passes.proofs.Queue.{more-length, spread-longer, seeded-longer}
+use Rattle.passes.proofs.Said.{grow-said}
 use Rattle.passes.proofs.Enough.{Belongs, belongs-accepted, Going, Free, found-free, nextOf, next-on, room-left, slot-left, queue-few, made-few, start-going, visit-going, from-ended, from-next, labels-few}
 use Rattle.grow_queue.specs.Queue.{Flagged, Room, QueueHeld, Unqueued, seeded}
 use Rattle.grow_queue.proofs.Laws.{holds-read, holds-length}
@@ -393,17 +395,33 @@ module _ (xs ys pitches : List Float) (set : Settings) (p : GrowParams) (sheet q
           let q = l .queue-is ∙ ap (over (growRun (cornersOf xs ys pitches) set p sheet .queued)) (h .written) ∙ over-over (seeded sheet) (growRun (cornersOf xs ys pitches) set p sheet .queued) queue longer in
           rw (e, l .counts-are, l .sheet-is, q, l .attached-is)
 
+  -- what the call promises of its answer and its buffers, and of what the answer says
+  abbrev pub Promised : GrowOut → Type 0
+  Promised out =
+      let o = growStep (cornerLists xs ys pitches) sheet set p (rooms (length queue) (length news)) in
+      (out ≡ growLeaves o sheet queue news) × (growSaid (out .answer) ≡ outcomeDue growValues o)
+
+  promised : {out : GrowOut} → out ≡ growLeaves (growStep (cornerLists xs ys pitches) sheet set p (rooms (length queue) (length news))) sheet queue news → Promised out
+  promised e = (e, grow-said _ sheet queue news _ e)
+
   -- by what the check of the arguments finds
   module _ {found : Checked} (is : found ≡ checked (lent xs ys pitches sheet (length queue) (length news)) set (Pass.Grow p)) where
-    pub call-refused : {r : Refusal} → found ≡ Checked.Refused r
+    leaves-refused : {r : Refusal} → found ≡ Checked.Refused r
         → growOut (GrowAnswer.Refused r) sheet queue news ≡ growLeaves (growStep (cornerLists xs ys pitches) sheet set p (rooms (length queue) (length news))) sheet queue news
     unfolding growStep
-    call-refused e = rw (← is, e)
+    leaves-refused e = rw (← is, e)
+
+    pub call-refused : {r : Refusal} → found ≡ Checked.Refused r → Promised (growOut (GrowAnswer.Refused r) sheet queue news)
+    call-refused e = promised (leaves-refused e)
 
     pub call-accepted : found ≡ Checked.Fine → Accepted (lent xs ys pitches sheet (length queue) (length news)) set (Pass.Grow p)
     call-accepted e = accepted _ _ _ (sym is ∙ e)
 
-    pub call-done : found ≡ Checked.Fine → {r : GrowAnswer} {s q n : List ℕ} → growOut r s q n ≡ growLeaves (done (growAfter (cornersOf xs ys pitches) set p sheet)) sheet queue news
-        → growOut r s q n ≡ growLeaves (growStep (cornerLists xs ys pitches) sheet set p (rooms (length queue) (length news))) sheet queue news
+    leaves-done : found ≡ Checked.Fine → {out : GrowOut} → out ≡ growLeaves (done (growAfter (cornersOf xs ys pitches) set p sheet)) sheet queue news
+        → out ≡ growLeaves (growStep (cornerLists xs ys pitches) sheet set p (rooms (length queue) (length news))) sheet queue news
     unfolding growStep
-    call-done e h = rw (← is, e) h
+    leaves-done e h = rw (← is, e) h
+
+    pub call-done : found ≡ Checked.Fine → {r : GrowAnswer} {s q n : List ℕ} → growOut r s q n ≡ growLeaves (done (growAfter (cornersOf xs ys pitches) set p sheet)) sheet queue news
+        → Promised (growOut r s q n)
+    call-done e h = promised (leaves-done e h)

@@ -10,6 +10,7 @@ ghost use Rattle.extension_common.specs.TryCell.{cornersOf, Ready};
 ghost use Rattle.passes.specs.Outcome.{Outcome};
 ghost use Rattle.passes.specs.Grow.{radiusOf, searchOf, growWith, growVisit, growRun, growAfter};
 ghost use Rattle.passes.specs.Step.{growStep, growOut, growLeaves, cornerLists, rooms};
+ghost use Rattle.passes.specs.Said.{growValues, growSaid, outcomeDue};
 ghost use Rattle.grow_extend.specs.Grow.{foundAt, stateOf, withAttached, withNoCandidate, withAmbiguous, withEdge, SmallCounts, Leaves, Attachable, Settleable, Visitable, Startable};
 use arguments::Checked;
 use arguments::GrowParams;
@@ -303,7 +304,7 @@ fn extend(
 
 // Grow on the corners and the sheet that are lent. A refusal says why and changes nothing. Else the sheet holds what grow left, the queue
 // holds the visited cells in order, the attached list the new cells in order, the rest of both untouched, and the answer has the counts
-// and the rim.
+// and the rim. `said` is the same answer in 01's number or values.
 pub fn extend_from_labelled(
     xs: &[f32],
     ys: &[f32],
@@ -315,6 +316,8 @@ pub fn extend_from_labelled(
     params: GrowParams,
 ) -> GrowAnswer
     ensures { λ r. ⌜ growOut r (now (sheet .exit)) (now (queue .exit)) (now (attached .exit)) ≡ growLeaves (growStep (cornerLists (now (xs .entry)) (now (ys .entry)) (now (pitches .entry))) (now (sheet .entry)) settings params (rooms (length (now (queue .entry))) (length (now (attached .entry))))) (now (sheet .entry)) (now (queue .entry)) (now (attached .entry)) ⌝ }
+    ensures said { λ r. ⌜ growSaid r ≡ outcomeDue growValues (growStep (cornerLists (now (xs .entry)) (now (ys .entry)) (now (pitches .entry)))
+        (now (sheet .entry)) settings params (rooms (length (now (queue .entry))) (length (now (attached .entry))))) ⌝ }
 {
     let checked = arguments::check_arguments(
         xs,

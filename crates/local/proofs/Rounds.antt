@@ -26,9 +26,11 @@ use Rattle.extension_common.specs.TryCell.{Corners, cornersOf}
 use Rattle.passes.specs.Outcome.{done}
 use Rattle.passes.specs.Local.{depthOf, localSearch, LocalState, LocalRounds, localRound, localFrom, localLimit, localRun, localAfter}
 use Rattle.passes.specs.Step.{LocalOut, localStep, localOut, localLeaves}
+use Rattle.passes.specs.Said.{localValues, localSaid, outcomeDue}
 use Rattle.passes.specs.declared.LocalStats.{LocalStats}
 use Rattle.passes.specs.declared.LocalAnswer.{LocalAnswer}
 use Rattle.passes.proofs.Free.{labels-few}
+use Rattle.passes.proofs.Said.{local-said}
 use Rattle.supports.specs.Nearest.{Gatherable, Gathered}
 use Rattle.local.specs.Extending.{visits, stateOf, Left, RoundAsked, noProgress, startOf, RoundsAsked, RoundsLeft, statsOf}
 use Rattle.local.specs.declared.LocalProgress.{LocalProgress}
@@ -191,19 +193,33 @@ module _ (xs ys pitches : List Float) (sheet list : List ℕ) (set : Settings) (
 
   -- ---- the call
 
+  -- what it promises of its answer and its buffers, and of what the answer says
+  abbrev pub Promised : LocalOut → Type 0
+  Promised out =
+      let o = localStep (record { xs = xs; ys = ys; pitches = pitches }) sheet set p (record { queue = 0; attached = length list }) in
+      (out ≡ localLeaves o sheet list) × (localSaid (out .answer) ≡ outcomeDue localValues o)
+
+  promised : {out : LocalOut} → out ≡ localLeaves (localStep (record { xs = xs; ys = ys; pitches = pitches }) sheet set p (record { queue = 0; attached = length list })) sheet list → Promised out
+  promised e = (e, local-said _ sheet list _ e)
+
   -- its check refuses it, or lets it pass
   module _ (check : Checked) (is : check ≡ checked (lent xs ys pitches sheet 0 (length list)) set (Pass.Local p)) where
-    pub call-refused : (r : Refusal) → check ≡ Checked.Refused r
+    leaves-refused : (r : Refusal) → check ≡ Checked.Refused r
         → localOut (LocalAnswer.Refused r) sheet list
         ≡ localLeaves (localStep (record { xs = xs; ys = ys; pitches = pitches }) sheet set p (record { queue = 0; attached = length list })) sheet list
     unfolding localStep
-    call-refused r e = rw (← is, e)
+    leaves-refused r e = rw (← is, e)
+
+    pub call-refused : (r : Refusal) → check ≡ Checked.Refused r → Promised (localOut (LocalAnswer.Refused r) sheet list)
+    call-refused r e = promised (leaves-refused r e)
 
     module _ (e : check ≡ Checked.Fine) where
       pub call-accepted : Accepted (lent xs ys pitches sheet 0 (length list)) set (Pass.Local p)
       call-accepted = accepted (lent xs ys pitches sheet 0 (length list)) set (Pass.Local p) (sym is ∙ e)
 
-      pub call-done : (out : LocalOut) → out ≡ localLeaves (done (localAfter (cornersOf xs ys pitches) set p sheet)) sheet list
-          → out ≡ localLeaves (localStep (record { xs = xs; ys = ys; pitches = pitches }) sheet set p (record { queue = 0; attached = length list })) sheet list
+      leaves-done : (out : LocalOut) → out ≡ localLeaves (done (localAfter (cornersOf xs ys pitches) set p sheet)) sheet list → out ≡ localLeaves (localStep (record { xs = xs; ys = ys; pitches = pitches }) sheet set p (record { queue = 0; attached = length list })) sheet list
       unfolding localStep
-      call-done out f = rw (← is, e) f
+      leaves-done out h = rw (← is, e) h
+
+      pub call-done : (out : LocalOut) → out ≡ localLeaves (done (localAfter (cornersOf xs ys pitches) set p sheet)) sheet list → Promised out
+      call-done out h = promised (leaves-done out h)

@@ -10,6 +10,7 @@ ghost use Rattle.passes.specs.Outcome.{done};
 ghost use Rattle.passes.specs.Grow.{tolerancesOf};
 ghost use Rattle.passes.specs.Local.{depthOf, localSearch, gateOf, localRound, localFrom, localAfter};
 ghost use Rattle.passes.specs.Step.{CornerLists, Rooms, localStep, localOut, localLeaves};
+ghost use Rattle.passes.specs.Said.{localValues, localSaid, outcomeDue};
 ghost use Rattle.arguments.specs.Arguments.{lent};
 ghost use Rattle.arguments.specs.Accepted.{Accepted};
 ghost use Rattle.region.specs.Region.{regionOf};
@@ -307,7 +308,7 @@ fn local_accepted(
 // residuals is above the gate; a corner that is found is attached, and both marks of its cell are cleared. A round that attaches nothing is the last,
 // and under four labels there is none. The attached list holds the new cells' places in order at its front, its rest untouched; no other mark
 // changes. The answer has the four counts, the number of rounds, the largest residual recorded, and the rim. A refused call changes nothing and
-// answers why.
+// answers why. `said` is the same answer in 01's number or values.
 pub fn extend_via_local_homography(
     xs: &[f32],
     ys: &[f32],
@@ -318,6 +319,9 @@ pub fn extend_via_local_homography(
     params: LocalExtensionParams,
 ) -> LocalAnswer
     ensures { λ r. ⌜ localOut r (now (sheet .exit)) (now (attached .exit)) ≡ localLeaves (localStep (record { xs = now (xs .entry); ys = now (ys .entry); pitches = now (pitches .entry) }) (now (sheet .entry)) settings params (record { queue = 0; attached = length (now (attached .entry)) })) (now (sheet .entry)) (now (attached .entry)) ⌝ }
+    ensures said { λ r. ⌜ localSaid r ≡ outcomeDue localValues (localStep
+        (record { xs = now (xs .entry); ys = now (ys .entry); pitches = now (pitches .entry) })
+        (now (sheet .entry)) settings params (record { queue = 0; attached = length (now (attached .entry)) })) ⌝ }
 {
     let checked = arguments::check_arguments(
         xs,

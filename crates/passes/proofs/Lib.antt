@@ -6,3 +6,4 @@ pub mod Queue
 pub mod Enough
 pub mod Run
 pub mod Nearest
+pub mod Said

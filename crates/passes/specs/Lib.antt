@@ -5,6 +5,7 @@ pub mod Local
 pub mod Nearest
 pub mod Step
 pub mod Run
+pub mod Said
 pub mod History
 pub mod Enough
 pub mod Changes

@@ -12,7 +12,8 @@ use Rattle.arguments.proofs.Chains.{or-false-both, not-refused}
 use Rattle.line_form.specs.Written.{Wrote}
 use Rattle.report_line.specs.Result.{lineCount, Piece}
 use Rattle.arguments.specs.Front.{over}
-use Rattle.report.specs.WriteResult.{TextLent, statsIn, textOf, inputShort, overLimit, wild, checkedRest, checkedText, textOut, textLeaves, writesText, pieceIn, checkedPiece, pieceOut, pieceLeaves, writesPiece}
+use Rattle.report.specs.WriteResult.{TextLent, statsIn, textOf, inputShort, overLimit, wild, checkedRest, checkedText, TextOut, textOut, textLeaves, writesText, pieceIn, checkedPiece, PieceOut, pieceOut, pieceLeaves, writesPiece}
+use Rattle.report.specs.Said.{textSaid, textDue, pieceSaid, pieceDue}
 use Rattle.report.specs.Asked.{Sound, textFrom, pieceFrom, AllAsked, SomeAsked, WrotePiece}
 use Rattle.report.specs.declared.TextAnswer.{TextAnswer}
 use Rattle.report.specs.declared.PieceAnswer.{PieceAnswer}
@@ -20,6 +21,7 @@ use Rattle.report.specs.declared.lines.PieceEnd.{PieceEnd}
 use Rattle.report.proofs.Laws.{from-the-start}
 use Rattle.report.proofs.Outcomes.{all-tame}
 use Rattle.report.proofs.Checking.{all-lent}
+use Rattle.report.proofs.Said.{text-promised, piece-promised}
 
 module _ (l : TextLent) where
   sound : inputShort l ≡ false → wild l ≡ false → Sound (l .passes) (l .words) (l .sheet)
@@ -41,16 +43,21 @@ module _ (l : TextLent) where
         let three = not-refused (wild l) _ _ (two .1) in
         record { sound = sound (short .0) (three .0); room = rw same-text (ltb-false (length out) (length (textOf l)) (short .1)) }
 
-    pub text-refused : (r : Refusal) → checkedText l (length out) ≡ Checked.Refused r → textOut (TextAnswer.Refused r) out ≡ writesText l out
+    -- what the call promises
+    abbrev TextPromised : TextOut → Type 0
+    TextPromised t = (t ≡ writesText l out) × (textSaid (t .answer) ≡ textDue l out)
+
+    pub text-refused : (r : Refusal) → checkedText l (length out) ≡ Checked.Refused r → TextPromised (textOut (TextAnswer.Refused r) out)
     unfolding writesText
-    text-refused r e = sym (ap (λ (c : Checked). textLeaves c l out) e)
+    text-refused r e = text-promised l out (sym (ap (λ (c : Checked). textLeaves c l out) e))
 
     pub text-written : (n : ℕ) (new : List ℕ) → checkedText l (length out) ≡ Checked.Fine → Wrote (textFrom (l .passes) (l .words) (l .sheet) 0) out new n
-        → textOut (TextAnswer.Written n) new ≡ writesText l out
+        → TextPromised (textOut (TextAnswer.Written n) new)
     unfolding writesText
     text-written n new e w =
-        ap₂ (λ (m : ℕ) (b : List ℕ). textOut (TextAnswer.Written m) b) (w .count ∙ ap length same-text) (w .part ∙ ap (λ (t : List ℕ). over t out) same-text)
-        ∙ sym (ap (λ (c : Checked). textLeaves c l out) e)
+        text-promised l out
+        (ap₂ (λ (m : ℕ) (b : List ℕ). textOut (TextAnswer.Written m) b) (w .count ∙ ap length same-text) (w .part ∙ ap (λ (t : List ℕ). over t out) same-text)
+        ∙ sym (ap (λ (c : Checked). textLeaves c l out) e))
 
   -- ---- a piece
 
@@ -65,16 +72,21 @@ module _ (l : TextLent) where
         let range = or-false-both (wild l) _ (three .0) in
         record { sound = sound (short .0) (range .0); upto = ltb-false (lineCount (l .passes)) from (range .1) }
 
-    pub piece-refused : (r : Refusal) → checkedPiece l from (length out) ≡ Checked.Refused r → pieceOut (PieceAnswer.Refused r) out ≡ writesPiece l from out
+    -- what the call promises
+    abbrev PiecePromised : PieceOut → Type 0
+    PiecePromised t = (t ≡ writesPiece l from out) × (pieceSaid (t .answer) ≡ pieceDue l from out)
+
+    pub piece-refused : (r : Refusal) → checkedPiece l from (length out) ≡ Checked.Refused r → PiecePromised (pieceOut (PieceAnswer.Refused r) out)
     unfolding writesPiece
-    piece-refused r e = sym (ap (λ (c : Checked). pieceLeaves c (pieceIn l from (length out)) out) e)
+    piece-refused r e = piece-promised l from out (sym (ap (λ (c : Checked). pieceLeaves c (pieceIn l from (length out)) out) e))
 
     pub piece-written : (r : PieceEnd) (new : List ℕ) → checkedPiece l from (length out) ≡ Checked.Fine
-        → WrotePiece (pieceFrom (l .passes) (l .words) (l .sheet) from (length out)) out new r → pieceOut (PieceAnswer.Written (r .at) (r .next)) new ≡ writesPiece l from out
+        → WrotePiece (pieceFrom (l .passes) (l .words) (l .sheet) from (length out)) out new r → PiecePromised (pieceOut (PieceAnswer.Written (r .at) (r .next)) new)
     unfolding writesPiece pieceFrom
     piece-written r new e w =
-        leaves (r .at) (r .next) (pieceIn l from (length out)) (w .wrote) (w .next)
-        ∙ sym (ap (λ (c : Checked). pieceLeaves c (pieceIn l from (length out)) out) e)
+        piece-promised l from out
+        (leaves (r .at) (r .next) (pieceIn l from (length out)) (w .wrote) (w .next)
+        ∙ sym (ap (λ (c : Checked). pieceLeaves c (pieceIn l from (length out)) out) e))
       where
         leaves : (n next : ℕ) (p : Piece) → Wrote (p .text) out new n → next ≡ p .next
             → pieceOut (PieceAnswer.Written n next) new ≡ pieceOut (PieceAnswer.Written (length (p .text)) (p .next)) (over (p .text) out)

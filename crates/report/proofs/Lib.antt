@@ -8,4 +8,5 @@ pub mod Laws
 pub mod Checking
 pub mod Writing
 pub mod Blank
+pub mod Said
 pub mod Answers

@@ -5,6 +5,7 @@ pub mod words; // words.rt: outcomes as words
 
 ghost use mathlib.Core.Path.{_≡_};
 ghost use Rattle.report.specs.WriteResult.{textLent, textOut, writesText, pieceOut, writesPiece};
+ghost use Rattle.report.specs.Said.{textSaid, textDue, pieceSaid, pieceDue};
 use arguments::Checked;
 use refusal::Refusal;
 
@@ -21,7 +22,7 @@ pub enum PieceAnswer {
 }
 
 // Writes the whole text of a result to the front of a buffer, and leaves the rest of it as it was. It is lent the outcomes of the passes as words, nine
-// for each, and the sheet, and told how many passes and corners there are.
+// for each, and the sheet, and told how many passes and corners there are. `said` is the same answer in 01's number or values.
 pub fn write_result(
     corners: usize,
     passes: usize,
@@ -30,6 +31,7 @@ pub fn write_result(
     out: &mut [u8],
 ) -> TextAnswer
     ensures { λ r. ⌜ textOut r (now (out .exit)) ≡ writesText (textLent corners passes (now (words .entry)) (now (sheet .entry))) (now (out .entry)) ⌝ }
+    ensures said { λ r. ⌜ textSaid r ≡ textDue (textLent corners passes (now (words .entry)) (now (sheet .entry))) (now (out .entry)) ⌝ }
 {
     let checked = tests::check_text(corners, passes, words, sheet, out.len());
     match checked {
@@ -38,7 +40,7 @@ pub fn write_result(
     }
 }
 
-// Writes a piece of it: whole lines from a line on, as long as 128 bytes are left before each.
+// Writes a piece of it: whole lines from a line on, as long as 128 bytes are left before each. `said` is the same answer in 01's number or values.
 pub fn write_result_piece(
     corners: usize,
     passes: usize,
@@ -48,6 +50,7 @@ pub fn write_result_piece(
     out: &mut [u8],
 ) -> PieceAnswer
     ensures { λ r. ⌜ pieceOut r (now (out .exit)) ≡ writesPiece (textLent corners passes (now (words .entry)) (now (sheet .entry))) from (now (out .entry)) ⌝ }
+    ensures said { λ r. ⌜ pieceSaid r ≡ pieceDue (textLent corners passes (now (words .entry)) (now (sheet .entry))) from (now (out .entry)) ⌝ }
 {
     let checked = tests::check_piece(corners, passes, words, sheet, from, out.len());
     if let Checked::Refused(r) = checked {

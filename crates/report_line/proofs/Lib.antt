@@ -2,3 +2,4 @@
 pub mod Short
 pub mod Lengths
 pub mod Forms
+pub mod Said

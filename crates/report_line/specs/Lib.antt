@@ -1,4 +1,5 @@
 -- The definitions of a result's text, of how long its lines are, and of what a line writer leaves. Definitions only.
 pub mod Result
+pub mod Said
 pub mod Lengths
 pub mod Written

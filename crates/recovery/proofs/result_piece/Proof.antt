@@ -20,13 +20,13 @@ same-length : tie.Need-same-length
 same-length c = search needs
 
 returns : tie.Need-returns
-returns c = let w = wrote-piece (c .before .before .before .before .before .before .before .before .before .before .args .corners) (c .before .before .before .before .before .before .before .before .before .before .args .passes) (c .before .before .before .before .before .before .before .before .before .before .args .words .now) (c .before .before .before .before .before .before .before .before .before .before .args .sheet .now) (c .before .before .before .before .before .before .before .before .before .before .pre .0) (c .before .before .before .before .before .before .before .before .before .before .args .from) (c .before .before .before .before .before .before .before .before .before .before .pre .1 .0) (c .before .before .before .before .before .before .before .before .before .before .args .out .now) (c .before .before .before .before .before .before .before .before .before .before .pre .1 .1) _ (c .before .before .before .before .before .write-result-piece .last .1 .1 .1 .1 .1 .0) (c .before .before .before .before .before .write-result-piece .ensures) _ _ (c .before .answer .given .1) in (w, moves-result (c .before .before .before .before .before .before .before .before .before .before .args .corners) (c .before .before .before .before .before .before .before .before .before .before .args .passes) (c .before .before .before .before .before .before .before .before .before .before .args .words .now) (c .before .before .before .before .before .before .before .before .before .before .args .sheet .now) (c .before .before .before .before .before .before .before .before .before .before .args .out .now) _ (c .before .before .before .before .before .before .before .before .before .before .args .from) _ (c .before .before .before .before .before .before .before .before .before .before .pre .1 .0) (c .before .before .before .before .before .before .before .before .before .before .pre .1 .1) w (c .before .before .before .before .before .write-result-piece .kept .1 .1 .1 .1 .1 .0))
+returns c = let w = wrote-piece (c .before .before .before .before .before .before .before .before .before .before .args .corners) (c .before .before .before .before .before .before .before .before .before .before .args .passes) (c .before .before .before .before .before .before .before .before .before .before .args .words .now) (c .before .before .before .before .before .before .before .before .before .before .args .sheet .now) (c .before .before .before .before .before .before .before .before .before .before .pre .0) (c .before .before .before .before .before .before .before .before .before .before .args .from) (c .before .before .before .before .before .before .before .before .before .before .pre .1 .0) (c .before .before .before .before .before .before .before .before .before .before .args .out .now) (c .before .before .before .before .before .before .before .before .before .before .pre .1 .1) _ (c .before .before .before .before .before .write-result-piece .last .1 .1 .1 .1 .1 .0) (c .before .before .before .before .before .write-result-piece .ensures .0) _ _ (c .before .answer .given .1) in (w, moves-result (c .before .before .before .before .before .before .before .before .before .before .args .corners) (c .before .before .before .before .before .before .before .before .before .before .args .passes) (c .before .before .before .before .before .before .before .before .before .before .args .words .now) (c .before .before .before .before .before .before .before .before .before .before .args .sheet .now) (c .before .before .before .before .before .before .before .before .before .before .args .out .now) _ (c .before .before .before .before .before .before .before .before .before .before .args .from) _ (c .before .before .before .before .before .before .before .before .before .before .pre .1 .0) (c .before .before .before .before .before .before .before .before .before .before .pre .1 .1) w (c .before .before .before .before .before .write-result-piece .kept .1 .1 .1 .1 .1 .0))
 
 same-length-2 : tie.Need-same-length-2
 same-length-2 c = search needs
 
 returns-2 : tie.Need-returns-2
-returns-2 c = absurd (not-refused (c .before .before .before .before .before .before .before .before .before .args .corners) (c .before .before .before .before .before .before .before .before .before .args .passes) (c .before .before .before .before .before .before .before .before .before .args .words .now) (c .before .before .before .before .before .before .before .before .before .args .sheet .now) (c .before .before .before .before .before .before .before .before .before .pre .0) (c .before .before .before .before .before .before .before .before .before .args .from) (c .before .before .before .before .before .before .before .before .before .pre .1 .0) (c .before .before .before .before .before .before .before .before .before .args .out .now) (c .before .before .before .before .before .before .before .before .before .pre .1 .1) _ (c .before .before .before .before .write-result-piece .last .1 .1 .1 .1 .1 .0) (c .before .before .before .before .write-result-piece .ensures) _ (c .enum-told .given .1))
+returns-2 c = absurd (not-refused (c .before .before .before .before .before .before .before .before .before .args .corners) (c .before .before .before .before .before .before .before .before .before .args .passes) (c .before .before .before .before .before .before .before .before .before .args .words .now) (c .before .before .before .before .before .before .before .before .before .args .sheet .now) (c .before .before .before .before .before .before .before .before .before .pre .0) (c .before .before .before .before .before .before .before .before .before .args .from) (c .before .before .before .before .before .before .before .before .before .pre .1 .0) (c .before .before .before .before .before .before .before .before .before .args .out .now) (c .before .before .before .before .before .before .before .before .before .pre .1 .1) _ (c .before .before .before .before .write-result-piece .last .1 .1 .1 .1 .1 .0) (c .before .before .before .before .write-result-piece .ensures .0) _ (c .enum-told .given .1))
 
 pub result-piece-spec : {M : Type 1} → statement M
 result-piece-spec =

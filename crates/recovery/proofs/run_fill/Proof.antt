@@ -20,7 +20,7 @@ enum-known-answer : tie.Need-enum-known-answer
 enum-known-answer c = search needs
 
 put-fill-requires : tie.Need-put-fill-requires
-put-fill-requires c κs = let small = fill-small _ _ _ (c .before .before .before .before .before .before .before .before .before .before .before .before .before .before .before .before .before .args .queue) (c .before .before .before .before .before .before .before .before .before .before .before .before .before .before .before .before .before .args .sheet .now) (c .before .before .before .before .before .before .before .before .before .before .before .before .before .before .before .before .before .args .attached .now) (c .before .before .before .before .before .before .before .before .fill-grid-holes .last .1 .1 .1 .0) (c .before .before .before .before .before .before .before .before .fill-grid-holes .last .1 .1 .1 .1 .0) _ _ (c .before .before .answer .given .1) (c .before .before .before .before .before .before .before .before .fill-grid-holes .ensures) in omega (arith, c .before .before .before .before .before .before .before .before .before .before .before .before .before .before .before .before .before .pre, small)
+put-fill-requires c κs = let small = fill-small _ _ _ (c .before .before .before .before .before .before .before .before .before .before .before .before .before .before .before .before .before .args .queue) (c .before .before .before .before .before .before .before .before .before .before .before .before .before .before .before .before .before .args .sheet .now) (c .before .before .before .before .before .before .before .before .before .before .before .before .before .before .before .before .before .args .attached .now) (c .before .before .before .before .before .before .before .before .fill-grid-holes .last .1 .1 .1 .0) (c .before .before .before .before .before .before .before .before .fill-grid-holes .last .1 .1 .1 .1 .0) _ _ (c .before .before .answer .given .1) (c .before .before .before .before .before .before .before .before .fill-grid-holes .ensures .0) in omega (arith, c .before .before .before .before .before .before .before .before .before .before .before .before .before .before .before .before .before .pre, small)
 
 same-length : tie.Need-same-length
 same-length c = search needs
@@ -29,7 +29,7 @@ same-length-2 : tie.Need-same-length-2
 same-length-2 c = search needs
 
 returns : tie.Need-returns
-returns c = fill-refused _ _ _ (c .before .before .before .before .before .before .before .before .before .before .before .before .before .before .before .args .queue) (c .before .before .before .before .before .before .before .before .before .before .before .before .before .before .before .args .sheet .now) (c .before .before .before .before .before .before .before .before .before .before .before .before .before .before .before .args .attached .now) (c .before .before .before .before .before .before .fill-grid-holes .last .1 .1 .1 .0) (c .before .before .before .before .before .before .fill-grid-holes .last .1 .1 .1 .1 .0) (c .before .before .before .before .before .before .before .before .before .before .before .before .before .before .before .args .k) (c .before .before .before .before .before .before .before .before .before .before .before .before .before .before .before .args .words .now) _ _ (c .enum-told .given .1) (c .before .before .before .before .before .before .fill-grid-holes .ensures)
+returns c = fill-refused _ _ _ (c .before .before .before .before .before .before .before .before .before .before .before .before .before .before .before .args .queue) (c .before .before .before .before .before .before .before .before .before .before .before .before .before .before .before .args .sheet .now) (c .before .before .before .before .before .before .before .before .before .before .before .before .before .before .before .args .attached .now) (c .before .before .before .before .before .before .fill-grid-holes .last .1 .1 .1 .0) (c .before .before .before .before .before .before .fill-grid-holes .last .1 .1 .1 .1 .0) (c .before .before .before .before .before .before .before .before .before .before .before .before .before .before .before .args .k) (c .before .before .before .before .before .before .before .before .before .before .before .before .before .before .before .args .words .now) _ _ (c .enum-told .given .1) (c .before .before .before .before .before .before .fill-grid-holes .ensures .0)
 
 same-length-3 : tie.Need-same-length-3
 same-length-3 c = search needs
@@ -41,7 +41,7 @@ same-length-5 : tie.Need-same-length-5
 same-length-5 c = search needs
 
 returns-2 : tie.Need-returns-2
-returns-2 c = rw (c .before .before .put-fill .ensures) (fill-left _ _ _ (c .before .before .before .before .before .before .before .before .before .before .before .before .before .before .before .before .before .before .before .before .args .queue) (c .before .before .before .before .before .before .before .before .before .before .before .before .before .before .before .before .before .before .before .before .args .sheet .now) (c .before .before .before .before .before .before .before .before .before .before .before .before .before .before .before .before .before .before .before .before .args .attached .now) (c .before .before .before .before .before .before .before .before .before .before .before .fill-grid-holes .last .1 .1 .1 .0) (c .before .before .before .before .before .before .before .before .before .before .before .fill-grid-holes .last .1 .1 .1 .1 .0) (c .before .before .before .before .before .before .before .before .before .before .before .before .before .before .before .before .before .before .before .before .args .k) (c .before .before .before .before .before .before .before .before .before .before .before .before .before .before .before .before .before .before .before .before .args .words .now) _ _ (c .before .before .before .before .before .answer .given .1) (c .before .before .before .before .before .before .before .before .before .before .before .fill-grid-holes .ensures))
+returns-2 c = rw (c .before .before .put-fill .ensures) (fill-left _ _ _ (c .before .before .before .before .before .before .before .before .before .before .before .before .before .before .before .before .before .before .before .before .args .queue) (c .before .before .before .before .before .before .before .before .before .before .before .before .before .before .before .before .before .before .before .before .args .sheet .now) (c .before .before .before .before .before .before .before .before .before .before .before .before .before .before .before .before .before .before .before .before .args .attached .now) (c .before .before .before .before .before .before .before .before .before .before .before .fill-grid-holes .last .1 .1 .1 .0) (c .before .before .before .before .before .before .before .before .before .before .before .fill-grid-holes .last .1 .1 .1 .1 .0) (c .before .before .before .before .before .before .before .before .before .before .before .before .before .before .before .before .before .before .before .before .args .k) (c .before .before .before .before .before .before .before .before .before .before .before .before .before .before .before .before .before .before .before .before .args .words .now) _ _ (c .before .before .before .before .before .answer .given .1) (c .before .before .before .before .before .before .before .before .before .before .before .fill-grid-holes .ensures .0))
 
 pub run-fill-spec : {M : Type 1} → statement M
 run-fill-spec =

@@ -16,11 +16,11 @@ enum-told : tie.Need-enum-told
 enum-told c = search needs
 
 returns : tie.Need-returns
-returns c = sym (ap valueOf (c .before .r .given .1)) ∙ ap valueOf (c .before .before .before .sqrt .ensures .1)
+returns c = sym (ap valueOf (c .before .r .given .1)) ∙ ap valueOf (c .before .before .before .sqrt .ensures .1 .0)
 
 returns-2 : tie.Need-returns-2
 unfolding div ofBits
-returns-2 c = sym (ap valueOf (c .enum-told .given .1)) ∙ ap valueOf (c .before .before .sqrt .ensures .1)
+returns-2 c = sym (ap valueOf (c .enum-told .given .1)) ∙ ap valueOf (c .before .before .sqrt .ensures .1 .0)
 
 pub sqrt-or-nan-spec : {M : Type 1} → statement M
 sqrt-or-nan-spec = tie.close (tie.spec sqrt-requires enum-known-r enum-told returns returns-2)
