@@ -3,7 +3,8 @@
 
     c/test.py                 builds (c/build), then compares c/out/recover with target/bin/recover byte for byte: the
                               example frames, the frames of compare/, every text of compare/cases.py, refused ones
-                              included, and generated frames; then runs c/out/short on accepted frames
+                              included, and generated frames; where c/out/recover cannot read or write, it has to say so
+                              on standard error and end with status 1; then runs c/out/short on accepted frames
     c/test.py --frames N      N generated frames (default 1000), --seed S from another seed
     c/test.py --built         does not build first
 
@@ -63,6 +64,36 @@ def files():
         yield from sorted(glob.glob(os.path.join(ROOT, pattern)))
 
 
+def faults(folder):
+    """A full device and a closed descriptor for standard output, a directory and a closed descriptor for standard input."""
+    path = lambda name: os.path.join(ROOT, name)
+    message = b"recover: standard output cannot be written\n"
+    count = 0
+
+    def check(name, done, out, err):
+        nonlocal count
+        count += 1
+        if (done.stdout, done.returncode) != (out, 1) or not done.stderr.startswith(err):
+            sys.exit(f"c/test.py: {name}: {done.stdout!r} {done.stderr!r} {done.returncode}, but asked is {out!r}, {err!r} and status 1")
+
+    def run(words=(), stdin=subprocess.DEVNULL, stdout=subprocess.PIPE, **more):
+        return subprocess.run([OURS, *words], stdin=stdin, stdout=stdout, stderr=subprocess.PIPE, timeout=600, **more)
+
+    # a result, a refusal, and a result that is longer than the buffers of the program and of stdio
+    for frame in ("compare/frames/example.frame", "examples/refused/1-bent.frame", "examples/bench/panel-1024.frame"):
+        for name in ("/dev/full", os.devnull):
+            with open(name, "wb" if name == "/dev/full" else "rb") as out:
+                check(f"{frame} to {name}", run([path(frame)], stdout=out), None, message)
+        check(f"{frame} to a closed descriptor", run([path(frame)], stdout=None, preexec_fn=lambda: os.close(1)), None, message)
+    check("a directory", run([folder]), b"", b"recover: the file cannot be read\n")
+    check("no such file", run([os.path.join(folder, "none")]), b"", os.fsencode(os.path.join(folder, "none")))
+    here = os.open(folder, os.O_RDONLY)
+    check("a directory as standard input", run(stdin=here), b"", b"recover: standard input cannot be read\n")
+    os.close(here)
+    check("a closed descriptor", run(stdin=None, preexec_fn=lambda: os.close(0)), b"", b"recover: standard input cannot be read\n")
+    print(f"c/test.py: failed reads and writes: {count} runs, each with status 1 and a message", flush=True)
+
+
 def with_corners(data):
     return b"\n(corner " in data
 
@@ -95,6 +126,7 @@ def main():
         for name, data in generate.frames(options.seed, options.frames):
             runs.compare(name, data)
         runs.say(f"generated frames of seed {options.seed}")
+        faults(folder)
     for path in accepted:
         done = subprocess.run([SHORT, path], capture_output=True, text=True, timeout=600)
         if done.returncode:

@@ -3,7 +3,7 @@
 ghost use mathlib.Core.Path.{_≡_};
 ghost use lib.ListN.{length};
 ghost use Rattle.recover_read.specs.Reading.{ReadInto};
-ghost use Rattle.recover.specs.Program.{Ran};
+ghost use Rattle.recover.specs.Program.{Ran, faultOf};
 use libc::STDERR_FILENO;
 use libc::STDIN_FILENO;
 use recover_read::Input;
@@ -39,24 +39,46 @@ fn run() -> Outcome
     reply(&buffer, input)
 }
 
-// Says on standard error what went wrong, if anything did.
-fn complain(outcome: Outcome) {
+// What went wrong in a run, if anything did.
+enum Fault {
+    Nothing,
+    Input,
+    Output,
+}
+
+// The input could not be read; or not all of the answer could be written.
+fn fault_of(outcome: Outcome) -> Fault
+    ensures { λ r. ⌜ r ≡ faultOf outcome ⌝ }
+{
     match outcome {
-        Outcome::NotRead => {
-            io::write_all(STDERR_FILENO, b"recover: standard input cannot be read\n");
-        }
         Outcome::Answered(said) => {
             if said.next < said.lines {
-                io::write_all(
-                    STDERR_FILENO,
-                    b"recover: standard output cannot be written\n",
-                );
+                return Fault::Output;
             }
+            Fault::Nothing
+        }
+        Outcome::NotRead => Fault::Input,
+    }
+}
+
+// Says on standard error what went wrong.
+fn complain(fault: Fault) {
+    match fault {
+        Fault::Nothing => {}
+        Fault::Input => {
+            io::write_all(STDERR_FILENO, b"recover: standard input cannot be read\n");
+        }
+        Fault::Output => {
+            io::write_all(
+                STDERR_FILENO,
+                b"recover: standard output cannot be written\n",
+            );
         }
     }
 }
 
 fn main() {
     let outcome = run();
-    complain(outcome);
+    let fault = fault_of(outcome);
+    complain(fault);
 }

@@ -1,5 +1,6 @@
 -- Piece by piece: which text is written next, what was said after one more, and that what a run holds says the answer to the text. Assumes nothing.
 use mathlib.Core.Path.{_≡_, refl, sym, ap, _∙_, subst}
+use mathlib.Core.Bool.{Bool, true, false}
 use mathlib.Core.List.{List}
 use mathlib.Core.Logic.{⊎-elim}
 use Prim.Native.Nat.{ℕ, zero, suc, _+_, _<_, _≤_}
@@ -14,7 +15,7 @@ use Rattle.recovery.specs.declared.Recovered.{Recovered}
 use Rattle.recovery.specs.declared.PieceWritten.{PieceWritten}
 use Rattle.recovery.proofs.Saying.{says}
 use Rattle.frame.specs.Frame.{readFrame}
-use Rattle.recover_say.specs.Said.{lineAfter, SaidOf, Told, heldFrom, pieceFrom, ToldOf, PieceText, Telling}
+use Rattle.recover_say.specs.Said.{lineAfter, SaidOf, Told, heldFrom, pieceFrom, ToldOf, PieceText, putOf, PutSo, Telling}
 use Rattle.recover_say.specs.declared.Said.{Said}
 
 pub begun : (answer : Recovered) (words sheet out : List ℕ) → 4096 ≡ length out → Telling answer words sheet out 0 0
@@ -26,6 +27,11 @@ pub few-lines : (answer : Recovered) → FewPasses answer → heldLines answer �
 unfolding heldLines
 few-lines (Recovered.Refused r line) h = omega arith
 few-lines (Recovered.Done corners passes) h = omega (arith, h)
+
+-- one more, if it was written
+pub put-so : (n : ℕ) (written : Bool) → PutSo n (putOf written n)
+put-so n true = refl
+put-so n false = tt
 
 module _ (answer : Recovered) (words sheet : List ℕ) {out old new : List ℕ} {n from : ℕ} {piece : PieceWritten} (t : Telling answer words sheet out n from)
     (w : WrotePiece (heldPiece answer words sheet from (length out)) old new piece) where

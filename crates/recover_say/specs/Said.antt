@@ -1,6 +1,7 @@
 -- How far an answer was said: how many pieces were written, which line comes after them, and what they are of the answer. What the written bytes
 -- do outside the program is no part of this. Definitions only.
 use mathlib.Core.Path.{_≡_}
+use mathlib.Core.Bool.{Bool, true, false}
 use mathlib.Core.List.{List, [], _++_}
 use Prim.Native.Nat.{ℕ, zero, suc, _+_, _<_, _≤_}
 use lib.ListN.{length}
@@ -61,6 +62,10 @@ abbrev pub PieceText : Recovered → List ℕ → List ℕ → ℕ → List ℕ 
 PieceText answer words sheet n text = text ≡ heldFrom answer words sheet (lineAfter (heldFrom answer words sheet) n) .text
 
 -- a piece that was written is one more
+abbrev pub putOf : Bool → ℕ → Put
+putOf true n = Put.Written (n + 1)
+putOf false n = Put.Failed
+
 abbrev pub PutSo : ℕ → Put → Type 0
 PutSo n (Put.Written more) = more ≡ n + 1
 PutSo n Put.Failed = Unit {0}

@@ -7,7 +7,7 @@ ghost use mathlib.Core.Path.{_≡_};
 ghost use Prim.Native.Nat.{_<_};
 ghost use lib.ListN.{length};
 ghost use Rattle.recovery.specs.Answer.{CanSay, FewPasses};
-ghost use Rattle.recover_say.specs.Said.{PieceText, PutSo, Told, ToldOf};
+ghost use Rattle.recover_say.specs.Said.{PieceText, putOf, PutSo, Told, ToldOf};
 use libc::STDOUT_FILENO;
 use recovery::Recovered;
 
@@ -72,6 +72,17 @@ pub enum Put {
     Failed,
 }
 
+// A piece that was written is one more.
+fn after_write(written: bool, pieces: usize) -> Put
+    requires { ⌜ pieces < 65536 ⌝ }
+    ensures { λ r. ⌜ r ≡ putOf written pieces ⌝ }
+{
+    if written {
+        return Put::Written(pieces + 1);
+    }
+    Put::Failed
+}
+
 // Writes a piece of an answer to standard output: its number is how many were written before it. The answer, the words and the sheet say in the
 // contract which piece that is.
 fn put_piece(answer: Recovered, words: &[u32], sheet: &[u16], pieces: usize, text: &[u8]) -> Put
@@ -79,10 +90,8 @@ fn put_piece(answer: Recovered, words: &[u32], sheet: &[u16], pieces: usize, tex
     requires { ⌜ pieces < 65536 ⌝ }
     ensures { λ r. ⌜ PutSo pieces r ⌝ }
 {
-    if io::write_all(STDOUT_FILENO, text) {
-        return Put::Written(pieces + 1);
-    }
-    Put::Failed
+    let written = io::write_all(STDOUT_FILENO, text);
+    after_write(written, pieces)
 }
 
 // Writes the answer to standard output, piece by piece, until one cannot be written.
