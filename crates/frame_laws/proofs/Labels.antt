@@ -4,25 +4,18 @@ use mathlib.Core.Logic.{_⊎_, inl, inr}
 use mathlib.Core.List.{List, [], _∷_, List·Memᴰ·head, List·Memᴰ·tail}
 use Prim.Native.Nat.{ℕ, _<_, _≤_}
 use native.Mathlib.Omega.{arith}
-use lib.IntN.{pos, natAbs, ℤ-discrete}
+use lib.IntN.{pos, natAbs}
 use lib.ListN.{length, length-set}
 use Rattle.sheet.specs.Words.{emptySheet, attached, labelAt, holeAt, ambiguousAt}
 use Rattle.sheet.specs.declared.Cell.{Cell}
 use Rattle.sheet.specs.declared.Label.{Label}
 use Rattle.sheet.proofs.Words.{Changed, attached-changes, label-here, hole-here, ambiguous-here, label-else, hole-else, ambiguous-else, no-corner, empty-length, empty-label, empty-hole, empty-ambiguous}
+use Rattle.invariants.proofs.Marks.{cell-dec}
 use Rattle.frame_line.specs.Lines.{LabelLine}
 use Rattle.frame.specs.Frame.{Frame}
 use Rattle.frame.specs.ReadFrame.{labelled, sheetOf}
 use Rattle.frame.specs.Text.{All, Sound, Apart, WithinLimits}
 use Rattle.frame_laws.specs.Calls.{NamedBy, GivenLabels}
-
-cell-dec : (c d : Cell) → Dec (c ≡ d)
-cell-dec c d = go (ℤ-discrete (c .i) (d .i)) (ℤ-discrete (c .j) (d .j))
-  where
-    go : Dec (c .i ≡ d .i) → Dec (c .j ≡ d .j) → Dec (c ≡ d)
-    go (yes p) (yes q) = yes (λ t. record { i = p t; j = q t })
-    go (yes p) (no q) = no (λ e. q (ap (λ (x : Cell). x .j) e))
-    go (no p) q = no (λ e. p (ap (λ (x : Cell). x .i) e))
 
 attached-length : (sheet : List ℕ) (c : Cell) (k : ℕ) → length (attached sheet c k) ≡ length sheet
 unfolding attached

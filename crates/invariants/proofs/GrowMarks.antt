@@ -12,7 +12,7 @@ use native.Mathlib.Omega.{arith}
 use lib.ListN.{length, getD, take, length-append, List·getD-append}
 use lib.Seq.{take-suc, take-append-le, take-length, getD-append-seam, length-take-le}
 use Rattle.sheet.specs.Cells.{placeOf, cellOf, moved}
-use Rattle.sheet.specs.Words.{labelAt}
+use Rattle.sheet.specs.Words.{bitOf, labelAt}
 use Rattle.sheet.specs.Corners.{seenOf}
 use Rattle.sheet.specs.declared.Cell.{Cell}
 use Rattle.sheet.specs.declared.Label.{Label}
@@ -27,12 +27,12 @@ use Rattle.arguments.specs.declared.GrowParams.{GrowParams}
 use Rattle.extension_common.specs.TryCell.{Corners, tryAt}
 use Rattle.extension_common.specs.declared.TryCellResult.{TryCellResult}
 use Rattle.passes.specs.Grow.{tolerancesOf, GrowState, wanted, enqueued, enqueuedAt, spread, startOf, searchOf, growWith, growAt, growVisit, growFrom, growRun}
-use Rattle.passes.specs.Changes.{isAttached, isNoCandidate, isAmbiguous, isEdgeRefusal, oneIf, SameMarks, MarksSet, GrowVisit}
+use Rattle.passes.specs.Changes.{isAttached, isNoCandidate, isAmbiguous, isEdgeRefusal, SameMarks, MarksSet, GrowVisit}
 use Rattle.passes.specs.declared.Counts.{Counts}
 use Rattle.passes.proofs.Changes.{same-marks, marks-then, visits}
 use Rattle.passes.proofs.Enough.{Belongs, Going, nextOf, next-on, queue-few, start-going, visit-going, from-ended, from-next}
 use Rattle.invariants.specs.Marks.{MarksStand, howMany, attachedAmong, CountsOf, GrowMarks}
-use Rattle.invariants.proofs.Marks.{stand-same, stand-then, stand-set, set-after, set-before, is-cell, found-fits}
+use Rattle.invariants.proofs.Marks.{stand-same, stand-then, stand-set, set-after, set-before, cell-dec, found-fits}
 
 -- ---- lists
 
@@ -58,7 +58,7 @@ module _ {l m : List ℕ} (b : Begins l m) where
   begins-take n h = rw (b .is) (take-append-le n l (b .more) h)
 
 -- one finding more
-many-more : (f : TryCellResult → Bool) (rs : List TryCellResult) (r : TryCellResult) → howMany f (rs ++ (r ∷ [])) ≡ howMany f rs + oneIf (f r)
+many-more : (f : TryCellResult → Bool) (rs : List TryCellResult) (r : TryCellResult) → howMany f (rs ++ (r ∷ [])) ≡ howMany f rs + bitOf (f r)
 unfolding howMany
 many-more f [] r = omega arith
 many-more f (x ∷ rs) r = omega (arith, many-more f rs r)
@@ -196,11 +196,11 @@ module _ {cs : Corners} {first : List ℕ} {head : ℕ} {s : GrowState} (g : Goi
         record {
           found = w .found ++ (r ∷ []);
           each = omega (arith, w .each, length-append (w .found) (r ∷ []));
-          kept = λ c k e. kept-with c k e (is-cell (nextOf s head) c (next-on g left));
+          kept = λ c k e. kept-with c k e (cell-dec c (nextOf s head));
           bare = λ n h. bare-with n h (ℕ-discrete n head);
           marked = λ n h. marked-with n h (ℕ-discrete n head);
           others = others-with;
-          stand = λ c. stand-with c (is-cell (nextOf s head) c (next-on g left));
+          stand = λ c. stand-with c (cell-dec c (nextOf s head));
           attached = attached-with;
           counted = record {
             attached = visit .counted .attached ∙ omega (arith, w .counted .attached, many-more isAttached (w .found) r);

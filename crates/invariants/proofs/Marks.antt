@@ -1,21 +1,21 @@
 -- What each pass does to the marks, from what one visit does: grow only sets marks, fill changes none, local clears those of its new cells; and what
 -- follows for a list of calls. Assumes nothing.
-use mathlib.Core.Path.{_≡_, refl, sym, ap, _∙_, subst}
+use mathlib.Core.Path.{_≡_, refl, sym, ap, _∙_}
 use mathlib.Core.Bool.{Bool, true, false, cond, _||_}
 use mathlib.Core.List.{List, [], _∷_, _++_, List·Memᴰ, List·Memᴰ·head, List·Memᴰ·tail, List·Memᴰ·not-nil, List·Memᴰ·append-cases, List·Memᴰ·eq-of-singleton, Memᴰ·append-left, Memᴰ·append-right}
 use mathlib.Core.Logic.{⊎-elim}
 use Prim.Native.Nat.{ℕ, zero, suc, _+_, _<_, _≤_}
-use native.Mathlib.Decide.{ℕ-discrete}
 use native.Mathlib.Omega.{arith}
-use lib.Dec.{T, eqb}
+use lib.Dec.{eqb}
+use lib.IntN.{ℤ-discrete}
 use lib.ListN.{length}
 use lib.Ieee.{Float, binary32, ofBits, lt}
-use Rattle.sheet.specs.Cells.{onSheet, OnSheet, placeOf, cellOf}
+use Rattle.sheet.specs.Cells.{cellOf}
 use Rattle.sheet.specs.Words.{holeAt, ambiguousAt}
 use Rattle.sheet.specs.Corners.{seenOf}
 use Rattle.sheet.specs.declared.Cell.{Cell}
 use Rattle.sheet.specs.declared.Position.{Position}
-use Rattle.sheet.proofs.Laws.{cell-on, place-cell, place-one}
+use Rattle.sheet.proofs.Laws.{cell-on, place-cell}
 use Rattle.labels.specs.Labelled.{labelCount}
 use Rattle.labels.proofs.Below.{no-both}
 use Rattle.predict.specs.Predict.{predictionOf}
@@ -57,6 +57,15 @@ stand-none : {first last : List ℕ} {c : Cell} → NoMarks first c → MarksSta
 stand-none {first} {c = c} n =
     record { hole = λ e. absurd (no-both (holeAt first c) e (n .hole)); ambiguous = λ e. absurd (no-both (ambiguousAt first c) e (n .ambiguous)) }
 
+-- where every mark would have stood and none did, there is none
+pub stood-none : {first last : List ℕ} {c : Cell} → MarksStand last first c → NoMarks first c → NoMarks last c
+stood-none {first} {last} {c} s n =
+    record { hole = go (holeAt last c) (holeAt first c) (s .hole) (n .hole); ambiguous = go (ambiguousAt last c) (ambiguousAt first c) (s .ambiguous) (n .ambiguous) }
+  where
+    go : (a b : Bool) → (a ≡ true → b ≡ true) → b ≡ false → a ≡ false
+    go true b f e = absurd (no-both b (f refl) e)
+    go false b f e = refl
+
 or-yes : (a b : Bool) → b ≡ true → (a || b) ≡ true
 or-yes true b e = refl
 or-yes false b e = e
@@ -73,14 +82,14 @@ set-after {r} s m = record { hole = m .hole ∙ ap (λ (b : Bool). setsHole r ||
 pub set-before : {r : TryCellResult} {first mid last : List ℕ} {c : Cell} → MarksSet r first mid c → SameMarks mid last c → MarksSet r first last c
 set-before m s = record { hole = s .hole ∙ m .hole; ambiguous = s .ambiguous ∙ m .ambiguous }
 
--- whether a cell is a given cell of the sheet
-pub is-cell : (c d : Cell) → OnSheet c → Dec (d ≡ c)
-is-cell c d on = go (onSheet d) refl (ℕ-discrete (placeOf d) (placeOf c))
+-- two cells are equal or not
+pub cell-dec : (c d : Cell) → Dec (c ≡ d)
+cell-dec c d = go (ℤ-discrete (c .i) (d .i)) (ℤ-discrete (c .j) (d .j))
   where
-    go : (t : Bool) → onSheet d ≡ t → Dec (placeOf d ≡ placeOf c) → Dec (d ≡ c)
-    go true e (yes p) = yes (place-one d c (subst T (sym e) tt) on p)
-    go true e (no n) = no (λ q. n (ap placeOf q))
-    go false e p = no (λ q. subst T (ap onSheet (sym q) ∙ e) on)
+    go : Dec (c .i ≡ d .i) → Dec (c .j ≡ d .j) → Dec (c ≡ d)
+    go (yes p) (yes q) = yes (λ t. record { i = p t; j = q t })
+    go (yes p) (no q) = no (λ e. q (ap (λ (x : Cell). x .j) e))
+    go (no p) q = no (λ e. p (ap (λ (x : Cell). x .i) e))
 
 -- a corner that trying a cell found has a number that a word holds
 pub found-fits : (cs : Corners) → cs .count ≤ 1024 → (sheet : List ℕ) (tol : Tolerances) (search : Search) (c : Cell) (at : Position) (k : ℕ)
@@ -98,7 +107,7 @@ module _ (cs : Corners) (few : cs .count ≤ 1024) (first : List ℕ) (set : Set
   fill-with : (q : ℕ) → q < 16384 → (r : TryCellResult) (s : FillState) → ((k : ℕ) → r ≡ TryCellResult.Attached k → k < 16383) → FillKeeps first s → FillKeeps first (fillWith (cellOf q) r s)
   fill-with q h r s fits w =
       let v = visits .fill (cellOf q) r s (record { cell = record { long = w .long; on = cell-on q h }; corner-fits = fits }) in
-      record { long = rw (v .labels .same-length) (w .long); same = λ d. marks-then (w .same d) (go v d (is-cell (cellOf q) d (cell-on q h))) }
+      record { long = rw (v .labels .same-length) (w .long); same = λ d. marks-then (w .same d) (go v d (cell-dec d (cellOf q))) }
     where
       go : FillVisit r (cellOf q) s (fillWith (cellOf q) r s) → (d : Cell) → Dec (d ≡ cellOf q) → SameMarks (s .sheet) (fillWith (cellOf q) r s .sheet) d
       go v d (yes e) = rw e (v .marks)
@@ -155,11 +164,11 @@ local-attached : {first made before after : List ℕ} (q : ℕ) → q < 16384 �
     → LocalMarks first (made ++ (q ∷ [])) after
 local-attached {first} {made} {before} {after} q h gone others w =
     record {
-      cleared = λ p m. ⊎-elim (λ a. clear p a (is-cell (cellOf q) (cellOf p) (cell-on q h))) (λ b. let e : p ≡ q = List·Memᴰ·eq-of-singleton b in rw e gone) (List·Memᴰ·append-cases made m);
+      cleared = λ p m. ⊎-elim (λ a. clear p a (cell-dec (cellOf p) (cellOf q))) (λ b. let e : p ≡ q = List·Memᴰ·eq-of-singleton b in rw e gone) (List·Memᴰ·append-cases made m);
       others = λ c n.
           marks-then (w .others c (λ p m e. n p (Memᴰ·append-left (q ∷ []) m) e))
           (others c (λ e. n q (Memᴰ·append-right made (List·Memᴰ·head refl)) (sym e)));
-      none-new = λ c. new c (is-cell (cellOf q) c (cell-on q h));
+      none-new = λ c. new c (cell-dec c (cellOf q));
     }
   where
     clear : (p : ℕ) → List·Memᴰ p made → Dec (cellOf p ≡ cellOf q) → NoMarks after (cellOf p)
@@ -179,7 +188,7 @@ module _ (cs : Corners) (few : cs .count ≤ 1024) (first : List ℕ) (set : Set
   local-with q h r s after v w = record { long = rw (v .labels .same-length) (w .long); marks = go r v }
     where
       kept : (r : TryCellResult) → LocalVisit r (cellOf q) s after → SameMarks (s .sheet) (after .sheet) (cellOf q) → after .made ≡ s .made → LocalMarks first (after .made) (after .sheet)
-      kept r v here e = rw e (local-kept (λ d. every d (is-cell (cellOf q) d (cell-on q h))) (w .marks))
+      kept r v here e = rw e (local-kept (λ d. every d (cell-dec d (cellOf q))) (w .marks))
         where
           every : (d : Cell) → Dec (d ≡ cellOf q) → SameMarks (s .sheet) (after .sheet) d
           every d (yes e) = rw e here

@@ -38,7 +38,7 @@ use Rattle.invariants.proofs.History.{history-extended, attached-at, hi
 use Rattle.invariants.proofs.Grow.{grow-history}
 use Rattle.invariants.proofs.Fill.{fill-history}
 use Rattle.invariants.proofs.Local.{local-history}
-use Rattle.invariants.proofs.Marks.{stand-same, stood-same, stand-then, none-same, fill-marks, local-marks}
+use Rattle.invariants.proofs.Marks.{stand-same, stood-same, stand-then, none-same, stood-none, fill-marks, local-marks}
 use Rattle.invariants.proofs.GrowMarks.{grow-marks, grow-bare}
 
 -- ---- one call
@@ -241,30 +241,50 @@ module _ (l : CornerLists) where
       go o (was-refused r) w = w sheet b n
       go o (ran a x r) w = w (a .sheet) (still-labelled (r .extended .kept) d b) (call-unmarked r d b n)
 
-  pub run-marks : (sheet : List ℕ) (cs : List Call) → MarksOver sheet cs (run l sheet cs) (sheetOf l sheet cs)
-  unfolding run sheetOf clearedIn visitedIn
-  run-marks sheet [] =
-      record {
-        stand = λ c n. stand-same (same-marks sheet c);
-        new-visited = λ c n. stand-same (same-marks sheet c);
-        cleared = λ p m. absurd (List·Memᴰ·not-nil m);
-      }
-  run-marks sheet (c ∷ cs) = go (step l sheet c) (outcomes l sheet c) (λ after. run-marks after cs)
+  -- a mark that is new stands at a visited cell
+  run-new : (sheet : List ℕ) (cs : List Call) (d : Cell) → NotIn (visitedIn (run l sheet cs)) d → MarksStand (sheetOf l sheet cs) sheet d
+  unfolding run sheetOf visitedIn
+  run-new sheet [] d n = stand-same (same-marks sheet d)
+  run-new sheet (c ∷ cs) d n = go (step l sheet c) (outcomes l sheet c) (λ after. run-new after cs d) n
     where
-      go : (o : Outcome PassStats) → Outcomes l sheet c o → ((after : List ℕ) → MarksOver after cs (run l after cs) (sheetOf l after cs))
-          → MarksOver sheet (c ∷ cs) (o ∷ run l (sheetAfter sheet o) cs) (sheetOf l (sheetAfter sheet o) cs)
-      go o (was-refused r) w =
-          record { stand = w sheet .stand; new-visited = w sheet .new-visited; cleared = w sheet .cleared }
-      go o (ran a x r) w =
-          let now = clearedBy (c .pass) a in
-          let rest = w (a .sheet) in
-          record {
-            stand = λ d n. stand-then (call-stand r d (λ p m e. n p (Memᴰ·append-left _ m) e)) (rest .stand d (λ p m e. n p (Memᴰ·append-right now m) e));
-            new-visited = λ d n.
-                stand-then (rest .new-visited d (λ p m e. n p (Memᴰ·append-right (a .visited) m) e)) (call-new r d (λ p m e. n p (Memᴰ·append-left _ m) e));
-            cleared = λ p m.
-                ⊎-elim (λ b. let k = call-cleared r p b in run-unmarked (a .sheet) cs (cellOf p) (k .0) (k .1)) (rest .cleared p) (List·Memᴰ·append-cases now m);
-          }
+      go : (o : Outcome PassStats) → Outcomes l sheet c o → ((after : List ℕ) → NotIn (visitedIn (run l after cs)) d → MarksStand (sheetOf l after cs) after d)
+          → NotIn (visitedIn (o ∷ run l (sheetAfter sheet o) cs)) d → MarksStand (sheetOf l (sheetAfter sheet o) cs) sheet d
+      go o (was-refused r) w n = w sheet n
+      go o (ran a x r) w n = stand-then (w (a .sheet) (λ p m e. n p (Memᴰ·append-right (a .visited) m) e)) (call-new r d (λ p m e. n p (Memᴰ·append-left _ m) e))
+
+  -- a mark that no call cleared stands
+  run-stand : (sheet : List ℕ) (cs : List Call) (d : Cell) → NotIn (clearedIn cs (run l sheet cs)) d → MarksStand sheet (sheetOf l sheet cs) d
+  unfolding run sheetOf clearedIn
+  run-stand sheet [] d n = stand-same (same-marks sheet d)
+  run-stand sheet (c ∷ cs) d n = go (step l sheet c) (outcomes l sheet c) (λ after. run-stand after cs d) n
+    where
+      go : (o : Outcome PassStats) → Outcomes l sheet c o → ((after : List ℕ) → NotIn (clearedIn cs (run l after cs)) d → MarksStand after (sheetOf l after cs) d)
+          → NotIn (clearedIn (c ∷ cs) (o ∷ run l (sheetAfter sheet o) cs)) d → MarksStand sheet (sheetOf l (sheetAfter sheet o) cs) d
+      go o (was-refused r) w n = w sheet n
+      go o (ran a x r) w n =
+          stand-then (call-stand r d (λ p m e. n p (Memᴰ·append-left _ m) e)) (w (a .sheet) (λ p m e. n p (Memᴰ·append-right (clearedBy (c .pass) a) m) e))
+
+  -- marks that a call cleared are gone
+  run-cleared : (sheet : List ℕ) (cs : List Call) (p : ℕ) → List·Memᴰ p (clearedIn cs (run l sheet cs)) → NoMarks (sheetOf l sheet cs) (cellOf p)
+  unfolding run sheetOf clearedIn
+  run-cleared sheet [] p m = absurd (List·Memᴰ·not-nil m)
+  run-cleared sheet (c ∷ cs) p m = go (step l sheet c) (outcomes l sheet c) (λ after. run-cleared after cs p) m
+    where
+      go : (o : Outcome PassStats) → Outcomes l sheet c o → ((after : List ℕ) → List·Memᴰ p (clearedIn cs (run l after cs)) → NoMarks (sheetOf l after cs) (cellOf p))
+          → List·Memᴰ p (clearedIn (c ∷ cs) (o ∷ run l (sheetAfter sheet o) cs)) → NoMarks (sheetOf l (sheetAfter sheet o) cs) (cellOf p)
+      go o (was-refused r) w m = w sheet m
+      go o (ran a x r) w m =
+          ⊎-elim (λ b. let k = call-cleared r p b in run-unmarked (a .sheet) cs (cellOf p) (k .0) (k .1)) (w (a .sheet))
+          (List·Memᴰ·append-cases (clearedBy (c .pass) a) m)
+
+  pub run-marks : (sheet : List ℕ) (cs : List Call) → MarksOver sheet cs (run l sheet cs) (sheetOf l sheet cs)
+  run-marks sheet cs =
+      record {
+        stand = run-stand sheet cs;
+        new-visited = run-new sheet cs;
+        from-none = λ none d n. stood-none (run-new sheet cs d n) (none d);
+        cleared = run-cleared sheet cs;
+      }
 
   -- ---- no refusal in mid-list
 

@@ -6,14 +6,14 @@ use mathlib.Core.List.{List, [], _∷_, _++_, List·Memᴰ}
 use Prim.Native.Nat.{ℕ, _+_, _<_}
 use lib.ListN.{length, getD}
 use Rattle.sheet.specs.Cells.{cellOf}
-use Rattle.sheet.specs.Words.{labelAt, holeAt, ambiguousAt}
+use Rattle.sheet.specs.Words.{bitOf, labelAt, holeAt, ambiguousAt}
 use Rattle.sheet.specs.declared.Cell.{Cell}
 use Rattle.sheet.specs.declared.Label.{Label}
 use Rattle.extension_common.specs.declared.TryCellResult.{TryCellResult}
 use Rattle.passes.specs.Outcome.{After, Outcome, refused, done}
 use Rattle.passes.specs.Grow.{noCounts}
 use Rattle.passes.specs.Run.{PassCall, grow, fill, local, Call, PassStats, growStats, fillStats, localStats}
-use Rattle.passes.specs.Changes.{isAttached, isNoCandidate, isAmbiguous, isEdgeRefusal, oneIf, SameMarks, NoMarks, MarksSet}
+use Rattle.passes.specs.Changes.{isAttached, isNoCandidate, isAmbiguous, isEdgeRefusal, SameMarks, NoMarks, MarksSet}
 use Rattle.passes.specs.declared.Counts.{Counts}
 
 -- the marks of a cell that stood still stand
@@ -30,7 +30,7 @@ NotIn ps c = (p : ℕ) → List·Memᴰ p ps → cellOf p ≡ c → ⊥
 -- how many of some findings are of a kind
 unfoldable pub howMany : (TryCellResult → Bool) → List TryCellResult → ℕ
 howMany f [] = 0
-howMany f (r ∷ rs) = oneIf (f r) + howMany f rs
+howMany f (r ∷ rs) = bitOf (f r) + howMany f rs
 
 -- the places of some visited cells at which a corner was attached, in order
 unfoldable pub attachedAmong : List ℕ → List TryCellResult → List ℕ
@@ -90,21 +90,24 @@ clearedBy (grow p) a = []
 clearedBy (fill p) a = []
 clearedBy (local p) a = a .attached
 
--- all cells whose marks a list of calls cleared, and all that it visited
+-- all cells whose marks a list of calls cleared
 unfoldable pub clearedIn : List Call → List (Outcome PassStats) → List ℕ
 clearedIn [] os = []
 clearedIn (c ∷ cs) [] = []
 clearedIn (c ∷ cs) (refused r ∷ os) = clearedIn cs os
 clearedIn (c ∷ cs) (done a ∷ os) = clearedBy (c .pass) a ++ clearedIn cs os
 
+-- all cells that a list of calls visited: those of its grows
 unfoldable pub visitedIn : List (Outcome PassStats) → List ℕ
 visitedIn [] = []
 visitedIn (refused r ∷ os) = visitedIn os
 visitedIn (done a ∷ os) = a .visited ++ visitedIn os
 
 -- From the first sheet to the last by a list of calls. Only local clears marks: every other mark that stood still stands, all of them where no local
--- ran. Only grow sets marks: a mark that is new stands at a cell that was visited. The marks that local cleared are gone for good.
+-- ran. Only grow sets marks: a mark that is new stands at a cell that was visited; so from a sheet with no marks, as a frame's is, every mark does.
+-- The marks that local cleared are gone for good.
 pub record MarksOver (first : List ℕ) (cs : List Call) (os : List (Outcome PassStats)) (last : List ℕ) : Type 0 where
   pub stand : (c : Cell) → NotIn (clearedIn cs os) c → MarksStand first last c
   pub new-visited : (c : Cell) → NotIn (visitedIn os) c → MarksStand last first c
+  pub from-none : ((c : Cell) → NoMarks first c) → (c : Cell) → NotIn (visitedIn os) c → NoMarks last c
   pub cleared : (p : ℕ) → List·Memᴰ p (clearedIn cs os) → NoMarks last (cellOf p)

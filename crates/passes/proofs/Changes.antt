@@ -6,7 +6,7 @@ use mathlib.Core.List.{List}
 use Prim.Native.Nat.{ℕ, _<_}
 use native.Mathlib.Omega.{arith}
 use Rattle.sheet.specs.Cells.{OnSheet}
-use Rattle.sheet.specs.Words.{Content, labelAt, holeAt, ambiguousAt, attached, holeMarked, ambiguousMarked, marksCleared, SheetCell}
+use Rattle.sheet.specs.Words.{bitOf, Content, labelAt, holeAt, ambiguousAt, attached, holeMarked, ambiguousMarked, marksCleared, SheetCell}
 use Rattle.sheet.specs.declared.Cell.{Cell}
 use Rattle.sheet.specs.declared.Label.{Label}
 use Rattle.sheet.proofs.Words.{Changed, attached-changes, hole-changes, ambiguous-changes, cleared-changes, label-here, hole-here, ambiguous-here, label-else, hole-else, ambiguous-else}
@@ -70,7 +70,7 @@ untouched r sheet c e = record { same-length = refl; label = e; others = λ d ne
 -- ---- one visit of each pass
 
 grow-visit : (c : Cell) (r : TryCellResult) (s : GrowState) → Tried (s .sheet) c r → GrowVisit r c s (growWith c r s)
-unfolding growWith
+unfolding growWith bitOf
 grow-visit c TryCellResult.NoCandidates s w =
     let ch = hole-so (w .cell) in
     record {
@@ -118,7 +118,7 @@ fill-visit c (TryCellResult.Attached k) s w =
     }
 
 local-visit : (c : Cell) (r : TryCellResult) (s : LocalState) → Tried (s .sheet) c r → LocalVisit r c s (localWith c r s)
-unfolding localWith
+unfolding localWith bitOf
 local-visit c TryCellResult.NoCandidates s w =
     record {
       marks = record { hole = refl; ambiguous = refl };

@@ -8,7 +8,7 @@ use mathlib.Core.List.{List, [], _∷_, _++_}
 use Prim.Native.Nat.{ℕ, _+_, _<_}
 use lib.ListN.{length}
 use Rattle.sheet.specs.Cells.{placeOf}
-use Rattle.sheet.specs.Words.{labelAt, holeAt, ambiguousAt, SheetCell}
+use Rattle.sheet.specs.Words.{bitOf, labelAt, holeAt, ambiguousAt, SheetCell}
 use Rattle.sheet.specs.declared.Cell.{Cell}
 use Rattle.sheet.specs.declared.Label.{Label}
 use Rattle.extension_common.specs.declared.TryCellResult.{TryCellResult}
@@ -94,16 +94,12 @@ pub record Labels (r : TryCellResult) (before after : List ℕ) (c : Cell) : Typ
 abbrev pub madeWith : TryCellResult → Cell → List ℕ → List ℕ
 madeWith r c made = cond (isAttached r) (made ++ (placeOf c ∷ [])) made
 
--- 1 if so, else 0
-abbrev pub oneIf : Bool → ℕ
-oneIf b = cond b 1 0
-
 -- the counts after a visit: one more of what was found
 pub record Counted (r : TryCellResult) (before after : Counts) : Type 0 where
-  pub attached : after .attached ≡ before .attached + oneIf (isAttached r)
-  pub no-candidate : after .«rejected_no_candidate» ≡ before .«rejected_no_candidate» + oneIf (isNoCandidate r)
-  pub ambiguous : after .«rejected_ambiguous» ≡ before .«rejected_ambiguous» + oneIf (isAmbiguous r)
-  pub edge : after .«rejected_edge» ≡ before .«rejected_edge» + oneIf (isEdgeRefusal r)
+  pub attached : after .attached ≡ before .attached + bitOf (isAttached r)
+  pub no-candidate : after .«rejected_no_candidate» ≡ before .«rejected_no_candidate» + bitOf (isNoCandidate r)
+  pub ambiguous : after .«rejected_ambiguous» ≡ before .«rejected_ambiguous» + bitOf (isAmbiguous r)
+  pub edge : after .«rejected_edge» ≡ before .«rejected_edge» + bitOf (isEdgeRefusal r)
 
 -- ---- one visit of each pass
 

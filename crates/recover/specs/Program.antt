@@ -4,6 +4,7 @@ use mathlib.Core.Bool.{Bool, true, false}
 use mathlib.Core.List.{List, [], _++_}
 use Prim.Native.Nat.{ℕ}
 use lib.Dec.{ltb}
+use lib.ListN.{take}
 use Rattle.recovery.specs.Answer.{answerText}
 use Rattle.recover_read.specs.Reading.{Read, bytesOf, standingAfter, Answers}
 use Rattle.recover_read.specs.declared.Input.{Input}
@@ -17,6 +18,11 @@ Replied bytes (Input.Whole n) (Outcome.Answered said) = Told bytes said
 Replied bytes (Input.Whole n) Outcome.NotRead = ⊥
 Replied bytes Input.Failed (Outcome.Answered said) = ⊥
 Replied bytes Input.Failed Outcome.NotRead = Unit {0}
+
+-- the bytes of an input that stands at the front of a buffer
+abbrev pub inputIn : List ℕ → Input → List ℕ
+inputIn buffer (Input.Whole n) = take n buffer
+inputIn buffer Input.Failed = []
 
 -- what the reads gave, one after the other, what became of the input, and what was said to it; 65,537 bytes are read at most, one more than a frame has
 pub record Ran (outcome : Outcome) : Type 0 where

@@ -1,9 +1,8 @@
 // The frame program (01, "Frame and result"): reads a frame from standard input and prints its result, or `(refused number line)` alone.
 // What it reads is told by the crate `recover_read`; what it prints is worked out and written by the crate `recover_say`.
 ghost use mathlib.Core.Path.{_≡_};
-ghost use lib.ListN.{length};
 ghost use Rattle.recover_read.specs.Reading.{ReadInto};
-ghost use Rattle.recover.specs.Program.{Ran, faultOf};
+ghost use Rattle.recover.specs.Program.{Replied, inputIn, Ran, faultOf};
 use libc::STDERR_FILENO;
 use libc::STDIN_FILENO;
 use recover_read::Input;
@@ -17,9 +16,8 @@ enum Outcome {
 
 // Answers the input that stands at the front of the buffer.
 fn reply(buffer: &[u8], input: Input) -> Outcome
-    requires { ⌜ 65537 ≡ length (now buffer) ⌝ }
     requires { ⌜ ReadInto (now buffer) input ⌝ }
-    ensures { λ r. ⌜ Ran r ⌝ }
+    ensures { λ r. ⌜ Replied (inputIn (now (buffer .entry)) input) input r ⌝ }
 {
     match input {
         Input::Whole(n) => {

@@ -1,5 +1,6 @@
 -- `recover::reply` meets its contract: the front of the buffer is answered. Assumes nothing.
 use native.Mathlib.Omega.{arith}
+use denote.Ref.{now}
 use lib.ListN.{length-take}
 use Rattle.recover.proofs.Replying.{in-buffer, whole-read, not-read}
 use borrow.Author.Needs.{needs}
@@ -13,7 +14,7 @@ enum-known-input : tie.Need-enum-known-input
 enum-known-input c = search needs
 
 slice-aggregate-answer : tie.Need-slice-aggregate-answer
-slice-aggregate-answer c = simp length-take (omega (arith, in-buffer (c .before .before .before .before .before .pre .1) (c .before .before .input .given .1)))
+slice-aggregate-answer c = simp length-take (omega (arith, in-buffer (c .before .before .before .before .before .pre) (c .before .before .input .given .1)))
 
 answer-requires : tie.Need-answer-requires
 answer-requires c κs = search needs
@@ -22,12 +23,10 @@ enum-told : tie.Need-enum-told
 enum-told c = search needs
 
 returns : tie.Need-returns
-returns c =
-    let p = c .before .before .before .before .before .before .pre in
-    whole-read (p .1) (p .0) (c .before .before .before .input .given .1) (c .answer .ensures)
+returns c = whole-read _ (c .before .before .before .input .given .1) (c .answer .ensures)
 
 returns-2 : tie.Need-returns-2
-returns-2 c = not-read (c .before .before .before .pre .1) (c .before .before .before .pre .0) (c .enum-told .given .1)
+returns-2 c = not-read (now (c .before .before .before .args .buffer)) (c .enum-told .given .1)
 
 pub reply-spec : {M : Type 1} → statement M
 reply-spec =
