@@ -1,11 +1,11 @@
--- `frame::line_end` meets its contract: a search from the position on. Assumes nothing.
+-- `text::line_end` meets its contract: a search from the position on. Assumes nothing.
 use mathlib.Core.Path.{refl}
 use Prim.Native.Nat.{_-_}
 use native.Mathlib.Omega.{arith}
 use lib.ListN.{length}
-use Rattle.frame.proofs.Lines.{Seeking, seek-found, seek-more, seek-end}
-use Rattle.frame.proofs.line_end.Statement.{statement}
-use Rattle.frame.proofs.line_end.Tie as tie
+use Rattle.line_form.proofs.Lines.{Seeking, seek-found, seek-more, seek-end}
+use Rattle.line_form.proofs.text.line_end.Statement.{statement}
+use Rattle.line_form.proofs.text.line_end.Tie as tie
 
 abbrev Inv-loop : tie.InvT-loop
 Inv-loop text at i₀ i = Seeking text at i

@@ -9,8 +9,7 @@ use borrow.Author.Tests.{eq-eqb, ne-eqb}
 use lib.Dec.{eqb}
 use lib.ListN.{length, getD, take, drop, length-drop, drop-of-length-le}
 use lib.Seq.{drop-cons, drop-drop}
-use Rattle.frame.specs.Frame.{longer, linesOf}
-use Rattle.frame.specs.Reading.{lineLength}
+use Rattle.line_form.specs.Lines.{longer, linesOf, lineLength}
 
 -- ---- the first line
 
