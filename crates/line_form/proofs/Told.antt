@@ -54,4 +54,3 @@ told-misfits (c ∷ other) (d ∷ form) ns e = go (isSlot c) (isSlot d) (eqb d c
     go false false true p q r ih h =
         ap (fitOf (c ∷ other)) (byte-printed d form ns q ∙ ap (λ (b : ℕ). b ∷ printed form ns) (eqb-true d c r)) ∙ byte-fits c other (printed form ns) p ∙ ih h
     go false false false p q r ih h = ap (fitOf (c ∷ other)) (byte-printed d form ns q) ∙ byte-misfits c d other (printed form ns) p r
-

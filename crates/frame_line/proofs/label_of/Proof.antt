@@ -1,8 +1,7 @@
--- `frame_line::label_line` meets its contract. Assumes nothing.
-use Rattle.frame_line.specs.Held.{lineIn}
+-- `frame_line::label_of` meets its contract. Assumes nothing.
 use borrow.Author.Needs.{needs}
-use Rattle.frame_line.proofs.label_line.Statement.{statement}
-use Rattle.frame_line.proofs.label_line.Tie as tie
+use Rattle.frame_line.proofs.label_of.Statement.{statement}
+use Rattle.frame_line.proofs.label_of.Tie as tie
 
 array-read-count-of : tie.Need-array-read-count-of
 array-read-count-of c = search needs
@@ -23,11 +22,10 @@ cell-of-requires : tie.Need-cell-of-requires
 cell-of-requires c κs = search needs
 
 returns : tie.Need-returns
-unfolding lineIn
 returns c = rw (c .before .count-of .ensures, c .cell-of .ensures)
 
-pub label-line-spec : {M : Type 1} → statement M
-label-line-spec =
+pub label-of-spec : {M : Type 1} → statement M
+label-of-spec =
     tie.close
     (tie.spec
     array-read-count-of
