@@ -6,3 +6,4 @@ pub mod Numbers
 pub mod Checking
 pub mod Shapes
 pub mod Words
+pub mod Said

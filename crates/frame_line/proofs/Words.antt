@@ -18,7 +18,7 @@ use Rattle.line_form.specs.Forms.{Number, bits, whole}
 use Rattle.line_form.specs.Held.{heldWhole, held, heldUpTo}
 use Rattle.line_form.specs.Written.{unheldWhole}
 use Rattle.frame_line.specs.Table.{rows, rowAt, formAt, sortOf, sortAt}
-use Rattle.frame_line.specs.Lines.{Line, kindOf, Proper, LabelLine, bitsAt, wholeAt, labelOf}
+use Rattle.frame_line.specs.Lines.{Line, kindOf, Proper, LabelLine, bitsAt, wholeAt, labelLineOf}
 use Rattle.frame_line.specs.Checks.{wildBits, wildWhole, numberOutside, someOutside, outsideLine}
 use Rattle.frame_line.specs.Held.{countIn, cellIn, labelIn, beyond, outsideWord, outsideAt, outsideHeld}
 use Rattle.frame_line.specs.declared.Kind.{Kind}
@@ -96,14 +96,14 @@ label-said n c i j few a b e =
 
 label-shape : (n : ℕ) (ns : List Number) → n ≤ 1024 → OfSlots (false ∷ false ∷ false ∷ []) ns
     → outsideLine 4 n (record { row = rowOf Kind.Label; numbers = ns }) ≡ false → outsideLine 5 n (record { row = rowOf Kind.Label; numbers = ns }) ≡ false
-    → LabelHeld n (labelOf ns) (labelIn (heldUpTo 5 ns))
+    → LabelHeld n (labelLineOf ns) (labelIn (heldUpTo 5 ns))
 unfolding outsideLine someOutside numberOutside sortAt sortOf rowAt rows unheldWhole wholeAt heldUpTo held
 label-shape n ns few (whole-first c (whole-first i (whole-first j no-number))) a b =
     let x = or-false-both (not (inRange i)) (not (inRange j) || false) a in
     label-said n c i j few (x .0) (or-false-both (not (inRange j)) false (x .1) .0) (or-false-both _ false b .0)
 
 pub label-exact : (n : ℕ) (l : Line) → Proper l → kindOf l ≡ Kind.Label → n ≤ 1024 → outsideLine 4 n l ≡ false → outsideLine 5 n l ≡ false
-    → LabelHeld n (labelOf (l .numbers)) (labelIn (heldUpTo 5 (l .numbers)))
+    → LabelHeld n (labelLineOf (l .numbers)) (labelIn (heldUpTo 5 (l .numbers)))
 unfolding slotsOf formAt rowAt rows
 label-exact n l p e few off stranger =
     let is = line-is l p Kind.Label e in

@@ -80,8 +80,8 @@ pub record Axes : Type 0 where
   pub jx : ℕ
   pub jy : ℕ
 
-abbrev pub axesOf : List Number → Axes
-axesOf ns = record { ix = bitsAt 0 ns; iy = bitsAt 1 ns; jx = bitsAt 2 ns; jy = bitsAt 3 ns }
+abbrev pub axesLineOf : List Number → Axes
+axesLineOf ns = record { ix = bitsAt 0 ns; iy = bitsAt 1 ns; jx = bitsAt 2 ns; jy = bitsAt 3 ns }
 
 -- "corners (position, pitch; numbered from 0)"
 pub record CornerLine : Type 0 where
@@ -89,16 +89,16 @@ pub record CornerLine : Type 0 where
   pub y : ℕ
   pub pitch : ℕ
 
-abbrev pub cornerOf : List Number → CornerLine
-cornerOf ns = record { x = bitsAt 0 ns; y = bitsAt 1 ns; pitch = bitsAt 2 ns }
+abbrev pub cornerLineOf : List Number → CornerLine
+cornerLineOf ns = record { x = bitsAt 0 ns; y = bitsAt 1 ns; pitch = bitsAt 2 ns }
 
 -- "labels (corner, cell)"
 pub record LabelLine : Type 0 where
   pub corner : ℤ
   pub cell : Cell
 
-abbrev pub labelOf : List Number → LabelLine
-labelOf ns = record { corner = wholeAt 0 ns; cell = record { i = wholeAt 1 ns; j = wholeAt 2 ns } }
+abbrev pub labelLineOf : List Number → LabelLine
+labelLineOf ns = record { corner = wholeAt 0 ns; cell = record { i = wholeAt 1 ns; j = wholeAt 2 ns } }
 
 -- `(grow search factor boundary)`, `(fill search factor rounds)`, `(local search factor rounds residual depth)`, and the bare ones
 pub data PassLine : Type 0 where
@@ -108,9 +108,9 @@ pub data PassLine : Type 0 where
   fill : (search factor : ℕ) (rounds : ℤ) → PassLine
   local : (search factor : ℕ) (rounds : ℤ) (residual : ℕ) (depth : ℤ) → PassLine
 
-unfoldable pub passOf : PassKind → List Number → PassLine
-passOf PassKind.BareGrow ns = bare-grow
-passOf PassKind.Grow ns = grow (bitsAt 0 ns) (bitsAt 1 ns) (bitsAt 2 ns)
-passOf PassKind.BareFill ns = bare-fill
-passOf PassKind.Fill ns = fill (bitsAt 0 ns) (bitsAt 1 ns) (wholeAt 2 ns)
-passOf PassKind.Local ns = local (bitsAt 0 ns) (bitsAt 1 ns) (wholeAt 2 ns) (bitsAt 3 ns) (wholeAt 4 ns)
+unfoldable pub passLineOf : PassKind → List Number → PassLine
+passLineOf PassKind.BareGrow ns = bare-grow
+passLineOf PassKind.Grow ns = grow (bitsAt 0 ns) (bitsAt 1 ns) (bitsAt 2 ns)
+passLineOf PassKind.BareFill ns = bare-fill
+passLineOf PassKind.Fill ns = fill (bitsAt 0 ns) (bitsAt 1 ns) (wholeAt 2 ns)
+passLineOf PassKind.Local ns = local (bitsAt 0 ns) (bitsAt 1 ns) (wholeAt 2 ns) (bitsAt 3 ns) (wholeAt 4 ns)
