@@ -22,18 +22,19 @@ use Rattle.frame_line.specs.Lines.{Line, kindOf, Proper, wholeAt, CornerLine, c
 use Rattle.frame_line.specs.Checks.{outsideLine}
 use Rattle.frame_line.specs.Held.{heldLine, countIn}
 use Rattle.frame_line.specs.declared.Kind.{Kind}
+use Rattle.frame_line.specs.declared.OpeningKind.{OpeningKind}
 use Rattle.frame_line.specs.declared.PassKind.{PassKind}
 use Rattle.frame_line.specs.declared.HeldLabel.{HeldLabel}
 use Rattle.frame_line.proofs.Numbers.{slotsOf}
 use Rattle.frame_line.proofs.Shapes.{bits-held, whole-held}
-use Rattle.frame_line.proofs.Words.{tame-count, label-exact}
-use Rattle.frame_line.proofs.Said.{pass-said}
+use Rattle.frame_line.proofs.Words.{tame-count}
+use Rattle.frame_line.proofs.Said.{pass-said, label-exact}
 use Rattle.frame_check.specs.Checks.{isSet, overLimit, twiceOf}
 use Rattle.frame_check.proofs.Laws.{AllFine, fine-all}
-use Rattle.frame_state.specs.State.{wordsIn, wordsPut, State, addsAs, adds}
+use Rattle.frame_state.specs.State.{withOpening, wordsIn, wordsPut, State, addsAs, adds}
 use Rattle.frame_state.specs.declared.PassWords.{PassWords}
-use Rattle.frame.specs.Frame.{Parts, sameCell, doubled, checkedLine, adding, added}
-use Rattle.frame.specs.ReadFrame.{floatOf, labelled, fullOf, wordsOf, allWords}
+use Rattle.frame.specs.Frame.{Parts, sameCell, doubled, checkedLine, opened, adding, added}
+use Rattle.frame.specs.ReadFrame.{floatOf, settingsIn, labelled, fullOf, wordsOf, allWords}
 use Rattle.frame.specs.Reading.{HoldsCorners, cellTaken, cornerTaken, HoldsLabels, HoldsPasses, FrameHeld}
 
 -- ---- one more at the end
@@ -210,52 +211,57 @@ module _ (f : Parts) (s : State) (g : FrameHeld f s) (l : Line) (p : Proper l) (
   few : length (f .corners) ≤ 1024
   few = omega (arith, g .corners .count, g .corners .few)
 
+  -- a line of the opening leaves the counts as they are
+  same-corners : (k : OpeningKind) → HoldsCorners (f .corners) (s .progress .corners) (s .held .xs) (s .held .ys) (s .held .pitches)
+      → HoldsCorners (f .corners) (withOpening k (s .progress) (heldUpTo 5 (l .numbers)) .corners) (s .held .xs) (s .held .ys) (s .held .pitches)
+  unfolding withOpening
+  same-corners OpeningKind.Frame h = h
+  same-corners OpeningKind.CellSize h = h
+  same-corners OpeningKind.Axes h = h
+  same-corners OpeningKind.Band h = h
+
+  same-passes : (k : OpeningKind) → HoldsPasses (f .passes) (s .progress .passes) (s .held .passes) → HoldsPasses (f .passes) (withOpening k (s .progress) (heldUpTo 5 (l .numbers)) .passes) (s .held .passes)
+  unfolding withOpening
+  same-passes OpeningKind.Frame h = h
+  same-passes OpeningKind.CellSize h = h
+  same-passes OpeningKind.Axes h = h
+  same-passes OpeningKind.Band h = h
+
   -- held by a line of this kind
   abbrev HeldAs : Kind → Type 0
   HeldAs kind = FrameHeld (adding kind (l .numbers) f) (addsAs kind (heldUpTo 5 (l .numbers)) s)
 
-  frame-added : HeldAs Kind.Frame
+  settings-added : (k : OpeningKind) → kindOf l ≡ Kind.Opening k → withOpening k (s .progress) (heldUpTo 5 (l .numbers)) .settings ≡ settingsIn (opened k (l .numbers) (f .opening))
+  unfolding withOpening opened slotsOf formAt rowAt rows
+  settings-added OpeningKind.Frame e = g .settings-are
+  settings-added OpeningKind.CellSize e =
+      let b = bits-held l p (Kind.Opening OpeningKind.CellSize) e 0 (omega arith) refl in
+      let o = g .settings-are in
+      λ t. record { grid = record { «axis_i» = o t .grid .«axis_i»; «axis_j» = o t .grid .«axis_j»; «cell_size» = floatOf (b t) }; «edge_length_tol» = o t .«edge_length_tol» }
+  settings-added OpeningKind.Axes e =
+      let a = bits-held l p (Kind.Opening OpeningKind.Axes) e 0 (omega arith) refl in
+      let b = bits-held l p (Kind.Opening OpeningKind.Axes) e 1 (omega arith) refl in
+      let c = bits-held l p (Kind.Opening OpeningKind.Axes) e 2 (omega arith) refl in
+      let d = bits-held l p (Kind.Opening OpeningKind.Axes) e 3 (omega arith) refl in
+      let o = g .settings-are in
+      λ t. record {
+        grid = record { «axis_i» = record { x = floatOf (a t); y = floatOf (b t) }; «axis_j» = record { x = floatOf (c t); y = floatOf (d t) }; «cell_size» = o t .grid .«cell_size» };
+        «edge_length_tol» = o t .«edge_length_tol»;
+      }
+  settings-added OpeningKind.Band e =
+      let b = bits-held l p (Kind.Opening OpeningKind.Band) e 0 (omega arith) refl in
+      let o = g .settings-are in
+      λ t. record { grid = o t .grid; «edge_length_tol» = floatOf (b t) }
+
+  opening-added : (k : OpeningKind) → kindOf l ≡ Kind.Opening k → HeldAs (Kind.Opening k)
   unfolding adding addsAs
-  frame-added = g
-
-  cell-added : kindOf l ≡ Kind.CellSize → HeldAs Kind.CellSize
-  unfolding adding addsAs slotsOf formAt rowAt rows
-  cell-added e =
-      let b = bits-held l p Kind.CellSize e 0 (omega arith) refl in
-      let o = g .settings-are in
+  opening-added k e =
       record {
-        settings-are =
-            λ t. record { grid = record { «axis_i» = o t .grid .«axis_i»; «axis_j» = o t .grid .«axis_j»; «cell_size» = floatOf (b t) }; «edge_length_tol» = o t .«edge_length_tol» };
-        corners = g .corners;
+        settings-are = settings-added k e;
+        corners = same-corners k (g .corners);
         labels = g .labels;
-        passes = g .passes;
+        passes = same-passes k (g .passes);
       }
-
-  axes-added : kindOf l ≡ Kind.Axes → HeldAs Kind.Axes
-  unfolding adding addsAs slotsOf formAt rowAt rows
-  axes-added e =
-      let a = bits-held l p Kind.Axes e 0 (omega arith) refl in
-      let b = bits-held l p Kind.Axes e 1 (omega arith) refl in
-      let c = bits-held l p Kind.Axes e 2 (omega arith) refl in
-      let d = bits-held l p Kind.Axes e 3 (omega arith) refl in
-      let o = g .settings-are in
-      record {
-        settings-are =
-            λ t. record {
-              grid = record { «axis_i» = record { x = floatOf (a t); y = floatOf (b t) }; «axis_j» = record { x = floatOf (c t); y = floatOf (d t) }; «cell_size» = o t .grid .«cell_size» };
-              «edge_length_tol» = o t .«edge_length_tol»;
-            };
-        corners = g .corners;
-        labels = g .labels;
-        passes = g .passes;
-      }
-
-  band-added : kindOf l ≡ Kind.Band → HeldAs Kind.Band
-  unfolding adding addsAs slotsOf formAt rowAt rows
-  band-added e =
-      let b = bits-held l p Kind.Band e 0 (omega arith) refl in
-      let o = g .settings-are in
-      record { settings-are = λ t. record { grid = o t .grid; «edge_length_tol» = floatOf (b t) }; corners = g .corners; labels = g .labels; passes = g .passes }
 
   corner-added : kindOf l ≡ Kind.Corner → HeldAs Kind.Corner
   unfolding adding addsAs overLimit slotsOf formAt rowAt rows
@@ -323,10 +329,7 @@ module _ (f : Parts) (s : State) (g : FrameHeld f s) (l : Line) (p : Proper l) (
       }
 
   by-kind : (kind : Kind) → kindOf l ≡ kind → HeldAs kind
-  by-kind Kind.Frame e = frame-added
-  by-kind Kind.CellSize e = cell-added e
-  by-kind Kind.Axes e = axes-added e
-  by-kind Kind.Band e = band-added e
+  by-kind (Kind.Opening k) e = opening-added k e
   by-kind Kind.Corner e = corner-added e
   by-kind Kind.Label e = label-added e
   by-kind (Kind.Pass k) e = pass-added k e

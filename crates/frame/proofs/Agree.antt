@@ -13,7 +13,7 @@ use Rattle.frame_line.specs.Checks.{outsideLine}
 use Rattle.frame_line.specs.Held.{heldLine, labelIn, outsideHeld}
 use Rattle.frame_line.specs.declared.Kind.{Kind}
 use Rattle.frame_line.proofs.Numbers.{outside-held}
-use Rattle.frame_line.proofs.Words.{label-exact}
+use Rattle.frame_line.proofs.Said.{label-exact}
 use Rattle.frame_check.specs.Checks.{checksInOrder, overLimit, labelTwice, twiceOf, checkedHeld}
 use Rattle.frame_check.proofs.Laws.{checks-alike}
 use Rattle.frame.specs.Frame.{Parts, sameCell, clash, doubled, checkedLine}
@@ -34,10 +34,7 @@ doubled-is (m ∷ ms) l = ap (λ (t : Bool). clash m l || t) (doubled-is ms l) �
 -- it is asked of labels alone
 twice-alike : (kind : Kind) (a b : Bool) → (kind ≡ Kind.Label → a ≡ b) → twiceOf kind a ≡ twiceOf kind b
 unfolding twiceOf
-twice-alike Kind.Frame a b h = refl
-twice-alike Kind.CellSize a b h = refl
-twice-alike Kind.Axes a b h = refl
-twice-alike Kind.Band a b h = refl
+twice-alike (Kind.Opening o) a b h = refl
 twice-alike Kind.Corner a b h = refl
 twice-alike Kind.Label a b h = h refl
 twice-alike (Kind.Pass p) a b h = refl

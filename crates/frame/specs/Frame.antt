@@ -15,6 +15,7 @@ use Rattle.frame_line.specs.Table.{turnAt, mayEnd}
 use Rattle.frame_line.specs.Lines.{Line, kindOf, bitsAt, Axes, axesLineOf, CornerLine, cornerLineOf, LabelLine, labelLineOf, PassLine, passLineOf, LineRead, ill-formed, line, readLine}
 use Rattle.frame_line.specs.Checks.{outsideLine}
 use Rattle.frame_line.specs.declared.Kind.{Kind}
+use Rattle.frame_line.specs.declared.OpeningKind.{OpeningKind}
 use Rattle.frame_line.specs.declared.Turn.{Turn}
 use Rattle.frame_check.specs.Checks.{checksInOrder, overLimit, twiceOf}
 
@@ -37,6 +38,12 @@ pub record Parts : Type 0 where
   pub labels : List LabelLine
   pub passes : List PassLine
 
+unfoldable pub opened : OpeningKind → List Number → Opening → Opening
+opened OpeningKind.Frame ns o = o
+opened OpeningKind.CellSize ns o = record { cell = bitsAt 0 ns; axes = o .axes; band = o .band }
+opened OpeningKind.Axes ns o = record { cell = o .cell; axes = axesLineOf ns; band = o .band }
+opened OpeningKind.Band ns o = record { cell = o .cell; axes = o .axes; band = bitsAt 0 ns }
+
 -- one part is changed, and the others are as they were
 abbrev pub withOpening : Opening → Parts → Parts
 withOpening o p = record { opening = o; corners = p .corners; labels = p .labels; passes = p .passes }
@@ -52,10 +59,7 @@ withPass q p = record { opening = p .opening; corners = p .corners; labels = p .
 
 -- what a line of a kind adds: the one part that it changes
 unfoldable pub adding : Kind → List Number → Parts → Parts
-adding Kind.Frame ns p = p
-adding Kind.CellSize ns p = withOpening (record { cell = bitsAt 0 ns; axes = p .opening .axes; band = p .opening .band }) p
-adding Kind.Axes ns p = withOpening (record { cell = p .opening .cell; axes = axesLineOf ns; band = p .opening .band }) p
-adding Kind.Band ns p = withOpening (record { cell = p .opening .cell; axes = p .opening .axes; band = bitsAt 0 ns }) p
+adding (Kind.Opening k) ns p = withOpening (opened k ns (p .opening)) p
 adding Kind.Corner ns p = withCorner (cornerLineOf ns) p
 adding Kind.Label ns p = withLabel (labelLineOf ns) p
 adding (Kind.Pass k) ns p = withPass (passLineOf k ns) p

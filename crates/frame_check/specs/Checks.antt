@@ -27,10 +27,7 @@ checksInOrder outside over twice =
 
 -- 2, overfull: "At most .. 1,024 corners, 16 passes", n corners and m passes standing already
 unfoldable pub overLimit : ℕ → ℕ → Kind → Bool
-overLimit n m Kind.Frame = false
-overLimit n m Kind.CellSize = false
-overLimit n m Kind.Axes = false
-overLimit n m Kind.Band = false
+overLimit n m (Kind.Opening o) = false
 overLimit n m Kind.Corner = leb 1024 n
 overLimit n m Kind.Label = false
 overLimit n m (Kind.Pass p) = leb 16 m
@@ -46,10 +43,7 @@ abbrev pub labelTwice : List ℕ → List ℕ → HeldLabel → Bool
 labelTwice sheet used l = isSet sheet (placeOf (l .cell)) || isSet used (l .corner)
 
 unfoldable pub twiceOf : Kind → Bool → Bool
-twiceOf Kind.Frame t = false
-twiceOf Kind.CellSize t = false
-twiceOf Kind.Axes t = false
-twiceOf Kind.Band t = false
+twiceOf (Kind.Opening o) t = false
 twiceOf Kind.Corner t = false
 twiceOf Kind.Label t = t
 twiceOf (Kind.Pass p) t = false

@@ -17,10 +17,7 @@ fn over_limit(corners: usize, passes: usize, row: usize) -> bool
 {
     let kind = frame_line::kind_of(row);
     match kind {
-        Kind::Frame => false,
-        Kind::CellSize => false,
-        Kind::Axes => false,
-        Kind::Band => false,
+        Kind::Opening(_) => false,
         Kind::Corner => 1024 <= corners,
         Kind::Label => false,
         Kind::Pass(_) => 16 <= passes,
@@ -47,10 +44,7 @@ fn is_twice(corners: usize, sheet: &[u16; 16384], used: &[u8; 1024], line: HeldL
 {
     let kind = frame_line::kind_of(line.row);
     match kind {
-        Kind::Frame => false,
-        Kind::CellSize => false,
-        Kind::Axes => false,
-        Kind::Band => false,
+        Kind::Opening(_) => false,
         Kind::Corner => false,
         Kind::Label => {
             let values = line.values;

@@ -14,14 +14,15 @@ use Rattle.line_form.proofs.Every.{everyBelow, every-at}
 use Rattle.frame_line.specs.Table.{rowCount, kindAt, formAt}
 use Rattle.frame_line.specs.Lines.{Line, kindOf, Proper, bitsAt, wholeAt}
 use Rattle.frame_line.specs.declared.Kind.{Kind}
+use Rattle.frame_line.specs.declared.OpeningKind.{OpeningKind}
 use Rattle.frame_line.specs.declared.PassKind.{PassKind}
 use Rattle.frame_line.proofs.Numbers.{slotsOf, OfSlots, no-number, float-first, whole-first, of-slots}
 
 abbrev pub rowOf : Kind → ℕ
-rowOf Kind.Frame = 0
-rowOf Kind.CellSize = 1
-rowOf Kind.Axes = 2
-rowOf Kind.Band = 3
+rowOf (Kind.Opening OpeningKind.Frame) = 0
+rowOf (Kind.Opening OpeningKind.CellSize) = 1
+rowOf (Kind.Opening OpeningKind.Axes) = 2
+rowOf (Kind.Opening OpeningKind.Band) = 3
 rowOf Kind.Corner = 4
 rowOf Kind.Label = 5
 rowOf (Kind.Pass PassKind.BareGrow) = 6

@@ -60,7 +60,7 @@ tame-count n z h e =
     ap (λ (x : ℤ). countIn (heldWhole x)) (c .is) ∙ count-held (c .value) (omega (arith, c .small)) ∙ sym (ap natAbs (c .is))
 
 -- an integer of the sheet
-side-held : (z : ℤ) → not (inRange z) ≡ false → pos (min 2000000 (heldWhole z)) -ℤ pos 1000000 ≡ z
+pub side-held : (z : ℤ) → not (inRange z) ≡ false → pos (min 2000000 (heldWhole z)) -ℤ pos 1000000 ≡ z
 unfolding heldWhole
 side-held (pos n) e =
     let h = leb-true n 63 (both true (leb n 63) e .1) in
@@ -68,46 +68,6 @@ side-held (pos n) e =
 side-held (negsuc n) e =
     let h = leb-true n 63 (both (leb n 63) true e .0) in
     sub-lo (min 2000000 (1000000 - suc n)) 1000000 (omega arith) ∙ ap negsuc (omega arith)
-
--- ---- the numbers of a label
-
--- a label on the sheet and of one of n corners, held as it is
-pub record LabelHeld (n : ℕ) (l : LabelLine) (h : HeldLabel) : Type 0 where
-  pub on-sheet : OnSheet (l .cell)
-  pub is-corner : l .corner ≡ pos (natAbs (l .corner))
-  pub given : natAbs (l .corner) < n
-  pub held-so : h ≡ record { corner = natAbs (l .corner); cell = l .cell }
-
-label-said : (n : ℕ) (c i j : ℤ) → n ≤ 1024 → not (inRange i) ≡ false → not (inRange j) ≡ false → not (leZ (pos 0) c && ltZ c (pos n)) ≡ false
-    → LabelHeld n (record { corner = c; cell = record { i = i; j = j } }) (record { corner = countIn (heldWhole c); cell = cellIn (heldWhole i) (heldWhole j) })
-unfolding onSheet
-label-said n c i j few a b e =
-    let k = known n c e in
-    record {
-      on-sheet = subst T (sym (ap₂ _&&_ (not-false (inRange i) a) (not-false (inRange j) b))) tt;
-      is-corner = k .0;
-      given = k .1;
-      held-so =
-          λ t. record {
-            corner = (ap (λ (x : ℤ). countIn (heldWhole x)) (k .0) ∙ count-held (natAbs c) (omega (arith, k .1))) t;
-            cell = record { i = side-held i a t; j = side-held j b t };
-          };
-    }
-
-label-shape : (n : ℕ) (ns : List Number) → n ≤ 1024 → OfSlots (false ∷ false ∷ false ∷ []) ns
-    → outsideLine 4 n (record { row = rowOf Kind.Label; numbers = ns }) ≡ false → outsideLine 5 n (record { row = rowOf Kind.Label; numbers = ns }) ≡ false
-    → LabelHeld n (labelLineOf ns) (labelIn (heldUpTo 5 ns))
-unfolding outsideLine someOutside numberOutside sortAt sortOf rowAt rows unheldWhole wholeAt heldUpTo held
-label-shape n ns few (whole-first c (whole-first i (whole-first j no-number))) a b =
-    let x = or-false-both (not (inRange i)) (not (inRange j) || false) a in
-    label-said n c i j few (x .0) (or-false-both (not (inRange j)) false (x .1) .0) (or-false-both _ false b .0)
-
-pub label-exact : (n : ℕ) (l : Line) → Proper l → kindOf l ≡ Kind.Label → n ≤ 1024 → outsideLine 4 n l ≡ false → outsideLine 5 n l ≡ false
-    → LabelHeld n (labelLineOf (l .numbers)) (labelIn (heldUpTo 5 (l .numbers)))
-unfolding slotsOf formAt rowAt rows
-label-exact n l p e few off stranger =
-    let is = line-is l p Kind.Label e in
-    label-shape n (l .numbers) few (kind-slots l p Kind.Label e) (sym (ap (outsideLine 4 n) is) ∙ off) (sym (ap (outsideLine 5 n) is) ∙ stranger)
 
 -- ---- the words of a line
 

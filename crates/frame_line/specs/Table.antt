@@ -7,6 +7,7 @@ use lib.ListN.{getD, take, drop}
 use Rattle.binary32.specs.declared.ranges.Quantity.{Quantity}
 use Rattle.line_form.specs.Forms.{bytes}
 use Rattle.frame_line.specs.declared.Kind.{Kind}
+use Rattle.frame_line.specs.declared.OpeningKind.{OpeningKind}
 use Rattle.frame_line.specs.declared.PassKind.{PassKind}
 use Rattle.frame_line.specs.declared.Sort.{Sort}
 use Rattle.frame_line.specs.declared.Turn.{Turn}
@@ -47,10 +48,10 @@ rowAt k = getD rows k []
 -- the kinds of the rows
 abbrev pub kinds : List Kind
 kinds =
-    Kind.Frame
-    ∷ Kind.CellSize
-    ∷ Kind.Axes
-    ∷ Kind.Band
+    Kind.Opening OpeningKind.Frame
+    ∷ Kind.Opening OpeningKind.CellSize
+    ∷ Kind.Opening OpeningKind.Axes
+    ∷ Kind.Opening OpeningKind.Band
     ∷ Kind.Corner
     ∷ Kind.Label
     ∷ Kind.Pass PassKind.BareGrow
@@ -61,7 +62,7 @@ kinds =
     ∷ []
 
 unfoldable pub kindAt : ℕ → Kind
-kindAt k = getD kinds k Kind.Frame
+kindAt k = getD kinds k (Kind.Opening OpeningKind.Frame)
 
 -- ---- the form of a row
 

@@ -14,6 +14,14 @@ use line_form::read::Fit;
 use line_form::read::fit_line;
 use sheet::Cell;
 
+// A line of the opening: those that must stand.
+pub enum OpeningKind {
+    Frame,
+    CellSize,
+    Axes,
+    Band,
+}
+
 // A pass line: bare, or with its own numbers.
 pub enum PassKind {
     BareGrow,
@@ -23,12 +31,9 @@ pub enum PassKind {
     Local,
 }
 
-// A kind of line.
+// A kind of line, by the part of a frame that it belongs to.
 pub enum Kind {
-    Frame,
-    CellSize,
-    Axes,
-    Band,
+    Opening(OpeningKind),
     Corner,
     Label,
     Pass(PassKind),
@@ -109,10 +114,10 @@ const STARTS: [usize; ROWS + 1] = [
 
 // The kinds of the rows.
 const KINDS: [Kind; ROWS] = [
-    Kind::Frame,
-    Kind::CellSize,
-    Kind::Axes,
-    Kind::Band,
+    Kind::Opening(OpeningKind::Frame),
+    Kind::Opening(OpeningKind::CellSize),
+    Kind::Opening(OpeningKind::Axes),
+    Kind::Opening(OpeningKind::Band),
     Kind::Corner,
     Kind::Label,
     Kind::Pass(PassKind::BareGrow),

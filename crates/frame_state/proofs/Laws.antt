@@ -11,6 +11,7 @@ use Rattle.binary32.specs.declared.ranges.Quantity.{Quantity}
 use Rattle.frame_line.specs.Table.{rows, rowAt, kindAt, sortOf, sortAt}
 use Rattle.frame_line.specs.Held.{labelIn, outsideHeld}
 use Rattle.frame_line.specs.declared.Kind.{Kind}
+use Rattle.frame_line.specs.declared.OpeningKind.{OpeningKind}
 use Rattle.frame_line.specs.declared.PassKind.{PassKind}
 use Rattle.frame_line.specs.declared.Sort.{Sort}
 use Rattle.frame_line.specs.declared.HeldLine.{HeldLine}
@@ -19,7 +20,7 @@ use Rattle.frame_line.proofs.Checking.{tame-finite}
 use Rattle.frame_line.proofs.Words.{word-tame}
 use Rattle.frame_check.specs.Checks.{overLimit, twiceHeld, checkedHeld}
 use Rattle.frame_check.proofs.Laws.{AllFine, fine-all, label-fits}
-use Rattle.frame_state.specs.State.{Tame, TameAxes, withCellSize, withAxes, withBand, withCorner, withPass, CornerFits, CornerPut, LabelRoom, LabelPut, wordsIn, wordsPut, Arrays, arrays, state, Addable, addsAs, adds}
+use Rattle.frame_state.specs.State.{Tame, TameAxes, TameOpening, withOpening, withCorner, withPass, CornerFits, CornerPut, LabelRoom, LabelPut, wordsIn, wordsPut, Arrays, arrays, state, Addable, addsAs, adds}
 use Rattle.frame_state.specs.declared.Progress.{Progress}
 
 -- ---- what the checks say
@@ -38,23 +39,19 @@ module _ {p : Progress} {a : Arrays} {line : HeldLine} (f : Addable p a line) wh
             (word-tame (p .corners) line (fine .ranges) m h q (ap (λ (k : ℕ). sortAt k m) (row-of (line .row) kind (f .fits .row-fits) e) ∙ s));
       }
 
-  pub cell-fits : kindAt (line .row) ≡ Kind.CellSize → Tame (getD (line .values) 0 0)
+  pub opening-fits : (o : OpeningKind) → kindAt (line .row) ≡ Kind.Opening o → TameOpening o (line .values)
   unfolding sortAt sortOf rowAt rows
-  cell-fits e = tame-at Kind.CellSize e 0 Quantity.CellSize (omega arith) refl
-
-  pub axes-fit : kindAt (line .row) ≡ Kind.Axes → TameAxes (line .values)
-  unfolding sortAt sortOf rowAt rows
-  axes-fit e =
+  opening-fits OpeningKind.Frame e = tt
+  opening-fits OpeningKind.CellSize e = tame-at (Kind.Opening OpeningKind.CellSize) e 0 Quantity.CellSize (omega arith) refl
+  opening-fits OpeningKind.Axes e =
+      let t = tame-at (Kind.Opening OpeningKind.Axes) e in
       record {
-        ix = tame-at Kind.Axes e 0 Quantity.AxisPart (omega arith) refl;
-        iy = tame-at Kind.Axes e 1 Quantity.AxisPart (omega arith) refl;
-        jx = tame-at Kind.Axes e 2 Quantity.AxisPart (omega arith) refl;
-        jy = tame-at Kind.Axes e 3 Quantity.AxisPart (omega arith) refl;
+        ix = t 0 Quantity.AxisPart (omega arith) refl;
+        iy = t 1 Quantity.AxisPart (omega arith) refl;
+        jx = t 2 Quantity.AxisPart (omega arith) refl;
+        jy = t 3 Quantity.AxisPart (omega arith) refl;
       }
-
-  pub band-fits : kindAt (line .row) ≡ Kind.Band → Tame (getD (line .values) 0 0)
-  unfolding sortAt sortOf rowAt rows
-  band-fits e = tame-at Kind.Band e 0 Quantity.Band (omega arith) refl
+  opening-fits OpeningKind.Band e = tame-at (Kind.Opening OpeningKind.Band) e 0 Quantity.Band (omega arith) refl
 
   pub corner-fits : kindAt (line .row) ≡ Kind.Corner → CornerFits (p .corners) (line .values)
   unfolding overLimit sortAt sortOf rowAt rows
@@ -76,21 +73,9 @@ module _ {p : Progress} {a : Arrays} {line : HeldLine} (f : Addable p a line) wh
 -- ---- the state after a line
 
 module _ (p : Progress) (a : Arrays) (line : HeldLine) where
-  pub added-frame : kindAt (line .row) ≡ Kind.Frame → state p a ≡ adds line (state p a)
+  pub added-opening : (o : OpeningKind) → kindAt (line .row) ≡ Kind.Opening o → (r : Progress) → r ≡ withOpening o p (line .values) → state r a ≡ adds line (state p a)
   unfolding addsAs
-  added-frame e = rw e
-
-  pub added-cell : kindAt (line .row) ≡ Kind.CellSize → (r : Progress) → r ≡ withCellSize p (getD (line .values) 0 0) → state r a ≡ adds line (state p a)
-  unfolding addsAs
-  added-cell e r g = rw (e, g)
-
-  pub added-axes : kindAt (line .row) ≡ Kind.Axes → (r : Progress) → r ≡ withAxes p (line .values) → state r a ≡ adds line (state p a)
-  unfolding addsAs
-  added-axes e r g = rw (e, g)
-
-  pub added-band : kindAt (line .row) ≡ Kind.Band → (r : Progress) → r ≡ withBand p (getD (line .values) 0 0) → state r a ≡ adds line (state p a)
-  unfolding addsAs
-  added-band e r g = rw (e, g)
+  added-opening o e r g = rw (e, g)
 
   pub added-corner : kindAt (line .row) ≡ Kind.Corner → (r : Progress) → r ≡ withCorner p → (xs ys pitches : List Float)
       → CornerPut (p .corners) (line .values) (a .xs) (a .ys) (a .pitches) xs ys pitches → state r (arrays xs ys pitches (a .sheet) (a .used) (a .passes)) ≡ adds line (state p a)

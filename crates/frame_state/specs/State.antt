@@ -10,6 +10,7 @@ use Rattle.arguments.specs.declared.Checked.{Checked}
 use Rattle.frame_line.specs.Table.{kindAt}
 use Rattle.frame_line.specs.Held.{countIn, labelIn}
 use Rattle.frame_line.specs.declared.Kind.{Kind}
+use Rattle.frame_line.specs.declared.OpeningKind.{OpeningKind}
 use Rattle.frame_line.specs.declared.PassKind.{PassKind}
 use Rattle.frame_line.specs.declared.HeldLabel.{HeldLabel}
 use Rattle.frame_line.specs.declared.HeldLine.{HeldLine}
@@ -88,6 +89,19 @@ withAxes p v =
 
 abbrev pub withBand : Progress → ℕ → Progress
 withBand p b = record { settings = record { grid = p .settings .grid; «edge_length_tol» = floatOf b }; corners = p .corners; passes = p .passes; stage = p .stage }
+
+-- a line of the opening: its floats are finite; what it says
+abbrev pub TameOpening : OpeningKind → List ℕ → Type 0
+TameOpening OpeningKind.Frame v = Unit {0}
+TameOpening OpeningKind.CellSize v = Tame (getD v 0 0)
+TameOpening OpeningKind.Axes v = TameAxes v
+TameOpening OpeningKind.Band v = Tame (getD v 0 0)
+
+unfoldable pub withOpening : OpeningKind → Progress → List ℕ → Progress
+withOpening OpeningKind.Frame p v = p
+withOpening OpeningKind.CellSize p v = withCellSize p (getD v 0 0)
+withOpening OpeningKind.Axes p v = withAxes p v
+withOpening OpeningKind.Band p v = withBand p (getD v 0 0)
 
 abbrev pub withCorner : Progress → Progress
 withCorner p = record { settings = p .settings; corners = p .corners + 1; passes = p .passes; stage = p .stage }
@@ -170,10 +184,7 @@ pub record Addable (p : Progress) (a : Arrays) (line : HeldLine) : Type 0 where
 
 -- a line of a kind added, with its words
 unfoldable pub addsAs : Kind → List ℕ → State → State
-addsAs Kind.Frame v s = s
-addsAs Kind.CellSize v s = state (withCellSize (s .progress) (getD v 0 0)) (s .held)
-addsAs Kind.Axes v s = state (withAxes (s .progress) v) (s .held)
-addsAs Kind.Band v s = state (withBand (s .progress) (getD v 0 0)) (s .held)
+addsAs (Kind.Opening o) v s = state (withOpening o (s .progress) v) (s .held)
 addsAs Kind.Corner v s =
     let n = s .progress .corners in
     let h = s .held in

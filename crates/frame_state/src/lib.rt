@@ -3,11 +3,12 @@
 ghost use mathlib.Core.Path.{_≡_};
 ghost use Prim.Native.Nat.{_<_};
 ghost use lib.Ieee.{binary32, ofBits};
-ghost use Rattle.frame_state.specs.State.{Tame, TameAxes, nothing-said, atStage, withCellSize, withAxes, withBand, withCorner, withPass, CornerFits, CornerPut, LabelRoom, LabelPut, growWords, fillWords, localWords, wordsIn, wordsPut, arrays, state, Addable, adds};
+ghost use Rattle.frame_state.specs.State.{Tame, TameAxes, nothing-said, atStage, withCellSize, withAxes, withBand, TameOpening, withOpening, withCorner, withPass, CornerFits, CornerPut, LabelRoom, LabelPut, growWords, fillWords, localWords, wordsIn, wordsPut, arrays, state, Addable, adds};
 use arguments::Settings;
 use frame_line::HeldLabel;
 use frame_line::HeldLine;
 use frame_line::Kind;
+use frame_line::OpeningKind;
 use frame_line::PassKind;
 use frame_line::count_of;
 use predict::Grid;
@@ -148,6 +149,19 @@ fn with_band(p: Progress, bits: u32) -> Progress
         corners: p.corners,
         passes: p.passes,
         stage: p.stage,
+    }
+}
+
+// A line of the opening is said.
+fn with_opening(p: Progress, kind: OpeningKind, values: [u32; 5]) -> Progress
+    requires { ⌜ TameOpening kind values ⌝ }
+    ensures { λ r. ⌜ r ≡ withOpening kind p values ⌝ }
+{
+    match kind {
+        OpeningKind::Frame => p,
+        OpeningKind::CellSize => with_cell_size(p, values[0]),
+        OpeningKind::Axes => with_axes(p, values),
+        OpeningKind::Band => with_band(p, values[0]),
     }
 }
 
@@ -294,10 +308,7 @@ pub fn add_line(
     let kind = frame_line::kind_of(line.row);
     let v = line.values;
     match kind {
-        Kind::Frame => p,
-        Kind::CellSize => with_cell_size(p, v[0]),
-        Kind::Axes => with_axes(p, v),
-        Kind::Band => with_band(p, v[0]),
+        Kind::Opening(opening) => with_opening(p, opening, v),
         Kind::Corner => {
             put_corner(xs, ys, pitches, p.corners, v);
             with_corner(p)

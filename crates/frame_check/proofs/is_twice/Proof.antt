@@ -18,23 +18,14 @@ enum-told-2 c = search needs
 enum-told-3 : tie.Need-enum-told-3
 enum-told-3 c = search needs
 
-enum-told-4 : tie.Need-enum-told-4
-enum-told-4 c = search needs
-
-enum-told-5 : tie.Need-enum-told-5
-enum-told-5 c = search needs
-
-enum-told-6 : tie.Need-enum-told-6
-enum-told-6 c = search needs
-
 label-of-requires : tie.Need-label-of-requires
 label-of-requires c κs = search needs
 
 label-twice-requires : tie.Need-label-twice-requires
-label-twice-requires c κs = rw (c .label-of .ensures) (label-fits (c .before .before .before .before .before .args .corners) (c .before .before .before .before .before .args .line) (c .before .before .before .before .before .pre) (sym (c .before .before .before .before .kind-of .ensures) ∙ c .before .before .enum-told6 .given .1))
+label-twice-requires c κs = rw (c .label-of .ensures) (label-fits (c .before .before .before .before .before .args .corners) (c .before .before .before .before .before .args .line) (c .before .before .before .before .before .pre) (sym (c .before .before .before .before .kind-of .ensures) ∙ c .before .before .enum-told3 .given .1))
 
-enum-told-7 : tie.Need-enum-told-7
-enum-told-7 c = search needs
+enum-told-4 : tie.Need-enum-told-4
+enum-told-4 c = search needs
 
 returns : tie.Need-returns
 unfolding twiceOf
@@ -46,23 +37,11 @@ returns-2 c = by-kind (twiceAs (c .before .before .before .args .sheet .now) (c 
 
 returns-3 : tie.Need-returns-3
 unfolding twiceOf
-returns-3 c = by-kind (twiceAs (c .before .before .before .args .sheet .now) (c .before .before .before .args .used .now) (c .before .before .before .args .line)) (c .before .before .kind-of .ensures) (c .enum-told3 .given .1)
+returns-3 c = c .label-twice .ensures ∙ ap (labelTwice (c .before .before .before .before .before .before .args .sheet .now) (c .before .before .before .before .before .before .args .used .now)) (c .before .label-of .ensures) ∙ by-kind (twiceAs (c .before .before .before .before .before .before .args .sheet .now) (c .before .before .before .before .before .before .args .used .now) (c .before .before .before .before .before .before .args .line)) (c .before .before .before .before .before .kind-of .ensures) (c .before .before .before .enum-told3 .given .1)
 
 returns-4 : tie.Need-returns-4
 unfolding twiceOf
 returns-4 c = by-kind (twiceAs (c .before .before .before .args .sheet .now) (c .before .before .before .args .used .now) (c .before .before .before .args .line)) (c .before .before .kind-of .ensures) (c .enum-told4 .given .1)
-
-returns-5 : tie.Need-returns-5
-unfolding twiceOf
-returns-5 c = by-kind (twiceAs (c .before .before .before .args .sheet .now) (c .before .before .before .args .used .now) (c .before .before .before .args .line)) (c .before .before .kind-of .ensures) (c .enum-told5 .given .1)
-
-returns-6 : tie.Need-returns-6
-unfolding twiceOf
-returns-6 c = c .label-twice .ensures ∙ ap (labelTwice (c .before .before .before .before .before .before .args .sheet .now) (c .before .before .before .before .before .before .args .used .now)) (c .before .label-of .ensures) ∙ by-kind (twiceAs (c .before .before .before .before .before .before .args .sheet .now) (c .before .before .before .before .before .before .args .used .now) (c .before .before .before .before .before .before .args .line)) (c .before .before .before .before .before .kind-of .ensures) (c .before .before .before .enum-told6 .given .1)
-
-returns-7 : tie.Need-returns-7
-unfolding twiceOf
-returns-7 c = by-kind (twiceAs (c .before .before .before .args .sheet .now) (c .before .before .before .args .used .now) (c .before .before .before .args .line)) (c .before .before .kind-of .ensures) (c .enum-told7 .given .1)
 
 pub is-twice-spec : {M : Type 1} → statement M
 is-twice-spec =
@@ -72,16 +51,10 @@ is-twice-spec =
     enum-told
     enum-told-2
     enum-told-3
-    enum-told-4
-    enum-told-5
-    enum-told-6
     label-of-requires
     label-twice-requires
-    enum-told-7
+    enum-told-4
     returns
     returns-2
     returns-3
-    returns-4
-    returns-5
-    returns-6
-    returns-7)
+    returns-4)

@@ -1,5 +1,4 @@
 -- `frame_check::over_limit` meets its contract, by the kind. Assumes nothing.
-use Rattle.frame_line.specs.declared.Kind.{Kind}
 use Rattle.frame_check.specs.Checks.{overLimit}
 use Rattle.frame_check.proofs.Laws.{by-kind}
 use borrow.Author.Needs.{needs}
@@ -21,15 +20,6 @@ enum-told-3 c = search needs
 enum-told-4 : tie.Need-enum-told-4
 enum-told-4 c = search needs
 
-enum-told-5 : tie.Need-enum-told-5
-enum-told-5 c = search needs
-
-enum-told-6 : tie.Need-enum-told-6
-enum-told-6 c = search needs
-
-enum-told-7 : tie.Need-enum-told-7
-enum-told-7 c = search needs
-
 returns : tie.Need-returns
 unfolding overLimit
 returns c = by-kind (overLimit (c .before .before .before .args .corners) (c .before .before .before .args .passes)) (c .before .before .kind-of .ensures) (c .enum-told .given .1)
@@ -46,18 +36,6 @@ returns-4 : tie.Need-returns-4
 unfolding overLimit
 returns-4 c = by-kind (overLimit (c .before .before .before .args .corners) (c .before .before .before .args .passes)) (c .before .before .kind-of .ensures) (c .enum-told4 .given .1)
 
-returns-5 : tie.Need-returns-5
-unfolding overLimit
-returns-5 c = by-kind (overLimit (c .before .before .before .args .corners) (c .before .before .before .args .passes)) (c .before .before .kind-of .ensures) (c .enum-told5 .given .1)
-
-returns-6 : tie.Need-returns-6
-unfolding overLimit
-returns-6 c = by-kind (overLimit (c .before .before .before .args .corners) (c .before .before .before .args .passes)) (c .before .before .kind-of .ensures) (c .enum-told6 .given .1)
-
-returns-7 : tie.Need-returns-7
-unfolding overLimit
-returns-7 c = by-kind (overLimit (c .before .before .before .args .corners) (c .before .before .before .args .passes)) (c .before .before .kind-of .ensures) (c .enum-told7 .given .1)
-
 pub over-limit-spec : {M : Type 1} → statement M
 over-limit-spec =
     tie.close
@@ -67,13 +45,7 @@ over-limit-spec =
     enum-told-2
     enum-told-3
     enum-told-4
-    enum-told-5
-    enum-told-6
-    enum-told-7
     returns
     returns-2
     returns-3
-    returns-4
-    returns-5
-    returns-6
-    returns-7)
+    returns-4)
