@@ -51,20 +51,14 @@ fewer n done rest all a e h = lt-leb n (length done) (omega (arith, ap length e,
 module _ (ns : List Number) (p : Parts) (ls : List Line) where
   room : (k : Kind) → length (partsFrom (adding k ns p) ls .corners) ≤ 1024 → length (partsFrom (adding k ns p) ls .passes) ≤ 16 → overLimit (length (p .corners)) (length (p .passes)) k ≡ false
   unfolding overLimit adding
-  room Kind.Frame a b = refl
-  room Kind.CellSize a b = refl
-  room Kind.Axes a b = refl
-  room Kind.Band a b = refl
+  room (Kind.Opening o) a b = refl
   room Kind.Corner a b = fewer 1024 (p .corners) _ _ (cornerLineOf ns) (corners-split (adding Kind.Corner ns p) ls) a
   room Kind.Label a b = refl
   room (Kind.Pass q) a b = fewer 16 (p .passes) _ _ (passLineOf q ns) (passes-split (adding (Kind.Pass q) ns p) ls) b
 
   once : (k : Kind) → Apart (partsFrom (adding k ns p) ls .labels) → twiceOf k (doubled (p .labels) (labelLineOf ns)) ≡ false
   unfolding twiceOf adding
-  once Kind.Frame a = refl
-  once Kind.CellSize a = refl
-  once Kind.Axes a = refl
-  once Kind.Band a = refl
+  once (Kind.Opening o) a = refl
   once Kind.Corner a = refl
   once Kind.Label a =
       new (p .labels) (partsFrom no-parts ls .labels) (labelLineOf ns)

@@ -24,7 +24,8 @@ use Rattle.frame_line.specs.Lines.{Line, kindOf, LabelLine, labelLineOf}
 use Rattle.frame_line.specs.Checks.{outsideLine}
 use Rattle.frame_line.specs.declared.Kind.{Kind}
 use Rattle.frame_line.specs.declared.Turn.{Turn}
-use Rattle.frame_line.proofs.Words.{counts-alike, label-exact}
+use Rattle.frame_line.proofs.Words.{counts-alike}
+use Rattle.frame_line.proofs.Said.{label-exact}
 use Rattle.frame_check.specs.Checks.{overLimit, twiceOf}
 use Rattle.frame_check.proofs.Laws.{AllFine, fine-all}
 use Rattle.frame.specs.Frame.{Frame, Parts, adding, added, partsFrom, no-parts, partsOf, sameCell, clash, doubled, checkedLine, refused-at, accepted, readLines, readFrame}
@@ -91,10 +92,7 @@ one-longer n l a e = let h = leb-false n (length l) e in omega (arith, length-ap
 
 limits-after : (k : Kind) (ns : List Number) (p : Parts) → overLimit (length (p .corners)) (length (p .passes)) k ≡ false → twiceOf k (doubled (p .labels) (labelLineOf ns)) ≡ false → Limits p → Limits (adding k ns p)
 unfolding adding overLimit twiceOf
-limits-after Kind.Frame ns p a b m = m
-limits-after Kind.CellSize ns p a b m = record { corners = m .corners; passes = m .passes; once = m .once }
-limits-after Kind.Axes ns p a b m = record { corners = m .corners; passes = m .passes; once = m .once }
-limits-after Kind.Band ns p a b m = record { corners = m .corners; passes = m .passes; once = m .once }
+limits-after (Kind.Opening o) ns p a b m = record { corners = m .corners; passes = m .passes; once = m .once }
 limits-after Kind.Corner ns p a b m = record { corners = one-longer 1024 (p .corners) _ a; passes = m .passes; once = m .once }
 limits-after Kind.Label ns p a b m = record { corners = m .corners; passes = m .passes; once = once-more (p .labels) (labelLineOf ns) (m .once) b }
 limits-after (Kind.Pass q) ns p a b m = record { corners = m .corners; passes = one-longer 16 (p .passes) _ a; once = m .once }

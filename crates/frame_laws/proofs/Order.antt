@@ -21,19 +21,13 @@ use Rattle.frame.specs.Text.{All, InOrder, ends, next}
 
 -- a line that changes the opening; one that adds a corner; one that asks for a corner
 abbrev pub opens : Kind → Bool
-opens Kind.Frame = false
-opens Kind.CellSize = true
-opens Kind.Axes = true
-opens Kind.Band = true
+opens (Kind.Opening o) = true
 opens Kind.Corner = false
 opens Kind.Label = false
 opens (Kind.Pass p) = false
 
 abbrev pub isCorner : Kind → Bool
-isCorner Kind.Frame = false
-isCorner Kind.CellSize = false
-isCorner Kind.Axes = false
-isCorner Kind.Band = false
+isCorner (Kind.Opening o) = false
 isCorner Kind.Corner = true
 isCorner Kind.Label = false
 isCorner (Kind.Pass p) = false

@@ -32,30 +32,21 @@ module _ {A : Type 0} (part : Parts → List A) (none : part no-parts ≡ []) (m
 
 corners-more : (k : Kind) (ns : List Number) (p : Parts) → adding k ns p .corners ≡ p .corners ++ adding k ns no-parts .corners
 unfolding adding
-corners-more Kind.Frame ns p = sym (append-nil (p .corners))
-corners-more Kind.CellSize ns p = sym (append-nil (p .corners))
-corners-more Kind.Axes ns p = sym (append-nil (p .corners))
-corners-more Kind.Band ns p = sym (append-nil (p .corners))
+corners-more (Kind.Opening o) ns p = sym (append-nil (p .corners))
 corners-more Kind.Corner ns p = refl
 corners-more Kind.Label ns p = sym (append-nil (p .corners))
 corners-more (Kind.Pass q) ns p = sym (append-nil (p .corners))
 
 labels-more : (k : Kind) (ns : List Number) (p : Parts) → adding k ns p .labels ≡ p .labels ++ adding k ns no-parts .labels
 unfolding adding
-labels-more Kind.Frame ns p = sym (append-nil (p .labels))
-labels-more Kind.CellSize ns p = sym (append-nil (p .labels))
-labels-more Kind.Axes ns p = sym (append-nil (p .labels))
-labels-more Kind.Band ns p = sym (append-nil (p .labels))
+labels-more (Kind.Opening o) ns p = sym (append-nil (p .labels))
 labels-more Kind.Corner ns p = sym (append-nil (p .labels))
 labels-more Kind.Label ns p = refl
 labels-more (Kind.Pass q) ns p = sym (append-nil (p .labels))
 
 passes-more : (k : Kind) (ns : List Number) (p : Parts) → adding k ns p .passes ≡ p .passes ++ adding k ns no-parts .passes
 unfolding adding
-passes-more Kind.Frame ns p = sym (append-nil (p .passes))
-passes-more Kind.CellSize ns p = sym (append-nil (p .passes))
-passes-more Kind.Axes ns p = sym (append-nil (p .passes))
-passes-more Kind.Band ns p = sym (append-nil (p .passes))
+passes-more (Kind.Opening o) ns p = sym (append-nil (p .passes))
 passes-more Kind.Corner ns p = sym (append-nil (p .passes))
 passes-more Kind.Label ns p = sym (append-nil (p .passes))
 passes-more (Kind.Pass q) ns p = refl
@@ -79,30 +70,21 @@ module _ {A : Type 0} (P : A → Type 0) (part : Parts → List A) (none : part 
 
 corner-one : (P : CornerLine → Type 0) (k : Kind) (ns : List Number) → (k ≡ Kind.Corner → P (cornerLineOf ns)) → All P (adding k ns no-parts .corners)
 unfolding adding
-corner-one P Kind.Frame ns h = tt
-corner-one P Kind.CellSize ns h = tt
-corner-one P Kind.Axes ns h = tt
-corner-one P Kind.Band ns h = tt
+corner-one P (Kind.Opening o) ns h = tt
 corner-one P Kind.Corner ns h = (h refl, tt)
 corner-one P Kind.Label ns h = tt
 corner-one P (Kind.Pass q) ns h = tt
 
 label-one : (P : LabelLine → Type 0) (k : Kind) (ns : List Number) → (k ≡ Kind.Label → P (labelLineOf ns)) → All P (adding k ns no-parts .labels)
 unfolding adding
-label-one P Kind.Frame ns h = tt
-label-one P Kind.CellSize ns h = tt
-label-one P Kind.Axes ns h = tt
-label-one P Kind.Band ns h = tt
+label-one P (Kind.Opening o) ns h = tt
 label-one P Kind.Corner ns h = tt
 label-one P Kind.Label ns h = (h refl, tt)
 label-one P (Kind.Pass q) ns h = tt
 
 pass-one : (P : PassLine → Type 0) (k : Kind) (ns : List Number) → ((q : PassKind) → k ≡ Kind.Pass q → P (passLineOf q ns)) → All P (adding k ns no-parts .passes)
 unfolding adding
-pass-one P Kind.Frame ns h = tt
-pass-one P Kind.CellSize ns h = tt
-pass-one P Kind.Axes ns h = tt
-pass-one P Kind.Band ns h = tt
+pass-one P (Kind.Opening o) ns h = tt
 pass-one P Kind.Corner ns h = tt
 pass-one P Kind.Label ns h = tt
 pass-one P (Kind.Pass q) ns h = (h q refl, tt)
@@ -121,20 +103,14 @@ module _ (ls : List Line) where
 
 opening-kept : (k : Kind) (ns : List Number) (p : Parts) → opens k ≡ false → adding k ns p .opening ≡ p .opening
 unfolding adding
-opening-kept Kind.Frame ns p e = refl
-opening-kept Kind.CellSize ns p e = absurd (true≢false e)
-opening-kept Kind.Axes ns p e = absurd (true≢false e)
-opening-kept Kind.Band ns p e = absurd (true≢false e)
+opening-kept (Kind.Opening o) ns p e = absurd (true≢false e)
 opening-kept Kind.Corner ns p e = refl
 opening-kept Kind.Label ns p e = refl
 opening-kept (Kind.Pass q) ns p e = refl
 
 corner-kept : (k : Kind) (ns : List Number) (p : Parts) → isCorner k ≡ false → adding k ns p .corners ≡ p .corners
 unfolding adding
-corner-kept Kind.Frame ns p e = refl
-corner-kept Kind.CellSize ns p e = refl
-corner-kept Kind.Axes ns p e = refl
-corner-kept Kind.Band ns p e = refl
+corner-kept (Kind.Opening o) ns p e = refl
 corner-kept Kind.Corner ns p e = absurd (true≢false e)
 corner-kept Kind.Label ns p e = refl
 corner-kept (Kind.Pass q) ns p e = refl

@@ -25,9 +25,10 @@ use Rattle.frame_line.specs.Table.{rowCount, kindAt}
 use Rattle.frame_line.specs.Lines.{Line, kindOf, bitsAt, axesLineOf, CornerLine, PassLine, bare-grow, grow, bare-fill, fill, local}
 use Rattle.frame_line.specs.Checks.{wildBits, wildWhole}
 use Rattle.frame_line.specs.declared.Kind.{Kind}
+use Rattle.frame_line.specs.declared.OpeningKind.{OpeningKind}
 use Rattle.frame_line.proofs.Words.{counted}
 use Rattle.frame_line.proofs.Said.{CornerTame, PassTame, cell-said, axes-said, band-said, corner-said, pass-said}
-use Rattle.frame.specs.Frame.{Frame, Opening, adding, partsFrom, no-parts, partsOf}
+use Rattle.frame.specs.Frame.{Frame, Opening, opened, adding, partsFrom, no-parts, partsOf}
 use Rattle.frame.specs.Text.{All, InOrder, InRange, Sound, WithinLimits}
 use Rattle.frame.specs.ReadFrame.{floatOf, xsOf, ysOf, pitchesOf, sheetOf, settingsIn, settingsOf, fullOf, passOf}
 use Rattle.frame_laws.specs.Calls.{cornersOf, frameRooms, passCall, callOf, callsOf, NoneRefused, Starts, AcceptedRuns}
@@ -59,11 +60,11 @@ each-float q f (a ∷ l) p (suc k) h = each-float q f l (p .1) k (omega arith)
 abbrev Row : Line → Type 0
 Row l = l .row < rowCount
 
-module _ (l0 l1 l2 l3 : Line) (ls : List Line) (a : kindOf l0 ≡ Kind.Frame) (b : kindOf l1 ≡ Kind.CellSize) (c : kindOf l2 ≡ Kind.Axes) (d : kindOf l3 ≡ Kind.Band) where
-  opened : InOrder 4 ls → All Row ls
+module _ (l0 l1 l2 l3 : Line) (ls : List Line) (a : kindOf l0 ≡ Kind.Opening OpeningKind.Frame) (b : kindOf l1 ≡ Kind.Opening OpeningKind.CellSize) (c : kindOf l2 ≡ Kind.Opening OpeningKind.Axes) (d : kindOf l3 ≡ Kind.Opening OpeningKind.Band) where
+  opening-is : InOrder 4 ls → All Row ls
       → partsFrom no-parts (l0 ∷ l1 ∷ l2 ∷ l3 ∷ ls) .opening ≡ record { cell = bitsAt 0 (l1 .numbers); axes = axesLineOf (l2 .numbers); band = bitsAt 0 (l3 .numbers) }
-  unfolding partsFrom adding
-  opened o r = openings-kept 4 _ ls (omega arith) r o ∙ rw (a, b, c, d)
+  unfolding partsFrom adding opened
+  opening-is o r = openings-kept 4 _ ls (omega arith) r o ∙ rw (a, b, c, d)
 
   settings-lines : (m : ℕ) → InOrder 4 ls → All (InRange m) (l0 ∷ l1 ∷ l2 ∷ l3 ∷ ls) → SettingsInside (settingsIn (partsFrom no-parts (l0 ∷ l1 ∷ l2 ∷ l3 ∷ ls) .opening))
   settings-lines m o r =
@@ -71,7 +72,7 @@ module _ (l0 l1 l2 l3 : Line) (ls : List Line) (a : kindOf l0 ≡ Kind.Frame) (b
       let y = r .1 .1 .0 in
       let z = r .1 .1 .1 .0 in
       let t = axes-said m l2 (y .proper) (y .ranges) c in
-      subst (λ (it : Opening). SettingsInside (settingsIn it)) (sym (opened o (all-map (λ l g. g .proper .few) ls (r .1 .1 .1 .1))))
+      subst (λ (it : Opening). SettingsInside (settingsIn it)) (sym (opening-is o (all-map (λ l g. g .proper .few) ls (r .1 .1 .1 .1))))
       (record {
         cell-size = inside Quantity.CellSize (bitsAt 0 (l1 .numbers)) (cell-said m l1 (x .proper) (x .ranges) b);
         axis-i = record { x = inside Quantity.AxisPart _ (t .0); y = inside Quantity.AxisPart _ (t .1 .0) };
