@@ -13,7 +13,7 @@ use Rattle.binary32.specs.Sqrt.{sqrtOrNan}
 use Rattle.binary32.proofs.Exists.{sqrt-fits}
 use Rattle.homography.specs.Fit.{Answer, NoFit, Entries, homographyOf}
 use Rattle.sheet.specs.Cells.{cellOf}
-use Rattle.sheet.specs.Corners.{seenOf}
+use Rattle.sheet.specs.Corners.{squaredDistance, seenOf}
 use Rattle.sheet.specs.declared.Cell.{Cell}
 use Rattle.sheet.specs.declared.Seen.{Seen}
 use Rattle.labels.specs.Labelled.{isLabelled, labelledPlaces, labelCount}
@@ -60,7 +60,7 @@ Finites (x ∷ xs) = FiniteFloat x × Finites xs
 
 module _ (seen : Cell → Seen) (h : List Float) where
   residual-fits : (p : ℕ) → T (fits binary32 (residualOf h (cellPoint (cellOf p)) (picturedAt seen p)))
-  unfolding residualOf
+  unfolding residualOf squaredDistance
   residual-fits p = sqrt-fits _ (add-fits binary32 _ _)
 
   residuals-finite : (ps : List ℕ) → allFinite (residualsOf seen h ps) ≡ true → Finites (residualsOf seen h ps)
