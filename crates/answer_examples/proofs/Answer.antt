@@ -8,7 +8,7 @@ use Rattle.passes.specs.Step.{CornerLists}
 use Rattle.passes.specs.Run.{Call, PassStats, run, sheetOf as sheetAfterAll}
 use Rattle.invariants.specs.Calls.{Standing, CallInside}
 use Rattle.frame_line.specs.Lines.{LabelLine}
-use Rattle.frame.specs.Frame.{Frame, readFrame, accepted}
+use Rattle.frame.specs.Frame.{Frame, partsOf, readFrame, accepted}
 use Rattle.frame.specs.Text.{All}
 use Rattle.frame.specs.ReadFrame.{labelled, sheetOf}
 use Rattle.frame_laws.specs.Calls.{cornersOf, callsOf}
@@ -38,10 +38,10 @@ labelled-rises (l ∷ ls) w h = labelled-rises ls (attachedIn w (l .cell) (natAb
 
 pub given-so : (f : Frame) → sheetOf f ≡ sheetWith (givenIn f)
 unfolding sheetOf sheetWith
-given-so f = labelled-so (f .labels) []
+given-so f = labelled-so (partsOf f .labels) []
 
 pub given-rises : (f : Frame) → Rise 0 (givenIn f)
-given-rises f = labelled-rises (f .labels) [] no-more
+given-rises f = labelled-rises (partsOf f .labels) [] no-more
 
 -- ---- the passes
 

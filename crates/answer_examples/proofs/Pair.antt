@@ -19,6 +19,9 @@ use Rattle.passes.specs.Run.{Call, PassStats, step, run}
 use Rattle.invariants.specs.Calls.{Standing, passOf as passChecked, checkedCall, afterCall, CallInside}
 use Rattle.invariants.proofs.Run.{step-as}
 use Rattle.agreement.specs.Agreement.{AboveOne, FactorsAbove, no-more, was-refused as was-not-run, ran}
+use Rattle.frame_line.specs.Table.{kindAt}
+use Rattle.frame_line.specs.Lines.{bitsAt, wholeAt, passLineOf}
+use Rattle.frame.specs.Frame.{opened, adding, partsFrom, partsOf}
 use Rattle.frame.specs.Text.{All}
 use Rattle.frame.specs.ReadFrame.{xsOf, ysOf, pitchesOf, sheetOf, fullOf, passOf}
 use Rattle.binary32.specs.Hex.{digits}
@@ -81,7 +84,7 @@ module _ (sheet : List ℕ) (s : Standing (cornersOf firstFrame) sheet) where
   c = callOf firstFrame refusedLine
 
   long : tooShort (lentOf (cornersOf firstFrame) sheet frameRooms) (passChecked (c .pass)) ≡ false
-  unfolding queueNeeded fullOf passOf xsOf
+  unfolding queueNeeded fullOf passOf xsOf kindAt bitsAt wholeAt passLineOf opened adding partsFrom partsOf
   long =
       not-short _ _
       (record { ys-long = s .given .ys-long; pitches-long = s .given .pitches-long; sheet-long = s .given .long; queue-long = omega arith; attached-long = omega arith })
@@ -91,14 +94,14 @@ module _ (sheet : List ℕ) (s : Standing (cornersOf firstFrame) sheet) where
   deep = or-last (someCornerOutside (xsOf firstFrame) (ysOf firstFrame) (pitchesOf firstFrame)) (settingsOutside (c .settings))
 
   wild : checkedCall (cornersOf firstFrame) sheet c ≡ Checked.Refused Refusal.OutOfRange
-  unfolding checked overLimit xsOf
+  unfolding checked overLimit xsOf kindAt bitsAt wholeAt passLineOf opened adding partsFrom partsOf
   wild = rw (long, deep) refl
 
   refused-so : step (cornersOf firstFrame) sheet c ≡ refused Refusal.OutOfRange
   refused-so = step-as (cornersOf firstFrame) sheet c ∙ ap (λ (k : Checked). unless k (afterCall (cornersOf firstFrame) sheet c)) wild
 
 list-goes : AsAsked (cornersOf firstFrame) list
-unfolding list callsOf fullOf
+unfolding list callsOf fullOf kindAt bitsAt wholeAt passLineOf opened adding partsFrom partsOf
 list-goes = one-runs (fits .0) (one-refused refused-so (one-runs (fits .1 .0) (one-runs (fits .1 .1 .0) ends)))
 
 -- ---- what they do
@@ -115,11 +118,11 @@ abbrev outcomes : List (Outcome PassStats)
 outcomes = done (afterOf localLeft) ∷ done (afterOf growLeft) ∷ done (afterOf fillLeft) ∷ []
 
 own-outcomes : frameRun firstFrame .outcomes ≡ outcomes
-unfolding runIn callsOf fullOf
+unfolding runIn callsOf fullOf kindAt bitsAt wholeAt passLineOf opened adding partsFrom partsOf
 own-outcomes = λ t. done (afterOf (local-did t)) ∷ done (afterOf (grow-next t)) ∷ done (afterOf (fill-next t)) ∷ []
 
 own-left : frameRun firstFrame .left ≡ fillLeft .sheet
-unfolding runIn callsOf fullOf
+unfolding runIn callsOf fullOf kindAt bitsAt wholeAt passLineOf opened adding partsFrom partsOf
 own-left = ap (λ (a : AfterIn PassStats). a .sheet) fill-next
 
 -- the list of calls
@@ -130,7 +133,7 @@ list-run =
     ∙ (λ t. done (afterOf (local-did t)) ∷ refused Refusal.OutOfRange ∷ done (afterOf (grow-next t)) ∷ done (afterOf (fill-next t)) ∷ [])
 
 own-factors : FactorsAbove (callsOf firstFrame) (run (cornersOf firstFrame) (sheetOf firstFrame) (callsOf firstFrame))
-unfolding callsOf fullOf
+unfolding callsOf fullOf kindAt bitsAt wholeAt passLineOf opened adding partsFrom partsOf
 own-factors =
     subst (FactorsAbove (callsOf firstFrame)) (sym (own-run firstText firstFrame first-read ∙ own-outcomes)) (ran local-above (ran grow-above (ran fill-above no-more)))
 
@@ -140,6 +143,7 @@ list-factors = subst (FactorsAbove calls) (sym list-run) (ran local-above (was-n
 -- ---- the claims
 
 pub met : Met
+unfolding kindAt bitsAt wholeAt passLineOf opened adding partsFrom partsOf
 met =
     record {
       first-read = first-read;

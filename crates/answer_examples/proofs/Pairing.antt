@@ -8,24 +8,28 @@ use lib.ListN.{getD}
 use lib.Ieee.{ofBits, ofInt, le, lt, eq}
 use Rattle.binary32.specs.Hex.{digitValue, readDigits}
 use Rattle.binary32.specs.Ranges.{endsOf}
-use Rattle.sheet.specs.Cells.{onSheet}
 use Rattle.sheet.specs.Pairing.{Shuffle}
 use Rattle.arguments.specs.Arguments.{outside}
 use Rattle.line_form.specs.Integers.{digitsAfter, readPositive, readInteger}
 use Rattle.line_form.specs.Forms.{pieceOf, fitOf}
-use Rattle.frame_line.specs.Lines.{bitsAt, wholeAt, lineOf, firstFit, readLine}
-use Rattle.frame.specs.Frame.{linesOf, inOrder, stageAfter, overLimit, outOfRange, wildPass, offSheet, unknownCorner, doubled, checkedLine, adding, accepted, stepLine, atEnd, readLines, readFrame}
+use Rattle.line_form.specs.Lines.{linesOf}
+use Rattle.line_form.specs.Written.{unheldWhole}
+use Rattle.frame_line.specs.Table.{rows, rowAt, kindAt, formAt, turnAt, mayEnd, sortOf, sortAt}
+use Rattle.frame_line.specs.Lines.{bitsAt, wholeAt, passLineOf, firstFit, readLine}
+use Rattle.frame_line.specs.Checks.{wildBits, numberOutside, someOutside, outsideLine}
+use Rattle.frame_check.specs.Checks.{checksInOrder, overLimit, twiceOf}
+use Rattle.frame.specs.Frame.{opened, adding, partsFrom, partsOf, doubled, checkedLine, accepted, stepLine, atEnd, readLines, readFrame}
 use Rattle.frame_agreement.specs.Reordering.{cornerLine, SameButOrder}
 use Rattle.answer_examples.specs.Pair.{firstText, secondText, firstFrame, secondFrame, numbersInSecond, numbersInFirst}
 
 -- ---- the texts are read
 
 pub first-read : readFrame firstText ≡ accepted firstFrame
-unfolding ofBits ofInt le lt eq digitValue readDigits endsOf onSheet outside digitsAfter readPositive readInteger pieceOf fitOf bitsAt wholeAt lineOf firstFit readLine linesOf inOrder stageAfter overLimit outOfRange wildPass offSheet unknownCorner doubled checkedLine adding stepLine atEnd readLines readFrame
+unfolding ofBits ofInt le lt eq digitValue readDigits endsOf outside digitsAfter readPositive readInteger pieceOf fitOf linesOf unheldWhole rows rowAt kindAt formAt turnAt mayEnd sortOf sortAt bitsAt wholeAt passLineOf firstFit readLine wildBits numberOutside someOutside outsideLine checksInOrder overLimit twiceOf opened adding partsFrom partsOf doubled checkedLine stepLine atEnd readLines readFrame
 first-read = refl
 
 pub second-read : readFrame secondText ≡ accepted secondFrame
-unfolding ofBits ofInt le lt eq digitValue readDigits endsOf onSheet outside digitsAfter readPositive readInteger pieceOf fitOf bitsAt wholeAt lineOf firstFit readLine linesOf inOrder stageAfter overLimit outOfRange wildPass offSheet unknownCorner doubled checkedLine adding stepLine atEnd readLines readFrame
+unfolding ofBits ofInt le lt eq digitValue readDigits endsOf outside digitsAfter readPositive readInteger pieceOf fitOf linesOf unheldWhole rows rowAt kindAt formAt turnAt mayEnd sortOf sortAt bitsAt wholeAt passLineOf firstFit readLine wildBits numberOutside someOutside outsideLine checksInOrder overLimit twiceOf opened adding partsFrom partsOf doubled checkedLine stepLine atEnd readLines readFrame
 second-read = refl
 
 -- ---- the pairing
@@ -63,9 +67,11 @@ pairs =
     }
 
 pub same-lines : (k : ℕ) → k < 10 → cornerLine secondFrame (pairs .to k) ≡ cornerLine firstFrame k
+unfolding kindAt bitsAt wholeAt passLineOf opened adding partsFrom partsOf
 same-lines =
     below (λ k. cornerLine secondFrame (pairs .to k) ≡ cornerLine firstFrame k) 10
     ((((((((((tt, refl), refl), refl), refl), refl), refl), refl), refl), refl), refl)
 
 abbrev pub same : SameButOrder firstFrame secondFrame
-same = record { cell = refl; axes = refl; band = refl; count = refl; pairs = pairs; same-line = same-lines; labels = refl; passes = refl }
+unfolding kindAt bitsAt wholeAt passLineOf opened adding partsFrom partsOf
+same = record { opening = refl; count = refl; pairs = pairs; same-line = same-lines; labels = refl; passes = refl }

@@ -19,7 +19,9 @@ use Rattle.extension_common.specs.TryCell.{choiceBy}
 use Rattle.passes.specs.Grow.{member, radiusOf, searchOf}
 use Rattle.line_form.specs.Integers.{decimalUpTo, decimal, integerText}
 use Rattle.line_form.specs.Forms.{numberText, printed}
-use Rattle.frame.specs.Frame.{FrameRead, accepted, nothing-read, readFrame}
+use Rattle.frame_line.specs.Table.{kindAt}
+use Rattle.frame_line.specs.Lines.{bitsAt, wholeAt, passLineOf}
+use Rattle.frame.specs.Frame.{opened, adding, partsFrom, partsOf, FrameRead, accepted, readFrame}
 use Rattle.frame.specs.ReadFrame.{xsOf, ysOf, pitchesOf, settingsOf, fullOf, passOf}
 use Rattle.frame_laws.specs.Calls.{callsOf}
 use Rattle.frame_laws.proofs.Examples.{example, meant, examples-read}
@@ -35,7 +37,7 @@ use Rattle.answer_examples.proofs.Answer.{answer-so}
 
 -- what the first text of the crate `frame_laws`' table is read as
 first : List FrameRead → FrameRead
-first [] = accepted nothing-read
+first [] = accepted []
 first (a ∷ l) = a
 
 example-read : readFrame example ≡ accepted meant
@@ -44,7 +46,7 @@ example-read = ap first examples-read
 
 -- the run and its text, computed
 computed : runText (frameRun meant) ≡ exampleResult
-unfolding ofBits ofInt toBits add sub mul div neg lt le eq digits isFinite unitsOf reaches climb rooted onSheet placeOf cellOf labelOfNumber numberOfLabel bitOf labelOf holeOf ambiguousOf wordOf cornerOf seenThrough namesCorner isLabelled names onRim rimAt eligible squaredDistance insert ordered candidatesAt firstTwo chooseUnambiguous squaredDistance lengthOf meanPitch expectedLength inBand edgeOk cardinalOffsets edgeTo followedBy tried verdictOf passes neighbourOffsets putBefore labelledAmong neighboursOf stepAt stepVector weighed withNeighbour sumsFrom noSums sumsOf meanOf predictionFrom predictionOf onSide anyOn hasNeighbour extrapolating choiceBy member radiusOf searchOf decimalUpTo decimal integerText numberText printed xsOf ysOf pitchesOf settingsOf fullOf passOf callsOf growLine passLine passLines statsOf wordIn told anyIn labelIn putIn put gatheredIn edgesIn resultIn tryIn enqueuedIn enqueuedAtIn seededFromIn growWithIn growAtIn growVisitIn growFromIn growRunIn growAfterIn afterPassIn runIn textIn labelledIn runText
+unfolding ofBits ofInt toBits add sub mul div neg lt le eq digits isFinite unitsOf reaches climb rooted onSheet placeOf cellOf labelOfNumber numberOfLabel bitOf labelOf holeOf ambiguousOf wordOf cornerOf seenThrough namesCorner isLabelled names onRim rimAt eligible squaredDistance insert ordered candidatesAt firstTwo chooseUnambiguous squaredDistance lengthOf meanPitch expectedLength inBand edgeOk cardinalOffsets edgeTo followedBy tried verdictOf passes neighbourOffsets putBefore labelledAmong neighboursOf stepAt stepVector weighed withNeighbour sumsFrom noSums sumsOf meanOf predictionFrom predictionOf onSide anyOn hasNeighbour extrapolating choiceBy member radiusOf searchOf decimalUpTo decimal integerText numberText printed xsOf ysOf pitchesOf settingsOf fullOf passOf callsOf kindAt bitsAt wholeAt passLineOf opened adding partsFrom partsOf growLine passLine passLines statsOf wordIn told anyIn labelIn putIn put gatheredIn edgesIn resultIn tryIn enqueuedIn enqueuedAtIn seededFromIn growWithIn growAtIn growVisitIn growFromIn growRunIn growAfterIn afterPassIn runIn textIn labelledIn runText
 computed = refl
 
 pub example-answered : ExampleAnswered

@@ -7,7 +7,7 @@ use Rattle.sheet.specs.Cells.{cellOf}
 use Rattle.sheet.specs.Words.{labelOf}
 use Rattle.passes.specs.Run.{PassStats}
 use Rattle.frame_line.specs.Lines.{LabelLine}
-use Rattle.frame.specs.Frame.{Frame}
+use Rattle.frame.specs.Frame.{Frame, partsOf}
 use Rattle.frame_laws.specs.Calls.{cornersOf, callsOf}
 use Rattle.report_line.specs.Result.{labelLine, passLines, heading}
 use Rattle.recovery.specs.Answer.{statsOf}
@@ -22,7 +22,7 @@ labelledIn w [] = w
 labelledIn w (l ∷ ls) = labelledIn (attachedIn w (l .cell) (natAbs (l .corner))) ls
 
 abbrev pub givenIn : Frame → List Written
-givenIn f = labelledIn [] (f .labels)
+givenIn f = labelledIn [] (partsOf f .labels)
 
 -- a frame's passes, all of which run
 abbrev pub asked : Frame → List Asked

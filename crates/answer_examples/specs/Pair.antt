@@ -3,8 +3,8 @@
 use mathlib.Core.List.{List, [], _∷_, _++_}
 use Prim.Native.Nat.{ℕ}
 use lib.IntN.{pos}
-use Rattle.line_form.specs.Forms.{bytes}
-use Rattle.frame_line.specs.Lines.{CornerLine, LabelLine, PassLine, bare-grow, bare-fill, local}
+use Rattle.line_form.specs.Forms.{bytes, Number, bits, whole}
+use Rattle.frame_line.specs.Lines.{Line, PassLine, local}
 use Rattle.frame.specs.Frame.{Frame}
 
 -- ---- the texts
@@ -37,31 +37,35 @@ secondText =
 
 -- ---- the frames
 
-abbrev pub corner : ℕ → ℕ → CornerLine
-corner x y = record { x = x; y = y; pitch = 0 }
+-- a line by its row of the table
+abbrev pub said : ℕ → List Number → Line
+said k ns = record { row = k; numbers = ns }
 
-abbrev pub label : ℕ → ℕ → ℕ → LabelLine
-label k i j = record { corner = pos k; cell = record { i = pos i; j = pos j } }
+abbrev pub corner : ℕ → ℕ → Line
+corner x y = said 4 (bits x ∷ bits y ∷ bits 0 ∷ [])
+
+abbrev pub label : ℕ → ℕ → ℕ → Line
+label k i j = said 5 (whole (pos k) ∷ whole (pos i) ∷ whole (pos j) ∷ [])
 
 -- four corners, at (0 0), (1 0), (0 1) and (1 1)
-abbrev pub fourLabels : ℕ → ℕ → ℕ → ℕ → List LabelLine
+abbrev pub fourLabels : ℕ → ℕ → ℕ → ℕ → List Line
 fourLabels a b c d = label a 0 0 ∷ label b 1 0 ∷ label c 0 1 ∷ label d 1 1 ∷ []
 
 abbrev pub localLine : PassLine
 localLine = local 0x3dcc_cccd 0x3fc0_0000 (pos 1) 0x3e80_0000 (pos 1)
 
-abbrev pub frameWith : List CornerLine → List LabelLine → Frame
-frameWith corners labels = record {
-  cell = 0x4120_0000;
-  axes = record { ix = 0x3f80_0000; iy = 0; jx = 0; jy = 0x3f80_0000 };
-  band = 0x3e80_0000;
-  corners = corners;
-  labels = labels;
-  passes = localLine ∷ bare-grow ∷ bare-fill ∷ [];
-}
+abbrev pub frameWith : List Line → List Line → Frame
+frameWith corners labels =
+    said 0 []
+    ∷ said 1 (bits 0x4120_0000 ∷ [])
+    ∷ said 2 (bits 0x3f80_0000 ∷ bits 0 ∷ bits 0 ∷ bits 0x3f80_0000 ∷ [])
+    ∷ said 3 (bits 0x3e80_0000 ∷ [])
+    ∷ (corners
+    ++ (labels
+    ++ (said 10 (bits 0x3dcc_cccd ∷ bits 0x3fc0_0000 ∷ whole (pos 1) ∷ bits 0x3e80_0000 ∷ whole (pos 1) ∷ []) ∷ said 6 [] ∷ said 8 [] ∷ [])))
 
 -- (10 10), (20 10), (10 20), (20.5 20.5), (30 10), (10 32), (0 10), (0 10) once more, (40 10) and (43 10), each with pitch 0
-abbrev pub firstCorners : List CornerLine
+abbrev pub firstCorners : List Line
 firstCorners =
     corner 0x4120_0000 0x4120_0000
     ∷ corner 0x41a0_0000 0x4120_0000
@@ -76,7 +80,7 @@ firstCorners =
     ∷ []
 
 -- the same lines in another order: those of numbers 6, 3, 9, 0, 5, 8, 7, 1, 4 and 2 above
-abbrev pub secondCorners : List CornerLine
+abbrev pub secondCorners : List Line
 secondCorners =
     corner 0x0000_0000 0x4120_0000
     ∷ corner 0x41a4_0000 0x41a4_0000

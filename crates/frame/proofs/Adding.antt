@@ -5,30 +5,37 @@ use mathlib.Core.List.{List, [], _∷_, _++_, append-assoc, append-nil, map}
 use Prim.Native.Nat.{ℕ, suc, _+_, _*_, _<_, _≤_}
 use native.Mathlib.Omega.{arith}
 use native.Mathlib.Numerals.{add-one}
-use borrow.Author.Tests.{ne-eqb, eqb-true, eqb-false, leb-false, not-false}
+use borrow.Author.Tests.{ne-eqb, eqb-true, eqb-false, leb-false}
 use lib.IntN.{ℤ, pos, natAbs}
-use lib.Dec.{T, eqb}
+use lib.Dec.{eqb}
 use lib.ListN.{length, getD, set, take, length-set, length-append}
 use lib.Seq.{getD-set-same, getD-set-other, take-suc-set}
 use lib.Ieee.{Float}
-use Rattle.refusal.specs.declared.Refusal.{Refusal}
-use Rattle.binary32.specs.declared.ranges.Quantity.{Quantity}
-use Rattle.sheet.specs.Cells.{onSheet, OnSheet, placeOf, eqZ}
+use Rattle.sheet.specs.Cells.{OnSheet, placeOf, eqZ}
 use Rattle.sheet.specs.Words.{numberOfLabel, wordOf, withLabel, wordAt, attached, emptySheet}
 use Rattle.sheet.specs.declared.Cell.{Cell}
 use Rattle.sheet.proofs.Laws.{place-in, place-one, eqZ-equal, equal-eqZ}
 use Rattle.arguments.specs.declared.Checked.{Checked}
-use Rattle.arguments.specs.declared.Settings.{Settings}
-use Rattle.frame_line.specs.Lines.{CornerLine, LabelLine, PassLine, bare-grow, grow, bare-fill, fill, local, Axes, Line, frame-line, cell-line, axes-line, band-line, corner-line, label-line, pass-line}
-use Rattle.frame_line.specs.Held.{countOf, heldPass, heldLine}
-use Rattle.frame_check.specs.Checks.{isSet}
-use Rattle.frame_state.specs.State.{wordsOf as wordsHeld, wordsPut, State, adds}
+use Rattle.line_form.specs.Held.{heldWhole, heldUpTo}
+use Rattle.frame_line.specs.Table.{rows, rowAt, formAt}
+use Rattle.frame_line.specs.Lines.{Line, kindOf, Proper, wholeAt, CornerLine, cornerLineOf, LabelLine, labelLineOf, PassLine, passLineOf}
+use Rattle.frame_line.specs.Checks.{outsideLine}
+use Rattle.frame_line.specs.Held.{heldLine, countIn}
+use Rattle.frame_line.specs.declared.Kind.{Kind}
+use Rattle.frame_line.specs.declared.OpeningKind.{OpeningKind}
+use Rattle.frame_line.specs.declared.PassKind.{PassKind}
+use Rattle.frame_line.specs.declared.HeldLabel.{HeldLabel}
+use Rattle.frame_line.proofs.Numbers.{slotsOf}
+use Rattle.frame_line.proofs.Shapes.{bits-held, whole-held}
+use Rattle.frame_line.proofs.Words.{tame-count}
+use Rattle.frame_line.proofs.Said.{pass-said, label-exact}
+use Rattle.frame_check.specs.Checks.{isSet, overLimit, twiceOf}
+use Rattle.frame_check.proofs.Laws.{AllFine, fine-all}
+use Rattle.frame_state.specs.State.{withOpening, wordsIn, wordsPut, State, addsAs, adds}
 use Rattle.frame_state.specs.declared.PassWords.{PassWords}
-use Rattle.frame.specs.Frame.{Frame, floatOf, inOrder, rankOf, overLimit, wild, wildCount, wildPass, outOfRange, ofLabel, offSheet, unknownCorner, sameCell, checkedLine, adding}
-use Rattle.frame.specs.ReadFrame.{settingsOf, labelled, fullOf, wordsOf, allWords}
+use Rattle.frame.specs.Frame.{Parts, sameCell, doubled, checkedLine, opened, adding, added}
+use Rattle.frame.specs.ReadFrame.{floatOf, settingsIn, labelled, fullOf, wordsOf, allWords}
 use Rattle.frame.specs.Reading.{HoldsCorners, cellTaken, cornerTaken, HoldsLabels, HoldsPasses, FrameHeld}
-use Rattle.frame.proofs.Agree.{counted, tame-count, count-below, cell-same}
-use Rattle.arguments.proofs.Chains.{or-false-both, not-refused}
 
 -- ---- one more at the end
 
@@ -194,120 +201,138 @@ pass-held ps m words g h p w e =
       words-are = six-stores m w words h (g .long) ∙ ap₂ _++_ (g .words-are) e ∙ sym (words-more ps p);
     }
 
--- the words of a pass whose numbers are in range
-words-agree : (p : PassLine) → wildPass p ≡ false → listed (wordsHeld (heldPass p)) ≡ wordsOf (fullOf p)
-unfolding wordsHeld heldPass fullOf wordsOf wildPass
-words-agree bare-grow e = refl
-words-agree (grow s f b) e = refl
-words-agree bare-fill e = refl
-words-agree (fill s f r) e =
-    let a = or-false-both (wild Quantity.Multiple s) (wild Quantity.Factor f || wildCount 64 r) e in
-    let b = or-false-both (wild Quantity.Factor f) (wildCount 64 r) (a .1) in
-    ap (λ (k : ℕ). 1 ∷ s ∷ f ∷ 0 ∷ k ∷ 0 ∷ []) (tame-count 64 r (omega arith) (b .1))
-words-agree (local s f r g d) e =
-    let a = or-false-both (wild Quantity.Multiple s) (wild Quantity.Factor f || (wildCount 64 r || (wild Quantity.Multiple g || wildCount 4 d))) e in
-    let b = or-false-both (wild Quantity.Factor f) (wildCount 64 r || (wild Quantity.Multiple g || wildCount 4 d)) (a .1) in
-    let c = or-false-both (wildCount 64 r) (wild Quantity.Multiple g || wildCount 4 d) (b .1) in
-    let h = or-false-both (wild Quantity.Multiple g) (wildCount 4 d) (c .1) in
-    ap₂ (λ (j k : ℕ). 2 ∷ s ∷ f ∷ g ∷ j ∷ k ∷ []) (tame-count 64 r (omega arith) (c .0)) (tame-count 4 d (omega arith) (h .1))
-
 -- ---- any line
 
--- what the checks of a line that is fine say
-record Fine (f : Frame) (l : Line) : Type 0 where
-  room : overLimit f l ≡ false
-  ranges : outOfRange l ≡ false
-  on : ofLabel offSheet l ≡ false
-  known : ofLabel (unknownCorner (length (f .corners))) l ≡ false
+module _ (f : Parts) (s : State) (g : FrameHeld f s) (l : Line) (p : Proper l) (fine : checkedLine f l ≡ Checked.Fine) where
+  w : AllFine (λ r. outsideLine r (length (f .corners)) l) (overLimit (length (f .corners)) (length (f .passes)) (kindOf l)) (twiceOf (kindOf l) (doubled (f .labels) (labelLineOf (l .numbers))))
+  unfolding checkedLine
+  w = fine-all (λ r. outsideLine r (length (f .corners)) l) _ _ fine
 
-fine : (stage : ℕ) (f : Frame) (l : Line) → checkedLine stage f l ≡ Checked.Fine → Fine f l
-unfolding checkedLine
-fine stage f l e =
-    let a = not-refused (not (inOrder stage (rankOf l))) Refusal.Malformed _ e in
-    let b = not-refused (overLimit f l) Refusal.OverLimit _ (a .1) in
-    let c = not-refused (outOfRange l) Refusal.OutOfRange _ (b .1) in
-    let d = not-refused (ofLabel offSheet l) Refusal.OffSheet _ (c .1) in
-    let g = not-refused (ofLabel (unknownCorner (length (f .corners))) l) Refusal.UnknownCorner _ (d .1) in
-    record { room = b .0; ranges = c .0; on = d .0; known = g .0 }
+  few : length (f .corners) ≤ 1024
+  few = omega (arith, g .corners .count, g .corners .few)
 
-module _ (f : Frame) (s : State) (g : FrameHeld f s) where
-  cell-added : (b : ℕ) → FrameHeld (adding f (cell-line b)) (adds (heldLine (cell-line b)) s)
-  unfolding adding adds heldLine settingsOf
-  cell-added b =
+  -- a line of the opening leaves the counts as they are
+  same-corners : (k : OpeningKind) → HoldsCorners (f .corners) (s .progress .corners) (s .held .xs) (s .held .ys) (s .held .pitches)
+      → HoldsCorners (f .corners) (withOpening k (s .progress) (heldUpTo 5 (l .numbers)) .corners) (s .held .xs) (s .held .ys) (s .held .pitches)
+  unfolding withOpening
+  same-corners OpeningKind.Frame h = h
+  same-corners OpeningKind.CellSize h = h
+  same-corners OpeningKind.Axes h = h
+  same-corners OpeningKind.Band h = h
+
+  same-passes : (k : OpeningKind) → HoldsPasses (f .passes) (s .progress .passes) (s .held .passes) → HoldsPasses (f .passes) (withOpening k (s .progress) (heldUpTo 5 (l .numbers)) .passes) (s .held .passes)
+  unfolding withOpening
+  same-passes OpeningKind.Frame h = h
+  same-passes OpeningKind.CellSize h = h
+  same-passes OpeningKind.Axes h = h
+  same-passes OpeningKind.Band h = h
+
+  -- held by a line of this kind
+  abbrev HeldAs : Kind → Type 0
+  HeldAs kind = FrameHeld (adding kind (l .numbers) f) (addsAs kind (heldUpTo 5 (l .numbers)) s)
+
+  settings-added : (k : OpeningKind) → kindOf l ≡ Kind.Opening k → withOpening k (s .progress) (heldUpTo 5 (l .numbers)) .settings ≡ settingsIn (opened k (l .numbers) (f .opening))
+  unfolding withOpening opened slotsOf formAt rowAt rows
+  settings-added OpeningKind.Frame e = g .settings-are
+  settings-added OpeningKind.CellSize e =
+      let b = bits-held l p (Kind.Opening OpeningKind.CellSize) e 0 (omega arith) refl in
+      let o = g .settings-are in
+      λ t. record { grid = record { «axis_i» = o t .grid .«axis_i»; «axis_j» = o t .grid .«axis_j»; «cell_size» = floatOf (b t) }; «edge_length_tol» = o t .«edge_length_tol» }
+  settings-added OpeningKind.Axes e =
+      let a = bits-held l p (Kind.Opening OpeningKind.Axes) e 0 (omega arith) refl in
+      let b = bits-held l p (Kind.Opening OpeningKind.Axes) e 1 (omega arith) refl in
+      let c = bits-held l p (Kind.Opening OpeningKind.Axes) e 2 (omega arith) refl in
+      let d = bits-held l p (Kind.Opening OpeningKind.Axes) e 3 (omega arith) refl in
+      let o = g .settings-are in
+      λ t. record {
+        grid = record { «axis_i» = record { x = floatOf (a t); y = floatOf (b t) }; «axis_j» = record { x = floatOf (c t); y = floatOf (d t) }; «cell_size» = o t .grid .«cell_size» };
+        «edge_length_tol» = o t .«edge_length_tol»;
+      }
+  settings-added OpeningKind.Band e =
+      let b = bits-held l p (Kind.Opening OpeningKind.Band) e 0 (omega arith) refl in
+      let o = g .settings-are in
+      λ t. record { grid = o t .grid; «edge_length_tol» = floatOf (b t) }
+
+  opening-added : (k : OpeningKind) → kindOf l ≡ Kind.Opening k → HeldAs (Kind.Opening k)
+  unfolding adding addsAs
+  opening-added k e =
       record {
-        settings-are = ap (λ (x : Settings). record { grid = record { «axis_i» = x .grid .«axis_i»; «axis_j» = x .grid .«axis_j»; «cell_size» = floatOf b }; «edge_length_tol» = x .«edge_length_tol» }) (g .settings-are);
-        corners = g .corners;
+        settings-are = settings-added k e;
+        corners = same-corners k (g .corners);
         labels = g .labels;
-        passes = g .passes;
+        passes = same-passes k (g .passes);
       }
 
-  axes-added : (a : Axes) → FrameHeld (adding f (axes-line a)) (adds (heldLine (axes-line a)) s)
-  unfolding adding adds heldLine settingsOf
-  axes-added a =
-      record {
-        settings-are = ap (λ (x : Settings). record { grid = record { «axis_i» = record { x = floatOf (a .ix); y = floatOf (a .iy) }; «axis_j» = record { x = floatOf (a .jx); y = floatOf (a .jy) }; «cell_size» = x .grid .«cell_size» }; «edge_length_tol» = x .«edge_length_tol» }) (g .settings-are);
-        corners = g .corners;
-        labels = g .labels;
-        passes = g .passes;
-      }
-
-  band-added : (b : ℕ) → FrameHeld (adding f (band-line b)) (adds (heldLine (band-line b)) s)
-  unfolding adding adds heldLine settingsOf
-  band-added b =
-      record {
-        settings-are = ap (λ (x : Settings). record { grid = x .grid; «edge_length_tol» = floatOf b }) (g .settings-are);
-        corners = g .corners;
-        labels = g .labels;
-        passes = g .passes;
-      }
-
-  corner-added : (c : CornerLine) → Fine f (corner-line c) → FrameHeld (adding f (corner-line c)) (adds (heldLine (corner-line c)) s)
-  unfolding adding adds heldLine settingsOf overLimit
-  corner-added c w =
-      let room : length (f .corners) < 1024 = leb-false 1024 (length (f .corners)) (w .room) in
+  corner-added : kindOf l ≡ Kind.Corner → HeldAs Kind.Corner
+  unfolding adding addsAs overLimit slotsOf formAt rowAt rows
+  corner-added e =
+      let room : length (f .corners) < 1024 = leb-false 1024 (length (f .corners)) (sym (ap (overLimit (length (f .corners)) (length (f .passes))) e) ∙ w .room) in
       record {
         settings-are = g .settings-are;
-        corners = corner-held (f .corners) (s .progress .corners) (s .held .xs) (s .held .ys) (s .held .pitches) (g .corners) (omega (arith, g .corners .count)) c;
+        corners =
+            rw (bits-held l p Kind.Corner e 0 (omega arith) refl, bits-held l p Kind.Corner e 1 (omega arith) refl, bits-held l p Kind.Corner e 2 (omega arith) refl)
+            (corner-held (f .corners) (s .progress .corners) (s .held .xs) (s .held .ys) (s .held .pitches) (g .corners) (omega (arith, g .corners .count)) (cornerLineOf (l .numbers)));
         labels = g .labels;
         passes = g .passes;
       }
 
-  label-added : (l : LabelLine) → Fine f (label-line l) → FrameHeld (adding f (label-line l)) (adds (heldLine (label-line l)) s)
-  unfolding adding adds heldLine settingsOf offSheet
-  label-added l w =
-      let few : length (f .corners) ≤ 1024 = omega (arith, g .corners .count, g .corners .few) in
-      let here : OnSheet (l .cell) = subst T (sym (not-false (onSheet (l .cell)) (w .on))) tt in
-      let below : countOf (l .corner) < length (f .corners) = count-below (length (f .corners)) l few (w .known) in
-      let is : l .corner ≡ pos (countOf (l .corner)) = counted (length (f .corners)) (l .corner) few below in
+  label-added : kindOf l ≡ Kind.Label → HeldAs Kind.Label
+  unfolding adding addsAs
+  label-added e =
+      let h = label-exact (length (f .corners)) l p e few (w .on) (w .known) in
+      let m = labelLineOf (l .numbers) in
       record {
         settings-are = g .settings-are;
         corners = g .corners;
         labels =
-            rw (cell-same (l .cell) here)
-            (label-held (f .labels) (s .held .sheet) (s .held .used) (g .labels) l (countOf (l .corner)) here is (omega arith));
+            subst (λ (x : HeldLabel). HoldsLabels (f .labels ++ (m ∷ [])) (attached (s .held .sheet) (x .cell) (x .corner)) (set (s .held .used) (x .corner) 1)) (sym (h .held-so))
+            (label-held (f .labels) (s .held .sheet) (s .held .used) (g .labels) m (natAbs (m .corner)) (h .on-sheet) (h .is-corner) (omega (arith, h .given, few)));
         passes = g .passes;
       }
 
-  pass-added : (p : PassLine) → Fine f (pass-line p) → FrameHeld (adding f (pass-line p)) (adds (heldLine (pass-line p)) s)
-  unfolding adding adds heldLine settingsOf overLimit outOfRange
-  pass-added p w =
-      let room : length (f .passes) < 16 = leb-false 16 (length (f .passes)) (w .room) in
+  -- the words of a pass whose numbers are in range
+  words-agree : (k : PassKind) → kindOf l ≡ Kind.Pass k → listed (wordsIn k (heldUpTo 5 (l .numbers))) ≡ wordsOf (fullOf (passLineOf k (l .numbers)))
+  unfolding wordsIn passLineOf fullOf wordsOf slotsOf formAt rowAt rows
+  words-agree PassKind.BareGrow e = refl
+  words-agree PassKind.Grow e =
+      let a = bits-held l p (Kind.Pass PassKind.Grow) e 0 (omega arith) refl in
+      let b = bits-held l p (Kind.Pass PassKind.Grow) e 1 (omega arith) refl in
+      let c = bits-held l p (Kind.Pass PassKind.Grow) e 2 (omega arith) refl in
+      λ t. 0 ∷ a t ∷ b t ∷ c t ∷ 0 ∷ 0 ∷ []
+  words-agree PassKind.BareFill e = refl
+  words-agree PassKind.Fill e =
+      let a = bits-held l p (Kind.Pass PassKind.Fill) e 0 (omega arith) refl in
+      let b = bits-held l p (Kind.Pass PassKind.Fill) e 1 (omega arith) refl in
+      let tame = pass-said (length (f .corners)) l p (w .ranges) PassKind.Fill e in
+      let c = ap countIn (whole-held l p (Kind.Pass PassKind.Fill) e 2 (omega arith) refl) ∙ tame-count 64 (wholeAt 2 (l .numbers)) (omega arith) (tame .1 .1) in
+      λ t. 1 ∷ a t ∷ b t ∷ 0 ∷ c t ∷ 0 ∷ []
+  words-agree PassKind.Local e =
+      let a = bits-held l p (Kind.Pass PassKind.Local) e 0 (omega arith) refl in
+      let b = bits-held l p (Kind.Pass PassKind.Local) e 1 (omega arith) refl in
+      let d = bits-held l p (Kind.Pass PassKind.Local) e 3 (omega arith) refl in
+      let tame = pass-said (length (f .corners)) l p (w .ranges) PassKind.Local e in
+      let c = ap countIn (whole-held l p (Kind.Pass PassKind.Local) e 2 (omega arith) refl) ∙ tame-count 64 (wholeAt 2 (l .numbers)) (omega arith) (tame .1 .1 .0) in
+      let h = ap countIn (whole-held l p (Kind.Pass PassKind.Local) e 4 (omega arith) refl) ∙ tame-count 4 (wholeAt 4 (l .numbers)) (omega arith) (tame .1 .1 .1 .1) in
+      λ t. 2 ∷ a t ∷ b t ∷ d t ∷ c t ∷ h t ∷ []
+
+  pass-added : (k : PassKind) → kindOf l ≡ Kind.Pass k → HeldAs (Kind.Pass k)
+  unfolding adding addsAs overLimit
+  pass-added k e =
+      let room : length (f .passes) < 16 = leb-false 16 (length (f .passes)) (sym (ap (overLimit (length (f .corners)) (length (f .passes))) e) ∙ w .room) in
       record {
         settings-are = g .settings-are;
         corners = g .corners;
         labels = g .labels;
-        passes = pass-held (f .passes) (s .progress .passes) (s .held .passes) (g .passes) (omega (arith, g .passes .count)) p (wordsHeld (heldPass p)) (words-agree p (w .ranges));
+        passes =
+            pass-held (f .passes) (s .progress .passes) (s .held .passes) (g .passes) (omega (arith, g .passes .count)) (passLineOf k (l .numbers)) (wordsIn k (heldUpTo 5 (l .numbers)))
+            (words-agree k e);
       }
 
-  frame-added : FrameHeld (adding f frame-line) (adds (heldLine frame-line) s)
-  unfolding adding adds heldLine
-  frame-added = g
+  by-kind : (kind : Kind) → kindOf l ≡ kind → HeldAs kind
+  by-kind (Kind.Opening k) e = opening-added k e
+  by-kind Kind.Corner e = corner-added e
+  by-kind Kind.Label e = label-added e
+  by-kind (Kind.Pass k) e = pass-added k e
 
-  pub line-held : (stage : ℕ) (l : Line) → checkedLine stage f l ≡ Checked.Fine → FrameHeld (adding f l) (adds (heldLine l) s)
-  line-held stage frame-line e = frame-added
-  line-held stage (cell-line b) e = cell-added b
-  line-held stage (axes-line a) e = axes-added a
-  line-held stage (band-line b) e = band-added b
-  line-held stage (corner-line c) e = corner-added c (fine stage f (corner-line c) e)
-  line-held stage (label-line l) e = label-added l (fine stage f (label-line l) e)
-  line-held stage (pass-line p) e = pass-added p (fine stage f (pass-line p) e)
+  pub line-held : FrameHeld (added f l) (adds (heldLine l) s)
+  line-held = by-kind (kindOf l) refl

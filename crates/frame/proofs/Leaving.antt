@@ -17,7 +17,8 @@ use Rattle.frame_check.specs.Checks.{isSet}
 use Rattle.frame_state.specs.State.{Arrays, arrays, state, nothing-said}
 use Rattle.frame_state.specs.declared.Progress.{Progress}
 use Rattle.arguments.specs.Front.{over}
-use Rattle.frame.specs.Frame.{Frame, linesOf, FrameRead, refused-at, accepted, readLines, nothing-read, readFrame}
+use Rattle.line_form.specs.Lines.{linesOf}
+use Rattle.frame.specs.Frame.{Frame, no-parts, partsOf, FrameRead, refused-at, accepted, readLines, readFrame}
 use Rattle.frame.specs.ReadFrame.{xsOf, ysOf, pitchesOf, settingsOf, labelled, sheetOf, allWords, Buffers, frameOut, tooShort, leaves, readInto}
 use Rattle.frame.specs.Reading.{HoldsCorners, cellTaken, cornerTaken, HoldsLabels, HoldsPasses, FrameHeld, ReadAs, refused-as, held-as, LongEnough, buffers, Copies}
 use Rattle.frame.specs.declared.FrameAnswer.{FrameAnswer}
@@ -57,8 +58,7 @@ no-passes : HoldsPasses [] 0 (replicate 96 0)
 unfolding allWords
 no-passes = record { count = refl; few = omega arith; long = length-replicate {A = ℕ} 96 0; words-are = refl }
 
-pub nothing-held : (x : Float) → FrameHeld nothing-read (state nothing-said (arrays (replicate 1024 x) (replicate 1024 x) (replicate 1024 x) (replicate 16384 0) (replicate 1024 0) (replicate 96 0)))
-unfolding settingsOf
+pub nothing-held : (x : Float) → FrameHeld no-parts (state nothing-said (arrays (replicate 1024 x) (replicate 1024 x) (replicate 1024 x) (replicate 16384 0) (replicate 1024 0) (replicate 96 0)))
 nothing-held x = record { settings-are = refl; corners = no-corners x; labels = no-labels; passes = no-passes }
 
 -- ---- at the end
@@ -71,11 +71,11 @@ refused-read (held-as f p g) r n e = absurd (let z : _≡_ {A = ℕ} 0 1 = cc in
 pub record Accepting (f : FrameRead) (p : Progress) (a : Arrays) : Type 0 where
   pub frame : Frame
   pub is : f ≡ accepted frame
-  pub holds : FrameHeld frame (state p a)
+  pub holds : FrameHeld (partsOf frame) (state p a)
 
 pub whole-read : {f : FrameRead} {l : LinesRead} {a : Arrays} → ReadAs f l a → (p : Progress) → l ≡ LinesRead.Whole p → Accepting f p a
 whole-read (refused-as q k) p e = absurd (let z : _≡_ {A = ℕ} 0 1 = cc in omega arith)
-whole-read {a = a} (held-as f q g) p e = let d : q ≡ p = cc in record { frame = f; is = refl; holds = subst (λ (x : Progress). FrameHeld f (state x a)) d g }
+whole-read {a = a} (held-as f q g) p e = let d : q ≡ p = cc in record { frame = f; is = refl; holds = subst (λ (x : Progress). FrameHeld (partsOf f) (state x a)) d g }
 
 -- a refusal leaves the buffers as they were
 pub text-refused : {f : FrameRead} {l : LinesRead} {a : Arrays} → ReadAs f l a → (r : Refusal) (n : ℕ) → l ≡ LinesRead.Refused r n → (xs ys pitches : List Float) (sheet passes : List ℕ)
@@ -114,13 +114,14 @@ module _ {f : FrameRead} {p : Progress} {a : Arrays} {b : Buffers} (w : Acceptin
   unfolding sheetOf
   sheet-left = ap (λ (l : List ℕ). over l (b .sheet)) (take-all 16384 (a .sheet) (omega (arith, w .holds .labels .sheet-long)) ∙ w .holds .labels .sheet-is)
 
-  passes-left : over (take (6 * p .passes) (a .passes)) (b .passes) ≡ over (allWords (w .frame .passes)) (b .passes)
+  passes-left : over (take (6 * p .passes) (a .passes)) (b .passes) ≡ over (allWords (partsOf (w .frame) .passes)) (b .passes)
   passes-left = ap (λ (l : List ℕ). over l (b .passes)) (w .holds .passes .words-are)
 
   -- an accepted frame is written
   pub text-accepted : (xs ys pitches : List Float) (sheet passes : List ℕ) → xs ≡ over (take (p .corners) (a .xs)) (b .xs) → ys ≡ over (take (p .corners) (a .ys)) (b .ys)
       → pitches ≡ over (take (p .corners) (a .pitches)) (b .pitches) → sheet ≡ over (take 16384 (a .sheet)) (b .sheet) → passes ≡ over (take (6 * p .passes) (a .passes)) (b .passes)
       → frameOut (FrameAnswer.Accepted (record { settings = p .settings; corners = p .corners; passes = p .passes })) xs ys pitches sheet passes ≡ leaves f b
+  unfolding settingsOf
   text-accepted xs ys pitches sheet passes x y z s q =
       rw (w .is, x ∙ xs-left, y ∙ ys-left, z ∙ pitches-left, s ∙ sheet-left, q ∙ passes-left, w .holds .settings-are, w .holds .corners .count, w .holds .passes .count)
 
@@ -150,6 +151,6 @@ module _ (text : List ℕ) (b : Buffers) where
   unfolding readInto readFrame
   call-long e h = rw (e, lt-ltb 65536 (length text) h)
 
-  pub call-read : tooShort b ≡ false → length text ≤ 65536 → leaves (readLines 1 0 nothing-read (linesOf text)) b ≡ readInto text b
+  pub call-read : tooShort b ≡ false → length text ≤ 65536 → leaves (readLines 1 0 [] (linesOf text)) b ≡ readInto text b
   unfolding readInto readFrame
   call-read e h = rw (e, le-ltb 65536 (length text) h)

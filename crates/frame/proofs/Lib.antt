@@ -1,5 +1,4 @@
 -- Laws of the reader.
-pub mod Lines
 pub mod Copying
 pub mod Agree
 pub mod Adding

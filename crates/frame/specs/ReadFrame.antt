@@ -16,22 +16,25 @@ use Rattle.arguments.specs.declared.FillParams.{FillParams}
 use Rattle.arguments.specs.declared.LocalExtensionParams.{LocalExtensionParams}
 use Rattle.arguments.specs.declared.Pass.{Pass}
 use Rattle.arguments.specs.declared.Settings.{Settings}
-use Rattle.frame_line.specs.Lines.{CornerLine, LabelLine, PassLine, bare-grow, grow, bare-fill, fill, local, Axes}
+use Rattle.frame_line.specs.Lines.{LabelLine, PassLine, bare-grow, grow, bare-fill, fill, local}
 use Rattle.arguments.specs.Front.{over}
-use Rattle.frame.specs.Frame.{Frame, floatOf, FrameRead, refused-at, accepted, readFrame}
+use Rattle.frame.specs.Frame.{Frame, Opening, partsOf, FrameRead, refused-at, accepted, readFrame}
 use Rattle.frame.specs.declared.FrameHead.{FrameHead}
 use Rattle.frame.specs.declared.FrameAnswer.{FrameAnswer}
 
 -- ---- what a frame gives
 
+abbrev pub floatOf : ℕ → Float
+floatOf b = ofBits binary32 b
+
 unfoldable pub xsOf : Frame → List Float
-xsOf f = map (λ c. floatOf (c .x)) (f .corners)
+xsOf f = map (λ c. floatOf (c .x)) (partsOf f .corners)
 
 unfoldable pub ysOf : Frame → List Float
-ysOf f = map (λ c. floatOf (c .y)) (f .corners)
+ysOf f = map (λ c. floatOf (c .y)) (partsOf f .corners)
 
 unfoldable pub pitchesOf : Frame → List Float
-pitchesOf f = map (λ c. floatOf (c .pitch)) (f .corners)
+pitchesOf f = map (λ c. floatOf (c .pitch)) (partsOf f .corners)
 
 -- the sheet of the given labels: each label's corner at its cell, no marks
 unfoldable pub labelled : List ℕ → List LabelLine → List ℕ
@@ -39,19 +42,22 @@ labelled sheet [] = sheet
 labelled sheet (l ∷ ls) = labelled (attached sheet (l .cell) (natAbs (l .corner))) ls
 
 unfoldable pub sheetOf : Frame → List ℕ
-sheetOf f = labelled emptySheet (f .labels)
+sheetOf f = labelled emptySheet (partsOf f .labels)
 
-unfoldable pub settingsOf : Frame → Settings
-settingsOf f =
+abbrev pub settingsIn : Opening → Settings
+settingsIn o =
     record {
       grid =
           record {
-            «axis_i» = record { x = floatOf (f .axes .ix); y = floatOf (f .axes .iy) };
-            «axis_j» = record { x = floatOf (f .axes .jx); y = floatOf (f .axes .jy) };
-            «cell_size» = floatOf (f .cell);
+            «axis_i» = record { x = floatOf (o .axes .ix); y = floatOf (o .axes .iy) };
+            «axis_j» = record { x = floatOf (o .axes .jx); y = floatOf (o .axes .jy) };
+            «cell_size» = floatOf (o .cell);
           };
-      «edge_length_tol» = floatOf (f .band);
+      «edge_length_tol» = floatOf (o .band);
     }
+
+unfoldable pub settingsOf : Frame → Settings
+settingsOf f = settingsIn (partsOf f .opening)
 
 -- ---- the passes
 
@@ -136,14 +142,14 @@ abbrev pub leaves : FrameRead → Buffers → FrameOut
 leaves (refused-at r n) b = record { answer = FrameAnswer.Refused r n; buffers = b }
 leaves (accepted f) b =
     record {
-      answer = FrameAnswer.Accepted (record { settings = settingsOf f; corners = length (f .corners); passes = length (f .passes) });
+      answer = FrameAnswer.Accepted (record { settings = settingsOf f; corners = length (partsOf f .corners); passes = length (partsOf f .passes) });
       buffers =
           record {
             xs = over (xsOf f) (b .xs);
             ys = over (ysOf f) (b .ys);
             pitches = over (pitchesOf f) (b .pitches);
             sheet = over (sheetOf f) (b .sheet);
-            passes = over (allWords (f .passes)) (b .passes);
+            passes = over (allWords (partsOf f .passes)) (b .passes);
           };
     }
 

@@ -1,11 +1,10 @@
 -- How the reader holds what it has read: its arrays and numbers, tied to the definition's frame, and what its functions leave. Definitions
 -- only.
 use mathlib.Core.Path.{_≡_}
-use mathlib.Core.Bool.{Bool, false, _||_, cond}
+use mathlib.Core.Bool.{Bool, false, _||_}
 use mathlib.Core.List.{List, [], _∷_, map}
-use Prim.Native.Nat.{ℕ, suc, _*_, _<_, _≤_}
+use Prim.Native.Nat.{ℕ, _*_, _<_, _≤_}
 use lib.IntN.{ℤ, pos}
-use lib.Dec.{eqb}
 use lib.ListN.{length, take}
 use lib.Ieee.{Float}
 use Rattle.refusal.specs.declared.Refusal.{Refusal}
@@ -14,21 +13,16 @@ use Rattle.sheet.specs.Words.{emptySheet}
 use Rattle.sheet.specs.declared.Cell.{Cell}
 use Rattle.arguments.specs.declared.Checked.{Checked}
 use Rattle.frame_line.specs.Lines.{CornerLine, LabelLine, PassLine}
+use Rattle.frame_line.specs.Table.{turnAt}
 use Rattle.frame_line.specs.declared.HeldLine.{HeldLine}
-use Rattle.frame_check.specs.Checks.{heldRank, isSet, checkedHeld}
-use Rattle.frame_state.specs.State.{Arrays, State, state, adds}
+use Rattle.frame_line.specs.declared.Turn.{Turn}
+use Rattle.frame_check.specs.Checks.{isSet, checkedHeld}
+use Rattle.frame_state.specs.State.{atStage, Arrays, State, state, adds}
 use Rattle.frame_state.specs.declared.Progress.{Progress}
-use Rattle.frame.specs.Frame.{Frame, floatOf, stageAfter, sameCell, FrameRead, refused-at, accepted}
-use Rattle.frame.specs.ReadFrame.{settingsOf, labelled, allWords, Buffers}
+use Rattle.frame.specs.Frame.{Frame, Parts, partsOf, sameCell, FrameRead, refused-at, accepted}
+use Rattle.frame.specs.ReadFrame.{floatOf, settingsIn, labelled, allWords, Buffers}
 use Rattle.frame.specs.declared.Stepped.{Stepped}
 use Rattle.frame.specs.declared.LinesRead.{LinesRead}
-
--- ---- lines
-
--- how long the first line of a text is, its LF included
-unfoldable pub lineLength : List ℕ → ℕ
-lineLength [] = 0
-lineLength (b ∷ text) = cond (eqb b 10) 1 (suc (lineLength text))
 
 -- ---- what the arrays hold
 
@@ -76,9 +70,9 @@ pub record HoldsPasses (ps : List PassLine) (m : ℕ) (words : List ℕ) : Type 
   pub long : length words ≡ 96
   pub words-are : take (6 * m) words ≡ allWords ps
 
--- a frame is held
-pub record FrameHeld (f : Frame) (s : State) : Type 0 where
-  pub settings-are : s .progress .settings ≡ settingsOf f
+-- the parts of a frame are held
+pub record FrameHeld (f : Parts) (s : State) : Type 0 where
+  pub settings-are : s .progress .settings ≡ settingsIn (f .opening)
   pub corners : HoldsCorners (f .corners) (s .progress .corners) (s .held .xs) (s .held .ys) (s .held .pitches)
   pub labels : HoldsLabels (f .labels) (s .held .sheet) (s .held .used)
   pub passes : HoldsPasses (f .passes) (s .progress .passes) (s .held .passes)
@@ -98,22 +92,23 @@ pub record Went : Type 0 where
 abbrev pub went : Stepped → Arrays → Went
 went r a = record { answer = r; held = a }
 
-abbrev pub afterHeld : Checked → ℕ → State → Arrays → Went
-afterHeld Checked.Fine stage s a = went (Stepped.Onward stage (s .progress)) (s .held)
-afterHeld (Checked.Refused r) stage s a = went (Stepped.Stopped r) a
+abbrev pub heldBy : Turn → Checked → State → Arrays → Went
+heldBy Turn.No checked s a = went (Stepped.Stopped Refusal.Malformed) a
+heldBy (Turn.To stage) Checked.Fine s a = went (Stepped.Onward (atStage (s .progress) stage)) (s .held)
+heldBy (Turn.To stage) (Checked.Refused r) s a = went (Stepped.Stopped r) a
 
--- the line is checked, and added if it is fine
-unfoldable pub heldStep : ℕ → HeldLine → State → Went
-heldStep stage line s =
-    afterHeld (checkedHeld stage (s .progress .corners) (s .progress .passes) (s .held .sheet) (s .held .used) line)
-    (stageAfter stage (heldRank line)) (adds line s) (s .held)
+-- the line is checked in its turn, and added if it is fine
+unfoldable pub heldStep : HeldLine → State → Went
+heldStep line s =
+    heldBy (turnAt (s .progress .stage) (line .row))
+    (checkedHeld (s .progress .corners) (s .progress .passes) (s .held .sheet) (s .held .used) line) (adds line s) (s .held)
 
 -- ---- all lines
 
 -- a frame read as the definition reads it: the same refusal at the same line, or the frame held
 pub data ReadAs : FrameRead → LinesRead → Arrays → Type 0 where
   refused-as : {a : Arrays} (r : Refusal) (n : ℕ) → ReadAs (refused-at r n) (LinesRead.Refused r n) a
-  held-as : {a : Arrays} (f : Frame) (p : Progress) → FrameHeld f (state p a) → ReadAs (accepted f) (LinesRead.Whole p) a
+  held-as : {a : Arrays} (f : Frame) (p : Progress) → FrameHeld (partsOf f) (state p a) → ReadAs (accepted f) (LinesRead.Whole p) a
 
 -- ---- the lent buffers
 

@@ -10,8 +10,8 @@ use Rattle.predict.specs.declared.Grid.{Grid}
 use Rattle.predict.specs.declared.Vector.{Vector}
 use Rattle.arguments.specs.declared.Settings.{Settings}
 use Rattle.frame_line.specs.Lines.{Axes}
-use Rattle.frame.specs.Frame.{Frame, floatOf, FrameRead, refused-at, accepted, readFrame}
-use Rattle.frame.specs.ReadFrame.{Buffers, tooShort}
+use Rattle.frame.specs.Frame.{Frame, Parts, partsOf, FrameRead, refused-at, accepted, readFrame}
+use Rattle.frame.specs.ReadFrame.{floatOf, Buffers, tooShort}
 use Rattle.frame.specs.declared.FrameHead.{FrameHead}
 use Rattle.frame.specs.declared.FrameAnswer.{FrameAnswer}
 
@@ -36,22 +36,22 @@ frameSaid (FrameAnswer.Accepted h) = values (headValues h)
 
 -- ---- what an answer is due to say
 
--- the same of a frame's lines
-unfoldable pub lineValues : Frame → List Value
-lineValues f =
-    float (floatOf (f .cell))
-    ∷ float (floatOf (f .axes .ix))
-    ∷ float (floatOf (f .axes .iy))
-    ∷ float (floatOf (f .axes .jx))
-    ∷ float (floatOf (f .axes .jy))
-    ∷ float (floatOf (f .band))
-    ∷ whole (length (f .corners))
-    ∷ whole (length (f .passes))
+-- the same of what a frame's lines say
+unfoldable pub lineValues : Parts → List Value
+lineValues p =
+    float (floatOf (p .opening .cell))
+    ∷ float (floatOf (p .opening .axes .ix))
+    ∷ float (floatOf (p .opening .axes .iy))
+    ∷ float (floatOf (p .opening .axes .jx))
+    ∷ float (floatOf (p .opening .axes .jy))
+    ∷ float (floatOf (p .opening .band))
+    ∷ whole (length (p .corners))
+    ∷ whole (length (p .passes))
     ∷ []
 
 unfoldable pub readDue : FrameRead → Said
 readDue (refused-at r line) = number-and-line (numberOf r) line
-readDue (accepted f) = values (lineValues f)
+readDue (accepted f) = values (lineValues (partsOf f))
 
 -- "The library tries 7" first; it is about no line
 unfoldable pub frameDue : List ℕ → Buffers → Said

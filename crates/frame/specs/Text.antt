@@ -2,30 +2,25 @@
 -- Definitions only; the laws are proved in the crate frame_laws.
 use mathlib.Core.Path.{_≡_}
 use mathlib.Core.Bool.{Bool, true, false}
-use mathlib.Core.List.{List, [], _∷_, _++_, map}
-use Prim.Native.Nat.{ℕ, zero, suc, _+_, _<_, _≤_}
-use lib.Dec.{T}
+use mathlib.Core.List.{List, [], _∷_, _++_}
+use Prim.Native.Nat.{ℕ, suc, _<_, _≤_}
 use lib.ListN.{length, getD, take}
-use lib.IntN.{ℤ, pos}
+use lib.IntN.{pos}
 use Rattle.refusal.specs.declared.Refusal.{Refusal}
 use Rattle.sheet.specs.Cells.{OnSheet}
-use Rattle.frame_line.specs.Lines.{CornerLine, LabelLine, PassLine, Axes, Line, frame-line, cell-line, axes-line, band-line, corner-line, label-line, pass-line, numbersOf, AllPatterns, lineText, LineRead, ill-formed, line, readLine}
-use Rattle.frame.specs.Frame.{Frame, inOrder, rankOf, overLimit, outOfRange, ofLabel, offSheet, unknownCorner, doubled, linesOf, Step, stopped, onward, stepLine, FrameRead, refused-at, accepted, readFrame, nothing-read}
+use Rattle.line_form.specs.Lines.{linesOf}
+use Rattle.frame_line.specs.Table.{turnAt, mayEnd}
+use Rattle.frame_line.specs.Lines.{Line, kindOf, Proper, lineText, LabelLine, labelLineOf, LineRead, ill-formed, line, readLine}
+use Rattle.frame_line.specs.Checks.{outsideLine}
+use Rattle.frame_line.specs.declared.Turn.{Turn}
+use Rattle.frame_check.specs.Checks.{overLimit, twiceOf}
+use Rattle.frame.specs.Frame.{Frame, partsOf, doubled, Step, stopped, onward, stepLine, FrameRead, refused-at, accepted, readFrame}
 
 -- ---- printed
 
--- "Lines, in order: frame, cell, axes (of i, then of j), band, corners, labels, passes"
-abbrev pub linesIn : Frame → List Line
-linesIn f =
-    frame-line ∷ cell-line (f .cell) ∷ axes-line (f .axes) ∷ band-line (f .band)
-    ∷ (map corner-line (f .corners) ++ (map label-line (f .labels) ++ map pass-line (f .passes)))
-
-unfoldable pub textOfLines : List Line → List ℕ
-textOfLines [] = []
-textOfLines (l ∷ ls) = lineText l ++ textOfLines ls
-
 unfoldable pub frameText : Frame → List ℕ
-frameText f = textOfLines (linesIn f)
+frameText [] = []
+frameText (l ∷ ls) = lineText l ++ frameText ls
 
 -- ---- within the limits
 
@@ -33,10 +28,19 @@ abbrev pub All : {A : Type 0} → (A → Type 0) → List A → Type 0
 All P [] = Unit {0}
 All P (a ∷ rest) = P a × All P rest
 
--- the numbers of a line are patterns, and each is in its range
-pub record InRange (l : Line) : Type 0 where
-  pub patterns : AllPatterns (numbersOf l)
-  pub ranges : outOfRange l ≡ false
+-- "Lines, in order": each in its turn, and a frame may end after the last
+pub data InOrder : ℕ → List Line → Type 0 where
+  ends : {stage : ℕ} → mayEnd stage ≡ true → InOrder stage []
+  next : {stage to : ℕ} {ls : List Line} (l : Line) → turnAt stage (l .row) ≡ Turn.To to → InOrder to ls → InOrder stage (l ∷ ls)
+
+-- a line of the table, none of whose numbers has a refusal, with n corners given: each is in its range, a label is on the sheet and its corner
+-- given
+pub record InRange (n : ℕ) (l : Line) : Type 0 where
+  pub proper : Proper l
+  pub first : outsideLine 1 n l ≡ false
+  pub ranges : outsideLine 3 n l ≡ false
+  pub on-sheet : outsideLine 4 n l ≡ false
+  pub known : outsideLine 5 n l ≡ false
 
 -- a label of one of n corners, on the sheet
 pub record Sound (n : ℕ) (l : LabelLine) : Type 0 where
@@ -50,15 +54,15 @@ abbrev pub Apart : List LabelLine → Type 0
 Apart [] = Unit {0}
 Apart (l ∷ ls) = All (λ m. (l .cell ≡ m .cell → ⊥) × (l .corner ≡ m .corner → ⊥)) ls × Apart ls
 
--- a frame that 01 allows: "At most 65,536 bytes, 1,024 corners, 16 passes", every number in its range, labels on the sheet and of given
--- corners, no cell or corner labelled twice
+-- a frame that 01 allows: "At most 65,536 bytes, 1,024 corners, 16 passes", its lines in order, every number in its range, labels on the sheet
+-- and of given corners, no cell or corner labelled twice
 pub record WithinLimits (f : Frame) : Type 0 where
   pub bytes : length (frameText f) ≤ 65536
-  pub corners : length (f .corners) ≤ 1024
-  pub passes : length (f .passes) ≤ 16
-  pub numbers : All InRange (linesIn f)
-  pub labels : All (Sound (length (f .corners))) (f .labels)
-  pub once : Apart (f .labels)
+  pub order : InOrder 0 f
+  pub numbers : All (InRange (length (partsOf f .corners))) f
+  pub corners : length (partsOf f .corners) ≤ 1024
+  pub passes : length (partsOf f .passes) ≤ 16
+  pub once : Apart (partsOf f .labels)
 
 -- ---- the laws
 
@@ -71,18 +75,29 @@ pub record FramePrintsBack (text : List ℕ) (f : Frame) : Type 0 where
   pub text-again : text ≡ frameText f
   pub within : WithinLimits f
 
+-- the labels of a frame within the limits are on the sheet and of given corners
+abbrev pub LabelsSound : Type 0
+LabelsSound = (f : Frame) → WithinLimits f → All (Sound (length (partsOf f .corners))) (partsOf f .labels)
+
 -- ---- what a refusal means
 
--- the first check that fails on a line, in order 1 to 6; a line that has no form fails the first
+-- the first check that fails on a line in its turn: `outside r`, some number of it has the refusal r; `over`, a limit is passed; `twice`, it is
+-- doubled
+pub data FirstCheck (outside : ℕ → Bool) (over twice : Bool) : Refusal → Type 0 where
+  is-first : outside 1 ≡ true → FirstCheck outside over twice Refusal.Malformed
+  too-many : outside 1 ≡ false → over ≡ true → FirstCheck outside over twice Refusal.OverLimit
+  is-wild : outside 1 ≡ false → over ≡ false → outside 3 ≡ true → FirstCheck outside over twice Refusal.OutOfRange
+  is-off-sheet : outside 1 ≡ false → over ≡ false → outside 3 ≡ false → outside 4 ≡ true → FirstCheck outside over twice Refusal.OffSheet
+  is-unknown : outside 1 ≡ false → over ≡ false → outside 3 ≡ false → outside 4 ≡ false → outside 5 ≡ true → FirstCheck outside over twice Refusal.UnknownCorner
+  is-doubled : outside 1 ≡ false → over ≡ false → outside 3 ≡ false → outside 4 ≡ false → outside 5 ≡ false → twice ≡ true → FirstCheck outside over twice Refusal.Duplicate
+
+-- the first check that fails on a line, in order 1 to 6; a line that has no form, or is not in its turn, fails the first
 pub data FirstFault (stage : ℕ) (f : Frame) : LineRead → Refusal → Type 0 where
   has-no-form : FirstFault stage f ill-formed Refusal.Malformed
-  not-its-turn : {l : Line} → inOrder stage (rankOf l) ≡ false → FirstFault stage f (line l) Refusal.Malformed
-  too-many : {l : Line} → inOrder stage (rankOf l) ≡ true → overLimit f l ≡ true → FirstFault stage f (line l) Refusal.OverLimit
-  is-wild : {l : Line} → inOrder stage (rankOf l) ≡ true → overLimit f l ≡ false → outOfRange l ≡ true → FirstFault stage f (line l) Refusal.OutOfRange
-  is-off-sheet : {l : LabelLine} → inOrder stage 5 ≡ true → offSheet l ≡ true → FirstFault stage f (line (label-line l)) Refusal.OffSheet
-  is-unknown : {l : LabelLine} → inOrder stage 5 ≡ true → offSheet l ≡ false → unknownCorner (length (f .corners)) l ≡ true → FirstFault stage f (line (label-line l)) Refusal.UnknownCorner
-  is-doubled : {l : LabelLine} → inOrder stage 5 ≡ true → offSheet l ≡ false → unknownCorner (length (f .corners)) l ≡ false → doubled (f .labels) l ≡ true
-      → FirstFault stage f (line (label-line l)) Refusal.Duplicate
+  not-its-turn : {l : Line} → turnAt stage (l .row) ≡ Turn.No → FirstFault stage f (line l) Refusal.Malformed
+  fails : {l : Line} {to : ℕ} {r : Refusal} → turnAt stage (l .row) ≡ Turn.To to
+      → FirstCheck (λ q. outsideLine q (length (partsOf f .corners)) l) (overLimit (length (partsOf f .corners)) (length (partsOf f .passes)) (kindOf l)) (twiceOf (kindOf l) (doubled (partsOf f .labels) (labelLineOf (l .numbers)))) r
+      → FirstFault stage f (line l) r
 
 -- lines that all pass their checks, one after the other, from a stage and a frame to another
 pub data Passed : ℕ → Frame → List (List ℕ) → ℕ → Frame → Type 0 where
@@ -94,9 +109,9 @@ pub data Passed : ℕ → Frame → List (List ℕ) → ℕ → Frame → Type 0
 -- fails on it; or all lines pass, and one of the first four is missing after the last.
 pub data Refused (text : List ℕ) : Refusal → ℕ → Type 0 where
   too-long : 65536 < length text → Refused text Refusal.OverLimit 0
-  at-line : (n stage : ℕ) (f : Frame) (r : Refusal) → length text ≤ 65536 → n < length (linesOf text) → Passed 0 nothing-read (take n (linesOf text)) stage f
+  at-line : (n stage : ℕ) (f : Frame) (r : Refusal) → length text ≤ 65536 → n < length (linesOf text) → Passed 0 [] (take n (linesOf text)) stage f
       → FirstFault stage f (readLine (getD (linesOf text) n [])) r → Refused text r (suc n)
-  missing : (stage : ℕ) (f : Frame) → length text ≤ 65536 → Passed 0 nothing-read (linesOf text) stage f → stage < 4 → Refused text Refusal.Malformed (suc (length (linesOf text)))
+  missing : (stage : ℕ) (f : Frame) → length text ≤ 65536 → Passed 0 [] (linesOf text) stage f → mayEnd stage ≡ false → Refused text Refusal.Malformed (suc (length (linesOf text)))
 
 -- each refusal means what the table says
 abbrev pub RefusalsMean : Type 0

@@ -2,19 +2,22 @@
 // it said. Until the whole frame is accepted it is held in arrays of the reader's own, so that a refused one has written nothing.
 
 ghost use mathlib.Core.Path.{_≡_};
-ghost use Prim.Native.Nat.{_+_, _≤_};
-ghost use lib.ListN.{length, take, drop};
+ghost use mathlib.Core.List.{[]};
+ghost use lib.ListN.{take};
 ghost use Rattle.frame_line.specs.Lines.{readLine};
-ghost use Rattle.frame_line.specs.Held.{held};
+ghost use Rattle.frame_line.specs.Held.{heldRead};
+ghost use Rattle.line_form.specs.Lines.{linesOf};
 ghost use Rattle.frame_state.specs.State.{nothing-said, arrays, state};
 ghost use Rattle.arguments.specs.Front.{over};
-ghost use Rattle.frame.specs.Frame.{linesOf, stageAfter, readLines, nothing-read};
+ghost use Rattle.frame.specs.Frame.{no-parts, readLines};
 ghost use Rattle.frame.specs.ReadFrame.{frameOut, tooShort, leaves, readInto};
 ghost use Rattle.frame.specs.Said.{frameSaid, frameDue};
-ghost use Rattle.frame.specs.Reading.{lineLength, FrameHeld, Room, went, heldStep, ReadAs, buffers, Copies, LongEnough};
+ghost use Rattle.frame.specs.Reading.{FrameHeld, Room, went, heldStep, ReadAs, buffers, Copies, LongEnough};
 use arguments::Checked;
 use arguments::Settings;
+use frame_line::Turn;
 use frame_state::Progress;
+use line_form::text::line_end;
 use refusal::Refusal;
 
 // What an accepted frame says besides what is written to the buffers: cell size, axes and band, and how many corners and passes there are.
@@ -30,10 +33,10 @@ pub enum FrameAnswer {
     Refused(Refusal, usize),
 }
 
-// What a line leads to: a refusal, or the stage and what is said after it.
+// What a line leads to: a refusal, or what is said after it.
 enum Stepped {
     Stopped(Refusal),
-    Onward(usize, Progress),
+    Onward(Progress),
 }
 
 // What all lines lead to: a refusal with its line, or what is said in the end.
@@ -42,34 +45,8 @@ enum LinesRead {
     Whole(Progress),
 }
 
-// The end of the line that starts at a position: behind its LF, or the end of the text.
-fn line_end(text: &[u8], at: usize) -> usize
-    requires { ⌜ at ≤ length (now text) ⌝ }
-    ensures { λ r. ⌜ r ≡ at + lineLength (drop at (now (text .entry))) ⌝ }
-{
-    let mut i = at;
-    while i < text.len() {
-        if text[i] == 10 {
-            return i + 1;
-        }
-        i += 1;
-    }
-    i
-}
-
-// The stage after a line of this rank: up to 4 the next one, then that of the line.
-fn stage_after(stage: usize, rank: usize) -> usize
-    ensures { λ r. ⌜ r ≡ stageAfter stage rank ⌝ }
-{
-    if 4 <= stage {
-        return rank;
-    }
-    stage + 1
-}
-
-// One line is read and checked, and added if it is fine.
+// One line is read and checked in its turn, and added if it is fine.
 fn step_line(
-    stage: usize,
     p: Progress,
     xs: &mut [f32; 1024],
     ys: &mut [f32; 1024],
@@ -80,15 +57,30 @@ fn step_line(
     line: &[u8],
 ) -> Stepped
     requires { ⌜ Room p (arrays (now xs) (now ys) (now pitches) (now sheet) (now used) (now passes)) ⌝ }
-    ensures { λ r. ⌜ went r (arrays (now (xs .exit)) (now (ys .exit)) (now (pitches .exit)) (now (sheet .exit)) (now (used .exit)) (now (passes .exit))) ≡ heldStep stage (held (readLine (now (line .entry)))) (state p (arrays (now (xs .entry)) (now (ys .entry)) (now (pitches .entry)) (now (sheet .entry)) (now (used .entry)) (now (passes .entry)))) ⌝ }
+    ensures { λ r. ⌜ went r (arrays (now (xs .exit)) (now (ys .exit)) (now (pitches .exit)) (now (sheet .exit)) (now (used .exit)) (now (passes .exit))) ≡ heldStep (heldRead (readLine (now (line .entry)))) (state p (arrays (now (xs .entry)) (now (ys .entry)) (now (pitches .entry)) (now (sheet .entry)) (now (used .entry)) (now (passes .entry)))) ⌝ }
 {
     let found = frame_line::read_line(line);
-    let checked = frame_check::check_line(stage, p.corners, p.passes, sheet, used, found);
-    match checked {
-        Checked::Refused(refusal) => Stepped::Stopped(refusal),
-        Checked::Fine => {
-            let next = frame_state::add_line(p, xs, ys, pitches, sheet, used, passes, found);
-            Stepped::Onward(stage_after(stage, frame_check::rank_of(found)), next)
+    let turn = frame_line::turn_at(p.stage, found.row);
+    match turn {
+        Turn::No => Stepped::Stopped(Refusal::Malformed),
+        Turn::To(stage) => {
+            let checked = frame_check::check_line(p.corners, p.passes, sheet, used, found);
+            match checked {
+                Checked::Refused(refusal) => Stepped::Stopped(refusal),
+                Checked::Fine => {
+                    let next = frame_state::add_line(
+                        p,
+                        xs,
+                        ys,
+                        pitches,
+                        sheet,
+                        used,
+                        passes,
+                        found,
+                    );
+                    Stepped::Onward(frame_state::at_stage(next, stage))
+                }
+            }
         }
     }
 }
@@ -103,42 +95,30 @@ fn read_lines(
     used: &mut [u8; 1024],
     passes: &mut [u32; 96],
 ) -> LinesRead
-    requires { ⌜ FrameHeld nothing-read (state nothing-said (arrays (now xs) (now ys) (now pitches) (now sheet) (now used) (now passes))) ⌝ }
-    ensures { λ r. ⌜ ReadAs (readLines 1 0 nothing-read (linesOf (now (text .entry)))) r (arrays (now (xs .exit)) (now (ys .exit)) (now (pitches .exit)) (now (sheet .exit)) (now (used .exit)) (now (passes .exit))) ⌝ }
+    requires { ⌜ FrameHeld no-parts (state nothing-said (arrays (now xs) (now ys) (now pitches) (now sheet) (now used) (now passes))) ⌝ }
+    ensures { λ r. ⌜ ReadAs (readLines 1 0 [] (linesOf (now (text .entry)))) r (arrays (now (xs .exit)) (now (ys .exit)) (now (pitches .exit)) (now (sheet .exit)) (now (used .exit)) (now (passes .exit))) ⌝ }
 {
     let mut p = frame_state::start();
-    let mut stage = 0usize;
     let mut n = 1usize;
     let mut at = 0usize;
     while at < text.len() {
         let end = line_end(text, at);
-        let stepped = step_line(
-            stage,
-            p,
-            xs,
-            ys,
-            pitches,
-            sheet,
-            used,
-            passes,
-            &text[at..end],
-        );
+        let stepped = step_line(p, xs, ys, pitches, sheet, used, passes, &text[at..end]);
         match stepped {
             Stepped::Stopped(refusal) => {
                 return LinesRead::Refused(refusal, n);
             }
-            Stepped::Onward(after, next) => {
+            Stepped::Onward(next) => {
                 p = next;
-                stage = after;
                 n += 1;
                 at = end;
             }
         }
     }
-    if stage < 4 {
-        return LinesRead::Refused(Refusal::Malformed, n);
+    if frame_line::may_end(p.stage) {
+        return LinesRead::Whole(p);
     }
-    LinesRead::Whole(p)
+    LinesRead::Refused(Refusal::Malformed, n)
 }
 
 // The first n floats are copied to the front of a buffer.
@@ -206,7 +186,7 @@ fn read_text(
     passes: &mut [u32],
 ) -> FrameAnswer
     requires { ⌜ LongEnough (buffers (now xs) (now ys) (now pitches) (now sheet) (now passes)) ⌝ }
-    ensures { λ r. ⌜ frameOut r (now (xs .exit)) (now (ys .exit)) (now (pitches .exit)) (now (sheet .exit)) (now (passes .exit)) ≡ leaves (readLines 1 0 nothing-read (linesOf (now (text .entry)))) (buffers (now (xs .entry)) (now (ys .entry)) (now (pitches .entry)) (now (sheet .entry)) (now (passes .entry))) ⌝ }
+    ensures { λ r. ⌜ frameOut r (now (xs .exit)) (now (ys .exit)) (now (pitches .exit)) (now (sheet .exit)) (now (passes .exit)) ≡ leaves (readLines 1 0 [] (linesOf (now (text .entry)))) (buffers (now (xs .entry)) (now (ys .entry)) (now (pitches .entry)) (now (sheet .entry)) (now (passes .entry))) ⌝ }
 {
     let mut own_xs = [0.0f32; 1024];
     let mut own_ys = [0.0f32; 1024];

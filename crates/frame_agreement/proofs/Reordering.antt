@@ -17,11 +17,11 @@ use Rattle.passes.specs.Run.{Call, run}
 use Rattle.agreement.specs.Agreement.{Reordered, Agree}
 use Rattle.agreement.proofs.Run.{agreement}
 use Rattle.frame_line.specs.Lines.{CornerLine, LabelLine, PassLine}
-use Rattle.frame.specs.Frame.{Frame, floatOf}
+use Rattle.frame.specs.Frame.{Frame, partsOf}
 use Rattle.frame.specs.Text.{All, Sound, WithinLimits}
-use Rattle.frame.specs.ReadFrame.{xsOf, ysOf, pitchesOf, labelled, sheetOf, settingsOf}
+use Rattle.frame.specs.ReadFrame.{floatOf, xsOf, ysOf, pitchesOf, labelled, sheetOf, settingsIn, settingsOf}
 use Rattle.frame_laws.specs.Calls.{cornersOf, callOf, callsOf}
-use Rattle.frame_laws.proofs.Back.{frame-prints-back}
+use Rattle.frame_laws.proofs.Back.{frame-prints-back, labels-sound}
 use Rattle.frame_laws.proofs.Runs.{frame-standing}
 use Rattle.frame_agreement.specs.Reordering.{renumbered, SameButOrder, RunAlike, FramesRunAlike}
 
@@ -52,16 +52,16 @@ module _ {n m : ℕ} (s : Shuffle n) (in-m : (k : ℕ) → k < m → k < n) (few
 -- ---- the frames
 
 module _ (f f' : Frame) (w : WithinLimits f) (same : SameButOrder f f') where
-  same-length : length (xsOf f) ≡ length (f .corners)
+  same-length : length (xsOf f) ≡ length (partsOf f .corners)
   unfolding xsOf
-  same-length = length-map (f .corners) (λ c. floatOf (c .x))
+  same-length = length-map (partsOf f .corners) (λ c. floatOf (c .x))
 
   -- the pairing, of as many numbers as there are xs
   pairs : Shuffle (length (xsOf f))
   pairs =
       let s = same .pairs in
-      let in-xs : (k : ℕ) → k < length (f .corners) → k < length (xsOf f) = λ k h. omega (arith, same-length) in
-      let in-lines : (k : ℕ) → k < length (xsOf f) → k < length (f .corners) = λ k h. omega (arith, same-length) in
+      let in-xs : (k : ℕ) → k < length (partsOf f .corners) → k < length (xsOf f) = λ k h. omega (arith, same-length) in
+      let in-lines : (k : ℕ) → k < length (xsOf f) → k < length (partsOf f .corners) = λ k h. omega (arith, same-length) in
       record {
         to = s .to;
         from = s .from;
@@ -72,13 +72,13 @@ module _ (f f' : Frame) (w : WithinLimits f) (same : SameButOrder f f') where
       }
 
   -- the same part of paired lines
-  part : (g : CornerLine → Float) (i : ℕ) → i < length (f .corners) → getD (map g (f' .corners)) (same .pairs .to i) nan ≡ getD (map g (f .corners)) i nan
+  part : (g : CornerLine → Float) (i : ℕ) → i < length (partsOf f .corners) → getD (map g (partsOf f' .corners)) (same .pairs .to i) nan ≡ getD (map g (partsOf f .corners)) i nan
   part g i h =
-      getD-map g (f' .corners) (same .pairs .to i) _ nan (subst (λ (n : ℕ). same .pairs .to i < n) (sym (same .count)) (same .pairs .to-in i h))
-      ∙ ap g (same .same-line i h) ∙ sym (getD-map g (f .corners) i _ nan h)
+      getD-map g (partsOf f' .corners) (same .pairs .to i) _ nan (subst (λ (n : ℕ). same .pairs .to i < n) (sym (same .count)) (same .pairs .to-in i h))
+      ∙ ap g (same .same-line i h) ∙ sym (getD-map g (partsOf f .corners) i _ nan h)
 
-  as-long : (g : CornerLine → Float) → length (map g (f' .corners)) ≡ length (map g (f .corners))
-  as-long g = length-map (f' .corners) g ∙ same .count ∙ sym (length-map (f .corners) g)
+  as-long : (g : CornerLine → Float) → length (map g (partsOf f' .corners)) ≡ length (map g (partsOf f .corners))
+  as-long g = length-map (partsOf f' .corners) g ∙ same .count ∙ sym (length-map (partsOf f .corners) g)
 
   corners-paired : PairedCorners (xsOf f) (ysOf f) (pitchesOf f) (xsOf f') (ysOf f') (pitchesOf f')
   unfolding xsOf ysOf pitchesOf cornerOf pairs
@@ -90,15 +90,15 @@ module _ (f f' : Frame) (w : WithinLimits f) (same : SameButOrder f f') where
         pairs = pairs;
         same-corner =
             λ i h.
-            let k : i < length (f .corners) = omega (arith, same-length) in
+            let k : i < length (partsOf f .corners) = omega (arith, same-length) in
             λ t. record { position = record { x = part (λ c. floatOf (c .x)) i k t; y = part (λ c. floatOf (c .y)) i k t }; pitch = part (λ c. floatOf (c .pitch)) i k t };
       }
 
   sheets-paired : PairedSheets pairs (sheetOf f) (sheetOf f')
   unfolding sheetOf pairs
   sheets-paired =
-      subst (λ (ls : List LabelLine). PairedSheets pairs (labelled emptySheet (f .labels)) (labelled emptySheet ls)) (sym (same .labels))
-      (labelled-paired pairs (λ k h. omega (arith, same-length)) (omega (arith, same-length, w .corners)) (f .labels) emptySheet emptySheet (omega (arith, empty-length)) (w .labels)
+      subst (λ (ls : List LabelLine). PairedSheets pairs (labelled emptySheet (partsOf f .labels)) (labelled emptySheet ls)) (sym (same .labels))
+      (labelled-paired pairs (λ k h. omega (arith, same-length)) (omega (arith, same-length, w .corners)) (partsOf f .labels) emptySheet emptySheet (omega (arith, empty-length)) (labels-sound f w)
       (paired-empty pairs))
 
   pub frames-reordered : Reordered (cornersOf f) (cornersOf f') (sheetOf f) (sheetOf f')
@@ -108,23 +108,14 @@ module _ (f f' : Frame) (w : WithinLimits f) (same : SameButOrder f f') where
   -- the frames' own passes are the same calls
   settings-same : settingsOf f' ≡ settingsOf f
   unfolding settingsOf
-  settings-same t =
-      record {
-        grid =
-            record {
-              «axis_i» = record { x = floatOf (same .axes t .ix); y = floatOf (same .axes t .iy) };
-              «axis_j» = record { x = floatOf (same .axes t .jx); y = floatOf (same .axes t .jy) };
-              «cell_size» = floatOf (same .cell t);
-            };
-        «edge_length_tol» = floatOf (same .band t);
-      }
+  settings-same = ap settingsIn (same .opening)
 
   call-same : (p : PassLine) → callOf f' p ≡ callOf f p
   call-same p t = record { pass = callOf f p .pass; settings = settings-same t; rooms = callOf f p .rooms }
 
   calls-same : callsOf f' ≡ callsOf f
   unfolding callsOf
-  calls-same = each (f' .passes) ∙ ap (map (callOf f)) (same .passes)
+  calls-same = each (partsOf f' .passes) ∙ ap (map (callOf f)) (same .passes)
     where
       each : (ps : List PassLine) → map (callOf f') ps ≡ map (callOf f) ps
       each [] = refl

@@ -10,13 +10,13 @@ use Rattle.sheet.specs.Pairing.{Shuffle}
 use Rattle.passes.specs.Run.{Call, run}
 use Rattle.agreement.specs.Agreement.{Reordered, Agree, FactorsAbove, BothRuns}
 use Rattle.frame_line.specs.Lines.{CornerLine, LabelLine}
-use Rattle.frame.specs.Frame.{Frame, readFrame, accepted}
+use Rattle.frame.specs.Frame.{Frame, partsOf, readFrame, accepted}
 use Rattle.frame.specs.ReadFrame.{sheetOf}
 use Rattle.frame_laws.specs.Calls.{cornersOf, callsOf}
 
 -- the corner line of a number; zeros where there is none
 abbrev pub cornerLine : Frame → ℕ → CornerLine
-cornerLine f i = getD (f .corners) i (record { x = 0; y = 0; pitch = 0 })
+cornerLine f i = getD (partsOf f .corners) i (record { x = 0; y = 0; pitch = 0 })
 
 -- the label line that names the paired corner at the same cell
 abbrev pub renumbered : {n : ℕ} → Shuffle n → LabelLine → LabelLine
@@ -24,14 +24,12 @@ renumbered s l = record { corner = pos (s .to (natAbs (l .corner))); cell = l .c
 
 -- the corner lines paired one to one, each with an equal line; the labels renumbered to match; all else equal
 pub record SameButOrder (f f' : Frame) : Type 0 where
-  pub cell : f' .cell ≡ f .cell
-  pub axes : f' .axes ≡ f .axes
-  pub band : f' .band ≡ f .band
-  pub count : length (f' .corners) ≡ length (f .corners)
-  pub pairs : Shuffle (length (f .corners))
-  pub same-line : (i : ℕ) → i < length (f .corners) → cornerLine f' (pairs .to i) ≡ cornerLine f i
-  pub labels : f' .labels ≡ map (renumbered pairs) (f .labels)
-  pub passes : f' .passes ≡ f .passes
+  pub opening : partsOf f' .opening ≡ partsOf f .opening
+  pub count : length (partsOf f' .corners) ≡ length (partsOf f .corners)
+  pub pairs : Shuffle (length (partsOf f .corners))
+  pub same-line : (i : ℕ) → i < length (partsOf f .corners) → cornerLine f' (pairs .to i) ≡ cornerLine f i
+  pub labels : partsOf f' .labels ≡ map (renumbered pairs) (partsOf f .labels)
+  pub passes : partsOf f' .passes ≡ partsOf f .passes
 
 -- Demand 3 of two such frames: their corners and the sheets of their given labels are a reordering, paired as the corner lines are; every list of
 -- calls from there has the invariants in both runs and, if each call that runs has an ambiguity factor above 1, both runs agree after every call;

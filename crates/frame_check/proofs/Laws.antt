@@ -1,44 +1,72 @@
--- Laws of the checks: a chain of refusals, a pattern that is not finite, an entry that is set. Assumes nothing.
-use mathlib.Core.Path.{_≡_, refl, sym, ap, _∙_}
-use mathlib.Core.Bool.{Bool, true, false, not, _||_, true≢false}
+-- Laws of the checks in order: what is fine, checks that say the same, and a label that can be written. Assumes nothing.
+use mathlib.Core.Path.{_≡_, refl, sym, ap, subst, _∙_}
+use mathlib.Core.Bool.{Bool, true, false, not, _||_}
 use mathlib.Core.List.{List}
-use Prim.Native.Nat.{ℕ, _%_, _<_, _≤_}
-use borrow.Author.Tests.{eq-eqb, ne-eqb, leb-true, leb-false}
-use lib.Dec.{leb}
+use Prim.Native.Nat.{ℕ}
+use native.Mathlib.Omega.{arith}
+use borrow.Author.Tests.{eq-eqb, ne-eqb}
 use lib.ListN.{getD}
-use lib.Ieee.{binary32, ofBits}
-use Rattle.binary32.specs.Ranges.{inRange}
-use Rattle.binary32.specs.declared.ranges.Quantity.{Quantity}
-use Rattle.binary32.proofs.Finite.{infinite-bits, in-range-finite}
-use Rattle.arguments.specs.Arguments.{outside}
+use Rattle.refusal.specs.declared.Refusal.{Refusal}
+use Rattle.arguments.specs.Arguments.{refusedIf}
+use Rattle.arguments.specs.declared.Checked.{Checked}
+use Rattle.arguments.proofs.Chains.{not-refused}
+use Rattle.frame_line.specs.Table.{kindAt}
+use Rattle.frame_line.specs.Held.{labelIn, outsideHeld}
+use Rattle.frame_line.specs.declared.Kind.{Kind}
 use Rattle.frame_line.specs.declared.HeldLine.{HeldLine}
-use Rattle.frame_check.specs.Checks.{heldRank, mayCome, wildBits, isSet}
+use Rattle.frame_line.proofs.Shapes.{rowOf, row-of}
+use Rattle.frame_line.proofs.Words.{label-on, label-known}
+use Rattle.frame_check.specs.Checks.{checksInOrder, isSet, LabelFits, NumbersFine}
 
--- ---- 1
+-- what all checks found of a line that is fine
+pub record AllFine (outside : ℕ → Bool) (over twice : Bool) : Type 0 where
+  pub first : outside 1 ≡ false
+  pub room : over ≡ false
+  pub ranges : outside 3 ≡ false
+  pub on : outside 4 ≡ false
+  pub known : outside 5 ≡ false
+  pub once : twice ≡ false
 
-pub may-be : (stage rank : ℕ) (line : HeldLine) (r t : Bool) → rank ≡ heldRank line → r ≡ mayCome stage rank → r ≡ t → not (mayCome stage (heldRank line)) ≡ not t
-may-be stage rank line r t e f g = ap not (ap (mayCome stage) (sym e) ∙ sym f ∙ g)
+pub fine-all : (outside : ℕ → Bool) (over twice : Bool) → checksInOrder outside over twice ≡ Checked.Fine → AllFine outside over twice
+unfolding checksInOrder
+fine-all outside over twice e =
+    let a = not-refused (outside 1) Refusal.Malformed _ e in
+    let b = not-refused over Refusal.OverLimit _ (a .1) in
+    let c = not-refused (outside 3) Refusal.OutOfRange _ (b .1) in
+    let d = not-refused (outside 4) Refusal.OffSheet _ (c .1) in
+    let g = not-refused (outside 5) Refusal.UnknownCorner _ (d .1) in
+    let h = not-refused twice Refusal.Duplicate _ (g .1) in
+    record { first = a .0; room = b .0; ranges = c .0; on = d .0; known = g .0; once = h .0 }
 
--- ---- 3
+pub all-fine : (outside : ℕ → Bool) (over twice : Bool) → AllFine outside over twice → checksInOrder outside over twice ≡ Checked.Fine
+unfolding checksInOrder
+all-fine outside over twice f = rw (f .first, f .room, f .ranges, f .on, f .known, f .once)
 
--- what is not finite is in no range
-pub wild-infinite : (q : Quantity) (b : ℕ) → 0x7f80_0000 ≤ b % 0x8000_0000 → wildBits q b ≡ true
-unfolding wildBits outside
-wild-infinite q b h = go (inRange q (ofBits binary32 b)) refl
-  where
-    go : (t : Bool) → inRange q (ofBits binary32 b) ≡ t → not t ≡ true
-    go true e = absurd (true≢false (sym (in-range-finite q (ofBits binary32 b) e) ∙ infinite-bits b h))
-    go false e = refl
+refused-alike : (b b' : Bool) (r : Refusal) (x y : Checked) → b ≡ b' → (b' ≡ false → x ≡ y) → refusedIf b r x ≡ refusedIf b' r y
+refused-alike b true r x y e f = rw e
+refused-alike b false r x y e f = rw e (f refl)
 
--- a pattern in a range is finite
-pub tame-finite : (q : Quantity) (b : ℕ) → wildBits q b ≡ false → b % 0x8000_0000 < 0x7f80_0000
-tame-finite q b e = go (leb 0x7f80_0000 (b % 0x8000_0000)) refl
-  where
-    go : (t : Bool) → leb 0x7f80_0000 (b % 0x8000_0000) ≡ t → b % 0x8000_0000 < 0x7f80_0000
-    go true f = absurd (true≢false (sym (wild-infinite q b (leb-true 0x7f80_0000 (b % 0x8000_0000) f)) ∙ e))
-    go false f = leb-false 0x7f80_0000 (b % 0x8000_0000) f
+-- doubled is asked only of a label on the sheet and of a corner that is given
+pub checks-alike : (f g : ℕ → Bool) (over twice twice' : Bool) → ((r : ℕ) → f r ≡ g r) → (g 4 ≡ false → g 5 ≡ false → twice ≡ twice') → checksInOrder f over twice ≡ checksInOrder g over twice'
+unfolding checksInOrder
+checks-alike f g over twice twice' e t =
+    refused-alike (f 1) (g 1) Refusal.Malformed _ _ (e 1)
+    (λ a.
+    refused-alike over over Refusal.OverLimit _ _ refl
+    (λ b.
+    refused-alike (f 3) (g 3) Refusal.OutOfRange _ _ (e 3)
+    (λ c.
+    refused-alike (f 4) (g 4) Refusal.OffSheet _ _ (e 4)
+    (λ on.
+    refused-alike (f 5) (g 5) Refusal.UnknownCorner _ _ (e 5)
+    (λ known. ap (λ (x : Bool). refusedIf x Refusal.Duplicate Checked.Fine) (t on known))))))
 
--- ---- 6
+-- ---- a label
+
+pub label-fits : (n : ℕ) (line : HeldLine) → NumbersFine n line → kindAt (line .row) ≡ Kind.Label → LabelFits (labelIn (line .values))
+label-fits n line f e =
+    let is = row-of (line .row) Kind.Label (f .fits .row-fits) e in
+    record { on = label-on n line is (f .on); entry = omega (arith, label-known n line is (f .known), f .fits .few) }
 
 module _ (entries : List ℕ) (p k : ℕ) (e : p ≡ k) where
   pub is-set : (getD entries p 0 ≡ 0 → ⊥) → isSet entries k ≡ true
@@ -52,3 +80,7 @@ first-of a b e = rw e
 
 pub second-of : (a b t : Bool) → a ≡ false → b ≡ t → (a || b) ≡ t
 second-of a b t e f = rw e f
+
+-- what a function says of the kind that was told
+pub by-kind : {A : Type 0} (f : Kind → A) {told own its : Kind} → told ≡ own → told ≡ its → f its ≡ f own
+by-kind f e g = ap f (sym g ∙ e)

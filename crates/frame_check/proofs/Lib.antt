@@ -1,2 +1,2 @@
--- Laws of the checks, which crate frame cites too.
+-- Laws of the checks of a line.
 pub mod Laws

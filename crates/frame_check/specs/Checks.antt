@@ -1,131 +1,73 @@
--- The checks of a line in the terms of what the code holds: each is what Frame (crate frame) says of the line, as `frame/proofs` shows.
--- Definitions only.
-use mathlib.Core.Bool.{Bool, false, not, _&&_, _||_, cond}
+-- The checks of a line that is in its turn (document 01, the table of refusals): "each in order 1 to 6". Definitions only.
+use mathlib.Core.Path.{_≡_}
+use mathlib.Core.Bool.{Bool, false, not, _||_}
 use mathlib.Core.List.{List}
-use Prim.Native.Nat.{ℕ}
-use lib.Dec.{ltb, leb, eqb}
+use Prim.Native.Nat.{ℕ, _<_, _≤_}
+use lib.Dec.{leb, eqb}
 use lib.ListN.{getD}
-use lib.Ieee.{binary32, ofBits}
 use Rattle.refusal.specs.declared.Refusal.{Refusal}
-use Rattle.binary32.specs.declared.ranges.Quantity.{Quantity}
-use Rattle.sheet.specs.Cells.{onSheet, placeOf}
-use Rattle.arguments.specs.Arguments.{outside, refusedIf}
+use Rattle.sheet.specs.Cells.{OnSheet, placeOf}
+use Rattle.arguments.specs.Arguments.{refusedIf}
 use Rattle.arguments.specs.declared.Checked.{Checked}
-use Rattle.frame_line.specs.declared.HeldAxes.{HeldAxes}
-use Rattle.frame_line.specs.declared.HeldCorner.{HeldCorner}
+use Rattle.frame_line.specs.Table.{rowCount, kindAt}
+use Rattle.frame_line.specs.Held.{labelIn, outsideHeld}
+use Rattle.frame_line.specs.declared.Kind.{Kind}
 use Rattle.frame_line.specs.declared.HeldLabel.{HeldLabel}
-use Rattle.frame_line.specs.declared.HeldGrow.{HeldGrow}
-use Rattle.frame_line.specs.declared.HeldFill.{HeldFill}
-use Rattle.frame_line.specs.declared.HeldLocal.{HeldLocal}
-use Rattle.frame_line.specs.declared.HeldPass.{HeldPass}
 use Rattle.frame_line.specs.declared.HeldLine.{HeldLine}
 
--- ---- 1
+-- by what is said of a line: `outside r`, some number of it has the refusal r; `over`, a limit is passed; `twice`, it is doubled
+unfoldable pub checksInOrder : (ℕ → Bool) → Bool → Bool → Checked
+checksInOrder outside over twice =
+    refusedIf (outside 1) Refusal.Malformed
+    (refusedIf over Refusal.OverLimit
+    (refusedIf (outside 3) Refusal.OutOfRange
+    (refusedIf (outside 4) Refusal.OffSheet
+    (refusedIf (outside 5) Refusal.UnknownCorner
+    (refusedIf twice Refusal.Duplicate Checked.Fine)))))
 
--- where a kind of line stands; a line that is ill-formed stands nowhere
-unfoldable pub heldRank : HeldLine → ℕ
-heldRank HeldLine.IllFormed = 7
-heldRank HeldLine.Frame = 0
-heldRank (HeldLine.CellSize c) = 1
-heldRank (HeldLine.Axes a) = 2
-heldRank (HeldLine.Band b) = 3
-heldRank (HeldLine.Corner c) = 4
-heldRank (HeldLine.Label l) = 5
-heldRank (HeldLine.Pass p) = 6
+-- 2, overfull: "At most .. 1,024 corners, 16 passes", n corners and m passes standing already
+unfoldable pub overLimit : ℕ → ℕ → Kind → Bool
+overLimit n m (Kind.Opening o) = false
+overLimit n m Kind.Corner = leb 1024 n
+overLimit n m Kind.Label = false
+overLimit n m (Kind.Pass p) = leb 16 m
 
--- up to 3, the stage is the rank of the line that must come; from 4 on, the lowest rank that still may
-unfoldable pub mayCome : ℕ → ℕ → Bool
-mayCome stage rank = ltb rank 7 && cond (ltb stage 4) (eqb rank stage) (leb stage rank)
-
--- ---- 2, with n corners and m passes
-
-unfoldable pub overLimit : ℕ → ℕ → HeldLine → Bool
-overLimit n m HeldLine.IllFormed = false
-overLimit n m HeldLine.Frame = false
-overLimit n m (HeldLine.CellSize c) = false
-overLimit n m (HeldLine.Axes a) = false
-overLimit n m (HeldLine.Band b) = false
-overLimit n m (HeldLine.Corner c) = leb 1024 n
-overLimit n m (HeldLine.Label l) = false
-overLimit n m (HeldLine.Pass p) = leb 16 m
-
--- ---- 3
-
-unfoldable pub wildBits : Quantity → ℕ → Bool
-wildBits q b = outside q (ofBits binary32 b)
-
-unfoldable pub wildAxes : HeldAxes → Bool
-wildAxes a =
-    wildBits Quantity.AxisPart (a .ix)
-    || (wildBits Quantity.AxisPart (a .iy)
-    || (wildBits Quantity.AxisPart (a .jx)
-    || wildBits Quantity.AxisPart (a .jy)))
-
-unfoldable pub wildCorner : HeldCorner → Bool
-wildCorner c = wildBits Quantity.Position (c .x) || (wildBits Quantity.Position (c .y) || wildBits Quantity.Pitch (c .pitch))
-
-unfoldable pub wildGrow : HeldGrow → Bool
-wildGrow p = wildBits Quantity.Multiple (p .search) || (wildBits Quantity.Factor (p .factor) || wildBits Quantity.Multiple (p .boundary))
-
-unfoldable pub wildFill : HeldFill → Bool
-wildFill p = wildBits Quantity.Multiple (p .search) || (wildBits Quantity.Factor (p .factor) || ltb 64 (p .rounds))
-
-unfoldable pub wildLocal : HeldLocal → Bool
-wildLocal p =
-    wildBits Quantity.Multiple (p .search)
-    || (wildBits Quantity.Factor (p .factor)
-    || (ltb 64 (p .rounds)
-    || (wildBits Quantity.Multiple (p .residual)
-    || ltb 4 (p .depth))))
-
-unfoldable pub wildPass : HeldPass → Bool
-wildPass HeldPass.BareGrow = false
-wildPass (HeldPass.Grow p) = wildGrow p
-wildPass HeldPass.BareFill = false
-wildPass (HeldPass.Fill p) = wildFill p
-wildPass (HeldPass.Local p) = wildLocal p
-
-unfoldable pub outOfRange : HeldLine → Bool
-outOfRange HeldLine.IllFormed = false
-outOfRange HeldLine.Frame = false
-outOfRange (HeldLine.CellSize c) = wildBits Quantity.CellSize c
-outOfRange (HeldLine.Axes a) = wildAxes a
-outOfRange (HeldLine.Band b) = wildBits Quantity.Band b
-outOfRange (HeldLine.Corner c) = wildCorner c
-outOfRange (HeldLine.Label l) = false
-outOfRange (HeldLine.Pass p) = wildPass p
-
--- ---- 4, 5 and 6 of a label
+-- ---- as the code makes them, with n corners, m passes, the sheet and the corners used so far; each is what Frame (crate frame) says of the
+-- line, as `frame/proofs` shows
 
 -- an entry that is not 0
 abbrev pub isSet : List ℕ → ℕ → Bool
 isSet entries k = not (eqb (getD entries k 0) 0)
 
--- with n corners, the sheet and the corners used so far
-unfoldable pub checkedLabel : ℕ → List ℕ → List ℕ → HeldLabel → Checked
-checkedLabel n sheet used l =
-    refusedIf (not (onSheet (l .cell))) Refusal.OffSheet
-    (refusedIf (leb n (l .corner)) Refusal.UnknownCorner
-    (refusedIf (isSet sheet (placeOf (l .cell)) || isSet used (l .corner)) Refusal.Duplicate Checked.Fine))
+abbrev pub labelTwice : List ℕ → List ℕ → HeldLabel → Bool
+labelTwice sheet used l = isSet sheet (placeOf (l .cell)) || isSet used (l .corner)
 
-unfoldable pub ofLabel : (HeldLabel → Checked) → HeldLine → Checked
-ofLabel check HeldLine.IllFormed = Checked.Fine
-ofLabel check HeldLine.Frame = Checked.Fine
-ofLabel check (HeldLine.CellSize c) = Checked.Fine
-ofLabel check (HeldLine.Axes a) = Checked.Fine
-ofLabel check (HeldLine.Band b) = Checked.Fine
-ofLabel check (HeldLine.Corner c) = Checked.Fine
-ofLabel check (HeldLine.Label l) = check l
-ofLabel check (HeldLine.Pass p) = Checked.Fine
+unfoldable pub twiceOf : Kind → Bool → Bool
+twiceOf (Kind.Opening o) t = false
+twiceOf Kind.Corner t = false
+twiceOf Kind.Label t = t
+twiceOf (Kind.Pass p) t = false
 
--- ---- in order
+abbrev pub twiceAs : List ℕ → List ℕ → HeldLine → Kind → Bool
+twiceAs sheet used line kind = twiceOf kind (labelTwice sheet used (labelIn (line .values)))
 
--- 2 to 6
-unfoldable pub checkedSaid : ℕ → ℕ → List ℕ → List ℕ → HeldLine → Checked
-checkedSaid n m sheet used line =
-    refusedIf (overLimit n m line) Refusal.OverLimit
-    (refusedIf (outOfRange line) Refusal.OutOfRange (ofLabel (checkedLabel n sheet used) line))
+abbrev pub twiceHeld : List ℕ → List ℕ → HeldLine → Bool
+twiceHeld sheet used line = twiceAs sheet used line (kindAt (line .row))
 
--- 1 to 6
-unfoldable pub checkedHeld : ℕ → ℕ → ℕ → List ℕ → List ℕ → HeldLine → Checked
-checkedHeld stage n m sheet used line = refusedIf (not (mayCome stage (heldRank line))) Refusal.Malformed (checkedSaid n m sheet used line)
+unfoldable pub checkedHeld : ℕ → ℕ → List ℕ → List ℕ → HeldLine → Checked
+checkedHeld n m sheet used line = checksInOrder (λ r. outsideHeld r n line) (overLimit n m (kindAt (line .row))) (twiceHeld sheet used line)
+
+-- ---- what the functions ask for
+
+pub record LabelFits (l : HeldLabel) : Type 0 where
+  pub on : OnSheet (l .cell)
+  pub entry : l .corner < 1024
+
+pub record LineFits (n : ℕ) (line : HeldLine) : Type 0 where
+  pub few : n ≤ 1024
+  pub row-fits : line .row < rowCount
+
+pub record NumbersFine (n : ℕ) (line : HeldLine) : Type 0 where
+  pub fits : LineFits n line
+  pub on : outsideHeld 4 n line ≡ false
+  pub known : outsideHeld 5 n line ≡ false

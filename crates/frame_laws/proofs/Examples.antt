@@ -7,13 +7,17 @@ use lib.Ieee.{ofBits, ofInt, le, lt, eq}
 use Rattle.refusal.specs.declared.Refusal.{Refusal}
 use Rattle.binary32.specs.Hex.{digits, digitValue, readDigits}
 use Rattle.binary32.specs.Ranges.{endsOf}
-use Rattle.sheet.specs.Cells.{onSheet}
 use Rattle.arguments.specs.Arguments.{outside}
 use Rattle.line_form.specs.Integers.{decimalUpTo, decimal, integerText, digitsAfter, readPositive, readInteger}
-use Rattle.line_form.specs.Forms.{bytes, numberText, printed, pieceOf, fitOf}
-use Rattle.frame_line.specs.Lines.{bare-grow, lineText, bitsAt, wholeAt, lineOf, firstFit, readLine}
-use Rattle.frame.specs.Frame.{Frame, linesOf, inOrder, stageAfter, overLimit, outOfRange, wildPass, offSheet, unknownCorner, doubled, checkedLine, adding, FrameRead, refused-at, accepted, stepLine, atEnd, readLines, readFrame}
-use Rattle.frame.specs.Text.{textOfLines, frameText}
+use Rattle.line_form.specs.Forms.{bytes, Number, bits, whole, numberText, printed, pieceOf, fitOf}
+use Rattle.line_form.specs.Lines.{linesOf}
+use Rattle.line_form.specs.Written.{unheldWhole}
+use Rattle.frame_line.specs.Table.{rows, rowAt, kindAt, formAt, turnAt, mayEnd, sortOf, sortAt}
+use Rattle.frame_line.specs.Lines.{Line, lineText, bitsAt, wholeAt, passLineOf, firstFit, readLine}
+use Rattle.frame_line.specs.Checks.{wildBits, numberOutside, someOutside, outsideLine}
+use Rattle.frame_check.specs.Checks.{checksInOrder, overLimit, twiceOf}
+use Rattle.frame.specs.Frame.{Frame, opened, adding, partsFrom, partsOf, doubled, checkedLine, FrameRead, refused-at, accepted, stepLine, atEnd, readLines, readFrame}
+use Rattle.frame.specs.Text.{frameText}
 
 abbrev pub first-four : List ℕ
 first-four = bytes "(frame 1)\n(cell 41200000)\n(axes (3f800000 00000000) (00000000 3f800000))\n(band 3e800000)\n"
@@ -27,20 +31,22 @@ example =
     one-corner
     ++ bytes "(corner (41a00000 41200000) 00000000)\n(corner (41f00000 41200000) 00000000)\n(label 0 (0 0))\n(label 1 (1 0))\n(grow)\n"
 
+abbrev said : ℕ → List Number → Line
+said k ns = record { row = k; numbers = ns }
+
 abbrev pub meant : Frame
 meant =
-    record {
-      cell = 0x4120_0000;
-      axes = record { ix = 0x3f80_0000; iy = 0; jx = 0; jy = 0x3f80_0000 };
-      band = 0x3e80_0000;
-      corners =
-          record { x = 0x4120_0000; y = 0x4120_0000; pitch = 0 }
-          ∷ record { x = 0x41a0_0000; y = 0x4120_0000; pitch = 0 }
-          ∷ record { x = 0x41f0_0000; y = 0x4120_0000; pitch = 0 }
-          ∷ [];
-      labels = record { corner = pos 0; cell = record { i = pos 0; j = pos 0 } } ∷ record { corner = pos 1; cell = record { i = pos 1; j = pos 0 } } ∷ [];
-      passes = bare-grow ∷ [];
-    }
+    said 0 []
+    ∷ said 1 (bits 0x4120_0000 ∷ [])
+    ∷ said 2 (bits 0x3f80_0000 ∷ bits 0 ∷ bits 0 ∷ bits 0x3f80_0000 ∷ [])
+    ∷ said 3 (bits 0x3e80_0000 ∷ [])
+    ∷ said 4 (bits 0x4120_0000 ∷ bits 0x4120_0000 ∷ bits 0 ∷ [])
+    ∷ said 4 (bits 0x41a0_0000 ∷ bits 0x4120_0000 ∷ bits 0 ∷ [])
+    ∷ said 4 (bits 0x41f0_0000 ∷ bits 0x4120_0000 ∷ bits 0 ∷ [])
+    ∷ said 5 (whole (pos 0) ∷ whole (pos 0) ∷ whole (pos 0) ∷ [])
+    ∷ said 5 (whole (pos 1) ∷ whole (pos 1) ∷ whole (pos 0) ∷ [])
+    ∷ said 6 []
+    ∷ []
 
 abbrev pub four-passes : List ℕ
 four-passes = bytes "(grow)\n(fill)\n(grow)\n(fill)\n"
@@ -81,9 +87,9 @@ table =
     ∷ []
 
 pub examples-read : map (λ (c : Case). readFrame (c .text)) table ≡ map (λ (c : Case). c .read) table
-unfolding ofBits ofInt le lt eq digits digitValue readDigits endsOf onSheet outside decimalUpTo decimal integerText digitsAfter readPositive readInteger numberText printed pieceOf fitOf lineText bitsAt wholeAt lineOf firstFit readLine linesOf inOrder stageAfter overLimit outOfRange wildPass offSheet unknownCorner doubled checkedLine adding stepLine atEnd readLines readFrame textOfLines frameText
+unfolding ofBits ofInt le lt eq digits digitValue readDigits endsOf outside decimalUpTo decimal integerText digitsAfter readPositive readInteger unheldWhole numberText printed pieceOf fitOf linesOf rows rowAt kindAt formAt turnAt mayEnd sortOf sortAt lineText bitsAt wholeAt passLineOf firstFit readLine wildBits numberOutside someOutside outsideLine checksInOrder overLimit twiceOf opened adding partsFrom partsOf doubled checkedLine stepLine atEnd readLines readFrame
 examples-read = refl
 
 pub example-printed : frameText meant ≡ example
-unfolding digits decimalUpTo decimal integerText numberText printed lineText textOfLines frameText
+unfolding digits decimalUpTo decimal integerText numberText printed rows rowAt formAt lineText frameText
 example-printed = refl

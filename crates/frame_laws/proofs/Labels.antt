@@ -12,10 +12,11 @@ use Rattle.sheet.specs.declared.Label.{Label}
 use Rattle.sheet.proofs.Words.{Changed, attached-changes, label-here, hole-here, ambiguous-here, label-else, hole-else, ambiguous-else, no-corner, empty-length, empty-label, empty-hole, empty-ambiguous}
 use Rattle.invariants.proofs.Marks.{cell-dec}
 use Rattle.frame_line.specs.Lines.{LabelLine}
-use Rattle.frame.specs.Frame.{Frame}
+use Rattle.frame.specs.Frame.{Frame, partsOf}
 use Rattle.frame.specs.ReadFrame.{labelled, sheetOf}
 use Rattle.frame.specs.Text.{All, Sound, Apart, WithinLimits}
 use Rattle.frame_laws.specs.Calls.{NamedBy, GivenLabels}
+use Rattle.frame_laws.proofs.Back.{labels-sound}
 
 attached-length : (sheet : List ℕ) (c : Cell) (k : ℕ) → length (attached sheet c k) ≡ length sheet
 unfolding attached
@@ -113,24 +114,24 @@ pub given-labels : (f : Frame) → WithinLimits f → GivenLabels f
 unfolding sheetOf
 given-labels f w =
     record {
-      each = each-held n few ls emptySheet long (w .labels) (w .once);
-      only = λ c k e. named c k (only-named n few ls emptySheet long (w .labels) c k e);
-      no-hole = λ c. holes-kept n few ls emptySheet long (w .labels) c ∙ empty-hole c;
-      no-ambiguous = λ c. ambiguous-all n few ls emptySheet long (w .labels) c ∙ empty-ambiguous c;
+      each = each-held n few ls emptySheet long (labels-sound f w) (w .once);
+      only = λ c k e. named c k (only-named n few ls emptySheet long (labels-sound f w) c k e);
+      no-hole = λ c. holes-kept n few ls emptySheet long (labels-sound f w) c ∙ empty-hole c;
+      no-ambiguous = λ c. ambiguous-all n few ls emptySheet long (labels-sound f w) c ∙ empty-ambiguous c;
     }
   where
     n : ℕ
-    n = length (f .corners)
+    n = length (partsOf f .corners)
 
-    few : length (f .corners) ≤ 1024
+    few : length (partsOf f .corners) ≤ 1024
     few = w .corners
 
     ls : List LabelLine
-    ls = f .labels
+    ls = partsOf f .labels
 
     long : 16384 ≤ length emptySheet
     long = omega (arith, empty-length)
 
-    named : (c : Cell) (k : ℕ) → NamedBy (f .labels) c k ⊎ (labelAt emptySheet c ≡ Label.Corner k) → NamedBy (f .labels) c k
+    named : (c : Cell) (k : ℕ) → NamedBy (partsOf f .labels) c k ⊎ (labelAt emptySheet c ≡ Label.Corner k) → NamedBy (partsOf f .labels) c k
     named c k (inl h) = h
     named c k (inr h) = absurd (no-corner k (sym (empty-label c) ∙ h))

@@ -1,6 +1,8 @@
 -- The laws of whole frames. Assumes nothing.
 pub mod Lists
 pub mod Lines
+pub mod Order
+pub mod Parts
 pub mod Steps
 pub mod Refusals
 pub mod Back

@@ -9,18 +9,20 @@ use lib.Dec.{ltb}
 use lib.ListN.{length, getD, take, drop}
 use lib.Seq.{length-take-le, split-at}
 use Rattle.refusal.specs.declared.Refusal.{Refusal}
-use Rattle.frame_line.specs.Lines.{LineRead, readLine}
-use Rattle.frame.specs.Frame.{Frame, linesOf, overLimit, outOfRange, checkedLine, Step, stopped, onward, stepWith, stepLine, FrameRead, refused-at, accepted, atEnd, going, readLines, readFrame, nothing-read}
-use Rattle.frame.specs.Text.{FirstFault, has-no-form, not-its-turn, too-many, is-wild, is-off-sheet, is-unknown, is-doubled, Passed, none-yet, one-more, Refused, too-long, at-line, missing, RefusalsMean}
-use Rattle.frame_laws.proofs.Steps.{step-fault}
+use Rattle.line_form.specs.Lines.{linesOf}
+use Rattle.frame_line.specs.Table.{mayEnd}
+use Rattle.frame_line.specs.Lines.{readLine}
+use Rattle.frame.specs.Frame.{Frame, Step, stopped, onward, stepLine, FrameRead, refused-at, accepted, atEnd, going, readLines, readFrame}
+use Rattle.frame.specs.Text.{FirstFault, Passed, none-yet, one-more, Refused, too-long, at-line, missing, RefusalsMean}
+use Rattle.frame_laws.proofs.Steps.{step-fault, fault-stops}
 
 -- what comes of the lines from number n on: all pass and the frame is whole; or a line fails, the k-th of them; or all pass, and one of the
 -- first four is missing
 pub data Ending (n stage : ℕ) (f : Frame) (texts : List (List ℕ)) : FrameRead → Type 0 where
-  all-read : (last : ℕ) (g : Frame) → Passed stage f texts last g → 4 ≤ last → Ending n stage f texts (accepted g)
+  all-read : (last : ℕ) (g : Frame) → Passed stage f texts last g → mayEnd last ≡ true → Ending n stage f texts (accepted g)
   one-fails : (k m last : ℕ) (g : Frame) (r : Refusal) → k < length texts → m ≡ n + k → Passed stage f (take k texts) last g → FirstFault last g (readLine (getD texts k [])) r
       → Ending n stage f texts (refused-at r m)
-  one-missing : (m last : ℕ) (g : Frame) → m ≡ n + length texts → Passed stage f texts last g → last < 4 → Ending n stage f texts (refused-at Refusal.Malformed m)
+  one-missing : (m last : ℕ) (g : Frame) → m ≡ n + length texts → Passed stage f texts last g → mayEnd last ≡ false → Ending n stage f texts (refused-at Refusal.Malformed m)
 
 -- one line more in front
 ending-more : (n stage : ℕ) (f : Frame) (text : List ℕ) (texts : List (List ℕ)) (stage' : ℕ) (f' : Frame) → stepLine stage f text ≡ onward stage' f' → (o : FrameRead)
@@ -31,11 +33,11 @@ ending-more n stage f text texts stage' f' e o (one-missing m last g q p h) = on
 
 pub ending : (n stage : ℕ) (f : Frame) (texts : List (List ℕ)) → Ending n stage f texts (readLines n stage f texts)
 unfolding readLines atEnd
-ending n stage f [] = go (ltb stage 4) refl
+ending n stage f [] = go (mayEnd stage) refl
   where
-    go : (x : Bool) → ltb stage 4 ≡ x → Ending n stage f [] (cond x (refused-at Refusal.Malformed n) (accepted f))
-    go true e = one-missing n stage f (omega arith) none-yet (ltb-true stage 4 e)
-    go false e = all-read stage f none-yet (ltb-false stage 4 e)
+    go : (x : Bool) → mayEnd stage ≡ x → Ending n stage f [] (cond x (accepted f) (refused-at Refusal.Malformed n))
+    go true e = all-read stage f none-yet e
+    go false e = one-missing n stage f (omega arith) none-yet e
 ending n stage f (text ∷ texts) = go (stepLine stage f text) refl (λ stage' f'. ending (suc n) stage' f' texts)
   where
     go : (s : Step) → stepLine stage f text ≡ s → ((stage' : ℕ) (f' : Frame) → Ending (suc n) stage' f' texts (readLines (suc n) stage' f' texts))
@@ -49,7 +51,7 @@ pub refusals-mean : RefusalsMean
 unfolding readFrame
 refusals-mean text r n e = go (ltb 65536 (length text)) refl e
   where
-    why : length text ≤ 65536 → (o : FrameRead) → Ending 1 0 nothing-read (linesOf text) o → o ≡ refused-at r n → Refused text r n
+    why : length text ≤ 65536 → (o : FrameRead) → Ending 1 0 [] (linesOf text) o → o ≡ refused-at r n → Refused text r n
     why h o (all-read last g p k) q = absurd (let z : _≡_ {A = ℕ} 0 1 = cc in omega arith)
     why h o (one-fails k m last g s l a p w) q =
         let same : s ≡ r = cc in
@@ -62,12 +64,12 @@ refusals-mean text r n e = go (ltb 65536 (length text)) refl e
         let here : suc (length (linesOf text)) ≡ n = omega arith in
         subst (λ (s : Refusal). Refused text s n) same (subst (Refused text Refusal.Malformed) here (missing last g h p k))
 
-    go : (x : Bool) → ltb 65536 (length text) ≡ x → cond x (refused-at Refusal.OverLimit 0) (readLines 1 0 nothing-read (linesOf text)) ≡ refused-at r n → Refused text r n
+    go : (x : Bool) → ltb 65536 (length text) ≡ x → cond x (refused-at Refusal.OverLimit 0) (readLines 1 0 [] (linesOf text)) ≡ refused-at r n → Refused text r n
     go true p h =
         let same : Refusal.OverLimit ≡ r = cc in
         let number : 0 ≡ n = cc in
         subst (λ (s : Refusal). Refused text s n) same (subst (Refused text Refusal.OverLimit) number (too-long (ltb-true 65536 (length text) p)))
-    go false p h = why (ltb-false 65536 (length text) p) (readLines 1 0 nothing-read (linesOf text)) (ending 1 0 nothing-read (linesOf text)) h
+    go false p h = why (ltb-false 65536 (length text) p) (readLines 1 0 [] (linesOf text)) (ending 1 0 [] (linesOf text)) h
 
 -- ---- and what the table says is refused so
 
@@ -80,17 +82,7 @@ passed-read n {last = last} {g = g} rest (one-more {texts = texts} e p) =
     let m : suc n + length texts ≡ n + suc (length texts) = omega arith in
     ap (λ (s : Step). going n s (λ stage' f'. readLines (suc n) stage' f' (texts ++ rest))) e ∙ passed-read (suc n) rest p ∙ ap (λ (k : ℕ). readLines k last g rest) m
 
-fault-stops : (stage : ℕ) (f : Frame) (l : LineRead) (r : Refusal) → FirstFault stage f l r → stepWith stage f l ≡ stopped r
-unfolding checkedLine overLimit outOfRange
-fault-stops stage f l r has-no-form = refl
-fault-stops stage f l r (not-its-turn a) = rw a
-fault-stops stage f l r (too-many a b) = rw (a, b)
-fault-stops stage f l r (is-wild a b c) = rw (a, b, c)
-fault-stops stage f l r (is-off-sheet a b) = rw (a, b)
-fault-stops stage f l r (is-unknown a b c) = rw (a, b, c)
-fault-stops stage f l r (is-doubled a b c d) = rw (a, b, c, d)
-
-short-enough : (text : List ℕ) → length text ≤ 65536 → readFrame text ≡ readLines 1 0 nothing-read (linesOf text)
+short-enough : (text : List ℕ) → length text ≤ 65536 → readFrame text ≡ readLines 1 0 [] (linesOf text)
 unfolding readFrame
 short-enough text h = rw (le-ltb 65536 (length text) h)
 
@@ -98,9 +90,9 @@ stops-there : (n stage : ℕ) (f : Frame) (text : List ℕ) (texts : List (List 
 unfolding readLines
 stops-there n stage f text texts r e = ap (λ (s : Step). going n s (λ stage' f'. readLines (suc n) stage' f' texts)) e
 
-ends-early : (n stage : ℕ) (f : Frame) → stage < 4 → readLines n stage f [] ≡ refused-at Refusal.Malformed n
+ends-early : (n stage : ℕ) (f : Frame) → mayEnd stage ≡ false → readLines n stage f [] ≡ refused-at Refusal.Malformed n
 unfolding readLines atEnd
-ends-early n stage f h = rw (lt-ltb stage 4 h)
+ends-early n stage f h = rw h
 
 -- so a text is refused with one number at one line, for the one reason that the table gives
 pub refused-so : (text : List ℕ) (r : Refusal) (n : ℕ) → Refused text r n → readFrame text ≡ refused-at r n
@@ -109,9 +101,9 @@ refused-so text r n (too-long h) = rw (lt-ltb 65536 (length text) h)
 refused-so text r n (at-line k stage f s h l p w) =
     let texts = linesOf text in
     let number : 1 + length (take k texts) ≡ suc k = omega (arith, length-take-le k texts (omega arith)) in
-    short-enough text h ∙ ap (readLines 1 0 nothing-read) (split-at texts k [] l) ∙ passed-read 1 (getD texts k [] ∷ drop (suc k) texts) p
+    short-enough text h ∙ ap (readLines 1 0 []) (split-at texts k [] l) ∙ passed-read 1 (getD texts k [] ∷ drop (suc k) texts) p
     ∙ stops-there (1 + length (take k texts)) stage f (getD texts k []) (drop (suc k) texts) s (fault-stops stage f (readLine (getD texts k [])) s w) ∙ ap (refused-at s) number
 refused-so text r n (missing stage f h p l) =
     let texts = linesOf text in
     let number : 1 + length texts ≡ suc (length texts) = omega arith in
-    short-enough text h ∙ ap (readLines 1 0 nothing-read) (sym (append-nil texts)) ∙ passed-read 1 [] p ∙ ends-early (1 + length texts) stage f l ∙ ap (refused-at Refusal.Malformed) number
+    short-enough text h ∙ ap (readLines 1 0 []) (sym (append-nil texts)) ∙ passed-read 1 [] p ∙ ends-early (1 + length texts) stage f l ∙ ap (refused-at Refusal.Malformed) number

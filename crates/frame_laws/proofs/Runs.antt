@@ -1,14 +1,13 @@
 -- An accepted frame starts what demand 3 speaks of: its corners and the sheet of its given labels belong together, and each of its passes has
 -- its numbers in range, so that none is refused, after whatever list of calls. Assumes nothing.
-use mathlib.Core.Path.{_≡_, refl, sym, subst}
-use mathlib.Core.Bool.{Bool, true, false, not, _&&_}
-use mathlib.Core.List.{List, [], _∷_, _++_, map}
+use mathlib.Core.Path.{_≡_, refl, sym, ap, _∙_, subst}
+use mathlib.Core.Bool.{true, false}
+use mathlib.Core.List.{List, [], _∷_, map}
 use Prim.Native.Nat.{ℕ, zero, suc, _<_, _≤_}
 use native.Mathlib.Nat.{not-suc-le-zero}
 use native.Mathlib.Omega.{arith}
-use borrow.Author.Tests.{leb-true, not-false}
-use lib.Dec.{leb}
-use lib.IntN.{ℤ, pos, negsuc, natAbs}
+use borrow.Author.Tests.{not-false}
+use lib.IntN.{ℤ, pos, natAbs}
 use lib.Ieee.{Float, nan, ofBits, ofInt, le}
 use lib.ListN.{length, getD, length-map}
 use Rattle.binary32.specs.Ranges.{endsOf, inRange}
@@ -22,31 +21,32 @@ use Rattle.passes.specs.Step.{CornerLists}
 use Rattle.passes.specs.Run.{Call, PassStats, step, sheetAfter, run, sheetOf as sheetLeft}
 use Rattle.invariants.specs.Calls.{Standing, CallInside, Accepts, passOf as passChecked}
 use Rattle.invariants.proofs.Run.{standing-step, fit-accepts, never-refused, invariants}
-use Rattle.frame_line.specs.Lines.{CornerLine, PassLine, bare-grow, grow, bare-fill, fill, local, corner-line, label-line, pass-line}
-use Rattle.frame.specs.Frame.{Frame, floatOf, wild, wildCount, wildPass, outOfRange}
-use Rattle.frame.specs.Text.{All, InRange, Sound, WithinLimits}
-use Rattle.frame.specs.ReadFrame.{xsOf, ysOf, pitchesOf, sheetOf, settingsOf, fullOf, passOf}
+use Rattle.frame_line.specs.Table.{rowCount, kindAt}
+use Rattle.frame_line.specs.Lines.{Line, kindOf, bitsAt, axesLineOf, CornerLine, PassLine, bare-grow, grow, bare-fill, fill, local}
+use Rattle.frame_line.specs.Checks.{wildBits, wildWhole}
+use Rattle.frame_line.specs.declared.Kind.{Kind}
+use Rattle.frame_line.specs.declared.OpeningKind.{OpeningKind}
+use Rattle.frame_line.proofs.Words.{counted}
+use Rattle.frame_line.proofs.Said.{CornerTame, PassTame, cell-said, axes-said, band-said, corner-said, pass-said}
+use Rattle.frame.specs.Frame.{Frame, Opening, opened, adding, partsFrom, no-parts, partsOf}
+use Rattle.frame.specs.Text.{All, InOrder, InRange, Sound, WithinLimits}
+use Rattle.frame.specs.ReadFrame.{floatOf, xsOf, ysOf, pitchesOf, sheetOf, settingsIn, settingsOf, fullOf, passOf}
 use Rattle.frame_laws.specs.Calls.{cornersOf, frameRooms, passCall, callOf, callsOf, NoneRefused, Starts, AcceptedRuns}
-use Rattle.frame_laws.proofs.Lists.{all-left, all-right}
-use Rattle.frame_laws.proofs.Back.{frame-prints-back}
+use Rattle.frame_laws.proofs.Lists.{all-map}
+use Rattle.frame_laws.proofs.Order.{First, first-of}
+use Rattle.frame_laws.proofs.Parts.{corners-all, passes-all, openings-kept}
+use Rattle.frame_laws.proofs.Back.{frame-prints-back, labels-sound}
 use Rattle.frame_laws.proofs.Labels.{given-labels}
 use Rattle.frame_laws.proofs.Given.{labels-given, labels-one}
-use Rattle.arguments.proofs.Chains.{or-false-both}
 
 -- ---- numbers in range
 
-inside : (q : Quantity) (b : ℕ) → wild q b ≡ false → inRange q (floatOf b) ≡ true
-unfolding outside
+inside : (q : Quantity) (b : ℕ) → wildBits q b ≡ false → inRange q (floatOf b) ≡ true
+unfolding wildBits outside
 inside q b e = not-false (inRange q (floatOf b)) e
 
-counted : (n : ℕ) (z : ℤ) → wildCount n z ≡ false → natAbs z ≤ n
-counted n (pos k) e = go (leb 0 k) (leb k n) refl e
-  where
-    go : (x y : Bool) → leb k n ≡ y → not (x && y) ≡ false → k ≤ n
-    go true true p h = leb-true k n p
-    go true false p h = absurd (let z : _≡_ {A = ℕ} 0 1 = cc in omega arith)
-    go false y p h = absurd (let z : _≡_ {A = ℕ} 0 1 = cc in omega arith)
-counted n (negsuc k) e = absurd (let z : _≡_ {A = ℕ} 0 1 = cc in omega arith)
+small : (n : ℕ) (z : ℤ) → wildWhole (pos 0) (pos n) z ≡ false → natAbs z ≤ n
+small n z e = let c = counted n z e in subst (λ (k : ℕ). k ≤ n) (sym (ap natAbs (c .is))) (c .small)
 
 -- ---- the corners
 
@@ -55,58 +55,67 @@ each-float q f [] p k h = absurd (not-suc-le-zero h)
 each-float q f (a ∷ l) p zero h = p .0
 each-float q f (a ∷ l) p (suc k) h = each-float q f l (p .1) k (omega arith)
 
+-- ---- cell size, axes and band: the lines behind the first
+
+abbrev Row : Line → Type 0
+Row l = l .row < rowCount
+
+module _ (l0 l1 l2 l3 : Line) (ls : List Line) (a : kindOf l0 ≡ Kind.Opening OpeningKind.Frame) (b : kindOf l1 ≡ Kind.Opening OpeningKind.CellSize) (c : kindOf l2 ≡ Kind.Opening OpeningKind.Axes) (d : kindOf l3 ≡ Kind.Opening OpeningKind.Band) where
+  opening-is : InOrder 4 ls → All Row ls
+      → partsFrom no-parts (l0 ∷ l1 ∷ l2 ∷ l3 ∷ ls) .opening ≡ record { cell = bitsAt 0 (l1 .numbers); axes = axesLineOf (l2 .numbers); band = bitsAt 0 (l3 .numbers) }
+  unfolding partsFrom adding opened
+  opening-is o r = openings-kept 4 _ ls (omega arith) r o ∙ rw (a, b, c, d)
+
+  settings-lines : (m : ℕ) → InOrder 4 ls → All (InRange m) (l0 ∷ l1 ∷ l2 ∷ l3 ∷ ls) → SettingsInside (settingsIn (partsFrom no-parts (l0 ∷ l1 ∷ l2 ∷ l3 ∷ ls) .opening))
+  settings-lines m o r =
+      let x = r .1 .0 in
+      let y = r .1 .1 .0 in
+      let z = r .1 .1 .1 .0 in
+      let t = axes-said m l2 (y .proper) (y .ranges) c in
+      subst (λ (it : Opening). SettingsInside (settingsIn it)) (sym (opening-is o (all-map (λ l g. g .proper .few) ls (r .1 .1 .1 .1))))
+      (record {
+        cell-size = inside Quantity.CellSize (bitsAt 0 (l1 .numbers)) (cell-said m l1 (x .proper) (x .ranges) b);
+        axis-i = record { x = inside Quantity.AxisPart _ (t .0); y = inside Quantity.AxisPart _ (t .1 .0) };
+        axis-j = record { x = inside Quantity.AxisPart _ (t .1 .1 .0); y = inside Quantity.AxisPart _ (t .1 .1 .1) };
+        band = inside Quantity.Band (bitsAt 0 (l3 .numbers)) (band-said m l3 (z .proper) (z .ranges) d);
+      })
+
 module _ (f : Frame) (w : WithinLimits f) where
-  corner-lines : All InRange (map corner-line (f .corners))
-  corner-lines = all-left InRange (map corner-line (f .corners)) (map label-line (f .labels) ++ map pass-line (f .passes)) (w .numbers .1 .1 .1 .1)
+  corners-tame : All CornerTame (partsOf f .corners)
+  unfolding partsOf
+  corners-tame = corners-all f CornerTame (all-map (λ l r e. corner-said _ l (r .proper) (r .ranges) e) f (w .numbers))
 
-  pass-lines : All InRange (map pass-line (f .passes))
-  pass-lines = all-right InRange (map label-line (f .labels)) (map pass-line (f .passes)) (all-right InRange (map corner-line (f .corners)) (map label-line (f .labels) ++ map pass-line (f .passes)) (w .numbers .1 .1 .1 .1))
-
-  record CornerTame (c : CornerLine) : Type 0 where
-    x-in : inRange Quantity.Position (floatOf (c .x)) ≡ true
-    y-in : inRange Quantity.Position (floatOf (c .y)) ≡ true
-    pitch-in : inRange Quantity.Pitch (floatOf (c .pitch)) ≡ true
-
-  corner-tame : (c : CornerLine) → outOfRange (corner-line c) ≡ false → CornerTame c
-  unfolding outOfRange
-  corner-tame c e =
-      let a = or-false-both _ _ e in
-      let b = or-false-both _ _ (a .1) in
-      record { x-in = inside Quantity.Position (c .x) (a .0); y-in = inside Quantity.Position (c .y) (b .0); pitch-in = inside Quantity.Pitch (c .pitch) (b .1) }
-
-  picked : (P : CornerLine → Type 0) → ((c : CornerLine) → CornerTame c → P c) → (cs : List CornerLine) → All InRange (map corner-line cs) → All P cs
-  picked P h [] r = tt
-  picked P h (c ∷ cs) r = (h c (corner-tame c (r .0 .ranges)), picked P h cs (r .1))
-
-  same-length : length (xsOf f) ≡ length (f .corners)
+  same-length : length (xsOf f) ≡ length (partsOf f .corners)
   unfolding xsOf
-  same-length = length-map (f .corners) (λ c. floatOf (c .x))
+  same-length = length-map (partsOf f .corners) (λ c. floatOf (c .x))
 
   corners-inside : (k : ℕ) → k < length (xsOf f) → CornerInside (cornerOf (xsOf f) (ysOf f) (pitchesOf f) k)
   unfolding cornerOf xsOf ysOf pitchesOf
   corners-inside k h =
-      let l : k < length (f .corners) = omega (arith, same-length) in
+      let l : k < length (partsOf f .corners) = omega (arith, same-length) in
+      let cs = partsOf f .corners in
       record {
-        x = each-float Quantity.Position (λ c. floatOf (c .x)) (f .corners) (picked _ (λ c t. t .x-in) (f .corners) corner-lines) k l;
-        y = each-float Quantity.Position (λ c. floatOf (c .y)) (f .corners) (picked _ (λ c t. t .y-in) (f .corners) corner-lines) k l;
-        pitch = each-float Quantity.Pitch (λ c. floatOf (c .pitch)) (f .corners) (picked _ (λ c t. t .pitch-in) (f .corners) corner-lines) k l;
+        x = each-float Quantity.Position (λ c. floatOf (c .x)) cs (all-map (λ c t. inside Quantity.Position (c .x) (t .0)) cs corners-tame) k l;
+        y = each-float Quantity.Position (λ c. floatOf (c .y)) cs (all-map (λ c t. inside Quantity.Position (c .y) (t .1 .0)) cs corners-tame) k l;
+        pitch = each-float Quantity.Pitch (λ c. floatOf (c .pitch)) cs (all-map (λ c t. inside Quantity.Pitch (c .pitch) (t .1 .1)) cs corners-tame) k l;
       }
-
-  -- ---- cell size, axes and band
 
   settings-inside : SettingsInside (settingsOf f)
-  unfolding settingsOf outOfRange
+  unfolding settingsOf partsOf kindAt
   settings-inside =
-      let n = w .numbers in
-      let a = or-false-both _ _ (n .1 .1 .0 .ranges) in
-      let b = or-false-both _ _ (a .1) in
-      let c = or-false-both _ _ (b .1) in
-      record {
-        cell-size = inside Quantity.CellSize (f .cell) (n .1 .0 .ranges);
-        axis-i = record { x = inside Quantity.AxisPart (f .axes .ix) (a .0); y = inside Quantity.AxisPart (f .axes .iy) (b .0) };
-        axis-j = record { x = inside Quantity.AxisPart (f .axes .jx) (c .0); y = inside Quantity.AxisPart (f .axes .jy) (c .1) };
-        band = inside Quantity.Band (f .band) (n .1 .1 .1 .0 .ranges);
-      }
+      let r = all-map (λ l g. g .proper .few) f (w .numbers) in
+      let a = first-of 0 f (omega arith) r (w .order) in
+      let s = subst (All Row) (a .is) r .1 in
+      let b = first-of 1 (a .rest) (omega arith) s (a .order) in
+      let t = subst (All Row) (b .is) s .1 in
+      let c = first-of 2 (b .rest) (omega arith) t (b .order) in
+      let u = subst (All Row) (c .is) t .1 in
+      let d = first-of 3 (c .rest) (omega arith) u (c .order) in
+      let e : f ≡ a .it ∷ b .it ∷ c .it ∷ d .it ∷ d .rest =
+      a .is ∙ ap (λ (x : List Line). a .it ∷ x) (b .is ∙ ap (λ (x : List Line). b .it ∷ x) (c .is ∙ ap (λ (x : List Line). c .it ∷ x) (d .is))) in
+      subst (λ (g : List Line). SettingsInside (settingsIn (partsFrom no-parts g .opening))) (sym e)
+      (settings-lines (a .it) (b .it) (c .it) (d .it) (d .rest) (ap kindAt (a .row-is)) (ap kindAt (b .row-is)) (ap kindAt (c .row-is)) (ap kindAt (d .row-is))
+      (length (partsOf f .corners)) (d .order) (subst (All (InRange (length (partsOf f .corners)))) e (w .numbers)))
 
   -- ---- the passes
 
@@ -121,37 +130,26 @@ module _ (f : Frame) (w : WithinLimits f) where
   queue-fits (Pass.Fill p) n h = omega arith
   queue-fits (Pass.Local p) n h = omega arith
 
-  pass-inside : (p : PassLine) → wildPass p ≡ false → PassInside (passOf (fullOf p))
-  unfolding wildPass fullOf passOf endsOf le ofBits ofInt
-  pass-inside bare-grow e = record { search = refl; factor = refl; boundary = refl }
-  pass-inside (grow s a b) e =
-      let x = or-false-both _ _ e in
-      let y = or-false-both _ _ (x .1) in
-      record { search = inside Quantity.Multiple s (x .0); factor = inside Quantity.Factor a (y .0); boundary = inside Quantity.Multiple b (y .1) }
-  pass-inside bare-fill e = record { search = refl; factor = refl; rounds = omega arith }
-  pass-inside (fill s a r) e =
-      let x = or-false-both _ _ e in
-      let y = or-false-both _ _ (x .1) in
-      record { search = inside Quantity.Multiple s (x .0); factor = inside Quantity.Factor a (y .0); rounds = counted 64 r (y .1) }
-  pass-inside (local s a r g d) e =
-      let x = or-false-both _ _ e in
-      let y = or-false-both _ _ (x .1) in
-      let z = or-false-both _ _ (y .1) in
-      let t = or-false-both _ _ (z .1) in
+  pass-inside : (p : PassLine) → PassTame p → PassInside (passOf (fullOf p))
+  unfolding fullOf passOf endsOf le ofBits ofInt
+  pass-inside bare-grow t = record { search = refl; factor = refl; boundary = refl }
+  pass-inside (grow s a b) t = record { search = inside Quantity.Multiple s (t .0); factor = inside Quantity.Factor a (t .1 .0); boundary = inside Quantity.Multiple b (t .1 .1) }
+  pass-inside bare-fill t = record { search = refl; factor = refl; rounds = omega arith }
+  pass-inside (fill s a r) t = record { search = inside Quantity.Multiple s (t .0); factor = inside Quantity.Factor a (t .1 .0); rounds = small 64 r (t .1 .1) }
+  pass-inside (local s a r g d) t =
       record {
-        search = inside Quantity.Multiple s (x .0);
-        factor = inside Quantity.Factor a (y .0);
-        rounds = counted 64 r (z .0);
-        residual = inside Quantity.Multiple g (t .0);
-        depth = counted 4 d (t .1);
+        search = inside Quantity.Multiple s (t .0);
+        factor = inside Quantity.Factor a (t .1 .0);
+        rounds = small 64 r (t .1 .1 .0);
+        residual = inside Quantity.Multiple g (t .1 .1 .1 .0);
+        depth = small 4 d (t .1 .1 .1 .1);
       }
 
   few : length (xsOf f) ≤ 1024
   few = omega (arith, same-length, w .corners)
 
-  pass-fit : (p : PassLine) → outOfRange (pass-line p) ≡ false → CallInside (cornersOf f) (callOf f p)
-  unfolding outOfRange
-  pass-fit p e =
+  pass-fit : (p : PassLine) → PassTame p → CallInside (cornersOf f) (callOf f p)
+  pass-fit p t =
       let q = sym (checked-so (passOf (fullOf p))) in
       record {
         few = few;
@@ -159,28 +157,28 @@ module _ (f : Frame) (w : WithinLimits f) where
         attached-long = omega (arith, few);
         corners-inside = corners-inside;
         settings-inside = settings-inside;
-        pass-inside = subst PassInside q (pass-inside p e);
+        pass-inside = subst PassInside q (pass-inside p t);
       }
 
-  passes-fit : (ps : List PassLine) → All InRange (map pass-line ps) → All (CallInside (cornersOf f)) (map (callOf f) ps)
-  passes-fit [] r = tt
-  passes-fit (p ∷ ps) r = (pass-fit p (r .0 .ranges), passes-fit ps (r .1))
+  passes-fit : (ps : List PassLine) → All PassTame ps → All (CallInside (cornersOf f)) (map (callOf f) ps)
+  passes-fit [] t = tt
+  passes-fit (p ∷ ps) t = (pass-fit p (t .0), passes-fit ps (t .1))
 
   calls-fit : All (CallInside (cornersOf f)) (callsOf f)
-  unfolding callsOf
-  calls-fit = passes-fit (f .passes) pass-lines
+  unfolding callsOf partsOf
+  calls-fit = passes-fit (partsOf f .passes) (passes-all f PassTame (all-map (λ l r q e. pass-said _ l (r .proper) (r .ranges) q e) f (w .numbers)))
 
   -- ---- the corners and the given labels
 
   pub frame-standing : Standing (cornersOf f) (sheetOf f)
   unfolding sheetOf xsOf ysOf pitchesOf
   frame-standing =
-      let ys-long : length (xsOf f) ≤ length (ysOf f) = omega (arith, same-length, length-map (f .corners) (λ c. floatOf (c .y))) in
-      let pitches-long : length (xsOf f) ≤ length (pitchesOf f) = omega (arith, same-length, length-map (f .corners) (λ c. floatOf (c .pitch))) in
-      let sound : All (Sound (length (xsOf f))) (f .labels) = subst (λ (n : ℕ). All (Sound n) (f .labels)) (sym same-length) (w .labels) in
+      let ys-long : length (xsOf f) ≤ length (ysOf f) = omega (arith, same-length, length-map (partsOf f .corners) (λ c. floatOf (c .y))) in
+      let pitches-long : length (xsOf f) ≤ length (pitchesOf f) = omega (arith, same-length, length-map (partsOf f .corners) (λ c. floatOf (c .pitch))) in
+      let sound : All (Sound (length (xsOf f))) (partsOf f .labels) = subst (λ (n : ℕ). All (Sound n) (partsOf f .labels)) (sym same-length) (labels-sound f w) in
       record {
-        given = labels-given (xsOf f) (ysOf f) (pitchesOf f) few ys-long pitches-long (f .labels) sound (w .once);
-        one-cell = labels-one (xsOf f) (ysOf f) (pitchesOf f) few ys-long pitches-long (f .labels) sound (w .once);
+        given = labels-given (xsOf f) (ysOf f) (pitchesOf f) few ys-long pitches-long (partsOf f .labels) sound (w .once);
+        one-cell = labels-one (xsOf f) (ysOf f) (pitchesOf f) few ys-long pitches-long (partsOf f .labels) sound (w .once);
       }
 
 -- ---- none is refused

@@ -1,69 +1,23 @@
--- One line of a frame: the checks that a line passes, and the first one that it fails. Assumes nothing.
-use mathlib.Core.Path.{_≡_, refl, ap, _∙_, subst}
-use mathlib.Core.Bool.{Bool, true, false, not}
+-- One line of a frame: the first check that it fails; lines that pass are read back, and lines that were read pass. Assumes nothing.
+use mathlib.Core.Path.{_≡_, refl, sym, ap, ap₂, _∙_, subst}
+use mathlib.Core.Bool.{Bool, true, false, cond}
 use mathlib.Core.Logic.{_⊎_, inl, inr}
-use mathlib.Core.List.{List}
-use Prim.Native.Nat.{ℕ}
+use mathlib.Core.List.{List, [], _∷_, _++_, map, append-nil, append-assoc}
+use Prim.Native.Nat.{ℕ, suc}
 use native.Mathlib.Omega.{arith}
-use borrow.Author.Tests.{not-true, not-false}
 use lib.ListN.{length}
 use Rattle.refusal.specs.declared.Refusal.{Refusal}
 use Rattle.arguments.specs.Arguments.{refusedIf}
 use Rattle.arguments.specs.declared.Checked.{Checked}
-use Rattle.arguments.proofs.Chains.{not-refused}
-use Rattle.frame_line.specs.Lines.{Line, frame-line, cell-line, axes-line, band-line, corner-line, label-line, pass-line, LineRead, ill-formed, line, readLine}
-use Rattle.frame.specs.Frame.{Frame, rankOf, inOrder, stageAfter, overLimit, outOfRange, ofLabel, offSheet, unknownCorner, doubled, checkedLine, adding, stopped, onward, afterCheck, stepWith, stepLine}
-use Rattle.frame.specs.Text.{FirstFault, has-no-form, not-its-turn, too-many, is-wild, is-off-sheet, is-unknown, is-doubled}
-
--- ---- a line that passes
-
--- what the six checks found
-pub record Passes (stage : ℕ) (f : Frame) (l : Line) : Type 0 where
-  pub its-turn : inOrder stage (rankOf l) ≡ true
-  pub room : overLimit f l ≡ false
-  pub tame : outOfRange l ≡ false
-  pub on-sheet : ofLabel offSheet l ≡ false
-  pub known : ofLabel (unknownCorner (length (f .corners))) l ≡ false
-  pub new : ofLabel (doubled (f .labels)) l ≡ false
-
-fine-passes : (stage : ℕ) (f : Frame) (l : Line) → checkedLine stage f l ≡ Checked.Fine → Passes stage f l
-unfolding checkedLine
-fine-passes stage f l e =
-    let a = not-refused _ _ _ e in
-    let b = not-refused _ _ _ (a .1) in
-    let c = not-refused _ _ _ (b .1) in
-    let d = not-refused _ _ _ (c .1) in
-    let g = not-refused _ _ _ (d .1) in
-    let h = not-refused _ _ _ (g .1) in
-    record { its-turn = not-false _ (a .0); room = b .0; tame = c .0; on-sheet = d .0; known = g .0; new = h .0 }
-
-passes-fine : (stage : ℕ) (f : Frame) (l : Line) → Passes stage f l → checkedLine stage f l ≡ Checked.Fine
-unfolding checkedLine
-passes-fine stage f l p = rw (p .its-turn, p .room, p .tame, p .on-sheet, p .known, p .new)
-
--- a line that is added
-pub record Added (stage : ℕ) (f : Frame) (text : List ℕ) (stage' : ℕ) (f' : Frame) : Type 0 where
-  pub its-line : Line
-  pub is-read : readLine text ≡ line its-line
-  pub passes : Passes stage f its-line
-  pub stage-after : stage' ≡ stageAfter stage (rankOf its-line)
-  pub frame-after : f' ≡ adding f its-line
-
-pub step-added : (stage : ℕ) (f : Frame) (text : List ℕ) (stage' : ℕ) (f' : Frame) → stepLine stage f text ≡ onward stage' f' → Added stage f text stage' f'
-unfolding stepLine
-step-added stage f text stage' f' e = go (readLine text) refl e
-  where
-    fine : (l : Line) (k : Checked) → readLine text ≡ line l → checkedLine stage f l ≡ k → afterCheck k (stageAfter stage (rankOf l)) (adding f l) ≡ onward stage' f' → Added stage f text stage' f'
-    fine l Checked.Fine p q h = record { its-line = l; is-read = p; passes = fine-passes stage f l q; stage-after = cc; frame-after = cc }
-    fine l (Checked.Refused r) p q h = absurd (let z : _≡_ {A = ℕ} 0 1 = cc in omega arith)
-
-    go : (r : LineRead) → readLine text ≡ r → stepWith stage f r ≡ onward stage' f' → Added stage f text stage' f'
-    go ill-formed p h = absurd (let z : _≡_ {A = ℕ} 0 1 = cc in omega arith)
-    go (line l) p h = fine l (checkedLine stage f l) p refl h
-
-pub added-step : (stage : ℕ) (f : Frame) (text : List ℕ) (l : Line) → readLine text ≡ line l → Passes stage f l → stepLine stage f text ≡ onward (stageAfter stage (rankOf l)) (adding f l)
-unfolding stepLine
-added-step stage f text l e p = rw e (ap (λ (k : Checked). afterCheck k (stageAfter stage (rankOf l)) (adding f l)) (passes-fine stage f l p))
+use Rattle.frame_line.specs.Table.{turnAt, mayEnd}
+use Rattle.frame_line.specs.Lines.{Line, kindOf, Proper, lineText, labelLineOf, LineRead, ill-formed, line, readLine}
+use Rattle.frame_line.specs.Checks.{outsideLine}
+use Rattle.frame_line.specs.declared.Turn.{Turn}
+use Rattle.frame_line.proofs.Laws.{line-reads-back, line-prints-back}
+use Rattle.frame_check.specs.Checks.{checksInOrder, overLimit, twiceOf}
+use Rattle.frame.specs.Frame.{Frame, Parts, added, partsOf, doubled, checkedLine, Step, stopped, onward, stepBy, stepWith, stepLine, FrameRead, refused-at, accepted, atEnd, going, readLines}
+use Rattle.frame.specs.Text.{FirstCheck, is-first, too-many, is-wild, is-off-sheet, is-unknown, is-doubled, FirstFault, has-no-form, not-its-turn, fails}
+use Rattle.frame.proofs.Turn.{parts-more}
 
 -- ---- a line that fails
 
@@ -71,70 +25,116 @@ chosen : (t : Bool) (r : Refusal) (rest : Checked) (s : Refusal) → refusedIf t
 chosen true r rest s e = inl (refl, cc)
 chosen false r rest s e = inr (refl, e)
 
--- the last three checks are of labels alone
-abbrev labelChecks : Frame → Line → Checked
-labelChecks f l =
-    refusedIf (ofLabel offSheet l) Refusal.OffSheet
-    (refusedIf (ofLabel (unknownCorner (length (f .corners))) l) Refusal.UnknownCorner
-    (refusedIf (ofLabel (doubled (f .labels)) l) Refusal.Duplicate Checked.Fine))
+module _ (f : ℕ → Bool) (over twice : Bool) (s : Refusal) where
+  abbrev It : Refusal → Type 0
+  It = FirstCheck f over twice
+
+  -- a test that holds, or the tests behind it
+  tried : (t : Bool) (r : Refusal) (rest : Checked) → refusedIf t r rest ≡ Checked.Refused s → (t ≡ true → It r) → (t ≡ false → rest ≡ Checked.Refused s → It s) → It s
+  tried t r rest e here later = go (chosen t r rest s e)
+    where
+      go : ((t ≡ true) × (r ≡ s)) ⊎ ((t ≡ false) × (rest ≡ Checked.Refused s)) → It s
+      go (inl h) = subst It (h .1) (here (h .0))
+      go (inr h) = later (h .0) (h .1)
+
+  first-check : checksInOrder f over twice ≡ Checked.Refused s → FirstCheck f over twice s
+  unfolding checksInOrder
+  first-check e =
+      tried (f 1) Refusal.Malformed _ e is-first
+      (λ a h.
+      tried over Refusal.OverLimit _ h (too-many a)
+      (λ b h.
+      tried (f 3) Refusal.OutOfRange _ h (is-wild a b)
+      (λ c h.
+      tried (f 4) Refusal.OffSheet _ h (is-off-sheet a b c)
+      (λ d h.
+      tried (f 5) Refusal.UnknownCorner _ h (is-unknown a b c d)
+      (λ g h.
+      tried twice Refusal.Duplicate _ h (is-doubled a b c d g) (λ i h. absurd (let z : _≡_ {A = ℕ} 0 1 = cc in omega arith)))))))
+
+pub check-first : (f : ℕ → Bool) (over twice : Bool) (s : Refusal) → FirstCheck f over twice s → checksInOrder f over twice ≡ Checked.Refused s
+unfolding checksInOrder
+check-first f over twice s (is-first a) = rw a
+check-first f over twice s (too-many a b) = rw (a, b)
+check-first f over twice s (is-wild a b c) = rw (a, b, c)
+check-first f over twice s (is-off-sheet a b c d) = rw (a, b, c, d)
+check-first f over twice s (is-unknown a b c d g) = rw (a, b, c, d, g)
+check-first f over twice s (is-doubled a b c d g h) = rw (a, b, c, d, g, h)
 
 module _ (stage : ℕ) (f : Frame) where
-  fine-refused : (s : Refusal) (l : LineRead) → Checked.Fine ≡ Checked.Refused s → FirstFault stage f l s
-  fine-refused s l e = absurd (let z : _≡_ {A = ℕ} 0 1 = cc in omega arith)
-
-  label-fault : (l : Line) (s : Refusal) → inOrder stage (rankOf l) ≡ true
-      → labelChecks f l ≡ Checked.Refused s
-      → FirstFault stage f (line l) s
-  label-fault frame-line s o e = fine-refused s _ e
-  label-fault (cell-line c) s o e = fine-refused s _ e
-  label-fault (axes-line a) s o e = fine-refused s _ e
-  label-fault (band-line b) s o e = fine-refused s _ e
-  label-fault (corner-line c) s o e = fine-refused s _ e
-  label-fault (pass-line p) s o e = fine-refused s _ e
-  label-fault (label-line l) s o e = off (chosen _ _ _ s e)
-    where
-      twice : offSheet l ≡ false → unknownCorner (length (f .corners)) l ≡ false
-          → ((doubled (f .labels) l ≡ true) × (Refusal.Duplicate ≡ s)) ⊎ ((doubled (f .labels) l ≡ false) × (Checked.Fine ≡ Checked.Refused s)) → FirstFault stage f (line (label-line l)) s
-      twice a b (inl h) = subst (FirstFault stage f (line (label-line l))) (h .1) (is-doubled o a b (h .0))
-      twice a b (inr h) = fine-refused s _ (h .1)
-
-      stranger : offSheet l ≡ false
-          → ((unknownCorner (length (f .corners)) l ≡ true) × (Refusal.UnknownCorner ≡ s)) ⊎ ((unknownCorner (length (f .corners)) l ≡ false) × (refusedIf (doubled (f .labels) l) Refusal.Duplicate Checked.Fine ≡ Checked.Refused s))
-          → FirstFault stage f (line (label-line l)) s
-      stranger a (inl h) = subst (FirstFault stage f (line (label-line l))) (h .1) (is-unknown o a (h .0))
-      stranger a (inr h) = twice a (h .0) (chosen _ _ _ s (h .1))
-
-      off : ((offSheet l ≡ true) × (Refusal.OffSheet ≡ s))
-          ⊎ ((offSheet l ≡ false) × (refusedIf (unknownCorner (length (f .corners)) l) Refusal.UnknownCorner (refusedIf (doubled (f .labels) l) Refusal.Duplicate Checked.Fine) ≡ Checked.Refused s))
-          → FirstFault stage f (line (label-line l)) s
-      off (inl h) = subst (FirstFault stage f (line (label-line l))) (h .1) (is-off-sheet o (h .0))
-      off (inr h) = stranger (h .0) (chosen _ _ _ s (h .1))
-
-  line-fault : (l : Line) (s : Refusal) → checkedLine stage f l ≡ Checked.Refused s → FirstFault stage f (line l) s
-  unfolding checkedLine
-  line-fault l s e = turn (chosen _ _ _ s e)
-    where
-      wild : inOrder stage (rankOf l) ≡ true → overLimit f l ≡ false → ((outOfRange l ≡ true) × (Refusal.OutOfRange ≡ s)) ⊎ ((outOfRange l ≡ false) × (labelChecks f l ≡ Checked.Refused s)) → FirstFault stage f (line l) s
-      wild a b (inl h) = subst (FirstFault stage f (line l)) (h .1) (is-wild a b (h .0))
-      wild a b (inr h) = label-fault l s a (h .1)
-
-      many : inOrder stage (rankOf l) ≡ true → ((overLimit f l ≡ true) × (Refusal.OverLimit ≡ s)) ⊎ ((overLimit f l ≡ false) × (refusedIf (outOfRange l) Refusal.OutOfRange (labelChecks f l) ≡ Checked.Refused s)) → FirstFault stage f (line l) s
-      many a (inl h) = subst (FirstFault stage f (line l)) (h .1) (too-many a (h .0))
-      many a (inr h) = wild a (h .0) (chosen _ _ _ s (h .1))
-
-      turn : ((not (inOrder stage (rankOf l)) ≡ true) × (Refusal.Malformed ≡ s)) ⊎ ((not (inOrder stage (rankOf l)) ≡ false) × (refusedIf (overLimit f l) Refusal.OverLimit (refusedIf (outOfRange l) Refusal.OutOfRange (labelChecks f l)) ≡ Checked.Refused s)) → FirstFault stage f (line l) s
-      turn (inl h) = subst (FirstFault stage f (line l)) (h .1) (not-its-turn (not-true _ (h .0)))
-      turn (inr h) = many (not-false _ (h .0)) (chosen _ _ _ s (h .1))
-
   -- a refused line, and why
   pub step-fault : (text : List ℕ) (s : Refusal) → stepLine stage f text ≡ stopped s → FirstFault stage f (readLine text) s
-  unfolding stepLine
+  unfolding stepLine checkedLine
   step-fault text s e = go (readLine text) e
     where
-      fault : (l : Line) (k : Checked) → checkedLine stage f l ≡ k → afterCheck k (stageAfter stage (rankOf l)) (adding f l) ≡ stopped s → FirstFault stage f (line l) s
-      fault l Checked.Fine q h = absurd (let z : _≡_ {A = ℕ} 0 1 = cc in omega arith)
-      fault l (Checked.Refused r) q h = let same : r ≡ s = cc in line-fault l s (q ∙ ap Checked.Refused same)
+      by : (l : Line) (u : Turn) (c : Checked) → turnAt stage (l .row) ≡ u → checkedLine (partsOf f) l ≡ c → stepBy u c (f ++ (l ∷ [])) ≡ stopped s → FirstFault stage f (line l) s
+      by l Turn.No c p q h = let same : Refusal.Malformed ≡ s = cc in subst (FirstFault stage f (line l)) same (not-its-turn p)
+      by l (Turn.To to) Checked.Fine p q h = absurd (let z : _≡_ {A = ℕ} 0 1 = cc in omega arith)
+      by l (Turn.To to) (Checked.Refused r) p q h = let same : r ≡ s = cc in fails p (first-check _ _ _ s (q ∙ ap Checked.Refused same))
 
       go : (r : LineRead) → stepWith stage f r ≡ stopped s → FirstFault stage f r s
       go ill-formed h = let same : Refusal.Malformed ≡ s = cc in subst (FirstFault stage f ill-formed) same has-no-form
-      go (line l) h = fault l (checkedLine stage f l) refl h
+      go (line l) h = by l (turnAt stage (l .row)) (checkedLine (partsOf f) l) refl refl h
+
+  pub fault-stops : (l : LineRead) (r : Refusal) → FirstFault stage f l r → stepWith stage f l ≡ stopped r
+  unfolding checkedLine
+  fault-stops l r has-no-form = refl
+  fault-stops l r (not-its-turn a) = rw a
+  fault-stops l r (fails {l = m} a b) = rw (a, check-first (λ q. outsideLine q (length (partsOf f .corners)) m) (overLimit (length (partsOf f .corners)) (length (partsOf f .passes)) (kindOf m)) (twiceOf (kindOf m) (doubled (partsOf f .labels) (labelLineOf (m .numbers)))) r b)
+
+-- ---- lines that pass, each in its turn
+
+pub data Passing : ℕ → Parts → List Line → Type 0 where
+  end-here : {stage : ℕ} {p : Parts} → mayEnd stage ≡ true → Passing stage p []
+  pass-on : {stage to : ℕ} {p : Parts} {ls : List Line} (l : Line) → Proper l → turnAt stage (l .row) ≡ Turn.To to → checkedLine p l ≡ Checked.Fine → Passing to (added p l) ls
+      → Passing stage p (l ∷ ls)
+
+pub passing-read : (n : ℕ) {stage : ℕ} {p : Parts} (f : Frame) → p ≡ partsOf f → {ls : List Line} → Passing stage p ls → readLines n stage f (map lineText ls) ≡ accepted (f ++ ls)
+unfolding readLines atEnd stepLine
+passing-read n f is (end-here e) = rw e (ap accepted (sym (append-nil f)))
+passing-read n {stage} f is (pass-on {to = to} {ls = ls} l p t c more) =
+    let on : ℕ → Frame → FrameRead = λ stage' g. readLines (suc n) stage' g (map lineText ls) in
+    ap (λ (r : LineRead). going n (stepWith stage f r) on) (line-reads-back l p)
+    ∙ ap₂ (λ (u : Turn) (w : Checked). going n (stepBy u w (f ++ (l ∷ []))) on) t (ap (λ (q : Parts). checkedLine q l) (sym is) ∙ c)
+    ∙ passing-read (suc n) (f ++ (l ∷ [])) (ap (λ (q : Parts). added q l) is ∙ sym (parts-more f l)) more
+    ∙ ap accepted (append-assoc f (l ∷ []) ls)
+
+-- what was read of these lines
+pub record ReadBack (stage : ℕ) (f g : Frame) (texts : List (List ℕ)) : Type 0 where
+  pub lines : List Line
+  pub all-are : g ≡ f ++ lines
+  pub texts-again : texts ≡ map lineText lines
+  pub passing : Passing stage (partsOf f) lines
+
+pub read-passing : (n stage : ℕ) (f g : Frame) (texts : List (List ℕ)) → readLines n stage f texts ≡ accepted g → ReadBack stage f g texts
+unfolding readLines atEnd stepLine
+read-passing n stage f g [] e = go (mayEnd stage) refl e
+  where
+    go : (t : Bool) → mayEnd stage ≡ t → cond t (accepted f) (refused-at Refusal.Malformed n) ≡ accepted g → ReadBack stage f g []
+    go true p h = let same : f ≡ g = cc in record { lines = []; all-are = sym same ∙ sym (append-nil f); texts-again = refl; passing = end-here p }
+    go false p h = absurd (let z : _≡_ {A = ℕ} 0 1 = cc in omega arith)
+read-passing n stage f g (text ∷ texts) e = read (readLine text) refl (λ to l h. read-passing (suc n) to (f ++ (l ∷ [])) g texts h) e
+  where
+    on : ℕ → Frame → FrameRead
+    on to h = readLines (suc n) to h texts
+
+    More : Type 0
+    More = (to : ℕ) (l : Line) → on to (f ++ (l ∷ [])) ≡ accepted g → ReadBack to (f ++ (l ∷ [])) g texts
+
+    turned : (l : Line) (u : Turn) (v : Checked) → readLine text ≡ line l → turnAt stage (l .row) ≡ u → checkedLine (partsOf f) l ≡ v → More
+        → going n (stepBy u v (f ++ (l ∷ []))) on ≡ accepted g → ReadBack stage f g (text ∷ texts)
+    turned l Turn.No v r p q more h = absurd (let z : _≡_ {A = ℕ} 0 1 = cc in omega arith)
+    turned l (Turn.To to) (Checked.Refused k) r p q more h = absurd (let z : _≡_ {A = ℕ} 0 1 = cc in omega arith)
+    turned l (Turn.To to) Checked.Fine r p q more h =
+        let w = more to l h in
+        let b = line-prints-back text l r in
+        record {
+          lines = l ∷ w .lines;
+          all-are = w .all-are ∙ append-assoc f (l ∷ []) (w .lines);
+          texts-again = ap₂ _∷_ (b .text-again) (w .texts-again);
+          passing = pass-on l (b .proper) p q (subst (λ (x : Parts). Passing to x (w .lines)) (parts-more f l) (w .passing));
+        }
+
+    read : (r : LineRead) → readLine text ≡ r → More → going n (stepWith stage f r) on ≡ accepted g → ReadBack stage f g (text ∷ texts)
+    read ill-formed p more h = absurd (let z : _≡_ {A = ℕ} 0 1 = cc in omega arith)
+    read (line l) p more h = turned l (turnAt stage (l .row)) (checkedLine (partsOf f) l) p refl refl more h

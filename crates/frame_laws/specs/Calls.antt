@@ -14,7 +14,7 @@ use Rattle.passes.specs.Step.{CornerLists, Rooms}
 use Rattle.passes.specs.Run.{PassCall, grow, fill, local, Call, PassStats, run, sheetOf as sheetLeft}
 use Rattle.invariants.specs.Calls.{Standing, Invariant, CallInside, Accepts}
 use Rattle.frame_line.specs.Lines.{LabelLine, PassLine}
-use Rattle.frame.specs.Frame.{Frame, readFrame, accepted}
+use Rattle.frame.specs.Frame.{Frame, partsOf, readFrame, accepted}
 use Rattle.frame.specs.Text.{All}
 use Rattle.frame.specs.ReadFrame.{xsOf, ysOf, pitchesOf, sheetOf, settingsOf, fullOf, passOf}
 
@@ -33,8 +33,8 @@ pub record NamedBy (ls : List LabelLine) (c : Cell) (k : ℕ) : Type 0 where
 
 -- each label line's cell holds its corner, no other cell holds one, and "The frame starts with no marks"
 pub record GivenLabels (f : Frame) : Type 0 where
-  pub each : All (λ l. labelAt (sheetOf f) (l .cell) ≡ Label.Corner (natAbs (l .corner))) (f .labels)
-  pub only : (c : Cell) (k : ℕ) → labelAt (sheetOf f) c ≡ Label.Corner k → NamedBy (f .labels) c k
+  pub each : All (λ l. labelAt (sheetOf f) (l .cell) ≡ Label.Corner (natAbs (l .corner))) (partsOf f .labels)
+  pub only : (c : Cell) (k : ℕ) → labelAt (sheetOf f) c ≡ Label.Corner k → NamedBy (partsOf f .labels) c k
   pub no-hole : (c : Cell) → holeAt (sheetOf f) c ≡ false
   pub no-ambiguous : (c : Cell) → ambiguousAt (sheetOf f) c ≡ false
 
@@ -54,7 +54,7 @@ abbrev pub callOf : Frame → PassLine → Call
 callOf f p = record { pass = passCall (passOf (fullOf p)); settings = settingsOf f; rooms = frameRooms }
 
 unfoldable pub callsOf : Frame → List Call
-callsOf f = map (callOf f) (f .passes)
+callsOf f = map (callOf f) (partsOf f .passes)
 
 -- ---- the claim
 

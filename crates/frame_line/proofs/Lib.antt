@@ -1,3 +1,9 @@
--- Laws of a frame's lines: read and printed, and held by the program.
+-- The laws of the table, of a line by it, and of the checks of a line's numbers.
+pub mod Rows
 pub mod Laws
 pub mod Reading
+pub mod Numbers
+pub mod Checking
+pub mod Shapes
+pub mod Words
+pub mod Said

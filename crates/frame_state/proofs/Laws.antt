@@ -1,119 +1,93 @@
 -- A line that can be added: what its checks say of it, kind by kind, and the state after it. Assumes nothing.
-use mathlib.Core.Path.{_≡_, sym, subst}
-use mathlib.Core.Bool.{false, not}
+use mathlib.Core.Path.{_≡_, refl, sym, ap, _∙_}
+use mathlib.Core.Bool.{false}
 use mathlib.Core.List.{List}
 use Prim.Native.Nat.{ℕ, _<_}
 use native.Mathlib.Omega.{arith}
-use borrow.Author.Tests.{leb-false, not-false}
-use lib.Dec.{T, leb}
+use borrow.Author.Tests.{leb-false}
+use lib.ListN.{getD}
 use lib.Ieee.{Float}
-use Rattle.refusal.specs.declared.Refusal.{Refusal}
 use Rattle.binary32.specs.declared.ranges.Quantity.{Quantity}
-use Rattle.sheet.specs.Cells.{onSheet}
-use Rattle.arguments.specs.declared.Checked.{Checked}
-use Rattle.frame_line.specs.declared.HeldAxes.{HeldAxes}
-use Rattle.frame_line.specs.declared.HeldCorner.{HeldCorner}
-use Rattle.frame_line.specs.declared.HeldLabel.{HeldLabel}
-use Rattle.frame_line.specs.declared.HeldPass.{HeldPass}
+use Rattle.frame_line.specs.Table.{rows, rowAt, kindAt, sortOf, sortAt}
+use Rattle.frame_line.specs.Held.{labelIn, outsideHeld}
+use Rattle.frame_line.specs.declared.Kind.{Kind}
+use Rattle.frame_line.specs.declared.OpeningKind.{OpeningKind}
+use Rattle.frame_line.specs.declared.PassKind.{PassKind}
+use Rattle.frame_line.specs.declared.Sort.{Sort}
 use Rattle.frame_line.specs.declared.HeldLine.{HeldLine}
-use Rattle.frame_check.specs.Checks.{overLimit, wildBits, wildAxes, wildCorner, outOfRange, checkedLabel, ofLabel, checkedSaid}
-use Rattle.frame_check.proofs.Laws.{tame-finite}
-use Rattle.frame_state.specs.State.{Tame, TameAxes, withCellSize, withAxes, withBand, withCorner, withPass, CornerFits, CornerPut, LabelFits, LabelPut, wordsOf, wordsPut, Arrays, arrays, state, LineFits, adds}
+use Rattle.frame_line.proofs.Shapes.{rowOf, row-of}
+use Rattle.frame_line.proofs.Checking.{tame-finite}
+use Rattle.frame_line.proofs.Words.{word-tame}
+use Rattle.frame_check.specs.Checks.{overLimit, twiceHeld, checkedHeld}
+use Rattle.frame_check.proofs.Laws.{AllFine, fine-all, label-fits}
+use Rattle.frame_state.specs.State.{Tame, TameAxes, TameOpening, withOpening, withCorner, withPass, CornerFits, CornerPut, LabelRoom, LabelPut, wordsIn, wordsPut, Arrays, arrays, state, Addable, addsAs, adds}
 use Rattle.frame_state.specs.declared.Progress.{Progress}
-use Rattle.arguments.proofs.Chains.{or-false-both, not-refused}
 
 -- ---- what the checks say
 
-pub tame : (q : Quantity) (b : ℕ) → wildBits q b ≡ false → Tame b
-tame q b e = record { finite = tame-finite q b e }
+module _ {p : Progress} {a : Arrays} {line : HeldLine} (f : Addable p a line) where
+  fine : AllFine (λ r. outsideHeld r (p .corners) line) (overLimit (p .corners) (p .passes) (kindAt (line .row))) (twiceHeld (a .sheet) (a .used) line)
+  unfolding checkedHeld
+  fine = fine-all (λ r. outsideHeld r (p .corners) line) _ _ (f .fine)
 
--- the checks 2, 3 and 4 to 6 of a line that is fine
-record Said (n m : ℕ) (sheet used : List ℕ) (line : HeldLine) : Type 0 where
-  room : overLimit n m line ≡ false
-  ranges : outOfRange line ≡ false
-  label : ofLabel (checkedLabel n sheet used) line ≡ Checked.Fine
+  -- a float of a line is finite
+  tame-at : (kind : Kind) → kindAt (line .row) ≡ kind → (m : ℕ) (q : Quantity) → m < 5 → sortAt (rowOf kind) m ≡ Sort.Float q → Tame (getD (line .values) m 0)
+  tame-at kind e m q h s =
+      record {
+        finite =
+            tame-finite q (getD (line .values) m 0)
+            (word-tame (p .corners) line (fine .ranges) m h q (ap (λ (k : ℕ). sortAt k m) (row-of (line .row) kind (f .fits .row-fits) e) ∙ s));
+      }
 
-said : (n m : ℕ) (sheet used : List ℕ) (line : HeldLine) → checkedSaid n m sheet used line ≡ Checked.Fine → Said n m sheet used line
-unfolding checkedSaid
-said n m sheet used line e =
-    let a = not-refused (overLimit n m line) Refusal.OverLimit _ e in
-    let b = not-refused (outOfRange line) Refusal.OutOfRange _ (a .1) in
-    record { room = a .0; ranges = b .0; label = b .1 }
+  pub opening-fits : (o : OpeningKind) → kindAt (line .row) ≡ Kind.Opening o → TameOpening o (line .values)
+  unfolding sortAt sortOf rowAt rows
+  opening-fits OpeningKind.Frame e = tt
+  opening-fits OpeningKind.CellSize e = tame-at (Kind.Opening OpeningKind.CellSize) e 0 Quantity.CellSize (omega arith) refl
+  opening-fits OpeningKind.Axes e =
+      let t = tame-at (Kind.Opening OpeningKind.Axes) e in
+      record {
+        ix = t 0 Quantity.AxisPart (omega arith) refl;
+        iy = t 1 Quantity.AxisPart (omega arith) refl;
+        jx = t 2 Quantity.AxisPart (omega arith) refl;
+        jy = t 3 Quantity.AxisPart (omega arith) refl;
+      }
+  opening-fits OpeningKind.Band e = tame-at (Kind.Opening OpeningKind.Band) e 0 Quantity.Band (omega arith) refl
 
-module _ {p : Progress} {a : Arrays} {line : HeldLine} (f : LineFits p a line) where
-  it-is : (other : HeldLine) → line ≡ other → Said (p .corners) (p .passes) (a .sheet) (a .used) other
-  it-is other e = subst (Said (p .corners) (p .passes) (a .sheet) (a .used)) e (said (p .corners) (p .passes) (a .sheet) (a .used) line (f .fine))
+  pub corner-fits : kindAt (line .row) ≡ Kind.Corner → CornerFits (p .corners) (line .values)
+  unfolding overLimit sortAt sortOf rowAt rows
+  corner-fits e =
+      record {
+        room = leb-false 1024 (p .corners) (sym (ap (overLimit (p .corners) (p .passes)) e) ∙ fine .room);
+        x = tame-at Kind.Corner e 0 Quantity.Position (omega arith) refl;
+        y = tame-at Kind.Corner e 1 Quantity.Position (omega arith) refl;
+        pitch = tame-at Kind.Corner e 2 Quantity.Pitch (omega arith) refl;
+      }
 
-  pub cell-fits : (b : ℕ) → line ≡ HeldLine.CellSize b → Tame b
-  unfolding outOfRange
-  cell-fits b e = tame Quantity.CellSize b (it-is (HeldLine.CellSize b) e .ranges)
+  pub label-room : kindAt (line .row) ≡ Kind.Label → LabelRoom (a .sheet) (labelIn (line .values))
+  label-room e = record { long = f .long; fits = label-fits (p .corners) line (record { fits = f .fits; on = fine .on; known = fine .known }) e }
 
-  pub axes-fit : (x : HeldAxes) → line ≡ HeldLine.Axes x → TameAxes x
-  unfolding outOfRange wildAxes
-  axes-fit x e =
-      let i = or-false-both _ _ (it-is (HeldLine.Axes x) e .ranges) in
-      let j = or-false-both _ _ (i .1) in
-      let k = or-false-both _ _ (j .1) in
-      record { ix = tame _ _ (i .0); iy = tame _ _ (j .0); jx = tame _ _ (k .0); jy = tame _ _ (k .1) }
-
-  pub band-fits : (b : ℕ) → line ≡ HeldLine.Band b → Tame b
-  unfolding outOfRange
-  band-fits b e = tame Quantity.Band b (it-is (HeldLine.Band b) e .ranges)
-
-  pub corner-fits : (c : HeldCorner) → line ≡ HeldLine.Corner c → CornerFits (p .corners) c
-  unfolding overLimit outOfRange wildCorner
-  corner-fits c e =
-      let s = it-is (HeldLine.Corner c) e in
-      let i = or-false-both _ _ (s .ranges) in
-      let j = or-false-both _ _ (i .1) in
-      record { room = leb-false 1024 (p .corners) (s .room); x = tame _ _ (i .0); y = tame _ _ (j .0); pitch = tame _ _ (j .1) }
-
-  pub label-fits : (l : HeldLabel) → line ≡ HeldLine.Label l → LabelFits (a .sheet) l
-  unfolding ofLabel checkedLabel
-  label-fits l e =
-      let i = not-refused (not (onSheet (l .cell))) Refusal.OffSheet _ (it-is (HeldLine.Label l) e .label) in
-      let j = not-refused (leb (p .corners) (l .corner)) Refusal.UnknownCorner _ (i .1) in
-      let known = leb-false (p .corners) (l .corner) (j .0) in
-      record { long = f .long; on = subst T (sym (not-false (onSheet (l .cell)) (i .0))) tt; entry = omega (arith, f .few) }
-
-  pub pass-fits : (q : HeldPass) → line ≡ HeldLine.Pass q → p .passes < 16
+  pub pass-fits : (k : PassKind) → kindAt (line .row) ≡ Kind.Pass k → p .passes < 16
   unfolding overLimit
-  pass-fits q e = leb-false 16 (p .passes) (it-is (HeldLine.Pass q) e .room)
+  pass-fits k e = leb-false 16 (p .passes) (sym (ap (overLimit (p .corners) (p .passes)) e) ∙ fine .room)
 
 -- ---- the state after a line
 
 module _ (p : Progress) (a : Arrays) (line : HeldLine) where
-  pub added-none : line ≡ HeldLine.IllFormed → state p a ≡ adds line (state p a)
-  unfolding adds
-  added-none e = rw e
+  pub added-opening : (o : OpeningKind) → kindAt (line .row) ≡ Kind.Opening o → (r : Progress) → r ≡ withOpening o p (line .values) → state r a ≡ adds line (state p a)
+  unfolding addsAs
+  added-opening o e r g = rw (e, g)
 
-  pub added-frame : line ≡ HeldLine.Frame → state p a ≡ adds line (state p a)
-  unfolding adds
-  added-frame e = rw e
+  pub added-corner : kindAt (line .row) ≡ Kind.Corner → (r : Progress) → r ≡ withCorner p → (xs ys pitches : List Float)
+      → CornerPut (p .corners) (line .values) (a .xs) (a .ys) (a .pitches) xs ys pitches → state r (arrays xs ys pitches (a .sheet) (a .used) (a .passes)) ≡ adds line (state p a)
+  unfolding addsAs
+  added-corner e r g xs ys pitches w = rw (e, g, w .xs-are, w .ys-are, w .pitches-are)
 
-  pub added-cell : (b : ℕ) (r : Progress) → line ≡ HeldLine.CellSize b → r ≡ withCellSize p b → state r a ≡ adds line (state p a)
-  unfolding adds
-  added-cell b r e g = rw (e, g)
-
-  pub added-axes : (x : HeldAxes) (r : Progress) → line ≡ HeldLine.Axes x → r ≡ withAxes p x → state r a ≡ adds line (state p a)
-  unfolding adds
-  added-axes x r e g = rw (e, g)
-
-  pub added-band : (b : ℕ) (r : Progress) → line ≡ HeldLine.Band b → r ≡ withBand p b → state r a ≡ adds line (state p a)
-  unfolding adds
-  added-band b r e g = rw (e, g)
-
-  pub added-corner : (c : HeldCorner) (r : Progress) → line ≡ HeldLine.Corner c → r ≡ withCorner p → (xs ys pitches : List Float)
-      → CornerPut (p .corners) c (a .xs) (a .ys) (a .pitches) xs ys pitches → state r (arrays xs ys pitches (a .sheet) (a .used) (a .passes)) ≡ adds line (state p a)
-  unfolding adds
-  added-corner c r e g xs ys pitches w = rw (e, g, w .xs-are, w .ys-are, w .pitches-are)
-
-  pub added-label : (l : HeldLabel) → line ≡ HeldLine.Label l → (sheet used : List ℕ) → LabelPut l (a .sheet) (a .used) sheet used
+  pub added-label : kindAt (line .row) ≡ Kind.Label → (sheet used : List ℕ) → LabelPut (labelIn (line .values)) (a .sheet) (a .used) sheet used
       → state p (arrays (a .xs) (a .ys) (a .pitches) sheet used (a .passes)) ≡ adds line (state p a)
-  unfolding adds
-  added-label l e sheet used w = rw (e, w .sheet-is, w .used-is)
+  unfolding addsAs
+  added-label e sheet used w = rw (e, w .sheet-is, w .used-is)
 
-  pub added-pass : (q : HeldPass) (r : Progress) → line ≡ HeldLine.Pass q → r ≡ withPass p → (passes : List ℕ) → passes ≡ wordsPut (p .passes) (wordsOf q) (a .passes)
-      → state r (arrays (a .xs) (a .ys) (a .pitches) (a .sheet) (a .used) passes) ≡ adds line (state p a)
-  unfolding adds
-  added-pass q r e g passes w = rw (e, g, w)
+  pub added-pass : (k : PassKind) → kindAt (line .row) ≡ Kind.Pass k → (r : Progress) → r ≡ withPass p → (passes : List ℕ)
+      → passes ≡ wordsPut (p .passes) (wordsIn k (line .values)) (a .passes) → state r (arrays (a .xs) (a .ys) (a .pitches) (a .sheet) (a .used) passes) ≡ adds line (state p a)
+  unfolding addsAs
+  added-pass k e r g passes w = rw (e, g, w)

@@ -1,22 +1,20 @@
 -- What a frame's lines have said so far as the code holds it, and one line added to it. Definitions only; crate frame shows that it is what
 -- the definition of a frame says.
 use mathlib.Core.Path.{_≡_}
-use mathlib.Core.List.{List}
+use mathlib.Core.List.{List, [], _∷_}
 use Prim.Native.Nat.{ℕ, _+_, _*_, _%_, _<_, _≤_}
-use lib.ListN.{length, set}
+use lib.ListN.{length, getD, set}
 use lib.Ieee.{Float, binary32, ofBits}
-use Rattle.sheet.specs.Cells.{OnSheet}
 use Rattle.sheet.specs.Words.{attached}
 use Rattle.arguments.specs.declared.Checked.{Checked}
-use Rattle.frame_line.specs.declared.HeldAxes.{HeldAxes}
-use Rattle.frame_line.specs.declared.HeldCorner.{HeldCorner}
+use Rattle.frame_line.specs.Table.{kindAt}
+use Rattle.frame_line.specs.Held.{countIn, labelIn}
+use Rattle.frame_line.specs.declared.Kind.{Kind}
+use Rattle.frame_line.specs.declared.OpeningKind.{OpeningKind}
+use Rattle.frame_line.specs.declared.PassKind.{PassKind}
 use Rattle.frame_line.specs.declared.HeldLabel.{HeldLabel}
-use Rattle.frame_line.specs.declared.HeldGrow.{HeldGrow}
-use Rattle.frame_line.specs.declared.HeldFill.{HeldFill}
-use Rattle.frame_line.specs.declared.HeldLocal.{HeldLocal}
-use Rattle.frame_line.specs.declared.HeldPass.{HeldPass}
 use Rattle.frame_line.specs.declared.HeldLine.{HeldLine}
-use Rattle.frame_check.specs.Checks.{checkedSaid}
+use Rattle.frame_check.specs.Checks.{checkedHeld, LabelFits, LineFits}
 use Rattle.frame_state.specs.declared.Progress.{Progress}
 use Rattle.frame_state.specs.declared.PassWords.{PassWords}
 
@@ -28,13 +26,13 @@ floatOf b = ofBits binary32 b
 pub record Tame (b : ℕ) : Type 0 where
   pub finite : b % 0x8000_0000 < 0x7f80_0000
 
-pub record TameAxes (a : HeldAxes) : Type 0 where
-  pub ix : Tame (a .ix)
-  pub iy : Tame (a .iy)
-  pub jx : Tame (a .jx)
-  pub jy : Tame (a .jy)
+pub record TameAxes (v : List ℕ) : Type 0 where
+  pub ix : Tame (getD v 0 0)
+  pub iy : Tame (getD v 1 0)
+  pub jx : Tame (getD v 2 0)
+  pub jy : Tame (getD v 3 0)
 
--- ---- cell size, axes and band, and the numbers of corners and passes
+-- ---- cell size, axes and band, the numbers of corners and passes, and the stage
 
 -- before the first line
 abbrev pub nothing-said : Progress
@@ -52,7 +50,11 @@ nothing-said =
           };
       corners = 0;
       passes = 0;
+      stage = 0;
     }
+
+abbrev pub atStage : Progress → ℕ → Progress
+atStage p stage = record { settings = p .settings; corners = p .corners; passes = p .passes; stage = stage }
 
 abbrev pub withCellSize : Progress → ℕ → Progress
 withCellSize p b =
@@ -64,53 +66,67 @@ withCellSize p b =
           };
       corners = p .corners;
       passes = p .passes;
+      stage = p .stage;
     }
 
-abbrev pub withAxes : Progress → HeldAxes → Progress
-withAxes p a =
+abbrev pub withAxes : Progress → List ℕ → Progress
+withAxes p v =
     record {
       settings =
           record {
             grid =
                 record {
-                  «axis_i» = record { x = floatOf (a .ix); y = floatOf (a .iy) };
-                  «axis_j» = record { x = floatOf (a .jx); y = floatOf (a .jy) };
+                  «axis_i» = record { x = floatOf (getD v 0 0); y = floatOf (getD v 1 0) };
+                  «axis_j» = record { x = floatOf (getD v 2 0); y = floatOf (getD v 3 0) };
                   «cell_size» = p .settings .grid .«cell_size»;
                 };
             «edge_length_tol» = p .settings .«edge_length_tol»;
           };
       corners = p .corners;
       passes = p .passes;
+      stage = p .stage;
     }
 
 abbrev pub withBand : Progress → ℕ → Progress
-withBand p b = record { settings = record { grid = p .settings .grid; «edge_length_tol» = floatOf b }; corners = p .corners; passes = p .passes }
+withBand p b = record { settings = record { grid = p .settings .grid; «edge_length_tol» = floatOf b }; corners = p .corners; passes = p .passes; stage = p .stage }
+
+-- a line of the opening: its floats are finite; what it says
+abbrev pub TameOpening : OpeningKind → List ℕ → Type 0
+TameOpening OpeningKind.Frame v = Unit {0}
+TameOpening OpeningKind.CellSize v = Tame (getD v 0 0)
+TameOpening OpeningKind.Axes v = TameAxes v
+TameOpening OpeningKind.Band v = Tame (getD v 0 0)
+
+unfoldable pub withOpening : OpeningKind → Progress → List ℕ → Progress
+withOpening OpeningKind.Frame p v = p
+withOpening OpeningKind.CellSize p v = withCellSize p (getD v 0 0)
+withOpening OpeningKind.Axes p v = withAxes p v
+withOpening OpeningKind.Band p v = withBand p (getD v 0 0)
 
 abbrev pub withCorner : Progress → Progress
-withCorner p = record { settings = p .settings; corners = p .corners + 1; passes = p .passes }
+withCorner p = record { settings = p .settings; corners = p .corners + 1; passes = p .passes; stage = p .stage }
 
 abbrev pub withPass : Progress → Progress
-withPass p = record { settings = p .settings; corners = p .corners; passes = p .passes + 1 }
+withPass p = record { settings = p .settings; corners = p .corners; passes = p .passes + 1; stage = p .stage }
 
 -- ---- a corner, the n-th
 
-pub record CornerFits (n : ℕ) (c : HeldCorner) : Type 0 where
+pub record CornerFits (n : ℕ) (v : List ℕ) : Type 0 where
   pub room : n < 1024
-  pub x : Tame (c .x)
-  pub y : Tame (c .y)
-  pub pitch : Tame (c .pitch)
+  pub x : Tame (getD v 0 0)
+  pub y : Tame (getD v 1 0)
+  pub pitch : Tame (getD v 2 0)
 
-pub record CornerPut (n : ℕ) (c : HeldCorner) (xs ys pitches xs' ys' pitches' : List Float) : Type 0 where
-  pub xs-are : xs' ≡ set xs n (floatOf (c .x))
-  pub ys-are : ys' ≡ set ys n (floatOf (c .y))
-  pub pitches-are : pitches' ≡ set pitches n (floatOf (c .pitch))
+pub record CornerPut (n : ℕ) (v : List ℕ) (xs ys pitches xs' ys' pitches' : List Float) : Type 0 where
+  pub xs-are : xs' ≡ set xs n (floatOf (getD v 0 0))
+  pub ys-are : ys' ≡ set ys n (floatOf (getD v 1 0))
+  pub pitches-are : pitches' ≡ set pitches n (floatOf (getD v 2 0))
 
 -- ---- a label
 
-pub record LabelFits (sheet : List ℕ) (l : HeldLabel) : Type 0 where
+pub record LabelRoom (sheet : List ℕ) (l : HeldLabel) : Type 0 where
   pub long : length sheet ≡ 16384
-  pub on : OnSheet (l .cell)
-  pub entry : l .corner < 1024
+  pub fits : LabelFits l
 
 pub record LabelPut (l : HeldLabel) (sheet used sheet' used' : List ℕ) : Type 0 where
   pub sheet-is : sheet' ≡ attached sheet (l .cell) (l .corner)
@@ -118,28 +134,22 @@ pub record LabelPut (l : HeldLabel) (sheet used sheet' used' : List ℕ) : Type 
 
 -- ---- a pass
 
--- "Bare `(grow)` means 0.35 1.5 2.0; bare `(fill)` means 0.35 1.5 1"
-abbrev pub bareGrow : HeldGrow
-bareGrow = record { search = 0x3eb3_3333; factor = 0x3fc0_0000; boundary = 0x4000_0000 }
+abbrev pub growWords : List ℕ → PassWords
+growWords v = record { kind = 0; search = getD v 0 0; factor = getD v 1 0; reach = getD v 2 0; rounds = 0; depth = 0 }
 
-abbrev pub bareFill : HeldFill
-bareFill = record { search = 0x3eb3_3333; factor = 0x3fc0_0000; rounds = 1 }
+abbrev pub fillWords : List ℕ → PassWords
+fillWords v = record { kind = 1; search = getD v 0 0; factor = getD v 1 0; reach = 0; rounds = countIn (getD v 2 0); depth = 0 }
 
-abbrev pub growWords : HeldGrow → PassWords
-growWords p = record { kind = 0; search = p .search; factor = p .factor; reach = p .boundary; rounds = 0; depth = 0 }
+abbrev pub localWords : List ℕ → PassWords
+localWords v = record { kind = 2; search = getD v 0 0; factor = getD v 1 0; reach = getD v 3 0; rounds = countIn (getD v 2 0); depth = countIn (getD v 4 0) }
 
-abbrev pub fillWords : HeldFill → PassWords
-fillWords p = record { kind = 1; search = p .search; factor = p .factor; reach = 0; rounds = p .rounds; depth = 0 }
-
-abbrev pub localWords : HeldLocal → PassWords
-localWords p = record { kind = 2; search = p .search; factor = p .factor; reach = p .residual; rounds = p .rounds; depth = p .depth }
-
-unfoldable pub wordsOf : HeldPass → PassWords
-wordsOf HeldPass.BareGrow = growWords bareGrow
-wordsOf (HeldPass.Grow p) = growWords p
-wordsOf HeldPass.BareFill = fillWords bareFill
-wordsOf (HeldPass.Fill p) = fillWords p
-wordsOf (HeldPass.Local p) = localWords p
+-- "Bare `(grow)` means 0.35 1.5 2.0; bare `(fill)` means 0.35 1.5 1", an integer 1,000,000 higher
+unfoldable pub wordsIn : PassKind → List ℕ → PassWords
+wordsIn PassKind.BareGrow v = growWords (0x3eb3_3333 ∷ 0x3fc0_0000 ∷ 0x4000_0000 ∷ 0 ∷ 0 ∷ [])
+wordsIn PassKind.Grow v = growWords v
+wordsIn PassKind.BareFill v = fillWords (0x3eb3_3333 ∷ 0x3fc0_0000 ∷ 1000001 ∷ 0 ∷ 0 ∷ [])
+wordsIn PassKind.Fill v = fillWords v
+wordsIn PassKind.Local v = localWords v
 
 -- the words of the m-th pass
 unfoldable pub wordsPut : ℕ → PassWords → List ℕ → List ℕ
@@ -166,27 +176,27 @@ pub record State : Type 0 where
 abbrev pub state : Progress → Arrays → State
 state p a = record { progress = p; held = a }
 
--- a line can be added: it passed the checks of what it says, and the corners before it are few enough
-pub record LineFits (p : Progress) (a : Arrays) (line : HeldLine) : Type 0 where
-  pub fine : checkedSaid (p .corners) (p .passes) (a .sheet) (a .used) line ≡ Checked.Fine
-  pub few : p .corners ≤ 1024
+-- a line can be added: it passed its checks, and the corners before it are few enough
+pub record Addable (p : Progress) (a : Arrays) (line : HeldLine) : Type 0 where
+  pub fine : checkedHeld (p .corners) (p .passes) (a .sheet) (a .used) line ≡ Checked.Fine
+  pub fits : LineFits (p .corners) line
   pub long : length (a .sheet) ≡ 16384
 
--- a line added
-unfoldable pub adds : HeldLine → State → State
-adds HeldLine.IllFormed s = s
-adds HeldLine.Frame s = s
-adds (HeldLine.CellSize b) s = state (withCellSize (s .progress) b) (s .held)
-adds (HeldLine.Axes a) s = state (withAxes (s .progress) a) (s .held)
-adds (HeldLine.Band b) s = state (withBand (s .progress) b) (s .held)
-adds (HeldLine.Corner c) s =
+-- a line of a kind added, with its words
+unfoldable pub addsAs : Kind → List ℕ → State → State
+addsAs (Kind.Opening o) v s = state (withOpening o (s .progress) v) (s .held)
+addsAs Kind.Corner v s =
     let n = s .progress .corners in
     let h = s .held in
     state (withCorner (s .progress))
-    (arrays (set (h .xs) n (floatOf (c .x))) (set (h .ys) n (floatOf (c .y))) (set (h .pitches) n (floatOf (c .pitch))) (h .sheet) (h .used) (h .passes))
-adds (HeldLine.Label l) s =
+    (arrays (set (h .xs) n (floatOf (getD v 0 0))) (set (h .ys) n (floatOf (getD v 1 0))) (set (h .pitches) n (floatOf (getD v 2 0))) (h .sheet) (h .used) (h .passes))
+addsAs Kind.Label v s =
     let h = s .held in
+    let l = labelIn v in
     state (s .progress) (arrays (h .xs) (h .ys) (h .pitches) (attached (h .sheet) (l .cell) (l .corner)) (set (h .used) (l .corner) 1) (h .passes))
-adds (HeldLine.Pass p) s =
+addsAs (Kind.Pass p) v s =
     let h = s .held in
-    state (withPass (s .progress)) (arrays (h .xs) (h .ys) (h .pitches) (h .sheet) (h .used) (wordsPut (s .progress .passes) (wordsOf p) (h .passes)))
+    state (withPass (s .progress)) (arrays (h .xs) (h .ys) (h .pitches) (h .sheet) (h .used) (wordsPut (s .progress .passes) (wordsIn p v) (h .passes)))
+
+abbrev pub adds : HeldLine → State → State
+adds line s = addsAs (kindAt (line .row)) (line .values) s

@@ -3,24 +3,23 @@
 ghost use mathlib.Core.Path.{_≡_};
 ghost use Prim.Native.Nat.{_<_};
 ghost use lib.Ieee.{binary32, ofBits};
-ghost use Rattle.frame_state.specs.State.{Tame, TameAxes, nothing-said, withCellSize, withAxes, withBand, withCorner, withPass, CornerFits, CornerPut, LabelFits, LabelPut, bareGrow, bareFill, growWords, fillWords, localWords, wordsOf, wordsPut, arrays, state, LineFits, adds};
+ghost use Rattle.frame_state.specs.State.{Tame, TameAxes, nothing-said, atStage, withCellSize, withAxes, withBand, TameOpening, withOpening, withCorner, withPass, CornerFits, CornerPut, LabelRoom, LabelPut, growWords, fillWords, localWords, wordsIn, wordsPut, arrays, state, Addable, adds};
 use arguments::Settings;
-use frame_line::HeldAxes;
-use frame_line::HeldCorner;
-use frame_line::HeldFill;
-use frame_line::HeldGrow;
 use frame_line::HeldLabel;
 use frame_line::HeldLine;
-use frame_line::HeldLocal;
-use frame_line::HeldPass;
+use frame_line::Kind;
+use frame_line::OpeningKind;
+use frame_line::PassKind;
+use frame_line::count_of;
 use predict::Grid;
 use predict::Vector;
 
-// Cell size, axes and band, and how many corners and passes there are.
+// Cell size, axes and band, how many corners and passes there are, and the stage that the lines have come to.
 pub struct Progress {
     pub settings: Settings,
     pub corners: usize,
     pub passes: usize,
+    pub stage: usize,
 }
 
 // A pass as six words: kind (0 grow, 1 fill, 2 local), search, factor, boundary or residual, rounds, depth; 0 for what the pass has not.
@@ -59,6 +58,20 @@ pub fn start() -> Progress
         settings,
         corners: 0,
         passes: 0,
+        stage: 0,
+    }
+}
+
+// The lines have come to a stage.
+pub fn at_stage(p: Progress, stage: usize) -> Progress
+    ensures { λ r. ⌜ r ≡ atStage p stage ⌝ }
+{
+    let settings = p.settings;
+    Progress {
+        settings,
+        corners: p.corners,
+        passes: p.passes,
+        stage,
     }
 }
 
@@ -84,23 +97,24 @@ fn with_cell_size(p: Progress, bits: u32) -> Progress
         settings,
         corners: p.corners,
         passes: p.passes,
+        stage: p.stage,
     }
 }
 
 // The axes are said.
-fn with_axes(p: Progress, a: HeldAxes) -> Progress
-    requires { ⌜ TameAxes a ⌝ }
-    ensures { λ r. ⌜ r ≡ withAxes p a ⌝ }
+fn with_axes(p: Progress, v: [u32; 5]) -> Progress
+    requires { ⌜ TameAxes v ⌝ }
+    ensures { λ r. ⌜ r ≡ withAxes p v ⌝ }
 {
     let settings = p.settings;
     let before = settings.grid;
     let axis_i = Vector {
-        x: float_of(a.ix),
-        y: float_of(a.iy),
+        x: float_of(v[0]),
+        y: float_of(v[1]),
     };
     let axis_j = Vector {
-        x: float_of(a.jx),
-        y: float_of(a.jy),
+        x: float_of(v[2]),
+        y: float_of(v[3]),
     };
     let grid = Grid {
         axis_i,
@@ -115,6 +129,7 @@ fn with_axes(p: Progress, a: HeldAxes) -> Progress
         settings,
         corners: p.corners,
         passes: p.passes,
+        stage: p.stage,
     }
 }
 
@@ -133,6 +148,20 @@ fn with_band(p: Progress, bits: u32) -> Progress
         settings,
         corners: p.corners,
         passes: p.passes,
+        stage: p.stage,
+    }
+}
+
+// A line of the opening is said.
+fn with_opening(p: Progress, kind: OpeningKind, values: [u32; 5]) -> Progress
+    requires { ⌜ TameOpening kind values ⌝ }
+    ensures { λ r. ⌜ r ≡ withOpening kind p values ⌝ }
+{
+    match kind {
+        OpeningKind::Frame => p,
+        OpeningKind::CellSize => with_cell_size(p, values[0]),
+        OpeningKind::Axes => with_axes(p, values),
+        OpeningKind::Band => with_band(p, values[0]),
     }
 }
 
@@ -146,6 +175,7 @@ fn with_corner(p: Progress) -> Progress
         settings,
         corners: p.corners + 1,
         passes: p.passes,
+        stage: p.stage,
     }
 }
 
@@ -159,6 +189,7 @@ fn with_pass(p: Progress) -> Progress
         settings,
         corners: p.corners,
         passes: p.passes + 1,
+        stage: p.stage,
     }
 }
 
@@ -168,19 +199,19 @@ fn put_corner(
     ys: &mut [f32; 1024],
     pitches: &mut [f32; 1024],
     n: usize,
-    c: HeldCorner,
+    v: [u32; 5],
 )
-    requires { ⌜ CornerFits n c ⌝ }
-    ensures { λ _. ⌜ CornerPut n c (now (xs .entry)) (now (ys .entry)) (now (pitches .entry)) (now (xs .exit)) (now (ys .exit)) (now (pitches .exit)) ⌝ }
+    requires { ⌜ CornerFits n v ⌝ }
+    ensures { λ _. ⌜ CornerPut n v (now (xs .entry)) (now (ys .entry)) (now (pitches .entry)) (now (xs .exit)) (now (ys .exit)) (now (pitches .exit)) ⌝ }
 {
-    xs[n] = float_of(c.x);
-    ys[n] = float_of(c.y);
-    pitches[n] = float_of(c.pitch);
+    xs[n] = float_of(v[0]);
+    ys[n] = float_of(v[1]);
+    pitches[n] = float_of(v[2]);
 }
 
 // A label is written: its corner to the sheet, and that the corner is used.
 fn put_label(sheet: &mut [u16; 16384], used: &mut [u8; 1024], label: HeldLabel)
-    requires { ⌜ LabelFits (now sheet) label ⌝ }
+    requires { ⌜ LabelRoom (now sheet) label ⌝ }
     ensures { λ _. ⌜ LabelPut label (now (sheet .entry)) (now (used .entry)) (now (sheet .exit)) (now (used .exit)) ⌝ }
 {
     let corner = label.corner;
@@ -188,86 +219,69 @@ fn put_label(sheet: &mut [u16; 16384], used: &mut [u8; 1024], label: HeldLabel)
     used[corner] = 1;
 }
 
-// The numbers of bare grow: 0.35, 1.5 and 2.0.
-fn bare_grow() -> HeldGrow
-    ensures { λ r. ⌜ r ≡ bareGrow ⌝ }
-{
-    HeldGrow {
-        search: 0x3eb3_3333,
-        factor: 0x3fc0_0000,
-        boundary: 0x4000_0000,
-    }
-}
+// The numbers of bare grow, 0.35, 1.5 and 2.0, and of bare fill, 0.35, 1.5 and 1, as they are held.
+const BARE_GROW: [u32; 5] = [0x3eb3_3333, 0x3fc0_0000, 0x4000_0000, 0, 0];
 
-// The numbers of bare fill: 0.35, 1.5 and 1.
-fn bare_fill() -> HeldFill
-    ensures { λ r. ⌜ r ≡ bareFill ⌝ }
-{
-    HeldFill {
-        search: 0x3eb3_3333,
-        factor: 0x3fc0_0000,
-        rounds: 1,
-    }
-}
+const BARE_FILL: [u32; 5] = [0x3eb3_3333, 0x3fc0_0000, 1_000_001, 0, 0];
 
-fn grow_words(p: HeldGrow) -> PassWords
-    ensures { λ r. ⌜ r ≡ growWords p ⌝ }
+fn grow_words(v: [u32; 5]) -> PassWords
+    ensures { λ r. ⌜ r ≡ growWords v ⌝ }
 {
     PassWords {
         kind: 0,
-        search: p.search,
-        factor: p.factor,
-        reach: p.boundary,
+        search: v[0],
+        factor: v[1],
+        reach: v[2],
         rounds: 0,
         depth: 0,
     }
 }
 
-fn fill_words(p: HeldFill) -> PassWords
-    ensures { λ r. ⌜ r ≡ fillWords p ⌝ }
+fn fill_words(v: [u32; 5]) -> PassWords
+    ensures { λ r. ⌜ r ≡ fillWords v ⌝ }
 {
     PassWords {
         kind: 1,
-        search: p.search,
-        factor: p.factor,
+        search: v[0],
+        factor: v[1],
         reach: 0,
-        rounds: p.rounds,
+        rounds: count_of(v[2]),
         depth: 0,
     }
 }
 
-fn local_words(p: HeldLocal) -> PassWords
-    ensures { λ r. ⌜ r ≡ localWords p ⌝ }
+fn local_words(v: [u32; 5]) -> PassWords
+    ensures { λ r. ⌜ r ≡ localWords v ⌝ }
 {
     PassWords {
         kind: 2,
-        search: p.search,
-        factor: p.factor,
-        reach: p.residual,
-        rounds: p.rounds,
-        depth: p.depth,
+        search: v[0],
+        factor: v[1],
+        reach: v[3],
+        rounds: count_of(v[2]),
+        depth: count_of(v[4]),
     }
 }
 
 // The words of a pass line, with the numbers of a bare one.
-fn words_of(pass: HeldPass) -> PassWords
-    ensures { λ r. ⌜ r ≡ wordsOf pass ⌝ }
+fn words_of(kind: PassKind, v: [u32; 5]) -> PassWords
+    ensures { λ r. ⌜ r ≡ wordsIn kind v ⌝ }
 {
-    match pass {
-        HeldPass::BareGrow => grow_words(bare_grow()),
-        HeldPass::Grow(p) => grow_words(p),
-        HeldPass::BareFill => fill_words(bare_fill()),
-        HeldPass::Fill(p) => fill_words(p),
-        HeldPass::Local(p) => local_words(p),
+    match kind {
+        PassKind::BareGrow => grow_words(BARE_GROW),
+        PassKind::Grow => grow_words(v),
+        PassKind::BareFill => fill_words(BARE_FILL),
+        PassKind::Fill => fill_words(v),
+        PassKind::Local => local_words(v),
     }
 }
 
 // The words of the pass m are written.
-fn put_pass(passes: &mut [u32; 96], m: usize, pass: HeldPass)
+fn put_pass(passes: &mut [u32; 96], m: usize, kind: PassKind, v: [u32; 5])
     requires { ⌜ m < 16 ⌝ }
-    ensures { λ _. ⌜ now (passes .exit) ≡ wordsPut m (wordsOf pass) (now (passes .entry)) ⌝ }
+    ensures { λ _. ⌜ now (passes .exit) ≡ wordsPut m (wordsIn kind v) (now (passes .entry)) ⌝ }
 {
-    let words = words_of(pass);
+    let words = words_of(kind, v);
     let at = 6 * m;
     passes[at] = words.kind;
     passes[at + 1] = words.search;
@@ -288,25 +302,23 @@ pub fn add_line(
     passes: &mut [u32; 96],
     line: HeldLine,
 ) -> Progress
-    requires { ⌜ LineFits p (arrays (now xs) (now ys) (now pitches) (now sheet) (now used) (now passes)) line ⌝ }
+    requires { ⌜ Addable p (arrays (now xs) (now ys) (now pitches) (now sheet) (now used) (now passes)) line ⌝ }
     ensures { λ r. ⌜ state r (arrays (now (xs .exit)) (now (ys .exit)) (now (pitches .exit)) (now (sheet .exit)) (now (used .exit)) (now (passes .exit))) ≡ adds line (state p (arrays (now (xs .entry)) (now (ys .entry)) (now (pitches .entry)) (now (sheet .entry)) (now (used .entry)) (now (passes .entry)))) ⌝ }
 {
-    match line {
-        HeldLine::IllFormed => p,
-        HeldLine::Frame => p,
-        HeldLine::CellSize(bits) => with_cell_size(p, bits),
-        HeldLine::Axes(a) => with_axes(p, a),
-        HeldLine::Band(bits) => with_band(p, bits),
-        HeldLine::Corner(c) => {
-            put_corner(xs, ys, pitches, p.corners, c);
+    let kind = frame_line::kind_of(line.row);
+    let v = line.values;
+    match kind {
+        Kind::Opening(opening) => with_opening(p, opening, v),
+        Kind::Corner => {
+            put_corner(xs, ys, pitches, p.corners, v);
             with_corner(p)
         }
-        HeldLine::Label(l) => {
-            put_label(sheet, used, l);
+        Kind::Label => {
+            put_label(sheet, used, frame_line::label_of(v));
             p
         }
-        HeldLine::Pass(pass) => {
-            put_pass(passes, p.passes, pass);
+        Kind::Pass(pass) => {
+            put_pass(passes, p.passes, pass, v);
             with_pass(p)
         }
     }

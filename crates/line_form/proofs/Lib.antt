@@ -3,4 +3,8 @@ pub mod Decimal
 pub mod Laws
 pub mod Reading
 pub mod Writing
+pub mod Lines
+pub mod Ends
+pub mod Every
+pub mod Told
 pub mod Examples

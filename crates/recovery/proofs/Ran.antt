@@ -27,9 +27,9 @@ use Rattle.passes.specs.Run.{PassCall, Call, PassStats, growStats, fillStats, l
 use Rattle.invariants.specs.Calls.{Standing, checkedCall, afterCall}
 use Rattle.invariants.proofs.Run.{step-as, call-accepted, standing-after}
 use Rattle.frame_line.specs.Lines.{PassLine}
-use Rattle.frame.specs.Frame.{Frame, floatOf, readFrame, accepted}
+use Rattle.frame.specs.Frame.{Frame, partsOf, readFrame, accepted}
 use Rattle.frame.specs.Text.{WithinLimits}
-use Rattle.frame.specs.ReadFrame.{xsOf, sheetOf, settingsOf, FullPass, full-grow, full-fill, full-local, fullOf, passOf, wordsOf, allWords}
+use Rattle.frame.specs.ReadFrame.{floatOf, xsOf, sheetOf, settingsOf, FullPass, full-grow, full-fill, full-local, fullOf, passOf, wordsOf, allWords}
 use Rattle.frame_laws.specs.Calls.{cornersOf, passCall, callOf as frameCall, callsOf, NoneRefused}
 use Rattle.frame_laws.proofs.Back.{frame-prints-back}
 use Rattle.frame_laws.proofs.Runs.{accepted-runs}
@@ -296,32 +296,32 @@ said l (c ∷ cs) k sheet words none room t = go (step l sheet c) (answered l sh
 
 -- what the passes of an accepted frame leave
 abbrev pub ranOf : Frame → List ℕ → List ℕ → Left
-ranOf f passes₀ words₀ = leftByAll (cornersOf f) (callAt (settingsOf f) 4096 1024 (over (allWords (f .passes)) passes₀)) (length (f .passes)) 0 (left (sheetOf f) words₀)
+ranOf f passes₀ words₀ = leftByAll (cornersOf f) (callAt (settingsOf f) 4096 1024 (over (allWords (partsOf f .passes)) passes₀)) (length (partsOf f .passes)) 0 (left (sheetOf f) words₀)
 
 module _ (f : Frame) (w : WithinLimits f) (stands : Standing (cornersOf f) (sheetOf f)) (runs : NoneRefused (run (cornersOf f) (sheetOf f) (callsOf f))) where
-  as-many : length (xsOf f) ≡ length (f .corners)
+  as-many : length (xsOf f) ≡ length (partsOf f .corners)
   unfolding xsOf
-  as-many = length-map (f .corners) (λ c. floatOf (c .x))
+  as-many = length-map (partsOf f .corners) (λ c. floatOf (c .x))
 
-  as-many-calls : length (callsOf f) ≡ length (f .passes)
+  as-many-calls : length (callsOf f) ≡ length (partsOf f .passes)
   unfolding callsOf
-  as-many-calls = length-map (f .passes) (frameCall f)
+  as-many-calls = length-map (partsOf f .passes) (frameCall f)
 
   as-list : (passes₀ words₀ : List ℕ) → ranOf f passes₀ words₀ ≡ leftByList (cornersOf f) (callsOf f) 0 (left (sheetOf f) words₀)
   unfolding callsOf
-  as-list passes₀ words₀ = by-list f (drop (length (allWords (f .passes))) passes₀) [] _ (f .passes) 0 (left (sheetOf f) words₀) refl refl
+  as-list passes₀ words₀ = by-list f (drop (length (allWords (partsOf f .passes))) passes₀) [] _ (partsOf f .passes) 0 (left (sheetOf f) words₀) refl refl
 
   last-stands : Standing (cornersOf f) (frameSheet f)
   unfolding frameSheet
   last-stands = standing-after (cornersOf f) (sheetOf f) stands (callsOf f)
 
   record-so : (words₀ : List ℕ) → 144 ≤ length words₀ → (end : Left) → Said 0 (length (callsOf f)) words₀ (frameSheet f) (frameStats f) end
-      → Recorded f (length (f .corners)) (length (f .passes)) (end .sheet) (end .words)
+      → Recorded f (length (partsOf f .corners)) (length (partsOf f .passes)) (end .sheet) (end .words)
   unfolding statsFrom
   record-so words₀ long end a =
       let n = as-many-calls in
       let so : end .sheet ≡ frameSheet f = a .sheet-so in
-      let count : 0 + length (callsOf f) ≡ length (f .passes) = omega (arith, n) in
+      let count : 0 + length (callsOf f) ≡ length (partsOf f .passes) = omega (arith, n) in
       record {
         corner-count = refl;
         pass-count = refl;
@@ -336,14 +336,14 @@ module _ (f : Frame) (w : WithinLimits f) (stands : Standing (cornersOf f) (shee
         once = rw so (not-doubled _ (last-stands .one-cell));
       }
 
-  ran-so : (passes₀ words₀ : List ℕ) → 144 ≤ length words₀ → Recorded f (length (f .corners)) (length (f .passes)) (ranOf f passes₀ words₀ .sheet) (ranOf f passes₀ words₀ .words)
+  ran-so : (passes₀ words₀ : List ℕ) → 144 ≤ length words₀ → Recorded f (length (partsOf f .corners)) (length (partsOf f .passes)) (ranOf f passes₀ words₀ .sheet) (ranOf f passes₀ words₀ .words)
   unfolding frameSheet frameStats
   ran-so passes₀ words₀ long =
-      subst (λ (e : Left). Recorded f (length (f .corners)) (length (f .passes)) (e .sheet) (e .words)) (sym (as-list passes₀ words₀))
+      subst (λ (e : Left). Recorded f (length (partsOf f .corners)) (length (partsOf f .passes)) (e .sheet) (e .words)) (sym (as-list passes₀ words₀))
       (record-so words₀ long _ (said (cornersOf f) (callsOf f) 0 (sheetOf f) words₀ runs (omega (arith, as-many-calls, w .passes, long)) (λ i h. absurd (not-suc-le-zero h))))
 
 pub recorded : (text : List ℕ) (f : Frame) → readFrame text ≡ accepted f → (passes₀ words₀ : List ℕ) → 96 ≤ length passes₀ → 144 ≤ length words₀
-    → Recorded f (length (f .corners)) (length (f .passes)) (ranOf f passes₀ words₀ .sheet) (ranOf f passes₀ words₀ .words)
+    → Recorded f (length (partsOf f .corners)) (length (partsOf f .passes)) (ranOf f passes₀ words₀ .sheet) (ranOf f passes₀ words₀ .words)
 recorded text f e passes₀ words₀ six nine =
     let s = accepted-runs text f e in
     ran-so f (frame-prints-back text f e .within) (s .standing) (s .runs) passes₀ words₀ nine

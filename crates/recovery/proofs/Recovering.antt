@@ -12,9 +12,9 @@ use lib.Ieee.{Float}
 use Rattle.refusal.specs.declared.Refusal.{Refusal}
 use Rattle.arguments.specs.declared.Settings.{Settings}
 use Rattle.passes.specs.Step.{CornerLists, cornerLists}
-use Rattle.frame.specs.Frame.{Frame, FrameRead, refused-at, accepted, readFrame, floatOf}
+use Rattle.frame.specs.Frame.{Frame, partsOf, FrameRead, refused-at, accepted, readFrame}
 use Rattle.frame.specs.Text.{WithinLimits}
-use Rattle.frame.specs.ReadFrame.{xsOf, ysOf, pitchesOf, sheetOf, labelled, settingsOf, FullPass, full-grow, full-fill, full-local, fullOf, wordsOf, allWords, Buffers, FrameOut, frameOut, tooShort, leaves, unlessShort, readInto}
+use Rattle.frame.specs.ReadFrame.{floatOf, xsOf, ysOf, pitchesOf, sheetOf, labelled, settingsOf, FullPass, full-grow, full-fill, full-local, fullOf, wordsOf, allWords, Buffers, FrameOut, frameOut, tooShort, leaves, unlessShort, readInto}
 use Rattle.frame_line.specs.Lines.{CornerLine, LabelLine, PassLine}
 use Rattle.sheet.specs.Words.{emptySheet, attached}
 use Rattle.sheet.proofs.Words.{empty-length}
@@ -71,7 +71,7 @@ labelled-length sheet (l ∷ ls) = labelled-length (attached sheet (l .cell) (na
 
 sheet-length : (f : Frame) → length (sheetOf f) ≡ 16384
 unfolding sheetOf
-sheet-length f = labelled-length emptySheet (f .labels) ∙ empty-length
+sheet-length f = labelled-length emptySheet (partsOf f .labels) ∙ empty-length
 
 module _ (text : List ℕ) (xs ys pitches : List Float) (sheet passes : List ℕ) (room : FrameRoom xs ys pitches sheet passes) where
   abbrev lent : Buffers
@@ -99,7 +99,7 @@ module _ (text : List ℕ) (xs ys pitches : List Float) (sheet passes : List ℕ
         go : (a : FrameRead) → frameOut answer xs' ys' pitches' sheet' passes' ≡ leaves a lent → a ≡ refused-at r n
         go (refused-at r' n') w = let s : answer ≡ FrameAnswer.Refused r' n' = ap (λ (o : FrameOut). o .answer) w in cc
         go (accepted f) w =
-            absurd (let s : answer ≡ FrameAnswer.Accepted (record { settings = settingsOf f; corners = length (f .corners); passes = length (f .passes) }) = ap (λ (o : FrameOut). o .answer) w in
+            absurd (let s : answer ≡ FrameAnswer.Accepted (record { settings = settingsOf f; corners = length (partsOf f .corners); passes = length (partsOf f .passes) }) = ap (λ (o : FrameOut). o .answer) w in
             let z : _≡_ {A = ℕ} 0 1 = cc in omega arith)
 
     -- so a refused frame leaves all as it was
@@ -114,12 +114,12 @@ module _ (text : List ℕ) (xs ys pitches : List Float) (sheet passes : List ℕ
       pub frame : Frame
       pub is-accepted : readFrame text ≡ accepted frame
       pub within : WithinLimits frame
-      pub head-so : head ≡ record { settings = settingsOf frame; corners = length (frame .corners); passes = length (frame .passes) }
+      pub head-so : head ≡ record { settings = settingsOf frame; corners = length (partsOf frame .corners); passes = length (partsOf frame .passes) }
       pub xs-so : xs' ≡ over (xsOf frame) xs
       pub ys-so : ys' ≡ over (ysOf frame) ys
       pub pitches-so : pitches' ≡ over (pitchesOf frame) pitches
       pub sheet-so : sheet' ≡ over (sheetOf frame) sheet
-      pub passes-so : passes' ≡ over (allWords (frame .passes)) passes
+      pub passes-so : passes' ≡ over (allWords (partsOf frame .passes)) passes
 
     pub read-accepted : (head : FrameHead) → answer ≡ FrameAnswer.Accepted head → Read head
     read-accepted head t = go (readFrame text) refl (e ∙ into)
@@ -128,7 +128,7 @@ module _ (text : List ℕ) (xs ys pitches : List Float) (sheet passes : List ℕ
         go (refused-at r n) q w =
             absurd (let s : answer ≡ FrameAnswer.Refused r n = ap (λ (o : FrameOut). o .answer) w in let z : _≡_ {A = ℕ} 0 1 = cc in omega arith)
         go (accepted f) q w =
-            let s : answer ≡ FrameAnswer.Accepted (record { settings = settingsOf f; corners = length (f .corners); passes = length (f .passes) }) = ap (λ (o : FrameOut). o .answer) w in
+            let s : answer ≡ FrameAnswer.Accepted (record { settings = settingsOf f; corners = length (partsOf f .corners); passes = length (partsOf f .passes) }) = ap (λ (o : FrameOut). o .answer) w in
             record {
               frame = f;
               is-accepted = q;
@@ -144,8 +144,8 @@ module _ (text : List ℕ) (xs ys pitches : List Float) (sheet passes : List ℕ
     -- what running the passes of the accepted frame asks
     pub passes-ready : (head : FrameHead) → Read head → PassWords (head .passes) passes'
     passes-ready head w =
-        let lengths : length passes' ≡ length passes = ap length (w .passes-so) ∙ over-long (allWords (w .frame .passes)) passes (omega (arith, words-length (w .frame .passes), w .within .passes, room .passes-long)) in
-        let count : head .passes ≡ length (w .frame .passes) = ap (λ (h : FrameHead). h .passes) (w .head-so) in
+        let lengths : length passes' ≡ length passes = ap length (w .passes-so) ∙ over-long (allWords (partsOf (w .frame) .passes)) passes (omega (arith, words-length (partsOf (w .frame) .passes), w .within .passes, room .passes-long)) in
+        let count : head .passes ≡ length (partsOf (w .frame) .passes) = ap (λ (h : FrameHead). h .passes) (w .head-so) in
         record { few = omega (arith, count, w .within .passes); long = omega (arith, lengths, room .passes-long) }
 
     pub corners-ready : (head : FrameHead) → Read head → AtFront (head .corners) xs' ys' pitches'
@@ -153,21 +153,21 @@ module _ (text : List ℕ) (xs ys pitches : List Float) (sheet passes : List ℕ
     corners-ready head w =
         let f = w .frame in
         let few = w .within .corners in
-        let count : head .corners ≡ length (f .corners) = ap (λ (h : FrameHead). h .corners) (w .head-so) in
-        let a : length xs' ≡ length xs = ap length (w .xs-so) ∙ over-long (xsOf f) xs (omega (arith, length-map (f .corners) (λ (c : CornerLine). floatOf (c .x)), few, room .xs-long)) in
-        let b : length ys' ≡ length ys = ap length (w .ys-so) ∙ over-long (ysOf f) ys (omega (arith, length-map (f .corners) (λ (c : CornerLine). floatOf (c .y)), few, room .ys-long)) in
-        let d : length pitches' ≡ length pitches = ap length (w .pitches-so) ∙ over-long (pitchesOf f) pitches (omega (arith, length-map (f .corners) (λ (c : CornerLine). floatOf (c .pitch)), few, room .pitches-long)) in
+        let count : head .corners ≡ length (partsOf f .corners) = ap (λ (h : FrameHead). h .corners) (w .head-so) in
+        let a : length xs' ≡ length xs = ap length (w .xs-so) ∙ over-long (xsOf f) xs (omega (arith, length-map (partsOf f .corners) (λ (c : CornerLine). floatOf (c .x)), few, room .xs-long)) in
+        let b : length ys' ≡ length ys = ap length (w .ys-so) ∙ over-long (ysOf f) ys (omega (arith, length-map (partsOf f .corners) (λ (c : CornerLine). floatOf (c .y)), few, room .ys-long)) in
+        let d : length pitches' ≡ length pitches = ap length (w .pitches-so) ∙ over-long (pitchesOf f) pitches (omega (arith, length-map (partsOf f .corners) (λ (c : CornerLine). floatOf (c .pitch)), few, room .pitches-long)) in
         record { in-xs = omega (arith, count, a, few, room .xs-long); in-ys = omega (arith, count, b, few, room .ys-long); in-pitches = omega (arith, count, d, few, room .pitches-long) }
 
     corners-read : (head : FrameHead) (w : Read head) → cornerLists (take (head .corners) xs') (take (head .corners) ys') (take (head .corners) pitches') ≡ cornersOf (w .frame)
     unfolding xsOf ysOf pitchesOf
     corners-read head w =
         let f = w .frame in
-        let count : head .corners ≡ length (f .corners) = ap (λ (h : FrameHead). h .corners) (w .head-so) in
+        let count : head .corners ≡ length (partsOf f .corners) = ap (λ (h : FrameHead). h .corners) (w .head-so) in
         rw (w .xs-so, w .ys-so, w .pitches-so, count)
         (λ t.
-        cornerLists (front (λ (c : CornerLine). floatOf (c .x)) (f .corners) xs t) (front (λ (c : CornerLine). floatOf (c .y)) (f .corners) ys t)
-        (front (λ (c : CornerLine). floatOf (c .pitch)) (f .corners) pitches t))
+        cornerLists (front (λ (c : CornerLine). floatOf (c .x)) (partsOf f .corners) xs t) (front (λ (c : CornerLine). floatOf (c .y)) (partsOf f .corners) ys t)
+        (front (λ (c : CornerLine). floatOf (c .pitch)) (partsOf f .corners) pitches t))
 
     sheet-read : (head : FrameHead) (w : Read head) → sheet' ≡ sheetOf (w .frame)
     sheet-read head w = w .sheet-so ∙ over-whole (sheetOf (w .frame)) sheet (sheet-length (w .frame) ∙ sym (room .sheet-whole))
@@ -185,23 +185,23 @@ module _ (text : List ℕ) (xs ys pitches : List Float) (sheet passes : List ℕ
     recovered head w queue places words r before after g =
         recovers f (head .corners) (head .passes) (w .is-accepted)
         (subst (λ (n : ℕ). Recorded f n (head .passes) (after .frame .sheet) (after .words)) (sym corners-so)
-        (subst (λ (m : ℕ). Recorded f (length (f .corners)) m (after .frame .sheet) (after .words)) (sym passes-count)
-        (subst (λ (s : Left). Recorded f (length (f .corners)) (length (f .passes)) (s .sheet) (s .words)) (sym so)
+        (subst (λ (m : ℕ). Recorded f (length (partsOf f .corners)) m (after .frame .sheet) (after .words)) (sym passes-count)
+        (subst (λ (s : Left). Recorded f (length (partsOf f .corners)) (length (partsOf f .passes)) (s .sheet) (s .words)) (sym so)
         (recorded text f (w .is-accepted) passes words (room .passes-long) (r .words-long)))))
       where
         f : Frame
         f = w .frame
 
-        corners-so : head .corners ≡ length (f .corners)
+        corners-so : head .corners ≡ length (partsOf f .corners)
         corners-so = ap (λ (h : FrameHead). h .corners) (w .head-so)
 
-        passes-count : head .passes ≡ length (f .passes)
+        passes-count : head .passes ≡ length (partsOf f .passes)
         passes-count = ap (λ (h : FrameHead). h .passes) (w .head-so)
 
         settings-so : head .settings ≡ settingsOf f
         settings-so = ap (λ (h : FrameHead). h .settings) (w .head-so)
 
-        so : left (after .frame .sheet) (after .words) ≡ leftByAll (cornersOf f) (callAt (settingsOf f) 4096 1024 (over (allWords (f .passes)) passes)) (length (f .passes)) 0 (left (sheetOf f) words)
+        so : left (after .frame .sheet) (after .words) ≡ leftByAll (cornersOf f) (callAt (settingsOf f) 4096 1024 (over (allWords (partsOf f .passes)) passes)) (length (partsOf f .passes)) 0 (left (sheetOf f) words)
         so =
             g
             ∙ same words (corners-read head w) settings-so (r .queue-whole) (r .attached-whole) (w .passes-so) passes-count (sheet-read head w)

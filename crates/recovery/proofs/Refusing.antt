@@ -14,7 +14,8 @@ use Rattle.line_form.specs.Lengths.{Short, slots}
 use Rattle.line_form.specs.Written.{unheldWhole, unheldNumber, unheld, formText, Wrote}
 use Rattle.line_form.proofs.Laws.{printed-length}
 use Rattle.report_line.specs.Result.{count}
-use Rattle.frame.specs.Frame.{longer, onto, linesOf, FrameRead, refused-at, accepted, readFrame}
+use Rattle.line_form.specs.Lines.{longer, onto, linesOf}
+use Rattle.frame.specs.Frame.{FrameRead, refused-at, accepted, readFrame}
 use Rattle.frame.specs.Text.{Refused, too-long, at-line, missing}
 use Rattle.frame_laws.proofs.Refusals.{refusals-mean}
 use Rattle.recovery.specs.Answer.{refusedText}

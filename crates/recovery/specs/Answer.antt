@@ -13,7 +13,7 @@ use Rattle.arguments.specs.Arguments.{unknownCorner, doubledCorner}
 use Rattle.line_form.specs.Forms.{bytes, printed}
 use Rattle.passes.specs.Outcome.{After, Outcome, refused, done}
 use Rattle.passes.specs.Run.{PassStats, run, sheetOf as sheetAfterAll}
-use Rattle.frame.specs.Frame.{Frame, FrameRead, refused-at, accepted, readFrame}
+use Rattle.frame.specs.Frame.{Frame, partsOf, FrameRead, refused-at, accepted, readFrame}
 use Rattle.frame.specs.ReadFrame.{sheetOf, Buffers}
 use Rattle.frame_laws.specs.Calls.{cornersOf, callsOf}
 use Rattle.report_line.specs.Result.{count, resultText, resultFrom, Piece, resultPiece, lineCount}
@@ -52,8 +52,8 @@ answerText text = answerOf (readFrame text)
 -- ---- what is known when the passes have run: the words and the sheet say what the definition says, and the printer refuses neither
 
 pub record Recorded (f : Frame) (corners passes : ℕ) (sheet words : List ℕ) : Type 0 where
-  pub corner-count : corners ≡ length (f .corners)
-  pub pass-count : passes ≡ length (f .passes)
+  pub corner-count : corners ≡ length (partsOf f .corners)
+  pub pass-count : passes ≡ length (partsOf f .passes)
   pub few-corners : corners ≤ 1024
   pub few-passes : passes ≤ 16
   pub words-long : 9 * passes ≤ length words

@@ -1,20 +1,21 @@
 -- `frame::read_lines` meets its contract: a line a turn, and what is left leads where the whole text does. Assumes nothing.
+use mathlib.Core.Path.{refl, sym, _∙_}
 use Prim.Native.Nat.{_-_, _<_, _≤_}
 use native.Mathlib.Omega.{arith}
 use lib.ListN.{length}
 use Rattle.frame_state.specs.State.{arrays}
-use Rattle.frame.proofs.Lines.{end-after, end-inside}
+use Rattle.line_form.proofs.Lines.{end-after, end-inside}
 use Rattle.frame.proofs.Turn.{Turning, turning-start, turn-room, turn-stopped, turn-onward, end-missing, end-whole}
 use borrow.Author.Needs.{needs}
 use Rattle.frame.proofs.read_lines.Statement.{statement}
 use Rattle.frame.proofs.read_lines.Tie as tie
 
 abbrev Inv-loop : tie.InvT-loop
-Inv-loop text xs₀ ys₀ pitches₀ sheet₀ used₀ passes₀ p₀ stage₀ n₀ at₀ xs ys pitches sheet used passes p stage n at =
-    Turning text p stage n at (arrays xs ys pitches sheet used passes)
+Inv-loop text xs₀ ys₀ pitches₀ sheet₀ used₀ passes₀ p₀ n₀ at₀ xs ys pitches sheet used passes p n at =
+    Turning text p n at (arrays xs ys pitches sheet used passes)
 
 abbrev μ-loop : tie.MeasureT-loop
-μ-loop text xs₀ ys₀ pitches₀ sheet₀ used₀ passes₀ p₀ stage₀ n₀ at₀ xs ys pitches sheet used passes p stage n at =
+μ-loop text xs₀ ys₀ pitches₀ sheet₀ used₀ passes₀ p₀ n₀ at₀ xs ys pitches sheet used passes p n at =
     length text - at
 
 -- the line has bytes, and its end lies in the text
@@ -28,7 +29,7 @@ start-requires : tie.Need-start-requires Inv-loop μ-loop
 start-requires c κs = tt
 
 loop-holds : tie.Need-loop-holds Inv-loop μ-loop
-loop-holds c = rw (c .start .ensures) (turning-start _ _ _ (c .before .before .pre))
+loop-holds c = rw (c .start .ensures) (turning-start _ _ _ refl (c .before .before .pre))
 
 line-end-requires : tie.Need-line-end-requires Inv-loop μ-loop
 line-end-requires c κs = c .before .loop .inv .inside
@@ -61,13 +62,16 @@ loop-less : tie.Need-loop-less Inv-loop μ-loop
 loop-less c = omega (arith, after (c .before .before .before .before .before .before .before .before .before .before .before), inside (c .before .before .before .before .before .before .before .before .before .before .before))
 
 loop-again : tie.Need-loop-again Inv-loop μ-loop
-loop-again c = turn-onward (c .before .before .before .before .before .before .before .before .before .before .before .before .before .loop .inv) (c .before .before .before .before .before .before .before .before .before .before .before .before .loop-test .taken) _ (c .before .before .before .before .before .before .before .before .before .before .before .line-end .ensures) _ _ (c .before .before .before .step-line .ensures) _ _ (c .before .stepped2 .given .1)
+loop-again c = turn-onward (c .before .before .before .before .before .before .before .before .before .before .before .before .before .loop .inv) (c .before .before .before .before .before .before .before .before .before .before .before .before .loop-test .taken) _ (c .before .before .before .before .before .before .before .before .before .before .before .line-end .ensures) _ _ (c .before .before .before .step-line .ensures) _ (c .before .stepped2 .given .1)
+
+may-end-requires : tie.Need-may-end-requires Inv-loop μ-loop
+may-end-requires c κs = search needs
 
 returns-2 : tie.Need-returns-2 Inv-loop μ-loop
-returns-2 c = end-missing (c .before .before .loop .inv) (c .before .loop-test .left) (c .if1 .taken)
+returns-2 c = end-whole (c .before .before .before .loop .inv) (c .before .before .loop-test .left) (sym (c .before .may-end .ensures) ∙ c .if1 .taken)
 
 returns-3 : tie.Need-returns-3 Inv-loop μ-loop
-returns-3 c = end-whole (c .before .before .loop .inv) (c .before .loop-test .left) (c .if1 .left)
+returns-3 c = end-missing (c .before .before .before .loop .inv) (c .before .before .loop-test .left) (sym (c .before .may-end .ensures) ∙ c .if1 .left)
 
 pub read-lines-spec : {M : Type 1} → statement M
 read-lines-spec =
@@ -88,5 +92,6 @@ read-lines-spec =
     add-n
     loop-less
     loop-again
+    may-end-requires
     returns-2
     returns-3)

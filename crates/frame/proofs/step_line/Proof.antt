@@ -1,5 +1,5 @@
--- `frame::step_line` meets its contract: the line is read, checked and added. Assumes nothing.
-use Rattle.frame.proofs.Turn.{step-stopped, step-fits, step-onward}
+-- `frame::step_line` meets its contract: the line is read, checked in its turn and added. Assumes nothing.
+use Rattle.frame.proofs.Turn.{step-no, step-row, step-stopped, step-addable, step-onward}
 use borrow.Author.Needs.{needs}
 use Rattle.frame.proofs.step_line.Statement.{statement}
 use Rattle.frame.proofs.step_line.Tie as tie
@@ -7,40 +7,52 @@ use Rattle.frame.proofs.step_line.Tie as tie
 read-line-requires : tie.Need-read-line-requires
 read-line-requires c κs = search needs
 
-check-line-requires : tie.Need-check-line-requires
-check-line-requires c κs = search needs
-
-enum-known-checked : tie.Need-enum-known-checked
-enum-known-checked c = search needs
+turn-at-requires : tie.Need-turn-at-requires
+turn-at-requires c κs = search needs
 
 enum-told : tie.Need-enum-told
 enum-told c = search needs
 
+enum-known-turn : tie.Need-enum-known-turn
+enum-known-turn c = search needs
+
+check-line-requires : tie.Need-check-line-requires
+check-line-requires c κs = record { few = c .before .before .before .before .before .before .before .before .pre .few; row-fits = step-row _ _ _ _ (c .before .before .before .before .before .turn-at .ensures) (c .before .before .before .turn .given .1) }
+
+enum-known-checked : tie.Need-enum-known-checked
+enum-known-checked c = search needs
+
+enum-told-2 : tie.Need-enum-told-2
+enum-told-2 c = search needs
+
 add-line-requires : tie.Need-add-line-requires
-add-line-requires c κs = step-fits _ _ _ _ _ (c .before .before .before .before .before .before .before .before .check-line .ensures) (c .before .before .before .before .before .before .before .before .before .before .before .before .before .pre) (c .before .before .before .before .before .before .enum-told .given .1)
+add-line-requires c κs = step-addable _ _ _ _ (c .before .before .before .before .before .before .before .before .before .before .before .before .before .before .turn-at .ensures) _ (c .before .before .before .before .before .before .before .before .before .before .before .before .turn .given .1) _ (c .before .before .before .before .before .before .before .before .check-line .ensures) (c .before .before .before .before .before .before .before .before .before .before .before .before .before .before .before .before .before .pre) (c .before .before .before .before .before .before .enum-told2 .given .1)
 
-rank-of-requires : tie.Need-rank-of-requires
-rank-of-requires c κs = search needs
-
-stage-after-requires : tie.Need-stage-after-requires
-stage-after-requires c κs = search needs
+at-stage-requires : tie.Need-at-stage-requires
+at-stage-requires c κs = search needs
 
 returns : tie.Need-returns
-returns c = rw (← c .before .before .before .before .before .before .read-line .ensures) (step-stopped _ _ _ _ _ (c .before .before .before .check-line .ensures) _ (c .before .checked .given .1))
+returns c = rw (← c .before .before .before .read-line .ensures) (step-no _ _ _ _ (c .before .before .turn-at .ensures) (c .enum-told .given .1))
 
 returns-2 : tie.Need-returns-2
-returns-2 c = rw (← c .before .before .before .before .before .before .before .before .before .before .before .before .before .before .read-line .ensures) (step-onward _ _ _ _ _ (c .before .before .before .before .before .before .before .before .before .before .before .check-line .ensures) (c .before .before .before .before .before .before .before .before .before .enum-told .given .1) _ _ (c .stage-after .ensures) (c .before .rank-of .ensures) _ _ (c .before .before .add-line .ensures))
+returns-2 c = rw (← c .before .before .before .before .before .before .before .before .before .before .read-line .ensures) (step-stopped _ _ _ _ (c .before .before .before .before .before .before .before .before .before .turn-at .ensures) _ (c .before .before .before .before .before .before .before .turn .given .1) _ (c .before .before .before .check-line .ensures) _ (c .before .checked .given .1))
+
+returns-3 : tie.Need-returns-3
+returns-3 c = rw (← c .before .before .before .before .before .before .before .before .before .before .before .before .before .before .before .before .before .read-line .ensures) (step-onward _ _ _ _ (c .before .before .before .before .before .before .before .before .before .before .before .before .before .before .before .before .turn-at .ensures) _ (c .before .before .before .before .before .before .before .before .before .before .before .before .before .before .turn .given .1) _ (c .before .before .before .before .before .before .before .before .before .before .check-line .ensures) (c .before .before .before .before .before .before .before .before .enum-told2 .given .1) _ _ _ (c .before .add-line .ensures) (c .at-stage .ensures))
 
 pub step-line-spec : {M : Type 1} → statement M
 step-line-spec =
     tie.close
     (tie.spec
     read-line-requires
+    turn-at-requires
+    enum-told
+    enum-known-turn
     check-line-requires
     enum-known-checked
-    enum-told
+    enum-told-2
     add-line-requires
-    rank-of-requires
-    stage-after-requires
+    at-stage-requires
     returns
-    returns-2)
+    returns-2
+    returns-3)

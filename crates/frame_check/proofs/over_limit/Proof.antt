@@ -1,9 +1,12 @@
--- `frame_check::over_limit` meets its contract, by the line. Assumes nothing.
-use mathlib.Core.Path.{sym, ap}
+-- `frame_check::over_limit` meets its contract, by the kind. Assumes nothing.
 use Rattle.frame_check.specs.Checks.{overLimit}
+use Rattle.frame_check.proofs.Laws.{by-kind}
 use borrow.Author.Needs.{needs}
 use Rattle.frame_check.proofs.over_limit.Statement.{statement}
 use Rattle.frame_check.proofs.over_limit.Tie as tie
+
+kind-of-requires : tie.Need-kind-of-requires
+kind-of-requires c κs = search needs
 
 enum-told : tie.Need-enum-told
 enum-told c = search needs
@@ -17,67 +20,32 @@ enum-told-3 c = search needs
 enum-told-4 : tie.Need-enum-told-4
 enum-told-4 c = search needs
 
-enum-told-5 : tie.Need-enum-told-5
-enum-told-5 c = search needs
-
-enum-told-6 : tie.Need-enum-told-6
-enum-told-6 c = search needs
-
-enum-told-7 : tie.Need-enum-told-7
-enum-told-7 c = search needs
-
-enum-told-8 : tie.Need-enum-told-8
-enum-told-8 c = search needs
-
 returns : tie.Need-returns
 unfolding overLimit
-returns c = sym (ap (overLimit _ _) (c .enum-told .given .1))
+returns c = by-kind (overLimit (c .before .before .before .args .corners) (c .before .before .before .args .passes)) (c .before .before .kind-of .ensures) (c .enum-told .given .1)
 
 returns-2 : tie.Need-returns-2
 unfolding overLimit
-returns-2 c = sym (ap (overLimit _ _) (c .enum-told2 .given .1))
+returns-2 c = by-kind (overLimit (c .before .before .before .args .corners) (c .before .before .before .args .passes)) (c .before .before .kind-of .ensures) (c .enum-told2 .given .1)
 
 returns-3 : tie.Need-returns-3
 unfolding overLimit
-returns-3 c = sym (ap (overLimit _ _) (c .enum-told3 .given .1))
+returns-3 c = by-kind (overLimit (c .before .before .before .args .corners) (c .before .before .before .args .passes)) (c .before .before .kind-of .ensures) (c .enum-told3 .given .1)
 
 returns-4 : tie.Need-returns-4
 unfolding overLimit
-returns-4 c = sym (ap (overLimit _ _) (c .enum-told4 .given .1))
-
-returns-5 : tie.Need-returns-5
-unfolding overLimit
-returns-5 c = sym (ap (overLimit _ _) (c .enum-told5 .given .1))
-
-returns-6 : tie.Need-returns-6
-unfolding overLimit
-returns-6 c = sym (ap (overLimit _ _) (c .enum-told6 .given .1))
-
-returns-7 : tie.Need-returns-7
-unfolding overLimit
-returns-7 c = sym (ap (overLimit _ _) (c .enum-told7 .given .1))
-
-returns-8 : tie.Need-returns-8
-unfolding overLimit
-returns-8 c = sym (ap (overLimit _ _) (c .enum-told8 .given .1))
+returns-4 c = by-kind (overLimit (c .before .before .before .args .corners) (c .before .before .before .args .passes)) (c .before .before .kind-of .ensures) (c .enum-told4 .given .1)
 
 pub over-limit-spec : {M : Type 1} → statement M
 over-limit-spec =
     tie.close
     (tie.spec
+    kind-of-requires
     enum-told
     enum-told-2
     enum-told-3
     enum-told-4
-    enum-told-5
-    enum-told-6
-    enum-told-7
-    enum-told-8
     returns
     returns-2
     returns-3
-    returns-4
-    returns-5
-    returns-6
-    returns-7
-    returns-8)
+    returns-4)
