@@ -143,7 +143,7 @@ list-factors = subst (FactorsAbove calls) (sym list-run) (ran local-above (was-n
 -- ---- the claims
 
 pub met : Met
-unfolding kindAt bitsAt wholeAt passLineOf opened adding partsFrom partsOf
+unfolding same kindAt bitsAt wholeAt passLineOf opened adding partsFrom partsOf
 met =
     record {
       first-read = first-read;
@@ -162,7 +162,7 @@ unfolding textIn told statsOf passLines passLine localSays growSays fillSays pri
 first-text = refl
 
 second-text : renumberedIn (numbers same) (statsOf outcomes) (fillLeft .sheet) ≡ secondResult
-unfolding renumberedIn numberedAnew told statsOf passLines passLine localSays growSays fillSays printed numberText integerText decimal decimalUpTo digits toBits ofBits cellOf labelOfNumber labelOf holeOf ambiguousOf
+unfolding same renumberedIn numberedAnew told statsOf passLines passLine localSays growSays fillSays printed numberText integerText decimal decimalUpTo digits toBits ofBits cellOf labelOfNumber labelOf holeOf ambiguousOf
 second-text = refl
 
 first-said : answerText firstText ≡ firstResult

@@ -72,6 +72,6 @@ same-lines =
     below (λ k. cornerLine secondFrame (pairs .to k) ≡ cornerLine firstFrame k) 10
     ((((((((((tt, refl), refl), refl), refl), refl), refl), refl), refl), refl), refl)
 
-abbrev pub same : SameButOrder firstFrame secondFrame
+unfoldable pub same : SameButOrder firstFrame secondFrame
 unfolding kindAt bitsAt wholeAt passLineOf opened adding partsFrom partsOf
 same = record { opening = refl; count = refl; pairs = pairs; same-line = same-lines; labels = refl; passes = refl }
