@@ -26,7 +26,7 @@ use Rattle.predict.specs.Predict.{neighbourOffsets, putBefore, labelledAmong, n
 use Rattle.extension_common.specs.TryCell.{choiceBy}
 use Rattle.passes.specs.Grow.{member, radiusOf, searchOf}
 use Rattle.passes.specs.Fill.{cellsOf, fillSearch, fillLimit}
-use Rattle.passes.specs.Local.{depthOf, rowAmong, columnAmong, localRegion, nearer, placed, byReach, cellPoint, picturedAt, residualOf, residualsOf, allFinite as allFiniteResiduals, trusted, worst, recorded, recordedAll, localSearch, localLimit}
+use Rattle.passes.specs.Local.{depthOf, rowAmong, columnAmong, localRegion, nearer, placed, byReach, cellPoint, picturedAt, residualOf, residualsOf, trusted, worst, recorded, recordedAll, localSearch, localLimit}
 use Rattle.passes.specs.Run.{PassStats, growStats, fillStats, localStats}
 use Rattle.passes.specs.declared.LargestResidual.{LargestResidual}
 use Rattle.frame_line.specs.Lines.{PassLine}
@@ -103,7 +103,7 @@ abbrev pub after : PassLine → List Written → AfterIn PassStats
 after p w = afterPassIn (cornersOf firstFrame) w (callOf firstFrame p .settings) (callOf firstFrame p .pass)
 
 pub local-did : after localLine (givenIn firstFrame) ≡ localLeft
-unfolding ofBits ofInt toBits add sub mul div neg lt le eq isFinite unitsOf reaches climb rooted table concatenated every allFinite largest swapped gained cleared eliminated rightSides carried answered mean distance scaleOf normalizationOf forward mapRow moved normalized equation equations backward multiplied undone quotients scaledOf applied onSheet placeOf cellOf labelOfNumber numberOfLabel bitOf labelOf holeOf ambiguousOf wordOf cornerOf seenThrough passing namesCorner isLabelled lowerOf higherOf widened names onRim rimAt eligible squaredDistance insert ordered candidatesAt firstTwo chooseWithFloor squaredDistance lengthOf meanPitch expectedLength inBand edgeOk cardinalOffsets edgeTo followedBy tried verdictOf passes choiceBy cellsOf depthOf rowAmong columnAmong localRegion nearer placed byReach cellPoint picturedAt residualOf residualsOf allFiniteResiduals trusted worst recorded recordedAll localSearch localLimit xsOf ysOf pitchesOf settingsOf fullOf passOf wordIn told anyIn labelIn putIn put gatheredIn edgesIn resultIn tryIn quickFitWith quickFitFrom quickFit localFitIn localWithIn localAtIn localVisitIn localAllIn localFromIn localAfterIn afterPassIn labelledIn
+unfolding ofBits ofInt toBits add sub mul div neg lt le eq isFinite unitsOf reaches climb rooted table concatenated every allFinite largest swapped gained cleared eliminated rightSides carried answered mean distance scaleOf normalizationOf forward mapRow moved normalized equation equations backward multiplied undone quotients scaledOf applied onSheet placeOf cellOf labelOfNumber numberOfLabel bitOf labelOf holeOf ambiguousOf wordOf cornerOf seenThrough passing namesCorner isLabelled lowerOf higherOf widened names onRim rimAt eligible squaredDistance insert ordered candidatesAt firstTwo chooseWithFloor squaredDistance lengthOf meanPitch expectedLength inBand edgeOk cardinalOffsets edgeTo followedBy tried verdictOf passes choiceBy cellsOf depthOf rowAmong columnAmong localRegion nearer placed byReach cellPoint picturedAt residualOf residualsOf trusted worst recorded recordedAll localSearch localLimit xsOf ysOf pitchesOf settingsOf fullOf passOf wordIn told anyIn labelIn putIn put gatheredIn edgesIn resultIn tryIn quickFitWith quickFitFrom quickFit localFitIn localWithIn localAtIn localVisitIn localAllIn localFromIn localAfterIn afterPassIn labelledIn
 local-did = refl
 
 pub grow-did : after growLine (localLeft .sheet) ≡ growLeft
