@@ -44,7 +44,7 @@ example-read = ap first examples-read
 
 -- the run and its text, computed
 computed : runText (frameRun meant) ≡ exampleResult
-unfolding ofBits ofInt toBits add sub mul div neg lt le eq digits isFinite unitsOf reaches climb rooted onSheet placeOf cellOf labelOfNumber numberOfLabel bitOf labelOf holeOf ambiguousOf wordOf cornerOf seenThrough namesCorner isLabelled names onRim rimAt eligible squaredDistance insert ordered candidatesAt firstTwo chooseUnambiguous squaredDistance lengthOf meanPitch expectedLength inBand edgeOk cardinalOffsets edgeTo followedBy tried verdictOf passes neighbourOffsets putBefore labelledAmong neighboursOf stepAt stepVector weighed withNeighbour sumsFrom noSums sumsOf meanOf predictionFrom predictionOf onSide anyOn hasNeighbour extrapolating choiceBy member radiusOf searchOf decimalUpTo decimal integerText numberText printed xsOf ysOf pitchesOf settingsOf fullOf passOf callsOf growLine passLine passLines statsOf wordIn told anyIn labelIn putIn put gatheredIn edgesIn resultIn tryIn enqueuedIn enqueuedAtIn seededFromIn growWithIn growAtIn growVisitIn growFromIn growRunIn growAfterIn afterPassIn runIn textIn labelledIn runText
+unfolding ofBits ofInt toBits add sub mul div neg lt le eq digits isFinite unitsOf reaches climb rooted onSheet placeOf cellOf labelOfNumber numberOfLabel bitOf labelOf holeOf ambiguousOf wordOf cornerOf seenThrough namesCorner isLabelled names onRim rimAt eligible squaredDistance insert ordered candidatesAt firstTwo chooseUnambiguous lengthOf meanPitch expectedLength inBand edgeOk cardinalOffsets edgeTo followedBy tried verdictOf passes neighbourOffsets putBefore labelledAmong neighboursOf stepAt stepVector weighed withNeighbour sumsFrom noSums sumsOf meanOf predictionFrom predictionOf onSide anyOn hasNeighbour extrapolating choiceBy member radiusOf searchOf decimalUpTo decimal integerText numberText printed xsOf ysOf pitchesOf settingsOf fullOf passOf callsOf growLine passLine passLines statsOf wordIn told anyIn labelIn putIn put gatheredIn edgesIn resultIn tryIn enqueuedIn enqueuedAtIn seededFromIn growWithIn growAtIn growVisitIn growFromIn growRunIn growAfterIn afterPassIn runIn textIn labelledIn runText
 computed = refl
 
 pub example-answered : ExampleAnswered

@@ -103,13 +103,13 @@ abbrev pub after : PassLine → List Written → AfterIn PassStats
 after p w = afterPassIn (cornersOf firstFrame) w (callOf firstFrame p .settings) (callOf firstFrame p .pass)
 
 pub local-did : after localLine (givenIn firstFrame) ≡ localLeft
-unfolding ofBits ofInt toBits add sub mul div neg lt le eq isFinite unitsOf reaches climb rooted table concatenated every allFinite largest swapped gained cleared eliminated rightSides carried answered mean distance scaleOf normalizationOf forward mapRow moved normalized equation equations backward multiplied undone quotients scaledOf applied onSheet placeOf cellOf labelOfNumber numberOfLabel bitOf labelOf holeOf ambiguousOf wordOf cornerOf seenThrough passing namesCorner isLabelled lowerOf higherOf widened names onRim rimAt eligible squaredDistance insert ordered candidatesAt firstTwo chooseWithFloor squaredDistance lengthOf meanPitch expectedLength inBand edgeOk cardinalOffsets edgeTo followedBy tried verdictOf passes choiceBy cellsOf depthOf rowAmong columnAmong localRegion nearer placed byReach cellPoint picturedAt residualOf residualsOf trusted worst recorded recordedAll localSearch localLimit xsOf ysOf pitchesOf settingsOf fullOf passOf wordIn told anyIn labelIn putIn put gatheredIn edgesIn resultIn tryIn quickFitWith quickFitFrom quickFit localFitIn localWithIn localAtIn localVisitIn localAllIn localFromIn localAfterIn afterPassIn labelledIn
+unfolding ofBits ofInt toBits add sub mul div neg lt le eq isFinite unitsOf reaches climb rooted table concatenated every allFinite largest swapped gained cleared eliminated rightSides carried answered mean distance scaleOf normalizationOf forward mapRow moved normalized equation equations backward multiplied undone quotients scaledOf applied onSheet placeOf cellOf labelOfNumber numberOfLabel bitOf labelOf holeOf ambiguousOf wordOf cornerOf seenThrough passing namesCorner isLabelled lowerOf higherOf widened names onRim rimAt eligible squaredDistance insert ordered candidatesAt firstTwo chooseWithFloor lengthOf meanPitch expectedLength inBand edgeOk cardinalOffsets edgeTo followedBy tried verdictOf passes choiceBy cellsOf depthOf rowAmong columnAmong localRegion nearer placed byReach cellPoint picturedAt residualOf residualsOf trusted worst recorded recordedAll localSearch localLimit xsOf ysOf pitchesOf settingsOf fullOf passOf wordIn told anyIn labelIn putIn put gatheredIn edgesIn resultIn tryIn quickFitWith quickFitFrom quickFit localFitIn localWithIn localAtIn localVisitIn localAllIn localFromIn localAfterIn afterPassIn labelledIn
 local-did = refl
 
 pub grow-did : after growLine (localLeft .sheet) ≡ growLeft
-unfolding ofBits ofInt toBits add sub mul div neg lt le eq isFinite unitsOf reaches climb rooted onSheet placeOf cellOf labelOfNumber numberOfLabel bitOf labelOf holeOf ambiguousOf wordOf cornerOf seenThrough namesCorner isLabelled names onRim rimAt eligible squaredDistance insert ordered candidatesAt firstTwo chooseUnambiguous squaredDistance lengthOf meanPitch expectedLength inBand edgeOk cardinalOffsets edgeTo followedBy tried verdictOf passes neighbourOffsets putBefore labelledAmong neighboursOf stepAt stepVector weighed withNeighbour sumsFrom noSums sumsOf meanOf predictionFrom predictionOf onSide anyOn hasNeighbour extrapolating choiceBy member radiusOf searchOf xsOf ysOf pitchesOf settingsOf fullOf passOf wordIn told anyIn labelIn putIn put gatheredIn edgesIn resultIn tryIn enqueuedIn enqueuedAtIn seededFromIn growWithIn growAtIn growVisitIn growFromIn growRunIn growAfterIn afterPassIn
+unfolding ofBits ofInt toBits add sub mul div neg lt le eq isFinite unitsOf reaches climb rooted onSheet placeOf cellOf labelOfNumber numberOfLabel bitOf labelOf holeOf ambiguousOf wordOf cornerOf seenThrough namesCorner isLabelled names onRim rimAt eligible squaredDistance insert ordered candidatesAt firstTwo chooseUnambiguous lengthOf meanPitch expectedLength inBand edgeOk cardinalOffsets edgeTo followedBy tried verdictOf passes neighbourOffsets putBefore labelledAmong neighboursOf stepAt stepVector weighed withNeighbour sumsFrom noSums sumsOf meanOf predictionFrom predictionOf onSide anyOn hasNeighbour extrapolating choiceBy member radiusOf searchOf xsOf ysOf pitchesOf settingsOf fullOf passOf wordIn told anyIn labelIn putIn put gatheredIn edgesIn resultIn tryIn enqueuedIn enqueuedAtIn seededFromIn growWithIn growAtIn growVisitIn growFromIn growRunIn growAfterIn afterPassIn
 grow-did = refl
 
 pub fill-did : after fillLine (growLeft .sheet) ≡ fillLeft
-unfolding ofBits ofInt toBits add sub mul div neg lt le eq isFinite unitsOf reaches climb rooted onSheet placeOf cellOf labelOfNumber numberOfLabel bitOf labelOf holeOf ambiguousOf wordOf cornerOf seenThrough passing namesCorner isLabelled lowerOf higherOf widened names onRim rimAt eligible squaredDistance insert ordered candidatesAt firstTwo chooseWithFloor squaredDistance lengthOf meanPitch expectedLength inBand edgeOk cardinalOffsets edgeTo followedBy tried verdictOf passes neighbourOffsets putBefore labelledAmong neighboursOf stepAt stepVector weighed withNeighbour sumsFrom noSums sumsOf meanOf predictionFrom predictionOf choiceBy cellsOf fillSearch fillLimit xsOf ysOf pitchesOf settingsOf fullOf passOf wordIn told anyIn labelIn putIn put gatheredIn edgesIn resultIn tryIn fillWithIn fillAtIn fillVisitIn fillAllIn fillFromIn fillAfterIn afterPassIn
+unfolding ofBits ofInt toBits add sub mul div neg lt le eq isFinite unitsOf reaches climb rooted onSheet placeOf cellOf labelOfNumber numberOfLabel bitOf labelOf holeOf ambiguousOf wordOf cornerOf seenThrough passing namesCorner isLabelled lowerOf higherOf widened names onRim rimAt eligible squaredDistance insert ordered candidatesAt firstTwo chooseWithFloor lengthOf meanPitch expectedLength inBand edgeOk cardinalOffsets edgeTo followedBy tried verdictOf passes neighbourOffsets putBefore labelledAmong neighboursOf stepAt stepVector weighed withNeighbour sumsFrom noSums sumsOf meanOf predictionFrom predictionOf choiceBy cellsOf fillSearch fillLimit xsOf ysOf pitchesOf settingsOf fullOf passOf wordIn told anyIn labelIn putIn put gatheredIn edgesIn resultIn tryIn fillWithIn fillAtIn fillVisitIn fillAllIn fillFromIn fillAfterIn afterPassIn
 fill-did = refl
