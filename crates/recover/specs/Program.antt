@@ -31,11 +31,12 @@ pub record Ran (outcome : Outcome) : Type 0 where
   pub read-so : Answers 65537 (standingAfter reads) input
   pub replied : Replied (bytesOf reads) input outcome
 
--- what went wrong: the input could not be read, or not all of the answer be written
+-- whether not all of the answer was written
 abbrev pub outputFault : Bool → Fault
 outputFault true = Fault.Output
 outputFault false = Fault.Nothing
 
+-- what went wrong: the input could not be read, or not all of the answer be written
 unfoldable pub faultOf : Outcome → Fault
 faultOf (Outcome.Answered said) = outputFault (ltb (said .next) (said .lines))
 faultOf Outcome.NotRead = Fault.Input
@@ -51,5 +52,6 @@ pub record Printed (bytes : List ℕ) (outcome : Outcome) : Type 0 where
   pub rest : List ℕ
   pub front : written bytes outcome ++ rest ≡ answerText bytes
 
+-- so it is of every run
 abbrev pub RanPrints : Type 0
 RanPrints = (outcome : Outcome) (r : Ran outcome) → Printed (bytesOf (r .reads)) outcome

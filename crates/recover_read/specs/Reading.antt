@@ -12,11 +12,12 @@ use Rattle.recover_read.specs.declared.Standing.{Standing}
 
 -- ---- one read
 
--- where errno is 4, EINTR, the read was interrupted, else it failed
+-- a read that answered -1 was interrupted, or it failed
 unfoldable pub noneBy : Bool → Got
 noneBy true = Got.Interrupted
 noneBy false = Got.Failed
 
+-- by errno, which is 4 (EINTR) where it was interrupted
 unfoldable pub noneFor : ℤ → Got
 noneFor (pos error) = noneBy (eqb error 4)
 noneFor (negsuc k) = Got.Failed
@@ -56,12 +57,14 @@ pub data Read : Type 0 where
   interrupted : Read
   failed : Read
 
+-- the same without them
 abbrev pub gotBy : Read → Got
 gotBy (some bytes) = Got.Bytes (length bytes)
 gotBy ended = Got.End
 gotBy interrupted = Got.Interrupted
 gotBy failed = Got.Failed
 
+-- a reading that is over stays so
 abbrev pub goOn : Standing → Got → Standing
 goOn (Standing.Reading at tries) got = readOn at tries got
 goOn (Standing.Over input) got = Standing.Over input
@@ -71,6 +74,7 @@ unfoldable pub standingAfter : List Read → Standing
 standingAfter [] = Standing.Reading 0 1000
 standingAfter (read ∷ reads) = goOn (standingAfter reads) (gotBy read)
 
+-- the bytes of one read
 abbrev pub bytesIn : Read → List ℕ
 bytesIn (some bytes) = bytes
 bytesIn ended = []

@@ -37,6 +37,7 @@ pub record SaidOf (lines : ℕ) (piece : ℕ → Piece) (r : Said) : Type 0 wher
 abbrev pub pieceFrom : List ℕ → ℕ → Piece
 pieceFrom text k = answerPiece (readFrame text) k 4096
 
+-- how far it was said
 abbrev pub Told : List ℕ → Said → Type 0
 Told text r = SaidOf (answerLines (readFrame text)) (pieceFrom text) r
 
@@ -46,14 +47,17 @@ pub record Prints (text : List ℕ) (r : Said) : Type 0 where
   pub front : textAfter (pieceFrom text) (r .pieces) ++ rest ≡ answerText text
   pub whole : r .lines ≤ r .next → textAfter (pieceFrom text) (r .pieces) ≡ answerText text
 
+-- so it is of every answer that was told so far
 abbrev pub ToldPrints : Type 0
 ToldPrints = (text : List ℕ) (r : Said) → Told text r → Prints text r
 
 -- ---- the same from what a run holds
 
+-- the pieces of what is held
 abbrev pub heldFrom : Recovered → List ℕ → List ℕ → ℕ → Piece
 heldFrom answer words sheet k = heldPiece answer words sheet k 4096
 
+-- how far it was said
 abbrev pub ToldOf : Recovered → List ℕ → List ℕ → Said → Type 0
 ToldOf answer words sheet r = SaidOf (heldLines answer) (heldFrom answer words sheet) r
 
@@ -61,11 +65,12 @@ ToldOf answer words sheet r = SaidOf (heldLines answer) (heldFrom answer words s
 abbrev pub PieceText : Recovered → List ℕ → List ℕ → ℕ → List ℕ → Type 0
 PieceText answer words sheet n text = text ≡ heldFrom answer words sheet (lineAfter (heldFrom answer words sheet) n) .text
 
--- a piece that was written is one more
+-- what became of a piece, by whether it was written, and n before it
 abbrev pub putOf : Bool → ℕ → Put
 putOf true n = Put.Written (n + 1)
 putOf false n = Put.Failed
 
+-- a piece that was written is one more
 abbrev pub PutSo : ℕ → Put → Type 0
 PutSo n (Put.Written more) = more ≡ n + 1
 PutSo n Put.Failed = Unit {0}

@@ -23,7 +23,7 @@ enum-told : tie.Need-enum-told
 enum-told c = search needs
 
 returns : tie.Need-returns
-returns c = whole-read _ (c .before .before .before .input .given .1) (c .answer .ensures)
+returns c = whole-read (now (c .before .before .before .before .before .before .args .buffer)) (c .before .before .before .input .given .1) (c .answer .ensures)
 
 returns-2 : tie.Need-returns-2
 returns-2 c = not-read (now (c .before .before .before .args .buffer)) (c .enum-told .given .1)
