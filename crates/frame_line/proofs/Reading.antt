@@ -8,7 +8,7 @@ use native.Mathlib.Omega.{arith}
 use lib.ListN.{drop, replicate}
 use Rattle.line_form.specs.Forms.{Fitted, misfit, fitted, fitOf}
 use Rattle.line_form.specs.Held.{heldUpTo, heldFit}
-use Rattle.line_form.specs.declared.read.Fit.{Fit}
+use Rattle.line_form.specs.declared.read.LineFit.{LineFit}
 use Rattle.frame_line.specs.Table.{rows, rowCount, rowAt, formAt}
 use Rattle.frame_line.specs.Lines.{LineRead, line, orElse, firstFit, readLine}
 use Rattle.frame_line.specs.Held.{heldRead}
@@ -28,16 +28,16 @@ turn : (k : ℕ) (text : List ℕ) → k < rowCount → firstFit k (drop k rows)
 unfolding firstFit formAt
 turn k text h = ap (λ (rs : List (List ℕ)). firstFit k rs text) (row-first k h)
 
-module _ (text : List ℕ) (k : ℕ) (s : Looking text k) (h : k < rowCount) (f : Fit) (e : f ≡ heldFit (fitOf (formAt k) text)) where
+module _ (text : List ℕ) (k : ℕ) (s : Looking text k) (h : k < rowCount) (f : LineFit) (e : f ≡ heldFit (fitOf (formAt k) text)) where
   pub looking-hit : f .found ≡ true → record { row = k; values = f .values } ≡ heldRead (readLine text)
   unfolding heldFit heldRead
   looking-hit t = go (fitOf (formAt k) text) e refl ∙ ap heldRead (sym (turn k text h) ∙ s .rest)
     where
       go : (it : Fitted) → f ≡ heldFit it → fitOf (formAt k) text ≡ it
           → record { row = k; values = f .values } ≡ heldRead (orElse k (fitOf (formAt k) text) (firstFit (suc k) (drop (suc k) rows) text))
-      go misfit g d = absurd (true≢false (sym t ∙ ap (λ (x : Fit). x .found) g))
+      go misfit g d = absurd (true≢false (sym t ∙ ap (λ (x : LineFit). x .found) g))
       go (fitted ns) g d =
-          ap (λ (x : Fit). record { row = k; values = x .values }) g
+          ap (λ (x : LineFit). record { row = k; values = x .values }) g
           ∙ ap (λ (it : Fitted). heldRead (orElse k it (firstFit (suc k) (drop (suc k) rows) text))) (sym d)
 
   pub looking-more : f .found ≡ false → Looking text (k + 1)
@@ -46,7 +46,7 @@ module _ (text : List ℕ) (k : ℕ) (s : Looking text k) (h : k < rowCount) (f 
     where
       go : (it : Fitted) → f ≡ heldFit it → fitOf (formAt k) text ≡ it → firstFit (suc k) (drop (suc k) rows) text ≡ readLine text
       go misfit g d = sym (turn k text h ∙ ap (λ (x : Fitted). orElse k x (firstFit (suc k) (drop (suc k) rows) text)) d) ∙ s .rest
-      go (fitted ns) g d = absurd (true≢false (sym (ap (λ (x : Fit). x .found) g) ∙ t))
+      go (fitted ns) g d = absurd (true≢false (sym (ap (λ (x : LineFit). x .found) g) ∙ t))
 
 none-left : (text : List ℕ) → record { row = rowCount; values = replicate 5 0 } ≡ heldRead (firstFit rowCount (drop rowCount rows) text)
 unfolding rows firstFit heldRead

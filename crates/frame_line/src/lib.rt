@@ -10,7 +10,7 @@ ghost use Rattle.frame_line.specs.Lines.{readLine};
 ghost use Rattle.frame_line.specs.Checks.{wildBits};
 ghost use Rattle.frame_line.specs.Held.{heldRead, countIn, cellIn, labelIn, beyond, outsideWord, outsideHeld};
 use binary32::ranges::Quantity;
-use line_form::read::Fit;
+use line_form::read::LineFit;
 use line_form::read::fit_line;
 use sheet::Cell;
 
@@ -177,7 +177,7 @@ fn byte_at(row: usize, i: usize) -> u8
 }
 
 // Whether a line has the form of a row, and its numbers.
-fn fit_row(row: usize, line: &[u8]) -> Fit
+fn fit_row(row: usize, line: &[u8]) -> LineFit
     requires { ⌜ row < rowCount ⌝ }
     ensures { λ r. ⌜ r ≡ heldFit (fitOf (formAt row) (now (line .entry))) ⌝ }
 {

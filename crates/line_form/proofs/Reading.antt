@@ -17,7 +17,7 @@ use Rattle.binary32.proofs.Digits.{digits-length, bits-written-read}
 use Rattle.line_form.specs.Integers.{Front, broken, front, isDigit, digitsAfter, readPositive, negated, mapped, readInteger}
 use Rattle.line_form.specs.Forms.{Number, bits, whole, numberText, Piece, no-piece, same, number, bitsPiece, wholePiece, bytePiece, pieceOf, Fitted, misfit, fitted, before, then, fitOf}
 use Rattle.line_form.specs.Held.{heldWhole, held, heldUpTo, heldFit, heldPiece, heldDigits, startsPositive, kept}
-use Rattle.line_form.specs.declared.read.Fit.{Fit}
+use Rattle.line_form.specs.declared.read.LineFit.{LineFit}
 use Rattle.line_form.specs.declared.read.Digits.{Digits}
 use Rattle.line_form.specs.declared.read.Taken.{Taken}
 use Rattle.line_form.specs.declared.read.Taken.the-variants.{Nothing, Byte, Number as Word}
@@ -313,7 +313,7 @@ unfoldable pub putAll : List ℕ → ℕ → List Number → List ℕ
 putAll vs k [] = vs
 putAll vs k (n ∷ ns) = putAll (kept vs k (held n)) (k + 1) ns
 
-unfoldable pub onward : List ℕ → ℕ → Fitted → Fit
+unfoldable pub onward : List ℕ → ℕ → Fitted → LineFit
 onward vs k misfit = heldFit misfit
 onward vs k (fitted ns) = record { found = true; values = putAll vs k ns }
 

@@ -7,7 +7,7 @@ use lib.Dec.{ltb, leb}
 use lib.ListN.{length, replicate, set}
 use Rattle.line_form.specs.Integers.{Front, broken, front}
 use Rattle.line_form.specs.Forms.{Number, bits, whole, Piece, no-piece, same, number, Fitted, misfit, fitted}
-use Rattle.line_form.specs.declared.read.Fit.{Fit}
+use Rattle.line_form.specs.declared.read.LineFit.{LineFit}
 use Rattle.line_form.specs.declared.read.Digits.{Digits}
 use Rattle.line_form.specs.declared.read.Taken.{Taken}
 use Rattle.line_form.specs.declared.read.Taken.the-variants.{Nothing, Byte, Number as Word}
@@ -29,7 +29,7 @@ heldUpTo (suc k) [] = 0 ∷ heldUpTo k []
 heldUpTo (suc k) (n ∷ ns) = held n ∷ heldUpTo k ns
 
 -- what `fit_line` answers: a line has up to five numbers
-unfoldable pub heldFit : Fitted → Fit
+unfoldable pub heldFit : Fitted → LineFit
 heldFit misfit = record { found = false; values = replicate 5 0 }
 heldFit (fitted ns) = record { found = true; values = heldUpTo 5 ns }
 

@@ -12,7 +12,7 @@ use binary32::hex::Bits;
 use binary32::hex::read_bits;
 
 // Whether a line has a form, and its numbers as they are held: zeros where it has not, and behind its last number.
-pub struct Fit {
+pub struct LineFit {
     pub found: bool,
     pub values: [u32; 5],
 }
@@ -178,17 +178,17 @@ fn put(values: [u32; 5], k: usize, v: u32) -> [u32; 5]
 }
 
 // The answer for a line that has not the form.
-fn misfit() -> Fit
+fn misfit() -> LineFit
     ensures { λ r. ⌜ r ≡ heldFit noFit ⌝ }
 {
-    Fit {
+    LineFit {
         found: false,
         values: [0; 5],
     }
 }
 
 // Whether a line has a form to its last byte, and its numbers.
-pub fn fit_line(form: &[u8], line: &[u8]) -> Fit
+pub fn fit_line(form: &[u8], line: &[u8]) -> LineFit
     ensures { λ r. ⌜ r ≡ heldFit (fitOf (now (form .entry)) (now (line .entry))) ⌝ }
 {
     let mut values = [0u32; 5];
@@ -217,7 +217,7 @@ pub fn fit_line(form: &[u8], line: &[u8]) -> Fit
     if at < line.len() {
         return misfit();
     }
-    Fit {
+    LineFit {
         found: true,
         values: values,
     }

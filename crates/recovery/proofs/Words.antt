@@ -13,7 +13,7 @@ use lib.Ieee.Bits.{nanBits-is, nanBits-above}
 use Rattle.binary32.specs.Ranges.{isFinite}
 use Rattle.binary32.proofs.Digits.{filled}
 use Rattle.arguments.specs.declared.Pass.{Pass}
-use Rattle.recovery.specs.Running.{wordOf, passAt}
+use Rattle.recovery.specs.Running.{passWord, passAt}
 
 -- ---- patterns
 
@@ -32,18 +32,18 @@ nan-pattern b h = is-nan (ofBits binary32 b) (sym (nanBits-is binary32 b) ∙ na
 
 -- ---- a pass of its words
 
-module _ (ws : List ℕ) (k : ℕ) (search factor : Float) (s : search ≡ ofBits binary32 (wordOf ws k 1)) (f : factor ≡ ofBits binary32 (wordOf ws k 2)) where
-  pub as-grow : (boundary : Float) → boundary ≡ ofBits binary32 (wordOf ws k 3) → getD ws (6 * k) 0 ≡ 0
+module _ (ws : List ℕ) (k : ℕ) (search factor : Float) (s : search ≡ ofBits binary32 (passWord ws k 1)) (f : factor ≡ ofBits binary32 (passWord ws k 2)) where
+  pub as-grow : (boundary : Float) → boundary ≡ ofBits binary32 (passWord ws k 3) → getD ws (6 * k) 0 ≡ 0
       → Pass.Grow (record { «attach_search_rel» = search; «attach_ambiguity_factor» = factor; «boundary_search_factor» = boundary }) ≡ passAt ws k
   unfolding passAt
   as-grow boundary b e = rw (s, f, b, add-zero (6 * k), eq-eqb (getD ws (6 * k) 0) 0 e) refl
 
   pub as-fill : (getD ws (6 * k) 0 ≡ 0 → ⊥) → getD ws (6 * k) 0 ≡ 1
-      → Pass.Fill (record { «attach_search_rel» = search; «attach_ambiguity_factor» = factor; «max_iters» = wordOf ws k 4 }) ≡ passAt ws k
+      → Pass.Fill (record { «attach_search_rel» = search; «attach_ambiguity_factor» = factor; «max_iters» = passWord ws k 4 }) ≡ passAt ws k
   unfolding passAt
   as-fill n e = rw (s, f, add-zero (6 * k), ne-eqb (getD ws (6 * k) 0) 0 n, eq-eqb (getD ws (6 * k) 0) 1 e) refl
 
-  pub as-local : (residual : Float) → residual ≡ ofBits binary32 (wordOf ws k 3) → (getD ws (6 * k) 0 ≡ 0 → ⊥) → (getD ws (6 * k) 0 ≡ 1 → ⊥)
-      → Pass.Local (record { «search_rel» = search; «ambiguity_factor» = factor; «max_iters» = wordOf ws k 4; «max_residual_rel» = residual; «extend_depth» = wordOf ws k 5 }) ≡ passAt ws k
+  pub as-local : (residual : Float) → residual ≡ ofBits binary32 (passWord ws k 3) → (getD ws (6 * k) 0 ≡ 0 → ⊥) → (getD ws (6 * k) 0 ≡ 1 → ⊥)
+      → Pass.Local (record { «search_rel» = search; «ambiguity_factor» = factor; «max_iters» = passWord ws k 4; «max_residual_rel» = residual; «extend_depth» = passWord ws k 5 }) ≡ passAt ws k
   unfolding passAt
   as-local residual r n m = rw (s, f, r, add-zero (6 * k), ne-eqb (getD ws (6 * k) 0) 0 n, ne-eqb (getD ws (6 * k) 0) 1 m) refl

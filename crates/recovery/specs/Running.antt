@@ -17,14 +17,14 @@ use Rattle.report.specs.Asked.{withOutcome}
 
 -- ---- a pass from its six words: kind (0 grow, 1 fill, 2 local), search, factor, boundary or residual, rounds, depth
 
-abbrev pub wordOf : List ℕ → ℕ → ℕ → ℕ
-wordOf words k m = getD words (6 * k + m) 0
+abbrev pub passWord : List ℕ → ℕ → ℕ → ℕ
+passWord words k m = getD words (6 * k + m) 0
 
 unfoldable pub passAt : List ℕ → ℕ → Pass
 passAt words k =
-    cond (eqb (wordOf words k 0) 0) (growOf (wordOf words k 1) (wordOf words k 2) (wordOf words k 3))
-    (cond (eqb (wordOf words k 0) 1) (fillOf (wordOf words k 1) (wordOf words k 2) (wordOf words k 4))
-    (localOf (wordOf words k 1) (wordOf words k 2) (wordOf words k 4) (wordOf words k 3) (wordOf words k 5)))
+    cond (eqb (passWord words k 0) 0) (growOf (passWord words k 1) (passWord words k 2) (passWord words k 3))
+    (cond (eqb (passWord words k 0) 1) (fillOf (passWord words k 1) (passWord words k 2) (passWord words k 4))
+    (localOf (passWord words k 1) (passWord words k 2) (passWord words k 4) (passWord words k 3) (passWord words k 5)))
 
 -- the call of a pass
 abbrev pub calledAs : Pass → PassCall
