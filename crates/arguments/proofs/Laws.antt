@@ -9,12 +9,11 @@ use native.Mathlib.Omega.{arith}
 use borrow.Author.Tests.{le-ltb, ltb-false, lt-leb, leb-false, not-false}
 use lib.Dec.{ltb}
 use lib.ListN.{length, getD}
-use lib.Ieee.{Float, nan}
+use lib.Ieee.{Float}
 use Rattle.refusal.specs.declared.Refusal.{Refusal}
 use Rattle.binary32.specs.Ranges.{inRange}
 use Rattle.binary32.specs.declared.ranges.Quantity.{Quantity}
 use Rattle.sheet.specs.Words.{labelOf}
-use Rattle.sheet.specs.Corners.{cornerOf}
 use Rattle.sheet.specs.declared.Label.{Label}
 use Rattle.sheet.specs.declared.Corner.{Corner}
 use Rattle.labels.specs.Used.{names, OneCell}
@@ -259,17 +258,3 @@ module _ (l : Lent) (settings : Settings) (pass : Pass) where
       (or-false _ _ (any-no (outsideAt (l .xs) (l .ys) (l .pitches)) _ (λ k h. corner-not-outside _ (w .corners-inside k h)))
       (or-false _ _ (settings-not-outside _ (w .settings-inside)) (pass-not-outside _ (w .pass-inside))))
       (still-fine _ _ _ (not-unknown _ _ (record { known = w .given .known })) (still-fine _ _ _ (not-doubled _ (w .one-cell)) refl))))
-
--- a corner's numbers, read from their lists
-module _ {l : Lent} {settings : Settings} {pass : Pass} (w : Accepted l settings pass) (k : ℕ) (h : k < cornerCount l) where
-  pub x-inside : inRange Quantity.Position (getD (l .xs) k nan) ≡ true
-  unfolding cornerOf
-  x-inside = w .corners-inside k h .x
-
-  pub y-inside : inRange Quantity.Position (getD (l .ys) k nan) ≡ true
-  unfolding cornerOf
-  y-inside = w .corners-inside k h .y
-
-  pub pitch-inside : inRange Quantity.Pitch (getD (l .pitches) k nan) ≡ true
-  unfolding cornerOf
-  pitch-inside = w .corners-inside k h .pitch

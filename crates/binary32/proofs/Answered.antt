@@ -1,5 +1,5 @@
 -- What is answered at a float, by its pattern. Assumes nothing.
-use Prim.Native.Nat.{ℕ, zero, suc, _+_, _-_, _*_, _/_, _%_, _^_, _≤_, _<_}
+use Prim.Native.Nat.{ℕ, zero, suc, _*_, _%_, _^_, _≤_, _<_}
 use mathlib.Core.Path.{_≡_, refl, sym, ap, subst, _∙_}
 use mathlib.Core.Logic.{_⊎_, inl, inr}
 use mathlib.Core.Bool.{Bool, true, false, not}
@@ -10,12 +10,11 @@ use borrow.Author.Tests.{le-leb, lt-leb, le-ltb}
 use lib.Dec.{T, leb}
 use lib.Ieee.{Float, nan, inf, fin, binary32, up, down, neg, ofBits, toBits, fits, ne, isNan, nanBits}
 use lib.Ieee.Bits.{ofBits-toBits, toBits-lt, nanBits-is, nanBits-above}
-use lib.Ieee.Compare.{differs-from-itself, nan-differs}
+use lib.Ieee.Compare.{differs-from-itself}
 use lib.Ieee.Exact.{HasValue}
 use lib.Ieee.Fits.{down-pos}
 use Rattle.refusal.specs.declared.Refusal.{Refusal}
 use Rattle.refusal.specs.declared.Refusal.the-variants.{OutOfRange}
-use Rattle.binary32.specs.declared.root.Rooted.{Rooted}
 use Rattle.binary32.specs.declared.root.Rooted.the-variants.{Root, Refused}
 use Rattle.binary32.specs.Sqrt.{unitsOf, RootOf, Answers}
 use Rattle.binary32.proofs.Patterns.{value, beyond, magnitude-pos}

@@ -1,8 +1,8 @@
 -- From the nearest whole root to the root's pattern: what `root_bits` gives. Assumes nothing.
 use Prim.Native.Nat.{ℕ, suc, _+_, _-_, _*_, _/_, _%_, _^_, _≤_, _<_}
-use mathlib.Core.Path.{_≡_, refl, sym, ap, ap₂, subst, _∙_}
+use mathlib.Core.Path.{_≡_, sym, ap, ap₂, subst, _∙_}
 use mathlib.Core.Logic.{_⊎_, inl, inr}
-use native.Mathlib.Nat.{mul-assoc, mul-comm, mul-mul-mul-comm, add-mul, eq-or-lt-of-le, lt-of-lt-of-le, le-of-eq, mul-pos, mul-lt-mul-of-pos-right, mul-le-mul-left, mul-le-mul-right, le-trans, pow-suc}
+use native.Mathlib.Nat.{mul-assoc, mul-mul-mul-comm, add-mul, eq-or-lt-of-le, lt-of-lt-of-le, le-of-eq, mul-pos, mul-lt-mul-of-pos-right, mul-le-mul-left, mul-le-mul-right, le-trans, pow-suc}
 use native.Mathlib.Omega.{arith}
 use lib.Pow.{pow-add, pow-pos}
 use Rattle.binary32.specs.Sqrt.{square, unitsOf, RootOf}

@@ -1,15 +1,15 @@
 -- Hexadecimal digits: the turns of the reader's and the writer's loops, and the two round trips. Assumes nothing.
 use Prim.Native.Nat.{ℕ, zero, suc, _+_, _-_, _*_, _/_, _%_, _^_, _≤_, _<_}
-use mathlib.Core.Path.{_≡_, refl, sym, ap, ap₂, subst, _∙_}
-use mathlib.Core.Bool.{Bool, true, false, not, cond, _&&_, true≢false}
+use mathlib.Core.Path.{_≡_, refl, sym, ap, ap₂, _∙_}
+use mathlib.Core.Bool.{Bool, true, false, not, cond, true≢false}
 use mathlib.Core.List.{List, [], _∷_, _++_}
-use native.Mathlib.Nat.{add-zero, zero-add, mul-one, zero-mul, add-mul, mul-assoc, mod-eq-of-lt, mod-one, div-one, mul-add-div-right, add-mul-mod-self-right, not-suc-le-zero, le-of-suc-le-suc, mod-lt, zero-lt-suc, lt-of-lt-of-le}
+use native.Mathlib.Nat.{add-mul, mul-assoc, mod-eq-of-lt, mul-add-div-right, not-suc-le-zero, le-of-suc-le-suc, mod-lt, lt-of-lt-of-le}
 use native.Mathlib.Decide.{decLe}
 use native.Mathlib.Numerals.{add-one}
 use native.Mathlib.Omega.{arith}
-use borrow.Author.Tests.{lt-ltb, le-ltb, le-leb, lt-leb, eq-eqb, ne-eqb, eqb-true, eqb-false}
+use borrow.Author.Tests.{lt-ltb, le-ltb, le-leb, lt-leb, eq-eqb, ne-eqb, eqb-false}
 use lib.Arith.{mod-mul, digits-div, digits-lt}
-use lib.Dec.{T, ltb, leb, eqb}
+use lib.Dec.{T, eqb}
 use lib.ListN.{length, getD, take, drop, set, length-append, length-take, length-drop}
 use lib.Pow.{pow-add, pow-pos, pow-mono}
 use lib.Seq.{drop-cons}
@@ -19,7 +19,6 @@ use Rattle.refusal.specs.declared.Refusal.{Refusal}
 use Rattle.refusal.specs.declared.Refusal.the-variants.{Malformed, OutOfRange}
 use Rattle.binary32.specs.declared.hex.Bits.{Bits}
 use Rattle.binary32.specs.declared.hex.Bits.the-variants.{Number, Broken}
-use Rattle.binary32.specs.declared.hex.FloatRead.{FloatRead}
 use Rattle.binary32.specs.declared.hex.FloatRead.the-variants.{Float as Finite, Refused}
 use Rattle.binary32.specs.Ranges.{isFinite}
 use Rattle.binary32.specs.Hex.{digitOf, digits, hexText, digitValue, readDigits, readBits, floatOf, floatOfBits, readFloat}

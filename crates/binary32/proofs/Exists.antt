@@ -13,10 +13,10 @@ use lib.Dec.{T, leb, lit≤}
 use lib.Count.{leadingZeros}
 use lib.IntN.{ℤ, pos}
 use lib.Ieee.{Float, nan, inf, fin, binary32, fits, ofBits, toBits}
-use lib.Ieee.Bits.{ofBits-toBits, ofBits-fits, toBits-lt}
+use lib.Ieee.Bits.{ofBits-toBits, ofBits-fits}
 use lib.Ieee.Exact.{HasValue}
 use lib.Ieee.Fits.{nan-fits}
-use Rattle.binary32.specs.Sqrt.{unitsOf, square, RootOf, Answers, climb, rooted, sqrtOrNan, valueOf}
+use Rattle.binary32.specs.Sqrt.{unitsOf, square, RootOf, Answers, climb, rooted, sqrtOrNan}
 use Rattle.binary32.specs.Steps.{WholeRoot, Near, Normalized}
 use Rattle.binary32.proofs.Squares.{square-lt, rounded-down, rounded-up}
 use Rattle.binary32.proofs.Normalize.{normal, lifted, subnormal}

@@ -1,11 +1,11 @@
 -- Finite values: by comparison with the infinities, and by the pattern; what lies in a range is finite, and either zero lies where the other does.
 -- Assumes nothing.
-use Prim.Native.Nat.{ℕ, zero, _%_, _^_, _≤_, _<_}
+use Prim.Native.Nat.{ℕ, _%_, _^_, _≤_, _<_}
 use mathlib.Core.Path.{_≡_, refl, sym, ap, _∙_}
 use mathlib.Core.Bool.{Bool, true, false, _&&_, true≢false}
 use mathlib.Core.Logic.{_⊎_, inl, inr}
 use lib.Dec.{leb}
-use lib.IntN.{ℤ, pos}
+use lib.IntN.{pos}
 use lib.Ieee.{Float, nan, inf, fin, binary32, ofBits, ofInt, lt, le, eq}
 use lib.Ieee.Exact.{HasValue}
 use Rattle.binary32.specs.Sqrt.{unitsOf}

@@ -1,12 +1,10 @@
 -- A positive pattern as a significand of 24 digits and an exponent: what `split` gives. Assumes nothing.
 use Prim.Native.Nat.{ℕ, suc, _+_, _-_, _*_, _/_, _%_, _^_, _≤_, _<_}
-use mathlib.Core.Path.{_≡_, refl, sym, ap, subst, _∙_}
+use mathlib.Core.Path.{_≡_, sym, ap, _∙_}
 use native.Mathlib.Nat.{mul-assoc, mod-eq-of-lt, lt-of-not-le, lt-irrefl, le-trans, lt-of-le-of-lt, lt-of-lt-of-le, le-of-eq, mul-le-mul-right, mul-lt-mul-of-pos-right}
 use native.Mathlib.Omega.{arith}
-use lib.Dec.{lit<}
 use lib.Count.{leadingZeros, leading-top}
 use lib.Pow.{pow-add, pow-pos, pow-mono}
-use Rattle.binary32.specs.Sqrt.{unitsOf}
 use Rattle.binary32.specs.Steps.{Normalized}
 use Rattle.binary32.proofs.Magnitude.{large, small}
 

@@ -4,13 +4,13 @@ use Prim.Native.Nat.{ℕ, zero, suc, _+_, _-_, _*_, _/_, _%_, _^_, _≤_, _<_}
 use mathlib.Core.Path.{_≡_, refl, sym, ap, subst, _∙_}
 use mathlib.Core.Logic.{_⊎_, inl, inr}
 use mathlib.Core.Bool.{Bool, true, false, cond}
-use native.Mathlib.Nat.{eq-or-lt-of-le, mul-pos}
+use native.Mathlib.Nat.{mul-pos}
 use native.Mathlib.Decide.{decLe}
 use native.Mathlib.Omega.{arith}
 use borrow.Author.Tests.{eq-eqb, ne-eqb}
 use lib.Dec.{leb, eqb}
 use lib.Pow.{pow-pos}
-use lib.Ieee.{Float, nan, inf, fin, binary32, odd, ofFields, ofBits}
+use lib.Ieee.{Float, nan, inf, binary32, ofFields, ofBits}
 use lib.Ieee.Exact.{HasValue, odd-sign}
 use Rattle.binary32.specs.Sqrt.{unitsOf}
 use Rattle.binary32.proofs.Magnitude.{small, large}

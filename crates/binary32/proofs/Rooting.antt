@@ -1,16 +1,15 @@
 -- `rooted` is what `Answers` says, and what it says is due. Assumes nothing.
 use Prim.Native.Nat.{ℕ, zero, suc, _+_, _-_, _*_, _^_, _≤_, _<_}
 use mathlib.Core.Path.{_≡_, refl, sym, ap, subst, _∙_}
-use mathlib.Core.Bool.{Bool, true, false, cond}
-use native.Mathlib.Nat.{le-trans, lt-of-lt-of-le, lt-of-le-of-lt, lt-irrefl, lt-trans, add-le-add, mul-le-mul, pow-suc}
+use mathlib.Core.Bool.{true, false, cond}
+use native.Mathlib.Nat.{lt-of-lt-of-le, lt-of-le-of-lt, add-le-add, mul-le-mul, pow-suc}
 use native.Mathlib.Decide.{decLe}
 use native.Mathlib.Omega.{arith}
 use borrow.Author.Tests.{lt-ltb, le-ltb}
 use native.Mathlib.Nat.{le-of-lt}
-use lib.Dec.{ltb}
 use lib.Ieee.{Float, nan, inf, fin, binary32, ofBits, toBits}
 use Rattle.binary32.specs.declared.root.Rooted.{Rooted}
-use Rattle.binary32.specs.declared.root.Rooted.the-variants.{Root, Refused}
+use Rattle.binary32.specs.declared.root.Rooted.the-variants.{Root}
 use Rattle.binary32.specs.Sqrt.{square, unitsOf, RootOf, Answers, reaches, climb, rooted}
 use Rattle.binary32.specs.Said.{rootSaid, takesRoot, rootDue}
 use Rattle.binary32.proofs.Unique.{mono}

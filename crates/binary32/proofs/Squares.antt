@@ -1,6 +1,6 @@
 -- Rounding a root to the nearest whole number, from the root rounded down. Assumes nothing.
-use Prim.Native.Nat.{ℕ, suc, _+_, _-_, _*_, _/_, _^_, _≤_, _<_}
-use mathlib.Core.Path.{_≡_, refl, sym, ap, subst, _∙_}
+use Prim.Native.Nat.{ℕ, _+_, _-_, _*_, _/_, _^_, _≤_, _<_}
+use mathlib.Core.Path.{_≡_}
 use native.Mathlib.Nat.{div-le-self, mul-add, add-mul, mul-one, one-mul, mul-le-mul, lt-of-not-le, add-sub-cancel, mul-lt-mul-of-pos-right, mul-le-mul-left, lt-of-lt-of-le, lt-of-le-of-lt}
 use native.Mathlib.Omega.{arith}
 use Rattle.binary32.specs.Sqrt.{square}

@@ -1,12 +1,12 @@
 -- `RootOf` says which: a pattern has one root at most, and of two patterns the one with the larger number has no smaller root. Assumes nothing.
-use Prim.Native.Nat.{ℕ, zero, suc, _+_, _-_, _*_, _/_, _%_, _^_, _≤_, _<_}
-use mathlib.Core.Path.{_≡_, sym, ap, subst, _∙_}
-use mathlib.Core.Logic.{_⊎_, inl, inr}
+use Prim.Native.Nat.{ℕ, suc, _+_, _-_, _*_, _/_, _%_, _^_, _≤_, _<_}
+use mathlib.Core.Path.{_≡_, sym, subst}
+use mathlib.Core.Logic.{inl, inr}
 use native.Mathlib.Nat.{le-refl, le-trans, le-of-eq, lt-irrefl, lt-trans, lt-of-le-of-lt, lt-of-lt-of-le, le-antisymm, le-of-suc-le-suc, lt-of-not-le, add-le-add, mul-le-mul, mul-le-mul-left, mul-le-mul-right, pow-succ', eq-or-lt-of-le}
 use native.Mathlib.Decide.{decLe}
 use native.Mathlib.Omega.{arith}
-use lib.Pow.{pow-pos, pow-mono}
-use Rattle.binary32.specs.Sqrt.{unitsOf, square, RootOf}
+use lib.Pow.{pow-mono}
+use Rattle.binary32.specs.Sqrt.{unitsOf, RootOf}
 use Rattle.binary32.proofs.Magnitude.{small, large}
 
 -- ---- a larger pattern has no smaller magnitude

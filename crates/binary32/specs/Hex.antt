@@ -1,11 +1,10 @@
 -- A float in text (document 01, "Number"): eight lowercase hexadecimal digits, its binary32 bits. Definitions only.
 -- `proofs/Digits.antt` shows that reading what was written gives the value back, and that writing what was read gives the bytes back.
 use Prim.Native.Nat.{ℕ, zero, suc, _+_, _-_, _*_, _/_, _%_, _^_}
-use mathlib.Core.Bool.{Bool, true, false, cond, _&&_}
+use mathlib.Core.Bool.{cond, _&&_}
 use mathlib.Core.List.{List, [], _∷_}
 use lib.Dec.{ltb, leb, eqb}
-use lib.Ieee.{Float, binary32, ofBits}
-use Rattle.refusal.specs.declared.Refusal.{Refusal}
+use lib.Ieee.{binary32, ofBits}
 use Rattle.refusal.specs.declared.Refusal.the-variants.{Malformed, OutOfRange}
 use Rattle.binary32.specs.declared.hex.Bits.{Bits}
 use Rattle.binary32.specs.declared.hex.Bits.the-variants.{Number, Broken}

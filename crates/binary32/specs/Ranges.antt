@@ -2,7 +2,7 @@
 use mathlib.Core.Bool.{Bool, true, false, _&&_}
 use mathlib.Core.List.{List, [], _∷_}
 use Prim.Native.Nat.{ℕ}
-use lib.IntN.{ℤ, pos, negsuc, negℤ}
+use lib.IntN.{pos, negsuc, negℤ}
 use lib.Ieee.{Float, fin, binary32, ofInt, le}
 use lib.Ieee.Scale.{finite}
 use Rattle.binary32.specs.declared.ranges.Ends.{Ends}

@@ -6,7 +6,6 @@ use mathlib.Core.Path.{_≡_}
 use mathlib.Core.Bool.{Bool, true, false, cond}
 use lib.Dec.{ltb}
 use lib.Ieee.{Float, nan, inf, fin, binary32, ofBits, toBits}
-use Rattle.refusal.specs.declared.Refusal.{Refusal}
 use Rattle.refusal.specs.declared.Refusal.the-variants.{OutOfRange}
 use Rattle.binary32.specs.declared.root.Rooted.{Rooted}
 use Rattle.binary32.specs.declared.root.Rooted.the-variants.{Root, Refused}

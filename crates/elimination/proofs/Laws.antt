@@ -1,20 +1,19 @@
 -- What the definitions of the solution say: which row the pivot is, and that answers that count come from finite steps alone.
 -- Assumes nothing.
 use mathlib.Core.Path.{_≡_, refl, sym, _∙_}
-use mathlib.Core.Bool.{Bool, true, false, cond, _&&_, not, true≢false}
+use mathlib.Core.Bool.{Bool, true, false, cond, _&&_, true≢false}
 use Prim.Native.Nat.{ℕ, zero, suc, _+_, _-_, _<_, _≤_}
 use native.Mathlib.Decide.{ℕ-discrete}
 use native.Mathlib.Omega.{arith}
-use borrow.Author.Tests.{not-true}
 use mathlib.Core.List.{List}
-use lib.Ieee.{Float, nan, inf, fin, neg, lt, eq, isNan}
+use lib.Ieee.{Float, nan, inf, fin, neg, lt, isNan}
 use Rattle.float_order.proofs.Order.{lt-asym, lt-irrefl, not-lt-trans}
 use Rattle.binary32.specs.Ranges.{isFinite, allFinite}
 use Rattle.binary32.specs.Numbers.{nought}
 use Rattle.elimination.specs.Rounded.{magnitude}
-use Rattle.elimination.specs.Tables.{concatenated, every}
-use Rattle.elimination.specs.Solve.{Matrix, row, entry, values, largest, pivoted, eliminated, pivotOf, noZeroPivot, columnSteps, eliminationSteps, answerSteps, solveSteps, soundOf}
-use Rattle.elimination.proofs.Tables.{both, every-at}
+use Rattle.elimination.specs.Tables.{concatenated}
+use Rattle.elimination.specs.Solve.{Matrix, entry, values, largest, pivoted, eliminated, noZeroPivot, columnSteps, eliminationSteps, answerSteps, solveSteps, soundOf}
+use Rattle.elimination.proofs.Tables.{both}
 use Rattle.elimination.proofs.Finite.{apart, gathered-at, gathered-true}
 use Rattle.elimination.proofs.Sound.{FiniteMatrix, matrix-at, values-finite, columns-after}
 
@@ -79,11 +78,6 @@ pivot-first m k f h = chosen m k (7 - k) (λ i p q. plain (entry m i k) (f i k (
 -- ---- answers that count
 
 module _ (m : Matrix) (e : soundOf m ≡ true) where
-  -- no pivot was zero
-  pub sound-pivots : (k : ℕ) → k < 8 → eq (pivotOf m k) nought ≡ false
-  unfolding soundOf
-  sound-pivots k h = not-true (eq (pivotOf m k) nought) (every-at 8 (λ k. not (eq (pivotOf m k) nought)) (both (noZeroPivot m) (allFinite (values m) && allFinite (solveSteps m)) e .0) k h)
-
   -- every given value was finite, and every step's
   pub sound-values : allFinite (values m) ≡ true
   unfolding soundOf

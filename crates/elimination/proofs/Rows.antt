@@ -15,7 +15,7 @@ use Rattle.elimination.specs.Rounded.{_⊗_, magnitude}
 use Rattle.elimination.specs.Solve.{Row, Matrix, row, entry, largest, swapped, pivoted, reciprocal, multiplier, gain, gained, cleared, eliminated, rightSides, answer, carry, carried, answered}
 use Rattle.elimination.specs.Shape.{EightByNine}
 use Rattle.elimination.proofs.Shape.{answered-long}
-use Rattle.elimination.proofs.Tables.{table-is, Filling, filling-start, filling-more, filling-end, filling-whole}
+use Rattle.elimination.proofs.Tables.{table-is, Filling, filling-start, filling-more, filling-whole}
 
 -- ---- the pivot, chosen among the rows up to row i
 

@@ -11,7 +11,7 @@ use lib.Dec.{eqb, ltb}
 use lib.ListN.{getD}
 use lib.Ieee.{Float, nan, binary32, neg, lt, eq}
 use Rattle.binary32.specs.Ranges.{isFinite, allFinite}
-use Rattle.binary32.specs.Numbers.{nought, one}
+use Rattle.binary32.specs.Numbers.{nought}
 use Rattle.elimination.specs.Rounded.{_⊗_, magnitude}
 use Rattle.elimination.specs.Tables.{table, concatenated, every}
 use Rattle.elimination.specs.Solve.{Row, Matrix, row, entry, values, largest, swapped, pivoted, reciprocal, multiplier, gain, gained, cleared, eliminated, pivotOf, noZeroPivot, gainSteps, lowerSteps, columnSteps, eliminationSteps, rightSides, answer, carry, carried, answered, carrySteps, answerSteps, solveSteps, answersOf, soundOf, solved, nonzeroDiagonal, finiteMatrix, finiteAnswers}

@@ -1,6 +1,6 @@
 -- The rounded operations of binary32 by their signs, and the magnitude. Definitions only.
 use mathlib.Core.Bool.{cond}
-use lib.Ieee.{Float, binary32, add, sub, mul, div, neg, lt, ofBits}
+use lib.Ieee.{Float, binary32, add, sub, mul, div, neg, lt}
 use Rattle.binary32.specs.Numbers.{nought}
 
 infixl 68 _⊕_ _⊖_

@@ -2,8 +2,6 @@
 use mathlib.Core.Bool.{Bool, true, _&&_}
 use mathlib.Core.List.{List, [], _∷_, _++_}
 use Prim.Native.Nat.{ℕ, zero, suc}
-use lib.Ieee.{Float}
-use Rattle.binary32.specs.Ranges.{isFinite}
 
 -- n entries: f 0, f 1, ..
 unfoldable pub table {ℓ} : {A : Type ℓ} → ℕ → (ℕ → A) → List A

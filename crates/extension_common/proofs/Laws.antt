@@ -3,11 +3,10 @@
 use mathlib.Core.Path.{_≡_, refl, sym, ap, _∙_, subst}
 use mathlib.Core.Bool.{Bool, true, false, not, cond, true≢false}
 use mathlib.Core.List.{List}
-use mathlib.Core.Logic.{_⊎_, inl, inr}
 use Prim.Native.Nat.{ℕ, _<_, _≤_}
 use native.Mathlib.Nat.{lt-of-lt-of-le}
 use native.Mathlib.Omega.{arith}
-use lib.ListN.{length, getD}
+use lib.ListN.{length}
 use lib.Ieee.{Float}
 use Rattle.sheet.specs.Corners.{cornerOf, seenOf}
 use Rattle.sheet.specs.declared.Cell.{Cell}
@@ -16,8 +15,6 @@ use Rattle.sheet.specs.declared.Position.{Position}
 use Rattle.labels.specs.Used.{usedOn, Tied}
 use Rattle.labels.proofs.Used.{tied-free}
 use Rattle.grow.specs.Candidates.{positionsOf, unmarked, candidatesAt, firstTwo}
-use Rattle.grow.specs.Choice.{chooseUnambiguous, chooseWithFloor}
-use Rattle.grow.specs.declared.Candidate.{Candidate}
 use Rattle.grow.specs.declared.Candidates.{Candidates}
 use Rattle.grow.specs.declared.CandidateChoice.{CandidateChoice}
 use Rattle.grow.proofs.Collected.{candidates-agree, corner-position}

@@ -4,14 +4,13 @@ use mathlib.Core.Bool.{Bool, true, false, not, _||_, true≢false}
 use mathlib.Core.List.{List}
 use Prim.Native.Nat.{ℕ, _≤_}
 use borrow.Author.Tests.{not-true, not-false, ltb-false}
-use lib.Dec.{ltb}
 use lib.ListN.{length}
 use lib.Ieee.{Float}
 use Rattle.homography.specs.declared.Fit.{Fit}
-use Rattle.homography.specs.Fit.{Answer, NoFit, Entries, fitOf, homographyOf}
+use Rattle.homography.specs.Fit.{fitOf, homographyOf}
 use Rattle.homography.proofs.Laws.{found-entries, not-found}
 use Rattle.sheet.specs.declared.Position.{Position}
-use Rattle.fit_export.specs.FitCall.{left, Left, pointsOf, tooShort, entered, fitLeaves, exported}
+use Rattle.fit_export.specs.FitCall.{left, pointsOf, tooShort, entered, fitLeaves, exported}
 
 -- ---- lengths
 

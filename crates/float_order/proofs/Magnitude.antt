@@ -13,26 +13,12 @@ use Rattle.float_order.proofs.Order.{le→not-lt, not-lt→le, le-trans
 use Rattle.float_order.proofs.Unsigned.{finite-under}
 use Rattle.float_order.proofs.Monotone.{mul-mono-finite}
 
-pub magnitude-plain : (x : Float) → isNan x ≡ false → T (plain (unsigned x))
-unfolding isNan
-magnitude-plain nan h = absurd (true≢false h)
-magnitude-plain (inf s) h = tt
-magnitude-plain (fin s m e) h = tt
-
 -- a magnitude that is at most something has no sign
 pub bounded-plain : (x a : Float) → le (unsigned x) a ≡ true → T (plain (unsigned x))
 unfolding le
 bounded-plain nan a h = absurd (true≢false (sym h))
 bounded-plain (inf s) a h = tt
 bounded-plain (fin s m e) a h = tt
-
--- a value with no sign is its own magnitude
-pub plain-magnitude : (x : Float) → T (plain x) → unsigned x ≡ x
-plain-magnitude nan p = absurd p
-plain-magnitude (inf true) p = absurd p
-plain-magnitude (inf false) p = refl
-plain-magnitude (fin true m e) p = absurd p
-plain-magnitude (fin false m e) p = refl
 
 pub finite-magnitude : (x : Float) → T (finite (unsigned x)) → T (finite x)
 finite-magnitude nan p = absurd p

@@ -1,41 +1,27 @@
 -- Sums and products of values with no sign keep the order. Assumes nothing.
 use mathlib.Core.Path.{_≡_, refl}
 use mathlib.Core.Bool.{Bool, true, false, cond, true≢false}
-use Prim.Native.Nat.{ℕ, _+_, _*_, _≤_}
+use Prim.Native.Nat.{ℕ, _*_, _≤_}
 use native.Mathlib.Nat.{mul-pos, mul-le-mul-right, mul-le-mul-left}
 use native.Mathlib.Omega.{arith}
 use borrow.Author.Tests.{ltb-false}
 use lib.Dec.{T, eqb}
 use lib.IntN.{ℤ}
-use lib.Ieee.{Float, nan, inf, fin, Format, up, down, lt, le, isNan, add, mul, sum}
+use lib.Ieee.{Float, nan, inf, fin, Format, up, down, lt, le, isNan, mul}
 use lib.Ieee.Bits.{is-true}
 use lib.Ieee.Fits.{down-pos}
 use lib.Ieee.Order.{round-mono}
 use lib.Ieee.Scale.{finite}
 use Rattle.float_order.specs.Unsigned.{plain}
 use Rattle.float_order.proofs.Order.{le→not-lt}
-use Rattle.float_order.proofs.Unsigned.{plain-no-nan, le-inf, add-plain, mul-plain, mul-plain-finite, finite-under}
+use Rattle.float_order.proofs.Unsigned.{plain-no-nan, le-inf, mul-plain, mul-plain-finite, finite-under}
 
 -- the order of two that are finite, by their fractions
 cross : (m : ℕ) (e : ℤ) (n : ℕ) (d : ℤ) → le (fin false m e) (fin false n d) ≡ true → m * up e * down d ≤ n * up d * down e
 cross m e n d h = ltb-false (n * up d * down e) (m * up e * down d) (unfold lt in le→not-lt (fin false m e) (fin false n d) h)
 
--- a / e <= c / g and b / d <= k / h, added and multiplied
-sums : (a e b d c g k h : ℕ) → a * g ≤ c * e → b * h ≤ k * d → (a * d + b * e) * (g * h) ≤ (c * h + k * g) * (e * d)
-sums a e b d c g k h x y = omega (arith, mul-le-mul-right (d * h) x, mul-le-mul-right (e * g) y)
-
 products : (a e b d c g k h : ℕ) → a * g ≤ c * e → b * h ≤ k * d → a * b * (g * h) ≤ c * k * (e * d)
 products a e b d c g k h x y = omega (arith, mul-le-mul-right (b * h) x, mul-le-mul-left (c * e) y)
-
-add-fractions : (f : Format) (m : ℕ) (e : ℤ) (n : ℕ) (d : ℤ) (m' : ℕ) (e' : ℤ) (n' : ℕ) (d' : ℤ)
-    → le (fin false m e) (fin false m' e') ≡ true → le (fin false n d) (fin false n' d') ≡ true
-    → le (add f (fin false m e) (fin false n d)) (add f (fin false m' e') (fin false n' d')) ≡ true
-unfolding add sum
-add-fractions f m e n d m' e' n' d' x y =
-    is-true _
-    (round-mono f (m * up e * down d + n * up d * down e) (down e * down d) (m' * up e' * down d' + n' * up d' * down e') (down e' * down d')
-    (mul-pos (down-pos e) (down-pos d)) (mul-pos (down-pos e') (down-pos d'))
-    (sums (m * up e) (down e) (n * up d) (down d) (m' * up e') (down e') (n' * up d') (down d') (cross m e m' e' x) (cross n d n' d' y)))
 
 mul-fractions : (f : Format) (m : ℕ) (e : ℤ) (n : ℕ) (d : ℤ) (m' : ℕ) (e' : ℤ) (n' : ℕ) (d' : ℤ)
     → le (fin false m e) (fin false m' e') ≡ true → le (fin false n d) (fin false n' d') ≡ true
@@ -53,25 +39,6 @@ by-fin P nan y p q l h = absurd p
 by-fin P (inf s) y p q l h = absurd (finite-under (inf s) y p q l)
 by-fin P (fin true m e) y p q l h = absurd p
 by-fin P (fin false m e) y p q l h = h m e refl
-
--- x ≤ x' and y ≤ y' give x + y ≤ x' + y'
-pub add-mono : (f : Format) (x y x' y' : Float) → T (plain x) → T (plain y) → T (plain x') → T (plain y') → le x x' ≡ true → le y y' ≡ true → le (add f x y) (add f x' y') ≡ true
-unfolding add
-add-mono f x y nan y' p q p' q' h k = absurd p'
-add-mono f x y (inf true) y' p q p' q' h k = absurd p'
-add-mono f x y (inf false) nan p q p' q' h k = absurd q'
-add-mono f x y (inf false) (inf true) p q p' q' h k = absurd q'
-add-mono f x y (inf false) (inf false) p q p' q' h k = le-inf (add f x y) (add-plain f x y p q)
-add-mono f x y (inf false) (fin t n d) p q p' q' h k = le-inf (add f x y) (add-plain f x y p q)
-add-mono f x y (fin s m e) nan p q p' q' h k = absurd q'
-add-mono f x y (fin s m e) (inf true) p q p' q' h k = absurd q'
-add-mono f x y (fin s m e) (inf false) p q p' q' h k = le-inf (add f x y) (add-plain f x y p q)
-add-mono f x y (fin true m e) (fin t n d) p q p' q' h k = absurd p'
-add-mono f x y (fin false m e) (fin true n d) p q p' q' h k = absurd q'
-add-mono f x y (fin false m e) (fin false n d) p q p' q' h k =
-    by-fin (λ x. le (add f x y) (add f (fin false m e) (fin false n d)) ≡ true) x (fin false m e) p tt h
-    (λ a b u. by-fin (λ y. le (add f (fin false a b) y) (add f (fin false m e) (fin false n d)) ≡ true) y (fin false n d) q tt k
-    (λ c g v. add-fractions f a b c g m e n d (rw u at h) (rw v at k)))
 
 top : (z : Float) → T (plain z) → (b : Bool) → isNan (cond b nan (inf false)) ≡ false → le z (cond b nan (inf false)) ≡ true
 unfolding isNan

@@ -1,16 +1,16 @@
 -- Quotients of values with no sign: x / x is 1, and x / y is at most 1 where x is at most y. Assumes nothing.
 use mathlib.Core.Path.{_≡_, refl, subst}
-use mathlib.Core.Bool.{Bool, true, false}
+use mathlib.Core.Bool.{true, false}
 use Prim.Native.Nat.{ℕ, zero, suc, _*_, _≤_, _<_}
-use native.Mathlib.Nat.{mul-pos, mul-comm}
+use native.Mathlib.Nat.{mul-pos}
 use native.Mathlib.Omega.{arith}
 use borrow.Author.Tests.{ltb-false}
 use lib.Dec.{T, eqb·suc-zero}
-use lib.Ieee.{Float, nan, inf, fin, Format, binary32, binary64, unlike, up, down, lt, le, round, div, ofBits}
+use lib.Ieee.{Float, nan, inf, fin, Format, binary32, binary64, up, down, lt, le, round, div, ofBits}
 use lib.Ieee.Bits.{is-true}
 use lib.Ieee.Fits.{up-pos, down-pos}
 use lib.Ieee.Order.{round-mono}
-use lib.Ieee.Scale.{finite, round-same}
+use lib.Ieee.Scale.{finite}
 use Rattle.binary32.specs.Numbers.{one}
 use Rattle.float_order.specs.Unsigned.{plain, nonzero}
 use Rattle.float_order.proofs.Order.{le→not-lt, le-lt-trans}
@@ -23,21 +23,6 @@ round-one binary64 = refl
 
 some : (m : ℕ) → 0 < suc m
 some m = omega arith
-
--- x / x is 1, for an x that is finite and not zero
-pub div-self : (f : Format) (x : Float) → T (finite x) → T (nonzero x) → div f x x ≡ one
-unfolding div
-div-self f nan p q = absurd p
-div-self f (inf s) p q = absurd p
-div-self f (fin s zero e) p q = absurd q
-div-self f (fin s (suc m) e) p q =
-    let n = suc m * up e * down e in
-    let P : 0 < n = mul-pos (mul-pos (some m) (up-pos e)) (down-pos e) in
-    rw (eqb·suc-zero m, unlike-same s, round-same f false n n 1 1 P (omega arith) (mul-comm n 1)) (round-one f)
-  where
-    unlike-same : (s : Bool) → unlike s s ≡ false
-    unlike-same true = refl
-    unlike-same false = refl
 
 -- x / y is at most 1, for an x with no sign that is at most y, a finite y with no sign that is not zero
 pub div-at-most-one : (f : Format) (x y : Float) → T (plain x) → T (plain y) → T (finite y) → T (nonzero y) → le x y ≡ true → le (div f x y) one ≡ true

@@ -5,8 +5,7 @@ use mathlib.Core.List.{List, [], _∷_, List·Memᴰ, List·Memᴰ·head, List·
 use Prim.Native.Nat.{ℕ, _<_}
 use native.Mathlib.Omega.{arith}
 use lib.Dec.{T}
-use lib.IntN.{negsuc}
-use lib.Ieee.{Float, fin, binary32, div, lt, le, isNan, ofBits}
+use lib.Ieee.{Float, binary32, div, lt, le, isNan, ofBits}
 use lib.Ieee.Scale.{finite}
 use Rattle.float_order.specs.Unsigned.{plain, nonzero}
 use Rattle.float_order.proofs.Order.{not-le→lt, not-lt→le, le-lt-trans, lt→le}
@@ -78,10 +77,6 @@ module _ (position : ℕ → Position) (unlabelled : ℕ → Bool) (n : ℕ) (p 
   chosen-with-floor factor k h = member k (floor-first (candidatesAt position unlabelled n p r) factor k h)
 
 -- ---- a tie for the first place
-
-pub epsilon-is : epsilon ≡ fin false 1 (negsuc 22)
-unfolding ofBits
-epsilon-is = refl
 
 epsilon-no-nan : isNan epsilon ≡ false
 unfolding ofBits isNan

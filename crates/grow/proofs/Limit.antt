@@ -3,7 +3,7 @@
 use mathlib.Core.Path.{_≡_, refl, sym, ap, subst, _∙_}
 use mathlib.Core.Bool.{Bool, true, false, cond, true≢false}
 use lib.Dec.{T}
-use lib.Ieee.{Float, nan, inf, fin, binary32, add, sub, mul, lt, le, isNan, fits}
+use lib.Ieee.{Float, nan, inf, fin, binary32, sub, mul, lt, le, isNan, fits}
 use lib.Ieee.Fits.{add-fits}
 use Rattle.float_order.specs.Unsigned.{plain}
 use Rattle.float_order.proofs.Order.{le-no-nan, lt-asym, le-trans, not-lt-trans, not-le→lt}

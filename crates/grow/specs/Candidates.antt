@@ -5,8 +5,7 @@ use mathlib.Core.List.{List, [], _∷_}
 use Prim.Native.Nat.{ℕ, zero, suc}
 use lib.Dec.{eqb, ltb}
 use lib.ListN.{getD}
-use lib.Ieee.{Float, nan, binary32, add, sub, mul, lt, le, ofBits}
-use Rattle.binary32.specs.Ranges.{isFinite}
+use lib.Ieee.{Float, nan, binary32, mul, lt, le, ofBits}
 use Rattle.binary32.specs.Sqrt.{sqrtOrNan}
 use Rattle.sheet.specs.declared.Position.{Position}
 use Rattle.sheet.specs.Corners.{squaredDistance, finitePosition}

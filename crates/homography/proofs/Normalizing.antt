@@ -9,7 +9,7 @@ use lib.Ieee.{Float, nan, inf, fin, binary32, neg, lt, ofBits, toBits}
 use Rattle.binary32.specs.Ranges.{isFinite, allFinite}
 use Rattle.binary32.specs.Sqrt.{unitsOf, reaches, climb, rooted, sqrtOrNan}
 use Rattle.elimination.specs.Rounded.{_⊕_, _⊖_, _⊗_, _⊘_}
-use Rattle.elimination.specs.Tables.{table, concatenated, every}
+use Rattle.elimination.specs.Tables.{table, concatenated}
 use Rattle.elimination.proofs.Tables.{getD-table, both, same, every-true, every-at}
 use Rattle.elimination.proofs.Finite.{add-finite, mul-finite, div-finite, one-finite, none-finite, parts-finite, joined, apart, gathered-at, gathered-true}
 use Rattle.sheet.specs.declared.Position.{Position}

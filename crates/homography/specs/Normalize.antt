@@ -1,11 +1,11 @@
 -- "Both point sets are normalised in the order of `normalize_points4`, matrix rows summed left to right" (document 01, "Fit").
 -- Each value that a step gives is named beside what it is a step of. Definitions only.
-use mathlib.Core.Bool.{Bool, cond, _&&_}
+use mathlib.Core.Bool.{Bool, cond}
 use mathlib.Core.List.{List, [], _∷_, _++_}
 use Prim.Native.Nat.{ℕ, _+_, _*_}
 use lib.ListN.{getD}
 use lib.Ieee.{Float, nan, binary32, neg, lt, ofBits}
-use Rattle.binary32.specs.Ranges.{isFinite, allFinite}
+use Rattle.binary32.specs.Ranges.{allFinite}
 use Rattle.binary32.specs.Sqrt.{sqrtOrNan}
 use Rattle.elimination.specs.Rounded.{_⊕_, _⊖_, _⊗_, _⊘_}
 use Rattle.elimination.specs.Tables.{table, concatenated, every}

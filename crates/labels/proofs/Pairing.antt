@@ -3,12 +3,11 @@
 use mathlib.Core.Path.{_≡_, refl, sym, ap, _∙_}
 use mathlib.Core.Bool.{Bool, true, false}
 use mathlib.Core.List.{List}
-use Prim.Native.Nat.{ℕ, _<_, _≤_}
-use native.Mathlib.Omega.{arith}
+use Prim.Native.Nat.{ℕ, _<_}
 use borrow.Author.Tests.{eq-eqb, ne-eqb, eqb-true, eqb-false}
 use lib.Dec.{eqb}
 use lib.ListN.{getD}
-use Rattle.sheet.specs.Words.{bitOf, labelOf}
+use Rattle.sheet.specs.Words.{labelOf}
 use Rattle.sheet.specs.Pairing.{Shuffle, pairedLabel, PairedSheets}
 use Rattle.sheet.proofs.Words.{no-corner}
 use Rattle.sheet.proofs.Pairing.{to-one}
@@ -16,7 +15,7 @@ use Rattle.sheet.specs.declared.Label.{Label}
 use Rattle.labels.specs.Labelled.{namesCorner, isLabelled, labelledPlaces, labelCount}
 use Rattle.labels.specs.Box.{boxOf}
 use Rattle.labels.specs.Rim.{rim}
-use Rattle.labels.specs.Used.{names, usedOn, Tied, OneCell}
+use Rattle.labels.specs.Used.{names, usedOn, OneCell}
 use Rattle.labels.proofs.Below.{any-ext}
 use Rattle.labels.proofs.Labelled.{SamePlaces, same-places, same-count}
 use Rattle.labels.proofs.Box.{same-box}
@@ -80,11 +79,6 @@ module _ {n : ℕ} {s : Shuffle n} {sheet sheet' : List ℕ} (paired : PairedShe
     paired-used k h =
         any-ext (λ p. names (s .to k) (labelOf (getD sheet' p 0))) (λ p. names k (labelOf (getD sheet p 0))) 16384
         (λ p l. ap (names (s .to k)) (paired .labels p l) ∙ names-pair s (labelOf (getD sheet p 0)) k (λ j. known p j l) h)
-
-    -- arrays tied to the two sheets have equal entries for paired corners
-    pub paired-entry : {used used' : List ℕ} → Tied sheet used → Tied sheet' used' → n ≤ 1024 → (k : ℕ) → k < n → getD used' (s .to k) 0 ≡ getD used k 0
-    paired-entry t t' few k h =
-        t' .at (s .to k) (omega (arith, s .to-in k h)) ∙ ap bitOf (paired-used k h) ∙ sym (t .at k (omega arith))
 
     pub paired-one : OneCell sheet → OneCell sheet'
     paired-one o =

@@ -1,7 +1,7 @@
 -- Laws of prediction: the square a cell at a time; a seen cell is on the sheet; all is settled by what is seen, so that it is
 -- the same for paired frames; a cell with a labelled cell beside it has a prediction. Assumes nothing.
 use mathlib.Core.Path.{_≡_, refl, sym, ap, _∙_}
-use mathlib.Core.Bool.{Bool, true, false, _&&_, _||_, true≢false}
+use mathlib.Core.Bool.{true, false, _&&_, _||_, true≢false}
 use mathlib.Core.List.{List, [], _∷_}
 use Prim.Native.Nat.{ℕ, zero, suc, _+_, _<_, _≤_}
 use native.Mathlib.Omega.{arith}
@@ -92,10 +92,6 @@ offsets-eight = refl
 abbrev pub neighboursFrom : (Cell → Seen) → Cell → ℕ → List Neighbour
 neighboursFrom seen c k = labelledAmong seen c (drop k neighbourOffsets)
 
-or-true : (b : Bool) → (b || true) ≡ true
-or-true true = refl
-or-true false = refl
-
 module _ (seen : Cell → Seen) (c : Cell) where
   next-of : (os : List Offset) (o : Offset) (k : ℕ) → k < length os
       → labelledAmong seen c (drop k os) ≡ putBefore (moved c (getD os k o)) (seen (moved c (getD os k o))) (labelledAmong seen c (drop (suc k) os))
@@ -166,50 +162,9 @@ module _ (seen : Cell → Seen) (c : Cell) where
     unfolding hasNeighbour predictionOf
     predicted-some e = from-some (neighboursOf seen c) (sumsOf seen grid c) e
 
-  -- ---- a labelled cell of the square is a neighbour
-
-  module _ (side : Side) where
-    any-drop : (os : List Offset) (k : ℕ) → anyOn side c (labelledAmong seen c (drop k os)) ≡ true → anyOn side c (labelledAmong seen c os) ≡ true
-    unfolding labelledAmong
-    any-drop os zero e = e
-    any-drop [] (suc k) e = e
-    any-drop (o ∷ os) (suc k) e =
-        any-before side (moved c o) (seen (moved c o)) (labelledAmong seen c os)
-        ∙ ap (λ (b : Bool). (isSeen (seen (moved c o)) && onSide side c (moved c o)) || b) (any-drop os k e)
-        ∙ or-true (isSeen (seen (moved c o)) && onSide side c (moved c o))
-
-    pub square-has : (k : ℕ) → k < 8 → isSeen (seen (squareCell c k)) ≡ true → onSide side c (squareCell c k) ≡ true → hasNeighbour seen c side ≡ true
-    unfolding hasNeighbour neighboursOf
-    square-has k h e f = any-drop neighbourOffsets k (any-here side k h (rw (e, f)))
-
-  -- the four cells beside a cell are cells of the square
-  pub forward-has : (d : Direction) → isSeen (seen (moved c (forwardOf d))) ≡ true → hasNeighbour seen c Side.Any ≡ true
-  unfolding neighbourOffsets onSide
-  forward-has Direction.I e = square-has Side.Any 4 (omega arith) e refl
-  forward-has Direction.J e = square-has Side.Any 6 (omega arith) e refl
-
-  pub backward-has : (d : Direction) → isSeen (seen (moved c (backwardOf d))) ≡ true → hasNeighbour seen c Side.Any ≡ true
-  unfolding neighbourOffsets onSide
-  backward-has Direction.I e = square-has Side.Any 3 (omega arith) e refl
-  backward-has Direction.J e = square-has Side.Any 1 (omega arith) e refl
-
-  -- a cell with a labelled cell beside it has a prediction
-  module _ (grid : Grid) where
-    has-prediction : hasNeighbour seen c Side.Any ≡ true → predictionOf seen grid c ≡ Prediction.NoNeighbour → ⊥
-    has-prediction h e = let z : _≡_ {A = ℕ} 0 1 = cc (predicted-some grid h) in omega arith
-
-    pub forward-predicts : (d : Direction) → isSeen (seen (moved c (forwardOf d))) ≡ true → predictionOf seen grid c ≡ Prediction.NoNeighbour → ⊥
-    forward-predicts d e = has-prediction (forward-has d e)
-
-    pub backward-predicts : (d : Direction) → isSeen (seen (moved c (backwardOf d))) ≡ true → predictionOf seen grid c ≡ Prediction.NoNeighbour → ⊥
-    backward-predicts d e = has-prediction (backward-has d e)
-
 -- ---- what is seen settles all
 
 module _ {seen seen' : Cell → Seen} (same : seen' ≡ seen) where
-  pub neighbours-same : (c : Cell) → neighboursOf seen' c ≡ neighboursOf seen c
-  neighbours-same c = ap (λ (s : Cell → Seen). neighboursOf s c) same
-
   pub step-same : (n : Neighbour) (d : Direction) → stepAt seen' n d ≡ stepAt seen n d
   step-same n d = ap (λ (s : Cell → Seen). stepAt s n d) same
 
@@ -223,12 +178,6 @@ module _ {seen seen' : Cell → Seen} (same : seen' ≡ seen) where
 
 module _ {xs ys pitches xs' ys' pitches' : List Float} {sheet sheet' : List ℕ}
     (corners : PairedCorners xs ys pitches xs' ys' pitches') (paired : PairedSheets (corners .pairs) sheet sheet') (given : Given xs ys pitches sheet) where
-  pub neighbours-paired : (c : Cell) → neighboursOf (seenOf (cornerOf xs' ys' pitches') sheet') c ≡ neighboursOf (seenOf (cornerOf xs ys pitches) sheet) c
-  neighbours-paired = neighbours-same (seen-paired corners paired given)
-
-  pub step-paired : (n : Neighbour) (d : Direction) → stepAt (seenOf (cornerOf xs' ys' pitches') sheet') n d ≡ stepAt (seenOf (cornerOf xs ys pitches) sheet) n d
-  step-paired = step-same (seen-paired corners paired given)
-
   pub prediction-paired : (grid : Grid) (c : Cell) → predictionOf (seenOf (cornerOf xs' ys' pitches') sheet') grid c ≡ predictionOf (seenOf (cornerOf xs ys pitches) sheet) grid c
   prediction-paired = prediction-same (seen-paired corners paired given)
 

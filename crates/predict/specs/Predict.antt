@@ -7,7 +7,7 @@ use Prim.Native.Nat.{ℕ, _<_, _≤_}
 use lib.ListN.{length, getD}
 use lib.IntN.{ℤ, pos, negsuc}
 use lib.Signed.{ltZ}
-use lib.Ieee.{Float, binary32, ofBits, ofInt, add, sub, mul, div}
+use lib.Ieee.{Float, binary32, ofInt, add, sub, mul, div}
 use Rattle.sheet.specs.Cells.{OnSheet, moved, differenceOf}
 use Rattle.sheet.specs.Corners.{Given}
 use Rattle.sheet.specs.declared.Cell.{Cell}

@@ -9,10 +9,8 @@ use lib.Dec.{ltb}
 use Rattle.recovery.specs.Answer.{answerText}
 use Rattle.recover_read.specs.Reading.{bytesOf}
 use Rattle.recover_read.specs.declared.Input.{Input}
-use Rattle.recover_say.specs.Said.{Told}
-use Rattle.recover_say.specs.declared.Said.{Said}
 use Rattle.recover_say.proofs.Printing.{told-prints}
-use Rattle.recover.specs.Program.{Replied, Ran, outputFault, faultOf, written, Printed, RanPrints}
+use Rattle.recover.specs.Program.{Replied, outputFault, faultOf, Printed, RanPrints}
 use Rattle.recover.specs.declared.Outcome.{Outcome}
 use Rattle.recover.specs.declared.Fault.{Fault}
 

@@ -4,17 +4,17 @@ use mathlib.Core.Bool.{Bool, true, false}
 use mathlib.Core.List.{List, [], _∷_, _++_, append-nil}
 use Prim.Native.Nat.{ℕ, zero, suc, _+_, _-_, _<_, _≤_}
 use native.Mathlib.Omega.{arith}
-use borrow.Author.Tests.{ltb-true, ltb-false, eq-eqb, ne-eqb}
-use lib.Dec.{T, ltb, eqb}
+use borrow.Author.Tests.{ltb-false, eq-eqb, ne-eqb}
+use lib.Dec.{T, eqb}
 use lib.ListN.{length, take, drop, length-take, length-drop}
 use lib.IntN.{ℤ, pos, negsuc, natAbs}
 use lib.Signed.{ltZ, nonNeg}
-use lib.Seq.{take-add, take-all}
+use lib.Seq.{take-add}
 use borrow.Rule.Slice.PartMut.{putMid, take-put, same-len-mid}
 use mir.Syntax.{w32, w64}
 use mir.Val.{SFits, ofZ}
 use Rattle.libc.specs.Io.{Moved}
-use Rattle.recover_read.specs.Reading.{noneBy, noneFor, gotOf, FitsIn, Refilled, readOn, Read, some, ended, interrupted, failed, gotBy, goOn, standingAfter, bytesIn, bytesOf, Answers, over, full, AtFront, ReadInto, SoFar}
+use Rattle.recover_read.specs.Reading.{noneBy, noneFor, gotOf, FitsIn, Refilled, readOn, Read, some, ended, interrupted, failed, gotBy, standingAfter, bytesIn, bytesOf, over, full, ReadInto, SoFar}
 use Rattle.recover_read.specs.declared.Got.{Got}
 use Rattle.recover_read.specs.declared.Input.{Input}
 use Rattle.recover_read.specs.declared.Standing.{Standing}

@@ -1,6 +1,6 @@
 -- The window of a round: that it has all places that a round walks, and that a walk may jump over all places that are not in it. Assumes nothing.
 use mathlib.Core.Path.{_≡_, refl, ap₂, _∙_, subst}
-use mathlib.Core.Bool.{Bool, true, false, not, _&&_}
+use mathlib.Core.Bool.{Bool, true, false, _&&_}
 use mathlib.Core.List.{List, [], _∷_, List·Memᴰ, List·Memᴰ·head, List·Memᴰ·tail}
 use Prim.Native.Nat.{ℕ, zero, suc, _+_, _-_, _/_, _%_, min, _<_, _≤_}
 use native.Mathlib.Omega.{arith}

@@ -8,10 +8,10 @@ use native.Mathlib.Omega.{arith}
 use lib.ListN.{length, getD}
 use lib.Ieee.{Float}
 use Rattle.sheet.specs.Cells.{OnSheet, placeOf}
-use Rattle.sheet.specs.Words.{Content, labelOfNumber, labelOf, labelAt, attached, holeMarked, ambiguousMarked, marksCleared, emptySheet}
+use Rattle.sheet.specs.Words.{Content, labelOfNumber, labelOf, labelAt, attached, marksCleared, emptySheet}
 use Rattle.sheet.specs.Corners.{seenThrough, seenOf, Listed, Given}
 use Rattle.sheet.proofs.Laws.{place-in}
-use Rattle.sheet.proofs.Words.{label-on, labelled-on, Changed, attached-changes, hole-changes, ambiguous-changes, cleared-changes, empty-length, empty-word, no-corner}
+use Rattle.sheet.proofs.Words.{label-on, labelled-on, Changed, attached-changes, cleared-changes, empty-length, empty-word, no-corner}
 use Rattle.sheet.specs.declared.Cell.{Cell}
 use Rattle.sheet.specs.declared.Label.{Label}
 use Rattle.sheet.specs.declared.Corner.{Corner}
@@ -53,12 +53,6 @@ module _ {xs ys pitches : List Float} {sheet : List ℕ} (given : Given xs ys pi
   module _ (c : Cell) (on : OnSheet c) where
     pub given-attached : (k : ℕ) → k < length xs → k < 16383 → Given xs ys pitches (attached sheet c k)
     given-attached k l h = given-changed (attached-changes sheet c (given .long) on k h) (λ m e. let f : k ≡ m = cc in omega arith)
-
-    pub given-hole : Given xs ys pitches (holeMarked sheet c)
-    given-hole = given-changed (hole-changes sheet c (given .long) on) (label-known c)
-
-    pub given-ambiguous : Given xs ys pitches (ambiguousMarked sheet c)
-    given-ambiguous = given-changed (ambiguous-changes sheet c (given .long) on) (label-known c)
 
     pub given-cleared : Given xs ys pitches (marksCleared sheet c)
     given-cleared = given-changed (cleared-changes sheet c (given .long) on) (label-known c)

@@ -146,12 +146,6 @@ line-j c h = lined (c .j) (on-j c h)
 pub on-near : (c : Cell) → OnSheet c → NearSheet c
 on-near c h = let a = line-i c h in let b = line-j c h in record { i-near = omega arith; j-near = omega arith }
 
-pub moved-near : (c : Cell) (o : Offset) → OnSheet c → Within 128 o → NearSheet (moved c o)
-moved-near c o h w =
-    let a = line-i c h in
-    let b = line-j c h in
-    record { i-near = omega (arith, abs-add (c .i) (o .di)); j-near = omega (arith, abs-add (c .j) (o .dj)) }
-
 -- two near cells differ by at most 400 each way
 pub difference-within : (a b : Cell) → NearSheet a → NearSheet b → Within 1000 (differenceOf a b)
 difference-within a b g h = record { di-small = omega (arith, abs-sub (a .i) (b .i)); dj-small = omega (arith, abs-sub (a .j) (b .j)) }

@@ -1,5 +1,4 @@
 -- `elimination::column` meets its contract. Assumes nothing.
-use borrow.Author.Needs.{needs}
 use Rattle.elimination.proofs.Shape.{swap-done, column-done}
 use Rattle.elimination.proofs.column.Statement.{statement}
 use Rattle.elimination.proofs.column.Tie as tie

@@ -2,7 +2,6 @@
 use mathlib.Core.Path.{sym, ap, _∙_}
 use Rattle.extension_common.specs.TryCell.{choiceBy}
 use Rattle.extension_common.specs.declared.ChoiceRule.{ChoiceRule}
-use lib.Ieee.{Float}
 use borrow.Author.Needs.{needs}
 use Rattle.extension_common.proofs.choose.Statement.{statement}
 use Rattle.extension_common.proofs.choose.Tie as tie

@@ -1,5 +1,5 @@
 -- `recover::run` meets its contract: what was read is answered. Assumes nothing.
-use mathlib.Core.Path.{_≡_, sym, _∙_}
+use mathlib.Core.Path.{sym, _∙_}
 use Rattle.recover.proofs.Replying.{ran}
 use borrow.Author.Needs.{needs}
 use Rattle.recover.proofs.run.Statement.{statement}

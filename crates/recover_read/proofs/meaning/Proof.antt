@@ -1,9 +1,6 @@
 -- `recover_read::meaning` meets its contract: the answer and errno are read back as they were. Assumes nothing.
-use mathlib.Core.Path.{_≡_, sym, subst}
-use lib.IntN.{ℤ}
-use lib.Dec.{T}
-use mir.Syntax.{w32, w64}
-use mir.Val.{SFits, Fits}
+use mir.Syntax.{w64}
+use mir.Val.{SFits}
 use mir.Facts.{toZ-ofZ, fits-natAbs}
 use borrow.Author.Needs.{needs}
 use Rattle.recover_read.proofs.Laws.{bytes-came, at-end, stopped, could-not, above-none}

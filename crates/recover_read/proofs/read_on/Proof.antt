@@ -1,6 +1,6 @@
 -- `recover_read::read_on` meets its contract, by what the read gave. Assumes nothing.
 use native.Mathlib.Omega.{arith}
-use mathlib.Core.Path.{_≡_, refl}
+use mathlib.Core.Path.{refl}
 use Rattle.recover_read.specs.Reading.{FitsIn, readOn}
 use Rattle.recover_read.specs.declared.Got.{Got}
 use Rattle.recover_read.proofs.Laws.{again}

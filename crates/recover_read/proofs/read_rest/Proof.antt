@@ -1,5 +1,4 @@
 -- `recover_read::read_rest` meets its contract: the rest of the buffer comes back behind what stood before it. Assumes nothing.
-use mathlib.Core.Path.{_≡_, sym}
 use mir.Syntax.{w64}
 use mir.Val.{SFits}
 use mir.Facts.{toZ-ofZ}

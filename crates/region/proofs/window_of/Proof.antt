@@ -1,5 +1,5 @@
 -- `region::window_of` meets its contract: by the box, whose ends' places give the lines. Assumes nothing.
-use mathlib.Core.Path.{_≡_, refl, ap, _∙_}
+use mathlib.Core.Path.{_≡_, refl}
 use Prim.Native.Nat.{_<_}
 use native.Mathlib.Omega.{arith}
 use mir.Syntax.{w32}

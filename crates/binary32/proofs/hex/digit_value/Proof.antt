@@ -1,7 +1,6 @@
 -- `hex::digit_value` meets its contract: `proofs/Digits.antt` has each case. Assumes nothing.
 use borrow.Author.Needs.{needs}
 use mathlib.Core.Path.{sym}
-use native.Mathlib.Omega.{arith}
 use Rattle.binary32.proofs.Digits.{value-low, value-decimal, value-between, value-letter, value-high}
 use Rattle.binary32.proofs.hex.digit_value.Statement.{statement}
 use Rattle.binary32.proofs.hex.digit_value.Tie as tie

@@ -1,5 +1,4 @@
 -- `hex::float_of` meets its contract: a pattern is finite exactly if it is below the infinity's without its sign. Assumes nothing.
-use mathlib.Core.Path.{_≡_, sym}
 use native.Mathlib.Omega.{arith}
 use Rattle.binary32.specs.Hex.{floatOf}
 use Rattle.binary32.proofs.Answered.{pattern}

@@ -1,6 +1,6 @@
 -- `hex::read_bits` meets its contract. The invariant: what is left to read, after the digits that made `bits`, gives the answer. Assumes nothing.
 use borrow.Author.Needs.{needs}
-use mathlib.Core.Path.{_≡_, sym, ap, subst, _∙_}
+use mathlib.Core.Path.{_≡_, sym, subst, _∙_}
 use Prim.Native.Nat.{ℕ, _+_, _-_, _*_, _<_}
 use native.Mathlib.Omega.{arith}
 use lib.ListN.{getD}

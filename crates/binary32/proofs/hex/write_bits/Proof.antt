@@ -1,11 +1,6 @@
 -- `hex::write_bits` meets its contract. The invariant: the first i bytes are the first i digits, and the rest is as it was. Assumes nothing.
-use borrow.Author.Needs.{needs}
-use mathlib.Core.Path.{_≡_, refl, sym, ap, _∙_}
-use mathlib.Core.List.{_++_}
-use Prim.Native.Nat.{ℕ, _+_, _-_, _*_, _/_, _%_, _^_, _≤_, _<_}
+use Prim.Native.Nat.{_-_}
 use native.Mathlib.Omega.{arith}
-use lib.ListN.{length, take, drop}
-use Rattle.binary32.specs.Hex.{hexText}
 use Rattle.binary32.proofs.Digits.{Writing, begun, one-more-written, still, done}
 use Rattle.binary32.proofs.hex.write_bits.Statement.{statement}
 use Rattle.binary32.proofs.hex.write_bits.Tie as tie

@@ -1,6 +1,6 @@
 -- `hex::write_float` meets its contract: a NaN, which alone differs from itself, has the pattern that is written for it. Assumes nothing.
 use borrow.Author.Needs.{needs}
-use mathlib.Core.Path.{_≡_, ap, _∙_}
+use mathlib.Core.Path.{ap, _∙_}
 use mathlib.Core.List.{_++_}
 use Prim.Native.Nat.{ℕ}
 use lib.ListN.{drop}

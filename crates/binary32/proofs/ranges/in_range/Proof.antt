@@ -1,8 +1,8 @@
 -- `ranges::in_range` meets its contract: the two tests are those of the range. Assumes nothing.
 use borrow.Author.Needs.{needs}
-use mathlib.Core.Path.{_≡_, sym, ap, ap₂, _∙_}
+use mathlib.Core.Path.{sym, ap, _∙_}
 use mathlib.Core.Bool.{Bool, _&&_}
-use lib.Ieee.{Float, le}
+use lib.Ieee.{le}
 use Rattle.binary32.specs.Ranges.{between}
 use Rattle.binary32.specs.declared.ranges.Ends.{Ends}
 use Rattle.binary32.proofs.ranges.in_range.Statement.{statement}

@@ -1,5 +1,4 @@
 -- `ranges::is_finite` meets its contract: a value below +infinity and above -infinity is finite. Assumes nothing.
-use mathlib.Core.Path.{_≡_}
 use lib.Ieee.{ofBits, neg, nanBits}
 use Rattle.binary32.proofs.Finite.{below-top, not-above-bottom}
 use Rattle.binary32.proofs.ranges.is_finite.Statement.{statement}

@@ -1,5 +1,5 @@
 -- `root::refine` meets its contract. The root lies from lo up and below hi, and each turn halves what is between. Assumes nothing.
-use Prim.Native.Nat.{ℕ, _+_, _-_, _*_, _/_, _^_, _≤_, _<_}
+use Prim.Native.Nat.{ℕ, _+_, _-_, _*_, _/_, _<_}
 use mathlib.Core.Path.{_≡_}
 use native.Mathlib.Omega.{arith}
 use Rattle.binary32.specs.Steps.{Enclosed}

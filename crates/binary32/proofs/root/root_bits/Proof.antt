@@ -1,8 +1,6 @@
 -- `root::root_bits` meets its contract: `proofs/Assemble.antt` has the root from its parts. Assumes nothing.
 use borrow.Author.Needs.{needs}
-use Prim.Native.Nat.{ℕ, _+_, _-_, _*_, _/_, _%_, _^_, _≤_, _<_}
-use mathlib.Core.Path.{_≡_}
-use native.Mathlib.Omega.{arith}
+use Prim.Native.Nat.{_-_, _/_}
 use lib.Dec.{lit≤}
 use Rattle.binary32.proofs.Assemble.{root, even, odd}
 use Rattle.binary32.proofs.root.root_bits.Statement.{statement}
