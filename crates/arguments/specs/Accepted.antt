@@ -5,6 +5,7 @@ use mathlib.Core.Bool.{true}
 use mathlib.Core.List.{List}
 use Prim.Native.Nat.{ℕ, _<_, _≤_}
 use lib.ListN.{length, getD}
+use Rattle.sizes.specs.Sizes.{placeCount, cornerLimit}
 use Rattle.binary32.specs.Ranges.{inRange}
 use Rattle.binary32.specs.declared.ranges.Quantity.{Quantity}
 use Rattle.sheet.specs.Words.{labelOf}
@@ -66,7 +67,7 @@ PassInside (Pass.Local p) = LocalInside p
 pub record Accepted (l : Lent) (settings : Settings) (pass : Pass) : Type 0 where
   pub queue-long : queueNeeded pass (cornerCount l) ≤ l .queue
   pub attached-long : cornerCount l ≤ l .attached
-  pub few : cornerCount l ≤ 1024
+  pub few : cornerCount l ≤ cornerLimit
   pub corners-inside : (k : ℕ) → k < cornerCount l → CornerInside (cornerOf (l .xs) (l .ys) (l .pitches) k)
   pub settings-inside : SettingsInside settings
   pub pass-inside : PassInside pass
@@ -77,7 +78,7 @@ pub record Accepted (l : Lent) (settings : Settings) (pass : Pass) : Type 0 wher
 pub record LongEnough (l : Lent) (pass : Pass) : Type 0 where
   pub ys-long : cornerCount l ≤ length (l .ys)
   pub pitches-long : cornerCount l ≤ length (l .pitches)
-  pub sheet-long : 16384 ≤ length (l .sheet)
+  pub sheet-long : placeCount ≤ length (l .sheet)
   pub queue-long : queueNeeded pass (cornerCount l) ≤ l .queue
   pub attached-long : cornerCount l ≤ l .attached
 
@@ -85,7 +86,7 @@ pub record LongEnough (l : Lent) (pass : Pass) : Type 0 where
 
 -- the sheet names corners below n only
 pub record Known (n : ℕ) (sheet : List ℕ) : Type 0 where
-  pub known : (p k : ℕ) → p < 16384 → labelOf (getD sheet p 0) ≡ Label.Corner k → k < n
+  pub known : (p k : ℕ) → p < placeCount → labelOf (getD sheet p 0) ≡ Label.Corner k → k < n
 
 -- a corner that stands on two places of the sheet
 pub record OnTwoPlaces (sheet : List ℕ) : Type 0 where
@@ -93,6 +94,6 @@ pub record OnTwoPlaces (sheet : List ℕ) : Type 0 where
   pub second : ℕ
   pub corner : ℕ
   pub earlier : first < second
-  pub below : second < 16384
+  pub below : second < placeCount
   pub first-holds : labelOf (getD sheet first 0) ≡ Label.Corner corner
   pub second-holds : labelOf (getD sheet second 0) ≡ Label.Corner corner

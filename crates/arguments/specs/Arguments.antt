@@ -6,6 +6,7 @@ use Prim.Native.Nat.{ℕ, _*_}
 use lib.Dec.{ltb, leb}
 use lib.ListN.{length, getD}
 use lib.Ieee.{Float}
+use Rattle.sizes.specs.Sizes.{placeCount, cornerLimit}
 use Rattle.refusal.specs.declared.Refusal.{Refusal}
 use Rattle.binary32.specs.Ranges.{inRange}
 use Rattle.binary32.specs.declared.ranges.Quantity.{Quantity}
@@ -52,7 +53,7 @@ unfoldable pub tooShort : Lent → Pass → Bool
 tooShort l pass =
     ltb (length (l .ys)) (cornerCount l)
     || (ltb (length (l .pitches)) (cornerCount l)
-    || (ltb (length (l .sheet)) 16384
+    || (ltb (length (l .sheet)) placeCount
     || (ltb (l .queue) (queueNeeded pass (cornerCount l))
     || ltb (l .attached) (cornerCount l))))
 
@@ -60,7 +61,7 @@ tooShort l pass =
 
 -- "At most .. 1,024 corners"
 unfoldable pub overLimit : Lent → Bool
-overLimit l = ltb 1024 (cornerCount l)
+overLimit l = ltb cornerLimit (cornerCount l)
 
 -- ---- 3, wild: "number non-finite or out of range"
 
@@ -138,7 +139,7 @@ unknownAt n sheet p = unknown n (labelOf (getD sheet p 0))
 
 -- some place of the sheet holds one
 unfoldable pub unknownCorner : ℕ → List ℕ → Bool
-unknownCorner n sheet = anyBelow 16384 (unknownAt n sheet)
+unknownCorner n sheet = anyBelow placeCount (unknownAt n sheet)
 
 -- ---- 6, doubled: "cell or corner labelled twice"; a place holds one corner at most, so a cell never is
 
@@ -153,7 +154,7 @@ doubledAt sheet q = anyBelow q (λ p. sameCorner (labelOf (getD sheet q 0)) (lab
 
 -- some corner stands on two places of the sheet
 unfoldable pub doubledCorner : List ℕ → Bool
-doubledCorner sheet = anyBelow 16384 (doubledAt sheet)
+doubledCorner sheet = anyBelow placeCount (doubledAt sheet)
 
 -- ---- "The library tries 7, 2, 3, 5, 6"
 

@@ -6,6 +6,7 @@ use Prim.Native.Nat.{ℕ, _<_, _≤_}
 use lib.Dec.{eqb}
 use lib.ListN.{length, getD}
 use lib.Ieee.{Float}
+use Rattle.sizes.specs.Sizes.{placeCount, cornerLimit}
 use Rattle.sheet.specs.declared.Label.{Label}
 use Rattle.labels.specs.Used.{noted}
 use Rattle.arguments.specs.Accepted.{Known}
@@ -19,7 +20,7 @@ pub record AllListed (xs ys pitches : List Float) : Type 0 where
 
 -- a label whose corner, if it names one, has an entry
 pub record HasEntry (label : Label) : Type 0 where
-  pub entry : (k : ℕ) → label ≡ Label.Corner k → k < 1024
+  pub entry : (k : ℕ) → label ≡ Label.Corner k → k < cornerLimit
 
 -- the label's corner was seen before
 unfoldable pub seenBefore : List ℕ → Label → Bool
@@ -33,11 +34,11 @@ pub record Noted (seen : List ℕ) (label : Label) (after : List ℕ) (r : Bool)
 
 -- a sheet that is long enough and names corners that have an entry
 pub record HasEntries (sheet : List ℕ) : Type 0 where
-  pub long : 16384 ≤ length sheet
-  pub known : Known 1024 sheet
+  pub long : placeCount ≤ length sheet
+  pub known : Known cornerLimit sheet
 
 -- such a sheet, and nothing seen
 pub record Unseen (sheet seen : List ℕ) : Type 0 where
   pub entries : HasEntries sheet
-  pub size : length seen ≡ 1024
-  pub none : (k : ℕ) → k < 1024 → getD seen k 0 ≡ 0
+  pub size : length seen ≡ cornerLimit
+  pub none : (k : ℕ) → k < cornerLimit → getD seen k 0 ≡ 0

@@ -5,6 +5,7 @@ use mathlib.Core.List.{List}
 use mathlib.Core.Logic.{_↔_}
 use Prim.Native.Nat.{ℕ, _<_, _≤_}
 use lib.ListN.{getD}
+use Rattle.sizes.specs.Sizes.{placeCount, cornerLimit}
 use Rattle.refusal.specs.declared.Refusal.{Refusal}
 use Rattle.sheet.specs.Words.{labelOf}
 use Rattle.sheet.specs.Corners.{cornerOf}
@@ -25,7 +26,7 @@ pub record NumbersInside (l : Lent) (settings : Settings) (pass : Pass) : Type 0
 pub record NamesUnknown (n : ℕ) (sheet : List ℕ) : Type 0 where
   pub place : ℕ
   pub corner : ℕ
-  pub below : place < 16384
+  pub below : place < placeCount
   pub holds : labelOf (getD sheet place 0) ≡ Label.Corner corner
   pub unknown : n ≤ corner
 
@@ -34,15 +35,15 @@ abbrev pub RefusedFor : Lent → Settings → Pass → Refusal → Type 0
 -- 7, short: some lent buffer is not as long as needed
 RefusedFor l settings pass Refusal.BufferTooShort = LongEnough l pass → ⊥
 -- 2, overfull: more than 1,024 corners
-RefusedFor l settings pass Refusal.OverLimit = LongEnough l pass × (1024 < cornerCount l)
+RefusedFor l settings pass Refusal.OverLimit = LongEnough l pass × (cornerLimit < cornerCount l)
 -- 3, wild: some number is out of its range
-RefusedFor l settings pass Refusal.OutOfRange = LongEnough l pass × (cornerCount l ≤ 1024) × (NumbersInside l settings pass → ⊥)
+RefusedFor l settings pass Refusal.OutOfRange = LongEnough l pass × (cornerCount l ≤ cornerLimit) × (NumbersInside l settings pass → ⊥)
 -- 5, stranger: some place names a corner that is not given
 RefusedFor l settings pass Refusal.UnknownCorner =
-    LongEnough l pass × (cornerCount l ≤ 1024) × NumbersInside l settings pass × NamesUnknown (cornerCount l) (l .sheet)
+    LongEnough l pass × (cornerCount l ≤ cornerLimit) × NumbersInside l settings pass × NamesUnknown (cornerCount l) (l .sheet)
 -- 6, doubled: some corner stands on two places
 RefusedFor l settings pass Refusal.Duplicate =
-    LongEnough l pass × (cornerCount l ≤ 1024) × NumbersInside l settings pass × Known (cornerCount l) (l .sheet) × OnTwoPlaces (l .sheet)
+    LongEnough l pass × (cornerCount l ≤ cornerLimit) × NumbersInside l settings pass × Known (cornerCount l) (l .sheet) × OnTwoPlaces (l .sheet)
 RefusedFor l settings pass Refusal.Malformed = ⊥
 RefusedFor l settings pass Refusal.OffSheet = ⊥
 

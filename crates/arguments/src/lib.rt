@@ -5,6 +5,7 @@ ghost use mathlib.Core.Path.{_≡_};
 ghost use Prim.Native.Nat.{_≤_};
 ghost use lib.Dec.{ltb};
 ghost use lib.ListN.{length};
+ghost use Rattle.sizes.specs.Sizes.{placeCount};
 ghost use Rattle.arguments.specs.Arguments.{lent, queueNeeded, tooShort, outside, cornerOutside, someCornerOutside, axisOutside, settingsOutside, growOutside, fillOutside, localOutside, passOutside, unknown, unknownCorner, doubledCorner, checked};
 ghost use Rattle.arguments.specs.Asked.{AllListed, HasEntry, HasEntries, Noted, Unseen};
 use binary32::ranges::Quantity;
@@ -13,6 +14,8 @@ use predict::Vector;
 use refusal::Refusal;
 use sheet::Corner;
 use sheet::Label;
+use sizes::CORNERS;
+use sizes::PLACES;
 
 // The numbers of a grow pass: search, factor and boundary in 01's words.
 pub struct GrowParams {
@@ -86,7 +89,7 @@ fn too_short(
     if pitches.len() < xs.len() {
         return true;
     }
-    if sheet.len() < 16384 {
+    if sheet.len() < PLACES {
         return true;
     }
     if queue_short(queue, xs.len(), pass) {
@@ -225,11 +228,11 @@ fn is_unknown(n: usize, label: Label) -> bool
 
 // 5: whether the sheet names a corner from n on.
 pub fn unknown_corner(n: usize, sheet: &[u16]) -> bool
-    requires { ⌜ 16384 ≤ length (now sheet) ⌝ }
+    requires { ⌜ placeCount ≤ length (now sheet) ⌝ }
     ensures { λ r. ⌜ r ≡ unknownCorner n (now (sheet .entry)) ⌝ }
 {
     let mut place = sheet::next_written(sheet, 0);
-    while place < 16384 {
+    while place < PLACES {
         if is_unknown(n, sheet::label_of(sheet[place])) {
             return true;
         }
@@ -239,7 +242,7 @@ pub fn unknown_corner(n: usize, sheet: &[u16]) -> bool
 }
 
 // Notes the corner of a label as seen; true if it was seen before.
-fn note(seen: &mut [u8; 1024], label: Label) -> bool
+fn note(seen: &mut [u8; CORNERS], label: Label) -> bool
     requires { ⌜ HasEntry label ⌝ }
     ensures { λ r. ⌜ Noted (now (seen .entry)) label (now (seen .exit)) r ⌝ }
 {
@@ -252,12 +255,12 @@ fn note(seen: &mut [u8; 1024], label: Label) -> bool
 }
 
 // Whether the sheet names a corner at two places; none is seen at the start.
-fn seen_twice(sheet: &[u16], seen: &mut [u8; 1024]) -> bool
+fn seen_twice(sheet: &[u16], seen: &mut [u8; CORNERS]) -> bool
     requires { ⌜ Unseen (now sheet) (now seen) ⌝ }
     ensures { λ r. ⌜ r ≡ doubledCorner (now (sheet .entry)) ⌝ }
 {
     let mut place = sheet::next_written(sheet, 0);
-    while place < 16384 {
+    while place < PLACES {
         if note(seen, sheet::label_of(sheet[place])) {
             return true;
         }
@@ -271,7 +274,7 @@ pub fn doubled_corner(sheet: &[u16]) -> bool
     requires { ⌜ HasEntries (now sheet) ⌝ }
     ensures { λ r. ⌜ r ≡ doubledCorner (now (sheet .entry)) ⌝ }
 {
-    let mut seen = [0u8; 1024];
+    let mut seen = [0u8; CORNERS];
     seen_twice(sheet, &mut seen)
 }
 
@@ -292,7 +295,7 @@ pub fn check_arguments(
     if too_short(xs, ys, pitches, sheet, queue, attached, pass) {
         return Checked::Refused(Refusal::BufferTooShort);
     }
-    if 1024 < xs.len() {
+    if CORNERS < xs.len() {
         return Checked::Refused(Refusal::OverLimit);
     }
     if some_corner_outside(xs, ys, pitches) {

@@ -5,6 +5,7 @@ use mathlib.Core.List.{List}
 use Prim.Native.Nat.{ℕ, _≤_, _<_}
 use lib.ListN.{length}
 use lib.Ieee.{Float}
+use Rattle.sizes.specs.Sizes.{cornerLimit}
 use Rattle.sheet.specs.Cells.{OnSheet}
 use Rattle.sheet.specs.Corners.{cornerOf, seenOf, Given}
 use Rattle.sheet.specs.declared.Cell.{Cell}
@@ -62,7 +63,7 @@ tryAt cs sheet tol search c prediction =
 -- corners and a sheet that belong together, at most 1,024 corners, an array that says which are used, and a cell of the sheet
 pub record Ready (xs ys pitches : List Float) (sheet used : List ℕ) (c : Cell) : Type 0 where
   pub given : Given xs ys pitches sheet
-  pub few : length xs ≤ 1024
+  pub few : length xs ≤ cornerLimit
   pub tied : Tied sheet used
   pub on : OnSheet c
 

@@ -7,6 +7,7 @@ use grow::Candidates;
 use positions_policy::Tolerances;
 use sheet::Cell;
 use sheet::Position;
+use sizes::CORNERS;
 
 // Which rule of choice: grow's, or fill's and local's.
 pub enum ChoiceRule {
@@ -46,7 +47,7 @@ pub fn try_attach_at_cell(
     ys: &[f32],
     pitches: &[f32],
     sheet: &[u16],
-    used: &[u8; 1024],
+    used: &[u8; CORNERS],
     c: Cell,
     prediction: Position,
     search: Search,

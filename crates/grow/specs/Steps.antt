@@ -5,6 +5,7 @@ use mathlib.Core.List.{List}
 use Prim.Native.Nat.{ℕ, zero, suc, _+_, _≤_, _<_}
 use lib.ListN.{length}
 use lib.Ieee.{Float, lt, le}
+use Rattle.sizes.specs.Sizes.{cornerLimit}
 use Rattle.sheet.specs.declared.Position.{Position}
 use Rattle.sheet.specs.Corners.{squaredDistance}
 use Rattle.grow.specs.declared.Candidate.{Candidate}
@@ -16,7 +17,7 @@ use Rattle.grow.specs.Candidates.{positionsOf, unmarked, eligible, isCan
 -- every corner has a y and a mark
 pub record Lent (xs ys : List Float) : Type 0 where
   pub with-y : length xs ≤ length ys
-  pub with-mark : length xs ≤ 1024
+  pub with-mark : length xs ≤ cornerLimit
 
 -- one more candidate, whose number is above all others': nearer than the first, or than the second, or neither
 abbrev pub kept : Candidates → Candidate → Candidates

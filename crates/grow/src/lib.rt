@@ -3,12 +3,14 @@
 ghost use mathlib.Core.Path.{_≡_};
 ghost use Prim.Native.Nat.{_+_, _≤_, _<_};
 ghost use lib.ListN.{length};
+ghost use Rattle.sizes.specs.Sizes.{cornerLimit};
 ghost use Rattle.binary32.specs.Sqrt.{sqrtOrNan};
 ghost use Rattle.sheet.specs.Corners.{squaredDistance};
 ghost use Rattle.grow.specs.Candidates.{positionsOf, unmarked, eligible, candidatesAt, firstTwo, lastDistance};
 ghost use Rattle.grow.specs.Choice.{byQuotient, chooseUnambiguous, raised, chooseWithFloor};
 ghost use Rattle.grow.specs.Steps.{Lent, Next, isNear, isWithin, oneIf, countFrom, measured, twoFound, narrowed};
 use sheet::Position;
+use sizes::CORNERS;
 
 // A corner's number, and its distance from the prediction.
 pub struct Candidate {
@@ -43,8 +45,8 @@ pub enum CandidateChoice {
 const EPSILON: f32 = 1.1920929e-7;
 
 // Whether corner k may be a candidate at all: it is unlabelled.
-fn is_eligible(used: &[u8; 1024], k: usize) -> bool
-    requires { ⌜ k < 1024 ⌝ }
+fn is_eligible(used: &[u8; CORNERS], k: usize) -> bool
+    requires { ⌜ k < cornerLimit ⌝ }
     ensures { λ r. ⌜ r ≡ eligible (unmarked (now (used .entry))) k ⌝ }
 {
     used[k] == 0
@@ -123,7 +125,7 @@ fn keep(found: Found, c: Candidate, d2: f32) -> Found
 fn is_within(
     xs: &[f32],
     ys: &[f32],
-    used: &[u8; 1024],
+    used: &[u8; CORNERS],
     k: usize,
     prediction: Position,
     limit: f32,
@@ -170,7 +172,7 @@ fn count_near(xs: &[f32], ys: &[f32], from: usize, prediction: Position, limit: 
 fn next_tested(
     xs: &[f32],
     ys: &[f32],
-    used: &[u8; 1024],
+    used: &[u8; CORNERS],
     from: usize,
     prediction: Position,
     limit: f32,
@@ -192,7 +194,7 @@ fn next_tested(
 fn next_within(
     xs: &[f32],
     ys: &[f32],
-    used: &[u8; 1024],
+    used: &[u8; CORNERS],
     from: usize,
     prediction: Position,
     limit: f32,
@@ -230,7 +232,7 @@ fn keep_corner(found: Found, xs: &[f32], ys: &[f32], k: usize, prediction: Posit
 pub fn collect_candidates(
     xs: &[f32],
     ys: &[f32],
-    used: &[u8; 1024],
+    used: &[u8; CORNERS],
     prediction: Position,
     search_r: f32,
 ) -> Candidates

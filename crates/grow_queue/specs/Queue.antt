@@ -5,6 +5,7 @@ use mathlib.Core.Bool.{true, cond}
 use mathlib.Core.List.{List, []}
 use Prim.Native.Nat.{ℕ, _+_, _*_, _<_, _≤_}
 use lib.ListN.{length, getD, take}
+use Rattle.sizes.specs.Sizes.{placeCount}
 use Rattle.sheet.specs.Cells.{cellOf}
 use Rattle.sheet.specs.Words.{bitOf}
 use Rattle.labels.specs.Labelled.{isLabelled, labelledPlaces, labelCount}
@@ -17,12 +18,12 @@ soFar queue tail = take tail queue
 
 -- an array in step with the queue: entry p is 1 if the place p was queued, and else 0
 pub record Flagged (queued seen : List ℕ) : Type 0 where
-  pub size : length seen ≡ 16384
-  pub at : (p : ℕ) → p < 16384 → getD seen p 0 ≡ bitOf (member p queued)
+  pub size : length seen ≡ placeCount
+  pub at : (p : ℕ) → p < placeCount → getD seen p 0 ≡ bitOf (member p queued)
 
 -- room in the queue for n cells more
 pub record Room (n : ℕ) (sheet queue seen : List ℕ) (tail : ℕ) : Type 0 where
-  pub long : 16384 ≤ length sheet
+  pub long : placeCount ≤ length sheet
   pub room : tail + n ≤ length queue
   pub flagged : Flagged (soFar queue tail) seen
 
@@ -44,14 +45,14 @@ seeded sheet = seededFrom sheet (labelledPlaces sheet) []
 
 -- room in the queue for four cells more, if the place is labelled
 pub record SeedRoom (sheet queue seen : List ℕ) (tail p : ℕ) : Type 0 where
-  pub long : 16384 ≤ length sheet
-  pub place : p < 16384
+  pub long : placeCount ≤ length sheet
+  pub place : p < placeCount
   pub upto : tail ≤ length queue
   pub room : isLabelled (getD sheet p 0) ≡ true → tail + 4 ≤ length queue
   pub flagged : Flagged (soFar queue tail) seen
 
 -- room in the queue for four cells a labelled cell, and nothing queued
 pub record Unqueued (sheet queue seen : List ℕ) : Type 0 where
-  pub long : 16384 ≤ length sheet
+  pub long : placeCount ≤ length sheet
   pub room : 4 * labelCount sheet ≤ length queue
   pub flagged : Flagged [] seen

@@ -6,9 +6,10 @@ ghost use Rattle.sheet.specs.Cells.{OnSheet};
 ghost use Rattle.passes.specs.Grow.{enqueued, spread};
 ghost use Rattle.grow_queue.specs.Queue.{soFar, Room, QueueHeld, seededAt, SeedRoom, seeded, Unqueued};
 use sheet::Cell;
+use sizes::PLACES;
 
 // Queues a cell: it goes to the queue's end if it lies on the sheet, is unlabelled, and was not queued before. Returns the new end.
-fn enqueue(sheet: &[u16], queue: &mut [u16], seen: &mut [u8; 16384], tail: usize, c: Cell) -> usize
+fn enqueue(sheet: &[u16], queue: &mut [u16], seen: &mut [u8; PLACES], tail: usize, c: Cell) -> usize
     requires { ⌜ Room 1 (now sheet) (now queue) (now seen) tail ⌝ }
     ensures { λ r. ⌜ QueueHeld (now (queue .entry)) (now (queue .exit)) (now (seen .exit)) r (enqueued (now (sheet .entry)) c (soFar (now (queue .entry)) tail)) ⌝ }
 {
@@ -31,7 +32,7 @@ fn enqueue(sheet: &[u16], queue: &mut [u16], seen: &mut [u8; 16384], tail: usize
 pub fn enqueue_cardinal_neighbours(
     sheet: &[u16],
     queue: &mut [u16],
-    seen: &mut [u8; 16384],
+    seen: &mut [u8; PLACES],
     tail: usize,
     c: Cell,
 ) -> usize
@@ -57,7 +58,7 @@ pub fn enqueue_cardinal_neighbours(
 fn seed_at(
     sheet: &[u16],
     queue: &mut [u16],
-    seen: &mut [u8; 16384],
+    seen: &mut [u8; PLACES],
     tail: usize,
     place: usize,
 ) -> usize
@@ -71,13 +72,13 @@ fn seed_at(
 }
 
 // Queues the neighbours of all labelled cells, by i, then j, from an empty queue. Returns the queue's end.
-pub fn seed(sheet: &[u16], queue: &mut [u16], seen: &mut [u8; 16384]) -> usize
+pub fn seed(sheet: &[u16], queue: &mut [u16], seen: &mut [u8; PLACES]) -> usize
     requires { ⌜ Unqueued (now sheet) (now queue) (now seen) ⌝ }
     ensures { λ r. ⌜ QueueHeld (now (queue .entry)) (now (queue .exit)) (now (seen .exit)) r (seeded (now (sheet .entry))) ⌝ }
 {
     let mut tail = 0usize;
     let mut place = sheet::next_written(sheet, 0);
-    while place < 16384 {
+    while place < PLACES {
         tail = seed_at(sheet, queue, seen, tail, place);
         place = sheet::next_written(sheet, place + 1);
     }

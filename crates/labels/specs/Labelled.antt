@@ -5,6 +5,7 @@ use mathlib.Core.Bool.{Bool, true, false, cond, _||_}
 use mathlib.Core.List.{List, [], _∷_, _++_}
 use Prim.Native.Nat.{ℕ, zero, suc, _+_, _<_, _≤_}
 use lib.ListN.{length, getD}
+use Rattle.sizes.specs.Sizes.{placeCount}
 use Rattle.sheet.specs.Cells.{OnSheet}
 use Rattle.sheet.specs.Words.{labelOf, labelAt}
 use Rattle.sheet.specs.declared.Cell.{Cell}
@@ -46,7 +47,7 @@ abbrev pub labelledBelow : List ℕ → ℕ → List ℕ
 labelledBelow sheet n = passing (λ p. isLabelled (getD sheet p 0)) n
 
 unfoldable pub labelledPlaces : List ℕ → List ℕ
-labelledPlaces sheet = labelledBelow sheet 16384
+labelledPlaces sheet = labelledBelow sheet placeCount
 
 -- the number of labels
 unfoldable pub labelCount : List ℕ → ℕ
@@ -58,11 +59,11 @@ counted n w = cond (isLabelled w) (n + 1) n
 
 -- a corner k to be attached at a cell: the sheet is long enough, the cell is on it and unlabelled, and a word holds the corner
 pub record Attaching (sheet : List ℕ) (c : Cell) (k : ℕ) : Type 0 where
-  pub long : 16384 ≤ length sheet
+  pub long : placeCount ≤ length sheet
   pub on : OnSheet c
   pub bare : labelAt sheet c ≡ Label.Unlabelled
   pub corner-fits : k < 16383
 
 -- two sheets with the same labels, whatever their marks: the same places hold the same corners
 pub record SameLabels (sheet after : List ℕ) : Type 0 where
-  pub same-label : (p : ℕ) → p < 16384 → labelOf (getD after p 0) ≡ labelOf (getD sheet p 0)
+  pub same-label : (p : ℕ) → p < placeCount → labelOf (getD after p 0) ≡ labelOf (getD sheet p 0)

@@ -7,6 +7,7 @@ use Prim.Native.Nat.{ℕ, _≤_}
 use lib.IntN.{ℤ, pos, _-ℤ_}
 use lib.Signed.{ltZ}
 use lib.ListN.{length, getD}
+use Rattle.sizes.specs.Sizes.{placeCount}
 use Rattle.sheet.specs.Cells.{cellOf}
 use Rattle.sheet.specs.declared.Cell.{Cell}
 use Rattle.labels.specs.Labelled.{anyBelow, isLabelled, LabelledCell}
@@ -31,9 +32,9 @@ rimAt depth w p = isLabelled w && onRim depth (cellOf p)
 
 -- the rim computed
 unfoldable pub rim : ℕ → List ℕ → Bool
-rim depth sheet = anyBelow 16384 (λ p. rimAt depth (getD sheet p 0) p)
+rim depth sheet = anyBelow placeCount (λ p. rimAt depth (getD sheet p 0) p)
 
 -- a sheet that is long enough, and a depth of at most 64 rings, which is the whole sheet
 pub record RimAsked (sheet : List ℕ) (depth : ℕ) : Type 0 where
-  pub long : 16384 ≤ length sheet
+  pub long : placeCount ≤ length sheet
   pub shallow : depth ≤ 64

@@ -4,6 +4,7 @@
 ghost use mathlib.Core.Path.{_≡_};
 ghost use Prim.Native.Nat.{_≤_, _<_};
 ghost use lib.ListN.{length};
+ghost use Rattle.sizes.specs.Sizes.{placeCount};
 ghost use Rattle.sheet.specs.Words.{labelOf};
 ghost use Rattle.labels.specs.Labelled.{isLabelled, counted, labelCount};
 ghost use Rattle.labels.specs.Box.{lowerOf, higherOf, widened, boxWith, boxOf};
@@ -11,6 +12,8 @@ ghost use Rattle.labels.specs.Rim.{onRim, rimAt, rim, RimAsked};
 ghost use Rattle.labels.specs.Used.{noted, Tied};
 use sheet::Cell;
 use sheet::Label;
+use sizes::CORNERS;
+use sizes::PLACES;
 
 // Whether a word names a corner.
 pub fn is_labelled(word: u16) -> bool
@@ -25,7 +28,7 @@ pub fn is_labelled(word: u16) -> bool
 
 // The count with one more word looked at.
 fn count_word(count: usize, word: u16) -> usize
-    requires { ⌜ count < 16384 ⌝ }
+    requires { ⌜ count < placeCount ⌝ }
     ensures { λ r. ⌜ r ≡ counted count word ⌝ }
 {
     if is_labelled(word) {
@@ -36,12 +39,12 @@ fn count_word(count: usize, word: u16) -> usize
 
 // How many cells are labelled.
 pub fn label_count(sheet: &[u16]) -> usize
-    requires { ⌜ 16384 ≤ length (now sheet) ⌝ }
+    requires { ⌜ placeCount ≤ length (now sheet) ⌝ }
     ensures { λ r. ⌜ r ≡ labelCount (now (sheet .entry)) ⌝ }
 {
     let mut count = 0usize;
     let mut place = sheet::next_written(sheet, 0);
-    while place < 16384 {
+    while place < PLACES {
         count = count_word(count, sheet[place]);
         place = sheet::next_written(sheet, place + 1);
     }
@@ -104,7 +107,7 @@ pub fn widen(around: LabelBox, c: Cell) -> LabelBox
 
 // The box with one place more looked at.
 fn box_place(around: LabelBox, word: u16, place: usize) -> LabelBox
-    requires { ⌜ place < 16384 ⌝ }
+    requires { ⌜ place < placeCount ⌝ }
     ensures { λ r. ⌜ r ≡ boxWith around word place ⌝ }
 {
     if is_labelled(word) {
@@ -115,12 +118,12 @@ fn box_place(around: LabelBox, word: u16, place: usize) -> LabelBox
 
 // The label box of a sheet: the lowest and highest labelled i and j, or empty.
 pub fn label_box(sheet: &[u16]) -> LabelBox
-    requires { ⌜ 16384 ≤ length (now sheet) ⌝ }
+    requires { ⌜ placeCount ≤ length (now sheet) ⌝ }
     ensures { λ r. ⌜ r ≡ boxOf (now (sheet .entry)) ⌝ }
 {
     let mut around = LabelBox::Empty;
     let mut place = sheet::next_written(sheet, 0);
-    while place < 16384 {
+    while place < PLACES {
         let next = box_place(around, sheet[place], place);
         around = next;
         place = sheet::next_written(sheet, place + 1);
@@ -150,7 +153,7 @@ pub fn on_rim(c: Cell, depth: u32) -> bool
 
 // Whether a place is labelled and lies in the outermost `depth` rings.
 fn place_on_rim(word: u16, place: usize, depth: u32) -> bool
-    requires { ⌜ (place < 16384) × (depth ≤ 64) ⌝ }
+    requires { ⌜ (place < placeCount) × (depth ≤ 64) ⌝ }
     ensures { λ r. ⌜ r ≡ rimAt depth word place ⌝ }
 {
     if is_labelled(word) {
@@ -165,7 +168,7 @@ pub fn rim_reached(sheet: &[u16], depth: u32) -> bool
     ensures { λ r. ⌜ r ≡ rim depth (now (sheet .entry)) ⌝ }
 {
     let mut place = sheet::next_written(sheet, 0);
-    while place < 16384 {
+    while place < PLACES {
         if place_on_rim(sheet[place], place, depth) {
             return true;
         }
@@ -175,26 +178,26 @@ pub fn rim_reached(sheet: &[u16], depth: u32) -> bool
 }
 
 // The corner that a word names is marked as used; all other entries stay. A corner of 1,024 or more has no entry.
-fn note_used(used: &mut [u8; 1024], word: u16)
+fn note_used(used: &mut [u8; CORNERS], word: u16)
     ensures { λ r. ⌜ now (used .exit) ≡ noted (now (used .entry)) (labelOf word) ⌝ }
 {
     let named = sheet::label_of(word);
     let Label::Corner(k) = named else {
         return;
     };
-    if k < 1024 {
+    if k < CORNERS {
         used[k] = 1;
     }
 }
 
 // Which corners the sheet has: entry k is 1 if the corner k is at one of its places, and else 0.
-pub fn mark_used(sheet: &[u16]) -> [u8; 1024]
-    requires { ⌜ 16384 ≤ length (now sheet) ⌝ }
+pub fn mark_used(sheet: &[u16]) -> [u8; CORNERS]
+    requires { ⌜ placeCount ≤ length (now sheet) ⌝ }
     ensures { λ r. ⌜ Tied (now (sheet .entry)) r ⌝ }
 {
-    let mut used = [0u8; 1024];
+    let mut used = [0u8; CORNERS];
     let mut place = sheet::next_written(sheet, 0);
-    while place < 16384 {
+    while place < PLACES {
         note_used(&mut used, sheet[place]);
         place = sheet::next_written(sheet, place + 1);
     }

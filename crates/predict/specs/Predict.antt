@@ -8,6 +8,7 @@ use lib.ListN.{length, getD}
 use lib.IntN.{ℤ, pos, negsuc}
 use lib.Signed.{ltZ}
 use lib.Ieee.{Float, binary32, ofInt, add, sub, mul, div}
+use Rattle.sizes.specs.Sizes.{placeCount}
 use Rattle.sheet.specs.Cells.{OnSheet, moved, differenceOf}
 use Rattle.sheet.specs.Corners.{Given}
 use Rattle.sheet.specs.declared.Cell.{Cell}
@@ -215,6 +216,6 @@ pub record GivenSquare (xs ys pitches : List Float) (sheet : List ℕ) (c : Cell
 
 -- the same, where the labels alone are looked at
 pub record SheetSquare (sheet : List ℕ) (c : Cell) (k : ℕ) : Type 0 where
-  pub long : 16384 ≤ length sheet
+  pub long : placeCount ≤ length sheet
   pub on : OnSheet c
   pub small : k < 8

@@ -4,6 +4,7 @@
 ghost use mathlib.Core.Path.{_≡_};
 ghost use Prim.Native.Nat.{ℕ, _<_, _≤_};
 ghost use lib.ListN.{length};
+ghost use Rattle.sizes.specs.Sizes.{placeCount};
 ghost use Rattle.sheet.specs.Cells.{Within};
 ghost use Rattle.sheet.specs.Words.{SheetCell};
 ghost use Rattle.sheet.specs.Corners.{cornerOf, seenOf};
@@ -300,7 +301,7 @@ fn sum_neighbours(
 
 // Whether a cell is labelled, that is, whether a corner is seen at it, whatever the corners are.
 fn is_labelled(sheet: &[u16], c: Cell) -> bool
-    requires { ⌜ 16384 ≤ length (now sheet) ⌝ }
+    requires { ⌜ placeCount ≤ length (now sheet) ⌝ }
     ensures { λ r. ⌜ ((corner : ℕ → Corner) → r ≡ isSeen (seenOf corner (now (sheet .entry)) c)) ⌝ }
 {
     let label = sheet::label_at(sheet, c);

@@ -6,6 +6,7 @@ use mathlib.Core.List.{List, [], _∷_}
 use Prim.Native.Nat.{ℕ, _/_, _%_, _<_, _≤_}
 use lib.Dec.{eqb}
 use lib.ListN.{length, getD}
+use Rattle.sizes.specs.Sizes.{placeCount, cornerLimit}
 use Rattle.sheet.specs.Cells.{cellOf}
 use Rattle.sheet.specs.Words.{bitOf}
 use Rattle.sheet.specs.declared.Cell.{Cell}
@@ -20,9 +21,9 @@ use Rattle.region.specs.Small.{SmallBox}
 
 -- some places of the sheet at the front of an array
 pub record Listed (places : List ℕ) (count : ℕ) : Type 0 where
-  pub few : count ≤ 1024
-  pub size : length places ≡ 1024
-  pub below : (a : ℕ) → a < count → getD places a 0 < 16384
+  pub few : count ≤ cornerLimit
+  pub size : length places ≡ cornerLimit
+  pub below : (a : ℕ) → a < count → getD places a 0 < placeCount
 
 -- one of some places has this line, its row or its column
 unfoldable pub onLine : (ℕ → ℕ) → ℕ → List ℕ → Bool
@@ -69,6 +70,6 @@ regionAt depth region p = regionAround depth (region .rows) (region .columns) (r
 
 -- a place is to be told by a region whose bounds are small, at a depth of at most 64
 pub record Telling (region : Region) (place depth : ℕ) : Type 0 where
-  pub below : place < 16384
+  pub below : place < placeCount
   pub shallow : depth ≤ 64
   pub small : SmallBox (region .around)

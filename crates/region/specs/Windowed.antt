@@ -2,6 +2,7 @@
 use mathlib.Core.Path.{_≡_}
 use mathlib.Core.Bool.{true}
 use Prim.Native.Nat.{ℕ, _/_, _%_, _<_, _≤_}
+use Rattle.sizes.specs.Sizes.{placeCount}
 use Rattle.sheet.specs.Cells.{OnSheet, cellOf}
 use Rattle.labels.specs.declared.Bounds.{Bounds}
 use Rattle.labels.specs.declared.LabelBox.{LabelBox}
@@ -32,10 +33,10 @@ pub record WindowFits (w : Window) : Type 0 where
 -- a window that has all places that are at most so many lines past the box, by i and by j
 pub record Windowed (past : ℕ) (around : LabelBox) (w : Window) : Type 0 where
   pub fits : WindowFits w
-  pub covers : (b : Bounds) → around ≡ LabelBox.Around b → (m n p : ℕ) → m ≤ past → n ≤ past → p < 16384 → nearI m b (cellOf p) ≡ true → nearJ n b (cellOf p) ≡ true → InWindow w p
+  pub covers : (b : Bounds) → around ≡ LabelBox.Around b → (m n p : ℕ) → m ≤ past → n ≤ past → p < placeCount → nearI m b (cellOf p) ≡ true → nearJ n b (cellOf p) ≡ true → InWindow w p
 
 -- the next place from one on that is in the window, or 16,384: none before it is
 pub record NextIn (w : Window) (from r : ℕ) : Type 0 where
   pub start : from ≤ r
-  pub upto : r ≤ 16384
+  pub upto : r ≤ placeCount
   pub out : (p : ℕ) → from ≤ p → p < r → InWindow w p → ⊥

@@ -5,6 +5,7 @@ ghost use mathlib.Core.Path.{_≡_};
 ghost use mathlib.Core.Bool.{_&&_};
 ghost use Prim.Native.Nat.{_+_, _-_, _/_, _%_, min, _<_, _≤_};
 ghost use lib.ListN.{take};
+ghost use Rattle.sizes.specs.Sizes.{placeCount};
 ghost use Rattle.passes.specs.Fill.{nearI, nearJ};
 ghost use Rattle.passes.specs.Local.{pastI, pastJ};
 ghost use Rattle.region.specs.Small.{SmallBounds};
@@ -13,6 +14,8 @@ ghost use Rattle.region.specs.Windowed.{BoxOn, WindowFits, Windowed, Nex
 use labels::Bounds;
 use labels::LabelBox;
 use sheet::Cell;
+use sizes::CORNERS;
+use sizes::PLACES;
 
 // Whether a cell lies inside the bounds by i, or at most `past` lines beyond them.
 pub fn is_near_i(b: Bounds, past: u32, c: Cell) -> bool
@@ -50,7 +53,7 @@ fn wide(place: u16) -> usize
 }
 
 // The rows of the first `count` places.
-pub fn rows_of(places: &[u16; 1024], count: usize) -> [u8; 128]
+pub fn rows_of(places: &[u16; CORNERS], count: usize) -> [u8; 128]
     requires { ⌜ Listed (now places) count ⌝ }
     ensures { λ r. ⌜ Lines (λ p. p % 128) (take count (now (places .entry))) r ⌝ }
 {
@@ -64,7 +67,7 @@ pub fn rows_of(places: &[u16; 1024], count: usize) -> [u8; 128]
 }
 
 // The columns of the first `count` places.
-pub fn columns_of(places: &[u16; 1024], count: usize) -> [u8; 128]
+pub fn columns_of(places: &[u16; CORNERS], count: usize) -> [u8; 128]
     requires { ⌜ Listed (now places) count ⌝ }
     ensures { λ r. ⌜ Lines (λ p. p / 128) (take count (now (places .entry))) r ⌝ }
 {
@@ -211,13 +214,13 @@ pub fn window_of(around: LabelBox, past: u32) -> Window
 
 // The next place from one on that lies in the window, or 16,384 where there is none: a walk over the sheet passes over all others.
 pub fn next_inside(w: Window, from: usize) -> usize
-    requires { ⌜ WindowFits w × (from ≤ 16384) ⌝ }
+    requires { ⌜ WindowFits w × (from ≤ placeCount) ⌝ }
     ensures { λ r. ⌜ NextIn w from r ⌝ }
 {
     let i = from / 128;
     let j = from % 128;
     if w.end_i <= i {
-        return 16384;
+        return PLACES;
     }
     if i < w.start_i {
         return w.start_i * 128 + w.start_j;
@@ -229,7 +232,7 @@ pub fn next_inside(w: Window, from: usize) -> usize
         return from;
     }
     if w.end_i <= i + 1 {
-        return 16384;
+        return PLACES;
     }
     (i + 1) * 128 + w.start_j
 }

@@ -5,6 +5,7 @@ use mathlib.Core.List.{List}
 use Prim.Native.Nat.{ℕ, _<_, _≤_}
 use lib.ListN.{length, getD}
 use lib.Ieee.{Float, nan, binary32, add, sub, mul}
+use Rattle.sizes.specs.Sizes.{placeCount}
 use Rattle.binary32.specs.Ranges.{isFinite}
 use Rattle.sheet.specs.Words.{labelOf, labelAt}
 use Rattle.sheet.specs.declared.Cell.{Cell}
@@ -46,7 +47,7 @@ pub record Listed (xs ys pitches : List Float) (k : ℕ) : Type 0 where
 -- corners and a sheet that belong together: the sheet is long enough, each corner has its x, y and pitch, and the sheet
 -- names no corner that is not given
 pub record Given (xs ys pitches : List Float) (sheet : List ℕ) : Type 0 where
-  pub long : 16384 ≤ length sheet
+  pub long : placeCount ≤ length sheet
   pub ys-long : length xs ≤ length ys
   pub pitches-long : length xs ≤ length pitches
-  pub known : (p k : ℕ) → p < 16384 → labelOf (getD sheet p 0) ≡ Label.Corner k → k < length xs
+  pub known : (p k : ℕ) → p < placeCount → labelOf (getD sheet p 0) ≡ Label.Corner k → k < length xs

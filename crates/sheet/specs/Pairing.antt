@@ -5,6 +5,7 @@ use mathlib.Core.List.{List}
 use Prim.Native.Nat.{ℕ, _<_}
 use lib.ListN.{length, getD}
 use lib.Ieee.{Float}
+use Rattle.sizes.specs.Sizes.{placeCount}
 use Rattle.sheet.specs.Words.{labelOf, holeOf, ambiguousOf}
 use Rattle.sheet.specs.Corners.{cornerOf}
 use Rattle.sheet.specs.declared.Label.{Label}
@@ -34,6 +35,6 @@ pub record PairedCorners (xs ys pitches xs' ys' pitches' : List Float) : Type 0 
 -- two sheets of equal length: each place of the second holds the pair of what the first holds, and equal marks
 pub record PairedSheets {n : ℕ} (s : Shuffle n) (sheet sheet' : List ℕ) : Type 0 where
   pub same-length : length sheet' ≡ length sheet
-  pub labels : (p : ℕ) → p < 16384 → labelOf (getD sheet' p 0) ≡ pairedLabel s (labelOf (getD sheet p 0))
-  pub holes : (p : ℕ) → p < 16384 → holeOf (getD sheet' p 0) ≡ holeOf (getD sheet p 0)
-  pub ambiguous : (p : ℕ) → p < 16384 → ambiguousOf (getD sheet' p 0) ≡ ambiguousOf (getD sheet p 0)
+  pub labels : (p : ℕ) → p < placeCount → labelOf (getD sheet' p 0) ≡ pairedLabel s (labelOf (getD sheet p 0))
+  pub holes : (p : ℕ) → p < placeCount → holeOf (getD sheet' p 0) ≡ holeOf (getD sheet p 0)
+  pub ambiguous : (p : ℕ) → p < placeCount → ambiguousOf (getD sheet' p 0) ≡ ambiguousOf (getD sheet p 0)

@@ -3,11 +3,13 @@
 ghost use mathlib.Core.Path.{_≡_};
 ghost use Prim.Native.Nat.{_+_, _<_, _≤_};
 ghost use lib.ListN.{length};
+ghost use Rattle.sizes.specs.Sizes.{placeCount};
 ghost use Rattle.sheet.specs.Cells.{onSheet, OnSheet, placeOf, cellOf, moved, differenceOf, magnitudeOf, Within, NearSheet};
 ghost use Rattle.sheet.specs.Words.{labelOf, holeOf, ambiguousOf, withLabel, withHole, withAmbiguous, withoutMarks, labelAt, attached, holeMarked, ambiguousMarked, marksCleared, SheetCell};
 ghost use Rattle.sheet.specs.Corners.{cornerOf, seenOf, Listed, Given};
 ghost use Rattle.sheet.specs.Blank.{allBlank, BlankRun, BlankPlaces, NextWritten};
 ghost use lib.IntN.{natAbs};
+use sizes::PLACES;
 
 // A cell of the checkerboard, by its two numbers. On the sheet both are from -64 to 63.
 pub struct Cell {
@@ -52,7 +54,7 @@ pub fn place_of(c: Cell) -> usize
 
 // The cell of a place below 16,384.
 pub fn cell_of(place: usize) -> Cell
-    requires { ⌜ place < 16384 ⌝ }
+    requires { ⌜ place < placeCount ⌝ }
     ensures { λ r. ⌜ r ≡ cellOf place ⌝ }
 {
     let i = (place / 128) as i32;
@@ -166,7 +168,7 @@ pub fn without_marks(word: u16) -> u16
 
 // The label of a cell; none off the sheet.
 pub fn label_at(sheet: &[u16], c: Cell) -> Label
-    requires { ⌜ 16384 ≤ length (now sheet) ⌝ }
+    requires { ⌜ placeCount ≤ length (now sheet) ⌝ }
     ensures { λ r. ⌜ r ≡ labelAt (now (sheet .entry)) c ⌝ }
 {
     if on_sheet(c) {
@@ -286,7 +288,7 @@ fn blank_run(sheet: &[u16], at: usize, most: usize) -> usize
 // Some places from one on that hold nothing, all of its row of 128 places, if the place itself holds nothing. From the row's start on the
 // whole row is tried first, and then 16 places at once.
 pub fn blank_places(sheet: &[u16], at: usize) -> usize
-    requires { ⌜ (at < 16384) × (16384 ≤ length (now sheet)) ⌝ }
+    requires { ⌜ (at < placeCount) × (placeCount ≤ length (now sheet)) ⌝ }
     ensures { λ r. ⌜ BlankPlaces (now (sheet .entry)) at r ⌝ }
 {
     if at % 128 == 0 {
@@ -304,11 +306,11 @@ pub fn blank_places(sheet: &[u16], at: usize) -> usize
 
 // The next place from one on that holds something, or 16,384 where there is none: most places hold nothing, and are passed over here row by row.
 pub fn next_written(sheet: &[u16], from: usize) -> usize
-    requires { ⌜ (from ≤ 16384) × (16384 ≤ length (now sheet)) ⌝ }
+    requires { ⌜ (from ≤ placeCount) × (placeCount ≤ length (now sheet)) ⌝ }
     ensures { λ r. ⌜ NextWritten (now (sheet .entry)) from r ⌝ }
 {
     let mut r = from;
-    while r < 16384 {
+    while r < PLACES {
         if sheet[r] != 0 {
             return r;
         }
