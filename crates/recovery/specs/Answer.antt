@@ -8,25 +8,20 @@ use lib.Dec.{ltb}
 use lib.ListN.{length}
 use lib.Ieee.{Float}
 use Rattle.refusal.specs.declared.Refusal.{Refusal}
-use Rattle.refusal.specs.Refusal.{numberOf}
 use Rattle.arguments.specs.Arguments.{unknownCorner, doubledCorner}
-use Rattle.line_form.specs.Forms.{bytes, printed}
 use Rattle.passes.specs.Outcome.{After, Outcome, refused, done}
 use Rattle.passes.specs.Run.{PassStats, run, sheetOf as sheetAfterAll}
 use Rattle.frame.specs.Frame.{Frame, partsOf, FrameRead, refused-at, accepted, readFrame}
 use Rattle.frame.specs.ReadFrame.{sheetOf, Buffers}
 use Rattle.frame_laws.specs.Calls.{cornersOf, callsOf}
-use Rattle.report_line.specs.Result.{count, resultText, resultFrom, Piece, resultPiece, lineCount}
+use Rattle.report_line.specs.Refused.{refusedText}
+use Rattle.report_line.specs.Result.{resultText, resultFrom, Piece, resultPiece, lineCount}
 use Rattle.report.specs.WriteResult.{statsIn, wildOutcome}
 use Rattle.line_form.specs.Written.{Wrote}
 use Rattle.recovery.specs.declared.Recovered.{Recovered}
 use Rattle.recovery.specs.declared.PieceWritten.{PieceWritten}
 
 -- ---- the whole answer
-
--- "The program prints `(refused number line)` alone."
-unfoldable pub refusedText : Refusal → ℕ → List ℕ
-refusedText r line = printed (bytes "(refused # #)\n") (count (numberOf r) ∷ count line ∷ [])
 
 -- what the passes said; no pass of an accepted frame is refused (`frame_laws`: `accepted-runs`)
 unfoldable pub statsOf : List (Outcome PassStats) → List PassStats
@@ -143,7 +138,7 @@ pub record Printable (corners passes : ℕ) (words sheet : List ℕ) : Type 0 wh
   pub once : doubledCorner sheet ≡ false
 
 unfoldable pub CanSay : Recovered → List ℕ → List ℕ → Type 0
-CanSay (Recovered.Refused r line) words sheet = line ≤ 100000
+CanSay (Recovered.Refused r line) words sheet = line ≤ 10000000
 CanSay (Recovered.Done corners passes) words sheet = Printable corners passes words sheet
 
 -- what is held after a run of a text says the answer to it, piece by piece

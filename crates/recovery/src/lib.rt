@@ -6,11 +6,9 @@ ghost use lib.Ieee.{binary32, ofBits};
 ghost use Rattle.passes.specs.Step.{cornerLists};
 ghost use Rattle.passes.specs.Run.{grow, fill, local};
 ghost use Rattle.recovery.specs.Running.{passAt, calledAs, callOf, callAt, left, leftBy, leftByAll, RoomFor, PassWords, AtFront, FrameRoom, PassRoom};
-ghost use Rattle.recovery.specs.Answer.{refusedText, Recovers, lentAs, heldLines, heldPiece, FewPasses, Printable, CanSay, WrotePiece, Moves};
+ghost use Rattle.recovery.specs.Answer.{Recovers, lentAs, heldLines, heldPiece, FewPasses, Printable, CanSay, WrotePiece, Moves};
 ghost use mathlib.Core.List.{[]};
 ghost use Rattle.report_line.specs.Result.{lineCount};
-ghost use Rattle.line_form.specs.Written.{unheldWhole, Wrote};
-ghost use lib.IntN.{pos};
 use arguments::FillParams;
 use arguments::GrowParams;
 use arguments::LocalExtensionParams;
@@ -338,25 +336,6 @@ pub fn recover_frame(
 
 // ---- the answer
 
-// A number of a refusal's line as a form takes it: 1,000,000 more.
-fn held(n: usize) -> u32
-    requires { ⌜ n ≤ 100000 ⌝ }
-    ensures { λ r. ⌜ unheldWhole r ≡ pos n ⌝ }
-{
-    1000000 + n as u32
-}
-
-// Writes `(refused number line)` to the front of a part, and leaves the rest of it as it was.
-fn write_refused(refusal: Refusal, line: usize, out: &mut [u8]) -> usize
-    requires { ⌜ line ≤ 100000 ⌝ }
-    requires { ⌜ 128 ≤ length (now out) ⌝ }
-    ensures { λ r. ⌜ Wrote (refusedText refusal line) (now (out .entry)) (now (out .exit)) r ⌝ }
-{
-    let number = refusal::number(refusal);
-    let words = [held(number as usize), held(line)];
-    line_form::write::write_form(b"(refused # #)\n", &words, out)
-}
-
 // How many lines the answer has, empty ones included.
 pub fn answer_lines(answer: Recovered) -> usize
     requires { ⌜ FewPasses answer ⌝ }
@@ -376,12 +355,12 @@ pub struct PieceWritten {
 
 // The only piece of a refusal.
 fn refused_piece(refusal: Refusal, line: usize, out: &mut [u8]) -> PieceWritten
-    requires { ⌜ line ≤ 100000 ⌝ }
+    requires { ⌜ line ≤ 10000000 ⌝ }
     requires { ⌜ 128 ≤ length (now out) ⌝ }
     ensures { λ r. ⌜ WrotePiece (heldPiece (Recovered.Refused refusal line) [] [] 0 (length (now (out .entry)))) (now (out .entry)) (now (out .exit)) r ⌝ }
     ensures { λ r. ⌜ Moves 0 (length (now (out .entry))) r ⌝ }
 {
-    let bytes = write_refused(refusal, line, out);
+    let bytes = report_line::line::write_refused(refusal, line, out);
     PieceWritten { bytes, next: 1 }
 }
 

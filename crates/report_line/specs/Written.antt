@@ -18,6 +18,10 @@ use Rattle.passes.specs.declared.LocalStats.{LocalStats}
 use Rattle.passes.specs.declared.LargestResidual.{LargestResidual}
 use Rattle.report_line.specs.Result.{growLine, fillLine, localLineWith, localLine, cellNumbers, labelLine}
 
+-- the largest number that a line can have: 32 bits hold 1,000,000 more
+abbrev pub largestHeld : ℕ
+largestHeld = 4293967295
+
 -- counts that an outcome can have: 64 rounds of 16,384 cells at most
 abbrev pub largestCount : ℕ
 largestCount = 1048576

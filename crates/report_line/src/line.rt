@@ -5,19 +5,21 @@ ghost use Prim.Native.Nat.{_≤_};
 ghost use lib.IntN.{pos, natAbs};
 ghost use lib.ListN.{length};
 ghost use Rattle.line_form.specs.Written.{unheldWhole, Wrote};
+ghost use Rattle.report_line.specs.Refused.{refusedText};
 ghost use Rattle.report_line.specs.Result.{heading, growLine, fillLine, localLine, cellLine, holeLine, ambiguousLine, sheetLine};
-ghost use Rattle.report_line.specs.Written.{GrowAsked, FillAsked, LocalAsked, BareAsked, FullAsked, bareLocalText, fullLocalText, CellAsked, CornerAsked, holeText, ambiguousText, cellText, PlaceAsked, LineAsked};
+ghost use Rattle.report_line.specs.Written.{largestHeld, GrowAsked, FillAsked, LocalAsked, BareAsked, FullAsked, bareLocalText, fullLocalText, CellAsked, CornerAsked, holeText, ambiguousText, cellText, PlaceAsked, LineAsked};
 use line_form::write::write_form;
 use passes::FillStats;
 use passes::GrowStats;
 use passes::LargestResidual;
 use passes::LocalStats;
+use refusal::Refusal;
 use sheet::Cell;
 use sheet::Label;
 
-// A count as a form takes it: 1,000,000 more.
+// A count as a form takes it: 1,000,000 more, so that 32 bits hold it.
 fn held(n: usize) -> u32
-    requires { ⌜ n ≤ 1048576 ⌝ }
+    requires { ⌜ n ≤ largestHeld ⌝ }
     ensures { λ r. ⌜ unheldWhole r ≡ pos n ⌝ }
 {
     1000000 + n as u32
@@ -29,6 +31,17 @@ fn held_number(z: i32) -> u32
     ensures { λ r. ⌜ unheldWhole r ≡ z ⌝ }
 {
     (z + 1000000) as u32
+}
+
+// A refusal's line: its number and the refused line.
+pub fn write_refused(refusal: Refusal, line: usize, out: &mut [u8]) -> usize
+    requires { ⌜ line ≤ 10000000 ⌝ }
+    requires { ⌜ 128 ≤ length (now out) ⌝ }
+    ensures { λ r. ⌜ Wrote (refusedText refusal line) (now (out .entry)) (now (out .exit)) r ⌝ }
+{
+    let number = refusal::number(refusal);
+    let words = [held(number as usize), held(line)];
+    write_form(b"(refused # #)\n", &words, out)
 }
 
 // The first line.

@@ -1,15 +1,10 @@
--- `write_refused` meets its contract. Assumes nothing.
-use Rattle.recovery.proofs.Refusing.{refused-room, refused-wrote}
+-- `line::write_refused` meets its contract. Assumes nothing.
+use Rattle.report_line.proofs.Refused.{refused-room, refused-wrote}
 use mathlib.Core.Path.{_≡_, refl, sym, ap, _∙_}
 use lib.IntN.{ℤ, pos}
 use borrow.Author.Needs.{needs}
-use Rattle.recovery.proofs.write_refused.Statement.{statement}
-use Rattle.recovery.proofs.write_refused.Tie as tie
-use Rattle.recovery.proofs.write_refused.Reads as reads
-use Rattle.recovery.proofs.write_refused.Lts as lts
-use Rattle.line_form.proofs.write.write_form.Reads as write-form-reads
-use Rattle.recovery.proofs.held.Reads as held-reads
-use Rattle.refusal.proofs.number.Reads as number-reads
+use Rattle.report_line.proofs.line.write_refused.Statement.{statement}
+use Rattle.report_line.proofs.line.write_refused.Tie as tie
 
 number-requires : tie.Need-number-requires
 number-requires c κs = search needs
