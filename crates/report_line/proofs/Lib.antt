@@ -2,6 +2,6 @@
 pub mod Wide
 pub mod Refused
 pub mod Short
-pub mod Lengths
+pub mod Like
 pub mod Forms
 pub mod Said

@@ -5,9 +5,12 @@ ghost use Prim.Native.Nat.{_≤_};
 ghost use lib.IntN.{pos, natAbs};
 ghost use lib.ListN.{length};
 ghost use Rattle.line_form.specs.Written.{unheldWhole, Wrote};
+ghost use Rattle.report_line.specs.Sizes.{lineRoom};
 ghost use Rattle.report_line.specs.Refused.{refusedText};
 ghost use Rattle.report_line.specs.Result.{heading, growLine, fillLine, localLine, cellLine, holeLine, ambiguousLine, sheetLine};
 ghost use Rattle.report_line.specs.Written.{largestHeld, GrowAsked, FillAsked, LocalAsked, BareAsked, FullAsked, bareLocalText, fullLocalText, CellAsked, CornerAsked, holeText, ambiguousText, cellText, PlaceAsked, LineAsked};
+use super::sizes::FIRST_AMBIGUOUS;
+use super::sizes::PLACES;
 use line_form::write::write_form;
 use passes::FillStats;
 use passes::GrowStats;
@@ -36,7 +39,7 @@ fn held_number(z: i32) -> u32
 // A refusal's line: its number and the refused line.
 pub fn write_refused(refusal: Refusal, line: usize, out: &mut [u8]) -> usize
     requires { ⌜ line ≤ 10000000 ⌝ }
-    requires { ⌜ 128 ≤ length (now out) ⌝ }
+    requires { ⌜ lineRoom ≤ length (now out) ⌝ }
     ensures { λ r. ⌜ Wrote (refusedText refusal line) (now (out .entry)) (now (out .exit)) r ⌝ }
 {
     let number = refusal::number(refusal);
@@ -200,11 +203,11 @@ pub fn write_sheet_line(sheet: &[u16], k: usize, out: &mut [u8]) -> usize
     requires { ⌜ LineAsked (now sheet) k (sheetLine (now sheet) k) (now out) ⌝ }
     ensures { λ r. ⌜ Wrote (sheetLine (now (sheet .entry)) k) (now (out .entry)) (now (out .exit)) r ⌝ }
 {
-    if k < 16384 {
+    if k < PLACES {
         return write_cell_line(sheet, k, out);
     }
-    if k < 32768 {
-        return write_hole_line(sheet, k - 16384, out);
+    if k < FIRST_AMBIGUOUS {
+        return write_hole_line(sheet, k - PLACES, out);
     }
-    write_ambiguous_line(sheet, k - 32768, out)
+    write_ambiguous_line(sheet, k - FIRST_AMBIGUOUS, out)
 }
