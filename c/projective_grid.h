@@ -149,10 +149,10 @@ uint32_t projective_grid_extend_via_local_homography(
  * Done: the corners stand at the front of xs, ys and pitches, the sheet of the given labels in the first 16,384 places
  * of sheet, six words for each pass at the front of passes, the six settings at the front of settings, and in out the
  * number of corners and the number of passes.
- * Refused: the answer is the number plus 8 times the line of the frame; the line is 0 where there are too many bytes, and
+ * Refused: the answer is the number plus 16 times the line of the frame; the line is 0 where there are too many bytes, and
  * for 7. PROJECTIVE_GRID_NUMBER and PROJECTIVE_GRID_LINE take it apart. */
-#define PROJECTIVE_GRID_NUMBER(answer) ((answer) % 8)
-#define PROJECTIVE_GRID_LINE(answer) ((answer) / 8)
+#define PROJECTIVE_GRID_NUMBER(answer) ((answer) % 16)
+#define PROJECTIVE_GRID_LINE(answer) ((answer) / 16)
 
 uint32_t projective_grid_read_frame(
     const uint8_t *text, size_t text_len,

@@ -192,8 +192,8 @@ pub(crate) fn read_frame(text: &[u8]) -> Result<Read, RefusedFrame> {
             floats.as_mut_ptr(), floats.len(), out.as_mut_ptr(), out.len(),
         )
     };
-    // A refused frame's answer is the number plus 8 times the line.
-    done(answer % 8).map_err(|refusal| RefusedFrame { refusal, line: answer / 8 })?;
+    // A refused frame's answer is the number plus 16 times the line.
+    done(answer % 16).map_err(|refusal| RefusedFrame { refusal, line: answer / 16 })?;
     let [corner_count, pass_count] = out;
     for list in [&mut xs, &mut ys, &mut pitches] {
         list.truncate(corner_count as usize);

@@ -26,8 +26,8 @@ use Rattle.passes.specs.Grow.{growAfter}
 use Rattle.passes.specs.Fill.{fillAfter}
 use Rattle.passes.specs.Local.{depthOf, localAfter}
 use Rattle.passes.specs.Step.{CornerLists, Rooms, lentOf, unless, growStep, fillStep, localStep}
-use Rattle.passes.specs.Run.{PassCall, grow, fill, local, Call, PassStats, growStats, fillStats, localStats, step, sheetAfter, run}
-use Rattle.invariants.specs.Calls.{cornersIn, Standing, passOf, checkedCall, answering, afterPass, afterCall}
+use Rattle.passes.specs.Run.{Call, PassStats, growStats, fillStats, localStats, step, sheetAfter, run}
+use Rattle.invariants.specs.Calls.{cornersIn, Standing, checkedCall, answering, afterPass, afterCall}
 use Rattle.invariants.proofs.Run.{step-as, call-accepted, standing-step, invariants}
 use Rattle.binary32.specs.Numbers.{one}
 use Rattle.agreement.specs.Agreement.{SameAfter, SameOutcome, both-refused, both-done, Agree, agree-end, agree-call, factorOf, AboveOne, FactorsAbove, was-refused, ran, Agreement}
@@ -110,10 +110,10 @@ module _ (l l' : CornerLists) (corners : PairedCorners (l .xs) (l .ys) (l .pitch
           visited = refl;
         }
 
-    pass-same : (p : PassCall) → PassInside (passOf p) → lt one (factorOf p) ≡ true → SameAfter (corners .pairs) (afterPass l sheet set p) (afterPass l' sheet' set p)
-    pass-same (grow p) numbers above = answering-same growStats (grow-after-same p numbers above)
-    pass-same (fill p) numbers above = answering-same fillStats (fill-after-same p numbers above)
-    pass-same (local p) numbers above = answering-same localStats (local-after-same p numbers above)
+    pass-same : (p : Pass) → PassInside p → lt one (factorOf p) ≡ true → SameAfter (corners .pairs) (afterPass l sheet set p) (afterPass l' sheet' set p)
+    pass-same (Pass.Grow p) numbers above = answering-same growStats (grow-after-same p numbers above)
+    pass-same (Pass.Fill p) numbers above = answering-same fillStats (fill-after-same p numbers above)
+    pass-same (Pass.Local p) numbers above = answering-same localStats (local-after-same p numbers above)
 
   -- the calls of grow, of fill and of local, as their contracts have them
   pub grow-step-same : (set : Settings) (p : GrowParams) (rooms : Rooms) → lt one (p .«attach_ambiguity_factor») ≡ true
@@ -141,7 +141,7 @@ module _ (l l' : CornerLists) (corners : PairedCorners (l .xs) (l .ys) (l .pitch
   pub step-same : (c : Call) → ((a : After PassStats) → step l sheet c ≡ done a → AboveOne c) → SameOutcome (corners .pairs) (step l sheet c) (step l' sheet' c)
   step-same c above =
       subst₂ (SameOutcome (corners .pairs)) (sym (step-as l sheet c)) (sym (step-as l' sheet' c))
-      (unless-same (checkedCall l sheet c) (checkedCall l' sheet' c) (afterCall l sheet c) (afterCall l' sheet' c) (checked-same (c .settings) (c .rooms) (passOf (c .pass)))
+      (unless-same (checkedCall l sheet c) (checkedCall l' sheet' c) (afterCall l sheet c) (afterCall l' sheet' c) (checked-same (c .settings) (c .rooms) (c .pass))
       (λ e.
       let w = call-accepted l sheet c e in
       let runs : step l sheet c ≡ done (afterCall l sheet c) = step-as l sheet c ∙ ap (λ (k : Checked). unless k (afterCall l sheet c)) e in

@@ -7,9 +7,10 @@ use Prim.Native.Nat.{ℕ}
 use lib.Ieee.{Float, lt}
 use Rattle.refusal.specs.declared.Refusal.{Refusal}
 use Rattle.sheet.specs.Pairing.{Shuffle, PairedCorners, PairedSheets}
+use Rattle.arguments.specs.declared.Pass.{Pass}
 use Rattle.passes.specs.Outcome.{After, Outcome, refused, done}
 use Rattle.passes.specs.Step.{CornerLists}
-use Rattle.passes.specs.Run.{PassCall, grow, fill, local, Call, PassStats, sheetAfter, run}
+use Rattle.passes.specs.Run.{Call, PassStats, sheetAfter, run}
 use Rattle.invariants.specs.Calls.{Standing, Invariant}
 use Rattle.binary32.specs.Numbers.{one}
 
@@ -47,10 +48,10 @@ pub data Agree {n : ℕ} (s : Shuffle n) : List ℕ → List ℕ → List (Outco
 -- ---- the condition
 
 -- the ambiguity factor of a pass
-abbrev pub factorOf : PassCall → Float
-factorOf (grow p) = p .«attach_ambiguity_factor»
-factorOf (fill p) = p .«attach_ambiguity_factor»
-factorOf (local p) = p .«ambiguity_factor»
+abbrev pub factorOf : Pass → Float
+factorOf (Pass.Grow p) = p .«attach_ambiguity_factor»
+factorOf (Pass.Fill p) = p .«attach_ambiguity_factor»
+factorOf (Pass.Local p) = p .«ambiguity_factor»
 
 -- above 1
 abbrev pub AboveOne : Call → Type 0

@@ -16,7 +16,7 @@ use Rattle.arguments.proofs.Laws.{not-short}
 use Rattle.passes.specs.Outcome.{Outcome, refused, done}
 use Rattle.passes.specs.Step.{lentOf, unless}
 use Rattle.passes.specs.Run.{Call, PassStats, step, run}
-use Rattle.invariants.specs.Calls.{Standing, passOf as passChecked, checkedCall, afterCall, CallInside}
+use Rattle.invariants.specs.Calls.{Standing, checkedCall, afterCall, CallInside}
 use Rattle.invariants.proofs.Run.{step-as}
 use Rattle.agreement.specs.Agreement.{AboveOne, FactorsAbove, no-more, was-refused as was-not-run, ran}
 use Rattle.frame_line.specs.Table.{kindAt}
@@ -83,13 +83,13 @@ module _ (sheet : List ℕ) (s : Standing (cornersOf firstFrame) sheet) where
   abbrev c : Call
   c = callOf firstFrame refusedLine
 
-  long : tooShort (lentOf (cornersOf firstFrame) sheet frameRooms) (passChecked (c .pass)) ≡ false
+  long : tooShort (lentOf (cornersOf firstFrame) sheet frameRooms) (c .pass) ≡ false
   unfolding queueNeeded fullOf passOf xsOf kindAt bitsAt wholeAt passLineOf opened adding partsFrom partsOf
   long =
       not-short _ _
       (record { ys-long = s .given .ys-long; pitches-long = s .given .pitches-long; sheet-long = s .given .long; queue-long = omega arith; attached-long = omega arith })
 
-  deep : outOfRange (lentOf (cornersOf firstFrame) sheet frameRooms) (c .settings) (passChecked (c .pass)) ≡ true
+  deep : outOfRange (lentOf (cornersOf firstFrame) sheet frameRooms) (c .settings) (c .pass) ≡ true
   unfolding outOfRange passOutside localOutside outside endsOf ofBits ofInt le fullOf passOf
   deep = or-last (someCornerOutside (xsOf firstFrame) (ysOf firstFrame) (pitchesOf firstFrame)) (settingsOutside (c .settings))
 

@@ -24,13 +24,13 @@ use Rattle.arguments.specs.declared.FillParams.{FillParams}
 use Rattle.arguments.specs.declared.LocalExtensionParams.{LocalExtensionParams}
 use Rattle.extension_common.specs.TryCell.{Corners, cornersOf}
 use Rattle.extension_common.specs.declared.TryCellResult.{TryCellResult}
+use Rattle.arguments.specs.declared.Pass.{Pass}
 use Rattle.passes.specs.declared.Counts.{Counts}
 use Rattle.passes.specs.declared.LargestResidual.{LargestResidual}
 use Rattle.passes.specs.Grow.{noCounts, growRun, growAfter}
 use Rattle.passes.specs.Fill.{FillState, fillRound, FillRounds, fillFrom, fillLimit, fillRun, fillAfter}
 use Rattle.passes.specs.Local.{depthOf, localCells, supportsOf, cellPoint, picturedAt, residualOf, residualsOf, LocalFit, none, fitted, trusted, localFit, LocalState, recorded, recordedAll, worst, withResiduals, gateOf, localWith, localAt, localVisit, localAll, localRound, LocalRounds, localFrom, localLimit, localRun, localAfter}
-use Rattle.passes.specs.Run.{PassCall, grow, fill, local}
-use Rattle.invariants.specs.Calls.{passOf, afterPass, afterCall, attachedCount}
+use Rattle.invariants.specs.Calls.{afterPass, afterCall, attachedCount}
 use Rattle.invariants.proofs.Run.{call-ran}
 use Rattle.bounds.specs.Bounds.{FewCounts, FiniteFloat, FiniteResidual, Small, small-grow, small-fill, small-local, SmallAnswers}
 use Rattle.bounds.proofs.Counts.{total, grow-counts, Turned, local-from}
@@ -168,13 +168,13 @@ small l sheet c w = go (c .pass) (w .pass-inside) (let r = call-ran l sheet c w 
     set : Settings
     set = c .settings
 
-    go : (p : PassCall) → PassInside (passOf p) → attachedCount (afterPass l sheet set p .answer) ≤ 16384 → Small (afterPass l sheet set p .answer)
-    go (grow p) i a = small-grow {s = growAfter cs set p sheet .answer} (few-counts 1048576 (4 * cs .count) _ (grow-counts cs set p sheet) (omega (arith, w .few)))
-    go (fill p) i a =
+    go : (p : Pass) → PassInside p → attachedCount (afterPass l sheet set p .answer) ≤ 16384 → Small (afterPass l sheet set p .answer)
+    go (Pass.Grow p) i a = small-grow {s = growAfter cs set p sheet .answer} (few-counts 1048576 (4 * cs .count) _ (grow-counts cs set p sheet) (omega (arith, w .few)))
+    go (Pass.Fill p) i a =
         let first : FillRounds = record { state = record { sheet = sheet; made = [] }; rounds = 0 } in
         let m = fillLimit (labelCount sheet) (p .«max_iters») in
         small-fill {s = fillAfter cs set p sheet .answer} (omega (arith, a)) (omega (arith, fill-from cs set p m first, limit-few (labelCount sheet) (p .«max_iters») (i .rounds)))
-    go (local p) i a =
+    go (Pass.Local p) i a =
         let first : LocalRounds = record { state = record { sheet = sheet; made = []; counts = noCounts; largest = LargestResidual.Nothing }; rounds = 0 } in
         let m = localLimit (labelCount sheet) (p .«max_iters») in
         let t = local-from cs set p m first in

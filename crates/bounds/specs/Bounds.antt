@@ -14,7 +14,7 @@ use Rattle.passes.specs.declared.LocalStats.{LocalStats}
 use Rattle.passes.specs.declared.LargestResidual.{LargestResidual}
 use Rattle.passes.specs.Step.{CornerLists, lentOf}
 use Rattle.passes.specs.Run.{Call, PassStats, growStats, fillStats, localStats}
-use Rattle.invariants.specs.Calls.{passOf, afterCall}
+use Rattle.invariants.specs.Calls.{afterCall}
 
 -- no count is above m
 pub record FewCounts (m : ℕ) (c : Counts) : Type 0 where
@@ -42,5 +42,5 @@ pub data Small : PassStats → Type 0 where
 -- so it is for every call that is not refused
 abbrev pub SmallAnswers : Type 0
 SmallAnswers =
-    (l : CornerLists) (sheet : List ℕ) (c : Call) → Accepted (lentOf l sheet (c .rooms)) (c .settings) (passOf (c .pass))
+    (l : CornerLists) (sheet : List ℕ) (c : Call) → Accepted (lentOf l sheet (c .rooms)) (c .settings) (c .pass)
     → Small (afterCall l sheet c .answer)

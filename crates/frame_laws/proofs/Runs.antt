@@ -19,7 +19,7 @@ use Rattle.arguments.specs.Accepted.{CornerInside, SettingsInside, PassInside}
 use Rattle.passes.specs.Outcome.{After, Outcome, done}
 use Rattle.passes.specs.Step.{CornerLists}
 use Rattle.passes.specs.Run.{Call, PassStats, step, sheetAfter, run, sheetOf as sheetLeft}
-use Rattle.invariants.specs.Calls.{Standing, CallInside, Accepts, passOf as passChecked}
+use Rattle.invariants.specs.Calls.{Standing, CallInside, Accepts}
 use Rattle.invariants.proofs.Run.{standing-step, fit-accepts, never-refused, invariants}
 use Rattle.frame_line.specs.Table.{rowCount, kindAt}
 use Rattle.frame_line.specs.Lines.{Line, kindOf, bitsAt, axesLineOf, CornerLine, PassLine, bare-grow, grow, bare-fill, fill, local}
@@ -31,7 +31,7 @@ use Rattle.frame_line.proofs.Said.{CornerTame, PassTame, cell-said, axes-said, 
 use Rattle.frame.specs.Frame.{Frame, Opening, opened, adding, partsFrom, no-parts, partsOf}
 use Rattle.frame.specs.Text.{All, InOrder, InRange, Sound, WithinLimits}
 use Rattle.frame.specs.ReadFrame.{floatOf, xsOf, ysOf, pitchesOf, sheetOf, settingsIn, settingsOf, fullOf, passOf}
-use Rattle.frame_laws.specs.Calls.{cornersOf, frameRooms, passCall, callOf, callsOf, NoneRefused, Starts, AcceptedRuns}
+use Rattle.frame_laws.specs.Calls.{cornersOf, frameRooms, callOf, callsOf, NoneRefused, Starts, AcceptedRuns}
 use Rattle.frame_laws.proofs.Lists.{all-map}
 use Rattle.frame_laws.proofs.Order.{First, first-of}
 use Rattle.frame_laws.proofs.Parts.{corners-all, passes-all, openings-kept}
@@ -119,11 +119,6 @@ module _ (f : Frame) (w : WithinLimits f) where
 
   -- ---- the passes
 
-  checked-so : (q : Pass) → passChecked (passCall q) ≡ q
-  checked-so (Pass.Grow p) = refl
-  checked-so (Pass.Fill p) = refl
-  checked-so (Pass.Local p) = refl
-
   queue-fits : (q : Pass) (n : ℕ) → n ≤ 1024 → queueNeeded q n ≤ frameRooms .queue
   unfolding queueNeeded
   queue-fits (Pass.Grow p) n h = omega arith
@@ -150,14 +145,13 @@ module _ (f : Frame) (w : WithinLimits f) where
 
   pass-fit : (p : PassLine) → PassTame p → CallInside (cornersOf f) (callOf f p)
   pass-fit p t =
-      let q = sym (checked-so (passOf (fullOf p))) in
       record {
         few = few;
-        queue-long = subst (λ (a : Pass). queueNeeded a (length (xsOf f)) ≤ frameRooms .queue) q (queue-fits (passOf (fullOf p)) (length (xsOf f)) few);
+        queue-long = queue-fits (passOf (fullOf p)) (length (xsOf f)) few;
         attached-long = omega (arith, few);
         corners-inside = corners-inside;
         settings-inside = settings-inside;
-        pass-inside = subst PassInside q (pass-inside p t);
+        pass-inside = pass-inside p t;
       }
 
   passes-fit : (ps : List PassLine) → All PassTame ps → All (CallInside (cornersOf f)) (map (callOf f) ps)

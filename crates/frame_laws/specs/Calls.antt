@@ -8,10 +8,9 @@ use lib.IntN.{pos, natAbs}
 use Rattle.sheet.specs.Words.{labelAt, holeAt, ambiguousAt}
 use Rattle.sheet.specs.declared.Cell.{Cell}
 use Rattle.sheet.specs.declared.Label.{Label}
-use Rattle.arguments.specs.declared.Pass.{Pass}
 use Rattle.passes.specs.Outcome.{Outcome, refused, done}
 use Rattle.passes.specs.Step.{CornerLists, Rooms}
-use Rattle.passes.specs.Run.{PassCall, grow, fill, local, Call, PassStats, run, sheetOf as sheetLeft}
+use Rattle.passes.specs.Run.{Call, PassStats, run, sheetOf as sheetLeft}
 use Rattle.invariants.specs.Calls.{Standing, Invariant, CallInside, Accepts}
 use Rattle.frame_line.specs.Lines.{LabelLine, PassLine}
 use Rattle.frame.specs.Frame.{Frame, partsOf, readFrame, accepted}
@@ -44,14 +43,9 @@ pub record GivenLabels (f : Frame) : Type 0 where
 abbrev pub frameRooms : Rooms
 frameRooms = record { queue = 4096; attached = 1024 }
 
-abbrev pub passCall : Pass → PassCall
-passCall (Pass.Grow p) = grow p
-passCall (Pass.Fill p) = fill p
-passCall (Pass.Local p) = local p
-
 -- the call of a pass line: its numbers, those of a bare one included, and the frame's cell size, axes and band
 abbrev pub callOf : Frame → PassLine → Call
-callOf f p = record { pass = passCall (passOf (fullOf p)); settings = settingsOf f; rooms = frameRooms }
+callOf f p = record { pass = passOf (fullOf p); settings = settingsOf f; rooms = frameRooms }
 
 unfoldable pub callsOf : Frame → List Call
 callsOf f = map (callOf f) (partsOf f .passes)

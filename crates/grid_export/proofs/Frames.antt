@@ -9,7 +9,6 @@ use lib.Dec.{ltb}
 use lib.ListN.{length}
 use lib.Ieee.{Float}
 use Rattle.refusal.specs.declared.Refusal.{Refusal}
-use Rattle.refusal.specs.Refusal.{numberOf}
 use Rattle.frame.specs.Frame.{Frame, FrameRead, refused-at, accepted, readFrame}
 use Rattle.frame.specs.ReadFrame.{Buffers, FrameOut, frameOut, tooShort, leaves, unlessShort, readInto}
 use Rattle.frame.specs.declared.FrameHead.{FrameHead}
@@ -18,17 +17,6 @@ use Rattle.frame_laws.proofs.Back.{frame-prints-back}
 use Rattle.recovery.proofs.Refusing.{refused-line}
 use Rattle.grid_export.specs.Frames.{Word, settingsEntered, countsEntered, refusedAnswer, Told, told, frameTold, FrameLeft, frameLeft, frameRead, headShort, frameUnless, frameExported, HeadRoom, Sayable}
 use Rattle.arguments.proofs.Chains.{or-false-both}
-
--- ---- a refusal
-
-pub number-small : (r : Refusal) → numberOf r ≤ 7
-number-small Refusal.Malformed = omega arith
-number-small Refusal.OverLimit = omega arith
-number-small Refusal.OutOfRange = omega arith
-number-small Refusal.OffSheet = omega arith
-number-small Refusal.UnknownCorner = omega arith
-number-small Refusal.Duplicate = omega arith
-number-small Refusal.BufferTooShort = omega arith
 
 -- ---- an answer by its case
 
@@ -40,7 +28,7 @@ module _ (answer : FrameAnswer) (settings : List Float) (out out' : List ℕ) wh
       → out' ≡ countsEntered (h .corners) (h .passes) out → told 0 settings' out' ≡ frameTold answer settings out
   tell-accepted h settings' t e w = rw (t, e, w) refl
 
-pub line-sayable : (answer : FrameAnswer) (r : Refusal) (line : ℕ) → Sayable answer → answer ≡ FrameAnswer.Refused r line → line ≤ 100000
+pub line-sayable : (answer : FrameAnswer) (r : Refusal) (line : ℕ) → Sayable answer → answer ≡ FrameAnswer.Refused r line → line ≤ 10000000
 line-sayable answer r line s t = subst (λ (a : FrameAnswer). Sayable a) t s
 
 pub counts-sayable : (answer : FrameAnswer) (h : FrameHead) → Sayable answer → answer ≡ FrameAnswer.Accepted h → Word (h .corners) × Word (h .passes)

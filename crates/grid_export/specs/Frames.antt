@@ -29,9 +29,9 @@ settingsEntered s floats =
 abbrev pub countsEntered : ℕ → ℕ → List ℕ → List ℕ
 countsEntered corners passes out = corners ∷ passes ∷ drop 2 out
 
--- the number and the line of a refused one: the answer modulo 8, and by 8
+-- the number and the line of a refused one: the answer modulo 16, and by 16
 abbrev pub refusedAnswer : Refusal → ℕ → ℕ
-refusedAnswer r line = numberOf r + 8 * line
+refusedAnswer r line = numberOf r + 16 * line
 
 pub record Told : Type 0 where
   pub answer : ℕ
@@ -79,5 +79,5 @@ pub record HeadRoom (settings : List Float) (out : List ℕ) : Type 0 where
 
 -- what an answer has to say fits into words
 abbrev pub Sayable : FrameAnswer → Type 0
-Sayable (FrameAnswer.Refused r line) = line ≤ 100000
+Sayable (FrameAnswer.Refused r line) = line ≤ 10000000
 Sayable (FrameAnswer.Accepted h) = Word (h .corners) × Word (h .passes)

@@ -6,13 +6,17 @@ use lib.Dec.{ltb}
 use lib.ListN.{length}
 use lib.Ieee.{Float}
 use Rattle.refusal.specs.Refusal.{numberOf}
+use Rattle.arguments.specs.declared.Pass.{Pass}
 use Rattle.arguments.specs.declared.Settings.{Settings}
 use Rattle.arguments.specs.declared.GrowParams.{GrowParams}
 use Rattle.arguments.specs.declared.FillParams.{FillParams}
 use Rattle.arguments.specs.declared.LocalExtensionParams.{LocalExtensionParams}
 use Rattle.passes.specs.Outcome.{After, Outcome, refused, done}
-use Rattle.passes.specs.Step.{CornerLists, growStep, fillStep, localStep, rooms}
-use Rattle.passes.specs.Run.{PassStats, growStats, fillStats, localStats, renamed}
+use Rattle.passes.specs.Step.{CornerLists}
+use Rattle.passes.specs.Run.{PassStats, step}
+use Rattle.passes.specs.declared.PassAnswer.{PassAnswer}
+use Rattle.pass_call.specs.Call.{callOf}
+use Rattle.report_line.specs.Sizes.{outcomeSize}
 use Rattle.report.specs.Asked.{withOutcome}
 use Rattle.arguments.specs.Front.{over}
 
@@ -36,64 +40,37 @@ abbrev pub localParams : Float → Float → ℕ → Float → ℕ → LocalExte
 localParams search factor rounds residual depth =
     record { «search_rel» = search; «ambiguity_factor» = factor; «max_iters» = rounds; «max_residual_rel» = residual; «extend_depth» = depth }
 
--- ---- grow
+-- ---- the call
 
--- the answer, and every lent buffer after the call
-pub record GrowLeft : Type 0 where
+-- the answer, and every lent buffer after the call; fill and local are lent no queue, which is an empty one here
+pub record PassLeft : Type 0 where
   pub answer : ℕ
   pub sheet : List ℕ
   pub queue : List ℕ
   pub attached : List ℕ
   pub out : List ℕ
 
-abbrev pub growLeft : ℕ → List ℕ → List ℕ → List ℕ → List ℕ → GrowLeft
-growLeft answer sheet queue attached out = record { answer = answer; sheet = sheet; queue = queue; attached = attached; out = out }
+abbrev pub passLeft : ℕ → List ℕ → List ℕ → List ℕ → List ℕ → PassLeft
+passLeft answer sheet queue attached out = record { answer = answer; sheet = sheet; queue = queue; attached = attached; out = out }
 
 -- a refusal's number, and all as it was; or 0, what the pass leaves, and its nine words at the front of the last buffer
-abbrev pub growTold : Outcome PassStats → List ℕ → List ℕ → List ℕ → List ℕ → GrowLeft
-growTold (refused r) sheet queue attached out = growLeft (numberOf r) sheet queue attached out
-growTold (done a) sheet queue attached out =
-    growLeft 0 (a .sheet) (over (a .visited) queue) (over (a .attached) attached) (withOutcome out 0 (a .answer))
+abbrev pub passTold : Outcome PassStats → List ℕ → List ℕ → List ℕ → List ℕ → PassLeft
+passTold (refused r) sheet queue attached out = passLeft (numberOf r) sheet queue attached out
+passTold (done a) sheet queue attached out =
+    passLeft 0 (a .sheet) (over (a .visited) queue) (over (a .attached) attached) (withOutcome out 0 (a .answer))
 
 -- 7 where there is no room for nine words, before anything is tried
-abbrev pub growUnless : Bool → Outcome PassStats → List ℕ → List ℕ → List ℕ → List ℕ → GrowLeft
-growUnless true o sheet queue attached out = growLeft 7 sheet queue attached out
-growUnless false o sheet queue attached out = growTold o sheet queue attached out
+abbrev pub passUnless : Bool → Outcome PassStats → List ℕ → List ℕ → List ℕ → List ℕ → PassLeft
+passUnless true o sheet queue attached out = passLeft 7 sheet queue attached out
+passUnless false o sheet queue attached out = passTold o sheet queue attached out
 
-abbrev pub growOutcome : CornerLists → Settings → GrowParams → List ℕ → List ℕ → List ℕ → Outcome PassStats
-growOutcome l set p sheet queue attached = renamed growStats (growStep l sheet set p (rooms (length queue) (length attached)))
+unfoldable pub passExported : CornerLists → Settings → Pass → List ℕ → List ℕ → List ℕ → List ℕ → PassLeft
+passExported l set p sheet queue attached out =
+    passUnless (ltb (length out) outcomeSize) (step l sheet (callOf set (length queue) (length attached) p)) sheet queue attached out
 
-unfoldable pub growExported : CornerLists → Settings → GrowParams → List ℕ → List ℕ → List ℕ → List ℕ → GrowLeft
-growExported l set p sheet queue attached out =
-    growUnless (ltb (length out) 9) (growOutcome l set p sheet queue attached) sheet queue attached out
-
--- ---- fill and local, which are lent no queue
-
-pub record PassLeft : Type 0 where
-  pub answer : ℕ
-  pub sheet : List ℕ
-  pub attached : List ℕ
-  pub out : List ℕ
-
-abbrev pub passLeft : ℕ → List ℕ → List ℕ → List ℕ → PassLeft
-passLeft answer sheet attached out = record { answer = answer; sheet = sheet; attached = attached; out = out }
-
-abbrev pub passTold : Outcome PassStats → List ℕ → List ℕ → List ℕ → PassLeft
-passTold (refused r) sheet attached out = passLeft (numberOf r) sheet attached out
-passTold (done a) sheet attached out = passLeft 0 (a .sheet) (over (a .attached) attached) (withOutcome out 0 (a .answer))
-
-abbrev pub passUnless : Bool → Outcome PassStats → List ℕ → List ℕ → List ℕ → PassLeft
-passUnless true o sheet attached out = passLeft 7 sheet attached out
-passUnless false o sheet attached out = passTold o sheet attached out
-
-abbrev pub fillOutcome : CornerLists → Settings → FillParams → List ℕ → List ℕ → Outcome PassStats
-fillOutcome l set p sheet attached = renamed fillStats (fillStep l sheet set p (rooms 0 (length attached)))
-
-abbrev pub localOutcome : CornerLists → Settings → LocalExtensionParams → List ℕ → List ℕ → Outcome PassStats
-localOutcome l set p sheet attached = renamed localStats (localStep l sheet set p (rooms 0 (length attached)))
-
-unfoldable pub fillExported : CornerLists → Settings → FillParams → List ℕ → List ℕ → List ℕ → PassLeft
-fillExported l set p sheet attached out = passUnless (ltb (length out) 9) (fillOutcome l set p sheet attached) sheet attached out
-
-unfoldable pub localExported : CornerLists → Settings → LocalExtensionParams → List ℕ → List ℕ → List ℕ → PassLeft
-localExported l set p sheet attached out = passUnless (ltb (length out) 9) (localOutcome l set p sheet attached) sheet attached out
+-- what is answered, by what the pass answers
+abbrev pub answerNumber : PassAnswer → ℕ
+answerNumber (PassAnswer.Grow s) = 0
+answerNumber (PassAnswer.Fill s) = 0
+answerNumber (PassAnswer.Local s) = 0
+answerNumber (PassAnswer.Refused r) = numberOf r

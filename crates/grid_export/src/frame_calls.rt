@@ -35,10 +35,10 @@ fn enter_counts(out: &mut [u32], corners: usize, passes: usize)
 
 // The number of a refusal and its line in one answer.
 fn refused_answer(refusal: Refusal, line: usize) -> u32
-    requires { ⌜ line ≤ 100000 ⌝ }
+    requires { ⌜ line ≤ 10000000 ⌝ }
     ensures { λ r. ⌜ r ≡ refusedAnswer refusal line ⌝ }
 {
-    super::words::number_of(refusal) + 8 * (line as u32)
+    super::words::number_of(refusal) + 16 * (line as u32)
 }
 
 // Enters what the reader answers.
@@ -85,7 +85,7 @@ fn run_read(
     tell(answer, settings, out)
 }
 
-// Reads a frame. `settings` takes cell size, axes and band, `out` the numbers of corners and passes. A refusal's answer is its number plus 8 times the
+// Reads a frame. `settings` takes cell size, axes and band, `out` the numbers of corners and passes. A refusal's answer is its number plus 16 times the
 // line, so that a refused call changes no buffer.
 #[no_mangle]
 pub extern "C" fn projective_grid_read_frame(

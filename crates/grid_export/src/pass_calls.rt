@@ -2,17 +2,22 @@
 ghost use mathlib.Core.Path.{_≡_};
 ghost use Prim.Native.Nat.{_≤_};
 ghost use lib.ListN.{length};
+ghost use mathlib.Core.List.{[]};
+ghost use Rattle.arguments.specs.declared.Pass.{Pass};
 ghost use Rattle.passes.specs.Step.{cornerLists};
-ghost use Rattle.grid_export.specs.Passes.{settingsOf, growParams, fillParams, localParams, growLeft, growTold, growOutcome, growExported, passLeft, passTold, fillOutcome, fillExported, localOutcome, localExported};
+ghost use Rattle.passes.specs.Run.{step};
+ghost use Rattle.pass_call.specs.Call.{callOf};
+ghost use Rattle.report_line.specs.Sizes.{outcomeSize};
+ghost use Rattle.grid_export.specs.Passes.{settingsOf, growParams, fillParams, localParams, answerNumber, passLeft, passTold, passExported};
 use arguments::FillParams;
 use arguments::GrowParams;
 use arguments::LocalExtensionParams;
+use arguments::Pass;
 use arguments::Settings;
-use passes::FillAnswer;
-use passes::GrowAnswer;
-use passes::LocalAnswer;
+use passes::PassAnswer;
 use predict::Grid;
 use predict::Vector;
+use report_line::sizes::OUTCOME_WORDS;
 
 // Cell size, axes and band.
 fn settings_of(
@@ -44,8 +49,8 @@ fn settings_of(
     }
 }
 
-// Grow, with room for nine words.
-fn run_grow(
+// A pass, with room for nine words: its outcome is put, and its refusal's number or 0 answered.
+fn run_pass(
     xs: &[f32],
     ys: &[f32],
     pitches: &[f32],
@@ -53,33 +58,31 @@ fn run_grow(
     queue: &mut [u16],
     attached: &mut [u16],
     settings: Settings,
-    params: GrowParams,
+    pass: Pass,
     out: &mut [u32],
 ) -> u32
-    requires { ⌜ 9 ≤ length (now out) ⌝ }
-    ensures { λ r. ⌜ growLeft r (now (sheet .exit)) (now (queue .exit)) (now (attached .exit)) (now (out .exit)) ≡ growTold (growOutcome (cornerLists (now (xs .entry)) (now (ys .entry)) (now (pitches .entry))) settings params (now (sheet .entry)) (now (queue .entry)) (now (attached .entry))) (now (sheet .entry)) (now (queue .entry)) (now (attached .entry)) (now (out .entry)) ⌝ }
+    requires { ⌜ outcomeSize ≤ length (now out) ⌝ }
+    ensures { λ r. ⌜ passLeft r (now (sheet .exit)) (now (queue .exit)) (now (attached .exit)) (now (out .exit)) ≡ passTold (step (cornerLists (now (xs .entry)) (now (ys .entry)) (now (pitches .entry))) (now (sheet .entry)) (callOf settings (length (now (queue .entry))) (length (now (attached .entry))) pass)) (now (sheet .entry)) (now (queue .entry)) (now (attached .entry)) (now (out .entry)) ⌝ }
 {
-    let answer = grow_extend::extend_from_labelled(
-        xs,
-        ys,
-        pitches,
-        sheet,
-        queue,
-        attached,
-        settings,
-        params,
-    );
+    let answer = pass_call::call_pass(xs, ys, pitches, sheet, queue, attached, settings, pass);
+    report::words::put_outcome(out, 0, answer);
+    answer_number(answer)
+}
+
+// What a call answers: 0, or the number of the refusal.
+fn answer_number(answer: PassAnswer) -> u32
+    ensures { λ r. ⌜ r ≡ answerNumber answer ⌝ }
+{
     match answer {
-        GrowAnswer::Refused(refusal) => super::words::number_of(refusal),
-        GrowAnswer::Done(stats) => {
-            report::words::put_grow(out, 0, stats);
-            0
-        }
+        PassAnswer::Grow(_) => 0,
+        PassAnswer::Fill(_) => 0,
+        PassAnswer::Local(_) => 0,
+        PassAnswer::Refused(refusal) => super::words::number_of(refusal),
     }
 }
 
-// Grow, or 7.
-fn grow(
+// A pass, or 7.
+fn pass_or_short(
     xs: &[f32],
     ys: &[f32],
     pitches: &[f32],
@@ -87,25 +90,15 @@ fn grow(
     queue: &mut [u16],
     attached: &mut [u16],
     settings: Settings,
-    params: GrowParams,
+    pass: Pass,
     out: &mut [u32],
 ) -> u32
-    ensures { λ r. ⌜ growLeft r (now (sheet .exit)) (now (queue .exit)) (now (attached .exit)) (now (out .exit)) ≡ growExported (cornerLists (now (xs .entry)) (now (ys .entry)) (now (pitches .entry))) settings params (now (sheet .entry)) (now (queue .entry)) (now (attached .entry)) (now (out .entry)) ⌝ }
+    ensures { λ r. ⌜ passLeft r (now (sheet .exit)) (now (queue .exit)) (now (attached .exit)) (now (out .exit)) ≡ passExported (cornerLists (now (xs .entry)) (now (ys .entry)) (now (pitches .entry))) settings pass (now (sheet .entry)) (now (queue .entry)) (now (attached .entry)) (now (out .entry)) ⌝ }
 {
-    if out.len() < 9 {
+    if out.len() < OUTCOME_WORDS {
         return 7;
     }
-    run_grow(
-        xs,
-        ys,
-        pitches,
-        sheet,
-        queue,
-        attached,
-        settings,
-        params,
-        out,
-    )
+    run_pass(xs, ys, pitches, sheet, queue, attached, settings, pass, out)
 }
 
 // Grow. `out` takes the nine words of its outcome.
@@ -128,7 +121,7 @@ pub extern "C" fn projective_grid_extend_from_labelled(
     boundary_search_factor: f32,
     out: &mut [u32],
 ) -> u32
-    ensures { λ r. ⌜ growLeft r (now (sheet .exit)) (now (queue .exit)) (now (attached .exit)) (now (out .exit)) ≡ growExported (cornerLists (now (xs .entry)) (now (ys .entry)) (now (pitches .entry))) (settingsOf «cell_size» «axis_i_x» «axis_i_y» «axis_j_x» «axis_j_y» «edge_length_tol») (growParams «attach_search_rel» «attach_ambiguity_factor» «boundary_search_factor») (now (sheet .entry)) (now (queue .entry)) (now (attached .entry)) (now (out .entry)) ⌝ }
+    ensures { λ r. ⌜ passLeft r (now (sheet .exit)) (now (queue .exit)) (now (attached .exit)) (now (out .exit)) ≡ passExported (cornerLists (now (xs .entry)) (now (ys .entry)) (now (pitches .entry))) (settingsOf «cell_size» «axis_i_x» «axis_i_y» «axis_j_x» «axis_j_y» «edge_length_tol») (Pass.Grow (growParams «attach_search_rel» «attach_ambiguity_factor» «boundary_search_factor»)) (now (sheet .entry)) (now (queue .entry)) (now (attached .entry)) (now (out .entry)) ⌝ }
 {
     let settings = settings_of(
         cell_size,
@@ -143,7 +136,7 @@ pub extern "C" fn projective_grid_extend_from_labelled(
         attach_ambiguity_factor,
         boundary_search_factor,
     };
-    grow(
+    pass_or_short(
         xs,
         ys,
         pitches,
@@ -151,55 +144,12 @@ pub extern "C" fn projective_grid_extend_from_labelled(
         queue,
         attached,
         settings,
-        params,
+        Pass::Grow(params),
         out,
     )
 }
 
-// Fill, with room for nine words.
-fn run_fill(
-    xs: &[f32],
-    ys: &[f32],
-    pitches: &[f32],
-    sheet: &mut [u16],
-    attached: &mut [u16],
-    settings: Settings,
-    params: FillParams,
-    out: &mut [u32],
-) -> u32
-    requires { ⌜ 9 ≤ length (now out) ⌝ }
-    ensures { λ r. ⌜ passLeft r (now (sheet .exit)) (now (attached .exit)) (now (out .exit)) ≡ passTold (fillOutcome (cornerLists (now (xs .entry)) (now (ys .entry)) (now (pitches .entry))) settings params (now (sheet .entry)) (now (attached .entry))) (now (sheet .entry)) (now (attached .entry)) (now (out .entry)) ⌝ }
-{
-    let answer = fill::fill_grid_holes(xs, ys, pitches, sheet, attached, settings, params);
-    match answer {
-        FillAnswer::Refused(refusal) => super::words::number_of(refusal),
-        FillAnswer::Done(stats) => {
-            report::words::put_fill(out, 0, stats);
-            0
-        }
-    }
-}
-
-// Fill, or 7.
-fn fill(
-    xs: &[f32],
-    ys: &[f32],
-    pitches: &[f32],
-    sheet: &mut [u16],
-    attached: &mut [u16],
-    settings: Settings,
-    params: FillParams,
-    out: &mut [u32],
-) -> u32
-    ensures { λ r. ⌜ passLeft r (now (sheet .exit)) (now (attached .exit)) (now (out .exit)) ≡ fillExported (cornerLists (now (xs .entry)) (now (ys .entry)) (now (pitches .entry))) settings params (now (sheet .entry)) (now (attached .entry)) (now (out .entry)) ⌝ }
-{
-    if out.len() < 9 {
-        return 7;
-    }
-    run_fill(xs, ys, pitches, sheet, attached, settings, params, out)
-}
-
-// Fill. `out` takes the nine words of its outcome.
+// Fill, which is lent no queue. `out` takes the nine words of its outcome.
 #[no_mangle]
 pub extern "C" fn projective_grid_fill_grid_holes(
     xs: &[f32],
@@ -218,8 +168,9 @@ pub extern "C" fn projective_grid_fill_grid_holes(
     max_iters: u32,
     out: &mut [u32],
 ) -> u32
-    ensures { λ r. ⌜ passLeft r (now (sheet .exit)) (now (attached .exit)) (now (out .exit)) ≡ fillExported (cornerLists (now (xs .entry)) (now (ys .entry)) (now (pitches .entry))) (settingsOf «cell_size» «axis_i_x» «axis_i_y» «axis_j_x» «axis_j_y» «edge_length_tol») (fillParams «attach_search_rel» «attach_ambiguity_factor» «max_iters») (now (sheet .entry)) (now (attached .entry)) (now (out .entry)) ⌝ }
+    ensures { λ r. ⌜ passLeft r (now (sheet .exit)) [] (now (attached .exit)) (now (out .exit)) ≡ passExported (cornerLists (now (xs .entry)) (now (ys .entry)) (now (pitches .entry))) (settingsOf «cell_size» «axis_i_x» «axis_i_y» «axis_j_x» «axis_j_y» «edge_length_tol») (Pass.Fill (fillParams «attach_search_rel» «attach_ambiguity_factor» «max_iters»)) (now (sheet .entry)) [] (now (attached .entry)) (now (out .entry)) ⌝ }
 {
+    let mut none = [0u16; 0];
     let settings = settings_of(
         cell_size,
         axis_i_x,
@@ -233,61 +184,20 @@ pub extern "C" fn projective_grid_fill_grid_holes(
         attach_ambiguity_factor,
         max_iters,
     };
-    fill(xs, ys, pitches, sheet, attached, settings, params, out)
-}
-
-// Local, with room for nine words.
-fn run_local(
-    xs: &[f32],
-    ys: &[f32],
-    pitches: &[f32],
-    sheet: &mut [u16],
-    attached: &mut [u16],
-    settings: Settings,
-    params: LocalExtensionParams,
-    out: &mut [u32],
-) -> u32
-    requires { ⌜ 9 ≤ length (now out) ⌝ }
-    ensures { λ r. ⌜ passLeft r (now (sheet .exit)) (now (attached .exit)) (now (out .exit)) ≡ passTold (localOutcome (cornerLists (now (xs .entry)) (now (ys .entry)) (now (pitches .entry))) settings params (now (sheet .entry)) (now (attached .entry))) (now (sheet .entry)) (now (attached .entry)) (now (out .entry)) ⌝ }
-{
-    let answer = local::extend_via_local_homography(
+    pass_or_short(
         xs,
         ys,
         pitches,
         sheet,
+        &mut none,
         attached,
         settings,
-        params,
-    );
-    match answer {
-        LocalAnswer::Refused(refusal) => super::words::number_of(refusal),
-        LocalAnswer::Done(stats) => {
-            report::words::put_local(out, 0, stats);
-            0
-        }
-    }
+        Pass::Fill(params),
+        out,
+    )
 }
 
-// Local, or 7.
-fn local(
-    xs: &[f32],
-    ys: &[f32],
-    pitches: &[f32],
-    sheet: &mut [u16],
-    attached: &mut [u16],
-    settings: Settings,
-    params: LocalExtensionParams,
-    out: &mut [u32],
-) -> u32
-    ensures { λ r. ⌜ passLeft r (now (sheet .exit)) (now (attached .exit)) (now (out .exit)) ≡ localExported (cornerLists (now (xs .entry)) (now (ys .entry)) (now (pitches .entry))) settings params (now (sheet .entry)) (now (attached .entry)) (now (out .entry)) ⌝ }
-{
-    if out.len() < 9 {
-        return 7;
-    }
-    run_local(xs, ys, pitches, sheet, attached, settings, params, out)
-}
-
-// Local. `out` takes the nine words of its outcome.
+// Local, which is lent no queue. `out` takes the nine words of its outcome.
 #[no_mangle]
 pub extern "C" fn projective_grid_extend_via_local_homography(
     xs: &[f32],
@@ -308,8 +218,9 @@ pub extern "C" fn projective_grid_extend_via_local_homography(
     extend_depth: u32,
     out: &mut [u32],
 ) -> u32
-    ensures { λ r. ⌜ passLeft r (now (sheet .exit)) (now (attached .exit)) (now (out .exit)) ≡ localExported (cornerLists (now (xs .entry)) (now (ys .entry)) (now (pitches .entry))) (settingsOf «cell_size» «axis_i_x» «axis_i_y» «axis_j_x» «axis_j_y» «edge_length_tol») (localParams «search_rel» «ambiguity_factor» «max_iters» «max_residual_rel» «extend_depth») (now (sheet .entry)) (now (attached .entry)) (now (out .entry)) ⌝ }
+    ensures { λ r. ⌜ passLeft r (now (sheet .exit)) [] (now (attached .exit)) (now (out .exit)) ≡ passExported (cornerLists (now (xs .entry)) (now (ys .entry)) (now (pitches .entry))) (settingsOf «cell_size» «axis_i_x» «axis_i_y» «axis_j_x» «axis_j_y» «edge_length_tol») (Pass.Local (localParams «search_rel» «ambiguity_factor» «max_iters» «max_residual_rel» «extend_depth»)) (now (sheet .entry)) [] (now (attached .entry)) (now (out .entry)) ⌝ }
 {
+    let mut none = [0u16; 0];
     let settings = settings_of(
         cell_size,
         axis_i_x,
@@ -325,5 +236,15 @@ pub extern "C" fn projective_grid_extend_via_local_homography(
         max_residual_rel,
         extend_depth,
     };
-    local(xs, ys, pitches, sheet, attached, settings, params, out)
+    pass_or_short(
+        xs,
+        ys,
+        pitches,
+        sheet,
+        &mut none,
+        attached,
+        settings,
+        Pass::Local(params),
+        out,
+    )
 }

@@ -21,17 +21,18 @@ use Rattle.arguments.specs.Accepted.{Accepted}
 use Rattle.arguments.specs.declared.Checked.{Checked}
 use Rattle.arguments.specs.declared.Settings.{Settings}
 use Rattle.arguments.proofs.Laws.{accepted, accepted-fine}
+use Rattle.arguments.specs.declared.Pass.{Pass}
 use Rattle.passes.specs.Outcome.{After, Outcome, refused, done}
 use Rattle.passes.specs.Grow.{tolerancesOf, growAfter}
 use Rattle.passes.specs.Fill.{fillAfter}
 use Rattle.passes.specs.Local.{localAfter}
 use Rattle.passes.specs.Step.{CornerLists, lentOf, unless, growStep, fillStep, localStep}
-use Rattle.passes.specs.Run.{PassCall, grow, fill, local, Call, PassStats, growStats, fillStats, localStats, renamed, stepAs, step, sheetAfter, run, sheetOf}
+use Rattle.passes.specs.Run.{Call, PassStats, growStats, fillStats, localStats, renamed, stepAs, step, sheetAfter, run, sheetOf}
 use Rattle.passes.specs.History.{History}
 use Rattle.passes.specs.Changes.{NoMarks}
 use Rattle.passes.proofs.Changes.{same-marks}
 use Rattle.invariants.specs.Kept.{Sound, Kept, Extended, Histories, before, pass, AttachedInTurn}
-use Rattle.invariants.specs.Calls.{cornersIn, Standing, passOf, checkedCall, answering, afterPass, afterCall, attachedCount, Ran, Goes, ended, refuses, runs, attachedIn, Invariants, CallInside, Accepts, NeverRefused}
+use Rattle.invariants.specs.Calls.{cornersIn, Standing, checkedCall, answering, afterPass, afterCall, attachedCount, Ran, Goes, ended, refuses, runs, attachedIn, Invariants, CallInside, Accepts, NeverRefused}
 use Rattle.invariants.specs.Marks.{MarksStand, NotIn, PassMarks, clearedBy, clearedIn, visitedIn, MarksOver}
 use Rattle.invariants.proofs.Extended.{still-labelled, extended-marked, extended-then}
 use Rattle.invariants.proofs.History.{history-extended, attached-at, histories-then, attached-in-turn}
@@ -52,10 +53,10 @@ step-as l sheet c = go (c .pass)
     under f Checked.Fine a = refl
     under f (Checked.Refused r) a = refl
 
-    go : (p : PassCall) → stepAs l sheet (c .settings) (c .rooms) p ≡ unless (checked (lentOf l sheet (c .rooms)) (c .settings) (passOf p)) (afterPass l sheet (c .settings) p)
-    go (grow p) = under growStats (checked (lentOf l sheet (c .rooms)) (c .settings) (passOf (grow p))) (growAfter (cornersIn l) (c .settings) p sheet)
-    go (fill p) = under fillStats (checked (lentOf l sheet (c .rooms)) (c .settings) (passOf (fill p))) (fillAfter (cornersIn l) (c .settings) p sheet)
-    go (local p) = under localStats (checked (lentOf l sheet (c .rooms)) (c .settings) (passOf (local p))) (localAfter (cornersIn l) (c .settings) p sheet)
+    go : (p : Pass) → stepAs l sheet (c .settings) (c .rooms) p ≡ unless (checked (lentOf l sheet (c .rooms)) (c .settings) p) (afterPass l sheet (c .settings) p)
+    go (Pass.Grow p) = under growStats (checked (lentOf l sheet (c .rooms)) (c .settings) (Pass.Grow p)) (growAfter (cornersIn l) (c .settings) p sheet)
+    go (Pass.Fill p) = under fillStats (checked (lentOf l sheet (c .rooms)) (c .settings) (Pass.Fill p)) (fillAfter (cornersIn l) (c .settings) p sheet)
+    go (Pass.Local p) = under localStats (checked (lentOf l sheet (c .rooms)) (c .settings) (Pass.Local p)) (localAfter (cornersIn l) (c .settings) p sheet)
 
 pub standing-sound : {l : CornerLists} {sheet : List ℕ} → Standing l sheet → Sound (cornersIn l) sheet
 standing-sound s = record { long = s .given .long; known = record { known = s .given .known }; one-cell = s .one-cell }
@@ -70,30 +71,30 @@ sound-standing s a =
 
 -- what each pass does to the labels, and that it counts its new cells
 module _ (l : CornerLists) (sheet : List ℕ) (set : Settings) (few : length (l .xs) ≤ 1024) (s : Sound (cornersIn l) sheet) where
-  pass-history : (p : PassCall) → History (cornersIn l) (tolerancesOf set) sheet (afterPass l sheet set p .attached) (afterPass l sheet set p .sheet)
+  pass-history : (p : Pass) → History (cornersIn l) (tolerancesOf set) sheet (afterPass l sheet set p .attached) (afterPass l sheet set p .sheet)
   unfolding growAfter fillAfter localAfter
-  pass-history (grow p) = grow-history set p few s .history
-  pass-history (fill p) = fill-history few s set p
-  pass-history (local p) = local-history few s set p .history
+  pass-history (Pass.Grow p) = grow-history set p few s .history
+  pass-history (Pass.Fill p) = fill-history few s set p
+  pass-history (Pass.Local p) = local-history few s set p .history
 
-  pass-counted : (p : PassCall) → attachedCount (afterPass l sheet set p .answer) ≡ length (afterPass l sheet set p .attached)
+  pass-counted : (p : Pass) → attachedCount (afterPass l sheet set p .answer) ≡ length (afterPass l sheet set p .attached)
   unfolding growAfter fillAfter localAfter
-  pass-counted (grow p) = grow-history set p few s .counted
-  pass-counted (fill p) = refl
-  pass-counted (local p) = local-history few s set p .counted
+  pass-counted (Pass.Grow p) = grow-history set p few s .counted
+  pass-counted (Pass.Fill p) = refl
+  pass-counted (Pass.Local p) = local-history few s set p .counted
 
   -- what each pass does to the marks
-  pass-marks : (p : PassCall) → PassMarks p sheet (afterPass l sheet set p)
+  pass-marks : (p : Pass) → PassMarks p sheet (afterPass l sheet set p)
   unfolding growAfter fillAfter localAfter
-  pass-marks (grow p) = grow-marks (cornersIn l) set p sheet (record { long = s .long; few = few; known = s .known .known; one-cell = s .one-cell })
-  pass-marks (fill p) = fill-marks (cornersIn l) few sheet set p (s .long)
-  pass-marks (local p) = local-marks (cornersIn l) few sheet set p (s .long)
+  pass-marks (Pass.Grow p) = grow-marks (cornersIn l) set p sheet (record { long = s .long; few = few; known = s .known .known; one-cell = s .one-cell })
+  pass-marks (Pass.Fill p) = fill-marks (cornersIn l) few sheet set p (s .long)
+  pass-marks (Pass.Local p) = local-marks (cornersIn l) few sheet set p (s .long)
 
 -- a call that is not refused
-pub call-accepted : (l : CornerLists) (sheet : List ℕ) (c : Call) → checkedCall l sheet c ≡ Checked.Fine → Accepted (lentOf l sheet (c .rooms)) (c .settings) (passOf (c .pass))
-call-accepted l sheet c e = accepted (lentOf l sheet (c .rooms)) (c .settings) (passOf (c .pass)) e
+pub call-accepted : (l : CornerLists) (sheet : List ℕ) (c : Call) → checkedCall l sheet c ≡ Checked.Fine → Accepted (lentOf l sheet (c .rooms)) (c .settings) (c .pass)
+call-accepted l sheet c e = accepted (lentOf l sheet (c .rooms)) (c .settings) (c .pass) e
 
-pub call-ran : (l : CornerLists) (sheet : List ℕ) (c : Call) → Accepted (lentOf l sheet (c .rooms)) (c .settings) (passOf (c .pass)) → Ran l c sheet (afterCall l sheet c)
+pub call-ran : (l : CornerLists) (sheet : List ℕ) (c : Call) → Accepted (lentOf l sheet (c .rooms)) (c .settings) (c .pass) → Ran l c sheet (afterCall l sheet c)
 call-ran l sheet c w =
     let s = standing-sound {l = l} (record { given = w .given; one-cell = w .one-cell }) in
     let h = pass-history l sheet (c .settings) (w .few) s (c .pass) in
@@ -108,7 +109,7 @@ call-ran l sheet c w =
 -- a call's outcome: refused, or it was accepted and ran
 pub data Outcomes (l : CornerLists) (sheet : List ℕ) (c : Call) : Outcome PassStats → Type 0 where
   was-refused : (r : Refusal) → Outcomes l sheet c (refused r)
-  ran : (a : After PassStats) → Accepted (lentOf l sheet (c .rooms)) (c .settings) (passOf (c .pass)) → Ran l c sheet a → Outcomes l sheet c (done a)
+  ran : (a : After PassStats) → Accepted (lentOf l sheet (c .rooms)) (c .settings) (c .pass) → Ran l c sheet a → Outcomes l sheet c (done a)
 
 pub outcomes : (l : CornerLists) (sheet : List ℕ) (c : Call) → Outcomes l sheet c (step l sheet c)
 outcomes l sheet c = subst (Outcomes l sheet c) (sym (step-as l sheet c)) (go (checkedCall l sheet c) refl)
@@ -124,28 +125,28 @@ module _ {l : CornerLists} {c : Call} {sheet : List ℕ} {a : After PassStats} (
   call-stand : (d : Cell) → NotIn (clearedBy (c .pass) a) d → MarksStand sheet (a .sheet) d
   call-stand d n = go (c .pass) (r .marks) n
     where
-      go : (p : PassCall) → PassMarks p sheet a → NotIn (clearedBy p a) d → MarksStand sheet (a .sheet) d
-      go (grow p) m n = m .stand d
-      go (fill p) m n = stand-same (m d)
-      go (local p) m n = stand-same (m .others d n)
+      go : (p : Pass) → PassMarks p sheet a → NotIn (clearedBy p a) d → MarksStand sheet (a .sheet) d
+      go (Pass.Grow p) m n = m .stand d
+      go (Pass.Fill p) m n = stand-same (m d)
+      go (Pass.Local p) m n = stand-same (m .others d n)
 
   -- marks are new at visited cells only
   call-new : (d : Cell) → NotIn (a .visited) d → MarksStand (a .sheet) sheet d
   call-new d n = go (c .pass) (r .marks)
     where
-      go : (p : PassCall) → PassMarks p sheet a → MarksStand (a .sheet) sheet d
-      go (grow p) m = stood-same (m .others d n)
-      go (fill p) m = stood-same (m d)
-      go (local p) m = m .none-new d
+      go : (p : Pass) → PassMarks p sheet a → MarksStand (a .sheet) sheet d
+      go (Pass.Grow p) m = stood-same (m .others d n)
+      go (Pass.Fill p) m = stood-same (m d)
+      go (Pass.Local p) m = m .none-new d
 
   -- a cell whose marks were cleared has none, and is labelled
   call-cleared : (p : ℕ) → List·Memᴰ p (clearedBy (c .pass) a) → LabelledCell (a .sheet) (cellOf p) × NoMarks (a .sheet) (cellOf p)
   call-cleared p m = go (c .pass) (r .marks) m
     where
-      go : (q : PassCall) → PassMarks q sheet a → List·Memᴰ p (clearedBy q a) → LabelledCell (a .sheet) (cellOf p) × NoMarks (a .sheet) (cellOf p)
-      go (grow q) w m = absurd (List·Memᴰ·not-nil m)
-      go (fill q) w m = absurd (List·Memᴰ·not-nil m)
-      go (local q) w m = (r .extended .labelled p (r .extended .on p m) .1 (inr m), w .cleared p m)
+      go : (q : Pass) → PassMarks q sheet a → List·Memᴰ p (clearedBy q a) → LabelledCell (a .sheet) (cellOf p) × NoMarks (a .sheet) (cellOf p)
+      go (Pass.Grow q) w m = absurd (List·Memᴰ·not-nil m)
+      go (Pass.Fill q) w m = absurd (List·Memᴰ·not-nil m)
+      go (Pass.Local q) w m = (r .extended .labelled p (r .extended .on p m) .1 (inr m), w .cleared p m)
 
   -- a labelled cell without marks gets none
   call-unmarked : (d : Cell) → LabelledCell sheet d → NoMarks sheet d → NoMarks (a .sheet) d
@@ -154,10 +155,10 @@ module _ {l : CornerLists} {c : Call} {sheet : List ℕ} {a : After PassStats} (
       apart : (ps : List ℕ) → ((p : ℕ) → List·Memᴰ p ps → labelAt sheet (cellOf p) ≡ Label.Unlabelled) → NotIn ps d
       apart ps bare p m e = no-corner (b .corner) (sym (bare p m) ∙ ap (labelAt sheet) e ∙ b .holds)
 
-      go : (p : PassCall) → PassMarks p sheet a → NoMarks (a .sheet) d
-      go (grow p) m = none-same (m .others d (apart (a .visited) (grow-bare m))) n
-      go (fill p) m = none-same (m d) n
-      go (local p) m = none-same (m .others d (apart (a .attached) (r .extended .bare))) n
+      go : (p : Pass) → PassMarks p sheet a → NoMarks (a .sheet) d
+      go (Pass.Grow p) m = none-same (m .others d (apart (a .visited) (grow-bare m))) n
+      go (Pass.Fill p) m = none-same (m d) n
+      go (Pass.Local p) m = none-same (m .others d (apart (a .attached) (r .extended .bare))) n
 
 -- ---- a list of calls
 
@@ -289,9 +290,9 @@ module _ (l : CornerLists) where
   -- ---- no refusal in mid-list
 
   pub fit-accepts : (sheet : List ℕ) (c : Call) → Standing l sheet → CallInside l c → Accepts l sheet c
-  fit-accepts sheet c s f = record { done-so = step-as l sheet c ∙ ap (λ (k : Checked). unless k (afterCall l sheet c)) (accepted-fine (lentOf l sheet (c .rooms)) (c .settings) (passOf (c .pass)) right) }
+  fit-accepts sheet c s f = record { done-so = step-as l sheet c ∙ ap (λ (k : Checked). unless k (afterCall l sheet c)) (accepted-fine (lentOf l sheet (c .rooms)) (c .settings) (c .pass) right) }
     where
-      right : Accepted (lentOf l sheet (c .rooms)) (c .settings) (passOf (c .pass))
+      right : Accepted (lentOf l sheet (c .rooms)) (c .settings) (c .pass)
       right =
           record {
             queue-long = f .queue-long;

@@ -18,7 +18,7 @@ use Rattle.passes.specs.Grow.{tolerancesOf, growAfter}
 use Rattle.passes.specs.Fill.{fillAfter}
 use Rattle.passes.specs.Local.{localAfter}
 use Rattle.passes.specs.Step.{CornerLists, lentOf}
-use Rattle.passes.specs.Run.{PassCall, grow, fill, local, Call, PassStats, growStats, fillStats, localStats, step, run, sheetOf}
+use Rattle.passes.specs.Run.{Call, PassStats, growStats, fillStats, localStats, step, run, sheetOf}
 use Rattle.passes.specs.History.{History}
 use Rattle.invariants.specs.Kept.{Kept, Extended, AttachedAt, AttachedInTurn}
 use Rattle.invariants.specs.Marks.{PassMarks, MarksOver}
@@ -32,23 +32,17 @@ pub record Standing (l : CornerLists) (sheet : List ℕ) : Type 0 where
   pub given : Given (l .xs) (l .ys) (l .pitches) sheet
   pub one-cell : OneCell sheet
 
--- the pass of a call, as its arguments are checked
-abbrev pub passOf : PassCall → Pass
-passOf (grow p) = Pass.Grow p
-passOf (fill p) = Pass.Fill p
-passOf (local p) = Pass.Local p
-
 abbrev pub checkedCall : CornerLists → List ℕ → Call → Checked
-checkedCall l sheet c = checked (lentOf l sheet (c .rooms)) (c .settings) (passOf (c .pass))
+checkedCall l sheet c = checked (lentOf l sheet (c .rooms)) (c .settings) (c .pass)
 
 -- what a call that is not refused does
 abbrev pub answering : {A B : Type 0} → (A → B) → After A → After B
 answering f a = record { answer = f (a .answer); sheet = a .sheet; attached = a .attached; visited = a .visited }
 
-abbrev pub afterPass : CornerLists → List ℕ → Settings → PassCall → After PassStats
-afterPass l sheet set (grow p) = answering growStats (growAfter (cornersIn l) set p sheet)
-afterPass l sheet set (fill p) = answering fillStats (fillAfter (cornersIn l) set p sheet)
-afterPass l sheet set (local p) = answering localStats (localAfter (cornersIn l) set p sheet)
+abbrev pub afterPass : CornerLists → List ℕ → Settings → Pass → After PassStats
+afterPass l sheet set (Pass.Grow p) = answering growStats (growAfter (cornersIn l) set p sheet)
+afterPass l sheet set (Pass.Fill p) = answering fillStats (fillAfter (cornersIn l) set p sheet)
+afterPass l sheet set (Pass.Local p) = answering localStats (localAfter (cornersIn l) set p sheet)
 
 abbrev pub afterCall : CornerLists → List ℕ → Call → After PassStats
 afterCall l sheet c = afterPass l sheet (c .settings) (c .pass)
@@ -103,11 +97,11 @@ Invariants = (l : CornerLists) (given : List ℕ) → Standing l given → (cs :
 -- a call whose numbers are in range and whose buffers are long enough
 pub record CallInside (l : CornerLists) (c : Call) : Type 0 where
   pub few : length (l .xs) ≤ 1024
-  pub queue-long : queueNeeded (passOf (c .pass)) (length (l .xs)) ≤ c .rooms .queue
+  pub queue-long : queueNeeded (c .pass) (length (l .xs)) ≤ c .rooms .queue
   pub attached-long : length (l .xs) ≤ c .rooms .attached
   pub corners-inside : (k : ℕ) → k < length (l .xs) → CornerInside (cornerOf (l .xs) (l .ys) (l .pitches) k)
   pub settings-inside : SettingsInside (c .settings)
-  pub pass-inside : PassInside (passOf (c .pass))
+  pub pass-inside : PassInside (c .pass)
 
 -- a call on a sheet is not refused
 pub record Accepts (l : CornerLists) (sheet : List ℕ) (c : Call) : Type 0 where

@@ -10,9 +10,10 @@ use Rattle.sheet.specs.Words.{bitOf, labelAt, holeAt, ambiguousAt}
 use Rattle.sheet.specs.declared.Cell.{Cell}
 use Rattle.sheet.specs.declared.Label.{Label}
 use Rattle.extension_common.specs.declared.TryCellResult.{TryCellResult}
+use Rattle.arguments.specs.declared.Pass.{Pass}
 use Rattle.passes.specs.Outcome.{After, Outcome, refused, done}
 use Rattle.passes.specs.Grow.{noCounts}
-use Rattle.passes.specs.Run.{PassCall, grow, fill, local, Call, PassStats, growStats, fillStats, localStats}
+use Rattle.passes.specs.Run.{Call, PassStats, growStats, fillStats, localStats}
 use Rattle.passes.specs.Changes.{isAttached, isNoCandidate, isAmbiguous, isEdgeRefusal, SameMarks, NoMarks, MarksSet}
 use Rattle.passes.specs.declared.Counts.{Counts}
 
@@ -79,16 +80,16 @@ countsSaid (fillStats s) = noCounts
 countsSaid (localStats s) = s .counts
 
 -- what a call that ran did to the marks, by its pass
-abbrev pub PassMarks : PassCall → List ℕ → After PassStats → Type 0
-PassMarks (grow p) first a = GrowMarks first (a .visited) (a .attached) (countsSaid (a .answer)) (a .sheet)
-PassMarks (fill p) first a = FillMarks first (a .sheet)
-PassMarks (local p) first a = LocalMarks first (a .attached) (a .sheet)
+abbrev pub PassMarks : Pass → List ℕ → After PassStats → Type 0
+PassMarks (Pass.Grow p) first a = GrowMarks first (a .visited) (a .attached) (countsSaid (a .answer)) (a .sheet)
+PassMarks (Pass.Fill p) first a = FillMarks first (a .sheet)
+PassMarks (Pass.Local p) first a = LocalMarks first (a .attached) (a .sheet)
 
 -- the cells whose marks a call cleared: the new cells of local
-abbrev pub clearedBy : PassCall → After PassStats → List ℕ
-clearedBy (grow p) a = []
-clearedBy (fill p) a = []
-clearedBy (local p) a = a .attached
+abbrev pub clearedBy : Pass → After PassStats → List ℕ
+clearedBy (Pass.Grow p) a = []
+clearedBy (Pass.Fill p) a = []
+clearedBy (Pass.Local p) a = a .attached
 
 -- all cells whose marks a list of calls cleared
 unfoldable pub clearedIn : List Call → List (Outcome PassStats) → List ℕ

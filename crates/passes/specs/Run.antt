@@ -3,25 +3,17 @@
 use mathlib.Core.List.{List, [], _∷_}
 use Prim.Native.Nat.{ℕ}
 use Rattle.refusal.specs.declared.Refusal.{Refusal}
+use Rattle.arguments.specs.declared.Pass.{Pass}
 use Rattle.arguments.specs.declared.Settings.{Settings}
-use Rattle.arguments.specs.declared.GrowParams.{GrowParams}
-use Rattle.arguments.specs.declared.FillParams.{FillParams}
-use Rattle.arguments.specs.declared.LocalExtensionParams.{LocalExtensionParams}
 use Rattle.passes.specs.Outcome.{After, Outcome, refused, done}
 use Rattle.passes.specs.Step.{CornerLists, Rooms, growStep, fillStep, localStep}
 use Rattle.passes.specs.declared.GrowStats.{GrowStats}
 use Rattle.passes.specs.declared.FillStats.{FillStats}
 use Rattle.passes.specs.declared.LocalStats.{LocalStats}
 
--- which pass, with its numbers
-pub data PassCall : Type 0 where
-  grow : GrowParams → PassCall
-  fill : FillParams → PassCall
-  local : LocalExtensionParams → PassCall
-
 -- one call: which pass with its numbers, cell size, axes and band, and the lengths of the lent buffers
 pub record Call : Type 0 where
-  pub pass : PassCall
+  pub pass : Pass
   pub settings : Settings
   pub rooms : Rooms
 
@@ -37,10 +29,10 @@ renamed f (refused r) = refused r
 renamed f (done a) = done (record { answer = f (a .answer); sheet = a .sheet; attached = a .attached; visited = a .visited })
 
 -- what a call does
-abbrev pub stepAs : CornerLists → List ℕ → Settings → Rooms → PassCall → Outcome PassStats
-stepAs l sheet set r (grow p) = renamed growStats (growStep l sheet set p r)
-stepAs l sheet set r (fill p) = renamed fillStats (fillStep l sheet set p r)
-stepAs l sheet set r (local p) = renamed localStats (localStep l sheet set p r)
+abbrev pub stepAs : CornerLists → List ℕ → Settings → Rooms → Pass → Outcome PassStats
+stepAs l sheet set r (Pass.Grow p) = renamed growStats (growStep l sheet set p r)
+stepAs l sheet set r (Pass.Fill p) = renamed fillStats (fillStep l sheet set p r)
+stepAs l sheet set r (Pass.Local p) = renamed localStats (localStep l sheet set p r)
 
 unfoldable pub step : CornerLists → List ℕ → Call → Outcome PassStats
 step l sheet c = stepAs l sheet (c .settings) (c .rooms) (c .pass)

@@ -54,3 +54,11 @@ pub enum LocalAnswer {
     Done(LocalStats),
     Refused(Refusal),
 }
+
+// What a call of any of the three answers.
+pub enum PassAnswer {
+    Grow(GrowStats),
+    Fill(FillStats),
+    Local(LocalStats),
+    Refused(Refusal),
+}

@@ -11,19 +11,18 @@ ghost use lib.ListN.{length};
 use arguments::FillParams;
 use arguments::GrowParams;
 use arguments::LocalExtensionParams;
+use arguments::Pass;
 use arguments::Settings;
 use binary32::hex::Bits;
 use binary32::hex::FloatRead;
 use libc::STDIN_FILENO;
 use libc::STDOUT_FILENO;
 use passes::Counts;
-use passes::FillAnswer;
 use passes::FillStats;
-use passes::GrowAnswer;
 use passes::GrowStats;
 use passes::LargestResidual;
-use passes::LocalAnswer;
 use passes::LocalStats;
+use passes::PassAnswer;
 use predict::Grid;
 use predict::Vector;
 use refusal::Refusal;
@@ -367,105 +366,58 @@ fn visited_by(counts: Counts) -> usize {
 
 // ---- calls
 
-fn call_grow(
-    text: &[u8],
-    at: usize,
-    xs: &[f32],
-    ys: &[f32],
-    pitches: &[f32],
-    sheet: &mut [u16],
-    queue: &mut [u16],
-    attached: &mut [u16],
-)
+// The pass of a call: kind 0 is grow, 1 fill, and any other local.
+fn pass_at(text: &[u8], at: usize) -> Pass
     requires { ⌜ at ≤ 8000 ⌝ }
 {
-    let settings = settings_at(text, at + 1);
-    let params = GrowParams {
-        attach_search_rel: float_at(text, at + 7),
-        attach_ambiguity_factor: float_at(text, at + 8),
-        boundary_search_factor: float_at(text, at + 9),
-    };
-    let answer = grow_extend::extend_from_labelled(
-        xs,
-        ys,
-        pitches,
-        sheet,
-        queue,
-        attached,
-        settings,
-        params,
-    );
-    match answer {
-        GrowAnswer::Refused(refusal) => print_refused(refusal),
-        GrowAnswer::Done(stats) => {
-            print_grow(stats);
-            let counts = stats.counts;
-            if number_at(text, 3) != 0 {
-                print_visited(queue, visited_by(counts));
-            }
-            print_attached(sheet, attached, counts.attached);
-        }
+    let kind = number_at(text, at);
+    let search = float_at(text, at + 7);
+    let factor = float_at(text, at + 8);
+    if kind == 0 {
+        return Pass::Grow(GrowParams {
+            attach_search_rel: search,
+            attach_ambiguity_factor: factor,
+            boundary_search_factor: float_at(text, at + 9),
+        });
     }
-}
-
-fn call_fill(
-    text: &[u8],
-    at: usize,
-    xs: &[f32],
-    ys: &[f32],
-    pitches: &[f32],
-    sheet: &mut [u16],
-    attached: &mut [u16],
-)
-    requires { ⌜ at ≤ 8000 ⌝ }
-{
-    let settings = settings_at(text, at + 1);
-    let params = FillParams {
-        attach_search_rel: float_at(text, at + 7),
-        attach_ambiguity_factor: float_at(text, at + 8),
-        max_iters: rounds_at(text, at + 9),
-    };
-    let answer = fill::fill_grid_holes(xs, ys, pitches, sheet, attached, settings, params);
-    match answer {
-        FillAnswer::Refused(refusal) => print_refused(refusal),
-        FillAnswer::Done(stats) => {
-            print_fill(stats);
-            print_attached(sheet, attached, stats.added);
-        }
+    if kind == 1 {
+        return Pass::Fill(FillParams {
+            attach_search_rel: search,
+            attach_ambiguity_factor: factor,
+            max_iters: rounds_at(text, at + 9),
+        });
     }
-}
-
-fn call_local(
-    text: &[u8],
-    at: usize,
-    xs: &[f32],
-    ys: &[f32],
-    pitches: &[f32],
-    sheet: &mut [u16],
-    attached: &mut [u16],
-)
-    requires { ⌜ at ≤ 8000 ⌝ }
-{
-    let settings = settings_at(text, at + 1);
-    let params = LocalExtensionParams {
-        search_rel: float_at(text, at + 7),
-        ambiguity_factor: float_at(text, at + 8),
+    Pass::Local(LocalExtensionParams {
+        search_rel: search,
+        ambiguity_factor: factor,
         max_iters: rounds_at(text, at + 9),
         max_residual_rel: float_at(text, at + 10),
         extend_depth: rounds_at(text, at + 11),
-    };
-    let answer = local::extend_via_local_homography(
-        xs,
-        ys,
-        pitches,
-        sheet,
-        attached,
-        settings,
-        params,
-    );
+    })
+}
+
+// Grow's visited cells, where they are asked for.
+fn print_queue(text: &[u8], counts: Counts, queue: &[u16]) {
+    if number_at(text, 3) != 0 {
+        print_visited(queue, visited_by(counts));
+    }
+}
+
+// What a call answers, and the cells that it attached.
+fn print_answer(text: &[u8], answer: PassAnswer, sheet: &[u16], queue: &[u16], attached: &[u16]) {
     match answer {
-        LocalAnswer::Refused(refusal) => print_refused(refusal),
-        LocalAnswer::Done(stats) => {
+        PassAnswer::Refused(refusal) => print_refused(refusal),
+        PassAnswer::Grow(stats) => {
+            print_grow(stats);
+            let counts = stats.counts;
+            print_queue(text, counts, queue);
+            print_attached(sheet, attached, counts.attached);
+        }
+        PassAnswer::Fill(stats) => {
+            print_fill(stats);
+            print_attached(sheet, attached, stats.added);
+        }
+        PassAnswer::Local(stats) => {
             print_local(stats);
             let counts = stats.counts;
             print_attached(sheet, attached, counts.attached);
@@ -510,6 +462,15 @@ fn print_sums(text: &[u8], queue: &[u16], attached: &[u16]) {
     print_sum(b"list ", attached);
 }
 
+// A call's number and its kind.
+fn print_call(number: usize, pass: Pass) {
+    match pass {
+        Pass::Grow(_) => print_heading(number, b" grow\n"),
+        Pass::Fill(_) => print_heading(number, b" fill\n"),
+        Pass::Local(_) => print_heading(number, b" local\n"),
+    }
+}
+
 // One call, of one of the three kinds.
 fn call(
     text: &[u8],
@@ -524,21 +485,11 @@ fn call(
 )
     requires { ⌜ at ≤ 8000 ⌝ }
 {
-    let kind = number_at(text, at);
-    if kind == 0 {
-        print_heading(number, b" grow\n");
-        call_grow(text, at, xs, ys, pitches, sheet, queue, attached);
-        return;
-    }
-    if kind == 1 {
-        print_heading(number, b" fill\n");
-        call_fill(text, at, xs, ys, pitches, sheet, attached);
-        return;
-    }
-    if kind == 2 {
-        print_heading(number, b" local\n");
-        call_local(text, at, xs, ys, pitches, sheet, attached);
-    }
+    let pass = pass_at(text, at);
+    print_call(number, pass);
+    let settings = settings_at(text, at + 1);
+    let answer = pass_call::call_pass(xs, ys, pitches, sheet, queue, attached, settings, pass);
+    print_answer(text, answer, sheet, queue, attached);
 }
 
 // How many places of each buffer a call is lent.

@@ -4,12 +4,17 @@
 // (`Told`, `Prints`). Not proved is that the one call of `io::write_all` in `put_piece` takes those bytes to standard output and answers true only
 // then: no contract can say what happens outside the program. It is tested (`compare/faults.py`).
 ghost use mathlib.Core.Path.{_≡_};
-ghost use Prim.Native.Nat.{_<_};
+ghost use Prim.Native.Nat.{_*_, _<_};
 ghost use lib.ListN.{length};
+ghost use Rattle.report_line.specs.Sizes.{places, mostCorners, allPassWords, allOutcomeWords};
 ghost use Rattle.recovery.specs.Answer.{CanSay, FewPasses};
 ghost use Rattle.recover_say.specs.Said.{PieceText, putOf, PutSo, Told, ToldOf};
 use libc::STDOUT_FILENO;
 use recovery::Recovered;
+use report_line::sizes::ALL_OUTCOME_WORDS;
+use report_line::sizes::ALL_PASS_WORDS;
+use report_line::sizes::CORNERS;
+use report_line::sizes::PLACES;
 
 // ---- buffers
 
@@ -20,40 +25,40 @@ pub fn text_buffer() -> [u8; 65537]
     [0; 65537]
 }
 
-fn float_buffer() -> [f32; 1024]
-    ensures { λ r. ⌜ 1024 ≡ length r ⌝ }
+fn float_buffer() -> [f32; CORNERS]
+    ensures { λ r. ⌜ mostCorners ≡ length r ⌝ }
 {
-    [0.0; 1024]
+    [0.0; CORNERS]
 }
 
-fn sheet_buffer() -> [u16; 16384]
-    ensures { λ r. ⌜ 16384 ≡ length r ⌝ }
+fn sheet_buffer() -> [u16; PLACES]
+    ensures { λ r. ⌜ places ≡ length r ⌝ }
 {
-    [0; 16384]
+    [0; PLACES]
 }
 
-fn pass_buffer() -> [u32; 96]
-    ensures { λ r. ⌜ 96 ≡ length r ⌝ }
+fn pass_buffer() -> [u32; ALL_PASS_WORDS]
+    ensures { λ r. ⌜ allPassWords ≡ length r ⌝ }
 {
-    [0; 96]
+    [0; ALL_PASS_WORDS]
 }
 
-fn queue_buffer() -> [u16; 4096]
-    ensures { λ r. ⌜ 4096 ≡ length r ⌝ }
+fn queue_buffer() -> [u16; 4 * CORNERS]
+    ensures { λ r. ⌜ 4 * mostCorners ≡ length r ⌝ }
 {
-    [0; 4096]
+    [0; 4 * CORNERS]
 }
 
-fn attached_buffer() -> [u16; 1024]
-    ensures { λ r. ⌜ 1024 ≡ length r ⌝ }
+fn attached_buffer() -> [u16; CORNERS]
+    ensures { λ r. ⌜ mostCorners ≡ length r ⌝ }
 {
-    [0; 1024]
+    [0; CORNERS]
 }
 
-fn word_buffer() -> [u32; 144]
-    ensures { λ r. ⌜ 144 ≡ length r ⌝ }
+fn word_buffer() -> [u32; ALL_OUTCOME_WORDS]
+    ensures { λ r. ⌜ allOutcomeWords ≡ length r ⌝ }
 {
-    [0; 144]
+    [0; ALL_OUTCOME_WORDS]
 }
 
 // ---- the answer

@@ -12,7 +12,8 @@ use Rattle.passes.specs.Run.{PassStats}
 use Rattle.frame.specs.Frame.{Frame, FrameRead, refused-at, accepted, readFrame}
 use Rattle.report_line.specs.Result.{linesFrom, resultLine, lineCount, resultFrom, resultPiece}
 use Rattle.report.proofs.Laws.{from-the-start, piece-joins, piece-moves}
-use Rattle.recovery.specs.Answer.{refusedText, frameStats, frameSheet, answerOf, answerText, answerLines, answerPiece, goOn, piecesFrom, joined, pieces, PiecesJoin}
+use Rattle.report_line.specs.Refused.{refusedText}
+use Rattle.recovery.specs.Answer.{frameStats, frameSheet, answerOf, answerText, answerLines, answerPiece, goOn, piecesFrom, joined, pieces, PiecesJoin}
 
 -- behind the last line there is no text
 nothing-left : (stats : List PassStats) (sheet : List ℕ) (k : ℕ) → lineCount (length stats) ≤ k → resultFrom stats sheet k ≡ []

@@ -18,7 +18,8 @@ use Rattle.report.specs.declared.PieceAnswer.{PieceAnswer}
 use Rattle.report.proofs.Laws.{piece-moves}
 use Rattle.report.proofs.Outcomes.{stats-length}
 use Rattle.arguments.specs.Front.{over}
-use Rattle.recovery.specs.Answer.{refusedText, refusedPiece, heldLines, heldPiece, CanSay, Printable, WrotePiece, Moves}
+use Rattle.report_line.specs.Refused.{refusedText}
+use Rattle.recovery.specs.Answer.{refusedPiece, heldLines, heldPiece, CanSay, Printable, WrotePiece, Moves}
 use Rattle.recovery.specs.declared.Recovered.{Recovered}
 use Rattle.recovery.specs.declared.PieceWritten.{PieceWritten}
 
@@ -94,7 +95,7 @@ refused-at-0 r line words sheet (suc k) room h = absurd (omega arith)
 
 -- what is known of an answer by its case
 module _ (a : Recovered) (words sheet : List ℕ) (can : CanSay a words sheet) (from : ℕ) (below : from < heldLines a) where
-  pub case-refused : (r : Refusal) (line : ℕ) → a ≡ Recovered.Refused r line → line ≤ 100000
+  pub case-refused : (r : Refusal) (line : ℕ) → a ≡ Recovered.Refused r line → line ≤ 10000000
   unfolding CanSay
   case-refused r line e = subst (λ (b : Recovered). CanSay b words sheet) e can
 

@@ -23,14 +23,15 @@ use Rattle.passes.specs.declared.LocalStats.{LocalStats}
 use Rattle.passes.specs.declared.LargestResidual.{LargestResidual}
 use Rattle.passes.specs.Outcome.{After, Outcome, refused, done}
 use Rattle.passes.specs.Step.{CornerLists, unless}
-use Rattle.passes.specs.Run.{PassCall, Call, PassStats, growStats, fillStats, localStats, step, sheetAfter, run, sheetOf as sheetAfterAll}
+use Rattle.passes.specs.Run.{Call, PassStats, growStats, fillStats, localStats, step, sheetAfter, run, sheetOf as sheetAfterAll}
 use Rattle.invariants.specs.Calls.{Standing, checkedCall, afterCall}
 use Rattle.invariants.proofs.Run.{step-as, call-accepted, standing-after}
 use Rattle.frame_line.specs.Lines.{PassLine}
 use Rattle.frame.specs.Frame.{Frame, partsOf, readFrame, accepted}
 use Rattle.frame.specs.Text.{WithinLimits}
 use Rattle.frame.specs.ReadFrame.{floatOf, xsOf, sheetOf, settingsOf, FullPass, full-grow, full-fill, full-local, fullOf, passOf, wordsOf, allWords}
-use Rattle.frame_laws.specs.Calls.{cornersOf, passCall, callOf as frameCall, callsOf, NoneRefused}
+use Rattle.pass_call.specs.Call.{callOf}
+use Rattle.frame_laws.specs.Calls.{cornersOf, callOf as frameCall, callsOf, NoneRefused}
 use Rattle.frame_laws.proofs.Back.{frame-prints-back}
 use Rattle.frame_laws.proofs.Runs.{accepted-runs}
 use Rattle.bounds.specs.Bounds.{FewCounts, FiniteResidual, Small, small-grow, small-fill, small-local}
@@ -40,7 +41,7 @@ use Rattle.report.specs.WriteResult.{residualWords, outcomeWords, wordAt, stats
 use Rattle.report.specs.Asked.{Tame, put, withOutcome, FloatOrNone, IsFloat}
 use Rattle.report.proofs.Laws.{put-last}
 use Rattle.arguments.specs.Front.{over}
-use Rattle.recovery.specs.Running.{passAt, calledAs, callOf, callAt, Left, left, noted, leftBy, leftByAll}
+use Rattle.recovery.specs.Running.{passAt, callAt, Left, left, noted, leftBy, leftByAll}
 use Rattle.recovery.specs.Answer.{statsOf, frameStats, frameSheet, Recorded}
 use Rattle.arguments.proofs.Chains.{or-false}
 
@@ -71,11 +72,6 @@ six-words (full-grow s f b) = refl
 six-words (full-fill s f r) = refl
 six-words (full-local s f r g d) = refl
 
-same-call : (p : Pass) → calledAs p ≡ passCall p
-same-call (Pass.Grow p) = refl
-same-call (Pass.Fill p) = refl
-same-call (Pass.Local p) = refl
-
 -- ---- calls of a list, the first of them number k
 
 unfoldable leftByList : CornerLists → List Call → ℕ → Left → Left
@@ -84,7 +80,7 @@ leftByList l (c ∷ cs) k s = leftByList l cs (suc k) (leftBy l c k s)
 
 module _ (f : Frame) (rest : List ℕ) where
   call-read : (before after : List ℕ) (k : ℕ) (p : PassLine) → length before ≡ 6 * k → callAt (settingsOf f) 4096 1024 (before ++ (wordsOf (fullOf p) ++ after)) k ≡ frameCall f p
-  call-read before after k p e = ap (λ (c : PassCall). callOf (settingsOf f) 4096 1024 c) (ap calledAs (pass-read before after k (fullOf p) e) ∙ same-call (passOf (fullOf p)))
+  call-read before after k p e = ap (callOf (settingsOf f) 4096 1024) (pass-read before after k (fullOf p) e)
 
   -- the passes that are read from their words are those of the frame
   by-list : (before words : List ℕ) (ps : List PassLine) (k : ℕ) (s : Left) → length before ≡ 6 * k → words ≡ before ++ (allWords ps ++ rest)

@@ -1,203 +1,50 @@
 -- What a pass leaves of the sheet and of the outcomes' words. Assumes nothing.
 use mathlib.Core.Path.{_≡_, refl, sym, ap, _∙_, subst}
-use mathlib.Core.Bool.{Bool, true, false, _||_}
-use mathlib.Core.List.{List, [], _∷_}
-use Prim.Native.Nat.{ℕ, zero, suc, _+_, _-_, _*_, _<_, _≤_}
+use mathlib.Core.List.{List}
+use Prim.Native.Nat.{ℕ, suc, _-_, _<_, _≤_}
 use native.Mathlib.Omega.{arith}
 use native.Mathlib.Nat.{sub-zero}
-use borrow.Author.Tests.{le-ltb}
-use lib.Dec.{ltb}
 use lib.ListN.{length}
-use Rattle.refusal.specs.declared.Refusal.{Refusal}
-use Rattle.arguments.specs.Arguments.{Lent, queueNeeded, tooShort, overLimit, outOfRange, checked}
-use Rattle.arguments.specs.declared.Checked.{Checked}
 use Rattle.arguments.specs.declared.Pass.{Pass}
 use Rattle.arguments.specs.declared.Settings.{Settings}
-use Rattle.arguments.specs.declared.GrowParams.{GrowParams}
-use Rattle.arguments.specs.declared.FillParams.{FillParams}
-use Rattle.arguments.specs.declared.LocalExtensionParams.{LocalExtensionParams}
-use Rattle.extension_common.specs.TryCell.{cornersOf}
 use Rattle.passes.specs.Outcome.{After, Outcome, refused, done}
-use Rattle.passes.specs.Grow.{growAfter}
-use Rattle.passes.specs.Fill.{fillAfter}
-use Rattle.passes.specs.Local.{localAfter}
-use Rattle.passes.specs.Step.{CornerLists, Rooms, lentOf, unless, growStep, GrowOut, growOut, growLeaves, fillStep, FillOut, fillOut, fillLeaves, localStep, LocalOut, localOut, localLeaves, rooms}
-use Rattle.passes.specs.Run.{PassCall, grow, fill, local, Call, PassStats, growStats, fillStats, localStats, renamed, step, sheetAfter}
-use Rattle.passes.specs.declared.GrowStats.{GrowStats}
-use Rattle.passes.specs.declared.FillStats.{FillStats}
-use Rattle.passes.specs.declared.LocalStats.{LocalStats}
-use Rattle.passes.specs.declared.GrowAnswer.{GrowAnswer}
-use Rattle.passes.specs.declared.FillAnswer.{FillAnswer}
-use Rattle.passes.specs.declared.LocalAnswer.{LocalAnswer}
-use Rattle.invariants.proofs.Run.{call-accepted}
-use Rattle.bounds.specs.Bounds.{Small, small-grow, small-fill, small-local, FewCounts, FiniteResidual}
-use Rattle.bounds.proofs.Small.{small}
-use Rattle.report.specs.Asked.{withOutcome}
-use Rattle.recovery.specs.Running.{passAt, calledAs, callOf, callAt, noted, Left, left, leftBy, leftByAll}
+use Rattle.passes.specs.Step.{CornerLists}
+use Rattle.passes.specs.Run.{Call, PassStats, growStats, fillStats, localStats, step, sheetAfter}
+use Rattle.passes.specs.declared.Counts.{Counts}
+use Rattle.passes.specs.declared.PassAnswer.{PassAnswer}
+use Rattle.bounds.specs.Bounds.{FewCounts, Small, small-grow, small-fill, small-local}
+use Rattle.pass_call.specs.Call.{callOf, doneAnswer, PassOut, passOut, passLeaves, SmallAnswer}
+use Rattle.report.specs.Asked.{withOutcome, CountsFit, AnswerFits, withAnswer}
+use Rattle.recovery.specs.Running.{passAt, callAt, noted, Left, left, leftBy, leftByAll}
 
--- fill and local are lent no queue: how long one is changes nothing
-no-queue : (l : CornerLists) (sheet : List ℕ) (queue attached : ℕ) (set : Settings) (p : Pass) → ((n : ℕ) → queueNeeded p n ≡ 0)
-    → checked (lentOf l sheet (rooms queue attached)) set p ≡ checked (lentOf l sheet (rooms 0 attached)) set p
-unfolding checked tooShort overLimit outOfRange
-no-queue l sheet queue attached set p none = rw (none (length (l .xs)), le-ltb queue 0 (omega arith)) refl
+-- ---- one pass
 
--- ---- grow
+few : {c : Counts} → FewCounts 1048576 c → CountsFit c
+few f = record { attached = omega (arith, f .attached); no-candidate = omega (arith, f .no-candidate); ambiguous = omega (arith, f .ambiguous); edge = omega (arith, f .edge) }
 
-done-refused-grow : (stats : GrowStats) (r : Refusal) → GrowAnswer.Done stats ≡ GrowAnswer.Refused r → ⊥
-done-refused-grow stats r e = let z : _≡_ {A = ℕ} 0 1 = cc in omega arith
+pub small-fits : (r : PassAnswer) → SmallAnswer r → AnswerFits r
+small-fits (PassAnswer.Grow s) (small-grow f) = few f
+small-fits (PassAnswer.Fill s) (small-fill a b) = record { added = omega arith; rounds = omega arith }
+small-fits (PassAnswer.Local s) (small-local f i r) = record { counts = few f; rounds = omega arith }
+small-fits (PassAnswer.Refused r) h = tt
 
-small-grow-stats : {stats : GrowStats} → Small (growStats stats) → FewCounts 1048576 (stats .counts)
-small-grow-stats (small-grow f) = f
+-- what is noted of a call is what its outcome says
+pub noted-answer : (words : List ℕ) (k : ℕ) (s : PassStats) → withAnswer words k (doneAnswer s) ≡ withOutcome words k s
+noted-answer words k (growStats s) = refl
+noted-answer words k (fillStats s) = refl
+noted-answer words k (localStats s) = refl
 
-module _ (l : CornerLists) (set : Settings) (p : GrowParams) (sheet queue attached sheet' queue' attached' : List ℕ) where
-  -- a call that answers counts: they are small, and what it did is the definition's
-  pub grow-small : (answer : GrowAnswer) (stats : GrowStats) → answer ≡ GrowAnswer.Done stats → growOut answer sheet' queue' attached' ≡ growLeaves (growStep l sheet set p (rooms (length queue) (length attached))) sheet queue attached → FewCounts 1048576 (stats .counts)
-  unfolding growStep
-  grow-small answer stats t e = go (checked (lentOf l sheet (rooms (length queue) (length attached))) set (Pass.Grow p)) refl (ap (λ (a : GrowAnswer). growOut a sheet' queue' attached') (sym t) ∙ e)
-    where
-      go : (k : Checked) → checked (lentOf l sheet (rooms (length queue) (length attached))) set (Pass.Grow p) ≡ k
-          → growOut (GrowAnswer.Done stats) sheet' queue' attached' ≡ growLeaves (unless k (growAfter (cornersOf (l .xs) (l .ys) (l .pitches)) set p sheet)) sheet queue attached → FewCounts 1048576 (stats .counts)
-      go Checked.Fine f w =
-          let answers : GrowAnswer.Done stats ≡ GrowAnswer.Done (growAfter (cornersOf (l .xs) (l .ys) (l .pitches)) set p sheet .answer) = ap (λ (o : GrowOut). o .answer) w in
-          let same : growAfter (cornersOf (l .xs) (l .ys) (l .pitches)) set p sheet .answer ≡ stats = cc in
-          subst (λ (stats : GrowStats). FewCounts 1048576 (stats .counts)) same
-          (small-grow-stats (small l sheet (record { pass = grow p; settings = set; rooms = (rooms (length queue) (length attached)) }) (call-accepted l sheet (record { pass = grow p; settings = set; rooms = (rooms (length queue) (length attached)) }) f)))
-      go (Checked.Refused r) f w = absurd (done-refused-grow stats r (ap (λ (o : GrowOut). o .answer) w))
-
-  -- what it leaves
-  pub grow-left : (k : ℕ) (words : List ℕ) (answer : GrowAnswer) (stats : GrowStats) → answer ≡ GrowAnswer.Done stats → growOut answer sheet' queue' attached' ≡ growLeaves (growStep l sheet set p (rooms (length queue) (length attached))) sheet queue attached
-      → left sheet' (withOutcome words k (growStats stats)) ≡ leftBy l (callOf set (length queue) (length attached) (grow p)) k (left sheet words)
-  unfolding leftBy step
-  grow-left k words answer stats t e = (go (growStep l sheet set p (rooms (length queue) (length attached))) (ap (λ (a : GrowAnswer). growOut a sheet' queue' attached') (sym t) ∙ e))
-    where
-      go : (o : Outcome GrowStats) → growOut (GrowAnswer.Done stats) sheet' queue' attached' ≡ growLeaves o sheet queue attached
-          → left sheet' (withOutcome words k (growStats stats)) ≡ left (sheetAfter sheet (renamed growStats o)) (noted words k (renamed growStats o))
-      go (refused r) w = absurd (done-refused-grow stats r (ap (λ (o : GrowOut). o .answer) w))
-      go (done a) w =
-          let answers : GrowAnswer.Done stats ≡ GrowAnswer.Done (a .answer) = ap (λ (o : GrowOut). o .answer) w in
-          let same : stats ≡ a .answer = cc in
-          let sheets : sheet' ≡ a .sheet = ap (λ (o : GrowOut). o .sheet) w in
-          rw (same, sheets) refl
-
-  pub grow-refused : (k : ℕ) (words : List ℕ) (answer : GrowAnswer) (r : Refusal) → answer ≡ GrowAnswer.Refused r → growOut answer sheet' queue' attached' ≡ growLeaves (growStep l sheet set p (rooms (length queue) (length attached))) sheet queue attached
-      → left sheet' words ≡ leftBy l (callOf set (length queue) (length attached) (grow p)) k (left sheet words)
-  unfolding leftBy step
-  grow-refused k words answer r t e = (go (growStep l sheet set p (rooms (length queue) (length attached))) (ap (λ (a : GrowAnswer). growOut a sheet' queue' attached') (sym t) ∙ e))
-    where
-      go : (o : Outcome GrowStats) → growOut (GrowAnswer.Refused r) sheet' queue' attached' ≡ growLeaves o sheet queue attached
-          → left sheet' words ≡ left (sheetAfter sheet (renamed growStats o)) (noted words k (renamed growStats o))
-      go (refused r) w = let sheets : sheet' ≡ sheet = ap (λ (o : GrowOut). o .sheet) w in rw (sheets) refl
-      go (done a) w = absurd (done-refused-grow (a .answer) r (sym (ap (λ (o : GrowOut). o .answer) w)))
-
--- ---- fill
-
-done-refused-fill : (stats : FillStats) (r : Refusal) → FillAnswer.Done stats ≡ FillAnswer.Refused r → ⊥
-done-refused-fill stats r e = let z : _≡_ {A = ℕ} 0 1 = cc in omega arith
-
-small-fill-stats : {stats : FillStats} → Small (fillStats stats) → (stats .added ≤ 1048576) × (stats .iterations ≤ 64)
-small-fill-stats (small-fill a b) = (a, b)
-
-module _ (l : CornerLists) (set : Settings) (p : FillParams) (q : ℕ) (sheet attached sheet' attached' : List ℕ) where
-  -- a call that answers counts: they are small, and what it did is the definition's
-  pub fill-small : (answer : FillAnswer) (stats : FillStats) → answer ≡ FillAnswer.Done stats → fillOut answer sheet' attached' ≡ fillLeaves (fillStep l sheet set p (rooms 0 (length attached))) sheet attached → (stats .added ≤ 1048576) × (stats .iterations ≤ 64)
-  unfolding fillStep
-  fill-small answer stats t e = go (checked (lentOf l sheet (rooms 0 (length attached))) set (Pass.Fill p)) refl (ap (λ (a : FillAnswer). fillOut a sheet' attached') (sym t) ∙ e)
-    where
-      go : (k : Checked) → checked (lentOf l sheet (rooms 0 (length attached))) set (Pass.Fill p) ≡ k
-          → fillOut (FillAnswer.Done stats) sheet' attached' ≡ fillLeaves (unless k (fillAfter (cornersOf (l .xs) (l .ys) (l .pitches)) set p sheet)) sheet attached → (stats .added ≤ 1048576) × (stats .iterations ≤ 64)
-      go Checked.Fine f w =
-          let answers : FillAnswer.Done stats ≡ FillAnswer.Done (fillAfter (cornersOf (l .xs) (l .ys) (l .pitches)) set p sheet .answer) = ap (λ (o : FillOut). o .answer) w in
-          let same : fillAfter (cornersOf (l .xs) (l .ys) (l .pitches)) set p sheet .answer ≡ stats = cc in
-          subst (λ (stats : FillStats). (stats .added ≤ 1048576) × (stats .iterations ≤ 64)) same
-          (small-fill-stats (small l sheet (record { pass = fill p; settings = set; rooms = (rooms 0 (length attached)) }) (call-accepted l sheet (record { pass = fill p; settings = set; rooms = (rooms 0 (length attached)) }) f)))
-      go (Checked.Refused r) f w = absurd (done-refused-fill stats r (ap (λ (o : FillOut). o .answer) w))
-
-  same-fill : fillStep l sheet set p (rooms q (length attached)) ≡ fillStep l sheet set p (rooms 0 (length attached))
-  unfolding fillStep queueNeeded
-  same-fill = rw (no-queue l sheet q (length attached) set (Pass.Fill p) none-needed) refl
-    where
-      none-needed : (n : ℕ) → queueNeeded (Pass.Fill p) n ≡ 0
-      none-needed n = refl
-
-  -- what it leaves
-  pub fill-left : (k : ℕ) (words : List ℕ) (answer : FillAnswer) (stats : FillStats) → answer ≡ FillAnswer.Done stats → fillOut answer sheet' attached' ≡ fillLeaves (fillStep l sheet set p (rooms 0 (length attached))) sheet attached
-      → left sheet' (withOutcome words k (fillStats stats)) ≡ leftBy l (callOf set q (length attached) (fill p)) k (left sheet words)
-  unfolding leftBy step
-  fill-left k words answer stats t e = rw (same-fill) (go (fillStep l sheet set p (rooms 0 (length attached))) (ap (λ (a : FillAnswer). fillOut a sheet' attached') (sym t) ∙ e))
-    where
-      go : (o : Outcome FillStats) → fillOut (FillAnswer.Done stats) sheet' attached' ≡ fillLeaves o sheet attached
-          → left sheet' (withOutcome words k (fillStats stats)) ≡ left (sheetAfter sheet (renamed fillStats o)) (noted words k (renamed fillStats o))
-      go (refused r) w = absurd (done-refused-fill stats r (ap (λ (o : FillOut). o .answer) w))
-      go (done a) w =
-          let answers : FillAnswer.Done stats ≡ FillAnswer.Done (a .answer) = ap (λ (o : FillOut). o .answer) w in
-          let same : stats ≡ a .answer = cc in
-          let sheets : sheet' ≡ a .sheet = ap (λ (o : FillOut). o .sheet) w in
-          rw (same, sheets) refl
-
-  pub fill-refused : (k : ℕ) (words : List ℕ) (answer : FillAnswer) (r : Refusal) → answer ≡ FillAnswer.Refused r → fillOut answer sheet' attached' ≡ fillLeaves (fillStep l sheet set p (rooms 0 (length attached))) sheet attached
-      → left sheet' words ≡ leftBy l (callOf set q (length attached) (fill p)) k (left sheet words)
-  unfolding leftBy step
-  fill-refused k words answer r t e = rw (same-fill) (go (fillStep l sheet set p (rooms 0 (length attached))) (ap (λ (a : FillAnswer). fillOut a sheet' attached') (sym t) ∙ e))
-    where
-      go : (o : Outcome FillStats) → fillOut (FillAnswer.Refused r) sheet' attached' ≡ fillLeaves o sheet attached
-          → left sheet' words ≡ left (sheetAfter sheet (renamed fillStats o)) (noted words k (renamed fillStats o))
-      go (refused r) w = let sheets : sheet' ≡ sheet = ap (λ (o : FillOut). o .sheet) w in rw (sheets) refl
-      go (done a) w = absurd (done-refused-fill (a .answer) r (sym (ap (λ (o : FillOut). o .answer) w)))
-
--- ---- local
-
-done-refused-local : (stats : LocalStats) (r : Refusal) → LocalAnswer.Done stats ≡ LocalAnswer.Refused r → ⊥
-done-refused-local stats r e = let z : _≡_ {A = ℕ} 0 1 = cc in omega arith
-
-small-local-stats : {stats : LocalStats} → Small (localStats stats) → FewCounts 1048576 (stats .counts) × ((stats .iterations ≤ 64) × FiniteResidual (stats .residual))
-small-local-stats (small-local f i r) = (f, (i, r))
-
-module _ (l : CornerLists) (set : Settings) (p : LocalExtensionParams) (q : ℕ) (sheet attached sheet' attached' : List ℕ) where
-  -- a call that answers counts: they are small, and what it did is the definition's
-  pub local-small : (answer : LocalAnswer) (stats : LocalStats) → answer ≡ LocalAnswer.Done stats → localOut answer sheet' attached' ≡ localLeaves (localStep l sheet set p (rooms 0 (length attached))) sheet attached → FewCounts 1048576 (stats .counts) × ((stats .iterations ≤ 64) × FiniteResidual (stats .residual))
-  unfolding localStep
-  local-small answer stats t e = go (checked (lentOf l sheet (rooms 0 (length attached))) set (Pass.Local p)) refl (ap (λ (a : LocalAnswer). localOut a sheet' attached') (sym t) ∙ e)
-    where
-      go : (k : Checked) → checked (lentOf l sheet (rooms 0 (length attached))) set (Pass.Local p) ≡ k
-          → localOut (LocalAnswer.Done stats) sheet' attached' ≡ localLeaves (unless k (localAfter (cornersOf (l .xs) (l .ys) (l .pitches)) set p sheet)) sheet attached → FewCounts 1048576 (stats .counts) × ((stats .iterations ≤ 64) × FiniteResidual (stats .residual))
-      go Checked.Fine f w =
-          let answers : LocalAnswer.Done stats ≡ LocalAnswer.Done (localAfter (cornersOf (l .xs) (l .ys) (l .pitches)) set p sheet .answer) = ap (λ (o : LocalOut). o .answer) w in
-          let same : localAfter (cornersOf (l .xs) (l .ys) (l .pitches)) set p sheet .answer ≡ stats = cc in
-          subst (λ (stats : LocalStats). FewCounts 1048576 (stats .counts) × ((stats .iterations ≤ 64) × FiniteResidual (stats .residual))) same
-          (small-local-stats (small l sheet (record { pass = local p; settings = set; rooms = (rooms 0 (length attached)) }) (call-accepted l sheet (record { pass = local p; settings = set; rooms = (rooms 0 (length attached)) }) f)))
-      go (Checked.Refused r) f w = absurd (done-refused-local stats r (ap (λ (o : LocalOut). o .answer) w))
-
-  same-local : localStep l sheet set p (rooms q (length attached)) ≡ localStep l sheet set p (rooms 0 (length attached))
-  unfolding localStep queueNeeded
-  same-local = rw (no-queue l sheet q (length attached) set (Pass.Local p) none-needed) refl
-    where
-      none-needed : (n : ℕ) → queueNeeded (Pass.Local p) n ≡ 0
-      none-needed n = refl
-
-  -- what it leaves
-  pub local-left : (k : ℕ) (words : List ℕ) (answer : LocalAnswer) (stats : LocalStats) → answer ≡ LocalAnswer.Done stats → localOut answer sheet' attached' ≡ localLeaves (localStep l sheet set p (rooms 0 (length attached))) sheet attached
-      → left sheet' (withOutcome words k (localStats stats)) ≡ leftBy l (callOf set q (length attached) (local p)) k (left sheet words)
-  unfolding leftBy step
-  local-left k words answer stats t e = rw (same-local) (go (localStep l sheet set p (rooms 0 (length attached))) (ap (λ (a : LocalAnswer). localOut a sheet' attached') (sym t) ∙ e))
-    where
-      go : (o : Outcome LocalStats) → localOut (LocalAnswer.Done stats) sheet' attached' ≡ localLeaves o sheet attached
-          → left sheet' (withOutcome words k (localStats stats)) ≡ left (sheetAfter sheet (renamed localStats o)) (noted words k (renamed localStats o))
-      go (refused r) w = absurd (done-refused-local stats r (ap (λ (o : LocalOut). o .answer) w))
-      go (done a) w =
-          let answers : LocalAnswer.Done stats ≡ LocalAnswer.Done (a .answer) = ap (λ (o : LocalOut). o .answer) w in
-          let same : stats ≡ a .answer = cc in
-          let sheets : sheet' ≡ a .sheet = ap (λ (o : LocalOut). o .sheet) w in
-          rw (same, sheets) refl
-
-  pub local-refused : (k : ℕ) (words : List ℕ) (answer : LocalAnswer) (r : Refusal) → answer ≡ LocalAnswer.Refused r → localOut answer sheet' attached' ≡ localLeaves (localStep l sheet set p (rooms 0 (length attached))) sheet attached
-      → left sheet' words ≡ leftBy l (callOf set q (length attached) (local p)) k (left sheet words)
-  unfolding leftBy step
-  local-refused k words answer r t e = rw (same-local) (go (localStep l sheet set p (rooms 0 (length attached))) (ap (λ (a : LocalAnswer). localOut a sheet' attached') (sym t) ∙ e))
-    where
-      go : (o : Outcome LocalStats) → localOut (LocalAnswer.Refused r) sheet' attached' ≡ localLeaves o sheet attached
-          → left sheet' words ≡ left (sheetAfter sheet (renamed localStats o)) (noted words k (renamed localStats o))
-      go (refused r) w = let sheets : sheet' ≡ sheet = ap (λ (o : LocalOut). o .sheet) w in rw (sheets) refl
-      go (done a) w = absurd (done-refused-local (a .answer) r (sym (ap (λ (o : LocalOut). o .answer) w)))
+pub pass-left : (l : CornerLists) (c : Call) (sheet queue attached sheet' queue' attached' : List ℕ) (k : ℕ) (words words' : List ℕ) (r : PassAnswer)
+    → passOut r sheet' queue' attached' ≡ passLeaves (step l sheet c) sheet queue attached → words' ≡ withAnswer words k r
+    → left sheet' words' ≡ leftBy l c k (left sheet words)
+unfolding leftBy
+pass-left l c sheet queue attached sheet' queue' attached' k words words' r e f = go (step l sheet c) e
+  where
+    go : (o : Outcome PassStats) → passOut r sheet' queue' attached' ≡ passLeaves o sheet queue attached → left sheet' words' ≡ left (sheetAfter sheet o) (noted words k o)
+    go (refused s) w = let sheets : sheet' ≡ sheet = ap (λ (o : PassOut). o .sheet) w in rw (sheets, f, ap (λ (o : PassOut). o .answer) w) refl
+    go (done a) w =
+        let sheets : sheet' ≡ a .sheet = ap (λ (o : PassOut). o .sheet) w in
+        rw (sheets, f, ap (λ (o : PassOut). o .answer) w, noted-answer words k (a .answer)) refl
 
 -- ---- one pass after the other
 
@@ -234,7 +81,7 @@ pub next-turn : (l : CornerLists) (set : Settings) (passes : List ℕ) (n : ℕ)
     → Turning l set passes n sheet₀ queue₀ attached₀ words₀ sheet queue attached words k → k < n
     → (pass : Pass) → pass ≡ passAt passes k → (sheet' queue' attached' words' : List ℕ)
     → length sheet' ≡ length sheet → length queue' ≡ length queue → length attached' ≡ length attached → length words' ≡ length words
-    → left sheet' words' ≡ leftBy l (callOf set (length queue) (length attached) (calledAs pass)) k (left sheet words)
+    → left sheet' words' ≡ leftBy l (callOf set (length queue) (length attached) pass) k (left sheet words)
     → Turning l set passes n sheet₀ queue₀ attached₀ words₀ sheet' queue' attached' words' (suc k)
 next-turn l set passes n sheet₀ queue₀ attached₀ words₀ sheet queue attached words k t h pass e sheet' queue' attached' words' a b c d f =
     record {

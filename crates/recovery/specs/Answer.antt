@@ -8,25 +8,21 @@ use lib.Dec.{ltb}
 use lib.ListN.{length}
 use lib.Ieee.{Float}
 use Rattle.refusal.specs.declared.Refusal.{Refusal}
-use Rattle.refusal.specs.Refusal.{numberOf}
 use Rattle.arguments.specs.Arguments.{unknownCorner, doubledCorner}
-use Rattle.line_form.specs.Forms.{bytes, printed}
 use Rattle.passes.specs.Outcome.{After, Outcome, refused, done}
 use Rattle.passes.specs.Run.{PassStats, run, sheetOf as sheetAfterAll}
 use Rattle.frame.specs.Frame.{Frame, partsOf, FrameRead, refused-at, accepted, readFrame}
 use Rattle.frame.specs.ReadFrame.{sheetOf, Buffers}
 use Rattle.frame_laws.specs.Calls.{cornersOf, callsOf}
-use Rattle.report_line.specs.Result.{count, resultText, resultFrom, Piece, resultPiece, lineCount}
+use Rattle.report_line.specs.Refused.{refusedText}
+use Rattle.report_line.specs.Result.{resultText, resultFrom, Piece, resultPiece, lineCount}
+use Rattle.report_line.specs.Sizes.{places, mostCorners, mostPasses, outcomeSize, lineRoom}
 use Rattle.report.specs.WriteResult.{statsIn, wildOutcome}
 use Rattle.line_form.specs.Written.{Wrote}
 use Rattle.recovery.specs.declared.Recovered.{Recovered}
 use Rattle.recovery.specs.declared.PieceWritten.{PieceWritten}
 
 -- ---- the whole answer
-
--- "The program prints `(refused number line)` alone."
-unfoldable pub refusedText : Refusal → ℕ → List ℕ
-refusedText r line = printed (bytes "(refused # #)\n") (count (numberOf r) ∷ count line ∷ [])
 
 -- what the passes said; no pass of an accepted frame is refused (`frame_laws`: `accepted-runs`)
 unfoldable pub statsOf : List (Outcome PassStats) → List PassStats
@@ -54,10 +50,10 @@ answerText text = answerOf (readFrame text)
 pub record Recorded (f : Frame) (corners passes : ℕ) (sheet words : List ℕ) : Type 0 where
   pub corner-count : corners ≡ length (partsOf f .corners)
   pub pass-count : passes ≡ length (partsOf f .passes)
-  pub few-corners : corners ≤ 1024
-  pub few-passes : passes ≤ 16
-  pub words-long : 9 * passes ≤ length words
-  pub sheet-long : 16384 ≤ length sheet
+  pub few-corners : corners ≤ mostCorners
+  pub few-passes : passes ≤ mostPasses
+  pub words-long : outcomeSize * passes ≤ length words
+  pub sheet-long : places ≤ length sheet
   pub sheet-so : sheet ≡ frameSheet f
   pub stats-so : statsIn passes words ≡ frameStats f
   pub tame : (k : ℕ) → k < passes → wildOutcome words k ≡ false
@@ -116,7 +112,7 @@ pieces text room = piecesFrom (readFrame text) room (answerLines (readFrame text
 
 -- the pieces, joined, are the answer
 abbrev pub PiecesJoin : Type 0
-PiecesJoin = (text : List ℕ) (room : ℕ) → 128 ≤ room → joined (pieces text room) ≡ answerText text
+PiecesJoin = (text : List ℕ) (room : ℕ) → lineRoom ≤ room → joined (pieces text room) ≡ answerText text
 
 -- ---- the same from what a run holds: the answer, the words of the outcomes and the sheet
 
@@ -130,20 +126,20 @@ heldPiece (Recovered.Done corners passes) words sheet k room = resultPiece (stat
 
 abbrev pub FewPasses : Recovered → Type 0
 FewPasses (Recovered.Refused r line) = Unit {0}
-FewPasses (Recovered.Done corners passes) = passes ≤ 16
+FewPasses (Recovered.Done corners passes) = passes ≤ mostPasses
 
 -- what the printer asks of words and sheet
 pub record Printable (corners passes : ℕ) (words sheet : List ℕ) : Type 0 where
-  pub few-corners : corners ≤ 1024
-  pub few-passes : passes ≤ 16
-  pub words-long : 9 * passes ≤ length words
-  pub sheet-long : 16384 ≤ length sheet
+  pub few-corners : corners ≤ mostCorners
+  pub few-passes : passes ≤ mostPasses
+  pub words-long : outcomeSize * passes ≤ length words
+  pub sheet-long : places ≤ length sheet
   pub tame : (k : ℕ) → k < passes → wildOutcome words k ≡ false
   pub known : unknownCorner corners sheet ≡ false
   pub once : doubledCorner sheet ≡ false
 
 unfoldable pub CanSay : Recovered → List ℕ → List ℕ → Type 0
-CanSay (Recovered.Refused r line) words sheet = line ≤ 100000
+CanSay (Recovered.Refused r line) words sheet = line ≤ 10000000
 CanSay (Recovered.Done corners passes) words sheet = Printable corners passes words sheet
 
 -- what is held after a run of a text says the answer to it, piece by piece

@@ -10,15 +10,17 @@ use Rattle.refusal.specs.declared.Refusal.{Refusal}
 use Rattle.arguments.specs.declared.Pass.{Pass}
 use Rattle.arguments.specs.declared.Settings.{Settings}
 use Rattle.passes.specs.Outcome.{After, Outcome, refused, done}
-use Rattle.passes.specs.Step.{CornerLists, rooms}
-use Rattle.passes.specs.Run.{PassCall, grow, fill, local, Call, PassStats, step, sheetAfter}
+use Rattle.passes.specs.Step.{CornerLists}
+use Rattle.passes.specs.Run.{Call, PassStats, step, sheetAfter}
+use Rattle.pass_call.specs.Call.{callOf}
 use Rattle.frame.specs.ReadFrame.{growOf, fillOf, localOf}
+use Rattle.report_line.specs.Sizes.{places, mostCorners, mostPasses, passSize, allPassWords, allOutcomeWords}
 use Rattle.report.specs.Asked.{withOutcome}
 
 -- ---- a pass from its six words: kind (0 grow, 1 fill, 2 local), search, factor, boundary or residual, rounds, depth
 
 abbrev pub passWord : List ℕ → ℕ → ℕ → ℕ
-passWord words k m = getD words (6 * k + m) 0
+passWord words k m = getD words (passSize * k + m) 0
 
 unfoldable pub passAt : List ℕ → ℕ → Pass
 passAt words k =
@@ -26,18 +28,9 @@ passAt words k =
     (cond (eqb (passWord words k 0) 1) (fillOf (passWord words k 1) (passWord words k 2) (passWord words k 4))
     (localOf (passWord words k 1) (passWord words k 2) (passWord words k 4) (passWord words k 3) (passWord words k 5)))
 
--- the call of a pass
-abbrev pub calledAs : Pass → PassCall
-calledAs (Pass.Grow p) = grow p
-calledAs (Pass.Fill p) = fill p
-calledAs (Pass.Local p) = local p
-
-abbrev pub callOf : Settings → ℕ → ℕ → PassCall → Call
-callOf set queue attached p = record { pass = p; settings = set; rooms = rooms queue attached }
-
 -- call k of the passes that are given as words
 abbrev pub callAt : Settings → ℕ → ℕ → List ℕ → ℕ → Call
-callAt set queue attached passes k = callOf set queue attached (calledAs (passAt passes k))
+callAt set queue attached passes k = callOf set queue attached (passAt passes k)
 
 -- ---- what a call leaves: the sheet, and the words of the outcomes, nine of each
 
@@ -65,13 +58,13 @@ leftByAll l call (suc n) k s = leftByAll l call n (suc k) (leftBy l (call k) k s
 
 -- room for the words of outcome k
 pub record RoomFor (k : ℕ) (words : List ℕ) : Type 0 where
-  pub below : k < 16
-  pub long : 144 ≤ length words
+  pub below : k < mostPasses
+  pub long : allOutcomeWords ≤ length words
 
 -- n passes of six words each
 pub record PassWords (n : ℕ) (passes : List ℕ) : Type 0 where
-  pub few : n ≤ 16
-  pub long : 96 ≤ length passes
+  pub few : n ≤ mostPasses
+  pub long : allPassWords ≤ length passes
 
 -- n corners at the front of their buffers
 pub record AtFront (n : ℕ) (xs ys pitches : List Float) : Type 0 where
@@ -81,14 +74,14 @@ pub record AtFront (n : ℕ) (xs ys pitches : List Float) : Type 0 where
 
 -- what a frame is read into
 pub record FrameRoom (xs ys pitches : List Float) (sheet passes : List ℕ) : Type 0 where
-  pub xs-long : 1024 ≤ length xs
-  pub ys-long : 1024 ≤ length ys
-  pub pitches-long : 1024 ≤ length pitches
-  pub sheet-whole : length sheet ≡ 16384
-  pub passes-long : 96 ≤ length passes
+  pub xs-long : mostCorners ≤ length xs
+  pub ys-long : mostCorners ≤ length ys
+  pub pitches-long : mostCorners ≤ length pitches
+  pub sheet-whole : length sheet ≡ places
+  pub passes-long : allPassWords ≤ length passes
 
 -- what its passes are lent beside that
 pub record PassRoom (queue attached words : List ℕ) : Type 0 where
-  pub queue-whole : length queue ≡ 4096
-  pub attached-whole : length attached ≡ 1024
-  pub words-long : 144 ≤ length words
+  pub queue-whole : length queue ≡ 4 * mostCorners
+  pub attached-whole : length attached ≡ mostCorners
+  pub words-long : allOutcomeWords ≤ length words

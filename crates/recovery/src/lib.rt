@@ -4,24 +4,22 @@ ghost use Prim.Native.Nat.{_<_, _≤_};
 ghost use lib.ListN.{length, take};
 ghost use lib.Ieee.{binary32, ofBits};
 ghost use Rattle.passes.specs.Step.{cornerLists};
-ghost use Rattle.passes.specs.Run.{grow, fill, local};
-ghost use Rattle.recovery.specs.Running.{passAt, calledAs, callOf, callAt, left, leftBy, leftByAll, RoomFor, PassWords, AtFront, FrameRoom, PassRoom};
-ghost use Rattle.recovery.specs.Answer.{refusedText, Recovers, lentAs, heldLines, heldPiece, FewPasses, Printable, CanSay, WrotePiece, Moves};
+ghost use Rattle.pass_call.specs.Call.{callOf};
+ghost use Rattle.recovery.specs.Running.{passAt, callAt, left, leftBy, leftByAll, RoomFor, PassWords, AtFront, FrameRoom, PassRoom};
+ghost use Rattle.recovery.specs.Answer.{Recovers, lentAs, heldLines, heldPiece, FewPasses, Printable, CanSay, WrotePiece, Moves};
 ghost use mathlib.Core.List.{[]};
 ghost use Rattle.report_line.specs.Result.{lineCount};
-ghost use Rattle.line_form.specs.Written.{unheldWhole, Wrote};
-ghost use lib.IntN.{pos};
+ghost use Rattle.report_line.specs.Sizes.{mostPasses, allPassWords, allOutcomeWords, lineRoom};
 use arguments::FillParams;
 use arguments::GrowParams;
 use arguments::LocalExtensionParams;
 use arguments::Pass;
 use arguments::Settings;
 use frame::FrameAnswer;
-use passes::FillAnswer;
-use passes::GrowAnswer;
-use passes::LocalAnswer;
 use refusal::Refusal;
 use report::PieceAnswer;
+use report_line::sizes::PASS_WORDS;
+use report_line::sizes::SHEET_LINES;
 
 // A refusal with its line, or the number of corners and of passes of a frame whose passes have run.
 pub enum Recovered {
@@ -41,11 +39,11 @@ fn float_of(bits: u32) -> f32
 
 // The pass that six words stand for.
 fn pass_at(passes: &[u32], k: usize) -> Pass
-    requires { ⌜ k < 16 ⌝ }
-    requires { ⌜ 96 ≤ length (now passes) ⌝ }
+    requires { ⌜ k < mostPasses ⌝ }
+    requires { ⌜ allPassWords ≤ length (now passes) ⌝ }
     ensures { λ r. ⌜ r ≡ passAt (now (passes .entry)) k ⌝ }
 {
-    let at = 6 * k;
+    let at = PASS_WORDS * k;
     let search = float_of(passes[at + 1]);
     let factor = float_of(passes[at + 2]);
     let third = float_of(passes[at + 3]);
@@ -74,92 +72,6 @@ fn pass_at(passes: &[u32], k: usize) -> Pass
 
 // ---- the passes
 
-// Runs grow, and notes its outcome as number k.
-fn run_grow(
-    xs: &[f32],
-    ys: &[f32],
-    pitches: &[f32],
-    sheet: &mut [u16],
-    queue: &mut [u16],
-    attached: &mut [u16],
-    settings: Settings,
-    params: GrowParams,
-    k: usize,
-    words: &mut [u32],
-)
-    requires { ⌜ RoomFor k (now words) ⌝ }
-    ensures { λ _. ⌜ left (now (sheet .exit)) (now (words .exit)) ≡ leftBy (cornerLists (now (xs .entry)) (now (ys .entry)) (now (pitches .entry))) (callOf settings (length (now (queue .entry))) (length (now (attached .entry))) (grow params)) k (left (now (sheet .entry)) (now (words .entry))) ⌝ }
-{
-    let answer = grow_extend::extend_from_labelled(
-        xs,
-        ys,
-        pitches,
-        sheet,
-        queue,
-        attached,
-        settings,
-        params,
-    );
-    match answer {
-        GrowAnswer::Refused(_) => {}
-        GrowAnswer::Done(stats) => report::words::put_grow(words, k, stats),
-    }
-}
-
-// Runs fill, and notes its outcome as number k.
-fn run_fill(
-    xs: &[f32],
-    ys: &[f32],
-    pitches: &[f32],
-    sheet: &mut [u16],
-    queue: usize,
-    attached: &mut [u16],
-    settings: Settings,
-    params: FillParams,
-    k: usize,
-    words: &mut [u32],
-)
-    requires { ⌜ RoomFor k (now words) ⌝ }
-    ensures { λ _. ⌜ left (now (sheet .exit)) (now (words .exit)) ≡ leftBy (cornerLists (now (xs .entry)) (now (ys .entry)) (now (pitches .entry))) (callOf settings queue (length (now (attached .entry))) (fill params)) k (left (now (sheet .entry)) (now (words .entry))) ⌝ }
-{
-    let answer = fill::fill_grid_holes(xs, ys, pitches, sheet, attached, settings, params);
-    match answer {
-        FillAnswer::Refused(_) => {}
-        FillAnswer::Done(stats) => report::words::put_fill(words, k, stats),
-    }
-}
-
-// Runs local, and notes its outcome as number k.
-fn run_local(
-    xs: &[f32],
-    ys: &[f32],
-    pitches: &[f32],
-    sheet: &mut [u16],
-    queue: usize,
-    attached: &mut [u16],
-    settings: Settings,
-    params: LocalExtensionParams,
-    k: usize,
-    words: &mut [u32],
-)
-    requires { ⌜ RoomFor k (now words) ⌝ }
-    ensures { λ _. ⌜ left (now (sheet .exit)) (now (words .exit)) ≡ leftBy (cornerLists (now (xs .entry)) (now (ys .entry)) (now (pitches .entry))) (callOf settings queue (length (now (attached .entry))) (local params)) k (left (now (sheet .entry)) (now (words .entry))) ⌝ }
-{
-    let answer = local::extend_via_local_homography(
-        xs,
-        ys,
-        pitches,
-        sheet,
-        attached,
-        settings,
-        params,
-    );
-    match answer {
-        LocalAnswer::Refused(_) => {}
-        LocalAnswer::Done(stats) => report::words::put_local(words, k, stats),
-    }
-}
-
 // Runs a pass, and notes its outcome as number k.
 fn run_pass(
     xs: &[f32],
@@ -174,53 +86,10 @@ fn run_pass(
     words: &mut [u32],
 )
     requires { ⌜ RoomFor k (now words) ⌝ }
-    ensures { λ _. ⌜ left (now (sheet .exit)) (now (words .exit)) ≡ leftBy (cornerLists (now (xs .entry)) (now (ys .entry)) (now (pitches .entry))) (callOf settings (length (now (queue .entry))) (length (now (attached .entry))) (calledAs pass)) k (left (now (sheet .entry)) (now (words .entry))) ⌝ }
+    ensures { λ _. ⌜ left (now (sheet .exit)) (now (words .exit)) ≡ leftBy (cornerLists (now (xs .entry)) (now (ys .entry)) (now (pitches .entry))) (callOf settings (length (now (queue .entry))) (length (now (attached .entry))) pass) k (left (now (sheet .entry)) (now (words .entry))) ⌝ }
 {
-    let places = queue.len();
-    match pass {
-        Pass::Grow(p) => {
-            run_grow(
-                xs,
-                ys,
-                pitches,
-                sheet,
-                queue,
-                attached,
-                settings,
-                p,
-                k,
-                words,
-            )
-        }
-        Pass::Fill(p) => {
-            run_fill(
-                xs,
-                ys,
-                pitches,
-                sheet,
-                places,
-                attached,
-                settings,
-                p,
-                k,
-                words,
-            )
-        }
-        Pass::Local(p) => {
-            run_local(
-                xs,
-                ys,
-                pitches,
-                sheet,
-                places,
-                attached,
-                settings,
-                p,
-                k,
-                words,
-            )
-        }
-    }
+    let answer = pass_call::call_pass(xs, ys, pitches, sheet, queue, attached, settings, pass);
+    report::words::put_outcome(words, k, answer);
 }
 
 // Runs the first n passes in order on one sheet, and notes their outcomes.
@@ -237,7 +106,7 @@ pub fn run_passes(
     words: &mut [u32],
 )
     requires { ⌜ PassWords n (now passes) ⌝ }
-    requires { ⌜ 144 ≤ length (now words) ⌝ }
+    requires { ⌜ allOutcomeWords ≤ length (now words) ⌝ }
     ensures { λ _. ⌜ left (now (sheet .exit)) (now (words .exit)) ≡ leftByAll (cornerLists (now (xs .entry)) (now (ys .entry)) (now (pitches .entry))) (callAt settings (length (now (queue .entry))) (length (now (attached .entry))) (now (passes .entry))) n 0 (left (now (sheet .entry)) (now (words .entry))) ⌝ }
 {
     let mut k = 0usize;
@@ -277,7 +146,7 @@ fn run_frame(
 )
     requires { ⌜ PassWords m (now passes) ⌝ }
     requires { ⌜ AtFront n (now xs) (now ys) (now pitches) ⌝ }
-    requires { ⌜ 144 ≤ length (now words) ⌝ }
+    requires { ⌜ allOutcomeWords ≤ length (now words) ⌝ }
     ensures { λ _. ⌜ left (now (sheet .exit)) (now (words .exit)) ≡ leftByAll (cornerLists (take n (now (xs .entry))) (take n (now (ys .entry))) (take n (now (pitches .entry)))) (callAt settings (length (now (queue .entry))) (length (now (attached .entry))) (now (passes .entry))) m 0 (left (now (sheet .entry)) (now (words .entry))) ⌝ }
 {
     run_passes(
@@ -338,25 +207,6 @@ pub fn recover_frame(
 
 // ---- the answer
 
-// A number of a refusal's line as a form takes it: 1,000,000 more.
-fn held(n: usize) -> u32
-    requires { ⌜ n ≤ 100000 ⌝ }
-    ensures { λ r. ⌜ unheldWhole r ≡ pos n ⌝ }
-{
-    1000000 + n as u32
-}
-
-// Writes `(refused number line)` to the front of a part, and leaves the rest of it as it was.
-fn write_refused(refusal: Refusal, line: usize, out: &mut [u8]) -> usize
-    requires { ⌜ line ≤ 100000 ⌝ }
-    requires { ⌜ 128 ≤ length (now out) ⌝ }
-    ensures { λ r. ⌜ Wrote (refusedText refusal line) (now (out .entry)) (now (out .exit)) r ⌝ }
-{
-    let number = refusal::number(refusal);
-    let words = [held(number as usize), held(line)];
-    line_form::write::write_form(b"(refused # #)\n", &words, out)
-}
-
 // How many lines the answer has, empty ones included.
 pub fn answer_lines(answer: Recovered) -> usize
     requires { ⌜ FewPasses answer ⌝ }
@@ -364,7 +214,7 @@ pub fn answer_lines(answer: Recovered) -> usize
 {
     match answer {
         Recovered::Refused(_, _) => 1,
-        Recovered::Done(_, passes) => 1 + passes + 49152,
+        Recovered::Done(_, passes) => 1 + passes + SHEET_LINES,
     }
 }
 
@@ -376,12 +226,12 @@ pub struct PieceWritten {
 
 // The only piece of a refusal.
 fn refused_piece(refusal: Refusal, line: usize, out: &mut [u8]) -> PieceWritten
-    requires { ⌜ line ≤ 100000 ⌝ }
-    requires { ⌜ 128 ≤ length (now out) ⌝ }
+    requires { ⌜ line ≤ 10000000 ⌝ }
+    requires { ⌜ lineRoom ≤ length (now out) ⌝ }
     ensures { λ r. ⌜ WrotePiece (heldPiece (Recovered.Refused refusal line) [] [] 0 (length (now (out .entry)))) (now (out .entry)) (now (out .exit)) r ⌝ }
     ensures { λ r. ⌜ Moves 0 (length (now (out .entry))) r ⌝ }
 {
-    let bytes = write_refused(refusal, line, out);
+    let bytes = report_line::line::write_refused(refusal, line, out);
     PieceWritten { bytes, next: 1 }
 }
 
@@ -396,7 +246,7 @@ fn result_piece(
 ) -> PieceWritten
     requires { ⌜ Printable corners passes (now words) (now sheet) ⌝ }
     requires { ⌜ from < lineCount passes ⌝ }
-    requires { ⌜ 128 ≤ length (now out) ⌝ }
+    requires { ⌜ lineRoom ≤ length (now out) ⌝ }
     ensures { λ r. ⌜ WrotePiece (heldPiece (Recovered.Done corners passes) (now (words .entry)) (now (sheet .entry)) from (length (now (out .entry)))) (now (out .entry)) (now (out .exit)) r ⌝ }
     ensures { λ r. ⌜ Moves from (length (now (out .entry))) r ⌝ }
 {
@@ -421,7 +271,7 @@ pub fn answer_piece(
 ) -> PieceWritten
     requires { ⌜ CanSay answer (now words) (now sheet) ⌝ }
     requires { ⌜ from < heldLines answer ⌝ }
-    requires { ⌜ 128 ≤ length (now out) ⌝ }
+    requires { ⌜ lineRoom ≤ length (now out) ⌝ }
     ensures { λ r. ⌜ WrotePiece (heldPiece answer (now (words .entry)) (now (sheet .entry)) from (length (now (out .entry)))) (now (out .entry)) (now (out .exit)) r ⌝ }
     ensures { λ r. ⌜ Moves from (length (now (out .entry))) r ⌝ }
 {

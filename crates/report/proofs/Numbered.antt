@@ -7,12 +7,17 @@ use native.Mathlib.Omega.{arith}
 use borrow.Author.Tests.{lt-ltb, le-ltb, ltb-true, ltb-false, eq-eqb, ne-eqb}
 use lib.Dec.{ltb}
 use lib.ListN.{length, length-append}
-use lib.Ieee.{binary32, ofBits}
+use lib.Ieee.{Float}
+use Rattle.binary32.specs.Ranges.{isFinite}
+use Rattle.passes.specs.declared.GrowStats.{GrowStats}
+use Rattle.passes.specs.declared.FillStats.{FillStats}
+use Rattle.passes.specs.declared.LocalStats.{LocalStats}
 use Rattle.passes.specs.declared.LargestResidual.{LargestResidual}
 use Rattle.report_line.specs.Result.{growLine, fillLine, localLine, passLine, passLineAt, sheetLine, linesFrom, resultLine, lineCount, resultFrom}
-use Rattle.report_line.specs.Lengths.{localLength}
-use Rattle.report_line.proofs.Lengths.{isRecorded, local-length}
-use Rattle.report.specs.WriteResult.{wordAt, yesAt, countsAt, residualAt, statsAt, statsIn}
+use Rattle.report_line.specs.Like.{ResidualLike, GrowLike, FillLike, LocalLike}
+use Rattle.report_line.proofs.Like.{grow-like, fill-like, local-like}
+use Rattle.line_form.specs.Written.{Wrote}
+use Rattle.report.specs.WriteResult.{wordAt, yesAt, residualAt, statsAt, statsIn}
 use Rattle.report.specs.Asked.{growAt, fillAt, localAt, lineAt, textFrom}
 use Rattle.report.proofs.Joining.{no-lines, one-line-more}
 use Rattle.report.proofs.Outcomes.{stats-length, pass-line-at}
@@ -32,27 +37,28 @@ module _ (words : List ℕ) (k kind : ℕ) (e : kind ≡ wordAt words k 0) where
   unfolding passLine statsAt
   local-kind a b = rw (ne-eqb (wordAt words k 0) 0 (λ z. a (e ∙ z)), ne-eqb (wordAt words k 0) 1 (λ z. b (e ∙ z)))
 
-  recorded-is : isRecorded (residualAt words k) ≡ yesAt words k 6
-  recorded-is = go (yesAt words k 6)
-    where
-      go : (t : Bool) → isRecorded (cond t (LargestResidual.Residual (ofBits binary32 (wordAt words k 7))) LargestResidual.Nothing) ≡ t
-      go true = refl
-      go false = refl
+-- ---- an outcome whose line is as long, by the kind
 
-  -- a local line is as long as its words say
-  pub local-counted : (kind ≡ 0 → ⊥) → (kind ≡ 1 → ⊥) → localLength (countsAt words k) (wordAt words k 5) (yesAt words k 6) (yesAt words k 8) ≡ length (passLine (statsAt words k))
-  local-counted a b =
-      ap (λ (t : Bool). localLength (countsAt words k) (wordAt words k 5) t (yesAt words k 8)) (sym recorded-is)
-      ∙ sym (local-length (localAt words k))
-      ∙ ap length (local-kind a b)
+module _ (words : List ℕ) (k kind : ℕ) (e : kind ≡ wordAt words k 0) where
+  pub grow-counted : (r : GrowStats) (n : ℕ) (old new : List ℕ) → GrowLike (growAt words k) r → kind ≡ 0 → Wrote (growLine r) old new n → n ≡ length (passLine (statsAt words k))
+  grow-counted r n old new l h w = w .count ∙ grow-like (growAt words k) r l ∙ ap (λ (t : List ℕ). length t) (grow-kind words k kind e h)
+
+  pub fill-counted : (r : FillStats) (n : ℕ) (old new : List ℕ) → FillLike (fillAt words k) r → kind ≡ 1 → Wrote (fillLine r) old new n → n ≡ length (passLine (statsAt words k))
+  fill-counted r n old new l h w = w .count ∙ fill-like (fillAt words k) r l ∙ ap (λ (t : List ℕ). length t) (fill-kind words k kind e h)
+
+  pub local-counted : (r : LocalStats) (n : ℕ) (old new : List ℕ) → LocalLike (localAt words k) r → (kind ≡ 0 → ⊥) → (kind ≡ 1 → ⊥) → Wrote (localLine r) old new n
+      → n ≡ length (passLine (statsAt words k))
+  local-counted r n old new l h i w = w .count ∙ local-like (localAt words k) r l ∙ ap (λ (t : List ℕ). length t) (local-kind words k kind e h i)
+
+pub like-none : (words : List ℕ) (k : ℕ) → yesAt words k 6 ≡ false → ResidualLike (residualAt words k) LargestResidual.Nothing
+like-none words k e = rw e tt
+
+pub like-some : (words : List ℕ) (k : ℕ) (x : Float) → isFinite x ≡ true → yesAt words k 6 ≡ true → ResidualLike (residualAt words k) (LargestResidual.Residual x)
+like-some words k x f e = rw e f
 
 -- ---- lines by their numbers
 
 module _ (passes : ℕ) (words sheet : List ℕ) where
-  pub heading-line : (k : ℕ) → k ≡ 0 → 11 ≡ length (lineAt passes words sheet k)
-  unfolding lineAt resultLine
-  heading-line k e = rw e
-
   -- the line after line 0
   after : (k : ℕ) → lineAt passes words sheet (suc k) ≡ cond (ltb k passes) (passLineAt (statsIn passes words) k) (sheetLine sheet (k - passes))
   unfolding lineAt resultLine

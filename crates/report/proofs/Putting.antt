@@ -1,5 +1,5 @@
 -- Outcomes put at their places: nine words one after the other; what is read again, there and at the places before. Assumes nothing.
-use mathlib.Core.Path.{_≡_, refl, ap, ap₂, _∙_}
+use mathlib.Core.Path.{_≡_, refl, sym, ap, ap₂, _∙_, subst}
 use mathlib.Core.List.{List, [], _∷_, _++_, append-assoc}
 use Prim.Native.Nat.{ℕ, zero, suc, _+_, _*_, _≤_, _<_}
 use native.Mathlib.Numerals.{add-one}
@@ -10,10 +10,11 @@ use Rattle.passes.specs.declared.GrowStats.{GrowStats}
 use Rattle.passes.specs.declared.FillStats.{FillStats}
 use Rattle.passes.specs.declared.LocalStats.{LocalStats}
 use Rattle.passes.specs.declared.LargestResidual.{LargestResidual}
+use Rattle.passes.specs.declared.PassAnswer.{PassAnswer}
 use Rattle.passes.specs.Run.{PassStats, growStats, fillStats, localStats}
 use Rattle.sheet.specs.Words.{bitOf}
 use Rattle.report.specs.WriteResult.{residualWords, outcomeWords, wordAt, statsAt, statsFrom, statsIn}
-use Rattle.report.specs.Asked.{HasOutcome, put, withOutcome, flagOf, bitsOf, IsFloat}
+use Rattle.report.specs.Asked.{HasOutcome, put, withOutcome, CountsFit, FillFits, LocalFits, AnswerFits, withAnswer, flagOf, bitsOf, IsFloat}
 use Rattle.report.proofs.Outcomes.{decode-encode}
 
 -- so far: the first m words are put
@@ -51,28 +52,43 @@ module _ (old : List ℕ) (k : ℕ) (nine : List ℕ) where
 
 -- ---- the nine words of each kind of outcome
 
-module _ (words : List ℕ) (k : ℕ) (new : List ℕ) (b : ℕ) where
-  pub grow-put : (s : GrowStats) → b ≡ bitOf (s .rim)
-      → new ≡ put words k (0 ∷ s .counts .attached ∷ s .counts .«rejected_no_candidate» ∷ s .counts .«rejected_ambiguous» ∷ s .counts .«rejected_edge» ∷ 0 ∷ 0 ∷ 0 ∷ b ∷ [])
-      → new ≡ withOutcome words k (growStats s)
+module _ (b : ℕ) where
+  pub grow-words : (s : GrowStats) → b ≡ bitOf (s .rim)
+      → 0 ∷ s .counts .attached ∷ s .counts .«rejected_no_candidate» ∷ s .counts .«rejected_ambiguous» ∷ s .counts .«rejected_edge» ∷ 0 ∷ 0 ∷ 0 ∷ b ∷ [] ≡ outcomeWords (growStats s)
   unfolding outcomeWords
-  grow-put s e h = rw (← e) h
+  grow-words s e = rw e refl
 
-  pub fill-put : (s : FillStats) → b ≡ bitOf (s .rim)
-      → new ≡ put words k (1 ∷ s .added ∷ 0 ∷ 0 ∷ 0 ∷ s .iterations ∷ 0 ∷ 0 ∷ b ∷ []) → new ≡ withOutcome words k (fillStats s)
+  pub fill-words : (s : FillStats) → b ≡ bitOf (s .rim) → 1 ∷ s .added ∷ 0 ∷ 0 ∷ 0 ∷ s .iterations ∷ 0 ∷ 0 ∷ b ∷ [] ≡ outcomeWords (fillStats s)
   unfolding outcomeWords
-  fill-put s e h = rw (← e) h
+  fill-words s e = rw e refl
 
-  pub local-put : (s : LocalStats) (f p : ℕ) → f ≡ flagOf (s .residual) → p ≡ bitsOf (s .residual) → b ≡ bitOf (s .rim)
-      → new ≡ put words k (2 ∷ s .counts .attached ∷ s .counts .«rejected_no_candidate» ∷ s .counts .«rejected_ambiguous» ∷ s .counts .«rejected_edge» ∷ s .iterations ∷ f ∷ p ∷ b ∷ [])
-      → new ≡ withOutcome words k (localStats s)
+  pub local-words : (s : LocalStats) (f p : ℕ) → f ≡ flagOf (s .residual) → p ≡ bitsOf (s .residual) → b ≡ bitOf (s .rim)
+      → 2 ∷ s .counts .attached ∷ s .counts .«rejected_no_candidate» ∷ s .counts .«rejected_ambiguous» ∷ s .counts .«rejected_edge» ∷ s .iterations ∷ f ∷ p ∷ b ∷ []
+      ≡ outcomeWords (localStats s)
   unfolding outcomeWords
-  local-put s f p d q e h = rw (← e) (go (s .residual) d q)
+  local-words s f p d q e = rw e (go (s .residual) d q)
     where
       go : (x : LargestResidual) → f ≡ flagOf x → p ≡ bitsOf x
-          → new ≡ put words k (2 ∷ s .counts .attached ∷ s .counts .«rejected_no_candidate» ∷ s .counts .«rejected_ambiguous» ∷ s .counts .«rejected_edge» ∷ s .iterations ∷ residualWords x (b ∷ []))
-      go LargestResidual.Nothing u v = rw (u, v) at h
-      go (LargestResidual.Residual x) u v = rw (u, v) at h
+          → 2 ∷ s .counts .attached ∷ s .counts .«rejected_no_candidate» ∷ s .counts .«rejected_ambiguous» ∷ s .counts .«rejected_edge» ∷ s .iterations ∷ f ∷ p ∷ bitOf (s .rim) ∷ []
+          ≡ 2 ∷ s .counts .attached ∷ s .counts .«rejected_no_candidate» ∷ s .counts .«rejected_ambiguous» ∷ s .counts .«rejected_edge» ∷ s .iterations ∷ residualWords x (bitOf (s .rim) ∷ [])
+      go LargestResidual.Nothing u v = rw (u, v) refl
+      go (LargestResidual.Residual x) u v = rw (u, v) refl
+
+-- what a pass answers, by its case
+module _ (answer : PassAnswer) (f : AnswerFits answer) where
+  pub grow-fits : (s : GrowStats) → answer ≡ PassAnswer.Grow s → CountsFit (s .counts)
+  grow-fits s e = subst AnswerFits e f
+
+  pub fill-fits : (s : FillStats) → answer ≡ PassAnswer.Fill s → FillFits s
+  fill-fits s e = subst AnswerFits e f
+
+  pub local-fits : (s : LocalStats) → answer ≡ PassAnswer.Local s → LocalFits s
+  local-fits s e = subst AnswerFits e f
+
+-- the words of an outcome put, by what the pass answered
+pub put-answer : (words : List ℕ) (k : ℕ) (new nine : List ℕ) (answer : PassAnswer) (s : PassStats) → new ≡ put words k nine → nine ≡ outcomeWords s
+    → withAnswer words k answer ≡ withOutcome words k s → new ≡ withAnswer words k answer
+put-answer words k new nine answer s e f g = e ∙ ap (put words k) f ∙ sym g
 
 -- ---- what is read again
 

@@ -21,12 +21,12 @@ unfolding passLine statsAt
 pass-short words k h = go (eqb (wordAt words k 0) 0) (eqb (wordAt words k 0) 1)
   where
     few : Few (countsAt words k)
-    few = record { attached = h .attached; no-candidate = h .no-candidate; ambiguous = h .ambiguous; edge = h .edge }
+    few = record { attached = omega (arith, h .attached); no-candidate = omega (arith, h .no-candidate); ambiguous = omega (arith, h .ambiguous); edge = omega (arith, h .edge) }
 
     go : (a b : Bool) → length (passLine (cond a (growStats (growAt words k)) (cond b (fillStats (fillAt words k)) (localStats (localAt words k))))) ≤ 127
     go true b = grow-short _ few
-    go false true = fill-short _ (h .attached) (h .rounds)
-    go false false = local-short _ few (h .rounds)
+    go false true = fill-short _ (omega (arith, h .attached)) (omega (arith, h .rounds))
+    go false false = local-short _ few (omega (arith, h .rounds))
 
 -- ---- every line
 

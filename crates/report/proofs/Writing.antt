@@ -26,7 +26,8 @@ use Rattle.report.proofs.Outcomes.{stats-length, residual-finite}
 -- ---- pass lines, by the outcome's kind
 
 few : (words : List ℕ) (k : ℕ) → Tame words k → Few (countsAt words k)
-few words k t = record { attached = t .attached; no-candidate = t .no-candidate; ambiguous = t .ambiguous; edge = t .edge }
+few words k t =
+    record { attached = omega (arith, t .attached); no-candidate = omega (arith, t .no-candidate); ambiguous = omega (arith, t .ambiguous); edge = omega (arith, t .edge) }
 
 module _ (words : List ℕ) (k kind : ℕ) (e : kind ≡ wordAt words k 0) where
   module _ (s : GrowStats) (q : s ≡ growAt words k) (h : kind ≡ 0) where
@@ -42,7 +43,7 @@ module _ (words : List ℕ) (k kind : ℕ) (e : kind ≡ wordAt words k 0) where
 
     pub fill-asked : (out : List ℕ) → PassAsked words k out → FillAsked s out
     fill-asked out a =
-        record { few = rw q (a .outcome .tame .attached); rounds = rw q (a .outcome .tame .rounds); room = same-room _ _ out fill-line (a .room) }
+        record { few = rw q (omega (arith, a .outcome .tame .attached)); rounds = rw q (omega (arith, a .outcome .tame .rounds)); room = same-room _ _ out fill-line (a .room) }
 
   module _ (s : LocalStats) (q : s ≡ localAt words k) (h : kind ≡ 0 → ⊥) (i : kind ≡ 1 → ⊥) where
     pub local-line : localLine s ≡ passLine (statsAt words k)
@@ -52,7 +53,7 @@ module _ (words : List ℕ) (k kind : ℕ) (e : kind ≡ wordAt words k 0) where
     local-asked out a =
         record {
           few = rw q (few words k (a .outcome .tame));
-          rounds = rw q (a .outcome .tame .rounds);
+          rounds = rw q (omega (arith, a .outcome .tame .rounds));
           finite = λ x d. residual-finite words k (a .outcome .tame) x (ap (λ (t : LocalStats). t .residual) (sym q) ∙ d);
           room = same-room _ _ out local-line (a .room);
         }

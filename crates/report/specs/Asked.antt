@@ -15,8 +15,10 @@ use Rattle.passes.specs.declared.GrowStats.{GrowStats}
 use Rattle.passes.specs.declared.FillStats.{FillStats}
 use Rattle.passes.specs.declared.LocalStats.{LocalStats}
 use Rattle.passes.specs.declared.LargestResidual.{LargestResidual}
+use Rattle.passes.specs.declared.PassAnswer.{PassAnswer}
 use Rattle.passes.specs.Run.{PassStats, growStats, fillStats, localStats}
 use Rattle.report_line.specs.Result.{passLine, resultLine, lineCount, resultFrom, Piece, resultPiece}
+use Rattle.report_line.specs.Sizes.{places, mostCorners, outcomeSize}
 use Rattle.line_form.specs.Written.{Wrote}
 use Rattle.report.specs.declared.lines.PieceEnd.{PieceEnd}
 use Rattle.report.specs.WriteResult.{outcomeWords, wordAt, countsAt, yesAt, residualAt, statsAt, statsIn, largestCount}
@@ -35,7 +37,7 @@ localAt words k = record { counts = countsAt words k; iterations = wordAt words 
 
 -- the nine words of outcome k are there
 pub record HasOutcome (words : List ℕ) (k : ℕ) : Type 0 where
-  pub there : 9 * k + 9 ≤ length words
+  pub there : outcomeSize * k + outcomeSize ≤ length words
 
 -- and they are those that an outcome has
 pub record Tame (words : List ℕ) (k : ℕ) : Type 0 where
@@ -57,7 +59,7 @@ pub record TameOutcome (words : List ℕ) (k : ℕ) : Type 0 where
 
 -- the words with nine put at the place of outcome k, the others as they were; and with an outcome
 abbrev pub put : List ℕ → ℕ → List ℕ → List ℕ
-put words k nine = take (9 * k) words ++ (nine ++ drop (9 * k + 9) words)
+put words k nine = take (outcomeSize * k) words ++ (nine ++ drop (outcomeSize * k + outcomeSize) words)
 
 abbrev pub withOutcome : List ℕ → ℕ → PassStats → List ℕ
 withOutcome words k s = put words k (outcomeWords s)
@@ -81,20 +83,27 @@ pub record CountsFit (c : Counts) : Type 0 where
   pub ambiguous : FitsWord (c .«rejected_ambiguous»)
   pub edge : FitsWord (c .«rejected_edge»)
 
--- there is room for outcome k, and its counts are words
-pub record GrowFits (words : List ℕ) (k : ℕ) (s : GrowStats) : Type 0 where
-  pub room : HasOutcome words k
-  pub counts : CountsFit (s .counts)
-
-pub record FillFits (words : List ℕ) (k : ℕ) (s : FillStats) : Type 0 where
-  pub room : HasOutcome words k
+pub record FillFits (s : FillStats) : Type 0 where
   pub added : FitsWord (s .added)
   pub rounds : FitsWord (s .iterations)
 
-pub record LocalFits (words : List ℕ) (k : ℕ) (s : LocalStats) : Type 0 where
-  pub room : HasOutcome words k
+pub record LocalFits (s : LocalStats) : Type 0 where
   pub counts : CountsFit (s .counts)
   pub rounds : FitsWord (s .iterations)
+
+-- what a pass answers has counts that are words
+abbrev pub AnswerFits : PassAnswer → Type 0
+AnswerFits (PassAnswer.Grow s) = CountsFit (s .counts)
+AnswerFits (PassAnswer.Fill s) = FillFits s
+AnswerFits (PassAnswer.Local s) = LocalFits s
+AnswerFits (PassAnswer.Refused r) = Unit {0}
+
+-- the words with the outcome of an answer; a refused call has none
+abbrev pub withAnswer : List ℕ → ℕ → PassAnswer → List ℕ
+withAnswer words k (PassAnswer.Grow s) = withOutcome words k (growStats s)
+withAnswer words k (PassAnswer.Fill s) = withOutcome words k (fillStats s)
+withAnswer words k (PassAnswer.Local s) = withOutcome words k (localStats s)
+withAnswer words k (PassAnswer.Refused r) = words
 
 -- a residual, if there is one, is a value of binary32
 abbrev pub FloatOrNone : LargestResidual → Type 0
@@ -110,8 +119,8 @@ IsFloat (localStats s) = FloatOrNone (s .residual)
 
 -- words and sheet are there
 pub record AllLent (passes : ℕ) (words sheet : List ℕ) : Type 0 where
-  pub words-long : 9 * passes ≤ length words
-  pub sheet-long : 16384 ≤ length sheet
+  pub words-long : outcomeSize * passes ≤ length words
+  pub sheet-long : places ≤ length sheet
 
 -- and the outcomes are what they can be
 pub record Sound (passes : ℕ) (words sheet : List ℕ) : Type 0 where
@@ -135,7 +144,7 @@ pub record HasLine (passes : ℕ) (words sheet : List ℕ) (k : ℕ) : Type 0 wh
 
 -- a line of the sheet whose place holds nothing: no corner and no mark
 unfoldable pub blankAt : ℕ → List ℕ → ℕ → Bool
-blankAt passes sheet k = cond (leb k passes) false (eqb (getD sheet ((k - 1 - passes) % 16384) 0) 0)
+blankAt passes sheet k = cond (leb k passes) false (eqb (getD sheet ((k - 1 - passes) % places) 0) 0)
 
 -- the n lines from line k on are of places that hold nothing
 pub record BlankLines (passes : ℕ) (sheet : List ℕ) (k n : ℕ) : Type 0 where
@@ -178,8 +187,8 @@ pub record WrotePiece (p : Piece) (old new : List ℕ) (r : PieceEnd) : Type 0 w
 -- ---- 5 and 6
 
 pub record CornersAsked (corners : ℕ) (sheet : List ℕ) : Type 0 where
-  pub few : corners ≤ 1024
-  pub long : 16384 ≤ length sheet
+  pub few : corners ≤ mostCorners
+  pub long : places ≤ length sheet
 
 abbrev pub cornersChecked : ℕ → List ℕ → Checked
 cornersChecked corners sheet =

@@ -19,6 +19,7 @@ use Rattle.passes.specs.declared.LocalStats.{LocalStats}
 use Rattle.passes.specs.declared.LargestResidual.{LargestResidual}
 use Rattle.passes.specs.Run.{PassStats, growStats, fillStats, localStats}
 use Rattle.report_line.specs.Result.{resultText, Piece, resultPiece, lineCount}
+use Rattle.report_line.specs.Sizes.{places, mostCorners, mostPasses, outcomeSize, lineRoom}
 use Rattle.arguments.specs.Front.{over}
 use Rattle.report.specs.declared.TextAnswer.{TextAnswer}
 use Rattle.report.specs.declared.PieceAnswer.{PieceAnswer}
@@ -40,7 +41,7 @@ outcomeWords (localStats s) =
 
 -- word m of outcome k
 abbrev pub wordAt : List ℕ → ℕ → ℕ → ℕ
-wordAt words k m = getD words (9 * k + m) 0
+wordAt words k m = getD words (outcomeSize * k + m) 0
 
 abbrev pub countsAt : List ℕ → ℕ → Counts
 countsAt words k =
@@ -83,11 +84,11 @@ textOf l = resultText (statsIn (l .passes) (l .words)) (l .sheet)
 
 -- 7: words and sheet are there
 unfoldable pub inputShort : TextLent → Bool
-inputShort l = ltb (length (l .words)) (9 * l .passes) || ltb (length (l .sheet)) 16384
+inputShort l = ltb (length (l .words)) (outcomeSize * l .passes) || ltb (length (l .sheet)) places
 
 -- 2: over 16 outcomes or 1,024 corners
 unfoldable pub overLimit : TextLent → Bool
-overLimit l = ltb 16 (l .passes) || ltb 1024 (l .corners)
+overLimit l = ltb mostPasses (l .passes) || ltb mostCorners (l .corners)
 
 -- 3: no count is above 64 rounds of 16,384 cells, no number of rounds above 64, and a residual is finite; kind, residual flag and rim are those that
 -- an outcome has
@@ -144,7 +145,7 @@ pieceIn l from room = resultPiece (statsIn (l .passes) (l .words)) (l .sheet) fr
 -- 7: there is room for any line; 3: there is such a line, or it is the one after the last
 unfoldable pub checkedPiece : TextLent → ℕ → ℕ → Checked
 checkedPiece l from room =
-    refusedIf (inputShort l || ltb room 128) Refusal.BufferTooShort
+    refusedIf (inputShort l || ltb room lineRoom) Refusal.BufferTooShort
     (refusedIf (overLimit l) Refusal.OverLimit
     (refusedIf (wild l || ltb (lineCount (l .passes)) from) Refusal.OutOfRange
     (refusedIf (unknownCorner (l .corners) (l .sheet)) Refusal.UnknownCorner

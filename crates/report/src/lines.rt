@@ -6,49 +6,48 @@ ghost use lib.Dec.{ltb};
 ghost use lib.ListN.{length};
 ghost use Rattle.line_form.specs.Written.{Wrote};
 ghost use Rattle.report_line.specs.Result.{passLine};
+ghost use Rattle.report_line.specs.Sizes.{places};
 ghost use Rattle.report.specs.WriteResult.{statsAt};
 ghost use Rattle.report.specs.Asked.{HasOutcome, AllLent, HasLine, PassAsked, LineAsked, AllAsked, SomeAsked, WrotePiece, BlankLines, Skipped, lineAt, textFrom, pieceFrom};
-use report_line::length::fill_length;
-use report_line::length::grow_length;
-use report_line::length::local_length;
-use report_line::length::sheet_line_length;
 use report_line::line::write_fill;
 use report_line::line::write_grow;
 use report_line::line::write_heading;
 use report_line::line::write_local;
 use report_line::line::write_sheet_line;
+use report_line::sizes::LINE_ROOM;
+use report_line::sizes::LINES;
+use report_line::sizes::PLACES;
+use report_line::sizes::SHEET_LINES;
 
-// The length of the pass line of outcome k.
+// The length of the pass line of outcome k, whatever its words are: what its writer writes of an outcome whose line is as long.
 fn pass_length(words: &[u32], k: usize) -> usize
     requires { ⌜ HasOutcome (now words) k ⌝ }
     ensures { λ r. ⌜ r ≡ length (passLine (statsAt (now (words .entry)) k)) ⌝ }
 {
+    let mut line = [0u8; LINE_ROOM];
     let kind = super::words::word_at(words, k, 0);
     if kind == 0 {
-        return grow_length(super::words::grow_at(words, k));
+        return write_grow(super::words::grow_like(words, k), &mut line);
     }
     if kind == 1 {
-        return fill_length(super::words::fill_at(words, k));
+        return write_fill(super::words::fill_like(words, k), &mut line);
     }
-    let counts = super::words::counts_at(words, k);
-    let rounds = super::words::word_at(words, k, 5);
-    let recorded = super::words::yes_at(words, k, 6);
-    let rim = super::words::yes_at(words, k, 8);
-    local_length(counts, rounds, recorded, rim)
+    write_local(super::words::local_like(words, k), &mut line)
 }
 
-// The length of line k.
+// The length of line k: what its writer writes.
 fn line_length(passes: usize, words: &[u32], sheet: &[u16], k: usize) -> usize
     requires { ⌜ HasLine passes (now words) (now sheet) k ⌝ }
     ensures { λ r. ⌜ r ≡ length (lineAt passes (now (words .entry)) (now (sheet .entry)) k) ⌝ }
 {
+    let mut line = [0u8; LINE_ROOM];
     if k == 0 {
-        return 11;
+        return write_heading(&mut line);
     }
     if k - 1 < passes {
         return pass_length(words, k - 1);
     }
-    sheet_line_length(sheet, k - 1 - passes)
+    write_sheet_line(sheet, k - 1 - passes, &mut line)
 }
 
 // Whether a buffer is shorter than the whole text.
@@ -56,7 +55,7 @@ pub fn text_short(passes: usize, words: &[u32], sheet: &[u16], room: usize) -> b
     requires { ⌜ AllLent passes (now words) (now sheet) ⌝ }
     ensures { λ r. ⌜ r ≡ ltb room (length (textFrom passes (now (words .entry)) (now (sheet .entry)) 0)) ⌝ }
 {
-    let count = passes + 49153;
+    let count = passes + LINES;
     let mut left = room;
     let mut k = 0usize;
     while k < count {
@@ -104,7 +103,7 @@ pub fn write_all(passes: usize, words: &[u32], sheet: &[u16], out: &mut [u8]) ->
     requires { ⌜ AllAsked passes (now words) (now sheet) (now out) ⌝ }
     ensures { λ r. ⌜ Wrote (textFrom passes (now (words .entry)) (now (sheet .entry)) 0) (now (out .entry)) (now (out .exit)) r ⌝ }
 {
-    let count = passes + 49153;
+    let count = passes + LINES;
     let mut at = 0usize;
     let mut k = 0usize;
     while k < count {
@@ -117,13 +116,13 @@ pub fn write_all(passes: usize, words: &[u32], sheet: &[u16], out: &mut [u8]) ->
 
 // How many lines from line k on are of places that hold nothing, as far as a row of the sheet goes.
 fn blank_lines(passes: usize, sheet: &[u16], k: usize) -> usize
-    requires { ⌜ 16384 ≤ length (now sheet) ⌝ }
+    requires { ⌜ places ≤ length (now sheet) ⌝ }
     ensures { λ r. ⌜ BlankLines passes (now (sheet .entry)) k r ⌝ }
 {
     if k <= passes {
         return 0;
     }
-    sheet::blank_places(sheet, (k - 1 - passes) % 16384)
+    sheet::blank_places(sheet, (k - 1 - passes) % PLACES)
 }
 
 // The next line from line k on that may have something to say, or the last line: most lines are empty, and are passed over here row by row.
@@ -131,7 +130,7 @@ fn next_filled(passes: usize, words: &[u32], sheet: &[u16], k: usize) -> usize
     requires { ⌜ HasLine passes (now words) (now sheet) k ⌝ }
     ensures { λ r. ⌜ Skipped passes (now (words .entry)) (now (sheet .entry)) k r ⌝ }
 {
-    let last = passes + 49152;
+    let last = passes + SHEET_LINES;
     let mut r = k;
     while r < last {
         let n = blank_lines(passes, sheet, r);
@@ -163,11 +162,11 @@ pub fn write_some(
     requires { ⌜ SomeAsked passes (now words) (now sheet) from ⌝ }
     ensures { λ r. ⌜ WrotePiece (pieceFrom passes (now (words .entry)) (now (sheet .entry)) from (length (now (out .entry)))) (now (out .entry)) (now (out .exit)) r ⌝ }
 {
-    let count = passes + 49153;
+    let count = passes + LINES;
     let mut at = 0usize;
     let mut k = from;
     while k < count {
-        if out.len() - at < 128 {
+        if out.len() - at < LINE_ROOM {
             return PieceEnd { at, next: k };
         }
         let filled = next_filled(passes, words, sheet, k);

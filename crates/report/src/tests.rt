@@ -2,29 +2,36 @@
 ghost use mathlib.Core.Path.{_≡_};
 ghost use Prim.Native.Nat.{_*_, _≤_};
 ghost use lib.ListN.{length};
+ghost use Rattle.report_line.specs.Sizes.{outcomeSize};
 ghost use Rattle.report.specs.WriteResult.{textLent, inputShort, overLimit, wildCounts, wildResidual, wildOutcome, wild, checkedRest, checkedText, checkedPiece};
 ghost use Rattle.report.specs.Asked.{HasOutcome, CornersAsked, cornersChecked};
 use arguments::Checked;
 use refusal::Refusal;
+use report_line::sizes::CORNERS;
+use report_line::sizes::LINE_ROOM;
+use report_line::sizes::LINES;
+use report_line::sizes::OUTCOME_WORDS;
+use report_line::sizes::PASSES;
+use report_line::sizes::PLACES;
 
 // 7: whether the words or the sheet are not all there.
 fn input_short(corners: usize, passes: usize, words: &[u32], sheet: &[u16]) -> bool
     ensures { λ r. ⌜ r ≡ inputShort (textLent corners passes (now (words .entry)) (now (sheet .entry))) ⌝ }
 {
-    if words.len() / 9 < passes {
+    if words.len() / OUTCOME_WORDS < passes {
         return true;
     }
-    sheet.len() < 16384
+    sheet.len() < PLACES
 }
 
 // 2: whether there are over 16 outcomes or 1,024 corners.
 fn over_limit(corners: usize, passes: usize, words: &[u32], sheet: &[u16]) -> bool
     ensures { λ r. ⌜ r ≡ overLimit (textLent corners passes (now (words .entry)) (now (sheet .entry))) ⌝ }
 {
-    if 16 < passes {
+    if PASSES < passes {
         return true;
     }
-    1024 < corners
+    CORNERS < corners
 }
 
 // Whether a count is above 64 rounds of 16,384 cells.
@@ -56,7 +63,7 @@ fn wild_residual(words: &[u32], k: usize) -> bool
     if flag == 0 {
         return false;
     }
-    0x7f80_0000 <= words[9 * k + 7] % 0x8000_0000
+    0x7f80_0000 <= words[OUTCOME_WORDS * k + 7] % 0x8000_0000
 }
 
 // Whether an outcome's words are not those that an outcome has.
@@ -81,7 +88,7 @@ fn wild_outcome(words: &[u32], k: usize) -> bool
 
 // 3: whether some outcome's are not.
 fn is_wild(corners: usize, passes: usize, words: &[u32], sheet: &[u16]) -> bool
-    requires { ⌜ 9 * passes ≤ length (now words) ⌝ }
+    requires { ⌜ outcomeSize * passes ≤ length (now words) ⌝ }
     ensures { λ r. ⌜ r ≡ wild (textLent corners passes (now (words .entry)) (now (sheet .entry))) ⌝ }
 {
     let mut k = 0usize;
@@ -147,7 +154,7 @@ pub fn check_piece(
     if input_short(corners, passes, words, sheet) {
         return Checked::Refused(Refusal::BufferTooShort);
     }
-    if room < 128 {
+    if room < LINE_ROOM {
         return Checked::Refused(Refusal::BufferTooShort);
     }
     if over_limit(corners, passes, words, sheet) {
@@ -156,7 +163,7 @@ pub fn check_piece(
     if is_wild(corners, passes, words, sheet) {
         return Checked::Refused(Refusal::OutOfRange);
     }
-    if passes + 49153 < from {
+    if passes + LINES < from {
         return Checked::Refused(Refusal::OutOfRange);
     }
     check_corners(corners, sheet)

@@ -24,7 +24,7 @@ use Rattle.passes.specs.declared.GrowStats.{GrowStats}
 use Rattle.passes.specs.declared.FillStats.{FillStats}
 use Rattle.passes.specs.declared.LocalStats.{LocalStats}
 use Rattle.passes.specs.declared.LargestResidual.{LargestResidual}
-use Rattle.report_line.specs.Result.{count, growForm, fillForm, localForm, bareLocalForm, fourCounts, growLine, fillLine, localLineWith, localLine, cellNumbers, labelLine, cellLine, holeLine, ambiguousLine, heading}
+use Rattle.report_line.specs.Result.{count, growForm, fillForm, localForm, bareLocalForm, fourCounts, growLine, fillLine, localLineWith, localLine, cellNumbers, labelLine, cellLine, holeLine, ambiguousLine, sheetLine, heading}
 use Rattle.report_line.specs.Written.{bareLocalText, fullLocalText, BareAsked, FullAsked, LocalAsked, cellText, holeText, ambiguousText, CellAsked, CornerAsked, PlaceAsked, LineAsked}
 use Rattle.report_line.proofs.Short.{corner-small}
 use Rattle.line_form.specs.Written.{unheldWhole, unheldNumber, unheld, formText, Wrote}
@@ -143,6 +143,21 @@ module _ (c : Cell) (a b : ℕ) (ea : unheldWhole a ≡ c .i) (eb : unheldWhole 
 pub heading-form : (words : List ℕ) → formText (bytes "(result 1)\n") words ≡ heading
 unfolding formText unheld printed
 heading-form words = refl
+
+-- ---- a line of the sheet by its number
+
+module _ (sheet : List ℕ) (k : ℕ) where
+  pub among-cells : k < 16384 → cellLine sheet k ≡ sheetLine sheet k
+  unfolding sheetLine
+  among-cells h = rw (lt-ltb k 16384 h)
+
+  pub among-holes : 16384 ≤ k → k < 32768 → holeLine sheet (k - 16384) ≡ sheetLine sheet k
+  unfolding sheetLine
+  among-holes h l = rw (le-ltb k 16384 h, lt-ltb k 32768 l)
+
+  pub among-ambiguous : 32768 ≤ k → ambiguousLine sheet (k - 32768) ≡ sheetLine sheet k
+  unfolding sheetLine
+  among-ambiguous h = rw (le-ltb k 16384 (omega arith), le-ltb k 32768 h)
 
 -- ---- what is asked and left, by another name of the line
 

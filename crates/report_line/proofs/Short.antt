@@ -7,49 +7,69 @@ use native.Mathlib.Omega.{arith}
 use borrow.Author.Tests.{ltb-true}
 use lib.Dec.{ltb}
 use lib.ListN.{length, getD}
-use lib.Ieee.{binary32, toBits}
+use lib.Ieee.{Float, binary32, toBits}
 use Rattle.sheet.specs.Cells.{OnSheet, cellOf}
 use Rattle.sheet.specs.Words.{labelOf, labelOfNumber, holeOf, ambiguousOf}
 use Rattle.sheet.specs.declared.Cell.{Cell}
 use Rattle.sheet.specs.declared.Label.{Label}
 use Rattle.sheet.proofs.Laws.{cell-on, line-i, line-j}
-use Rattle.line_form.specs.Forms.{bytes, bits, printed}
+use Rattle.line_form.specs.Forms.{bytes, Number, bits, printed}
 use Rattle.line_form.specs.Lengths.{slots}
 use Rattle.line_form.proofs.Laws.{printed-length}
+use Rattle.passes.specs.declared.Counts.{Counts}
 use Rattle.passes.specs.declared.GrowStats.{GrowStats}
 use Rattle.passes.specs.declared.FillStats.{FillStats}
 use Rattle.passes.specs.declared.LocalStats.{LocalStats}
 use Rattle.passes.specs.declared.LargestResidual.{LargestResidual}
-use Rattle.report_line.specs.Written.{largestCount, Few}
+use Rattle.report_line.specs.Written.{largestHeld, Few}
+use Rattle.report_line.proofs.Wide.{Wide, printed-wide, count-wide, bits-wide}
 use Rattle.report_line.specs.Result.{count, growForm, fillForm, localForm, bareLocalForm, fourCounts, growLine, fillLine, localLineWith, localLine, cellNumbers, labelLine, cellLine, holeLine, ambiguousLine, sheetLine}
 
 -- ---- pass lines
+
+four-wide : (c : Counts) (rest : List Number) → Few c → Wide rest → Wide (fourCounts c rest)
+four-wide c rest h w = (count-wide _ (h .attached), (count-wide _ (h .no-candidate), (count-wide _ (h .ambiguous), (count-wide _ (h .edge), w))))
 
 pub grow-short : (s : GrowStats) → Few (s .counts) → length (growLine s) ≤ 127
 unfolding growLine slots
 grow-short s h = go (s .rim)
   where
     go : (t : Bool) → length (printed (growForm t) (fourCounts (s .counts) [])) ≤ 127
-    go true = let l : length (printed (growForm true) (fourCounts (s .counts) [])) ≤ 19 + 7 * 4 = printed-length (growForm true) (fourCounts (s .counts) []) (omega arith, (omega arith, (omega arith, (omega arith, tt)))) in omega arith
-    go false = let l : length (printed (growForm false) (fourCounts (s .counts) [])) ≤ 18 + 7 * 4 = printed-length (growForm false) (fourCounts (s .counts) []) (omega arith, (omega arith, (omega arith, (omega arith, tt)))) in omega arith
+    go true = let l : _ ≤ 19 + 9 * 4 = printed-wide (growForm true) (fourCounts (s .counts) []) (four-wide (s .counts) [] h tt) in omega arith
+    go false = let l : _ ≤ 18 + 9 * 4 = printed-wide (growForm false) (fourCounts (s .counts) []) (four-wide (s .counts) [] h tt) in omega arith
 
-pub fill-short : (s : FillStats) → s .added ≤ largestCount → s .iterations ≤ 64 → length (fillLine s) ≤ 127
+pub fill-short : (s : FillStats) → s .added ≤ largestHeld → s .iterations ≤ largestHeld → length (fillLine s) ≤ 127
 unfolding fillLine slots
 fill-short s h r = go (s .rim)
   where
-    go : (t : Bool) → length (printed (fillForm t) (count (s .added) ∷ count (s .iterations) ∷ [])) ≤ 127
-    go true = let l : length (printed (fillForm true) (count (s .added) ∷ count (s .iterations) ∷ [])) ≤ 15 + 7 * 2 = printed-length (fillForm true) _ (omega arith, (omega arith, tt)) in omega arith
-    go false = let l : length (printed (fillForm false) (count (s .added) ∷ count (s .iterations) ∷ [])) ≤ 14 + 7 * 2 = printed-length (fillForm false) _ (omega arith, (omega arith, tt)) in omega arith
+    two : Wide (count (s .added) ∷ count (s .iterations) ∷ [])
+    two = (count-wide _ h, (count-wide _ r, tt))
 
-pub local-short : (s : LocalStats) → Few (s .counts) → s .iterations ≤ 64 → length (localLine s) ≤ 127
+    go : (t : Bool) → length (printed (fillForm t) (count (s .added) ∷ count (s .iterations) ∷ [])) ≤ 127
+    go true = let l : _ ≤ 15 + 9 * 2 = printed-wide (fillForm true) (count (s .added) ∷ count (s .iterations) ∷ []) two in omega arith
+    go false = let l : _ ≤ 14 + 9 * 2 = printed-wide (fillForm false) (count (s .added) ∷ count (s .iterations) ∷ []) two in omega arith
+
+pub local-short : (s : LocalStats) → Few (s .counts) → s .iterations ≤ largestHeld → length (localLine s) ≤ 127
 unfolding localLine slots
 local-short s h r = go (s .residual) (s .rim)
   where
+    bare : List Number
+    bare = fourCounts (s .counts) (count (s .iterations) ∷ [])
+
+    full : Float → List Number
+    full x = fourCounts (s .counts) (count (s .iterations) ∷ bits (toBits binary32 x) ∷ [])
+
+    bare-wide : Wide bare
+    bare-wide = four-wide (s .counts) (count (s .iterations) ∷ []) h (count-wide _ r, tt)
+
+    full-wide : (x : Float) → Wide (full x)
+    full-wide x = four-wide (s .counts) (count (s .iterations) ∷ bits (toBits binary32 x) ∷ []) h (count-wide _ r, (bits-wide (toBits binary32 x), tt))
+
     go : (x : LargestResidual) (t : Bool) → length (localLineWith x (record { counts = s .counts; iterations = s .iterations; residual = x; rim = t })) ≤ 127
-    go LargestResidual.Nothing true = let l : _ ≤ 27 + 7 * 5 = printed-length (bareLocalForm true) (fourCounts (s .counts) (count (s .iterations) ∷ [])) (omega arith, (omega arith, (omega arith, (omega arith, (omega arith, tt))))) in omega arith
-    go LargestResidual.Nothing false = let l : _ ≤ 26 + 7 * 5 = printed-length (bareLocalForm false) (fourCounts (s .counts) (count (s .iterations) ∷ [])) (omega arith, (omega arith, (omega arith, (omega arith, (omega arith, tt))))) in omega arith
-    go (LargestResidual.Residual x) true = let l : _ ≤ 24 + 7 * 6 = printed-length (localForm true) (fourCounts (s .counts) (count (s .iterations) ∷ bits (toBits binary32 x) ∷ [])) (omega arith, (omega arith, (omega arith, (omega arith, (omega arith, tt))))) in omega arith
-    go (LargestResidual.Residual x) false = let l : _ ≤ 23 + 7 * 6 = printed-length (localForm false) (fourCounts (s .counts) (count (s .iterations) ∷ bits (toBits binary32 x) ∷ [])) (omega arith, (omega arith, (omega arith, (omega arith, (omega arith, tt))))) in omega arith
+    go LargestResidual.Nothing true = let l : _ ≤ 27 + 9 * 5 = printed-wide (bareLocalForm true) bare bare-wide in omega arith
+    go LargestResidual.Nothing false = let l : _ ≤ 26 + 9 * 5 = printed-wide (bareLocalForm false) bare bare-wide in omega arith
+    go (LargestResidual.Residual x) true = let l : _ ≤ 24 + 9 * 6 = printed-wide (localForm true) (full x) (full-wide x) in omega arith
+    go (LargestResidual.Residual x) false = let l : _ ≤ 23 + 9 * 6 = printed-wide (localForm false) (full x) (full-wide x) in omega arith
 
 -- ---- the sheet's lines
 

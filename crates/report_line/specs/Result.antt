@@ -18,6 +18,7 @@ use Rattle.passes.specs.declared.FillStats.{FillStats}
 use Rattle.passes.specs.declared.LocalStats.{LocalStats}
 use Rattle.passes.specs.declared.LargestResidual.{LargestResidual}
 use Rattle.passes.specs.Run.{PassStats, growStats, fillStats, localStats}
+use Rattle.report_line.specs.Sizes.{places, sheetLines, firstAmbiguous, lineRoom}
 
 abbrev pub count : ℕ → Number
 count n = whole (pos n)
@@ -95,7 +96,7 @@ linesFrom line k (suc n) = line k ++ linesFrom line (suc k) n
 
 -- "each by i, then j": rising places go by i, then j
 abbrev pub allPlaces : (ℕ → List ℕ) → List ℕ
-allPlaces line = linesFrom line 0 16384
+allPlaces line = linesFrom line 0 places
 
 -- ---- the whole text
 
@@ -115,7 +116,7 @@ passLineAt (s ∷ ss) (suc k) = passLineAt ss k
 
 unfoldable pub sheetLine : List ℕ → ℕ → List ℕ
 sheetLine sheet k =
-    cond (ltb k 16384) (cellLine sheet k) (cond (ltb k 32768) (holeLine sheet (k - 16384)) (ambiguousLine sheet (k - 32768)))
+    cond (ltb k places) (cellLine sheet k) (cond (ltb k firstAmbiguous) (holeLine sheet (k - places)) (ambiguousLine sheet (k - firstAmbiguous)))
 
 abbrev pub afterHeading : List PassStats → List ℕ → ℕ → List ℕ
 afterHeading stats sheet k = cond (ltb k (length stats)) (passLineAt stats k) (sheetLine sheet (k - length stats))
@@ -126,7 +127,7 @@ resultLine stats sheet (suc k) = afterHeading stats sheet k
 
 -- how many such lines there are, with p passes
 abbrev pub lineCount : ℕ → ℕ
-lineCount p = suc (p + 49152)
+lineCount p = suc (p + sheetLines)
 
 -- the text from line k on; from line 0 on it is the whole text (`proofs/`: `from-the-start`)
 unfoldable pub resultFrom : List PassStats → List ℕ → ℕ → List ℕ
@@ -152,7 +153,7 @@ pieceWith false k room text rest = joined text (rest (room - length text))
 -- at most n lines
 unfoldable pub pieceOf : (ℕ → List ℕ) → ℕ → ℕ → ℕ → Piece
 pieceOf line zero k room = ending k
-pieceOf line (suc n) k room = pieceWith (ltb room 128) k room (line k) (λ left. pieceOf line n (suc k) left)
+pieceOf line (suc n) k room = pieceWith (ltb room lineRoom) k room (line k) (λ left. pieceOf line n (suc k) left)
 
 unfoldable pub resultPiece : List PassStats → List ℕ → ℕ → ℕ → Piece
 resultPiece stats sheet k room = pieceOf (resultLine stats sheet) (lineCount (length stats) - k) k room

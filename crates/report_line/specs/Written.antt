@@ -16,17 +16,19 @@ use Rattle.passes.specs.declared.GrowStats.{GrowStats}
 use Rattle.passes.specs.declared.FillStats.{FillStats}
 use Rattle.passes.specs.declared.LocalStats.{LocalStats}
 use Rattle.passes.specs.declared.LargestResidual.{LargestResidual}
+use Rattle.report_line.specs.Sizes.{places, sheetLines}
 use Rattle.report_line.specs.Result.{growLine, fillLine, localLineWith, localLine, cellNumbers, labelLine}
 
--- counts that an outcome can have: 64 rounds of 16,384 cells at most
-abbrev pub largestCount : ℕ
-largestCount = 1048576
+-- the largest number that a line can have: 32 bits hold 1,000,000 more
+abbrev pub largestHeld : ℕ
+largestHeld = 4293967295
 
+-- counts that a line can have
 pub record Few (c : Counts) : Type 0 where
-  pub attached : c .attached ≤ largestCount
-  pub no-candidate : c .«rejected_no_candidate» ≤ largestCount
-  pub ambiguous : c .«rejected_ambiguous» ≤ largestCount
-  pub edge : c .«rejected_edge» ≤ largestCount
+  pub attached : c .attached ≤ largestHeld
+  pub no-candidate : c .«rejected_no_candidate» ≤ largestHeld
+  pub ambiguous : c .«rejected_ambiguous» ≤ largestHeld
+  pub edge : c .«rejected_edge» ≤ largestHeld
 
 -- ---- pass lines
 
@@ -35,8 +37,8 @@ pub record GrowAsked (s : GrowStats) (out : List ℕ) : Type 0 where
   pub room : length (growLine s) ≤ length out
 
 pub record FillAsked (s : FillStats) (out : List ℕ) : Type 0 where
-  pub few : s .added ≤ largestCount
-  pub rounds : s .iterations ≤ 64
+  pub few : s .added ≤ largestHeld
+  pub rounds : s .iterations ≤ largestHeld
   pub room : length (fillLine s) ≤ length out
 
 -- a local line by its residual
@@ -48,18 +50,18 @@ fullLocalText s x = localLineWith (LargestResidual.Residual x) s
 
 pub record BareAsked (s : LocalStats) (out : List ℕ) : Type 0 where
   pub few : Few (s .counts)
-  pub rounds : s .iterations ≤ 64
+  pub rounds : s .iterations ≤ largestHeld
   pub room : length (bareLocalText s) ≤ length out
 
 pub record FullAsked (s : LocalStats) (x : Float) (out : List ℕ) : Type 0 where
   pub few : Few (s .counts)
-  pub rounds : s .iterations ≤ 64
+  pub rounds : s .iterations ≤ largestHeld
   pub finite : isFinite x ≡ true
   pub room : length (fullLocalText s x) ≤ length out
 
 pub record LocalAsked (s : LocalStats) (out : List ℕ) : Type 0 where
   pub few : Few (s .counts)
-  pub rounds : s .iterations ≤ 64
+  pub rounds : s .iterations ≤ largestHeld
   pub finite : (x : Float) → s .residual ≡ LargestResidual.Residual x → isFinite x ≡ true
   pub room : length (localLine s) ≤ length out
 
@@ -87,13 +89,13 @@ pub record CornerAsked (c : Cell) (k : ℕ) (out : List ℕ) : Type 0 where
 
 -- a place of the sheet
 pub record OnPlaces (sheet : List ℕ) (place : ℕ) : Type 0 where
-  pub there : 16384 ≤ length sheet
-  pub below : place < 16384
+  pub there : places ≤ length sheet
+  pub below : place < places
 
 -- a line of the sheet: of cells, holes or ambiguous cells
 pub record OnLines (sheet : List ℕ) (k : ℕ) : Type 0 where
-  pub there : 16384 ≤ length sheet
-  pub below : k < 49152
+  pub there : places ≤ length sheet
+  pub below : k < sheetLines
 
 -- and room for the line of it
 pub record PlaceAsked (sheet : List ℕ) (place : ℕ) (line out : List ℕ) : Type 0 where

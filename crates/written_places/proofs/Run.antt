@@ -3,9 +3,10 @@ use mathlib.Core.Path.{_≡_, refl, ap, _∙_, subst}
 use mathlib.Core.List.{List, [], _∷_}
 use Prim.Native.Nat.{ℕ}
 use Rattle.arguments.specs.declared.Settings.{Settings}
+use Rattle.arguments.specs.declared.Pass.{Pass}
 use Rattle.passes.specs.Outcome.{done}
 use Rattle.passes.specs.Step.{CornerLists}
-use Rattle.passes.specs.Run.{PassCall, grow, fill, local, Call, growStats, fillStats, localStats, step, sheetAfter, run, sheetOf}
+use Rattle.passes.specs.Run.{Call, growStats, fillStats, localStats, step, sheetAfter, run, sheetOf}
 use Rattle.invariants.specs.Calls.{cornersIn, Standing, CallInside, answering, afterPass}
 use Rattle.invariants.proofs.Run.{standing-step, fit-accepts}
 use Rattle.written_places.specs.Written.{Written, Rise, sheetWith}
@@ -14,17 +15,17 @@ use Rattle.written_places.specs.Run.{afterPassIn, Asked, runs, refuses, 
 use Rattle.written_places.proofs.Passes.{grow-so, grow-rises, fill-so, fill-rises, local-so, local-rises}
 
 module _ (l : CornerLists) (w : List Written) (h : Rise 0 w) (set : Settings) where
-  after-so : (p : PassCall) → afterPass l (sheetWith w) set p ≡ afterOf (afterPassIn l w set p)
+  after-so : (p : Pass) → afterPass l (sheetWith w) set p ≡ afterOf (afterPassIn l w set p)
   unfolding afterPassIn
-  after-so (grow p) = ap (answering growStats) (grow-so (cornersIn l) set p w h)
-  after-so (fill p) = ap (answering fillStats) (fill-so (cornersIn l) set p w h)
-  after-so (local p) = ap (answering localStats) (local-so (cornersIn l) set p w h)
+  after-so (Pass.Grow p) = ap (answering growStats) (grow-so (cornersIn l) set p w h)
+  after-so (Pass.Fill p) = ap (answering fillStats) (fill-so (cornersIn l) set p w h)
+  after-so (Pass.Local p) = ap (answering localStats) (local-so (cornersIn l) set p w h)
 
-  after-rises : (p : PassCall) → Rise 0 (afterPassIn l w set p .sheet)
+  after-rises : (p : Pass) → Rise 0 (afterPassIn l w set p .sheet)
   unfolding afterPassIn
-  after-rises (grow p) = grow-rises (cornersIn l) set p w h
-  after-rises (fill p) = fill-rises (cornersIn l) set p w h
-  after-rises (local p) = local-rises (cornersIn l) set p w h
+  after-rises (Pass.Grow p) = grow-rises (cornersIn l) set p w h
+  after-rises (Pass.Fill p) = fill-rises (cornersIn l) set p w h
+  after-rises (Pass.Local p) = local-rises (cornersIn l) set p w h
 
 -- one call that runs
 step-so : (l : CornerLists) (w : List Written) → Rise 0 w → (c : Call) → Standing l (sheetWith w) → CallInside l c → step l (sheetWith w) c ≡ done (afterOf (afterPassIn l w (c .settings) (c .pass)))

@@ -4,9 +4,10 @@ use mathlib.Core.List.{List, [], _∷_}
 use Prim.Native.Nat.{ℕ}
 use Rattle.refusal.specs.declared.Refusal.{Refusal}
 use Rattle.arguments.specs.declared.Settings.{Settings}
+use Rattle.arguments.specs.declared.Pass.{Pass}
 use Rattle.passes.specs.Outcome.{Outcome, refused, done}
 use Rattle.passes.specs.Step.{CornerLists}
-use Rattle.passes.specs.Run.{PassCall, grow, fill, local, Call, PassStats, growStats, fillStats, localStats, step}
+use Rattle.passes.specs.Run.{Call, PassStats, growStats, fillStats, localStats, step}
 use Rattle.invariants.specs.Calls.{cornersIn, Standing, CallInside}
 use Rattle.written_places.specs.Written.{Written}
 use Rattle.written_places.specs.Passes.{AfterIn, afterOf, growAfterIn, fillAfterIn, localAfterIn}
@@ -15,10 +16,10 @@ abbrev pub answeringIn : {A B : Type 0} → (A → B) → AfterIn A → AfterIn 
 answeringIn f a = record { answer = f (a .answer); sheet = a .sheet; attached = a .attached; visited = a .visited }
 
 -- what a call does that is not refused
-unfoldable pub afterPassIn : CornerLists → List Written → Settings → PassCall → AfterIn PassStats
-afterPassIn l w set (grow p) = answeringIn growStats (growAfterIn (cornersIn l) set p w)
-afterPassIn l w set (fill p) = answeringIn fillStats (fillAfterIn (cornersIn l) set p w)
-afterPassIn l w set (local p) = answeringIn localStats (localAfterIn (cornersIn l) set p w)
+unfoldable pub afterPassIn : CornerLists → List Written → Settings → Pass → AfterIn PassStats
+afterPassIn l w set (Pass.Grow p) = answeringIn growStats (growAfterIn (cornersIn l) set p w)
+afterPassIn l w set (Pass.Fill p) = answeringIn fillStats (fillAfterIn (cornersIn l) set p w)
+afterPassIn l w set (Pass.Local p) = answeringIn localStats (localAfterIn (cornersIn l) set p w)
 
 -- a call that runs, and one that is refused
 pub data Asked : Type 0 where

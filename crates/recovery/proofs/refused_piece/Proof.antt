@@ -6,7 +6,6 @@ use Rattle.recovery.proofs.refused_piece.Statement.{statement}
 use Rattle.recovery.proofs.refused_piece.Tie as tie
 use Rattle.recovery.proofs.refused_piece.Reads as reads
 use Rattle.recovery.proofs.refused_piece.Lts as lts
-use Rattle.recovery.proofs.write_refused.Reads as write-refused-reads
 
 write-refused-requires : tie.Need-write-refused-requires
 write-refused-requires c κs = search needs

@@ -1,6 +1,6 @@
 -- `frame_calls::refused_answer` meets its contract: number and line fit into a word. Assumes nothing.
 use native.Mathlib.Omega.{arith}
-use Rattle.grid_export.proofs.Frames.{number-small}
+use Rattle.report_line.proofs.Refused.{number-small}
 use borrow.Author.Needs.{needs}
 use Rattle.grid_export.proofs.frame_calls.refused_answer.Statement.{statement}
 use Rattle.grid_export.proofs.frame_calls.refused_answer.Tie as tie

@@ -1,15 +1,18 @@
--- `pass_calls::projective_grid_extend_from_labelled` meets its contract: its numbers are settings and params. Assumes nothing.
+-- `pass_calls::projective_grid_extend_from_labelled` meets its contract: grow by its numbers. Assumes nothing.
+use Rattle.grid_export.proofs.Passes.{exported-as}
+use Rattle.passes.specs.Step.{cornerLists}
 use mathlib.Core.Path.{_∙_}
-use Rattle.grid_export.proofs.Passes.{grow-as}
 use borrow.Author.Needs.{needs}
-use Rattle.grid_export.proofs.pass_calls.projective_grid_extend_from_labelled.Statement.{statement}
+use Rattle.grid_export.proofs.pass_calls.projective_grid_extend_from_labelled.Statement.{
+  statement,
+}
 use Rattle.grid_export.proofs.pass_calls.projective_grid_extend_from_labelled.Tie as tie
 
 settings-of-requires : tie.Need-settings-of-requires
 settings-of-requires c κs = search needs
 
-grow-requires : tie.Need-grow-requires
-grow-requires c κs = search needs
+pass-or-short-requires : tie.Need-pass-or-short-requires
+pass-or-short-requires c κs = search needs
 
 same-length : tie.Need-same-length
 same-length c = search needs
@@ -24,14 +27,14 @@ same-length-4 : tie.Need-same-length-4
 same-length-4 c = search needs
 
 returns : tie.Need-returns
-returns c = c .before .before .before .before .before .before .before .before .grow .ensures ∙ grow-as _ _ _ (c .before .before .before .before .before .before .before .before .before .before .before .before .before .before .before .before .before .before .before .before .before .args .sheet .now) (c .before .before .before .before .before .before .before .before .before .before .before .before .before .before .before .before .before .before .before .before .before .args .queue .now) (c .before .before .before .before .before .before .before .before .before .before .before .before .before .before .before .before .before .before .before .before .before .args .attached .now) _ (c .before .before .before .before .before .before .before .before .before .before .before .before .before .settings-of .ensures) (c .before .before .before .before .before .before .before .before .before .before .before .before .before .before .before .before .before .before .before .before .before .args .out .now)
+returns c = c .before .before .before .before .before .before .before .before .pass-or-short .ensures ∙ exported-as (cornerLists (c .before .before .before .before .before .before .before .before .before .before .before .before .before .before .before .before .before .before .before .before .before .args .xs .now) (c .before .before .before .before .before .before .before .before .before .before .before .before .before .before .before .before .before .before .before .before .before .args .ys .now) (c .before .before .before .before .before .before .before .before .before .before .before .before .before .before .before .before .before .before .before .before .before .args .pitches .now)) _ _ _ (c .before .before .before .before .before .before .before .before .before .before .before .before .before .before .before .before .before .before .before .before .before .args .sheet .now) (c .before .before .before .before .before .before .before .before .before .before .before .before .before .before .before .before .before .before .before .before .before .args .queue .now) (c .before .before .before .before .before .before .before .before .before .before .before .before .before .before .before .before .before .before .before .before .before .args .attached .now) (c .before .before .before .before .before .before .before .before .before .before .before .before .before .before .before .before .before .before .before .before .before .args .out .now) (c .before .before .before .before .before .before .before .before .before .before .before .before .before .settings-of .ensures)
 
 pub projective-grid-extend-from-labelled-spec : {M : Type 1} → statement M
 projective-grid-extend-from-labelled-spec =
     tie.close
     (tie.spec
     settings-of-requires
-    grow-requires
+    pass-or-short-requires
     same-length
     same-length-2
     same-length-3

@@ -1,6 +1,6 @@
--- `pass_calls::projective_grid_extend_via_local_homography` meets its contract: its numbers are settings and params. Assumes nothing.
-use mathlib.Core.Path.{_∙_}
-use Rattle.grid_export.proofs.Passes.{local-as}
+-- `pass_calls::projective_grid_extend_via_local_homography` meets its contract: local by its numbers. Assumes nothing.
+use Rattle.grid_export.proofs.Passes.{exported-bare}
+use Rattle.passes.specs.Step.{cornerLists}
 use borrow.Author.Needs.{needs}
 use Rattle.grid_export.proofs.pass_calls.projective_grid_extend_via_local_homography.Statement.{
   statement,
@@ -10,8 +10,11 @@ use Rattle.grid_export.proofs.pass_calls.projective_grid_extend_via_loc
 settings-of-requires : tie.Need-settings-of-requires
 settings-of-requires c κs = search needs
 
-local-requires : tie.Need-local-requires
-local-requires c κs = search needs
+slice-aggregate-pass-or-short : tie.Need-slice-aggregate-pass-or-short
+slice-aggregate-pass-or-short c = search needs
+
+pass-or-short-requires : tie.Need-pass-or-short-requires
+pass-or-short-requires c κs = search needs
 
 same-length : tie.Need-same-length
 same-length c = search needs
@@ -23,9 +26,16 @@ same-length-3 : tie.Need-same-length-3
 same-length-3 c = search needs
 
 returns : tie.Need-returns
-returns c = c .before .before .before .before .before .before .local .ensures ∙ local-as _ _ _ (c .before .before .before .before .before .before .before .before .before .before .before .before .before .before .before .before .before .args .sheet .now) (c .before .before .before .before .before .before .before .before .before .before .before .before .before .before .before .before .before .args .attached .now) _ (c .before .before .before .before .before .before .before .before .before .before .settings-of .ensures) (c .before .before .before .before .before .before .before .before .before .before .before .before .before .before .before .before .before .args .out .now)
+returns c = exported-bare (cornerLists (c .before .before .before .before .before .before .before .before .before .before .before .before .before .before .before .before .before .before .before .args .xs .now) (c .before .before .before .before .before .before .before .before .before .before .before .before .before .before .before .before .before .before .before .args .ys .now) (c .before .before .before .before .before .before .before .before .before .before .before .before .before .before .before .before .before .before .before .args .pitches .now)) _ _ _ (c .before .before .before .before .before .before .before .before .before .before .before .before .before .before .before .before .before .before .before .args .sheet .now) (c .before .before .before .before .before .before .before .before .before .before .before .before .before .before .before .before .before .before .before .args .attached .now) (c .before .before .before .before .before .before .before .before .before .before .before .before .before .before .before .before .before .before .before .args .out .now) _ (c .before .before .before .before .before .before .before .pass-or-short .last .1 .1 .1 .0) (c .before .before .before .before .before .before .before .pass-or-short .last .1 .1 .1 .1 .0) (c .before .before .before .before .before .before .before .pass-or-short .last .1 .1 .1 .1 .1 .0) _ (c .before .before .before .before .before .before .before .before .before .before .before .before .settings-of .ensures) (c .before .before .before .before .before .before .before .pass-or-short .kept .1 .1 .1 .1 .0) (c .before .before .before .before .before .before .before .pass-or-short .ensures)
 
 pub projective-grid-extend-via-local-homography-spec : {M : Type 1} → statement M
 projective-grid-extend-via-local-homography-spec =
     tie.close
-    (tie.spec settings-of-requires local-requires same-length same-length-2 same-length-3 returns)
+    (tie.spec
+    settings-of-requires
+    slice-aggregate-pass-or-short
+    pass-or-short-requires
+    same-length
+    same-length-2
+    same-length-3
+    returns)

@@ -1,12 +1,8 @@
 -- `lines::pass_length` meets its contract, by the kind of the outcome. Assumes nothing.
-use mathlib.Core.Path.{ap, _∙_}
-use mathlib.Core.List.{List}
-use Prim.Native.Nat.{ℕ}
-use lib.ListN.{length}
-use Rattle.passes.specs.declared.GrowStats.{GrowStats}
-use Rattle.passes.specs.declared.FillStats.{FillStats}
-use Rattle.report_line.specs.Result.{growLine, fillLine}
-use Rattle.report.proofs.Numbered.{grow-kind, fill-kind, local-counted}
+use Rattle.report.specs.Asked.{growAt, fillAt, localAt}
+use Rattle.report.proofs.Numbered.{grow-counted, fill-counted, local-counted}
+use Rattle.report_line.proofs.Like.{grow-like-asked, fill-like-asked, local-like-asked}
+use native.Mathlib.Omega.{arith}
 use borrow.Author.Needs.{needs}
 use Rattle.report.proofs.lines.pass_length.Statement.{statement}
 use Rattle.report.proofs.lines.pass_length.Tie as tie
@@ -14,56 +10,56 @@ use Rattle.report.proofs.lines.pass_length.Tie as tie
 word-at-requires : tie.Need-word-at-requires
 word-at-requires c κs = search needs
 
-grow-at-requires : tie.Need-grow-at-requires
-grow-at-requires c κs = search needs
+grow-like-requires : tie.Need-grow-like-requires
+grow-like-requires c κs = search needs
 
-grow-length-requires : tie.Need-grow-length-requires
-grow-length-requires c κs = search needs
+slice-aggregate-write-grow : tie.Need-slice-aggregate-write-grow
+slice-aggregate-write-grow c = search needs
+
+write-grow-requires : tie.Need-write-grow-requires
+write-grow-requires c κs = grow-like-asked (growAt (c .before .before .before .before .before .args .words .now) (c .before .before .before .before .before .args .k)) _ (c .before .grow-like .ensures) _ (omega arith)
 
 returns : tie.Need-returns
-returns c = c .grow-length .ensures ∙ ap (λ (s : GrowStats). length (growLine s)) (c .before .grow-at .ensures) ∙ ap (λ (l : List ℕ). length l) (grow-kind (c .before .before .before .before .before .args .words .now) (c .before .before .before .before .before .args .k) _ (c .before .before .before .word-at .ensures) (c .before .before .if1 .taken))
+returns c = grow-counted (c .before .before .before .before .before .before .before .args .words .now) (c .before .before .before .before .before .before .before .args .k) _ (c .before .before .before .before .before .word-at .ensures) _ _ _ _ (c .before .before .before .grow-like .ensures) (c .before .before .before .before .if1 .taken) (c .before .write-grow .ensures)
 
-fill-at-requires : tie.Need-fill-at-requires
-fill-at-requires c κs = search needs
+fill-like-requires : tie.Need-fill-like-requires
+fill-like-requires c κs = search needs
 
-fill-length-requires : tie.Need-fill-length-requires
-fill-length-requires c κs = search needs
+slice-aggregate-write-fill : tie.Need-slice-aggregate-write-fill
+slice-aggregate-write-fill c = search needs
+
+write-fill-requires : tie.Need-write-fill-requires
+write-fill-requires c κs = fill-like-asked (fillAt (c .before .before .before .before .before .before .args .words .now) (c .before .before .before .before .before .before .args .k)) _ (c .before .fill-like .ensures) _ (omega arith)
 
 returns-2 : tie.Need-returns-2
-returns-2 c = c .fill-length .ensures ∙ ap (λ (s : FillStats). length (fillLine s)) (c .before .fill-at .ensures) ∙ ap (λ (l : List ℕ). length l) (fill-kind (c .before .before .before .before .before .before .args .words .now) (c .before .before .before .before .before .before .args .k) _ (c .before .before .before .before .word-at .ensures) (c .before .before .if2 .taken))
+returns-2 c = fill-counted (c .before .before .before .before .before .before .before .before .args .words .now) (c .before .before .before .before .before .before .before .before .args .k) _ (c .before .before .before .before .before .before .word-at .ensures) _ _ _ _ (c .before .before .before .fill-like .ensures) (c .before .before .before .before .if2 .taken) (c .before .write-fill .ensures)
 
-counts-at-requires : tie.Need-counts-at-requires
-counts-at-requires c κs = search needs
+local-like-requires : tie.Need-local-like-requires
+local-like-requires c κs = search needs
 
-word-at-requires-2 : tie.Need-word-at-requires-2
-word-at-requires-2 c κs = search needs
+slice-aggregate-write-local : tie.Need-slice-aggregate-write-local
+slice-aggregate-write-local c = search needs
 
-yes-at-requires : tie.Need-yes-at-requires
-yes-at-requires c κs = search needs
-
-yes-at-requires-2 : tie.Need-yes-at-requires-2
-yes-at-requires-2 c κs = search needs
-
-local-length-requires : tie.Need-local-length-requires
-local-length-requires c κs = search needs
+write-local-requires : tie.Need-write-local-requires
+write-local-requires c κs = local-like-asked (localAt (c .before .before .before .before .before .before .args .words .now) (c .before .before .before .before .before .before .args .k)) _ (c .before .local-like .ensures) _ (omega arith)
 
 returns-3 : tie.Need-returns-3
-returns-3 c = c .local-length .ensures ∙ rw (c .before .before .before .before .counts-at .ensures, c .before .before .before .word-at2 .ensures, c .before .before .yes-at .ensures, c .before .yes-at2 .ensures) (local-counted (c .before .before .before .before .before .before .before .before .before .args .words .now) (c .before .before .before .before .before .before .before .before .before .args .k) _ (c .before .before .before .before .before .before .before .word-at .ensures) (c .before .before .before .before .before .before .if1 .left) (c .before .before .before .before .before .if2 .left))
+returns-3 c = local-counted (c .before .before .before .before .before .before .before .before .args .words .now) (c .before .before .before .before .before .before .before .before .args .k) _ (c .before .before .before .before .before .before .word-at .ensures) _ _ _ _ (c .before .before .before .local-like .ensures) (c .before .before .before .before .before .if1 .left) (c .before .before .before .before .if2 .left) (c .before .write-local .ensures)
 
 pub pass-length-spec : {M : Type 1} → statement M
 pass-length-spec =
     tie.close
     (tie.spec
     word-at-requires
-    grow-at-requires
-    grow-length-requires
+    grow-like-requires
+    slice-aggregate-write-grow
+    write-grow-requires
     returns
-    fill-at-requires
-    fill-length-requires
+    fill-like-requires
+    slice-aggregate-write-fill
+    write-fill-requires
     returns-2
-    counts-at-requires
-    word-at-requires-2
-    yes-at-requires
-    yes-at-requires-2
-    local-length-requires
+    local-like-requires
+    slice-aggregate-write-local
+    write-local-requires
     returns-3)

@@ -1,7 +1,7 @@
 -- `line::write_sheet_line` meets its contract, by the number of the line. Assumes nothing.
 use native.Mathlib.Omega.{arith}
 use Rattle.report_line.specs.Result.{sheetLine}
-use Rattle.report_line.proofs.Lengths.{among-cells, among-holes, among-ambiguous}
+use Rattle.report_line.proofs.Forms.{among-cells, among-holes, among-ambiguous}
 use Rattle.report_line.proofs.Forms.{place-asked, same-wrote}
 use borrow.Author.Needs.{needs}
 use Rattle.report_line.proofs.line.write_sheet_line.Statement.{statement}

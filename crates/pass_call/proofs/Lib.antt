@@ -1,0 +1,2 @@
+-- The laws of a call of any of the three passes. Assumes nothing.
+pub mod Calling
