@@ -25,9 +25,6 @@ after c = end-after (c .before .before .before .before .before .args .text .now)
 inside : (c : tie.After-line-end Inv-loop μ-loop) → c .line-end .result ≤ length (c .before .before .before .before .before .args .text .now)
 inside c = end-inside (c .before .before .before .before .before .args .text .now) (c .before .before .loop .at) (c .line-end .result) (c .before .loop-test .taken) (c .line-end .ensures)
 
-start-requires : tie.Need-start-requires Inv-loop μ-loop
-start-requires c κs = tt
-
 loop-holds : tie.Need-loop-holds Inv-loop μ-loop
 loop-holds c = rw (c .start .ensures) (turning-start _ _ _ refl (c .before .before .pre))
 
@@ -46,14 +43,8 @@ part-step-line-end c = inside (c .before .before .before .before .before .before
 step-line-requires : tie.Need-step-line-requires Inv-loop μ-loop
 step-line-requires c κs = turn-room (c .before .before .before .before .before .before .before .before .before .loop .inv)
 
-enum-known-stepped : tie.Need-enum-known-stepped Inv-loop μ-loop
-enum-known-stepped c = search needs
-
 returns : tie.Need-returns Inv-loop μ-loop
 returns c = turn-stopped (c .before .before .before .before .before .before .before .before .before .before .before .before .before .loop .inv) (c .before .before .before .before .before .before .before .before .before .before .before .before .loop-test .taken) _ (c .before .before .before .before .before .before .before .before .before .before .before .line-end .ensures) _ _ (c .before .before .before .step-line .ensures) _ (c .before .stepped .given .1)
-
-enum-known-stepped-2 : tie.Need-enum-known-stepped-2 Inv-loop μ-loop
-enum-known-stepped-2 c = search needs
 
 add-n : tie.Need-add-n Inv-loop μ-loop
 add-n c = record { fits = omega (arith, c .before .before .before .before .before .before .before .before .before .before .before .before .before .loop .inv .lines, c .before .before .before .before .before .before .before .before .before .before .before .before .loop-test .taken, c .before .before .before .before .before .before .before .before .before .before .before .before .before .before .before .before .good) }
@@ -63,9 +54,6 @@ loop-less c = omega (arith, after (c .before .before .before .before .before .be
 
 loop-again : tie.Need-loop-again Inv-loop μ-loop
 loop-again c = turn-onward (c .before .before .before .before .before .before .before .before .before .before .before .before .before .loop .inv) (c .before .before .before .before .before .before .before .before .before .before .before .before .loop-test .taken) _ (c .before .before .before .before .before .before .before .before .before .before .before .line-end .ensures) _ _ (c .before .before .before .step-line .ensures) _ (c .before .stepped2 .given .1)
-
-may-end-requires : tie.Need-may-end-requires Inv-loop μ-loop
-may-end-requires c κs = search needs
 
 returns-2 : tie.Need-returns-2 Inv-loop μ-loop
 returns-2 c = end-whole (c .before .before .before .loop .inv) (c .before .before .loop-test .left) (sym (c .before .may-end .ensures) ∙ c .if1 .taken)
@@ -79,19 +67,19 @@ read-lines-spec =
     (tie.spec
     Inv-loop
     μ-loop
-    start-requires
+    (λ c κs. tt)
     loop-holds
     line-end-requires
     sub-step-line
     part-step-line-start
     part-step-line-end
     step-line-requires
-    enum-known-stepped
+    (λ c. search needs)
     returns
-    enum-known-stepped-2
+    (λ c. search needs)
     add-n
     loop-less
     loop-again
-    may-end-requires
+    (λ c κs. search needs)
     returns-2
     returns-3)

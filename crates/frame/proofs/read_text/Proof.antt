@@ -8,12 +8,6 @@ use Rattle.frame.proofs.read_text.Tie as tie
 read-lines-requires : tie.Need-read-lines-requires
 read-lines-requires c κs = nothing-held _
 
-enum-known-read : tie.Need-enum-known-read
-enum-known-read c = search needs
-
-enum-known-read-2 : tie.Need-enum-known-read-2
-enum-known-read-2 c = search needs
-
 copy-floats-requires : tie.Need-copy-floats-requires
 copy-floats-requires c κs = xs-copied (whole-read (c .before .before .before .before .before .read-lines .ensures) _ (c .before .before .before .read2 .given .1)) (c .before .before .before .before .before .before .before .before .before .before .before .before .before .before .before .before .before .before .pre)
 
@@ -35,21 +29,6 @@ copy-words-requires c κs = passes-copied (whole-read (c .before .before .before
 returns : tie.Need-returns
 returns c = text-refused (c .before .before .before .read-lines .ensures) _ _ (c .before .read .given .1) _ _ _ _ _
 
-same-length : tie.Need-same-length
-same-length c = search needs
-
-same-length-2 : tie.Need-same-length-2
-same-length-2 c = search needs
-
-same-length-3 : tie.Need-same-length-3
-same-length-3 c = search needs
-
-same-length-4 : tie.Need-same-length-4
-same-length-4 c = search needs
-
-same-length-5 : tie.Need-same-length-5
-same-length-5 c = search needs
-
 returns-2 : tie.Need-returns-2
 returns-2 c = text-accepted (whole-read (c .before .before .before .before .before .before .before .before .before .before .before .before .before .before .before .before .before .before .before .before .before .before .before .before .before .before .before .before .before .before .read-lines .ensures) _ (c .before .before .before .before .before .before .before .before .before .before .before .before .before .before .before .before .before .before .before .before .before .before .before .before .before .before .before .before .read2 .given .1)) (c .before .before .before .before .before .before .before .before .before .before .before .before .before .before .before .before .before .before .before .before .before .before .before .before .before .before .before .before .before .before .before .before .before .before .before .before .before .before .before .before .before .before .before .pre) _ _ _ _ _ (c .before .before .before .before .before .before .before .before .before .before .before .before .before .before .before .before .before .before .before .before .before .before .before .before .copy-floats .ensures) (c .before .before .before .before .before .before .before .before .before .before .before .before .before .before .before .before .before .before .before .copy-floats2 .ensures) (c .before .before .before .before .before .before .before .before .before .before .before .before .before .before .copy-floats3 .ensures) (c .before .before .before .before .before .before .before .before .before .copy-sheet .ensures) (c .before .before .before .copy-words .ensures)
 
@@ -58,8 +37,8 @@ read-text-spec =
     tie.close
     (tie.spec
     read-lines-requires
-    enum-known-read
-    enum-known-read-2
+    (λ c. search needs)
+    (λ c. search needs)
     copy-floats-requires
     copy-floats-requires-2
     copy-floats-requires-3
@@ -67,9 +46,9 @@ read-text-spec =
     mul-copy-words
     copy-words-requires
     returns
-    same-length
-    same-length-2
-    same-length-3
-    same-length-4
-    same-length-5
+    (λ c. search needs)
+    (λ c. search needs)
+    (λ c. search needs)
+    (λ c. search needs)
+    (λ c. search needs)
     returns-2)

@@ -5,17 +5,8 @@ use borrow.Author.Needs.{needs}
 use Rattle.frame_state.proofs.add_line.Statement.{statement}
 use Rattle.frame_state.proofs.add_line.Tie as tie
 
-kind-of-requires : tie.Need-kind-of-requires
-kind-of-requires c κs = search needs
-
-enum-known-kind : tie.Need-enum-known-kind
-enum-known-kind c = search needs
-
 with-opening-requires : tie.Need-with-opening-requires
 with-opening-requires c κs = opening-fits (c .before .before .before .before .before .pre) _ (sym (c .before .before .before .before .kind-of .ensures) ∙ c .before .kind .given .1)
-
-enum-told : tie.Need-enum-told
-enum-told c = search needs
 
 put-corner-requires : tie.Need-put-corner-requires
 put-corner-requires c κs = corner-fits (c .before .before .before .before .before .before .before .pre) (sym (c .before .before .before .before .before .before .kind-of .ensures) ∙ c .before .before .before .enum-told .given .1)
@@ -23,17 +14,8 @@ put-corner-requires c κs = corner-fits (c .before .before .before .before .befo
 with-corner-requires : tie.Need-with-corner-requires
 with-corner-requires c κs = corner-fits (c .before .before .before .before .before .before .before .before .pre) (sym (c .before .before .before .before .before .before .before .kind-of .ensures) ∙ c .before .before .before .before .enum-told .given .1) .room
 
-enum-told-2 : tie.Need-enum-told-2
-enum-told-2 c = search needs
-
-label-of-requires : tie.Need-label-of-requires
-label-of-requires c κs = search needs
-
 put-label-requires : tie.Need-put-label-requires
 put-label-requires c κs = rw (c .label-of .ensures) (label-room (c .before .before .before .before .before .before .before .pre) (sym (c .before .before .before .before .before .before .kind-of .ensures) ∙ c .before .before .before .enum-told2 .given .1))
-
-enum-known-kind-2 : tie.Need-enum-known-kind-2
-enum-known-kind-2 c = search needs
 
 put-pass-requires : tie.Need-put-pass-requires
 put-pass-requires c κs = pass-fits (c .before .before .before .before .before .before .pre) _ (sym (c .before .before .before .before .before .kind-of .ensures) ∙ c .before .before .kind2 .given .1)
@@ -57,16 +39,16 @@ pub add-line-spec : {M : Type 1} → statement M
 add-line-spec =
     tie.close
     (tie.spec
-    kind-of-requires
-    enum-known-kind
+    (λ c κs. search needs)
+    (λ c. search needs)
     with-opening-requires
-    enum-told
+    (λ c. search needs)
     put-corner-requires
     with-corner-requires
-    enum-told-2
-    label-of-requires
+    (λ c. search needs)
+    (λ c κs. search needs)
     put-label-requires
-    enum-known-kind-2
+    (λ c. search needs)
     put-pass-requires
     with-pass-requires
     returns

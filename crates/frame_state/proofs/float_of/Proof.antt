@@ -8,8 +8,5 @@ use Rattle.frame_state.proofs.float_of.Tie as tie
 float-from-bits-result : tie.Need-float-from-bits-result
 float-from-bits-result c = pattern (c .args .bits) (omega arith)
 
-returns : tie.Need-returns
-returns c = search needs
-
 pub float-of-spec : {M : Type 1} → statement M
-float-of-spec = tie.close (tie.spec float-from-bits-result returns)
+float-of-spec = tie.close (tie.spec float-from-bits-result (λ c. search needs))

@@ -3,11 +3,8 @@ use borrow.Author.Needs.{needs}
 use Rattle.frame_state.proofs.with_band.Statement.{statement}
 use Rattle.frame_state.proofs.with_band.Tie as tie
 
-float-of-requires : tie.Need-float-of-requires
-float-of-requires c κs = search needs
-
 returns : tie.Need-returns
 returns c = rw (c .float-of .ensures)
 
 pub with-band-spec : {M : Type 1} → statement M
-with-band-spec = tie.close (tie.spec float-of-requires returns)
+with-band-spec = tie.close (tie.spec (λ c κs. search needs) returns)
