@@ -1,15 +1,16 @@
 -- `frame::copy_sheet` meets its contract: entry by entry. Assumes nothing.
 use Prim.Native.Nat.{_-_}
 use native.Mathlib.Omega.{arith}
+use Rattle.frame_state.specs.State.{placeCount}
 use Rattle.frame.proofs.Copying.{Copying, copying-start, copy-reads, copy-writes, copying-more, copied}
 use Rattle.frame.proofs.copy_sheet.Statement.{statement}
 use Rattle.frame.proofs.copy_sheet.Tie as tie
 
 abbrev Inv-loop : tie.InvT-loop
-Inv-loop from to₀ i₀ to i = Copying 16384 16384 from to₀ to i
+Inv-loop from to₀ i₀ to i = Copying placeCount placeCount from to₀ to i
 
 abbrev μ-loop : tie.MeasureT-loop
-μ-loop from to₀ i₀ to i = 16384 - i
+μ-loop from to₀ i₀ to i = placeCount - i
 
 loop-holds : tie.Need-loop-holds Inv-loop μ-loop
 loop-holds c = copying-start _ _ _ _ (c .pre)
