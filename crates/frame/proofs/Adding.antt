@@ -169,8 +169,15 @@ module _ (f : Parts) (s : State) (g : FrameHeld f s) (l : Line) (p : Proper l) (
       let b = bits-held l p (Kind.Pass PassKind.Local) e in
       let c = whole-held l p (Kind.Pass PassKind.Local) e in
       let tame = pass-said (length (f .corners)) l p (w .ranges) PassKind.Local e in
-      rw (b 0 (omega arith) refl, b 1 (omega arith) refl, b 3 (omega arith) refl, c 2 (omega arith) refl, c 4 (omega arith) refl,
-      tame-count 64 (wholeAt 2 (l .numbers)) (omega arith) (tame .1 .1 .0), tame-count 4 (wholeAt 4 (l .numbers)) (omega arith) (tame .1 .1 .1 .1))
+      rw (
+        b 0 (omega arith) refl,
+        b 1 (omega arith) refl,
+        b 3 (omega arith) refl,
+        c 2 (omega arith) refl,
+        c 4 (omega arith) refl,
+        tame-count 64 (wholeAt 2 (l .numbers)) (omega arith) (tame .1 .1 .0),
+        tame-count 4 (wholeAt 4 (l .numbers)) (omega arith) (tame .1 .1 .1 .1),
+      )
 
   -- a line of a kind changes its own part
   by-kind : (kind : Kind) → kindOf l ≡ kind → FrameHeld (adding kind (l .numbers) f) (addsAs kind (heldUpTo 5 (l .numbers)) s)
