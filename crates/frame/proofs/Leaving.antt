@@ -1,71 +1,66 @@
--- What the call leaves: nothing held before the first line, the frame held at the end, and the buffers. Assumes nothing.
-use mathlib.Core.Path.{_≡_, refl, ap, subst, _∙_}
-use mathlib.Core.Bool.{true, false, not}
-use mathlib.Core.List.{List, []}
-use Prim.Native.Nat.{ℕ, _*_, _<_, _≤_}
+-- What the call leaves: arrays copied to the front of buffers, nothing held before the first line, the frame held at the end, the buffers, and
+-- what the answer says. Assumes nothing.
+use mathlib.Core.Path.{_≡_, refl, sym, ap, _∙_}
+use mathlib.Core.List.{List, _++_, []}
+use mathlib.Core.Bool.{true, false, Bool, cond}
+use Prim.Native.Nat.{ℕ, suc, _+_, _<_, _≤_, _*_}
 use native.Mathlib.Omega.{arith}
+use native.Mathlib.Numerals.{add-one}
 use borrow.Author.Tests.{lt-ltb, le-ltb, ltb-false}
-use lib.Dec.{ltb, eqb}
-use lib.ListN.{length, take, replicate, length-replicate, getD-replicate}
-use lib.Seq.{take-all}
+use lib.ListN.{length, getD, set, take, drop, length-set}
+use lib.Seq.{length-take-le, drop-cons, set-at, append-snoc, take-suc, take-all}
+use lib.Dec.{ltb}
 use lib.Ieee.{Float}
 use Rattle.refusal.specs.declared.Refusal.{Refusal}
-use Rattle.sheet.specs.Cells.{placeOf}
-use Rattle.sheet.specs.Words.{emptySheet}
-use Rattle.sheet.proofs.Laws.{place-in}
-use Rattle.frame_check.specs.Checks.{isSet}
-use Rattle.frame_state.specs.State.{Arrays, arrays, state, nothing-said}
-use Rattle.frame_state.specs.declared.Progress.{Progress}
+use Rattle.refusal.specs.Said.{number-and-line}
 use Rattle.arguments.specs.Front.{over}
+use Rattle.arguments.proofs.Chains.{or-false-both}
 use Rattle.line_form.specs.Lines.{linesOf}
-use Rattle.frame.specs.Frame.{Frame, no-parts, partsOf, FrameRead, refused-at, accepted, readLines, readFrame}
-use Rattle.frame.specs.ReadFrame.{xsOf, ysOf, pitchesOf, settingsOf, labelled, sheetOf, allWords, Buffers, frameOut, tooShort, leaves, readInto}
-use Rattle.frame.specs.Reading.{HoldsCorners, cellTaken, cornerTaken, HoldsLabels, HoldsPasses, FrameHeld, ReadAs, refused-as, held-as, LongEnough, buffers, Copies}
+use Rattle.frame_state.specs.State.{cornerLimit, placeCount, passWords, wordLimit, Arrays, state}
+use Rattle.frame_state.specs.declared.Progress.{Progress}
+use Rattle.frame.specs.Reading.{Copies, Holds, FrameHeld, ReadAs, refused-as, held-as, LongEnough, buffers}
+use Rattle.frame.specs.Frame.{Frame, partsOf, FrameRead, refused-at, accepted, readLines, byteLimit, readFrame}
+use Rattle.frame.specs.ReadFrame.{xsOf, ysOf, pitchesOf, settingsOf, sheetOf, Buffers, frameOut, tooShort, leaves, readInto, FrameOut, unlessShort}
 use Rattle.frame.specs.declared.FrameAnswer.{FrameAnswer}
 use Rattle.frame.specs.declared.LinesRead.{LinesRead}
-use Rattle.arguments.proofs.Chains.{or-false-both}
+use Rattle.frame.specs.Said.{headValues, frameSaid, lineValues, readDue, frameDue}
 
--- ---- before the first line
+-- i entries are copied
+pub record Copying {A : Type 0} (size n : ℕ) (from before to : List A) (i : ℕ) : Type 0 where
+  pub copies : Copies size n from before
+  pub some : i ≤ n
+  pub long : length to ≡ length before
+  pub so-far : to ≡ take i from ++ drop i before
 
-none-set : (n k : ℕ) → k < n → isSet (replicate n 0) k ≡ false
-none-set n k h = ap (λ (v : ℕ). not (eqb v 0)) (getD-replicate n k 0 0 h)
+pub copying-start : {A : Type 0} (size n : ℕ) (from before : List A) → Copies size n from before → Copying size n from before before 0
+copying-start size n from before c = record { copies = c; some = omega arith; long = refl; so-far = refl }
 
-no-corners : (x : Float) → HoldsCorners [] 0 (replicate 1024 x) (replicate 1024 x) (replicate 1024 x)
-no-corners x =
-    record {
-      count = refl;
-      few = omega arith;
-      xs-long = length-replicate 1024 x;
-      ys-long = length-replicate 1024 x;
-      pitches-long = length-replicate 1024 x;
-      xs-are = refl;
-      ys-are = refl;
-      pitches-are = refl;
-    }
+module _ {A : Type 0} {size n : ℕ} {from before to : List A} {i : ℕ} (g : Copying size n from before to i) where
+  -- one entry more
+  pub copying-more : (z : A) → i < n → Copying size n from before (set to i (getD from i z)) (i + 1)
+  copying-more z h =
+      let in-from : i < length from = omega (arith, g .copies .some, g .copies .whole) in
+      let in-before : i < length before = omega (arith, g .copies .some, g .copies .room) in
+      let front : length (take i from) ≡ i = length-take-le i from (omega arith) in
+      record {
+        copies = g .copies;
+        some = omega arith;
+        long = length-set to i (getD from i z) ∙ g .long;
+        so-far =
+            rw add-one
+            (ap (λ (l : List A). set l i (getD from i z)) (g .so-far ∙ ap (λ (l : List A). take i from ++ l) (drop-cons before i z in-before))
+            ∙ set-at (take i from) (getD before i z) (drop (suc i) before) (getD from i z) i front
+            ∙ sym (append-snoc (take i from) (getD from i z) (drop (suc i) before))
+            ∙ ap (λ (l : List A). l ++ drop (suc i) before) (sym (take-suc from i z in-from)));
+      }
 
-no-labels : HoldsLabels [] (replicate 16384 0) (replicate 1024 0)
-unfolding labelled emptySheet cellTaken cornerTaken
-no-labels =
-    record {
-      sheet-is = refl;
-      sheet-long = length-replicate {A = ℕ} 16384 0;
-      used-long = length-replicate {A = ℕ} 1024 0;
-      cells = λ c h. none-set 16384 (placeOf c) (place-in c h);
-      corners = λ k h. none-set 1024 k h;
-    }
-
-no-passes : HoldsPasses [] 0 (replicate 96 0)
-unfolding allWords
-no-passes = record { count = refl; few = omega arith; long = length-replicate {A = ℕ} 96 0; words-are = refl }
-
-pub nothing-held : (x : Float) → FrameHeld no-parts (state nothing-said (arrays (replicate 1024 x) (replicate 1024 x) (replicate 1024 x) (replicate 16384 0) (replicate 1024 0) (replicate 96 0)))
-nothing-held x = record { settings-are = refl; corners = no-corners x; labels = no-labels; passes = no-passes }
+  pub copied : n ≤ i → to ≡ over (take n from) before
+  copied h =
+      let e : i ≡ n = omega (arith, g .some) in
+      let front : length (take n from) ≡ n = length-take-le n from (omega (arith, g .copies .some, g .copies .whole)) in
+      g .so-far ∙ ap (λ (k : ℕ). take k from ++ drop k before) e ∙ ap (λ (k : ℕ). take n from ++ drop k before) (sym front)
 
 -- ---- at the end
-
-refused-read : {f : FrameRead} {l : LinesRead} {a : Arrays} → ReadAs f l a → (r : Refusal) (n : ℕ) → l ≡ LinesRead.Refused r n → f ≡ refused-at r n
-refused-read (refused-as q k) r n e = cc
-refused-read (held-as f p g) r n e = absurd (let z : _≡_ {A = ℕ} 0 1 = cc in omega arith)
 
 -- a frame that is accepted, and held
 pub record Accepting (f : FrameRead) (p : Progress) (a : Arrays) : Type 0 where
@@ -75,82 +70,76 @@ pub record Accepting (f : FrameRead) (p : Progress) (a : Arrays) : Type 0 where
 
 pub whole-read : {f : FrameRead} {l : LinesRead} {a : Arrays} → ReadAs f l a → (p : Progress) → l ≡ LinesRead.Whole p → Accepting f p a
 whole-read (refused-as q k) p e = absurd (let z : _≡_ {A = ℕ} 0 1 = cc in omega arith)
-whole-read {a = a} (held-as f q g) p e = let d : q ≡ p = cc in record { frame = f; is = refl; holds = subst (λ (x : Progress). FrameHeld (partsOf f) (state x a)) d g }
+whole-read {a = a} (held-as f q g) p e = let d : p ≡ q = cc in record { frame = f; is = refl; holds = rw d g }
 
 -- a refusal leaves the buffers as they were
-pub text-refused : {f : FrameRead} {l : LinesRead} {a : Arrays} → ReadAs f l a → (r : Refusal) (n : ℕ) → l ≡ LinesRead.Refused r n → (xs ys pitches : List Float) (sheet passes : List ℕ)
-    → frameOut (FrameAnswer.Refused r n) xs ys pitches sheet passes ≡ leaves f (buffers xs ys pitches sheet passes)
-text-refused w r n e xs ys pitches sheet passes = rw (refused-read w r n e)
+pub text-refused : {f : FrameRead} {l : LinesRead} {a : Arrays} → ReadAs f l a → (r : Refusal) (n : ℕ) → l ≡ LinesRead.Refused r n → (b : Buffers) → record { answer = FrameAnswer.Refused r n; buffers = b } ≡ leaves f b
+text-refused (refused-as q k) r n e b = let i : r ≡ q = cc in let j : n ≡ k = cc in rw (i, j)
+text-refused (held-as f p g) r n e b = absurd (let z : _≡_ {A = ℕ} 0 1 = cc in omega arith)
 
-module _ {f : FrameRead} {p : Progress} {a : Arrays} {b : Buffers} (w : Accepting f p a) (long : LongEnough b) where
-  pub xs-copied : Copies 1024 (p .corners) (a .xs) (b .xs)
-  xs-copied = record { whole = w .holds .corners .xs-long; some = w .holds .corners .few; room = long .xs-long }
+-- the front of an array that is copied, and what a buffer has after it
+pub copies : {A : Type 0} {size n : ℕ} {entries these to : List A} → Holds size n entries these → size ≤ length to → Copies size n entries to
+copies g h = record { whole = g .long; some = g .some; room = h }
 
-  pub ys-copied : Copies 1024 (p .corners) (a .ys) (b .ys)
-  ys-copied = record { whole = w .holds .corners .ys-long; some = w .holds .corners .few; room = long .ys-long }
+left : {A : Type 0} {size n : ℕ} {entries these : List A} → Holds size n entries these → (to after : List A) → after ≡ over (take n entries) to → after ≡ over these to
+left g to after e = e ∙ ap (λ (l : List _). over l to) (g .are)
 
-  pub pitches-copied : Copies 1024 (p .corners) (a .pitches) (b .pitches)
-  pitches-copied = record { whole = w .holds .corners .pitches-long; some = w .holds .corners .few; room = long .pitches-long }
-
-  pub sheet-copied : Copies 16384 16384 (a .sheet) (b .sheet)
-  sheet-copied = record { whole = w .holds .labels .sheet-long; some = omega arith; room = long .sheet-long }
-
-  pub passes-copied : Copies 96 (6 * p .passes) (a .passes) (b .passes)
-  passes-copied = record { whole = w .holds .passes .long; some = omega (arith, w .holds .passes .few); room = long .passes-long }
-
-  xs-left : over (take (p .corners) (a .xs)) (b .xs) ≡ over (xsOf (w .frame)) (b .xs)
-  unfolding xsOf
-  xs-left = ap (λ (l : List Float). over l (b .xs)) (w .holds .corners .xs-are)
-
-  ys-left : over (take (p .corners) (a .ys)) (b .ys) ≡ over (ysOf (w .frame)) (b .ys)
-  unfolding ysOf
-  ys-left = ap (λ (l : List Float). over l (b .ys)) (w .holds .corners .ys-are)
-
-  pitches-left : over (take (p .corners) (a .pitches)) (b .pitches) ≡ over (pitchesOf (w .frame)) (b .pitches)
-  unfolding pitchesOf
-  pitches-left = ap (λ (l : List Float). over l (b .pitches)) (w .holds .corners .pitches-are)
-
-  sheet-left : over (take 16384 (a .sheet)) (b .sheet) ≡ over (sheetOf (w .frame)) (b .sheet)
+module _ {f : FrameRead} {p : Progress} {a : Arrays} (w : Accepting f p a) where
+  pub sheet-held : Holds placeCount placeCount (a .sheet) (sheetOf (w .frame))
   unfolding sheetOf
-  sheet-left = ap (λ (l : List ℕ). over l (b .sheet)) (take-all 16384 (a .sheet) (omega (arith, w .holds .labels .sheet-long)) ∙ w .holds .labels .sheet-is)
-
-  passes-left : over (take (6 * p .passes) (a .passes)) (b .passes) ≡ over (allWords (partsOf (w .frame) .passes)) (b .passes)
-  passes-left = ap (λ (l : List ℕ). over l (b .passes)) (w .holds .passes .words-are)
+  sheet-held =
+      let g = w .holds .labels in
+      record { long = g .sheet-long; some = omega arith; are = take-all placeCount (a .sheet) (omega (arith, g .sheet-long)) ∙ g .sheet-is }
 
   -- an accepted frame is written
-  pub text-accepted : (xs ys pitches : List Float) (sheet passes : List ℕ) → xs ≡ over (take (p .corners) (a .xs)) (b .xs) → ys ≡ over (take (p .corners) (a .ys)) (b .ys)
-      → pitches ≡ over (take (p .corners) (a .pitches)) (b .pitches) → sheet ≡ over (take 16384 (a .sheet)) (b .sheet) → passes ≡ over (take (6 * p .passes) (a .passes)) (b .passes)
+  pub text-accepted : (b : Buffers) (xs ys pitches : List Float) (sheet passes : List ℕ) → xs ≡ over (take (p .corners) (a .xs)) (b .xs) → ys ≡ over (take (p .corners) (a .ys)) (b .ys)
+      → pitches ≡ over (take (p .corners) (a .pitches)) (b .pitches) → sheet ≡ over (take placeCount (a .sheet)) (b .sheet) → passes ≡ over (take (passWords * p .passes) (a .passes)) (b .passes)
       → frameOut (FrameAnswer.Accepted (record { settings = p .settings; corners = p .corners; passes = p .passes })) xs ys pitches sheet passes ≡ leaves f b
-  unfolding settingsOf
-  text-accepted xs ys pitches sheet passes x y z s q =
-      rw (w .is, x ∙ xs-left, y ∙ ys-left, z ∙ pitches-left, s ∙ sheet-left, q ∙ passes-left, w .holds .settings-are, w .holds .corners .count, w .holds .passes .count)
+  unfolding settingsOf xsOf ysOf pitchesOf
+  text-accepted b xs ys pitches sheet passes x y z s q =
+      let c = w .holds .corners in
+      rw (w .is, left (c .xs-held) _ _ x, left (c .ys-held) _ _ y, left (c .pitches-held) _ _ z, left sheet-held _ _ s, left (w .holds .passes .words-held) _ _ q, w .holds .settings-are, c .count, w .holds .passes .count)
 
 -- ---- the call
 
 module _ (text : List ℕ) (b : Buffers) where
   pub long-enough : tooShort b ≡ false → LongEnough b
-  unfolding tooShort
   long-enough e =
-      let i = or-false-both (ltb (length (b .xs)) 1024) _ e in
-      let j = or-false-both (ltb (length (b .ys)) 1024) _ (i .1) in
-      let k = or-false-both (ltb (length (b .pitches)) 1024) _ (j .1) in
-      let l = or-false-both (ltb (length (b .sheet)) 16384) _ (k .1) in
+      let i = or-false-both (ltb (length (b .xs)) cornerLimit) _ e in
+      let j = or-false-both (ltb (length (b .ys)) cornerLimit) _ (i .1) in
+      let k = or-false-both (ltb (length (b .pitches)) cornerLimit) _ (j .1) in
+      let l = or-false-both (ltb (length (b .sheet)) placeCount) _ (k .1) in
       record {
-        xs-long = ltb-false (length (b .xs)) 1024 (i .0);
-        ys-long = ltb-false (length (b .ys)) 1024 (j .0);
-        pitches-long = ltb-false (length (b .pitches)) 1024 (k .0);
-        sheet-long = ltb-false (length (b .sheet)) 16384 (l .0);
-        passes-long = ltb-false (length (b .passes)) 96 (l .1);
+        xs-long = ltb-false (length (b .xs)) cornerLimit (i .0);
+        ys-long = ltb-false (length (b .ys)) cornerLimit (j .0);
+        pitches-long = ltb-false (length (b .pitches)) cornerLimit (k .0);
+        sheet-long = ltb-false (length (b .sheet)) placeCount (l .0);
+        passes-long = ltb-false (length (b .passes)) wordLimit (l .1);
       }
 
   pub call-short : tooShort b ≡ true → leaves (refused-at Refusal.BufferTooShort 0) b ≡ readInto text b
   unfolding readInto
   call-short e = rw e
 
-  pub call-long : tooShort b ≡ false → 65536 < length text → leaves (refused-at Refusal.OverLimit 0) b ≡ readInto text b
+  pub call-long : tooShort b ≡ false → byteLimit < length text → leaves (refused-at Refusal.OverLimit 0) b ≡ readInto text b
   unfolding readInto readFrame
-  call-long e h = rw (e, lt-ltb 65536 (length text) h)
+  call-long e h = rw (e, lt-ltb byteLimit (length text) h)
 
-  pub call-read : tooShort b ≡ false → length text ≤ 65536 → leaves (readLines 1 0 [] (linesOf text)) b ≡ readInto text b
+  pub call-read : tooShort b ≡ false → length text ≤ byteLimit → leaves (readLines 1 0 [] (linesOf text)) b ≡ readInto text b
   unfolding readInto readFrame
-  call-read e h = rw (e, le-ltb 65536 (length text) h)
+  call-read e h = rw (e, le-ltb byteLimit (length text) h)
+
+read-said : (r : FrameRead) (b : Buffers) → frameSaid (leaves r b .answer) ≡ readDue r
+unfolding settingsOf headValues frameSaid lineValues readDue
+read-said (refused-at r line) b = refl
+read-said (accepted f) b = refl
+
+unless-said : (short : Bool) (text : List ℕ) (b : Buffers) → frameSaid (unlessShort short text b .answer) ≡ cond short (number-and-line 7 0) (readDue (readFrame text))
+unfolding frameSaid
+unless-said true text b = refl
+unless-said false text b = read-said (readFrame text) b
+
+-- both promises of `read_frame` at once
+pub promised : (text : List ℕ) (b : Buffers) {out : FrameOut} → out ≡ readInto text b → (out ≡ readInto text b) × (frameSaid (out .answer) ≡ frameDue text b)
+unfolding readInto frameDue
+promised text b e = (e, ap (λ (w : FrameOut). frameSaid (w .answer)) e ∙ unless-said (tooShort b) text b)

@@ -57,6 +57,13 @@ withLabel l p = record { opening = p .opening; corners = p .corners; labels = p 
 abbrev pub withPass : PassLine → Parts → Parts
 withPass q p = record { opening = p .opening; corners = p .corners; labels = p .labels; passes = p .passes ++ (q ∷ []) }
 
+-- the part that a line of a kind changes: 0 the opening, 1 the corners, 2 the labels, 3 the passes
+abbrev pub partOf : Kind → ℕ
+partOf (Kind.Opening o) = 0
+partOf Kind.Corner = 1
+partOf Kind.Label = 2
+partOf (Kind.Pass p) = 3
+
 -- what a line of a kind adds: the one part that it changes
 unfoldable pub adding : Kind → List Number → Parts → Parts
 adding (Kind.Opening k) ns p = withOpening (opened k ns (p .opening)) p
@@ -86,19 +93,29 @@ sameCell a b = eqZ (a .i) (b .i) && eqZ (a .j) (b .j)
 abbrev pub clash : LabelLine → LabelLine → Bool
 clash a b = sameCell (a .cell) (b .cell) || eqZ (a .corner) (b .corner)
 
+-- some element of a list passes a test
+unfoldable pub someOf : {A : Type 0} → (A → Bool) → List A → Bool
+someOf f [] = false
+someOf f (a ∷ rest) = f a || someOf f rest
+
 -- some label of the list has the cell or the corner of this one
-unfoldable pub doubled : List LabelLine → LabelLine → Bool
-doubled [] l = false
-doubled (m ∷ ms) l = clash m l || doubled ms l
+abbrev pub doubled : List LabelLine → LabelLine → Bool
+doubled ls l = someOf (λ m. clash m l) ls
 
 -- ---- the checks of a line in its turn, with what the lines before it said
 
+-- some number of it has the refusal r; a line of its kind is one too many; it is doubled
+abbrev pub outsideIn : Parts → Line → ℕ → Bool
+outsideIn p l r = outsideLine r (length (p .corners)) l
+
+abbrev pub overIn : Parts → Kind → Bool
+overIn p kind = overLimit (length (p .corners)) (length (p .passes)) kind
+
+abbrev pub twiceIn : Parts → Kind → List Number → Bool
+twiceIn p kind ns = twiceOf kind (doubled (p .labels) (labelLineOf ns))
+
 unfoldable pub checkedLine : Parts → Line → Checked
-checkedLine p l =
-    checksInOrder
-    (λ r. outsideLine r (length (p .corners)) l)
-    (overLimit (length (p .corners)) (length (p .passes)) (kindOf l))
-    (twiceOf (kindOf l) (doubled (p .labels) (labelLineOf (l .numbers))))
+checkedLine p l = checksInOrder (outsideIn p l) (overIn p (kindOf l)) (twiceIn p (kindOf l) (l .numbers))
 
 -- ---- a whole frame
 
@@ -144,5 +161,8 @@ readLines n stage f [] = atEnd n stage f
 readLines n stage f (text ∷ texts) = going n (stepLine stage f text) (λ stage' f'. readLines (suc n) stage' f' texts)
 
 -- "At most 65,536 bytes": byte length first, as line 0
+abbrev pub byteLimit : ℕ
+byteLimit = 65536
+
 unfoldable pub readFrame : List ℕ → FrameRead
-readFrame text = cond (ltb 65536 (length text)) (refused-at Refusal.OverLimit 0) (readLines 1 0 [] (linesOf text))
+readFrame text = cond (ltb byteLimit (length text)) (refused-at Refusal.OverLimit 0) (readLines 1 0 [] (linesOf text))

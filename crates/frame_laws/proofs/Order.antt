@@ -1,37 +1,32 @@
 -- The order of lines, by tests of the table that antt computes over all stages and rows: the first four lines, and what comes no more after
 -- them. Assumes nothing.
-use mathlib.Core.Path.{_≡_, refl, sym, ap, subst, _∙_}
+use mathlib.Core.Path.{_≡_, refl, sym, ap, _∙_}
 use mathlib.Core.Bool.{Bool, true, false, not, true≢false, cond}
-use mathlib.Core.List.{List, [], _∷_}
+use mathlib.Core.Logic.{⊎-elim}
 use Prim.Native.Nat.{ℕ, suc, _<_, _≤_}
 use native.Mathlib.Omega.{arith}
-use borrow.Author.Tests.{eqb-true, lt-ltb, ltb-true, leb-true, leb-false, not-true}
-use lib.Dec.{eqb, ltb, leb}
-use lib.ListN.{getD, take, drop, length-take, List·getD-eq-default}
+use borrow.Author.Tests.{eqb-true, lt-ltb, le-ltb, ltb-true, not-true}
+use lib.Dec.{eqb, ltb}
+use lib.ListN.{take, drop, length-take, List·getD-eq-default}
 use Rattle.labels.specs.Labelled.{anyBelow}
 use Rattle.labels.proofs.Below.{any-hit}
 use Rattle.line_form.proofs.Every.{first-true, second-true, everyBelow, every-at}
 use Rattle.frame_line.specs.Table.{rows, rowCount, stageCount, lettersFrom, rowAt, kindAt, turnAt, mayEnd, sortOf, sortAt}
-use Rattle.frame_line.specs.Lines.{Line}
 use Rattle.frame_line.specs.declared.Kind.{Kind}
 use Rattle.frame_line.specs.declared.Sort.{Sort}
 use Rattle.frame_line.specs.declared.Turn.{Turn}
 use Rattle.frame_line.proofs.Checking.{no-stage}
-use Rattle.frame.specs.Text.{All, InOrder, ends, next}
+use Rattle.frame.specs.Frame.{partOf}
+use Rattle.frame.proofs.Adding.{below-or-not}
 
--- a line that changes the opening; one that adds a corner; one that asks for a corner
+-- a line that changes the opening; one that adds a corner
 abbrev pub opens : Kind → Bool
-opens (Kind.Opening o) = true
-opens Kind.Corner = false
-opens Kind.Label = false
-opens (Kind.Pass p) = false
+opens k = eqb (partOf k) 0
 
 abbrev pub isCorner : Kind → Bool
-isCorner (Kind.Opening o) = false
-isCorner Kind.Corner = true
-isCorner Kind.Label = false
-isCorner (Kind.Pass p) = false
+isCorner k = eqb (partOf k) 1
 
+-- a number that asks for a corner; a row with such a number
 abbrev isCornerSort : Sort → Bool
 isCornerSort Sort.Nothing = false
 isCornerSort (Sort.Float q) = false
@@ -48,11 +43,8 @@ asks k = anyBelow 5 (λ m. isCornerSort (sortAt k m))
 -- a sort stands in one of five places
 asks-one : (k m : ℕ) → sortAt k m ≡ Sort.Corner → asks k ≡ true
 unfolding asks
-asks-one k m e = go (leb 5 m) refl
-  where
-    go : (t : Bool) → leb 5 m ≡ t → anyBelow 5 (λ i. isCornerSort (sortAt k i)) ≡ true
-    go false h = any-hit (λ i. isCornerSort (sortAt k i)) 5 m (leb-false 5 m h) (ap isCornerSort e)
-    go true h = absurd (true≢false (sym (ap isCornerSort e) ∙ ap isCornerSort (no-sort k m (leb-true 5 m h))))
+asks-one k m e =
+    ⊎-elim (λ h. any-hit (λ i. isCornerSort (sortAt k i)) 5 m h (ap isCornerSort e)) (λ h. absurd (true≢false (sym (ap isCornerSort e) ∙ ap isCornerSort (no-sort k m h)))) (below-or-not m 5)
 
 -- ---- rules of the table: what holds of every stage, row and next stage
 
@@ -67,31 +59,16 @@ ruled : (f : ℕ → ℕ → ℕ → Bool) → rule f ≡ true → (s k t : ℕ)
 ruled f r s k t few e =
     ap (byTurn (f s k)) (sym e) ∙ every-at (λ j. byTurn (f s j) (turnAt s j)) rowCount (every-at (λ i. everyBelow rowCount (λ j. byTurn (f i j) (turnAt i j))) stageCount r s inside) k few
   where
-    go : (x : Bool) → leb stageCount s ≡ x → s < stageCount
-    go true h = let n = no-stage s k (leb-true stageCount s h) in absurd (let z : _≡_ {A = ℕ} 0 1 = cc in omega arith)
-    go false h = leb-false stageCount s h
-
     inside : s < stageCount
-    inside = go (leb stageCount s) refl
+    inside = ⊎-elim (λ h. h) (λ h. let n = no-stage s k h in absurd (let z : _≡_ {A = ℕ} 0 1 = cc in omega arith)) (below-or-not s stageCount)
 
-implied : (a b : Bool) → cond a b true ≡ true → a ≡ true → b ≡ true
-implied a b e h = rw h at e
+-- up to stage 3 the line of that row must come, and from stage 4 on no line opens
+openingRule : ℕ → ℕ → ℕ → Bool
+openingRule s k t = cond (ltb s 4) (cond (eqb k s) (eqb t (suc s)) false) (cond (ltb 3 t) (not (opens (kindAt k))) false)
 
--- up to stage 3 the line of that row must come
-mustCome : ℕ → ℕ → ℕ → Bool
-mustCome s k t = cond (ltb s 4) (cond (eqb k s) (eqb t (suc s)) false) true
-
-must-come : rule mustCome ≡ true
-unfolding mustCome turnAt rowAt rows
-must-come = refl
-
--- from stage 4 on no line opens
-openNoMore : ℕ → ℕ → ℕ → Bool
-openNoMore s k t = cond (ltb 3 s) (cond (ltb 3 t) (not (opens (kindAt k))) false) true
-
-open-no-more : rule openNoMore ≡ true
-unfolding openNoMore kindAt turnAt rowAt rows
-open-no-more = refl
+opening-rule : rule openingRule ≡ true
+unfolding openingRule kindAt turnAt rowAt rows
+opening-rule = refl
 
 -- once a corner was asked for, and from stage 5 on, no corner comes
 cornerNoMore : ℕ → ℕ → ℕ → Bool
@@ -102,22 +79,22 @@ unfolding cornerNoMore asks anyBelow kindAt turnAt sortAt sortOf rowAt rows
 corner-no-more = refl
 
 module _ (s k t : ℕ) (few : k < rowCount) (e : turnAt s k ≡ Turn.To t) where
-  comes : s < 4 → (k ≡ s) × (t ≡ suc s)
-  unfolding mustCome
+  pub comes : s < 4 → (k ≡ s) × (t ≡ suc s)
+  unfolding openingRule
   comes h =
-      let a = implied (ltb s 4) _ (ruled mustCome must-come s k t few e) (lt-ltb s 4 h) in
+      let a = rw (lt-ltb s 4 h) at (ruled openingRule opening-rule s k t few e) in
       (eqb-true k s (first-true (eqb k s) (eqb t (suc s)) a), eqb-true t (suc s) (second-true (eqb k s) (eqb t (suc s)) a))
 
-  pub later-opens : 3 < s → (3 < t) × (opens (kindAt k) ≡ false)
-  unfolding openNoMore
+  pub later-opens : 4 ≤ s → (4 ≤ t) × (opens (kindAt k) ≡ false)
+  unfolding openingRule
   later-opens h =
-      let a = implied (ltb 3 s) _ (ruled openNoMore open-no-more s k t few e) (lt-ltb 3 s h) in
+      let a = rw (le-ltb s 4 h) at (ruled openingRule opening-rule s k t few e) in
       (ltb-true 3 t (first-true (ltb 3 t) _ a), not-true (opens (kindAt k)) (second-true (ltb 3 t) (not (opens (kindAt k))) a))
 
   later-corner : cond (ltb 4 s) true (asks k) ≡ true → (4 < t) × (isCorner (kindAt k) ≡ false)
   unfolding cornerNoMore
   later-corner h =
-      let a = implied (cond (ltb 4 s) true (asks k)) _ (ruled cornerNoMore corner-no-more s k t few e) h in
+      let a = rw h at (ruled cornerNoMore corner-no-more s k t few e) in
       (ltb-true 4 t (first-true (ltb 4 t) _ a), not-true (isCorner (kindAt k)) (second-true (ltb 4 t) (not (isCorner (kindAt k))) a))
 
   pub past-corners : 4 < s → (4 < t) × (isCorner (kindAt k) ≡ false)
@@ -136,15 +113,6 @@ no-early : everyBelow 4 (λ s. not (mayEnd s)) ≡ true
 unfolding mayEnd
 no-early = refl
 
-pub record First (s : ℕ) (ls : List Line) : Type 0 where
-  pub it : Line
-  pub rest : List Line
-  pub is : ls ≡ it ∷ rest
-  pub row-is : it .row ≡ s
-  pub order : InOrder (suc s) rest
-
-pub first-of : (s : ℕ) (ls : List Line) → s < 4 → All (λ l. l .row < rowCount) ls → InOrder s ls → First s ls
-first-of s ls h p (ends e) = absurd (true≢false (sym e ∙ not-true (mayEnd s) (every-at (λ i. not (mayEnd i)) 4 no-early s h)))
-first-of s ls h p (next {to = t} {ls = rest} l e o) =
-    let c = comes s (l .row) t (p .0) e h in
-    record { it = l; rest = rest; is = refl; row-is = c .0; order = subst (λ (i : ℕ). InOrder i rest) (c .1) o }
+-- a frame ends after them
+pub ends-late : (s : ℕ) → mayEnd s ≡ true → 4 ≤ s
+ends-late s e = ⊎-elim (λ h. absurd (true≢false (sym e ∙ not-true (mayEnd s) (every-at (λ i. not (mayEnd i)) 4 no-early s h)))) (λ h. h) (below-or-not s 4)

@@ -1,13 +1,13 @@
--- A line that can be added: what its checks say of it, kind by kind, and the state after it. Assumes nothing.
+-- A line that can be added: what its checks say of it, kind by kind. Assumes nothing.
 use mathlib.Core.Path.{_≡_, refl, sym, ap, _∙_}
-use mathlib.Core.Bool.{false}
-use mathlib.Core.List.{List}
 use Prim.Native.Nat.{ℕ, _<_}
 use native.Mathlib.Omega.{arith}
 use borrow.Author.Tests.{leb-false}
 use lib.ListN.{getD}
 use lib.Ieee.{Float}
 use Rattle.binary32.specs.declared.ranges.Quantity.{Quantity}
+use Rattle.arguments.specs.declared.Settings.{Settings}
+use Rattle.binary32.proofs.Answered.{pattern}
 use Rattle.frame_line.specs.Table.{rows, rowAt, kindAt, sortOf, sortAt}
 use Rattle.frame_line.specs.Held.{labelIn, outsideHeld}
 use Rattle.frame_line.specs.declared.Kind.{Kind}
@@ -20,24 +20,20 @@ use Rattle.frame_line.proofs.Checking.{tame-finite}
 use Rattle.frame_line.proofs.Words.{word-tame}
 use Rattle.frame_check.specs.Checks.{overLimit, twiceHeld, checkedHeld}
 use Rattle.frame_check.proofs.Laws.{AllFine, fine-all, label-fits}
-use Rattle.frame_state.specs.State.{Tame, TameAxes, TameOpening, withOpening, withCorner, withPass, CornerFits, CornerPut, LabelRoom, LabelPut, wordsIn, wordsPut, Arrays, arrays, state, Addable, addsAs, adds}
+use Rattle.frame_state.specs.State.{cornerLimit, passLimit, Tame, TameOpening, CornerFits, LabelRoom, Arrays, Addable}
 use Rattle.frame_state.specs.declared.Progress.{Progress}
-
--- ---- what the checks say
+use Rattle.frame_state.specs.declared.PassWords.{PassWords}
 
 module _ {p : Progress} {a : Arrays} {line : HeldLine} (f : Addable p a line) where
   fine : AllFine (λ r. outsideHeld r (p .corners) line) (overLimit (p .corners) (p .passes) (kindAt (line .row))) (twiceHeld (a .sheet) (a .used) line)
   unfolding checkedHeld
   fine = fine-all (λ r. outsideHeld r (p .corners) line) _ _ (f .fine)
 
-  -- a float of a line is finite
+  -- a float of a line is no NaN
   tame-at : (kind : Kind) → kindAt (line .row) ≡ kind → (m : ℕ) (q : Quantity) → m < 5 → sortAt (rowOf kind) m ≡ Sort.Float q → Tame (getD (line .values) m 0)
   tame-at kind e m q h s =
-      record {
-        finite =
-            tame-finite q (getD (line .values) m 0)
-            (word-tame (p .corners) line (fine .ranges) m h q (ap (λ (k : ℕ). sortAt k m) (row-of (line .row) kind (f .fits .row-fits) e) ∙ s));
-      }
+      let is = ap (λ (k : ℕ). sortAt k m) (row-of (line .row) kind (f .fits .row-fits) e) ∙ s in
+      record { no-nan = pattern (getD (line .values) m 0) (omega (arith, tame-finite q (getD (line .values) m 0) (word-tame (p .corners) line (fine .ranges) m h q is))) }
 
   pub opening-fits : (o : OpeningKind) → kindAt (line .row) ≡ Kind.Opening o → TameOpening o (line .values)
   unfolding sortAt sortOf rowAt rows
@@ -57,7 +53,7 @@ module _ {p : Progress} {a : Arrays} {line : HeldLine} (f : Addable p a line) wh
   unfolding overLimit sortAt sortOf rowAt rows
   corner-fits e =
       record {
-        room = leb-false 1024 (p .corners) (sym (ap (overLimit (p .corners) (p .passes)) e) ∙ fine .room);
+        room = leb-false cornerLimit (p .corners) (sym (ap (overLimit (p .corners) (p .passes)) e) ∙ fine .room);
         x = tame-at Kind.Corner e 0 Quantity.Position (omega arith) refl;
         y = tame-at Kind.Corner e 1 Quantity.Position (omega arith) refl;
         pitch = tame-at Kind.Corner e 2 Quantity.Pitch (omega arith) refl;
@@ -66,28 +62,6 @@ module _ {p : Progress} {a : Arrays} {line : HeldLine} (f : Addable p a line) wh
   pub label-room : kindAt (line .row) ≡ Kind.Label → LabelRoom (a .sheet) (labelIn (line .values))
   label-room e = record { long = f .long; fits = label-fits (p .corners) line (record { fits = f .fits; on = fine .on; known = fine .known }) e }
 
-  pub pass-fits : (k : PassKind) → kindAt (line .row) ≡ Kind.Pass k → p .passes < 16
+  pub pass-fits : (k : PassKind) → kindAt (line .row) ≡ Kind.Pass k → p .passes < passLimit
   unfolding overLimit
-  pass-fits k e = leb-false 16 (p .passes) (sym (ap (overLimit (p .corners) (p .passes)) e) ∙ fine .room)
-
--- ---- the state after a line
-
-module _ (p : Progress) (a : Arrays) (line : HeldLine) where
-  pub added-opening : (o : OpeningKind) → kindAt (line .row) ≡ Kind.Opening o → (r : Progress) → r ≡ withOpening o p (line .values) → state r a ≡ adds line (state p a)
-  unfolding addsAs
-  added-opening o e r g = rw (e, g)
-
-  pub added-corner : kindAt (line .row) ≡ Kind.Corner → (r : Progress) → r ≡ withCorner p → (xs ys pitches : List Float)
-      → CornerPut (p .corners) (line .values) (a .xs) (a .ys) (a .pitches) xs ys pitches → state r (arrays xs ys pitches (a .sheet) (a .used) (a .passes)) ≡ adds line (state p a)
-  unfolding addsAs
-  added-corner e r g xs ys pitches w = rw (e, g, w .xs-are, w .ys-are, w .pitches-are)
-
-  pub added-label : kindAt (line .row) ≡ Kind.Label → (sheet used : List ℕ) → LabelPut (labelIn (line .values)) (a .sheet) (a .used) sheet used
-      → state p (arrays (a .xs) (a .ys) (a .pitches) sheet used (a .passes)) ≡ adds line (state p a)
-  unfolding addsAs
-  added-label e sheet used w = rw (e, w .sheet-is, w .used-is)
-
-  pub added-pass : (k : PassKind) → kindAt (line .row) ≡ Kind.Pass k → (r : Progress) → r ≡ withPass p → (passes : List ℕ)
-      → passes ≡ wordsPut (p .passes) (wordsIn k (line .values)) (a .passes) → state r (arrays (a .xs) (a .ys) (a .pitches) (a .sheet) (a .used) passes) ≡ adds line (state p a)
-  unfolding addsAs
-  added-pass k e r g passes w = rw (e, g, w)
+  pass-fits k e = leb-false passLimit (p .passes) (sym (ap (overLimit (p .corners) (p .passes)) e) ∙ fine .room)

@@ -4,32 +4,11 @@ use borrow.Author.Needs.{needs}
 use Rattle.frame.proofs.step_line.Statement.{statement}
 use Rattle.frame.proofs.step_line.Tie as tie
 
-read-line-requires : tie.Need-read-line-requires
-read-line-requires c κs = search needs
-
-turn-at-requires : tie.Need-turn-at-requires
-turn-at-requires c κs = search needs
-
-enum-told : tie.Need-enum-told
-enum-told c = search needs
-
-enum-known-turn : tie.Need-enum-known-turn
-enum-known-turn c = search needs
-
 check-line-requires : tie.Need-check-line-requires
 check-line-requires c κs = record { few = c .before .before .before .before .before .before .before .before .pre .few; row-fits = step-row _ _ _ _ (c .before .before .before .before .before .turn-at .ensures) (c .before .before .before .turn .given .1) }
 
-enum-known-checked : tie.Need-enum-known-checked
-enum-known-checked c = search needs
-
-enum-told-2 : tie.Need-enum-told-2
-enum-told-2 c = search needs
-
 add-line-requires : tie.Need-add-line-requires
 add-line-requires c κs = step-addable _ _ _ _ (c .before .before .before .before .before .before .before .before .before .before .before .before .before .before .turn-at .ensures) _ (c .before .before .before .before .before .before .before .before .before .before .before .before .turn .given .1) _ (c .before .before .before .before .before .before .before .before .check-line .ensures) (c .before .before .before .before .before .before .before .before .before .before .before .before .before .before .before .before .before .pre) (c .before .before .before .before .before .before .enum-told2 .given .1)
-
-at-stage-requires : tie.Need-at-stage-requires
-at-stage-requires c κs = search needs
 
 returns : tie.Need-returns
 returns c = rw (← c .before .before .before .read-line .ensures) (step-no _ _ _ _ (c .before .before .turn-at .ensures) (c .enum-told .given .1))
@@ -44,15 +23,15 @@ pub step-line-spec : {M : Type 1} → statement M
 step-line-spec =
     tie.close
     (tie.spec
-    read-line-requires
-    turn-at-requires
-    enum-told
-    enum-known-turn
+    (λ c κs. search needs)
+    (λ c κs. search needs)
+    (λ c. search needs)
+    (λ c. search needs)
     check-line-requires
-    enum-known-checked
-    enum-told-2
+    (λ c. search needs)
+    (λ c. search needs)
     add-line-requires
-    at-stage-requires
+    (λ c κs. search needs)
     returns
     returns-2
     returns-3)

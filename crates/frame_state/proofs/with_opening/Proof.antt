@@ -6,61 +6,39 @@ use borrow.Author.Needs.{needs}
 use Rattle.frame_state.proofs.with_opening.Statement.{statement}
 use Rattle.frame_state.proofs.with_opening.Tie as tie
 
-enum-told : tie.Need-enum-told
-enum-told c = search needs
-
-enum-told-2 : tie.Need-enum-told-2
-enum-told-2 c = search needs
-
-array-read-with-cell-size : tie.Need-array-read-with-cell-size
-array-read-with-cell-size c = search needs
-
 with-cell-size-requires : tie.Need-with-cell-size-requires
 with-cell-size-requires c κs = subst (λ (k : OpeningKind). TameOpening k (c .before .before .args .t3)) (c .enum-told2 .given .1) (c .before .before .pre)
 
-enum-told-3 : tie.Need-enum-told-3
-enum-told-3 c = search needs
-
 with-axes-requires : tie.Need-with-axes-requires
 with-axes-requires c κs = subst (λ (k : OpeningKind). TameOpening k (c .before .before .args .t3)) (c .enum-told3 .given .1) (c .before .before .pre)
-
-enum-told-4 : tie.Need-enum-told-4
-enum-told-4 c = search needs
-
-array-read-with-band : tie.Need-array-read-with-band
-array-read-with-band c = search needs
 
 with-band-requires : tie.Need-with-band-requires
 with-band-requires c κs = subst (λ (k : OpeningKind). TameOpening k (c .before .before .args .t3)) (c .enum-told4 .given .1) (c .before .before .pre)
 
 returns : tie.Need-returns
-unfolding withOpening
-returns c = sym (ap (λ (k : OpeningKind). withOpening k (c .before .before .args .p) (c .before .before .args .t3)) (c .enum-told .given .1))
+returns c = sym (ap (λ (k : OpeningKind). withOpening k (c .before .before .args .s) (c .before .before .args .t3)) (c .enum-told .given .1))
 
 returns-2 : tie.Need-returns-2
-unfolding withOpening
-returns-2 c = c .with-cell-size .ensures ∙ sym (ap (λ (k : OpeningKind). withOpening k (c .before .before .before .args .p) (c .before .before .before .args .t3)) (c .before .enum-told2 .given .1))
+returns-2 c = c .with-cell-size .ensures ∙ sym (ap (λ (k : OpeningKind). withOpening k (c .before .before .before .args .s) (c .before .before .before .args .t3)) (c .before .enum-told2 .given .1))
 
 returns-3 : tie.Need-returns-3
-unfolding withOpening
-returns-3 c = c .with-axes .ensures ∙ sym (ap (λ (k : OpeningKind). withOpening k (c .before .before .before .args .p) (c .before .before .before .args .t3)) (c .before .enum-told3 .given .1))
+returns-3 c = c .with-axes .ensures ∙ sym (ap (λ (k : OpeningKind). withOpening k (c .before .before .before .args .s) (c .before .before .before .args .t3)) (c .before .enum-told3 .given .1))
 
 returns-4 : tie.Need-returns-4
-unfolding withOpening
-returns-4 c = c .with-band .ensures ∙ sym (ap (λ (k : OpeningKind). withOpening k (c .before .before .before .args .p) (c .before .before .before .args .t3)) (c .before .enum-told4 .given .1))
+returns-4 c = c .with-band .ensures ∙ sym (ap (λ (k : OpeningKind). withOpening k (c .before .before .before .args .s) (c .before .before .before .args .t3)) (c .before .enum-told4 .given .1))
 
 pub with-opening-spec : {M : Type 1} → statement M
 with-opening-spec =
     tie.close
     (tie.spec
-    enum-told
-    enum-told-2
-    array-read-with-cell-size
+    (λ c. search needs)
+    (λ c. search needs)
+    (λ c. search needs)
     with-cell-size-requires
-    enum-told-3
+    (λ c. search needs)
     with-axes-requires
-    enum-told-4
-    array-read-with-band
+    (λ c. search needs)
+    (λ c. search needs)
     with-band-requires
     returns
     returns-2

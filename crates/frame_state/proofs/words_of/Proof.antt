@@ -6,70 +6,35 @@ use borrow.Author.Needs.{needs}
 use Rattle.frame_state.proofs.words_of.Statement.{statement}
 use Rattle.frame_state.proofs.words_of.Tie as tie
 
-enum-told : tie.Need-enum-told
-enum-told c = search needs
-
-grow-words-requires : tie.Need-grow-words-requires
-grow-words-requires c κs = search needs
-
-enum-told-2 : tie.Need-enum-told-2
-enum-told-2 c = search needs
-
-grow-words-requires-2 : tie.Need-grow-words-requires-2
-grow-words-requires-2 c κs = search needs
-
-enum-told-3 : tie.Need-enum-told-3
-enum-told-3 c = search needs
-
-fill-words-requires : tie.Need-fill-words-requires
-fill-words-requires c κs = search needs
-
-enum-told-4 : tie.Need-enum-told-4
-enum-told-4 c = search needs
-
-fill-words-requires-2 : tie.Need-fill-words-requires-2
-fill-words-requires-2 c κs = search needs
-
-enum-told-5 : tie.Need-enum-told-5
-enum-told-5 c = search needs
-
-local-words-requires : tie.Need-local-words-requires
-local-words-requires c κs = search needs
-
 returns : tie.Need-returns
-unfolding wordsIn
 returns c = c .grow-words .ensures ∙ sym (ap (λ (k : PassKind). wordsIn k (c .before .before .before .args .v)) (c .before .enum-told .given .1))
 
 returns-2 : tie.Need-returns-2
-unfolding wordsIn
 returns-2 c = c .grow-words2 .ensures ∙ sym (ap (λ (k : PassKind). wordsIn k (c .before .before .before .args .v)) (c .before .enum-told2 .given .1))
 
 returns-3 : tie.Need-returns-3
-unfolding wordsIn
 returns-3 c = c .fill-words .ensures ∙ sym (ap (λ (k : PassKind). wordsIn k (c .before .before .before .args .v)) (c .before .enum-told3 .given .1))
 
 returns-4 : tie.Need-returns-4
-unfolding wordsIn
 returns-4 c = c .fill-words2 .ensures ∙ sym (ap (λ (k : PassKind). wordsIn k (c .before .before .before .args .v)) (c .before .enum-told4 .given .1))
 
 returns-5 : tie.Need-returns-5
-unfolding wordsIn
 returns-5 c = c .local-words .ensures ∙ sym (ap (λ (k : PassKind). wordsIn k (c .before .before .before .args .v)) (c .before .enum-told5 .given .1))
 
 pub words-of-spec : {M : Type 1} → statement M
 words-of-spec =
     tie.close
     (tie.spec
-    enum-told
-    grow-words-requires
-    enum-told-2
-    grow-words-requires-2
-    enum-told-3
-    fill-words-requires
-    enum-told-4
-    fill-words-requires-2
-    enum-told-5
-    local-words-requires
+    (λ c. search needs)
+    (λ c κs. search needs)
+    (λ c. search needs)
+    (λ c κs. search needs)
+    (λ c. search needs)
+    (λ c κs. search needs)
+    (λ c. search needs)
+    (λ c κs. search needs)
+    (λ c. search needs)
+    (λ c κs. search needs)
     returns
     returns-2
     returns-3
