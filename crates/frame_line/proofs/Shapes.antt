@@ -10,7 +10,7 @@ use lib.Dec.{eqb}
 use lib.ListN.{getD}
 use Rattle.line_form.specs.Forms.{Number}
 use Rattle.line_form.specs.Held.{heldWhole, held, heldUpTo}
-use Rattle.line_form.proofs.Every.{everyBelow, every-at}
+use Rattle.line_form.proofs.Every.{every-at}
 use Rattle.frame_line.specs.Table.{rowCount, kindAt, formAt}
 use Rattle.frame_line.specs.Lines.{Line, kindOf, Proper, bitsAt, wholeAt}
 use Rattle.frame_line.specs.declared.Kind.{Kind}
@@ -31,16 +31,9 @@ rowOf (Kind.Pass PassKind.BareFill) = 8
 rowOf (Kind.Pass PassKind.Fill) = 9
 rowOf (Kind.Pass PassKind.Local) = 10
 
-ownRow : ℕ → Bool
-ownRow k = eqb k (rowOf (kindAt k))
-
-all-own : everyBelow rowCount ownRow ≡ true
-unfolding ownRow kindAt
-all-own = refl
-
 pub row-of : (k : ℕ) (kind : Kind) → k < rowCount → kindAt k ≡ kind → k ≡ rowOf kind
-unfolding ownRow
-row-of k kind h e = eqb-true k (rowOf (kindAt k)) (every-at ownRow rowCount all-own k h) ∙ ap rowOf e
+unfolding kindAt
+row-of k kind h e = eqb-true k (rowOf (kindAt k)) (every-at (λ j. eqb j (rowOf (kindAt j))) rowCount refl k h) ∙ ap rowOf e
 
 -- a number's word, by its slot
 float-held : (n m : ℕ) {bs : List Bool} {ns : List Number} → OfSlots bs ns → m < n → getD bs m true ≡ true → getD (heldUpTo n ns) m 0 ≡ bitsAt m ns
@@ -63,10 +56,7 @@ integer-held (suc n) zero (whole-first z o) h e = refl
 integer-held (suc n) (suc m) (whole-first z o) h e = integer-held n m o (omega arith) e
 
 module _ (l : Line) (p : Proper l) (kind : Kind) (e : kindOf l ≡ kind) where
-  pub line-is : l ≡ record { row = rowOf kind; numbers = l .numbers }
-  line-is t = record { row = row-of (l .row) kind (p .few) e t; numbers = l .numbers }
-
-  pub kind-slots : OfSlots (slotsOf (formAt (rowOf kind))) (l .numbers)
+  kind-slots : OfSlots (slotsOf (formAt (rowOf kind))) (l .numbers)
   kind-slots = subst (λ (k : ℕ). OfSlots (slotsOf (formAt k)) (l .numbers)) (row-of (l .row) kind (p .few) e) (of-slots (p .suits))
 
   pub bits-held : (m : ℕ) → m < 5 → getD (slotsOf (formAt (rowOf kind))) m true ≡ true → getD (heldUpTo 5 (l .numbers)) m 0 ≡ bitsAt m (l .numbers)

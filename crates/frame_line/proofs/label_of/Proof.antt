@@ -3,10 +3,8 @@ use borrow.Author.Needs.{needs}
 use Rattle.frame_line.proofs.label_of.Statement.{statement}
 use Rattle.frame_line.proofs.label_of.Tie as tie
 
-returns : tie.Need-returns
-returns c = rw (c .before .count-of .ensures, c .cell-of .ensures)
-
 pub label-of-spec : {M : Type 1} → statement M
 label-of-spec =
     tie.close
-    (tie.spec (λ c. search needs) (λ c κs. search needs) (λ c. search needs) (λ c. search needs) (λ c. search needs) (λ c κs. search needs) returns)
+    (tie.spec (λ c. search needs) (λ c κs. search needs) (λ c. search needs) (λ c. search needs) (λ c. search needs) (λ c κs. search needs)
+    (λ c. rw (c .before .count-of .ensures, c .cell-of .ensures)))

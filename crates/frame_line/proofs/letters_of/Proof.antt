@@ -5,23 +5,10 @@ use Rattle.frame_line.proofs.Rows.{letters-are}
 use Rattle.frame_line.proofs.letters_of.Statement.{statement}
 use Rattle.frame_line.proofs.letters_of.Tie as tie
 
-returns : tie.Need-returns
-unfolding rows
-returns c = letters-are (c .args .row) (c .pre)
-
 pub letters-of-spec : {M : Type 1} → statement M
+unfolding rows
 letters-of-spec =
     tie.close
-    (tie.spec
-    (λ c. search needs)
-    (λ c. search needs)
-    (λ c. search needs)
-    (λ c. search needs)
-    (λ c. search needs)
-    (λ c. search needs)
-    (λ c. search needs)
-    (λ c. search needs)
-    (λ c. search needs)
-    (λ c. search needs)
-    (λ c. search needs)
-    returns)
+    (tie.spec (λ c. search needs) (λ c. search needs) (λ c. search needs) (λ c. search needs) (λ c. search needs) (λ c. search needs)
+    (λ c. search needs) (λ c. search needs) (λ c. search needs) (λ c. search needs) (λ c. search needs)
+    (λ c. letters-are (c .args .row) (c .pre)))

@@ -4,39 +4,16 @@ use Rattle.frame_line.specs.Table.{sortOf}
 use Rattle.frame_line.proofs.sort_of.Statement.{statement}
 use Rattle.frame_line.proofs.sort_of.Tie as tie
 
-no-letter : tie.Need-returns-12
-unfolding sortOf
-no-letter c =
-    let r = c .match .rest in
-    let s = r .0 .0 .0 .0 .0 in
-    rw (
-      ne-eqb _ _ (s .0 .0 .0 .0 .0 .1),
-      ne-eqb _ _ (s .0 .0 .0 .0 .1),
-      ne-eqb _ _ (s .0 .0 .0 .1),
-      ne-eqb _ _ (s .0 .0 .1),
-      ne-eqb _ _ (s .0 .1),
-      ne-eqb _ _ (s .1),
-      ne-eqb _ _ (r .0 .0 .0 .0 .1),
-      ne-eqb _ _ (r .0 .0 .0 .1),
-      ne-eqb _ _ (r .0 .0 .1),
-      ne-eqb _ _ (r .0 .1),
-      ne-eqb _ _ (r .1),
-    )
-
 pub sort-of-spec : {M : Type 1} → statement M
 unfolding sortOf
 sort-of-spec =
     tie.close
-    (tie.spec
-    (λ c. rw (c .match .keys1))
-    (λ c. rw (c .match .keys2))
-    (λ c. rw (c .match .keys3))
-    (λ c. rw (c .match .keys4))
-    (λ c. rw (c .match .keys5))
-    (λ c. rw (c .match .keys6))
-    (λ c. rw (c .match .keys7))
-    (λ c. rw (c .match .keys8))
-    (λ c. rw (c .match .keys9))
-    (λ c. rw (c .match .keys10))
-    (λ c. rw (c .match .keys11))
-    no-letter)
+    (tie.spec (λ c. rw (c .match .keys1)) (λ c. rw (c .match .keys2)) (λ c. rw (c .match .keys3)) (λ c. rw (c .match .keys4))
+    (λ c. rw (c .match .keys5)) (λ c. rw (c .match .keys6)) (λ c. rw (c .match .keys7)) (λ c. rw (c .match .keys8))
+    (λ c. rw (c .match .keys9)) (λ c. rw (c .match .keys10)) (λ c. rw (c .match .keys11))
+    (λ c.
+    let r = c .match .rest in
+    let s = r .0 .0 .0 .0 .0 in
+    rw (ne-eqb _ _ (s .0 .0 .0 .0 .0 .1), ne-eqb _ _ (s .0 .0 .0 .0 .1), ne-eqb _ _ (s .0 .0 .0 .1), ne-eqb _ _ (s .0 .0 .1))
+    (rw (ne-eqb _ _ (s .0 .1), ne-eqb _ _ (s .1), ne-eqb _ _ (r .0 .0 .0 .0 .1), ne-eqb _ _ (r .0 .0 .0 .1))
+    (rw (ne-eqb _ _ (r .0 .0 .1), ne-eqb _ _ (r .0 .1), ne-eqb _ _ (r .1))))))
