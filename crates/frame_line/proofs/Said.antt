@@ -1,26 +1,29 @@
 -- What lines of each kind say: the numbers that no check refuses are in their ranges, and a label is held as it is. Assumes nothing.
 use mathlib.Core.Path.{_≡_, refl, sym, ap, ap₂, subst, _∙_}
 use mathlib.Core.Bool.{true, false, true≢false}
-use Prim.Native.Nat.{ℕ, _<_, _≤_, min}
+use mathlib.Core.List.{List, [], _∷_}
+use Prim.Native.Nat.{ℕ, _<_, _≤_}
 use native.Mathlib.Omega.{arith}
-use lib.IntN.{ℤ, pos, natAbs, _-ℤ_}
+use lib.IntN.{ℤ, pos, natAbs}
 use lib.ListN.{getD}
 use Rattle.binary32.specs.declared.ranges.Quantity.{Quantity}
 use Rattle.sheet.specs.Cells.{OnSheet}
-use Rattle.line_form.specs.Held.{heldWhole, heldUpTo}
+use Rattle.line_form.specs.Forms.{Number}
+use Rattle.line_form.specs.Held.{heldWhole, held, heldUpTo}
 use Rattle.line_form.specs.Written.{unheldWhole}
 use Rattle.frame_line.specs.Table.{rows, rowAt, formAt, sortOf, sortAt}
 use Rattle.frame_line.specs.Lines.{Line, kindOf, Proper, bitsAt, wholeAt, Axes, axesLineOf, CornerLine, cornerLineOf, LabelLine, labelLineOf}
 use Rattle.frame_line.specs.Lines.{PassLine, bare-grow, grow, bare-fill, fill, local, passLineOf}
 use Rattle.frame_line.specs.Checks.{wildBits, wildWhole, outsideLine}
-use Rattle.frame_line.specs.Held.{heldLine, countIn, labelIn, beyond, outsideWord, outsideHeld}
+use Rattle.frame_line.specs.Held.{heldLine, labelIn, beyond, outsideWord, outsideHeld}
 use Rattle.frame_line.specs.declared.Kind.{Kind}
 use Rattle.frame_line.specs.declared.OpeningKind.{OpeningKind}
 use Rattle.frame_line.specs.declared.PassKind.{PassKind}
 use Rattle.frame_line.specs.declared.Sort.{Sort}
+use Rattle.frame_line.specs.declared.HeldLine.{HeldLine}
 use Rattle.frame_line.specs.declared.HeldLabel.{HeldLabel}
-use Rattle.frame_line.proofs.Numbers.{slotsOf, beyond-is, outside-is, outside-held}
-use Rattle.frame_line.proofs.Shapes.{rowOf, row-of, bits-held, whole-held}
+use Rattle.frame_line.proofs.Numbers.{slotsOf, OfSlots, no-number, whole-first, beyond-is, outside-is, outside-held}
+use Rattle.frame_line.proofs.Shapes.{rowOf, row-of, kind-slots, bits-held, whole-held}
 use Rattle.frame_line.proofs.Words.{fine-word, word-tame, count-exact, side-exact, side-word, corner-word, label-on, label-known}
 
 -- ---- what a line says that is in range
@@ -119,42 +122,26 @@ pub record LabelHeld (n : ℕ) (l : LabelLine) (h : HeldLabel) : Type 0 where
 
 pub label-exact : (n : ℕ) (l : Line) → Proper l → kindOf l ≡ Kind.Label → n ≤ 1024 → outsideLine 4 n l ≡ false → outsideLine 5 n l ≡ false
     → LabelHeld n (labelLineOf (l .numbers)) (labelIn (heldUpTo 5 (l .numbers)))
-unfolding sortAt sortOf slotsOf formAt rowAt rows
+unfolding slotsOf formAt sortAt sortOf rowAt rows heldUpTo held wholeAt
 label-exact n l p e few off stranger =
-    record {
-      on-sheet = subst OnSheet (ap (λ (x : HeldLabel). x .cell) so) (label-on n (heldLine l) row 4-fine);
-      is-corner = first ∙ ap pos (sym (ap natAbs first));
-      given = subst (λ (k : ℕ). k < n) (ap (λ (x : HeldLabel). x .corner) so) (label-known n (heldLine l) row 5-fine);
-      held-so = so;
-    }
+    go (kind-slots l p Kind.Label e) (at-row 4 (outside-held 4 n l few p ∙ off)) (at-row 5 (outside-held 5 n l few p ∙ stranger))
   where
-    row : l .row ≡ rowOf Kind.Label
-    row = row-of (l .row) Kind.Label (p .few) e
+    at-row : (r : ℕ) → outsideHeld r n (heldLine l) ≡ false → outsideHeld r n (record { row = 5; values = heldUpTo 5 (l .numbers) }) ≡ false
+    at-row r f = sym (ap (λ (k : ℕ). outsideHeld r n (record { row = k; values = heldUpTo 5 (l .numbers) })) (row-of (l .row) Kind.Label (p .few) e)) ∙ f
 
-    4-fine : outsideHeld 4 n (heldLine l) ≡ false
-    4-fine = outside-held 4 n l few p ∙ off
-
-    5-fine : outsideHeld 5 n (heldLine l) ≡ false
-    5-fine = outside-held 5 n l few p ∙ stranger
-
-    word : (m : ℕ) → m < 5 → getD (slotsOf (formAt 5)) m true ≡ false → getD (heldUpTo 5 (l .numbers)) m 0 ≡ heldWhole (wholeAt m (l .numbers))
-    word m h s = whole-held l p Kind.Label e m h s
-
-    first : wholeAt 0 (l .numbers) ≡ pos (countIn (heldWhole (wholeAt 0 (l .numbers))))
-    first =
-        let w = word 0 (omega arith) refl in
-        let b = corner-word n (heldLine l) row 5-fine in
-        count-exact (wholeAt 0 (l .numbers)) (omega arith) (omega arith)
-
-    side : (m : ℕ) → m < 5 → sortAt 5 m ≡ Sort.Whole 4 999936 1000063 → getD (slotsOf (formAt 5)) m true ≡ false
-        → pos (min 2000000 (getD (heldUpTo 5 (l .numbers)) m 0)) -ℤ pos 1000000 ≡ wholeAt m (l .numbers)
-    side m h is s =
-        let w = word m h s in
-        let b = side-word n (heldLine l) row m h is 4-fine in
-        ap (λ (x : ℕ). pos (min 2000000 x) -ℤ pos 1000000) w ∙ side-exact (wholeAt m (l .numbers)) (omega arith) (omega arith)
-
-    so : labelIn (heldUpTo 5 (l .numbers)) ≡ record { corner = natAbs (wholeAt 0 (l .numbers)); cell = labelLineOf (l .numbers) .cell }
-    so t = record {
-      corner = (ap countIn (word 0 (omega arith) refl) ∙ sym (ap natAbs first)) t;
-      cell = record { i = side 1 (omega arith) refl refl t; j = side 2 (omega arith) refl refl t };
-    }
+    go : {ns : List Number} → OfSlots (false ∷ false ∷ false ∷ []) ns → outsideHeld 4 n (record { row = 5; values = heldUpTo 5 ns }) ≡ false
+        → outsideHeld 5 n (record { row = 5; values = heldUpTo 5 ns }) ≡ false → LabelHeld n (labelLineOf ns) (labelIn (heldUpTo 5 ns))
+    go (whole-first a (whole-first b (whole-first c no-number))) f g =
+        let line : HeldLine = record { row = 5; values = heldWhole a ∷ heldWhole b ∷ heldWhole c ∷ 0 ∷ 0 ∷ [] } in
+        let i = side-word n line refl 1 (omega arith) refl f in
+        let j = side-word n line refl 2 (omega arith) refl f in
+        let k = corner-word n line refl g in
+        let is = count-exact a (k .0) (omega arith) in
+        let so : labelIn (line .values) ≡ record { corner = natAbs a; cell = record { i = b; j = c } } =
+        λ t. record { corner = sym (ap natAbs is) t; cell = record { i = side-exact b (omega arith) (omega arith) t; j = side-exact c (omega arith) (omega arith) t } } in
+        record {
+          on-sheet = subst OnSheet (ap (λ (x : HeldLabel). x .cell) so) (label-on n line refl f);
+          is-corner = is ∙ ap pos (sym (ap natAbs is));
+          given = subst (λ (m : ℕ). m < n) (ap (λ (x : HeldLabel). x .corner) so) (label-known n line refl g);
+          held-so = so;
+        }
