@@ -1,22 +1,19 @@
 -- Laws of the checks in order: what is fine, checks that say the same, and a label that can be written. Assumes nothing.
-use mathlib.Core.Path.{_≡_, refl, sym, ap, subst, _∙_}
-use mathlib.Core.Bool.{Bool, true, false, not, _||_}
-use mathlib.Core.List.{List}
+use mathlib.Core.Path.{_≡_, refl, ap}
+use mathlib.Core.Bool.{Bool, true, false}
 use Prim.Native.Nat.{ℕ}
 use native.Mathlib.Omega.{arith}
-use borrow.Author.Tests.{eq-eqb, ne-eqb}
-use lib.ListN.{getD}
 use Rattle.refusal.specs.declared.Refusal.{Refusal}
 use Rattle.arguments.specs.Arguments.{refusedIf}
 use Rattle.arguments.specs.declared.Checked.{Checked}
 use Rattle.arguments.proofs.Chains.{not-refused}
 use Rattle.frame_line.specs.Table.{kindAt}
-use Rattle.frame_line.specs.Held.{labelIn, outsideHeld}
+use Rattle.frame_line.specs.Held.{labelIn}
 use Rattle.frame_line.specs.declared.Kind.{Kind}
 use Rattle.frame_line.specs.declared.HeldLine.{HeldLine}
-use Rattle.frame_line.proofs.Shapes.{rowOf, row-of}
+use Rattle.frame_line.proofs.Shapes.{row-of}
 use Rattle.frame_line.proofs.Words.{label-on, label-known}
-use Rattle.frame_check.specs.Checks.{checksInOrder, isSet, LabelFits, NumbersFine}
+use Rattle.frame_check.specs.Checks.{checksInOrder, LabelFits, NumbersFine}
 
 -- what all checks found of a line that is fine
 pub record AllFine (outside : ℕ → Bool) (over twice : Bool) : Type 0 where
@@ -67,20 +64,3 @@ pub label-fits : (n : ℕ) (line : HeldLine) → NumbersFine n line → kindAt (
 label-fits n line f e =
     let is = row-of (line .row) Kind.Label (f .fits .row-fits) e in
     record { on = label-on n line is (f .on); entry = omega (arith, label-known n line is (f .known), f .fits .few) }
-
-module _ (entries : List ℕ) (p k : ℕ) (e : p ≡ k) where
-  pub is-set : (getD entries p 0 ≡ 0 → ⊥) → isSet entries k ≡ true
-  is-set h = ap (λ (n : ℕ). isSet entries n) (sym e) ∙ ap not (ne-eqb (getD entries p 0) 0 h)
-
-  pub not-set : getD entries p 0 ≡ 0 → isSet entries k ≡ false
-  not-set h = ap (λ (n : ℕ). isSet entries n) (sym e) ∙ ap not (eq-eqb (getD entries p 0) 0 h)
-
-pub first-of : (a b : Bool) → a ≡ true → (a || b) ≡ true
-first-of a b e = rw e
-
-pub second-of : (a b t : Bool) → a ≡ false → b ≡ t → (a || b) ≡ t
-second-of a b t e f = rw e f
-
--- what a function says of the kind that was told
-pub by-kind : {A : Type 0} (f : Kind → A) {told own its : Kind} → told ≡ own → told ≡ its → f its ≡ f own
-by-kind f e g = ap f (sym g ∙ e)

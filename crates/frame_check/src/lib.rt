@@ -7,7 +7,7 @@ use arguments::Checked;
 use frame_line::HeldLabel;
 use frame_line::HeldLine;
 use frame_line::Kind;
-use frame_line::some_outside;
+use frame_line::has_refusal;
 use refusal::Refusal;
 
 // 2: whether there are as many corners or passes already as there may be.
@@ -66,19 +66,20 @@ pub fn check_line(
     ensures { λ r. ⌜ r ≡ checkedHeld corners passes (now (sheet .entry)) (now (used .entry)) line ⌝ }
 {
     let given = corners as u32;
-    if some_outside(1, given, line) {
+    let found = frame_line::refusals_of(given, line);
+    if has_refusal(found, 1) {
         return Checked::Refused(Refusal::Malformed);
     }
     if over_limit(corners, passes, line.row) {
         return Checked::Refused(Refusal::OverLimit);
     }
-    if some_outside(3, given, line) {
+    if has_refusal(found, 3) {
         return Checked::Refused(Refusal::OutOfRange);
     }
-    if some_outside(4, given, line) {
+    if has_refusal(found, 4) {
         return Checked::Refused(Refusal::OffSheet);
     }
-    if some_outside(5, given, line) {
+    if has_refusal(found, 5) {
         return Checked::Refused(Refusal::UnknownCorner);
     }
     if is_twice(corners, sheet, used, line) {

@@ -1,38 +1,34 @@
--- The checks of a line's numbers, and the turns of the order of lines. Assumes nothing.
-use mathlib.Core.Path.{_≡_, refl, sym, ap, subst, _∙_}
-use mathlib.Core.Bool.{Bool, true, false, not, _&&_, _||_, true≢false, cond}
-use mathlib.Core.List.{List, [], _∷_}
-use Prim.Native.Nat.{ℕ, suc, _+_, _-_, _%_, _<_, _≤_}
+-- The turns of the order of lines, patterns that are not finite, and the refusals of a line's numbers. Assumes nothing.
+use mathlib.Core.Path.{_≡_, refl, sym, ap, ap₂, subst, _∙_}
+use mathlib.Core.Bool.{Bool, true, false, not, _&&_, _||_, true≢false, and-true, and-false, cond}
+use mathlib.Core.List.{List, []}
+use Prim.Native.Nat.{ℕ, _%_, _<_, _≤_}
 use native.Mathlib.Omega.{arith}
-use borrow.Author.Tests.{eq-eqb, ne-eqb, lt-ltb, le-ltb, leb-true, leb-false}
-use lib.Dec.{eqb, ltb, leb}
-use lib.ListN.{length, getD, take, length-take, List·getD-eq-default}
-use lib.Seq.{getD-take}
+use borrow.Author.Tests.{ne-eqb, leb-true, leb-false}
+use lib.Dec.{eqb, leb}
+use lib.ListN.{getD, take, length-take, List·getD-eq-default}
 use lib.Ieee.{binary32, ofBits}
+use Rattle.labels.specs.Labelled.{anyBelow}
 use Rattle.arguments.specs.Arguments.{outside}
 use Rattle.binary32.specs.Ranges.{inRange}
 use Rattle.binary32.specs.declared.ranges.Quantity.{Quantity}
 use Rattle.binary32.proofs.Finite.{infinite-bits, in-range-finite}
-use Rattle.frame_line.specs.Table.{rows, rowCount, stageCount, rowAt, turnBy, turnAt, sorts, sortOf}
-use Rattle.frame_line.specs.Checks.{wildBits}
-use Rattle.frame_line.specs.Held.{beyond}
+use Rattle.frame_line.specs.Table.{rows, rowCount, stageCount, rowAt, turnBy, turnAt, sortOf, sortAt}
+use Rattle.frame_line.specs.Checks.{wildBits, refusalOf}
+use Rattle.frame_line.specs.Held.{wildWord, outsideWord, outsideAt, outsideHeld, refusalIn, refusalAt, refusalsIn, isRefusal}
+use Rattle.frame_line.specs.declared.HeldLine.{HeldLine}
 use Rattle.frame_line.specs.declared.Sort.{Sort}
 use Rattle.frame_line.specs.declared.Turn.{Turn}
-use Rattle.frame_line.proofs.Rows.{rows-long}
+use Rattle.frame_line.proofs.Rows.{rows-long, letter-is}
 
--- ---- a number with its refusal
+pub no-row : (stage k : ℕ) → rowCount ≤ k → Turn.No ≡ turnAt stage k
+unfolding turnAt rowAt
+no-row stage k h =
+    ap (λ (r : List ℕ). turnBy (getD (take stageCount r) stage 46)) (sym (List·getD-eq-default rows [] {n = k} (subst (λ (n : ℕ). n ≤ k) (sym rows-long) h)))
 
-pub own : (a b : ℕ) (r t : Bool) → a ≡ b → r ≡ t → r ≡ (eqb a b && t)
-own a b r t e f = rw (eq-eqb a b e) f
-
-pub other : (a b : ℕ) (t : Bool) → (a ≡ b → ⊥) → false ≡ (eqb a b && t)
-other a b t h = rw (ne-eqb a b h)
-
-pub below-low : (low high w : ℕ) → w < low → true ≡ beyond low high w
-below-low low high w h = rw (lt-ltb w low h)
-
-pub not-below : (low high w : ℕ) → low ≤ w → ltb high w ≡ beyond low high w
-not-below low high w h = rw (le-ltb w low h)
+pub no-stage : (stage k : ℕ) → stageCount ≤ stage → Turn.No ≡ turnAt stage k
+unfolding turnAt
+no-stage stage k h = ap turnBy (sym (List·getD-eq-default (take stageCount (rowAt k)) 46 {n = stage} (simp length-take (omega arith))))
 
 -- what is not finite is in no range
 pub wild-infinite : (q : Quantity) (b : ℕ) → 0x7f80_0000 ≤ b % 0x8000_0000 → wildBits q b ≡ true
@@ -43,46 +39,31 @@ wild-infinite q b h = go (inRange q (ofBits binary32 b)) refl
     go true e = absurd (true≢false (sym (in-range-finite q (ofBits binary32 b) e) ∙ infinite-bits b h))
     go false e = refl
 
--- ---- letters
-
-pub no-letter : (l : ℕ) → l < 97 → Sort.Nothing ≡ sortOf l
-unfolding sortOf
-no-letter l h = rw (lt-ltb l 97 h)
-
-pub past-letters : (l : ℕ) → 122 < l → Sort.Nothing ≡ sortOf l
-unfolding sortOf
-past-letters l h = rw (le-ltb l 97 (omega arith), List·getD-eq-default sorts Sort.Nothing {n = l - 97} (omega arith))
-
-pub a-letter : (l : ℕ) → 97 ≤ l → getD sorts (l - 97) Sort.Nothing ≡ sortOf l
-unfolding sortOf
-a-letter l h = rw (le-ltb l 97 h)
-
--- ---- turns
-
-pub no-row : (stage k : ℕ) → rowCount ≤ k → Turn.No ≡ turnAt stage k
-unfolding turnAt rowAt
-no-row stage k h = ap (λ (r : List ℕ). turnBy (getD (take stageCount r) stage 46)) (sym (List·getD-eq-default rows [] {n = k} (subst (λ (n : ℕ). n ≤ k) (sym rows-long) h)))
-
-pub no-stage : (stage k : ℕ) → stageCount ≤ stage → Turn.No ≡ turnAt stage k
-unfolding turnAt
-no-stage stage k h = ap turnBy (sym (List·getD-eq-default (take stageCount (rowAt k)) 46 {n = stage} (simp length-take (omega arith))))
-
-module _ (stage k b : ℕ) (inside : stage < stageCount) (is : b ≡ getD (rowAt k) stage 46) where
-  e : b ≡ getD (take stageCount (rowAt k)) stage 46
-  e = is ∙ sym (getD-take stageCount (rowAt k) stage 46 inside)
-
-  pub no-turn : b < 48 → Turn.No ≡ turnAt stage k
-  unfolding turnAt
-  no-turn h = rw (lt-ltb b 48 h) at (ap turnBy e)
-
-  pub a-turn : 48 ≤ b → Turn.To (b - 48) ≡ turnAt stage k
-  unfolding turnAt
-  a-turn h = rw (le-ltb b 48 h) at (ap turnBy e)
-
--- a pattern in a range is finite
+-- so a pattern in a range is finite
 pub tame-finite : (q : Quantity) (b : ℕ) → wildBits q b ≡ false → b % 0x8000_0000 < 0x7f80_0000
 tame-finite q b e = go (leb 0x7f80_0000 (b % 0x8000_0000)) refl
   where
     go : (t : Bool) → leb 0x7f80_0000 (b % 0x8000_0000) ≡ t → b % 0x8000_0000 < 0x7f80_0000
     go true f = absurd (true≢false (sym (wild-infinite q b (leb-true 0x7f80_0000 (b % 0x8000_0000) f)) ∙ e))
     go false f = leb-false 0x7f80_0000 (b % 0x8000_0000) f
+
+-- ---- the refusals of a line's numbers
+
+refusal-is : (n : ℕ) (s : Sort) (w r : ℕ) → 0 < r → eqb r (refusalIn n s w) ≡ outsideWord r n s w
+unfolding refusalIn outsideWord
+refusal-is n s w r h = go (wildWord n s w)
+  where
+    go : (t : Bool) → eqb r (cond t (refusalOf s) 0) ≡ (eqb r (refusalOf s) && t)
+    go true = sym (and-true (eqb r (refusalOf s)))
+    go false = ne-eqb r 0 (λ e. omega arith) ∙ sym (and-false (eqb r (refusalOf s)))
+
+-- a refusal is found exactly if a number has it
+pub has-is : (n : ℕ) (l : HeldLine) {found : List ℕ} {r : ℕ} {b : Bool} → l .row < rowCount → 0 < r → found ≡ refusalsIn n l → b ≡ anyBelow 5 (isRefusal found r)
+    → b ≡ outsideHeld r n l
+unfolding refusalsIn outsideHeld anyBelow sortAt
+has-is n l {r = r} fits h e f =
+    f ∙ ap (λ (x : List ℕ). anyBelow 5 (isRefusal x r)) e
+    ∙ ap₂ _||_ (one 4 (omega arith)) (ap₂ _||_ (one 3 (omega arith)) (ap₂ _||_ (one 2 (omega arith)) (ap₂ _||_ (one 1 (omega arith)) (ap₂ _||_ (one 0 (omega arith)) refl))))
+  where
+    one : (m : ℕ) → m < 5 → eqb r (refusalAt n l m) ≡ outsideAt r n l m
+    one m few = refusal-is n _ (getD (l .values) m 0) r h ∙ ap (λ (b : ℕ). outsideWord r n (sortOf b) (getD (l .values) m 0)) (letter-is (l .row) fits m few)

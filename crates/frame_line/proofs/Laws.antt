@@ -1,86 +1,90 @@
 -- Laws of a line by the table: a line that is printed is read back, and a line that was read is what would be printed of it. Proved once, over
 -- the rules of the rows. Assumes nothing.
 use mathlib.Core.Path.{_≡_, refl, sym, ap, _∙_, subst}
-use mathlib.Core.Bool.{Bool, true, false, _||_, true≢false, cond}
-use mathlib.Core.List.{List, [], _∷_}
+use mathlib.Core.Bool.{Bool, true, false, true≢false}
+use mathlib.Core.List.{List, []}
 use Prim.Native.Nat.{ℕ, zero, suc, _+_, _<_, _≤_}
+use native.Mathlib.Numerals.{add-one}
 use native.Mathlib.Omega.{arith}
-use native.Mathlib.Nat.{not-suc-le-zero, zero-add}
-use borrow.Author.Tests.{eqb-true, eq-eqb}
-use lib.Dec.{eqb}
-use lib.ListN.{length, getD, drop}
+use lib.ListN.{drop}
 use lib.Seq.{drop-cons}
-use Rattle.line_form.specs.Forms.{Number, isSlot, printed, pieceOf, bytePiece, Fitted, misfit, fitted, fitOf, PrintsBack}
+use Rattle.line_form.specs.Forms.{Number, Fitted, misfit, fitted, fitOf, PrintsBack}
+use Rattle.line_form.specs.Held.{heldFit}
+use Rattle.line_form.specs.declared.read.LineFit.{LineFit}
 use Rattle.line_form.proofs.Laws.{reads-back, prints-back}
-use Rattle.frame_line.specs.Table.{rows, rowCount, rowAt, formAt, formFrom}
-use Rattle.frame_line.specs.Lines.{Line, Proper, lineText, LineRead, ill-formed, line, orElse, firstFit, readLine, LineReadsBack, LinePrintsBack}
 use Rattle.line_form.proofs.Told.{told-misfits}
+use Rattle.frame_line.specs.Table.{rows, rowCount, rowAt, formAt}
+use Rattle.frame_line.specs.Lines.{Line, lineText, LineRead, ill-formed, line, orElse, firstFit, readLine, LineReadsBack, LinePrintsBack}
+use Rattle.frame_line.specs.Held.{heldRead}
 use Rattle.frame_line.proofs.Rows.{rows-long, apart-at, told-at}
 
--- ---- the rows in order
+-- ---- the rows in order: those from the one reached on give what all rows give
 
--- the first j rows do not fit
-skips : (rs : List (List ℕ)) (k j : ℕ) (text : List ℕ) → j ≤ length rs → ((i : ℕ) → i < j → fitOf (drop formFrom (getD rs i [])) text ≡ misfit)
-    → firstFit k rs text ≡ firstFit (k + j) (drop j rs) text
-unfolding firstFit
-skips rs k zero text h none = ap (λ (n : ℕ). firstFit n rs text) (omega arith)
-skips [] k (suc j) text h none = absurd (not-suc-le-zero h)
-skips (r ∷ rs) k (suc j) text h none =
-    ap (λ (f : Fitted). orElse k f (firstFit (suc k) rs text)) (none 0 (omega arith))
-    ∙ skips rs (suc k) j text (omega arith) (λ i l. none (suc i) (omega arith))
-    ∙ ap (λ (n : ℕ). firstFit n (drop j rs) text) (omega arith)
+pub record Looking (text : List ℕ) (k : ℕ) : Type 0 where
+  pub upto : k ≤ rowCount
+  pub rest : firstFit k (drop k rows) text ≡ readLine text
 
-pub own-fits : (k : ℕ) (r : List ℕ) (rs : List (List ℕ)) (text : List ℕ) (ns : List Number) → fitOf (drop formFrom r) text ≡ fitted ns
-    → firstFit k (r ∷ rs) text ≡ line (record { row = k; numbers = ns })
-unfolding firstFit
-own-fits k r rs text ns e = ap (λ (f : Fitted). orElse k f (firstFit (suc k) rs text)) e
+pub looking-start : (text : List ℕ) → Looking text 0
+unfolding readLine
+looking-start text = record { upto = omega arith; rest = refl }
 
-pub row-first : (k : ℕ) → k < rowCount → drop k rows ≡ rowAt k ∷ drop (suc k) rows
-unfolding rowAt
-row-first k h = drop-cons rows k [] (subst (λ (n : ℕ). k < n) (sym rows-long) h)
+module _ {text : List ℕ} {k : ℕ} (g : Looking text k) where
+  pub looking-end : rowCount ≤ k → readLine text ≡ ill-formed
+  unfolding rows firstFit
+  looking-end h = sym (g .rest) ∙ ap (λ (n : ℕ). firstFit n (drop n rows) text) (let e : k ≡ rowCount = omega arith in e)
+
+  module _ (h : k < rowCount) where
+    -- the row reached, tried
+    turn : readLine text ≡ orElse k (fitOf (formAt k) text) (firstFit (suc k) (drop (suc k) rows) text)
+    unfolding firstFit formAt rowAt
+    turn = sym (g .rest) ∙ ap (λ (rs : List (List ℕ)). firstFit k rs text) (drop-cons rows k [] (subst (λ (n : ℕ). k < n) (sym rows-long) h))
+
+    pub looking-hit : {ns : List Number} → fitOf (formAt k) text ≡ fitted ns → readLine text ≡ line (record { row = k; numbers = ns })
+    looking-hit e = rw e at turn
+
+    pub looking-more : fitOf (formAt k) text ≡ misfit → Looking text (k + 1)
+    looking-more e = record { upto = omega arith; rest = rw add-one (sym (rw e at turn)) }
+
+    module _ (f : LineFit) (is : f ≡ heldFit (fitOf (formAt k) text)) where
+      pub held-hit : f .found ≡ true → record { row = k; values = f .values } ≡ heldRead (readLine text)
+      unfolding heldFit heldRead
+      held-hit t = go (fitOf (formAt k) text) refl
+        where
+          go : (it : Fitted) → fitOf (formAt k) text ≡ it → record { row = k; values = f .values } ≡ heldRead (readLine text)
+          go misfit p = absurd (true≢false (sym t ∙ ap (λ (x : LineFit). x .found) (is ∙ ap heldFit p)))
+          go (fitted ns) p = rw (is ∙ ap heldFit p, looking-hit p)
+
+      pub held-more : f .found ≡ false → Looking text (k + 1)
+      unfolding heldFit
+      held-more t = go (fitOf (formAt k) text) refl
+        where
+          go : (it : Fitted) → fitOf (formAt k) text ≡ it → Looking text (k + 1)
+          go misfit p = looking-more p
+          go (fitted ns) p = absurd (true≢false (sym (ap (λ (x : LineFit). x .found) (is ∙ ap heldFit p)) ∙ t))
 
 -- ---- the laws
 
 pub line-reads-back : LineReadsBack
-unfolding lineText readLine formAt rowAt
-line-reads-back l p =
-    let k = l .row in
-    let ns = l .numbers in
-    let text = printed (formAt k) ns in
-    skips rows 0 k text (subst (λ (n : ℕ). k ≤ n) (sym rows-long) (omega (arith, p .few)))
-    (λ i h. told-misfits (formAt i) (formAt k) ns (told-at k i (p .few) h))
-    ∙ ap (λ (n : ℕ). firstFit n (drop k rows) text) (zero-add k)
-    ∙ ap (λ (rs : List (List ℕ)). firstFit k rs text) (row-first k (p .few))
-    ∙ own-fits k (rowAt k) (drop (suc k) rows) text ns (reads-back (formAt k) ns (apart-at k (p .few)) (p .suits))
-
--- a line that was read: its row is the i-th of those tried, and the text has its form
-record Found (k : ℕ) (rs : List (List ℕ)) (text : List ℕ) (l : Line) : Type 0 where
-  i : ℕ
-  few : i < length rs
-  row-is : l .row ≡ k + i
-  fits : fitOf (drop formFrom (getD rs i [])) text ≡ fitted (l .numbers)
-
-found : (k : ℕ) (rs : List (List ℕ)) (text : List ℕ) (l : Line) → firstFit k rs text ≡ line l → Found k rs text l
-unfolding firstFit
-found k [] text l e = absurd (let z : _≡_ {A = ℕ} 0 1 = cc in omega arith)
-found k (r ∷ rs) text l e = go (fitOf (drop formFrom r) text) refl (λ h. found (suc k) rs text l h) e
+unfolding lineText
+line-reads-back l p = looking-hit (reached (l .row) (omega arith)) (p .few) (reads-back (formAt (l .row)) (l .numbers) (apart-at (l .row) (p .few)) (p .suits))
   where
-    go : (f : Fitted) → fitOf (drop formFrom r) text ≡ f → (firstFit (suc k) rs text ≡ line l → Found (suc k) rs text l)
-        → orElse k f (firstFit (suc k) rs text) ≡ line l → Found k (r ∷ rs) text l
-    go misfit p ih h = let w = ih h in record { i = suc (w .i); few = omega (arith, w .few); row-is = omega (arith, w .row-is); fits = w .fits }
-    go (fitted ns) p ih h =
-        let same : record { row = k; numbers = ns } ≡ l = cc in
-        record {
-          i = 0;
-          few = omega arith;
-          row-is = sym (ap (λ (m : Line). m .row) same) ∙ omega arith;
-          fits = p ∙ ap (λ (m : Line). fitted (m .numbers)) same;
-        }
+    reached : (i : ℕ) → i ≤ l .row → Looking (lineText l) i
+    reached zero h = looking-start (lineText l)
+    reached (suc i) h =
+        rw add-one at (looking-more (reached i (omega arith)) (omega (arith, p .few)) (told-misfits (formAt i) (formAt (l .row)) (l .numbers) (told-at (l .row) (p .few) i h)))
 
 pub line-prints-back : (text : List ℕ) (l : Line) → readLine text ≡ line l → LinePrintsBack text l
-unfolding readLine lineText formAt rowAt
-line-prints-back text l e =
-    let w = found 0 rows text l e in
-    let at : w .i ≡ l .row = omega (arith, w .row-is) in
-    let p : PrintsBack (formAt (l .row)) text (l .numbers) = prints-back (formAt (l .row)) text (l .numbers) (subst (λ (k : ℕ). fitOf (formAt k) text ≡ fitted (l .numbers)) at (w .fits)) in
-    record { text-again = p .line-again; proper = record { few = omega (arith, w .few, rows-long, at); suits = p .suits } }
+unfolding lineText
+line-prints-back text l e = from rowCount 0 refl (looking-start text)
+  where
+    from : (n k : ℕ) → k + n ≡ rowCount → Looking text k → LinePrintsBack text l
+    from zero k s g = absurd (let i = looking-end g (omega arith) in let z : _≡_ {A = ℕ} 0 1 = cc in omega arith)
+    from (suc n) k s g = go (fitOf (formAt k) text) refl (λ t. from n (k + 1) (omega arith) t)
+      where
+        go : (f : Fitted) → fitOf (formAt k) text ≡ f → (Looking text (k + 1) → LinePrintsBack text l) → LinePrintsBack text l
+        go misfit p later = later (looking-more g (omega arith) p)
+        go (fitted ns) p later =
+            let i = looking-hit g (omega arith) p in
+            let same : record { row = k; numbers = ns } ≡ l = cc in
+            let b = prints-back (formAt k) text ns p in
+            subst (LinePrintsBack text) same (record { text-again = b .line-again; proper = record { few = omega arith; suits = b .suits } })

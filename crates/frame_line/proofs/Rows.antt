@@ -1,108 +1,92 @@
--- The rules of the table, each by one test that antt computes over all rows: the code's text holds the rows, the numbers of a form are apart,
--- and no two forms can be taken for each other. Assumes nothing.
-use mathlib.Core.Path.{_≡_, refl, sym, ap, subst, _∙_}
-use mathlib.Core.Bool.{Bool, true, false, _||_, cond}
+-- The rules of the table, each by one test that antt computes over all rows: the code's columns hold the rows, the numbers of a form are
+-- apart, and no two forms can be taken for each other. Assumes nothing.
+use mathlib.Core.Path.{_≡_, refl, subst}
+use mathlib.Core.Bool.{Bool, true, false}
 use mathlib.Core.List.{List, [], _∷_, _++_}
-use Prim.Native.Nat.{ℕ, _+_, _-_, _<_, _≤_}
-use native.Mathlib.Omega.{arith}
+use Prim.Native.Nat.{ℕ, _+_, _-_, _*_, _<_, _≤_}
 use borrow.Author.Tests.{eqb-true, leb-true}
 use lib.Dec.{eqb, leb}
 use lib.ListN.{length, getD, take, drop}
-use Rattle.line_form.specs.Forms.{isSlot, apart}
-use Rattle.line_form.proofs.Told.{told}
-use Rattle.frame_line.specs.Table.{rows, rowCount, rowAt, formAt, formFrom}
-use Rattle.line_form.proofs.Every.{first-true, second-true, everyBelow, every-at, sameList, same-list}
+use Rattle.line_form.specs.Forms.{isSlot, misfit, fitOf, secondIs, apart}
+use Rattle.line_form.proofs.Told.{told, plainTwo, second-misfits}
+use Rattle.line_form.proofs.Every.{everyBelow, every-at, sameList, same-list}
+use Rattle.frame_line.specs.Table.{rows, rowCount, stageCount, lettersFrom, formFrom, rowAt, formAt, lettersAt}
 
--- ---- the code's text
+-- ---- the code's columns
 
-abbrev pub joined : List (List ℕ) → List ℕ
-joined [] = []
-joined (r ∷ rs) = r ++ joined rs
+abbrev column : (List ℕ → List ℕ) → List (List ℕ) → List ℕ
+column f [] = []
+column f (r ∷ rs) = f r ++ column f rs
 
-abbrev pub text : List ℕ
-text = joined rows
+abbrev pub fronts : List ℕ
+fronts = column (take formFrom) rows
 
-abbrev pub startsFrom : ℕ → List (List ℕ) → List ℕ
+abbrev pub forms : List ℕ
+forms = column (drop formFrom) rows
+
+abbrev startsFrom : ℕ → List (List ℕ) → List ℕ
 startsFrom n [] = n ∷ []
-startsFrom n (r ∷ rs) = n ∷ startsFrom (n + length r) rs
-
-abbrev pub starts : List ℕ
-starts = startsFrom 0 rows
+startsFrom n (r ∷ rs) = n ∷ startsFrom (n + (length r - formFrom)) rs
 
 abbrev pub start : ℕ → ℕ
-start k = getD starts k 0
+start k = getD (startsFrom 0 rows) k 0
 
-pub record Room (k : ℕ) : Type 0 where
-  pub ordered : start k + formFrom ≤ start (k + 1)
-  pub inside : start (k + 1) ≤ length text
+module _ (k : ℕ) (h : k < rowCount) where
+  at : (f : ℕ → Bool) → everyBelow rowCount f ≡ true → f k ≡ true
+  at f e = every-at f rowCount e k h
 
-roomy : ℕ → Bool
-roomy k = cond (leb (start k + formFrom) (start (k + 1))) (leb (start (k + 1)) (length text)) false
+  pub ordered : start k + 2 ≤ start (k + 1)
+  unfolding rows
+  ordered = leb-true (start k + 2) (start (k + 1)) (at (λ j. leb (start j + 2) (start (j + 1))) refl)
 
-all-roomy : everyBelow rowCount roomy ≡ true
-unfolding roomy rows
-all-roomy = refl
+  pub inside : start (k + 1) ≤ length forms
+  unfolding rows
+  inside = leb-true (start (k + 1)) (length forms) (at (λ j. leb (start (j + 1)) (length forms)) refl)
 
-pub room : (k : ℕ) → k < rowCount → Room k
-unfolding roomy
-room k h =
-    let e = every-at roomy rowCount all-roomy k h in
-    record {
-      ordered = leb-true (start k + formFrom) (start (k + 1)) (first-true (leb (start k + formFrom) (start (k + 1))) (leb (start (k + 1)) (length text)) e);
-      inside = leb-true (start (k + 1)) (length text) (second-true (leb (start k + formFrom) (start (k + 1))) (leb (start (k + 1)) (length text)) e);
-    }
+  pub form-is : take (start (k + 1) - start k) (drop (start k) forms) ≡ formAt k
+  unfolding formAt rowAt rows
+  form-is = same-list _ (formAt k) (at (λ j. sameList (take (start (j + 1) - start j) (drop (start j) forms)) (formAt j)) refl)
 
-sameByte : ℕ → ℕ → Bool
-sameByte k i = eqb (getD text (start k + i) 0) (getD (rowAt k) i 46)
+  -- a line whose second byte is not that of the form
+  pub second-other : (line : List ℕ) → secondIs (getD forms (start k + 1) 0) line ≡ false → fitOf (formAt k) line ≡ misfit
+  unfolding formAt rowAt rows
+  second-other line e =
+      second-misfits (formAt k) line (at (λ j. plainTwo (formAt j)) refl)
+      (subst (λ (b : ℕ). secondIs b line ≡ false) (eqb-true _ (getD (formAt k) 1 0) (at (λ j. eqb (getD forms (start j + 1) 0) (getD (formAt j) 1 0)) refl)) e)
 
-all-bytes : everyBelow rowCount (λ k. everyBelow formFrom (sameByte k)) ≡ true
-unfolding sameByte rowAt rows
-all-bytes = refl
+  pub letters-are : (let n = k * formFrom + lettersFrom in getD fronts n 0 ∷ getD fronts (n + 1) 0 ∷ getD fronts (n + 2) 0 ∷ getD fronts (n + 3) 0 ∷ getD fronts (n + 4) 0 ∷ []) ≡ lettersAt k
+  unfolding rowAt rows
+  letters-are =
+      same-list _ (lettersAt k)
+      (at
+      (λ j. let n = j * formFrom + lettersFrom in sameList (getD fronts n 0 ∷ getD fronts (n + 1) 0 ∷ getD fronts (n + 2) 0 ∷ getD fronts (n + 3) 0 ∷ getD fronts (n + 4) 0 ∷ []) (lettersAt j))
+      refl)
 
-pub byte-is : (k i : ℕ) → k < rowCount → i < formFrom → getD text (start k + i) 0 ≡ getD (rowAt k) i 46
-unfolding sameByte
-byte-is k i h l = eqb-true (getD text (start k + i) 0) (getD (rowAt k) i 46) (every-at (sameByte k) formFrom (every-at (λ j. everyBelow formFrom (sameByte j)) rowCount all-bytes k h) i l)
+  pub letter-is : (m : ℕ) → m < 5 → getD (lettersAt k) m 0 ≡ getD (lettersAt k) m 46
+  unfolding rowAt rows
+  letter-is m l =
+      eqb-true _ (getD (lettersAt k) m 46)
+      (every-at (λ i. eqb (getD (lettersAt k) i 0) (getD (lettersAt k) i 46)) 5 (at (λ j. everyBelow 5 (λ i. eqb (getD (lettersAt j) i 0) (getD (lettersAt j) i 46))) refl) m l)
 
-abbrev formIn : ℕ → List ℕ
-formIn k = take (start (k + 1) - (start k + formFrom)) (drop (start k + formFrom) text)
+  pub stage-is : (s : ℕ) → s < stageCount → getD fronts (k * formFrom + s) 0 ≡ getD (take stageCount (rowAt k)) s 46
+  unfolding rowAt rows
+  stage-is s l =
+      eqb-true _ (getD (take stageCount (rowAt k)) s 46)
+      (every-at (λ i. eqb (getD fronts (k * formFrom + i) 0) (getD (take stageCount (rowAt k)) i 46)) stageCount
+      (at (λ j. everyBelow stageCount (λ i. eqb (getD fronts (j * formFrom + i) 0) (getD (take stageCount (rowAt j)) i 46))) refl) s l)
 
-sameForm : ℕ → Bool
-sameForm k = sameList (formIn k) (formAt k)
+  -- ---- the rows
 
-all-forms : everyBelow rowCount sameForm ≡ true
-unfolding sameForm formAt rowAt rows
-all-forms = refl
+  -- after each # of a form stands a byte that ends an integer
+  pub apart-at : apart (formAt k) ≡ true
+  unfolding formAt rowAt rows apart
+  apart-at = at (λ j. apart (formAt j)) refl
 
-pub form-is : (k : ℕ) → k < rowCount → take (start (k + 1) - (start k + formFrom)) (drop (start k + formFrom) text) ≡ formAt k
-unfolding sameForm
-form-is k h = same-list (formIn k) (formAt k) (every-at sameForm rowCount all-forms k h)
-
--- ---- the rows
+  -- no form is taken for one behind it
+  pub told-at : (j : ℕ) → j < k → told (formAt j) (formAt k) ≡ true
+  unfolding told formAt rowAt rows
+  told-at j l = every-at (λ i. told (formAt i) (formAt k)) k (at (λ i. everyBelow i (λ j. told (formAt j) (formAt i))) refl) j l
 
 pub rows-long : length rows ≡ rowCount
 unfolding rows
 rows-long = refl
-
-formApart : ℕ → Bool
-formApart k = apart (formAt k)
-
-all-apart : everyBelow rowCount formApart ≡ true
-unfolding formApart formAt rowAt rows apart
-all-apart = refl
-
--- after each # of a form stands a byte that ends an integer
-pub apart-at : (k : ℕ) → k < rowCount → apart (formAt k) ≡ true
-unfolding formApart
-apart-at k h = every-at formApart rowCount all-apart k h
-
-toldFrom : ℕ → ℕ → Bool
-toldFrom k j = told (formAt j) (formAt k)
-
-all-told : everyBelow rowCount (λ k. everyBelow k (toldFrom k)) ≡ true
-unfolding toldFrom told formAt rowAt rows
-all-told = refl
-
--- no form is taken for one behind it
-pub told-at : (k j : ℕ) → k < rowCount → j < k → told (formAt j) (formAt k) ≡ true
-unfolding toldFrom
-told-at k j h l = every-at (toldFrom k) k (every-at (λ i. everyBelow i (toldFrom i)) rowCount all-told k h) j l

@@ -1,6 +1,6 @@
 -- A kind has one row, and so the numbers that the row's form has. Assumes nothing.
-use mathlib.Core.Path.{_≡_, refl, sym, ap, subst, _∙_}
-use mathlib.Core.Bool.{Bool, true, false, true≢false}
+use mathlib.Core.Path.{_≡_, refl, ap, subst, _∙_}
+use mathlib.Core.Bool.{Bool, true, false, cond}
 use mathlib.Core.List.{List}
 use Prim.Native.Nat.{ℕ, zero, suc, _<_}
 use native.Mathlib.Nat.{not-suc-le-zero}
@@ -10,7 +10,7 @@ use lib.Dec.{eqb}
 use lib.ListN.{getD}
 use Rattle.line_form.specs.Forms.{Number}
 use Rattle.line_form.specs.Held.{heldWhole, held, heldUpTo}
-use Rattle.line_form.proofs.Every.{everyBelow, every-at}
+use Rattle.line_form.proofs.Every.{every-at}
 use Rattle.frame_line.specs.Table.{rowCount, kindAt, formAt}
 use Rattle.frame_line.specs.Lines.{Line, kindOf, Proper, bitsAt, wholeAt}
 use Rattle.frame_line.specs.declared.Kind.{Kind}
@@ -31,46 +31,27 @@ rowOf (Kind.Pass PassKind.BareFill) = 8
 rowOf (Kind.Pass PassKind.Fill) = 9
 rowOf (Kind.Pass PassKind.Local) = 10
 
-ownRow : ℕ → Bool
-ownRow k = eqb k (rowOf (kindAt k))
-
-all-own : everyBelow rowCount ownRow ≡ true
-unfolding ownRow kindAt
-all-own = refl
-
 pub row-of : (k : ℕ) (kind : Kind) → k < rowCount → kindAt k ≡ kind → k ≡ rowOf kind
-unfolding ownRow
-row-of k kind h e = eqb-true k (rowOf (kindAt k)) (every-at ownRow rowCount all-own k h) ∙ ap rowOf e
+unfolding kindAt
+row-of k kind h e = eqb-true k (rowOf (kindAt k)) (every-at (λ j. eqb j (rowOf (kindAt j))) rowCount refl k h) ∙ ap rowOf e
 
 -- a number's word, by its slot
-float-held : (n m : ℕ) {bs : List Bool} {ns : List Number} → OfSlots bs ns → m < n → getD bs m true ≡ true → getD (heldUpTo n ns) m 0 ≡ bitsAt m ns
-unfolding heldUpTo held bitsAt
-float-held zero m o h e = absurd (not-suc-le-zero h)
-float-held (suc n) zero no-number h e = refl
-float-held (suc n) (suc m) no-number h e = float-held n m no-number (omega arith) e
-float-held (suc n) zero (float-first b o) h e = refl
-float-held (suc n) (suc m) (float-first b o) h e = float-held n m o (omega arith) e
-float-held (suc n) zero (whole-first z o) h e = absurd (true≢false (sym e))
-float-held (suc n) (suc m) (whole-first z o) h e = float-held n m o (omega arith) e
-
-integer-held : (n m : ℕ) {bs : List Bool} {ns : List Number} → OfSlots bs ns → m < n → getD bs m true ≡ false → getD (heldUpTo n ns) m 0 ≡ heldWhole (wholeAt m ns)
-unfolding heldUpTo held wholeAt
-integer-held zero m o h e = absurd (not-suc-le-zero h)
-integer-held (suc n) m no-number h e = absurd (true≢false e)
-integer-held (suc n) zero (float-first b o) h e = absurd (true≢false e)
-integer-held (suc n) (suc m) (float-first b o) h e = integer-held n m o (omega arith) e
-integer-held (suc n) zero (whole-first z o) h e = refl
-integer-held (suc n) (suc m) (whole-first z o) h e = integer-held n m o (omega arith) e
+word-at : (n m : ℕ) {bs : List Bool} {ns : List Number} → OfSlots bs ns → m < n → getD (heldUpTo n ns) m 0 ≡ cond (getD bs m true) (bitsAt m ns) (heldWhole (wholeAt m ns))
+unfolding heldUpTo held bitsAt wholeAt
+word-at zero m o h = absurd (not-suc-le-zero h)
+word-at (suc n) zero no-number h = refl
+word-at (suc n) (suc m) no-number h = word-at n m no-number (omega arith)
+word-at (suc n) zero (float-first b o) h = refl
+word-at (suc n) (suc m) (float-first b o) h = word-at n m o (omega arith)
+word-at (suc n) zero (whole-first z o) h = refl
+word-at (suc n) (suc m) (whole-first z o) h = word-at n m o (omega arith)
 
 module _ (l : Line) (p : Proper l) (kind : Kind) (e : kindOf l ≡ kind) where
-  pub line-is : l ≡ record { row = rowOf kind; numbers = l .numbers }
-  line-is t = record { row = row-of (l .row) kind (p .few) e t; numbers = l .numbers }
-
   pub kind-slots : OfSlots (slotsOf (formAt (rowOf kind))) (l .numbers)
   kind-slots = subst (λ (k : ℕ). OfSlots (slotsOf (formAt k)) (l .numbers)) (row-of (l .row) kind (p .few) e) (of-slots (p .suits))
 
   pub bits-held : (m : ℕ) → m < 5 → getD (slotsOf (formAt (rowOf kind))) m true ≡ true → getD (heldUpTo 5 (l .numbers)) m 0 ≡ bitsAt m (l .numbers)
-  bits-held m h s = float-held 5 m kind-slots h s
+  bits-held m h s = rw s at (word-at 5 m kind-slots h)
 
   pub whole-held : (m : ℕ) → m < 5 → getD (slotsOf (formAt (rowOf kind))) m true ≡ false → getD (heldUpTo 5 (l .numbers)) m 0 ≡ heldWhole (wholeAt m (l .numbers))
-  whole-held m h s = integer-held 5 m kind-slots h s
+  whole-held m h s = rw s at (word-at 5 m kind-slots h)

@@ -22,16 +22,26 @@ wildBits q b = outside q (ofBits binary32 b)
 abbrev pub wildWhole : ℤ → ℤ → ℤ → Bool
 wildWhole low high z = not (leZ low z && leZ z high)
 
--- with n corners given, a number has this refusal: "number non-finite or out of range" (3), "label's cell outside" (4), "label's corner not
--- given" (5)
+-- the refusal of a sort: "number non-finite or out of range" (3), "label's cell outside" (4), "label's corner not given" (5)
+abbrev pub refusalOf : Sort → ℕ
+refusalOf Sort.Nothing = 0
+refusalOf (Sort.Float q) = 3
+refusalOf (Sort.Whole refusal low high) = refusal
+refusalOf Sort.Corner = 5
+
+-- with n corners given, a number is not what its sort asks for
+abbrev pub wild : ℕ → Sort → Number → Bool
+wild n Sort.Nothing x = false
+wild n (Sort.Float q) (bits b) = wildBits q b
+wild n (Sort.Float q) (whole z) = false
+wild n (Sort.Whole refusal low high) (bits b) = false
+wild n (Sort.Whole refusal low high) (whole z) = wildWhole (unheldWhole low) (unheldWhole high) z
+wild n Sort.Corner (bits b) = false
+wild n Sort.Corner (whole z) = not (leZ (pos 0) z && ltZ z (pos n))
+
+-- a number has this refusal
 unfoldable pub numberOutside : ℕ → ℕ → Sort → Number → Bool
-numberOutside r n Sort.Nothing x = false
-numberOutside r n (Sort.Float q) (bits b) = eqb r 3 && wildBits q b
-numberOutside r n (Sort.Float q) (whole z) = false
-numberOutside r n (Sort.Whole refusal low high) (bits b) = false
-numberOutside r n (Sort.Whole refusal low high) (whole z) = eqb r refusal && wildWhole (unheldWhole low) (unheldWhole high) z
-numberOutside r n Sort.Corner (bits b) = false
-numberOutside r n Sort.Corner (whole z) = eqb r 5 && not (leZ (pos 0) z && ltZ z (pos n))
+numberOutside r n s x = eqb r (refusalOf s) && wild n s x
 
 -- some number of a list has it, the numbers being those of row k from m on
 unfoldable pub someOutside : ℕ → ℕ → ℕ → ℕ → List Number → Bool

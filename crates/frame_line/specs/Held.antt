@@ -1,7 +1,7 @@
 -- A line as the code holds it: its row and a word for each number, an integer 1,000,000 higher and cut to a size that a word has room for
 -- (crate line_form, Held). Definitions only.
 use mathlib.Core.Bool.{Bool, false, _&&_, _||_, cond}
-use mathlib.Core.List.{List}
+use mathlib.Core.List.{List, [], _∷_}
 use Prim.Native.Nat.{ℕ, _+_, _-_, min}
 use lib.Dec.{ltb, eqb}
 use lib.IntN.{pos, _-ℤ_}
@@ -9,9 +9,9 @@ use lib.ListN.{getD, replicate}
 use Rattle.sheet.specs.declared.Cell.{Cell}
 use Rattle.labels.specs.Labelled.{anyBelow}
 use Rattle.line_form.specs.Held.{heldUpTo}
-use Rattle.frame_line.specs.Table.{rowCount, sortAt}
+use Rattle.frame_line.specs.Table.{rowCount, lettersAt, sortOf, sortAt}
 use Rattle.frame_line.specs.Lines.{Line, LineRead, ill-formed, line}
-use Rattle.frame_line.specs.Checks.{wildBits}
+use Rattle.frame_line.specs.Checks.{wildBits, refusalOf}
 use Rattle.frame_line.specs.declared.Sort.{Sort}
 use Rattle.frame_line.specs.declared.HeldLine.{HeldLine}
 use Rattle.frame_line.specs.declared.HeldLabel.{HeldLabel}
@@ -40,14 +40,30 @@ labelIn v = record { corner = countIn (getD v 0 0); cell = cellIn (getD v 1 0) (
 abbrev pub beyond : ℕ → ℕ → ℕ → Bool
 beyond low high w = ltb w low || ltb high w
 
+abbrev pub wildWord : ℕ → Sort → ℕ → Bool
+wildWord n Sort.Nothing w = false
+wildWord n (Sort.Float q) w = wildBits q w
+wildWord n (Sort.Whole refusal low high) w = beyond low high w
+wildWord n Sort.Corner w = beyond 1000000 (999999 + n) w
+
 unfoldable pub outsideWord : ℕ → ℕ → Sort → ℕ → Bool
-outsideWord r n Sort.Nothing w = false
-outsideWord r n (Sort.Float q) w = eqb r 3 && wildBits q w
-outsideWord r n (Sort.Whole refusal low high) w = eqb r refusal && beyond low high w
-outsideWord r n Sort.Corner w = eqb r 5 && beyond 1000000 (999999 + n) w
+outsideWord r n s w = eqb r (refusalOf s) && wildWord n s w
 
 abbrev pub outsideAt : ℕ → ℕ → HeldLine → ℕ → Bool
 outsideAt r n l m = outsideWord r n (sortAt (l .row) m) (getD (l .values) m 0)
 
 unfoldable pub outsideHeld : ℕ → ℕ → HeldLine → Bool
 outsideHeld r n l = anyBelow 5 (outsideAt r n l)
+
+-- the refusal of each number, 0 where it has none
+unfoldable pub refusalIn : ℕ → Sort → ℕ → ℕ
+refusalIn n s w = cond (wildWord n s w) (refusalOf s) 0
+
+abbrev pub refusalAt : ℕ → HeldLine → ℕ → ℕ
+refusalAt n l m = refusalIn n (sortOf (getD (lettersAt (l .row)) m 0)) (getD (l .values) m 0)
+
+unfoldable pub refusalsIn : ℕ → HeldLine → List ℕ
+refusalsIn n l = refusalAt n l 0 ∷ refusalAt n l 1 ∷ refusalAt n l 2 ∷ refusalAt n l 3 ∷ refusalAt n l 4 ∷ []
+
+abbrev pub isRefusal : List ℕ → ℕ → ℕ → Bool
+isRefusal found r m = eqb r (getD found m 0)

@@ -2,7 +2,7 @@
 use mathlib.Core.Bool.{Bool, true, false, cond}
 use mathlib.Core.List.{List, [], _∷_}
 use Prim.Native.Nat.{ℕ, _+_, _-_}
-use lib.Dec.{ltb}
+use lib.Dec.{ltb, eqb}
 use lib.ListN.{getD, take, drop}
 use Rattle.binary32.specs.declared.ranges.Quantity.{Quantity}
 use Rattle.line_form.specs.Forms.{bytes}
@@ -89,39 +89,35 @@ mayEnd stage = getD ends stage false
 
 -- "Ranges, by value": a axis part, b band, c cell, f factor, m multiple (search, boundary, residual), p pitch, x position; integers as they are
 -- held, 1,000,000 higher: d depth 0 to 4, r rounds 0 to 64, both else 3; i a cell's i or j, -64 to 63, else 4; n a corner's number, else 5
+abbrev pub letters : List ℕ
+letters = bytes "abcdfimnprx"
+
 abbrev pub sorts : List Sort
 sorts =
     Sort.Float Quantity.AxisPart
     ∷ Sort.Float Quantity.Band
     ∷ Sort.Float Quantity.CellSize
     ∷ Sort.Whole 3 1000000 1000004
-    ∷ Sort.Nothing
     ∷ Sort.Float Quantity.Factor
-    ∷ Sort.Nothing
-    ∷ Sort.Nothing
     ∷ Sort.Whole 4 999936 1000063
-    ∷ Sort.Nothing
-    ∷ Sort.Nothing
-    ∷ Sort.Nothing
     ∷ Sort.Float Quantity.Multiple
     ∷ Sort.Corner
-    ∷ Sort.Nothing
     ∷ Sort.Float Quantity.Pitch
-    ∷ Sort.Nothing
     ∷ Sort.Whole 3 1000000 1000064
-    ∷ Sort.Nothing
-    ∷ Sort.Nothing
-    ∷ Sort.Nothing
-    ∷ Sort.Nothing
-    ∷ Sort.Nothing
     ∷ Sort.Float Quantity.Position
-    ∷ Sort.Nothing
-    ∷ Sort.Nothing
     ∷ []
 
--- letters start at a, byte 97
+-- any other letter stands for no number
+abbrev pub sortAmong : List ℕ → List Sort → ℕ → Sort
+sortAmong [] ss letter = Sort.Nothing
+sortAmong (l ∷ ls) [] letter = Sort.Nothing
+sortAmong (l ∷ ls) (s ∷ ss) letter = cond (eqb letter l) s (sortAmong ls ss letter)
+
 unfoldable pub sortOf : ℕ → Sort
-sortOf letter = cond (ltb letter 97) Sort.Nothing (getD sorts (letter - 97) Sort.Nothing)
+sortOf letter = sortAmong letters sorts letter
+
+abbrev pub lettersAt : ℕ → List ℕ
+lettersAt k = take 5 (drop lettersFrom (rowAt k))
 
 unfoldable pub sortAt : ℕ → ℕ → Sort
-sortAt k m = sortOf (getD (take 5 (drop lettersFrom (rowAt k))) m 46)
+sortAt k m = sortOf (getD (lettersAt k) m 46)

@@ -1,14 +1,15 @@
 // The lines of a frame (01, "Frame and result"), by one table: a kind of line is a row, with where it may stand, what its numbers are, and its
 // form.
 ghost use mathlib.Core.Path.{_≡_};
-ghost use Prim.Native.Nat.{_<_, _≤_, _+_, min};
+ghost use mathlib.Core.Bool.{cond};
+ghost use Prim.Native.Nat.{_<_, _≤_, min};
 ghost use lib.ListN.{getD};
-ghost use Rattle.line_form.specs.Forms.{fitOf};
-ghost use Rattle.line_form.specs.Held.{heldFit};
-ghost use Rattle.frame_line.specs.Table.{rowCount, formFrom, rowAt, formAt, kindAt, sortOf, sortAt, turnAt, mayEnd};
+ghost use Rattle.labels.specs.Labelled.{anyBelow};
+ghost use Rattle.line_form.specs.Forms.{secondIs};
+ghost use Rattle.frame_line.specs.Table.{rowCount, kindAt, lettersAt, sortOf, turnBy, turnAt, mayEnd};
 ghost use Rattle.frame_line.specs.Lines.{readLine};
 ghost use Rattle.frame_line.specs.Checks.{wildBits};
-ghost use Rattle.frame_line.specs.Held.{heldRead, countIn, cellIn, labelIn, beyond, outsideWord, outsideHeld};
+ghost use Rattle.frame_line.specs.Held.{heldRead, countIn, cellIn, labelIn, beyond, refusalIn, refusalsIn, isRefusal};
 use binary32::ranges::Quantity;
 use line_form::read::LineFit;
 use line_form::read::fit_line;
@@ -76,41 +77,42 @@ const STAGES: usize = 7;
 // How many rows there are.
 const ROWS: usize = 11;
 
-// Where the letters of a row start, and where its form does.
+// How long the front of a row is, and where the letters of its numbers start.
+const FRONT: usize = STAGES + 7;
+
 const LETTERS: usize = STAGES + 1;
 
-const HEAD: usize = STAGES + 7;
+// The table, in two columns. The front of a row has the stage behind the line for each stage before it (. where it may not come), and a
+// letter for each of its numbers.
+const FRONTS: [u8; ROWS * FRONT] = *b"\
+1...... ..... \
+.2..... c.... \
+..3.... aaaa. \
+...4... b.... \
+....4.. xxp.. \
+....55. nii.. \
+....666 ..... \
+....666 mfm.. \
+....666 ..... \
+....666 mfr.. \
+....666 mfrmd ";
 
-// The table. A row has the stage behind the line for each stage before it (. where it may not come), a letter for each of its numbers, and
-// its form.
-const TABLE: [u8; ROWS * HEAD + 138] = *b"\
-1...... ..... (frame 1)\n\
-.2..... c.... (cell %)\n\
-..3.... aaaa. (axes (% %) (% %))\n\
-...4... b.... (band %)\n\
-....4.. xxp.. (corner (% %) %)\n\
-....55. nii.. (label # (# #))\n\
-....666 ..... (grow)\n\
-....666 mfm.. (grow % % %)\n\
-....666 ..... (fill)\n\
-....666 mfr.. (fill % % #)\n\
-....666 mfrmd (local % % # % #)\n";
+// Its form.
+const FORMS: [u8; 138] = *b"\
+(frame 1)\n\
+(cell %)\n\
+(axes (% %) (% %))\n\
+(band %)\n\
+(corner (% %) %)\n\
+(label # (# #))\n\
+(grow)\n\
+(grow % % %)\n\
+(fill)\n\
+(fill % % #)\n\
+(local % % # % #)\n";
 
-// Where each row starts, and the end.
-const STARTS: [usize; ROWS + 1] = [
-    0,
-    HEAD + 10,
-    2 * HEAD + 19,
-    3 * HEAD + 38,
-    4 * HEAD + 47,
-    5 * HEAD + 64,
-    6 * HEAD + 80,
-    7 * HEAD + 87,
-    8 * HEAD + 100,
-    9 * HEAD + 107,
-    10 * HEAD + 120,
-    11 * HEAD + 138,
-];
+// Where each form starts, and the end.
+const STARTS: [usize; ROWS + 1] = [0, 10, 19, 38, 47, 64, 80, 87, 100, 107, 120, 138];
 
 // The kinds of the rows.
 const KINDS: [Kind; ROWS] = [
@@ -130,36 +132,6 @@ const KINDS: [Kind; ROWS] = [
 // The stages at which a frame may end.
 const ENDS: [bool; STAGES] = [false, false, false, false, true, true, true];
 
-// The letters a to z.
-const SORTS: [Sort; 26] = [
-    Sort::Float(Quantity::AxisPart),
-    Sort::Float(Quantity::Band),
-    Sort::Float(Quantity::CellSize),
-    Sort::Whole(3, 1_000_000, 1_000_004),
-    Sort::Nothing,
-    Sort::Float(Quantity::Factor),
-    Sort::Nothing,
-    Sort::Nothing,
-    Sort::Whole(4, 999_936, 1_000_063),
-    Sort::Nothing,
-    Sort::Nothing,
-    Sort::Nothing,
-    Sort::Float(Quantity::Multiple),
-    Sort::Corner,
-    Sort::Nothing,
-    Sort::Float(Quantity::Pitch),
-    Sort::Nothing,
-    Sort::Whole(3, 1_000_000, 1_000_064),
-    Sort::Nothing,
-    Sort::Nothing,
-    Sort::Nothing,
-    Sort::Nothing,
-    Sort::Nothing,
-    Sort::Float(Quantity::Position),
-    Sort::Nothing,
-    Sort::Nothing,
-];
-
 // The kind of a row.
 pub fn kind_of(row: usize) -> Kind
     requires { ⌜ row < rowCount ⌝ }
@@ -168,32 +140,31 @@ pub fn kind_of(row: usize) -> Kind
     KINDS[row]
 }
 
-// Byte i of a row, before its form.
-fn byte_at(row: usize, i: usize) -> u8
-    requires { ⌜ (row < rowCount) × (i < formFrom) ⌝ }
-    ensures { λ r. ⌜ r ≡ getD (rowAt row) i 46 ⌝ }
+// Whether the second byte of a line is this one.
+fn has_second(b: u8, line: &[u8]) -> bool
+    ensures { λ r. ⌜ r ≡ secondIs b (now (line .entry)) ⌝ }
 {
-    TABLE[STARTS[row] + i]
+    if line.len() < 2 {
+        return false;
+    }
+    line[1] == b
 }
 
-// Whether a line has the form of a row, and its numbers.
-fn fit_row(row: usize, line: &[u8]) -> LineFit
-    requires { ⌜ row < rowCount ⌝ }
-    ensures { λ r. ⌜ r ≡ heldFit (fitOf (formAt row) (now (line .entry))) ⌝ }
-{
-    let table = TABLE;
-    let from = STARTS[row] + HEAD;
-    let to = STARTS[row + 1];
-    fit_line(&table[from..to], line)
-}
-
-// The line of a text, by the first row whose form it has.
+// The line of a text, by the first row whose form it has. A form whose second byte is another is not tried.
 pub fn read_line(line: &[u8]) -> HeldLine
     ensures { λ r. ⌜ r ≡ heldRead (readLine (now (line .entry))) ⌝ }
 {
+    let forms = FORMS;
+    let starts = STARTS;
     let mut row = 0usize;
     while row < ROWS {
-        let fit = fit_row(row, line);
+        let from = starts[row];
+        let to = starts[row + 1];
+        if !has_second(forms[from + 1], line) {
+            row += 1;
+            continue;
+        }
+        let fit = fit_line(&forms[from..to], line);
         if fit.found {
             let values = fit.values;
             return HeldLine { row, values };
@@ -206,6 +177,16 @@ pub fn read_line(line: &[u8]) -> HeldLine
     }
 }
 
+// Where a byte of the table leads: a digit is the stage behind the line.
+fn turn_by(to: u8) -> Turn
+    ensures { λ r. ⌜ r ≡ turnBy to ⌝ }
+{
+    if to < 48 {
+        return Turn::No;
+    }
+    Turn::To((to - 48) as usize)
+}
+
 // Where a line of this row leads from a stage.
 pub fn turn_at(stage: usize, row: usize) -> Turn
     ensures { λ r. ⌜ r ≡ turnAt stage row ⌝ }
@@ -216,11 +197,7 @@ pub fn turn_at(stage: usize, row: usize) -> Turn
     if STAGES <= stage {
         return Turn::No;
     }
-    let to = byte_at(row, stage);
-    if to < 48 {
-        return Turn::No;
-    }
-    Turn::To((to - 48) as usize)
+    turn_by(FRONTS[row * FRONT + stage])
 }
 
 // Whether a frame may end at a stage.
@@ -237,21 +214,36 @@ pub fn may_end(stage: usize) -> bool
 fn sort_of(letter: u8) -> Sort
     ensures { λ r. ⌜ r ≡ sortOf letter ⌝ }
 {
-    if letter < 97 {
-        return Sort::Nothing;
+    match letter {
+        b'a' => Sort::Float(Quantity::AxisPart),
+        b'b' => Sort::Float(Quantity::Band),
+        b'c' => Sort::Float(Quantity::CellSize),
+        b'd' => Sort::Whole(3, 1_000_000, 1_000_004),
+        b'f' => Sort::Float(Quantity::Factor),
+        b'i' => Sort::Whole(4, 999_936, 1_000_063),
+        b'm' => Sort::Float(Quantity::Multiple),
+        b'n' => Sort::Corner,
+        b'p' => Sort::Float(Quantity::Pitch),
+        b'r' => Sort::Whole(3, 1_000_000, 1_000_064),
+        b'x' => Sort::Float(Quantity::Position),
+        _ => Sort::Nothing,
     }
-    if 122 < letter {
-        return Sort::Nothing;
-    }
-    SORTS[(letter - 97) as usize]
 }
 
-// What number m of a row is.
-fn sort_at(row: usize, m: usize) -> Sort
-    requires { ⌜ (row < rowCount) × (m < 5) ⌝ }
-    ensures { λ r. ⌜ r ≡ sortAt row m ⌝ }
+// The letters of a row.
+fn letters_of(row: usize) -> [u8; 5]
+    requires { ⌜ row < rowCount ⌝ }
+    ensures { λ r. ⌜ r ≡ lettersAt row ⌝ }
 {
-    sort_of(byte_at(row, LETTERS + m))
+    let fronts = FRONTS;
+    let at = row * FRONT + LETTERS;
+    [
+        fronts[at],
+        fronts[at + 1],
+        fronts[at + 2],
+        fronts[at + 3],
+        fronts[at + 4],
+    ]
 }
 
 // Whether the float of a pattern is not in the range of its quantity. What is not finite is in none.
@@ -275,44 +267,60 @@ fn is_beyond(low: u32, high: u32, word: u32) -> bool
     high < word
 }
 
-// Whether a number has this refusal.
-fn is_outside(number: u32, corners: u32, sort: Sort, word: u32) -> bool
+// A refusal, or 0 where it does not hold.
+fn refusal_if(holds: bool, refusal: u32) -> u32
+    ensures { λ r. ⌜ r ≡ cond holds refusal 0 ⌝ }
+{
+    if holds {
+        return refusal;
+    }
+    0
+}
+
+// The refusal of a number, 0 where it has none.
+fn refusal_of(corners: u32, sort: Sort, word: u32) -> u32
     requires { ⌜ corners ≤ 1024 ⌝ }
-    ensures { λ r. ⌜ r ≡ outsideWord number corners sort word ⌝ }
+    ensures { λ r. ⌜ r ≡ refusalIn corners sort word ⌝ }
 {
     match sort {
-        Sort::Nothing => false,
-        Sort::Float(q) => {
-            if number != 3 {
-                return false;
-            }
-            is_wild(q, word)
-        }
-        Sort::Whole(refusal, low, high) => {
-            if number != refusal {
-                return false;
-            }
-            is_beyond(low, high, word)
-        }
-        Sort::Corner => {
-            if number != 5 {
-                return false;
-            }
-            is_beyond(1_000_000, 999_999 + corners, word)
-        }
+        Sort::Nothing => 0,
+        Sort::Float(q) => refusal_if(is_wild(q, word), 3),
+        Sort::Whole(refusal, low, high) => refusal_if(is_beyond(low, high, word), refusal),
+        Sort::Corner => refusal_if(is_beyond(1_000_000, 999_999 + corners, word), 5),
     }
 }
 
-// Whether a number of a line has this refusal.
-pub fn some_outside(number: u32, corners: u32, line: HeldLine) -> bool
-    requires { ⌜ (line .row < rowCount) × (corners ≤ 1024) ⌝ }
-    ensures { λ r. ⌜ r ≡ outsideHeld number corners line ⌝ }
+// The refusal of a number, by its letter.
+fn refusal_by(corners: u32, letter: u8, word: u32) -> u32
+    requires { ⌜ corners ≤ 1024 ⌝ }
+    ensures { λ r. ⌜ r ≡ refusalIn corners (sortOf letter) word ⌝ }
 {
-    let row = line.row;
-    let values = line.values;
+    refusal_of(corners, sort_of(letter), word)
+}
+
+// The refusals of a line's numbers.
+pub fn refusals_of(corners: u32, line: HeldLine) -> [u32; 5]
+    requires { ⌜ (line .row < rowCount) × (corners ≤ 1024) ⌝ }
+    ensures { λ r. ⌜ r ≡ refusalsIn corners line ⌝ }
+{
+    let l = letters_of(line.row);
+    let v = line.values;
+    [
+        refusal_by(corners, l[0], v[0]),
+        refusal_by(corners, l[1], v[1]),
+        refusal_by(corners, l[2], v[2]),
+        refusal_by(corners, l[3], v[3]),
+        refusal_by(corners, l[4], v[4]),
+    ]
+}
+
+// Whether a refusal is among those of a line's numbers.
+pub fn has_refusal(found: [u32; 5], number: u32) -> bool
+    ensures { λ r. ⌜ r ≡ anyBelow 5 (isRefusal found number) ⌝ }
+{
     let mut m = 0usize;
     while m < 5 {
-        if is_outside(number, corners, sort_at(row, m), values[m]) {
+        if number == found[m] {
             return true;
         }
         m += 1;

@@ -2,7 +2,7 @@
 -- are the text. Assumes nothing.
 use mathlib.Core.Path.{_≡_, refl, ap, _∙_, subst}
 use mathlib.Core.Bool.{Bool, true, false, cond}
-use mathlib.Core.List.{List, [], _∷_, _++_}
+use mathlib.Core.List.{List, [], _∷_, _++_, append-assoc}
 use Prim.Native.Nat.{ℕ, zero, suc, _+_, _*_, _/_, _%_, _^_, _<_}
 use native.Mathlib.Omega.{arith}
 use borrow.Author.Tests.{eqb-true, ne-eqb}
@@ -16,11 +16,6 @@ use Rattle.line_form.specs.Lines.{longer, onto, linesOf}
 
 -- ---- a printed line ends with its only LF
 
--- no LF, byte 10
-unfoldable pub noEnd : List ℕ → Bool
-noEnd [] = true
-noEnd (b ∷ text) = cond (eqb b 10) false (noEnd text)
-
 unfoldable pub isNone : List ℕ → Bool
 isNone [] = true
 isNone (b ∷ text) = false
@@ -30,18 +25,10 @@ unfoldable pub endsOnce : List ℕ → Bool
 endsOnce [] = false
 endsOnce (b ∷ text) = cond (eqb b 10) (isNone text) (endsOnce text)
 
-no-end-then : (a b : List ℕ) → noEnd a ≡ true → noEnd b ≡ true → noEnd (a ++ b) ≡ true
-unfolding noEnd
-no-end-then [] b e f = f
-no-end-then (c ∷ a) b e f = go (eqb c 10) (λ h. no-end-then a b h f) e
-  where
-    go : (x : Bool) → (noEnd a ≡ true → noEnd (a ++ b) ≡ true) → cond x false (noEnd a) ≡ true → cond x false (noEnd (a ++ b)) ≡ true
-    go true ih h = h
-    go false ih h = ih h
-
-no-end-cons : (b : ℕ) (text : List ℕ) → 10 < b → noEnd text ≡ true → noEnd (b ∷ text) ≡ true
-unfolding noEnd
-no-end-cons b text h e = rw (ne-eqb b 10 (λ z. omega arith), e)
+-- a byte above 10 is no LF, and so is none of a number
+over : (b : ℕ) (text : List ℕ) → 10 < b → endsOnce (b ∷ text) ≡ endsOnce text
+unfolding endsOnce
+over b text h = rw (ne-eqb b 10 (λ z. omega arith))
 
 digit-high : (n : ℕ) → 10 < digitOf n
 digit-high n = go (ltb n 10)
@@ -50,42 +37,27 @@ digit-high n = go (ltb n 10)
     go true = omega arith
     go false = omega arith
 
-hex-no-end : (k n : ℕ) → noEnd (digits k n) ≡ true
-unfolding digits noEnd
-hex-no-end zero n = refl
-hex-no-end (suc k) n = no-end-cons (digitOf (n / 2 ^ (4 * k) % 16)) (digits k n) (digit-high (n / 2 ^ (4 * k) % 16)) (hex-no-end k n)
+hex-over : (k n : ℕ) (text : List ℕ) → endsOnce (digits k n ++ text) ≡ endsOnce text
+unfolding digits
+hex-over zero n text = refl
+hex-over (suc k) n text = over (digitOf (n / 2 ^ (4 * k) % 16)) (digits k n ++ text) (digit-high (n / 2 ^ (4 * k) % 16)) ∙ hex-over k n text
 
-decimal-no-end : (f n : ℕ) → noEnd (decimalUpTo f n) ≡ true
-unfolding decimalUpTo noEnd
-decimal-no-end zero n = refl
-decimal-no-end (suc f) n = go (ltb n 10) (decimal-no-end f (n / 10))
+decimal-over : (f n : ℕ) (text : List ℕ) → endsOnce (decimalUpTo f n ++ text) ≡ endsOnce text
+unfolding decimalUpTo
+decimal-over zero n text = refl
+decimal-over (suc f) n text = go (ltb n 10) (decimal-over f (n / 10)) ∙ over (48 + n % 10) text (omega arith)
   where
-    last : noEnd ((48 + n % 10) ∷ []) ≡ true
-    last = no-end-cons (48 + n % 10) [] (omega arith) refl
+    go : (x : Bool) → ((t : List ℕ) → endsOnce (decimalUpTo f (n / 10) ++ t) ≡ endsOnce t)
+        → endsOnce ((cond x [] (decimalUpTo f (n / 10)) ++ ((48 + n % 10) ∷ [])) ++ text) ≡ endsOnce ((48 + n % 10) ∷ text)
+    go true ih = refl
+    go false ih = rw append-assoc (ih ((48 + n % 10) ∷ text))
 
-    go : (x : Bool) → noEnd (decimalUpTo f (n / 10)) ≡ true → noEnd (cond x [] (decimalUpTo f (n / 10)) ++ ((48 + n % 10) ∷ [])) ≡ true
-    go true e = last
-    go false e = no-end-then (decimalUpTo f (n / 10)) ((48 + n % 10) ∷ []) e last
-
-number-no-end : (n : Number) → noEnd (numberText n) ≡ true
+first-over : (ns : List Number) (text : List ℕ) → endsOnce (firstText ns ++ text) ≡ endsOnce text
 unfolding numberText integerText decimal
-number-no-end (bits b) = hex-no-end 8 b
-number-no-end (whole (pos n)) = decimal-no-end (suc n) n
-number-no-end (whole (negsuc n)) = no-end-cons 45 (decimalUpTo (suc (suc n)) (suc n)) (omega arith) (decimal-no-end (suc (suc n)) (suc n))
-
-first-no-end : (ns : List Number) → noEnd (firstText ns) ≡ true
-unfolding noEnd
-first-no-end [] = refl
-first-no-end (n ∷ ns) = number-no-end n
-
-ends-then : (a b : List ℕ) → noEnd a ≡ true → endsOnce b ≡ true → endsOnce (a ++ b) ≡ true
-unfolding noEnd endsOnce
-ends-then [] b e f = f
-ends-then (c ∷ a) b e f = go (eqb c 10) (λ h. ends-then a b h f) e
-  where
-    go : (x : Bool) → (noEnd a ≡ true → endsOnce (a ++ b) ≡ true) → cond x false (noEnd a) ≡ true → cond x (isNone (a ++ b)) (endsOnce (a ++ b)) ≡ true
-    go true ih h = absurd (let z : _≡_ {A = ℕ} 0 1 = cc in omega arith)
-    go false ih h = ih h
+first-over [] text = refl
+first-over (bits b ∷ ns) text = hex-over 8 b text
+first-over (whole (pos n) ∷ ns) text = decimal-over (suc n) n text
+first-over (whole (negsuc n) ∷ ns) text = over 45 _ (omega arith) ∙ decimal-over (suc (suc n)) (suc n) text
 
 slot-no-end : (c : ℕ) → isSlot c ≡ true → eqb c 10 ≡ true → ⊥
 slot-no-end c e h = let s : isSlot 10 ≡ true = subst (λ (d : ℕ). isSlot d ≡ true) (eqb-true c 10 h) e in let z : _≡_ {A = ℕ} 0 1 = cc in omega arith
@@ -99,7 +71,7 @@ printed-ends (c ∷ form) ns e = go (isSlot c) (eqb c 10) refl refl form ns (λ 
     go : (x y : Bool) → isSlot c ≡ x → eqb c 10 ≡ y → (form : List ℕ) (ns : List Number) → ((ms : List Number) → endsOnce form ≡ true → endsOnce (printed form ms) ≡ true)
         → cond y (isNone form) (endsOnce form) ≡ true → endsOnce (cond x (firstText ns) (c ∷ []) ++ printed form (cond x (drop 1 ns) ns)) ≡ true
     go true true p q form ns ih h = absurd (slot-no-end c p q)
-    go true false p q form ns ih h = ends-then (firstText ns) (printed form (drop 1 ns)) (first-no-end ns) (ih (drop 1 ns) h)
+    go true false p q form ns ih h = first-over ns (printed form (drop 1 ns)) ∙ ih (drop 1 ns) h
     go false true p q [] ns ih h = rw q
     go false true p q (d ∷ form) ns ih h = absurd (let z : _≡_ {A = ℕ} 0 1 = cc in omega arith)
     go false false p q form ns ih h = rw q (ih ns h)

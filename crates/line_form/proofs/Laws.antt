@@ -42,7 +42,7 @@ piece-whole : (text : List ℕ) → pieceOf 35 text ≡ wholePiece (readInteger 
 unfolding pieceOf
 piece-whole text = refl
 
-piece-byte : (c : ℕ) (text : List ℕ) → isSlot c ≡ false → pieceOf c text ≡ bytePiece c text
+pub piece-byte : (c : ℕ) (text : List ℕ) → isSlot c ≡ false → pieceOf c text ≡ bytePiece c text
 unfolding pieceOf
 piece-byte c text e = go (eqb c 37) (eqb c 35) e
   where
@@ -62,11 +62,11 @@ whole-fits : (form : List ℕ) (z : ℤ) (rest : List ℕ) → Ended rest → fi
 unfolding fitOf
 whole-fits form z rest e = rw (piece-whole (integerText z ++ rest), integer-read z rest e)
 
-byte-fits : (form : List ℕ) (c : ℕ) (rest : List ℕ) → isSlot c ≡ false → fitOf (c ∷ form) (c ∷ rest) ≡ fitOf form rest
+pub byte-fits : (form : List ℕ) (c : ℕ) (rest : List ℕ) → isSlot c ≡ false → fitOf (c ∷ form) (c ∷ rest) ≡ fitOf form rest
 unfolding fitOf
 byte-fits form c rest e = rw (piece-byte c (c ∷ rest) e, eq-eqb c c refl)
 
-byte-printed : (c : ℕ) (form : List ℕ) (ns : List Number) → isSlot c ≡ false → printed (c ∷ form) ns ≡ c ∷ printed form ns
+pub byte-printed : (c : ℕ) (form : List ℕ) (ns : List Number) → isSlot c ≡ false → printed (c ∷ form) ns ≡ c ∷ printed form ns
 unfolding printed
 byte-printed c form ns e = rw e
 

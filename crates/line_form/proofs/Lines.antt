@@ -13,40 +13,27 @@ use Rattle.line_form.specs.Lines.{longer, linesOf, lineLength}
 
 -- ---- the first line
 
-pub line-within : (text : List ℕ) → lineLength text ≤ length text
+-- it is no longer than the text, and not empty where the text is not
+line-within : (text : List ℕ) → (lineLength text ≤ length text) × (0 < length text → 0 < lineLength text)
 unfolding lineLength
-line-within [] = omega arith
-line-within (b ∷ text) = go (eqb b 10) (line-within text)
+line-within [] = (omega arith, λ h. h)
+line-within (b ∷ text) = go (eqb b 10) (line-within text .0)
   where
-    go : (t : Bool) → lineLength text ≤ length text → cond t 1 (suc (lineLength text)) ≤ suc (length text)
-    go true h = omega arith
-    go false h = omega arith
-
-pub line-some : (text : List ℕ) → 0 < length text → 0 < lineLength text
-unfolding lineLength
-line-some [] h = absurd (omega arith)
-line-some (b ∷ text) h = go (eqb b 10)
-  where
-    go : (t : Bool) → 0 < cond t 1 (suc (lineLength text))
-    go true = omega arith
-    go false = omega arith
+    go : (t : Bool) → lineLength text ≤ length text → (cond t 1 (suc (lineLength text)) ≤ suc (length text)) × (0 < suc (length text) → 0 < cond t 1 (suc (lineLength text)))
+    go true h = (omega arith, λ l. omega arith)
+    go false h = (omega arith, λ l. omega arith)
 
 -- a text is its first line, and the lines behind it
-pub lines-split : (text : List ℕ) → 0 < length text → linesOf text ≡ take (lineLength text) text ∷ linesOf (drop (lineLength text) text)
+lines-split : (text : List ℕ) → 0 < length text → linesOf text ≡ take (lineLength text) text ∷ linesOf (drop (lineLength text) text)
 unfolding linesOf lineLength
 lines-split [] h = absurd (omega arith)
-lines-split (b ∷ []) h = go (eqb b 10)
+lines-split (b ∷ text) h = go (eqb b 10) text (lines-split text)
   where
-    go : (t : Bool) → cond t ((b ∷ []) ∷ []) ((b ∷ []) ∷ []) ≡ take (cond t 1 1) (b ∷ []) ∷ linesOf (drop (cond t 1 1) (b ∷ []))
-    go true = refl
-    go false = refl
-lines-split (b ∷ c ∷ text) h = go (eqb b 10) (lines-split (c ∷ text) (omega arith))
-  where
-    go : (t : Bool) → linesOf (c ∷ text) ≡ take (lineLength (c ∷ text)) (c ∷ text) ∷ linesOf (drop (lineLength (c ∷ text)) (c ∷ text))
-        → cond t ((b ∷ []) ∷ linesOf (c ∷ text)) (longer b (linesOf (c ∷ text)))
-        ≡ take (cond t 1 (suc (lineLength (c ∷ text)))) (b ∷ c ∷ text) ∷ linesOf (drop (cond t 1 (suc (lineLength (c ∷ text)))) (b ∷ c ∷ text))
-    go true rest = refl
-    go false rest = ap (longer b) rest
+    go : (t : Bool) (text : List ℕ) → (0 < length text → linesOf text ≡ take (lineLength text) text ∷ linesOf (drop (lineLength text) text))
+        → cond t ((b ∷ []) ∷ linesOf text) (longer b (linesOf text)) ≡ take (cond t 1 (suc (lineLength text))) (b ∷ text) ∷ linesOf (drop (cond t 1 (suc (lineLength text))) (b ∷ text))
+    go true text ih = refl
+    go false [] ih = refl
+    go false (c ∷ text) ih = ap (longer b) (ih (omega arith))
 
 -- ---- the line that starts at a position
 
@@ -55,10 +42,10 @@ module _ (text : List ℕ) (at end : ℕ) (h : at < length text) (e : end ≡ at
   some = simp length-drop (omega arith)
 
   pub end-after : at < end
-  end-after = omega (arith, line-some (drop at text) some)
+  end-after = omega (arith, line-within (drop at text) .1 some)
 
   pub end-inside : end ≤ length text
-  end-inside = omega (arith, line-within (drop at text), length-drop at text)
+  end-inside = omega (arith, line-within (drop at text) .0, length-drop at text)
 
   pub lines-from : linesOf (drop at text) ≡ take (end - at) (drop at text) ∷ linesOf (drop end text)
   lines-from =

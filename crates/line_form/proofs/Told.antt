@@ -1,11 +1,15 @@
--- Two forms that are told apart by their first bytes: what is printed from one has not the other. Assumes nothing.
+-- Forms that are told apart by their first bytes: what is printed from one has not the other, and a line whose second byte is another one has
+-- not the form. Assumes nothing.
 use mathlib.Core.Path.{_≡_, refl, sym, ap, _∙_}
 use mathlib.Core.Bool.{Bool, true, false, _||_, true≢false, cond}
 use mathlib.Core.List.{List, [], _∷_}
-use Prim.Native.Nat.{ℕ}
-use borrow.Author.Tests.{eqb-true, eq-eqb}
+use Prim.Native.Nat.{ℕ, suc}
+use native.Mathlib.Omega.{arith}
+use borrow.Author.Tests.{eqb-true, le-leb}
 use lib.Dec.{eqb}
-use Rattle.line_form.specs.Forms.{Number, isSlot, printed, pieceOf, bytePiece, misfit, fitOf}
+use lib.ListN.{length, getD}
+use Rattle.line_form.specs.Forms.{Number, isSlot, printed, misfit, fitOf, secondIs}
+use Rattle.line_form.proofs.Laws.{piece-byte, byte-fits, byte-printed}
 
 -- the first bytes of two forms, which are no slots, tell them apart
 unfoldable pub told : List ℕ → List ℕ → Bool
@@ -13,33 +17,9 @@ told [] form = false
 told (c ∷ other) [] = false
 told (c ∷ other) (d ∷ form) = cond (isSlot c || isSlot d) false (cond (eqb d c) (told other form) true)
 
-record Plain (c : ℕ) : Type 0 where
-  no-float : eqb c 37 ≡ false
-  no-integer : eqb c 35 ≡ false
-
-plain : (c : ℕ) → isSlot c ≡ false → Plain c
-plain c e = go (eqb c 37) (eqb c 35) refl refl e
-  where
-    go : (x y : Bool) → eqb c 37 ≡ x → eqb c 35 ≡ y → (x || y) ≡ false → Plain c
-    go true y p q h = absurd (true≢false h)
-    go false true p q h = absurd (true≢false h)
-    go false false p q h = record { no-float = p; no-integer = q }
-
-byte-piece : (c : ℕ) (text : List ℕ) → isSlot c ≡ false → pieceOf c text ≡ bytePiece c text
-unfolding pieceOf
-byte-piece c text e = let p = plain c e in rw (p .no-float, p .no-integer)
-
-byte-fits : (c : ℕ) (form text : List ℕ) → isSlot c ≡ false → fitOf (c ∷ form) (c ∷ text) ≡ fitOf form text
-unfolding fitOf
-byte-fits c form text e = rw (byte-piece c (c ∷ text) e, eq-eqb c c refl)
-
 byte-misfits : (c d : ℕ) (form text : List ℕ) → isSlot c ≡ false → eqb d c ≡ false → fitOf (c ∷ form) (d ∷ text) ≡ misfit
 unfolding fitOf
-byte-misfits c d form text e h = rw (byte-piece c (d ∷ text) e, h)
-
-byte-printed : (d : ℕ) (form : List ℕ) (ns : List Number) → isSlot d ≡ false → printed (d ∷ form) ns ≡ d ∷ printed form ns
-unfolding printed
-byte-printed d form ns e = rw e
+byte-misfits c d form text e h = rw (piece-byte c (d ∷ text) e, h)
 
 pub told-misfits : (other form : List ℕ) (ns : List Number) → told other form ≡ true → fitOf other (printed form ns) ≡ misfit
 unfolding told
@@ -52,5 +32,34 @@ told-misfits (c ∷ other) (d ∷ form) ns e = go (isSlot c) (isSlot d) (eqb d c
     go true y z p q r ih h = absurd (true≢false (sym h))
     go false true z p q r ih h = absurd (true≢false (sym h))
     go false false true p q r ih h =
-        ap (fitOf (c ∷ other)) (byte-printed d form ns q ∙ ap (λ (b : ℕ). b ∷ printed form ns) (eqb-true d c r)) ∙ byte-fits c other (printed form ns) p ∙ ih h
+        ap (fitOf (c ∷ other)) (byte-printed d form ns q ∙ ap (λ (b : ℕ). b ∷ printed form ns) (eqb-true d c r)) ∙ byte-fits other c (printed form ns) p ∙ ih h
     go false false false p q r ih h = ap (fitOf (c ∷ other)) (byte-printed d form ns q) ∙ byte-misfits c d other (printed form ns) p r
+
+-- the first two bytes of a form are no slots
+abbrev pub plainTwo : List ℕ → Bool
+plainTwo [] = false
+plainTwo (a ∷ []) = false
+plainTwo (a ∷ b ∷ form) = cond (isSlot a || isSlot b) false true
+
+none-misfits : (c : ℕ) (form : List ℕ) → isSlot c ≡ false → fitOf (c ∷ form) [] ≡ misfit
+unfolding fitOf
+none-misfits c form e = rw (piece-byte c [] e)
+
+pub second-misfits : (form line : List ℕ) → plainTwo form ≡ true → secondIs (getD form 1 0) line ≡ false → fitOf form line ≡ misfit
+second-misfits [] line e h = absurd (true≢false (sym e))
+second-misfits (a ∷ []) line e h = absurd (true≢false (sym e))
+second-misfits (a ∷ b ∷ form) line e h = go (isSlot a) (isSlot b) refl refl e line h
+  where
+    after : (line : List ℕ) → isSlot b ≡ false → secondIs b (a ∷ line) ≡ false → fitOf (b ∷ form) line ≡ misfit
+    after [] q h = none-misfits b form q
+    after (y ∷ line) q h = byte-misfits b y form line q (rw (le-leb 2 (suc (suc (length line))) (omega arith)) at h)
+
+    go : (x y : Bool) → isSlot a ≡ x → isSlot b ≡ y → cond (x || y) false true ≡ true → (line : List ℕ) → secondIs b line ≡ false → fitOf (a ∷ b ∷ form) line ≡ misfit
+    go true y p q e line h = absurd (true≢false (sym e))
+    go false true p q e line h = absurd (true≢false (sym e))
+    go false false p q e [] h = none-misfits a (b ∷ form) p
+    go false false p q e (d ∷ line) h = first (eqb d a) refl
+      where
+        first : (t : Bool) → eqb d a ≡ t → fitOf (a ∷ b ∷ form) (d ∷ line) ≡ misfit
+        first true f = ap (λ (x : ℕ). fitOf (a ∷ b ∷ form) (x ∷ line)) (eqb-true d a f) ∙ byte-fits (b ∷ form) a line p ∙ after line q h
+        first false f = byte-misfits a d (b ∷ form) line p f

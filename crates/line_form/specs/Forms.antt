@@ -1,14 +1,14 @@
 -- Lines that have a form (document 01, "Frame and result"). A form is a text in which the byte % stands for a float, # for an integer, and
 -- every other byte for itself; "One space between parts, LF after each line": both stand in the form. Definitions only.
 use mathlib.Core.Path.{_≡_}
-use mathlib.Core.Bool.{Bool, true, false, _||_, cond}
+use mathlib.Core.Bool.{Bool, true, false, _&&_, _||_, cond}
 use mathlib.Core.List.{List, [], _∷_, _++_}
 use Prim.Native.Nat.{ℕ, _+_, _<_, _≤_}
 use Prim.Native.Char.{code}
 use Prim.Native.String.{String, [] as []ˢ, _∷_ as _∷ˢ_}
 use lib.IntN.{ℤ, pos, negsuc}
 use lib.Dec.{ltb, leb, eqb}
-use lib.ListN.{drop}
+use lib.ListN.{length, getD, drop}
 use Rattle.binary32.specs.Hex.{hexText, readBits}
 use Rattle.binary32.specs.declared.hex.Bits.{Bits}
 use Rattle.binary32.specs.declared.hex.Bits.the-variants.{Number as EightDigits, Broken}
@@ -85,6 +85,10 @@ unfoldable pub fitOf : List ℕ → List ℕ → Fitted
 fitOf [] [] = fitted []
 fitOf [] (b ∷ line) = misfit
 fitOf (c ∷ form) line = then (pieceOf c line) (λ text. fitOf form text)
+
+-- the second byte of a line is b
+abbrev pub secondIs : ℕ → List ℕ → Bool
+secondIs b line = leb 2 (length line) && eqb (getD line 1 0) b
 
 -- ---- numbers that a form has room for
 

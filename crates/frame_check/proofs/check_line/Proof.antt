@@ -1,76 +1,43 @@
 -- `frame_check::check_line` meets its contract, a check after the other. Assumes nothing.
-use mathlib.Core.Path.{refl, sym, _∙_}
-use Rattle.refusal.specs.declared.Refusal.{Refusal}
-use Rattle.arguments.proofs.Chains.{refused, passed}
-use Rattle.frame_check.specs.Checks.{checksInOrder, checkedHeld}
+use mathlib.Core.Path.{_≡_, sym, _∙_}
+use native.Mathlib.Omega.{arith}
 use borrow.Author.Needs.{needs}
+use Rattle.frame_line.specs.Held.{outsideHeld}
+use Rattle.frame_line.proofs.Checking.{has-is}
+use Rattle.frame_check.specs.Checks.{checksInOrder, checkedHeld}
 use Rattle.frame_check.proofs.check_line.Statement.{statement}
 use Rattle.frame_check.proofs.check_line.Tie as tie
 
-cast-given : tie.Need-cast-given
-cast-given c = search needs
+-- what each test of the numbers says
+says-1 : (c : tie.After-has-refusal) → outsideHeld 1 (c .before .before .args .corners) (c .before .before .args .line) ≡ c .has-refusal .result
+says-1 c = sym (has-is _ _ (c .before .before .pre .row-fits) (omega arith) (c .before .refusals-of .ensures) (c .has-refusal .ensures))
 
-some-outside-requires : tie.Need-some-outside-requires
-some-outside-requires c κs = search needs
+says-3 : (c : tie.After-has-refusal2) → outsideHeld 3 (c .before .before .before .before .before .before .args .corners) (c .before .before .before .before .before .before .args .line) ≡ c .has-refusal2 .result
+says-3 c = sym (has-is _ _ (c .before .before .before .before .before .before .pre .row-fits) (omega arith) (c .before .before .before .before .before .refusals-of .ensures) (c .has-refusal2 .ensures))
 
-returns : tie.Need-returns
-unfolding checkedHeld checksInOrder
-returns c = refused _ _ _ (sym (c .before .some-outside .ensures) ∙ c .if1 .taken)
+says-4 : (c : tie.After-has-refusal3) → outsideHeld 4 (c .before .before .before .before .before .before .before .before .args .corners) (c .before .before .before .before .before .before .before .before .args .line) ≡ c .has-refusal3 .result
+says-4 c = sym (has-is _ _ (c .before .before .before .before .before .before .before .before .pre .row-fits) (omega arith) (c .before .before .before .before .before .before .before .refusals-of .ensures) (c .has-refusal3 .ensures))
 
-over-limit-requires : tie.Need-over-limit-requires
-over-limit-requires c κs = search needs
-
-returns-2 : tie.Need-returns-2
-unfolding checkedHeld checksInOrder
-returns-2 c = passed _ _ _ _ (sym (c .before .before .before .some-outside .ensures) ∙ c .before .before .if1 .left) (refused _ _ _ (sym (c .before .over-limit .ensures) ∙ c .if2 .taken))
-
-some-outside-requires-2 : tie.Need-some-outside-requires-2
-some-outside-requires-2 c κs = search needs
-
-returns-3 : tie.Need-returns-3
-unfolding checkedHeld checksInOrder
-returns-3 c = passed _ _ _ _ (sym (c .before .before .before .before .before .some-outside .ensures) ∙ c .before .before .before .before .if1 .left) (passed _ _ _ _ (sym (c .before .before .before .over-limit .ensures) ∙ c .before .before .if2 .left) (refused _ _ _ (sym (c .before .some-outside2 .ensures) ∙ c .if3 .taken)))
-
-some-outside-requires-3 : tie.Need-some-outside-requires-3
-some-outside-requires-3 c κs = search needs
-
-returns-4 : tie.Need-returns-4
-unfolding checkedHeld checksInOrder
-returns-4 c = passed _ _ _ _ (sym (c .before .before .before .before .before .before .before .some-outside .ensures) ∙ c .before .before .before .before .before .before .if1 .left) (passed _ _ _ _ (sym (c .before .before .before .before .before .over-limit .ensures) ∙ c .before .before .before .before .if2 .left) (passed _ _ _ _ (sym (c .before .before .before .some-outside2 .ensures) ∙ c .before .before .if3 .left) (refused _ _ _ (sym (c .before .some-outside3 .ensures) ∙ c .if4 .taken))))
-
-some-outside-requires-4 : tie.Need-some-outside-requires-4
-some-outside-requires-4 c κs = search needs
-
-returns-5 : tie.Need-returns-5
-unfolding checkedHeld checksInOrder
-returns-5 c = passed _ _ _ _ (sym (c .before .before .before .before .before .before .before .before .before .some-outside .ensures) ∙ c .before .before .before .before .before .before .before .before .if1 .left) (passed _ _ _ _ (sym (c .before .before .before .before .before .before .before .over-limit .ensures) ∙ c .before .before .before .before .before .before .if2 .left) (passed _ _ _ _ (sym (c .before .before .before .before .before .some-outside2 .ensures) ∙ c .before .before .before .before .if3 .left) (passed _ _ _ _ (sym (c .before .before .before .some-outside3 .ensures) ∙ c .before .before .if4 .left) (refused _ _ _ (sym (c .before .some-outside4 .ensures) ∙ c .if5 .taken)))))
-
-is-twice-requires : tie.Need-is-twice-requires
-is-twice-requires c κs = record { fits = c .before .before .before .before .before .before .before .before .before .before .pre; on = sym (c .before .before .before .some-outside3 .ensures) ∙ c .before .before .if4 .left; known = sym (c .before .some-outside4 .ensures) ∙ c .if5 .left }
-
-returns-6 : tie.Need-returns-6
-unfolding checkedHeld checksInOrder
-returns-6 c = passed _ _ _ _ (sym (c .before .before .before .before .before .before .before .before .before .before .before .some-outside .ensures) ∙ c .before .before .before .before .before .before .before .before .before .before .if1 .left) (passed _ _ _ _ (sym (c .before .before .before .before .before .before .before .before .before .over-limit .ensures) ∙ c .before .before .before .before .before .before .before .before .if2 .left) (passed _ _ _ _ (sym (c .before .before .before .before .before .before .before .some-outside2 .ensures) ∙ c .before .before .before .before .before .before .if3 .left) (passed _ _ _ _ (sym (c .before .before .before .before .before .some-outside3 .ensures) ∙ c .before .before .before .before .if4 .left) (passed _ _ _ _ (sym (c .before .before .before .some-outside4 .ensures) ∙ c .before .before .if5 .left) (refused _ _ _ (sym (c .before .is-twice .ensures) ∙ c .if6 .taken))))))
-
-returns-7 : tie.Need-returns-7
-unfolding checkedHeld checksInOrder
-returns-7 c = passed _ _ _ _ (sym (c .before .before .before .before .before .before .before .before .before .before .before .some-outside .ensures) ∙ c .before .before .before .before .before .before .before .before .before .before .if1 .left) (passed _ _ _ _ (sym (c .before .before .before .before .before .before .before .before .before .over-limit .ensures) ∙ c .before .before .before .before .before .before .before .before .if2 .left) (passed _ _ _ _ (sym (c .before .before .before .before .before .before .before .some-outside2 .ensures) ∙ c .before .before .before .before .before .before .if3 .left) (passed _ _ _ _ (sym (c .before .before .before .before .before .some-outside3 .ensures) ∙ c .before .before .before .before .if4 .left) (passed _ _ _ _ (sym (c .before .before .before .some-outside4 .ensures) ∙ c .before .before .if5 .left) (passed _ Refusal.Duplicate _ _ (sym (c .before .is-twice .ensures) ∙ c .if6 .left) refl)))))
+says-5 : (c : tie.After-has-refusal4) → outsideHeld 5 (c .before .before .before .before .before .before .before .before .before .before .args .corners) (c .before .before .before .before .before .before .before .before .before .before .args .line) ≡ c .has-refusal4 .result
+says-5 c = sym (has-is _ _ (c .before .before .before .before .before .before .before .before .before .before .pre .row-fits) (omega arith) (c .before .before .before .before .before .before .before .before .before .refusals-of .ensures) (c .has-refusal4 .ensures))
 
 pub check-line-spec : {M : Type 1} → statement M
+unfolding checkedHeld checksInOrder
 check-line-spec =
     tie.close
     (tie.spec
-    cast-given
-    some-outside-requires
-    returns
-    over-limit-requires
-    returns-2
-    some-outside-requires-2
-    returns-3
-    some-outside-requires-3
-    returns-4
-    some-outside-requires-4
-    returns-5
-    is-twice-requires
-    returns-6
-    returns-7)
+    (λ c. search needs)
+    (λ c κs. search needs)
+    (λ c κs. search needs)
+    (λ c. rw (says-1 (c .before) ∙ c .if1 .taken))
+    (λ c κs. search needs)
+    (λ c. rw (says-1 (c .before .before .before) ∙ c .before .before .if1 .left, ← c .before .over-limit .ensures, c .if2 .taken))
+    (λ c κs. search needs)
+    (λ c. rw (says-1 (c .before .before .before .before .before) ∙ c .before .before .before .before .if1 .left, ← c .before .before .before .over-limit .ensures, c .before .before .if2 .left, says-3 (c .before) ∙ c .if3 .taken))
+    (λ c κs. search needs)
+    (λ c. rw (says-1 (c .before .before .before .before .before .before .before) ∙ c .before .before .before .before .before .before .if1 .left, ← c .before .before .before .before .before .over-limit .ensures, c .before .before .before .before .if2 .left, says-3 (c .before .before .before) ∙ c .before .before .if3 .left, says-4 (c .before) ∙ c .if4 .taken))
+    (λ c κs. search needs)
+    (λ c. rw (says-1 (c .before .before .before .before .before .before .before .before .before) ∙ c .before .before .before .before .before .before .before .before .if1 .left, ← c .before .before .before .before .before .before .before .over-limit .ensures, c .before .before .before .before .before .before .if2 .left, says-3 (c .before .before .before .before .before) ∙ c .before .before .before .before .if3 .left, says-4 (c .before .before .before) ∙ c .before .before .if4 .left, says-5 (c .before) ∙ c .if5 .taken))
+    (λ c κs. record { fits = c .before .before .before .before .before .before .before .before .before .before .before .pre; on = says-4 (c .before .before .before) ∙ c .before .before .if4 .left; known = says-5 (c .before) ∙ c .if5 .left })
+    (λ c. rw (says-1 (c .before .before .before .before .before .before .before .before .before .before .before) ∙ c .before .before .before .before .before .before .before .before .before .before .if1 .left, ← c .before .before .before .before .before .before .before .before .before .over-limit .ensures, c .before .before .before .before .before .before .before .before .if2 .left, says-3 (c .before .before .before .before .before .before .before) ∙ c .before .before .before .before .before .before .if3 .left, says-4 (c .before .before .before .before .before) ∙ c .before .before .before .before .if4 .left, says-5 (c .before .before .before) ∙ c .before .before .if5 .left, ← c .before .is-twice .ensures, c .if6 .taken))
+    (λ c. rw (says-1 (c .before .before .before .before .before .before .before .before .before .before .before) ∙ c .before .before .before .before .before .before .before .before .before .before .if1 .left, ← c .before .before .before .before .before .before .before .before .before .over-limit .ensures, c .before .before .before .before .before .before .before .before .if2 .left, says-3 (c .before .before .before .before .before .before .before) ∙ c .before .before .before .before .before .before .if3 .left, says-4 (c .before .before .before .before .before) ∙ c .before .before .before .before .if4 .left, says-5 (c .before .before .before) ∙ c .before .before .if5 .left, ← c .before .is-twice .ensures, c .if6 .left)))

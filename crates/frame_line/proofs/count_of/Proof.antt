@@ -3,11 +3,5 @@ use borrow.Author.Tests.{lt-ltb, le-ltb}
 use Rattle.frame_line.proofs.count_of.Statement.{statement}
 use Rattle.frame_line.proofs.count_of.Tie as tie
 
-returns : tie.Need-returns
-returns c = rw (lt-ltb _ _ (c .if1 .taken))
-
-returns-2 : tie.Need-returns-2
-returns-2 c = rw (le-ltb _ _ (c .if1 .left))
-
 pub count-of-spec : {M : Type 1} → statement M
-count-of-spec = tie.close (tie.spec returns returns-2)
+count-of-spec = tie.close (tie.spec (λ c. rw (lt-ltb _ _ (c .if1 .taken))) (λ c. rw (le-ltb _ _ (c .if1 .left))))

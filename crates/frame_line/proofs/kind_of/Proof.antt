@@ -5,15 +5,6 @@ use Rattle.frame_line.specs.Table.{kindAt}
 use Rattle.frame_line.proofs.kind_of.Statement.{statement}
 use Rattle.frame_line.proofs.kind_of.Tie as tie
 
-mul-result : tie.Need-mul-result
-mul-result c = search needs
-
-array-copy-out-result : tie.Need-array-copy-out-result
-array-copy-out-result c = search needs
-
-returns : tie.Need-returns
-unfolding kindAt
-returns c = refl
-
 pub kind-of-spec : {M : Type 1} → statement M
-kind-of-spec = tie.close (tie.spec mul-result array-copy-out-result returns)
+unfolding kindAt
+kind-of-spec = tie.close (tie.spec (λ c. search needs) (λ c. search needs) (λ c. refl))
