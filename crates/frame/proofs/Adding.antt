@@ -33,7 +33,8 @@ use Rattle.frame_line.proofs.Shapes.{bits-held, whole-held}
 use Rattle.frame_line.proofs.Words.{tame-count}
 use Rattle.frame_check.specs.Checks.{checksInOrder, overLimit, labelTwice, twiceOf, checkedHeld, isSet}
 use Rattle.frame_check.proofs.Laws.{checks-alike, AllFine, fine-all}
-use Rattle.frame_state.specs.State.{cornerLimit, passLimit, withOpening, wordsIn, wordsPut, State, addsAs, adds, placeCount, wordLimit, atStage, nothing-said, arrays, state}
+use Rattle.sizes.specs.Sizes.{cornerLimit, passLimit, placeCount, allPassWords}
+use Rattle.frame_state.specs.State.{withOpening, wordsIn, wordsPut, State, addsAs, adds, atStage, nothing-said, arrays, state}
 use Rattle.frame_state.specs.declared.PassWords.{PassWords}
 use Rattle.frame.specs.Frame.{outsideIn, overIn, twiceIn, Parts, sameCell, someOf, doubled, checkedLine, opened, adding, added, no-parts}
 use Rattle.frame.specs.Reading.{cornerTaken, HoldsLabels, Holds, HoldsCorners, HoldsPasses, FrameHeld}
@@ -306,7 +307,7 @@ no-labels =
       corners = λ k h. none-set cornerLimit k h;
     }
 
-pub nothing-held : (x : Float) → FrameHeld no-parts (state nothing-said (arrays (replicate cornerLimit x) (replicate cornerLimit x) (replicate cornerLimit x) (replicate placeCount 0) (replicate cornerLimit 0) (replicate wordLimit 0)))
+pub nothing-held : (x : Float) → FrameHeld no-parts (state nothing-said (arrays (replicate cornerLimit x) (replicate cornerLimit x) (replicate cornerLimit x) (replicate placeCount 0) (replicate cornerLimit 0) (replicate allPassWords 0)))
 unfolding allWords
 nothing-held x =
     let front = holds-none cornerLimit x in
@@ -314,5 +315,5 @@ nothing-held x =
       settings-are = refl;
       corners = record { count = refl; xs-held = front; ys-held = front; pitches-held = front };
       labels = no-labels;
-      passes = record { count = refl; words-held = holds-none wordLimit 0 };
+      passes = record { count = refl; words-held = holds-none allPassWords 0 };
     }

@@ -16,10 +16,11 @@ use Rattle.refusal.specs.Said.{number-and-line}
 use Rattle.arguments.specs.Front.{over}
 use Rattle.arguments.proofs.Chains.{or-false-both}
 use Rattle.line_form.specs.Lines.{linesOf}
-use Rattle.frame_state.specs.State.{cornerLimit, placeCount, passWords, wordLimit, Arrays, state}
+use Rattle.sizes.specs.Sizes.{cornerLimit, placeCount, passSize, allPassWords, byteLimit}
+use Rattle.frame_state.specs.State.{Arrays, state}
 use Rattle.frame_state.specs.declared.Progress.{Progress}
 use Rattle.frame.specs.Reading.{Copies, Holds, FrameHeld, ReadAs, refused-as, held-as, LongEnough, buffers}
-use Rattle.frame.specs.Frame.{Frame, partsOf, FrameRead, refused-at, accepted, readLines, byteLimit, readFrame}
+use Rattle.frame.specs.Frame.{Frame, partsOf, FrameRead, refused-at, accepted, readLines, readFrame}
 use Rattle.frame.specs.ReadFrame.{xsOf, ysOf, pitchesOf, settingsOf, sheetOf, Buffers, frameOut, tooShort, leaves, readInto, FrameOut, unlessShort}
 use Rattle.frame.specs.declared.FrameAnswer.{FrameAnswer}
 use Rattle.frame.specs.declared.LinesRead.{LinesRead}
@@ -93,7 +94,7 @@ module _ {f : FrameRead} {p : Progress} {a : Arrays} (w : Accepting f p a) where
 
   -- an accepted frame is written
   pub text-accepted : (b : Buffers) (xs ys pitches : List Float) (sheet passes : List ℕ) → xs ≡ over (take (p .corners) (a .xs)) (b .xs) → ys ≡ over (take (p .corners) (a .ys)) (b .ys)
-      → pitches ≡ over (take (p .corners) (a .pitches)) (b .pitches) → sheet ≡ over (take placeCount (a .sheet)) (b .sheet) → passes ≡ over (take (passWords * p .passes) (a .passes)) (b .passes)
+      → pitches ≡ over (take (p .corners) (a .pitches)) (b .pitches) → sheet ≡ over (take placeCount (a .sheet)) (b .sheet) → passes ≡ over (take (passSize * p .passes) (a .passes)) (b .passes)
       → frameOut (FrameAnswer.Accepted (record { settings = p .settings; corners = p .corners; passes = p .passes })) xs ys pitches sheet passes ≡ leaves f b
   unfolding settingsOf xsOf ysOf pitchesOf
   text-accepted b xs ys pitches sheet passes x y z s q =
@@ -114,7 +115,7 @@ module _ (text : List ℕ) (b : Buffers) where
         ys-long = ltb-false (length (b .ys)) cornerLimit (j .0);
         pitches-long = ltb-false (length (b .pitches)) cornerLimit (k .0);
         sheet-long = ltb-false (length (b .sheet)) placeCount (l .0);
-        passes-long = ltb-false (length (b .passes)) wordLimit (l .1);
+        passes-long = ltb-false (length (b .passes)) allPassWords (l .1);
       }
 
   pub call-short : tooShort b ≡ true → leaves (refused-at Refusal.BufferTooShort 0) b ≡ readInto text b

@@ -5,6 +5,7 @@ use mathlib.Core.List.{List, [], _∷_, _++_}
 use Prim.Native.Nat.{ℕ, suc}
 use lib.Dec.{ltb}
 use lib.ListN.{length}
+use Rattle.sizes.specs.Sizes.{byteLimit}
 use Rattle.refusal.specs.declared.Refusal.{Refusal}
 use Rattle.sheet.specs.Cells.{eqZ}
 use Rattle.sheet.specs.declared.Cell.{Cell}
@@ -161,8 +162,5 @@ readLines n stage f [] = atEnd n stage f
 readLines n stage f (text ∷ texts) = going n (stepLine stage f text) (λ stage' f'. readLines (suc n) stage' f' texts)
 
 -- "At most 65,536 bytes": byte length first, as line 0
-abbrev pub byteLimit : ℕ
-byteLimit = 65536
-
 unfoldable pub readFrame : List ℕ → FrameRead
 readFrame text = cond (ltb byteLimit (length text)) (refused-at Refusal.OverLimit 0) (readLines 1 0 [] (linesOf text))

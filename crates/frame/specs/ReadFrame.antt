@@ -18,7 +18,7 @@ use Rattle.arguments.specs.declared.Pass.{Pass}
 use Rattle.arguments.specs.declared.Settings.{Settings}
 use Rattle.frame_line.specs.Lines.{LabelLine, PassLine, bare-grow, grow, bare-fill, fill, local}
 use Rattle.arguments.specs.Front.{over}
-use Rattle.frame_state.specs.State.{cornerLimit, placeCount, wordLimit}
+use Rattle.sizes.specs.Sizes.{cornerLimit, placeCount, allPassWords}
 use Rattle.frame.specs.Frame.{Frame, Opening, partsOf, FrameRead, refused-at, accepted, readFrame}
 use Rattle.frame.specs.declared.FrameHead.{FrameHead}
 use Rattle.frame.specs.declared.FrameAnswer.{FrameAnswer}
@@ -136,7 +136,7 @@ tooShort b =
     || (ltb (length (b .ys)) cornerLimit
     || (ltb (length (b .pitches)) cornerLimit
     || (ltb (length (b .sheet)) placeCount
-    || ltb (length (b .passes)) wordLimit)))
+    || ltb (length (b .passes)) allPassWords)))
 
 -- only an accepted frame writes: the corners and passes at the front of their buffers, and all 16,384 places of the sheet
 abbrev pub leaves : FrameRead → Buffers → FrameOut

@@ -17,7 +17,8 @@ use Rattle.frame_line.specs.Table.{turnAt}
 use Rattle.frame_line.specs.declared.HeldLine.{HeldLine}
 use Rattle.frame_line.specs.declared.Turn.{Turn}
 use Rattle.frame_check.specs.Checks.{isSet, checkedHeld}
-use Rattle.frame_state.specs.State.{cornerLimit, placeCount, passWords, wordLimit, atStage, Arrays, State, state, adds}
+use Rattle.sizes.specs.Sizes.{cornerLimit, placeCount, passSize, allPassWords}
+use Rattle.frame_state.specs.State.{atStage, Arrays, State, state, adds}
 use Rattle.frame_state.specs.declared.Progress.{Progress}
 use Rattle.frame.specs.Frame.{Frame, Parts, partsOf, sameCell, someOf, FrameRead, refused-at, accepted}
 use Rattle.frame.specs.ReadFrame.{floatOf, settingsIn, labelled, allWords, Buffers}
@@ -66,7 +67,7 @@ pub record HoldsLabels (ls : List LabelLine) (sheet used : List ℕ) : Type 0 wh
 -- the words of m passes stand at the front of an array
 pub record HoldsPasses (ps : List PassLine) (m : ℕ) (words : List ℕ) : Type 0 where
   pub count : m ≡ length ps
-  pub words-held : Holds wordLimit (passWords * m) words (allWords ps)
+  pub words-held : Holds allPassWords (passSize * m) words (allWords ps)
 
 -- the parts of a frame are held
 pub record FrameHeld (f : Parts) (s : State) : Type 0 where
@@ -115,7 +116,7 @@ pub record LongEnough (b : Buffers) : Type 0 where
   pub ys-long : cornerLimit ≤ length (b .ys)
   pub pitches-long : cornerLimit ≤ length (b .pitches)
   pub sheet-long : placeCount ≤ length (b .sheet)
-  pub passes-long : wordLimit ≤ length (b .passes)
+  pub passes-long : allPassWords ≤ length (b .passes)
 
 abbrev pub buffers : List Float → List Float → List Float → List ℕ → List ℕ → Buffers
 buffers xs ys pitches sheet passes = record { xs = xs; ys = ys; pitches = pitches; sheet = sheet; passes = passes }

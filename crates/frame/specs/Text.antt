@@ -13,8 +13,8 @@ use Rattle.frame_line.specs.Table.{turnAt, mayEnd}
 use Rattle.frame_line.specs.Lines.{Line, kindOf, Proper, lineText, LabelLine, LineRead, ill-formed, line, readLine}
 use Rattle.frame_line.specs.Checks.{outsideLine}
 use Rattle.frame_line.specs.declared.Turn.{Turn}
-use Rattle.frame_state.specs.State.{cornerLimit, passLimit}
-use Rattle.frame.specs.Frame.{Frame, partsOf, outsideIn, overIn, twiceIn, onward, stepLine, refused-at, accepted, byteLimit, readFrame}
+use Rattle.sizes.specs.Sizes.{cornerLimit, passLimit, byteLimit}
+use Rattle.frame.specs.Frame.{Frame, partsOf, outsideIn, overIn, twiceIn, onward, stepLine, refused-at, accepted, readFrame}
 
 -- ---- printed
 

@@ -7,7 +7,8 @@ ghost use lib.ListN.{take};
 ghost use Rattle.frame_line.specs.Lines.{readLine};
 ghost use Rattle.frame_line.specs.Held.{heldRead};
 ghost use Rattle.line_form.specs.Lines.{linesOf};
-ghost use Rattle.frame_state.specs.State.{cornerLimit, placeCount, wordLimit, nothing-said, arrays, state};
+ghost use Rattle.sizes.specs.Sizes.{cornerLimit, placeCount, allPassWords};
+ghost use Rattle.frame_state.specs.State.{nothing-said, arrays, state};
 ghost use Rattle.arguments.specs.Front.{over};
 ghost use Rattle.frame.specs.Frame.{no-parts, readLines};
 ghost use Rattle.frame.specs.ReadFrame.{frameOut, tooShort, leaves, readInto};
@@ -16,16 +17,14 @@ ghost use Rattle.frame.specs.Reading.{FrameHeld, Room, went, heldStep, R
 use arguments::Checked;
 use arguments::Settings;
 use frame_line::Turn;
-use frame_state::CORNERS;
-use frame_state::PASS_WORDS;
-use frame_state::PLACES;
 use frame_state::Progress;
-use frame_state::WORDS;
 use line_form::text::line_end;
 use refusal::Refusal;
-
-// At most so many bytes.
-pub const BYTES: usize = 65536;
+use sizes::ALL_PASS_WORDS;
+use sizes::BYTES;
+use sizes::CORNERS;
+use sizes::PASS_WORDS;
+use sizes::PLACES;
 
 // What an accepted frame says besides what is written to the buffers: cell size, axes and band, and how many corners and passes there are.
 pub struct FrameHead {
@@ -60,7 +59,7 @@ fn step_line(
     pitches: &mut [f32; CORNERS],
     sheet: &mut [u16; PLACES],
     used: &mut [u8; CORNERS],
-    passes: &mut [u32; WORDS],
+    passes: &mut [u32; ALL_PASS_WORDS],
     line: &[u8],
 ) -> Stepped
     requires { ⌜ Room p (arrays (now xs) (now ys) (now pitches) (now sheet) (now used) (now passes)) ⌝ }
@@ -100,7 +99,7 @@ fn read_lines(
     pitches: &mut [f32; CORNERS],
     sheet: &mut [u16; PLACES],
     used: &mut [u8; CORNERS],
-    passes: &mut [u32; WORDS],
+    passes: &mut [u32; ALL_PASS_WORDS],
 ) -> LinesRead
     requires { ⌜ FrameHeld no-parts (state nothing-said (arrays (now xs) (now ys) (now pitches) (now sheet) (now used) (now passes))) ⌝ }
     ensures { λ r. ⌜ ReadAs (readLines 1 0 [] (linesOf (now (text .entry)))) r (arrays (now (xs .exit)) (now (ys .exit)) (now (pitches .exit)) (now (sheet .exit)) (now (used .exit)) (now (passes .exit))) ⌝ }
@@ -153,8 +152,8 @@ fn copy_sheet(from: &[u16; PLACES], to: &mut [u16])
 }
 
 // The first n words are copied to the front of a buffer.
-fn copy_words(from: &[u32; WORDS], n: usize, to: &mut [u32])
-    requires { ⌜ Copies wordLimit n (now from) (now to) ⌝ }
+fn copy_words(from: &[u32; ALL_PASS_WORDS], n: usize, to: &mut [u32])
+    requires { ⌜ Copies allPassWords n (now from) (now to) ⌝ }
     ensures { λ _. ⌜ now (to .exit) ≡ over (take n (now (from .entry))) (now (to .entry)) ⌝ }
 {
     let mut i = 0usize;
@@ -180,7 +179,7 @@ fn too_short(xs: &[f32], ys: &[f32], pitches: &[f32], sheet: &[u16], passes: &[u
     if sheet.len() < PLACES {
         return true;
     }
-    passes.len() < WORDS
+    passes.len() < ALL_PASS_WORDS
 }
 
 // A text that is not too long, with buffers that are long enough.
@@ -200,7 +199,7 @@ fn read_text(
     let mut own_pitches = [0.0f32; CORNERS];
     let mut own_sheet = [0u16; PLACES];
     let mut own_used = [0u8; CORNERS];
-    let mut own_passes = [0u32; WORDS];
+    let mut own_passes = [0u32; ALL_PASS_WORDS];
     let read = read_lines(
         text,
         &mut own_xs,

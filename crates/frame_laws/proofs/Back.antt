@@ -21,7 +21,8 @@ use Rattle.frame_line.specs.declared.Turn.{Turn}
 use Rattle.frame_line.proofs.Laws.{line-reads-back, line-prints-back}
 use Rattle.frame_line.proofs.Words.{counts-alike}
 use Rattle.frame_check.proofs.Laws.{all-fine}
-use Rattle.frame.specs.Frame.{outsideIn, Frame, Parts, added, partsFrom, no-parts, partsOf, checkedLine, Step, onward, stepBy, stepWith, stepLine, FrameRead, refused-at, accepted, atEnd, going, readLines, byteLimit, readFrame}
+use Rattle.sizes.specs.Sizes.{byteLimit}
+use Rattle.frame.specs.Frame.{outsideIn, Frame, Parts, added, partsFrom, no-parts, partsOf, checkedLine, Step, onward, stepBy, stepWith, stepLine, FrameRead, refused-at, accepted, atEnd, going, readLines, readFrame}
 use Rattle.frame.specs.Text.{frameText, All, InOrder, ends, next, InRange, FrameReadsBack, FramePrintsBack, Passed, none-yet, one-more}
 use Rattle.frame.proofs.Adding.{below-or-not, line-fine}
 use Rattle.frame.proofs.Turn.{parts-more}

@@ -17,7 +17,7 @@ use Rattle.sheet.proofs.Words.{Changed, attached-changes, label-on, label-here,
 use Rattle.invariants.proofs.Marks.{cell-dec}
 use Rattle.labels.specs.Used.{OneCell}
 use Rattle.frame_line.specs.Lines.{LabelLine}
-use Rattle.frame_state.specs.State.{cornerLimit, placeCount}
+use Rattle.sizes.specs.Sizes.{cornerLimit, placeCount}
 use Rattle.frame.specs.Frame.{Frame, partsOf}
 use Rattle.frame.specs.ReadFrame.{labelled, sheetOf}
 use Rattle.frame.specs.Text.{All, Sound, Apart, WithinLimits}

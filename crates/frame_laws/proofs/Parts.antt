@@ -22,8 +22,8 @@ use Rattle.frame_line.specs.declared.Sort.{Sort}
 use Rattle.frame_line.specs.declared.Turn.{Turn}
 use Rattle.frame_line.proofs.Said.{CornerTame, PassTame, corner-said, label-exact, pass-said}
 use Rattle.frame_check.specs.Checks.{overLimit, twiceOf}
-use Rattle.frame_state.specs.State.{cornerLimit, passLimit}
-use Rattle.frame.specs.Frame.{Parts, adding, added, partsFrom, overIn, twiceIn, Frame, no-parts, partsOf, sameCell, clash, someOf, doubled, byteLimit}
+use Rattle.sizes.specs.Sizes.{cornerLimit, passLimit, byteLimit}
+use Rattle.frame.specs.Frame.{Parts, adding, added, partsFrom, overIn, twiceIn, Frame, no-parts, partsOf, sameCell, clash, someOf, doubled}
 use Rattle.frame.specs.Text.{All, InOrder, ends, next, frameText, InRange, Sound, Apart, WithinLimits, LabelsSound}
 use Rattle.frame.proofs.Adding.{same-cell, cell-same}
 use Rattle.frame_laws.proofs.Order.{opens, isCorner, past-corners, asked-corner}

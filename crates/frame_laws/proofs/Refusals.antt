@@ -17,7 +17,8 @@ use Rattle.frame_line.specs.Table.{turnAt, mayEnd}
 use Rattle.frame_line.specs.Lines.{Line, kindOf, LineRead, ill-formed, line, readLine}
 use Rattle.frame_line.specs.declared.Turn.{Turn}
 use Rattle.frame_check.specs.Checks.{checksInOrder}
-use Rattle.frame.specs.Frame.{outsideIn, overIn, twiceIn, Frame, partsOf, checkedLine, Step, stopped, onward, stepBy, stepWith, stepLine, FrameRead, refused-at, accepted, atEnd, going, readLines, byteLimit, readFrame}
+use Rattle.sizes.specs.Sizes.{byteLimit}
+use Rattle.frame.specs.Frame.{outsideIn, overIn, twiceIn, Frame, partsOf, checkedLine, Step, stopped, onward, stepBy, stepWith, stepLine, FrameRead, refused-at, accepted, atEnd, going, readLines, readFrame}
 use Rattle.frame.specs.Text.{FirstCheck, is-first, too-many, is-wild, is-off-sheet, is-unknown, is-doubled, FirstFault, has-no-form, not-its-turn, fails, Passed, none-yet, one-more, Refused, too-long, at-line, missing, RefusalsMean}
 use Rattle.frame.proofs.Adding.{below-or-not}
 

@@ -28,7 +28,7 @@ use Rattle.frame_line.specs.Checks.{wildBits, wildWhole}
 use Rattle.frame_line.specs.declared.Turn.{Turn}
 use Rattle.frame_line.proofs.Words.{counted}
 use Rattle.frame_line.proofs.Said.{AxesTame, PassTame, cell-said, axes-said, band-said}
-use Rattle.frame_state.specs.State.{cornerLimit}
+use Rattle.sizes.specs.Sizes.{cornerLimit}
 use Rattle.frame.specs.Frame.{Frame, Opening, Parts, opened, adding, added, partsFrom, no-parts, partsOf}
 use Rattle.frame.specs.Text.{All, InOrder, ends, next, InRange, WithinLimits}
 use Rattle.frame.specs.ReadFrame.{floatOf, xsOf, ysOf, pitchesOf, sheetOf, settingsOf, fullOf, passOf}

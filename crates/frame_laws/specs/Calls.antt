@@ -13,7 +13,7 @@ use Rattle.passes.specs.Step.{CornerLists, Rooms}
 use Rattle.passes.specs.Run.{Call, PassStats, run, sheetOf as sheetLeft}
 use Rattle.invariants.specs.Calls.{Standing, Invariant, CallInside, Accepts}
 use Rattle.frame_line.specs.Lines.{LabelLine, PassLine}
-use Rattle.frame_state.specs.State.{cornerLimit}
+use Rattle.sizes.specs.Sizes.{cornerLimit}
 use Rattle.frame.specs.Frame.{Frame, partsOf, readFrame, accepted}
 use Rattle.frame.specs.Text.{All}
 use Rattle.frame.specs.ReadFrame.{xsOf, ysOf, pitchesOf, sheetOf, settingsOf, fullOf, passOf}

@@ -20,7 +20,8 @@ use Rattle.frame_line.proofs.Checking.{tame-finite}
 use Rattle.frame_line.proofs.Words.{word-tame}
 use Rattle.frame_check.specs.Checks.{overLimit, twiceHeld, checkedHeld}
 use Rattle.frame_check.proofs.Laws.{AllFine, fine-all, label-fits}
-use Rattle.frame_state.specs.State.{cornerLimit, passLimit, Tame, TameOpening, CornerFits, LabelRoom, Arrays, Addable}
+use Rattle.sizes.specs.Sizes.{cornerLimit, passLimit}
+use Rattle.frame_state.specs.State.{Tame, TameOpening, CornerFits, LabelRoom, Arrays, Addable}
 use Rattle.frame_state.specs.declared.Progress.{Progress}
 use Rattle.frame_state.specs.declared.PassWords.{PassWords}
 

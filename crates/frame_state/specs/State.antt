@@ -7,6 +7,7 @@ use Prim.Native.Nat.{ℕ, _+_, _*_, _<_}
 use lib.Dec.{T}
 use lib.ListN.{length, getD, set}
 use lib.Ieee.{Float, binary32, ofBits, nanBits}
+use Rattle.sizes.specs.Sizes.{placeCount, cornerLimit, passSize}
 use Rattle.sheet.specs.Words.{attached}
 use Rattle.predict.specs.declared.Grid.{Grid}
 use Rattle.predict.specs.declared.Vector.{Vector}
@@ -25,25 +26,6 @@ use Rattle.frame_state.specs.declared.PassWords.{PassWords}
 
 abbrev floatOf : ℕ → Float
 floatOf b = ofBits binary32 b
-
--- ---- sizes
-
--- "At most .. 1,024 corners, 16 passes"
-abbrev pub cornerLimit : ℕ
-cornerLimit = 1024
-
-abbrev pub passLimit : ℕ
-passLimit = 16
-
--- 128 times 128 places of the sheet; the words of a pass, and of all passes
-abbrev pub placeCount : ℕ
-placeCount = 16384
-
-abbrev pub passWords : ℕ
-passWords = 6
-
-abbrev pub wordLimit : ℕ
-wordLimit = passLimit * passWords
 
 -- ---- numbers that a float holds
 
@@ -169,7 +151,7 @@ wordsIn PassKind.Local v = localWords v
 -- the words of the m-th pass
 abbrev pub wordsPut : ℕ → PassWords → List ℕ → List ℕ
 wordsPut m w l =
-    let at = passWords * m in
+    let at = passSize * m in
     set (set (set (set (set (set l at (w .kind)) (at + 1) (w .search)) (at + 2) (w .factor)) (at + 3) (w .reach)) (at + 4) (w .rounds)) (at + 5) (w .depth)
 
 -- ---- all of it

@@ -2,7 +2,8 @@
 
 ghost use mathlib.Core.Path.{_≡_};
 ghost use Prim.Native.Nat.{_<_};
-ghost use Rattle.frame_state.specs.State.{cornerLimit, passLimit, Tame, TameAxes, nothing-said, atStage, withCellSize, withAxes, withBand, TameOpening, withOpening, withSettings, withCorner, withPass, CornerFits, CornerPut, LabelRoom, LabelPut, growWords, fillWords, localWords, wordsIn, wordsPut, arrays, state, Addable, adds};
+ghost use Rattle.sizes.specs.Sizes.{cornerLimit, passLimit};
+ghost use Rattle.frame_state.specs.State.{Tame, TameAxes, nothing-said, atStage, withCellSize, withAxes, withBand, TameOpening, withOpening, withSettings, withCorner, withPass, CornerFits, CornerPut, LabelRoom, LabelPut, growWords, fillWords, localWords, wordsIn, wordsPut, arrays, state, Addable, adds};
 use arguments::Settings;
 use frame_line::HeldLabel;
 use frame_line::HeldLine;
@@ -12,17 +13,10 @@ use frame_line::PassKind;
 use frame_line::count_of;
 use predict::Grid;
 use predict::Vector;
-
-// At most so many corners and passes; the places of the sheet; the words of a pass, and of all passes.
-pub const CORNERS: usize = 1024;
-
-pub const PASSES: usize = 16;
-
-pub const PLACES: usize = 16384;
-
-pub const PASS_WORDS: usize = 6;
-
-pub const WORDS: usize = PASSES * PASS_WORDS;
+use sizes::ALL_PASS_WORDS;
+use sizes::CORNERS;
+use sizes::PASS_WORDS;
+use sizes::PLACES;
 
 // Cell size, axes and band, how many corners and passes there are, and the stage that the lines have come to.
 pub struct Progress {
@@ -270,7 +264,7 @@ fn words_of(kind: PassKind, v: [u32; 5]) -> PassWords
 }
 
 // The words of the pass m are written.
-fn put_pass(passes: &mut [u32; WORDS], m: usize, words: PassWords)
+fn put_pass(passes: &mut [u32; ALL_PASS_WORDS], m: usize, words: PassWords)
     requires { ⌜ m < passLimit ⌝ }
     ensures { λ _. ⌜ now (passes .exit) ≡ wordsPut m words (now (passes .entry)) ⌝ }
 {
@@ -291,7 +285,7 @@ pub fn add_line(
     pitches: &mut [f32; CORNERS],
     sheet: &mut [u16; PLACES],
     used: &mut [u8; CORNERS],
-    passes: &mut [u32; WORDS],
+    passes: &mut [u32; ALL_PASS_WORDS],
     line: HeldLine,
 ) -> Progress
     requires { ⌜ Addable p (arrays (now xs) (now ys) (now pitches) (now sheet) (now used) (now passes)) line ⌝ }

@@ -16,7 +16,7 @@ use Rattle.passes.specs.Step.{CornerLists}
 use Rattle.passes.specs.Run.{PassStats, step}
 use Rattle.passes.specs.declared.PassAnswer.{PassAnswer}
 use Rattle.pass_call.specs.Call.{callOf}
-use Rattle.report_line.specs.Sizes.{outcomeSize}
+use Rattle.sizes.specs.Sizes.{outcomeSize}
 use Rattle.report.specs.Asked.{withOutcome}
 use Rattle.arguments.specs.Front.{over}
 

@@ -7,7 +7,7 @@ ghost use Rattle.arguments.specs.declared.Pass.{Pass};
 ghost use Rattle.passes.specs.Step.{cornerLists};
 ghost use Rattle.passes.specs.Run.{step};
 ghost use Rattle.pass_call.specs.Call.{callOf};
-ghost use Rattle.report_line.specs.Sizes.{outcomeSize};
+ghost use Rattle.sizes.specs.Sizes.{outcomeSize};
 ghost use Rattle.grid_export.specs.Passes.{settingsOf, growParams, fillParams, localParams, answerNumber, passLeft, passTold, passExported};
 use arguments::FillParams;
 use arguments::GrowParams;
@@ -17,7 +17,7 @@ use arguments::Settings;
 use passes::PassAnswer;
 use predict::Grid;
 use predict::Vector;
-use report_line::sizes::OUTCOME_WORDS;
+use sizes::OUTCOME_WORDS;
 
 // Cell size, axes and band.
 fn settings_of(

@@ -6,15 +6,15 @@
 ghost use mathlib.Core.Path.{_≡_};
 ghost use Prim.Native.Nat.{_*_, _<_};
 ghost use lib.ListN.{length};
-ghost use Rattle.report_line.specs.Sizes.{places, mostCorners, allPassWords, allOutcomeWords};
+ghost use Rattle.sizes.specs.Sizes.{placeCount, cornerLimit, allPassWords, allOutcomeWords};
 ghost use Rattle.recovery.specs.Answer.{CanSay, FewPasses};
 ghost use Rattle.recover_say.specs.Said.{PieceText, putOf, PutSo, Told, ToldOf};
 use libc::STDOUT_FILENO;
 use recovery::Recovered;
-use report_line::sizes::ALL_OUTCOME_WORDS;
-use report_line::sizes::ALL_PASS_WORDS;
-use report_line::sizes::CORNERS;
-use report_line::sizes::PLACES;
+use sizes::ALL_OUTCOME_WORDS;
+use sizes::ALL_PASS_WORDS;
+use sizes::CORNERS;
+use sizes::PLACES;
 
 // ---- buffers
 
@@ -26,13 +26,13 @@ pub fn text_buffer() -> [u8; 65537]
 }
 
 fn float_buffer() -> [f32; CORNERS]
-    ensures { λ r. ⌜ mostCorners ≡ length r ⌝ }
+    ensures { λ r. ⌜ cornerLimit ≡ length r ⌝ }
 {
     [0.0; CORNERS]
 }
 
 fn sheet_buffer() -> [u16; PLACES]
-    ensures { λ r. ⌜ places ≡ length r ⌝ }
+    ensures { λ r. ⌜ placeCount ≡ length r ⌝ }
 {
     [0; PLACES]
 }
@@ -44,13 +44,13 @@ fn pass_buffer() -> [u32; ALL_PASS_WORDS]
 }
 
 fn queue_buffer() -> [u16; 4 * CORNERS]
-    ensures { λ r. ⌜ 4 * mostCorners ≡ length r ⌝ }
+    ensures { λ r. ⌜ 4 * cornerLimit ≡ length r ⌝ }
 {
     [0; 4 * CORNERS]
 }
 
 fn attached_buffer() -> [u16; CORNERS]
-    ensures { λ r. ⌜ mostCorners ≡ length r ⌝ }
+    ensures { λ r. ⌜ cornerLimit ≡ length r ⌝ }
 {
     [0; CORNERS]
 }

@@ -16,7 +16,8 @@ use Rattle.frame.specs.ReadFrame.{sheetOf, Buffers}
 use Rattle.frame_laws.specs.Calls.{cornersOf, callsOf}
 use Rattle.report_line.specs.Refused.{refusedText}
 use Rattle.report_line.specs.Result.{resultText, resultFrom, Piece, resultPiece, lineCount}
-use Rattle.report_line.specs.Sizes.{places, mostCorners, mostPasses, outcomeSize, lineRoom}
+use Rattle.sizes.specs.Sizes.{placeCount, cornerLimit, passLimit, outcomeSize}
+use Rattle.report_line.specs.Sizes.{lineRoom}
 use Rattle.report.specs.WriteResult.{statsIn, wildOutcome}
 use Rattle.line_form.specs.Written.{Wrote}
 use Rattle.recovery.specs.declared.Recovered.{Recovered}
@@ -50,10 +51,10 @@ answerText text = answerOf (readFrame text)
 pub record Recorded (f : Frame) (corners passes : ℕ) (sheet words : List ℕ) : Type 0 where
   pub corner-count : corners ≡ length (partsOf f .corners)
   pub pass-count : passes ≡ length (partsOf f .passes)
-  pub few-corners : corners ≤ mostCorners
-  pub few-passes : passes ≤ mostPasses
+  pub few-corners : corners ≤ cornerLimit
+  pub few-passes : passes ≤ passLimit
   pub words-long : outcomeSize * passes ≤ length words
-  pub sheet-long : places ≤ length sheet
+  pub sheet-long : placeCount ≤ length sheet
   pub sheet-so : sheet ≡ frameSheet f
   pub stats-so : statsIn passes words ≡ frameStats f
   pub tame : (k : ℕ) → k < passes → wildOutcome words k ≡ false
@@ -126,14 +127,14 @@ heldPiece (Recovered.Done corners passes) words sheet k room = resultPiece (stat
 
 abbrev pub FewPasses : Recovered → Type 0
 FewPasses (Recovered.Refused r line) = Unit {0}
-FewPasses (Recovered.Done corners passes) = passes ≤ mostPasses
+FewPasses (Recovered.Done corners passes) = passes ≤ passLimit
 
 -- what the printer asks of words and sheet
 pub record Printable (corners passes : ℕ) (words sheet : List ℕ) : Type 0 where
-  pub few-corners : corners ≤ mostCorners
-  pub few-passes : passes ≤ mostPasses
+  pub few-corners : corners ≤ cornerLimit
+  pub few-passes : passes ≤ passLimit
   pub words-long : outcomeSize * passes ≤ length words
-  pub sheet-long : places ≤ length sheet
+  pub sheet-long : placeCount ≤ length sheet
   pub tame : (k : ℕ) → k < passes → wildOutcome words k ≡ false
   pub known : unknownCorner corners sheet ≡ false
   pub once : doubledCorner sheet ≡ false

@@ -14,7 +14,7 @@ use Rattle.passes.specs.Step.{CornerLists}
 use Rattle.passes.specs.Run.{Call, PassStats, step, sheetAfter}
 use Rattle.pass_call.specs.Call.{callOf}
 use Rattle.frame.specs.ReadFrame.{growOf, fillOf, localOf}
-use Rattle.report_line.specs.Sizes.{places, mostCorners, mostPasses, passSize, allPassWords, allOutcomeWords}
+use Rattle.sizes.specs.Sizes.{placeCount, cornerLimit, passLimit, passSize, allPassWords, allOutcomeWords}
 use Rattle.report.specs.Asked.{withOutcome}
 
 -- ---- a pass from its six words: kind (0 grow, 1 fill, 2 local), search, factor, boundary or residual, rounds, depth
@@ -58,12 +58,12 @@ leftByAll l call (suc n) k s = leftByAll l call n (suc k) (leftBy l (call k) k s
 
 -- room for the words of outcome k
 pub record RoomFor (k : ℕ) (words : List ℕ) : Type 0 where
-  pub below : k < mostPasses
+  pub below : k < passLimit
   pub long : allOutcomeWords ≤ length words
 
 -- n passes of six words each
 pub record PassWords (n : ℕ) (passes : List ℕ) : Type 0 where
-  pub few : n ≤ mostPasses
+  pub few : n ≤ passLimit
   pub long : allPassWords ≤ length passes
 
 -- n corners at the front of their buffers
@@ -74,14 +74,14 @@ pub record AtFront (n : ℕ) (xs ys pitches : List Float) : Type 0 where
 
 -- what a frame is read into
 pub record FrameRoom (xs ys pitches : List Float) (sheet passes : List ℕ) : Type 0 where
-  pub xs-long : mostCorners ≤ length xs
-  pub ys-long : mostCorners ≤ length ys
-  pub pitches-long : mostCorners ≤ length pitches
-  pub sheet-whole : length sheet ≡ places
+  pub xs-long : cornerLimit ≤ length xs
+  pub ys-long : cornerLimit ≤ length ys
+  pub pitches-long : cornerLimit ≤ length pitches
+  pub sheet-whole : length sheet ≡ placeCount
   pub passes-long : allPassWords ≤ length passes
 
 -- what its passes are lent beside that
 pub record PassRoom (queue attached words : List ℕ) : Type 0 where
-  pub queue-whole : length queue ≡ 4 * mostCorners
-  pub attached-whole : length attached ≡ mostCorners
+  pub queue-whole : length queue ≡ 4 * cornerLimit
+  pub attached-whole : length attached ≡ cornerLimit
   pub words-long : allOutcomeWords ≤ length words

@@ -9,7 +9,8 @@ ghost use Rattle.recovery.specs.Running.{passAt, callAt, left, leftBy, l
 ghost use Rattle.recovery.specs.Answer.{Recovers, lentAs, heldLines, heldPiece, FewPasses, Printable, CanSay, WrotePiece, Moves};
 ghost use mathlib.Core.List.{[]};
 ghost use Rattle.report_line.specs.Result.{lineCount};
-ghost use Rattle.report_line.specs.Sizes.{mostPasses, allPassWords, allOutcomeWords, lineRoom};
+ghost use Rattle.sizes.specs.Sizes.{passLimit, allPassWords, allOutcomeWords};
+ghost use Rattle.report_line.specs.Sizes.{lineRoom};
 use arguments::FillParams;
 use arguments::GrowParams;
 use arguments::LocalExtensionParams;
@@ -18,8 +19,8 @@ use arguments::Settings;
 use frame::FrameAnswer;
 use refusal::Refusal;
 use report::PieceAnswer;
-use report_line::sizes::PASS_WORDS;
-use report_line::sizes::SHEET_LINES;
+use report_line::line_sizes::SHEET_LINES;
+use sizes::PASS_WORDS;
 
 // A refusal with its line, or the number of corners and of passes of a frame whose passes have run.
 pub enum Recovered {
@@ -39,7 +40,7 @@ fn float_of(bits: u32) -> f32
 
 // The pass that six words stand for.
 fn pass_at(passes: &[u32], k: usize) -> Pass
-    requires { ⌜ k < mostPasses ⌝ }
+    requires { ⌜ k < passLimit ⌝ }
     requires { ⌜ allPassWords ≤ length (now passes) ⌝ }
     ensures { λ r. ⌜ r ≡ passAt (now (passes .entry)) k ⌝ }
 {

@@ -18,7 +18,7 @@ use Rattle.passes.specs.declared.LargestResidual.{LargestResidual}
 use Rattle.passes.specs.declared.PassAnswer.{PassAnswer}
 use Rattle.passes.specs.Run.{PassStats, growStats, fillStats, localStats}
 use Rattle.report_line.specs.Result.{passLine, resultLine, lineCount, resultFrom, Piece, resultPiece}
-use Rattle.report_line.specs.Sizes.{places, mostCorners, outcomeSize}
+use Rattle.sizes.specs.Sizes.{placeCount, cornerLimit, outcomeSize}
 use Rattle.line_form.specs.Written.{Wrote}
 use Rattle.report.specs.declared.lines.PieceEnd.{PieceEnd}
 use Rattle.report.specs.WriteResult.{outcomeWords, wordAt, countsAt, yesAt, residualAt, statsAt, statsIn, largestCount}
@@ -120,7 +120,7 @@ IsFloat (localStats s) = FloatOrNone (s .residual)
 -- words and sheet are there
 pub record AllLent (passes : ℕ) (words sheet : List ℕ) : Type 0 where
   pub words-long : outcomeSize * passes ≤ length words
-  pub sheet-long : places ≤ length sheet
+  pub sheet-long : placeCount ≤ length sheet
 
 -- and the outcomes are what they can be
 pub record Sound (passes : ℕ) (words sheet : List ℕ) : Type 0 where
@@ -144,7 +144,7 @@ pub record HasLine (passes : ℕ) (words sheet : List ℕ) (k : ℕ) : Type 0 wh
 
 -- a line of the sheet whose place holds nothing: no corner and no mark
 unfoldable pub blankAt : ℕ → List ℕ → ℕ → Bool
-blankAt passes sheet k = cond (leb k passes) false (eqb (getD sheet ((k - 1 - passes) % places) 0) 0)
+blankAt passes sheet k = cond (leb k passes) false (eqb (getD sheet ((k - 1 - passes) % placeCount) 0) 0)
 
 -- the n lines from line k on are of places that hold nothing
 pub record BlankLines (passes : ℕ) (sheet : List ℕ) (k n : ℕ) : Type 0 where
@@ -187,8 +187,8 @@ pub record WrotePiece (p : Piece) (old new : List ℕ) (r : PieceEnd) : Type 0 w
 -- ---- 5 and 6
 
 pub record CornersAsked (corners : ℕ) (sheet : List ℕ) : Type 0 where
-  pub few : corners ≤ mostCorners
-  pub long : places ≤ length sheet
+  pub few : corners ≤ cornerLimit
+  pub long : placeCount ≤ length sheet
 
 abbrev pub cornersChecked : ℕ → List ℕ → Checked
 cornersChecked corners sheet =

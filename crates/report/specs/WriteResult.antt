@@ -19,7 +19,8 @@ use Rattle.passes.specs.declared.LocalStats.{LocalStats}
 use Rattle.passes.specs.declared.LargestResidual.{LargestResidual}
 use Rattle.passes.specs.Run.{PassStats, growStats, fillStats, localStats}
 use Rattle.report_line.specs.Result.{resultText, Piece, resultPiece, lineCount}
-use Rattle.report_line.specs.Sizes.{places, mostCorners, mostPasses, outcomeSize, lineRoom}
+use Rattle.sizes.specs.Sizes.{placeCount, cornerLimit, passLimit, outcomeSize}
+use Rattle.report_line.specs.Sizes.{lineRoom}
 use Rattle.arguments.specs.Front.{over}
 use Rattle.report.specs.declared.TextAnswer.{TextAnswer}
 use Rattle.report.specs.declared.PieceAnswer.{PieceAnswer}
@@ -84,11 +85,11 @@ textOf l = resultText (statsIn (l .passes) (l .words)) (l .sheet)
 
 -- 7: words and sheet are there
 unfoldable pub inputShort : TextLent → Bool
-inputShort l = ltb (length (l .words)) (outcomeSize * l .passes) || ltb (length (l .sheet)) places
+inputShort l = ltb (length (l .words)) (outcomeSize * l .passes) || ltb (length (l .sheet)) placeCount
 
 -- 2: over 16 outcomes or 1,024 corners
 unfoldable pub overLimit : TextLent → Bool
-overLimit l = ltb mostPasses (l .passes) || ltb mostCorners (l .corners)
+overLimit l = ltb passLimit (l .passes) || ltb cornerLimit (l .corners)
 
 -- 3: no count is above 64 rounds of 16,384 cells, no number of rounds above 64, and a residual is finite; kind, residual flag and rim are those that
 -- an outcome has

@@ -6,7 +6,7 @@ ghost use lib.Dec.{ltb};
 ghost use lib.ListN.{length};
 ghost use Rattle.line_form.specs.Written.{Wrote};
 ghost use Rattle.report_line.specs.Result.{passLine};
-ghost use Rattle.report_line.specs.Sizes.{places};
+ghost use Rattle.sizes.specs.Sizes.{placeCount};
 ghost use Rattle.report.specs.WriteResult.{statsAt};
 ghost use Rattle.report.specs.Asked.{HasOutcome, AllLent, HasLine, PassAsked, LineAsked, AllAsked, SomeAsked, WrotePiece, BlankLines, Skipped, lineAt, textFrom, pieceFrom};
 use report_line::line::write_fill;
@@ -14,10 +14,10 @@ use report_line::line::write_grow;
 use report_line::line::write_heading;
 use report_line::line::write_local;
 use report_line::line::write_sheet_line;
-use report_line::sizes::LINE_ROOM;
-use report_line::sizes::LINES;
-use report_line::sizes::PLACES;
-use report_line::sizes::SHEET_LINES;
+use report_line::line_sizes::LINE_ROOM;
+use report_line::line_sizes::LINES;
+use report_line::line_sizes::SHEET_LINES;
+use sizes::PLACES;
 
 // The length of the pass line of outcome k, whatever its words are: what its writer writes of an outcome whose line is as long.
 fn pass_length(words: &[u32], k: usize) -> usize
@@ -116,7 +116,7 @@ pub fn write_all(passes: usize, words: &[u32], sheet: &[u16], out: &mut [u8]) ->
 
 // How many lines from line k on are of places that hold nothing, as far as a row of the sheet goes.
 fn blank_lines(passes: usize, sheet: &[u16], k: usize) -> usize
-    requires { ⌜ places ≤ length (now sheet) ⌝ }
+    requires { ⌜ placeCount ≤ length (now sheet) ⌝ }
     ensures { λ r. ⌜ BlankLines passes (now (sheet .entry)) k r ⌝ }
 {
     if k <= passes {

@@ -2,17 +2,17 @@
 ghost use mathlib.Core.Path.{_≡_};
 ghost use Prim.Native.Nat.{_*_, _≤_};
 ghost use lib.ListN.{length};
-ghost use Rattle.report_line.specs.Sizes.{outcomeSize};
+ghost use Rattle.sizes.specs.Sizes.{outcomeSize};
 ghost use Rattle.report.specs.WriteResult.{textLent, inputShort, overLimit, wildCounts, wildResidual, wildOutcome, wild, checkedRest, checkedText, checkedPiece};
 ghost use Rattle.report.specs.Asked.{HasOutcome, CornersAsked, cornersChecked};
 use arguments::Checked;
 use refusal::Refusal;
-use report_line::sizes::CORNERS;
-use report_line::sizes::LINE_ROOM;
-use report_line::sizes::LINES;
-use report_line::sizes::OUTCOME_WORDS;
-use report_line::sizes::PASSES;
-use report_line::sizes::PLACES;
+use report_line::line_sizes::LINE_ROOM;
+use report_line::line_sizes::LINES;
+use sizes::CORNERS;
+use sizes::OUTCOME_WORDS;
+use sizes::PASSES;
+use sizes::PLACES;
 
 // 7: whether the words or the sheet are not all there.
 fn input_short(corners: usize, passes: usize, words: &[u32], sheet: &[u16]) -> bool

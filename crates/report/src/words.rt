@@ -6,7 +6,7 @@ ghost use lib.ListN.{length};
 ghost use Rattle.passes.specs.Run.{growStats, fillStats, localStats};
 ghost use Rattle.sheet.specs.Words.{bitOf};
 ghost use Rattle.report_line.specs.Like.{Like, CountsLike, ResidualLike, GrowLike, FillLike, LocalLike};
-ghost use Rattle.report_line.specs.Sizes.{outcomeSize};
+ghost use Rattle.sizes.specs.Sizes.{outcomeSize};
 ghost use Rattle.report.specs.WriteResult.{outcomeWords, wordAt, countsAt, yesAt, residualAt};
 ghost use Rattle.report.specs.Asked.{HasOutcome, TameOutcome, growAt, fillAt, localAt, flagOf, bitsOf, put, CountsFit, FillFits, LocalFits, AnswerFits, withAnswer};
 use passes::Counts;
@@ -15,7 +15,7 @@ use passes::GrowStats;
 use passes::LargestResidual;
 use passes::LocalStats;
 use passes::PassAnswer;
-use report_line::sizes::OUTCOME_WORDS;
+use sizes::OUTCOME_WORDS;
 
 // Word m of outcome k.
 pub fn word_at(words: &[u32], k: usize, m: usize) -> usize

@@ -18,7 +18,8 @@ use Rattle.passes.specs.declared.FillStats.{FillStats}
 use Rattle.passes.specs.declared.LocalStats.{LocalStats}
 use Rattle.passes.specs.declared.LargestResidual.{LargestResidual}
 use Rattle.passes.specs.Run.{PassStats, growStats, fillStats, localStats}
-use Rattle.report_line.specs.Sizes.{places, sheetLines, firstAmbiguous, lineRoom}
+use Rattle.sizes.specs.Sizes.{placeCount}
+use Rattle.report_line.specs.Sizes.{sheetLines, firstAmbiguous, lineRoom}
 
 abbrev pub count : ℕ → Number
 count n = whole (pos n)
@@ -96,7 +97,7 @@ linesFrom line k (suc n) = line k ++ linesFrom line (suc k) n
 
 -- "each by i, then j": rising places go by i, then j
 abbrev pub allPlaces : (ℕ → List ℕ) → List ℕ
-allPlaces line = linesFrom line 0 places
+allPlaces line = linesFrom line 0 placeCount
 
 -- ---- the whole text
 
@@ -116,7 +117,7 @@ passLineAt (s ∷ ss) (suc k) = passLineAt ss k
 
 unfoldable pub sheetLine : List ℕ → ℕ → List ℕ
 sheetLine sheet k =
-    cond (ltb k places) (cellLine sheet k) (cond (ltb k firstAmbiguous) (holeLine sheet (k - places)) (ambiguousLine sheet (k - firstAmbiguous)))
+    cond (ltb k placeCount) (cellLine sheet k) (cond (ltb k firstAmbiguous) (holeLine sheet (k - placeCount)) (ambiguousLine sheet (k - firstAmbiguous)))
 
 abbrev pub afterHeading : List PassStats → List ℕ → ℕ → List ℕ
 afterHeading stats sheet k = cond (ltb k (length stats)) (passLineAt stats k) (sheetLine sheet (k - length stats))

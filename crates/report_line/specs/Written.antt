@@ -16,7 +16,8 @@ use Rattle.passes.specs.declared.GrowStats.{GrowStats}
 use Rattle.passes.specs.declared.FillStats.{FillStats}
 use Rattle.passes.specs.declared.LocalStats.{LocalStats}
 use Rattle.passes.specs.declared.LargestResidual.{LargestResidual}
-use Rattle.report_line.specs.Sizes.{places, sheetLines}
+use Rattle.sizes.specs.Sizes.{placeCount}
+use Rattle.report_line.specs.Sizes.{sheetLines}
 use Rattle.report_line.specs.Result.{growLine, fillLine, localLineWith, localLine, cellNumbers, labelLine}
 
 -- the largest number that a line can have: 32 bits hold 1,000,000 more
@@ -89,12 +90,12 @@ pub record CornerAsked (c : Cell) (k : ℕ) (out : List ℕ) : Type 0 where
 
 -- a place of the sheet
 pub record OnPlaces (sheet : List ℕ) (place : ℕ) : Type 0 where
-  pub there : places ≤ length sheet
-  pub below : place < places
+  pub there : placeCount ≤ length sheet
+  pub below : place < placeCount
 
 -- a line of the sheet: of cells, holes or ambiguous cells
 pub record OnLines (sheet : List ℕ) (k : ℕ) : Type 0 where
-  pub there : places ≤ length sheet
+  pub there : placeCount ≤ length sheet
   pub below : k < sheetLines
 
 -- and room for the line of it

@@ -9,8 +9,7 @@ ghost use Rattle.report_line.specs.Sizes.{lineRoom};
 ghost use Rattle.report_line.specs.Refused.{refusedText};
 ghost use Rattle.report_line.specs.Result.{heading, growLine, fillLine, localLine, cellLine, holeLine, ambiguousLine, sheetLine};
 ghost use Rattle.report_line.specs.Written.{largestHeld, GrowAsked, FillAsked, LocalAsked, BareAsked, FullAsked, bareLocalText, fullLocalText, CellAsked, CornerAsked, holeText, ambiguousText, cellText, PlaceAsked, LineAsked};
-use super::sizes::FIRST_AMBIGUOUS;
-use super::sizes::PLACES;
+use super::line_sizes::FIRST_AMBIGUOUS;
 use line_form::write::write_form;
 use passes::FillStats;
 use passes::GrowStats;
@@ -19,6 +18,7 @@ use passes::LocalStats;
 use refusal::Refusal;
 use sheet::Cell;
 use sheet::Label;
+use sizes::PLACES;
 
 // A count as a form takes it: 1,000,000 more, so that 32 bits hold it.
 fn held(n: usize) -> u32

@@ -1,7 +1,7 @@
 -- `frame::copy_floats` meets its contract: entry by entry. Assumes nothing.
 use Prim.Native.Nat.{_-_}
 use native.Mathlib.Omega.{arith}
-use Rattle.frame_state.specs.State.{cornerLimit}
+use Rattle.sizes.specs.Sizes.{cornerLimit}
 use Rattle.frame.proofs.Leaving.{Copying, copying-start, copying-more, copied}
 use Rattle.frame.proofs.copy_floats.Statement.{statement}
 use Rattle.frame.proofs.copy_floats.Tie as tie

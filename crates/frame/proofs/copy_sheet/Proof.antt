@@ -1,7 +1,7 @@
 -- `frame::copy_sheet` meets its contract: entry by entry. Assumes nothing.
 use Prim.Native.Nat.{_-_}
 use native.Mathlib.Omega.{arith}
-use Rattle.frame_state.specs.State.{placeCount}
+use Rattle.sizes.specs.Sizes.{placeCount}
 use Rattle.frame.proofs.Leaving.{Copying, copying-start, copying-more, copied}
 use Rattle.frame.proofs.copy_sheet.Statement.{statement}
 use Rattle.frame.proofs.copy_sheet.Tie as tie

@@ -1,13 +1,13 @@
 -- `frame::copy_words` meets its contract: entry by entry. Assumes nothing.
 use Prim.Native.Nat.{_-_}
 use native.Mathlib.Omega.{arith}
-use Rattle.frame_state.specs.State.{wordLimit}
+use Rattle.sizes.specs.Sizes.{allPassWords}
 use Rattle.frame.proofs.Leaving.{Copying, copying-start, copying-more, copied}
 use Rattle.frame.proofs.copy_words.Statement.{statement}
 use Rattle.frame.proofs.copy_words.Tie as tie
 
 abbrev Inv-loop : tie.InvT-loop
-Inv-loop from n to₀ i₀ to i = Copying wordLimit n from to₀ to i
+Inv-loop from n to₀ i₀ to i = Copying allPassWords n from to₀ to i
 
 abbrev μ-loop : tie.MeasureT-loop
 μ-loop from n to₀ i₀ to i = n - i
