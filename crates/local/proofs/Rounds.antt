@@ -32,10 +32,11 @@ use Rattle.passes.specs.declared.LocalAnswer.{LocalAnswer}
 use Rattle.passes.proofs.Free.{labels-few}
 use Rattle.passes.proofs.Said.{local-said}
 use Rattle.supports.specs.Nearest.{Gatherable, Gathered}
-use Rattle.local.specs.Extending.{visits, stateOf, Left, RoundAsked, noProgress, startOf, RoundsAsked, RoundsLeft, statsOf}
-use Rattle.local.specs.declared.LocalProgress.{LocalProgress}
+use Rattle.local_cell.specs.Extending.{visits, stateOf, Left}
+use Rattle.local_cell.specs.declared.LocalProgress.{LocalProgress}
+use Rattle.local_cell.proofs.Visit.{gathered-front, gathered-size, stands, left-as}
+use Rattle.local.specs.Rounds.{RoundAsked, noProgress, startOf, RoundsAsked, RoundsLeft, statsOf}
 use Rattle.local.specs.declared.RoundsDone.{RoundsDone}
-use Rattle.local.proofs.Visit.{gathered-front, gathered-size, stands, left-as}
 use Rattle.local.proofs.Walk.{holds-state, left-then, round-grows, round-counted}
 
 -- ---- at most m rounds more

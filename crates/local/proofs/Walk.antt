@@ -3,7 +3,7 @@
 use mathlib.Core.Path.{_≡_, refl, sym, ap, ap₂, _∙_, subst}
 use mathlib.Core.Bool.{Bool, true, false, not, _&&_, cond}
 use mathlib.Core.List.{List, [], _∷_, _++_}
-use Prim.Native.Nat.{ℕ, zero, suc, _+_, _<_, _≤_}
+use Prim.Native.Nat.{ℕ, zero, suc, _+_, _/_, _%_, _<_, _≤_}
 use native.Mathlib.Numerals.{add-one}
 use native.Mathlib.Omega.{arith}
 use lib.ListN.{length, getD, take}
@@ -15,6 +15,7 @@ use Rattle.sheet.specs.declared.Label.{Label}
 use Rattle.sheet.proofs.Laws.{cell-on, place-cell}
 use Rattle.labels.specs.Labelled.{passing, namesCorner, isLabelled, labelledPlaces}
 use Rattle.labels.specs.Box.{boxOf}
+use Rattle.labels.specs.declared.LabelBox.{LabelBox}
 use Rattle.labels.proofs.Below.{no-both, both, passing-none, passing-hit, passing-miss}
 use Rattle.labels.proofs.Labelled.{label-of-place}
 use Rattle.arguments.specs.declared.Settings.{Settings}
@@ -24,16 +25,17 @@ use Rattle.positions_policy.specs.declared.Tolerances.{Tolerances}
 use Rattle.passes.specs.Fill.{cellsOf}
 use Rattle.passes.specs.Local.{depthOf, localRegion, localCells, LocalState, localVisit, localAll, localRound}
 use Rattle.passes.proofs.Over.{over-read, over-over}
-use Rattle.region.specs.Region.{Region, RegionFound, regionAt}
+use Rattle.region.specs.Region.{Region, Listed, Lines, RegionFound, regionOf, regionAt}
 use Rattle.region.specs.Windowed.{InWindow, Windowed, NextIn}
 use Rattle.region.specs.declared.Window.{Window}
 use Rattle.region.proofs.Told.{region-is}
 use Rattle.region.proofs.Jumps.{jumps, told-far}
 use Rattle.remembered.proofs.Attach.{clear-same, clear-else}
 use Rattle.arguments.specs.Front.{over}
-use Rattle.local.specs.Extending.{visits, stateOf, Extending, Holds, Left, lookedAt}
-use Rattle.local.specs.declared.LocalProgress.{LocalProgress}
-use Rattle.local.proofs.Visit.{Tried, passed, attaches, tried, tried-grows, tried-counted, attaching, untouched}
+use Rattle.local_cell.specs.Extending.{visits, stateOf, Extending, Holds, Left}
+use Rattle.local_cell.specs.declared.LocalProgress.{LocalProgress}
+use Rattle.local_cell.proofs.Visit.{Tried, passed, attaches, tried, tried-grows, tried-counted, attaching, untouched, labels-in, listed-below}
+use Rattle.local.specs.Rounds.{lookedAt}
 
 -- ---- some cells
 
@@ -137,6 +139,16 @@ module _ (cs : Corners) (few : cs .count ≤ 1024) (set : Settings) (p : LocalEx
       go : (t : Bool) → walked p (s .sheet) n ≡ t → cond t (localVisit cs set p (cellOf n) now) now ≡ walkedTo cs set p s (n + 1)
       go true e = sym (walked-hit cs set p s n e)
       go false e = sym (walked-miss cs set p s n e)
+
+-- ---- the region of a round, from the labelled places that are listed
+
+module _ {xs ys pitches : List Float} {sheet list used places : List ℕ} {made labels : ℕ} (f : Extending xs ys pitches sheet list used places made labels) where
+  pub listed : Listed places labels
+  listed = record { few = labels-in f; size = f .size; below = listed-below f }
+
+  pub region-found : {around : LabelBox} {rows columns : List ℕ} → around ≡ boxOf sheet → Lines (λ p. p % 128) (take labels places) rows → Lines (λ p. p / 128) (take labels places) columns
+      → RegionFound sheet (regionOf around rows columns)
+  region-found a r c = record { around-is = a; rows-are = rw (f .places-are) at r; columns-are = rw (f .places-are) at c }
 
 -- ---- a place looked at, test by test
 

@@ -6,7 +6,7 @@ use Rattle.sheet.proofs.Laws.{cell-on}
 use Rattle.labels.proofs.Labelled.{label-of-place, unlabelled-none}
 use Rattle.passes.specs.Local.{depthOf}
 use Rattle.region.specs.Region.{regionOf, regionAt}
-use Rattle.local.proofs.Visit.{untouched, left-as}
+use Rattle.local_cell.proofs.Visit.{untouched, left-as}
 use Rattle.local.proofs.Walk.{told-at, looked-out, looked-labelled, looked-bare}
 use Rattle.local.proofs.local_place.Statement.{statement}
 use Rattle.local.proofs.local_place.Tie as tie
