@@ -23,6 +23,7 @@ use Rattle.arguments.proofs.Laws.{accepted}
 use Rattle.grow.specs.Candidates.{squaredRadius}
 use Rattle.grow.proofs.Radius.{search-radius}
 use Rattle.extension_common.specs.TryCell.{Corners, cornersOf}
+use Rattle.passes.specs.Counting.{visits}
 use Rattle.passes.specs.Outcome.{done}
 use Rattle.passes.specs.Local.{depthOf, localSearch, LocalState, LocalRounds, localRound, localFrom, localLimit, localRun, localAfter}
 use Rattle.passes.specs.Step.{LocalOut, localStep, localOut, localLeaves}
@@ -32,7 +33,7 @@ use Rattle.passes.specs.declared.LocalAnswer.{LocalAnswer}
 use Rattle.passes.proofs.Free.{labels-few}
 use Rattle.passes.proofs.Said.{local-said}
 use Rattle.supports.specs.Nearest.{Gatherable, Gathered}
-use Rattle.local_cell.specs.Extending.{visits, stateOf, Left}
+use Rattle.local_cell.specs.Extending.{stateOf, Left}
 use Rattle.local_cell.specs.declared.LocalProgress.{LocalProgress}
 use Rattle.local_cell.proofs.Visit.{gathered-front, gathered-size, stands, left-as}
 use Rattle.local.specs.Rounds.{RoundAsked, noProgress, startOf, RoundsAsked, RoundsLeft, statsOf}

@@ -22,6 +22,7 @@ use Rattle.arguments.specs.declared.Settings.{Settings}
 use Rattle.arguments.specs.declared.LocalExtensionParams.{LocalExtensionParams}
 use Rattle.extension_common.specs.TryCell.{Corners, cornersOf}
 use Rattle.positions_policy.specs.declared.Tolerances.{Tolerances}
+use Rattle.passes.specs.Counting.{visits}
 use Rattle.passes.specs.Fill.{cellsOf}
 use Rattle.passes.specs.Local.{depthOf, localRegion, localCells, LocalState, localVisit, localAll, localRound}
 use Rattle.passes.proofs.Over.{over-read, over-over}
@@ -32,7 +33,7 @@ use Rattle.region.proofs.Told.{region-is}
 use Rattle.region.proofs.Jumps.{jumps, told-far}
 use Rattle.remembered.proofs.Attach.{clear-same, clear-else}
 use Rattle.arguments.specs.Front.{over}
-use Rattle.local_cell.specs.Extending.{visits, stateOf, Extending, Holds, Left}
+use Rattle.local_cell.specs.Extending.{stateOf, Extending, Holds, Left}
 use Rattle.local_cell.specs.declared.LocalProgress.{LocalProgress}
 use Rattle.local_cell.proofs.Visit.{Tried, passed, attaches, tried, tried-grows, tried-counted, attaching, untouched, labels-in, listed-below}
 use Rattle.local.specs.Rounds.{lookedAt}

@@ -10,12 +10,12 @@ use Rattle.labels.specs.Labelled.{namesCorner}
 use Rattle.arguments.specs.declared.Settings.{Settings}
 use Rattle.arguments.specs.declared.LocalExtensionParams.{LocalExtensionParams}
 use Rattle.extension_common.specs.TryCell.{Corners}
-use Rattle.passes.specs.Grow.{noCounts}
+use Rattle.passes.specs.Counting.{noCounts, visits}
 use Rattle.passes.specs.Local.{depthOf, LocalState, LocalRounds, localVisit}
 use Rattle.passes.specs.declared.LargestResidual.{LargestResidual}
 use Rattle.passes.specs.declared.LocalStats.{LocalStats}
 use Rattle.region.specs.Region.{Region, Telling, regionAt}
-use Rattle.local_cell.specs.Extending.{visits, stateOf, Extending, Left}
+use Rattle.local_cell.specs.Extending.{stateOf, Extending, Left}
 use Rattle.local_cell.specs.declared.LocalProgress.{LocalProgress}
 use Rattle.local.specs.declared.RoundsDone.{RoundsDone}
 

@@ -36,7 +36,7 @@ use Rattle.remembered.proofs.Larger.{larger}
 use Rattle.remembered.proofs.Visits.{visit-none, visit-gated, visit-fitted, visit-idle, visit-no-candidates, visit-ambiguous, visit-predicted}
 use Rattle.remembered.proofs.Made.{made-none, made-above, made-within, made-no-candidates, made-ambiguous}
 use Rattle.remembered.proofs.Attach.{attach-remembered}
-use Rattle.local_cell.specs.Extending.{countsChanged, residualsRecorded, stateOf, Left, Recalls, Trying, Foretold, Taking, Wrote}
+use Rattle.local_cell.specs.Extending.{cellCounted, residualsRecorded, stateOf, Left, Recalls, Trying, Foretold, Taking, Wrote}
 use Rattle.local_cell.specs.declared.LocalProgress.{LocalProgress}
 use Rattle.local_cell.proofs.Visit.{nearby, supports-are, untouched, taking-attaching}
 
@@ -123,7 +123,8 @@ module _ {set : Settings} {p : LocalExtensionParams} {xs ys pitches : List Float
     (r : Recalls set p xs ys pitches sheet memory predictions at) where
   module _ {list used places : List ℕ} {c : Cell} where
     -- the counts alone change
-    pub recalls-counted : {n : Counts} {at' : LocalProgress} → Trying xs ys pitches sheet list used places at c → at' ≡ countsChanged at n → Recalls set p xs ys pitches sheet memory predictions at'
+    pub recalls-counted : {n : Counts} {at' : LocalProgress} → Trying xs ys pitches sheet list used places at c → at' ≡ record { counts = n; residual = at .residual; labels = at .labels }
+        → Recalls set p xs ys pitches sheet memory predictions at'
     recalls-counted t e = rw e r
 
     -- a corner attached
@@ -133,17 +134,17 @@ module _ {set : Settings} {p : LocalExtensionParams} {xs ys pitches : List Float
     recalls-attached t e w f = rw (w .sheet-is, w .largest-is) (attach-remembered (taking-attaching t) (t .trying .extending .four) r (rw e at f))
 
     -- no candidate
-    pub recalls-missed : {reach : ℕ} {prediction : Position} {n : Counts} {at' : LocalProgress} {found : TryCellResult} {memory' : List ℕ} {predictions' : List Float}
+    pub recalls-missed : {reach : ℕ} {prediction : Position} {at' : LocalProgress} {found : TryCellResult} {memory' : List ℕ} {predictions' : List Float}
         → Trying xs ys pitches sheet list used places at c → Foretold set p xs ys pitches sheet at c reach prediction
-        → found ≡ tryAt (cornersOf xs ys pitches) sheet (tolerancesOf set) (localSearch set p) c prediction → found ≡ TryCellResult.NoCandidates → at' ≡ countsChanged at n
+        → found ≡ tryAt (cornersOf xs ys pitches) sheet (tolerancesOf set) (localSearch set p) c prediction → found ≡ TryCellResult.NoCandidates → at' ≡ cellCounted at found
         → Noted memory predictions c (Known.NoCandidates reach) memory' predictions' → Recalls set p xs ys pitches sheet memory' predictions' at'
     recalls-missed t k d g e n = rw e (noted r (t .on) (made-no-candidates (k .known) (sym d ∙ g)) n)
 
     -- an ambiguous choice
-    pub recalls-ambiguous : {reach : ℕ} {prediction : Position} {n : Counts} {at' : LocalProgress} {candidates : Candidates} {limit : Float} {found : TryCellResult} {memory' : List ℕ} {predictions' : List Float}
+    pub recalls-ambiguous : {reach : ℕ} {prediction : Position} {at' : LocalProgress} {candidates : Candidates} {limit : Float} {found : TryCellResult} {memory' : List ℕ} {predictions' : List Float}
         → Trying xs ys pitches sheet list used places at c → Foretold set p xs ys pitches sheet at c reach prediction
         → candidates ≡ gathered (cornersOf xs ys pitches) sheet (localSearch set p .«search_r») prediction → limit ≡ lastDistance candidates
-        → found ≡ tryAt (cornersOf xs ys pitches) sheet (tolerancesOf set) (localSearch set p) c prediction → found ≡ TryCellResult.Ambiguous → at' ≡ countsChanged at n
+        → found ≡ tryAt (cornersOf xs ys pitches) sheet (tolerancesOf set) (localSearch set p) c prediction → found ≡ TryCellResult.Ambiguous → at' ≡ cellCounted at found
         → Noted memory predictions c (Known.Ambiguous reach prediction limit) memory' predictions' → Recalls set p xs ys pitches sheet memory' predictions' at'
     recalls-ambiguous t k i h d g e n = rw e (noted r (t .on) (made-ambiguous (k .known) (sym d ∙ g) (h ∙ ap lastDistance i)) n)
 

@@ -31,6 +31,7 @@ use Rattle.extension_common.specs.declared.Search.{Search}
 use Rattle.extension_common.specs.declared.TryCellResult.{TryCellResult}
 use Rattle.extension_common.proofs.Laws.{gathered-tied, Attachable, attachable}
 use Rattle.homography.specs.Fit.{applied}
+use Rattle.passes.specs.Counting.{oneMore, visits}
 use Rattle.passes.specs.Grow.{tolerancesOf}
 use Rattle.passes.specs.Local.{LocalState, supportsOf, byReach, cellPoint, LocalFit, none, fitted, localFit, worst, recordedAll, withResiduals, localSearch, gateOf, localWith, localAt, localVisit}
 use Rattle.passes.specs.declared.Counts.{Counts}
@@ -40,7 +41,7 @@ use Rattle.passes.proofs.Free.{labels-few, labels-fewer}
 use Rattle.supports.specs.Nearest.{Nearby, Gatherable, Gathered, placesOf}
 use Rattle.supports.specs.declared.Supports.{Supports}
 use Rattle.remembered.proofs.Attach.{clear-long, clear-labels}
-use Rattle.local_cell.specs.Extending.{visits, countsChanged, noCandidateCounted, ambiguousCounted, edgeCounted, attachedCounted, stateOf, Extending, Holds, Left, Trying, Taking, attachedClear, Writable, Wrote}
+use Rattle.local_cell.specs.Extending.{cellCounted, stateOf, Extending, Holds, Left, Trying, Taking, attachedClear, Writable, Wrote}
 use Rattle.local_cell.specs.declared.LocalProgress.{LocalProgress}
 
 -- ---- what a visit does: no label changes, or it attaches a corner that may be attached; and it counts at most one cell
@@ -56,10 +57,10 @@ tried cs set p c s = go (localFit (seenOf (cs .corner) (s .sheet)) (supportsOf c
   where
     by : (rs : List Float) (r : TryCellResult) → ((k : ℕ) → r ≡ TryCellResult.Attached k → Attachable cs (s .sheet) (tolerancesOf set) c k)
         → Tried cs (tolerancesOf set) c s (localWith c r (withResiduals rs s))
-    by rs TryCellResult.NoCandidates h = passed (noCandidateCounted (s .counts)) (recordedAll (s .largest) rs) (omega arith)
-    by rs TryCellResult.Ambiguous h = passed (ambiguousCounted (s .counts)) (recordedAll (s .largest) rs) (omega arith)
-    by rs TryCellResult.EdgeRejected h = passed (edgeCounted (s .counts)) (recordedAll (s .largest) rs) (omega arith)
-    by rs (TryCellResult.Attached k) h = attaches (attachedCounted (s .counts)) (recordedAll (s .largest) rs) k (omega arith) (h k refl)
+    by rs TryCellResult.NoCandidates h = passed (oneMore TryCellResult.NoCandidates (s .counts)) (recordedAll (s .largest) rs) (omega arith)
+    by rs TryCellResult.Ambiguous h = passed (oneMore TryCellResult.Ambiguous (s .counts)) (recordedAll (s .largest) rs) (omega arith)
+    by rs TryCellResult.EdgeRejected h = passed (oneMore TryCellResult.EdgeRejected (s .counts)) (recordedAll (s .largest) rs) (omega arith)
+    by rs (TryCellResult.Attached k) h = attaches (oneMore (TryCellResult.Attached k) (s .counts)) (recordedAll (s .largest) rs) k (omega arith) (h k refl)
 
     gated : (h rs : List Float) (t : Bool)
         → Tried cs (tolerancesOf set) c s
@@ -125,15 +126,16 @@ module _ (sheet : List ℕ) (c : Cell) (k : ℕ) {first second : List ℕ} (e : 
       let long : 16384 ≤ length (attached sheet c k) = rw (attached-changes sheet c (w .sheet-cell .long) (w .sheet-cell .on) k (omega (arith, w .entry)) .same-length) (w .sheet-cell .long) in
       rw both-changes (record { long = rw (cleared-changes (attached sheet c k) c long (w .sheet-cell .on) .same-length) long; few = w .few; size = w .size })
 
-  pub wrote : (list used places : List ℕ) (at : LocalProgress) {place labels : ℕ} {places' : List ℕ} → place ≡ placeOf c → Gathered second places places' labels
-      → Wrote sheet list used places at c k second (set list (at .counts .attached) place) (set used k 1) places' (record { counts = attachedCounted (at .counts); residual = at .residual; labels = labels })
-  wrote list used places at p w =
+  pub wrote : (list used places : List ℕ) (at : LocalProgress) {place labels : ℕ} {places' : List ℕ} {n : Counts} → place ≡ placeOf c → Gathered second places places' labels
+      → n ≡ oneMore (TryCellResult.Attached k) (at .counts)
+      → Wrote sheet list used places at c k second (set list (at .counts .attached) place) (set used k 1) places' (record { counts = n; residual = at .residual; labels = labels })
+  wrote list used places at p w e =
       record {
         sheet-is = both-changes;
         list-is = ap (set list (at .counts .attached)) p;
         used-is = refl;
         places-are = rw both-changes at w;
-        counts-are = refl;
+        counts-are = e;
         largest-is = refl;
       }
 
@@ -227,6 +229,7 @@ module _ {xs ys pitches : List Float} {sheet list used places : List ℕ} {at : 
         sheet-cell = record { long = t .trying .extending .given .long; on = t .trying .on };
         entry = taking-fits;
         space = taking-room;
+        countable = t .trying .countable;
         few = taking-few;
         size = t .trying .extending .size;
       }
@@ -291,18 +294,19 @@ taking {xs} {ys} {pitches} {sheet} {c = c} {k} tol search prediction t e g =
     record { trying = t; there = w .given; free = w .free }
 
 module _ {xs ys pitches : List Float} {sheet list used places : List ℕ} (at : LocalProgress) (c : Cell) {q r : TryCellResult} (d : r ≡ q) where
-  module _ (f : Extending xs ys pitches sheet list used places (at .counts .attached) (at .labels)) {n : Counts} {at' : LocalProgress} (is : at' ≡ countsChanged at n) where
-    pub found-none : r ≡ TryCellResult.NoCandidates → n ≡ noCandidateCounted (at .counts) → Left (localWith c q (stateOf sheet list at)) xs ys pitches list sheet list used places at'
+  -- no corner: the cell is counted, and nothing is written
+  module _ (f : Extending xs ys pitches sheet list used places (at .counts .attached) (at .labels)) {at' : LocalProgress} (is : at' ≡ cellCounted at r) where
+    pub found-none : r ≡ TryCellResult.NoCandidates → Left (localWith c q (stateOf sheet list at)) xs ys pitches list sheet list used places at'
     unfolding localWith
-    found-none g h = rw (is, h) (untouched f (rw (← d, g)))
+    found-none g = rw (is, ← d, g) (untouched f refl)
 
-    pub found-ambiguous : r ≡ TryCellResult.Ambiguous → n ≡ ambiguousCounted (at .counts) → Left (localWith c q (stateOf sheet list at)) xs ys pitches list sheet list used places at'
+    pub found-ambiguous : r ≡ TryCellResult.Ambiguous → Left (localWith c q (stateOf sheet list at)) xs ys pitches list sheet list used places at'
     unfolding localWith
-    found-ambiguous g h = rw (is, h) (untouched f (rw (← d, g)))
+    found-ambiguous g = rw (is, ← d, g) (untouched f refl)
 
-    pub found-refused : r ≡ TryCellResult.EdgeRejected → n ≡ edgeCounted (at .counts) → Left (localWith c q (stateOf sheet list at)) xs ys pitches list sheet list used places at'
+    pub found-refused : r ≡ TryCellResult.EdgeRejected → Left (localWith c q (stateOf sheet list at)) xs ys pitches list sheet list used places at'
     unfolding localWith
-    found-refused g h = rw (is, h) (untouched f (rw (← d, g)))
+    found-refused g = rw (is, ← d, g) (untouched f refl)
 
   pub found-corner : {k : ℕ} {sheet' list' used' places' : List ℕ} {at' : LocalProgress} → Taking xs ys pitches sheet list used places at c k → r ≡ TryCellResult.Attached k
       → Wrote sheet list used places at c k sheet' list' used' places' at' → Left (localWith c q (stateOf sheet list at)) xs ys pitches list sheet' list' used' places' at'

@@ -2,7 +2,7 @@
 use mathlib.Core.Path.{_≡_}
 use mathlib.Core.Bool.{false}
 use mathlib.Core.List.{List}
-use Prim.Native.Nat.{ℕ, _+_, _<_, _≤_}
+use Prim.Native.Nat.{ℕ, _<_, _≤_}
 use lib.ListN.{length, set, take}
 use lib.Ieee.{Float}
 use Rattle.sheet.specs.Cells.{OnSheet, placeOf}
@@ -16,37 +16,20 @@ use Rattle.labels.specs.Used.{usedOn, Tied, OneCell}
 use Rattle.arguments.specs.declared.Settings.{Settings}
 use Rattle.arguments.specs.declared.LocalExtensionParams.{LocalExtensionParams}
 use Rattle.extension_common.specs.TryCell.{cornersOf}
+use Rattle.extension_common.specs.declared.TryCellResult.{TryCellResult}
+use Rattle.passes.specs.Counting.{oneMore, visits}
 use Rattle.passes.specs.Local.{recordedAll, LocalState}
-use Rattle.passes.specs.declared.Counts.{Counts}
 use Rattle.supports.specs.Nearest.{Gathered}
 use Rattle.remembered.specs.Remembered.{KnownAt, Remembered}
 use Rattle.remembered.specs.declared.Known.{Known}
 use Rattle.arguments.specs.Front.{over}
 use Rattle.local_cell.specs.declared.LocalProgress.{LocalProgress}
 
--- ---- the counts
+-- ---- how far the pass has come
 
--- how many visits were counted
-abbrev pub visits : Counts → ℕ
-visits n = n .attached + n .«rejected_no_candidate» + n .«rejected_ambiguous» + n .«rejected_edge»
-
--- the counts after a cell without a candidate, with an ambiguous choice, or whose edges refuse the corner
-abbrev pub noCandidateCounted : Counts → Counts
-noCandidateCounted n = record { attached = n .attached; «rejected_no_candidate» = n .«rejected_no_candidate» + 1; «rejected_ambiguous» = n .«rejected_ambiguous»; «rejected_edge» = n .«rejected_edge» }
-
-abbrev pub ambiguousCounted : Counts → Counts
-ambiguousCounted n = record { attached = n .attached; «rejected_no_candidate» = n .«rejected_no_candidate»; «rejected_ambiguous» = n .«rejected_ambiguous» + 1; «rejected_edge» = n .«rejected_edge» }
-
-abbrev pub edgeCounted : Counts → Counts
-edgeCounted n = record { attached = n .attached; «rejected_no_candidate» = n .«rejected_no_candidate»; «rejected_ambiguous» = n .«rejected_ambiguous»; «rejected_edge» = n .«rejected_edge» + 1 }
-
--- the counts after a corner was attached
-abbrev pub attachedCounted : Counts → Counts
-attachedCounted n = record { attached = n .attached + 1; «rejected_no_candidate» = n .«rejected_no_candidate»; «rejected_ambiguous» = n .«rejected_ambiguous»; «rejected_edge» = n .«rejected_edge» }
-
--- the progress with other counts
-abbrev pub countsChanged : LocalProgress → Counts → LocalProgress
-countsChanged at n = record { counts = n; residual = at .residual; labels = at .labels }
+-- the progress with one cell more counted
+abbrev pub cellCounted : LocalProgress → TryCellResult → LocalProgress
+cellCounted at r = record { counts = oneMore r (at .counts); residual = at .residual; labels = at .labels }
 
 -- the progress with some residuals recorded
 abbrev pub residualsRecorded : LocalProgress → List Float → LocalProgress
@@ -115,11 +98,12 @@ pub record Taking (xs ys pitches : List Float) (sheet list used places : List �
 abbrev pub attachedClear : List ℕ → Cell → ℕ → List ℕ
 attachedClear sheet c k = marksCleared (attached sheet c k) c
 
--- a corner can be written: to the sheet, to the next place of the attached list, to its entry and to the labelled places
+-- a corner can be written: to the sheet, to the next place of the attached list, to its entry and to the labelled places; and it can be counted
 pub record Writable (sheet list places : List ℕ) (at : LocalProgress) (c : Cell) (k : ℕ) : Type 0 where
   pub sheet-cell : SheetCell sheet c
   pub entry : k < 1024
   pub space : at .counts .attached < length list
+  pub countable : visits (at .counts) < 4294967296
   pub few : labelCount (attachedClear sheet c k) ≤ 1024
   pub size : length places ≡ 1024
 
@@ -129,5 +113,5 @@ pub record Wrote (sheet list used places : List ℕ) (at : LocalProgress) (c : C
   pub list-is : list' ≡ set list (at .counts .attached) (placeOf c)
   pub used-is : used' ≡ set used k 1
   pub places-are : Gathered (attachedClear sheet c k) places places' (at' .labels)
-  pub counts-are : at' .counts ≡ attachedCounted (at .counts)
+  pub counts-are : at' .counts ≡ oneMore (TryCellResult.Attached k) (at .counts)
   pub largest-is : at' .residual ≡ at .residual

@@ -5,10 +5,11 @@ ghost use mathlib.Core.Path.{_≡_};
 ghost use Prim.Native.Nat.{_<_};
 ghost use lib.ListN.{length};
 ghost use Rattle.extension_common.specs.TryCell.{cornersOf, tryAt};
+ghost use Rattle.passes.specs.Counting.{visits};
 ghost use Rattle.passes.specs.Grow.{tolerancesOf};
 ghost use Rattle.passes.specs.Local.{localSearch, gateOf, localWith, localVisit};
 ghost use Rattle.remembered.specs.Remembered.{Forgotten};
-ghost use Rattle.local_cell.specs.Extending.{visits, noCandidateCounted, ambiguousCounted, edgeCounted, countsChanged, residualsRecorded, stateOf, Left, Recalls, Foretold, Trying, Writable, Wrote};
+ghost use Rattle.local_cell.specs.Extending.{cellCounted, residualsRecorded, stateOf, Left, Recalls, Foretold, Trying, Writable, Wrote};
 use arguments::LocalExtensionParams;
 use arguments::Settings;
 use extension_common::ChoiceRule;
@@ -59,49 +60,13 @@ fn gate_of(settings: Settings, params: LocalExtensionParams) -> f32
     params.max_residual_rel * grid.cell_size
 }
 
-// One more cell without a candidate.
-fn count_no_candidate(n: Counts) -> Counts
-    requires { ⌜ visits n < 4294967296 ⌝ }
-    ensures { λ r. ⌜ r ≡ noCandidateCounted n ⌝ }
+// One more cell is counted, by what was found there.
+fn count_cell(at: LocalProgress, found: TryCellResult) -> LocalProgress
+    requires { ⌜ visits (at .counts) < 4294967296 ⌝ }
+    ensures { λ r. ⌜ r ≡ cellCounted at found ⌝ }
 {
-    Counts {
-        attached: n.attached,
-        rejected_no_candidate: n.rejected_no_candidate + 1,
-        rejected_ambiguous: n.rejected_ambiguous,
-        rejected_edge: n.rejected_edge,
-    }
-}
-
-// One more cell with an ambiguous choice.
-fn count_ambiguous(n: Counts) -> Counts
-    requires { ⌜ visits n < 4294967296 ⌝ }
-    ensures { λ r. ⌜ r ≡ ambiguousCounted n ⌝ }
-{
-    Counts {
-        attached: n.attached,
-        rejected_no_candidate: n.rejected_no_candidate,
-        rejected_ambiguous: n.rejected_ambiguous + 1,
-        rejected_edge: n.rejected_edge,
-    }
-}
-
-// One more cell whose edges refuse the corner.
-fn count_edge(n: Counts) -> Counts
-    requires { ⌜ visits n < 4294967296 ⌝ }
-    ensures { λ r. ⌜ r ≡ edgeCounted n ⌝ }
-{
-    Counts {
-        attached: n.attached,
-        rejected_no_candidate: n.rejected_no_candidate,
-        rejected_ambiguous: n.rejected_ambiguous,
-        rejected_edge: n.rejected_edge + 1,
-    }
-}
-
-// The progress with other counts.
-fn with_counts(at: LocalProgress, counts: Counts) -> LocalProgress
-    ensures { λ r. ⌜ r ≡ countsChanged at counts ⌝ }
-{
+    let before = at.counts;
+    let counts = passes::one_more(found, before);
     let residual = at.residual;
     LocalProgress {
         counts,
@@ -150,12 +115,7 @@ fn attach_corner(
     used[k] = 1;
     let labels = supports::gather_labelled(sheet, places);
     remembered::forget_near(memory, predictions, c, corner);
-    let counts = Counts {
-        attached: made + 1,
-        rejected_no_candidate: n.rejected_no_candidate,
-        rejected_ambiguous: n.rejected_ambiguous,
-        rejected_edge: n.rejected_edge,
-    };
+    let counts = passes::one_more(TryCellResult::Attached(k), n);
     let residual = at.residual;
     LocalProgress {
         counts,
@@ -202,7 +162,7 @@ fn try_predicted_cell(
     match found {
         TryCellResult::NoCandidates => {
             remembered::note(memory, predictions, c, Known::NoCandidates(reach));
-            with_counts(at, count_no_candidate(at.counts))
+            count_cell(at, found)
         }
         TryCellResult::Ambiguous => {
             let limit = grow::last_distance(candidates);
@@ -212,9 +172,9 @@ fn try_predicted_cell(
                 c,
                 Known::Ambiguous(reach, prediction, limit),
             );
-            with_counts(at, count_ambiguous(at.counts))
+            count_cell(at, found)
         }
-        TryCellResult::EdgeRejected => with_counts(at, count_edge(at.counts)),
+        TryCellResult::EdgeRejected => count_cell(at, found),
         TryCellResult::Attached(k) => {
             let taken = sheet::corner_at(xs, ys, pitches, k);
             attach_corner(
@@ -325,8 +285,8 @@ pub fn try_local_cell(
             params,
         ),
         Known::Idle(_) => at,
-        Known::NoCandidates(_) => with_counts(at, count_no_candidate(at.counts)),
-        Known::Ambiguous(_, _, _) => with_counts(at, count_ambiguous(at.counts)),
+        Known::NoCandidates(_) => count_cell(at, TryCellResult::NoCandidates),
+        Known::Ambiguous(_, _, _) => count_cell(at, TryCellResult::Ambiguous),
         Known::Predicted(reach, prediction) => try_predicted_cell(
             xs,
             ys,

@@ -1,4 +1,5 @@
 pub mod Outcome
+pub mod Counting
 pub mod Grow
 pub mod Fill
 pub mod Local

@@ -28,7 +28,8 @@ use Rattle.extension_common.specs.declared.ChoiceRule.{ChoiceRule}
 use Rattle.extension_common.specs.declared.Search.{Search}
 use Rattle.extension_common.specs.declared.TryCellResult.{TryCellResult}
 use Rattle.passes.specs.Outcome.{After}
-use Rattle.passes.specs.Grow.{tolerancesOf, noCounts}
+use Rattle.passes.specs.Counting.{noCounts, oneMore}
+use Rattle.passes.specs.Grow.{tolerancesOf}
 use Rattle.passes.specs.Fill.{nearI, nearJ, cellsOf}
 use Rattle.passes.specs.declared.Counts.{Counts}
 use Rattle.passes.specs.declared.LargestResidual.{LargestResidual}
@@ -164,21 +165,19 @@ localSearch s p = record {
 abbrev pub gateOf : Settings → LocalExtensionParams → Float
 gateOf s p = mul binary32 (p .«max_residual_rel») (s .grid .«cell_size»)
 
-abbrev pub countedAs : Counts → LocalState → LocalState
-countedAs n s = record { sheet = s .sheet; made = s .made; counts = n; largest = s .largest }
+-- one cell more is counted
+abbrev pub counted : TryCellResult → LocalState → LocalState
+counted r s = record { sheet = s .sheet; made = s .made; counts = oneMore r (s .counts); largest = s .largest }
 
 -- local sets no mark; attaching clears both of its cell
 unfoldable pub localWith : Cell → TryCellResult → LocalState → LocalState
-localWith c TryCellResult.NoCandidates s =
-    countedAs (record { attached = s .counts .attached; «rejected_no_candidate» = s .counts .«rejected_no_candidate» + 1; «rejected_ambiguous» = s .counts .«rejected_ambiguous»; «rejected_edge» = s .counts .«rejected_edge» }) s
-localWith c TryCellResult.Ambiguous s =
-    countedAs (record { attached = s .counts .attached; «rejected_no_candidate» = s .counts .«rejected_no_candidate»; «rejected_ambiguous» = s .counts .«rejected_ambiguous» + 1; «rejected_edge» = s .counts .«rejected_edge» }) s
-localWith c TryCellResult.EdgeRejected s =
-    countedAs (record { attached = s .counts .attached; «rejected_no_candidate» = s .counts .«rejected_no_candidate»; «rejected_ambiguous» = s .counts .«rejected_ambiguous»; «rejected_edge» = s .counts .«rejected_edge» + 1 }) s
+localWith c TryCellResult.NoCandidates s = counted TryCellResult.NoCandidates s
+localWith c TryCellResult.Ambiguous s = counted TryCellResult.Ambiguous s
+localWith c TryCellResult.EdgeRejected s = counted TryCellResult.EdgeRejected s
 localWith c (TryCellResult.Attached k) s = record {
   sheet = marksCleared (attached (s .sheet) c k) c;
   made = s .made ++ (placeOf c ∷ []);
-  counts = record { attached = s .counts .attached + 1; «rejected_no_candidate» = s .counts .«rejected_no_candidate»; «rejected_ambiguous» = s .counts .«rejected_ambiguous»; «rejected_edge» = s .counts .«rejected_edge» };
+  counts = oneMore (TryCellResult.Attached k) (s .counts);
   largest = s .largest;
 }
 

@@ -34,12 +34,13 @@ use Rattle.arguments.specs.declared.LocalExtensionParams.{LocalExtensionParams}
 use Rattle.extension_common.specs.TryCell.{Corners, gathered, choiceBy, edgesOf, resultOf, tryAt}
 use Rattle.extension_common.specs.declared.Search.{Search}
 use Rattle.extension_common.specs.declared.TryCellResult.{TryCellResult}
+use Rattle.passes.specs.Counting.{oneMore}
 use Rattle.passes.specs.Grow.{GrowState, tolerancesOf, noCounts, member, wanted, enqueued, enqueuedAt, spread, seededFrom, startOf, searchOf, missed, growWith, growAt, growVisit, growFrom, growRun, growLeft, growAfter}
 use Rattle.passes.specs.Fill.{FillRounds, boxAndStrips, cellsOf, fillCells, fillSearch, fillWith, fillAt, fillVisit, fillAll, fillRound, fillFrom, fillLimit, fillRun, fillLeft, fillAfter}
 use Rattle.passes.specs.Local.{LocalState, LocalFit, none, fitted, LocalRounds, depthOf, localRegion, localCells, byReach, supportsOf, cellPoint, picturedAt, trusted, localFit, worst, localSearch, gateOf, localWith, localAt, localVisit, localAll, localRound, localFrom, localLimit, localRun, localLeft, localAfter}
 use Rattle.passes.specs.declared.LargestResidual.{LargestResidual}
 use Rattle.written_places.specs.Written.{Written, Rise, sheetWith, seenIn, placesIn, attachedIn, clearedIn}
-use Rattle.written_places.specs.Passes.{afterOf, gatheredIn, edgesIn, resultIn, tryIn, oneAttached, oneMissed, oneAmbiguous, oneEdge, GrowStateIn, growStateOf, enqueuedIn, enqueuedAtIn, spreadIn, seededFromIn, missedIn, growWithIn, growAtIn, growVisitIn, growFromIn, growRunIn, growAfterIn, FillStateIn, fillStateOf, fillCellsIn, fillWithIn, fillAtIn, fillVisitIn, fillAllIn, FillRoundsIn, fillFromIn, fillAfterIn, soundAnswers, quickFitWith, quickFitFrom, quickFit, LocalStateIn, localStateOf, localCellsIn, supportsIn, localFitIn, withResidualsIn, localWithIn, localAtIn, localVisitIn, localAllIn, LocalRoundsIn, localFromIn, localAfterIn}
+use Rattle.written_places.specs.Passes.{afterOf, gatheredIn, edgesIn, resultIn, tryIn, GrowStateIn, growStateOf, enqueuedIn, enqueuedAtIn, spreadIn, seededFromIn, missedIn, growWithIn, growAtIn, growVisitIn, growFromIn, growRunIn, growAfterIn, FillStateIn, fillStateOf, fillCellsIn, fillWithIn, fillAtIn, fillVisitIn, fillAllIn, FillRoundsIn, fillFromIn, fillAfterIn, soundAnswers, quickFitWith, quickFitFrom, quickFit, LocalStateIn, localStateOf, localCellsIn, supportsIn, localFitIn, withResidualsIn, localWithIn, localAtIn, localVisitIn, localAllIn, LocalRoundsIn, localFromIn, localAfterIn}
 use Rattle.written_places.proofs.Written.{rise-put, attached-so, hole-so, ambiguous-so, cleared-so, seen-so, labelled-so, places-so, box-so, count-so, used-so, rim-so}
 
 -- ---- one cell
@@ -90,17 +91,17 @@ seeded-so w [] queued = refl
 seeded-so w (p ∷ ps) queued = ap (seededFrom (sheetWith w) ps) (spread-so w (cellOf p) queued) ∙ seeded-so w ps (spreadIn w (cellOf p) queued)
 
 missed-so : (c : Cell) (s : GrowStateIn) → missed c (growStateOf s) ≡ growStateOf (missedIn c s)
-missed-so c s = λ t. record { sheet = hole-so (s .sheet) c t; queued = s .queued; made = s .made; counts = oneMissed (s .counts) }
+missed-so c s = λ t. record { sheet = hole-so (s .sheet) c t; queued = s .queued; made = s .made; counts = oneMore TryCellResult.NoCandidates (s .counts) }
 
 grow-with-so : (c : Cell) (r : TryCellResult) (s : GrowStateIn) → growWith c r (growStateOf s) ≡ growStateOf (growWithIn c r s)
 unfolding growWith growWithIn
 grow-with-so c TryCellResult.NoCandidates s = missed-so c s
-grow-with-so c TryCellResult.Ambiguous s = λ t. record { sheet = ambiguous-so (s .sheet) c t; queued = s .queued; made = s .made; counts = oneAmbiguous (s .counts) }
-grow-with-so c TryCellResult.EdgeRejected s = λ t. record { sheet = hole-so (s .sheet) c t; queued = s .queued; made = s .made; counts = oneEdge (s .counts) }
+grow-with-so c TryCellResult.Ambiguous s = λ t. record { sheet = ambiguous-so (s .sheet) c t; queued = s .queued; made = s .made; counts = oneMore TryCellResult.Ambiguous (s .counts) }
+grow-with-so c TryCellResult.EdgeRejected s = λ t. record { sheet = hole-so (s .sheet) c t; queued = s .queued; made = s .made; counts = oneMore TryCellResult.EdgeRejected (s .counts) }
 grow-with-so c (TryCellResult.Attached k) s =
     let more : spread (attached (sheetWith (s .sheet)) c k) c (s .queued) ≡ spreadIn (attachedIn (s .sheet) c k) c (s .queued) =
     ap (λ (sheet : List ℕ). spread sheet c (s .queued)) (attached-so (s .sheet) c k) ∙ spread-so (attachedIn (s .sheet) c k) c (s .queued) in
-    λ t. record { sheet = attached-so (s .sheet) c k t; queued = more t; made = s .made ++ (placeOf c ∷ []); counts = oneAttached (s .counts) }
+    λ t. record { sheet = attached-so (s .sheet) c k t; queued = more t; made = s .made ++ (placeOf c ∷ []); counts = oneMore (TryCellResult.Attached k) (s .counts) }
 
 grow-with-rises : (c : Cell) (r : TryCellResult) (s : GrowStateIn) → Rise 0 (s .sheet) → Rise 0 (growWithIn c r s .sheet)
 unfolding growWithIn
@@ -302,7 +303,7 @@ local-with-so c TryCellResult.EdgeRejected s = refl
 local-with-so c (TryCellResult.Attached k) s =
     let e : marksCleared (attached (sheetWith (s .sheet)) c k) c ≡ sheetWith (clearedIn (attachedIn (s .sheet) c k) c) =
     ap (λ (sheet : List ℕ). marksCleared sheet c) (attached-so (s .sheet) c k) ∙ cleared-so (attachedIn (s .sheet) c k) c in
-    λ t. record { sheet = e t; made = s .made ++ (placeOf c ∷ []); counts = oneAttached (s .counts); largest = s .largest }
+    λ t. record { sheet = e t; made = s .made ++ (placeOf c ∷ []); counts = oneMore (TryCellResult.Attached k) (s .counts); largest = s .largest }
 
 local-with-rises : (c : Cell) (r : TryCellResult) (s : LocalStateIn) → Rise 0 (s .sheet) → Rise 0 (localWithIn c r s .sheet)
 unfolding localWithIn

@@ -31,7 +31,8 @@ use Rattle.extension_common.specs.TryCell.{Corners, choiceBy}
 use Rattle.extension_common.specs.declared.Search.{Search}
 use Rattle.extension_common.specs.declared.TryCellResult.{TryCellResult}
 use Rattle.passes.specs.Outcome.{After}
-use Rattle.passes.specs.Grow.{GrowState, tolerancesOf, noCounts, member, searchOf}
+use Rattle.passes.specs.Counting.{noCounts, oneMore}
+use Rattle.passes.specs.Grow.{GrowState, tolerancesOf, member, searchOf}
 use Rattle.passes.specs.Fill.{FillState, boxAndStrips, cellsOf, fillSearch, fillLimit}
 use Rattle.passes.specs.Local.{LocalState, LocalFit, none, fitted, depthOf, localRegion, byReach, cellPoint, picturedAt, trusted}
 use Rattle.passes.specs.Local.{worst, recordedAll, localSearch, gateOf, localLimit}
@@ -69,22 +70,6 @@ unfoldable pub tryIn : Corners → List Written → Tolerances → Search → Ce
 tryIn cs w tol search c at =
     resultIn cs w tol c (choiceBy (search .rule) (gatheredIn cs w (search .«search_r») at) (search .«ambiguity_factor»))
 
-abbrev pub countsAs : ℕ → ℕ → ℕ → ℕ → Counts
-countsAs a m g e = record { attached = a; «rejected_no_candidate» = m; «rejected_ambiguous» = g; «rejected_edge» = e }
-
--- counts with one more
-abbrev pub oneAttached : Counts → Counts
-oneAttached n = countsAs (n .attached + 1) (n .«rejected_no_candidate») (n .«rejected_ambiguous») (n .«rejected_edge»)
-
-abbrev pub oneMissed : Counts → Counts
-oneMissed n = countsAs (n .attached) (n .«rejected_no_candidate» + 1) (n .«rejected_ambiguous») (n .«rejected_edge»)
-
-abbrev pub oneAmbiguous : Counts → Counts
-oneAmbiguous n = countsAs (n .attached) (n .«rejected_no_candidate») (n .«rejected_ambiguous» + 1) (n .«rejected_edge»)
-
-abbrev pub oneEdge : Counts → Counts
-oneEdge n = countsAs (n .attached) (n .«rejected_no_candidate») (n .«rejected_ambiguous») (n .«rejected_edge» + 1)
-
 -- ---- grow
 
 pub record GrowStateIn : Type 0 where
@@ -111,17 +96,17 @@ seededFromIn w [] queued = queued
 seededFromIn w (p ∷ ps) queued = seededFromIn w ps (spreadIn w (cellOf p) queued)
 
 abbrev pub missedIn : Cell → GrowStateIn → GrowStateIn
-missedIn c s = record { sheet = holeIn (s .sheet) c; queued = s .queued; made = s .made; counts = oneMissed (s .counts) }
+missedIn c s = record { sheet = holeIn (s .sheet) c; queued = s .queued; made = s .made; counts = oneMore TryCellResult.NoCandidates (s .counts) }
 
 unfoldable pub growWithIn : Cell → TryCellResult → GrowStateIn → GrowStateIn
 growWithIn c TryCellResult.NoCandidates s = missedIn c s
-growWithIn c TryCellResult.Ambiguous s = record { sheet = ambiguousIn (s .sheet) c; queued = s .queued; made = s .made; counts = oneAmbiguous (s .counts) }
-growWithIn c TryCellResult.EdgeRejected s = record { sheet = holeIn (s .sheet) c; queued = s .queued; made = s .made; counts = oneEdge (s .counts) }
+growWithIn c TryCellResult.Ambiguous s = record { sheet = ambiguousIn (s .sheet) c; queued = s .queued; made = s .made; counts = oneMore TryCellResult.Ambiguous (s .counts) }
+growWithIn c TryCellResult.EdgeRejected s = record { sheet = holeIn (s .sheet) c; queued = s .queued; made = s .made; counts = oneMore TryCellResult.EdgeRejected (s .counts) }
 growWithIn c (TryCellResult.Attached k) s = record {
   sheet = attachedIn (s .sheet) c k;
   queued = spreadIn (attachedIn (s .sheet) c k) c (s .queued);
   made = s .made ++ (placeOf c ∷ []);
-  counts = oneAttached (s .counts);
+  counts = oneMore (TryCellResult.Attached k) (s .counts);
 }
 
 unfoldable pub growAtIn : Corners → Settings → GrowParams → Cell → Prediction → GrowStateIn → GrowStateIn
@@ -239,17 +224,17 @@ localFitIn cs w ps =
 abbrev pub withResidualsIn : List Float → LocalStateIn → LocalStateIn
 withResidualsIn rs s = record { sheet = s .sheet; made = s .made; counts = s .counts; largest = recordedAll (s .largest) rs }
 
-abbrev pub countedAsIn : Counts → LocalStateIn → LocalStateIn
-countedAsIn n s = record { sheet = s .sheet; made = s .made; counts = n; largest = s .largest }
+abbrev pub countedIn : TryCellResult → LocalStateIn → LocalStateIn
+countedIn r s = record { sheet = s .sheet; made = s .made; counts = oneMore r (s .counts); largest = s .largest }
 
 unfoldable pub localWithIn : Cell → TryCellResult → LocalStateIn → LocalStateIn
-localWithIn c TryCellResult.NoCandidates s = countedAsIn (oneMissed (s .counts)) s
-localWithIn c TryCellResult.Ambiguous s = countedAsIn (oneAmbiguous (s .counts)) s
-localWithIn c TryCellResult.EdgeRejected s = countedAsIn (oneEdge (s .counts)) s
+localWithIn c TryCellResult.NoCandidates s = countedIn TryCellResult.NoCandidates s
+localWithIn c TryCellResult.Ambiguous s = countedIn TryCellResult.Ambiguous s
+localWithIn c TryCellResult.EdgeRejected s = countedIn TryCellResult.EdgeRejected s
 localWithIn c (TryCellResult.Attached k) s = record {
   sheet = clearedIn (attachedIn (s .sheet) c k) c;
   made = s .made ++ (placeOf c ∷ []);
-  counts = oneAttached (s .counts);
+  counts = oneMore (TryCellResult.Attached k) (s .counts);
   largest = s .largest;
 }
 

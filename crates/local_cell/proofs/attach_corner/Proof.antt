@@ -34,8 +34,8 @@ gather-labelled-requires c κs = gatherable _ _ _ (c .before .before .before .be
 forget-near-requires : tie.Need-forget-near-requires
 forget-near-requires c κs = (c .before .before .before .before .before .before .before .before .before .before .before .before .before .before .before .before .pre .1, c .before .before .before .before .before .before .before .before .before .before .before .before .before .before .before .before .pre .0 .sheet-cell .on)
 
-add-t23 : tie.Need-add-t23
-add-t23 c = search needs
+one-more-requires : tie.Need-one-more-requires
+one-more-requires c κs = search needs
 
 same-length : tie.Need-same-length
 same-length c = search needs
@@ -44,7 +44,7 @@ same-length-2 : tie.Need-same-length-2
 same-length-2 c = search needs
 
 returns : tie.Need-returns
-returns c = (wrote _ _ _ (c .before .before .before .before .before .before .before .before .before .before .before .before .attach .ensures) (c .before .before .before .before .before .before .before .before .clear-marks .ensures) _ _ _ (c .before .before .before .before .before .before .before .before .before .before .before .before .before .before .before .before .before .args .at) (c .before .before .before .before .before .place-of .ensures) (c .before .before .gather-labelled .ensures), c .forget-near .ensures)
+returns c = (wrote _ _ _ (c .before .before .before .before .before .before .before .before .before .before .before .before .before .attach .ensures) (c .before .before .before .before .before .before .before .before .before .clear-marks .ensures) _ _ _ (c .before .before .before .before .before .before .before .before .before .before .before .before .before .before .before .before .before .before .args .at) (c .before .before .before .before .before .before .place-of .ensures) (c .before .before .before .gather-labelled .ensures) (c .one-more .ensures), c .before .forget-near .ensures)
 
 pub attach-corner-spec : {M : Type 1} → statement M
 attach-corner-spec =
@@ -59,7 +59,7 @@ attach-corner-spec =
     element-write-used
     gather-labelled-requires
     forget-near-requires
-    add-t23
+    one-more-requires
     same-length
     same-length-2
     returns)

@@ -21,20 +21,14 @@ enum-told-2 c = search needs
 enum-told-3 : tie.Need-enum-told-3
 enum-told-3 c = search needs
 
-count-no-candidate-requires : tie.Need-count-no-candidate-requires
-count-no-candidate-requires c κs = c .before .before .before .before .before .before .before .before .before .before .pre .0 .countable
-
-with-counts-requires : tie.Need-with-counts-requires
-with-counts-requires c κs = search needs
+count-cell-requires : tie.Need-count-cell-requires
+count-cell-requires c κs = c .before .before .before .before .before .before .before .before .before .before .pre .0 .countable
 
 enum-told-4 : tie.Need-enum-told-4
 enum-told-4 c = search needs
 
-count-ambiguous-requires : tie.Need-count-ambiguous-requires
-count-ambiguous-requires c κs = c .before .before .before .before .before .before .before .before .before .before .pre .0 .countable
-
-with-counts-requires-2 : tie.Need-with-counts-requires-2
-with-counts-requires-2 c κs = search needs
+count-cell-requires-2 : tie.Need-count-cell-requires-2
+count-cell-requires-2 c κs = c .before .before .before .before .before .before .before .before .before .before .pre .0 .countable
 
 enum-known-known : tie.Need-enum-known-known
 enum-known-known c = search needs
@@ -55,10 +49,10 @@ returns-2 : tie.Need-returns-2
 returns-2 c = (untouched (c .before .before .before .before .before .before .before .before .before .before .pre .0 .extending) (known-idle _ _ (c .before .before .before .before .before .before .before .before .before .before .pre .0) (c .before .before .before .before .before .before .before .before .before .before .pre .1) (c .before .before .recall .ensures .0) (c .enum-told2 .given .1)), c .before .before .before .before .before .before .before .before .before .before .pre .1)
 
 returns-3 : tie.Need-returns-3
-returns-3 c = (left-as (known-no-candidates _ _ (c .before .before .before .before .before .before .before .before .before .before .before .before .pre .0) (c .before .before .before .before .before .before .before .before .before .before .before .before .pre .1) (c .before .before .before .before .recall .ensures .0) (c .before .before .enum-told3 .given .1)) (found-none _ _ refl (c .before .before .before .before .before .before .before .before .before .before .before .before .pre .0 .extending) (c .with-counts .ensures) refl (c .before .count-no-candidate .ensures)), recalls-counted (c .before .before .before .before .before .before .before .before .before .before .before .before .pre .1) (c .before .before .before .before .before .before .before .before .before .before .before .before .pre .0) (c .with-counts .ensures))
+returns-3 c = (left-as (known-no-candidates _ _ (c .before .before .before .before .before .before .before .before .before .before .before .pre .0) (c .before .before .before .before .before .before .before .before .before .before .before .pre .1) (c .before .before .before .recall .ensures .0) (c .before .enum-told3 .given .1)) (found-none _ _ refl (c .before .before .before .before .before .before .before .before .before .before .before .pre .0 .extending) (c .count-cell .ensures) refl), recalls-counted (c .before .before .before .before .before .before .before .before .before .before .before .pre .1) (c .before .before .before .before .before .before .before .before .before .before .before .pre .0) (c .count-cell .ensures))
 
 returns-4 : tie.Need-returns-4
-returns-4 c = (left-as (known-ambiguous _ _ (c .before .before .before .before .before .before .before .before .before .before .before .before .pre .0) (c .before .before .before .before .before .before .before .before .before .before .before .before .pre .1) (c .before .before .before .before .recall .ensures .0) (c .before .before .enum-told4 .given .1)) (found-ambiguous _ _ refl (c .before .before .before .before .before .before .before .before .before .before .before .before .pre .0 .extending) (c .with-counts2 .ensures) refl (c .before .count-ambiguous .ensures)), recalls-counted (c .before .before .before .before .before .before .before .before .before .before .before .before .pre .1) (c .before .before .before .before .before .before .before .before .before .before .before .before .pre .0) (c .with-counts2 .ensures))
+returns-4 c = (left-as (known-ambiguous _ _ (c .before .before .before .before .before .before .before .before .before .before .before .pre .0) (c .before .before .before .before .before .before .before .before .before .before .before .pre .1) (c .before .before .before .recall .ensures .0) (c .before .enum-told4 .given .1)) (found-ambiguous _ _ refl (c .before .before .before .before .before .before .before .before .before .before .before .pre .0 .extending) (c .count-cell2 .ensures) refl), recalls-counted (c .before .before .before .before .before .before .before .before .before .before .before .pre .1) (c .before .before .before .before .before .before .before .before .before .before .before .pre .0) (c .count-cell2 .ensures))
 
 same-length-3 : tie.Need-same-length-3
 same-length-3 c = search needs
@@ -78,11 +72,9 @@ try-local-cell-spec =
     try-unknown-cell-requires
     enum-told-2
     enum-told-3
-    count-no-candidate-requires
-    with-counts-requires
+    count-cell-requires
     enum-told-4
-    count-ambiguous-requires
-    with-counts-requires-2
+    count-cell-requires-2
     enum-known-known
     try-predicted-cell-requires
     same-length

@@ -47,11 +47,8 @@ enum-told c = search needs
 note-requires : tie.Need-note-requires
 note-requires c κs = noting (c .before .before .before .before .before .before .before .before .before .before .before .before .before .before .before .pre .0) (c .before .before .before .before .before .before .before .before .before .before .before .before .before .before .before .pre .1 .0) (notable-no-candidates (c .before .before .before .before .before .before .before .before .before .before .before .before .before .before .before .pre .1 .1 .small))
 
-count-no-candidate-requires : tie.Need-count-no-candidate-requires
-count-no-candidate-requires c κs = c .before .before .before .before .before .before .before .before .before .before .before .before .before .before .before .before .pre .0 .countable
-
-with-counts-requires : tie.Need-with-counts-requires
-with-counts-requires c κs = search needs
+count-cell-requires : tie.Need-count-cell-requires
+count-cell-requires c κs = c .before .before .before .before .before .before .before .before .before .before .before .before .before .before .before .before .pre .0 .countable
 
 enum-told-2 : tie.Need-enum-told-2
 enum-told-2 c = search needs
@@ -62,20 +59,14 @@ last-distance-requires c κs = search needs
 note-requires-2 : tie.Need-note-requires-2
 note-requires-2 c κs = noting (c .before .before .before .before .before .before .before .before .before .before .before .before .before .before .before .before .pre .0) (c .before .before .before .before .before .before .before .before .before .before .before .before .before .before .before .before .pre .1 .0) (notable-ambiguous (c .before .before .before .before .before .before .before .before .before .before .before .before .before .before .before .before .pre .1 .1 .small) _ _)
 
-count-ambiguous-requires : tie.Need-count-ambiguous-requires
-count-ambiguous-requires c κs = c .before .before .before .before .before .before .before .before .before .before .before .before .before .before .before .before .before .pre .0 .countable
-
-with-counts-requires-2 : tie.Need-with-counts-requires-2
-with-counts-requires-2 c κs = search needs
+count-cell-requires-2 : tie.Need-count-cell-requires-2
+count-cell-requires-2 c κs = c .before .before .before .before .before .before .before .before .before .before .before .before .before .before .before .before .before .pre .0 .countable
 
 enum-told-3 : tie.Need-enum-told-3
 enum-told-3 c = search needs
 
-count-edge-requires : tie.Need-count-edge-requires
-count-edge-requires c κs = c .before .before .before .before .before .before .before .before .before .before .before .before .before .pre .0 .countable
-
-with-counts-requires-3 : tie.Need-with-counts-requires-3
-with-counts-requires-3 c κs = search needs
+count-cell-requires-3 : tie.Need-count-cell-requires-3
+count-cell-requires-3 c κs = c .before .before .before .before .before .before .before .before .before .before .before .before .before .pre .0 .countable
 
 enum-known-found : tie.Need-enum-known-found
 enum-known-found c = search needs
@@ -90,19 +81,19 @@ same-length : tie.Need-same-length
 same-length c = search needs
 
 returns : tie.Need-returns
-returns c = (found-none _ _ (found (c .before .before .before .before .before .before .before)) (c .before .before .before .before .before .before .before .before .before .before .before .before .before .before .before .before .before .before .pre .0 .extending) (c .with-counts .ensures) (c .before .before .before .before .before .enum-told .given .1) (c .before .count-no-candidate .ensures), recalls-missed (c .before .before .before .before .before .before .before .before .before .before .before .before .before .before .before .before .before .before .pre .1 .0) (c .before .before .before .before .before .before .before .before .before .before .before .before .before .before .before .before .before .before .pre .0) (c .before .before .before .before .before .before .before .before .before .before .before .before .before .before .before .before .before .before .pre .1 .1) (found (c .before .before .before .before .before .before .before)) (c .before .before .before .before .before .enum-told .given .1) (c .with-counts .ensures) (c .before .before .note .ensures))
+returns c = (found-none _ _ (found (c .before .before .before .before .before .before)) (c .before .before .before .before .before .before .before .before .before .before .before .before .before .before .before .before .before .pre .0 .extending) (c .count-cell .ensures) (c .before .before .before .before .enum-told .given .1), recalls-missed (c .before .before .before .before .before .before .before .before .before .before .before .before .before .before .before .before .before .pre .1 .0) (c .before .before .before .before .before .before .before .before .before .before .before .before .before .before .before .before .before .pre .0) (c .before .before .before .before .before .before .before .before .before .before .before .before .before .before .before .before .before .pre .1 .1) (found (c .before .before .before .before .before .before)) (c .before .before .before .before .enum-told .given .1) (c .count-cell .ensures) (c .before .note .ensures))
 
 same-length-2 : tie.Need-same-length-2
 same-length-2 c = search needs
 
 returns-2 : tie.Need-returns-2
-returns-2 c = (found-ambiguous _ _ (found (c .before .before .before .before .before .before .before .before)) (c .before .before .before .before .before .before .before .before .before .before .before .before .before .before .before .before .before .before .before .pre .0 .extending) (c .with-counts2 .ensures) (c .before .before .before .before .before .before .enum-told2 .given .1) (c .before .count-ambiguous .ensures), recalls-ambiguous (c .before .before .before .before .before .before .before .before .before .before .before .before .before .before .before .before .before .before .before .pre .1 .0) (c .before .before .before .before .before .before .before .before .before .before .before .before .before .before .before .before .before .before .before .pre .0) (c .before .before .before .before .before .before .before .before .before .before .before .before .before .before .before .before .before .before .before .pre .1 .1) (candidates (c .before .before .before .before .before .before .before .before .before .before .before)) (c .before .before .before .before .before .last-distance .ensures) (found (c .before .before .before .before .before .before .before .before)) (c .before .before .before .before .before .before .enum-told2 .given .1) (c .with-counts2 .ensures) (c .before .before .note2 .ensures))
+returns-2 c = (found-ambiguous _ _ (found (c .before .before .before .before .before .before .before)) (c .before .before .before .before .before .before .before .before .before .before .before .before .before .before .before .before .before .before .pre .0 .extending) (c .count-cell2 .ensures) (c .before .before .before .before .before .enum-told2 .given .1), recalls-ambiguous (c .before .before .before .before .before .before .before .before .before .before .before .before .before .before .before .before .before .before .pre .1 .0) (c .before .before .before .before .before .before .before .before .before .before .before .before .before .before .before .before .before .before .pre .0) (c .before .before .before .before .before .before .before .before .before .before .before .before .before .before .before .before .before .before .pre .1 .1) (candidates (c .before .before .before .before .before .before .before .before .before .before)) (c .before .before .before .before .last-distance .ensures) (found (c .before .before .before .before .before .before .before)) (c .before .before .before .before .before .enum-told2 .given .1) (c .count-cell2 .ensures) (c .before .note2 .ensures))
 
 same-length-3 : tie.Need-same-length-3
 same-length-3 c = search needs
 
 returns-3 : tie.Need-returns-3
-returns-3 c = (found-refused _ _ (found (c .before .before .before .before)) (c .before .before .before .before .before .before .before .before .before .before .before .before .before .before .before .pre .0 .extending) (c .with-counts3 .ensures) (c .before .before .enum-told3 .given .1) (c .before .count-edge .ensures), recalls-counted (c .before .before .before .before .before .before .before .before .before .before .before .before .before .before .before .pre .1 .0) (c .before .before .before .before .before .before .before .before .before .before .before .before .before .before .before .pre .0) (c .with-counts3 .ensures))
+returns-3 c = (found-refused _ _ (found (c .before .before .before)) (c .before .before .before .before .before .before .before .before .before .before .before .before .before .before .pre .0 .extending) (c .count-cell3 .ensures) (c .before .enum-told3 .given .1), recalls-counted (c .before .before .before .before .before .before .before .before .before .before .before .before .before .before .pre .1 .0) (c .before .before .before .before .before .before .before .before .before .before .before .before .before .before .pre .0) (c .count-cell3 .ensures))
 
 same-length-4 : tie.Need-same-length-4
 same-length-4 c = search needs
@@ -123,16 +114,13 @@ try-predicted-cell-spec =
     try-candidates-requires
     enum-told
     note-requires
-    count-no-candidate-requires
-    with-counts-requires
+    count-cell-requires
     enum-told-2
     last-distance-requires
     note-requires-2
-    count-ambiguous-requires
-    with-counts-requires-2
+    count-cell-requires-2
     enum-told-3
-    count-edge-requires
-    with-counts-requires-3
+    count-cell-requires-3
     enum-known-found
     corner-at-requires
     attach-corner-requires
