@@ -1,12 +1,9 @@
 -- What local's functions of a round and of all rounds ask and leave, in the terms of local's definition (crate passes, Local). Definitions only.
 use mathlib.Core.Path.{_≡_}
-use mathlib.Core.Bool.{Bool, not, _&&_, cond}
+use mathlib.Core.Bool.{Bool}
 use mathlib.Core.List.{List}
 use Prim.Native.Nat.{ℕ, _<_, _≤_}
 use lib.Ieee.{Float}
-use Rattle.sheet.specs.Cells.{cellOf}
-use Rattle.sheet.specs.Words.{labelAt}
-use Rattle.labels.specs.Labelled.{namesCorner}
 use Rattle.arguments.specs.declared.Settings.{Settings}
 use Rattle.arguments.specs.declared.LocalExtensionParams.{LocalExtensionParams}
 use Rattle.extension_common.specs.TryCell.{Corners}
@@ -15,6 +12,7 @@ use Rattle.passes.specs.Local.{depthOf, LocalState, LocalRounds, localVisit}
 use Rattle.passes.specs.declared.LargestResidual.{LargestResidual}
 use Rattle.passes.specs.declared.LocalStats.{LocalStats}
 use Rattle.region.specs.Region.{Region, Telling, regionAt}
+use Rattle.region.specs.Places.{placeVisited}
 use Rattle.local_cell.specs.Extending.{stateOf, Extending, Left}
 use Rattle.local_cell.specs.declared.LocalProgress.{LocalProgress}
 use Rattle.local.specs.declared.RoundsDone.{RoundsDone}
@@ -28,9 +26,8 @@ pub record Looking (xs ys pitches : List Float) (sheet list used places : List �
   pub countable : visits (at .counts) < 4294967296
 
 -- a place looked at: its cell is tried if it lies in the region and is unlabelled now
-unfoldable pub lookedAt : Corners → Settings → LocalExtensionParams → Region → ℕ → LocalState → LocalState
-lookedAt cs set p region place s =
-    cond (regionAt (depthOf p) region place && not (namesCorner (labelAt (s .sheet) (cellOf place)))) (localVisit cs set p (cellOf place) s) s
+abbrev pub lookedAt : Corners → Settings → LocalExtensionParams → Region → ℕ → LocalState → LocalState
+lookedAt cs set p region place s = placeVisited (localVisit cs set p) (λ t. t .sheet) (regionAt (depthOf p) region place) place s
 
 -- a round is to be done: the depth is that of an accepted call, and all visits can be counted
 pub record RoundAsked (xs ys pitches : List Float) (sheet list used places : List ℕ) (at : LocalProgress) (p : LocalExtensionParams) : Type 0 where

@@ -7,4 +7,4 @@ pub mod Enough
 pub mod Run
 pub mod Nearest
 pub mod Said
-pub mod SameRounds
+pub mod Rounds

@@ -3,7 +3,7 @@
 use mathlib.Core.Bool.{Bool, not, _&&_, cond}
 use mathlib.Core.List.{List, [], _∷_, _++_, map}
 use Prim.Native.Nat.{ℕ, zero, suc, _+_, _*_}
-use lib.Dec.{eqb, ltb}
+use lib.Dec.{ltb}
 use lib.ListN.{length, getD, take}
 use lib.Ieee.{Float, binary32, ofBits, lt}
 use Rattle.binary32.specs.Ranges.{isFinite}
@@ -32,6 +32,7 @@ use Rattle.extension_common.specs.declared.Search.{Search}
 use Rattle.extension_common.specs.declared.TryCellResult.{TryCellResult}
 use Rattle.passes.specs.Outcome.{After}
 use Rattle.passes.specs.Counting.{noCounts, oneMore}
+use Rattle.passes.specs.Rounds.{RoundPass, Rounds, roundsFrom}
 use Rattle.passes.specs.Grow.{GrowState, tolerancesOf, member, searchOf}
 use Rattle.passes.specs.Fill.{FillState, boxAndStrips, cellsOf, fillSearch, fillLimit}
 use Rattle.passes.specs.Local.{LocalState, LocalFit, none, fitted, depthOf, localRegion, byReach, cellPoint, picturedAt, trusted}
@@ -157,21 +158,10 @@ fillAtIn cs set p c (Prediction.At at) s = fillWithIn c (tryIn cs (s .sheet) (to
 unfoldable pub fillVisitIn : Corners → Settings → FillParams → Cell → FillStateIn → FillStateIn
 fillVisitIn cs set p c s = fillAtIn cs set p c (predictionOf (seenIn (cs .corner) (s .sheet)) (set .grid) c) s
 
-unfoldable pub fillAllIn : Corners → Settings → FillParams → List ℕ → FillStateIn → FillStateIn
-fillAllIn cs set p [] s = s
-fillAllIn cs set p (q ∷ qs) s = fillAllIn cs set p qs (fillVisitIn cs set p (cellOf q) s)
+abbrev pub fillPassIn : Corners → Settings → FillParams → RoundPass FillStateIn
+fillPassIn cs set p = record { cells = λ s. fillCellsIn (s .sheet); visit = fillVisitIn cs set p; made = λ s. s .made }
 
-pub record FillRoundsIn : Type 0 where
-  pub state : FillStateIn
-  pub rounds : ℕ
-
-unfoldable pub fillFromIn : Corners → Settings → FillParams → ℕ → FillRoundsIn → FillRoundsIn
-fillFromIn cs set p zero r = r
-fillFromIn cs set p (suc m) r =
-    let next : FillRoundsIn = record { state = fillAllIn cs set p (fillCellsIn (r .state .sheet)) (r .state); rounds = r .rounds + 1 } in
-    cond (eqb (length (next .state .made)) (length (r .state .made))) next (fillFromIn cs set p m next)
-
-abbrev pub fillLeftIn : FillRoundsIn → AfterIn FillStats
+abbrev pub fillLeftIn : Rounds FillStateIn → AfterIn FillStats
 fillLeftIn r = record {
   answer = record { added = length (r .state .made); iterations = r .rounds; rim = rimIn 1 (r .state .sheet) };
   sheet = r .state .sheet;
@@ -181,7 +171,8 @@ fillLeftIn r = record {
 
 unfoldable pub fillAfterIn : Corners → Settings → FillParams → List Written → AfterIn FillStats
 fillAfterIn cs set p w =
-    fillLeftIn (fillFromIn cs set p (fillLimit (length (placesIn w)) (p .«max_iters»)) (record { state = record { sheet = w; made = [] }; rounds = 0 }))
+    fillLeftIn (roundsFrom (fillPassIn cs set p) (fillLimit (length (placesIn w)) (p .«max_iters»))
+    (record { state = record { sheet = w; made = [] }; rounds = 0 }))
 
 -- ---- local
 
@@ -247,21 +238,10 @@ localAtIn cs set p c (fitted h rs) s =
 unfoldable pub localVisitIn : Corners → Settings → LocalExtensionParams → Cell → LocalStateIn → LocalStateIn
 localVisitIn cs set p c s = localAtIn cs set p c (localFitIn cs (s .sheet) (supportsIn c (s .sheet))) s
 
-unfoldable pub localAllIn : Corners → Settings → LocalExtensionParams → List ℕ → LocalStateIn → LocalStateIn
-localAllIn cs set p [] s = s
-localAllIn cs set p (q ∷ qs) s = localAllIn cs set p qs (localVisitIn cs set p (cellOf q) s)
+abbrev pub localPassIn : Corners → Settings → LocalExtensionParams → RoundPass LocalStateIn
+localPassIn cs set p = record { cells = λ s. localCellsIn (depthOf p) (s .sheet); visit = localVisitIn cs set p; made = λ s. s .made }
 
-pub record LocalRoundsIn : Type 0 where
-  pub state : LocalStateIn
-  pub rounds : ℕ
-
-unfoldable pub localFromIn : Corners → Settings → LocalExtensionParams → ℕ → LocalRoundsIn → LocalRoundsIn
-localFromIn cs set p zero r = r
-localFromIn cs set p (suc m) r =
-    let next : LocalRoundsIn = record { state = localAllIn cs set p (localCellsIn (depthOf p) (r .state .sheet)) (r .state); rounds = r .rounds + 1 } in
-    cond (eqb (length (next .state .made)) (length (r .state .made))) next (localFromIn cs set p m next)
-
-abbrev pub localLeftIn : ℕ → LocalRoundsIn → AfterIn LocalStats
+abbrev pub localLeftIn : ℕ → Rounds LocalStateIn → AfterIn LocalStats
 localLeftIn depth r = record {
   answer = record { counts = r .state .counts; iterations = r .rounds; residual = r .state .largest; rim = rimIn depth (r .state .sheet) };
   sheet = r .state .sheet;
@@ -272,5 +252,5 @@ localLeftIn depth r = record {
 unfoldable pub localAfterIn : Corners → Settings → LocalExtensionParams → List Written → AfterIn LocalStats
 localAfterIn cs set p w =
     localLeftIn (depthOf p)
-    (localFromIn cs set p (localLimit (length (placesIn w)) (p .«max_iters»))
+    (roundsFrom (localPassIn cs set p) (localLimit (length (placesIn w)) (p .«max_iters»))
     (record { state = record { sheet = w; made = []; counts = noCounts; largest = LargestResidual.Nothing }; rounds = 0 }))
