@@ -1,11 +1,11 @@
 -- Fill's run is the same on both frames, through the pairing, where its factor is above 1: paired sheets, and the same new cells and rounds.
 -- Assumes nothing.
-use mathlib.Core.Path.{_≡_, refl, sym, ap, ap₂, subst}
-use mathlib.Core.Bool.{Bool, true, false, cond}
+use mathlib.Core.Path.{_≡_, refl, ap}
+use mathlib.Core.Bool.{true}
 use mathlib.Core.List.{List, [], _∷_, _++_}
-use Prim.Native.Nat.{ℕ, zero, suc, _+_, _<_, _≤_}
+use Prim.Native.Nat.{ℕ, _<_, _≤_}
 use native.Mathlib.Omega.{arith}
-use lib.Dec.{T, eqb}
+use lib.Dec.{T}
 use lib.ListN.{length}
 use lib.Ieee.{lt}
 use lib.Ieee.Scale.{finite}
@@ -30,13 +30,15 @@ use Rattle.extension_common.specs.TryCell.{tryAt}
 use Rattle.extension_common.specs.declared.TryCellResult.{TryCellResult}
 use Rattle.extension_common.proofs.Laws.{attachable}
 use Rattle.passes.specs.Grow.{tolerancesOf}
-use Rattle.passes.specs.Fill.{boxAndStrips, fillCells, FillState, fillSearch, fillWith, fillAt, fillVisit, fillAll, fillRound, FillRounds, fillFrom, fillLimit, fillRun}
+use Rattle.passes.specs.Rounds.{roundsFrom}
+use Rattle.passes.specs.Fill.{boxAndStrips, fillCells, FillState, fillSearch, fillWith, fillAt, fillVisit, fillPass, fillFrom, fillLimit, fillRun}
 use Rattle.passes.specs.Step.{CornerLists}
-use Rattle.passes.specs.History.{History, begun}
+use Rattle.passes.specs.History.{begun}
+use Rattle.passes.proofs.Rounds.{Alike, SameRounds, rounds-same}
 use Rattle.invariants.specs.Kept.{Sound}
 use Rattle.invariants.specs.Calls.{cornersIn, Standing}
-use Rattle.invariants.proofs.Waiting.{first-on}
-use Rattle.invariants.proofs.Fill.{Filling, cells-listed, sound-then, filling-visit, filling-round}
+use Rattle.invariants.proofs.Waiting.{waiting-none, first-on}
+use Rattle.invariants.proofs.Fill.{Filling, sound-then, filling-visit, filling-begins}
 use Rattle.invariants.proofs.Run.{standing-sound, sound-standing}
 use Rattle.binary32.specs.Numbers.{one}
 use Rattle.agreement.proofs.Try.{pairedResult, try-paired}
@@ -46,11 +48,6 @@ use Rattle.agreement.proofs.Cells.{cells-same}
 pub record SameFill {n : ℕ} (s : Shuffle n) (a a' : FillState) : Type 0 where
   pub sheet : PairedSheets s (a .sheet) (a' .sheet)
   pub made : a' .made ≡ a .made
-
--- after some rounds, and after as many in both
-pub record SameRounds {n : ℕ} (s : Shuffle n) (r r' : FillRounds) : Type 0 where
-  pub state : SameFill s (r .state) (r' .state)
-  pub rounds : r' .rounds ≡ r .rounds
 
 -- the same cells are listed
 fill-cells-same : {n : ℕ} {s : Shuffle n} {sheet sheet' : List ℕ} → PairedSheets s sheet sheet' → fillCells sheet' ≡ fillCells sheet
@@ -101,50 +98,38 @@ module _ (l l' : CornerLists) (corners : PairedCorners (l .xs) (l .ys) (l .pitch
     sound : Sound (cornersIn l) first
     sound = standing-sound begins
 
-    -- some cells: in the first run each lies on the sheet
-    all-same : (ps : List ℕ) (a a' : FillState) → Filling (cornersIn l) (tolerancesOf set) first ps a → SameFill (corners .pairs) a a'
-        → SameFill (corners .pairs) (fillAll (cornersIn l) set params ps a) (fillAll (cornersIn l') set params ps a')
-    unfolding fillAll
-    all-same [] a a' g same = same
-    all-same (p ∷ ps) a a' g same =
-        all-same ps (fillVisit (cornersIn l) set params (cellOf p) a) (fillVisit (cornersIn l') set params (cellOf p) a') (filling-visit few sound set params p ps a g)
-        (visit-same a a' same (sound-standing begins (sound-then few sound g) .given) (cellOf p) (cell-on p (first-on (g .waiting))))
+    -- where both runs stand, with these cells still to come: in the first run each waits for its turn
+    abbrev Both : List ℕ → FillState → FillState → Type 0
+    Both ps a a' = Filling (cornersIn l) (tolerancesOf set) first ps a × SameFill (corners .pairs) a a'
 
-    round-same : (a a' : FillState) → History (cornersIn l) (tolerancesOf set) first (a .made) (a .sheet) → SameFill (corners .pairs) a a'
-        → SameFill (corners .pairs) (fillRound (cornersIn l) set params a) (fillRound (cornersIn l') set params a')
-    unfolding fillRound
-    round-same a a' h same =
-        subst (λ (ps : List ℕ). SameFill (corners .pairs) (fillRound (cornersIn l) set params a) (fillAll (cornersIn l') set params ps a')) (sym (fill-cells-same (same .sheet)))
-        (all-same (fillCells (a .sheet)) a a' (record { history = h; waiting = cells-listed (a .sheet) }) same)
-
-    -- at most m rounds more
-    from-same : (m : ℕ) (r r' : FillRounds) → History (cornersIn l) (tolerancesOf set) first (r .state .made) (r .state .sheet) → SameRounds (corners .pairs) r r'
-        → SameRounds (corners .pairs) (fillFrom (cornersIn l) set params m r) (fillFrom (cornersIn l') set params m r')
-    unfolding fillFrom
-    from-same zero r r' h same = same
-    from-same (suc m) r r' h same =
-        subst (λ (t : Bool). SameRounds (corners .pairs) (fillFrom (cornersIn l) set params (suc m) r) (cond t next' (fillFrom (cornersIn l') set params m next')))
-        (sym (ap₂ (λ (x y : List ℕ). eqb (length x) (length y)) (after .state .made) (same .state .made)))
-        (go (eqb (length (next .state .made)) (length (r .state .made))) (from-same m next next' (filling-round few sound set params (r .state) h) after))
-      where
-        next : FillRounds
-        next = record { state = fillRound (cornersIn l) set params (r .state); rounds = r .rounds + 1 }
-
-        next' : FillRounds
-        next' = record { state = fillRound (cornersIn l') set params (r' .state); rounds = r' .rounds + 1 }
-
-        after : SameRounds (corners .pairs) next next'
-        after = record { state = round-same (r .state) (r' .state) h (same .state); rounds = ap (λ (n : ℕ). n + 1) (same .rounds) }
-
-        go : (t : Bool) → SameRounds (corners .pairs) (fillFrom (cornersIn l) set params m next) (fillFrom (cornersIn l') set params m next')
-            → SameRounds (corners .pairs) (cond t next (fillFrom (cornersIn l) set params m next)) (cond t next' (fillFrom (cornersIn l') set params m next'))
-        go true w = after
-        go false w = w
+    alike : Alike (fillPass (cornersIn l) set params) (fillPass (cornersIn l') set params) Both
+    alike =
+        record {
+          cells = λ a a' g. fill-cells-same (g .1 .sheet);
+          begins = λ a a' g. (filling-begins few sound set params a (g .0), g .1);
+          keeps = λ p ps a a' g. (
+            filling-visit few sound set params p ps a (g .0),
+            visit-same a a' (g .1) (sound-standing begins (sound-then few sound (g .0)) .given) (cellOf p) (cell-on p (first-on (g .0 .waiting))),
+          );
+          made = λ a a' g. ap length (g .1 .made);
+        }
 
     -- the whole run
-    pub fill-same : (first' : List ℕ) → PairedSheets (corners .pairs) first first' → SameRounds (corners .pairs) (fillRun (cornersIn l) set params first) (fillRun (cornersIn l') set params first')
-    unfolding fillRun
-    fill-same first' paired =
-        rw (paired-count paired)
-        (from-same (fillLimit (labelCount first) (params .«max_iters»)) (record { state = record { sheet = first; made = [] }; rounds = 0 })
-        (record { state = record { sheet = first'; made = [] }; rounds = 0 }) begun (record { state = record { sheet = paired; made = refl }; rounds = refl }))
+    pub fill-same : (first' : List ℕ) → PairedSheets (corners .pairs) first first'
+        → SameRounds (SameFill (corners .pairs)) (fillRun (cornersIn l) set params first) (fillRun (cornersIn l') set params first')
+    unfolding fillRun fillFrom
+    fill-same first' paired = rw (paired-count paired) (record { state = both .state .1; rounds = both .rounds })
+      where
+        start : FillState
+        start = record { sheet = first; made = [] }
+
+        start' : FillState
+        start' = record { sheet = first'; made = [] }
+
+        both : SameRounds (Both [])
+            (roundsFrom (fillPass (cornersIn l) set params) (fillLimit (labelCount first) (params .«max_iters»)) (record { state = start; rounds = 0 }))
+            (roundsFrom (fillPass (cornersIn l') set params) (fillLimit (labelCount first) (params .«max_iters»)) (record { state = start'; rounds = 0 }))
+        both =
+            rounds-same Both alike (fillLimit (labelCount first) (params .«max_iters»))
+            (record { state = start; rounds = 0 }) (record { state = start'; rounds = 0 })
+            (record { state = (record { history = begun; waiting = waiting-none first }, record { sheet = paired; made = refl }); rounds = refl })

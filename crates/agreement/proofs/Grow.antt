@@ -32,9 +32,9 @@ use Rattle.arguments.specs.declared.GrowParams.{GrowParams}
 use Rattle.extension_common.specs.TryCell.{tryAt}
 use Rattle.extension_common.specs.declared.TryCellResult.{TryCellResult}
 use Rattle.extension_common.proofs.Laws.{attachable}
+use Rattle.passes.specs.Counting.{oneMore}
 use Rattle.passes.specs.Grow.{tolerancesOf, GrowState, member, wanted, enqueued, enqueuedAt, spread, seededFrom, startOf, radiusOf, searchOf, missed, growWith, growAt, growVisit, growFrom, growRun}
 use Rattle.passes.specs.Step.{CornerLists}
-use Rattle.passes.specs.declared.Counts.{Counts}
 use Rattle.invariants.specs.Kept.{Sound}
 use Rattle.invariants.specs.Calls.{cornersIn, Standing}
 use Rattle.invariants.proofs.Waiting.{first-on}
@@ -97,7 +97,7 @@ module _ {n : ℕ} {s : Shuffle n} {a a' : GrowState} (same : SameGrow s a a') (
         sheet = paired-hole-marked (same .sheet) c long on;
         queued = same .queued;
         made = same .made;
-        counts = ap (λ (k : Counts). record { attached = k .attached; «rejected_no_candidate» = k .«rejected_no_candidate» + 1; «rejected_ambiguous» = k .«rejected_ambiguous»; «rejected_edge» = k .«rejected_edge» }) (same .counts);
+        counts = ap (oneMore TryCellResult.NoCandidates) (same .counts);
       }
 
   with-same : n ≤ 1024 → (r : TryCellResult) → ((k : ℕ) → r ≡ TryCellResult.Attached k → k < n) → SameGrow s (growWith c r a) (growWith c (pairedResult (s .to) r) a')
@@ -108,14 +108,14 @@ module _ {n : ℕ} {s : Shuffle n} {a a' : GrowState} (same : SameGrow s a a') (
         sheet = paired-ambiguous-marked (same .sheet) c long on;
         queued = same .queued;
         made = same .made;
-        counts = ap (λ (k : Counts). record { attached = k .attached; «rejected_no_candidate» = k .«rejected_no_candidate»; «rejected_ambiguous» = k .«rejected_ambiguous» + 1; «rejected_edge» = k .«rejected_edge» }) (same .counts);
+        counts = ap (oneMore TryCellResult.Ambiguous) (same .counts);
       }
   with-same few TryCellResult.EdgeRejected given =
       record {
         sheet = paired-hole-marked (same .sheet) c long on;
         queued = same .queued;
         made = same .made;
-        counts = ap (λ (k : Counts). record { attached = k .attached; «rejected_no_candidate» = k .«rejected_no_candidate»; «rejected_ambiguous» = k .«rejected_ambiguous»; «rejected_edge» = k .«rejected_edge» + 1 }) (same .counts);
+        counts = ap (oneMore TryCellResult.EdgeRejected) (same .counts);
       }
   with-same few (TryCellResult.Attached k) given =
       let h = given k refl in
@@ -124,7 +124,7 @@ module _ {n : ℕ} {s : Shuffle n} {a a' : GrowState} (same : SameGrow s a a') (
         sheet = now;
         queued = spread-same now c (a' .queued) ∙ ap (spread (attached (a .sheet) c k) c) (same .queued);
         made = ap (λ (l : List ℕ). l ++ (placeOf c ∷ [])) (same .made);
-        counts = ap (λ (m : Counts). record { attached = m .attached + 1; «rejected_no_candidate» = m .«rejected_no_candidate»; «rejected_ambiguous» = m .«rejected_ambiguous»; «rejected_edge» = m .«rejected_edge» }) (same .counts);
+        counts = ap (oneMore (TryCellResult.Attached k)) (same .counts);
       }
 
 -- ---- the run

@@ -3,9 +3,9 @@
 use mathlib.Core.Path.{_≡_, refl, sym, ap, ap₂, subst}
 use mathlib.Core.Bool.{Bool, true, false, cond}
 use mathlib.Core.List.{List, [], _∷_, _++_}
-use Prim.Native.Nat.{ℕ, zero, suc, _+_, _<_, _≤_}
+use Prim.Native.Nat.{ℕ, _<_, _≤_}
 use native.Mathlib.Omega.{arith}
-use lib.Dec.{T, eqb}
+use lib.Dec.{T}
 use lib.ListN.{length, take}
 use lib.Ieee.{Float, binary32, ofBits, lt}
 use lib.Ieee.Scale.{finite}
@@ -29,15 +29,18 @@ use Rattle.arguments.specs.declared.LocalExtensionParams.{LocalExtensionParams}
 use Rattle.extension_common.specs.TryCell.{tryAt}
 use Rattle.extension_common.specs.declared.TryCellResult.{TryCellResult}
 use Rattle.extension_common.proofs.Laws.{attachable}
-use Rattle.passes.specs.Grow.{tolerancesOf, noCounts}
-use Rattle.passes.specs.Local.{depthOf, localRegion, localCells, byReach, supportsOf, cellPoint, LocalFit, none, fitted, localFit, LocalState, worst, recordedAll, withResiduals, localSearch, gateOf, localWith, localAt, localVisit, localAll, localRound, LocalRounds, localFrom, localLimit, localRun}
+use Rattle.passes.specs.Counting.{noCounts}
+use Rattle.passes.specs.Rounds.{roundsFrom}
+use Rattle.passes.specs.Grow.{tolerancesOf}
+use Rattle.passes.specs.Local.{depthOf, localRegion, localCells, byReach, supportsOf, cellPoint, LocalFit, none, fitted, localFit, LocalState, worst, recordedAll, withResiduals, localSearch, gateOf, localWith, localAt, localVisit, localPass, localFrom, localLimit, localRun}
 use Rattle.passes.specs.Step.{CornerLists}
 use Rattle.passes.specs.declared.LargestResidual.{LargestResidual}
 use Rattle.passes.specs.History.{begun}
+use Rattle.passes.proofs.Rounds.{Alike, SameRounds, rounds-same}
 use Rattle.invariants.specs.Kept.{Sound}
 use Rattle.invariants.specs.Calls.{cornersIn, Standing}
-use Rattle.invariants.proofs.Waiting.{first-on}
-use Rattle.invariants.proofs.Local.{Trying, Tried, round-begins, sound-tried, trying-visit, tried-round}
+use Rattle.invariants.proofs.Waiting.{waiting-none, first-on}
+use Rattle.invariants.proofs.Local.{Trying, sound-tried, trying-visit, trying-begins}
 use Rattle.invariants.proofs.Run.{standing-sound, sound-standing}
 use Rattle.binary32.specs.Numbers.{one}
 use Rattle.agreement.proofs.Try.{pairedResult, try-paired}
@@ -49,11 +52,6 @@ pub record SameLocal {n : ℕ} (s : Shuffle n) (a a' : LocalState) : Type 0 wher
   pub made : a' .made ≡ a .made
   pub counts : a' .counts ≡ a .counts
   pub largest : a' .largest ≡ a .largest
-
--- after some rounds, and after as many in both
-pub record SameRounds {n : ℕ} (s : Shuffle n) (r r' : LocalRounds) : Type 0 where
-  pub state : SameLocal s (r .state) (r' .state)
-  pub rounds : r' .rounds ≡ r .rounds
 
 -- ---- cells and supports
 
@@ -138,51 +136,44 @@ module _ (l l' : CornerLists) (corners : PairedCorners (l .xs) (l .ys) (l .pitch
     sound : Sound (cornersIn l) first
     sound = standing-sound begins
 
-    -- some cells: in the first run each lies on the sheet
-    all-same : (ps : List ℕ) (a a' : LocalState) → Trying (cornersIn l) (tolerancesOf set) first ps a → SameLocal (corners .pairs) a a'
-        → SameLocal (corners .pairs) (localAll (cornersIn l) set params ps a) (localAll (cornersIn l') set params ps a')
-    unfolding localAll
-    all-same [] a a' g same = same
-    all-same (p ∷ ps) a a' g same =
-        all-same ps (localVisit (cornersIn l) set params (cellOf p) a) (localVisit (cornersIn l') set params (cellOf p) a') (trying-visit few sound set params p ps a g)
-        (visit-same a a' same (sound-standing begins (sound-tried few sound g) .given) (cellOf p) (cell-on p (first-on (g .waiting))))
+    -- where both runs stand, with these cells still to come: in the first run each waits for its turn
+    abbrev Both : List ℕ → LocalState → LocalState → Type 0
+    Both ps a a' = Trying (cornersIn l) (tolerancesOf set) first ps a × SameLocal (corners .pairs) a a'
 
-    round-same : (a a' : LocalState) → Tried (cornersIn l) (tolerancesOf set) first a → SameLocal (corners .pairs) a a'
-        → SameLocal (corners .pairs) (localRound (cornersIn l) set params a) (localRound (cornersIn l') set params a')
-    unfolding localRound
-    round-same a a' t same =
-        subst (λ (ps : List ℕ). SameLocal (corners .pairs) (localRound (cornersIn l) set params a) (localAll (cornersIn l') set params ps a')) (sym (local-cells-same (same .sheet) (depthOf params)))
-        (all-same (localCells (depthOf params) (a .sheet)) a a' (round-begins (depthOf params) a t) same)
-
-    -- at most m rounds more
-    from-same : (m : ℕ) (r r' : LocalRounds) → Tried (cornersIn l) (tolerancesOf set) first (r .state) → SameRounds (corners .pairs) r r'
-        → SameRounds (corners .pairs) (localFrom (cornersIn l) set params m r) (localFrom (cornersIn l') set params m r')
-    unfolding localFrom
-    from-same zero r r' t same = same
-    from-same (suc m) r r' t same =
-        subst (λ (b : Bool). SameRounds (corners .pairs) (localFrom (cornersIn l) set params (suc m) r) (cond b next' (localFrom (cornersIn l') set params m next')))
-        (sym (ap₂ (λ (x y : List ℕ). eqb (length x) (length y)) (after .state .made) (same .state .made)))
-        (go (eqb (length (next .state .made)) (length (r .state .made))) (from-same m next next' (tried-round few sound set params (r .state) t) after))
-      where
-        next : LocalRounds
-        next = record { state = localRound (cornersIn l) set params (r .state); rounds = r .rounds + 1 }
-
-        next' : LocalRounds
-        next' = record { state = localRound (cornersIn l') set params (r' .state); rounds = r' .rounds + 1 }
-
-        after : SameRounds (corners .pairs) next next'
-        after = record { state = round-same (r .state) (r' .state) t (same .state); rounds = ap (λ (n : ℕ). n + 1) (same .rounds) }
-
-        go : (b : Bool) → SameRounds (corners .pairs) (localFrom (cornersIn l) set params m next) (localFrom (cornersIn l') set params m next')
-            → SameRounds (corners .pairs) (cond b next (localFrom (cornersIn l) set params m next)) (cond b next' (localFrom (cornersIn l') set params m next'))
-        go true w = after
-        go false w = w
+    alike : Alike (localPass (cornersIn l) set params) (localPass (cornersIn l') set params) Both
+    alike =
+        record {
+          cells = λ a a' g. local-cells-same (g .1 .sheet) (depthOf params);
+          begins = λ a a' g. (trying-begins few sound set params a (g .0), g .1);
+          keeps = λ p ps a a' g. (
+            trying-visit few sound set params p ps a (g .0),
+            visit-same a a' (g .1) (sound-standing begins (sound-tried few sound (g .0)) .given) (cellOf p) (cell-on p (first-on (g .0 .waiting))),
+          );
+          made = λ a a' g. ap length (g .1 .made);
+        }
 
     -- the whole run
-    pub local-same : (first' : List ℕ) → PairedSheets (corners .pairs) first first' → SameRounds (corners .pairs) (localRun (cornersIn l) set params first) (localRun (cornersIn l') set params first')
-    unfolding localRun
-    local-same first' paired =
-        rw (paired-count paired)
-        (from-same (localLimit (labelCount first) (params .«max_iters»)) (record { state = record { sheet = first; made = []; counts = noCounts; largest = LargestResidual.Nothing }; rounds = 0 })
-        (record { state = record { sheet = first'; made = []; counts = noCounts; largest = LargestResidual.Nothing }; rounds = 0 }) (record { history = begun; counted = refl })
-        (record { state = record { sheet = paired; made = refl; counts = refl; largest = refl }; rounds = refl }))
+    pub local-same : (first' : List ℕ) → PairedSheets (corners .pairs) first first'
+        → SameRounds (SameLocal (corners .pairs)) (localRun (cornersIn l) set params first) (localRun (cornersIn l') set params first')
+    unfolding localRun localFrom
+    local-same first' paired = rw (paired-count paired) (record { state = both .state .1; rounds = both .rounds })
+      where
+        start : LocalState
+        start = record { sheet = first; made = []; counts = noCounts; largest = LargestResidual.Nothing }
+
+        start' : LocalState
+        start' = record { sheet = first'; made = []; counts = noCounts; largest = LargestResidual.Nothing }
+
+        both : SameRounds (Both [])
+            (roundsFrom (localPass (cornersIn l) set params) (localLimit (labelCount first) (params .«max_iters»)) (record { state = start; rounds = 0 }))
+            (roundsFrom (localPass (cornersIn l') set params) (localLimit (labelCount first) (params .«max_iters»)) (record { state = start'; rounds = 0 }))
+        both =
+            rounds-same Both alike (localLimit (labelCount first) (params .«max_iters»))
+            (record { state = start; rounds = 0 }) (record { state = start'; rounds = 0 })
+            (record {
+              state = (
+                record { history = begun; counted = refl; waiting = waiting-none first },
+                record { sheet = paired; made = refl; counts = refl; largest = refl },
+              );
+              rounds = refl;
+            })

@@ -25,6 +25,7 @@ use Rattle.positions_policy.specs.Edge.{lengthOf, meanPitch, expectedLength, in
 use Rattle.predict.specs.Predict.{neighbourOffsets, putBefore, labelledAmong, neighboursOf, stepAt, stepVector, weighed, withNeighbour, sumsFrom, noSums, sumsOf, meanOf, predictionFrom, predictionOf, onSide, anyOn, hasNeighbour, extrapolating}
 use Rattle.extension_common.specs.TryCell.{choiceBy}
 use Rattle.passes.specs.Grow.{member, radiusOf, searchOf}
+use Rattle.passes.specs.Rounds.{walk, oneRound, roundsFrom}
 use Rattle.passes.specs.Fill.{cellsOf, fillSearch, fillLimit}
 use Rattle.passes.specs.Local.{depthOf, rowAmong, columnAmong, localRegion, nearer, placed, byReach, cellPoint, picturedAt, residualOf, residualsOf, trusted, worst, recorded, recordedAll, localSearch, localLimit}
 use Rattle.passes.specs.Run.{PassStats, growStats, fillStats, localStats}
@@ -35,7 +36,7 @@ use Rattle.frame.specs.Frame.{opened, adding, partsFrom, partsOf}
 use Rattle.frame.specs.ReadFrame.{xsOf, ysOf, pitchesOf, settingsOf, fullOf, passOf}
 use Rattle.frame_laws.specs.Calls.{cornersOf, callOf}
 use Rattle.written_places.specs.Written.{Written, written, wordIn, told, anyIn, labelIn, putIn, put}
-use Rattle.written_places.specs.Passes.{AfterIn, gatheredIn, edgesIn, resultIn, tryIn, enqueuedIn, enqueuedAtIn, seededFromIn, growWithIn, growAtIn, growVisitIn, growFromIn, growRunIn, growAfterIn, fillWithIn, fillAtIn, fillVisitIn, fillAllIn, fillFromIn, fillAfterIn, quickFitWith, quickFitFrom, quickFit, localFitIn, localWithIn, localAtIn, localVisitIn, localAllIn, localFromIn, localAfterIn}
+use Rattle.written_places.specs.Passes.{AfterIn, gatheredIn, edgesIn, resultIn, tryIn, enqueuedIn, enqueuedAtIn, seededFromIn, growWithIn, growAtIn, growVisitIn, growFromIn, growRunIn, growAfterIn, fillWithIn, fillAtIn, fillVisitIn, fillAfterIn, quickFitWith, quickFitFrom, quickFit, localFitIn, localWithIn, localAtIn, localVisitIn, localAfterIn}
 use Rattle.written_places.specs.Run.{afterPassIn}
 use Rattle.answer_examples.specs.Answer.{labelledIn, givenIn}
 use Rattle.answer_examples.specs.Pair.{firstFrame, localLine}
@@ -105,7 +106,7 @@ abbrev pub after : PassLine → List Written → AfterIn PassStats
 after p w = afterPassIn (cornersOf firstFrame) w (callOf firstFrame p .settings) (callOf firstFrame p .pass)
 
 pub local-did : after localLine (givenIn firstFrame) ≡ localLeft
-unfolding ofBits ofInt toBits add sub mul div neg lt le eq isFinite unitsOf reaches climb rooted table concatenated every allFinite largest swapped gained cleared eliminated rightSides carried answered mean distance scaleOf normalizationOf forward mapRow moved normalized equation equations backward multiplied undone quotients scaledOf applied onSheet placeOf cellOf labelOfNumber numberOfLabel bitOf labelOf holeOf ambiguousOf wordOf cornerOf seenThrough passing namesCorner isLabelled lowerOf higherOf widened names onRim rimAt eligible squaredDistance insert ordered candidatesAt firstTwo chooseWithFloor lengthOf meanPitch expectedLength inBand edgeOk cardinalOffsets edgeTo followedBy tried verdictOf passes choiceBy cellsOf depthOf rowAmong columnAmong localRegion nearer placed byReach cellPoint picturedAt residualOf residualsOf trusted worst recorded recordedAll localSearch localLimit xsOf ysOf pitchesOf settingsOf fullOf passOf kindAt bitsAt wholeAt passLineOf opened adding partsFrom partsOf wordIn told anyIn labelIn putIn put gatheredIn edgesIn resultIn tryIn quickFitWith quickFitFrom quickFit localFitIn localWithIn localAtIn localVisitIn localAllIn localFromIn localAfterIn afterPassIn labelledIn
+unfolding ofBits ofInt toBits add sub mul div neg lt le eq isFinite unitsOf reaches climb rooted table concatenated every allFinite largest swapped gained cleared eliminated rightSides carried answered mean distance scaleOf normalizationOf forward mapRow moved normalized equation equations backward multiplied undone quotients scaledOf applied onSheet placeOf cellOf labelOfNumber numberOfLabel bitOf labelOf holeOf ambiguousOf wordOf cornerOf seenThrough passing namesCorner isLabelled lowerOf higherOf widened names onRim rimAt eligible squaredDistance insert ordered candidatesAt firstTwo chooseWithFloor lengthOf meanPitch expectedLength inBand edgeOk cardinalOffsets edgeTo followedBy tried verdictOf passes choiceBy cellsOf depthOf rowAmong columnAmong localRegion nearer placed byReach cellPoint picturedAt residualOf residualsOf trusted worst recorded recordedAll localSearch localLimit xsOf ysOf pitchesOf settingsOf fullOf passOf kindAt bitsAt wholeAt passLineOf opened adding partsFrom partsOf wordIn told anyIn labelIn putIn put gatheredIn edgesIn resultIn tryIn quickFitWith quickFitFrom quickFit localFitIn localWithIn localAtIn localVisitIn walk oneRound roundsFrom localAfterIn afterPassIn labelledIn
 local-did = refl
 
 pub grow-did : after growLine (localLeft .sheet) ≡ growLeft
@@ -113,5 +114,5 @@ unfolding ofBits ofInt toBits add sub mul div neg lt le eq isFinite unitsOf reac
 grow-did = refl
 
 pub fill-did : after fillLine (growLeft .sheet) ≡ fillLeft
-unfolding ofBits ofInt toBits add sub mul div neg lt le eq isFinite unitsOf reaches climb rooted onSheet placeOf cellOf labelOfNumber numberOfLabel bitOf labelOf holeOf ambiguousOf wordOf cornerOf seenThrough passing namesCorner isLabelled lowerOf higherOf widened names onRim rimAt eligible squaredDistance insert ordered candidatesAt firstTwo chooseWithFloor lengthOf meanPitch expectedLength inBand edgeOk cardinalOffsets edgeTo followedBy tried verdictOf passes neighbourOffsets putBefore labelledAmong neighboursOf stepAt stepVector weighed withNeighbour sumsFrom noSums sumsOf meanOf predictionFrom predictionOf choiceBy cellsOf fillSearch fillLimit xsOf ysOf pitchesOf settingsOf fullOf passOf kindAt bitsAt wholeAt passLineOf opened adding partsFrom partsOf wordIn told anyIn labelIn putIn put gatheredIn edgesIn resultIn tryIn fillWithIn fillAtIn fillVisitIn fillAllIn fillFromIn fillAfterIn afterPassIn
+unfolding ofBits ofInt toBits add sub mul div neg lt le eq isFinite unitsOf reaches climb rooted onSheet placeOf cellOf labelOfNumber numberOfLabel bitOf labelOf holeOf ambiguousOf wordOf cornerOf seenThrough passing namesCorner isLabelled lowerOf higherOf widened names onRim rimAt eligible squaredDistance insert ordered candidatesAt firstTwo chooseWithFloor lengthOf meanPitch expectedLength inBand edgeOk cardinalOffsets edgeTo followedBy tried verdictOf passes neighbourOffsets putBefore labelledAmong neighboursOf stepAt stepVector weighed withNeighbour sumsFrom noSums sumsOf meanOf predictionFrom predictionOf choiceBy cellsOf fillSearch fillLimit xsOf ysOf pitchesOf settingsOf fullOf passOf kindAt bitsAt wholeAt passLineOf opened adding partsFrom partsOf wordIn told anyIn labelIn putIn put gatheredIn edgesIn resultIn tryIn fillWithIn fillAtIn fillVisitIn walk oneRound roundsFrom fillAfterIn afterPassIn
 fill-did = refl

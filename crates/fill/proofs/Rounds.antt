@@ -1,10 +1,9 @@
 -- The rounds of fill, one after the other, and the whole call: refused, or all rounds done. Assumes nothing.
-use mathlib.Core.Path.{_≡_, refl, sym, ap, _∙_}
+use mathlib.Core.Path.{_≡_, refl, sym, _∙_, subst}
 use mathlib.Core.Bool.{Bool}
 use mathlib.Core.List.{List}
 use Prim.Native.Nat.{ℕ, suc, _+_, _-_, _<_, _≤_}
 use native.Mathlib.Omega.{arith}
-use borrow.Author.Tests.{eq-eqb, ne-eqb}
 use lib.ListN.{length}
 use lib.Ieee.{Float}
 use Rattle.refusal.specs.declared.Refusal.{Refusal}
@@ -18,40 +17,21 @@ use Rattle.arguments.specs.declared.Pass.{Pass}
 use Rattle.arguments.specs.declared.Settings.{Settings}
 use Rattle.arguments.specs.declared.FillParams.{FillParams}
 use Rattle.arguments.proofs.Laws.{accepted}
-use Rattle.extension_common.specs.TryCell.{Corners, cornersOf}
+use Rattle.extension_common.specs.TryCell.{cornersOf}
 use Rattle.passes.specs.Outcome.{done}
-use Rattle.passes.specs.Fill.{FillState, FillRounds, fillRound, fillFrom, fillLimit, fillRun, fillAfter}
+use Rattle.passes.specs.Fill.{FillState, FillRounds, fillPass, fillRound, fillFrom, fillLimit, fillRun, fillAfter}
 use Rattle.passes.specs.Step.{FillOut, fillStep, fillOut, fillLeaves}
 use Rattle.passes.specs.Said.{fillValues, fillSaid, outcomeDue}
 use Rattle.passes.specs.declared.FillAnswer.{FillAnswer}
+use Rattle.passes.proofs.Rounds.{Remaining, remaining-all, remaining-none, remaining-last, remaining-more}
 use Rattle.passes.proofs.Said.{fill-said}
 use Rattle.fill.specs.Filling.{stateOf, Filling, Left, startOf, RoundsLeft}
 use Rattle.fill.specs.declared.FillProgress.{FillProgress}
 use Rattle.fill.proofs.Visit.{stands, left-as}
 use Rattle.fill.proofs.Walk.{holds-state, left-then, round-grows}
 
--- ---- at most m rounds more
+-- ---- the limit, by its cases
 
--- the state after one round more
-abbrev pub roundOf : Corners → Settings → FillParams → FillRounds → FillRounds
-roundOf cs set p r = record { state = fillRound cs set p (r .state); rounds = r .rounds + 1 }
-
-module _ (cs : Corners) (set : Settings) (p : FillParams) where
-  pub from-none : (r : FillRounds) → fillFrom cs set p 0 r ≡ r
-  unfolding fillFrom
-  from-none r = refl
-
-  module _ (m : ℕ) (r : FillRounds) where
-    -- a round attaching nothing is the last
-    pub from-last : length (fillRound cs set p (r .state) .made) ≡ length (r .state .made) → fillFrom cs set p (suc m) r ≡ roundOf cs set p r
-    unfolding fillFrom
-    from-last e = rw (eq-eqb _ _ e)
-
-    pub from-more : (length (fillRound cs set p (r .state) .made) ≡ length (r .state .made) → ⊥) → fillFrom cs set p (suc m) r ≡ fillFrom cs set p m (roundOf cs set p r)
-    unfolding fillFrom
-    from-more e = rw (ne-eqb _ _ e)
-
--- the limit, by its cases
 pub limit-none : (labels limit : ℕ) → labels ≡ 0 → 0 ≡ fillLimit labels limit
 unfolding fillLimit
 limit-none labels limit e = rw e
@@ -70,59 +50,59 @@ module _ (labels limit : ℕ) (some : labels ≡ 0 → ⊥) where
 
 -- ---- the loop over the rounds
 
+-- the same rounds by another expression
+rounds-left-as : {r after : FillRounds} {xs ys pitches : List Float} {before sheet list used : List ℕ} {progress : FillProgress} → after ≡ r
+    → RoundsLeft r xs ys pitches before sheet list used progress → RoundsLeft after xs ys pitches before sheet list used progress
+rounds-left-as e l = rw e l
+
 pub record Rounding (set : Settings) (p : FillParams) (limit : ℕ) (xs ys pitches : List Float) (sheet₀ list₀ sheet list used : List ℕ) (made rounds : ℕ) : Type 0 where
-  pub upto : rounds ≤ limit
+  pub remaining : Remaining (fillPass (cornersOf xs ys pitches) set p) limit (stateOf sheet₀ list₀ 0) (stateOf sheet list made) rounds
   pub same-sheet : length sheet ≡ length sheet₀
   pub same-list : length list ≡ length list₀
   pub left : Left (stateOf sheet list made) xs ys pitches list₀ sheet list used made
-  pub rest :
-      fillFrom (cornersOf xs ys pitches) set p (limit - rounds) (record { state = stateOf sheet list made; rounds = rounds })
-      ≡ fillFrom (cornersOf xs ys pitches) set p limit (startOf sheet₀ list₀)
 
 module _ (set : Settings) (p : FillParams) (limit : ℕ) (xs ys pitches : List Float) (sheet₀ list₀ : List ℕ) where
   pub rounding-start : (used : List ℕ) → Filling xs ys pitches sheet₀ list₀ used 0 → Rounding set p limit xs ys pitches sheet₀ list₀ sheet₀ list₀ used 0 0
-  rounding-start used f = record { upto = omega arith; same-sheet = refl; same-list = refl; left = record { holds = stands f; filling = f }; rest = ap (λ (m : ℕ). fillFrom (cornersOf xs ys pitches) set p m (startOf sheet₀ list₀)) (all limit) }
-    where
-      all : (m : ℕ) → m - 0 ≡ m
-      all m = omega arith
+  rounding-start used f =
+      record {
+        remaining = remaining-all (fillPass (cornersOf xs ys pitches) set p) limit (stateOf sheet₀ list₀ 0);
+        same-sheet = refl;
+        same-list = refl;
+        left = record { holds = stands f; filling = f };
+      }
 
   module _ (sheet list used : List ℕ) (made rounds : ℕ) (g : Rounding set p limit xs ys pitches sheet₀ list₀ sheet list used made rounds) where
     pub rounding-end : limit ≤ rounds → RoundsLeft (fillFrom (cornersOf xs ys pitches) set p limit (startOf sheet₀ list₀)) xs ys pitches list₀ sheet list used (record { made = made; rounds = rounds })
+    unfolding fillFrom
     rounding-end h =
-        let e : limit - rounds ≡ 0 = omega arith in
-        rw (← g .rest, e, from-none (cornersOf xs ys pitches) set p) (record { left = g .left; rounds-are = refl })
+        rounds-left-as (remaining-none (fillPass (cornersOf xs ys pitches) set p) limit (stateOf sheet₀ list₀ 0) (g .remaining) h)
+        (record { left = g .left; rounds-are = refl })
 
     module _ (sheet' list' used' : List ℕ) (next : ℕ) (h : rounds < limit) (l : Left (fillRound (cornersOf xs ys pitches) set p (stateOf sheet list made)) xs ys pitches list sheet' list' used' next) where
       -- the state after the round, with the list's rest as it was at the start
       whole : Left (fillRound (cornersOf xs ys pitches) set p (stateOf sheet list made)) xs ys pitches list₀ sheet' list' used' next
       whole = left-then (g .left .holds) (round-grows (cornersOf xs ys pitches) set p (stateOf sheet list made)) l
 
-      -- how the rest of the rounds goes on
-      turn : limit - rounds ≡ suc (limit - (rounds + 1))
-      turn = omega arith
-
       pub rounding-last : next ≡ made → RoundsLeft (fillFrom (cornersOf xs ys pitches) set p limit (startOf sheet₀ list₀)) xs ys pitches list₀ sheet' list' used' (record { made = made; rounds = rounds + 1 })
+      unfolding fillFrom
       rounding-last e =
-          rw (sym (g .rest)
-          ∙ ap (λ (m : ℕ). fillFrom (cornersOf xs ys pitches) set p m (record { state = stateOf sheet list made; rounds = rounds })) turn
-          ∙ from-last (cornersOf xs ys pitches) set p (limit - (rounds + 1)) (record { state = stateOf sheet list made; rounds = rounds })
-          (sym (l .holds .made-is) ∙ e ∙ g .left .holds .made-is))
+          rounds-left-as
+          (remaining-last (fillPass (cornersOf xs ys pitches) set p) limit (stateOf sheet₀ list₀ 0)
+          (g .remaining) h (sym (l .holds .made-is) ∙ e ∙ g .left .holds .made-is))
           (record { left = rw e at whole; rounds-are = refl })
 
       pub rounding-more : (next ≡ made → ⊥) → length sheet' ≡ length sheet → length list' ≡ length list → Rounding set p limit xs ys pitches sheet₀ list₀ sheet' list' used' next (rounds + 1)
+      unfolding fillRound
       rounding-more e a b =
           record {
-            upto = omega arith;
+            remaining =
+                subst (λ (s : FillState). Remaining (fillPass (cornersOf xs ys pitches) set p) limit (stateOf sheet₀ list₀ 0) s (rounds + 1))
+                (sym (holds-state (l .holds)))
+                (remaining-more (fillPass (cornersOf xs ys pitches) set p) limit (stateOf sheet₀ list₀ 0)
+                (g .remaining) h (λ d. e (l .holds .made-is ∙ d ∙ sym (g .left .holds .made-is))));
             same-sheet = a ∙ g .same-sheet;
             same-list = b ∙ g .same-list;
             left = left-as (holds-state (l .holds)) whole;
-            rest =
-                ap (λ (s : FillState). fillFrom (cornersOf xs ys pitches) set p (limit - (rounds + 1)) (record { state = s; rounds = rounds + 1 })) (holds-state (l .holds))
-                ∙ sym
-                (from-more (cornersOf xs ys pitches) set p (limit - (rounds + 1)) (record { state = stateOf sheet list made; rounds = rounds })
-                (λ d. e (l .holds .made-is ∙ d ∙ sym (g .left .holds .made-is))))
-                ∙ sym (ap (λ (m : ℕ). fillFrom (cornersOf xs ys pitches) set p m (record { state = stateOf sheet list made; rounds = rounds })) turn)
-                ∙ g .rest;
           }
 
 -- ---- the pass

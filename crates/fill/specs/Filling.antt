@@ -1,6 +1,6 @@
 -- What fill's inner functions ask and leave, in the terms of fill's definition (crate passes, Fill). Definitions only.
 use mathlib.Core.Path.{_≡_}
-use mathlib.Core.Bool.{false, not, _&&_, cond}
+use mathlib.Core.Bool.{false}
 use mathlib.Core.List.{List}
 use Prim.Native.Nat.{ℕ, _+_, _<_, _≤_}
 use lib.ListN.{length, set, take}
@@ -10,7 +10,7 @@ use Rattle.sheet.specs.Words.{labelAt, attached, SheetCell}
 use Rattle.sheet.specs.Corners.{Given}
 use Rattle.sheet.specs.declared.Cell.{Cell}
 use Rattle.sheet.specs.declared.Label.{Label}
-use Rattle.labels.specs.Labelled.{namesCorner, labelCount}
+use Rattle.labels.specs.Labelled.{labelCount}
 use Rattle.labels.specs.Used.{usedOn, Tied, OneCell}
 use Rattle.labels.specs.declared.LabelBox.{LabelBox}
 use Rattle.arguments.specs.declared.Settings.{Settings}
@@ -18,6 +18,7 @@ use Rattle.arguments.specs.declared.FillParams.{FillParams}
 use Rattle.extension_common.specs.TryCell.{Corners}
 use Rattle.passes.specs.Fill.{FillState, FillRounds, boxAndStrips, fillVisit}
 use Rattle.region.specs.Small.{SmallBox}
+use Rattle.region.specs.Places.{placeVisited}
 use Rattle.arguments.specs.Front.{over}
 use Rattle.fill.specs.declared.FillProgress.{FillProgress}
 
@@ -82,9 +83,8 @@ pub record Looking (xs ys pitches : List Float) (sheet list used : List ℕ) (ma
   pub small : SmallBox around
 
 -- a place looked at: its cell is tried if it lies in the region and is unlabelled now
-unfoldable pub lookedAt : Corners → Settings → FillParams → LabelBox → ℕ → FillState → FillState
-lookedAt cs set p around place s =
-    cond (boxAndStrips around (cellOf place) && not (namesCorner (labelAt (s .sheet) (cellOf place)))) (fillVisit cs set p (cellOf place) s) s
+abbrev pub lookedAt : Corners → Settings → FillParams → LabelBox → ℕ → FillState → FillState
+lookedAt cs set p around place s = placeVisited (fillVisit cs set p) (λ t. t .sheet) (boxAndStrips around (cellOf place)) place s
 
 -- ---- rounds
 

@@ -32,6 +32,7 @@ use Rattle.extension_common.specs.TryCell.{Corners, cornersOf, tryAt}
 use Rattle.extension_common.specs.declared.Search.{Search}
 use Rattle.extension_common.specs.declared.TryCellResult.{TryCellResult}
 use Rattle.passes.specs.Outcome.{done}
+use Rattle.passes.specs.Counting.{oneMore}
 use Rattle.passes.specs.Grow.{GrowState, noCounts, tolerancesOf, searchOf, spread, startOf, growWith, growAt, growVisit, growFrom, growRun, growAfter}
 use Rattle.passes.specs.Step.{growStep, GrowOut, growOut, growLeaves, cornerLists, rooms}
 use Rattle.passes.specs.Said.{growValues, growSaid, outcomeDue}
@@ -44,7 +45,7 @@ use Rattle.passes.proofs.Enough.{Belongs, belongs-accepted, Going, Free, found-
 use Rattle.grow_queue.specs.Queue.{Flagged, Room, QueueHeld, Unqueued, seeded}
 use Rattle.grow_queue.proofs.Laws.{holds-read, holds-length}
 use Rattle.arguments.specs.Front.{over}
-use Rattle.grow_extend.specs.Grow.{foundFrom, foundAt, withAttached, withNoCandidate, withAmbiguous, withEdge, SmallCounts, stateOf, Leaves, Spare, Attachable, Settleable, Visitable, Startable}
+use Rattle.grow_extend.specs.Grow.{foundFrom, foundAt, SmallCounts, stateOf, Leaves, Spare, Attachable, Settleable, Visitable, Startable}
 use Rattle.grow_extend.specs.declared.Progress.{Progress}
 
 -- ---- what is found at a cell
@@ -94,20 +95,20 @@ module _ {sheet queue attached used seen : List ℕ} {c : Cell} {found : TryCell
       }
 
   module _ {counts : Counts} {after : List ℕ} where
-    pub settled-none : found ≡ TryCellResult.NoCandidates → after ≡ holeMarked sheet c → counts ≡ withNoCandidate (at .counts)
+    pub settled-none : found ≡ TryCellResult.NoCandidates → after ≡ holeMarked sheet c → counts ≡ oneMore found (at .counts)
         → Leaves queue attached after queue attached used seen (record { tail = at .tail; counts = counts }) (growWith c found (stateOf sheet queue attached at))
     unfolding growWith
-    settled-none e m n = rw (e, m, n) (marked (holeMarked sheet c) _ (tied-hole sheet c (w .long) (w .on) (w .used-tied)))
+    settled-none e m n = rw (n, m, e) (marked (holeMarked sheet c) _ (tied-hole sheet c (w .long) (w .on) (w .used-tied)))
 
-    pub settled-ambiguous : found ≡ TryCellResult.Ambiguous → after ≡ ambiguousMarked sheet c → counts ≡ withAmbiguous (at .counts)
+    pub settled-ambiguous : found ≡ TryCellResult.Ambiguous → after ≡ ambiguousMarked sheet c → counts ≡ oneMore found (at .counts)
         → Leaves queue attached after queue attached used seen (record { tail = at .tail; counts = counts }) (growWith c found (stateOf sheet queue attached at))
     unfolding growWith
-    settled-ambiguous e m n = rw (e, m, n) (marked (ambiguousMarked sheet c) _ (tied-ambiguous sheet c (w .long) (w .on) (w .used-tied)))
+    settled-ambiguous e m n = rw (n, m, e) (marked (ambiguousMarked sheet c) _ (tied-ambiguous sheet c (w .long) (w .on) (w .used-tied)))
 
-    pub settled-edge : found ≡ TryCellResult.EdgeRejected → after ≡ holeMarked sheet c → counts ≡ withEdge (at .counts)
+    pub settled-edge : found ≡ TryCellResult.EdgeRejected → after ≡ holeMarked sheet c → counts ≡ oneMore found (at .counts)
         → Leaves queue attached after queue attached used seen (record { tail = at .tail; counts = counts }) (growWith c found (stateOf sheet queue attached at))
     unfolding growWith
-    settled-edge e m n = rw (e, m, n) (marked (holeMarked sheet c) _ (tied-hole sheet c (w .long) (w .on) (w .used-tied)))
+    settled-edge e m n = rw (n, m, e) (marked (holeMarked sheet c) _ (tied-hole sheet c (w .long) (w .on) (w .used-tied)))
 
 -- a cell that is visited, and what was found there
 pub visit-settled : (xs ys pitches : List Float) (set : Settings) (p : GrowParams) (sheet queue news : List ℕ) (c : Cell) (at : Progress) (found : TryCellResult) → found ≡ foundAt (cornersOf xs ys pitches) set p sheet c
@@ -150,7 +151,7 @@ module _ {sheet queue news used seen : List ℕ} {c : Cell} {k : ℕ} {at : Prog
   attached-room e = record { long = rw (e, length-set) (w .attaching .long); room = w .spare .queue-room; flagged = w .seen-flagged }
 
   pub settled-attached : {after queue' seen' : List ℕ} {place tail : ℕ} {counts : Counts} → after ≡ attached sheet c k → place ≡ placeOf c
-      → QueueHeld queue queue' seen' tail (spread after c (take (at .tail) queue)) → counts ≡ withAttached (at .counts)
+      → QueueHeld queue queue' seen' tail (spread after c (take (at .tail) queue)) → counts ≡ oneMore (TryCellResult.Attached k) (at .counts)
       → Leaves queue news after queue' (set news (at .counts .attached) place) (set used k 1) seen' (record { tail = tail; counts = counts }) (growWith c (TryCellResult.Attached k) (stateOf sheet queue news at))
   unfolding growWith
   settled-attached {queue' = queue'} {seen' = seen'} {tail = tail} m p h n =

@@ -1,4 +1,4 @@
--- Grow as the code holds it: what is found at a cell, the counts with one cell more, where grow stands in the lent buffers, and what the
+-- Grow as the code holds it: what is found at a cell, where grow stands in the lent buffers, and what the
 -- functions ask and leave. Definitions only.
 use mathlib.Core.Path.{_≡_}
 use mathlib.Core.Bool.{false}
@@ -25,8 +25,6 @@ use Rattle.grow_queue.specs.Queue.{Flagged, seeded}
 use Rattle.arguments.specs.Front.{over}
 use Rattle.grow_extend.specs.declared.Progress.{Progress}
 
--- ---- what is lent, as the definitions have it
-
 -- ---- what is found at a cell
 
 -- a cell with a prediction is tried there; one with no labelled neighbour has no candidate
@@ -37,19 +35,7 @@ foundFrom cs set p sheet c (Prediction.At at) = tryAt cs sheet (tolerancesOf set
 unfoldable pub foundAt : Corners → Settings → GrowParams → List ℕ → Cell → TryCellResult
 foundAt cs set p sheet c = foundFrom cs set p sheet c (predictionOf (seenOf (cs .corner) sheet) (set .grid) c)
 
--- ---- the counts with one cell more
-
-abbrev pub withAttached : Counts → Counts
-withAttached n = record { attached = n .attached + 1; «rejected_no_candidate» = n .«rejected_no_candidate»; «rejected_ambiguous» = n .«rejected_ambiguous»; «rejected_edge» = n .«rejected_edge» }
-
-abbrev pub withNoCandidate : Counts → Counts
-withNoCandidate n = record { attached = n .attached; «rejected_no_candidate» = n .«rejected_no_candidate» + 1; «rejected_ambiguous» = n .«rejected_ambiguous»; «rejected_edge» = n .«rejected_edge» }
-
-abbrev pub withAmbiguous : Counts → Counts
-withAmbiguous n = record { attached = n .attached; «rejected_no_candidate» = n .«rejected_no_candidate»; «rejected_ambiguous» = n .«rejected_ambiguous» + 1; «rejected_edge» = n .«rejected_edge» }
-
-abbrev pub withEdge : Counts → Counts
-withEdge n = record { attached = n .attached; «rejected_no_candidate» = n .«rejected_no_candidate»; «rejected_ambiguous» = n .«rejected_ambiguous»; «rejected_edge» = n .«rejected_edge» + 1 }
+-- ---- the counts
 
 -- counts of at most 4,096 cells, four a corner
 pub record SmallCounts (n : Counts) : Type 0 where

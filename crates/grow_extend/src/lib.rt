@@ -11,7 +11,7 @@ ghost use Rattle.passes.specs.Outcome.{Outcome};
 ghost use Rattle.passes.specs.Grow.{radiusOf, searchOf, growWith, growVisit, growRun, growAfter};
 ghost use Rattle.passes.specs.Step.{growStep, growOut, growLeaves, cornerLists, rooms};
 ghost use Rattle.passes.specs.Said.{growValues, growSaid, outcomeDue};
-ghost use Rattle.grow_extend.specs.Grow.{foundAt, stateOf, withAttached, withNoCandidate, withAmbiguous, withEdge, SmallCounts, Leaves, Attachable, Settleable, Visitable, Startable};
+ghost use Rattle.grow_extend.specs.Grow.{foundAt, stateOf, Leaves, Attachable, Settleable, Visitable, Startable};
 use arguments::Checked;
 use arguments::GrowParams;
 use arguments::Pass;
@@ -84,58 +84,6 @@ fn try_cell(
     }
 }
 
-// The counts with one cell more at which a corner was attached.
-fn count_attached(counts: Counts) -> Counts
-    requires { ⌜ SmallCounts counts ⌝ }
-    ensures { λ r. ⌜ r ≡ withAttached counts ⌝ }
-{
-    Counts {
-        attached: counts.attached + 1,
-        rejected_no_candidate: counts.rejected_no_candidate,
-        rejected_ambiguous: counts.rejected_ambiguous,
-        rejected_edge: counts.rejected_edge,
-    }
-}
-
-// The counts with one cell more that has no candidate.
-fn count_no_candidate(counts: Counts) -> Counts
-    requires { ⌜ SmallCounts counts ⌝ }
-    ensures { λ r. ⌜ r ≡ withNoCandidate counts ⌝ }
-{
-    Counts {
-        attached: counts.attached,
-        rejected_no_candidate: counts.rejected_no_candidate + 1,
-        rejected_ambiguous: counts.rejected_ambiguous,
-        rejected_edge: counts.rejected_edge,
-    }
-}
-
-// The counts with one cell more whose choice is ambiguous.
-fn count_ambiguous(counts: Counts) -> Counts
-    requires { ⌜ SmallCounts counts ⌝ }
-    ensures { λ r. ⌜ r ≡ withAmbiguous counts ⌝ }
-{
-    Counts {
-        attached: counts.attached,
-        rejected_no_candidate: counts.rejected_no_candidate,
-        rejected_ambiguous: counts.rejected_ambiguous + 1,
-        rejected_edge: counts.rejected_edge,
-    }
-}
-
-// The counts with one cell more whose edges refuse the chosen corner.
-fn count_edge(counts: Counts) -> Counts
-    requires { ⌜ SmallCounts counts ⌝ }
-    ensures { λ r. ⌜ r ≡ withEdge counts ⌝ }
-{
-    Counts {
-        attached: counts.attached,
-        rejected_no_candidate: counts.rejected_no_candidate,
-        rejected_ambiguous: counts.rejected_ambiguous,
-        rejected_edge: counts.rejected_edge + 1,
-    }
-}
-
 // Attaches a corner to a cell: its marks stay, the cell joins the attached list, and its neighbours are queued.
 fn attach_corner(
     sheet: &mut [u16],
@@ -158,7 +106,7 @@ fn attach_corner(
     let tail = grow_queue::enqueue_cardinal_neighbours(sheet, queue, seen, at.tail, c);
     Progress {
         tail,
-        counts: count_attached(counts),
+        counts: passes::one_more(TryCellResult::Attached(k), counts),
     }
 }
 
@@ -181,17 +129,17 @@ fn settle(
     match found {
         TryCellResult::NoCandidates => {
             sheet::mark_hole(sheet, c);
-            let counts = count_no_candidate(at.counts);
+            let counts = passes::one_more(found, at.counts);
             Progress { tail, counts }
         }
         TryCellResult::Ambiguous => {
             sheet::mark_ambiguous(sheet, c);
-            let counts = count_ambiguous(at.counts);
+            let counts = passes::one_more(found, at.counts);
             Progress { tail, counts }
         }
         TryCellResult::EdgeRejected => {
             sheet::mark_hole(sheet, c);
-            let counts = count_edge(at.counts);
+            let counts = passes::one_more(found, at.counts);
             Progress { tail, counts }
         }
         TryCellResult::Attached(k) => attach_corner(sheet, queue, attached, used, seen, c, k, at),

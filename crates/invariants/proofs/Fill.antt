@@ -1,10 +1,7 @@
 -- Fill's run is a history: the cells listed at a round's start are unlabelled until their own turn. Assumes nothing.
 use mathlib.Core.Path.{_≡_, refl}
-use mathlib.Core.Bool.{Bool, true, false, cond}
 use mathlib.Core.List.{List, [], _∷_}
-use Prim.Native.Nat.{ℕ, zero, suc, _+_, _≤_}
-use lib.Dec.{eqb}
-use lib.ListN.{length}
+use Prim.Native.Nat.{ℕ, _≤_}
 use Rattle.sheet.specs.Cells.{cellOf}
 use Rattle.sheet.specs.Corners.{seenOf}
 use Rattle.sheet.proofs.Laws.{place-cell}
@@ -18,11 +15,12 @@ use Rattle.arguments.specs.declared.FillParams.{FillParams}
 use Rattle.extension_common.specs.TryCell.{Corners}
 use Rattle.extension_common.specs.declared.TryCellResult.{TryCellResult}
 use Rattle.passes.specs.Grow.{tolerancesOf}
-use Rattle.passes.specs.Fill.{boxAndStrips, fillCells, FillState, fillWith, fillAt, fillVisit, fillAll, fillRound, FillRounds, fillFrom, fillLimit, fillRun}
+use Rattle.passes.specs.Fill.{boxAndStrips, fillCells, FillState, fillWith, fillAt, fillVisit, fillPass, fillFrom, fillLimit, fillRun}
 use Rattle.passes.specs.History.{Attaches, History, begun, attaches}
+use Rattle.passes.proofs.Rounds.{rounds-keep}
 use Rattle.invariants.specs.Kept.{Sound}
 use Rattle.invariants.proofs.History.{history-extended}
-use Rattle.invariants.proofs.Waiting.{Waiting, cells-wait, first-on, waiting-marked, waiting-attached, found-attaches}
+use Rattle.invariants.proofs.Waiting.{Waiting, waiting-none, cells-wait, first-on, waiting-marked, waiting-attached, found-attaches}
 
 -- in a round, with these cells still to be tried
 pub record Filling (cs : Corners) (tol : Tolerances) (first ps : List ℕ) (s : FillState) : Type 0 where
@@ -59,33 +57,13 @@ module _ {cs : Corners} {first : List ℕ} (few : cs .count ≤ 1024) (begins : 
         go Prediction.NoNeighbour = record { history = g .history; waiting = waiting-marked (g .waiting) (record { same-label = λ q h. refl }) }
         go (Prediction.At at) = filling-with p ps s g _ (λ k e. found-attaches (g .waiting) cs (tolerancesOf set) _ at k e)
 
-    pub filling-all : (ps : List ℕ) (s : FillState) → Filling cs (tolerancesOf set) first ps s → Filling cs (tolerancesOf set) first [] (fillAll cs set params ps s)
-    unfolding fillAll
-    filling-all [] s g = g
-    filling-all (p ∷ ps) s g = filling-all ps (fillVisit cs set params (cellOf p) s) (filling-visit p ps s g)
+    -- the whole run: a round lists its cells, and each waits for its turn
+    pub filling-begins : (s : FillState) → Filling cs (tolerancesOf set) first [] s → Filling cs (tolerancesOf set) first (fillCells (s .sheet)) s
+    filling-begins s g = record { history = g .history; waiting = cells-listed (s .sheet) }
 
-    -- a round
-    pub filling-round : (s : FillState) → History cs (tolerancesOf set) first (s .made) (s .sheet)
-        → History cs (tolerancesOf set) first (fillRound cs set params s .made) (fillRound cs set params s .sheet)
-    unfolding fillRound
-    filling-round s h = filling-all (fillCells (s .sheet)) s (record { history = h; waiting = cells-listed (s .sheet) }) .history
-
-    -- at most m rounds more
-    filling-from : (m : ℕ) (r : FillRounds) → History cs (tolerancesOf set) first (r .state .made) (r .state .sheet)
-        → History cs (tolerancesOf set) first (fillFrom cs set params m r .state .made) (fillFrom cs set params m r .state .sheet)
-    unfolding fillFrom
-    filling-from zero r h = h
-    filling-from (suc m) r h = go (eqb (length (next .state .made)) (length (r .state .made))) (filling-from m next (filling-round (r .state) h))
-      where
-        next : FillRounds
-        next = record { state = fillRound cs set params (r .state); rounds = r .rounds + 1 }
-
-        go : (t : Bool) → History cs (tolerancesOf set) first (fillFrom cs set params m next .state .made) (fillFrom cs set params m next .state .sheet)
-            → History cs (tolerancesOf set) first (cond t next (fillFrom cs set params m next) .state .made) (cond t next (fillFrom cs set params m next) .state .sheet)
-        go true w = filling-round (r .state) h
-        go false w = w
-
-    -- the whole run
     pub fill-history : History cs (tolerancesOf set) first (fillRun cs set params first .state .made) (fillRun cs set params first .state .sheet)
-    unfolding fillRun
-    fill-history = filling-from (fillLimit (labelCount first) (params .«max_iters»)) (record { state = record { sheet = first; made = [] }; rounds = 0 }) begun
+    unfolding fillRun fillFrom
+    fill-history =
+        rounds-keep (fillPass cs set params) (Filling cs (tolerancesOf set) first) filling-begins filling-visit
+        (fillLimit (labelCount first) (params .«max_iters»))
+        (record { state = record { sheet = first; made = [] }; rounds = 0 }) (record { history = begun; waiting = waiting-none first }) .history

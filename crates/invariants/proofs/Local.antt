@@ -3,9 +3,8 @@
 use mathlib.Core.Path.{_≡_, refl}
 use mathlib.Core.Bool.{Bool, true, false, cond}
 use mathlib.Core.List.{List, [], _∷_}
-use Prim.Native.Nat.{ℕ, zero, suc, _+_, _≤_}
+use Prim.Native.Nat.{ℕ, _≤_}
 use native.Mathlib.Omega.{arith}
-use lib.Dec.{eqb}
 use lib.ListN.{length, length-append}
 use lib.Ieee.{Float, binary32, ofBits, lt}
 use Rattle.sheet.specs.Cells.{OnSheet, placeOf, cellOf}
@@ -22,14 +21,15 @@ use Rattle.arguments.specs.declared.LocalExtensionParams.{LocalExtensionParams}
 use Rattle.extension_common.specs.TryCell.{Corners}
 use Rattle.extension_common.specs.declared.TryCellResult.{TryCellResult}
 use Rattle.passes.specs.Grow.{tolerancesOf, noCounts}
-use Rattle.passes.specs.Local.{depthOf, localRegion, localCells, supportsOf, LocalFit, none, fitted, localFit, LocalState, worst, withResiduals, gateOf, localWith, localAt, localVisit, localAll, localRound, LocalRounds, localFrom, localLimit, localRun}
+use Rattle.passes.specs.Local.{depthOf, localRegion, localCells, supportsOf, LocalFit, none, fitted, localFit, LocalState, worst, withResiduals, gateOf, localWith, localAt, localVisit, localPass, localFrom, localLimit, localRun}
 use Rattle.passes.specs.History.{Attaches, History, begun, marked, attaches}
 use Rattle.passes.specs.declared.Counts.{Counts}
 use Rattle.passes.specs.declared.LargestResidual.{LargestResidual}
+use Rattle.passes.proofs.Rounds.{rounds-keep}
 use Rattle.invariants.specs.Kept.{Sound}
 use Rattle.invariants.proofs.Extended.{extended-attached}
 use Rattle.invariants.proofs.History.{history-extended}
-use Rattle.invariants.proofs.Waiting.{Waiting, cells-wait, waiting-same, first-on, others-wait, waiting-attached, found-attaches}
+use Rattle.invariants.proofs.Waiting.{Waiting, waiting-none, cells-wait, waiting-same, first-on, others-wait, waiting-attached, found-attaches}
 
 -- in a round, with these cells still to be tried
 pub record Trying (cs : Corners) (tol : Tolerances) (first ps : List ℕ) (s : LocalState) : Type 0 where
@@ -37,17 +37,9 @@ pub record Trying (cs : Corners) (tol : Tolerances) (first ps : List ℕ) (s : L
   pub counted : s .counts .attached ≡ length (s .made)
   pub waiting : Waiting (s .sheet) ps
 
--- between rounds: the history, and as many attached as counted
-pub record Tried (cs : Corners) (tol : Tolerances) (first : List ℕ) (s : LocalState) : Type 0 where
-  pub history : History cs tol first (s .made) (s .sheet)
-  pub counted : s .counts .attached ≡ length (s .made)
-
 pub local-cells-listed : (depth : ℕ) (sheet : List ℕ) → Waiting sheet (localCells depth sheet)
 unfolding localCells
 local-cells-listed depth sheet = cells-wait (localRegion depth (labelledPlaces sheet) (boxOf sheet)) sheet
-
-pub round-begins : {cs : Corners} {tol : Tolerances} {first : List ℕ} (depth : ℕ) (s : LocalState) → Tried cs tol first s → Trying cs tol first (localCells depth (s .sheet)) s
-round-begins depth s t = record { history = t .history; counted = t .counted; waiting = local-cells-listed depth (s .sheet) }
 
 module _ {cs : Corners} {first : List ℕ} (few : cs .count ≤ 1024) (begins : Sound cs first) where
   pub sound-tried : {tol : Tolerances} {ps : List ℕ} {s : LocalState} → Trying cs tol first ps s → Sound cs (s .sheet)
@@ -96,32 +88,15 @@ module _ {cs : Corners} {first : List ℕ} (few : cs .count ≤ 1024) (begins : 
             gate (lt (gateOf set params) (worst (ofBits binary32 0) rs)) rs _
             (trying-with p ps s g _ (λ k e. found-attaches (g .waiting) cs (tolerancesOf set) _ _ k e) rs)
 
-    trying-all : (ps : List ℕ) (s : LocalState) → Trying cs (tolerancesOf set) first ps s → Tried cs (tolerancesOf set) first (localAll cs set params ps s)
-    unfolding localAll
-    trying-all [] s g = record { history = g .history; counted = g .counted }
-    trying-all (p ∷ ps) s g = trying-all ps (localVisit cs set params (cellOf p) s) (trying-visit p ps s g)
+    -- the whole run: a round lists its cells, and each waits for its turn
+    pub trying-begins : (s : LocalState) → Trying cs (tolerancesOf set) first [] s
+        → Trying cs (tolerancesOf set) first (localCells (depthOf params) (s .sheet)) s
+    trying-begins s g = record { history = g .history; counted = g .counted; waiting = local-cells-listed (depthOf params) (s .sheet) }
 
-    -- a round
-    pub tried-round : (s : LocalState) → Tried cs (tolerancesOf set) first s → Tried cs (tolerancesOf set) first (localRound cs set params s)
-    unfolding localRound
-    tried-round s t = trying-all (localCells (depthOf params) (s .sheet)) s (round-begins (depthOf params) s t)
-
-    -- at most m rounds more
-    tried-from : (m : ℕ) (r : LocalRounds) → Tried cs (tolerancesOf set) first (r .state) → Tried cs (tolerancesOf set) first (localFrom cs set params m r .state)
-    unfolding localFrom
-    tried-from zero r t = t
-    tried-from (suc m) r t = go (eqb (length (next .state .made)) (length (r .state .made))) (tried-from m next (tried-round (r .state) t))
-      where
-        next : LocalRounds
-        next = record { state = localRound cs set params (r .state); rounds = r .rounds + 1 }
-
-        go : (t : Bool) → Tried cs (tolerancesOf set) first (localFrom cs set params m next .state) → Tried cs (tolerancesOf set) first (cond t next (localFrom cs set params m next) .state)
-        go true w = tried-round (r .state) t
-        go false w = w
-
-    -- the whole run
-    pub local-history : Tried cs (tolerancesOf set) first (localRun cs set params first .state)
-    unfolding localRun
+    pub local-history : Trying cs (tolerancesOf set) first [] (localRun cs set params first .state)
+    unfolding localRun localFrom
     local-history =
-        tried-from (localLimit (labelCount first) (params .«max_iters»))
-        (record { state = record { sheet = first; made = []; counts = noCounts; largest = LargestResidual.Nothing }; rounds = 0 }) (record { history = begun; counted = refl })
+        rounds-keep (localPass cs set params) (Trying cs (tolerancesOf set) first) trying-begins trying-visit
+        (localLimit (labelCount first) (params .«max_iters»))
+        (record { state = record { sheet = first; made = []; counts = noCounts; largest = LargestResidual.Nothing }; rounds = 0 })
+        (record { history = begun; counted = refl; waiting = waiting-none first })

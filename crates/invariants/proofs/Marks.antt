@@ -4,9 +4,8 @@ use mathlib.Core.Path.{_≡_, refl, sym, ap, _∙_}
 use mathlib.Core.Bool.{Bool, true, false, cond, _||_}
 use mathlib.Core.List.{List, [], _∷_, _++_, List·Memᴰ, List·Memᴰ·head, List·Memᴰ·tail, List·Memᴰ·not-nil, List·Memᴰ·append-cases, List·Memᴰ·eq-of-singleton, Memᴰ·append-left, Memᴰ·append-right}
 use mathlib.Core.Logic.{⊎-elim}
-use Prim.Native.Nat.{ℕ, zero, suc, _+_, _<_, _≤_}
+use Prim.Native.Nat.{ℕ, _<_, _≤_}
 use native.Mathlib.Omega.{arith}
-use lib.Dec.{eqb}
 use lib.IntN.{ℤ-discrete}
 use lib.ListN.{length}
 use lib.Ieee.{Float, binary32, ofBits, lt}
@@ -29,11 +28,13 @@ use Rattle.extension_common.specs.declared.Search.{Search}
 use Rattle.extension_common.specs.declared.TryCellResult.{TryCellResult}
 use Rattle.extension_common.proofs.Laws.{attachable}
 use Rattle.passes.specs.Grow.{noCounts}
-use Rattle.passes.specs.Fill.{fillCells, FillState, fillWith, fillAt, fillVisit, fillAll, fillRound, FillRounds, fillFrom, fillLimit, fillRun}
-use Rattle.passes.specs.Local.{depthOf, localCells, supportsOf, LocalFit, none, fitted, localFit, LocalState, worst, withResiduals, gateOf, localWith, localAt, localVisit, localAll, localRound, LocalRounds, localFrom, localLimit, localRun}
+use Rattle.passes.specs.Rounds.{RoundPass, Rounds, roundsFrom}
+use Rattle.passes.specs.Fill.{FillState, fillWith, fillAt, fillVisit, fillPass, fillFrom, fillLimit, fillRun}
+use Rattle.passes.specs.Local.{depthOf, supportsOf, LocalFit, none, fitted, localFit, LocalState, worst, withResiduals, gateOf, localWith, localAt, localVisit, localPass, localFrom, localLimit, localRun}
 use Rattle.passes.specs.Changes.{setsHole, setsAmbiguous, SameMarks, NoMarks, MarksSet, FillVisit, LocalVisit}
 use Rattle.passes.specs.declared.LargestResidual.{LargestResidual}
 use Rattle.passes.proofs.Changes.{same-marks, marks-then, visits}
+use Rattle.passes.proofs.Rounds.{rounds-keep}
 use Rattle.invariants.specs.Marks.{MarksStand, FillMarks, LocalMarks}
 use Rattle.invariants.proofs.Fill.{cells-listed}
 use Rattle.invariants.proofs.Local.{local-cells-listed}
@@ -96,6 +97,19 @@ pub found-fits : (cs : Corners) → cs .count ≤ 1024 → (sheet : List ℕ) (t
     → tryAt cs sheet tol search c at ≡ TryCellResult.Attached k → k < 16383
 found-fits cs few sheet tol search c at k e = omega (arith, attachable cs sheet tol search c at k e .given)
 
+-- ---- rounds
+
+-- what each visit of a place of the sheet keeps, where the cells of a round are such places
+rounds-on : {S : Type 0} (w : RoundPass S) (P : S → Type 0) → ((s : S) (q : ℕ) → List·Memᴰ q (w .cells s) → q < 16384)
+    → ((q : ℕ) → q < 16384 → (s : S) → P s → P (w .visit (cellOf q) s))
+    → (m : ℕ) (r : Rounds S) → P (r .state) → P (roundsFrom w m r .state)
+rounds-on {S} w P on keeps m r h =
+    rounds-keep w Kept (λ s g. (on s, g .1)) (λ q qs s g. (λ p i. g .0 p (List·Memᴰ·tail i), keeps q (g .0 q (List·Memᴰ·head refl)) s (g .1)))
+    m r (λ p i. absurd (List·Memᴰ·not-nil i), h) .1
+  where
+    Kept : List ℕ → S → Type 0
+    Kept qs s = ((q : ℕ) → List·Memᴰ q qs → q < 16384) × P s
+
 -- ---- fill
 
 -- a sheet that is long enough, on which every mark is as it was first
@@ -121,32 +135,11 @@ module _ (cs : Corners) (few : cs .count ≤ 1024) (first : List ℕ) (set : Set
       go Prediction.NoNeighbour = w
       go (Prediction.At at) = fill-with q h _ s (λ k e. found-fits cs few (s .sheet) _ _ (cellOf q) at k e) w
 
-  fill-all : (ps : List ℕ) → ((q : ℕ) → List·Memᴰ q ps → q < 16384) → (s : FillState) → FillKeeps first s → FillKeeps first (fillAll cs set params ps s)
-  unfolding fillAll
-  fill-all [] on s w = w
-  fill-all (q ∷ qs) on s w = fill-all qs (λ p m. on p (List·Memᴰ·tail m)) (fillVisit cs set params (cellOf q) s) (fill-visit q (on q (List·Memᴰ·head refl)) s w)
-
-  fill-round : (s : FillState) → FillKeeps first s → FillKeeps first (fillRound cs set params s)
-  unfolding fillRound
-  fill-round s w = fill-all (fillCells (s .sheet)) (cells-listed (s .sheet) .on) s w
-
-  fill-from : (m : ℕ) (r : FillRounds) → FillKeeps first (r .state) → FillKeeps first (fillFrom cs set params m r .state)
-  unfolding fillFrom
-  fill-from zero r w = w
-  fill-from (suc m) r w = go (eqb (length (next .state .made)) (length (r .state .made))) (fill-from m next (fill-round (r .state) w))
-    where
-      next : FillRounds
-      next = record { state = fillRound cs set params (r .state); rounds = r .rounds + 1 }
-
-      go : (t : Bool) → FillKeeps first (fillFrom cs set params m next .state) → FillKeeps first (cond t next (fillFrom cs set params m next) .state)
-      go true v = fill-round (r .state) w
-      go false v = v
-
   pub fill-marks : 16384 ≤ length first → FillMarks first (fillRun cs set params first .state .sheet)
-  unfolding fillRun
+  unfolding fillRun fillFrom
   fill-marks long =
-      fill-from (fillLimit (labelCount first) (params .«max_iters»)) (record { state = record { sheet = first; made = [] }; rounds = 0 })
-      (record { long = long; same = same-marks first }) .same
+      rounds-on (fillPass cs set params) (FillKeeps first) (λ s. cells-listed (s .sheet) .on) fill-visit (fillLimit (labelCount first) (params .«max_iters»))
+      (record { state = record { sheet = first; made = [] }; rounds = 0 }) (record { long = long; same = same-marks first }) .same
 
 -- ---- local
 
@@ -220,31 +213,11 @@ module _ (cs : Corners) (few : cs .count ≤ 1024) (first : List ℕ) (set : Set
       go none = w
       go (fitted h rs) = gate (lt (gateOf set params) (worst (ofBits binary32 0) rs)) rs _ (tried rs _ (λ k e. found-fits cs few (s .sheet) _ _ (cellOf q) _ k e))
 
-  local-all : (ps : List ℕ) → ((q : ℕ) → List·Memᴰ q ps → q < 16384) → (s : LocalState) → LocalKeeps first s → LocalKeeps first (localAll cs set params ps s)
-  unfolding localAll
-  local-all [] on s w = w
-  local-all (q ∷ qs) on s w = local-all qs (λ p m. on p (List·Memᴰ·tail m)) (localVisit cs set params (cellOf q) s) (local-visit q (on q (List·Memᴰ·head refl)) s w)
-
-  local-round : (s : LocalState) → LocalKeeps first s → LocalKeeps first (localRound cs set params s)
-  unfolding localRound
-  local-round s w = local-all (localCells (depthOf params) (s .sheet)) (local-cells-listed (depthOf params) (s .sheet) .on) s w
-
-  local-from : (m : ℕ) (r : LocalRounds) → LocalKeeps first (r .state) → LocalKeeps first (localFrom cs set params m r .state)
-  unfolding localFrom
-  local-from zero r w = w
-  local-from (suc m) r w = go (eqb (length (next .state .made)) (length (r .state .made))) (local-from m next (local-round (r .state) w))
-    where
-      next : LocalRounds
-      next = record { state = localRound cs set params (r .state); rounds = r .rounds + 1 }
-
-      go : (t : Bool) → LocalKeeps first (localFrom cs set params m next .state) → LocalKeeps first (cond t next (localFrom cs set params m next) .state)
-      go true v = local-round (r .state) w
-      go false v = v
-
   pub local-marks : 16384 ≤ length first → LocalMarks first (localRun cs set params first .state .made) (localRun cs set params first .state .sheet)
-  unfolding localRun
+  unfolding localRun localFrom
   local-marks long =
-      local-from (localLimit (labelCount first) (params .«max_iters»))
+      rounds-on (localPass cs set params) (LocalKeeps first) (λ s. local-cells-listed (depthOf params) (s .sheet) .on) local-visit
+      (localLimit (labelCount first) (params .«max_iters»))
       (record { state = record { sheet = first; made = []; counts = noCounts; largest = LargestResidual.Nothing }; rounds = 0 })
       (record {
         long = long;

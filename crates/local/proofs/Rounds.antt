@@ -1,10 +1,10 @@
 -- The rounds of local, one after the other, and the whole call: refused, under four labels, or all rounds done. Assumes nothing.
-use mathlib.Core.Path.{_≡_, refl, sym, ap, _∙_}
+use mathlib.Core.Path.{_≡_, refl, sym, ap, _∙_, subst}
 use mathlib.Core.Bool.{Bool}
 use mathlib.Core.List.{List}
 use Prim.Native.Nat.{ℕ, suc, _+_, _-_, _*_, _<_, _≤_}
 use native.Mathlib.Omega.{arith}
-use borrow.Author.Tests.{eq-eqb, ne-eqb, lt-ltb, le-ltb}
+use borrow.Author.Tests.{lt-ltb, le-ltb}
 use lib.ListN.{length}
 use lib.Dec.{T}
 use lib.Ieee.{Float}
@@ -22,56 +22,40 @@ use Rattle.arguments.specs.declared.LocalExtensionParams.{LocalExtensionParams}
 use Rattle.arguments.proofs.Laws.{accepted}
 use Rattle.grow.specs.Candidates.{squaredRadius}
 use Rattle.grow.proofs.Radius.{search-radius}
-use Rattle.extension_common.specs.TryCell.{Corners, cornersOf}
+use Rattle.extension_common.specs.TryCell.{cornersOf}
+use Rattle.passes.specs.Counting.{visits}
 use Rattle.passes.specs.Outcome.{done}
-use Rattle.passes.specs.Local.{depthOf, localSearch, LocalState, LocalRounds, localRound, localFrom, localLimit, localRun, localAfter}
+use Rattle.passes.specs.Local.{depthOf, localSearch, LocalState, LocalRounds, localPass, localRound, localFrom, localLimit, localRun, localAfter}
 use Rattle.passes.specs.Step.{LocalOut, localStep, localOut, localLeaves}
 use Rattle.passes.specs.Said.{localValues, localSaid, outcomeDue}
 use Rattle.passes.specs.declared.LocalStats.{LocalStats}
 use Rattle.passes.specs.declared.LocalAnswer.{LocalAnswer}
 use Rattle.passes.proofs.Free.{labels-few}
+use Rattle.passes.proofs.Rounds.{Remaining, remaining-all, remaining-none, remaining-last, remaining-more}
 use Rattle.passes.proofs.Said.{local-said}
 use Rattle.supports.specs.Nearest.{Gatherable, Gathered}
-use Rattle.local.specs.Extending.{visits, stateOf, Left, RoundAsked, noProgress, startOf, RoundsAsked, RoundsLeft, statsOf}
-use Rattle.local.specs.declared.LocalProgress.{LocalProgress}
+use Rattle.local_cell.specs.Extending.{stateOf, Left}
+use Rattle.local_cell.specs.declared.LocalProgress.{LocalProgress}
+use Rattle.local_cell.proofs.Visit.{gathered-front, gathered-size, stands, left-as}
+use Rattle.local.specs.Rounds.{RoundAsked, noProgress, startOf, RoundsAsked, RoundsLeft, statsOf}
 use Rattle.local.specs.declared.RoundsDone.{RoundsDone}
-use Rattle.local.proofs.Visit.{gathered-front, gathered-size, stands, left-as}
 use Rattle.local.proofs.Walk.{holds-state, left-then, round-grows, round-counted}
-
--- ---- at most m rounds more
-
--- the state after one round more
-abbrev pub roundOf : Corners → Settings → LocalExtensionParams → LocalRounds → LocalRounds
-roundOf cs set p r = record { state = localRound cs set p (r .state); rounds = r .rounds + 1 }
-
-module _ (cs : Corners) (set : Settings) (p : LocalExtensionParams) where
-  pub from-none : (r : LocalRounds) → localFrom cs set p 0 r ≡ r
-  unfolding localFrom
-  from-none r = refl
-
-  module _ (m : ℕ) (r : LocalRounds) where
-    -- a round attaching nothing is the last
-    pub from-last : length (localRound cs set p (r .state) .made) ≡ length (r .state .made) → localFrom cs set p (suc m) r ≡ roundOf cs set p r
-    unfolding localFrom
-    from-last e = rw (eq-eqb _ _ e)
-
-    pub from-more : (length (localRound cs set p (r .state) .made) ≡ length (r .state .made) → ⊥) → localFrom cs set p (suc m) r ≡ localFrom cs set p m (roundOf cs set p r)
-    unfolding localFrom
-    from-more e = rw (ne-eqb _ _ e)
 
 -- ---- the loop over the rounds
 
+-- the same rounds by another expression
+rounds-left-as : {r after : LocalRounds} {xs ys pitches : List Float} {before sheet list used places : List ℕ} {answer : RoundsDone} → after ≡ r
+    → RoundsLeft r xs ys pitches before sheet list used places answer → RoundsLeft after xs ys pitches before sheet list used places answer
+rounds-left-as e l = rw e l
+
 pub record Rounding (set : Settings) (p : LocalExtensionParams) (limit : ℕ) (xs ys pitches : List Float) (sheet₀ list₀ : List ℕ) (labels₀ : ℕ) (sheet list used places : List ℕ) (at : LocalProgress) (rounds : ℕ) : Type 0 where
-  pub upto : rounds ≤ limit
+  pub remaining : Remaining (localPass (cornersOf xs ys pitches) set p) limit (stateOf sheet₀ list₀ (noProgress labels₀)) (stateOf sheet list at) rounds
   pub few : limit ≤ 64
   pub shallow : p .«extend_depth» ≤ 4
   pub same-sheet : length sheet ≡ length sheet₀
   pub same-list : length list ≡ length list₀
   pub counted : visits (at .counts) ≤ 16384 * rounds
   pub left : Left (stateOf sheet list at) xs ys pitches list₀ sheet list used places at
-  pub rest :
-      localFrom (cornersOf xs ys pitches) set p (limit - rounds) (record { state = stateOf sheet list at; rounds = rounds })
-      ≡ localFrom (cornersOf xs ys pitches) set p limit (startOf sheet₀ list₀ labels₀)
 
 module _ (set : Settings) (p : LocalExtensionParams) (limit : ℕ) (xs ys pitches : List Float) (sheet₀ list₀ : List ℕ) (labels₀ : ℕ) where
   pub rounding-start : (used places : List ℕ) {at : LocalProgress} → limit ≡ p .«max_iters» → at ≡ noProgress labels₀ → RoundsAsked xs ys pitches sheet₀ list₀ used places labels₀ p
@@ -79,18 +63,14 @@ module _ (set : Settings) (p : LocalExtensionParams) (limit : ℕ) (xs ys pitche
   rounding-start used places e g f =
       rw g
       (record {
-        upto = omega arith;
+        remaining = remaining-all (localPass (cornersOf xs ys pitches) set p) limit (stateOf sheet₀ list₀ (noProgress labels₀));
         few = omega (arith, f .rounds-few);
         shallow = f .shallow;
         same-sheet = refl;
         same-list = refl;
         counted = omega arith;
         left = record { holds = stands {at = noProgress labels₀} (f .extending); extending = f .extending };
-        rest = ap (λ (m : ℕ). localFrom (cornersOf xs ys pitches) set p m (startOf sheet₀ list₀ labels₀)) (all limit);
       })
-    where
-      all : (m : ℕ) → m - 0 ≡ m
-      all m = omega arith
 
   module _ (sheet list used places : List ℕ) (at : LocalProgress) (rounds : ℕ) (g : Rounding set p limit xs ys pitches sheet₀ list₀ labels₀ sheet list used places at rounds) where
     pub rounding-asked : rounds < limit → RoundAsked xs ys pitches sheet list used places at p
@@ -98,9 +78,10 @@ module _ (set : Settings) (p : LocalExtensionParams) (limit : ℕ) (xs ys pitche
 
     pub rounding-end : limit ≤ rounds
         → RoundsLeft (localFrom (cornersOf xs ys pitches) set p limit (startOf sheet₀ list₀ labels₀)) xs ys pitches list₀ sheet list used places (record { progress = at; rounds = rounds })
+    unfolding localFrom
     rounding-end h =
-        let e : limit - rounds ≡ 0 = omega arith in
-        rw (← g .rest, e, from-none (cornersOf xs ys pitches) set p) (record { left = g .left; rounds-are = refl })
+        rounds-left-as (remaining-none (localPass (cornersOf xs ys pitches) set p) limit (stateOf sheet₀ list₀ (noProgress labels₀)) (g .remaining) h)
+        (record { left = g .left; rounds-are = refl })
 
     module _ (sheet' list' used' places' : List ℕ) (next : LocalProgress) (h : rounds < limit)
         (l : Left (localRound (cornersOf xs ys pitches) set p (stateOf sheet list at)) xs ys pitches list sheet' list' used' places' next) where
@@ -108,37 +89,31 @@ module _ (set : Settings) (p : LocalExtensionParams) (limit : ℕ) (xs ys pitche
       whole : Left (localRound (cornersOf xs ys pitches) set p (stateOf sheet list at)) xs ys pitches list₀ sheet' list' used' places' next
       whole = left-then (g .left .holds) (round-grows (cornersOf xs ys pitches) set p (stateOf sheet list at)) l
 
-      -- how the rest of the rounds goes on
-      turn : limit - rounds ≡ suc (limit - (rounds + 1))
-      turn = omega arith
-
       pub rounding-last : next .counts .attached ≡ at .counts .attached
           → RoundsLeft (localFrom (cornersOf xs ys pitches) set p limit (startOf sheet₀ list₀ labels₀)) xs ys pitches list₀ sheet' list' used' places' (record { progress = next; rounds = rounds + 1 })
+      unfolding localFrom
       rounding-last e =
-          rw (sym (g .rest)
-          ∙ ap (λ (m : ℕ). localFrom (cornersOf xs ys pitches) set p m (record { state = stateOf sheet list at; rounds = rounds })) turn
-          ∙ from-last (cornersOf xs ys pitches) set p (limit - (rounds + 1)) (record { state = stateOf sheet list at; rounds = rounds })
-          (sym (l .holds .made-is) ∙ e ∙ g .left .holds .made-is))
+          rounds-left-as (remaining-last (localPass (cornersOf xs ys pitches) set p) limit (stateOf sheet₀ list₀ (noProgress labels₀))
+          (g .remaining) h (sym (l .holds .made-is) ∙ e ∙ g .left .holds .made-is))
           (record { left = whole; rounds-are = refl })
 
       pub rounding-more : (next .counts .attached ≡ at .counts .attached → ⊥) → length sheet' ≡ length sheet → length list' ≡ length list
           → Rounding set p limit xs ys pitches sheet₀ list₀ labels₀ sheet' list' used' places' next (rounds + 1)
+      unfolding localRound
       rounding-more e a b =
           record {
-            upto = omega arith;
+            remaining =
+                subst (λ (s : LocalState). Remaining (localPass (cornersOf xs ys pitches) set p) limit (stateOf sheet₀ list₀ (noProgress labels₀))
+                s (rounds + 1))
+                (sym (holds-state (l .holds)))
+                (remaining-more (localPass (cornersOf xs ys pitches) set p) limit (stateOf sheet₀ list₀ (noProgress labels₀))
+                (g .remaining) h (λ d. e (l .holds .made-is ∙ d ∙ sym (g .left .holds .made-is))));
             few = g .few;
             shallow = g .shallow;
             same-sheet = a ∙ g .same-sheet;
             same-list = b ∙ g .same-list;
             counted = omega (arith, g .counted, ap visits (l .holds .counts-are), round-counted (cornersOf xs ys pitches) set p (stateOf sheet list at));
             left = left-as (holds-state (l .holds)) whole;
-            rest =
-                ap (λ (s : LocalState). localFrom (cornersOf xs ys pitches) set p (limit - (rounds + 1)) (record { state = s; rounds = rounds + 1 })) (holds-state (l .holds))
-                ∙ sym
-                (from-more (cornersOf xs ys pitches) set p (limit - (rounds + 1)) (record { state = stateOf sheet list at; rounds = rounds })
-                (λ d. e (l .holds .made-is ∙ d ∙ sym (g .left .holds .made-is))))
-                ∙ sym (ap (λ (m : ℕ). localFrom (cornersOf xs ys pitches) set p m (record { state = stateOf sheet list at; rounds = rounds })) turn)
-                ∙ g .rest;
           }
 
 -- ---- the pass

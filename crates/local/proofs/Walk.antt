@@ -1,206 +1,99 @@
--- A round of local, a place at a time: some cells and one more, that a cell not yet reached keeps its label, and what the code has written
--- after each place. Assumes nothing.
-use mathlib.Core.Path.{_≡_, refl, sym, ap, ap₂, _∙_, subst}
-use mathlib.Core.Bool.{Bool, true, false, not, _&&_, cond}
-use mathlib.Core.List.{List, [], _∷_, _++_}
-use Prim.Native.Nat.{ℕ, zero, suc, _+_, _<_, _≤_}
-use native.Mathlib.Numerals.{add-one}
+-- A round of local, a place at a time: a visit changes no label elsewhere and counts at most one cell, and what the code has written after each place.
+-- Assumes nothing.
+use mathlib.Core.Path.{_≡_, refl, ap, ap₂, _∙_}
+use mathlib.Core.Bool.{Bool}
+use mathlib.Core.List.{List}
+use Prim.Native.Nat.{ℕ, _+_, _/_, _%_, _<_, _≤_}
 use native.Mathlib.Omega.{arith}
-use lib.ListN.{length, getD, take}
+use lib.ListN.{length, take}
 use lib.Ieee.{Float}
 use Rattle.sheet.specs.Cells.{cellOf}
-use Rattle.sheet.specs.Words.{labelOf, labelAt}
+use Rattle.sheet.specs.Words.{labelAt}
 use Rattle.sheet.specs.declared.Cell.{Cell}
 use Rattle.sheet.specs.declared.Label.{Label}
 use Rattle.sheet.proofs.Laws.{cell-on, place-cell}
-use Rattle.labels.specs.Labelled.{passing, namesCorner, isLabelled, labelledPlaces}
+use Rattle.labels.specs.Labelled.{labelledPlaces}
 use Rattle.labels.specs.Box.{boxOf}
-use Rattle.labels.proofs.Below.{no-both, both, passing-none, passing-hit, passing-miss}
-use Rattle.labels.proofs.Labelled.{label-of-place}
+use Rattle.labels.specs.declared.LabelBox.{LabelBox}
 use Rattle.arguments.specs.declared.Settings.{Settings}
 use Rattle.arguments.specs.declared.LocalExtensionParams.{LocalExtensionParams}
 use Rattle.extension_common.specs.TryCell.{Corners, cornersOf}
 use Rattle.positions_policy.specs.declared.Tolerances.{Tolerances}
-use Rattle.passes.specs.Fill.{cellsOf}
-use Rattle.passes.specs.Local.{depthOf, localRegion, localCells, LocalState, localVisit, localAll, localRound}
+use Rattle.passes.specs.Counting.{visits}
+use Rattle.passes.specs.Local.{depthOf, localRegion, localCells, LocalState, localVisit, localRound}
 use Rattle.passes.proofs.Over.{over-read, over-over}
-use Rattle.region.specs.Region.{Region, RegionFound, regionAt}
+use Rattle.region.specs.Region.{Region, Listed, Lines, RegionFound, regionOf, regionAt}
 use Rattle.region.specs.Windowed.{InWindow, Windowed, NextIn}
 use Rattle.region.specs.declared.Window.{Window}
 use Rattle.region.proofs.Told.{region-is}
 use Rattle.region.proofs.Jumps.{jumps, told-far}
+use Rattle.region.proofs.Places as places
+use Rattle.region.proofs.Places.{Elsewhere, walked-all, walked-start, walked-most, looked, looked-out, looked-grows, looked-most, walk-grows}
 use Rattle.remembered.proofs.Attach.{clear-same, clear-else}
 use Rattle.arguments.specs.Front.{over}
-use Rattle.local.specs.Extending.{visits, stateOf, Extending, Holds, Left, lookedAt}
-use Rattle.local.specs.declared.LocalProgress.{LocalProgress}
-use Rattle.local.proofs.Visit.{Tried, passed, attaches, tried, tried-grows, tried-counted, attaching, untouched}
+use Rattle.local_cell.specs.Extending.{stateOf, Extending, Holds, Left}
+use Rattle.local_cell.specs.declared.LocalProgress.{LocalProgress}
+use Rattle.local_cell.proofs.Visit.{Tried, passed, attaches, tried, tried-grows, tried-counted, attaching, untouched, labels-in, listed-below}
+use Rattle.local.specs.Rounds.{lookedAt}
 
--- ---- some cells
+-- ---- a round
 
-module _ (cs : Corners) (set : Settings) (p : LocalExtensionParams) where
-  pub all-none : (s : LocalState) → localAll cs set p [] s ≡ s
-  unfolding localAll
-  all-none s = refl
-
-  -- the last one comes last
-  pub all-more : (qs : List ℕ) (q : ℕ) (s : LocalState) → localAll cs set p (qs ++ (q ∷ [])) s ≡ localVisit cs set p (cellOf q) (localAll cs set p qs s)
-  unfolding localAll
-  all-more [] q s = refl
-  all-more (r ∷ qs) q s = all-more qs q (localVisit cs set p (cellOf r) s)
-
--- ---- the places that a round walks
-
-bare : (l : Label) → not (namesCorner l) ≡ true → l ≡ Label.Unlabelled
-unfolding namesCorner
-bare Label.Unlabelled f = refl
-bare (Label.Corner k) f = absurd (no-both false f refl)
-
--- in the region, and unlabelled at the round's start
-unfoldable pub walked : LocalExtensionParams → List ℕ → ℕ → Bool
-walked p sheet q = localRegion (depthOf p) (labelledPlaces sheet) (boxOf sheet) (cellOf q) && not (namesCorner (labelAt sheet (cellOf q)))
+-- the region of a round that starts with a sheet
+abbrev pub roundRegion : LocalExtensionParams → List ℕ → Cell → Bool
+roundRegion p sheet = localRegion (depthOf p) (labelledPlaces sheet) (boxOf sheet)
 
 -- the state after the places below n
 abbrev pub walkedTo : Corners → Settings → LocalExtensionParams → LocalState → ℕ → LocalState
-walkedTo cs set p s n = localAll cs set p (passing (walked p (s .sheet)) n) s
+walkedTo cs set p s n = places.walkedTo (localVisit cs set p) (λ t. t .sheet) (roundRegion p (s .sheet)) s n
 
 pub walked-round : (cs : Corners) (set : Settings) (p : LocalExtensionParams) (s : LocalState) → walkedTo cs set p s 16384 ≡ localRound cs set p s
-unfolding localRound localCells cellsOf walked
-walked-round cs set p s = refl
+unfolding localRound localCells
+walked-round cs set p s = walked-all (localVisit cs set p) (λ t. t .sheet) (roundRegion p (s .sheet)) s
 
--- a place that a round walks is bare at the round's start
-pub walked-bare : (p : LocalExtensionParams) (sheet : List ℕ) (q : ℕ) → q < 16384 → walked p sheet q ≡ true → labelOf (getD sheet q 0) ≡ Label.Unlabelled
-unfolding walked
-walked-bare p sheet q h e =
-    sym (label-of-place sheet q h) ∙ bare (labelAt sheet (cellOf q)) (both (localRegion (depthOf p) (labelledPlaces sheet) (boxOf sheet) (cellOf q)) (not (namesCorner (labelAt sheet (cellOf q)))) e .1)
+-- a visit of a bare cell changes no label elsewhere
+tried-else : {cs : Corners} {tol : Tolerances} {s after : LocalState} (n : ℕ) → n < 16384 → cs .count ≤ 1024 → 16384 ≤ length (s .sheet)
+    → labelAt (s .sheet) (cellOf n) ≡ Label.Unlabelled
+    → Tried cs tol (cellOf n) s after → Elsewhere (s .sheet) (after .sheet) n
+tried-else n h few long e (passed m l v) = record { same-length = refl; same-label = λ q k d. refl }
+tried-else n h few long e (attaches m l k v w) =
+    let t = attaching few long (cell-on n h) e w in
+    record { same-length = clear-same t; same-label = λ q i d. clear-else t q i (λ z. d (z ∙ place-cell n h)) }
 
-module _ (cs : Corners) (set : Settings) (p : LocalExtensionParams) (s : LocalState) where
-  pub walked-hit : (n : ℕ) → walked p (s .sheet) n ≡ true → walkedTo cs set p s (n + 1) ≡ localVisit cs set p (cellOf n) (walkedTo cs set p s n)
-  walked-hit n e = ap (λ (l : List ℕ). localAll cs set p l s) (passing-hit (walked p (s .sheet)) n e) ∙ all-more cs set p (passing (walked p (s .sheet)) n) n s
+pub visit-else : (cs : Corners) → cs .count ≤ 1024 → (set : Settings) (p : LocalExtensionParams) (n : ℕ) → n < 16384 → (s : LocalState)
+    → 16384 ≤ length (s .sheet)
+    → labelAt (s .sheet) (cellOf n) ≡ Label.Unlabelled → Elsewhere (s .sheet) (localVisit cs set p (cellOf n) s .sheet) n
+visit-else cs few set p n h s long e = tried-else n h few long e (tried cs set p (cellOf n) s)
 
-  pub walked-miss : (n : ℕ) → walked p (s .sheet) n ≡ false → walkedTo cs set p s (n + 1) ≡ walkedTo cs set p s n
-  walked-miss n e = ap (λ (l : List ℕ). localAll cs set p l s) (passing-miss (walked p (s .sheet)) n e)
+module _ (cs : Corners) (set : Settings) (p : LocalExtensionParams) where
+  -- new cells are only added
+  pub visit-grows : (c : Cell) (s : LocalState) → length (s .made) ≤ length (localVisit cs set p c s .made)
+  visit-grows c s = tried-grows (tried cs set p c s)
 
--- ---- what stays during a round
+  pub round-grows : (s : LocalState) → length (s .made) ≤ length (localRound cs set p s .made)
+  unfolding localRound
+  round-grows s = walk-grows (localVisit cs set p) (λ t. length (t .made)) visit-grows (localCells (depthOf p) (s .sheet)) s
 
--- the sheet's length, and the labels of the places from n on
-pub record Ahead (before after : List ℕ) (n : ℕ) : Type 0 where
-  pub same-length : length after ≡ length before
-  pub same-label : (q : ℕ) → n ≤ q → q < 16384 → labelOf (getD after q 0) ≡ labelOf (getD before q 0)
+  -- a visit counts at most one cell, and a round at most one for each place
+  pub visit-counted : (c : Cell) (s : LocalState) → visits (localVisit cs set p c s .counts) ≤ visits (s .counts) + 1
+  visit-counted c s = tried-counted (tried cs set p c s)
 
-module _ (p : LocalExtensionParams) (before : List ℕ) (n : ℕ) (h : n < 16384) where
-  pub ahead-passed : {after : List ℕ} → Ahead before after n → Ahead before after (n + 1)
-  ahead-passed a = record { same-length = a .same-length; same-label = λ q k. a .same-label q (omega arith) }
+  pub round-counted : (s : LocalState) → visits (localRound cs set p s .counts) ≤ visits (s .counts) + 16384
+  round-counted s = rw (← walked-round cs set p s)
+      (walked-most (localVisit cs set p) (λ t. t .sheet) (λ t. visits (t .counts)) visit-counted (roundRegion p (s .sheet)) s 16384)
 
-  -- a place not yet reached is bare if it was
-  pub ahead-bare : {after : List ℕ} → Ahead before after n → walked p before n ≡ true → labelAt after (cellOf n) ≡ Label.Unlabelled
-  ahead-bare {after} a e = label-of-place after n h ∙ a .same-label n (omega arith) h ∙ walked-bare p before n h e
+-- ---- the region of a round, from the labelled places that are listed
 
-  -- its present label says what its label at the round's start says
-  pub ahead-present : {after : List ℕ} → Ahead before after n → (localRegion (depthOf p) (labelledPlaces before) (boxOf before) (cellOf n) && not (namesCorner (labelAt after (cellOf n)))) ≡ walked p before n
-  unfolding walked
-  ahead-present {after} a =
-      ap (λ (l : Label). localRegion (depthOf p) (labelledPlaces before) (boxOf before) (cellOf n) && not (namesCorner l))
-      (label-of-place after n h ∙ a .same-label n (omega arith) h ∙ sym (label-of-place before n h))
+module _ {xs ys pitches : List Float} {sheet list used places : List ℕ} {made labels : ℕ} (f : Extending xs ys pitches sheet list used places made labels) where
+  pub listed : Listed places labels
+  listed = record { few = labels-in f; size = f .size; below = listed-below f }
 
-  pub ahead-tried : {cs : Corners} {tol : Tolerances} {s after : LocalState} → cs .count ≤ 1024 → 16384 ≤ length before → Ahead before (s .sheet) n → walked p before n ≡ true
-      → Tried cs tol (cellOf n) s after → Ahead before (after .sheet) (n + 1)
-  ahead-tried few long a e (passed m l v) = ahead-passed a
-  ahead-tried {s = s} few long a e (attaches m l k v w) =
-      let long' : 16384 ≤ length (s .sheet) = rw (a .same-length) long in
-      let t = attaching few long' (cell-on n h) (ahead-bare a e) w in
-      record {
-        same-length = clear-same t ∙ a .same-length;
-        same-label = λ q m l. clear-else t q l (λ z. let d : q ≡ n = z ∙ place-cell n h in omega arith) ∙ a .same-label q (omega arith) l;
-      }
-
-module _ (cs : Corners) (few : cs .count ≤ 1024) (set : Settings) (p : LocalExtensionParams) (s : LocalState) (long : 16384 ≤ length (s .sheet)) where
-  -- a place more
-  pub ahead-more : (n : ℕ) → n < 16384 → Ahead (s .sheet) (walkedTo cs set p s n .sheet) n → Ahead (s .sheet) (walkedTo cs set p s (n + 1) .sheet) (n + 1)
-  ahead-more n h a = go (walked p (s .sheet) n) refl
-    where
-      go : (t : Bool) → walked p (s .sheet) n ≡ t → Ahead (s .sheet) (walkedTo cs set p s (n + 1) .sheet) (n + 1)
-      go true e = rw (walked-hit cs set p s n e) (ahead-tried p (s .sheet) n h few long a e (tried cs set p (cellOf n) (walkedTo cs set p s n)))
-      go false e = rw (walked-miss cs set p s n e) (ahead-passed p (s .sheet) n h a)
-
-  pub ahead : (n : ℕ) → n ≤ 16384 → Ahead (s .sheet) (walkedTo cs set p s n .sheet) n
-  ahead zero h = rw (passing-none (walked p (s .sheet)), all-none cs set p s) (record { same-length = refl; same-label = λ q k l. refl })
-  ahead (suc n) h = subst (λ (m : ℕ). Ahead (s .sheet) (walkedTo cs set p s m .sheet) m) (add-one n) (ahead-more n (omega arith) (ahead n (omega arith)))
-
-  -- looking at the present label is the same as looking at that of the round's start
-  pub looked : (region : Region) (n : ℕ) → RegionFound (s .sheet) region → n < 16384 → lookedAt cs set p region n (walkedTo cs set p s n) ≡ walkedTo cs set p s (n + 1)
-  unfolding lookedAt
-  looked region n f h = rw (region-is (depthOf p) (s .sheet) region n h f, ahead-present p (s .sheet) n h (ahead n (omega arith))) (go (walked p (s .sheet) n) refl)
-    where
-      now : LocalState
-      now = walkedTo cs set p s n
-
-      go : (t : Bool) → walked p (s .sheet) n ≡ t → cond t (localVisit cs set p (cellOf n) now) now ≡ walkedTo cs set p s (n + 1)
-      go true e = sym (walked-hit cs set p s n e)
-      go false e = sym (walked-miss cs set p s n e)
-
--- ---- a place looked at, test by test
+  pub region-found : {around : LabelBox} {rows columns : List ℕ} → around ≡ boxOf sheet → Lines (λ p. p % 128) (take labels places) rows → Lines (λ p. p / 128) (take labels places) columns
+      → RegionFound sheet (regionOf around rows columns)
+  region-found a r c = record { around-is = a; rows-are = rw (f .places-are) at r; columns-are = rw (f .places-are) at c }
 
 -- the region's test, at the depth that the code has worked out
 pub told-at : (p : LocalExtensionParams) (region : Region) (n : ℕ) {d : ℕ} {t : Bool} → d ≡ depthOf p → t ≡ regionAt d region n → t ≡ regionAt (depthOf p) region n
 told-at p region n e f = f ∙ ap (λ (m : ℕ). regionAt m region n) e
-
-module _ (cs : Corners) (set : Settings) (p : LocalExtensionParams) (region : Region) (n : ℕ) (s : LocalState) where
-  pub looked-out : regionAt (depthOf p) region n ≡ false → lookedAt cs set p region n s ≡ s
-  unfolding lookedAt
-  looked-out e = rw e
-
-  module _ (h : n < 16384) (inside : regionAt (depthOf p) region n ≡ true) where
-    pub looked-labelled : isLabelled (getD (s .sheet) n 0) ≡ true → lookedAt cs set p region n s ≡ s
-    unfolding lookedAt isLabelled
-    looked-labelled e = rw (inside, label-of-place (s .sheet) n h, e)
-
-    pub looked-bare : (c : Cell) → c ≡ cellOf n → isLabelled (getD (s .sheet) n 0) ≡ false → lookedAt cs set p region n s ≡ localVisit cs set p c s
-    unfolding lookedAt isLabelled
-    looked-bare c f e = rw (f, inside, label-of-place (s .sheet) n h, e)
-
--- ---- new cells are only added
-
-pub visit-grows : (cs : Corners) (set : Settings) (p : LocalExtensionParams) (c : Cell) (s : LocalState) → length (s .made) ≤ length (localVisit cs set p c s .made)
-visit-grows cs set p c s = tried-grows (tried cs set p c s)
-
-pub all-grows : (cs : Corners) (set : Settings) (p : LocalExtensionParams) (qs : List ℕ) (s : LocalState) → length (s .made) ≤ length (localAll cs set p qs s .made)
-unfolding localAll
-all-grows cs set p [] s = omega arith
-all-grows cs set p (q ∷ qs) s = omega (arith, visit-grows cs set p (cellOf q) s, all-grows cs set p qs (localVisit cs set p (cellOf q) s))
-
-pub round-grows : (cs : Corners) (set : Settings) (p : LocalExtensionParams) (s : LocalState) → length (s .made) ≤ length (localRound cs set p s .made)
-unfolding localRound
-round-grows cs set p s = all-grows cs set p (localCells (depthOf p) (s .sheet)) s
-
--- a round counts at most one visit for each place
-pub round-counted : (cs : Corners) (set : Settings) (p : LocalExtensionParams) (s : LocalState) → visits (localRound cs set p s .counts) ≤ visits (s .counts) + 16384
-round-counted cs set p s = rw (← walked-round cs set p s) (to 16384)
-  where
-    one : (n : ℕ) (t : Bool) → walked p (s .sheet) n ≡ t → visits (walkedTo cs set p s (n + 1) .counts) ≤ visits (walkedTo cs set p s n .counts) + 1
-    one n true e = rw (walked-hit cs set p s n e) (tried-counted (tried cs set p (cellOf n) (walkedTo cs set p s n)))
-    one n false e = rw (walked-miss cs set p s n e) (omega arith)
-
-    to : (n : ℕ) → visits (walkedTo cs set p s n .counts) ≤ visits (s .counts) + n
-    to zero = rw (passing-none (walked p (s .sheet)), all-none cs set p s) (omega arith)
-    to (suc n) = let m = one n (walked p (s .sheet) n) refl in rw (← add-one n) (omega (arith, to n))
-
--- looking at a place adds at most one new cell, and counts at most one visit
-module _ (cs : Corners) (set : Settings) (p : LocalExtensionParams) (region : Region) (n : ℕ) (s : LocalState) where
-  pub looked-grows : length (s .made) ≤ length (lookedAt cs set p region n s .made)
-  unfolding lookedAt
-  looked-grows = go (regionAt (depthOf p) region n && not (namesCorner (labelAt (s .sheet) (cellOf n))))
-    where
-      go : (t : Bool) → length (s .made) ≤ length (cond t (localVisit cs set p (cellOf n) s) s .made)
-      go true = visit-grows cs set p (cellOf n) s
-      go false = omega arith
-
-  pub looked-counted : visits (lookedAt cs set p region n s .counts) ≤ visits (s .counts) + 1
-  unfolding lookedAt
-  looked-counted = go (regionAt (depthOf p) region n && not (namesCorner (labelAt (s .sheet) (cellOf n))))
-    where
-      go : (t : Bool) → visits (cond t (localVisit cs set p (cellOf n) s) s .counts) ≤ visits (s .counts) + 1
-      go true = tried-counted (tried cs set p (cellOf n) s)
-      go false = omega arith
 
 -- ---- what the code has written
 
@@ -251,9 +144,7 @@ module _ (set : Settings) (p : LocalExtensionParams) (xs ys pitches : List Float
         same-list = refl;
         counted = omega arith;
         left =
-            untouched f
-            (ap (λ (l : List ℕ). localAll (cornersOf xs ys pitches) set p l (stateOf sheet₀ list₀ at₀)) (passing-none (walked p sheet₀))
-            ∙ all-none (cornersOf xs ys pitches) set p (stateOf sheet₀ list₀ at₀));
+            untouched f (walked-start (localVisit (cornersOf xs ys pitches) set p) (λ t. t .sheet) (roundRegion p sheet₀) (stateOf sheet₀ list₀ at₀));
       }
 
   module _ (sheet list used places : List ℕ) (at : LocalProgress) (n : ℕ) (w : Walking set p xs ys pitches sheet₀ list₀ at₀ sheet list used places at n) where
@@ -266,8 +157,21 @@ module _ (set : Settings) (p : LocalExtensionParams) (xs ys pitches : List Float
           long = w .long;
           same-sheet = e ∙ w .same-sheet;
           same-list = g ∙ w .same-list;
-          counted = omega (arith, w .counted, ap visits (l .holds .counts-are), looked-counted cs set p region n (stateOf sheet list at));
-          left = rw next at (left-then (w .left .holds) (rw (holds-state (w .left .holds)) (looked-grows cs set p region n (walkedTo cs set p s n))) l);
+          counted =
+              omega (
+                arith,
+                w .counted,
+                ap visits (l .holds .counts-are),
+                looked-most (localVisit cs set p) (λ t. t .sheet) (λ t. visits (t .counts))
+                    (visit-counted cs set p) (regionAt (depthOf p) region n) n (stateOf sheet list at),
+              );
+          left =
+              rw next at
+              (left-then (w .left .holds)
+              (rw (holds-state (w .left .holds))
+              (looked-grows (localVisit cs set p) (λ t. length (t .made)) (visit-grows cs set p)
+              (λ t. t .sheet) (regionAt (depthOf p) region n) n (walkedTo cs set p s n)))
+              l);
         }
       where
         cs : Corners
@@ -277,7 +181,10 @@ module _ (set : Settings) (p : LocalExtensionParams) (xs ys pitches : List Float
         s = stateOf sheet₀ list₀ at₀
 
         next : lookedAt cs set p region n (stateOf sheet list at) ≡ walkedTo cs set p s (n + 1)
-        next = ap (lookedAt cs set p region n) (holds-state (w .left .holds)) ∙ looked cs (w .left .extending .few) set p s (w .long) region n f h
+        next =
+            ap (lookedAt cs set p region n) (holds-state (w .left .holds))
+            ∙ looked (localVisit cs set p) (λ t. t .sheet) (visit-else cs (w .left .extending .few) set p) (roundRegion p sheet₀) s (w .long) n h
+            (region-is (depthOf p) sheet₀ region n h f)
 
     pub walking-end : 16384 ≤ n → Left (localRound (cornersOf xs ys pitches) set p (stateOf sheet₀ list₀ at₀)) xs ys pitches list₀ sheet list used places at
     walking-end h =
@@ -290,5 +197,7 @@ module _ (set : Settings) (p : LocalExtensionParams) (xs ys pitches : List Float
   walking-jumps sheet list used places at region window f e c w t =
       jumps window (Walking set p xs ys pitches sheet₀ list₀ at₀ sheet list used places at)
       (λ q h out v. walking-more sheet list used places at q v region sheet list used places at h f refl refl
-      (untouched (v .left .extending) (looked-out (cornersOf xs ys pitches) set p region q (stateOf sheet list at) (told-far (depthOf p) sheet₀ region window q f (rw e at c) h out))))
+      (untouched (v .left .extending)
+      (looked-out (localVisit (cornersOf xs ys pitches) set p) (λ t. t .sheet) (regionAt (depthOf p) region q) q (stateOf sheet list at)
+      (told-far (depthOf p) sheet₀ region window q f (rw e at c) h out))))
       t w

@@ -1,39 +1,29 @@
 // Local (01, "Sheet" and "Fit"; port of shared/extension/local.rs): rounds over the unlabelled cells of the label box, of strips of the depth
-// on labelled rows and columns, and of four corner blocks, by i then j. Each is tried where the fit on its four nearest labels maps it to. What was
-// worked out of a cell is remembered until a new label may change it (crate remembered).
-mod cells; // cells.rt: one cell
+// on labelled rows and columns, and of four corner blocks, by i then j. Each is tried where the fit on its four nearest labels maps it to (crate
+// local_cell). What was worked out of a cell is remembered until a new label may change it (crate remembered).
 
 ghost use mathlib.Core.Path.{_≡_};
 ghost use lib.ListN.{length};
 ghost use Rattle.extension_common.specs.TryCell.{cornersOf};
 ghost use Rattle.passes.specs.Outcome.{done};
-ghost use Rattle.passes.specs.Grow.{tolerancesOf};
-ghost use Rattle.passes.specs.Local.{depthOf, localSearch, gateOf, localRound, localFrom, localAfter};
+ghost use Rattle.passes.specs.Local.{depthOf, localRound, localFrom, localAfter};
 ghost use Rattle.passes.specs.Step.{CornerLists, Rooms, localStep, localOut, localLeaves};
 ghost use Rattle.passes.specs.Said.{localValues, localSaid, outcomeDue};
 ghost use Rattle.arguments.specs.Arguments.{lent};
 ghost use Rattle.arguments.specs.Accepted.{Accepted};
 ghost use Rattle.region.specs.Region.{regionOf};
-ghost use Rattle.local.specs.Extending.{stateOf, Left, Recalls, Looking, lookedAt, RoundAsked, noProgress, startOf, RoundsAsked, RoundsLeft, statsOf};
+ghost use Rattle.local_cell.specs.Extending.{stateOf, Left, Recalls};
+ghost use Rattle.local.specs.Rounds.{Looking, lookedAt, RoundAsked, noProgress, startOf, RoundsAsked, RoundsLeft, statsOf};
 use arguments::Checked;
 use arguments::LocalExtensionParams;
 use arguments::Pass;
 use arguments::Settings;
-use extension_common::ChoiceRule;
-use extension_common::Search;
 use labels::LabelBox;
+use local_cell::LocalProgress;
 use passes::Counts;
 use passes::LargestResidual;
 use passes::LocalAnswer;
 use passes::LocalStats;
-use positions_policy::Tolerances;
-
-// How far the pass has come: the counts, the largest residual recorded, and how many cells are labelled.
-struct LocalProgress {
-    counts: Counts,
-    residual: LargestResidual,
-    labels: usize,
-}
 
 // How far it has come, and after how many rounds.
 struct RoundsDone {
@@ -49,37 +39,6 @@ fn depth_of(params: LocalExtensionParams) -> u32
         return 1;
     }
     params.extend_depth
-}
-
-// How local searches a cell: search times cell size as the radius, and fill's and local's rule of choice.
-fn search_of(settings: Settings, params: LocalExtensionParams) -> Search
-    ensures { λ r. ⌜ r ≡ localSearch settings params ⌝ }
-{
-    let grid = settings.grid;
-    Search {
-        search_r: params.search_rel * grid.cell_size,
-        ambiguity_factor: params.ambiguity_factor,
-        rule: ChoiceRule::WithFloor,
-    }
-}
-
-// The edge's tolerances: cell size and band.
-fn tolerances_of(settings: Settings) -> Tolerances
-    ensures { λ r. ⌜ r ≡ tolerancesOf settings ⌝ }
-{
-    let grid = settings.grid;
-    Tolerances {
-        cell_size: grid.cell_size,
-        edge_length_tol: settings.edge_length_tol,
-    }
-}
-
-// The residual gate: the largest residual that is let through.
-fn gate_of(settings: Settings, params: LocalExtensionParams) -> f32
-    ensures { λ r. ⌜ r ≡ gateOf settings params ⌝ }
-{
-    let grid = settings.grid;
-    params.max_residual_rel * grid.cell_size
 }
 
 // Looks at a place: its cell is tried if it lies in the region and is unlabelled. Answers how far the pass has come.
@@ -110,7 +69,7 @@ fn local_place(
     if labels::is_labelled(sheet[place]) {
         return at;
     }
-    cells::try_local_cell(
+    local_cell::try_local_cell(
         xs,
         ys,
         pitches,

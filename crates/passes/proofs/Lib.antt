@@ -7,3 +7,4 @@ pub mod Enough
 pub mod Run
 pub mod Nearest
 pub mod Said
+pub mod Rounds

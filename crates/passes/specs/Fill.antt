@@ -1,9 +1,8 @@
 -- Fill (document 01, "Sheet": "each round walks, by i then j, the unlabelled cells of the label box and one strip along each whole side";
 -- shared/fill.rs). Definitions only.
-use mathlib.Core.Bool.{Bool, true, false, not, _&&_, _||_, cond}
+use mathlib.Core.Bool.{Bool, true, false, not, _&&_, _||_}
 use mathlib.Core.List.{List, [], _∷_, _++_}
-use Prim.Native.Nat.{ℕ, zero, suc, _+_, max}
-use lib.Dec.{eqb}
+use Prim.Native.Nat.{ℕ, zero, suc, max}
 use lib.ListN.{length}
 use lib.IntN.{ℤ, pos, _+ℤ_, _-ℤ_}
 use lib.Signed.{leZ}
@@ -26,6 +25,7 @@ use Rattle.extension_common.specs.declared.ChoiceRule.{ChoiceRule}
 use Rattle.extension_common.specs.declared.Search.{Search}
 use Rattle.extension_common.specs.declared.TryCellResult.{TryCellResult}
 use Rattle.passes.specs.Outcome.{After}
+use Rattle.passes.specs.Rounds.{RoundPass, oneRound, Rounds, roundsFrom}
 use Rattle.passes.specs.Grow.{tolerancesOf}
 use Rattle.passes.specs.declared.FillStats.{FillStats}
 
@@ -86,25 +86,21 @@ fillVisit cs set p c s = fillAt cs set p c (predictionOf (seenOf (cs .corner) (s
 
 -- ---- rounds
 
--- some cells, one after the other
-unfoldable pub fillAll : Corners → Settings → FillParams → List ℕ → FillState → FillState
-fillAll cs set p [] s = s
-fillAll cs set p (q ∷ qs) s = fillAll cs set p qs (fillVisit cs set p (cellOf q) s)
+-- fill as a pass that walks in rounds
+abbrev pub fillPass : Corners → Settings → FillParams → RoundPass FillState
+fillPass cs set p = record { cells = λ s. fillCells (s .sheet); visit = fillVisit cs set p; made = λ s. s .made }
 
 unfoldable pub fillRound : Corners → Settings → FillParams → FillState → FillState
-fillRound cs set p s = fillAll cs set p (fillCells (s .sheet)) s
+unfolding oneRound
+fillRound cs set p s = oneRound (fillPass cs set p) s
 
--- the state after some rounds, and how many there were
-pub record FillRounds : Type 0 where
-  pub state : FillState
-  pub rounds : ℕ
+abbrev pub FillRounds : Type 0
+FillRounds = Rounds FillState
 
--- at most m rounds more; a round attaching nothing is the last
+-- at most m rounds more
 unfoldable pub fillFrom : Corners → Settings → FillParams → ℕ → FillRounds → FillRounds
-fillFrom cs set p zero r = r
-fillFrom cs set p (suc m) r =
-    let next : FillRounds = record { state = fillRound cs set p (r .state); rounds = r .rounds + 1 } in
-    cond (eqb (length (next .state .made)) (length (r .state .made))) next (fillFrom cs set p m next)
+unfolding roundsFrom fillRound
+fillFrom cs set p m r = roundsFrom (fillPass cs set p) m r
 
 -- "Fill's round limit 0 acts as 1"; under 1 label there is no round
 unfoldable pub fillLimit : ℕ → ℕ → ℕ

@@ -25,15 +25,14 @@ use Rattle.extension_common.specs.declared.ChoiceRule.{ChoiceRule}
 use Rattle.extension_common.specs.declared.Search.{Search}
 use Rattle.extension_common.specs.declared.TryCellResult.{TryCellResult}
 use Rattle.passes.specs.Outcome.{After}
+pub use Rattle.passes.specs.Counting.{noCounts}
+use Rattle.passes.specs.Counting.{oneMore}
 use Rattle.passes.specs.declared.Counts.{Counts}
 use Rattle.passes.specs.declared.GrowStats.{GrowStats}
 
 -- the edge's tolerances of a call: its cell size and its band
 abbrev pub tolerancesOf : Settings → Tolerances
 tolerancesOf s = record { «cell_size» = s .grid .«cell_size»; «edge_length_tol» = s .«edge_length_tol» }
-
-abbrev pub noCounts : Counts
-noCounts = record { attached = 0; «rejected_no_candidate» = 0; «rejected_ambiguous» = 0; «rejected_edge» = 0 }
 
 -- where grow stands: the sheet, all cells queued so far in order, the new cells in order, and the counts
 pub record GrowState : Type 0 where
@@ -85,12 +84,7 @@ searchOf s p e = record { «search_r» = radiusOf s p e; «ambiguity_factor» = 
 
 -- no candidate: a hole
 abbrev pub missed : Cell → GrowState → GrowState
-missed c s = record {
-  sheet = holeMarked (s .sheet) c;
-  queued = s .queued;
-  made = s .made;
-  counts = record { attached = s .counts .attached; «rejected_no_candidate» = s .counts .«rejected_no_candidate» + 1; «rejected_ambiguous» = s .counts .«rejected_ambiguous»; «rejected_edge» = s .counts .«rejected_edge» };
-}
+missed c s = record { sheet = holeMarked (s .sheet) c; queued = s .queued; made = s .made; counts = oneMore TryCellResult.NoCandidates (s .counts) }
 
 -- what is found at a cell: no candidate and a refused edge mark a hole, an ambiguous choice marks ambiguous, and attaching clears nothing
 -- and queues the cell's neighbours
@@ -100,19 +94,19 @@ growWith c TryCellResult.Ambiguous s = record {
   sheet = ambiguousMarked (s .sheet) c;
   queued = s .queued;
   made = s .made;
-  counts = record { attached = s .counts .attached; «rejected_no_candidate» = s .counts .«rejected_no_candidate»; «rejected_ambiguous» = s .counts .«rejected_ambiguous» + 1; «rejected_edge» = s .counts .«rejected_edge» };
+  counts = oneMore TryCellResult.Ambiguous (s .counts);
 }
 growWith c TryCellResult.EdgeRejected s = record {
   sheet = holeMarked (s .sheet) c;
   queued = s .queued;
   made = s .made;
-  counts = record { attached = s .counts .attached; «rejected_no_candidate» = s .counts .«rejected_no_candidate»; «rejected_ambiguous» = s .counts .«rejected_ambiguous»; «rejected_edge» = s .counts .«rejected_edge» + 1 };
+  counts = oneMore TryCellResult.EdgeRejected (s .counts);
 }
 growWith c (TryCellResult.Attached k) s = record {
   sheet = attached (s .sheet) c k;
   queued = spread (attached (s .sheet) c k) c (s .queued);
   made = s .made ++ (placeOf c ∷ []);
-  counts = record { attached = s .counts .attached + 1; «rejected_no_candidate» = s .counts .«rejected_no_candidate»; «rejected_ambiguous» = s .counts .«rejected_ambiguous»; «rejected_edge» = s .counts .«rejected_edge» };
+  counts = oneMore (TryCellResult.Attached k) (s .counts);
 }
 
 -- a cell with a prediction is tried there; one with no labelled neighbour has no candidate

@@ -1,4 +1,6 @@
 pub mod Outcome
+pub mod Counting
+pub mod Rounds
 pub mod Grow
 pub mod Fill
 pub mod Local

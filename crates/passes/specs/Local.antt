@@ -2,7 +2,7 @@
 -- nearest by |di|+|dj|, then i, then j."; shared/extension/local.rs). Definitions only.
 use mathlib.Core.Bool.{Bool, true, false, not, _&&_, _||_, cond}
 use mathlib.Core.List.{List, [], _∷_, _++_, map}
-use Prim.Native.Nat.{ℕ, zero, suc, _+_, max}
+use Prim.Native.Nat.{ℕ, _+_, max}
 use lib.Dec.{eqb, ltb}
 use lib.ListN.{length, getD, take}
 use lib.IntN.{ℤ}
@@ -28,7 +28,9 @@ use Rattle.extension_common.specs.declared.ChoiceRule.{ChoiceRule}
 use Rattle.extension_common.specs.declared.Search.{Search}
 use Rattle.extension_common.specs.declared.TryCellResult.{TryCellResult}
 use Rattle.passes.specs.Outcome.{After}
-use Rattle.passes.specs.Grow.{tolerancesOf, noCounts}
+use Rattle.passes.specs.Rounds.{RoundPass, walk, oneRound, Rounds, roundsFrom}
+use Rattle.passes.specs.Counting.{noCounts, oneMore}
+use Rattle.passes.specs.Grow.{tolerancesOf}
 use Rattle.passes.specs.Fill.{nearI, nearJ, cellsOf}
 use Rattle.passes.specs.declared.Counts.{Counts}
 use Rattle.passes.specs.declared.LargestResidual.{LargestResidual}
@@ -164,21 +166,19 @@ localSearch s p = record {
 abbrev pub gateOf : Settings → LocalExtensionParams → Float
 gateOf s p = mul binary32 (p .«max_residual_rel») (s .grid .«cell_size»)
 
-abbrev pub countedAs : Counts → LocalState → LocalState
-countedAs n s = record { sheet = s .sheet; made = s .made; counts = n; largest = s .largest }
+-- one cell more is counted
+abbrev pub counted : TryCellResult → LocalState → LocalState
+counted r s = record { sheet = s .sheet; made = s .made; counts = oneMore r (s .counts); largest = s .largest }
 
 -- local sets no mark; attaching clears both of its cell
 unfoldable pub localWith : Cell → TryCellResult → LocalState → LocalState
-localWith c TryCellResult.NoCandidates s =
-    countedAs (record { attached = s .counts .attached; «rejected_no_candidate» = s .counts .«rejected_no_candidate» + 1; «rejected_ambiguous» = s .counts .«rejected_ambiguous»; «rejected_edge» = s .counts .«rejected_edge» }) s
-localWith c TryCellResult.Ambiguous s =
-    countedAs (record { attached = s .counts .attached; «rejected_no_candidate» = s .counts .«rejected_no_candidate»; «rejected_ambiguous» = s .counts .«rejected_ambiguous» + 1; «rejected_edge» = s .counts .«rejected_edge» }) s
-localWith c TryCellResult.EdgeRejected s =
-    countedAs (record { attached = s .counts .attached; «rejected_no_candidate» = s .counts .«rejected_no_candidate»; «rejected_ambiguous» = s .counts .«rejected_ambiguous»; «rejected_edge» = s .counts .«rejected_edge» + 1 }) s
+localWith c TryCellResult.NoCandidates s = counted TryCellResult.NoCandidates s
+localWith c TryCellResult.Ambiguous s = counted TryCellResult.Ambiguous s
+localWith c TryCellResult.EdgeRejected s = counted TryCellResult.EdgeRejected s
 localWith c (TryCellResult.Attached k) s = record {
   sheet = marksCleared (attached (s .sheet) c k) c;
   made = s .made ++ (placeOf c ∷ []);
-  counts = record { attached = s .counts .attached + 1; «rejected_no_candidate» = s .counts .«rejected_no_candidate»; «rejected_ambiguous» = s .counts .«rejected_ambiguous»; «rejected_edge» = s .counts .«rejected_edge» };
+  counts = oneMore (TryCellResult.Attached k) (s .counts);
   largest = s .largest;
 }
 
@@ -194,23 +194,26 @@ localVisit cs set p c s = localAt cs set p c (localFit (seenOf (cs .corner) (s .
 
 -- ---- rounds
 
+-- local as a pass that walks in rounds
+abbrev pub localPass : Corners → Settings → LocalExtensionParams → RoundPass LocalState
+localPass cs set p = record { cells = λ s. localCells (depthOf p) (s .sheet); visit = localVisit cs set p; made = λ s. s .made }
+
+-- some cells, one after the other
 unfoldable pub localAll : Corners → Settings → LocalExtensionParams → List ℕ → LocalState → LocalState
-localAll cs set p [] s = s
-localAll cs set p (q ∷ qs) s = localAll cs set p qs (localVisit cs set p (cellOf q) s)
+unfolding walk
+localAll cs set p qs s = walk (localVisit cs set p) qs s
 
 unfoldable pub localRound : Corners → Settings → LocalExtensionParams → LocalState → LocalState
-localRound cs set p s = localAll cs set p (localCells (depthOf p) (s .sheet)) s
+unfolding oneRound localAll
+localRound cs set p s = oneRound (localPass cs set p) s
 
-pub record LocalRounds : Type 0 where
-  pub state : LocalState
-  pub rounds : ℕ
+abbrev pub LocalRounds : Type 0
+LocalRounds = Rounds LocalState
 
--- at most m rounds more; a round attaching nothing is the last
+-- at most m rounds more
 unfoldable pub localFrom : Corners → Settings → LocalExtensionParams → ℕ → LocalRounds → LocalRounds
-localFrom cs set p zero r = r
-localFrom cs set p (suc m) r =
-    let next : LocalRounds = record { state = localRound cs set p (r .state); rounds = r .rounds + 1 } in
-    cond (eqb (length (next .state .made)) (length (r .state .made))) next (localFrom cs set p m next)
+unfolding roundsFrom localRound
+localFrom cs set p m r = roundsFrom (localPass cs set p) m r
 
 -- "local's 0 does none"; under 4 labels there is no round
 unfoldable pub localLimit : ℕ → ℕ → ℕ

@@ -1,5 +1,10 @@
-// What the three passes answer, and in specs/ what they do: the definitions that their contracts cite and that demand 3 speaks of.
+// What the three passes answer, the counts with one cell more, and in specs/ what they do: the definitions that their contracts cite and that
+// demand 3 speaks of.
 // The passes themselves are the crates grow_extend, fill and local.
+ghost use mathlib.Core.Path.{_≡_};
+ghost use Prim.Native.Nat.{_<_};
+ghost use Rattle.passes.specs.Counting.{oneMore, visits};
+use extension_common::TryCellResult;
 use refusal::Refusal;
 
 // The counts of grow, and of local.
@@ -8,6 +13,39 @@ pub struct Counts {
     pub rejected_no_candidate: usize,
     pub rejected_ambiguous: usize,
     pub rejected_edge: usize,
+}
+
+// The counts with one cell more, by what was found there.
+pub fn one_more(found: TryCellResult, n: Counts) -> Counts
+    requires { ⌜ visits n < 4294967296 ⌝ }
+    ensures { λ r. ⌜ r ≡ oneMore found n ⌝ }
+{
+    match found {
+        TryCellResult::NoCandidates => Counts {
+            attached: n.attached,
+            rejected_no_candidate: n.rejected_no_candidate + 1,
+            rejected_ambiguous: n.rejected_ambiguous,
+            rejected_edge: n.rejected_edge,
+        },
+        TryCellResult::Ambiguous => Counts {
+            attached: n.attached,
+            rejected_no_candidate: n.rejected_no_candidate,
+            rejected_ambiguous: n.rejected_ambiguous + 1,
+            rejected_edge: n.rejected_edge,
+        },
+        TryCellResult::EdgeRejected => Counts {
+            attached: n.attached,
+            rejected_no_candidate: n.rejected_no_candidate,
+            rejected_ambiguous: n.rejected_ambiguous,
+            rejected_edge: n.rejected_edge + 1,
+        },
+        TryCellResult::Attached(_) => Counts {
+            attached: n.attached + 1,
+            rejected_no_candidate: n.rejected_no_candidate,
+            rejected_ambiguous: n.rejected_ambiguous,
+            rejected_edge: n.rejected_edge,
+        },
+    }
 }
 
 // Grow's pass line: attached, no candidate, ambiguous, edge, rim.

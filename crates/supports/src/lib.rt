@@ -1,17 +1,20 @@
 // The supports of a cell for local (01, "Sheet" and "Fit"; port of `nearest_labelled_by_grid` of shared/extension/local.rs and of the fit on
-// the supports there): the labelled places, the four nearest to a cell, and the fit on these with its residuals.
+// the supports there): the labelled places, the four nearest to a cell, the fit on these with its residuals, and the largest residual recorded.
 
 ghost use mathlib.Core.Path.{_≡_};
+ghost use mathlib.Core.Bool.{cond};
 ghost use mathlib.Core.List.{[], _∷_};
 ghost use Prim.Native.Nat.{_+_, _/_, _<_, _≤_};
 ghost use lib.Dec.{ltb, leb};
-ghost use lib.ListN.{take};
+ghost use lib.ListN.{length, take};
+ghost use lib.Ieee.{binary32, ofBits, lt};
 ghost use Rattle.sheet.specs.Cells.{OnSheet, placeOf, cellOf};
 ghost use Rattle.sheet.specs.Corners.{cornerOf, seenOf, Given};
-ghost use Rattle.passes.specs.Local.{cellPoint, picturedAt, residualOf, none, localFit};
+ghost use Rattle.passes.specs.Local.{cellPoint, picturedAt, residualOf, none, localFit, worst, recorded, recordedAll};
 ghost use Rattle.binary32.specs.Ranges.{allFinite};
 ghost use Rattle.supports.specs.Nearest.{Listable, MoreListed, Gatherable, Gathered, supportAt, nothingKept, InOrder, MoreKept, EarlierKept, keptOf, placesOf, nearestAmong, Nearby, Keeping, Halved};
 ghost use Rattle.supports.specs.Fitted.{supportFitOf, pointsFit, Pictured};
+use passes::LargestResidual;
 use sheet::Cell;
 use sheet::Position;
 use sheet::Seen;
@@ -423,4 +426,46 @@ pub fn local_fit(xs: &[f32], ys: &[f32], pitches: &[f32], sheet: &[u16], s: Supp
         pictured(xs, ys, pitches, sheet, d),
     ];
     fit_points(cells, corners)
+}
+
+// The larger of two numbers.
+fn larger(m: f32, r: f32) -> f32
+    ensures { λ x. ⌜ x ≡ cond (lt m r) r m ⌝ }
+{
+    if m < r {
+        return r;
+    }
+    m
+}
+
+// The largest of four residuals, from 0 on.
+pub fn worst_of(residuals: [f32; 4]) -> f32
+    requires { ⌜ length residuals ≡ 4 ⌝ }
+    ensures { λ r. ⌜ r ≡ worst (ofBits binary32 0) residuals ⌝ }
+{
+    let first = larger(0.0, residuals[0]);
+    let second = larger(first, residuals[1]);
+    let third = larger(second, residuals[2]);
+    larger(third, residuals[3])
+}
+
+// One residual more is recorded.
+fn record_residual(largest: LargestResidual, r: f32) -> LargestResidual
+    ensures { λ x. ⌜ x ≡ recorded largest r ⌝ }
+{
+    match largest {
+        LargestResidual::Nothing => LargestResidual::Residual(r),
+        LargestResidual::Residual(m) => LargestResidual::Residual(larger(m, r)),
+    }
+}
+
+// Four residuals are recorded.
+pub fn record_residuals(largest: LargestResidual, residuals: [f32; 4]) -> LargestResidual
+    requires { ⌜ length residuals ≡ 4 ⌝ }
+    ensures { λ x. ⌜ x ≡ recordedAll largest residuals ⌝ }
+{
+    let first = record_residual(largest, residuals[0]);
+    let second = record_residual(first, residuals[1]);
+    let third = record_residual(second, residuals[2]);
+    record_residual(third, residuals[3])
 }

@@ -34,12 +34,15 @@ use Rattle.arguments.specs.declared.LocalExtensionParams.{LocalExtensionParams}
 use Rattle.extension_common.specs.TryCell.{Corners, gathered, choiceBy, edgesOf, resultOf, tryAt}
 use Rattle.extension_common.specs.declared.Search.{Search}
 use Rattle.extension_common.specs.declared.TryCellResult.{TryCellResult}
+use Rattle.passes.specs.Counting.{oneMore}
+use Rattle.passes.specs.Rounds.{RoundPass, Rounds, roundsFrom}
 use Rattle.passes.specs.Grow.{GrowState, tolerancesOf, noCounts, member, wanted, enqueued, enqueuedAt, spread, seededFrom, startOf, searchOf, missed, growWith, growAt, growVisit, growFrom, growRun, growLeft, growAfter}
-use Rattle.passes.specs.Fill.{FillRounds, boxAndStrips, cellsOf, fillCells, fillSearch, fillWith, fillAt, fillVisit, fillAll, fillRound, fillFrom, fillLimit, fillRun, fillLeft, fillAfter}
-use Rattle.passes.specs.Local.{LocalState, LocalFit, none, fitted, LocalRounds, depthOf, localRegion, localCells, byReach, supportsOf, cellPoint, picturedAt, trusted, localFit, worst, localSearch, gateOf, localWith, localAt, localVisit, localAll, localRound, localFrom, localLimit, localRun, localLeft, localAfter}
+use Rattle.passes.specs.Fill.{FillRounds, boxAndStrips, cellsOf, fillCells, fillSearch, fillWith, fillAt, fillVisit, fillPass, fillFrom, fillLimit, fillRun, fillLeft, fillAfter}
+use Rattle.passes.specs.Local.{LocalState, LocalFit, none, fitted, LocalRounds, depthOf, localRegion, localCells, byReach, supportsOf, cellPoint, picturedAt, trusted, localFit, worst, localSearch, gateOf, localWith, localAt, localVisit, localPass, localFrom, localLimit, localRun, localLeft, localAfter}
 use Rattle.passes.specs.declared.LargestResidual.{LargestResidual}
+use Rattle.passes.proofs.Rounds.{Alike, rounds-same}
 use Rattle.written_places.specs.Written.{Written, Rise, sheetWith, seenIn, placesIn, attachedIn, clearedIn}
-use Rattle.written_places.specs.Passes.{afterOf, gatheredIn, edgesIn, resultIn, tryIn, oneAttached, oneMissed, oneAmbiguous, oneEdge, GrowStateIn, growStateOf, enqueuedIn, enqueuedAtIn, spreadIn, seededFromIn, missedIn, growWithIn, growAtIn, growVisitIn, growFromIn, growRunIn, growAfterIn, FillStateIn, fillStateOf, fillCellsIn, fillWithIn, fillAtIn, fillVisitIn, fillAllIn, FillRoundsIn, fillFromIn, fillAfterIn, soundAnswers, quickFitWith, quickFitFrom, quickFit, LocalStateIn, localStateOf, localCellsIn, supportsIn, localFitIn, withResidualsIn, localWithIn, localAtIn, localVisitIn, localAllIn, LocalRoundsIn, localFromIn, localAfterIn}
+use Rattle.written_places.specs.Passes.{afterOf, gatheredIn, edgesIn, resultIn, tryIn, GrowStateIn, growStateOf, enqueuedIn, enqueuedAtIn, spreadIn, seededFromIn, missedIn, growWithIn, growAtIn, growVisitIn, growFromIn, growRunIn, growAfterIn, FillStateIn, fillStateOf, fillCellsIn, fillWithIn, fillAtIn, fillVisitIn, fillPassIn, fillAfterIn, soundAnswers, quickFitWith, quickFitFrom, quickFit, LocalStateIn, localStateOf, localCellsIn, supportsIn, localFitIn, withResidualsIn, localWithIn, localAtIn, localVisitIn, localPassIn, localAfterIn}
 use Rattle.written_places.proofs.Written.{rise-put, attached-so, hole-so, ambiguous-so, cleared-so, seen-so, labelled-so, places-so, box-so, count-so, used-so, rim-so}
 
 -- ---- one cell
@@ -90,17 +93,17 @@ seeded-so w [] queued = refl
 seeded-so w (p ∷ ps) queued = ap (seededFrom (sheetWith w) ps) (spread-so w (cellOf p) queued) ∙ seeded-so w ps (spreadIn w (cellOf p) queued)
 
 missed-so : (c : Cell) (s : GrowStateIn) → missed c (growStateOf s) ≡ growStateOf (missedIn c s)
-missed-so c s = λ t. record { sheet = hole-so (s .sheet) c t; queued = s .queued; made = s .made; counts = oneMissed (s .counts) }
+missed-so c s = λ t. record { sheet = hole-so (s .sheet) c t; queued = s .queued; made = s .made; counts = oneMore TryCellResult.NoCandidates (s .counts) }
 
 grow-with-so : (c : Cell) (r : TryCellResult) (s : GrowStateIn) → growWith c r (growStateOf s) ≡ growStateOf (growWithIn c r s)
 unfolding growWith growWithIn
 grow-with-so c TryCellResult.NoCandidates s = missed-so c s
-grow-with-so c TryCellResult.Ambiguous s = λ t. record { sheet = ambiguous-so (s .sheet) c t; queued = s .queued; made = s .made; counts = oneAmbiguous (s .counts) }
-grow-with-so c TryCellResult.EdgeRejected s = λ t. record { sheet = hole-so (s .sheet) c t; queued = s .queued; made = s .made; counts = oneEdge (s .counts) }
+grow-with-so c TryCellResult.Ambiguous s = λ t. record { sheet = ambiguous-so (s .sheet) c t; queued = s .queued; made = s .made; counts = oneMore TryCellResult.Ambiguous (s .counts) }
+grow-with-so c TryCellResult.EdgeRejected s = λ t. record { sheet = hole-so (s .sheet) c t; queued = s .queued; made = s .made; counts = oneMore TryCellResult.EdgeRejected (s .counts) }
 grow-with-so c (TryCellResult.Attached k) s =
     let more : spread (attached (sheetWith (s .sheet)) c k) c (s .queued) ≡ spreadIn (attachedIn (s .sheet) c k) c (s .queued) =
     ap (λ (sheet : List ℕ). spread sheet c (s .queued)) (attached-so (s .sheet) c k) ∙ spread-so (attachedIn (s .sheet) c k) c (s .queued) in
-    λ t. record { sheet = attached-so (s .sheet) c k t; queued = more t; made = s .made ++ (placeOf c ∷ []); counts = oneAttached (s .counts) }
+    λ t. record { sheet = attached-so (s .sheet) c k t; queued = more t; made = s .made ++ (placeOf c ∷ []); counts = oneMore (TryCellResult.Attached k) (s .counts) }
 
 grow-with-rises : (c : Cell) (r : TryCellResult) (s : GrowStateIn) → Rise 0 (s .sheet) → Rise 0 (growWithIn c r s .sheet)
 unfolding growWithIn
@@ -173,6 +176,33 @@ module _ (cs : Corners) (set : Settings) (p : GrowParams) where
         let rim = rim-so (s .sheet) (grow-run-so .1) 1 in
         ap growLeft (grow-run-so .0) ∙ (λ t. record { answer = record { counts = s .counts; rim = rim t }; sheet = sheetWith (s .sheet); attached = s .made; visited = s .queued })
 
+-- ---- rounds
+
+-- where the same cells are listed, there are the same new cells, and each visit does the same, all rounds do the same
+module _ {S T : Type 0} (of : T → S) (sheet : T → List Written) (w : RoundPass S) (v : RoundPass T)
+    (cells : (t : T) → Rise 0 (sheet t) → w .cells (of t) ≡ v .cells t)
+    (made : (t : T) → w .made (of t) ≡ v .made t)
+    (visit : (c : Cell) (t : T) → Rise 0 (sheet t) → (w .visit c (of t) ≡ of (v .visit c t)) × Rise 0 (sheet (v .visit c t))) where
+  abbrev Held : List ℕ → S → T → Type 0
+  Held qs s t = (s ≡ of t) × Rise 0 (sheet t)
+
+  alike : Alike w v Held
+  alike =
+      record {
+        cells = λ s t g. sym (ap (w .cells) (g .0) ∙ cells t (g .1));
+        begins = λ s t g. g;
+        keeps = λ q qs s t g. let k = visit (cellOf q) t (g .1) in (ap (w .visit (cellOf q)) (g .0) ∙ k .0, k .1);
+        made = λ s t g. ap length (sym (ap (w .made) (g .0) ∙ made t));
+      }
+
+  rounds-so : (m : ℕ) (r : Rounds T) → Rise 0 (sheet (r .state))
+      → (roundsFrom w m (record { state = of (r .state); rounds = r .rounds })
+      ≡ record { state = of (roundsFrom v m r .state); rounds = roundsFrom v m r .rounds })
+      × Rise 0 (sheet (roundsFrom v m r .state))
+  rounds-so m r h =
+      let g = rounds-same Held alike m (record { state = of (r .state); rounds = r .rounds }) r (record { state = (refl, h); rounds = refl }) in
+      (λ t. record { state = g .state .0 t; rounds = sym (g .rounds) t }, g .state .1)
+
 -- ---- fill
 
 pub fill-cells-so : (w : List Written) → Rise 0 w → fillCells (sheetWith w) ≡ fillCellsIn w
@@ -216,46 +246,21 @@ module _ (cs : Corners) (set : Settings) (p : FillParams) where
   unfolding fillVisitIn
   fill-visit-rises c s h = fill-at-rises c (predictionOf (seenIn (cs .corner) (s .sheet)) (set .grid) c) s h
 
-  fill-all-so : (qs : List ℕ) (s : FillStateIn) → Rise 0 (s .sheet)
-      → (fillAll cs set p qs (fillStateOf s) ≡ fillStateOf (fillAllIn cs set p qs s)) × Rise 0 (fillAllIn cs set p qs s .sheet)
-  unfolding fillAll fillAllIn
-  fill-all-so [] s h = (refl, h)
-  fill-all-so (q ∷ qs) s h =
-      let rest = fill-all-so qs (fillVisitIn cs set p (cellOf q) s) (fill-visit-rises (cellOf q) s h) in
-      (ap (fillAll cs set p qs) (fill-visit-so (cellOf q) s h) ∙ rest .0, rest .1)
-
-  fill-round-so : (s : FillStateIn) → Rise 0 (s .sheet) → fillRound cs set p (fillStateOf s) ≡ fillStateOf (fillAllIn cs set p (fillCellsIn (s .sheet)) s)
-  unfolding fillRound
-  fill-round-so s h = ap (λ (qs : List ℕ). fillAll cs set p qs (fillStateOf s)) (fill-cells-so (s .sheet) h) ∙ fill-all-so (fillCellsIn (s .sheet)) s h .0
-
-  abbrev fillRoundsOf : FillRoundsIn → FillRounds
+  abbrev fillRoundsOf : Rounds FillStateIn → FillRounds
   fillRoundsOf r = record { state = fillStateOf (r .state); rounds = r .rounds }
 
-  fill-from-so : (m : ℕ) (r : FillRoundsIn) → Rise 0 (r .state .sheet)
-      → (fillFrom cs set p m (fillRoundsOf r) ≡ fillRoundsOf (fillFromIn cs set p m r)) × Rise 0 (fillFromIn cs set p m r .state .sheet)
-  unfolding fillFrom fillFromIn
-  fill-from-so zero r h = (refl, h)
-  fill-from-so (suc m) r h =
-      let next : FillRoundsIn = record { state = fillAllIn cs set p (fillCellsIn (r .state .sheet)) (r .state); rounds = r .rounds + 1 } in
-      let up = fill-all-so (fillCellsIn (r .state .sheet)) (r .state) h .1 in
-      let e : record { state = fillRound cs set p (fillStateOf (r .state)); rounds = r .rounds + 1 } ≡ fillRoundsOf next = λ t. record { state = fill-round-so (r .state) h t; rounds = r .rounds + 1 } in
-      let rest = fill-from-so m next up in
-      let done = go (eqb (length (next .state .made)) (length (r .state .made))) next up rest in
-      (ap (λ (n : FillRounds). cond (eqb (length (n .state .made)) (length (r .state .made))) n (fillFrom cs set p m n)) e ∙ done .0, done .1)
-    where
-      go : (t : Bool) (next : FillRoundsIn) → Rise 0 (next .state .sheet) → {a : FillRounds} {b : FillRoundsIn} → (a ≡ fillRoundsOf b) × Rise 0 (b .state .sheet)
-          → (cond t (fillRoundsOf next) a ≡ fillRoundsOf (cond t next b)) × Rise 0 (cond t next b .state .sheet)
-      go true next up f = (refl, up)
-      go false next up f = f
+  abbrev fillRunIn : List Written → Rounds FillStateIn
+  fillRunIn w = roundsFrom (fillPassIn cs set p) (fillLimit (length (placesIn w)) (p .«max_iters»))
+      (record { state = record { sheet = w; made = [] }; rounds = 0 })
 
   module _ (w : List Written) (h : Rise 0 w) where
-    fill-run-so : (fillRun cs set p (sheetWith w) ≡ fillRoundsOf (fillFromIn cs set p (fillLimit (length (placesIn w)) (p .«max_iters»)) (record { state = record { sheet = w; made = [] }; rounds = 0 })))
-        × Rise 0 (fillFromIn cs set p (fillLimit (length (placesIn w)) (p .«max_iters»)) (record { state = record { sheet = w; made = [] }; rounds = 0 }) .state .sheet)
-    unfolding fillRun
+    fill-run-so : (fillRun cs set p (sheetWith w) ≡ fillRoundsOf (fillRunIn w)) × Rise 0 (fillRunIn w .state .sheet)
+    unfolding fillRun fillFrom
     fill-run-so =
-        let start : FillRoundsIn = record { state = record { sheet = w; made = [] }; rounds = 0 } in
-        let r = fill-from-so (fillLimit (length (placesIn w)) (p .«max_iters»)) start h in
-        (ap (λ (n : ℕ). fillFrom cs set p (fillLimit n (p .«max_iters»)) (fillRoundsOf start)) (count-so w h) ∙ r .0, r .1)
+        let start : Rounds FillStateIn = record { state = record { sheet = w; made = [] }; rounds = 0 } in
+        let r = rounds-so fillStateOf (λ s. s .sheet) (fillPass cs set p) (fillPassIn cs set p) (λ s k. fill-cells-so (s .sheet) k) (λ s. refl)
+        (λ c s k. (fill-visit-so c s k, fill-visit-rises c s k)) (fillLimit (length (placesIn w)) (p .«max_iters»)) start h in
+        (ap (λ (n : ℕ). roundsFrom (fillPass cs set p) (fillLimit n (p .«max_iters»)) (fillRoundsOf start)) (count-so w h) ∙ r .0, r .1)
 
     pub fill-rises : Rise 0 (fillAfterIn cs set p w .sheet)
     unfolding fillAfterIn
@@ -264,7 +269,7 @@ module _ (cs : Corners) (set : Settings) (p : FillParams) where
     pub fill-so : fillAfter cs set p (sheetWith w) ≡ afterOf (fillAfterIn cs set p w)
     unfolding fillAfter fillAfterIn
     fill-so =
-        let r = fillFromIn cs set p (fillLimit (length (placesIn w)) (p .«max_iters»)) (record { state = record { sheet = w; made = [] }; rounds = 0 }) in
+        let r = fillRunIn w in
         let rim = rim-so (r .state .sheet) (fill-run-so .1) 1 in
         ap fillLeft (fill-run-so .0)
         ∙ (λ t. record { answer = record { added = length (r .state .made); iterations = r .rounds; rim = rim t }; sheet = sheetWith (r .state .sheet); attached = r .state .made; visited = [] })
@@ -302,7 +307,7 @@ local-with-so c TryCellResult.EdgeRejected s = refl
 local-with-so c (TryCellResult.Attached k) s =
     let e : marksCleared (attached (sheetWith (s .sheet)) c k) c ≡ sheetWith (clearedIn (attachedIn (s .sheet) c k) c) =
     ap (λ (sheet : List ℕ). marksCleared sheet c) (attached-so (s .sheet) c k) ∙ cleared-so (attachedIn (s .sheet) c k) c in
-    λ t. record { sheet = e t; made = s .made ++ (placeOf c ∷ []); counts = oneAttached (s .counts); largest = s .largest }
+    λ t. record { sheet = e t; made = s .made ++ (placeOf c ∷ []); counts = oneMore (TryCellResult.Attached k) (s .counts); largest = s .largest }
 
 local-with-rises : (c : Cell) (r : TryCellResult) (s : LocalStateIn) → Rise 0 (s .sheet) → Rise 0 (localWithIn c r s .sheet)
 unfolding localWithIn
@@ -338,50 +343,23 @@ module _ (cs : Corners) (set : Settings) (p : LocalExtensionParams) where
       let r = local-at-so c (localFitIn cs (s .sheet) ps) s h in
       (ap (λ (x : LocalFit). localAt cs set p c x (localStateOf s)) f ∙ r .0, r .1)
 
-  local-all-so : (qs : List ℕ) (s : LocalStateIn) → Rise 0 (s .sheet)
-      → (localAll cs set p qs (localStateOf s) ≡ localStateOf (localAllIn cs set p qs s)) × Rise 0 (localAllIn cs set p qs s .sheet)
-  unfolding localAll localAllIn
-  local-all-so [] s h = (refl, h)
-  local-all-so (q ∷ qs) s h =
-      let one = local-visit-so (cellOf q) s h in
-      let rest = local-all-so qs (localVisitIn cs set p (cellOf q) s) (one .1) in
-      (ap (localAll cs set p qs) (one .0) ∙ rest .0, rest .1)
-
-  local-round-so : (s : LocalStateIn) → Rise 0 (s .sheet) → localRound cs set p (localStateOf s) ≡ localStateOf (localAllIn cs set p (localCellsIn (depthOf p) (s .sheet)) s)
-  unfolding localRound
-  local-round-so s h =
-      ap (λ (qs : List ℕ). localAll cs set p qs (localStateOf s)) (local-cells-so (depthOf p) (s .sheet) h) ∙ local-all-so (localCellsIn (depthOf p) (s .sheet)) s h .0
-
-  abbrev localRoundsOf : LocalRoundsIn → LocalRounds
+  abbrev localRoundsOf : Rounds LocalStateIn → LocalRounds
   localRoundsOf r = record { state = localStateOf (r .state); rounds = r .rounds }
 
-  local-from-so : (m : ℕ) (r : LocalRoundsIn) → Rise 0 (r .state .sheet)
-      → (localFrom cs set p m (localRoundsOf r) ≡ localRoundsOf (localFromIn cs set p m r)) × Rise 0 (localFromIn cs set p m r .state .sheet)
-  unfolding localFrom localFromIn
-  local-from-so zero r h = (refl, h)
-  local-from-so (suc m) r h =
-      let next : LocalRoundsIn = record { state = localAllIn cs set p (localCellsIn (depthOf p) (r .state .sheet)) (r .state); rounds = r .rounds + 1 } in
-      let up = local-all-so (localCellsIn (depthOf p) (r .state .sheet)) (r .state) h .1 in
-      let e : record { state = localRound cs set p (localStateOf (r .state)); rounds = r .rounds + 1 } ≡ localRoundsOf next = λ t. record { state = local-round-so (r .state) h t; rounds = r .rounds + 1 } in
-      let rest = local-from-so m next up in
-      let done = go (eqb (length (next .state .made)) (length (r .state .made))) next up rest in
-      (ap (λ (n : LocalRounds). cond (eqb (length (n .state .made)) (length (r .state .made))) n (localFrom cs set p m n)) e ∙ done .0, done .1)
-    where
-      go : (t : Bool) (next : LocalRoundsIn) → Rise 0 (next .state .sheet) → {a : LocalRounds} {b : LocalRoundsIn} → (a ≡ localRoundsOf b) × Rise 0 (b .state .sheet)
-          → (cond t (localRoundsOf next) a ≡ localRoundsOf (cond t next b)) × Rise 0 (cond t next b .state .sheet)
-      go true next up f = (refl, up)
-      go false next up f = f
-
-  abbrev localStart : List Written → LocalRoundsIn
+  abbrev localStart : List Written → Rounds LocalStateIn
   localStart w = record { state = record { sheet = w; made = []; counts = noCounts; largest = LargestResidual.Nothing }; rounds = 0 }
 
+  abbrev localRunIn : List Written → Rounds LocalStateIn
+  localRunIn w = roundsFrom (localPassIn cs set p) (localLimit (length (placesIn w)) (p .«max_iters»)) (localStart w)
+
   module _ (w : List Written) (h : Rise 0 w) where
-    local-run-so : (localRun cs set p (sheetWith w) ≡ localRoundsOf (localFromIn cs set p (localLimit (length (placesIn w)) (p .«max_iters»)) (localStart w)))
-        × Rise 0 (localFromIn cs set p (localLimit (length (placesIn w)) (p .«max_iters»)) (localStart w) .state .sheet)
-    unfolding localRun
+    local-run-so : (localRun cs set p (sheetWith w) ≡ localRoundsOf (localRunIn w)) × Rise 0 (localRunIn w .state .sheet)
+    unfolding localRun localFrom
     local-run-so =
-        let r = local-from-so (localLimit (length (placesIn w)) (p .«max_iters»)) (localStart w) h in
-        (ap (λ (n : ℕ). localFrom cs set p (localLimit n (p .«max_iters»)) (localRoundsOf (localStart w))) (count-so w h) ∙ r .0, r .1)
+        let r = rounds-so localStateOf (λ s. s .sheet) (localPass cs set p) (localPassIn cs set p)
+        (λ s k. local-cells-so (depthOf p) (s .sheet) k) (λ s. refl) local-visit-so
+        (localLimit (length (placesIn w)) (p .«max_iters»)) (localStart w) h in
+        (ap (λ (n : ℕ). roundsFrom (localPass cs set p) (localLimit n (p .«max_iters»)) (localRoundsOf (localStart w))) (count-so w h) ∙ r .0, r .1)
 
     pub local-rises : Rise 0 (localAfterIn cs set p w .sheet)
     unfolding localAfterIn
@@ -390,7 +368,7 @@ module _ (cs : Corners) (set : Settings) (p : LocalExtensionParams) where
     pub local-so : localAfter cs set p (sheetWith w) ≡ afterOf (localAfterIn cs set p w)
     unfolding localAfter localAfterIn
     local-so =
-        let r = localFromIn cs set p (localLimit (length (placesIn w)) (p .«max_iters»)) (localStart w) in
+        let r = localRunIn w in
         let rim = rim-so (r .state .sheet) (local-run-so .1) (depthOf p) in
         ap (localLeft (depthOf p)) (local-run-so .0)
         ∙ (λ t. record {

@@ -3,7 +3,7 @@
 use mathlib.Core.Bool.{Bool, not, _&&_, cond}
 use mathlib.Core.List.{List, [], _∷_, _++_, map}
 use Prim.Native.Nat.{ℕ, zero, suc, _+_, _*_}
-use lib.Dec.{eqb, ltb}
+use lib.Dec.{ltb}
 use lib.ListN.{length, getD, take}
 use lib.Ieee.{Float, binary32, ofBits, lt}
 use Rattle.binary32.specs.Ranges.{isFinite}
@@ -31,7 +31,9 @@ use Rattle.extension_common.specs.TryCell.{Corners, choiceBy}
 use Rattle.extension_common.specs.declared.Search.{Search}
 use Rattle.extension_common.specs.declared.TryCellResult.{TryCellResult}
 use Rattle.passes.specs.Outcome.{After}
-use Rattle.passes.specs.Grow.{GrowState, tolerancesOf, noCounts, member, searchOf}
+use Rattle.passes.specs.Counting.{noCounts, oneMore}
+use Rattle.passes.specs.Rounds.{RoundPass, Rounds, roundsFrom}
+use Rattle.passes.specs.Grow.{GrowState, tolerancesOf, member, searchOf}
 use Rattle.passes.specs.Fill.{FillState, boxAndStrips, cellsOf, fillSearch, fillLimit}
 use Rattle.passes.specs.Local.{LocalState, LocalFit, none, fitted, depthOf, localRegion, byReach, cellPoint, picturedAt, trusted}
 use Rattle.passes.specs.Local.{worst, recordedAll, localSearch, gateOf, localLimit}
@@ -69,22 +71,6 @@ unfoldable pub tryIn : Corners → List Written → Tolerances → Search → Ce
 tryIn cs w tol search c at =
     resultIn cs w tol c (choiceBy (search .rule) (gatheredIn cs w (search .«search_r») at) (search .«ambiguity_factor»))
 
-abbrev pub countsAs : ℕ → ℕ → ℕ → ℕ → Counts
-countsAs a m g e = record { attached = a; «rejected_no_candidate» = m; «rejected_ambiguous» = g; «rejected_edge» = e }
-
--- counts with one more
-abbrev pub oneAttached : Counts → Counts
-oneAttached n = countsAs (n .attached + 1) (n .«rejected_no_candidate») (n .«rejected_ambiguous») (n .«rejected_edge»)
-
-abbrev pub oneMissed : Counts → Counts
-oneMissed n = countsAs (n .attached) (n .«rejected_no_candidate» + 1) (n .«rejected_ambiguous») (n .«rejected_edge»)
-
-abbrev pub oneAmbiguous : Counts → Counts
-oneAmbiguous n = countsAs (n .attached) (n .«rejected_no_candidate») (n .«rejected_ambiguous» + 1) (n .«rejected_edge»)
-
-abbrev pub oneEdge : Counts → Counts
-oneEdge n = countsAs (n .attached) (n .«rejected_no_candidate») (n .«rejected_ambiguous») (n .«rejected_edge» + 1)
-
 -- ---- grow
 
 pub record GrowStateIn : Type 0 where
@@ -111,17 +97,17 @@ seededFromIn w [] queued = queued
 seededFromIn w (p ∷ ps) queued = seededFromIn w ps (spreadIn w (cellOf p) queued)
 
 abbrev pub missedIn : Cell → GrowStateIn → GrowStateIn
-missedIn c s = record { sheet = holeIn (s .sheet) c; queued = s .queued; made = s .made; counts = oneMissed (s .counts) }
+missedIn c s = record { sheet = holeIn (s .sheet) c; queued = s .queued; made = s .made; counts = oneMore TryCellResult.NoCandidates (s .counts) }
 
 unfoldable pub growWithIn : Cell → TryCellResult → GrowStateIn → GrowStateIn
 growWithIn c TryCellResult.NoCandidates s = missedIn c s
-growWithIn c TryCellResult.Ambiguous s = record { sheet = ambiguousIn (s .sheet) c; queued = s .queued; made = s .made; counts = oneAmbiguous (s .counts) }
-growWithIn c TryCellResult.EdgeRejected s = record { sheet = holeIn (s .sheet) c; queued = s .queued; made = s .made; counts = oneEdge (s .counts) }
+growWithIn c TryCellResult.Ambiguous s = record { sheet = ambiguousIn (s .sheet) c; queued = s .queued; made = s .made; counts = oneMore TryCellResult.Ambiguous (s .counts) }
+growWithIn c TryCellResult.EdgeRejected s = record { sheet = holeIn (s .sheet) c; queued = s .queued; made = s .made; counts = oneMore TryCellResult.EdgeRejected (s .counts) }
 growWithIn c (TryCellResult.Attached k) s = record {
   sheet = attachedIn (s .sheet) c k;
   queued = spreadIn (attachedIn (s .sheet) c k) c (s .queued);
   made = s .made ++ (placeOf c ∷ []);
-  counts = oneAttached (s .counts);
+  counts = oneMore (TryCellResult.Attached k) (s .counts);
 }
 
 unfoldable pub growAtIn : Corners → Settings → GrowParams → Cell → Prediction → GrowStateIn → GrowStateIn
@@ -172,21 +158,10 @@ fillAtIn cs set p c (Prediction.At at) s = fillWithIn c (tryIn cs (s .sheet) (to
 unfoldable pub fillVisitIn : Corners → Settings → FillParams → Cell → FillStateIn → FillStateIn
 fillVisitIn cs set p c s = fillAtIn cs set p c (predictionOf (seenIn (cs .corner) (s .sheet)) (set .grid) c) s
 
-unfoldable pub fillAllIn : Corners → Settings → FillParams → List ℕ → FillStateIn → FillStateIn
-fillAllIn cs set p [] s = s
-fillAllIn cs set p (q ∷ qs) s = fillAllIn cs set p qs (fillVisitIn cs set p (cellOf q) s)
+abbrev pub fillPassIn : Corners → Settings → FillParams → RoundPass FillStateIn
+fillPassIn cs set p = record { cells = λ s. fillCellsIn (s .sheet); visit = fillVisitIn cs set p; made = λ s. s .made }
 
-pub record FillRoundsIn : Type 0 where
-  pub state : FillStateIn
-  pub rounds : ℕ
-
-unfoldable pub fillFromIn : Corners → Settings → FillParams → ℕ → FillRoundsIn → FillRoundsIn
-fillFromIn cs set p zero r = r
-fillFromIn cs set p (suc m) r =
-    let next : FillRoundsIn = record { state = fillAllIn cs set p (fillCellsIn (r .state .sheet)) (r .state); rounds = r .rounds + 1 } in
-    cond (eqb (length (next .state .made)) (length (r .state .made))) next (fillFromIn cs set p m next)
-
-abbrev pub fillLeftIn : FillRoundsIn → AfterIn FillStats
+abbrev pub fillLeftIn : Rounds FillStateIn → AfterIn FillStats
 fillLeftIn r = record {
   answer = record { added = length (r .state .made); iterations = r .rounds; rim = rimIn 1 (r .state .sheet) };
   sheet = r .state .sheet;
@@ -196,7 +171,8 @@ fillLeftIn r = record {
 
 unfoldable pub fillAfterIn : Corners → Settings → FillParams → List Written → AfterIn FillStats
 fillAfterIn cs set p w =
-    fillLeftIn (fillFromIn cs set p (fillLimit (length (placesIn w)) (p .«max_iters»)) (record { state = record { sheet = w; made = [] }; rounds = 0 }))
+    fillLeftIn (roundsFrom (fillPassIn cs set p) (fillLimit (length (placesIn w)) (p .«max_iters»))
+    (record { state = record { sheet = w; made = [] }; rounds = 0 }))
 
 -- ---- local
 
@@ -239,17 +215,17 @@ localFitIn cs w ps =
 abbrev pub withResidualsIn : List Float → LocalStateIn → LocalStateIn
 withResidualsIn rs s = record { sheet = s .sheet; made = s .made; counts = s .counts; largest = recordedAll (s .largest) rs }
 
-abbrev pub countedAsIn : Counts → LocalStateIn → LocalStateIn
-countedAsIn n s = record { sheet = s .sheet; made = s .made; counts = n; largest = s .largest }
+abbrev pub countedIn : TryCellResult → LocalStateIn → LocalStateIn
+countedIn r s = record { sheet = s .sheet; made = s .made; counts = oneMore r (s .counts); largest = s .largest }
 
 unfoldable pub localWithIn : Cell → TryCellResult → LocalStateIn → LocalStateIn
-localWithIn c TryCellResult.NoCandidates s = countedAsIn (oneMissed (s .counts)) s
-localWithIn c TryCellResult.Ambiguous s = countedAsIn (oneAmbiguous (s .counts)) s
-localWithIn c TryCellResult.EdgeRejected s = countedAsIn (oneEdge (s .counts)) s
+localWithIn c TryCellResult.NoCandidates s = countedIn TryCellResult.NoCandidates s
+localWithIn c TryCellResult.Ambiguous s = countedIn TryCellResult.Ambiguous s
+localWithIn c TryCellResult.EdgeRejected s = countedIn TryCellResult.EdgeRejected s
 localWithIn c (TryCellResult.Attached k) s = record {
   sheet = clearedIn (attachedIn (s .sheet) c k) c;
   made = s .made ++ (placeOf c ∷ []);
-  counts = oneAttached (s .counts);
+  counts = oneMore (TryCellResult.Attached k) (s .counts);
   largest = s .largest;
 }
 
@@ -262,21 +238,10 @@ localAtIn cs set p c (fitted h rs) s =
 unfoldable pub localVisitIn : Corners → Settings → LocalExtensionParams → Cell → LocalStateIn → LocalStateIn
 localVisitIn cs set p c s = localAtIn cs set p c (localFitIn cs (s .sheet) (supportsIn c (s .sheet))) s
 
-unfoldable pub localAllIn : Corners → Settings → LocalExtensionParams → List ℕ → LocalStateIn → LocalStateIn
-localAllIn cs set p [] s = s
-localAllIn cs set p (q ∷ qs) s = localAllIn cs set p qs (localVisitIn cs set p (cellOf q) s)
+abbrev pub localPassIn : Corners → Settings → LocalExtensionParams → RoundPass LocalStateIn
+localPassIn cs set p = record { cells = λ s. localCellsIn (depthOf p) (s .sheet); visit = localVisitIn cs set p; made = λ s. s .made }
 
-pub record LocalRoundsIn : Type 0 where
-  pub state : LocalStateIn
-  pub rounds : ℕ
-
-unfoldable pub localFromIn : Corners → Settings → LocalExtensionParams → ℕ → LocalRoundsIn → LocalRoundsIn
-localFromIn cs set p zero r = r
-localFromIn cs set p (suc m) r =
-    let next : LocalRoundsIn = record { state = localAllIn cs set p (localCellsIn (depthOf p) (r .state .sheet)) (r .state); rounds = r .rounds + 1 } in
-    cond (eqb (length (next .state .made)) (length (r .state .made))) next (localFromIn cs set p m next)
-
-abbrev pub localLeftIn : ℕ → LocalRoundsIn → AfterIn LocalStats
+abbrev pub localLeftIn : ℕ → Rounds LocalStateIn → AfterIn LocalStats
 localLeftIn depth r = record {
   answer = record { counts = r .state .counts; iterations = r .rounds; residual = r .state .largest; rim = rimIn depth (r .state .sheet) };
   sheet = r .state .sheet;
@@ -287,5 +252,5 @@ localLeftIn depth r = record {
 unfoldable pub localAfterIn : Corners → Settings → LocalExtensionParams → List Written → AfterIn LocalStats
 localAfterIn cs set p w =
     localLeftIn (depthOf p)
-    (localFromIn cs set p (localLimit (length (placesIn w)) (p .«max_iters»))
+    (roundsFrom (localPassIn cs set p) (localLimit (length (placesIn w)) (p .«max_iters»))
     (record { state = record { sheet = w; made = []; counts = noCounts; largest = LargestResidual.Nothing }; rounds = 0 }))

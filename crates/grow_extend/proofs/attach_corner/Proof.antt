@@ -27,8 +27,8 @@ slice-write-attached c = search needs
 enqueue-cardinal-neighbours-requires : tie.Need-enqueue-cardinal-neighbours-requires
 enqueue-cardinal-neighbours-requires c κs = (attached-room (c .before .before .before .before .before .before .before .before .before .before .before .before .pre) (c .before .before .before .before .before .before .attach .ensures), c .before .before .before .before .before .before .before .before .before .before .before .before .pre .attaching .on)
 
-count-attached-requires : tie.Need-count-attached-requires
-count-attached-requires c κs = search needs
+one-more-requires : tie.Need-one-more-requires
+one-more-requires c κs = search needs
 
 same-length : tie.Need-same-length
 same-length c = search needs
@@ -40,7 +40,7 @@ same-length-3 : tie.Need-same-length-3
 same-length-3 c = search needs
 
 returns : tie.Need-returns
-returns c = settled-attached (c .before .before .before .before .before .before .before .before .before .before .before .before .before .before .before .before .pre) (c .before .before .before .before .before .before .before .before .before .before .attach .ensures) (c .before .before .before .before .before .before .before .place-of .ensures) (c .before .before .before .enqueue-cardinal-neighbours .ensures) (c .count-attached .ensures)
+returns c = settled-attached (c .before .before .before .before .before .before .before .before .before .before .before .before .before .before .before .before .pre) (c .before .before .before .before .before .before .before .before .before .before .attach .ensures) (c .before .before .before .before .before .before .before .place-of .ensures) (c .before .before .before .enqueue-cardinal-neighbours .ensures) (c .one-more .ensures)
 
 pub attach-corner-spec : {M : Type 1} → statement M
 attach-corner-spec =
@@ -53,7 +53,7 @@ attach-corner-spec =
     mul-attached
     slice-write-attached
     enqueue-cardinal-neighbours-requires
-    count-attached-requires
+    one-more-requires
     same-length
     same-length-2
     same-length-3

@@ -10,8 +10,8 @@ enum-told c = search needs
 mark-hole-requires : tie.Need-mark-hole-requires
 mark-hole-requires c κs = search needs
 
-count-no-candidate-requires : tie.Need-count-no-candidate-requires
-count-no-candidate-requires c κs = search needs
+one-more-requires : tie.Need-one-more-requires
+one-more-requires c κs = search needs
 
 enum-told-2 : tie.Need-enum-told-2
 enum-told-2 c = search needs
@@ -19,8 +19,8 @@ enum-told-2 c = search needs
 mark-ambiguous-requires : tie.Need-mark-ambiguous-requires
 mark-ambiguous-requires c κs = search needs
 
-count-ambiguous-requires : tie.Need-count-ambiguous-requires
-count-ambiguous-requires c κs = search needs
+one-more-requires-2 : tie.Need-one-more-requires-2
+one-more-requires-2 c κs = search needs
 
 enum-told-3 : tie.Need-enum-told-3
 enum-told-3 c = search needs
@@ -28,8 +28,8 @@ enum-told-3 c = search needs
 mark-hole-requires-2 : tie.Need-mark-hole-requires-2
 mark-hole-requires-2 c κs = search needs
 
-count-edge-requires : tie.Need-count-edge-requires
-count-edge-requires c κs = search needs
+one-more-requires-3 : tie.Need-one-more-requires-3
+one-more-requires-3 c κs = search needs
 
 enum-known-found : tie.Need-enum-known-found
 enum-known-found c = search needs
@@ -41,19 +41,19 @@ same-length : tie.Need-same-length
 same-length c = search needs
 
 returns : tie.Need-returns
-returns c = settled-none (c .before .before .before .before .before .before .before .before .before .before .pre) (c .before .before .before .before .before .enum-told .given .1) (c .before .before .before .mark-hole .ensures) (c .count-no-candidate .ensures)
+returns c = settled-none (c .before .before .before .before .before .before .before .before .before .before .pre) (c .before .before .before .before .before .enum-told .given .1) (c .before .before .before .mark-hole .ensures) (c .one-more .ensures)
 
 same-length-2 : tie.Need-same-length-2
 same-length-2 c = search needs
 
 returns-2 : tie.Need-returns-2
-returns-2 c = settled-ambiguous (c .before .before .before .before .before .before .before .before .before .before .pre) (c .before .before .before .before .before .enum-told2 .given .1) (c .before .before .before .mark-ambiguous .ensures) (c .count-ambiguous .ensures)
+returns-2 c = settled-ambiguous (c .before .before .before .before .before .before .before .before .before .before .pre) (c .before .before .before .before .before .enum-told2 .given .1) (c .before .before .before .mark-ambiguous .ensures) (c .one-more2 .ensures)
 
 same-length-3 : tie.Need-same-length-3
 same-length-3 c = search needs
 
 returns-3 : tie.Need-returns-3
-returns-3 c = settled-edge (c .before .before .before .before .before .before .before .before .before .before .pre) (c .before .before .before .before .before .enum-told3 .given .1) (c .before .before .before .mark-hole2 .ensures) (c .count-edge .ensures)
+returns-3 c = settled-edge (c .before .before .before .before .before .before .before .before .before .before .pre) (c .before .before .before .before .before .enum-told3 .given .1) (c .before .before .before .mark-hole2 .ensures) (c .one-more3 .ensures)
 
 same-length-4 : tie.Need-same-length-4
 same-length-4 c = search needs
@@ -73,13 +73,13 @@ settle-spec =
     (tie.spec
     enum-told
     mark-hole-requires
-    count-no-candidate-requires
+    one-more-requires
     enum-told-2
     mark-ambiguous-requires
-    count-ambiguous-requires
+    one-more-requires-2
     enum-told-3
     mark-hole-requires-2
-    count-edge-requires
+    one-more-requires-3
     enum-known-found
     attach-corner-requires
     same-length

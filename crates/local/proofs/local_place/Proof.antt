@@ -6,8 +6,9 @@ use Rattle.sheet.proofs.Laws.{cell-on}
 use Rattle.labels.proofs.Labelled.{label-of-place, unlabelled-none}
 use Rattle.passes.specs.Local.{depthOf}
 use Rattle.region.specs.Region.{regionOf, regionAt}
-use Rattle.local.proofs.Visit.{untouched, left-as}
-use Rattle.local.proofs.Walk.{told-at, looked-out, looked-labelled, looked-bare}
+use Rattle.region.proofs.Places.{looked-out, looked-labelled, looked-bare}
+use Rattle.local_cell.proofs.Visit.{untouched, left-as}
+use Rattle.local.proofs.Walk.{told-at}
 use Rattle.local.proofs.local_place.Statement.{statement}
 use Rattle.local.proofs.local_place.Tie as tie
 
@@ -22,7 +23,7 @@ is-local-cell-requires : tie.Need-is-local-cell-requires
 is-local-cell-requires c κs = search needs
 
 returns : tie.Need-returns
-returns c = (untouched (c .before .before .before .before .before .before .before .before .pre .0 .extending) (looked-out _ _ _ _ _ _ (sym (told (c .before)) ∙ not-true _ (c .if1 .taken))), c .before .before .before .before .before .before .before .before .pre .1)
+returns c = (untouched (c .before .before .before .before .before .before .before .before .pre .0 .extending) (looked-out _ _ _ _ _ (sym (told (c .before)) ∙ not-true _ (c .if1 .taken))), c .before .before .before .before .before .before .before .before .pre .1)
 
 mul-is-labelled : tie.Need-mul-is-labelled
 mul-is-labelled c = search needs
@@ -34,7 +35,7 @@ is-labelled-requires : tie.Need-is-labelled-requires
 is-labelled-requires c κs = search needs
 
 returns-2 : tie.Need-returns-2
-returns-2 c = (untouched (c .before .before .before .before .before .before .before .before .before .before .before .pre .0 .extending) (looked-labelled _ _ _ _ _ _ (c .before .before .before .before .before .before .before .before .before .before .before .pre .0 .telling .below) (sym (told (c .before .before .before .before)) ∙ not-false _ (c .before .before .before .if1 .left)) (sym (c .before .is-labelled .ensures) ∙ c .if2 .taken)), c .before .before .before .before .before .before .before .before .before .before .before .pre .1)
+returns-2 c = (untouched (c .before .before .before .before .before .before .before .before .before .before .before .pre .0 .extending) (looked-labelled _ _ _ _ _ (c .before .before .before .before .before .before .before .before .before .before .before .pre .0 .telling .below) (sym (told (c .before .before .before .before)) ∙ not-false _ (c .before .before .before .if1 .left)) (sym (c .before .is-labelled .ensures) ∙ c .if2 .taken)), c .before .before .before .before .before .before .before .before .before .before .before .pre .1)
 
 cell-of-requires : tie.Need-cell-of-requires
 cell-of-requires c κs = search needs
@@ -57,7 +58,7 @@ same-length-2 : tie.Need-same-length-2
 same-length-2 c = search needs
 
 returns-3 : tie.Need-returns-3
-returns-3 c = (left-as (looked-bare _ _ _ _ _ _ (c .before .before .before .before .before .before .before .before .before .before .before .before .before .before .before .before .before .before .before .before .before .before .before .pre .0 .telling .below) (sym (told (c .before .before .before .before .before .before .before .before .before .before .before .before .before .before .before .before)) ∙ not-false _ (c .before .before .before .before .before .before .before .before .before .before .before .before .before .before .before .if1 .left)) _ (c .before .before .before .before .before .cell-of .ensures) (sym (c .before .before .before .before .before .before .before .before .before .before .before .before .before .is-labelled .ensures) ∙ c .before .before .before .before .before .before .before .before .before .before .before .before .if2 .left)) (c .before .before .before .before .try-local-cell .ensures .0), c .before .before .before .before .try-local-cell .ensures .1)
+returns-3 c = (left-as (looked-bare _ _ _ _ _ (c .before .before .before .before .before .before .before .before .before .before .before .before .before .before .before .before .before .before .before .before .before .before .before .pre .0 .telling .below) (sym (told (c .before .before .before .before .before .before .before .before .before .before .before .before .before .before .before .before)) ∙ not-false _ (c .before .before .before .before .before .before .before .before .before .before .before .before .before .before .before .if1 .left)) _ (c .before .before .before .before .before .cell-of .ensures) (sym (c .before .before .before .before .before .before .before .before .before .before .before .before .before .is-labelled .ensures) ∙ c .before .before .before .before .before .before .before .before .before .before .before .before .if2 .left)) (c .before .before .before .before .try-local-cell .ensures .0), c .before .before .before .before .try-local-cell .ensures .1)
 
 pub local-place-spec : {M : Type 1} → statement M
 local-place-spec =

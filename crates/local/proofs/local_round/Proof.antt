@@ -5,10 +5,9 @@ use native.Mathlib.Omega.{arith}
 use borrow.Author.Needs.{needs}
 use Rattle.region.proofs.Near.{box-small}
 use Rattle.region.proofs.Jumps.{box-on}
-use Rattle.local.specs.Extending.{Recalls}
+use Rattle.local_cell.specs.Extending.{Recalls}
 use Rattle.local.proofs.Depth.{depth-in}
-use Rattle.local.proofs.Visit.{listed, region-found}
-use Rattle.local.proofs.Walk.{Walking, walking-start, walking-more, walking-jumps, walking-end}
+use Rattle.local.proofs.Walk.{listed, region-found, Walking, walking-start, walking-more, walking-jumps, walking-end}
 use Rattle.local.proofs.local_round.Statement.{statement}
 use Rattle.local.proofs.local_round.Tie as tie
 

@@ -3,7 +3,7 @@ use mathlib.Core.Path.{refl, _∙_}
 use Prim.Native.Nat.{_-_}
 use native.Mathlib.Omega.{arith}
 use borrow.Author.Needs.{needs}
-use Rattle.local.specs.Extending.{Recalls}
+use Rattle.local_cell.specs.Extending.{Recalls}
 use Rattle.local.proofs.Rounds.{Rounding, rounding-start, rounding-asked, rounding-last, rounding-more, rounding-end}
 use Rattle.local.proofs.local_rounds.Statement.{statement}
 use Rattle.local.proofs.local_rounds.Tie as tie

@@ -1,0 +1,135 @@
+-- `local_cell::try_predicted_cell` meets its contract: by what trying the cell with its candidates finds. Assumes nothing.
+use mathlib.Core.Path.{_≡_, ap, _∙_}
+use Rattle.extension_common.specs.TryCell.{cornersOf, gathered, tryAt}
+use Rattle.extension_common.specs.declared.Search.{Search}
+use Rattle.extension_common.proofs.Laws.{tried-with}
+use Rattle.passes.specs.Grow.{tolerancesOf}
+use Rattle.passes.specs.Local.{localSearch}
+use Rattle.remembered.proofs.Notes.{notable-no-candidates, notable-ambiguous}
+use Rattle.local_cell.specs.Extending.{Taking}
+use Rattle.local_cell.proofs.Visit.{gathered-is, found-is, taking, taking-writable, taking-listed, found-none, found-ambiguous, found-refused, found-corner}
+use Rattle.local_cell.proofs.Memory.{noting, recalls-counted, recalls-attached, recalls-missed, recalls-ambiguous}
+use borrow.Author.Needs.{needs}
+use Rattle.local_cell.proofs.try_predicted_cell.Statement.{statement}
+use Rattle.local_cell.proofs.try_predicted_cell.Tie as tie
+
+-- what was gathered is what the definition gathers
+held : (c : tie.After-collect-candidates) → let a = c .before .before .before .before .before .before .before .before .args in c .collect-candidates .result ≡ gathered (cornersOf (a .xs .now) (a .ys .now) (a .pitches .now)) (a .sheet .now) (c .before .before .search-of .result .«search_r») (a .prediction)
+held c = gathered-is _ _ (c .before .before .before .before .before .before .before .before .pre .0) (c .collect-candidates .ensures)
+
+-- by the search of the definition
+candidates : (c : tie.After-collect-candidates) → let a = c .before .before .before .before .before .before .before .before .args in c .collect-candidates .result ≡ gathered (cornersOf (a .xs .now) (a .ys .now) (a .pitches .now)) (a .sheet .now) (localSearch (a .settings) (a .params) .«search_r») (a .prediction)
+candidates c = let a = c .before .before .before .before .before .before .before .before .args in held c ∙ ap (λ (s : Search). gathered (cornersOf (a .xs .now) (a .ys .now) (a .pitches .now)) (a .sheet .now) (s .«search_r») (a .prediction)) (c .before .before .search-of .ensures)
+
+-- what was found is what the definition finds
+found : (c : tie.After-try-candidates) → let a = c .before .before .before .before .before .before .before .before .before .before .before .args in c .try-candidates .result ≡ tryAt (cornersOf (a .xs .now) (a .ys .now) (a .pitches .now)) (a .sheet .now) (tolerancesOf (a .settings)) (localSearch (a .settings) (a .params)) (a .c) (a .prediction)
+found c = found-is _ _ _ _ (c .before .before .before .before .before .search-of .ensures) (c .before .before .tolerances-of .ensures) (tried-with _ _ _ _ _ _ (held (c .before .before .before)) (c .try-candidates .ensures))
+
+-- the corner to attach
+attach-this : (c : tie.After-found) → let a = c .before .before .before .before .before .before .before .before .before .before .before .before .before .args in Taking (a .xs .now) (a .ys .now) (a .pitches .now) (a .sheet .now) (a .attached .now) (a .used .now) (a .places .now) (a .at) (a .c) (c .found .given .0 .0)
+attach-this c = taking _ _ _ (c .before .before .before .before .before .before .before .before .before .before .before .before .before .pre .0) (found (c .before .before)) (c .found .given .1)
+
+search-of-requires : tie.Need-search-of-requires
+search-of-requires c κs = search needs
+
+collect-candidates-requires : tie.Need-collect-candidates-requires
+collect-candidates-requires c κs = search needs
+
+tolerances-of-requires : tie.Need-tolerances-of-requires
+tolerances-of-requires c κs = search needs
+
+try-candidates-requires : tie.Need-try-candidates-requires
+try-candidates-requires c κs = record { given = c .before .before .before .before .before .before .before .before .before .before .pre .0 .extending .given; on = c .before .before .before .before .before .before .before .before .before .before .pre .0 .on; at = c .before .before .before .before .before .before .before .before .before .before .args .prediction; are = held (c .before .before) }
+
+enum-told : tie.Need-enum-told
+enum-told c = search needs
+
+note-requires : tie.Need-note-requires
+note-requires c κs = noting (c .before .before .before .before .before .before .before .before .before .before .before .before .before .before .before .pre .0) (c .before .before .before .before .before .before .before .before .before .before .before .before .before .before .before .pre .1 .0) (notable-no-candidates (c .before .before .before .before .before .before .before .before .before .before .before .before .before .before .before .pre .1 .1 .small))
+
+count-cell-requires : tie.Need-count-cell-requires
+count-cell-requires c κs = c .before .before .before .before .before .before .before .before .before .before .before .before .before .before .before .before .pre .0 .countable
+
+enum-told-2 : tie.Need-enum-told-2
+enum-told-2 c = search needs
+
+last-distance-requires : tie.Need-last-distance-requires
+last-distance-requires c κs = search needs
+
+note-requires-2 : tie.Need-note-requires-2
+note-requires-2 c κs = noting (c .before .before .before .before .before .before .before .before .before .before .before .before .before .before .before .before .pre .0) (c .before .before .before .before .before .before .before .before .before .before .before .before .before .before .before .before .pre .1 .0) (notable-ambiguous (c .before .before .before .before .before .before .before .before .before .before .before .before .before .before .before .before .pre .1 .1 .small) _ _)
+
+count-cell-requires-2 : tie.Need-count-cell-requires-2
+count-cell-requires-2 c κs = c .before .before .before .before .before .before .before .before .before .before .before .before .before .before .before .before .before .pre .0 .countable
+
+enum-told-3 : tie.Need-enum-told-3
+enum-told-3 c = search needs
+
+count-cell-requires-3 : tie.Need-count-cell-requires-3
+count-cell-requires-3 c κs = c .before .before .before .before .before .before .before .before .before .before .before .before .before .pre .0 .countable
+
+enum-known-found : tie.Need-enum-known-found
+enum-known-found c = search needs
+
+corner-at-requires : tie.Need-corner-at-requires
+corner-at-requires c κs = taking-listed (attach-this (c .before))
+
+attach-corner-requires : tie.Need-attach-corner-requires
+attach-corner-requires c κs = (taking-writable (attach-this (c .before .before .before .before .before .before .before .before)), c .before .before .before .before .before .before .before .before .before .before .before .before .before .before .before .before .before .before .before .before .before .pre .1 .0 .size)
+
+same-length : tie.Need-same-length
+same-length c = search needs
+
+returns : tie.Need-returns
+returns c = (found-none _ _ (found (c .before .before .before .before .before .before)) (c .before .before .before .before .before .before .before .before .before .before .before .before .before .before .before .before .before .pre .0 .extending) (c .count-cell .ensures) (c .before .before .before .before .enum-told .given .1), recalls-missed (c .before .before .before .before .before .before .before .before .before .before .before .before .before .before .before .before .before .pre .1 .0) (c .before .before .before .before .before .before .before .before .before .before .before .before .before .before .before .before .before .pre .0) (c .before .before .before .before .before .before .before .before .before .before .before .before .before .before .before .before .before .pre .1 .1) (found (c .before .before .before .before .before .before)) (c .before .before .before .before .enum-told .given .1) (c .count-cell .ensures) (c .before .note .ensures))
+
+same-length-2 : tie.Need-same-length-2
+same-length-2 c = search needs
+
+returns-2 : tie.Need-returns-2
+returns-2 c = (found-ambiguous _ _ (found (c .before .before .before .before .before .before .before)) (c .before .before .before .before .before .before .before .before .before .before .before .before .before .before .before .before .before .before .pre .0 .extending) (c .count-cell2 .ensures) (c .before .before .before .before .before .enum-told2 .given .1), recalls-ambiguous (c .before .before .before .before .before .before .before .before .before .before .before .before .before .before .before .before .before .before .pre .1 .0) (c .before .before .before .before .before .before .before .before .before .before .before .before .before .before .before .before .before .before .pre .0) (c .before .before .before .before .before .before .before .before .before .before .before .before .before .before .before .before .before .before .pre .1 .1) (candidates (c .before .before .before .before .before .before .before .before .before .before)) (c .before .before .before .before .last-distance .ensures) (found (c .before .before .before .before .before .before .before)) (c .before .before .before .before .before .enum-told2 .given .1) (c .count-cell2 .ensures) (c .before .note2 .ensures))
+
+same-length-3 : tie.Need-same-length-3
+same-length-3 c = search needs
+
+returns-3 : tie.Need-returns-3
+returns-3 c = (found-refused _ _ (found (c .before .before .before)) (c .before .before .before .before .before .before .before .before .before .before .before .before .before .before .pre .0 .extending) (c .count-cell3 .ensures) (c .before .enum-told3 .given .1), recalls-counted (c .before .before .before .before .before .before .before .before .before .before .before .before .before .before .pre .1 .0) (c .before .before .before .before .before .before .before .before .before .before .before .before .before .before .pre .0) (c .count-cell3 .ensures))
+
+same-length-4 : tie.Need-same-length-4
+same-length-4 c = search needs
+
+same-length-5 : tie.Need-same-length-5
+same-length-5 c = search needs
+
+returns-4 : tie.Need-returns-4
+returns-4 c = (found-corner _ _ (found (c .before .before .before .before .before .before .before .before .before .before .before .before .before .before .before)) (attach-this (c .before .before .before .before .before .before .before .before .before .before .before .before .before)) (c .before .before .before .before .before .before .before .before .before .before .before .before .before .found .given .1) (c .before .before .before .before .attach-corner .ensures .0), recalls-attached (c .before .before .before .before .before .before .before .before .before .before .before .before .before .before .before .before .before .before .before .before .before .before .before .before .before .before .pre .1 .0) (attach-this (c .before .before .before .before .before .before .before .before .before .before .before .before .before)) (c .before .before .before .before .before .before .before .before .before .before .before .corner-at .ensures) (c .before .before .before .before .attach-corner .ensures .0) (c .before .before .before .before .attach-corner .ensures .1))
+
+pub try-predicted-cell-spec : {M : Type 1} → statement M
+try-predicted-cell-spec =
+    tie.close
+    (tie.spec
+    search-of-requires
+    collect-candidates-requires
+    tolerances-of-requires
+    try-candidates-requires
+    enum-told
+    note-requires
+    count-cell-requires
+    enum-told-2
+    last-distance-requires
+    note-requires-2
+    count-cell-requires-2
+    enum-told-3
+    count-cell-requires-3
+    enum-known-found
+    corner-at-requires
+    attach-corner-requires
+    same-length
+    returns
+    same-length-2
+    returns-2
+    same-length-3
+    returns-3
+    same-length-4
+    same-length-5
+    returns-4)

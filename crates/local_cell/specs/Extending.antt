@@ -1,0 +1,117 @@
+-- What the functions that try one cell of local ask and leave, in the terms of local's definition (crate passes, Local). Definitions only.
+use mathlib.Core.Path.{_≡_}
+use mathlib.Core.Bool.{false}
+use mathlib.Core.List.{List}
+use Prim.Native.Nat.{ℕ, _<_, _≤_}
+use lib.ListN.{length, set, take}
+use lib.Ieee.{Float}
+use Rattle.sheet.specs.Cells.{OnSheet, placeOf}
+use Rattle.sheet.specs.Words.{labelAt, attached, marksCleared, SheetCell}
+use Rattle.sheet.specs.Corners.{Given}
+use Rattle.sheet.specs.declared.Cell.{Cell}
+use Rattle.sheet.specs.declared.Label.{Label}
+use Rattle.sheet.specs.declared.Position.{Position}
+use Rattle.labels.specs.Labelled.{labelledPlaces, labelCount}
+use Rattle.labels.specs.Used.{usedOn, Tied, OneCell}
+use Rattle.arguments.specs.declared.Settings.{Settings}
+use Rattle.arguments.specs.declared.LocalExtensionParams.{LocalExtensionParams}
+use Rattle.extension_common.specs.TryCell.{cornersOf}
+use Rattle.extension_common.specs.declared.TryCellResult.{TryCellResult}
+use Rattle.passes.specs.Counting.{oneMore, visits}
+use Rattle.passes.specs.Local.{recordedAll, LocalState}
+use Rattle.supports.specs.Nearest.{Gathered}
+use Rattle.remembered.specs.Remembered.{KnownAt, Remembered}
+use Rattle.remembered.specs.declared.Known.{Known}
+use Rattle.arguments.specs.Front.{over}
+use Rattle.local_cell.specs.declared.LocalProgress.{LocalProgress}
+
+-- ---- how far the pass has come
+
+-- the progress with one cell more counted
+abbrev pub cellCounted : LocalProgress → TryCellResult → LocalProgress
+cellCounted at r = record { counts = oneMore r (at .counts); residual = at .residual; labels = at .labels }
+
+-- the progress with some residuals recorded
+abbrev pub residualsRecorded : LocalProgress → List Float → LocalProgress
+residualsRecorded at rs = record { counts = at .counts; residual = recordedAll (at .residual) rs; labels = at .labels }
+
+-- ---- where the code stands
+
+-- the state that the buffers hold: the sheet, as many places of the attached list as there are attached, the counts and the largest residual
+abbrev pub stateOf : List ℕ → List ℕ → LocalProgress → LocalState
+stateOf sheet list at = record { sheet = sheet; made = take (at .counts .attached) list; counts = at .counts; largest = at .residual }
+
+-- what holds between two cells: the sheet belongs to the corners, of which there are at most 1,024, no corner is at two cells, the array says
+-- which are used, the attached list has a place for each corner, no more places of it are written than there are labels, there are four
+-- labels, and the labelled places are listed
+pub record Extending (xs ys pitches : List Float) (sheet list used places : List ℕ) (made labels : ℕ) : Type 0 where
+  pub given : Given xs ys pitches sheet
+  pub few : length xs ≤ 1024
+  pub one-cell : OneCell sheet
+  pub tied : Tied sheet used
+  pub list-long : length xs ≤ length list
+  pub room : made ≤ labelCount sheet
+  pub four : 4 ≤ labelCount sheet
+  pub labels-are : labels ≡ labelCount sheet
+  pub places-are : take labels places ≡ labelledPlaces sheet
+  pub size : length places ≡ 1024
+
+-- the buffers hold a state: its sheet, its new cells at the front of the attached list, whose rest is as it was before, its counts and its
+-- largest residual
+pub record Holds (s : LocalState) (before sheet list : List ℕ) (at : LocalProgress) : Type 0 where
+  pub sheet-is : sheet ≡ s .sheet
+  pub list-is : list ≡ over (s .made) before
+  pub made-is : at .counts .attached ≡ length (s .made)
+  pub counts-are : at .counts ≡ s .counts
+  pub largest-is : at .residual ≡ s .largest
+
+-- what a function leaves: the buffers hold a state, and all may go on
+pub record Left (s : LocalState) (xs ys pitches : List Float) (before sheet list used places : List ℕ) (at : LocalProgress) : Type 0 where
+  pub holds : Holds s before sheet list at
+  pub extending : Extending xs ys pitches sheet list used places (at .counts .attached) (at .labels)
+
+-- what is remembered of the cells holds, on the sheet of now and with the largest residual of now
+abbrev pub Recalls : Settings → LocalExtensionParams → List Float → List Float → List Float → List ℕ → List ℕ → List Float → LocalProgress → Type 0
+Recalls set p xs ys pitches sheet memory predictions at = Remembered (cornersOf xs ys pitches) set p (at .residual) sheet memory predictions
+
+-- ---- one cell
+
+-- an unlabelled cell of the sheet is to be tried, and its visit can be counted
+pub record Trying (xs ys pitches : List Float) (sheet list used places : List ℕ) (at : LocalProgress) (c : Cell) : Type 0 where
+  pub extending : Extending xs ys pitches sheet list used places (at .counts .attached) (at .labels)
+  pub on : OnSheet c
+  pub bare : labelAt sheet c ≡ Label.Unlabelled
+  pub countable : visits (at .counts) < 4294967296
+
+-- it is known where the fit maps the cell to
+pub record Foretold (set : Settings) (p : LocalExtensionParams) (xs ys pitches : List Float) (sheet : List ℕ) (at : LocalProgress) (c : Cell) (reach : ℕ) (prediction : Position) : Type 0 where
+  pub known : KnownAt (cornersOf xs ys pitches) set p (at .residual) sheet c (Known.Predicted reach prediction)
+  pub small : reach < 8192
+
+-- a corner that no cell holds is to be attached there
+pub record Taking (xs ys pitches : List Float) (sheet list used places : List ℕ) (at : LocalProgress) (c : Cell) (k : ℕ) : Type 0 where
+  pub trying : Trying xs ys pitches sheet list used places at c
+  pub there : k < length xs
+  pub free : usedOn sheet k ≡ false
+
+-- the sheet with a corner attached to a cell and both marks of the cell cleared
+abbrev pub attachedClear : List ℕ → Cell → ℕ → List ℕ
+attachedClear sheet c k = marksCleared (attached sheet c k) c
+
+-- a corner can be written: to the sheet, to the next place of the attached list, to its entry and to the labelled places; and it can be counted
+pub record Writable (sheet list places : List ℕ) (at : LocalProgress) (c : Cell) (k : ℕ) : Type 0 where
+  pub sheet-cell : SheetCell sheet c
+  pub entry : k < 1024
+  pub space : at .counts .attached < length list
+  pub countable : visits (at .counts) < 4294967296
+  pub few : labelCount (attachedClear sheet c k) ≤ 1024
+  pub size : length places ≡ 1024
+
+-- the buffers after a corner was attached: the sheet, the next place of the attached list, the corner's entry and the labelled places
+pub record Wrote (sheet list used places : List ℕ) (at : LocalProgress) (c : Cell) (k : ℕ) (sheet' list' used' places' : List ℕ) (at' : LocalProgress) : Type 0 where
+  pub sheet-is : sheet' ≡ attachedClear sheet c k
+  pub list-is : list' ≡ set list (at .counts .attached) (placeOf c)
+  pub used-is : used' ≡ set used k 1
+  pub places-are : Gathered (attachedClear sheet c k) places places' (at' .labels)
+  pub counts-are : at' .counts ≡ oneMore (TryCellResult.Attached k) (at .counts)
+  pub largest-is : at' .residual ≡ at .residual

@@ -1,0 +1,308 @@
+// One cell of local (01, "Sheet" and "Fit"; port of the loop's body in shared/extension/local.rs): tried by what is known of it from an earlier round,
+// or by the fit on its four nearest labels, where that leads. Crate local has the rounds and the public call.
+
+ghost use mathlib.Core.Path.{_≡_};
+ghost use Prim.Native.Nat.{_<_};
+ghost use lib.ListN.{length};
+ghost use Rattle.extension_common.specs.TryCell.{cornersOf, tryAt};
+ghost use Rattle.passes.specs.Counting.{visits};
+ghost use Rattle.passes.specs.Grow.{tolerancesOf};
+ghost use Rattle.passes.specs.Local.{localSearch, gateOf, localWith, localVisit};
+ghost use Rattle.remembered.specs.Remembered.{Forgotten};
+ghost use Rattle.local_cell.specs.Extending.{cellCounted, residualsRecorded, stateOf, Left, Recalls, Foretold, Trying, Writable, Wrote};
+use arguments::LocalExtensionParams;
+use arguments::Settings;
+use extension_common::ChoiceRule;
+use extension_common::Search;
+use extension_common::TryCellResult;
+use passes::Counts;
+use passes::LargestResidual;
+use positions_policy::Tolerances;
+use remembered::Known;
+use sheet::Cell;
+use sheet::Position;
+
+// How far the pass has come: the counts, the largest residual recorded, and how many cells are labelled.
+pub struct LocalProgress {
+    pub counts: Counts,
+    pub residual: LargestResidual,
+    pub labels: usize,
+}
+
+// How local searches a cell: search times cell size as the radius, and fill's and local's rule of choice.
+fn search_of(settings: Settings, params: LocalExtensionParams) -> Search
+    ensures { λ r. ⌜ r ≡ localSearch settings params ⌝ }
+{
+    let grid = settings.grid;
+    Search {
+        search_r: params.search_rel * grid.cell_size,
+        ambiguity_factor: params.ambiguity_factor,
+        rule: ChoiceRule::WithFloor,
+    }
+}
+
+// The edge's tolerances: cell size and band.
+fn tolerances_of(settings: Settings) -> Tolerances
+    ensures { λ r. ⌜ r ≡ tolerancesOf settings ⌝ }
+{
+    let grid = settings.grid;
+    Tolerances {
+        cell_size: grid.cell_size,
+        edge_length_tol: settings.edge_length_tol,
+    }
+}
+
+// The residual gate: the largest residual that is let through.
+fn gate_of(settings: Settings, params: LocalExtensionParams) -> f32
+    ensures { λ r. ⌜ r ≡ gateOf settings params ⌝ }
+{
+    let grid = settings.grid;
+    params.max_residual_rel * grid.cell_size
+}
+
+// One more cell is counted, by what was found there.
+fn count_cell(at: LocalProgress, found: TryCellResult) -> LocalProgress
+    requires { ⌜ visits (at .counts) < 4294967296 ⌝ }
+    ensures { λ r. ⌜ r ≡ cellCounted at found ⌝ }
+{
+    let before = at.counts;
+    let counts = passes::one_more(found, before);
+    let residual = at.residual;
+    LocalProgress {
+        counts,
+        residual,
+        labels: at.labels,
+    }
+}
+
+// The progress with four residuals recorded.
+fn with_residuals(at: LocalProgress, residuals: [f32; 4]) -> LocalProgress
+    requires { ⌜ length residuals ≡ 4 ⌝ }
+    ensures { λ r. ⌜ r ≡ residualsRecorded at residuals ⌝ }
+{
+    let counts = at.counts;
+    let before = at.residual;
+    let residual = supports::record_residuals(before, residuals);
+    LocalProgress {
+        counts,
+        residual,
+        labels: at.labels,
+    }
+}
+
+// Attaches a corner to a cell and clears both of its marks: the sheet, the next place of the attached list and the corner's entry are written,
+// the labelled places are listed anew, and what the new label may change is forgotten. Answers how far the pass has come.
+fn attach_corner(
+    sheet: &mut [u16],
+    attached: &mut [u16],
+    used: &mut [u8; 1024],
+    places: &mut [u16; 1024],
+    memory: &mut [u16; 16384],
+    predictions: &[f32; 49152],
+    at: LocalProgress,
+    c: Cell,
+    k: usize,
+    corner: Position,
+) -> LocalProgress
+    requires { ⌜ Writable (now sheet) (now attached) (now places) at c k × (length (now memory) ≡ 16384) ⌝ }
+    ensures { λ r. ⌜ Wrote (now (sheet .entry)) (now (attached .entry)) (now (used .entry)) (now (places .entry)) at c k (now (sheet .exit)) (now (attached .exit)) (now (used .exit)) (now (places .exit)) r × Forgotten (now (memory .entry)) (now (predictions .entry)) c corner (now (memory .exit)) ⌝ }
+{
+    let n = at.counts;
+    let made = n.attached;
+    sheet::attach(sheet, c, k);
+    sheet::clear_marks(sheet, c);
+    attached[made] = sheet::place_of(c) as u16;
+    used[k] = 1;
+    let labels = supports::gather_labelled(sheet, places);
+    remembered::forget_near(memory, predictions, c, corner);
+    let counts = passes::one_more(TryCellResult::Attached(k), n);
+    let residual = at.residual;
+    LocalProgress {
+        counts,
+        residual,
+        labels,
+    }
+}
+
+// Tries an unlabelled cell where a fit maps it to: a corner that is found is attached, else nothing is written. Either is counted, and that there
+// is no candidate, or that the choice is ambiguous, is noted.
+fn try_predicted_cell(
+    xs: &[f32],
+    ys: &[f32],
+    pitches: &[f32],
+    sheet: &mut [u16],
+    attached: &mut [u16],
+    used: &mut [u8; 1024],
+    places: &mut [u16; 1024],
+    memory: &mut [u16; 16384],
+    predictions: &mut [f32; 49152],
+    at: LocalProgress,
+    c: Cell,
+    reach: u32,
+    prediction: Position,
+    settings: Settings,
+    params: LocalExtensionParams,
+) -> LocalProgress
+    requires { ⌜ Trying (now xs) (now ys) (now pitches) (now sheet) (now attached) (now used) (now places) at c × (Recalls settings params (now xs) (now ys) (now pitches) (now sheet) (now memory) (now predictions) at × Foretold settings params (now xs) (now ys) (now pitches) (now sheet) at c reach prediction) ⌝ }
+    ensures { λ r. ⌜ Left (localWith c (tryAt (cornersOf (now (xs .entry)) (now (ys .entry)) (now (pitches .entry))) (now (sheet .entry)) (tolerancesOf settings) (localSearch settings params) c prediction) (stateOf (now (sheet .entry)) (now (attached .entry)) at)) (now (xs .entry)) (now (ys .entry)) (now (pitches .entry)) (now (attached .entry)) (now (sheet .exit)) (now (attached .exit)) (now (used .exit)) (now (places .exit)) r × Recalls settings params (now (xs .entry)) (now (ys .entry)) (now (pitches .entry)) (now (sheet .exit)) (now (memory .exit)) (now (predictions .exit)) r ⌝ }
+{
+    let search = search_of(settings, params);
+    let candidates = grow::collect_candidates(xs, ys, used, prediction, search.search_r);
+    let tol = tolerances_of(settings);
+    let found = extension_common::try_candidates(
+        xs,
+        ys,
+        pitches,
+        sheet,
+        c,
+        candidates,
+        search,
+        tol,
+    );
+    match found {
+        TryCellResult::NoCandidates => {
+            remembered::note(memory, predictions, c, Known::NoCandidates(reach));
+            count_cell(at, found)
+        }
+        TryCellResult::Ambiguous => {
+            let limit = grow::last_distance(candidates);
+            remembered::note(
+                memory,
+                predictions,
+                c,
+                Known::Ambiguous(reach, prediction, limit),
+            );
+            count_cell(at, found)
+        }
+        TryCellResult::EdgeRejected => count_cell(at, found),
+        TryCellResult::Attached(k) => {
+            let taken = sheet::corner_at(xs, ys, pitches, k);
+            attach_corner(
+                sheet,
+                attached,
+                used,
+                places,
+                memory,
+                predictions,
+                at,
+                c,
+                k,
+                taken.position,
+            )
+        }
+    }
+}
+
+// Tries an unlabelled cell of which nothing is known: by the fit on its four nearest labels, whose residuals are recorded. Without a fit, or with a
+// residual above the gate, nothing is counted. What is worked out is noted.
+fn try_unknown_cell(
+    xs: &[f32],
+    ys: &[f32],
+    pitches: &[f32],
+    sheet: &mut [u16],
+    attached: &mut [u16],
+    used: &mut [u8; 1024],
+    places: &mut [u16; 1024],
+    memory: &mut [u16; 16384],
+    predictions: &mut [f32; 49152],
+    at: LocalProgress,
+    c: Cell,
+    settings: Settings,
+    params: LocalExtensionParams,
+) -> LocalProgress
+    requires { ⌜ Trying (now xs) (now ys) (now pitches) (now sheet) (now attached) (now used) (now places) at c × Recalls settings params (now xs) (now ys) (now pitches) (now sheet) (now memory) (now predictions) at ⌝ }
+    ensures { λ r. ⌜ Left (localVisit (cornersOf (now (xs .entry)) (now (ys .entry)) (now (pitches .entry))) settings params c (stateOf (now (sheet .entry)) (now (attached .entry)) at)) (now (xs .entry)) (now (ys .entry)) (now (pitches .entry)) (now (attached .entry)) (now (sheet .exit)) (now (attached .exit)) (now (used .exit)) (now (places .exit)) r × Recalls settings params (now (xs .entry)) (now (ys .entry)) (now (pitches .entry)) (now (sheet .exit)) (now (memory .exit)) (now (predictions .exit)) r ⌝ }
+{
+    let nearest = supports::nearest_labelled_by_grid(places, at.labels, c);
+    let reach = nearest.fourth.reach;
+    let fit = supports::local_fit(xs, ys, pitches, sheet, nearest);
+    if !fit.found {
+        remembered::note(memory, predictions, c, Known::Idle(reach));
+        return at;
+    }
+    let h = fit.h;
+    let residuals = fit.residuals;
+    let next = with_residuals(at, residuals);
+    if gate_of(settings, params) < supports::worst_of(residuals) {
+        remembered::note(memory, predictions, c, Known::Idle(reach));
+        return next;
+    }
+    let prediction = homography::apply(h, supports::cell_point(c));
+    remembered::note(memory, predictions, c, Known::Predicted(reach, prediction));
+    try_predicted_cell(
+        xs,
+        ys,
+        pitches,
+        sheet,
+        attached,
+        used,
+        places,
+        memory,
+        predictions,
+        next,
+        c,
+        reach,
+        prediction,
+        settings,
+        params,
+    )
+}
+
+// Tries an unlabelled cell: by what is known of it from an earlier round, or anew.
+pub fn try_local_cell(
+    xs: &[f32],
+    ys: &[f32],
+    pitches: &[f32],
+    sheet: &mut [u16],
+    attached: &mut [u16],
+    used: &mut [u8; 1024],
+    places: &mut [u16; 1024],
+    memory: &mut [u16; 16384],
+    predictions: &mut [f32; 49152],
+    at: LocalProgress,
+    c: Cell,
+    settings: Settings,
+    params: LocalExtensionParams,
+) -> LocalProgress
+    requires { ⌜ Trying (now xs) (now ys) (now pitches) (now sheet) (now attached) (now used) (now places) at c × Recalls settings params (now xs) (now ys) (now pitches) (now sheet) (now memory) (now predictions) at ⌝ }
+    ensures { λ r. ⌜ Left (localVisit (cornersOf (now (xs .entry)) (now (ys .entry)) (now (pitches .entry))) settings params c (stateOf (now (sheet .entry)) (now (attached .entry)) at)) (now (xs .entry)) (now (ys .entry)) (now (pitches .entry)) (now (attached .entry)) (now (sheet .exit)) (now (attached .exit)) (now (used .exit)) (now (places .exit)) r × Recalls settings params (now (xs .entry)) (now (ys .entry)) (now (pitches .entry)) (now (sheet .exit)) (now (memory .exit)) (now (predictions .exit)) r ⌝ }
+{
+    let known = remembered::recall(memory, predictions, c);
+    match known {
+        Known::Nothing => try_unknown_cell(
+            xs,
+            ys,
+            pitches,
+            sheet,
+            attached,
+            used,
+            places,
+            memory,
+            predictions,
+            at,
+            c,
+            settings,
+            params,
+        ),
+        Known::Idle(_) => at,
+        Known::NoCandidates(_) => count_cell(at, TryCellResult::NoCandidates),
+        Known::Ambiguous(_, _, _) => count_cell(at, TryCellResult::Ambiguous),
+        Known::Predicted(reach, prediction) => try_predicted_cell(
+            xs,
+            ys,
+            pitches,
+            sheet,
+            attached,
+            used,
+            places,
+            memory,
+            predictions,
+            at,
+            c,
+            reach,
+            prediction,
+            settings,
+            params,
+        ),
+    }
+}

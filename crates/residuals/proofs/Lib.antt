@@ -1,2 +1,0 @@
--- Laws of four residuals.
-pub mod Residuals
