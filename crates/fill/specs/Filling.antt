@@ -5,6 +5,7 @@ use mathlib.Core.List.{List}
 use Prim.Native.Nat.{ℕ, _+_, _<_, _≤_}
 use lib.ListN.{length, set, take}
 use lib.Ieee.{Float}
+use Rattle.sizes.specs.Sizes.{placeCount, cornerLimit}
 use Rattle.sheet.specs.Cells.{OnSheet, placeOf, cellOf}
 use Rattle.sheet.specs.Words.{labelAt, attached, SheetCell}
 use Rattle.sheet.specs.Corners.{Given}
@@ -32,7 +33,7 @@ stateOf sheet list made = record { sheet = sheet; made = take made list }
 -- which are used, the attached list has a place for each corner, and no more places of it are written than there are labels
 pub record Filling (xs ys pitches : List Float) (sheet list used : List ℕ) (made : ℕ) : Type 0 where
   pub given : Given xs ys pitches sheet
-  pub few : length xs ≤ 1024
+  pub few : length xs ≤ cornerLimit
   pub one-cell : OneCell sheet
   pub tied : Tied sheet used
   pub list-long : length xs ≤ length list
@@ -66,7 +67,7 @@ pub record Taking (xs ys pitches : List Float) (sheet list used : List ℕ) (mad
 -- a corner can be written: to the sheet, to the next place of the attached list, and to its entry
 pub record Writable (sheet list used : List ℕ) (made : ℕ) (c : Cell) (k : ℕ) : Type 0 where
   pub sheet-cell : SheetCell sheet c
-  pub entry : k < 1024
+  pub entry : k < cornerLimit
   pub space : made < length list
 
 -- the buffers after a corner was attached: the sheet, the next place of the attached list and the corner's entry are written
@@ -79,7 +80,7 @@ pub record Wrote (sheet list used : List ℕ) (made : ℕ) (c : Cell) (k : ℕ) 
 -- a place is to be looked at, with the label box of the round's start
 pub record Looking (xs ys pitches : List Float) (sheet list used : List ℕ) (made : ℕ) (around : LabelBox) (place : ℕ) : Type 0 where
   pub filling : Filling xs ys pitches sheet list used made
-  pub below : place < 16384
+  pub below : place < placeCount
   pub small : SmallBox around
 
 -- a place looked at: its cell is tried if it lies in the region and is unlabelled now

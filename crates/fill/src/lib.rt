@@ -28,6 +28,8 @@ use passes::FillStats;
 use positions_policy::Tolerances;
 use predict::Prediction;
 use sheet::Cell;
+use sizes::CORNERS;
+use sizes::PLACES;
 
 // How far fill has come: how many places of the attached list are written, and how many rounds were walked.
 struct FillProgress {
@@ -99,7 +101,7 @@ fn tolerances_of(settings: Settings) -> Tolerances
 fn attach_corner(
     sheet: &mut [u16],
     attached: &mut [u16],
-    used: &mut [u8; 1024],
+    used: &mut [u8; CORNERS],
     made: usize,
     c: Cell,
     k: usize,
@@ -121,7 +123,7 @@ fn try_fill_cell(
     pitches: &[f32],
     sheet: &mut [u16],
     attached: &mut [u16],
-    used: &mut [u8; 1024],
+    used: &mut [u8; CORNERS],
     made: usize,
     c: Cell,
     settings: Settings,
@@ -161,7 +163,7 @@ fn fill_place(
     pitches: &[f32],
     sheet: &mut [u16],
     attached: &mut [u16],
-    used: &mut [u8; 1024],
+    used: &mut [u8; CORNERS],
     made: usize,
     around: LabelBox,
     place: usize,
@@ -200,7 +202,7 @@ fn fill_round(
     pitches: &[f32],
     sheet: &mut [u16],
     attached: &mut [u16],
-    used: &mut [u8; 1024],
+    used: &mut [u8; CORNERS],
     made: usize,
     settings: Settings,
     params: FillParams,
@@ -212,7 +214,7 @@ fn fill_round(
     let window = region::window_of(around, 1);
     let mut reached = made;
     let mut place = region::next_inside(window, 0);
-    while place < 16384 {
+    while place < PLACES {
         reached = fill_place(
             xs,
             ys,
@@ -251,7 +253,7 @@ fn fill_rounds(
     pitches: &[f32],
     sheet: &mut [u16],
     attached: &mut [u16],
-    used: &mut [u8; 1024],
+    used: &mut [u8; CORNERS],
     limit: usize,
     settings: Settings,
     params: FillParams,

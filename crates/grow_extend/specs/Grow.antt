@@ -6,6 +6,7 @@ use mathlib.Core.List.{List}
 use Prim.Native.Nat.{ℕ, _+_, _*_, _<_, _≤_}
 use lib.ListN.{length, take}
 use lib.Ieee.{Float}
+use Rattle.sizes.specs.Sizes.{placeCount, cornerLimit}
 use Rattle.sheet.specs.Cells.{OnSheet}
 use Rattle.sheet.specs.Words.{labelAt}
 use Rattle.sheet.specs.Corners.{seenOf, Given}
@@ -71,7 +72,7 @@ pub record Spare (queue attached : List ℕ) (at : Progress) : Type 0 where
 -- a corner that may be attached to a cell
 pub record Attachable (sheet queue attached used seen : List ℕ) (c : Cell) (k : ℕ) (at : Progress) : Type 0 where
   pub attaching : Attaching sheet c k
-  pub entry : k < 1024
+  pub entry : k < cornerLimit
   pub spare : Spare queue attached at
   pub small : SmallCounts (at .counts)
   pub used-tied : Tied sheet used
@@ -79,7 +80,7 @@ pub record Attachable (sheet queue attached used seen : List ℕ) (c : Cell) (k 
 
 -- a cell of the sheet, and what was found there
 pub record Settleable (sheet queue attached used seen : List ℕ) (c : Cell) (found : TryCellResult) (at : Progress) : Type 0 where
-  pub long : 16384 ≤ length sheet
+  pub long : placeCount ≤ length sheet
   pub on : OnSheet c
   pub queue-in : at .tail ≤ length queue
   pub attached-in : at .counts .attached ≤ length attached
@@ -91,7 +92,7 @@ pub record Settleable (sheet queue attached used seen : List ℕ) (c : Cell) (fo
 -- an unlabelled cell of the sheet, and room for a corner as long as there is one that no cell holds
 pub record Visitable (xs ys pitches : List Float) (sheet queue attached used seen : List ℕ) (c : Cell) (at : Progress) : Type 0 where
   pub given : Given xs ys pitches sheet
-  pub few : length xs ≤ 1024
+  pub few : length xs ≤ cornerLimit
   pub on : OnSheet c
   pub bare : labelAt sheet c ≡ Label.Unlabelled
   pub queue-in : at .tail ≤ length queue
@@ -104,7 +105,7 @@ pub record Visitable (xs ys pitches : List Float) (sheet queue attached used see
 -- what an accepted call lends, with the seeds queued
 pub record Startable (xs ys pitches : List Float) (sheet queue attached used seen : List ℕ) (tail : ℕ) : Type 0 where
   pub given : Given xs ys pitches sheet
-  pub few : length xs ≤ 1024
+  pub few : length xs ≤ cornerLimit
   pub one-cell : OneCell sheet
   pub queue-long : 4 * length xs ≤ length queue
   pub attached-long : length xs ≤ length attached

@@ -25,6 +25,8 @@ use passes::GrowStats;
 use positions_policy::Tolerances;
 use predict::Prediction;
 use sheet::Cell;
+use sizes::CORNERS;
+use sizes::PLACES;
 
 // Where grow stands: how many cells were queued so far, and the counts.
 pub struct Progress {
@@ -61,7 +63,7 @@ fn try_cell(
     ys: &[f32],
     pitches: &[f32],
     sheet: &[u16],
-    used: &[u8; 1024],
+    used: &[u8; CORNERS],
     c: Cell,
     settings: Settings,
     params: GrowParams,
@@ -89,8 +91,8 @@ fn attach_corner(
     sheet: &mut [u16],
     queue: &mut [u16],
     attached: &mut [u16],
-    used: &mut [u8; 1024],
-    seen: &mut [u8; 16384],
+    used: &mut [u8; CORNERS],
+    seen: &mut [u8; PLACES],
     c: Cell,
     k: usize,
     at: Progress,
@@ -116,8 +118,8 @@ fn settle(
     sheet: &mut [u16],
     queue: &mut [u16],
     attached: &mut [u16],
-    used: &mut [u8; 1024],
-    seen: &mut [u8; 16384],
+    used: &mut [u8; CORNERS],
+    seen: &mut [u8; PLACES],
     c: Cell,
     found: TryCellResult,
     at: Progress,
@@ -154,8 +156,8 @@ fn visit(
     sheet: &mut [u16],
     queue: &mut [u16],
     attached: &mut [u16],
-    used: &mut [u8; 1024],
-    seen: &mut [u8; 16384],
+    used: &mut [u8; CORNERS],
+    seen: &mut [u8; PLACES],
     c: Cell,
     settings: Settings,
     params: GrowParams,
@@ -176,8 +178,8 @@ fn grow(
     sheet: &mut [u16],
     queue: &mut [u16],
     attached: &mut [u16],
-    used: &mut [u8; 1024],
-    seen: &mut [u8; 16384],
+    used: &mut [u8; CORNERS],
+    seen: &mut [u8; PLACES],
     settings: Settings,
     params: GrowParams,
     tail: usize,
@@ -230,7 +232,7 @@ fn extend(
     ensures { λ r. ⌜ growOut (GrowAnswer.Done r) (now (sheet .exit)) (now (queue .exit)) (now (attached .exit)) ≡ growLeaves (Outcome.done (growAfter (cornersOf (now (xs .entry)) (now (ys .entry)) (now (pitches .entry))) settings params (now (sheet .entry)))) (now (sheet .entry)) (now (queue .entry)) (now (attached .entry)) ⌝ }
 {
     let mut used = labels::mark_used(sheet);
-    let mut seen = [0u8; 16384];
+    let mut seen = [0u8; PLACES];
     let tail = grow_queue::seed(sheet, queue, &mut seen);
     let end = grow(
         xs,

@@ -4,6 +4,7 @@ use mathlib.Core.Path.{_≡_}
 use mathlib.Core.List.{List, [], _∷_, _++_}
 use Prim.Native.Nat.{ℕ, _<_, _≤_}
 use lib.ListN.{length}
+use Rattle.sizes.specs.Sizes.{cornerLimit}
 use Rattle.refusal.specs.declared.Refusal.{Refusal}
 use Rattle.sheet.specs.Corners.{cornerOf, Given}
 use Rattle.labels.specs.Used.{OneCell}
@@ -96,7 +97,7 @@ Invariants = (l : CornerLists) (given : List ℕ) → Standing l given → (cs :
 
 -- a call whose numbers are in range and whose buffers are long enough
 pub record CallInside (l : CornerLists) (c : Call) : Type 0 where
-  pub few : length (l .xs) ≤ 1024
+  pub few : length (l .xs) ≤ cornerLimit
   pub queue-long : queueNeeded (c .pass) (length (l .xs)) ≤ c .rooms .queue
   pub attached-long : length (l .xs) ≤ c .rooms .attached
   pub corners-inside : (k : ℕ) → k < length (l .xs) → CornerInside (cornerOf (l .xs) (l .ys) (l .pitches) k)

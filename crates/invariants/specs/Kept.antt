@@ -6,6 +6,7 @@ use mathlib.Core.List.{List, [], _∷_, _++_, List·Memᴰ}
 use mathlib.Core.Logic.{_↔_, _⊎_}
 use Prim.Native.Nat.{ℕ, _+_, _<_, _≤_}
 use lib.ListN.{length, getD, take}
+use Rattle.sizes.specs.Sizes.{placeCount}
 use Rattle.sheet.specs.Cells.{cellOf}
 use Rattle.sheet.specs.Words.{labelAt}
 use Rattle.sheet.specs.declared.Cell.{Cell}
@@ -19,7 +20,7 @@ use Rattle.passes.specs.History.{Attaches, History}
 
 -- a sheet that belongs to the corners: it is long enough, names given corners only, and each at one cell
 pub record Sound (cs : Corners) (sheet : List ℕ) : Type 0 where
-  pub long : 16384 ≤ length sheet
+  pub long : placeCount ≤ length sheet
   pub known : Known (cs .count) sheet
   pub one-cell : OneCell sheet
 
@@ -38,8 +39,8 @@ pub record Extended (cs : Corners) (first made last : List ℕ) : Type 0 where
   pub same-length : length last ≡ length first
   pub sound : Sound cs last
   pub kept : Kept first last
-  pub labelled : (p : ℕ) → p < 16384 → LabelledCell last (cellOf p) ↔ (LabelledCell first (cellOf p) ⊎ List·Memᴰ p made)
-  pub on : (p : ℕ) → List·Memᴰ p made → p < 16384
+  pub labelled : (p : ℕ) → p < placeCount → LabelledCell last (cellOf p) ↔ (LabelledCell first (cellOf p) ⊎ List·Memᴰ p made)
+  pub on : (p : ℕ) → List·Memᴰ p made → p < placeCount
   pub bare : (p : ℕ) → List·Memᴰ p made → labelAt first (cellOf p) ≡ Label.Unlabelled
   pub once : Once made
   pub count : labelCount last ≡ labelCount first + length made

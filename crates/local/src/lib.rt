@@ -24,6 +24,8 @@ use passes::Counts;
 use passes::LargestResidual;
 use passes::LocalAnswer;
 use passes::LocalStats;
+use sizes::CORNERS;
+use sizes::PLACES;
 
 // How far it has come, and after how many rounds.
 struct RoundsDone {
@@ -48,10 +50,10 @@ fn local_place(
     pitches: &[f32],
     sheet: &mut [u16],
     attached: &mut [u16],
-    used: &mut [u8; 1024],
-    places: &mut [u16; 1024],
-    memory: &mut [u16; 16384],
-    predictions: &mut [f32; 49152],
+    used: &mut [u8; CORNERS],
+    places: &mut [u16; CORNERS],
+    memory: &mut [u16; PLACES],
+    predictions: &mut [f32; 3 * PLACES],
     at: LocalProgress,
     around: LabelBox,
     rows: &[u8; 128],
@@ -93,10 +95,10 @@ fn local_round(
     pitches: &[f32],
     sheet: &mut [u16],
     attached: &mut [u16],
-    used: &mut [u8; 1024],
-    places: &mut [u16; 1024],
-    memory: &mut [u16; 16384],
-    predictions: &mut [f32; 49152],
+    used: &mut [u8; CORNERS],
+    places: &mut [u16; CORNERS],
+    memory: &mut [u16; PLACES],
+    predictions: &mut [f32; 3 * PLACES],
     at: LocalProgress,
     settings: Settings,
     params: LocalExtensionParams,
@@ -110,7 +112,7 @@ fn local_round(
     let window = region::window_of(around, depth_of(params));
     let mut reached = at;
     let mut place = region::next_inside(window, 0);
-    while place < 16384 {
+    while place < PLACES {
         let next = local_place(
             xs,
             ys,
@@ -160,10 +162,10 @@ fn local_rounds(
     pitches: &[f32],
     sheet: &mut [u16],
     attached: &mut [u16],
-    used: &mut [u8; 1024],
-    places: &mut [u16; 1024],
-    memory: &mut [u16; 16384],
-    predictions: &mut [f32; 49152],
+    used: &mut [u8; CORNERS],
+    places: &mut [u16; CORNERS],
+    memory: &mut [u16; PLACES],
+    predictions: &mut [f32; 3 * PLACES],
     labels: usize,
     settings: Settings,
     params: LocalExtensionParams,
@@ -233,7 +235,7 @@ fn local_accepted(
     ensures { λ r. ⌜ localOut (LocalAnswer.Done r) (now (sheet .exit)) (now (attached .exit)) ≡ localLeaves (done (localAfter (cornersOf (now (xs .entry)) (now (ys .entry)) (now (pitches .entry))) settings params (now (sheet .entry)))) (now (sheet .entry)) (now (attached .entry)) ⌝ }
 {
     let depth = depth_of(params);
-    let mut places = [0u16; 1024];
+    let mut places = [0u16; CORNERS];
     let labels = supports::gather_labelled(sheet, &mut places);
     if labels < 4 {
         let nothing = RoundsDone {
@@ -243,8 +245,8 @@ fn local_accepted(
         return stats_of(nothing, labels::rim_reached(sheet, depth));
     }
     let mut used = labels::mark_used(sheet);
-    let mut memory = [0u16; 16384];
-    let mut predictions = [0.0f32; 49152];
+    let mut memory = [0u16; PLACES];
+    let mut predictions = [0.0f32; 3 * PLACES];
     let rounds = local_rounds(
         xs,
         ys,

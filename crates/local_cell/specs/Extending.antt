@@ -5,6 +5,7 @@ use mathlib.Core.List.{List}
 use Prim.Native.Nat.{ℕ, _<_, _≤_}
 use lib.ListN.{length, set, take}
 use lib.Ieee.{Float}
+use Rattle.sizes.specs.Sizes.{cornerLimit}
 use Rattle.sheet.specs.Cells.{OnSheet, placeOf}
 use Rattle.sheet.specs.Words.{labelAt, attached, marksCleared, SheetCell}
 use Rattle.sheet.specs.Corners.{Given}
@@ -46,7 +47,7 @@ stateOf sheet list at = record { sheet = sheet; made = take (at .counts .attache
 -- labels, and the labelled places are listed
 pub record Extending (xs ys pitches : List Float) (sheet list used places : List ℕ) (made labels : ℕ) : Type 0 where
   pub given : Given xs ys pitches sheet
-  pub few : length xs ≤ 1024
+  pub few : length xs ≤ cornerLimit
   pub one-cell : OneCell sheet
   pub tied : Tied sheet used
   pub list-long : length xs ≤ length list
@@ -54,7 +55,7 @@ pub record Extending (xs ys pitches : List Float) (sheet list used places : List
   pub four : 4 ≤ labelCount sheet
   pub labels-are : labels ≡ labelCount sheet
   pub places-are : take labels places ≡ labelledPlaces sheet
-  pub size : length places ≡ 1024
+  pub size : length places ≡ cornerLimit
 
 -- the buffers hold a state: its sheet, its new cells at the front of the attached list, whose rest is as it was before, its counts and its
 -- largest residual
@@ -101,11 +102,11 @@ attachedClear sheet c k = marksCleared (attached sheet c k) c
 -- a corner can be written: to the sheet, to the next place of the attached list, to its entry and to the labelled places; and it can be counted
 pub record Writable (sheet list places : List ℕ) (at : LocalProgress) (c : Cell) (k : ℕ) : Type 0 where
   pub sheet-cell : SheetCell sheet c
-  pub entry : k < 1024
+  pub entry : k < cornerLimit
   pub space : at .counts .attached < length list
   pub countable : visits (at .counts) < 4294967296
-  pub few : labelCount (attachedClear sheet c k) ≤ 1024
-  pub size : length places ≡ 1024
+  pub few : labelCount (attachedClear sheet c k) ≤ cornerLimit
+  pub size : length places ≡ cornerLimit
 
 -- the buffers after a corner was attached: the sheet, the next place of the attached list, the corner's entry and the labelled places
 pub record Wrote (sheet list used places : List ℕ) (at : LocalProgress) (c : Cell) (k : ℕ) (sheet' list' used' places' : List ℕ) (at' : LocalProgress) : Type 0 where

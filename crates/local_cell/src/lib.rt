@@ -4,6 +4,7 @@
 ghost use mathlib.Core.Path.{_≡_};
 ghost use Prim.Native.Nat.{_<_};
 ghost use lib.ListN.{length};
+ghost use Rattle.sizes.specs.Sizes.{placeCount};
 ghost use Rattle.extension_common.specs.TryCell.{cornersOf, tryAt};
 ghost use Rattle.passes.specs.Counting.{visits};
 ghost use Rattle.passes.specs.Grow.{tolerancesOf};
@@ -21,6 +22,8 @@ use positions_policy::Tolerances;
 use remembered::Known;
 use sheet::Cell;
 use sheet::Position;
+use sizes::CORNERS;
+use sizes::PLACES;
 
 // How far the pass has come: the counts, the largest residual recorded, and how many cells are labelled.
 pub struct LocalProgress {
@@ -95,16 +98,16 @@ fn with_residuals(at: LocalProgress, residuals: [f32; 4]) -> LocalProgress
 fn attach_corner(
     sheet: &mut [u16],
     attached: &mut [u16],
-    used: &mut [u8; 1024],
-    places: &mut [u16; 1024],
-    memory: &mut [u16; 16384],
-    predictions: &[f32; 49152],
+    used: &mut [u8; CORNERS],
+    places: &mut [u16; CORNERS],
+    memory: &mut [u16; PLACES],
+    predictions: &[f32; 3 * PLACES],
     at: LocalProgress,
     c: Cell,
     k: usize,
     corner: Position,
 ) -> LocalProgress
-    requires { ⌜ Writable (now sheet) (now attached) (now places) at c k × (length (now memory) ≡ 16384) ⌝ }
+    requires { ⌜ Writable (now sheet) (now attached) (now places) at c k × (length (now memory) ≡ placeCount) ⌝ }
     ensures { λ r. ⌜ Wrote (now (sheet .entry)) (now (attached .entry)) (now (used .entry)) (now (places .entry)) at c k (now (sheet .exit)) (now (attached .exit)) (now (used .exit)) (now (places .exit)) r × Forgotten (now (memory .entry)) (now (predictions .entry)) c corner (now (memory .exit)) ⌝ }
 {
     let n = at.counts;
@@ -132,10 +135,10 @@ fn try_predicted_cell(
     pitches: &[f32],
     sheet: &mut [u16],
     attached: &mut [u16],
-    used: &mut [u8; 1024],
-    places: &mut [u16; 1024],
-    memory: &mut [u16; 16384],
-    predictions: &mut [f32; 49152],
+    used: &mut [u8; CORNERS],
+    places: &mut [u16; CORNERS],
+    memory: &mut [u16; PLACES],
+    predictions: &mut [f32; 3 * PLACES],
     at: LocalProgress,
     c: Cell,
     reach: u32,
@@ -201,10 +204,10 @@ fn try_unknown_cell(
     pitches: &[f32],
     sheet: &mut [u16],
     attached: &mut [u16],
-    used: &mut [u8; 1024],
-    places: &mut [u16; 1024],
-    memory: &mut [u16; 16384],
-    predictions: &mut [f32; 49152],
+    used: &mut [u8; CORNERS],
+    places: &mut [u16; CORNERS],
+    memory: &mut [u16; PLACES],
+    predictions: &mut [f32; 3 * PLACES],
     at: LocalProgress,
     c: Cell,
     settings: Settings,
@@ -255,10 +258,10 @@ pub fn try_local_cell(
     pitches: &[f32],
     sheet: &mut [u16],
     attached: &mut [u16],
-    used: &mut [u8; 1024],
-    places: &mut [u16; 1024],
-    memory: &mut [u16; 16384],
-    predictions: &mut [f32; 49152],
+    used: &mut [u8; CORNERS],
+    places: &mut [u16; CORNERS],
+    memory: &mut [u16; PLACES],
+    predictions: &mut [f32; 3 * PLACES],
     at: LocalProgress,
     c: Cell,
     settings: Settings,

@@ -4,6 +4,7 @@ use mathlib.Core.Path.{_≡_}
 use mathlib.Core.List.{List}
 use Prim.Native.Nat.{ℕ, _+_, _*_, _<_, _≤_}
 use lib.ListN.{length, getD}
+use Rattle.sizes.specs.Sizes.{placeCount}
 use Rattle.arguments.specs.Arguments.{Lent, checked}
 use Rattle.arguments.specs.declared.Checked.{Checked}
 use Rattle.arguments.specs.declared.GrowParams.{GrowParams}
@@ -22,7 +23,7 @@ tally n = n .attached + n .«rejected_no_candidate» + n .«rejected_ambiguous»
 pub record AllVisited (cs : Corners) (s : GrowState) : Type 0 where
   pub each-counted : tally (s .counts) ≡ length (s .queued)
   pub few : length (s .queued) ≤ 4 * cs .count
-  pub on : (i : ℕ) → i < length (s .queued) → getD (s .queued) i 0 < 16384
+  pub on : (i : ℕ) → i < length (s .queued) → getD (s .queued) i 0 < placeCount
   pub once : (i j : ℕ) → i < j → j < length (s .queued) → getD (s .queued) i 0 ≡ getD (s .queued) j 0 → ⊥
   pub made-few : length (s .made) ≤ cs .count
 

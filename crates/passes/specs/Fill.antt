@@ -7,6 +7,7 @@ use lib.ListN.{length}
 use lib.IntN.{ℤ, pos, _+ℤ_, _-ℤ_}
 use lib.Signed.{leZ}
 use lib.Ieee.{Float, binary32, mul}
+use Rattle.sizes.specs.Sizes.{placeCount}
 use Rattle.sheet.specs.Cells.{placeOf, cellOf}
 use Rattle.sheet.specs.Words.{labelAt, attached}
 use Rattle.sheet.specs.Corners.{seenOf}
@@ -49,7 +50,7 @@ boxAndStrips (LabelBox.Around b) c = (nearI 0 b c && nearJ 1 b c) || (nearI 1 b 
 
 -- the cells that a round walks, by i then j: those of the region that are unlabelled
 unfoldable pub cellsOf : (Cell → Bool) → (Cell → Bool) → List ℕ
-cellsOf region labelled = passing (λ p. region (cellOf p) && not (labelled (cellOf p))) 16384
+cellsOf region labelled = passing (λ p. region (cellOf p) && not (labelled (cellOf p))) placeCount
 
 -- listed at the round's start
 unfoldable pub fillCells : List ℕ → List ℕ

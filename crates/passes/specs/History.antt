@@ -6,6 +6,7 @@ use mathlib.Core.List.{List, [], _∷_, _++_}
 use mathlib.Core.Logic.{_⊎_}
 use Prim.Native.Nat.{ℕ, _<_}
 use lib.ListN.{length}
+use Rattle.sizes.specs.Sizes.{placeCount}
 use Rattle.sheet.specs.Cells.{cellOf}
 use Rattle.sheet.specs.Words.{labelAt, attached}
 use Rattle.sheet.specs.Corners.{seenOf}
@@ -19,7 +20,7 @@ use Rattle.extension_common.specs.TryCell.{Corners}
 -- corner k may be attached to the cell of place p: the cell is unlabelled, the corner is a given one that no cell holds, and it has an
 -- accepted edge to a labelled cardinal neighbour, or there is no such neighbour
 pub record Attaches (cs : Corners) (tol : Tolerances) (sheet : List ℕ) (p k : ℕ) : Type 0 where
-  pub on : p < 16384
+  pub on : p < placeCount
   pub bare : labelAt sheet (cellOf p) ≡ Label.Unlabelled
   pub given : k < cs .count
   pub free : usedOn sheet k ≡ false

@@ -7,6 +7,7 @@ use mathlib.Core.Logic.{_↔_, _⊎_}
 use Prim.Native.Nat.{ℕ, _<_, min}
 use lib.ListN.{length}
 use lib.Signed.{_<ℤ_}
+use Rattle.sizes.specs.Sizes.{placeCount}
 use Rattle.sheet.specs.Cells.{cellOf}
 use Rattle.sheet.specs.declared.Cell.{Cell}
 use Rattle.labels.specs.Labelled.{LabelledCell, labelCount}
@@ -14,7 +15,7 @@ use Rattle.passes.specs.Local.{reachOf, nearer, supportsOf}
 
 -- a place of the sheet whose cell holds a corner
 pub record LabelledPlace (sheet : List ℕ) (p : ℕ) : Type 0 where
-  pub on : p < 16384
+  pub on : p < placeCount
   pub labelled : LabelledCell sheet (cellOf p)
 
 -- ---- the order
@@ -31,9 +32,9 @@ Tested = (c : Cell) (p q : ℕ) → (nearer c p q ≡ true) ↔ Nearer c p q
 
 -- on the places of the sheet it is strict and total, and goes on from one to the next
 pub record Ordering (c : Cell) : Type 0 where
-  pub strict : (p q : ℕ) → p < 16384 → q < 16384 → Nearer c p q → Nearer c q p → ⊥
-  pub total : (p q : ℕ) → p < 16384 → q < 16384 → (p ≡ q → ⊥) → Nearer c p q ⊎ Nearer c q p
-  pub chain : (p q r : ℕ) → p < 16384 → q < 16384 → r < 16384 → Nearer c p q → Nearer c q r → Nearer c p r
+  pub strict : (p q : ℕ) → p < placeCount → q < placeCount → Nearer c p q → Nearer c q p → ⊥
+  pub total : (p q : ℕ) → p < placeCount → q < placeCount → (p ≡ q → ⊥) → Nearer c p q ⊎ Nearer c q p
+  pub chain : (p q r : ℕ) → p < placeCount → q < placeCount → r < placeCount → Nearer c p q → Nearer c q r → Nearer c p r
 
 -- ---- the 4 nearest
 

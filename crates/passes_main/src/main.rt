@@ -8,6 +8,7 @@
 ghost use mathlib.Core.Path.{_≡_};
 ghost use Prim.Native.Nat.{_≤_, _<_};
 ghost use lib.ListN.{length};
+ghost use Rattle.sizes.specs.Sizes.{placeCount};
 use arguments::FillParams;
 use arguments::GrowParams;
 use arguments::LocalExtensionParams;
@@ -27,6 +28,7 @@ use predict::Grid;
 use predict::Vector;
 use refusal::Refusal;
 use sheet::Label;
+use sizes::PLACES;
 
 // ---- reading
 
@@ -101,18 +103,18 @@ fn label_word(text: &[u8], k: usize) -> u16 {
 }
 
 fn place_at(text: &[u8], k: usize) -> usize
-    ensures { λ r. ⌜ r < 16384 ⌝ }
+    ensures { λ r. ⌜ r < placeCount ⌝ }
 {
-    number_at(text, k) % 16384
+    number_at(text, k) % PLACES
 }
 
 // A sheet with m labels: for each its corner, then its place.
-fn read_labels(text: &[u8], from: usize, m: usize) -> [u16; 16384]
+fn read_labels(text: &[u8], from: usize, m: usize) -> [u16; PLACES]
     requires { ⌜ from ≤ 4000 ⌝ }
     requires { ⌜ m ≤ 2048 ⌝ }
-    ensures { λ r. ⌜ 16384 ≡ length r ⌝ }
+    ensures { λ r. ⌜ placeCount ≡ length r ⌝ }
 {
-    let mut sheet = [0u16; 16384];
+    let mut sheet = [0u16; PLACES];
     let mut i = 0usize;
     while i < m {
         let at = from + 2 * i;

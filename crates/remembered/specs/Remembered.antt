@@ -7,6 +7,7 @@ use lib.Dec.{T, leb}
 use lib.ListN.{length, getD}
 use lib.Ieee.{Float, nan, binary32, ofBits, lt}
 use lib.Ieee.Scale.{finite}
+use Rattle.sizes.specs.Sizes.{placeCount}
 use Rattle.binary32.specs.Sqrt.{sqrtOrNan}
 use Rattle.sheet.specs.Cells.{OnSheet, placeOf, cellOf}
 use Rattle.sheet.specs.Corners.{seenOf, squaredDistance}
@@ -138,14 +139,14 @@ entryOf memory predictions a = knownOf (getD memory a 0) (predictionAt predictio
 
 -- a word, a prediction and a limit for each place of the sheet, and what they say holds; and the squared radius is finite
 pub record Remembered (cs : Corners) (set : Settings) (p : LocalExtensionParams) (l : LargestResidual) (sheet memory : List ℕ) (predictions : List Float) : Type 0 where
-  pub size : length memory ≡ 16384
+  pub size : length memory ≡ placeCount
   pub room : length predictions ≡ 49152
-  pub at : (a : ℕ) → a < 16384 → KnownAt cs set p l sheet (cellOf a) (entryOf memory predictions a)
+  pub at : (a : ℕ) → a < placeCount → KnownAt cs set p l sheet (cellOf a) (entryOf memory predictions a)
   pub bounded : T (finite (squaredRadius (localSearch set p .«search_r»)))
 
 -- two arrays of these sizes, a cell of the sheet, and a reach that a word holds
 pub record Noting (memory : List ℕ) (predictions : List Float) (c : Cell) (known : Known) : Type 0 where
-  pub size : length memory ≡ 16384
+  pub size : length memory ≡ placeCount
   pub room : length predictions ≡ 49152
   pub on : OnSheet c
   pub notable : Notable known
@@ -174,10 +175,10 @@ leftWord c q corner at limit w = doubtedWord (lt limit (sqrtOrNan (squaredDistan
 
 -- a place of the sheet, and a cell of the sheet
 pub record Leaving (place : ℕ) (c : Cell) : Type 0 where
-  pub inside : place < 16384
+  pub inside : place < placeCount
   pub on : OnSheet c
 
 -- all words after a corner was attached to a cell
 pub record Forgotten (memory : List ℕ) (predictions : List Float) (c : Cell) (corner : Position) (memory' : List ℕ) : Type 0 where
   pub size : length memory' ≡ length memory
-  pub at : (a : ℕ) → a < 16384 → getD memory' a 0 ≡ leftWord (cellOf a) (placeOf c) corner (predictionAt predictions a) (limitAt predictions a) (getD memory a 0)
+  pub at : (a : ℕ) → a < placeCount → getD memory' a 0 ≡ leftWord (cellOf a) (placeOf c) corner (predictionAt predictions a) (limitAt predictions a) (getD memory a 0)

@@ -6,6 +6,7 @@
 ghost use mathlib.Core.Path.{_≡_};
 ghost use Prim.Native.Nat.{_%_, _≤_, _<_};
 ghost use lib.ListN.{length};
+ghost use Rattle.sizes.specs.Sizes.{placeCount};
 ghost use Rattle.sheet.specs.Cells.{OnSheet, placeOf, cellOf};
 ghost use Rattle.sheet.specs.declared.Position.{Position};
 ghost use Rattle.passes.specs.Local.{reachOf};
@@ -15,6 +16,7 @@ ghost use Rattle.sheet.specs.Corners.{squaredDistance};
 ghost use Rattle.remembered.specs.Remembered.{knownOf, knownWord, noPrediction, predictionIn, limitIn, predictionAt, limitAt, forgottenWord, doubtedWord, leftWord, entryOf, Notable, Noting, Noted, Leaving, Forgotten};
 use sheet::Cell;
 use sheet::Position;
+use sizes::PLACES;
 
 // What is known of a cell: nothing; or how far its fourth support is, and that its visit changes nothing (no fit, or a residual above the gate),
 // that there is no candidate where the fit maps it to, where the fit maps it to, or also that the choice there is ambiguous, and how far the last of
@@ -49,8 +51,8 @@ fn known_of(word: u16, at: Position, limit: f32) -> Known
 }
 
 // The prediction beside the word of a place.
-fn prediction_at(predictions: &[f32; 49152], place: usize) -> Position
-    requires { ⌜ place < 16384 ⌝ }
+fn prediction_at(predictions: &[f32; 3 * PLACES], place: usize) -> Position
+    requires { ⌜ place < placeCount ⌝ }
     ensures { λ r. ⌜ r ≡ predictionAt (now (predictions .entry)) place ⌝ }
 {
     Position {
@@ -60,15 +62,15 @@ fn prediction_at(predictions: &[f32; 49152], place: usize) -> Position
 }
 
 // The limit beside the word of a place.
-fn limit_at(predictions: &[f32; 49152], place: usize) -> f32
-    requires { ⌜ place < 16384 ⌝ }
+fn limit_at(predictions: &[f32; 3 * PLACES], place: usize) -> f32
+    requires { ⌜ place < placeCount ⌝ }
     ensures { λ r. ⌜ r ≡ limitAt (now (predictions .entry)) place ⌝ }
 {
     predictions[place * 3 + 2]
 }
 
 // What is known of a cell of the sheet.
-pub fn recall(memory: &[u16; 16384], predictions: &[f32; 49152], c: Cell) -> Known
+pub fn recall(memory: &[u16; PLACES], predictions: &[f32; 3 * PLACES], c: Cell) -> Known
     requires { ⌜ OnSheet c ⌝ }
     ensures { λ r. ⌜ (r ≡ entryOf (now (memory .entry)) (now (predictions .entry)) (placeOf c)) × Notable r ⌝ }
 {
@@ -125,7 +127,7 @@ fn limit_in(known: Known) -> f32
 }
 
 // Notes what is known of a cell of the sheet, in place of what was known of it.
-pub fn note(memory: &mut [u16; 16384], predictions: &mut [f32; 49152], c: Cell, known: Known)
+pub fn note(memory: &mut [u16; PLACES], predictions: &mut [f32; 3 * PLACES], c: Cell, known: Known)
     requires { ⌜ Noting (now memory) (now predictions) c known ⌝ }
     ensures { λ r. ⌜ Noted (now (memory .entry)) (now (predictions .entry)) c known (now (memory .exit)) (now (predictions .exit)) ⌝ }
 {
@@ -140,7 +142,7 @@ pub fn note(memory: &mut [u16; 16384], predictions: &mut [f32; 49152], c: Cell, 
 
 // How far a cell lies from the cell of a place: |di| + |dj|.
 fn reach_of(place: usize, c: Cell) -> u32
-    requires { ⌜ (place < 16384) × OnSheet c ⌝ }
+    requires { ⌜ (place < placeCount) × OnSheet c ⌝ }
     ensures { λ r. ⌜ r ≡ reachOf (cellOf place) (placeOf c) ⌝ }
 {
     let o = sheet::difference(c, sheet::cell_of(place));
@@ -149,7 +151,7 @@ fn reach_of(place: usize, c: Cell) -> u32
 
 // What is left of a place's word once a cell is labelled: nothing if the fourth support of the place's cell is as far as that cell, or farther.
 fn forget_if_near(word: u16, place: usize, c: Cell) -> u16
-    requires { ⌜ (place < 16384) × OnSheet c ⌝ }
+    requires { ⌜ (place < placeCount) × OnSheet c ⌝ }
     ensures { λ r. ⌜ r ≡ forgottenWord (cellOf place) (placeOf c) word ⌝ }
 {
     let reach = (word / 8) as u32;
@@ -171,7 +173,13 @@ fn doubt_if_near(word: u16, at: Position, limit: f32, corner: Position) -> u16
 }
 
 // What is left of a place's word once a corner is attached to a cell. Few choices are ambiguous.
-fn left_of(word: u16, predictions: &[f32; 49152], place: usize, c: Cell, corner: Position) -> u16
+fn left_of(
+    word: u16,
+    predictions: &[f32; 3 * PLACES],
+    place: usize,
+    c: Cell,
+    corner: Position,
+) -> u16
     requires { ⌜ Leaving place c ⌝ }
     ensures { λ r. ⌜ r ≡ leftWord (cellOf place) (placeOf c) corner (predictionAt (now (predictions .entry)) place) (limitAt (now (predictions .entry)) place) word ⌝ }
 {
@@ -186,12 +194,17 @@ fn left_of(word: u16, predictions: &[f32; 49152], place: usize, c: Cell, corner:
 
 // Forgets what may be another once a corner is attached to a cell: what is known of every cell whose fourth support is as far as that cell, or
 // farther, and every ambiguous choice where the corner may have been one of the first two candidates. Places of which nothing is known are passed over.
-pub fn forget_near(memory: &mut [u16; 16384], predictions: &[f32; 49152], c: Cell, corner: Position)
-    requires { ⌜ (length (now memory) ≡ 16384) × OnSheet c ⌝ }
+pub fn forget_near(
+    memory: &mut [u16; PLACES],
+    predictions: &[f32; 3 * PLACES],
+    c: Cell,
+    corner: Position,
+)
+    requires { ⌜ (length (now memory) ≡ placeCount) × OnSheet c ⌝ }
     ensures { λ r. ⌜ Forgotten (now (memory .entry)) (now (predictions .entry)) c corner (now (memory .exit)) ⌝ }
 {
     let mut place = sheet::next_written(memory, 0);
-    while place < 16384 {
+    while place < PLACES {
         memory[place] = left_of(memory[place], predictions, place, c, corner);
         place = sheet::next_written(memory, place + 1);
     }

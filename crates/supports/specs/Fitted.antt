@@ -4,6 +4,7 @@ use mathlib.Core.List.{List, [], _∷_}
 use Prim.Native.Nat.{_<_}
 use lib.ListN.{replicate}
 use lib.Ieee.{Float}
+use Rattle.sizes.specs.Sizes.{placeCount}
 use Rattle.sheet.specs.declared.Position.{Position}
 use Rattle.homography.specs.Normalize.{point}
 use Rattle.homography.specs.Fit.{Answer, NoFit, Entries, homographyOf}
@@ -37,7 +38,7 @@ pointsFit cells corners = trustedPoints cells corners (homographyOf cells corner
 
 -- four supports that are places of the sheet
 pub record Pictured (s : Supports) : Type 0 where
-  pub first-below : s .first .place < 16384
-  pub second-below : s .second .place < 16384
-  pub third-below : s .third .place < 16384
-  pub fourth-below : s .fourth .place < 16384
+  pub first-below : s .first .place < placeCount
+  pub second-below : s .second .place < placeCount
+  pub third-below : s .third .place < placeCount
+  pub fourth-below : s .fourth .place < placeCount

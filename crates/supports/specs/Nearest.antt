@@ -6,6 +6,7 @@ use mathlib.Core.List.{List, [], _∷_, _++_, map}
 use Prim.Native.Nat.{ℕ, _-_, _<_, _≤_}
 use lib.Dec.{ltb, leb}
 use lib.ListN.{length, getD, set, take}
+use Rattle.sizes.specs.Sizes.{placeCount, cornerLimit}
 use Rattle.sheet.specs.Cells.{OnSheet}
 use Rattle.sheet.specs.declared.Cell.{Cell}
 use Rattle.labels.specs.Labelled.{isLabelled, counted, labelledPlaces, labelCount}
@@ -19,8 +20,8 @@ use Rattle.supports.specs.declared.Span.{Span}
 
 -- a place of the sheet, for which the list has room if it is labelled
 pub record Listable (count word place : ℕ) : Type 0 where
-  pub below : place < 16384
-  pub room : isLabelled word ≡ true → count < 1024
+  pub below : place < placeCount
+  pub room : isLabelled word ≡ true → count < cornerLimit
 
 -- one more place looked at: it is listed if its word is labelled
 pub record MoreListed (places : List ℕ) (count word place : ℕ) (places' : List ℕ) (count' : ℕ) : Type 0 where
@@ -29,9 +30,9 @@ pub record MoreListed (places : List ℕ) (count word place : ℕ) (places' : Li
 
 -- a sheet that is long enough and has at most 1,024 labels, and an array for their places
 pub record Gatherable (sheet places : List ℕ) : Type 0 where
-  pub long : 16384 ≤ length sheet
-  pub few : labelCount sheet ≤ 1024
-  pub size : length places ≡ 1024
+  pub long : placeCount ≤ length sheet
+  pub few : labelCount sheet ≤ cornerLimit
+  pub size : length places ≡ cornerLimit
 
 -- the labelled places stand at the front of the array, whose rest is as before
 pub record Gathered (sheet places places' : List ℕ) (count : ℕ) : Type 0 where
@@ -91,10 +92,10 @@ pub record EarlierKept (s : Supports) (new : Support) (r : Supports) : Type 0 wh
 -- at least four places of the sheet in rising order at the front of an array, and a cell of the sheet
 pub record Nearby (places : List ℕ) (count : ℕ) (c : Cell) : Type 0 where
   pub four : 4 ≤ count
-  pub few : count ≤ 1024
-  pub size : length places ≡ 1024
+  pub few : count ≤ cornerLimit
+  pub size : length places ≡ cornerLimit
   pub rising : (a b : ℕ) → a < b → b < count → getD places a 0 < getD places b 0
-  pub below : (a : ℕ) → a < count → getD places a 0 < 16384
+  pub below : (a : ℕ) → a < count → getD places a 0 < placeCount
   pub on : OnSheet c
 
 -- some places with their reaches, and behind them what stands for those not found

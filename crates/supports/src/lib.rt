@@ -8,6 +8,7 @@ ghost use Prim.Native.Nat.{_+_, _/_, _<_, _≤_};
 ghost use lib.Dec.{ltb, leb};
 ghost use lib.ListN.{length, take};
 ghost use lib.Ieee.{binary32, ofBits, lt};
+ghost use Rattle.sizes.specs.Sizes.{placeCount, cornerLimit};
 ghost use Rattle.sheet.specs.Cells.{OnSheet, placeOf, cellOf};
 ghost use Rattle.sheet.specs.Corners.{cornerOf, seenOf, Given};
 ghost use Rattle.passes.specs.Local.{cellPoint, picturedAt, residualOf, none, localFit, worst, recorded, recordedAll};
@@ -18,6 +19,8 @@ use passes::LargestResidual;
 use sheet::Cell;
 use sheet::Position;
 use sheet::Seen;
+use sizes::CORNERS;
+use sizes::PLACES;
 
 // A labelled place, and how far its cell lies from the cell whose supports are looked for: |di| + |dj|.
 pub struct Support {
@@ -37,7 +40,7 @@ pub struct Supports {
 const FAR: u32 = 1000;
 
 // One more place of the sheet, which holds this word: listed if it is labelled. Answers how many are listed.
-fn list_place(places: &mut [u16; 1024], count: usize, word: u16, place: usize) -> usize
+fn list_place(places: &mut [u16; CORNERS], count: usize, word: u16, place: usize) -> usize
     requires { ⌜ Listable count word place ⌝ }
     ensures { λ r. ⌜ MoreListed (now (places .entry)) count word place (now (places .exit)) r ⌝ }
 {
@@ -49,13 +52,13 @@ fn list_place(places: &mut [u16; 1024], count: usize, word: u16, place: usize) -
 }
 
 // Lists the labelled places of a sheet in rising order at the front of the array, whose rest stays. Answers how many there are.
-pub fn gather_labelled(sheet: &[u16], places: &mut [u16; 1024]) -> usize
+pub fn gather_labelled(sheet: &[u16], places: &mut [u16; CORNERS]) -> usize
     requires { ⌜ Gatherable (now sheet) (now places) ⌝ }
     ensures { λ r. ⌜ Gathered (now (sheet .entry)) (now (places .entry)) (now (places .exit)) r ⌝ }
 {
     let mut count = 0usize;
     let mut place = sheet::next_written(sheet, 0);
-    while place < 16384 {
+    while place < PLACES {
         let next = list_place(places, count, sheet[place], place);
         count = next;
         place = sheet::next_written(sheet, place + 1);
@@ -89,7 +92,7 @@ fn no_supports() -> Supports
 
 // A place, with its reach from a cell.
 fn support_of(place: usize, c: Cell) -> Support
-    requires { ⌜ (place < 16384) × OnSheet c ⌝ }
+    requires { ⌜ (place < placeCount) × OnSheet c ⌝ }
     ensures { λ r. ⌜ r ≡ supportAt c place ⌝ }
 {
     let o = sheet::difference(sheet::cell_of(place), c);
@@ -205,7 +208,7 @@ fn row_of(c: Cell) -> usize
 
 // Whether a place lies so many lines before a line that it is farther than a reach.
 fn far_before(place: usize, row: usize, reach: u32) -> bool
-    requires { ⌜ place < 16384 ⌝ }
+    requires { ⌜ place < placeCount ⌝ }
     ensures { λ r. ⌜ r ≡ ltb (place / 128 + reach) row ⌝ }
 {
     place / 128 + (reach as usize) < row
@@ -226,8 +229,8 @@ pub struct Span {
 }
 
 // The half of a span in which the line begins.
-fn halve(places: &[u16; 1024], span: Span, row: usize) -> Span
-    requires { ⌜ (span .low < span .high) × (span .high ≤ 1024) ⌝ }
+fn halve(places: &[u16; CORNERS], span: Span, row: usize) -> Span
+    requires { ⌜ (span .low < span .high) × (span .high ≤ cornerLimit) ⌝ }
     ensures { λ r. ⌜ Halved span r ⌝ }
 {
     let middle = span.low + (span.high - span.low) / 2;
@@ -244,8 +247,8 @@ fn halve(places: &[u16; 1024], span: Span, row: usize) -> Span
 }
 
 // Where among the places the line begins, from which the nearest are looked for both ways. Wherever that is, the nearest are the same.
-fn start_of(places: &[u16; 1024], count: usize, row: usize) -> usize
-    requires { ⌜ count ≤ 1024 ⌝ }
+fn start_of(places: &[u16; CORNERS], count: usize, row: usize) -> usize
+    requires { ⌜ count ≤ cornerLimit ⌝ }
     ensures { λ r. ⌜ r ≤ count ⌝ }
 {
     let mut span = Span {
@@ -260,7 +263,7 @@ fn start_of(places: &[u16; 1024], count: usize, row: usize) -> usize
 }
 
 // The four nearest among the places before one, from the last back to the first that is not too far.
-fn keep_before(places: &[u16; 1024], count: usize, from: usize, c: Cell) -> Supports
+fn keep_before(places: &[u16; CORNERS], count: usize, from: usize, c: Cell) -> Supports
     requires { ⌜ Nearby (now places) count c × (from ≤ count) ⌝ }
     ensures { λ r. ⌜ Keeping (now (places .entry)) count c r from ⌝ }
 {
@@ -280,7 +283,7 @@ fn keep_before(places: &[u16; 1024], count: usize, from: usize, c: Cell) -> Supp
 }
 
 // The four nearest to a cell among at least four places, given in rising order: by |di| + |dj|, then i, then j. Each has its own reach.
-pub fn nearest_labelled_by_grid(places: &[u16; 1024], count: usize, c: Cell) -> Supports
+pub fn nearest_labelled_by_grid(places: &[u16; CORNERS], count: usize, c: Cell) -> Supports
     requires { ⌜ Nearby (now places) count c ⌝ }
     ensures { λ r. ⌜ keptOf r ≡ nearestAmong c (take count (now (places .entry))) ⌝ }
 {
@@ -319,7 +322,7 @@ pub fn cell_point(c: Cell) -> Position
 
 // The point of a place's cell.
 fn place_point(place: usize) -> Position
-    requires { ⌜ place < 16384 ⌝ }
+    requires { ⌜ place < placeCount ⌝ }
     ensures { λ r. ⌜ r ≡ cellPoint (cellOf place) ⌝ }
 {
     cell_point(sheet::cell_of(place))
@@ -327,7 +330,7 @@ fn place_point(place: usize) -> Position
 
 // The pictured corner of a place's cell; one that has none is nowhere.
 fn pictured(xs: &[f32], ys: &[f32], pitches: &[f32], sheet: &[u16], place: usize) -> Position
-    requires { ⌜ Given (now xs) (now ys) (now pitches) (now sheet) × (place < 16384) ⌝ }
+    requires { ⌜ Given (now xs) (now ys) (now pitches) (now sheet) × (place < placeCount) ⌝ }
     ensures { λ r. ⌜ r ≡ picturedAt (seenOf (cornerOf (now (xs .entry)) (now (ys .entry)) (now (pitches .entry))) (now (sheet .entry))) place ⌝ }
 {
     let seen = sheet::seen_at(xs, ys, pitches, sheet, sheet::cell_of(place));
