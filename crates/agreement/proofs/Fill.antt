@@ -18,8 +18,8 @@ use Rattle.sheet.proofs.Pairing.{paired-attached}
 use Rattle.labels.specs.Labelled.{labelCount}
 use Rattle.labels.specs.Box.{boxOf}
 use Rattle.labels.proofs.Pairing.{paired-box, paired-count}
-use Rattle.grow.specs.Candidates.{squaredRadius}
-use Rattle.grow.proofs.Radius.{search-radius}
+use Rattle.candidates.specs.Candidates.{squaredRadius}
+use Rattle.candidates.proofs.Radius.{search-radius}
 use Rattle.predict.specs.Predict.{predictionOf}
 use Rattle.predict.specs.declared.Prediction.{Prediction}
 use Rattle.predict.proofs.Laws.{prediction-paired}

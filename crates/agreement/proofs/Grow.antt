@@ -20,8 +20,8 @@ use Rattle.sheet.proofs.Laws.{cell-on}
 use Rattle.sheet.proofs.Pairing.{paired-attached, paired-hole-marked, paired-ambiguous-marked}
 use Rattle.labels.specs.Labelled.{labelledPlaces}
 use Rattle.labels.proofs.Pairing.{paired-places}
-use Rattle.grow.specs.Candidates.{squaredRadius}
-use Rattle.grow.proofs.Radius.{search-radius, boundary-radius}
+use Rattle.candidates.specs.Candidates.{squaredRadius}
+use Rattle.candidates.proofs.Radius.{search-radius, boundary-radius}
 use Rattle.predict.specs.Predict.{predictionOf, extrapolating}
 use Rattle.predict.specs.declared.Prediction.{Prediction}
 use Rattle.predict.proofs.Laws.{prediction-paired, extrapolating-paired}

@@ -21,8 +21,8 @@ use Rattle.labels.specs.Labelled.{labelledPlaces, labelCount}
 use Rattle.labels.specs.Box.{boxOf}
 use Rattle.labels.proofs.Pairing.{paired-places, paired-box, paired-count}
 use Rattle.homography.specs.Fit.{applied}
-use Rattle.grow.specs.Candidates.{squaredRadius}
-use Rattle.grow.proofs.Radius.{search-radius}
+use Rattle.candidates.specs.Candidates.{squaredRadius}
+use Rattle.candidates.proofs.Radius.{search-radius}
 use Rattle.arguments.specs.Accepted.{SettingsInside, LocalInside}
 use Rattle.arguments.specs.declared.Settings.{Settings}
 use Rattle.arguments.specs.declared.LocalExtensionParams.{LocalExtensionParams}

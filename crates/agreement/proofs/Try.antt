@@ -13,10 +13,10 @@ use Rattle.sheet.specs.declared.Cell.{Cell}
 use Rattle.sheet.specs.declared.Corner.{Corner}
 use Rattle.sheet.specs.declared.Position.{Position}
 use Rattle.labels.proofs.Pairing.{paired-used}
-use Rattle.grow.specs.Candidates.{squaredRadius, candidatesAt, firstTwo}
-use Rattle.grow.specs.Choice.{renumbered}
-use Rattle.grow.specs.declared.CandidateChoice.{CandidateChoice}
-use Rattle.grow.proofs.Pairing.{paired-unambiguous, paired-with-floor}
+use Rattle.candidates.specs.Candidates.{squaredRadius, candidatesAt, firstTwo}
+use Rattle.candidates.specs.Choice.{renumbered}
+use Rattle.candidates.specs.declared.CandidateChoice.{CandidateChoice}
+use Rattle.candidates.proofs.Pairing.{paired-unambiguous, paired-with-floor}
 use Rattle.positions_policy.specs.Edge.{verdictOf, passes}
 use Rattle.positions_policy.specs.declared.Tolerances.{Tolerances}
 use Rattle.positions_policy.proofs.Laws.{verdict-paired}

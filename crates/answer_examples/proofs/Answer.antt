@@ -14,7 +14,7 @@ use Rattle.frame.specs.ReadFrame.{labelled, sheetOf}
 use Rattle.frame_laws.specs.Calls.{cornersOf, callsOf}
 use Rattle.frame_laws.proofs.Runs.{accepted-runs}
 use Rattle.report_line.specs.Result.{passLines, heading, resultText}
-use Rattle.recovery.specs.Answer.{statsOf, frameStats, frameSheet, answerOf, answerText}
+use Rattle.frame_answer.specs.Answer.{statsOf, frameStats, frameSheet, answerOf, answerText}
 use Rattle.written_places.specs.Written.{Written, Rise, no-more, sheetWith, attachedIn}
 use Rattle.written_places.specs.Run.{Asked, runs, callsOf as callsAsked, AsAsked, ends, one-runs}
 use Rattle.written_places.proofs.Written.{rise-put, attached-so, all-told}

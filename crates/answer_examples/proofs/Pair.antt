@@ -35,7 +35,7 @@ use Rattle.written_places.specs.Written.{Written, Rise, sheetWith, told}
 use Rattle.written_places.specs.Passes.{AfterIn, afterOf}
 use Rattle.written_places.specs.Run.{Asked, runs, refuses, callsOf as callsAsked, AsAsked, ends, one-runs, one-refused, runIn}
 use Rattle.written_places.specs.Text.{textIn}
-use Rattle.recovery.specs.Answer.{statsOf, answerText}
+use Rattle.frame_answer.specs.Answer.{statsOf, answerText}
 use Rattle.result_agreement.specs.Alike.{numberedAnew, renumberedText, numbers, ResultsAlike}
 use Rattle.result_agreement.proofs.Alike.{frames-answer-alike}
 use Rattle.answer_examples.specs.Answer.{givenIn, frameRun, runText, renumberedIn}

@@ -11,8 +11,8 @@ use Rattle.sheet.specs.Corners.{cornerOf, seenThrough, squaredDistance}
 use Rattle.labels.specs.Labelled.{namesCorner, isLabelled}
 use Rattle.labels.specs.Used.{names}
 use Rattle.labels.specs.Rim.{onRim, rimAt}
-use Rattle.grow.specs.Candidates.{eligible, insert, ordered, candidatesAt, firstTwo}
-use Rattle.grow.specs.Choice.{chooseUnambiguous}
+use Rattle.candidates.specs.Candidates.{eligible, insert, ordered, candidatesAt, firstTwo}
+use Rattle.candidates.specs.Choice.{chooseUnambiguous}
 use Rattle.positions_policy.specs.Edge.{lengthOf, meanPitch, expectedLength, inBand, edgeOk, cardinalOffsets, edgeTo, followedBy, tried, verdictOf, passes}
 use Rattle.predict.specs.Predict.{neighbourOffsets, putBefore, labelledAmong, neighboursOf, stepAt, stepVector, weighed, withNeighbour, sumsFrom, noSums, sumsOf, meanOf, predictionFrom, predictionOf, onSide, anyOn, hasNeighbour, extrapolating}
 use Rattle.extension_common.specs.TryCell.{choiceBy}
@@ -26,7 +26,7 @@ use Rattle.frame.specs.ReadFrame.{xsOf, ysOf, pitchesOf, settingsOf, fullOf, pa
 use Rattle.frame_laws.specs.Calls.{callsOf}
 use Rattle.frame_laws.proofs.Examples.{example, meant, examples-read}
 use Rattle.report_line.specs.Result.{growLine, passLine, passLines}
-use Rattle.recovery.specs.Answer.{statsOf}
+use Rattle.frame_answer.specs.Answer.{statsOf}
 use Rattle.written_places.specs.Written.{wordIn, told, anyIn, labelIn, putIn, put}
 use Rattle.written_places.specs.Passes.{gatheredIn, edgesIn, resultIn, tryIn, enqueuedIn, enqueuedAtIn, seededFromIn, growWithIn, growAtIn, growVisitIn, growFromIn, growRunIn, growAfterIn}
 use Rattle.written_places.specs.Run.{afterPassIn, runIn}

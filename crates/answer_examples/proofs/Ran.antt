@@ -19,8 +19,8 @@ use Rattle.labels.specs.Labelled.{passing, namesCorner, isLabelled}
 use Rattle.labels.specs.Box.{lowerOf, higherOf, widened}
 use Rattle.labels.specs.Used.{names}
 use Rattle.labels.specs.Rim.{onRim, rimAt}
-use Rattle.grow.specs.Candidates.{eligible, insert, ordered, candidatesAt, firstTwo}
-use Rattle.grow.specs.Choice.{chooseUnambiguous, chooseWithFloor}
+use Rattle.candidates.specs.Candidates.{eligible, insert, ordered, candidatesAt, firstTwo}
+use Rattle.candidates.specs.Choice.{chooseUnambiguous, chooseWithFloor}
 use Rattle.positions_policy.specs.Edge.{lengthOf, meanPitch, expectedLength, inBand, edgeOk, cardinalOffsets, edgeTo, followedBy, tried, verdictOf, passes}
 use Rattle.predict.specs.Predict.{neighbourOffsets, putBefore, labelledAmong, neighboursOf, stepAt, stepVector, weighed, withNeighbour, sumsFrom, noSums, sumsOf, meanOf, predictionFrom, predictionOf, onSide, anyOn, hasNeighbour, extrapolating}
 use Rattle.extension_common.specs.TryCell.{choiceBy}

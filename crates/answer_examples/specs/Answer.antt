@@ -10,7 +10,7 @@ use Rattle.frame_line.specs.Lines.{LabelLine}
 use Rattle.frame.specs.Frame.{Frame, partsOf}
 use Rattle.frame_laws.specs.Calls.{cornersOf, callsOf}
 use Rattle.report_line.specs.Result.{labelLine, passLines, heading}
-use Rattle.recovery.specs.Answer.{statsOf}
+use Rattle.frame_answer.specs.Answer.{statsOf}
 use Rattle.result_agreement.specs.Alike.{numberedAnew}
 use Rattle.written_places.specs.Written.{Written, told, attachedIn}
 use Rattle.written_places.specs.Run.{Asked, runs, RunIn, runIn}

@@ -16,7 +16,7 @@ use Rattle.frame.specs.Frame.{readFrame, accepted}
 use Rattle.frame.specs.ReadFrame.{sheetOf}
 use Rattle.frame_laws.specs.Calls.{cornersOf, callOf, callsOf}
 use Rattle.frame_agreement.specs.Reordering.{cornerLine, SameButOrder, RunAlike}
-use Rattle.recovery.specs.Answer.{answerText}
+use Rattle.frame_answer.specs.Answer.{answerText}
 use Rattle.result_agreement.specs.Alike.{ResultsAlike}
 use Rattle.answer_examples.specs.Pair.{firstText, secondText, localLine, firstFrame, secondFrame, numbersInSecond, firstResult, secondResult}
 

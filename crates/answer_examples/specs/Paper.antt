@@ -3,7 +3,7 @@ use mathlib.Core.Path.{_≡_}
 use mathlib.Core.List.{List, _++_}
 use Prim.Native.Nat.{ℕ}
 use Rattle.line_form.specs.Forms.{bytes}
-use Rattle.recovery.specs.Answer.{answerText}
+use Rattle.frame_answer.specs.Answer.{answerText}
 
 abbrev pub exampleText : List ℕ
 exampleText =

@@ -14,11 +14,11 @@ use Rattle.sheet.specs.declared.Corner.{Corner}
 use Rattle.sheet.specs.declared.Position.{Position}
 use Rattle.labels.specs.Used.{usedOn, Tied}
 use Rattle.labels.proofs.Used.{tied-free}
-use Rattle.grow.specs.Candidates.{positionsOf, unmarked, candidatesAt, firstTwo}
-use Rattle.grow.specs.declared.Candidates.{Candidates}
-use Rattle.grow.specs.declared.CandidateChoice.{CandidateChoice}
-use Rattle.grow.proofs.Collected.{candidates-agree, corner-position}
-use Rattle.grow.proofs.Choice.{Chosen, chosen-unambiguous, chosen-with-floor}
+use Rattle.candidates.specs.Candidates.{positionsOf, unmarked, candidatesAt, firstTwo}
+use Rattle.candidates.specs.declared.Candidates.{Candidates}
+use Rattle.candidates.specs.declared.CandidateChoice.{CandidateChoice}
+use Rattle.candidates.proofs.Collected.{candidates-agree, corner-position}
+use Rattle.candidates.proofs.Choice.{Chosen, chosen-unambiguous, chosen-with-floor}
 use Rattle.positions_policy.specs.Edge.{verdictOf, passes}
 use Rattle.positions_policy.specs.declared.EdgeVerdict.{EdgeVerdict}
 use Rattle.positions_policy.specs.declared.Tolerances.{Tolerances}

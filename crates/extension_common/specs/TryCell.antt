@@ -12,10 +12,10 @@ use Rattle.sheet.specs.declared.Cell.{Cell}
 use Rattle.sheet.specs.declared.Corner.{Corner}
 use Rattle.sheet.specs.declared.Position.{Position}
 use Rattle.labels.specs.Used.{usedOn, Tied}
-use Rattle.grow.specs.Candidates.{candidatesAt, firstTwo}
-use Rattle.grow.specs.Choice.{chooseUnambiguous, chooseWithFloor}
-use Rattle.grow.specs.declared.Candidates.{Candidates}
-use Rattle.grow.specs.declared.CandidateChoice.{CandidateChoice}
+use Rattle.candidates.specs.Candidates.{candidatesAt, firstTwo}
+use Rattle.candidates.specs.Choice.{chooseUnambiguous, chooseWithFloor}
+use Rattle.candidates.specs.declared.Candidates.{Candidates}
+use Rattle.candidates.specs.declared.CandidateChoice.{CandidateChoice}
 use Rattle.positions_policy.specs.Edge.{verdictOf, passes}
 use Rattle.positions_policy.specs.declared.Tolerances.{Tolerances}
 use Rattle.extension_common.specs.declared.ChoiceRule.{ChoiceRule}

@@ -2,8 +2,8 @@
 // shared/extension/common.rs). Whatever this answers, nothing is written.
 ghost use mathlib.Core.Path.{_≡_};
 ghost use Rattle.extension_common.specs.TryCell.{cornersOf, tryAt, Ready, Gathered, Chosen, edgesOf, choiceBy, resultOf};
-use grow::CandidateChoice;
-use grow::Candidates;
+use candidates::CandidateChoice;
+use candidates::Candidates;
 use positions_policy::Tolerances;
 use sheet::Cell;
 use sheet::Position;
@@ -36,8 +36,8 @@ pub fn choose(rule: ChoiceRule, candidates: Candidates, factor: f32) -> Candidat
     ensures { λ r. ⌜ r ≡ choiceBy rule candidates factor ⌝ }
 {
     match rule {
-        ChoiceRule::Unambiguous => grow::choose_unambiguous(candidates, factor),
-        ChoiceRule::WithFloor => grow::choose_with_floor(candidates, factor),
+        ChoiceRule::Unambiguous => candidates::choose_unambiguous(candidates, factor),
+        ChoiceRule::WithFloor => candidates::choose_with_floor(candidates, factor),
     }
 }
 
@@ -56,7 +56,7 @@ pub fn try_attach_at_cell(
     requires { ⌜ Ready (now xs) (now ys) (now pitches) (now sheet) (now used) c ⌝ }
     ensures { λ r. ⌜ r ≡ tryAt (cornersOf (now (xs .entry)) (now (ys .entry)) (now (pitches .entry))) (now (sheet .entry)) tol search c prediction ⌝ }
 {
-    let candidates = grow::collect_candidates(xs, ys, used, prediction, search.search_r);
+    let candidates = candidates::collect_candidates(xs, ys, used, prediction, search.search_r);
     try_candidates(xs, ys, pitches, sheet, c, candidates, search, tol)
 }
 

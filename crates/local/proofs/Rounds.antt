@@ -20,8 +20,8 @@ use Rattle.arguments.specs.declared.Pass.{Pass}
 use Rattle.arguments.specs.declared.Settings.{Settings}
 use Rattle.arguments.specs.declared.LocalExtensionParams.{LocalExtensionParams}
 use Rattle.arguments.proofs.Laws.{accepted}
-use Rattle.grow.specs.Candidates.{squaredRadius}
-use Rattle.grow.proofs.Radius.{search-radius}
+use Rattle.candidates.specs.Candidates.{squaredRadius}
+use Rattle.candidates.proofs.Radius.{search-radius}
 use Rattle.extension_common.specs.TryCell.{cornersOf}
 use Rattle.passes.specs.Counting.{visits}
 use Rattle.passes.specs.Outcome.{done}

@@ -14,8 +14,8 @@ use Rattle.sheet.specs.declared.Corner.{Corner}
 use Rattle.sheet.specs.declared.Position.{Position}
 use Rattle.arguments.specs.declared.Settings.{Settings}
 use Rattle.arguments.specs.declared.LocalExtensionParams.{LocalExtensionParams}
-use Rattle.grow.specs.Candidates.{lastDistance}
-use Rattle.grow.specs.declared.Candidates.{Candidates}
+use Rattle.candidates.specs.Candidates.{lastDistance}
+use Rattle.candidates.specs.declared.Candidates.{Candidates}
 use Rattle.extension_common.specs.TryCell.{cornersOf, gathered, tryAt}
 use Rattle.extension_common.specs.declared.TryCellResult.{TryCellResult}
 use Rattle.homography.specs.Fit.{applied}

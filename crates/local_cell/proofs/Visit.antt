@@ -24,8 +24,8 @@ use Rattle.labels.proofs.Used.{tied-attached, tied-cleared, one-attached, one-c
 use Rattle.positions_policy.specs.declared.Tolerances.{Tolerances}
 use Rattle.arguments.specs.declared.Settings.{Settings}
 use Rattle.arguments.specs.declared.LocalExtensionParams.{LocalExtensionParams}
-use Rattle.grow.specs.Candidates.{positionsOf, unmarked, candidatesAt, firstTwo}
-use Rattle.grow.specs.declared.Candidates.{Candidates}
+use Rattle.candidates.specs.Candidates.{positionsOf, unmarked, candidatesAt, firstTwo}
+use Rattle.candidates.specs.declared.Candidates.{Candidates}
 use Rattle.extension_common.specs.TryCell.{Corners, cornersOf, gathered, tryAt}
 use Rattle.extension_common.specs.declared.Search.{Search}
 use Rattle.extension_common.specs.declared.TryCellResult.{TryCellResult}

@@ -150,7 +150,7 @@ fn try_predicted_cell(
     ensures { λ r. ⌜ Left (localWith c (tryAt (cornersOf (now (xs .entry)) (now (ys .entry)) (now (pitches .entry))) (now (sheet .entry)) (tolerancesOf settings) (localSearch settings params) c prediction) (stateOf (now (sheet .entry)) (now (attached .entry)) at)) (now (xs .entry)) (now (ys .entry)) (now (pitches .entry)) (now (attached .entry)) (now (sheet .exit)) (now (attached .exit)) (now (used .exit)) (now (places .exit)) r × Recalls settings params (now (xs .entry)) (now (ys .entry)) (now (pitches .entry)) (now (sheet .exit)) (now (memory .exit)) (now (predictions .exit)) r ⌝ }
 {
     let search = search_of(settings, params);
-    let candidates = grow::collect_candidates(xs, ys, used, prediction, search.search_r);
+    let candidates = candidates::collect_candidates(xs, ys, used, prediction, search.search_r);
     let tol = tolerances_of(settings);
     let found = extension_common::try_candidates(
         xs,
@@ -168,7 +168,7 @@ fn try_predicted_cell(
             count_cell(at, found)
         }
         TryCellResult::Ambiguous => {
-            let limit = grow::last_distance(candidates);
+            let limit = candidates::last_distance(candidates);
             remembered::note(
                 memory,
                 predictions,

@@ -28,8 +28,8 @@ use Rattle.passes.specs.declared.LocalAnswer.{LocalAnswer}
 use Rattle.passes.specs.declared.PassAnswer.{PassAnswer}
 use Rattle.invariants.specs.Calls.{checkedCall, afterCall}
 use Rattle.invariants.proofs.Run.{step-as, call-accepted}
-use Rattle.bounds.specs.Bounds.{Small}
-use Rattle.bounds.proofs.Small.{small}
+use Rattle.count_bounds.specs.Bounds.{Small}
+use Rattle.count_bounds.proofs.Small.{small}
 use Rattle.pass_call.specs.Call.{callOf, growAnswered, fillAnswered, localAnswered, doneAnswer, PassOut, passOut, passLeaves, SmallAnswer}
 
 -- fill and local are lent no queue: how long one is changes nothing

@@ -12,7 +12,7 @@ use Rattle.passes.specs.declared.GrowAnswer.{GrowAnswer}
 use Rattle.passes.specs.declared.FillAnswer.{FillAnswer}
 use Rattle.passes.specs.declared.LocalAnswer.{LocalAnswer}
 use Rattle.passes.specs.declared.PassAnswer.{PassAnswer}
-use Rattle.bounds.specs.Bounds.{Small}
+use Rattle.count_bounds.specs.Bounds.{Small}
 
 -- ---- the call
 

@@ -6,7 +6,7 @@ use Prim.Native.Nat.{ℕ, _≤_}
 use native.Mathlib.Omega.{arith}
 use borrow.Author.Tests.{ltb-false}
 use lib.Dec.{ltb}
-use Rattle.recovery.specs.Answer.{answerText}
+use Rattle.frame_answer.specs.Answer.{answerText}
 use Rattle.recover_read.specs.Reading.{bytesOf}
 use Rattle.recover_read.specs.declared.Input.{Input}
 use Rattle.recover_say.proofs.Printing.{told-prints}

@@ -5,7 +5,7 @@ use mathlib.Core.List.{List, [], _++_}
 use Prim.Native.Nat.{ℕ}
 use lib.Dec.{ltb}
 use lib.ListN.{take}
-use Rattle.recovery.specs.Answer.{answerText}
+use Rattle.frame_answer.specs.Answer.{answerText}
 use Rattle.recover_read.specs.Reading.{Read, bytesOf, standingAfter, Answers}
 use Rattle.recover_read.specs.declared.Input.{Input}
 use Rattle.recover_say.specs.Said.{textAfter, pieceFrom, Told}

@@ -6,8 +6,8 @@ use Prim.Native.Nat.{ℕ, zero, suc, _+_, _-_, _<_, _≤_}
 use native.Mathlib.Omega.{arith}
 use borrow.Author.Tests.{lt-ltb, le-ltb}
 use Rattle.frame.specs.Frame.{FrameRead, readFrame}
-use Rattle.recovery.specs.Answer.{answerLines, answerPiece, answerText, goOn, piecesFrom, joined, pieces}
-use Rattle.recovery.proofs.Pieces.{pieces-join}
+use Rattle.frame_answer.specs.Answer.{answerLines, answerPiece, answerText, goOn, piecesFrom, joined, pieces}
+use Rattle.frame_answer.proofs.Pieces.{pieces-join}
 use Rattle.recover_say.specs.Said.{lineAfter, textAfter, pieceFrom, Told, Prints, ToldPrints}
 use Rattle.recover_say.specs.declared.Said.{Said}
 

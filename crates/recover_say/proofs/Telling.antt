@@ -10,10 +10,10 @@ use lib.ListN.{length, take}
 use lib.Seq.{take-at}
 use borrow.Author.Count.{below-more}
 use Rattle.report_line.specs.Result.{Piece}
-use Rattle.recovery.specs.Answer.{answerLines, heldLines, heldPiece, FewPasses, Lent, Recovers, WrotePiece, Moves}
-use Rattle.recovery.specs.declared.Recovered.{Recovered}
-use Rattle.recovery.specs.declared.PieceWritten.{PieceWritten}
-use Rattle.recovery.proofs.Saying.{says}
+use Rattle.frame_answer.specs.Answer.{answerLines, heldLines, heldPiece, FewPasses, Lent, Recovers, WrotePiece, Moves}
+use Rattle.frame_answer.specs.declared.Recovered.{Recovered}
+use Rattle.frame_answer.specs.declared.PieceWritten.{PieceWritten}
+use Rattle.frame_answer.proofs.Saying.{says}
 use Rattle.frame.specs.Frame.{readFrame}
 use Rattle.recover_say.specs.Said.{lineAfter, SaidOf, Told, heldFrom, pieceFrom, ToldOf, PieceText, putOf, PutSo, Telling}
 use Rattle.recover_say.specs.declared.Said.{Said}

@@ -7,8 +7,8 @@ use Prim.Native.Nat.{ℕ, zero, suc, _+_, _<_, _≤_}
 use lib.ListN.{length}
 use Rattle.frame.specs.Frame.{readFrame}
 use Rattle.report_line.specs.Result.{Piece}
-use Rattle.recovery.specs.Answer.{answerLines, answerPiece, answerText, heldLines, heldPiece}
-use Rattle.recovery.specs.declared.Recovered.{Recovered}
+use Rattle.frame_answer.specs.Answer.{answerLines, answerPiece, answerText, heldLines, heldPiece}
+use Rattle.frame_answer.specs.declared.Recovered.{Recovered}
 use Rattle.recover_say.specs.declared.Put.{Put}
 use Rattle.recover_say.specs.declared.Said.{Said}
 

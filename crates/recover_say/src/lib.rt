@@ -1,5 +1,5 @@
-// The answer to a text, worked out by the crate `recovery` and written to standard output piece by piece.
-// Proved of each piece: `recovery::answer_piece` puts it at the front of the buffer, and `put_piece` is lent exactly its text (`PieceText`). Proved
+// The answer to a text, worked out by the crate `frame_answer` and written to standard output piece by piece.
+// Proved of each piece: `frame_answer::answer_piece` puts it at the front of the buffer, and `put_piece` is lent exactly its text (`PieceText`). Proved
 // of `answer`: how many pieces were written, from the first on, and that they are all of the answer where the next line is past the last
 // (`Told`, `Prints`). Not proved is that the one call of `io::write_all` in `put_piece` takes those bytes to standard output and answers true only
 // then: no contract can say what happens outside the program. It is tested (`compare/faults.py`).
@@ -7,10 +7,10 @@ ghost use mathlib.Core.Path.{_≡_};
 ghost use Prim.Native.Nat.{_*_, _<_};
 ghost use lib.ListN.{length};
 ghost use Rattle.sizes.specs.Sizes.{placeCount, cornerLimit, allPassWords, allOutcomeWords};
-ghost use Rattle.recovery.specs.Answer.{CanSay, FewPasses};
+ghost use Rattle.frame_answer.specs.Answer.{CanSay, FewPasses};
 ghost use Rattle.recover_say.specs.Said.{PieceText, putOf, PutSo, Told, ToldOf};
+use frame_answer::Recovered;
 use libc::STDOUT_FILENO;
-use recovery::Recovered;
 use sizes::ALL_OUTCOME_WORDS;
 use sizes::ALL_PASS_WORDS;
 use sizes::CORNERS;
@@ -106,11 +106,11 @@ fn say(answer: Recovered, words: &[u32], sheet: &[u16]) -> Said
     ensures { λ r. ⌜ ToldOf answer (now (words .entry)) (now (sheet .entry)) r ⌝ }
 {
     let mut out = io::buffer();
-    let lines = recovery::answer_lines(answer);
+    let lines = frame_answer::answer_lines(answer);
     let mut pieces = 0usize;
     let mut from = 0usize;
     while from < lines {
-        let piece = recovery::answer_piece(answer, words, sheet, from, &mut out);
+        let piece = frame_answer::answer_piece(answer, words, sheet, from, &mut out);
         let n = piece.bytes;
         let next = piece.next;
         let put = put_piece(answer, words, sheet, pieces, &out[..n]);
@@ -147,7 +147,7 @@ pub fn answer(text: &[u8]) -> Said
     let mut queue = queue_buffer();
     let mut attached = attached_buffer();
     let mut words = word_buffer();
-    let recovered = recovery::recover_frame(
+    let recovered = frame_answer::recover_frame(
         text,
         &mut xs,
         &mut ys,

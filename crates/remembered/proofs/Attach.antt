@@ -27,7 +27,7 @@ use Rattle.labels.proofs.Below.{no-both}
 use Rattle.labels.proofs.Used.{same-used, used-attached}
 use Rattle.arguments.specs.declared.Settings.{Settings}
 use Rattle.arguments.specs.declared.LocalExtensionParams.{LocalExtensionParams}
-use Rattle.grow.specs.Candidates.{squaredRadius, lastDistance}
+use Rattle.candidates.specs.Candidates.{squaredRadius, lastDistance}
 use Rattle.extension_common.specs.TryCell.{Corners, unlabelledOn, gathered}
 use Rattle.passes.specs.Grow.{tolerancesOf}
 use Rattle.passes.specs.Local.{reachOf, byReach, supportsOf, picturedAs, picturedAt, LocalFit, localFit, localSearch}

@@ -13,12 +13,12 @@ use Rattle.sheet.specs.declared.Cell.{Cell}
 use Rattle.sheet.specs.declared.Position.{Position}
 use Rattle.sheet.specs.Corners.{seenOf, squaredDistance, finitePosition}
 use Rattle.labels.proofs.Below.{no-both}
-use Rattle.grow.specs.Candidates.{eligible, squaredRadius, isCandidate, distanceOf, before, insert, insertIf, ordered, candidatesAt, firstTwo, lastDistance}
-use Rattle.grow.specs.Choice.{epsilon, raised, byQuotient, chooseUnambiguous, chooseWithFloor}
-use Rattle.grow.specs.declared.Candidate.{Candidate}
-use Rattle.grow.specs.declared.Candidates.{Candidates}
-use Rattle.grow.specs.declared.CandidateChoice.{CandidateChoice}
-use Rattle.grow.proofs.Without.{first-two-stay}
+use Rattle.candidates.specs.Candidates.{eligible, squaredRadius, isCandidate, distanceOf, before, insert, insertIf, ordered, candidatesAt, firstTwo, lastDistance}
+use Rattle.candidates.specs.Choice.{epsilon, raised, byQuotient, chooseUnambiguous, chooseWithFloor}
+use Rattle.candidates.specs.declared.Candidate.{Candidate}
+use Rattle.candidates.specs.declared.Candidates.{Candidates}
+use Rattle.candidates.specs.declared.CandidateChoice.{CandidateChoice}
+use Rattle.candidates.proofs.Without.{first-two-stay}
 use Rattle.positions_policy.specs.Edge.{verdictOf, passes}
 use Rattle.positions_policy.specs.declared.Tolerances.{Tolerances}
 use Rattle.extension_common.specs.TryCell.{Corners, unlabelledOn, gathered, choiceBy, edgesOf, resultOf, tryAt}

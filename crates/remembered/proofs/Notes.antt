@@ -14,7 +14,7 @@ use Rattle.sheet.specs.declared.Position.{Position}
 use Rattle.sheet.proofs.Laws.{place-in, cell-place}
 use Rattle.arguments.specs.declared.Settings.{Settings}
 use Rattle.arguments.specs.declared.LocalExtensionParams.{LocalExtensionParams}
-use Rattle.grow.specs.Candidates.{squaredRadius}
+use Rattle.candidates.specs.Candidates.{squaredRadius}
 use Rattle.extension_common.specs.TryCell.{Corners}
 use Rattle.passes.specs.Local.{localSearch}
 use Rattle.passes.specs.declared.LargestResidual.{LargestResidual}

@@ -166,7 +166,7 @@ fn doubt_if_near(word: u16, at: Position, limit: f32, corner: Position) -> u16
     requires { ⌜ 4 ≤ word % 8 ⌝ }
     ensures { λ r. ⌜ r ≡ doubtedWord (lt limit (sqrtOrNan (squaredDistance corner at))) word ⌝ }
 {
-    if limit < grow::distance(corner, at) {
+    if limit < candidates::distance(corner, at) {
         return word;
     }
     word / 8 * 8 + 3

@@ -17,7 +17,7 @@ use Rattle.frame.specs.ReadFrame.{sheetOf}
 use Rattle.frame_laws.specs.Calls.{cornersOf, callsOf}
 use Rattle.frame_agreement.proofs.Reordering.{frames-run-alike}
 use Rattle.report_line.specs.Result.{passLines, labelLine, cellLine, holeLine, ambiguousLine, linesFrom, allPlaces, heading, resultText}
-use Rattle.recovery.specs.Answer.{statsOf, frameStats, frameSheet, answerOf, answerText}
+use Rattle.frame_answer.specs.Answer.{statsOf, frameStats, frameSheet, answerOf, answerText}
 use Rattle.result_agreement.specs.Alike.{numberedAnew, cellLineAnew, renumberedText, KeptNumbers, numbers, FramesAnswerAlike}
 
 -- ---- the runs

@@ -14,7 +14,7 @@ use Rattle.frame.specs.ReadFrame.{sheetOf}
 use Rattle.frame_laws.specs.Calls.{cornersOf, callsOf}
 use Rattle.frame_agreement.specs.Reordering.{SameButOrder}
 use Rattle.report_line.specs.Result.{passLines, labelLine, holeLine, ambiguousLine, allPlaces, heading, resultText}
-use Rattle.recovery.specs.Answer.{frameStats, frameSheet, answerText}
+use Rattle.frame_answer.specs.Answer.{frameStats, frameSheet, answerText}
 
 -- ---- a result with other corner numbers
 

@@ -9,7 +9,7 @@ use Rattle.binary32.specs.declared.root.Rooted.{Rooted}
 use Rattle.binary32.specs.declared.root.Rooted.the-variants.{Root}
 use Rattle.binary32.specs.Sqrt.{unitsOf, Answers, reaches, climb, rooted}
 use Rattle.binary32.proofs.Exists.{answered}
-use Rattle.grow.specs.Choice.{chooseUnambiguous, chooseWithFloor}
+use Rattle.candidates.specs.Choice.{chooseUnambiguous, chooseWithFloor}
 use Rattle.positions_policy.specs.Edge.{inBand, expectedLength, meanPitch}
 use Rattle.sheet.specs.Cells.{onSheet, placeOf, cellOf}
 use Rattle.sheet.specs.Words.{labelOfNumber, numberOfLabel, bitOf, labelOf, holeOf, ambiguousOf, wordOf}

@@ -13,9 +13,9 @@ use Rattle.passes.specs.Fill.{fillCells}
 use Rattle.passes.specs.Local.{localCells}
 use Rattle.binary32.specs.declared.root.Rooted.the-variants.{Root}
 use Rattle.binary32.specs.Sqrt.{Answers, rooted}
-use Rattle.grow.specs.Choice.{chooseUnambiguous, chooseWithFloor}
-use Rattle.grow.specs.declared.Candidates.{Candidates}
-use Rattle.grow.specs.declared.CandidateChoice.{CandidateChoice}
+use Rattle.candidates.specs.Choice.{chooseUnambiguous, chooseWithFloor}
+use Rattle.candidates.specs.declared.Candidates.{Candidates}
+use Rattle.candidates.specs.declared.CandidateChoice.{CandidateChoice}
 use Rattle.positions_policy.specs.Edge.{inBand, expectedLength}
 
 abbrev pub f32 : ℕ → Float

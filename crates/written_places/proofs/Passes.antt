@@ -21,8 +21,8 @@ use Rattle.sheet.specs.declared.Offset.{Offset}
 use Rattle.sheet.specs.declared.Position.{Position}
 use Rattle.sheet.specs.declared.Seen.{Seen}
 use Rattle.labels.specs.declared.LabelBox.{LabelBox}
-use Rattle.grow.specs.Candidates.{candidatesAt, firstTwo}
-use Rattle.grow.specs.declared.CandidateChoice.{CandidateChoice}
+use Rattle.candidates.specs.Candidates.{candidatesAt, firstTwo}
+use Rattle.candidates.specs.declared.CandidateChoice.{CandidateChoice}
 use Rattle.positions_policy.specs.Edge.{cardinalOffsets, verdictOf, passes}
 use Rattle.positions_policy.specs.declared.Tolerances.{Tolerances}
 use Rattle.predict.specs.Predict.{predictionOf, extrapolating}

@@ -16,9 +16,9 @@ use Rattle.sheet.specs.declared.Cell.{Cell}
 use Rattle.sheet.specs.declared.Offset.{Offset}
 use Rattle.sheet.specs.declared.Position.{Position}
 use Rattle.labels.specs.Box.{boxAround}
-use Rattle.grow.specs.Candidates.{candidatesAt, firstTwo}
-use Rattle.grow.specs.declared.Candidates.{Candidates}
-use Rattle.grow.specs.declared.CandidateChoice.{CandidateChoice}
+use Rattle.candidates.specs.Candidates.{candidatesAt, firstTwo}
+use Rattle.candidates.specs.declared.Candidates.{Candidates}
+use Rattle.candidates.specs.declared.CandidateChoice.{CandidateChoice}
 use Rattle.positions_policy.specs.Edge.{cardinalOffsets, verdictOf, passes}
 use Rattle.positions_policy.specs.declared.Tolerances.{Tolerances}
 use Rattle.predict.specs.Predict.{predictionOf, extrapolating}

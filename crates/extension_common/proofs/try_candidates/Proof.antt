@@ -1,6 +1,6 @@
 -- `extension_common::try_candidates` meets its contract: each arm is given the choice. Assumes nothing.
 use mathlib.Core.Path.{_≡_, sym, ap, _∙_}
-use Rattle.grow.specs.declared.Candidates.{Candidates}
+use Rattle.candidates.specs.declared.Candidates.{Candidates}
 use Rattle.extension_common.specs.TryCell.{cornersOf, gathered, choiceBy, resultOf}
 use Rattle.extension_common.proofs.Laws.{chosen}
 use borrow.Author.Needs.{needs}

@@ -1,5 +1,5 @@
 -- `recover_say::answer` meets its contract: what the run holds says the answer to the text. Assumes nothing.
-use Rattle.recovery.proofs.Saying.{can-say}
+use Rattle.frame_answer.proofs.Saying.{can-say}
 use Rattle.recover_say.proofs.Telling.{told}
 use borrow.Author.Needs.{needs}
 use Rattle.recover_say.proofs.answer.Statement.{statement}
@@ -13,7 +13,7 @@ use Rattle.recover_say.proofs.queue_buffer.Reads as queue-buffer-reads
 use Rattle.recover_say.proofs.say.Reads as say-reads
 use Rattle.recover_say.proofs.sheet_buffer.Reads as sheet-buffer-reads
 use Rattle.recover_say.proofs.word_buffer.Reads as word-buffer-reads
-use Rattle.recovery.proofs.recover_frame.Reads as recover-frame-reads
+use Rattle.frame_answer.proofs.recover_frame.Reads as recover-frame-reads
 
 float-buffer-requires : tie.Need-float-buffer-requires
 float-buffer-requires c κs = search needs

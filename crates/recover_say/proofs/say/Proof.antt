@@ -13,8 +13,8 @@ use Rattle.recover_say.proofs.say.Reads as reads
 use Rattle.recover_say.proofs.say.Lts as lts
 use Rattle.io.proofs.buffer.Reads as buffer-reads
 use Rattle.recover_say.proofs.put_piece.Reads as put-piece-reads
-use Rattle.recovery.proofs.answer_lines.Reads as answer-lines-reads
-use Rattle.recovery.proofs.answer_piece.Reads as answer-piece-reads
+use Rattle.frame_answer.proofs.answer_lines.Reads as answer-lines-reads
+use Rattle.frame_answer.proofs.answer_piece.Reads as answer-piece-reads
 
 abbrev Inv-loop : tie.InvT-loop
 Inv-loop answer words sheet out₀ lines pieces₀ from₀ out pieces from = Telling answer words sheet out pieces from

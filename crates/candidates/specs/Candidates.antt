@@ -1,0 +1,79 @@
+-- Document 01, "Candidates and choice": which corners are candidates at a prediction, and in which order they stand. Definitions only.
+-- Corners are seen as functions of their number: where each lies, and whether it is unlabelled.
+use mathlib.Core.Bool.{Bool, true, false, not, _&&_, _||_, cond}
+use mathlib.Core.List.{List, [], _∷_}
+use Prim.Native.Nat.{ℕ, zero, suc}
+use lib.Dec.{eqb, ltb}
+use lib.ListN.{getD}
+use lib.Ieee.{Float, nan, binary32, mul, lt, le, ofBits}
+use Rattle.binary32.specs.Sqrt.{sqrtOrNan}
+use Rattle.sheet.specs.declared.Position.{Position}
+use Rattle.sheet.specs.Corners.{squaredDistance, finitePosition}
+use Rattle.candidates.specs.declared.Candidate.{Candidate}
+use Rattle.candidates.specs.declared.Candidates.{Candidates}
+use Rattle.candidates.specs.declared.Candidates.the-variants.{Empty, One, Several}
+
+-- ---- the corners as they are lent: corner k lies at (x k, y k), and is unlabelled if its mark is 0
+
+abbrev pub positionsOf : List Float → List Float → ℕ → Position
+positionsOf xs ys k = record { x = getD xs k nan; y = getD ys k nan }
+
+abbrev pub unmarked : List ℕ → ℕ → Bool
+unmarked used k = eqb (getD used k 0) 0
+
+-- ---- a candidate
+
+-- Which corners may be candidates at all: the unlabelled ones.
+unfoldable pub eligible : (ℕ → Bool) → ℕ → Bool
+eligible unlabelled k = unlabelled k
+
+abbrev pub squaredRadius : Float → Float
+squaredRadius radius = mul binary32 radius radius
+
+-- A candidate is an unlabelled corner whose squared distance is at most the squared radius.
+abbrev pub isCandidate : (ℕ → Position) → (ℕ → Bool) → Position → Float → ℕ → Bool
+isCandidate position unlabelled prediction radius k =
+    eligible unlabelled k && le (squaredDistance (position k) prediction) (squaredRadius radius)
+
+-- ---- the order: by distance, then corner number
+
+-- The distance is the rounded root of the squared distance. So corners with different squares and equal roots tie, and go by number.
+abbrev pub distanceOf : (ℕ → Position) → Position → ℕ → Float
+distanceOf position prediction k = sqrtOrNan (squaredDistance (position k) prediction)
+
+-- a stands before b: it is nearer, or as near and of the smaller number
+abbrev pub before : Candidate → Candidate → Bool
+before a b = lt (a .distance) (b .distance) || (not (lt (b .distance) (a .distance)) && ltb (a .number) (b .number))
+
+-- into a list that is in order, before the first that it stands before
+unfoldable pub insert : Candidate → List Candidate → List Candidate
+insert c [] = c ∷ []
+insert c (b ∷ l) = cond (before c b) (c ∷ b ∷ l) (b ∷ insert c l)
+
+abbrev pub insertIf : Bool → Candidate → List Candidate → List Candidate
+insertIf true c l = insert c l
+insertIf false c l = l
+
+-- the candidates among the first n corners, in order, each with its distance
+unfoldable pub ordered : (ℕ → Float) → (ℕ → Bool) → ℕ → List Candidate
+ordered distance candidate zero = []
+ordered distance candidate (suc k) = insertIf (candidate k) (record { number = k; distance = distance k }) (ordered distance candidate k)
+
+-- ---- the candidates at a prediction
+
+-- All candidates of n corners, in order. A non-finite prediction has none.
+unfoldable pub candidatesAt : (ℕ → Position) → (ℕ → Bool) → ℕ → Position → Float → List Candidate
+candidatesAt position unlabelled n prediction radius =
+    cond (finitePosition prediction) (ordered (distanceOf position prediction) (isCandidate position unlabelled prediction radius) n) []
+
+-- what a choice needs of them: the first, and whether there is a second and how far it is
+unfoldable pub firstTwo : List Candidate → Candidates
+firstTwo [] = Empty
+firstTwo (a ∷ []) = One a
+firstTwo (a ∷ (b ∷ l)) = Several a (b .distance)
+
+-- the distance of the last of these: the second's, or that of the only one; where there is none, zero
+unfoldable pub lastDistance : Candidates → Float
+lastDistance Empty = ofBits binary32 0
+lastDistance (One a) = a .distance
+lastDistance (Several a second) = second
