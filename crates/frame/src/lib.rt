@@ -18,6 +18,7 @@ use arguments::Checked;
 use arguments::Settings;
 use frame_line::Turn;
 use frame_state::Progress;
+use frame_state::USED;
 use line_form::text::line_end;
 use refusal::Refusal;
 use sizes::ALL_PASS_WORDS;
@@ -58,7 +59,7 @@ fn step_line(
     ys: &mut [f32; CORNERS],
     pitches: &mut [f32; CORNERS],
     sheet: &mut [u16; PLACES],
-    used: &mut [u8; CORNERS],
+    used: &mut [u8; USED],
     passes: &mut [u32; ALL_PASS_WORDS],
     line: &[u8],
 ) -> Stepped
@@ -98,7 +99,7 @@ fn read_lines(
     ys: &mut [f32; CORNERS],
     pitches: &mut [f32; CORNERS],
     sheet: &mut [u16; PLACES],
-    used: &mut [u8; CORNERS],
+    used: &mut [u8; USED],
     passes: &mut [u32; ALL_PASS_WORDS],
 ) -> LinesRead
     requires { ⌜ FrameHeld no-parts (state nothing-said (arrays (now xs) (now ys) (now pitches) (now sheet) (now used) (now passes))) ⌝ }
@@ -198,7 +199,7 @@ fn read_text(
     let mut own_ys = [0.0f32; CORNERS];
     let mut own_pitches = [0.0f32; CORNERS];
     let mut own_sheet = [0u16; PLACES];
-    let mut own_used = [0u8; CORNERS];
+    let mut own_used = [0u8; USED];
     let mut own_passes = [0u32; ALL_PASS_WORDS];
     let read = read_lines(
         text,

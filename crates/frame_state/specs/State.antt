@@ -27,6 +27,10 @@ use Rattle.frame_state.specs.declared.PassWords.{PassWords}
 abbrev floatOf : ℕ → Float
 floatOf b = ofBits binary32 b
 
+-- an entry for each corner that a label may use
+abbrev pub usedCount : ℕ
+usedCount = cornerLimit
+
 -- ---- numbers that a float holds
 
 pub record Tame (b : ℕ) : Type 0 where

@@ -18,6 +18,9 @@ use sizes::CORNERS;
 use sizes::PASS_WORDS;
 use sizes::PLACES;
 
+// An entry for each corner that a label may use.
+pub const USED: usize = CORNERS;
+
 // Cell size, axes and band, how many corners and passes there are, and the stage that the lines have come to.
 pub struct Progress {
     pub settings: Settings,
@@ -197,7 +200,7 @@ fn put_corner(
 }
 
 // A label is written: its corner to the sheet, and that the corner is used.
-fn put_label(sheet: &mut [u16; PLACES], used: &mut [u8; CORNERS], label: HeldLabel)
+fn put_label(sheet: &mut [u16; PLACES], used: &mut [u8; USED], label: HeldLabel)
     requires { ⌜ LabelRoom (now sheet) label ⌝ }
     ensures { λ _. ⌜ LabelPut label (now (sheet .entry)) (now (used .entry)) (now (sheet .exit)) (now (used .exit)) ⌝ }
 {
@@ -284,7 +287,7 @@ pub fn add_line(
     ys: &mut [f32; CORNERS],
     pitches: &mut [f32; CORNERS],
     sheet: &mut [u16; PLACES],
-    used: &mut [u8; CORNERS],
+    used: &mut [u8; USED],
     passes: &mut [u32; ALL_PASS_WORDS],
     line: HeldLine,
 ) -> Progress
