@@ -71,7 +71,8 @@ line-reads-back l p = looking-hit (reached (l .row) (omega arith)) (p .few) (rea
     reached : (i : ℕ) → i ≤ l .row → Looking (lineText l) i
     reached zero h = looking-start (lineText l)
     reached (suc i) h =
-        rw add-one at (looking-more (reached i (omega arith)) (omega (arith, p .few)) (told-misfits (formAt i) (formAt (l .row)) (l .numbers) (told-at (l .row) (p .few) i h)))
+        rw add-one at
+        (looking-more (reached i (omega arith)) (omega (arith, p .few)) (told-misfits (formAt i) (formAt (l .row)) (l .numbers) (told-at (l .row) (p .few) i h)))
 
 pub line-prints-back : (text : List ℕ) (l : Line) → readLine text ≡ line l → LinePrintsBack text l
 unfolding lineText
