@@ -55,7 +55,8 @@ refusal-is n s w r h = go (wildWord n s w)
     go false = ne-eqb r 0 (λ e. omega arith) ∙ sym (and-false (eqb r (refusalOf s)))
 
 -- a refusal is found exactly if a number has it
-pub has-is : (n : ℕ) (l : HeldLine) {found : List ℕ} {r : ℕ} {b : Bool} → 0 < r → found ≡ refusalsIn n l → b ≡ anyBelow 5 (isRefusal found r) → b ≡ outsideHeld r n l
+pub has-is : (n : ℕ) (l : HeldLine) {found : List ℕ} {r : ℕ} {b : Bool} → 0 < r → found ≡ refusalsIn n l → b ≡ anyBelow 5 (isRefusal found r)
+    → b ≡ outsideHeld r n l
 unfolding refusalsIn outsideHeld anyBelow
 has-is n l {r = r} h e f =
     f ∙ ap (λ (x : List ℕ). anyBelow 5 (isRefusal x r)) e ∙ ap₂ _||_ (one 4) (ap₂ _||_ (one 3) (ap₂ _||_ (one 2) (ap₂ _||_ (one 1) (ap₂ _||_ (one 0) refl))))

@@ -1,7 +1,7 @@
 -- The checks of the words that hold a line's numbers are those of the numbers: the letters of a row and the slots of its form agree, by one
 -- test that antt computes over all rows. Assumes nothing.
 use mathlib.Core.Path.{_≡_, refl, sym, ap, ap₂, subst, _∙_}
-use mathlib.Core.Bool.{Bool, true, false, not, _&&_, _||_, true≢false, and-false, cond}
+use mathlib.Core.Bool.{Bool, true, false, not, _&&_, _||_, true≢false, and-false, or-assoc, or-comm, cond}
 use mathlib.Core.List.{List, [], _∷_}
 use Prim.Native.Nat.{ℕ, zero, suc, _+_, _-_, _<_, _≤_, min}
 use native.Mathlib.Nat.{not-suc-le-zero, add-zero, zero-add, add-suc, suc-add}
@@ -14,15 +14,14 @@ use lib.ListN.{getD}
 use Rattle.labels.specs.Labelled.{anyBelow}
 use Rattle.labels.proofs.Below.{both}
 use Rattle.arguments.proofs.Chains.{or-false-both}
-use Rattle.line_form.specs.Integers.{negated}
 use Rattle.line_form.specs.Forms.{Number, bits, whole, isSlot, Suits, none-left, a-float, an-integer, a-byte}
 use Rattle.line_form.specs.Held.{heldWhole, held, heldUpTo}
 use Rattle.line_form.specs.Written.{unheldWhole}
-use Rattle.line_form.proofs.Every.{everyBelow, every-at}
-use Rattle.frame_line.specs.Table.{rows, rowCount, rowAt, kindAt, formAt, sortOf, sortAt}
+use Rattle.line_form.proofs.Every.{every-at}
+use Rattle.frame_line.specs.Table.{rows, rowCount, rowAt, kindAt, formAt, lettersAt, sortOf, sortAt}
 use Rattle.frame_line.specs.Lines.{Line, kindOf, Proper, bitsAt, wholeAt}
-use Rattle.frame_line.specs.Checks.{wildWhole, refusalOf, wild, numberOutside, someOutside, outsideLine}
-use Rattle.frame_line.specs.Held.{heldLine, beyond, wildWord, outsideWord, outsideHeld}
+use Rattle.frame_line.specs.Checks.{wildWhole, wild, numberOutside, someOutside, outsideLine}
+use Rattle.frame_line.specs.Held.{heldLine, beyond, outsideWord, outsideHeld}
 use Rattle.frame_line.specs.declared.Kind.{Kind}
 use Rattle.frame_line.specs.declared.OpeningKind.{OpeningKind}
 use Rattle.frame_line.specs.declared.PassKind.{PassKind}
@@ -89,12 +88,6 @@ suitsSlot true (Sort.Whole refusal low high) = false
 suitsSlot false (Sort.Whole refusal low high) = ranged low high
 suitsSlot b Sort.Corner = not b
 
-abbrev isNothing : Sort → Bool
-isNothing Sort.Nothing = true
-isNothing (Sort.Float q) = false
-isNothing (Sort.Whole refusal low high) = false
-isNothing Sort.Corner = false
-
 no-sort : {A : Type 0} → false ≡ true → A
 no-sort e = absurd (true≢false (sym e))
 
@@ -118,12 +111,10 @@ module _ (r n : ℕ) (few : eqb r 5 ≡ true → n ≤ 1024) where
       go true f = corner-is n z (few f)
       go false f = refl
 
-  nothing-word : (s : Sort) (w : ℕ) → isNothing s ≡ true → outsideWord r n s w ≡ false
-  unfolding outsideWord
-  nothing-word Sort.Nothing w e = and-false (eqb r 0)
-  nothing-word (Sort.Float q) w e = no-sort e
-  nothing-word (Sort.Whole refusal low high) w e = no-sort e
-  nothing-word Sort.Corner w e = no-sort e
+  -- byte 46, the dot, stands for no number
+  nothing-word : (k m w : ℕ) → eqb (getD (lettersAt k) m 46) 46 ≡ true → outsideWord r n (sortAt k m) w ≡ false
+  unfolding outsideWord sortAt sortOf
+  nothing-word k m w e = rw (eqb-true (getD (lettersAt k) m 46) 46 e) (and-false (eqb r 0))
 
 -- ---- the letters of a row and the slots of its form
 
@@ -136,7 +127,7 @@ slotsOf (c ∷ form) = cond (eqb c 37) (true ∷ slotsOf form) (cond (eqb c 35) 
 unfoldable agrees : ℕ → ℕ → ℕ → List Bool → Bool
 agrees k m zero [] = true
 agrees k m zero (b ∷ bs) = false
-agrees k m (suc n) [] = isNothing (sortAt k m) && agrees k (suc m) n []
+agrees k m (suc n) [] = eqb (getD (lettersAt k) m 46) 46 && agrees k (suc m) n []
 agrees k m (suc n) (b ∷ bs) = suitsSlot b (sortAt k m) && agrees k (suc m) n bs
 
 agree-at : (k : ℕ) → k < rowCount → agrees k 0 5 (slotsOf (formAt k)) ≡ true
@@ -161,15 +152,12 @@ of-slots (a-byte {form} {ns} c e s) = subst (λ (bs : List Bool). OfSlots bs ns)
 
 -- ---- the first of some tests, looked at first
 
-swapped : (a b c : Bool) → (a || (b || c)) ≡ (b || (a || c))
-swapped true true c = refl
-swapped true false c = refl
-swapped false b c = refl
-
 any-first : (n : ℕ) (f : ℕ → Bool) → anyBelow (suc n) f ≡ (f 0 || anyBelow n (λ i. f (suc i)))
 unfolding anyBelow
 any-first zero f = refl
-any-first (suc n) f = ap (λ (t : Bool). f (suc n) || t) (any-first n f) ∙ swapped (f (suc n)) (f 0) (anyBelow n (λ i. f (suc i)))
+any-first (suc n) f =
+    ap (λ (u : Bool). f (suc n) || u) (any-first n f) ∙ sym (or-assoc (f (suc n)) (f 0) _)
+    ∙ ap (λ (u : Bool). u || anyBelow n (λ i. f (suc i))) (or-comm (f (suc n)) (f 0)) ∙ or-assoc (f 0) (f (suc n)) _
 
 -- ---- the law
 
@@ -193,8 +181,8 @@ module _ (r n : ℕ) (few : eqb r 5 ≡ true → n ≤ 1024) (k : ℕ) where
   words-are m zero (float-first b o) e = no-sort e
   words-are m zero (whole-first z o) e = no-sort e
   words-are m (suc j) no-number e =
-      let t = both (isNothing (sortAt k m)) (agrees k (suc m) j []) e in
-      step m j 0 (heldUpTo j []) (nothing-word r n few (sortAt k m) 0 (t .0)) (words-are (suc m) j no-number (t .1))
+      let t = both (eqb (getD (lettersAt k) m 46) 46) (agrees k (suc m) j []) e in
+      step m j 0 (heldUpTo j []) (nothing-word r n few k m 0 (t .0)) (words-are (suc m) j no-number (t .1))
   words-are m (suc j) (float-first {bs} {ns} b o) e =
       let t = both (suitsSlot true (sortAt k m)) (agrees k (suc m) j bs) e in
       step m j b (heldUpTo j ns) (float-word r n few (sortAt k m) b (t .0)) (words-are (suc m) j o (t .1))

@@ -19,7 +19,7 @@ use Rattle.line_form.specs.Written.{unheldWhole}
 use Rattle.frame_line.specs.Table.{rows, rowAt, formAt, sortOf, sortAt}
 use Rattle.frame_line.specs.Lines.{Line, kindOf, Proper, bitsAt, wholeAt, Axes, axesLineOf, CornerLine, cornerLineOf, LabelLine, labelLineOf}
 use Rattle.frame_line.specs.Lines.{PassLine, bare-grow, grow, bare-fill, fill, local, passLineOf}
-use Rattle.frame_line.specs.Checks.{wildBits, wildWhole, wild, refusalOf, numberOutside, someOutside, outsideLine}
+use Rattle.frame_line.specs.Checks.{wildBits, wildWhole, wild, numberOutside, someOutside, outsideLine}
 use Rattle.frame_line.specs.Held.{heldLine, countIn, labelIn, beyond, outsideWord, outsideAt, outsideHeld}
 use Rattle.frame_line.specs.declared.Kind.{Kind}
 use Rattle.frame_line.specs.declared.OpeningKind.{OpeningKind}

@@ -1,6 +1,4 @@
 -- `frame_line::refusal_of` meets its contract, by the sort of the number. Assumes nothing.
-use mathlib.Core.Path.{sym, ap, _∙_}
-use mathlib.Core.Bool.{Bool, cond}
 use Rattle.frame_line.specs.Held.{refusalIn}
 use borrow.Author.Needs.{needs}
 use Rattle.frame_line.proofs.refusal_of.Statement.{statement}
