@@ -44,7 +44,8 @@ refused-alike b true r x y e f = rw e
 refused-alike b false r x y e f = rw e (f refl)
 
 -- doubled is asked only of a label on the sheet and of a corner that is given
-pub checks-alike : (f g : ℕ → Bool) (over twice twice' : Bool) → ((r : ℕ) → f r ≡ g r) → (g 4 ≡ false → g 5 ≡ false → twice ≡ twice') → checksInOrder f over twice ≡ checksInOrder g over twice'
+pub checks-alike : (f g : ℕ → Bool) (over twice twice' : Bool) → ((r : ℕ) → f r ≡ g r) → (g 4 ≡ false → g 5 ≡ false → twice ≡ twice')
+    → checksInOrder f over twice ≡ checksInOrder g over twice'
 unfolding checksInOrder
 checks-alike f g over twice twice' e t =
     refused-alike (f 1) (g 1) Refusal.Malformed _ _ (e 1)

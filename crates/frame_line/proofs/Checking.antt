@@ -3,9 +3,10 @@ use mathlib.Core.Path.{_≡_, refl, sym, ap, ap₂, subst, _∙_}
 use mathlib.Core.Bool.{Bool, true, false, not, _&&_, _||_, true≢false, and-true, and-false, cond}
 use mathlib.Core.List.{List, []}
 use Prim.Native.Nat.{ℕ, _%_, _<_, _≤_}
+use native.Mathlib.Nat.{lt-of-not-le}
 use native.Mathlib.Omega.{arith}
-use borrow.Author.Tests.{ne-eqb, leb-true, leb-false}
-use lib.Dec.{eqb, leb}
+use borrow.Author.Tests.{ne-eqb}
+use lib.Dec.{eqb}
 use lib.ListN.{getD, take, length-take, List·getD-eq-default}
 use lib.Ieee.{binary32, ofBits}
 use Rattle.labels.specs.Labelled.{anyBelow}
@@ -13,13 +14,13 @@ use Rattle.arguments.specs.Arguments.{outside}
 use Rattle.binary32.specs.Ranges.{inRange}
 use Rattle.binary32.specs.declared.ranges.Quantity.{Quantity}
 use Rattle.binary32.proofs.Finite.{infinite-bits, in-range-finite}
-use Rattle.frame_line.specs.Table.{rows, rowCount, stageCount, rowAt, turnBy, turnAt, sortOf, sortAt}
+use Rattle.frame_line.specs.Table.{rows, rowCount, stageCount, rowAt, turnBy, turnAt, sortAt}
 use Rattle.frame_line.specs.Checks.{wildBits, refusalOf}
 use Rattle.frame_line.specs.Held.{wildWord, outsideWord, outsideAt, outsideHeld, refusalIn, refusalAt, refusalsIn, isRefusal}
 use Rattle.frame_line.specs.declared.HeldLine.{HeldLine}
 use Rattle.frame_line.specs.declared.Sort.{Sort}
 use Rattle.frame_line.specs.declared.Turn.{Turn}
-use Rattle.frame_line.proofs.Rows.{rows-long, letter-is}
+use Rattle.frame_line.proofs.Rows.{rows-long}
 
 pub no-row : (stage k : ℕ) → rowCount ≤ k → Turn.No ≡ turnAt stage k
 unfolding turnAt rowAt
@@ -41,11 +42,7 @@ wild-infinite q b h = go (inRange q (ofBits binary32 b)) refl
 
 -- so a pattern in a range is finite
 pub tame-finite : (q : Quantity) (b : ℕ) → wildBits q b ≡ false → b % 0x8000_0000 < 0x7f80_0000
-tame-finite q b e = go (leb 0x7f80_0000 (b % 0x8000_0000)) refl
-  where
-    go : (t : Bool) → leb 0x7f80_0000 (b % 0x8000_0000) ≡ t → b % 0x8000_0000 < 0x7f80_0000
-    go true f = absurd (true≢false (sym (wild-infinite q b (leb-true 0x7f80_0000 (b % 0x8000_0000) f)) ∙ e))
-    go false f = leb-false 0x7f80_0000 (b % 0x8000_0000) f
+tame-finite q b e = lt-of-not-le (λ h. true≢false (sym (wild-infinite q b h) ∙ e))
 
 -- ---- the refusals of a line's numbers
 
@@ -58,12 +55,11 @@ refusal-is n s w r h = go (wildWord n s w)
     go false = ne-eqb r 0 (λ e. omega arith) ∙ sym (and-false (eqb r (refusalOf s)))
 
 -- a refusal is found exactly if a number has it
-pub has-is : (n : ℕ) (l : HeldLine) {found : List ℕ} {r : ℕ} {b : Bool} → l .row < rowCount → 0 < r → found ≡ refusalsIn n l → b ≡ anyBelow 5 (isRefusal found r)
+pub has-is : (n : ℕ) (l : HeldLine) {found : List ℕ} {r : ℕ} {b : Bool} → 0 < r → found ≡ refusalsIn n l → b ≡ anyBelow 5 (isRefusal found r)
     → b ≡ outsideHeld r n l
-unfolding refusalsIn outsideHeld anyBelow sortAt
-has-is n l {r = r} fits h e f =
-    f ∙ ap (λ (x : List ℕ). anyBelow 5 (isRefusal x r)) e
-    ∙ ap₂ _||_ (one 4 (omega arith)) (ap₂ _||_ (one 3 (omega arith)) (ap₂ _||_ (one 2 (omega arith)) (ap₂ _||_ (one 1 (omega arith)) (ap₂ _||_ (one 0 (omega arith)) refl))))
+unfolding refusalsIn outsideHeld anyBelow
+has-is n l {r = r} h e f =
+    f ∙ ap (λ (x : List ℕ). anyBelow 5 (isRefusal x r)) e ∙ ap₂ _||_ (one 4) (ap₂ _||_ (one 3) (ap₂ _||_ (one 2) (ap₂ _||_ (one 1) (ap₂ _||_ (one 0) refl))))
   where
-    one : (m : ℕ) → m < 5 → eqb r (refusalAt n l m) ≡ outsideAt r n l m
-    one m few = refusal-is n _ (getD (l .values) m 0) r h ∙ ap (λ (b : ℕ). outsideWord r n (sortOf b) (getD (l .values) m 0)) (letter-is (l .row) fits m few)
+    one : (m : ℕ) → eqb r (refusalAt n l m) ≡ outsideAt r n l m
+    one m = refusal-is n (sortAt (l .row) m) (getD (l .values) m 0) r h

@@ -1,7 +1,7 @@
 -- Laws of a line by the table: a line that is printed is read back, and a line that was read is what would be printed of it. Proved once, over
 -- the rules of the rows. Assumes nothing.
 use mathlib.Core.Path.{_≡_, refl, sym, ap, _∙_, subst}
-use mathlib.Core.Bool.{Bool, true, false, true≢false}
+use mathlib.Core.Bool.{true, false, true≢false}
 use mathlib.Core.List.{List, []}
 use Prim.Native.Nat.{ℕ, zero, suc, _+_, _<_, _≤_}
 use native.Mathlib.Numerals.{add-one}
@@ -71,7 +71,8 @@ line-reads-back l p = looking-hit (reached (l .row) (omega arith)) (p .few) (rea
     reached : (i : ℕ) → i ≤ l .row → Looking (lineText l) i
     reached zero h = looking-start (lineText l)
     reached (suc i) h =
-        rw add-one at (looking-more (reached i (omega arith)) (omega (arith, p .few)) (told-misfits (formAt i) (formAt (l .row)) (l .numbers) (told-at (l .row) (p .few) i h)))
+        rw add-one at
+        (looking-more (reached i (omega arith)) (omega (arith, p .few)) (told-misfits (formAt i) (formAt (l .row)) _ (told-at (l .row) (p .few) i h)))
 
 pub line-prints-back : (text : List ℕ) (l : Line) → readLine text ≡ line l → LinePrintsBack text l
 unfolding lineText

@@ -1,10 +1,10 @@
 -- The checks of the words that hold a line's numbers are those of the numbers: the letters of a row and the slots of its form agree, by one
 -- test that antt computes over all rows. Assumes nothing.
 use mathlib.Core.Path.{_≡_, refl, sym, ap, ap₂, subst, _∙_}
-use mathlib.Core.Bool.{Bool, true, false, not, _&&_, _||_, true≢false, cond}
+use mathlib.Core.Bool.{Bool, true, false, not, _&&_, _||_, true≢false, and-false, or-assoc, or-comm, cond}
 use mathlib.Core.List.{List, [], _∷_}
 use Prim.Native.Nat.{ℕ, zero, suc, _+_, _-_, _<_, _≤_, min}
-use native.Mathlib.Nat.{add-zero, zero-add, add-suc, suc-add}
+use native.Mathlib.Nat.{not-suc-le-zero, add-zero, zero-add, add-suc, suc-add}
 use native.Mathlib.Omega.{arith}
 use borrow.Author.Tests.{eqb-true, lt-ltb, le-ltb, le-leb, ltb-true, ltb-false, leb-true, leb-false}
 use lib.Dec.{eqb, ltb, leb}
@@ -13,15 +13,18 @@ use lib.Signed.{leZ, ltZ}
 use lib.ListN.{getD}
 use Rattle.labels.specs.Labelled.{anyBelow}
 use Rattle.labels.proofs.Below.{both}
-use Rattle.line_form.specs.Integers.{negated}
+use Rattle.arguments.proofs.Chains.{or-false-both}
 use Rattle.line_form.specs.Forms.{Number, bits, whole, isSlot, Suits, none-left, a-float, an-integer, a-byte}
 use Rattle.line_form.specs.Held.{heldWhole, held, heldUpTo}
 use Rattle.line_form.specs.Written.{unheldWhole}
-use Rattle.line_form.proofs.Every.{everyBelow, every-at}
-use Rattle.frame_line.specs.Table.{rows, rowCount, rowAt, formAt, sortOf, sortAt}
-use Rattle.frame_line.specs.Lines.{Line, Proper}
-use Rattle.frame_line.specs.Checks.{wildWhole, refusalOf, wild, numberOutside, someOutside, outsideLine}
-use Rattle.frame_line.specs.Held.{heldLine, beyond, wildWord, outsideWord, outsideHeld}
+use Rattle.line_form.proofs.Every.{every-at}
+use Rattle.frame_line.specs.Table.{rows, rowCount, rowAt, kindAt, formAt, lettersAt, sortOf, sortAt}
+use Rattle.frame_line.specs.Lines.{Line, kindOf, Proper, bitsAt, wholeAt}
+use Rattle.frame_line.specs.Checks.{wildWhole, wild, numberOutside, someOutside, outsideLine}
+use Rattle.frame_line.specs.Held.{heldLine, beyond, outsideWord, outsideHeld}
+use Rattle.frame_line.specs.declared.Kind.{Kind}
+use Rattle.frame_line.specs.declared.OpeningKind.{OpeningKind}
+use Rattle.frame_line.specs.declared.PassKind.{PassKind}
 use Rattle.frame_line.specs.declared.Sort.{Sort}
 
 -- ---- integers and the words that hold them
@@ -57,10 +60,17 @@ neither true b = refl
 neither false b = refl
 
 -- a range that holds 0
-pub beyond-is : (low high : ℕ) (z : ℤ) → 0 < low → low ≤ 1000000 → 1000000 ≤ high → high < 2000000
-    → beyond low high (heldWhole z) ≡ wildWhole (unheldWhole low) (unheldWhole high) z
-beyond-is low high z a b c d =
-    ap₂ _||_ (below-is low z a b) (above-is high z c d) ∙ neither (leZ (unheldWhole low) z) (leZ z (unheldWhole high))
+abbrev pub ranged : ℕ → ℕ → Bool
+ranged low high = ltb 0 low && (leb low 1000000 && (leb 1000000 high && ltb high 2000000))
+
+pub beyond-is : (low high : ℕ) (z : ℤ) → ranged low high ≡ true → beyond low high (heldWhole z) ≡ wildWhole (unheldWhole low) (unheldWhole high) z
+beyond-is low high z e =
+    let a = both (ltb 0 low) (leb low 1000000 && (leb 1000000 high && ltb high 2000000)) e in
+    let b = both (leb low 1000000) (leb 1000000 high && ltb high 2000000) (a .1) in
+    let c = both (leb 1000000 high) (ltb high 2000000) (b .1) in
+    ap₂ _||_ (below-is low z (ltb-true 0 low (a .0)) (leb-true low 1000000 (b .0)))
+    (above-is high z (leb-true 1000000 high (c .0)) (ltb-true high 2000000 (c .1)))
+    ∙ neither (leZ (unheldWhole low) z) (leZ z (unheldWhole high))
 
 corner-is : (c : ℕ) (z : ℤ) → c ≤ 1024 → beyond 1000000 (999999 + c) (heldWhole z) ≡ not (leZ (pos 0) z && ltZ z (pos c))
 unfolding heldWhole
@@ -71,21 +81,12 @@ corner-is c (negsuc n) h = rw (lt-ltb (1000000 - suc n) 1000000 (omega arith))
 
 -- ---- the sort of a number and its slot: true for a float
 
-abbrev ranged : ℕ → ℕ → Bool
-ranged low high = ltb 0 low && (leb low 1000000 && (leb 1000000 high && ltb high 2000000))
-
 abbrev suitsSlot : Bool → Sort → Bool
 suitsSlot b Sort.Nothing = false
 suitsSlot b (Sort.Float q) = b
 suitsSlot true (Sort.Whole refusal low high) = false
 suitsSlot false (Sort.Whole refusal low high) = ranged low high
 suitsSlot b Sort.Corner = not b
-
-abbrev isNothing : Sort → Bool
-isNothing Sort.Nothing = true
-isNothing (Sort.Float q) = false
-isNothing (Sort.Whole refusal low high) = false
-isNothing Sort.Corner = false
 
 no-sort : {A : Type 0} → false ≡ true → A
 no-sort e = absurd (true≢false (sym e))
@@ -103,27 +104,17 @@ module _ (r n : ℕ) (few : eqb r 5 ≡ true → n ≤ 1024) where
   unfolding outsideWord numberOutside
   whole-word Sort.Nothing z e = refl
   whole-word (Sort.Float q) z e = no-sort e
-  whole-word (Sort.Whole refusal low high) z e =
-      let a = both (ltb 0 low) (leb low 1000000 && (leb 1000000 high && ltb high 2000000)) e in
-      let b = both (leb low 1000000) (leb 1000000 high && ltb high 2000000) (a .1) in
-      let c = both (leb 1000000 high) (ltb high 2000000) (b .1) in
-      ap (λ (t : Bool). eqb r refusal && t) (beyond-is low high z (ltb-true 0 low (a .0)) (leb-true low 1000000 (b .0)) (leb-true 1000000 high (c .0)) (ltb-true high 2000000 (c .1)))
+  whole-word (Sort.Whole refusal low high) z e = ap (λ (t : Bool). eqb r refusal && t) (beyond-is low high z e)
   whole-word Sort.Corner z e = go (eqb r 5) refl
     where
       go : (t : Bool) → eqb r 5 ≡ t → (t && beyond 1000000 (999999 + n) (heldWhole z)) ≡ (t && not (leZ (pos 0) z && ltZ z (pos n)))
       go true f = corner-is n z (few f)
       go false f = refl
 
-  nothing-word : (s : Sort) (w : ℕ) → isNothing s ≡ true → outsideWord r n s w ≡ false
-  unfolding outsideWord
-  nothing-word Sort.Nothing w e = go (eqb r 0)
-    where
-      go : (t : Bool) → (t && false) ≡ false
-      go true = refl
-      go false = refl
-  nothing-word (Sort.Float q) w e = no-sort e
-  nothing-word (Sort.Whole refusal low high) w e = no-sort e
-  nothing-word Sort.Corner w e = no-sort e
+  -- byte 46, the dot, stands for no number
+  nothing-word : (k m w : ℕ) → eqb (getD (lettersAt k) m 46) 46 ≡ true → outsideWord r n (sortAt k m) w ≡ false
+  unfolding outsideWord sortAt sortOf
+  nothing-word k m w e = rw (eqb-true (getD (lettersAt k) m 46) 46 e) (and-false (eqb r 0))
 
 -- ---- the letters of a row and the slots of its form
 
@@ -136,7 +127,7 @@ slotsOf (c ∷ form) = cond (eqb c 37) (true ∷ slotsOf form) (cond (eqb c 35) 
 unfoldable agrees : ℕ → ℕ → ℕ → List Bool → Bool
 agrees k m zero [] = true
 agrees k m zero (b ∷ bs) = false
-agrees k m (suc n) [] = isNothing (sortAt k m) && agrees k (suc m) n []
+agrees k m (suc n) [] = eqb (getD (lettersAt k) m 46) 46 && agrees k (suc m) n []
 agrees k m (suc n) (b ∷ bs) = suitsSlot b (sortAt k m) && agrees k (suc m) n bs
 
 agree-at : (k : ℕ) → k < rowCount → agrees k 0 5 (slotsOf (formAt k)) ≡ true
@@ -150,12 +141,7 @@ pub data OfSlots : List Bool → List Number → Type 0 where
 
 no-slot : (c : ℕ) (form : List ℕ) → isSlot c ≡ false → slotsOf form ≡ slotsOf (c ∷ form)
 unfolding slotsOf
-no-slot c form e = go (eqb c 37) (eqb c 35) e
-  where
-    go : (a b : Bool) → (a || b) ≡ false → slotsOf form ≡ cond a (true ∷ slotsOf form) (cond b (false ∷ slotsOf form) (slotsOf form))
-    go true b h = absurd (true≢false h)
-    go false true h = absurd (true≢false h)
-    go false false h = refl
+no-slot c form e = let t = or-false-both (eqb c 37) (eqb c 35) e in rw (t .0, t .1)
 
 pub of-slots : {form : List ℕ} {ns : List Number} → Suits form ns → OfSlots (slotsOf form) ns
 unfolding slotsOf
@@ -166,15 +152,12 @@ of-slots (a-byte {form} {ns} c e s) = subst (λ (bs : List Bool). OfSlots bs ns)
 
 -- ---- the first of some tests, looked at first
 
-swapped : (a b c : Bool) → (a || (b || c)) ≡ (b || (a || c))
-swapped true true c = refl
-swapped true false c = refl
-swapped false b c = refl
-
 any-first : (n : ℕ) (f : ℕ → Bool) → anyBelow (suc n) f ≡ (f 0 || anyBelow n (λ i. f (suc i)))
 unfolding anyBelow
 any-first zero f = refl
-any-first (suc n) f = ap (λ (t : Bool). f (suc n) || t) (any-first n f) ∙ swapped (f (suc n)) (f 0) (anyBelow n (λ i. f (suc i)))
+any-first (suc n) f =
+    ap (λ (u : Bool). f (suc n) || u) (any-first n f) ∙ sym (or-assoc (f (suc n)) (f 0) _)
+    ∙ ap (λ (u : Bool). u || anyBelow n (λ i. f (suc i))) (or-comm (f (suc n)) (f 0)) ∙ or-assoc (f 0) (f (suc n)) _
 
 -- ---- the law
 
@@ -184,20 +167,22 @@ module _ (r n : ℕ) (few : eqb r 5 ≡ true → n ≤ 1024) (k : ℕ) where
   wordTest m ws i = outsideWord r n (sortAt k (m + i)) (getD ws i 0)
 
   -- one number and its word more
-  step : (m j w : ℕ) (ws : List ℕ) {t u : Bool} → outsideWord r n (sortAt k m) w ≡ t → anyBelow j (wordTest (suc m) ws) ≡ u → anyBelow (suc j) (wordTest m (w ∷ ws)) ≡ (t || u)
+  step : (m j w : ℕ) (ws : List ℕ) {t u : Bool} → outsideWord r n (sortAt k m) w ≡ t → anyBelow j (wordTest (suc m) ws) ≡ u
+      → anyBelow (suc j) (wordTest m (w ∷ ws)) ≡ (t || u)
   step m j w ws e f =
       any-first j (wordTest m (w ∷ ws))
       ∙ ap₂ _||_ (ap (λ (a : ℕ). outsideWord r n (sortAt k a) w) (add-zero m) ∙ e)
       ((λ t. anyBelow j (λ i. outsideWord r n (sortAt k ((add-suc m i ∙ sym (suc-add m i)) t)) (getD ws i 0))) ∙ f)
 
-  words-are : (m j : ℕ) {bs : List Bool} {ns : List Number} → OfSlots bs ns → agrees k m j bs ≡ true → anyBelow j (wordTest m (heldUpTo j ns)) ≡ someOutside r n k m ns
+  words-are : (m j : ℕ) {bs : List Bool} {ns : List Number} → OfSlots bs ns → agrees k m j bs ≡ true
+      → anyBelow j (wordTest m (heldUpTo j ns)) ≡ someOutside r n k m ns
   unfolding agrees someOutside heldUpTo held anyBelow
   words-are m zero no-number e = refl
   words-are m zero (float-first b o) e = no-sort e
   words-are m zero (whole-first z o) e = no-sort e
   words-are m (suc j) no-number e =
-      let t = both (isNothing (sortAt k m)) (agrees k (suc m) j []) e in
-      step m j 0 (heldUpTo j []) (nothing-word r n few (sortAt k m) 0 (t .0)) (words-are (suc m) j no-number (t .1))
+      let t = both (eqb (getD (lettersAt k) m 46) 46) (agrees k (suc m) j []) e in
+      step m j 0 (heldUpTo j []) (nothing-word r n few k m 0 (t .0)) (words-are (suc m) j no-number (t .1))
   words-are m (suc j) (float-first {bs} {ns} b o) e =
       let t = both (suitsSlot true (sortAt k m)) (agrees k (suc m) j bs) e in
       step m j b (heldUpTo j ns) (float-word r n few (sortAt k m) b (t .0)) (words-are (suc m) j o (t .1))
@@ -214,3 +199,45 @@ outside-is r n l few p =
 
 pub outside-held : (number corners : ℕ) (l : Line) → corners ≤ 1024 → Proper l → outsideHeld number corners (heldLine l) ≡ outsideLine number corners l
 outside-held number corners l few p = outside-is number corners l (λ e. few) p
+
+-- ---- a kind has one row, and so the numbers that the row's form has
+
+abbrev pub rowOf : Kind → ℕ
+rowOf (Kind.Opening OpeningKind.Frame) = 0
+rowOf (Kind.Opening OpeningKind.CellSize) = 1
+rowOf (Kind.Opening OpeningKind.Axes) = 2
+rowOf (Kind.Opening OpeningKind.Band) = 3
+rowOf Kind.Corner = 4
+rowOf Kind.Label = 5
+rowOf (Kind.Pass PassKind.BareGrow) = 6
+rowOf (Kind.Pass PassKind.Grow) = 7
+rowOf (Kind.Pass PassKind.BareFill) = 8
+rowOf (Kind.Pass PassKind.Fill) = 9
+rowOf (Kind.Pass PassKind.Local) = 10
+
+pub row-of : (k : ℕ) (kind : Kind) → k < rowCount → kindAt k ≡ kind → k ≡ rowOf kind
+unfolding kindAt
+row-of k kind h e = eqb-true k (rowOf (kindAt k)) (every-at (λ j. eqb j (rowOf (kindAt j))) rowCount refl k h) ∙ ap rowOf e
+
+-- a number's word, by its slot
+word-at : (n m : ℕ) {bs : List Bool} {ns : List Number} → OfSlots bs ns → m < n
+    → getD (heldUpTo n ns) m 0 ≡ cond (getD bs m true) (bitsAt m ns) (heldWhole (wholeAt m ns))
+unfolding heldUpTo held bitsAt wholeAt
+word-at zero m o h = absurd (not-suc-le-zero h)
+word-at (suc n) zero no-number h = refl
+word-at (suc n) (suc m) no-number h = word-at n m no-number (omega arith)
+word-at (suc n) zero (float-first b o) h = refl
+word-at (suc n) (suc m) (float-first b o) h = word-at n m o (omega arith)
+word-at (suc n) zero (whole-first z o) h = refl
+word-at (suc n) (suc m) (whole-first z o) h = word-at n m o (omega arith)
+
+module _ (l : Line) (p : Proper l) (kind : Kind) (e : kindOf l ≡ kind) where
+  pub kind-slots : OfSlots (slotsOf (formAt (rowOf kind))) (l .numbers)
+  kind-slots = subst (λ (k : ℕ). OfSlots (slotsOf (formAt k)) (l .numbers)) (row-of (l .row) kind (p .few) e) (of-slots (p .suits))
+
+  pub bits-held : (m : ℕ) → m < 5 → getD (slotsOf (formAt (rowOf kind))) m true ≡ true → getD (heldUpTo 5 (l .numbers)) m 0 ≡ bitsAt m (l .numbers)
+  bits-held m h s = rw s at (word-at 5 m kind-slots h)
+
+  pub whole-held : (m : ℕ) → m < 5 → getD (slotsOf (formAt (rowOf kind))) m true ≡ false
+      → getD (heldUpTo 5 (l .numbers)) m 0 ≡ heldWhole (wholeAt m (l .numbers))
+  whole-held m h s = rw s at (word-at 5 m kind-slots h)

@@ -1,14 +1,14 @@
 -- The rules of the table, each by one test that antt computes over all rows: the code's columns hold the rows, the numbers of a form are
 -- apart, and no two forms can be taken for each other. Assumes nothing.
-use mathlib.Core.Path.{_≡_, refl, subst}
-use mathlib.Core.Bool.{Bool, true, false}
+use mathlib.Core.Path.{_≡_, refl}
+use mathlib.Core.Bool.{Bool, true, false, not}
 use mathlib.Core.List.{List, [], _∷_, _++_}
 use Prim.Native.Nat.{ℕ, _+_, _-_, _*_, _<_, _≤_}
-use borrow.Author.Tests.{eqb-true, leb-true}
+use borrow.Author.Tests.{eqb-true, leb-true, not-true}
 use lib.Dec.{eqb, leb}
 use lib.ListN.{length, getD, take, drop}
 use Rattle.line_form.specs.Forms.{isSlot, misfit, fitOf, secondIs, apart}
-use Rattle.line_form.proofs.Told.{told, plainTwo, second-misfits}
+use Rattle.line_form.proofs.Told.{told, second-misfits}
 use Rattle.line_form.proofs.Every.{everyBelow, every-at, sameList, same-list}
 use Rattle.frame_line.specs.Table.{rows, rowCount, stageCount, lettersFrom, formFrom, rowAt, formAt, lettersAt}
 
@@ -31,6 +31,11 @@ startsFrom n (r ∷ rs) = n ∷ startsFrom (n + (length r - formFrom)) rs
 abbrev pub start : ℕ → ℕ
 start k = getD (startsFrom 0 rows) k 0
 
+abbrev lettersIn : ℕ → List ℕ
+lettersIn k =
+    let n = k * formFrom + lettersFrom in
+    getD fronts n 0 ∷ getD fronts (n + 1) 0 ∷ getD fronts (n + 2) 0 ∷ getD fronts (n + 3) 0 ∷ getD fronts (n + 4) 0 ∷ []
+
 module _ (k : ℕ) (h : k < rowCount) where
   at : (f : ℕ → Bool) → everyBelow rowCount f ≡ true → f k ≡ true
   at f e = every-at f rowCount e k h
@@ -51,22 +56,16 @@ module _ (k : ℕ) (h : k < rowCount) where
   pub second-other : (line : List ℕ) → secondIs (getD forms (start k + 1) 0) line ≡ false → fitOf (formAt k) line ≡ misfit
   unfolding formAt rowAt rows
   second-other line e =
-      second-misfits (formAt k) line (at (λ j. plainTwo (formAt j)) refl)
-      (subst (λ (b : ℕ). secondIs b line ≡ false) (eqb-true _ (getD (formAt k) 1 0) (at (λ j. eqb (getD forms (start j + 1) 0) (getD (formAt j) 1 0)) refl)) e)
+      rw (same-list (formAt k) (starts k) (at (λ j. sameList (formAt j) (starts j)) refl))
+      (second-misfits _ _ _ line refl (not-true _ (at (λ j. not (isSlot (getD forms (start j + 1) 0))) refl)) e)
+    where
+      -- an opening bracket, and the byte behind it
+      starts : ℕ → List ℕ
+      starts j = 40 ∷ getD forms (start j + 1) 0 ∷ drop 2 (formAt j)
 
-  pub letters-are : (let n = k * formFrom + lettersFrom in getD fronts n 0 ∷ getD fronts (n + 1) 0 ∷ getD fronts (n + 2) 0 ∷ getD fronts (n + 3) 0 ∷ getD fronts (n + 4) 0 ∷ []) ≡ lettersAt k
+  pub letters-are : lettersIn k ≡ lettersAt k
   unfolding rowAt rows
-  letters-are =
-      same-list _ (lettersAt k)
-      (at
-      (λ j. let n = j * formFrom + lettersFrom in sameList (getD fronts n 0 ∷ getD fronts (n + 1) 0 ∷ getD fronts (n + 2) 0 ∷ getD fronts (n + 3) 0 ∷ getD fronts (n + 4) 0 ∷ []) (lettersAt j))
-      refl)
-
-  pub letter-is : (m : ℕ) → m < 5 → getD (lettersAt k) m 0 ≡ getD (lettersAt k) m 46
-  unfolding rowAt rows
-  letter-is m l =
-      eqb-true _ (getD (lettersAt k) m 46)
-      (every-at (λ i. eqb (getD (lettersAt k) i 0) (getD (lettersAt k) i 46)) 5 (at (λ j. everyBelow 5 (λ i. eqb (getD (lettersAt j) i 0) (getD (lettersAt j) i 46))) refl) m l)
+  letters-are = same-list (lettersIn k) (lettersAt k) (at (λ j. sameList (lettersIn j) (lettersAt j)) refl)
 
   pub stage-is : (s : ℕ) → s < stageCount → getD fronts (k * formFrom + s) 0 ≡ getD (take stageCount (rowAt k)) s 46
   unfolding rowAt rows

@@ -9,7 +9,7 @@ use lib.ListN.{getD, replicate}
 use Rattle.sheet.specs.declared.Cell.{Cell}
 use Rattle.labels.specs.Labelled.{anyBelow}
 use Rattle.line_form.specs.Held.{heldUpTo}
-use Rattle.frame_line.specs.Table.{rowCount, lettersAt, sortOf, sortAt}
+use Rattle.frame_line.specs.Table.{rowCount, sortAt}
 use Rattle.frame_line.specs.Lines.{Line, LineRead, ill-formed, line}
 use Rattle.frame_line.specs.Checks.{wildBits, refusalOf}
 use Rattle.frame_line.specs.declared.Sort.{Sort}
@@ -60,7 +60,7 @@ unfoldable pub refusalIn : ℕ → Sort → ℕ → ℕ
 refusalIn n s w = cond (wildWord n s w) (refusalOf s) 0
 
 abbrev pub refusalAt : ℕ → HeldLine → ℕ → ℕ
-refusalAt n l m = refusalIn n (sortOf (getD (lettersAt (l .row)) m 0)) (getD (l .values) m 0)
+refusalAt n l m = refusalIn n (sortAt (l .row) m) (getD (l .values) m 0)
 
 unfoldable pub refusalsIn : ℕ → HeldLine → List ℕ
 refusalsIn n l = refusalAt n l 0 ∷ refusalAt n l 1 ∷ refusalAt n l 2 ∷ refusalAt n l 3 ∷ refusalAt n l 4 ∷ []

@@ -6,7 +6,7 @@ ghost use Prim.Native.Nat.{_<_, _≤_, min};
 ghost use lib.ListN.{getD};
 ghost use Rattle.labels.specs.Labelled.{anyBelow};
 ghost use Rattle.line_form.specs.Forms.{secondIs};
-ghost use Rattle.frame_line.specs.Table.{rowCount, kindAt, lettersAt, sortOf, turnBy, turnAt, mayEnd};
+ghost use Rattle.frame_line.specs.Table.{rowCount, kindAt, sortOf, turnBy, turnAt, mayEnd};
 ghost use Rattle.frame_line.specs.Lines.{readLine};
 ghost use Rattle.frame_line.specs.Checks.{wildBits};
 ghost use Rattle.frame_line.specs.Held.{heldRead, countIn, cellIn, labelIn, beyond, refusalIn, refusalsIn, isRefusal};
@@ -230,22 +230,6 @@ fn sort_of(letter: u8) -> Sort
     }
 }
 
-// The letters of a row.
-fn letters_of(row: usize) -> [u8; 5]
-    requires { ⌜ row < rowCount ⌝ }
-    ensures { λ r. ⌜ r ≡ lettersAt row ⌝ }
-{
-    let fronts = FRONTS;
-    let at = row * FRONT + LETTERS;
-    [
-        fronts[at],
-        fronts[at + 1],
-        fronts[at + 2],
-        fronts[at + 3],
-        fronts[at + 4],
-    ]
-}
-
 // Whether the float of a pattern is not in the range of its quantity. What is not finite is in none.
 fn is_wild(q: Quantity, bits: u32) -> bool
     ensures { λ r. ⌜ r ≡ wildBits q bits ⌝ }
@@ -290,27 +274,20 @@ fn refusal_of(corners: u32, sort: Sort, word: u32) -> u32
     }
 }
 
-// The refusal of a number, by its letter.
-fn refusal_by(corners: u32, letter: u8, word: u32) -> u32
-    requires { ⌜ corners ≤ 1024 ⌝ }
-    ensures { λ r. ⌜ r ≡ refusalIn corners (sortOf letter) word ⌝ }
-{
-    refusal_of(corners, sort_of(letter), word)
-}
-
-// The refusals of a line's numbers.
+// The refusals of a line's numbers, by the letters of its row.
 pub fn refusals_of(corners: u32, line: HeldLine) -> [u32; 5]
     requires { ⌜ (line .row < rowCount) × (corners ≤ 1024) ⌝ }
     ensures { λ r. ⌜ r ≡ refusalsIn corners line ⌝ }
 {
-    let l = letters_of(line.row);
+    let fronts = FRONTS;
+    let at = line.row * FRONT + LETTERS;
     let v = line.values;
     [
-        refusal_by(corners, l[0], v[0]),
-        refusal_by(corners, l[1], v[1]),
-        refusal_by(corners, l[2], v[2]),
-        refusal_by(corners, l[3], v[3]),
-        refusal_by(corners, l[4], v[4]),
+        refusal_of(corners, sort_of(fronts[at]), v[0]),
+        refusal_of(corners, sort_of(fronts[at + 1]), v[1]),
+        refusal_of(corners, sort_of(fronts[at + 2]), v[2]),
+        refusal_of(corners, sort_of(fronts[at + 3]), v[3]),
+        refusal_of(corners, sort_of(fronts[at + 4]), v[4]),
     ]
 }
 

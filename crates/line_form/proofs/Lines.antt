@@ -19,7 +19,8 @@ unfolding lineLength
 line-within [] = (omega arith, λ h. h)
 line-within (b ∷ text) = go (eqb b 10) (line-within text .0)
   where
-    go : (t : Bool) → lineLength text ≤ length text → (cond t 1 (suc (lineLength text)) ≤ suc (length text)) × (0 < suc (length text) → 0 < cond t 1 (suc (lineLength text)))
+    go : (t : Bool) → lineLength text ≤ length text
+        → (cond t 1 (suc (lineLength text)) ≤ suc (length text)) × (0 < suc (length text) → 0 < cond t 1 (suc (lineLength text)))
     go true h = (omega arith, λ l. omega arith)
     go false h = (omega arith, λ l. omega arith)
 
@@ -30,7 +31,8 @@ lines-split [] h = absurd (omega arith)
 lines-split (b ∷ text) h = go (eqb b 10) text (lines-split text)
   where
     go : (t : Bool) (text : List ℕ) → (0 < length text → linesOf text ≡ take (lineLength text) text ∷ linesOf (drop (lineLength text) text))
-        → cond t ((b ∷ []) ∷ linesOf text) (longer b (linesOf text)) ≡ take (cond t 1 (suc (lineLength text))) (b ∷ text) ∷ linesOf (drop (cond t 1 (suc (lineLength text))) (b ∷ text))
+        → cond t ((b ∷ []) ∷ linesOf text) (longer b (linesOf text))
+        ≡ take (cond t 1 (suc (lineLength text))) (b ∷ text) ∷ linesOf (drop (cond t 1 (suc (lineLength text))) (b ∷ text))
     go true text ih = refl
     go false [] ih = refl
     go false (c ∷ text) ih = ap (longer b) (ih (omega arith))

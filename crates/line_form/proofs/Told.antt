@@ -7,8 +7,8 @@ use Prim.Native.Nat.{ℕ, suc}
 use native.Mathlib.Omega.{arith}
 use borrow.Author.Tests.{eqb-true, le-leb}
 use lib.Dec.{eqb}
-use lib.ListN.{length, getD}
-use Rattle.line_form.specs.Forms.{Number, isSlot, printed, misfit, fitOf, secondIs}
+use lib.ListN.{length}
+use Rattle.line_form.specs.Forms.{Number, isSlot, printed, no-piece, bytePiece, misfit, fitOf, secondIs}
 use Rattle.line_form.proofs.Laws.{piece-byte, byte-fits, byte-printed}
 
 -- the first bytes of two forms, which are no slots, tell them apart
@@ -17,9 +17,9 @@ told [] form = false
 told (c ∷ other) [] = false
 told (c ∷ other) (d ∷ form) = cond (isSlot c || isSlot d) false (cond (eqb d c) (told other form) true)
 
-byte-misfits : (c d : ℕ) (form text : List ℕ) → isSlot c ≡ false → eqb d c ≡ false → fitOf (c ∷ form) (d ∷ text) ≡ misfit
+first-misfits : (c : ℕ) (form text : List ℕ) → isSlot c ≡ false → bytePiece c text ≡ no-piece → fitOf (c ∷ form) text ≡ misfit
 unfolding fitOf
-byte-misfits c d form text e h = rw (piece-byte c (d ∷ text) e, h)
+first-misfits c form text e h = rw (piece-byte c text e, h)
 
 pub told-misfits : (other form : List ℕ) (ns : List Number) → told other form ≡ true → fitOf other (printed form ns) ≡ misfit
 unfolding told
@@ -33,33 +33,17 @@ told-misfits (c ∷ other) (d ∷ form) ns e = go (isSlot c) (isSlot d) (eqb d c
     go false true z p q r ih h = absurd (true≢false (sym h))
     go false false true p q r ih h =
         ap (fitOf (c ∷ other)) (byte-printed d form ns q ∙ ap (λ (b : ℕ). b ∷ printed form ns) (eqb-true d c r)) ∙ byte-fits other c (printed form ns) p ∙ ih h
-    go false false false p q r ih h = ap (fitOf (c ∷ other)) (byte-printed d form ns q) ∙ byte-misfits c d other (printed form ns) p r
+    go false false false p q r ih h = ap (fitOf (c ∷ other)) (byte-printed d form ns q) ∙ first-misfits c other (d ∷ printed form ns) p (rw r)
 
--- the first two bytes of a form are no slots
-abbrev pub plainTwo : List ℕ → Bool
-plainTwo [] = false
-plainTwo (a ∷ []) = false
-plainTwo (a ∷ b ∷ form) = cond (isSlot a || isSlot b) false true
-
-none-misfits : (c : ℕ) (form : List ℕ) → isSlot c ≡ false → fitOf (c ∷ form) [] ≡ misfit
-unfolding fitOf
-none-misfits c form e = rw (piece-byte c [] e)
-
-pub second-misfits : (form line : List ℕ) → plainTwo form ≡ true → secondIs (getD form 1 0) line ≡ false → fitOf form line ≡ misfit
-second-misfits [] line e h = absurd (true≢false (sym e))
-second-misfits (a ∷ []) line e h = absurd (true≢false (sym e))
-second-misfits (a ∷ b ∷ form) line e h = go (isSlot a) (isSlot b) refl refl e line h
+-- a line whose second byte is another one than the form's
+pub second-misfits : (a b : ℕ) (form line : List ℕ) → isSlot a ≡ false → isSlot b ≡ false → secondIs b line ≡ false → fitOf (a ∷ b ∷ form) line ≡ misfit
+second-misfits a b form [] p q h = first-misfits a (b ∷ form) [] p refl
+second-misfits a b form (d ∷ line) p q h = first (eqb d a) refl
   where
-    after : (line : List ℕ) → isSlot b ≡ false → secondIs b (a ∷ line) ≡ false → fitOf (b ∷ form) line ≡ misfit
-    after [] q h = none-misfits b form q
-    after (y ∷ line) q h = byte-misfits b y form line q (rw (le-leb 2 (suc (suc (length line))) (omega arith)) at h)
+    after : (line : List ℕ) → secondIs b (a ∷ line) ≡ false → fitOf (b ∷ form) line ≡ misfit
+    after [] f = first-misfits b form [] q refl
+    after (y ∷ line) f = first-misfits b form (y ∷ line) q (rw (rw (le-leb 2 (suc (suc (length line))) (omega arith)) at f))
 
-    go : (x y : Bool) → isSlot a ≡ x → isSlot b ≡ y → cond (x || y) false true ≡ true → (line : List ℕ) → secondIs b line ≡ false → fitOf (a ∷ b ∷ form) line ≡ misfit
-    go true y p q e line h = absurd (true≢false (sym e))
-    go false true p q e line h = absurd (true≢false (sym e))
-    go false false p q e [] h = none-misfits a (b ∷ form) p
-    go false false p q e (d ∷ line) h = first (eqb d a) refl
-      where
-        first : (t : Bool) → eqb d a ≡ t → fitOf (a ∷ b ∷ form) (d ∷ line) ≡ misfit
-        first true f = ap (λ (x : ℕ). fitOf (a ∷ b ∷ form) (x ∷ line)) (eqb-true d a f) ∙ byte-fits (b ∷ form) a line p ∙ after line q h
-        first false f = byte-misfits a d (b ∷ form) line p f
+    first : (t : Bool) → eqb d a ≡ t → fitOf (a ∷ b ∷ form) (d ∷ line) ≡ misfit
+    first true f = ap (λ (x : ℕ). fitOf (a ∷ b ∷ form) (x ∷ line)) (eqb-true d a f) ∙ byte-fits (b ∷ form) a line p ∙ after line h
+    first false f = first-misfits a (b ∷ form) (d ∷ line) p (rw f)

@@ -11,16 +11,16 @@ unfolding twiceOf
 is-twice-spec =
     tie.close
     (tie.spec
-    (λ c κs. search needs)
-    (λ c. search needs)
-    (λ c. search needs)
-    (λ c. search needs)
-    (λ c κs. search needs)
-    (λ c κs. rw (c .label-of .ensures) (label-fits _ _ (c .before .before .before .before .before .pre) (sym (c .before .before .before .before .kind-of .ensures) ∙ c .before .before .enum-told3 .given .1)))
+    (λ c κs. search needs) (λ c. search needs) (λ c. search needs) (λ c. search needs) (λ c κs. search needs)
+    (λ c κs.
+    let k = c .before .before .before .before in
+    rw (c .label-of .ensures) (label-fits _ _ (k .before .pre) (sym (k .kind-of .ensures) ∙ c .before .before .enum-told3 .given .1)))
     (λ c. search needs)
     (λ c. rw (← c .before .before .kind-of .ensures, c .enum-told .given .1))
     (λ c. rw (← c .before .before .kind-of .ensures, c .enum-told2 .given .1))
     (λ c.
-    let a = c .before .before .before .before .before .before .args in
-    rw (← c .before .before .before .before .before .kind-of .ensures, c .before .before .before .enum-told3 .given .1) (c .label-twice .ensures ∙ ap (labelTwice (a .sheet .now) (a .used .now)) (c .before .label-of .ensures)))
+    let k = c .before .before .before .before .before in
+    let a = k .before .args in
+    rw (← k .kind-of .ensures, c .before .before .before .enum-told3 .given .1)
+    (c .label-twice .ensures ∙ ap (labelTwice (a .sheet .now) (a .used .now)) (c .before .label-of .ensures)))
     (λ c. rw (← c .before .before .kind-of .ensures, c .enum-told4 .given .1)))

@@ -11,7 +11,10 @@ returns c =
     let i = c .before .capped in
     let j = c .capped2 in
     rw (← i .ensures, ← j .ensures)
-    (λ t. record { i = sub-read (pos (i .result)) (pos 1000000) (omega (arith, i .ensures)) t; j = sub-read (pos (j .result)) (pos 1000000) (omega (arith, j .ensures)) t })
+    (λ t. record {
+      i = sub-read (pos (i .result)) (pos 1000000) (omega (arith, i .ensures)) t;
+      j = sub-read (pos (j .result)) (pos 1000000) (omega (arith, j .ensures)) t;
+    })
 
 pub cell-of-spec : {M : Type 1} → statement M
 cell-of-spec =

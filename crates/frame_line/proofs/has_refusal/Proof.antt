@@ -16,14 +16,9 @@ abbrev μ-loop : tie.MeasureT-loop
 pub has-refusal-spec : {M : Type 1} → statement M
 has-refusal-spec =
     tie.close
-    (tie.spec
-    Inv-loop
-    μ-loop
-    (λ c. searching-start _ _)
-    (λ c. omega arith)
-    (λ c. omega arith)
+    (tie.spec Inv-loop μ-loop
+    (λ c. searching-start _ _) (λ c. omega arith) (λ c. omega arith)
     (λ c. searching-hit _ 5 _ (c .before .before .loop .inv) (c .before .loop-test .taken) (eq-eqb _ _ (c .if1 .taken)))
-    (λ c. omega arith)
-    (λ c. omega arith)
+    (λ c. omega arith) (λ c. omega arith)
     (λ c. searching-more _ 5 _ (c .before .before .loop .inv) (c .before .loop-test .taken) (ne-eqb _ _ (c .if1 .left)))
     (λ c. searching-end _ 5 _ (c .before .loop .inv) (c .loop-test .left)))

@@ -6,8 +6,4 @@ use Rattle.frame_line.proofs.has_second.Tie as tie
 
 pub has-second-spec : {M : Type 1} → statement M
 has-second-spec =
-    tie.close
-    (tie.spec
-    (λ c. rw (lt-leb _ _ (c .if1 .taken)))
-    (λ c. search needs)
-    (λ c. rw (le-leb _ _ (c .before .if1 .left))))
+    tie.close (tie.spec (λ c. rw (lt-leb _ _ (c .if1 .taken))) (λ c. search needs) (λ c. rw (le-leb _ _ (c .before .if1 .left))))

@@ -16,6 +16,5 @@ is-wild-spec =
     tie.close
     (tie.spec
     (λ c. sym (wild-infinite _ _ (c .if1 .taken)))
-    (λ c. pattern (c .before .args .bits) (omega arith))
-    (λ c κs. search needs)
+    (λ c. pattern (c .before .args .bits) (omega arith)) (λ c κs. search needs)
     (λ c. ap not (c .in-range .ensures)))

@@ -1,6 +1,4 @@
 -- `frame_line::refusal_of` meets its contract, by the sort of the number. Assumes nothing.
-use mathlib.Core.Path.{sym, ap, _∙_}
-use mathlib.Core.Bool.{Bool, cond}
 use Rattle.frame_line.specs.Held.{refusalIn}
 use borrow.Author.Needs.{needs}
 use Rattle.frame_line.proofs.refusal_of.Statement.{statement}
@@ -12,16 +10,9 @@ refusal-of-spec =
     tie.close
     (tie.spec
     (λ c. search needs)
-    (λ c. search needs)
-    (λ c κs. search needs)
-    (λ c κs. search needs)
-    (λ c. search needs)
-    (λ c κs. search needs)
-    (λ c κs. search needs)
-    (λ c. search needs)
-    (λ c. search needs)
-    (λ c κs. search needs)
-    (λ c κs. search needs)
+    (λ c. search needs) (λ c κs. search needs) (λ c κs. search needs)
+    (λ c. search needs) (λ c κs. search needs) (λ c κs. search needs)
+    (λ c. search needs) (λ c. search needs) (λ c κs. search needs) (λ c κs. search needs)
     (λ c. rw (c .enum-told .given .1))
     (λ c. rw (c .before .before .before .sort .given .1, ← c .before .is-wild .ensures) (c .refusal-if .ensures))
     (λ c. rw (c .before .before .before .sort2 .given .1, ← c .before .is-beyond .ensures) (c .refusal-if2 .ensures))

@@ -1,20 +1,31 @@
 -- `frame_line::refusals_of` meets its contract. Assumes nothing.
 use borrow.Author.Needs.{needs}
+use Rattle.frame_line.specs.Table.{rows, sortAt}
 use Rattle.frame_line.specs.Held.{refusalsIn}
+use Rattle.frame_line.proofs.Rows.{letters-are}
 use Rattle.frame_line.proofs.refusals_of.Statement.{statement}
 use Rattle.frame_line.proofs.refusals_of.Tie as tie
 
+returns : tie.Need-returns
+unfolding rows sortAt refusalsIn
+returns c =
+    let d = c .before .before in
+    let e = d .before .before in
+    let f = e .before .before in
+    let g = f .before .before in
+    let s = g .before .before .before .before in
+    rw (g .refusal-of .ensures, f .refusal-of2 .ensures, e .refusal-of3 .ensures, d .refusal-of4 .ensures, c .refusal-of5 .ensures)
+    (rw (g .before .sort-of .ensures, f .before .sort-of2 .ensures, e .before .sort-of3 .ensures, d .before .sort-of4 .ensures, c .before .sort-of5 .ensures)
+    (rw (← letters-are (s .args .line .row) (s .pre .0))))
+
 pub refusals-of-spec : {M : Type 1} → statement M
-unfolding refusalsIn
 refusals-of-spec =
     tie.close
     (tie.spec
-    (λ c κs. search needs)
-    (λ c. search needs) (λ c. search needs) (λ c κs. search needs)
-    (λ c. search needs) (λ c. search needs) (λ c κs. search needs)
-    (λ c. search needs) (λ c. search needs) (λ c κs. search needs)
-    (λ c. search needs) (λ c. search needs) (λ c κs. search needs)
-    (λ c. search needs) (λ c. search needs) (λ c κs. search needs)
-    (λ c.
-    rw (c .before .before .before .before .refusal-by .ensures, c .before .before .before .refusal-by2 .ensures, c .before .before .refusal-by3 .ensures)
-    (rw (c .before .refusal-by4 .ensures, c .refusal-by5 .ensures, c .before .before .before .before .before .before .letters-of .ensures))))
+    (λ c. search needs)
+    (λ c. search needs) (λ c. search needs) (λ c κs. search needs) (λ c. search needs) (λ c κs. search needs)
+    (λ c. search needs) (λ c. search needs) (λ c κs. search needs) (λ c. search needs) (λ c κs. search needs)
+    (λ c. search needs) (λ c. search needs) (λ c κs. search needs) (λ c. search needs) (λ c κs. search needs)
+    (λ c. search needs) (λ c. search needs) (λ c κs. search needs) (λ c. search needs) (λ c κs. search needs)
+    (λ c. search needs) (λ c. search needs) (λ c κs. search needs) (λ c. search needs) (λ c κs. search needs)
+    returns)

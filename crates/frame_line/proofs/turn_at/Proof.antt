@@ -14,8 +14,5 @@ turn-at-spec =
     (tie.spec
     (λ c. no-row _ _ (c .if1 .taken))
     (λ c. no-stage _ _ (c .if2 .taken))
-    (λ c. search needs)
-    (λ c. search needs)
-    (λ c. search needs)
-    (λ c κs. search needs)
+    (λ c. search needs) (λ c. search needs) (λ c. search needs) (λ c κs. search needs)
     (λ c. c .turn-by .ensures ∙ ap turnBy (stage-is _ (c .before .before .if1 .left) _ (c .before .if2 .left))))

@@ -18,10 +18,8 @@ line-end-spec =
     tie.close
     (tie.spec Inv-loop μ-loop
     (λ c. record { inside = c .pre; same = refl })
-    (λ c. omega arith)
-    (λ c. omega arith)
+    (λ c. omega arith) (λ c. omega arith)
     (λ c. seek-found (c .before .before .before .loop .inv) (c .before .before .loop-test .taken) (c .if1 .taken))
-    (λ c. omega arith)
-    (λ c. omega arith)
+    (λ c. omega arith) (λ c. omega arith)
     (λ c. seek-more (c .before .before .before .loop .inv) (c .before .before .loop-test .taken) (c .if1 .left))
     (λ c. seek-end (c .before .loop .inv) (c .loop-test .left)))
