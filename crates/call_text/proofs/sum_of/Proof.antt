@@ -3,8 +3,8 @@ use Prim.Native.Nat.{_-_}
 use native.Mathlib.Omega.{arith}
 use borrow.Author.Needs.{needs}
 use lib.ListN.{length}
-use Rattle.passes_main.proofs.sum_of.Statement.{statement}
-use Rattle.passes_main.proofs.sum_of.Tie as tie
+use Rattle.call_text.proofs.sum_of.Statement.{statement}
+use Rattle.call_text.proofs.sum_of.Tie as tie
 
 abbrev Inv-loop : tie.InvT-loop
 Inv-loop list sum₀ i₀ sum i = Unit {0}

@@ -3,8 +3,8 @@ use Prim.Native.Nat.{_-_}
 use mathlib.Core.Path.{_≡_, refl}
 use native.Mathlib.Omega.{arith}
 use lib.ListN.{length, length-set}
-use Rattle.passes_main.proofs.read_labels.Statement.{statement}
-use Rattle.passes_main.proofs.read_labels.Tie as tie
+use Rattle.call_text.proofs.read_labels.Statement.{statement}
+use Rattle.call_text.proofs.read_labels.Tie as tie
 
 abbrev Inv-loop : tie.InvT-loop
 Inv-loop text from m sheet₀ i₀ sheet i = 16384 ≡ length sheet

@@ -4,8 +4,8 @@ use mathlib.Core.Path.{_≡_, refl}
 use native.Mathlib.Omega.{arith}
 use borrow.Author.Needs.{needs}
 use lib.ListN.{length, length-set, length-replicate}
-use Rattle.passes_main.proofs.read_floats.Statement.{statement}
-use Rattle.passes_main.proofs.read_floats.Tie as tie
+use Rattle.call_text.proofs.read_floats.Statement.{statement}
+use Rattle.call_text.proofs.read_floats.Tie as tie
 
 abbrev Inv-loop : tie.InvT-loop
 Inv-loop text from n out₀ i₀ out i = 1025 ≡ length out
