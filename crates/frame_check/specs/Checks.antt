@@ -25,12 +25,19 @@ checksInOrder outside over twice =
     (refusedIf (outside 5) Refusal.UnknownCorner
     (refusedIf twice Refusal.Duplicate Checked.Fine)))))
 
--- 2, overfull: "At most .. 1,024 corners, 16 passes", n corners and m passes standing already
+-- "At most .. 1,024 corners, 16 passes"
+abbrev pub mostCorners : ℕ
+mostCorners = 1024
+
+abbrev pub mostPasses : ℕ
+mostPasses = 16
+
+-- 2, overfull, n corners and m passes standing already
 unfoldable pub overLimit : ℕ → ℕ → Kind → Bool
 overLimit n m (Kind.Opening o) = false
-overLimit n m Kind.Corner = leb 1024 n
+overLimit n m Kind.Corner = leb mostCorners n
 overLimit n m Kind.Label = false
-overLimit n m (Kind.Pass p) = leb 16 m
+overLimit n m (Kind.Pass p) = leb mostPasses m
 
 -- ---- as the code makes them, with n corners, m passes, the sheet and the corners used so far; each is what Frame (crate frame) says of the
 -- line, as `frame/proofs` shows
@@ -61,10 +68,10 @@ checkedHeld n m sheet used line = checksInOrder (λ r. outsideHeld r n line) (ov
 
 pub record LabelFits (l : HeldLabel) : Type 0 where
   pub on : OnSheet (l .cell)
-  pub entry : l .corner < 1024
+  pub entry : l .corner < mostCorners
 
 pub record LineFits (n : ℕ) (line : HeldLine) : Type 0 where
-  pub few : n ≤ 1024
+  pub few : n ≤ mostCorners
   pub row-fits : line .row < rowCount
 
 pub record NumbersFine (n : ℕ) (line : HeldLine) : Type 0 where

@@ -10,6 +10,14 @@ use frame_line::Kind;
 use frame_line::has_refusal;
 use refusal::Refusal;
 
+// "At most .. 1,024 corners, 16 passes".
+const MOST_CORNERS: usize = 1024;
+
+const MOST_PASSES: usize = 16;
+
+// The places of the sheet.
+const PLACES: usize = 16384;
+
 // 2: whether there are as many corners or passes already as there may be.
 fn over_limit(corners: usize, passes: usize, row: usize) -> bool
     requires { ⌜ row < rowCount ⌝ }
@@ -18,14 +26,14 @@ fn over_limit(corners: usize, passes: usize, row: usize) -> bool
     let kind = frame_line::kind_of(row);
     match kind {
         Kind::Opening(_) => false,
-        Kind::Corner => 1024 <= corners,
+        Kind::Corner => MOST_CORNERS <= corners,
         Kind::Label => false,
-        Kind::Pass(_) => 16 <= passes,
+        Kind::Pass(_) => MOST_PASSES <= passes,
     }
 }
 
 // 6 of a label: whether its cell or its corner has a label already.
-fn label_twice(sheet: &[u16; 16384], used: &[u8; 1024], label: HeldLabel) -> bool
+fn label_twice(sheet: &[u16; PLACES], used: &[u8; MOST_CORNERS], label: HeldLabel) -> bool
     requires { ⌜ LabelFits label ⌝ }
     ensures { λ r. ⌜ r ≡ labelTwice (now (sheet .entry)) (now (used .entry)) label ⌝ }
 {
@@ -38,7 +46,12 @@ fn label_twice(sheet: &[u16; 16384], used: &[u8; 1024], label: HeldLabel) -> boo
 }
 
 // 6: a label's, and none of any other line.
-fn is_twice(corners: usize, sheet: &[u16; 16384], used: &[u8; 1024], line: HeldLine) -> bool
+fn is_twice(
+    corners: usize,
+    sheet: &[u16; PLACES],
+    used: &[u8; MOST_CORNERS],
+    line: HeldLine,
+) -> bool
     requires { ⌜ NumbersFine corners line ⌝ }
     ensures { λ r. ⌜ r ≡ twiceHeld (now (sheet .entry)) (now (used .entry)) line ⌝ }
 {
@@ -58,8 +71,8 @@ fn is_twice(corners: usize, sheet: &[u16; 16384], used: &[u8; 1024], line: HeldL
 pub fn check_line(
     corners: usize,
     passes: usize,
-    sheet: &[u16; 16384],
-    used: &[u8; 1024],
+    sheet: &[u16; PLACES],
+    used: &[u8; MOST_CORNERS],
     line: HeldLine,
 ) -> Checked
     requires { ⌜ LineFits corners line ⌝ }

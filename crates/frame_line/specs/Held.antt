@@ -1,13 +1,14 @@
--- A line as the code holds it: its row and a word for each number, an integer 1,000,000 higher and cut to a size that a word has room for
+-- A line as the code holds it: its row and a word for each number, an integer `offset` higher and cut to a size that a word has room for
 -- (crate line_form, Held). Definitions only.
 use mathlib.Core.Bool.{Bool, false, _&&_, _||_, cond}
 use mathlib.Core.List.{List, [], _∷_}
-use Prim.Native.Nat.{ℕ, _+_, _-_, min}
+use Prim.Native.Nat.{ℕ, _+_, _-_, _*_, min}
 use lib.Dec.{ltb, eqb}
 use lib.IntN.{pos, _-ℤ_}
 use lib.ListN.{getD, replicate}
 use Rattle.sheet.specs.declared.Cell.{Cell}
 use Rattle.labels.specs.Labelled.{anyBelow}
+use Rattle.line_form.specs.Integers.{offset}
 use Rattle.line_form.specs.Held.{heldUpTo}
 use Rattle.frame_line.specs.Table.{rowCount, sortAt}
 use Rattle.frame_line.specs.Lines.{Line, LineRead, ill-formed, line}
@@ -25,12 +26,12 @@ heldRead (line l) = heldLine l
 
 -- ---- what words say
 
--- the count that a word holds: itself from 0 to 1,000,000, and 1,000,000 for any other
+-- the count that a word holds: itself from 0 to `offset`, and `offset` for any other
 abbrev pub countIn : ℕ → ℕ
-countIn w = cond (ltb w 1000000) 1000000 (w - 1000000)
+countIn w = cond (ltb w offset) offset (w - offset)
 
 abbrev pub cellIn : ℕ → ℕ → Cell
-cellIn i j = record { i = pos (min 2000000 i) -ℤ pos 1000000; j = pos (min 2000000 j) -ℤ pos 1000000 }
+cellIn i j = record { i = pos (min (2 * offset) i) -ℤ pos offset; j = pos (min (2 * offset) j) -ℤ pos offset }
 
 abbrev pub labelIn : List ℕ → HeldLabel
 labelIn v = record { corner = countIn (getD v 0 0); cell = cellIn (getD v 1 0) (getD v 2 0) }
@@ -44,7 +45,7 @@ abbrev pub wildWord : ℕ → Sort → ℕ → Bool
 wildWord n Sort.Nothing w = false
 wildWord n (Sort.Float q) w = wildBits q w
 wildWord n (Sort.Whole refusal low high) w = beyond low high w
-wildWord n Sort.Corner w = beyond 1000000 (999999 + n) w
+wildWord n Sort.Corner w = beyond offset (offset - 1 + n) w
 
 unfoldable pub outsideWord : ℕ → ℕ → Sort → ℕ → Bool
 outsideWord r n s w = eqb r (refusalOf s) && wildWord n s w

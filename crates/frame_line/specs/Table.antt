@@ -5,6 +5,7 @@ use Prim.Native.Nat.{ℕ, _+_, _-_}
 use lib.Dec.{ltb, eqb}
 use lib.ListN.{getD, take, drop}
 use Rattle.binary32.specs.declared.ranges.Quantity.{Quantity}
+use Rattle.line_form.specs.Integers.{offset}
 use Rattle.line_form.specs.Forms.{bytes}
 use Rattle.frame_line.specs.declared.Kind.{Kind}
 use Rattle.frame_line.specs.declared.OpeningKind.{OpeningKind}
@@ -88,7 +89,7 @@ mayEnd stage = getD ends stage false
 -- ---- the numbers of a row
 
 -- "Ranges, by value": a axis part, b band, c cell, f factor, m multiple (search, boundary, residual), p pitch, x position; integers as they are
--- held, 1,000,000 higher: d depth 0 to 4, r rounds 0 to 64, both else 3; i a cell's i or j, -64 to 63, else 4; n a corner's number, else 5
+-- held, `offset` higher: d depth 0 to 4, r rounds 0 to 64, both else 3; i a cell's i or j, -64 to 63, else 4; n a corner's number, else 5
 abbrev pub letters : List ℕ
 letters = bytes "abcdfimnprx"
 
@@ -97,13 +98,13 @@ sorts =
     Sort.Float Quantity.AxisPart
     ∷ Sort.Float Quantity.Band
     ∷ Sort.Float Quantity.CellSize
-    ∷ Sort.Whole 3 1000000 1000004
+    ∷ Sort.Whole 3 offset (offset + 4)
     ∷ Sort.Float Quantity.Factor
-    ∷ Sort.Whole 4 999936 1000063
+    ∷ Sort.Whole 4 (offset - 64) (offset + 63)
     ∷ Sort.Float Quantity.Multiple
     ∷ Sort.Corner
     ∷ Sort.Float Quantity.Pitch
-    ∷ Sort.Whole 3 1000000 1000064
+    ∷ Sort.Whole 3 offset (offset + 64)
     ∷ Sort.Float Quantity.Position
     ∷ []
 

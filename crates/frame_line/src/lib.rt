@@ -2,15 +2,17 @@
 // form.
 ghost use mathlib.Core.Path.{_≡_};
 ghost use mathlib.Core.Bool.{cond};
-ghost use Prim.Native.Nat.{_<_, _≤_, min};
+ghost use Prim.Native.Nat.{_<_, _≤_, _*_, min};
 ghost use lib.ListN.{getD};
 ghost use Rattle.labels.specs.Labelled.{anyBelow};
+ghost use Rattle.line_form.specs.Integers.{offset};
 ghost use Rattle.line_form.specs.Forms.{secondIs};
 ghost use Rattle.frame_line.specs.Table.{rowCount, kindAt, sortOf, turnBy, turnAt, mayEnd};
 ghost use Rattle.frame_line.specs.Lines.{readLine};
 ghost use Rattle.frame_line.specs.Checks.{wildBits};
 ghost use Rattle.frame_line.specs.Held.{heldRead, countIn, cellIn, labelIn, beyond, refusalIn, refusalsIn, isRefusal};
 use binary32::ranges::Quantity;
+use line_form::OFFSET;
 use line_form::read::LineFit;
 use line_form::read::fit_line;
 use sheet::Cell;
@@ -64,7 +66,7 @@ pub struct HeldLine {
     pub values: [u32; 5],
 }
 
-// A label's corner and cell. A corner's number that is not from 0 to 1,000,000 is held as 1,000,000, and the cell's numbers are cut to
+// A label's corner and cell. A corner's number that is not from 0 to OFFSET is held as OFFSET, and the cell's numbers are cut to
 // that size: no larger ones are given or on the sheet.
 pub struct HeldLabel {
     pub corner: usize,
@@ -131,6 +133,21 @@ const KINDS: [Kind; ROWS] = [
 
 // The stages at which a frame may end.
 const ENDS: [bool; STAGES] = [false, false, false, false, true, true, true];
+
+// Integers as they are held: OFFSET is 0. The limits of a depth, of rounds and of a cell's i and j; -1; the largest that is held; and 0 signed.
+const MOST_DEPTH: u32 = OFFSET + 4;
+
+const MOST_ROUNDS: u32 = OFFSET + 64;
+
+const LEAST_SIDE: u32 = OFFSET - 64;
+
+const MOST_SIDE: u32 = OFFSET + 63;
+
+const MINUS_ONE: u32 = OFFSET - 1;
+
+const LARGEST: u32 = 2 * OFFSET;
+
+const ZERO: i32 = OFFSET as i32;
 
 // The kind of a row.
 pub fn kind_of(row: usize) -> Kind
@@ -218,13 +235,13 @@ fn sort_of(letter: u8) -> Sort
         b'a' => Sort::Float(Quantity::AxisPart),
         b'b' => Sort::Float(Quantity::Band),
         b'c' => Sort::Float(Quantity::CellSize),
-        b'd' => Sort::Whole(3, 1_000_000, 1_000_004),
+        b'd' => Sort::Whole(3, OFFSET, MOST_DEPTH),
         b'f' => Sort::Float(Quantity::Factor),
-        b'i' => Sort::Whole(4, 999_936, 1_000_063),
+        b'i' => Sort::Whole(4, LEAST_SIDE, MOST_SIDE),
         b'm' => Sort::Float(Quantity::Multiple),
         b'n' => Sort::Corner,
         b'p' => Sort::Float(Quantity::Pitch),
-        b'r' => Sort::Whole(3, 1_000_000, 1_000_064),
+        b'r' => Sort::Whole(3, OFFSET, MOST_ROUNDS),
         b'x' => Sort::Float(Quantity::Position),
         _ => Sort::Nothing,
     }
@@ -270,7 +287,7 @@ fn refusal_of(corners: u32, sort: Sort, word: u32) -> u32
         Sort::Nothing => 0,
         Sort::Float(q) => refusal_if(is_wild(q, word), 3),
         Sort::Whole(refusal, low, high) => refusal_if(is_beyond(low, high, word), refusal),
-        Sort::Corner => refusal_if(is_beyond(1_000_000, 999_999 + corners, word), 5),
+        Sort::Corner => refusal_if(is_beyond(OFFSET, MINUS_ONE + corners, word), 5),
     }
 }
 
@@ -305,24 +322,24 @@ pub fn has_refusal(found: [u32; 5], number: u32) -> bool
     false
 }
 
-// A word cut to 2,000,000.
+// A word cut to LARGEST.
 fn capped(word: u32) -> u32
-    ensures { λ r. ⌜ r ≡ min 2000000 word ⌝ }
+    ensures { λ r. ⌜ r ≡ min (2 * offset) word ⌝ }
 {
-    if word < 2000000 {
+    if word < LARGEST {
         return word;
     }
-    2000000
+    LARGEST
 }
 
-// The count that a word holds: 1,000,000 less, or 1,000,000 where that is below 0.
+// The count that a word holds: OFFSET less, or OFFSET where that is below 0.
 pub fn count_of(word: u32) -> u32
     ensures { λ r. ⌜ r ≡ countIn word ⌝ }
 {
-    if word < 1000000 {
-        return 1000000;
+    if word < OFFSET {
+        return OFFSET;
     }
-    word - 1000000
+    word - OFFSET
 }
 
 // The cell whose numbers two words hold.
@@ -332,8 +349,8 @@ fn cell_of(i: u32, j: u32) -> Cell
     let i = capped(i) as i32;
     let j = capped(j) as i32;
     Cell {
-        i: i - 1000000,
-        j: j - 1000000,
+        i: i - ZERO,
+        j: j - ZERO,
     }
 }
 

@@ -5,7 +5,7 @@ use Prim.Native.Nat.{ℕ, zero, suc, _+_, _-_, min}
 use lib.IntN.{ℤ, pos, negsuc}
 use lib.Dec.{ltb, leb}
 use lib.ListN.{length, replicate, set}
-use Rattle.line_form.specs.Integers.{Front, broken, front}
+use Rattle.line_form.specs.Integers.{offset, Front, broken, front}
 use Rattle.line_form.specs.Forms.{Number, bits, whole, Piece, no-piece, same, number, Fitted, misfit, fitted}
 use Rattle.line_form.specs.declared.read.LineFit.{LineFit}
 use Rattle.line_form.specs.declared.read.Digits.{Digits}
@@ -14,8 +14,8 @@ use Rattle.line_form.specs.declared.read.Taken.the-variants.{Nothing, By
 
 -- 1,000,000 + z, cut to 0 .. 2,000,000: so an integer of any length is held, and those beyond 1,000,000 either way are alike
 unfoldable pub heldWhole : ℤ → ℕ
-heldWhole (pos n) = 1000000 + min 1000000 n
-heldWhole (negsuc n) = 1000000 - suc n
+heldWhole (pos n) = offset + min offset n
+heldWhole (negsuc n) = offset - suc n
 
 -- a float is held as its bits
 unfoldable pub held : Number → ℕ
@@ -44,7 +44,7 @@ heldPiece (number n text) = Word (held n) (length text)
 -- digits at the front of a text: their number, cut to 1,000,000, and how many bytes stand behind them
 unfoldable pub heldDigits : Front ℕ → Digits
 heldDigits broken = record { value = 0; left = 0 }
-heldDigits (front n text) = record { value = min 1000000 n; left = length text }
+heldDigits (front n text) = record { value = min offset n; left = length text }
 
 -- the first byte is a digit that is not 0
 unfoldable pub startsPositive : List ℕ → Bool

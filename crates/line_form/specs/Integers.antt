@@ -6,6 +6,10 @@ use Prim.Native.Nat.{ℕ, zero, suc, _+_, _-_, _*_, _/_, _%_}
 use lib.IntN.{ℤ, pos, negsuc}
 use lib.Dec.{ltb, leb, eqb}
 
+-- integers are held as words that are this much higher
+abbrev pub offset : ℕ
+offset = 1000000
+
 -- ---- written
 
 -- the digits of n in base ten, at most f of them, the most significant first

@@ -6,12 +6,12 @@ use Prim.Native.Nat.{ℕ, _-_}
 use lib.Dec.{ltb, eqb}
 use lib.IntN.{ℤ, pos}
 use lib.ListN.{length, getD, drop}
-use Rattle.line_form.specs.Integers.{negated}
+use Rattle.line_form.specs.Integers.{offset, negated}
 use Rattle.line_form.specs.Forms.{Number, bits, whole, numberText, isSlot, printed}
 
 -- the integer that a word holds: 1,000,000 less
 unfoldable pub unheldWhole : ℕ → ℤ
-unheldWhole w = cond (ltb w 1000000) (negated (1000000 - w)) (pos (w - 1000000))
+unheldWhole w = cond (ltb w offset) (negated (offset - w)) (pos (w - offset))
 
 -- the number that a word holds for a byte of a form: % has its bits, # an integer
 unfoldable pub unheldNumber : ℕ → ℕ → Number

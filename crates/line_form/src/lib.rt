@@ -2,3 +2,6 @@
 pub mod read; // read.rt: a line read by its form
 pub mod text; // text.rt: the lines of a text
 pub mod write; // write.rt: a line written from its form and its numbers
+
+// Integers are held as this much more than they are, and so those below 0 in words too.
+pub const OFFSET: u32 = 1_000_000;

@@ -1,13 +1,14 @@
-// A line read by its form, and its numbers held as words: a float as its bits, an integer as 1,000,000 more than it is.
+// A line read by its form, and its numbers held as words: a float as its bits, an integer as OFFSET more than it is.
 ghost use mathlib.Core.Path.{_≡_};
 ghost use mathlib.Core.Bool.{true};
 ghost use Prim.Native.Nat.{_+_, _-_, _*_, _≤_, min};
 ghost use lib.IntN.{pos};
 ghost use lib.ListN.{drop};
 ghost use Rattle.binary32.specs.Hex.{readBits};
-ghost use Rattle.line_form.specs.Integers.{isDigit, digitsAfter, readPositive, negated, mapped, readInteger};
+ghost use Rattle.line_form.specs.Integers.{offset, isDigit, digitsAfter, readPositive, negated, mapped, readInteger};
 ghost use Rattle.line_form.specs.Forms.{bitsPiece, wholePiece, bytePiece, pieceOf, misfit as noFit, fitOf};
 ghost use Rattle.line_form.specs.Held.{heldFit, heldPiece, heldDigits, startsPositive, kept};
+use super::OFFSET;
 use binary32::hex::Bits;
 use binary32::hex::read_bits;
 
@@ -25,7 +26,7 @@ pub enum Taken {
     Number(u32, usize),
 }
 
-// The number of some digits, cut to 1,000,000, and how many bytes stand behind them.
+// The number of some digits, cut to OFFSET, and how many bytes stand behind them.
 pub struct Digits {
     pub value: u32,
     pub left: usize,
@@ -42,15 +43,15 @@ fn is_digit(b: u8) -> bool
 
 // One digit more behind a number.
 fn grown(value: u32, b: u8) -> u32
-    requires { ⌜ (value ≤ 1000000) × (isDigit b ≡ true) ⌝ }
-    ensures { λ r. ⌜ r ≡ min 1000000 (value * 10 + (b - 48)) ⌝ }
+    requires { ⌜ (value ≤ offset) × (isDigit b ≡ true) ⌝ }
+    ensures { λ r. ⌜ r ≡ min offset (value * 10 + (b - 48)) ⌝ }
 {
     let d = (b - 48) as u32;
     let v = value * 10 + d;
-    if v < 1000000 {
+    if v < OFFSET {
         return v;
     }
-    1000000
+    OFFSET
 }
 
 // The digits at the front of a text, as far as they go.
@@ -98,7 +99,7 @@ fn above(text: &[u8]) -> Taken
         return Taken::Nothing;
     }
     let d = read_digits(text);
-    Taken::Number(1000000 + d.value, d.left)
+    Taken::Number(OFFSET + d.value, d.left)
 }
 
 // An integer below 0, after its minus.
@@ -109,7 +110,7 @@ fn below(text: &[u8]) -> Taken
         return Taken::Nothing;
     }
     let d = read_digits(text);
-    Taken::Number(1000000 - d.value, d.left)
+    Taken::Number(OFFSET - d.value, d.left)
 }
 
 // An integer: 0, or a minus and a number above 0, or a number above 0.
@@ -121,7 +122,7 @@ fn integer(text: &[u8]) -> Taken
     }
     let b = text[0];
     if b == 48 {
-        return Taken::Number(1000000, text.len() - 1);
+        return Taken::Number(OFFSET, text.len() - 1);
     }
     if b == 45 {
         return below(&text[1..]);

@@ -1,4 +1,4 @@
-// A line written from its form, and from words that hold its numbers: a float as its bits, an integer as 1,000,000 more than it is.
+// A line written from its form, and from words that hold its numbers: a float as its bits, an integer as OFFSET more than it is.
 ghost use mathlib.Core.Bool.{cond};
 ghost use mathlib.Core.Path.{_≡_};
 ghost use Prim.Native.Nat.{_+_, _%_, _≤_};
@@ -7,6 +7,7 @@ ghost use Rattle.line_form.specs.Integers.{decimal, integerText};
 ghost use Rattle.line_form.specs.Forms.{isSlot};
 ghost use Rattle.line_form.specs.Lengths.{DigitCount};
 ghost use Rattle.line_form.specs.Written.{unheldWhole, formText, pieceText, Wrote};
+use super::OFFSET;
 use binary32::hex::write_bits;
 
 // How many digits a number has.
@@ -50,12 +51,12 @@ fn write_integer(w: u32, out: &mut [u8]) -> usize
     requires { ⌜ length (integerText (unheldWhole w)) ≤ length (now out) ⌝ }
     ensures { λ r. ⌜ Wrote (integerText (unheldWhole w)) (now (out .entry)) (now (out .exit)) r ⌝ }
 {
-    if w < 1000000 {
+    if w < OFFSET {
         out[0] = 45;
-        let n = write_decimal(1000000 - w, &mut out[1..]);
+        let n = write_decimal(OFFSET - w, &mut out[1..]);
         return n + 1;
     }
-    write_decimal(w - 1000000, out)
+    write_decimal(w - OFFSET, out)
 }
 
 // Writes what stands for one byte of a form.
