@@ -18,18 +18,18 @@ use Rattle.frame_line.specs.Table.{rows, rowAt, kindAt, formAt, turnAt, mayEnd,
 use Rattle.frame_line.specs.Lines.{bitsAt, wholeAt, passLineOf, firstFit, readLine}
 use Rattle.frame_line.specs.Checks.{wildBits, numberOutside, someOutside, outsideLine}
 use Rattle.frame_check.specs.Checks.{checksInOrder, overLimit, twiceOf}
-use Rattle.frame.specs.Frame.{opened, adding, partsFrom, partsOf, doubled, checkedLine, accepted, stepLine, atEnd, readLines, readFrame}
+use Rattle.frame.specs.Frame.{opened, adding, partsFrom, partsOf, someOf, checkedLine, accepted, stepLine, atEnd, readLines, readFrame}
 use Rattle.frame_agreement.specs.Reordering.{cornerLine, SameButOrder}
 use Rattle.answer_examples.specs.Pair.{firstText, secondText, firstFrame, secondFrame, numbersInSecond, numbersInFirst}
 
 -- ---- the texts are read
 
 pub first-read : readFrame firstText ≡ accepted firstFrame
-unfolding ofBits ofInt le lt eq digitValue readDigits endsOf outside digitsAfter readPositive readInteger pieceOf fitOf linesOf unheldWhole rows rowAt kindAt formAt turnAt mayEnd sortOf sortAt bitsAt wholeAt passLineOf firstFit readLine wildBits numberOutside someOutside outsideLine checksInOrder overLimit twiceOf opened adding partsFrom partsOf doubled checkedLine stepLine atEnd readLines readFrame
+unfolding ofBits ofInt le lt eq digitValue readDigits endsOf outside digitsAfter readPositive readInteger pieceOf fitOf linesOf unheldWhole rows rowAt kindAt formAt turnAt mayEnd sortOf sortAt bitsAt wholeAt passLineOf firstFit readLine wildBits numberOutside someOutside outsideLine checksInOrder overLimit twiceOf opened adding partsFrom partsOf someOf checkedLine stepLine atEnd readLines readFrame
 first-read = refl
 
 pub second-read : readFrame secondText ≡ accepted secondFrame
-unfolding ofBits ofInt le lt eq digitValue readDigits endsOf outside digitsAfter readPositive readInteger pieceOf fitOf linesOf unheldWhole rows rowAt kindAt formAt turnAt mayEnd sortOf sortAt bitsAt wholeAt passLineOf firstFit readLine wildBits numberOutside someOutside outsideLine checksInOrder overLimit twiceOf opened adding partsFrom partsOf doubled checkedLine stepLine atEnd readLines readFrame
+unfolding ofBits ofInt le lt eq digitValue readDigits endsOf outside digitsAfter readPositive readInteger pieceOf fitOf linesOf unheldWhole rows rowAt kindAt formAt turnAt mayEnd sortOf sortAt bitsAt wholeAt passLineOf firstFit readLine wildBits numberOutside someOutside outsideLine checksInOrder overLimit twiceOf opened adding partsFrom partsOf someOf checkedLine stepLine atEnd readLines readFrame
 second-read = refl
 
 -- ---- the pairing

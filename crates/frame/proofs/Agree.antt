@@ -7,8 +7,11 @@ use native.Mathlib.Omega.{arith}
 use lib.IntN.{natAbs}
 use lib.ListN.{length}
 use Rattle.sheet.specs.Cells.{eqZ}
+use Rattle.sheet.specs.declared.Cell.{Cell}
+use Rattle.sheet.proofs.Laws.{eqZ-equal, equal-eqZ}
+use Rattle.labels.proofs.Below.{both}
 use Rattle.line_form.specs.Held.{heldUpTo}
-use Rattle.frame_line.specs.Lines.{Line, kindOf, Proper, LabelLine, labelLineOf}
+use Rattle.frame_line.specs.Lines.{Line, kindOf, Proper, labelLineOf}
 use Rattle.frame_line.specs.Checks.{outsideLine}
 use Rattle.frame_line.specs.Held.{heldLine, labelIn, outsideHeld}
 use Rattle.frame_line.specs.declared.Kind.{Kind}
@@ -16,8 +19,22 @@ use Rattle.frame_line.proofs.Numbers.{outside-held}
 use Rattle.frame_line.proofs.Said.{label-exact}
 use Rattle.frame_check.specs.Checks.{checksInOrder, overLimit, labelTwice, twiceOf, checkedHeld}
 use Rattle.frame_check.proofs.Laws.{checks-alike}
-use Rattle.frame.specs.Frame.{Parts, sameCell, clash, doubled, checkedLine}
-use Rattle.frame.specs.Reading.{cellTaken, cornerTaken, HoldsLabels}
+use Rattle.frame_state.specs.State.{cornerLimit}
+use Rattle.frame.specs.Frame.{Parts, sameCell, someOf, doubled, checkedLine}
+use Rattle.frame.specs.Reading.{cornerTaken, HoldsLabels}
+
+pub same-truth : (a b : Bool) → (a ≡ true → b ≡ true) → (b ≡ true → a ≡ true) → a ≡ b
+same-truth true b f g = sym (f refl)
+same-truth false true f g = g refl
+same-truth false false f g = refl
+
+pub same-cell : (c d : Cell) → sameCell c d ≡ true → c ≡ d
+same-cell c d e =
+    let s = both (eqZ (c .i) (d .i)) (eqZ (c .j) (d .j)) e in
+    λ t. record { i = eqZ-equal (c .i) (d .i) (s .0) t; j = eqZ-equal (c .j) (d .j) (s .1) t }
+
+pub cell-same : (c d : Cell) → c ≡ d → sameCell c d ≡ true
+cell-same c d e = rw (equal-eqZ (c .i) (d .i) (ap (λ (k : Cell). k .i) e), equal-eqZ (c .j) (d .j) (ap (λ (k : Cell). k .j) e))
 
 or-swap : (a b c d : Bool) → ((a || b) || (c || d)) ≡ ((a || c) || (b || d))
 or-swap true b c d = refl
@@ -25,21 +42,21 @@ or-swap false true true d = refl
 or-swap false true false d = refl
 or-swap false false c d = refl
 
--- a label is doubled if its cell has one, or its corner
-doubled-is : (ls : List LabelLine) (l : LabelLine) → doubled ls l ≡ (cellTaken ls (l .cell) || cornerTaken ls (l .corner))
-unfolding doubled cellTaken cornerTaken
-doubled-is [] l = refl
-doubled-is (m ∷ ms) l = ap (λ (t : Bool). clash m l || t) (doubled-is ms l) ∙ or-swap (sameCell (m .cell) (l .cell)) (eqZ (m .corner) (l .corner)) (cellTaken ms (l .cell)) (cornerTaken ms (l .corner))
+-- one of two tests is passed by some element, or the other
+some-either : {A : Type 0} (f g : A → Bool) (l : List A) → someOf (λ a. f a || g a) l ≡ (someOf f l || someOf g l)
+unfolding someOf
+some-either f g [] = refl
+some-either f g (a ∷ l) = ap (λ (t : Bool). (f a || g a) || t) (some-either f g l) ∙ or-swap (f a) (g a) (someOf f l) (someOf g l)
 
--- it is asked of labels alone
-twice-alike : (kind : Kind) (a b : Bool) → (kind ≡ Kind.Label → a ≡ b) → twiceOf kind a ≡ twiceOf kind b
+-- doubled is asked of labels alone
+pub twice-alike : (kind : Kind) (a b : Bool) → (kind ≡ Kind.Label → a ≡ b) → twiceOf kind a ≡ twiceOf kind b
 unfolding twiceOf
 twice-alike (Kind.Opening o) a b h = refl
 twice-alike Kind.Corner a b h = refl
 twice-alike Kind.Label a b h = h refl
 twice-alike (Kind.Pass p) a b h = refl
 
-module _ (f : Parts) (n : ℕ) (sheet used : List ℕ) (g : HoldsLabels (f .labels) sheet used) (few : n ≤ 1024) (e : n ≡ length (f .corners)) where
+module _ (f : Parts) (n : ℕ) (sheet used : List ℕ) (g : HoldsLabels (f .labels) sheet used) (few : n ≤ cornerLimit) (e : n ≡ length (f .corners)) where
   twice : (l : Line) → Proper l → outsideLine 4 n l ≡ false → outsideLine 5 n l ≡ false → kindOf l ≡ Kind.Label
       → labelTwice sheet used (labelIn (heldUpTo 5 (l .numbers))) ≡ doubled (f .labels) (labelLineOf (l .numbers))
   twice l p off known k =
@@ -47,7 +64,7 @@ module _ (f : Parts) (n : ℕ) (sheet used : List ℕ) (g : HoldsLabels (f .labe
       let m = labelLineOf (l .numbers) in
       ap (labelTwice sheet used) (h .held-so)
       ∙ ap₂ _||_ (g .cells (m .cell) (h .on-sheet)) (g .corners (natAbs (m .corner)) (omega (arith, h .given)) ∙ ap (cornerTaken (f .labels)) (sym (h .is-corner)))
-      ∙ sym (doubled-is (f .labels) m)
+      ∙ sym (some-either (λ k. sameCell (k .cell) (m .cell)) (λ k. eqZ (k .corner) (m .corner)) (f .labels))
 
   -- all checks
   pub checks-agree : (m : ℕ) (l : Line) → Proper l → m ≡ length (f .passes) → checkedHeld n m sheet used (heldLine l) ≡ checkedLine f l

@@ -14,13 +14,13 @@ use Rattle.sheet.specs.Cells.{placeOf}
 use Rattle.sheet.specs.Words.{emptySheet}
 use Rattle.sheet.proofs.Laws.{place-in}
 use Rattle.frame_check.specs.Checks.{isSet}
-use Rattle.frame_state.specs.State.{Arrays, arrays, state, nothing-said}
+use Rattle.frame_state.specs.State.{cornerLimit, placeCount, passWords, wordLimit, Arrays, arrays, state, nothing-said}
 use Rattle.frame_state.specs.declared.Progress.{Progress}
 use Rattle.arguments.specs.Front.{over}
 use Rattle.line_form.specs.Lines.{linesOf}
-use Rattle.frame.specs.Frame.{Frame, no-parts, partsOf, FrameRead, refused-at, accepted, readLines, readFrame}
+use Rattle.frame.specs.Frame.{Frame, no-parts, partsOf, someOf, FrameRead, refused-at, accepted, readLines, byteLimit, readFrame}
 use Rattle.frame.specs.ReadFrame.{xsOf, ysOf, pitchesOf, settingsOf, labelled, sheetOf, allWords, Buffers, frameOut, tooShort, leaves, readInto}
-use Rattle.frame.specs.Reading.{HoldsCorners, cellTaken, cornerTaken, HoldsLabels, HoldsPasses, FrameHeld, ReadAs, refused-as, held-as, LongEnough, buffers, Copies}
+use Rattle.frame.specs.Reading.{Holds, HoldsLabels, FrameHeld, ReadAs, refused-as, held-as, LongEnough, buffers, Copies}
 use Rattle.frame.specs.declared.FrameAnswer.{FrameAnswer}
 use Rattle.frame.specs.declared.LinesRead.{LinesRead}
 use Rattle.arguments.proofs.Chains.{or-false-both}
@@ -30,36 +30,30 @@ use Rattle.arguments.proofs.Chains.{or-false-both}
 none-set : (n k : ℕ) → k < n → isSet (replicate n 0) k ≡ false
 none-set n k h = ap (λ (v : ℕ). not (eqb v 0)) (getD-replicate n k 0 0 h)
 
-no-corners : (x : Float) → HoldsCorners [] 0 (replicate 1024 x) (replicate 1024 x) (replicate 1024 x)
-no-corners x =
-    record {
-      count = refl;
-      few = omega arith;
-      xs-long = length-replicate 1024 x;
-      ys-long = length-replicate 1024 x;
-      pitches-long = length-replicate 1024 x;
-      xs-are = refl;
-      ys-are = refl;
-      pitches-are = refl;
-    }
+holds-none : {A : Type 0} (size : ℕ) (a : A) → Holds size 0 (replicate size a) []
+holds-none size a = record { long = length-replicate size a; some = omega arith; are = refl }
 
-no-labels : HoldsLabels [] (replicate 16384 0) (replicate 1024 0)
-unfolding labelled emptySheet cellTaken cornerTaken
+no-labels : HoldsLabels [] (replicate placeCount 0) (replicate cornerLimit 0)
+unfolding someOf labelled emptySheet
 no-labels =
     record {
       sheet-is = refl;
-      sheet-long = length-replicate {A = ℕ} 16384 0;
-      used-long = length-replicate {A = ℕ} 1024 0;
-      cells = λ c h. none-set 16384 (placeOf c) (place-in c h);
-      corners = λ k h. none-set 1024 k h;
+      sheet-long = length-replicate {A = ℕ} placeCount 0;
+      used-long = length-replicate {A = ℕ} cornerLimit 0;
+      cells = λ c h. none-set placeCount (placeOf c) (place-in c h);
+      corners = λ k h. none-set cornerLimit k h;
     }
 
-no-passes : HoldsPasses [] 0 (replicate 96 0)
+pub nothing-held : (x : Float) → FrameHeld no-parts (state nothing-said (arrays (replicate cornerLimit x) (replicate cornerLimit x) (replicate cornerLimit x) (replicate placeCount 0) (replicate cornerLimit 0) (replicate wordLimit 0)))
 unfolding allWords
-no-passes = record { count = refl; few = omega arith; long = length-replicate {A = ℕ} 96 0; words-are = refl }
-
-pub nothing-held : (x : Float) → FrameHeld no-parts (state nothing-said (arrays (replicate 1024 x) (replicate 1024 x) (replicate 1024 x) (replicate 16384 0) (replicate 1024 0) (replicate 96 0)))
-nothing-held x = record { settings-are = refl; corners = no-corners x; labels = no-labels; passes = no-passes }
+nothing-held x =
+    let front = holds-none cornerLimit x in
+    record {
+      settings-are = refl;
+      corners = record { count = refl; xs-held = front; ys-held = front; pitches-held = front };
+      labels = no-labels;
+      passes = record { count = refl; words-held = holds-none wordLimit 0 };
+    }
 
 -- ---- at the end
 
@@ -82,48 +76,43 @@ pub text-refused : {f : FrameRead} {l : LinesRead} {a : Arrays} → ReadAs f l a
     → frameOut (FrameAnswer.Refused r n) xs ys pitches sheet passes ≡ leaves f (buffers xs ys pitches sheet passes)
 text-refused w r n e xs ys pitches sheet passes = rw (refused-read w r n e)
 
+-- the front of an array that is copied, and what a buffer has after it
+copies : {A : Type 0} {size n : ℕ} {entries these to : List A} → Holds size n entries these → size ≤ length to → Copies size n entries to
+copies g h = record { whole = g .long; some = g .some; room = h }
+
+left : {A : Type 0} {size n : ℕ} {entries these : List A} → Holds size n entries these → (to after : List A) → after ≡ over (take n entries) to → after ≡ over these to
+left g to after e = e ∙ ap (λ (l : List _). over l to) (g .are)
+
 module _ {f : FrameRead} {p : Progress} {a : Arrays} {b : Buffers} (w : Accepting f p a) (long : LongEnough b) where
-  pub xs-copied : Copies 1024 (p .corners) (a .xs) (b .xs)
-  xs-copied = record { whole = w .holds .corners .xs-long; some = w .holds .corners .few; room = long .xs-long }
-
-  pub ys-copied : Copies 1024 (p .corners) (a .ys) (b .ys)
-  ys-copied = record { whole = w .holds .corners .ys-long; some = w .holds .corners .few; room = long .ys-long }
-
-  pub pitches-copied : Copies 1024 (p .corners) (a .pitches) (b .pitches)
-  pitches-copied = record { whole = w .holds .corners .pitches-long; some = w .holds .corners .few; room = long .pitches-long }
-
-  pub sheet-copied : Copies 16384 16384 (a .sheet) (b .sheet)
-  sheet-copied = record { whole = w .holds .labels .sheet-long; some = omega arith; room = long .sheet-long }
-
-  pub passes-copied : Copies 96 (6 * p .passes) (a .passes) (b .passes)
-  passes-copied = record { whole = w .holds .passes .long; some = omega (arith, w .holds .passes .few); room = long .passes-long }
-
-  xs-left : over (take (p .corners) (a .xs)) (b .xs) ≡ over (xsOf (w .frame)) (b .xs)
-  unfolding xsOf
-  xs-left = ap (λ (l : List Float). over l (b .xs)) (w .holds .corners .xs-are)
-
-  ys-left : over (take (p .corners) (a .ys)) (b .ys) ≡ over (ysOf (w .frame)) (b .ys)
-  unfolding ysOf
-  ys-left = ap (λ (l : List Float). over l (b .ys)) (w .holds .corners .ys-are)
-
-  pitches-left : over (take (p .corners) (a .pitches)) (b .pitches) ≡ over (pitchesOf (w .frame)) (b .pitches)
-  unfolding pitchesOf
-  pitches-left = ap (λ (l : List Float). over l (b .pitches)) (w .holds .corners .pitches-are)
-
-  sheet-left : over (take 16384 (a .sheet)) (b .sheet) ≡ over (sheetOf (w .frame)) (b .sheet)
+  sheet-held : Holds placeCount placeCount (a .sheet) (sheetOf (w .frame))
   unfolding sheetOf
-  sheet-left = ap (λ (l : List ℕ). over l (b .sheet)) (take-all 16384 (a .sheet) (omega (arith, w .holds .labels .sheet-long)) ∙ w .holds .labels .sheet-is)
+  sheet-held =
+      let g = w .holds .labels in
+      record { long = g .sheet-long; some = omega arith; are = take-all placeCount (a .sheet) (omega (arith, g .sheet-long)) ∙ g .sheet-is }
 
-  passes-left : over (take (6 * p .passes) (a .passes)) (b .passes) ≡ over (allWords (partsOf (w .frame) .passes)) (b .passes)
-  passes-left = ap (λ (l : List ℕ). over l (b .passes)) (w .holds .passes .words-are)
+  pub xs-copied : Copies cornerLimit (p .corners) (a .xs) (b .xs)
+  xs-copied = copies (w .holds .corners .xs-held) (long .xs-long)
+
+  pub ys-copied : Copies cornerLimit (p .corners) (a .ys) (b .ys)
+  ys-copied = copies (w .holds .corners .ys-held) (long .ys-long)
+
+  pub pitches-copied : Copies cornerLimit (p .corners) (a .pitches) (b .pitches)
+  pitches-copied = copies (w .holds .corners .pitches-held) (long .pitches-long)
+
+  pub sheet-copied : Copies placeCount placeCount (a .sheet) (b .sheet)
+  sheet-copied = copies sheet-held (long .sheet-long)
+
+  pub passes-copied : Copies wordLimit (passWords * p .passes) (a .passes) (b .passes)
+  passes-copied = copies (w .holds .passes .words-held) (long .passes-long)
 
   -- an accepted frame is written
   pub text-accepted : (xs ys pitches : List Float) (sheet passes : List ℕ) → xs ≡ over (take (p .corners) (a .xs)) (b .xs) → ys ≡ over (take (p .corners) (a .ys)) (b .ys)
-      → pitches ≡ over (take (p .corners) (a .pitches)) (b .pitches) → sheet ≡ over (take 16384 (a .sheet)) (b .sheet) → passes ≡ over (take (6 * p .passes) (a .passes)) (b .passes)
+      → pitches ≡ over (take (p .corners) (a .pitches)) (b .pitches) → sheet ≡ over (take placeCount (a .sheet)) (b .sheet) → passes ≡ over (take (passWords * p .passes) (a .passes)) (b .passes)
       → frameOut (FrameAnswer.Accepted (record { settings = p .settings; corners = p .corners; passes = p .passes })) xs ys pitches sheet passes ≡ leaves f b
-  unfolding settingsOf
+  unfolding settingsOf xsOf ysOf pitchesOf
   text-accepted xs ys pitches sheet passes x y z s q =
-      rw (w .is, x ∙ xs-left, y ∙ ys-left, z ∙ pitches-left, s ∙ sheet-left, q ∙ passes-left, w .holds .settings-are, w .holds .corners .count, w .holds .passes .count)
+      let c = w .holds .corners in
+      rw (w .is, left (c .xs-held) _ _ x, left (c .ys-held) _ _ y, left (c .pitches-held) _ _ z, left sheet-held _ _ s, left (w .holds .passes .words-held) _ _ q, w .holds .settings-are, c .count, w .holds .passes .count)
 
 -- ---- the call
 
@@ -131,26 +120,26 @@ module _ (text : List ℕ) (b : Buffers) where
   pub long-enough : tooShort b ≡ false → LongEnough b
   unfolding tooShort
   long-enough e =
-      let i = or-false-both (ltb (length (b .xs)) 1024) _ e in
-      let j = or-false-both (ltb (length (b .ys)) 1024) _ (i .1) in
-      let k = or-false-both (ltb (length (b .pitches)) 1024) _ (j .1) in
-      let l = or-false-both (ltb (length (b .sheet)) 16384) _ (k .1) in
+      let i = or-false-both (ltb (length (b .xs)) cornerLimit) _ e in
+      let j = or-false-both (ltb (length (b .ys)) cornerLimit) _ (i .1) in
+      let k = or-false-both (ltb (length (b .pitches)) cornerLimit) _ (j .1) in
+      let l = or-false-both (ltb (length (b .sheet)) placeCount) _ (k .1) in
       record {
-        xs-long = ltb-false (length (b .xs)) 1024 (i .0);
-        ys-long = ltb-false (length (b .ys)) 1024 (j .0);
-        pitches-long = ltb-false (length (b .pitches)) 1024 (k .0);
-        sheet-long = ltb-false (length (b .sheet)) 16384 (l .0);
-        passes-long = ltb-false (length (b .passes)) 96 (l .1);
+        xs-long = ltb-false (length (b .xs)) cornerLimit (i .0);
+        ys-long = ltb-false (length (b .ys)) cornerLimit (j .0);
+        pitches-long = ltb-false (length (b .pitches)) cornerLimit (k .0);
+        sheet-long = ltb-false (length (b .sheet)) placeCount (l .0);
+        passes-long = ltb-false (length (b .passes)) wordLimit (l .1);
       }
 
   pub call-short : tooShort b ≡ true → leaves (refused-at Refusal.BufferTooShort 0) b ≡ readInto text b
   unfolding readInto
   call-short e = rw e
 
-  pub call-long : tooShort b ≡ false → 65536 < length text → leaves (refused-at Refusal.OverLimit 0) b ≡ readInto text b
+  pub call-long : tooShort b ≡ false → byteLimit < length text → leaves (refused-at Refusal.OverLimit 0) b ≡ readInto text b
   unfolding readInto readFrame
-  call-long e h = rw (e, lt-ltb 65536 (length text) h)
+  call-long e h = rw (e, lt-ltb byteLimit (length text) h)
 
-  pub call-read : tooShort b ≡ false → length text ≤ 65536 → leaves (readLines 1 0 [] (linesOf text)) b ≡ readInto text b
+  pub call-read : tooShort b ≡ false → length text ≤ byteLimit → leaves (readLines 1 0 [] (linesOf text)) b ≡ readInto text b
   unfolding readInto readFrame
-  call-read e h = rw (e, le-ltb 65536 (length text) h)
+  call-read e h = rw (e, le-ltb byteLimit (length text) h)

@@ -65,7 +65,7 @@ module _ (f : Frame) (s : State) (g : FrameHeld (partsOf f) s) (text : List ℕ)
   unfolding heldStep heldRead
   line-agrees l e =
       subst (λ (c : Checked). SteppedAs (stepBy (turnAt (s .progress .stage) (l .row)) (checkedLine (partsOf f) l) (f ++ (l ∷ []))) (heldBy (turnAt (s .progress .stage) (l .row)) c (adds (heldLine l) s) (s .held)))
-      (sym (checks-agree (partsOf f) (s .progress .corners) (s .held .sheet) (s .held .used) (g .labels) (g .corners .few) (g .corners .count) (s .progress .passes) l (line-prints-back text l e .proper) (g .passes .count)))
+      (sym (checks-agree (partsOf f) (s .progress .corners) (s .held .sheet) (s .held .used) (g .labels) (g .corners .xs-held .some) (g .corners .count) (s .progress .passes) l (line-prints-back text l e .proper) (g .passes .count)))
       (go (turnAt (s .progress .stage) (l .row)) (checkedLine (partsOf f) l) refl)
     where
       go : (u : Turn) (c : Checked) → checkedLine (partsOf f) l ≡ c → SteppedAs (stepBy u c (f ++ (l ∷ []))) (heldBy u c (adds (heldLine l) s) (s .held))
@@ -144,7 +144,7 @@ turning-start text p a e g = record { inside = omega arith; lines = omega arith;
 
 module _ {text : List ℕ} {p : Progress} {n at : ℕ} {a : Arrays} (g : Turning text p n at a) where
   pub turn-room : Room p a
-  turn-room = record { few = g .holds .corners .few; long = g .holds .labels .sheet-long }
+  turn-room = record { few = g .holds .corners .xs-held .some; long = g .holds .labels .sheet-long }
 
   module _ (h : at < length text) (end : ℕ) (e : end ≡ at + lineLength (drop at text)) where
     -- the lines behind this one

@@ -86,10 +86,14 @@ sameCell a b = eqZ (a .i) (b .i) && eqZ (a .j) (b .j)
 abbrev pub clash : LabelLine → LabelLine → Bool
 clash a b = sameCell (a .cell) (b .cell) || eqZ (a .corner) (b .corner)
 
+-- some element of a list passes a test
+unfoldable pub someOf : {A : Type 0} → (A → Bool) → List A → Bool
+someOf f [] = false
+someOf f (a ∷ rest) = f a || someOf f rest
+
 -- some label of the list has the cell or the corner of this one
-unfoldable pub doubled : List LabelLine → LabelLine → Bool
-doubled [] l = false
-doubled (m ∷ ms) l = clash m l || doubled ms l
+abbrev pub doubled : List LabelLine → LabelLine → Bool
+doubled ls l = someOf (λ m. clash m l) ls
 
 -- ---- the checks of a line in its turn, with what the lines before it said
 
@@ -144,5 +148,8 @@ readLines n stage f [] = atEnd n stage f
 readLines n stage f (text ∷ texts) = going n (stepLine stage f text) (λ stage' f'. readLines (suc n) stage' f' texts)
 
 -- "At most 65,536 bytes": byte length first, as line 0
+abbrev pub byteLimit : ℕ
+byteLimit = 65536
+
 unfoldable pub readFrame : List ℕ → FrameRead
-readFrame text = cond (ltb 65536 (length text)) (refused-at Refusal.OverLimit 0) (readLines 1 0 [] (linesOf text))
+readFrame text = cond (ltb byteLimit (length text)) (refused-at Refusal.OverLimit 0) (readLines 1 0 [] (linesOf text))

@@ -18,6 +18,7 @@ use Rattle.arguments.specs.declared.Pass.{Pass}
 use Rattle.arguments.specs.declared.Settings.{Settings}
 use Rattle.frame_line.specs.Lines.{LabelLine, PassLine, bare-grow, grow, bare-fill, fill, local}
 use Rattle.arguments.specs.Front.{over}
+use Rattle.frame_state.specs.State.{cornerLimit, placeCount, wordLimit}
 use Rattle.frame.specs.Frame.{Frame, Opening, partsOf, FrameRead, refused-at, accepted, readFrame}
 use Rattle.frame.specs.declared.FrameHead.{FrameHead}
 use Rattle.frame.specs.declared.FrameAnswer.{FrameAnswer}
@@ -131,11 +132,11 @@ frameOut r xs ys pitches sheet passes = record { answer = r; buffers = record { 
 -- 7: 1,024 places each for positions and pitches, 16,384 sheet places, 16 passes of six words
 unfoldable pub tooShort : Buffers → Bool
 tooShort b =
-    ltb (length (b .xs)) 1024
-    || (ltb (length (b .ys)) 1024
-    || (ltb (length (b .pitches)) 1024
-    || (ltb (length (b .sheet)) 16384
-    || ltb (length (b .passes)) 96)))
+    ltb (length (b .xs)) cornerLimit
+    || (ltb (length (b .ys)) cornerLimit
+    || (ltb (length (b .pitches)) cornerLimit
+    || (ltb (length (b .sheet)) placeCount
+    || ltb (length (b .passes)) wordLimit)))
 
 -- only an accepted frame writes: the corners and passes at the front of their buffers, and all 16,384 places of the sheet
 abbrev pub leaves : FrameRead → Buffers → FrameOut

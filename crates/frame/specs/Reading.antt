@@ -1,8 +1,8 @@
 -- How the reader holds what it has read: its arrays and numbers, tied to the definition's frame, and what its functions leave. Definitions
 -- only.
 use mathlib.Core.Path.{_≡_}
-use mathlib.Core.Bool.{Bool, false, _||_}
-use mathlib.Core.List.{List, [], _∷_, map}
+use mathlib.Core.Bool.{Bool}
+use mathlib.Core.List.{List, map}
 use Prim.Native.Nat.{ℕ, _*_, _<_, _≤_}
 use lib.IntN.{ℤ, pos}
 use lib.ListN.{length, take}
@@ -17,9 +17,9 @@ use Rattle.frame_line.specs.Table.{turnAt}
 use Rattle.frame_line.specs.declared.HeldLine.{HeldLine}
 use Rattle.frame_line.specs.declared.Turn.{Turn}
 use Rattle.frame_check.specs.Checks.{isSet, checkedHeld}
-use Rattle.frame_state.specs.State.{atStage, Arrays, State, state, adds}
+use Rattle.frame_state.specs.State.{cornerLimit, placeCount, passWords, wordLimit, atStage, Arrays, State, state, adds}
 use Rattle.frame_state.specs.declared.Progress.{Progress}
-use Rattle.frame.specs.Frame.{Frame, Parts, partsOf, sameCell, FrameRead, refused-at, accepted}
+use Rattle.frame.specs.Frame.{Frame, Parts, partsOf, sameCell, someOf, FrameRead, refused-at, accepted}
 use Rattle.frame.specs.ReadFrame.{floatOf, settingsIn, labelled, allWords, Buffers}
 use Rattle.frame.specs.declared.Stepped.{Stepped}
 use Rattle.frame.specs.declared.LinesRead.{LinesRead}
@@ -35,40 +35,38 @@ ysIn cs = map (λ c. floatOf (c .y)) cs
 abbrev pub pitchesIn : List CornerLine → List Float
 pitchesIn cs = map (λ c. floatOf (c .pitch)) cs
 
--- n corners stand at the front of three arrays of 1,024
+-- an array of so many entries holds these at its front, n of them
+pub record Holds {A : Type 0} (size n : ℕ) (entries these : List A) : Type 0 where
+  pub long : length entries ≡ size
+  pub some : n ≤ size
+  pub are : take n entries ≡ these
+
+-- n corners stand at the front of three arrays
 pub record HoldsCorners (cs : List CornerLine) (n : ℕ) (xs ys pitches : List Float) : Type 0 where
   pub count : n ≡ length cs
-  pub few : n ≤ 1024
-  pub xs-long : length xs ≡ 1024
-  pub ys-long : length ys ≡ 1024
-  pub pitches-long : length pitches ≡ 1024
-  pub xs-are : take n xs ≡ xsIn cs
-  pub ys-are : take n ys ≡ ysIn cs
-  pub pitches-are : take n pitches ≡ pitchesIn cs
+  pub xs-held : Holds cornerLimit n xs (xsIn cs)
+  pub ys-held : Holds cornerLimit n ys (ysIn cs)
+  pub pitches-held : Holds cornerLimit n pitches (pitchesIn cs)
 
 -- a label of the list has this cell; this corner
-unfoldable pub cellTaken : List LabelLine → Cell → Bool
-cellTaken [] c = false
-cellTaken (l ∷ ls) c = sameCell (l .cell) c || cellTaken ls c
+abbrev pub cellTaken : List LabelLine → Cell → Bool
+cellTaken ls c = someOf (λ l. sameCell (l .cell) c) ls
 
-unfoldable pub cornerTaken : List LabelLine → ℤ → Bool
-cornerTaken [] z = false
-cornerTaken (l ∷ ls) z = eqZ (l .corner) z || cornerTaken ls z
+abbrev pub cornerTaken : List LabelLine → ℤ → Bool
+cornerTaken ls z = someOf (λ l. eqZ (l .corner) z) ls
 
 -- the sheet of the labels, on which a place is 0 exactly if its cell has no label; the entry of a corner is 0 exactly if it has none
 pub record HoldsLabels (ls : List LabelLine) (sheet used : List ℕ) : Type 0 where
   pub sheet-is : sheet ≡ labelled emptySheet ls
-  pub sheet-long : length sheet ≡ 16384
-  pub used-long : length used ≡ 1024
+  pub sheet-long : length sheet ≡ placeCount
+  pub used-long : length used ≡ cornerLimit
   pub cells : (c : Cell) → OnSheet c → isSet sheet (placeOf c) ≡ cellTaken ls c
-  pub corners : (k : ℕ) → k < 1024 → isSet used k ≡ cornerTaken ls (pos k)
+  pub corners : (k : ℕ) → k < cornerLimit → isSet used k ≡ cornerTaken ls (pos k)
 
--- m passes stand at the front of an array of 16 times six words
+-- the words of m passes stand at the front of an array
 pub record HoldsPasses (ps : List PassLine) (m : ℕ) (words : List ℕ) : Type 0 where
   pub count : m ≡ length ps
-  pub few : m ≤ 16
-  pub long : length words ≡ 96
-  pub words-are : take (6 * m) words ≡ allWords ps
+  pub words-held : Holds wordLimit (passWords * m) words (allWords ps)
 
 -- the parts of a frame are held
 pub record FrameHeld (f : Parts) (s : State) : Type 0 where
@@ -81,8 +79,8 @@ pub record FrameHeld (f : Parts) (s : State) : Type 0 where
 
 -- room for one more line
 pub record Room (p : Progress) (a : Arrays) : Type 0 where
-  pub few : p .corners ≤ 1024
-  pub long : length (a .sheet) ≡ 16384
+  pub few : p .corners ≤ cornerLimit
+  pub long : length (a .sheet) ≡ placeCount
 
 -- what a line leads to, and the arrays after it
 pub record Went : Type 0 where
@@ -113,11 +111,11 @@ pub data ReadAs : FrameRead → LinesRead → Arrays → Type 0 where
 -- ---- the lent buffers
 
 pub record LongEnough (b : Buffers) : Type 0 where
-  pub xs-long : 1024 ≤ length (b .xs)
-  pub ys-long : 1024 ≤ length (b .ys)
-  pub pitches-long : 1024 ≤ length (b .pitches)
-  pub sheet-long : 16384 ≤ length (b .sheet)
-  pub passes-long : 96 ≤ length (b .passes)
+  pub xs-long : cornerLimit ≤ length (b .xs)
+  pub ys-long : cornerLimit ≤ length (b .ys)
+  pub pitches-long : cornerLimit ≤ length (b .pitches)
+  pub sheet-long : placeCount ≤ length (b .sheet)
+  pub passes-long : wordLimit ≤ length (b .passes)
 
 abbrev pub buffers : List Float → List Float → List Float → List ℕ → List ℕ → Buffers
 buffers xs ys pitches sheet passes = record { xs = xs; ys = ys; pitches = pitches; sheet = sheet; passes = passes }

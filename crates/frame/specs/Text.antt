@@ -14,7 +14,8 @@ use Rattle.frame_line.specs.Lines.{Line, kindOf, Proper, lineText, LabelLine, l
 use Rattle.frame_line.specs.Checks.{outsideLine}
 use Rattle.frame_line.specs.declared.Turn.{Turn}
 use Rattle.frame_check.specs.Checks.{overLimit, twiceOf}
-use Rattle.frame.specs.Frame.{Frame, partsOf, doubled, Step, stopped, onward, stepLine, FrameRead, refused-at, accepted, readFrame}
+use Rattle.frame_state.specs.State.{cornerLimit, passLimit}
+use Rattle.frame.specs.Frame.{Frame, partsOf, doubled, Step, stopped, onward, stepLine, FrameRead, refused-at, accepted, byteLimit, readFrame}
 
 -- ---- printed
 
@@ -57,11 +58,11 @@ Apart (l ∷ ls) = All (λ m. (l .cell ≡ m .cell → ⊥) × (l .corner ≡ m 
 -- a frame that 01 allows: "At most 65,536 bytes, 1,024 corners, 16 passes", its lines in order, every number in its range, labels on the sheet
 -- and of given corners, no cell or corner labelled twice
 pub record WithinLimits (f : Frame) : Type 0 where
-  pub bytes : length (frameText f) ≤ 65536
+  pub bytes : length (frameText f) ≤ byteLimit
   pub order : InOrder 0 f
   pub numbers : All (InRange (length (partsOf f .corners))) f
-  pub corners : length (partsOf f .corners) ≤ 1024
-  pub passes : length (partsOf f .passes) ≤ 16
+  pub corners : length (partsOf f .corners) ≤ cornerLimit
+  pub passes : length (partsOf f .passes) ≤ passLimit
   pub once : Apart (partsOf f .labels)
 
 -- ---- the laws
@@ -108,10 +109,10 @@ pub data Passed : ℕ → Frame → List (List ℕ) → ℕ → Frame → Type 0
 -- Why a text is refused at a line: too many bytes, line 0; or the lines before it pass and it fails, that number being the first check that
 -- fails on it; or all lines pass, and one of the first four is missing after the last.
 pub data Refused (text : List ℕ) : Refusal → ℕ → Type 0 where
-  too-long : 65536 < length text → Refused text Refusal.OverLimit 0
-  at-line : (n stage : ℕ) (f : Frame) (r : Refusal) → length text ≤ 65536 → n < length (linesOf text) → Passed 0 [] (take n (linesOf text)) stage f
+  too-long : byteLimit < length text → Refused text Refusal.OverLimit 0
+  at-line : (n stage : ℕ) (f : Frame) (r : Refusal) → length text ≤ byteLimit → n < length (linesOf text) → Passed 0 [] (take n (linesOf text)) stage f
       → FirstFault stage f (readLine (getD (linesOf text) n [])) r → Refused text r (suc n)
-  missing : (stage : ℕ) (f : Frame) → length text ≤ 65536 → Passed 0 [] (linesOf text) stage f → mayEnd stage ≡ false → Refused text Refusal.Malformed (suc (length (linesOf text)))
+  missing : (stage : ℕ) (f : Frame) → length text ≤ byteLimit → Passed 0 [] (linesOf text) stage f → mayEnd stage ≡ false → Refused text Refusal.Malformed (suc (length (linesOf text)))
 
 -- each refusal means what the table says
 abbrev pub RefusalsMean : Type 0

@@ -7,7 +7,7 @@ ghost use lib.ListN.{take};
 ghost use Rattle.frame_line.specs.Lines.{readLine};
 ghost use Rattle.frame_line.specs.Held.{heldRead};
 ghost use Rattle.line_form.specs.Lines.{linesOf};
-ghost use Rattle.frame_state.specs.State.{nothing-said, arrays, state};
+ghost use Rattle.frame_state.specs.State.{cornerLimit, placeCount, wordLimit, nothing-said, arrays, state};
 ghost use Rattle.arguments.specs.Front.{over};
 ghost use Rattle.frame.specs.Frame.{no-parts, readLines};
 ghost use Rattle.frame.specs.ReadFrame.{frameOut, tooShort, leaves, readInto};
@@ -16,9 +16,16 @@ ghost use Rattle.frame.specs.Reading.{FrameHeld, Room, went, heldStep, R
 use arguments::Checked;
 use arguments::Settings;
 use frame_line::Turn;
+use frame_state::CORNERS;
+use frame_state::PASS_WORDS;
+use frame_state::PLACES;
 use frame_state::Progress;
+use frame_state::WORDS;
 use line_form::text::line_end;
 use refusal::Refusal;
+
+// At most so many bytes.
+pub const BYTES: usize = 65536;
 
 // What an accepted frame says besides what is written to the buffers: cell size, axes and band, and how many corners and passes there are.
 pub struct FrameHead {
@@ -48,12 +55,12 @@ enum LinesRead {
 // One line is read and checked in its turn, and added if it is fine.
 fn step_line(
     p: Progress,
-    xs: &mut [f32; 1024],
-    ys: &mut [f32; 1024],
-    pitches: &mut [f32; 1024],
-    sheet: &mut [u16; 16384],
-    used: &mut [u8; 1024],
-    passes: &mut [u32; 96],
+    xs: &mut [f32; CORNERS],
+    ys: &mut [f32; CORNERS],
+    pitches: &mut [f32; CORNERS],
+    sheet: &mut [u16; PLACES],
+    used: &mut [u8; CORNERS],
+    passes: &mut [u32; WORDS],
     line: &[u8],
 ) -> Stepped
     requires { ⌜ Room p (arrays (now xs) (now ys) (now pitches) (now sheet) (now used) (now passes)) ⌝ }
@@ -88,12 +95,12 @@ fn step_line(
 // All lines, from the top. A line that is missing counts as the one after the last.
 fn read_lines(
     text: &[u8],
-    xs: &mut [f32; 1024],
-    ys: &mut [f32; 1024],
-    pitches: &mut [f32; 1024],
-    sheet: &mut [u16; 16384],
-    used: &mut [u8; 1024],
-    passes: &mut [u32; 96],
+    xs: &mut [f32; CORNERS],
+    ys: &mut [f32; CORNERS],
+    pitches: &mut [f32; CORNERS],
+    sheet: &mut [u16; PLACES],
+    used: &mut [u8; CORNERS],
+    passes: &mut [u32; WORDS],
 ) -> LinesRead
     requires { ⌜ FrameHeld no-parts (state nothing-said (arrays (now xs) (now ys) (now pitches) (now sheet) (now used) (now passes))) ⌝ }
     ensures { λ r. ⌜ ReadAs (readLines 1 0 [] (linesOf (now (text .entry)))) r (arrays (now (xs .exit)) (now (ys .exit)) (now (pitches .exit)) (now (sheet .exit)) (now (used .exit)) (now (passes .exit))) ⌝ }
@@ -122,8 +129,8 @@ fn read_lines(
 }
 
 // The first n floats are copied to the front of a buffer.
-fn copy_floats(from: &[f32; 1024], n: usize, to: &mut [f32])
-    requires { ⌜ Copies 1024 n (now from) (now to) ⌝ }
+fn copy_floats(from: &[f32; CORNERS], n: usize, to: &mut [f32])
+    requires { ⌜ Copies cornerLimit n (now from) (now to) ⌝ }
     ensures { λ _. ⌜ now (to .exit) ≡ over (take n (now (from .entry))) (now (to .entry)) ⌝ }
 {
     let mut i = 0usize;
@@ -134,20 +141,20 @@ fn copy_floats(from: &[f32; 1024], n: usize, to: &mut [f32])
 }
 
 // The sheet is copied to the front of a buffer.
-fn copy_sheet(from: &[u16; 16384], to: &mut [u16])
-    requires { ⌜ Copies 16384 16384 (now from) (now to) ⌝ }
-    ensures { λ _. ⌜ now (to .exit) ≡ over (take 16384 (now (from .entry))) (now (to .entry)) ⌝ }
+fn copy_sheet(from: &[u16; PLACES], to: &mut [u16])
+    requires { ⌜ Copies placeCount placeCount (now from) (now to) ⌝ }
+    ensures { λ _. ⌜ now (to .exit) ≡ over (take placeCount (now (from .entry))) (now (to .entry)) ⌝ }
 {
     let mut i = 0usize;
-    while i < 16384 {
+    while i < PLACES {
         to[i] = from[i];
         i += 1;
     }
 }
 
 // The first n words are copied to the front of a buffer.
-fn copy_words(from: &[u32; 96], n: usize, to: &mut [u32])
-    requires { ⌜ Copies 96 n (now from) (now to) ⌝ }
+fn copy_words(from: &[u32; WORDS], n: usize, to: &mut [u32])
+    requires { ⌜ Copies wordLimit n (now from) (now to) ⌝ }
     ensures { λ _. ⌜ now (to .exit) ≡ over (take n (now (from .entry))) (now (to .entry)) ⌝ }
 {
     let mut i = 0usize;
@@ -161,19 +168,19 @@ fn copy_words(from: &[u32; 96], n: usize, to: &mut [u32])
 fn too_short(xs: &[f32], ys: &[f32], pitches: &[f32], sheet: &[u16], passes: &[u32]) -> bool
     ensures { λ r. ⌜ r ≡ tooShort (buffers (now (xs .entry)) (now (ys .entry)) (now (pitches .entry)) (now (sheet .entry)) (now (passes .entry))) ⌝ }
 {
-    if xs.len() < 1024 {
+    if xs.len() < CORNERS {
         return true;
     }
-    if ys.len() < 1024 {
+    if ys.len() < CORNERS {
         return true;
     }
-    if pitches.len() < 1024 {
+    if pitches.len() < CORNERS {
         return true;
     }
-    if sheet.len() < 16384 {
+    if sheet.len() < PLACES {
         return true;
     }
-    passes.len() < 96
+    passes.len() < WORDS
 }
 
 // A text that is not too long, with buffers that are long enough.
@@ -188,12 +195,12 @@ fn read_text(
     requires { ⌜ LongEnough (buffers (now xs) (now ys) (now pitches) (now sheet) (now passes)) ⌝ }
     ensures { λ r. ⌜ frameOut r (now (xs .exit)) (now (ys .exit)) (now (pitches .exit)) (now (sheet .exit)) (now (passes .exit)) ≡ leaves (readLines 1 0 [] (linesOf (now (text .entry)))) (buffers (now (xs .entry)) (now (ys .entry)) (now (pitches .entry)) (now (sheet .entry)) (now (passes .entry))) ⌝ }
 {
-    let mut own_xs = [0.0f32; 1024];
-    let mut own_ys = [0.0f32; 1024];
-    let mut own_pitches = [0.0f32; 1024];
-    let mut own_sheet = [0u16; 16384];
-    let mut own_used = [0u8; 1024];
-    let mut own_passes = [0u32; 96];
+    let mut own_xs = [0.0f32; CORNERS];
+    let mut own_ys = [0.0f32; CORNERS];
+    let mut own_pitches = [0.0f32; CORNERS];
+    let mut own_sheet = [0u16; PLACES];
+    let mut own_used = [0u8; CORNERS];
+    let mut own_passes = [0u32; WORDS];
     let read = read_lines(
         text,
         &mut own_xs,
@@ -210,7 +217,7 @@ fn read_text(
             copy_floats(&own_ys, p.corners, ys);
             copy_floats(&own_pitches, p.corners, pitches);
             copy_sheet(&own_sheet, sheet);
-            copy_words(&own_passes, 6 * p.passes, passes);
+            copy_words(&own_passes, PASS_WORDS * p.passes, passes);
             let settings = p.settings;
             FrameAnswer::Accepted(FrameHead {
                 settings,
@@ -240,7 +247,7 @@ pub fn read_frame(
     if too_short(xs, ys, pitches, sheet, passes) {
         return FrameAnswer::Refused(Refusal::BufferTooShort, 0);
     }
-    if 65536 < text.len() {
+    if BYTES < text.len() {
         return FrameAnswer::Refused(Refusal::OverLimit, 0);
     }
     read_text(text, xs, ys, pitches, sheet, passes)

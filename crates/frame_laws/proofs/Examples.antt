@@ -16,7 +16,7 @@ use Rattle.frame_line.specs.Table.{rows, rowAt, kindAt, formAt, turnAt, mayEnd,
 use Rattle.frame_line.specs.Lines.{Line, lineText, bitsAt, wholeAt, passLineOf, firstFit, readLine}
 use Rattle.frame_line.specs.Checks.{wildBits, numberOutside, someOutside, outsideLine}
 use Rattle.frame_check.specs.Checks.{checksInOrder, overLimit, twiceOf}
-use Rattle.frame.specs.Frame.{Frame, opened, adding, partsFrom, partsOf, doubled, checkedLine, FrameRead, refused-at, accepted, stepLine, atEnd, readLines, readFrame}
+use Rattle.frame.specs.Frame.{Frame, opened, adding, partsFrom, partsOf, someOf, checkedLine, FrameRead, refused-at, accepted, stepLine, atEnd, readLines, readFrame}
 use Rattle.frame.specs.Text.{frameText}
 
 abbrev pub first-four : List ℕ
@@ -87,7 +87,7 @@ table =
     ∷ []
 
 pub examples-read : map (λ (c : Case). readFrame (c .text)) table ≡ map (λ (c : Case). c .read) table
-unfolding ofBits ofInt le lt eq digits digitValue readDigits endsOf outside decimalUpTo decimal integerText digitsAfter readPositive readInteger unheldWhole numberText printed pieceOf fitOf linesOf rows rowAt kindAt formAt turnAt mayEnd sortOf sortAt lineText bitsAt wholeAt passLineOf firstFit readLine wildBits numberOutside someOutside outsideLine checksInOrder overLimit twiceOf opened adding partsFrom partsOf doubled checkedLine stepLine atEnd readLines readFrame
+unfolding ofBits ofInt le lt eq digits digitValue readDigits endsOf outside decimalUpTo decimal integerText digitsAfter readPositive readInteger unheldWhole numberText printed pieceOf fitOf linesOf rows rowAt kindAt formAt turnAt mayEnd sortOf sortAt lineText bitsAt wholeAt passLineOf firstFit readLine wildBits numberOutside someOutside outsideLine checksInOrder overLimit twiceOf opened adding partsFrom partsOf someOf checkedLine stepLine atEnd readLines readFrame
 examples-read = refl
 
 pub example-printed : frameText meant ≡ example

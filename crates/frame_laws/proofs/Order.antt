@@ -1,23 +1,20 @@
 -- The order of lines, by tests of the table that antt computes over all stages and rows: the first four lines, and what comes no more after
 -- them. Assumes nothing.
-use mathlib.Core.Path.{_≡_, refl, sym, ap, subst, _∙_}
+use mathlib.Core.Path.{_≡_, refl, sym, ap, _∙_}
 use mathlib.Core.Bool.{Bool, true, false, not, true≢false, cond}
-use mathlib.Core.List.{List, [], _∷_}
 use Prim.Native.Nat.{ℕ, suc, _<_, _≤_}
 use native.Mathlib.Omega.{arith}
-use borrow.Author.Tests.{eqb-true, lt-ltb, ltb-true, leb-true, leb-false, not-true}
+use borrow.Author.Tests.{eqb-true, lt-ltb, le-ltb, ltb-true, ltb-false, leb-true, leb-false, not-true}
 use lib.Dec.{eqb, ltb, leb}
 use lib.ListN.{getD, take, drop, length-take, List·getD-eq-default}
 use Rattle.labels.specs.Labelled.{anyBelow}
 use Rattle.labels.proofs.Below.{any-hit}
 use Rattle.line_form.proofs.Every.{first-true, second-true, everyBelow, every-at}
 use Rattle.frame_line.specs.Table.{rows, rowCount, stageCount, lettersFrom, rowAt, kindAt, turnAt, mayEnd, sortOf, sortAt}
-use Rattle.frame_line.specs.Lines.{Line}
 use Rattle.frame_line.specs.declared.Kind.{Kind}
 use Rattle.frame_line.specs.declared.Sort.{Sort}
 use Rattle.frame_line.specs.declared.Turn.{Turn}
 use Rattle.frame_line.proofs.Checking.{no-stage}
-use Rattle.frame.specs.Text.{All, InOrder, ends, next}
 
 -- a line that changes the opening; one that adds a corner; one that asks for a corner
 abbrev pub opens : Kind → Bool
@@ -74,24 +71,13 @@ ruled f r s k t few e =
     inside : s < stageCount
     inside = go (leb stageCount s) refl
 
-implied : (a b : Bool) → cond a b true ≡ true → a ≡ true → b ≡ true
-implied a b e h = rw h at e
+-- up to stage 3 the line of that row must come, and from stage 4 on no line opens
+openingRule : ℕ → ℕ → ℕ → Bool
+openingRule s k t = cond (ltb s 4) (cond (eqb k s) (eqb t (suc s)) false) (cond (ltb 3 t) (not (opens (kindAt k))) false)
 
--- up to stage 3 the line of that row must come
-mustCome : ℕ → ℕ → ℕ → Bool
-mustCome s k t = cond (ltb s 4) (cond (eqb k s) (eqb t (suc s)) false) true
-
-must-come : rule mustCome ≡ true
-unfolding mustCome turnAt rowAt rows
-must-come = refl
-
--- from stage 4 on no line opens
-openNoMore : ℕ → ℕ → ℕ → Bool
-openNoMore s k t = cond (ltb 3 s) (cond (ltb 3 t) (not (opens (kindAt k))) false) true
-
-open-no-more : rule openNoMore ≡ true
-unfolding openNoMore kindAt turnAt rowAt rows
-open-no-more = refl
+opening-rule : rule openingRule ≡ true
+unfolding openingRule kindAt turnAt rowAt rows
+opening-rule = refl
 
 -- once a corner was asked for, and from stage 5 on, no corner comes
 cornerNoMore : ℕ → ℕ → ℕ → Bool
@@ -102,22 +88,22 @@ unfolding cornerNoMore asks anyBelow kindAt turnAt sortAt sortOf rowAt rows
 corner-no-more = refl
 
 module _ (s k t : ℕ) (few : k < rowCount) (e : turnAt s k ≡ Turn.To t) where
-  comes : s < 4 → (k ≡ s) × (t ≡ suc s)
-  unfolding mustCome
+  pub comes : s < 4 → (k ≡ s) × (t ≡ suc s)
+  unfolding openingRule
   comes h =
-      let a = implied (ltb s 4) _ (ruled mustCome must-come s k t few e) (lt-ltb s 4 h) in
+      let a = rw (lt-ltb s 4 h) at (ruled openingRule opening-rule s k t few e) in
       (eqb-true k s (first-true (eqb k s) (eqb t (suc s)) a), eqb-true t (suc s) (second-true (eqb k s) (eqb t (suc s)) a))
 
-  pub later-opens : 3 < s → (3 < t) × (opens (kindAt k) ≡ false)
-  unfolding openNoMore
+  pub later-opens : 4 ≤ s → (4 ≤ t) × (opens (kindAt k) ≡ false)
+  unfolding openingRule
   later-opens h =
-      let a = implied (ltb 3 s) _ (ruled openNoMore open-no-more s k t few e) (lt-ltb 3 s h) in
+      let a = rw (le-ltb s 4 h) at (ruled openingRule opening-rule s k t few e) in
       (ltb-true 3 t (first-true (ltb 3 t) _ a), not-true (opens (kindAt k)) (second-true (ltb 3 t) (not (opens (kindAt k))) a))
 
   later-corner : cond (ltb 4 s) true (asks k) ≡ true → (4 < t) × (isCorner (kindAt k) ≡ false)
   unfolding cornerNoMore
   later-corner h =
-      let a = implied (cond (ltb 4 s) true (asks k)) _ (ruled cornerNoMore corner-no-more s k t few e) h in
+      let a = rw h at (ruled cornerNoMore corner-no-more s k t few e) in
       (ltb-true 4 t (first-true (ltb 4 t) _ a), not-true (isCorner (kindAt k)) (second-true (ltb 4 t) (not (isCorner (kindAt k))) a))
 
   pub past-corners : 4 < s → (4 < t) × (isCorner (kindAt k) ≡ false)
@@ -136,15 +122,10 @@ no-early : everyBelow 4 (λ s. not (mayEnd s)) ≡ true
 unfolding mayEnd
 no-early = refl
 
-pub record First (s : ℕ) (ls : List Line) : Type 0 where
-  pub it : Line
-  pub rest : List Line
-  pub is : ls ≡ it ∷ rest
-  pub row-is : it .row ≡ s
-  pub order : InOrder (suc s) rest
-
-pub first-of : (s : ℕ) (ls : List Line) → s < 4 → All (λ l. l .row < rowCount) ls → InOrder s ls → First s ls
-first-of s ls h p (ends e) = absurd (true≢false (sym e ∙ not-true (mayEnd s) (every-at (λ i. not (mayEnd i)) 4 no-early s h)))
-first-of s ls h p (next {to = t} {ls = rest} l e o) =
-    let c = comes s (l .row) t (p .0) e h in
-    record { it = l; rest = rest; is = refl; row-is = c .0; order = subst (λ (i : ℕ). InOrder i rest) (c .1) o }
+-- a frame ends after them
+pub ends-late : (s : ℕ) → mayEnd s ≡ true → 4 ≤ s
+ends-late s e = go (ltb s 4) refl
+  where
+    go : (x : Bool) → ltb s 4 ≡ x → 4 ≤ s
+    go true h = absurd (true≢false (sym e ∙ not-true (mayEnd s) (every-at (λ i. not (mayEnd i)) 4 no-early s (ltb-true s 4 h))))
+    go false h = ltb-false s 4 h

@@ -1,4 +1,5 @@
--- How the reading of a frame ends, that each refusal means what the table says, and that what the table says is refused so. Assumes nothing.
+-- The first check that a line fails, how the reading of a frame ends, that each refusal means what the table says, and that what the table says
+-- is refused so. Assumes nothing.
 use mathlib.Core.Path.{_≡_, refl, sym, ap, _∙_, subst}
 use mathlib.Core.Bool.{Bool, true, false, cond}
 use mathlib.Core.List.{List, [], _∷_, _++_, append-nil}
@@ -9,12 +10,72 @@ use lib.Dec.{ltb}
 use lib.ListN.{length, getD, take, drop}
 use lib.Seq.{length-take-le, split-at}
 use Rattle.refusal.specs.declared.Refusal.{Refusal}
+use Rattle.arguments.specs.Arguments.{refusedIf}
+use Rattle.arguments.specs.declared.Checked.{Checked}
 use Rattle.line_form.specs.Lines.{linesOf}
-use Rattle.frame_line.specs.Table.{mayEnd}
-use Rattle.frame_line.specs.Lines.{readLine}
-use Rattle.frame.specs.Frame.{Frame, Step, stopped, onward, stepLine, FrameRead, refused-at, accepted, atEnd, going, readLines, readFrame}
-use Rattle.frame.specs.Text.{FirstFault, Passed, none-yet, one-more, Refused, too-long, at-line, missing, RefusalsMean}
-use Rattle.frame_laws.proofs.Steps.{step-fault, fault-stops}
+use Rattle.frame_line.specs.Table.{turnAt, mayEnd}
+use Rattle.frame_line.specs.Lines.{Line, kindOf, labelLineOf, LineRead, ill-formed, line, readLine}
+use Rattle.frame_line.specs.Checks.{outsideLine}
+use Rattle.frame_line.specs.declared.Turn.{Turn}
+use Rattle.frame_check.specs.Checks.{checksInOrder, overLimit, twiceOf}
+use Rattle.frame.specs.Frame.{Frame, partsOf, doubled, checkedLine, Step, stopped, onward, stepBy, stepWith, stepLine, FrameRead, refused-at, accepted, atEnd, going, readLines, byteLimit, readFrame}
+use Rattle.frame.specs.Text.{FirstCheck, is-first, too-many, is-wild, is-off-sheet, is-unknown, is-doubled, FirstFault, has-no-form, not-its-turn, fails, Passed, none-yet, one-more, Refused, too-long, at-line, missing, RefusalsMean}
+
+-- ---- a line that fails
+
+first-check : (f : ℕ → Bool) (over twice : Bool) (s : Refusal) → checksInOrder f over twice ≡ Checked.Refused s → FirstCheck f over twice s
+unfolding checksInOrder
+first-check f over twice s = go (f 1) over (f 3) (f 4) (f 5) twice refl refl refl refl refl refl
+  where
+    same : (r : Refusal) → FirstCheck f over twice r → Checked.Refused r ≡ Checked.Refused s → FirstCheck f over twice s
+    same r w e = let d : r ≡ s = cc in subst (FirstCheck f over twice) d w
+
+    go : (t2 t3 t4 t5 t6 t7 : Bool) → f 1 ≡ t2 → over ≡ t3 → f 3 ≡ t4 → f 4 ≡ t5 → f 5 ≡ t6 → twice ≡ t7
+        → refusedIf t2 Refusal.Malformed (refusedIf t3 Refusal.OverLimit (refusedIf t4 Refusal.OutOfRange (refusedIf t5 Refusal.OffSheet (refusedIf t6 Refusal.UnknownCorner (refusedIf t7 Refusal.Duplicate Checked.Fine)))))
+        ≡ Checked.Refused s → FirstCheck f over twice s
+    go true t3 t4 t5 t6 t7 a b c d g h e = same _ (is-first a) e
+    go false true t4 t5 t6 t7 a b c d g h e = same _ (too-many a b) e
+    go false false true t5 t6 t7 a b c d g h e = same _ (is-wild a b c) e
+    go false false false true t6 t7 a b c d g h e = same _ (is-off-sheet a b c d) e
+    go false false false false true t7 a b c d g h e = same _ (is-unknown a b c d g) e
+    go false false false false false true a b c d g h e = same _ (is-doubled a b c d g h) e
+    go false false false false false false a b c d g h e = absurd (let z : _≡_ {A = ℕ} 0 1 = cc in omega arith)
+
+check-first : (f : ℕ → Bool) (over twice : Bool) (s : Refusal) → FirstCheck f over twice s → checksInOrder f over twice ≡ Checked.Refused s
+unfolding checksInOrder
+check-first f over twice s (is-first a) = rw a
+check-first f over twice s (too-many a b) = rw (a, b)
+check-first f over twice s (is-wild a b c) = rw (a, b, c)
+check-first f over twice s (is-off-sheet a b c d) = rw (a, b, c, d)
+check-first f over twice s (is-unknown a b c d g) = rw (a, b, c, d, g)
+check-first f over twice s (is-doubled a b c d g h) = rw (a, b, c, d, g, h)
+
+module _ (stage : ℕ) (f : Frame) where
+  -- where a line leads, and why
+  pub data Stepping (text : List ℕ) : Step → Type 0 where
+    stops : (r : Refusal) → FirstFault stage f (readLine text) r → Stepping text (stopped r)
+    goes : (l : Line) (to : ℕ) → readLine text ≡ line l → turnAt stage (l .row) ≡ Turn.To to → checkedLine (partsOf f) l ≡ Checked.Fine → Stepping text (onward to (f ++ (l ∷ [])))
+
+  pub stepping : (text : List ℕ) → Stepping text (stepLine stage f text)
+  unfolding stepLine checkedLine
+  stepping text = go (readLine text) refl
+    where
+      by : (l : Line) (u : Turn) (c : Checked) → readLine text ≡ line l → turnAt stage (l .row) ≡ u → checkedLine (partsOf f) l ≡ c → Stepping text (stepBy u c (f ++ (l ∷ [])))
+      by l Turn.No c r p q = stops Refusal.Malformed (rw r (not-its-turn p))
+      by l (Turn.To to) Checked.Fine r p q = goes l to r p q
+      by l (Turn.To to) (Checked.Refused s) r p q = stops s (rw r (fails p (first-check _ _ _ s q)))
+
+      go : (r : LineRead) → readLine text ≡ r → Stepping text (stepWith stage f r)
+      go ill-formed r = stops Refusal.Malformed (rw r has-no-form)
+      go (line l) r = by l (turnAt stage (l .row)) (checkedLine (partsOf f) l) r refl refl
+
+  fault-stops : (l : LineRead) (r : Refusal) → FirstFault stage f l r → stepWith stage f l ≡ stopped r
+  unfolding checkedLine
+  fault-stops l r has-no-form = refl
+  fault-stops l r (not-its-turn a) = rw a
+  fault-stops l r (fails {l = m} a b) = rw (a, check-first (λ q. outsideLine q (length (partsOf f .corners)) m) (overLimit (length (partsOf f .corners)) (length (partsOf f .passes)) (kindOf m)) (twiceOf (kindOf m) (doubled (partsOf f .labels) (labelLineOf (m .numbers)))) r b)
+
+-- ---- all lines
 
 -- what comes of the lines from number n on: all pass and the frame is whole; or a line fails, the k-th of them; or all pass, and one of the
 -- first four is missing
@@ -38,20 +99,20 @@ ending n stage f [] = go (mayEnd stage) refl
     go : (x : Bool) → mayEnd stage ≡ x → Ending n stage f [] (cond x (accepted f) (refused-at Refusal.Malformed n))
     go true e = all-read stage f none-yet e
     go false e = one-missing n stage f (omega arith) none-yet e
-ending n stage f (text ∷ texts) = go (stepLine stage f text) refl (λ stage' f'. ending (suc n) stage' f' texts)
+ending n stage f (text ∷ texts) = go (stepping stage f text) refl (λ stage' f'. ending (suc n) stage' f' texts)
   where
-    go : (s : Step) → stepLine stage f text ≡ s → ((stage' : ℕ) (f' : Frame) → Ending (suc n) stage' f' texts (readLines (suc n) stage' f' texts))
+    go : {s : Step} → Stepping stage f text s → stepLine stage f text ≡ s → ((stage' : ℕ) (f' : Frame) → Ending (suc n) stage' f' texts (readLines (suc n) stage' f' texts))
         → Ending n stage f (text ∷ texts) (going n s (λ stage' f'. readLines (suc n) stage' f' texts))
-    go (stopped r) e rest = one-fails 0 n stage f r (omega arith) (omega arith) none-yet (step-fault stage f text r e)
-    go (onward stage' f') e rest = ending-more n stage f text texts stage' f' e (readLines (suc n) stage' f' texts) (rest stage' f')
+    go (stops r w) e rest = one-fails 0 n stage f r (omega arith) (omega arith) none-yet w
+    go (goes l to r p q) e rest = ending-more n stage f text texts to (f ++ (l ∷ [])) e (readLines (suc n) to (f ++ (l ∷ [])) texts) (rest to (f ++ (l ∷ [])))
 
 -- ---- the law
 
 pub refusals-mean : RefusalsMean
 unfolding readFrame
-refusals-mean text r n e = go (ltb 65536 (length text)) refl e
+refusals-mean text r n e = go (ltb byteLimit (length text)) refl e
   where
-    why : length text ≤ 65536 → (o : FrameRead) → Ending 1 0 [] (linesOf text) o → o ≡ refused-at r n → Refused text r n
+    why : length text ≤ byteLimit → (o : FrameRead) → Ending 1 0 [] (linesOf text) o → o ≡ refused-at r n → Refused text r n
     why h o (all-read last g p k) q = absurd (let z : _≡_ {A = ℕ} 0 1 = cc in omega arith)
     why h o (one-fails k m last g s l a p w) q =
         let same : s ≡ r = cc in
@@ -64,12 +125,12 @@ refusals-mean text r n e = go (ltb 65536 (length text)) refl e
         let here : suc (length (linesOf text)) ≡ n = omega arith in
         subst (λ (s : Refusal). Refused text s n) same (subst (Refused text Refusal.Malformed) here (missing last g h p k))
 
-    go : (x : Bool) → ltb 65536 (length text) ≡ x → cond x (refused-at Refusal.OverLimit 0) (readLines 1 0 [] (linesOf text)) ≡ refused-at r n → Refused text r n
+    go : (x : Bool) → ltb byteLimit (length text) ≡ x → cond x (refused-at Refusal.OverLimit 0) (readLines 1 0 [] (linesOf text)) ≡ refused-at r n → Refused text r n
     go true p h =
         let same : Refusal.OverLimit ≡ r = cc in
         let number : 0 ≡ n = cc in
-        subst (λ (s : Refusal). Refused text s n) same (subst (Refused text Refusal.OverLimit) number (too-long (ltb-true 65536 (length text) p)))
-    go false p h = why (ltb-false 65536 (length text) p) (readLines 1 0 [] (linesOf text)) (ending 1 0 [] (linesOf text)) h
+        subst (λ (s : Refusal). Refused text s n) same (subst (Refused text Refusal.OverLimit) number (too-long (ltb-true byteLimit (length text) p)))
+    go false p h = why (ltb-false byteLimit (length text) p) (readLines 1 0 [] (linesOf text)) (ending 1 0 [] (linesOf text)) h
 
 -- ---- and what the table says is refused so
 
@@ -82,9 +143,9 @@ passed-read n {last = last} {g = g} rest (one-more {texts = texts} e p) =
     let m : suc n + length texts ≡ n + suc (length texts) = omega arith in
     ap (λ (s : Step). going n s (λ stage' f'. readLines (suc n) stage' f' (texts ++ rest))) e ∙ passed-read (suc n) rest p ∙ ap (λ (k : ℕ). readLines k last g rest) m
 
-short-enough : (text : List ℕ) → length text ≤ 65536 → readFrame text ≡ readLines 1 0 [] (linesOf text)
+short-enough : (text : List ℕ) → length text ≤ byteLimit → readFrame text ≡ readLines 1 0 [] (linesOf text)
 unfolding readFrame
-short-enough text h = rw (le-ltb 65536 (length text) h)
+short-enough text h = rw (le-ltb byteLimit (length text) h)
 
 stops-there : (n stage : ℕ) (f : Frame) (text : List ℕ) (texts : List (List ℕ)) (r : Refusal) → stepLine stage f text ≡ stopped r → readLines n stage f (text ∷ texts) ≡ refused-at r n
 unfolding readLines
@@ -97,7 +158,7 @@ ends-early n stage f h = rw h
 -- so a text is refused with one number at one line, for the one reason that the table gives
 pub refused-so : (text : List ℕ) (r : Refusal) (n : ℕ) → Refused text r n → readFrame text ≡ refused-at r n
 unfolding readFrame stepLine
-refused-so text r n (too-long h) = rw (lt-ltb 65536 (length text) h)
+refused-so text r n (too-long h) = rw (lt-ltb byteLimit (length text) h)
 refused-so text r n (at-line k stage f s h l p w) =
     let texts = linesOf text in
     let number : 1 + length (take k texts) ≡ suc k = omega (arith, length-take-le k texts (omega arith)) in

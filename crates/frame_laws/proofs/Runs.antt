@@ -1,12 +1,13 @@
 -- An accepted frame starts what demand 3 speaks of: its corners and the sheet of its given labels belong together, and each of its passes has
 -- its numbers in range, so that none is refused, after whatever list of calls. Assumes nothing.
 use mathlib.Core.Path.{_≡_, refl, sym, ap, _∙_, subst}
-use mathlib.Core.Bool.{true, false}
+use mathlib.Core.Bool.{Bool, true, false}
 use mathlib.Core.List.{List, [], _∷_, map}
 use Prim.Native.Nat.{ℕ, zero, suc, _<_, _≤_}
 use native.Mathlib.Nat.{not-suc-le-zero}
 use native.Mathlib.Omega.{arith}
-use borrow.Author.Tests.{not-false}
+use borrow.Author.Tests.{ltb-true, ltb-false, not-false}
+use lib.Dec.{ltb}
 use lib.IntN.{ℤ, pos, natAbs}
 use lib.Ieee.{Float, nan, ofBits, ofInt, le}
 use lib.ListN.{length, getD, length-map}
@@ -21,23 +22,21 @@ use Rattle.passes.specs.Step.{CornerLists}
 use Rattle.passes.specs.Run.{Call, PassStats, step, sheetAfter, run, sheetOf as sheetLeft}
 use Rattle.invariants.specs.Calls.{Standing, CallInside, Accepts, passOf as passChecked}
 use Rattle.invariants.proofs.Run.{standing-step, fit-accepts, never-refused, invariants}
-use Rattle.frame_line.specs.Table.{rowCount, kindAt}
-use Rattle.frame_line.specs.Lines.{Line, kindOf, bitsAt, axesLineOf, CornerLine, PassLine, bare-grow, grow, bare-fill, fill, local}
+use Rattle.frame_line.specs.Table.{kindAt, turnAt}
+use Rattle.frame_line.specs.Lines.{Line, kindOf, PassLine, bare-grow, grow, bare-fill, fill, local}
 use Rattle.frame_line.specs.Checks.{wildBits, wildWhole}
-use Rattle.frame_line.specs.declared.Kind.{Kind}
-use Rattle.frame_line.specs.declared.OpeningKind.{OpeningKind}
+use Rattle.frame_line.specs.declared.Turn.{Turn}
 use Rattle.frame_line.proofs.Words.{counted}
-use Rattle.frame_line.proofs.Said.{CornerTame, PassTame, cell-said, axes-said, band-said, corner-said, pass-said}
-use Rattle.frame.specs.Frame.{Frame, Opening, opened, adding, partsFrom, no-parts, partsOf}
-use Rattle.frame.specs.Text.{All, InOrder, InRange, Sound, WithinLimits}
+use Rattle.frame_line.proofs.Said.{AxesTame, PassTame, cell-said, axes-said, band-said}
+use Rattle.frame_state.specs.State.{cornerLimit}
+use Rattle.frame.specs.Frame.{Frame, Opening, Parts, opened, adding, added, partsFrom, no-parts, partsOf}
+use Rattle.frame.specs.Text.{All, InOrder, ends, next, InRange, WithinLimits}
 use Rattle.frame.specs.ReadFrame.{floatOf, xsOf, ysOf, pitchesOf, sheetOf, settingsIn, settingsOf, fullOf, passOf}
 use Rattle.frame_laws.specs.Calls.{cornersOf, frameRooms, passCall, callOf, callsOf, NoneRefused, Starts, AcceptedRuns}
-use Rattle.frame_laws.proofs.Lists.{all-map}
-use Rattle.frame_laws.proofs.Order.{First, first-of}
-use Rattle.frame_laws.proofs.Parts.{corners-all, passes-all, openings-kept}
-use Rattle.frame_laws.proofs.Back.{frame-prints-back, labels-sound}
-use Rattle.frame_laws.proofs.Labels.{given-labels}
-use Rattle.frame_laws.proofs.Given.{labels-given, labels-one}
+use Rattle.frame_laws.proofs.Order.{comes, later-opens, ends-late}
+use Rattle.frame_laws.proofs.Parts.{all-map, kept}
+use Rattle.frame_laws.proofs.Back.{frame-prints-back, parts-tame}
+use Rattle.frame_laws.proofs.Labels.{given-labels, sheet-long, corner-known, one-cell}
 
 -- ---- numbers in range
 
@@ -55,36 +54,42 @@ each-float q f [] p k h = absurd (not-suc-le-zero h)
 each-float q f (a ∷ l) p zero h = p .0
 each-float q f (a ∷ l) p (suc k) h = each-float q f l (p .1) k (omega arith)
 
--- ---- cell size, axes and band: the lines behind the first
+-- ---- cell size, axes and band
 
-abbrev Row : Line → Type 0
-Row l = l .row < rowCount
+-- each is in range once the lines are past its stage
+record OpeningTame (s : ℕ) (o : Opening) : Type 0 where
+  cell : 1 < s → wildBits Quantity.CellSize (o .cell) ≡ false
+  axes : 2 < s → AxesTame (o .axes)
+  band : 3 < s → wildBits Quantity.Band (o .band) ≡ false
 
-module _ (l0 l1 l2 l3 : Line) (ls : List Line) (a : kindOf l0 ≡ Kind.Opening OpeningKind.Frame) (b : kindOf l1 ≡ Kind.Opening OpeningKind.CellSize) (c : kindOf l2 ≡ Kind.Opening OpeningKind.Axes) (d : kindOf l3 ≡ Kind.Opening OpeningKind.Band) where
-  opening-is : InOrder 4 ls → All Row ls
-      → partsFrom no-parts (l0 ∷ l1 ∷ l2 ∷ l3 ∷ ls) .opening ≡ record { cell = bitsAt 0 (l1 .numbers); axes = axesLineOf (l2 .numbers); band = bitsAt 0 (l3 .numbers) }
-  unfolding partsFrom adding opened
-  opening-is o r = openings-kept 4 _ ls (omega arith) r o ∙ rw (a, b, c, d)
+module _ (n : ℕ) (l : Line) (r : InRange n l) (p : Parts) where
+  -- the line of row s
+  said-at : (s : ℕ) → s < 4 → l .row ≡ s → OpeningTame s (p .opening) → OpeningTame (suc s) (added p l .opening)
+  unfolding adding opened kindAt
+  said-at zero h e t = record { cell = λ k. absurd (omega arith); axes = λ k. absurd (omega arith); band = λ k. absurd (omega arith) }
+  said-at (suc zero) h e t = rw e (record { cell = λ k. cell-said n l (r .proper) (r .ranges) (ap kindAt e); axes = λ k. absurd (omega arith); band = λ k. absurd (omega arith) })
+  said-at (suc (suc zero)) h e t = rw e (record { cell = λ k. t .cell (omega arith); axes = λ k. axes-said n l (r .proper) (r .ranges) (ap kindAt e); band = λ k. absurd (omega arith) })
+  said-at (suc (suc (suc zero))) h e t = rw e (record { cell = λ k. t .cell (omega arith); axes = λ k. t .axes (omega arith); band = λ k. band-said n l (r .proper) (r .ranges) (ap kindAt e) })
+  said-at (suc (suc (suc (suc s)))) h e t = absurd (omega arith)
 
-  settings-lines : (m : ℕ) → InOrder 4 ls → All (InRange m) (l0 ∷ l1 ∷ l2 ∷ l3 ∷ ls) → SettingsInside (settingsIn (partsFrom no-parts (l0 ∷ l1 ∷ l2 ∷ l3 ∷ ls) .opening))
-  settings-lines m o r =
-      let x = r .1 .0 in
-      let y = r .1 .1 .0 in
-      let z = r .1 .1 .1 .0 in
-      let t = axes-said m l2 (y .proper) (y .ranges) c in
-      subst (λ (it : Opening). SettingsInside (settingsIn it)) (sym (opening-is o (all-map (λ l g. g .proper .few) ls (r .1 .1 .1 .1))))
-      (record {
-        cell-size = inside Quantity.CellSize (bitsAt 0 (l1 .numbers)) (cell-said m l1 (x .proper) (x .ranges) b);
-        axis-i = record { x = inside Quantity.AxisPart _ (t .0); y = inside Quantity.AxisPart _ (t .1 .0) };
-        axis-j = record { x = inside Quantity.AxisPart _ (t .1 .1 .0); y = inside Quantity.AxisPart _ (t .1 .1 .1) };
-        band = inside Quantity.Band (bitsAt 0 (l3 .numbers)) (band-said m l3 (z .proper) (z .ranges) d);
-      })
+  said-on : (s to : ℕ) → turnAt s (l .row) ≡ Turn.To to → OpeningTame s (p .opening) → OpeningTame to (added p l .opening)
+  said-on s to e t = go (ltb s 4) refl
+    where
+      go : (x : Bool) → ltb s 4 ≡ x → OpeningTame to (added p l .opening)
+      go true h =
+          let c = comes s (l .row) to (r .proper .few) e (ltb-true s 4 h) in
+          subst (λ (i : ℕ). OpeningTame i (added p l .opening)) (sym (c .1)) (said-at s (ltb-true s 4 h) (c .0) t)
+      go false h =
+          let late = ltb-false s 4 h in
+          let same = kept (kindOf l) (l .numbers) p .0 (later-opens s (l .row) to (r .proper .few) e late .1) in
+          rw same (record { cell = λ k. t .cell (omega arith); axes = λ k. t .axes (omega arith); band = λ k. t .band (omega arith) })
+
+all-said : (n s : ℕ) (p : Parts) (ls : List Line) → All (InRange n) ls → InOrder s ls → OpeningTame s (p .opening) → OpeningTame 4 (partsFrom p ls .opening)
+unfolding partsFrom
+all-said n s p ls r (ends e) t = let h = ends-late s e in record { cell = λ k. t .cell (omega arith); axes = λ k. t .axes (omega arith); band = λ k. t .band (omega arith) }
+all-said n s p ls r (next {to = to} {ls = rest} l e o) t = all-said n to (added p l) rest (r .1) o (said-on n l (r .0) p s to e t)
 
 module _ (f : Frame) (w : WithinLimits f) where
-  corners-tame : All CornerTame (partsOf f .corners)
-  unfolding partsOf
-  corners-tame = corners-all f CornerTame (all-map (λ l r e. corner-said _ l (r .proper) (r .ranges) e) f (w .numbers))
-
   same-length : length (xsOf f) ≡ length (partsOf f .corners)
   unfolding xsOf
   same-length = length-map (partsOf f .corners) (λ c. floatOf (c .x))
@@ -95,27 +100,22 @@ module _ (f : Frame) (w : WithinLimits f) where
       let l : k < length (partsOf f .corners) = omega (arith, same-length) in
       let cs = partsOf f .corners in
       record {
-        x = each-float Quantity.Position (λ c. floatOf (c .x)) cs (all-map (λ c t. inside Quantity.Position (c .x) (t .0)) cs corners-tame) k l;
-        y = each-float Quantity.Position (λ c. floatOf (c .y)) cs (all-map (λ c t. inside Quantity.Position (c .y) (t .1 .0)) cs corners-tame) k l;
-        pitch = each-float Quantity.Pitch (λ c. floatOf (c .pitch)) cs (all-map (λ c t. inside Quantity.Pitch (c .pitch) (t .1 .1)) cs corners-tame) k l;
+        x = each-float Quantity.Position (λ c. floatOf (c .x)) cs (all-map (λ c t. inside Quantity.Position (c .x) (t .0)) cs (parts-tame f w .corners)) k l;
+        y = each-float Quantity.Position (λ c. floatOf (c .y)) cs (all-map (λ c t. inside Quantity.Position (c .y) (t .1 .0)) cs (parts-tame f w .corners)) k l;
+        pitch = each-float Quantity.Pitch (λ c. floatOf (c .pitch)) cs (all-map (λ c t. inside Quantity.Pitch (c .pitch) (t .1 .1)) cs (parts-tame f w .corners)) k l;
       }
 
   settings-inside : SettingsInside (settingsOf f)
-  unfolding settingsOf partsOf kindAt
+  unfolding settingsOf partsOf
   settings-inside =
-      let r = all-map (λ l g. g .proper .few) f (w .numbers) in
-      let a = first-of 0 f (omega arith) r (w .order) in
-      let s = subst (All Row) (a .is) r .1 in
-      let b = first-of 1 (a .rest) (omega arith) s (a .order) in
-      let t = subst (All Row) (b .is) s .1 in
-      let c = first-of 2 (b .rest) (omega arith) t (b .order) in
-      let u = subst (All Row) (c .is) t .1 in
-      let d = first-of 3 (c .rest) (omega arith) u (c .order) in
-      let e : f ≡ a .it ∷ b .it ∷ c .it ∷ d .it ∷ d .rest =
-      a .is ∙ ap (λ (x : List Line). a .it ∷ x) (b .is ∙ ap (λ (x : List Line). b .it ∷ x) (c .is ∙ ap (λ (x : List Line). c .it ∷ x) (d .is))) in
-      subst (λ (g : List Line). SettingsInside (settingsIn (partsFrom no-parts g .opening))) (sym e)
-      (settings-lines (a .it) (b .it) (c .it) (d .it) (d .rest) (ap kindAt (a .row-is)) (ap kindAt (b .row-is)) (ap kindAt (c .row-is)) (ap kindAt (d .row-is))
-      (length (partsOf f .corners)) (d .order) (subst (All (InRange (length (partsOf f .corners)))) e (w .numbers)))
+      let t = all-said (length (partsOf f .corners)) 0 no-parts f (w .numbers) (w .order) (record { cell = λ k. absurd (omega arith); axes = λ k. absurd (omega arith); band = λ k. absurd (omega arith) }) in
+      let a = t .axes (omega arith) in
+      record {
+        cell-size = inside Quantity.CellSize _ (t .cell (omega arith));
+        axis-i = record { x = inside Quantity.AxisPart _ (a .0); y = inside Quantity.AxisPart _ (a .1 .0) };
+        axis-j = record { x = inside Quantity.AxisPart _ (a .1 .1 .0); y = inside Quantity.AxisPart _ (a .1 .1 .1) };
+        band = inside Quantity.Band _ (t .band (omega arith));
+      }
 
   -- ---- the passes
 
@@ -124,7 +124,7 @@ module _ (f : Frame) (w : WithinLimits f) where
   checked-so (Pass.Fill p) = refl
   checked-so (Pass.Local p) = refl
 
-  queue-fits : (q : Pass) (n : ℕ) → n ≤ 1024 → queueNeeded q n ≤ frameRooms .queue
+  queue-fits : (q : Pass) (n : ℕ) → n ≤ cornerLimit → queueNeeded q n ≤ frameRooms .queue
   unfolding queueNeeded
   queue-fits (Pass.Grow p) n h = omega arith
   queue-fits (Pass.Fill p) n h = omega arith
@@ -145,7 +145,7 @@ module _ (f : Frame) (w : WithinLimits f) where
         depth = small 4 d (t .1 .1 .1 .1);
       }
 
-  few : length (xsOf f) ≤ 1024
+  few : length (xsOf f) ≤ cornerLimit
   few = omega (arith, same-length, w .corners)
 
   pass-fit : (p : PassLine) → PassTame p → CallInside (cornersOf f) (callOf f p)
@@ -165,27 +165,26 @@ module _ (f : Frame) (w : WithinLimits f) where
   passes-fit (p ∷ ps) t = (pass-fit p (t .0), passes-fit ps (t .1))
 
   calls-fit : All (CallInside (cornersOf f)) (callsOf f)
-  unfolding callsOf partsOf
-  calls-fit = passes-fit (partsOf f .passes) (passes-all f PassTame (all-map (λ l r q e. pass-said _ l (r .proper) (r .ranges) q e) f (w .numbers)))
+  unfolding callsOf
+  calls-fit = passes-fit (partsOf f .passes) (parts-tame f w .passes)
 
   -- ---- the corners and the given labels
 
   pub frame-standing : Standing (cornersOf f) (sheetOf f)
-  unfolding sheetOf xsOf ysOf pitchesOf
+  unfolding xsOf ysOf pitchesOf
   frame-standing =
-      let ys-long : length (xsOf f) ≤ length (ysOf f) = omega (arith, same-length, length-map (partsOf f .corners) (λ c. floatOf (c .y))) in
-      let pitches-long : length (xsOf f) ≤ length (pitchesOf f) = omega (arith, same-length, length-map (partsOf f .corners) (λ c. floatOf (c .pitch))) in
-      let sound : All (Sound (length (xsOf f))) (partsOf f .labels) = subst (λ (n : ℕ). All (Sound n) (partsOf f .labels)) (sym same-length) (labels-sound f w) in
       record {
-        given = labels-given (xsOf f) (ysOf f) (pitchesOf f) few ys-long pitches-long (partsOf f .labels) sound (w .once);
-        one-cell = labels-one (xsOf f) (ysOf f) (pitchesOf f) few ys-long pitches-long (partsOf f .labels) sound (w .once);
+        given =
+            record {
+              long = sheet-long f w;
+              ys-long = omega (arith, same-length, length-map (partsOf f .corners) (λ c. floatOf (c .y)));
+              pitches-long = omega (arith, same-length, length-map (partsOf f .corners) (λ c. floatOf (c .pitch)));
+              known = λ p k h e. omega (arith, same-length, corner-known f w p k h e);
+            };
+        one-cell = one-cell f w;
       }
 
 -- ---- none is refused
-
-all-accepted : (l : CornerLists) (sheet : List ℕ) → Standing l sheet → (before cs : List Call) → All (CallInside l) cs → All (Accepts l (sheetLeft l sheet before)) cs
-all-accepted l sheet s before [] g = tt
-all-accepted l sheet s before (c ∷ cs) g = (never-refused l sheet s before c (g .0), all-accepted l sheet s before cs (g .1))
 
 not-refused : (o : Outcome PassStats) (a : After PassStats) (os : List (Outcome PassStats)) → o ≡ done a → NoneRefused os → NoneRefused (o ∷ os)
 not-refused o a os e h = subst (λ (x : Outcome PassStats). NoneRefused (x ∷ os)) (sym e) h
@@ -206,7 +205,7 @@ limits-start f w =
       standing = s;
       invariant = invariants (cornersOf f) (sheetOf f) s;
       fit = calls-fit f w;
-      accepts = λ cs. all-accepted (cornersOf f) (sheetOf f) s cs (callsOf f) (calls-fit f w);
+      accepts = λ cs. all-map (λ c g. never-refused (cornersOf f) (sheetOf f) s cs c g) (callsOf f) (calls-fit f w);
       runs = none-refused (cornersOf f) (sheetOf f) s (callsOf f) (calls-fit f w);
     }
 

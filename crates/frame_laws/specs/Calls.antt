@@ -3,7 +3,7 @@
 use mathlib.Core.Path.{_≡_}
 use mathlib.Core.Bool.{false}
 use mathlib.Core.List.{List, [], _∷_, List·Memᴰ, map}
-use Prim.Native.Nat.{ℕ}
+use Prim.Native.Nat.{ℕ, _*_}
 use lib.IntN.{pos, natAbs}
 use Rattle.sheet.specs.Words.{labelAt, holeAt, ambiguousAt}
 use Rattle.sheet.specs.declared.Cell.{Cell}
@@ -14,6 +14,7 @@ use Rattle.passes.specs.Step.{CornerLists, Rooms}
 use Rattle.passes.specs.Run.{PassCall, grow, fill, local, Call, PassStats, run, sheetOf as sheetLeft}
 use Rattle.invariants.specs.Calls.{Standing, Invariant, CallInside, Accepts}
 use Rattle.frame_line.specs.Lines.{LabelLine, PassLine}
+use Rattle.frame_state.specs.State.{cornerLimit}
 use Rattle.frame.specs.Frame.{Frame, partsOf, readFrame, accepted}
 use Rattle.frame.specs.Text.{All}
 use Rattle.frame.specs.ReadFrame.{xsOf, ysOf, pitchesOf, sheetOf, settingsOf, fullOf, passOf}
@@ -42,7 +43,7 @@ pub record GivenLabels (f : Frame) : Type 0 where
 
 -- "4 queue places a corner, one attached place a corner", for as many corners as a frame may have
 abbrev pub frameRooms : Rooms
-frameRooms = record { queue = 4096; attached = 1024 }
+frameRooms = record { queue = 4 * cornerLimit; attached = cornerLimit }
 
 abbrev pub passCall : Pass → PassCall
 passCall (Pass.Grow p) = grow p

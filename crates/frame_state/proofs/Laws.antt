@@ -8,6 +8,7 @@ use borrow.Author.Tests.{leb-false}
 use lib.ListN.{getD}
 use lib.Ieee.{Float}
 use Rattle.binary32.specs.declared.ranges.Quantity.{Quantity}
+use Rattle.arguments.specs.declared.Settings.{Settings}
 use Rattle.frame_line.specs.Table.{rows, rowAt, kindAt, sortOf, sortAt}
 use Rattle.frame_line.specs.Held.{labelIn, outsideHeld}
 use Rattle.frame_line.specs.declared.Kind.{Kind}
@@ -20,7 +21,7 @@ use Rattle.frame_line.proofs.Checking.{tame-finite}
 use Rattle.frame_line.proofs.Words.{word-tame}
 use Rattle.frame_check.specs.Checks.{overLimit, twiceHeld, checkedHeld}
 use Rattle.frame_check.proofs.Laws.{AllFine, fine-all, label-fits}
-use Rattle.frame_state.specs.State.{Tame, TameAxes, TameOpening, withOpening, withCorner, withPass, CornerFits, CornerPut, LabelRoom, LabelPut, wordsIn, wordsPut, Arrays, arrays, state, Addable, addsAs, adds}
+use Rattle.frame_state.specs.State.{cornerLimit, passLimit, Tame, TameAxes, TameOpening, withOpening, withSettings, withCorner, withPass, CornerFits, CornerPut, LabelRoom, LabelPut, wordsIn, wordsPut, Arrays, arrays, state, Addable, addsAs, adds}
 use Rattle.frame_state.specs.declared.Progress.{Progress}
 
 -- ---- what the checks say
@@ -57,7 +58,7 @@ module _ {p : Progress} {a : Arrays} {line : HeldLine} (f : Addable p a line) wh
   unfolding overLimit sortAt sortOf rowAt rows
   corner-fits e =
       record {
-        room = leb-false 1024 (p .corners) (sym (ap (overLimit (p .corners) (p .passes)) e) ∙ fine .room);
+        room = leb-false cornerLimit (p .corners) (sym (ap (overLimit (p .corners) (p .passes)) e) ∙ fine .room);
         x = tame-at Kind.Corner e 0 Quantity.Position (omega arith) refl;
         y = tame-at Kind.Corner e 1 Quantity.Position (omega arith) refl;
         pitch = tame-at Kind.Corner e 2 Quantity.Pitch (omega arith) refl;
@@ -66,16 +67,16 @@ module _ {p : Progress} {a : Arrays} {line : HeldLine} (f : Addable p a line) wh
   pub label-room : kindAt (line .row) ≡ Kind.Label → LabelRoom (a .sheet) (labelIn (line .values))
   label-room e = record { long = f .long; fits = label-fits (p .corners) line (record { fits = f .fits; on = fine .on; known = fine .known }) e }
 
-  pub pass-fits : (k : PassKind) → kindAt (line .row) ≡ Kind.Pass k → p .passes < 16
+  pub pass-fits : (k : PassKind) → kindAt (line .row) ≡ Kind.Pass k → p .passes < passLimit
   unfolding overLimit
-  pass-fits k e = leb-false 16 (p .passes) (sym (ap (overLimit (p .corners) (p .passes)) e) ∙ fine .room)
+  pass-fits k e = leb-false passLimit (p .passes) (sym (ap (overLimit (p .corners) (p .passes)) e) ∙ fine .room)
 
 -- ---- the state after a line
 
 module _ (p : Progress) (a : Arrays) (line : HeldLine) where
-  pub added-opening : (o : OpeningKind) → kindAt (line .row) ≡ Kind.Opening o → (r : Progress) → r ≡ withOpening o p (line .values) → state r a ≡ adds line (state p a)
+  pub added-opening : (o : OpeningKind) → kindAt (line .row) ≡ Kind.Opening o → (r : Progress) (x : Settings) → x ≡ withOpening o (p .settings) (line .values) → r ≡ withSettings p x → state r a ≡ adds line (state p a)
   unfolding addsAs
-  added-opening o e r g = rw (e, g)
+  added-opening o e r x h g = rw (e, g, h)
 
   pub added-corner : kindAt (line .row) ≡ Kind.Corner → (r : Progress) → r ≡ withCorner p → (xs ys pitches : List Float)
       → CornerPut (p .corners) (line .values) (a .xs) (a .ys) (a .pitches) xs ys pitches → state r (arrays xs ys pitches (a .sheet) (a .used) (a .passes)) ≡ adds line (state p a)

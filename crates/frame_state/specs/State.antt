@@ -6,6 +6,9 @@ use Prim.Native.Nat.{ℕ, _+_, _*_, _%_, _<_, _≤_}
 use lib.ListN.{length, getD, set}
 use lib.Ieee.{Float, binary32, ofBits}
 use Rattle.sheet.specs.Words.{attached}
+use Rattle.predict.specs.declared.Grid.{Grid}
+use Rattle.predict.specs.declared.Vector.{Vector}
+use Rattle.arguments.specs.declared.Settings.{Settings}
 use Rattle.arguments.specs.declared.Checked.{Checked}
 use Rattle.frame_line.specs.Table.{kindAt}
 use Rattle.frame_line.specs.Held.{countIn, labelIn}
@@ -20,6 +23,25 @@ use Rattle.frame_state.specs.declared.PassWords.{PassWords}
 
 abbrev floatOf : ℕ → Float
 floatOf b = ofBits binary32 b
+
+-- ---- sizes
+
+-- "At most .. 1,024 corners, 16 passes"
+abbrev pub cornerLimit : ℕ
+cornerLimit = 1024
+
+abbrev pub passLimit : ℕ
+passLimit = 16
+
+-- 128 times 128 places of the sheet; the words of a pass, and of all passes
+abbrev pub placeCount : ℕ
+placeCount = 16384
+
+abbrev pub passWords : ℕ
+passWords = 6
+
+abbrev pub wordLimit : ℕ
+wordLimit = passLimit * passWords
 
 -- ---- numbers that are finite
 
@@ -56,39 +78,27 @@ nothing-said =
 abbrev pub atStage : Progress → ℕ → Progress
 atStage p stage = record { settings = p .settings; corners = p .corners; passes = p .passes; stage = stage }
 
-abbrev pub withCellSize : Progress → ℕ → Progress
-withCellSize p b =
+abbrev pub withCellSize : Settings → ℕ → Settings
+withCellSize s b =
     record {
-      settings =
-          record {
-            grid = record { «axis_i» = p .settings .grid .«axis_i»; «axis_j» = p .settings .grid .«axis_j»; «cell_size» = floatOf b };
-            «edge_length_tol» = p .settings .«edge_length_tol»;
-          };
-      corners = p .corners;
-      passes = p .passes;
-      stage = p .stage;
+      grid = record { «axis_i» = s .grid .«axis_i»; «axis_j» = s .grid .«axis_j»; «cell_size» = floatOf b };
+      «edge_length_tol» = s .«edge_length_tol»;
     }
 
-abbrev pub withAxes : Progress → List ℕ → Progress
-withAxes p v =
+abbrev pub withAxes : Settings → List ℕ → Settings
+withAxes s v =
     record {
-      settings =
+      grid =
           record {
-            grid =
-                record {
-                  «axis_i» = record { x = floatOf (getD v 0 0); y = floatOf (getD v 1 0) };
-                  «axis_j» = record { x = floatOf (getD v 2 0); y = floatOf (getD v 3 0) };
-                  «cell_size» = p .settings .grid .«cell_size»;
-                };
-            «edge_length_tol» = p .settings .«edge_length_tol»;
+            «axis_i» = record { x = floatOf (getD v 0 0); y = floatOf (getD v 1 0) };
+            «axis_j» = record { x = floatOf (getD v 2 0); y = floatOf (getD v 3 0) };
+            «cell_size» = s .grid .«cell_size»;
           };
-      corners = p .corners;
-      passes = p .passes;
-      stage = p .stage;
+      «edge_length_tol» = s .«edge_length_tol»;
     }
 
-abbrev pub withBand : Progress → ℕ → Progress
-withBand p b = record { settings = record { grid = p .settings .grid; «edge_length_tol» = floatOf b }; corners = p .corners; passes = p .passes; stage = p .stage }
+abbrev pub withBand : Settings → ℕ → Settings
+withBand s b = record { grid = s .grid; «edge_length_tol» = floatOf b }
 
 -- a line of the opening: its floats are finite; what it says
 abbrev pub TameOpening : OpeningKind → List ℕ → Type 0
@@ -97,11 +107,14 @@ TameOpening OpeningKind.CellSize v = Tame (getD v 0 0)
 TameOpening OpeningKind.Axes v = TameAxes v
 TameOpening OpeningKind.Band v = Tame (getD v 0 0)
 
-unfoldable pub withOpening : OpeningKind → Progress → List ℕ → Progress
-withOpening OpeningKind.Frame p v = p
-withOpening OpeningKind.CellSize p v = withCellSize p (getD v 0 0)
-withOpening OpeningKind.Axes p v = withAxes p v
-withOpening OpeningKind.Band p v = withBand p (getD v 0 0)
+unfoldable pub withOpening : OpeningKind → Settings → List ℕ → Settings
+withOpening OpeningKind.Frame s v = s
+withOpening OpeningKind.CellSize s v = withCellSize s (getD v 0 0)
+withOpening OpeningKind.Axes s v = withAxes s v
+withOpening OpeningKind.Band s v = withBand s (getD v 0 0)
+
+abbrev pub withSettings : Progress → Settings → Progress
+withSettings p s = record { settings = s; corners = p .corners; passes = p .passes; stage = p .stage }
 
 abbrev pub withCorner : Progress → Progress
 withCorner p = record { settings = p .settings; corners = p .corners + 1; passes = p .passes; stage = p .stage }
@@ -112,7 +125,7 @@ withPass p = record { settings = p .settings; corners = p .corners; passes = p .
 -- ---- a corner, the n-th
 
 pub record CornerFits (n : ℕ) (v : List ℕ) : Type 0 where
-  pub room : n < 1024
+  pub room : n < cornerLimit
   pub x : Tame (getD v 0 0)
   pub y : Tame (getD v 1 0)
   pub pitch : Tame (getD v 2 0)
@@ -125,7 +138,7 @@ pub record CornerPut (n : ℕ) (v : List ℕ) (xs ys pitches xs' ys' pitches' : 
 -- ---- a label
 
 pub record LabelRoom (sheet : List ℕ) (l : HeldLabel) : Type 0 where
-  pub long : length sheet ≡ 16384
+  pub long : length sheet ≡ placeCount
   pub fits : LabelFits l
 
 pub record LabelPut (l : HeldLabel) (sheet used sheet' used' : List ℕ) : Type 0 where
@@ -154,7 +167,8 @@ wordsIn PassKind.Local v = localWords v
 -- the words of the m-th pass
 unfoldable pub wordsPut : ℕ → PassWords → List ℕ → List ℕ
 wordsPut m w l =
-    set (set (set (set (set (set l (6 * m) (w .kind)) (6 * m + 1) (w .search)) (6 * m + 2) (w .factor)) (6 * m + 3) (w .reach)) (6 * m + 4) (w .rounds)) (6 * m + 5) (w .depth)
+    let at = passWords * m in
+    set (set (set (set (set (set l at (w .kind)) (at + 1) (w .search)) (at + 2) (w .factor)) (at + 3) (w .reach)) (at + 4) (w .rounds)) (at + 5) (w .depth)
 
 -- ---- all of it
 
@@ -180,11 +194,11 @@ state p a = record { progress = p; held = a }
 pub record Addable (p : Progress) (a : Arrays) (line : HeldLine) : Type 0 where
   pub fine : checkedHeld (p .corners) (p .passes) (a .sheet) (a .used) line ≡ Checked.Fine
   pub fits : LineFits (p .corners) line
-  pub long : length (a .sheet) ≡ 16384
+  pub long : length (a .sheet) ≡ placeCount
 
 -- a line of a kind added, with its words
 unfoldable pub addsAs : Kind → List ℕ → State → State
-addsAs (Kind.Opening o) v s = state (withOpening o (s .progress) v) (s .held)
+addsAs (Kind.Opening o) v s = state (withSettings (s .progress) (withOpening o (s .progress .settings) v)) (s .held)
 addsAs Kind.Corner v s =
     let n = s .progress .corners in
     let h = s .held in

@@ -3,7 +3,7 @@
 ghost use mathlib.Core.Path.{_≡_};
 ghost use Prim.Native.Nat.{_<_};
 ghost use lib.Ieee.{binary32, ofBits};
-ghost use Rattle.frame_state.specs.State.{Tame, TameAxes, nothing-said, atStage, withCellSize, withAxes, withBand, TameOpening, withOpening, withCorner, withPass, CornerFits, CornerPut, LabelRoom, LabelPut, growWords, fillWords, localWords, wordsIn, wordsPut, arrays, state, Addable, adds};
+ghost use Rattle.frame_state.specs.State.{cornerLimit, passLimit, Tame, TameAxes, nothing-said, atStage, withCellSize, withAxes, withBand, TameOpening, withOpening, withSettings, withCorner, withPass, CornerFits, CornerPut, LabelRoom, LabelPut, growWords, fillWords, localWords, wordsIn, wordsPut, arrays, state, Addable, adds};
 use arguments::Settings;
 use frame_line::HeldLabel;
 use frame_line::HeldLine;
@@ -13,6 +13,17 @@ use frame_line::PassKind;
 use frame_line::count_of;
 use predict::Grid;
 use predict::Vector;
+
+// At most so many corners and passes; the places of the sheet; the words of a pass, and of all passes.
+pub const CORNERS: usize = 1024;
+
+pub const PASSES: usize = 16;
+
+pub const PLACES: usize = 16384;
+
+pub const PASS_WORDS: usize = 6;
+
+pub const WORDS: usize = PASSES * PASS_WORDS;
 
 // Cell size, axes and band, how many corners and passes there are, and the stage that the lines have come to.
 pub struct Progress {
@@ -76,12 +87,11 @@ pub fn at_stage(p: Progress, stage: usize) -> Progress
 }
 
 // The cell size is said.
-fn with_cell_size(p: Progress, bits: u32) -> Progress
+fn with_cell_size(s: Settings, bits: u32) -> Settings
     requires { ⌜ Tame bits ⌝ }
-    ensures { λ r. ⌜ r ≡ withCellSize p bits ⌝ }
+    ensures { λ r. ⌜ r ≡ withCellSize s bits ⌝ }
 {
-    let settings = p.settings;
-    let before = settings.grid;
+    let before = s.grid;
     let axis_i = before.axis_i;
     let axis_j = before.axis_j;
     let grid = Grid {
@@ -89,25 +99,18 @@ fn with_cell_size(p: Progress, bits: u32) -> Progress
         axis_j,
         cell_size: float_of(bits),
     };
-    let settings = Settings {
+    Settings {
         grid,
-        edge_length_tol: settings.edge_length_tol,
-    };
-    Progress {
-        settings,
-        corners: p.corners,
-        passes: p.passes,
-        stage: p.stage,
+        edge_length_tol: s.edge_length_tol,
     }
 }
 
 // The axes are said.
-fn with_axes(p: Progress, v: [u32; 5]) -> Progress
+fn with_axes(s: Settings, v: [u32; 5]) -> Settings
     requires { ⌜ TameAxes v ⌝ }
-    ensures { λ r. ⌜ r ≡ withAxes p v ⌝ }
+    ensures { λ r. ⌜ r ≡ withAxes s v ⌝ }
 {
-    let settings = p.settings;
-    let before = settings.grid;
+    let before = s.grid;
     let axis_i = Vector {
         x: float_of(v[0]),
         y: float_of(v[1]),
@@ -121,53 +124,52 @@ fn with_axes(p: Progress, v: [u32; 5]) -> Progress
         axis_j,
         cell_size: before.cell_size,
     };
-    let settings = Settings {
+    Settings {
         grid,
-        edge_length_tol: settings.edge_length_tol,
-    };
-    Progress {
-        settings,
-        corners: p.corners,
-        passes: p.passes,
-        stage: p.stage,
+        edge_length_tol: s.edge_length_tol,
     }
 }
 
 // The band is said.
-fn with_band(p: Progress, bits: u32) -> Progress
+fn with_band(s: Settings, bits: u32) -> Settings
     requires { ⌜ Tame bits ⌝ }
-    ensures { λ r. ⌜ r ≡ withBand p bits ⌝ }
+    ensures { λ r. ⌜ r ≡ withBand s bits ⌝ }
 {
-    let settings = p.settings;
-    let grid = settings.grid;
-    let settings = Settings {
+    let grid = s.grid;
+    Settings {
         grid,
         edge_length_tol: float_of(bits),
-    };
+    }
+}
+
+// A line of the opening is said.
+fn with_opening(s: Settings, kind: OpeningKind, values: [u32; 5]) -> Settings
+    requires { ⌜ TameOpening kind values ⌝ }
+    ensures { λ r. ⌜ r ≡ withOpening kind s values ⌝ }
+{
+    match kind {
+        OpeningKind::Frame => s,
+        OpeningKind::CellSize => with_cell_size(s, values[0]),
+        OpeningKind::Axes => with_axes(s, values),
+        OpeningKind::Band => with_band(s, values[0]),
+    }
+}
+
+// Cell size, axes and band are these.
+fn with_settings(p: Progress, settings: Settings) -> Progress
+    ensures { λ r. ⌜ r ≡ withSettings p settings ⌝ }
+{
     Progress {
         settings,
         corners: p.corners,
         passes: p.passes,
         stage: p.stage,
-    }
-}
-
-// A line of the opening is said.
-fn with_opening(p: Progress, kind: OpeningKind, values: [u32; 5]) -> Progress
-    requires { ⌜ TameOpening kind values ⌝ }
-    ensures { λ r. ⌜ r ≡ withOpening kind p values ⌝ }
-{
-    match kind {
-        OpeningKind::Frame => p,
-        OpeningKind::CellSize => with_cell_size(p, values[0]),
-        OpeningKind::Axes => with_axes(p, values),
-        OpeningKind::Band => with_band(p, values[0]),
     }
 }
 
 // One corner more.
 fn with_corner(p: Progress) -> Progress
-    requires { ⌜ p .corners < 1024 ⌝ }
+    requires { ⌜ p .corners < cornerLimit ⌝ }
     ensures { λ r. ⌜ r ≡ withCorner p ⌝ }
 {
     let settings = p.settings;
@@ -181,7 +183,7 @@ fn with_corner(p: Progress) -> Progress
 
 // One pass more.
 fn with_pass(p: Progress) -> Progress
-    requires { ⌜ p .passes < 16 ⌝ }
+    requires { ⌜ p .passes < passLimit ⌝ }
     ensures { λ r. ⌜ r ≡ withPass p ⌝ }
 {
     let settings = p.settings;
@@ -195,9 +197,9 @@ fn with_pass(p: Progress) -> Progress
 
 // The corner n is written.
 fn put_corner(
-    xs: &mut [f32; 1024],
-    ys: &mut [f32; 1024],
-    pitches: &mut [f32; 1024],
+    xs: &mut [f32; CORNERS],
+    ys: &mut [f32; CORNERS],
+    pitches: &mut [f32; CORNERS],
     n: usize,
     v: [u32; 5],
 )
@@ -210,7 +212,7 @@ fn put_corner(
 }
 
 // A label is written: its corner to the sheet, and that the corner is used.
-fn put_label(sheet: &mut [u16; 16384], used: &mut [u8; 1024], label: HeldLabel)
+fn put_label(sheet: &mut [u16; PLACES], used: &mut [u8; CORNERS], label: HeldLabel)
     requires { ⌜ LabelRoom (now sheet) label ⌝ }
     ensures { λ _. ⌜ LabelPut label (now (sheet .entry)) (now (used .entry)) (now (sheet .exit)) (now (used .exit)) ⌝ }
 {
@@ -277,12 +279,12 @@ fn words_of(kind: PassKind, v: [u32; 5]) -> PassWords
 }
 
 // The words of the pass m are written.
-fn put_pass(passes: &mut [u32; 96], m: usize, kind: PassKind, v: [u32; 5])
-    requires { ⌜ m < 16 ⌝ }
+fn put_pass(passes: &mut [u32; WORDS], m: usize, kind: PassKind, v: [u32; 5])
+    requires { ⌜ m < passLimit ⌝ }
     ensures { λ _. ⌜ now (passes .exit) ≡ wordsPut m (wordsIn kind v) (now (passes .entry)) ⌝ }
 {
     let words = words_of(kind, v);
-    let at = 6 * m;
+    let at = PASS_WORDS * m;
     passes[at] = words.kind;
     passes[at + 1] = words.search;
     passes[at + 2] = words.factor;
@@ -294,12 +296,12 @@ fn put_pass(passes: &mut [u32; 96], m: usize, kind: PassKind, v: [u32; 5])
 // A line that passed its checks is added.
 pub fn add_line(
     p: Progress,
-    xs: &mut [f32; 1024],
-    ys: &mut [f32; 1024],
-    pitches: &mut [f32; 1024],
-    sheet: &mut [u16; 16384],
-    used: &mut [u8; 1024],
-    passes: &mut [u32; 96],
+    xs: &mut [f32; CORNERS],
+    ys: &mut [f32; CORNERS],
+    pitches: &mut [f32; CORNERS],
+    sheet: &mut [u16; PLACES],
+    used: &mut [u8; CORNERS],
+    passes: &mut [u32; WORDS],
     line: HeldLine,
 ) -> Progress
     requires { ⌜ Addable p (arrays (now xs) (now ys) (now pitches) (now sheet) (now used) (now passes)) line ⌝ }
@@ -308,7 +310,10 @@ pub fn add_line(
     let kind = frame_line::kind_of(line.row);
     let v = line.values;
     match kind {
-        Kind::Opening(opening) => with_opening(p, opening, v),
+        Kind::Opening(opening) => {
+            let before = p.settings;
+            with_settings(p, with_opening(before, opening, v))
+        }
         Kind::Corner => {
             put_corner(xs, ys, pitches, p.corners, v);
             with_corner(p)

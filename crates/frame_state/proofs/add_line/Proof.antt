@@ -6,7 +6,7 @@ use Rattle.frame_state.proofs.add_line.Statement.{statement}
 use Rattle.frame_state.proofs.add_line.Tie as tie
 
 with-opening-requires : tie.Need-with-opening-requires
-with-opening-requires c κs = opening-fits (c .before .before .before .before .before .pre) _ (sym (c .before .before .before .before .kind-of .ensures) ∙ c .before .kind .given .1)
+with-opening-requires c κs = opening-fits (c .before .before .before .before .before .before .pre) _ (sym (c .before .before .before .before .before .kind-of .ensures) ∙ c .before .before .kind .given .1)
 
 put-corner-requires : tie.Need-put-corner-requires
 put-corner-requires c κs = corner-fits (c .before .before .before .before .before .before .before .pre) (sym (c .before .before .before .before .before .before .kind-of .ensures) ∙ c .before .before .before .enum-told .given .1)
@@ -24,7 +24,7 @@ with-pass-requires : tie.Need-with-pass-requires
 with-pass-requires c κs = pass-fits (c .before .before .before .before .before .before .before .pre) _ (sym (c .before .before .before .before .before .before .kind-of .ensures) ∙ c .before .before .before .kind2 .given .1)
 
 returns : tie.Need-returns
-returns c = added-opening _ _ _ _ (sym (c .before .before .before .before .before .kind-of .ensures) ∙ c .before .before .kind .given .1) _ (c .with-opening .ensures)
+returns c = added-opening _ _ _ _ (sym (c .before .before .before .before .before .before .before .kind-of .ensures) ∙ c .before .before .before .before .kind .given .1) _ _ (c .before .with-opening .ensures) (c .with-settings .ensures)
 
 returns-2 : tie.Need-returns-2
 returns-2 c = added-corner _ _ _ (sym (c .before .before .before .before .before .before .before .before .kind-of .ensures) ∙ c .before .before .before .before .before .enum-told .given .1) _ (c .with-corner .ensures) _ _ _ (c .before .put-corner .ensures)
@@ -42,6 +42,7 @@ add-line-spec =
     (λ c κs. search needs)
     (λ c. search needs)
     with-opening-requires
+    (λ c κs. search needs)
     (λ c. search needs)
     put-corner-requires
     with-corner-requires
