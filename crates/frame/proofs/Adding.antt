@@ -1,41 +1,92 @@
--- A line added as the code adds it is held as the definition adds it. Assumes nothing.
-use mathlib.Core.Path.{_≡_, refl, sym, ap, ap₂, subst, _∙_}
-use mathlib.Core.Bool.{Bool, true, false, not, _||_, or-true, or-false, or-assoc}
+-- A line as the code checks it and adds it is checked and held as the definition says. Assumes nothing.
+use mathlib.Core.Path.{_≡_, refl, sym, ap, ap₂, _∙_, subst}
+use mathlib.Core.Bool.{Bool, true, false, _||_, not, or-true, or-false, or-assoc}
 use mathlib.Core.List.{List, [], _∷_, _++_, append-assoc, append-nil, map-append}
-use Prim.Native.Nat.{ℕ, suc, _+_, _*_, _<_, _≤_}
+use Prim.Native.Nat.{ℕ, _≤_, suc, _+_, _*_, _<_}
 use native.Mathlib.Omega.{arith}
 use borrow.Author.Tests.{ne-eqb, eq-eqb, eqb-true, eqb-false, leb-false}
-use lib.IntN.{ℤ, pos, natAbs}
-use lib.Dec.{eqb}
+use lib.IntN.{natAbs, ℤ, pos}
 use lib.ListN.{length, getD, set, take, length-set, length-append}
+use lib.Dec.{eqb}
 use lib.Seq.{getD-set-same, getD-set-other, take-suc-set}
 use lib.Ieee.{Float}
-use Rattle.sheet.specs.Cells.{OnSheet, placeOf, eqZ}
-use Rattle.sheet.specs.Words.{numberOfLabel, wordOf, withLabel, wordAt, attached, emptySheet}
+use Rattle.sheet.specs.Cells.{eqZ, OnSheet, placeOf}
 use Rattle.sheet.specs.declared.Cell.{Cell}
-use Rattle.sheet.proofs.Laws.{place-in, place-one}
+use Rattle.sheet.proofs.Laws.{eqZ-equal, equal-eqZ, place-in, place-one}
+use Rattle.sheet.specs.Words.{numberOfLabel, wordOf, withLabel, wordAt, attached, emptySheet}
+use Rattle.labels.proofs.Below.{both}
 use Rattle.arguments.specs.declared.Checked.{Checked}
 use Rattle.line_form.specs.Held.{heldUpTo}
-use Rattle.frame_line.specs.Table.{rows, rowAt, formAt}
-use Rattle.frame_line.specs.Lines.{Line, kindOf, Proper, wholeAt, CornerLine, cornerLineOf, LabelLine, labelLineOf, PassLine, passLineOf}
+use Rattle.frame_line.specs.Lines.{Line, kindOf, Proper, labelLineOf, wholeAt, CornerLine, cornerLineOf, LabelLine, PassLine, passLineOf}
 use Rattle.frame_line.specs.Checks.{outsideLine}
-use Rattle.frame_line.specs.Held.{heldLine, countIn}
+use Rattle.frame_line.specs.Held.{heldLine, labelIn, outsideHeld}
 use Rattle.frame_line.specs.declared.Kind.{Kind}
+use Rattle.frame_line.proofs.Numbers.{outside-held, slotsOf}
+use Rattle.frame_line.proofs.Said.{label-exact, pass-said}
+use Rattle.frame_line.specs.Table.{rows, rowAt, formAt}
 use Rattle.frame_line.specs.declared.OpeningKind.{OpeningKind}
 use Rattle.frame_line.specs.declared.PassKind.{PassKind}
 use Rattle.frame_line.specs.declared.HeldLabel.{HeldLabel}
-use Rattle.frame_line.proofs.Numbers.{slotsOf}
 use Rattle.frame_line.proofs.Shapes.{bits-held, whole-held}
 use Rattle.frame_line.proofs.Words.{tame-count}
-use Rattle.frame_line.proofs.Said.{pass-said, label-exact}
-use Rattle.frame_check.specs.Checks.{isSet, overLimit, twiceOf}
-use Rattle.frame_check.proofs.Laws.{AllFine, fine-all}
-use Rattle.frame_state.specs.State.{cornerLimit, passLimit, passWords, wordLimit, withOpening, wordsIn, wordsPut, State, addsAs, adds}
+use Rattle.frame_check.specs.Checks.{checksInOrder, overLimit, labelTwice, twiceOf, checkedHeld, isSet}
+use Rattle.frame_check.proofs.Laws.{checks-alike, AllFine, fine-all}
+use Rattle.frame_state.specs.State.{cornerLimit, passLimit, withOpening, wordsIn, wordsPut, State, addsAs, adds}
 use Rattle.frame_state.specs.declared.PassWords.{PassWords}
 use Rattle.frame.specs.Frame.{Parts, sameCell, someOf, doubled, checkedLine, opened, adding, added}
+use Rattle.frame.specs.Reading.{cornerTaken, HoldsLabels, Holds, HoldsCorners, HoldsPasses, FrameHeld}
 use Rattle.frame.specs.ReadFrame.{floatOf, settingsIn, labelled, fullOf, wordsOf, allWords}
-use Rattle.frame.specs.Reading.{Holds, HoldsCorners, HoldsLabels, HoldsPasses, FrameHeld}
-use Rattle.frame.proofs.Agree.{same-truth, same-cell, cell-same}
+
+pub same-truth : (a b : Bool) → (a ≡ true → b ≡ true) → (b ≡ true → a ≡ true) → a ≡ b
+same-truth true b f g = sym (f refl)
+same-truth false true f g = g refl
+same-truth false false f g = refl
+
+pub same-cell : (c d : Cell) → sameCell c d ≡ true → c ≡ d
+same-cell c d e =
+    let s = both (eqZ (c .i) (d .i)) (eqZ (c .j) (d .j)) e in
+    λ t. record { i = eqZ-equal (c .i) (d .i) (s .0) t; j = eqZ-equal (c .j) (d .j) (s .1) t }
+
+pub cell-same : (c d : Cell) → c ≡ d → sameCell c d ≡ true
+cell-same c d e = rw (equal-eqZ (c .i) (d .i) (ap (λ (k : Cell). k .i) e), equal-eqZ (c .j) (d .j) (ap (λ (k : Cell). k .j) e))
+
+or-swap : (a b c d : Bool) → ((a || b) || (c || d)) ≡ ((a || c) || (b || d))
+or-swap true b c d = refl
+or-swap false true true d = refl
+or-swap false true false d = refl
+or-swap false false c d = refl
+
+-- one of two tests is passed by some element, or the other
+some-either : {A : Type 0} (f g : A → Bool) (l : List A) → someOf (λ a. f a || g a) l ≡ (someOf f l || someOf g l)
+unfolding someOf
+some-either f g [] = refl
+some-either f g (a ∷ l) = ap (λ (t : Bool). (f a || g a) || t) (some-either f g l) ∙ or-swap (f a) (g a) (someOf f l) (someOf g l)
+
+-- doubled is asked of labels alone
+pub twice-alike : (kind : Kind) (a b : Bool) → (kind ≡ Kind.Label → a ≡ b) → twiceOf kind a ≡ twiceOf kind b
+unfolding twiceOf
+twice-alike (Kind.Opening o) a b h = refl
+twice-alike Kind.Corner a b h = refl
+twice-alike Kind.Label a b h = h refl
+twice-alike (Kind.Pass p) a b h = refl
+
+module _ (f : Parts) (n : ℕ) (sheet used : List ℕ) (g : HoldsLabels (f .labels) sheet used) (few : n ≤ cornerLimit) (e : n ≡ length (f .corners)) where
+  twice : (l : Line) → Proper l → outsideLine 4 n l ≡ false → outsideLine 5 n l ≡ false → kindOf l ≡ Kind.Label
+      → labelTwice sheet used (labelIn (heldUpTo 5 (l .numbers))) ≡ doubled (f .labels) (labelLineOf (l .numbers))
+  twice l p off known k =
+      let h = label-exact n l p k few off known in
+      let m = labelLineOf (l .numbers) in
+      ap (labelTwice sheet used) (h .held-so)
+      ∙ ap₂ _||_ (g .cells (m .cell) (h .on-sheet)) (g .corners (natAbs (m .corner)) (omega (arith, h .given)) ∙ ap (cornerTaken (f .labels)) (sym (h .is-corner)))
+      ∙ sym (some-either (λ k. sameCell (k .cell) (m .cell)) (λ k. eqZ (k .corner) (m .corner)) (f .labels))
+
+  -- all checks
+  pub checks-agree : (m : ℕ) (l : Line) → Proper l → m ≡ length (f .passes) → checkedHeld n m sheet used (heldLine l) ≡ checkedLine f l
+  unfolding checkedHeld checkedLine
+  checks-agree m l p d =
+      checks-alike (λ r. outsideHeld r n (heldLine l)) (λ r. outsideLine r n l) (overLimit n m (kindOf l)) _ _ (λ r. outside-held r n l few p)
+      (λ off known. twice-alike (kindOf l) _ _ (twice l p off known))
+      ∙ ap₂ (λ (i j : ℕ). checksInOrder (λ r. outsideLine r i l) (overLimit i j (kindOf l)) (twiceOf (kindOf l) (doubled (f .labels) (labelLineOf (l .numbers))))) e d
 
 -- ---- one more at the end
 
@@ -124,7 +175,6 @@ listed w = w .kind ∷ w .search ∷ w .factor ∷ w .reach ∷ w .rounds ∷ w 
 
 pass-held : {ps : List PassLine} {m : ℕ} {words : List ℕ} → HoldsPasses ps m words → m < passLimit → (p : PassLine) (w : PassWords) → listed w ≡ wordsOf (fullOf p)
     → HoldsPasses (ps ++ (p ∷ [])) (m + 1) (wordsPut m w words)
-unfolding wordsPut
 pass-held {ps} {m} g h p w e =
     let a = holds-more (g .words-held) (omega arith) (w .kind) (6 * m + 1) (omega arith) in
     let b = holds-more a (omega arith) (w .search) (6 * m + 2) (omega arith) in
@@ -145,7 +195,7 @@ module _ (f : Parts) (s : State) (g : FrameHeld f s) (l : Line) (p : Proper l) (
   room kind e = sym (ap (overLimit (length (f .corners)) (length (f .passes))) e) ∙ w .room
 
   settings-added : (k : OpeningKind) → kindOf l ≡ Kind.Opening k → withOpening k (s .progress .settings) (heldUpTo 5 (l .numbers)) ≡ settingsIn (opened k (l .numbers) (f .opening))
-  unfolding withOpening opened slotsOf formAt rowAt rows
+  unfolding opened slotsOf formAt rowAt rows
   settings-added OpeningKind.Frame e = g .settings-are
   settings-added OpeningKind.CellSize e = rw (bits-held l p (Kind.Opening OpeningKind.CellSize) e 0 (omega arith) refl, g .settings-are)
   settings-added OpeningKind.Axes e =
@@ -155,7 +205,7 @@ module _ (f : Parts) (s : State) (g : FrameHeld f s) (l : Line) (p : Proper l) (
 
   -- the words of a pass whose numbers are in range
   words-agree : (k : PassKind) → kindOf l ≡ Kind.Pass k → listed (wordsIn k (heldUpTo 5 (l .numbers))) ≡ wordsOf (fullOf (passLineOf k (l .numbers)))
-  unfolding wordsIn passLineOf fullOf wordsOf slotsOf formAt rowAt rows
+  unfolding passLineOf fullOf wordsOf slotsOf formAt rowAt rows
   words-agree PassKind.BareGrow e = refl
   words-agree PassKind.Grow e =
       let b = bits-held l p (Kind.Pass PassKind.Grow) e in

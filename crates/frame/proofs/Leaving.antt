@@ -1,29 +1,68 @@
--- What the call leaves: nothing held before the first line, the frame held at the end, and the buffers. Assumes nothing.
-use mathlib.Core.Path.{_≡_, refl, ap, subst, _∙_}
-use mathlib.Core.Bool.{true, false, not}
-use mathlib.Core.List.{List, []}
-use Prim.Native.Nat.{ℕ, _*_, _<_, _≤_}
+-- What the call leaves: arrays copied to the front of buffers, nothing held before the first line, the frame held at the end, the buffers, and
+-- what the answer says. Assumes nothing.
+use mathlib.Core.Path.{_≡_, refl, sym, ap, _∙_}
+use mathlib.Core.List.{List, _++_, []}
+use mathlib.Core.Bool.{true, false, not, Bool, cond}
+use Prim.Native.Nat.{ℕ, suc, _+_, _<_, _≤_, _*_}
 use native.Mathlib.Omega.{arith}
+use native.Mathlib.Numerals.{add-one}
 use borrow.Author.Tests.{lt-ltb, le-ltb, ltb-false}
+use lib.ListN.{length, getD, set, take, drop, length-set, replicate, length-replicate, getD-replicate}
+use lib.Seq.{length-take-le, drop-cons, set-at, append-snoc, take-suc, take-all}
 use lib.Dec.{ltb, eqb}
-use lib.ListN.{length, take, replicate, length-replicate, getD-replicate}
-use lib.Seq.{take-all}
 use lib.Ieee.{Float}
 use Rattle.refusal.specs.declared.Refusal.{Refusal}
+use Rattle.refusal.specs.Said.{number-and-line}
 use Rattle.sheet.specs.Cells.{placeOf}
 use Rattle.sheet.specs.Words.{emptySheet}
 use Rattle.sheet.proofs.Laws.{place-in}
+use Rattle.arguments.specs.Front.{over}
+use Rattle.arguments.proofs.Chains.{or-false-both}
+use Rattle.line_form.specs.Lines.{linesOf}
 use Rattle.frame_check.specs.Checks.{isSet}
 use Rattle.frame_state.specs.State.{cornerLimit, placeCount, passWords, wordLimit, Arrays, arrays, state, nothing-said}
 use Rattle.frame_state.specs.declared.Progress.{Progress}
-use Rattle.arguments.specs.Front.{over}
-use Rattle.line_form.specs.Lines.{linesOf}
+use Rattle.frame.specs.Reading.{Copies, Holds, HoldsLabels, FrameHeld, ReadAs, refused-as, held-as, LongEnough, buffers}
 use Rattle.frame.specs.Frame.{Frame, no-parts, partsOf, someOf, FrameRead, refused-at, accepted, readLines, byteLimit, readFrame}
-use Rattle.frame.specs.ReadFrame.{xsOf, ysOf, pitchesOf, settingsOf, labelled, sheetOf, allWords, Buffers, frameOut, tooShort, leaves, readInto}
-use Rattle.frame.specs.Reading.{Holds, HoldsLabels, FrameHeld, ReadAs, refused-as, held-as, LongEnough, buffers, Copies}
+use Rattle.frame.specs.ReadFrame.{xsOf, ysOf, pitchesOf, settingsOf, labelled, sheetOf, allWords, Buffers, frameOut, tooShort, leaves, readInto, FrameOut, unlessShort}
 use Rattle.frame.specs.declared.FrameAnswer.{FrameAnswer}
 use Rattle.frame.specs.declared.LinesRead.{LinesRead}
-use Rattle.arguments.proofs.Chains.{or-false-both}
+use Rattle.frame.specs.Said.{headValues, frameSaid, lineValues, readDue, frameDue}
+
+-- i entries are copied
+pub record Copying {A : Type 0} (size n : ℕ) (from before to : List A) (i : ℕ) : Type 0 where
+  pub copies : Copies size n from before
+  pub some : i ≤ n
+  pub long : length to ≡ length before
+  pub so-far : to ≡ take i from ++ drop i before
+
+pub copying-start : {A : Type 0} (size n : ℕ) (from before : List A) → Copies size n from before → Copying size n from before before 0
+copying-start size n from before c = record { copies = c; some = omega arith; long = refl; so-far = refl }
+
+module _ {A : Type 0} {size n : ℕ} {from before to : List A} {i : ℕ} (g : Copying size n from before to i) where
+  -- one entry more
+  pub copying-more : (z : A) → i < n → Copying size n from before (set to i (getD from i z)) (i + 1)
+  copying-more z h =
+      let in-from : i < length from = omega (arith, g .copies .some, g .copies .whole) in
+      let in-before : i < length before = omega (arith, g .copies .some, g .copies .room) in
+      let front : length (take i from) ≡ i = length-take-le i from (omega arith) in
+      record {
+        copies = g .copies;
+        some = omega arith;
+        long = length-set to i (getD from i z) ∙ g .long;
+        so-far =
+            rw add-one
+            (ap (λ (l : List A). set l i (getD from i z)) (g .so-far ∙ ap (λ (l : List A). take i from ++ l) (drop-cons before i z in-before))
+            ∙ set-at (take i from) (getD before i z) (drop (suc i) before) (getD from i z) i front
+            ∙ sym (append-snoc (take i from) (getD from i z) (drop (suc i) before))
+            ∙ ap (λ (l : List A). l ++ drop (suc i) before) (sym (take-suc from i z in-from)));
+      }
+
+  pub copied : n ≤ i → to ≡ over (take n from) before
+  copied h =
+      let e : i ≡ n = omega (arith, g .some) in
+      let front : length (take n from) ≡ n = length-take-le n from (omega (arith, g .copies .some, g .copies .whole)) in
+      g .so-far ∙ ap (λ (k : ℕ). take k from ++ drop k before) e ∙ ap (λ (k : ℕ). take n from ++ drop k before) (sym front)
 
 -- ---- before the first line
 
@@ -57,10 +96,6 @@ nothing-held x =
 
 -- ---- at the end
 
-refused-read : {f : FrameRead} {l : LinesRead} {a : Arrays} → ReadAs f l a → (r : Refusal) (n : ℕ) → l ≡ LinesRead.Refused r n → f ≡ refused-at r n
-refused-read (refused-as q k) r n e = cc
-refused-read (held-as f p g) r n e = absurd (let z : _≡_ {A = ℕ} 0 1 = cc in omega arith)
-
 -- a frame that is accepted, and held
 pub record Accepting (f : FrameRead) (p : Progress) (a : Arrays) : Type 0 where
   pub frame : Frame
@@ -69,12 +104,12 @@ pub record Accepting (f : FrameRead) (p : Progress) (a : Arrays) : Type 0 where
 
 pub whole-read : {f : FrameRead} {l : LinesRead} {a : Arrays} → ReadAs f l a → (p : Progress) → l ≡ LinesRead.Whole p → Accepting f p a
 whole-read (refused-as q k) p e = absurd (let z : _≡_ {A = ℕ} 0 1 = cc in omega arith)
-whole-read {a = a} (held-as f q g) p e = let d : q ≡ p = cc in record { frame = f; is = refl; holds = subst (λ (x : Progress). FrameHeld (partsOf f) (state x a)) d g }
+whole-read {a = a} (held-as f q g) p e = let d : p ≡ q = cc in record { frame = f; is = refl; holds = rw d g }
 
 -- a refusal leaves the buffers as they were
-pub text-refused : {f : FrameRead} {l : LinesRead} {a : Arrays} → ReadAs f l a → (r : Refusal) (n : ℕ) → l ≡ LinesRead.Refused r n → (xs ys pitches : List Float) (sheet passes : List ℕ)
-    → frameOut (FrameAnswer.Refused r n) xs ys pitches sheet passes ≡ leaves f (buffers xs ys pitches sheet passes)
-text-refused w r n e xs ys pitches sheet passes = rw (refused-read w r n e)
+pub text-refused : {f : FrameRead} {l : LinesRead} {a : Arrays} → ReadAs f l a → (r : Refusal) (n : ℕ) → l ≡ LinesRead.Refused r n → (b : Buffers) → record { answer = FrameAnswer.Refused r n; buffers = b } ≡ leaves f b
+text-refused (refused-as q k) r n e b = let i : r ≡ q = cc in let j : n ≡ k = cc in rw (i, j)
+text-refused (held-as f p g) r n e b = absurd (let z : _≡_ {A = ℕ} 0 1 = cc in omega arith)
 
 -- the front of an array that is copied, and what a buffer has after it
 copies : {A : Type 0} {size n : ℕ} {entries these to : List A} → Holds size n entries these → size ≤ length to → Copies size n entries to
@@ -143,3 +178,21 @@ module _ (text : List ℕ) (b : Buffers) where
   pub call-read : tooShort b ≡ false → length text ≤ byteLimit → leaves (readLines 1 0 [] (linesOf text)) b ≡ readInto text b
   unfolding readInto readFrame
   call-read e h = rw (e, le-ltb byteLimit (length text) h)
+
+read-said : (r : FrameRead) (b : Buffers) → frameSaid (leaves r b .answer) ≡ readDue r
+unfolding settingsOf headValues frameSaid lineValues readDue
+read-said (refused-at r line) b = refl
+read-said (accepted f) b = refl
+
+unless-said : (short : Bool) (text : List ℕ) (b : Buffers) → frameSaid (unlessShort short text b .answer) ≡ cond short (number-and-line 7 0) (readDue (readFrame text))
+unfolding frameSaid
+unless-said true text b = refl
+unless-said false text b = read-said (readFrame text) b
+
+frame-said : (text : List ℕ) (b : Buffers) (out : FrameOut) → out ≡ readInto text b → frameSaid (out .answer) ≡ frameDue text b
+unfolding readInto frameDue
+frame-said text b out e = ap (λ (w : FrameOut). frameSaid (w .answer)) e ∙ unless-said (tooShort b) text b
+
+-- both promises of `read_frame` at once
+pub promised : (text : List ℕ) (b : Buffers) {out : FrameOut} → out ≡ readInto text b → (out ≡ readInto text b) × (frameSaid (out .answer) ≡ frameDue text b)
+promised text b e = (e, frame-said text b _ e)

@@ -26,8 +26,7 @@ use Rattle.frame.specs.Frame.{Frame, Parts, added, partsFrom, no-parts, 
 use Rattle.frame.specs.Reading.{FrameHeld, Room, Went, went, heldBy, heldStep, ReadAs, refused-as, held-as}
 use Rattle.frame.specs.declared.Stepped.{Stepped}
 use Rattle.frame.specs.declared.LinesRead.{LinesRead}
-use Rattle.frame.proofs.Agree.{checks-agree}
-use Rattle.frame.proofs.Adding.{line-held}
+use Rattle.frame.proofs.Adding.{checks-agree, line-held}
 
 -- ---- the parts with one line more
 
@@ -42,10 +41,18 @@ parts-more f l = from-more no-parts f l
 
 -- ---- one line
 
+record WentOn (step : Step) (p : Progress) (a : Arrays) : Type 0 where
+  frame : Frame
+  step-is : step ≡ onward (p .stage) frame
+  holds : FrameHeld (partsOf frame) (state p a)
+
 -- where a line leads, in the definition and in the code
-data SteppedAs : Step → Went → Type 0 where
-  stopped-as : (r : Refusal) (a : Arrays) → SteppedAs (stopped r) (went (Stepped.Stopped r) a)
-  onward-as : (f : Frame) (p : Progress) (a : Arrays) → FrameHeld (partsOf f) (state p a) → SteppedAs (onward (p .stage) f) (went (Stepped.Onward p) a)
+abbrev SteppedAs : Step → Stepped → Arrays → Type 0
+SteppedAs step (Stepped.Stopped r) a = step ≡ stopped r
+SteppedAs step (Stepped.Onward p) a = WentOn step p a
+
+abbrev LedAs : Step → Went → Type 0
+LedAs step w = SteppedAs step (w .answer) (w .held)
 
 -- the stage is not held
 restaged : (f : Parts) (s : State) (stage : ℕ) → FrameHeld f s → FrameHeld f (state (atStage (s .progress) stage) (s .held))
@@ -53,52 +60,29 @@ restaged f s stage g = record { settings-are = g .settings-are; corners = g .cor
 
 module _ (f : Frame) (s : State) (g : FrameHeld (partsOf f) s) (text : List ℕ) where
   abbrev Agreed : LineRead → Type 0
-  Agreed r = SteppedAs (stepWith (s .progress .stage) f r) (heldStep (heldRead r) s)
-
-  ill-agrees : Agreed ill-formed
-  unfolding heldStep heldRead
-  ill-agrees =
-      subst (λ (u : Turn). SteppedAs (stopped Refusal.Malformed) (heldBy u (checkedHeld (s .progress .corners) (s .progress .passes) (s .held .sheet) (s .held .used) (heldRead ill-formed)) (adds (heldRead ill-formed) s) (s .held)))
-      (no-row (s .progress .stage) rowCount (omega arith)) (stopped-as Refusal.Malformed (s .held))
+  Agreed r = LedAs (stepWith (s .progress .stage) f r) (heldStep (heldRead r) s)
 
   line-agrees : (l : Line) → readLine text ≡ line l → Agreed (line l)
   unfolding heldStep heldRead
   line-agrees l e =
-      subst (λ (c : Checked). SteppedAs (stepBy (turnAt (s .progress .stage) (l .row)) (checkedLine (partsOf f) l) (f ++ (l ∷ []))) (heldBy (turnAt (s .progress .stage) (l .row)) c (adds (heldLine l) s) (s .held)))
+      subst (λ (c : Checked). LedAs (stepBy (turnAt (s .progress .stage) (l .row)) (checkedLine (partsOf f) l) (f ++ (l ∷ []))) (heldBy (turnAt (s .progress .stage) (l .row)) c (adds (heldLine l) s) (s .held)))
       (sym (checks-agree (partsOf f) (s .progress .corners) (s .held .sheet) (s .held .used) (g .labels) (g .corners .xs-held .some) (g .corners .count) (s .progress .passes) l (line-prints-back text l e .proper) (g .passes .count)))
       (go (turnAt (s .progress .stage) (l .row)) (checkedLine (partsOf f) l) refl)
     where
-      go : (u : Turn) (c : Checked) → checkedLine (partsOf f) l ≡ c → SteppedAs (stepBy u c (f ++ (l ∷ []))) (heldBy u c (adds (heldLine l) s) (s .held))
-      go Turn.No c h = stopped-as Refusal.Malformed (s .held)
-      go (Turn.To to) (Checked.Refused r) h = stopped-as r (s .held)
+      go : (u : Turn) (c : Checked) → checkedLine (partsOf f) l ≡ c → LedAs (stepBy u c (f ++ (l ∷ []))) (heldBy u c (adds (heldLine l) s) (s .held))
+      go Turn.No c h = refl
+      go (Turn.To to) (Checked.Refused r) h = refl
       go (Turn.To to) Checked.Fine h =
-          onward-as (f ++ (l ∷ [])) (atStage (adds (heldLine l) s .progress) to) (adds (heldLine l) s .held)
-          (restaged (partsOf (f ++ (l ∷ []))) (adds (heldLine l) s) to
-          (subst (λ (x : Parts). FrameHeld x (adds (heldLine l) s)) (sym (parts-more f l)) (line-held (partsOf f) s g l (line-prints-back text l e .proper) h)))
+          let held = line-held (partsOf f) s g l (line-prints-back text l e .proper) h in
+          record { frame = f ++ (l ∷ []); step-is = refl; holds = rw parts-more (restaged (added (partsOf f) l) (adds (heldLine l) s) to held) }
 
-  steps-agree : SteppedAs (stepLine (s .progress .stage) f text) (heldStep (heldRead (readLine text)) s)
-  unfolding stepLine
+  steps-agree : LedAs (stepLine (s .progress .stage) f text) (heldStep (heldRead (readLine text)) s)
+  unfolding stepLine heldStep heldRead
   steps-agree = go (readLine text) refl
     where
       go : (r : LineRead) → readLine text ≡ r → Agreed r
-      go ill-formed e = ill-agrees
+      go ill-formed e = rw (← no-row (s .progress .stage) rowCount (omega arith)) refl
       go (line l) e = line-agrees l e
-
--- a step that stopped; one that went on
-where-stopped : {step : Step} {w : Went} → SteppedAs step w → (r : Refusal) → w .answer ≡ Stepped.Stopped r → step ≡ stopped r
-where-stopped (stopped-as q a) r e = let d : q ≡ r = cc in ap stopped d
-where-stopped (onward-as f p a g) r e = absurd (let z : _≡_ {A = ℕ} 0 1 = cc in omega arith)
-
-record WentOn (step : Step) (p : Progress) (a : Arrays) : Type 0 where
-  frame : Frame
-  step-is : step ≡ onward (p .stage) frame
-  holds : FrameHeld (partsOf frame) (state p a)
-
-where-onward : {step : Step} {w : Went} → SteppedAs step w → (p : Progress) → w .answer ≡ Stepped.Onward p → WentOn step p (w .held)
-where-onward (stopped-as q a) p e = absurd (let z : _≡_ {A = ℕ} 0 1 = cc in omega arith)
-where-onward (onward-as f q a g) p e =
-    let d : q ≡ p = cc in
-    record { frame = f; step-is = ap (λ (x : Progress). onward (x .stage) f) d; holds = subst (λ (x : Progress). FrameHeld (partsOf f) (state x a)) d g }
 
 -- ---- the code's step, from its parts
 
@@ -156,17 +140,20 @@ module _ {text : List ℕ} {p : Progress} {n at : ℕ} {a : Arrays} (g : Turning
     one-line = ap (readLines n (p .stage) (g .frame)) (lines-from text at end h e)
 
     module _ (r : Stepped) (b : Arrays) (w : went r b ≡ heldStep (heldRead (readLine (take (end - at) (drop at text)))) (state p a)) where
-      stepped : SteppedAs (stepLine (p .stage) (g .frame) (take (end - at) (drop at text))) (went r b)
-      stepped = subst (SteppedAs (stepLine (p .stage) (g .frame) (take (end - at) (drop at text)))) (sym w) (steps-agree (g .frame) (state p a) (g .holds) (take (end - at) (drop at text)))
+      stepped : SteppedAs (stepLine (p .stage) (g .frame) (take (end - at) (drop at text))) r b
+      stepped = subst (LedAs (stepLine (p .stage) (g .frame) (take (end - at) (drop at text)))) (sym w) (steps-agree (g .frame) (state p a) (g .holds) (take (end - at) (drop at text)))
+
+      led : (x : Stepped) → r ≡ x → SteppedAs (stepLine (p .stage) (g .frame) (take (end - at) (drop at text))) x b
+      led x d = subst (λ (y : Stepped). SteppedAs (stepLine (p .stage) (g .frame) (take (end - at) (drop at text))) y b) d stepped
 
       pub turn-stopped : (q : Refusal) → r ≡ Stepped.Stopped q → ReadAs (readLines 1 0 [] (linesOf text)) (LinesRead.Refused q n) b
       unfolding behind
-      turn-stopped q d = subst (λ (x : FrameRead). ReadAs x (LinesRead.Refused q n) b) (sym (one-line ∙ ap behind (where-stopped stepped q d)) ∙ g .rest) (refused-as q n)
+      turn-stopped q d = subst (λ (x : FrameRead). ReadAs x (LinesRead.Refused q n) b) (sym (one-line ∙ ap behind (led (Stepped.Stopped q) d)) ∙ g .rest) (refused-as q n)
 
       pub turn-onward : (next : Progress) → r ≡ Stepped.Onward next → Turning text next (n + 1) end b
       unfolding behind
       turn-onward next d =
-          let on = where-onward stepped next d in
+          let on = led (Stepped.Onward next) d in
           record {
             inside = end-inside text at end h e;
             lines = omega (arith, g .lines, end-after text at end h e);

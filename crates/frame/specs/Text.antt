@@ -15,7 +15,7 @@ use Rattle.frame_line.specs.Checks.{outsideLine}
 use Rattle.frame_line.specs.declared.Turn.{Turn}
 use Rattle.frame_check.specs.Checks.{overLimit, twiceOf}
 use Rattle.frame_state.specs.State.{cornerLimit, passLimit}
-use Rattle.frame.specs.Frame.{Frame, partsOf, doubled, Step, stopped, onward, stepLine, FrameRead, refused-at, accepted, byteLimit, readFrame}
+use Rattle.frame.specs.Frame.{Frame, partsOf, doubled, onward, stepLine, refused-at, accepted, byteLimit, readFrame}
 
 -- ---- printed
 

@@ -21,7 +21,7 @@ use Rattle.line_form.specs.Lines.{linesOf}
 use Rattle.line_form.proofs.Every.{everyBelow, every-at}
 use Rattle.line_form.proofs.Ends.{isNone, endsOnce, printed-ends, first-line, joined, lines-joined}
 use Rattle.frame_line.specs.Table.{rows, rowCount, rowAt, formAt, turnAt, mayEnd}
-use Rattle.frame_line.specs.Lines.{Line, kindOf, Proper, lineText, LabelLine, labelLineOf, LineRead, line, readLine}
+use Rattle.frame_line.specs.Lines.{Line, kindOf, Proper, lineText, LabelLine, labelLineOf, LineRead}
 use Rattle.frame_line.specs.Checks.{outsideLine}
 use Rattle.frame_line.specs.declared.Kind.{Kind}
 use Rattle.frame_line.specs.declared.Turn.{Turn}
@@ -33,7 +33,7 @@ use Rattle.frame_check.proofs.Laws.{AllFine, fine-all, all-fine}
 use Rattle.frame_state.specs.State.{cornerLimit, passLimit}
 use Rattle.frame.specs.Frame.{Frame, Parts, adding, added, partsFrom, no-parts, partsOf, sameCell, clash, someOf, doubled, checkedLine, Step, onward, stepBy, stepWith, stepLine, FrameRead, refused-at, accepted, atEnd, going, readLines, byteLimit, readFrame}
 use Rattle.frame.specs.Text.{frameText, All, InOrder, ends, next, InRange, Sound, Apart, WithinLimits, FrameReadsBack, FramePrintsBack, LabelsSound, Passed, none-yet, one-more}
-use Rattle.frame.proofs.Agree.{same-cell, cell-same}
+use Rattle.frame.proofs.Adding.{same-cell, cell-same}
 use Rattle.frame.proofs.Turn.{parts-more}
 use Rattle.frame_laws.proofs.Parts.{all-then, all-map, AllParts, parts-all, all-given}
 use Rattle.frame_laws.proofs.Refusals.{Stepping, stops, goes, stepping, Ending, all-read, one-fails, one-missing, ending}

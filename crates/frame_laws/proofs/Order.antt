@@ -6,7 +6,7 @@ use Prim.Native.Nat.{ℕ, suc, _<_, _≤_}
 use native.Mathlib.Omega.{arith}
 use borrow.Author.Tests.{eqb-true, lt-ltb, le-ltb, ltb-true, ltb-false, leb-true, leb-false, not-true}
 use lib.Dec.{eqb, ltb, leb}
-use lib.ListN.{getD, take, drop, length-take, List·getD-eq-default}
+use lib.ListN.{take, drop, length-take, List·getD-eq-default}
 use Rattle.labels.specs.Labelled.{anyBelow}
 use Rattle.labels.proofs.Below.{any-hit}
 use Rattle.line_form.proofs.Every.{first-true, second-true, everyBelow, every-at}

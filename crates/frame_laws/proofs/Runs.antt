@@ -1,6 +1,6 @@
 -- An accepted frame starts what demand 3 speaks of: its corners and the sheet of its given labels belong together, and each of its passes has
 -- its numbers in range, so that none is refused, after whatever list of calls. Assumes nothing.
-use mathlib.Core.Path.{_≡_, refl, sym, ap, _∙_, subst}
+use mathlib.Core.Path.{_≡_, refl, sym, ap, subst}
 use mathlib.Core.Bool.{Bool, true, false}
 use mathlib.Core.List.{List, [], _∷_, map}
 use Prim.Native.Nat.{ℕ, zero, suc, _<_, _≤_}
@@ -19,8 +19,8 @@ use Rattle.arguments.specs.declared.Pass.{Pass}
 use Rattle.arguments.specs.Accepted.{CornerInside, SettingsInside, PassInside}
 use Rattle.passes.specs.Outcome.{After, Outcome, done}
 use Rattle.passes.specs.Step.{CornerLists}
-use Rattle.passes.specs.Run.{Call, PassStats, step, sheetAfter, run, sheetOf as sheetLeft}
-use Rattle.invariants.specs.Calls.{Standing, CallInside, Accepts, passOf as passChecked}
+use Rattle.passes.specs.Run.{Call, PassStats, step, sheetAfter, run}
+use Rattle.invariants.specs.Calls.{Standing, CallInside, passOf as passChecked}
 use Rattle.invariants.proofs.Run.{standing-step, fit-accepts, never-refused, invariants}
 use Rattle.frame_line.specs.Table.{kindAt, turnAt}
 use Rattle.frame_line.specs.Lines.{Line, kindOf, PassLine, bare-grow, grow, bare-fill, fill, local}
@@ -31,7 +31,7 @@ use Rattle.frame_line.proofs.Said.{AxesTame, PassTame, cell-said, axes-said, ba
 use Rattle.frame_state.specs.State.{cornerLimit}
 use Rattle.frame.specs.Frame.{Frame, Opening, Parts, opened, adding, added, partsFrom, no-parts, partsOf}
 use Rattle.frame.specs.Text.{All, InOrder, ends, next, InRange, WithinLimits}
-use Rattle.frame.specs.ReadFrame.{floatOf, xsOf, ysOf, pitchesOf, sheetOf, settingsIn, settingsOf, fullOf, passOf}
+use Rattle.frame.specs.ReadFrame.{floatOf, xsOf, ysOf, pitchesOf, sheetOf, settingsOf, fullOf, passOf}
 use Rattle.frame_laws.specs.Calls.{cornersOf, frameRooms, passCall, callOf, callsOf, NoneRefused, Starts, AcceptedRuns}
 use Rattle.frame_laws.proofs.Order.{comes, later-opens, ends-late}
 use Rattle.frame_laws.proofs.Parts.{all-map, kept}

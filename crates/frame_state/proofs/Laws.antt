@@ -1,6 +1,5 @@
 -- A line that can be added: what its checks say of it, kind by kind, and the state after it. Assumes nothing.
 use mathlib.Core.Path.{_≡_, refl, sym, ap, _∙_}
-use mathlib.Core.Bool.{false}
 use mathlib.Core.List.{List}
 use Prim.Native.Nat.{ℕ, _<_}
 use native.Mathlib.Omega.{arith}
@@ -9,6 +8,7 @@ use lib.ListN.{getD}
 use lib.Ieee.{Float}
 use Rattle.binary32.specs.declared.ranges.Quantity.{Quantity}
 use Rattle.arguments.specs.declared.Settings.{Settings}
+use Rattle.binary32.proofs.Answered.{pattern}
 use Rattle.frame_line.specs.Table.{rows, rowAt, kindAt, sortOf, sortAt}
 use Rattle.frame_line.specs.Held.{labelIn, outsideHeld}
 use Rattle.frame_line.specs.declared.Kind.{Kind}
@@ -21,8 +21,9 @@ use Rattle.frame_line.proofs.Checking.{tame-finite}
 use Rattle.frame_line.proofs.Words.{word-tame}
 use Rattle.frame_check.specs.Checks.{overLimit, twiceHeld, checkedHeld}
 use Rattle.frame_check.proofs.Laws.{AllFine, fine-all, label-fits}
-use Rattle.frame_state.specs.State.{cornerLimit, passLimit, Tame, TameAxes, TameOpening, withOpening, withSettings, withCorner, withPass, CornerFits, CornerPut, LabelRoom, LabelPut, wordsIn, wordsPut, Arrays, arrays, state, Addable, addsAs, adds}
+use Rattle.frame_state.specs.State.{cornerLimit, passLimit, Tame, TameOpening, withOpening, withSettings, withCorner, withPass, CornerFits, CornerPut, LabelRoom, LabelPut, wordsIn, wordsPut, Arrays, arrays, state, Addable, addsAs, adds}
 use Rattle.frame_state.specs.declared.Progress.{Progress}
+use Rattle.frame_state.specs.declared.PassWords.{PassWords}
 
 -- ---- what the checks say
 
@@ -31,14 +32,11 @@ module _ {p : Progress} {a : Arrays} {line : HeldLine} (f : Addable p a line) wh
   unfolding checkedHeld
   fine = fine-all (λ r. outsideHeld r (p .corners) line) _ _ (f .fine)
 
-  -- a float of a line is finite
+  -- a float of a line is no NaN
   tame-at : (kind : Kind) → kindAt (line .row) ≡ kind → (m : ℕ) (q : Quantity) → m < 5 → sortAt (rowOf kind) m ≡ Sort.Float q → Tame (getD (line .values) m 0)
   tame-at kind e m q h s =
-      record {
-        finite =
-            tame-finite q (getD (line .values) m 0)
-            (word-tame (p .corners) line (fine .ranges) m h q (ap (λ (k : ℕ). sortAt k m) (row-of (line .row) kind (f .fits .row-fits) e) ∙ s));
-      }
+      let is = ap (λ (k : ℕ). sortAt k m) (row-of (line .row) kind (f .fits .row-fits) e) ∙ s in
+      record { no-nan = pattern (getD (line .values) m 0) (omega (arith, tame-finite q (getD (line .values) m 0) (word-tame (p .corners) line (fine .ranges) m h q is))) }
 
   pub opening-fits : (o : OpeningKind) → kindAt (line .row) ≡ Kind.Opening o → TameOpening o (line .values)
   unfolding sortAt sortOf rowAt rows
@@ -88,7 +86,7 @@ module _ (p : Progress) (a : Arrays) (line : HeldLine) where
   unfolding addsAs
   added-label e sheet used w = rw (e, w .sheet-is, w .used-is)
 
-  pub added-pass : (k : PassKind) → kindAt (line .row) ≡ Kind.Pass k → (r : Progress) → r ≡ withPass p → (passes : List ℕ)
-      → passes ≡ wordsPut (p .passes) (wordsIn k (line .values)) (a .passes) → state r (arrays (a .xs) (a .ys) (a .pitches) (a .sheet) (a .used) passes) ≡ adds line (state p a)
+  pub added-pass : (k : PassKind) → kindAt (line .row) ≡ Kind.Pass k → (r : Progress) → r ≡ withPass p → (words : PassWords) → words ≡ wordsIn k (line .values) → (passes : List ℕ)
+      → passes ≡ wordsPut (p .passes) words (a .passes) → state r (arrays (a .xs) (a .ys) (a .pitches) (a .sheet) (a .used) passes) ≡ adds line (state p a)
   unfolding addsAs
-  added-pass k e r g passes w = rw (e, g, w)
+  added-pass k e r g words h passes w = rw (e, g, w, h)

@@ -1,10 +1,12 @@
 -- What a frame's lines have said so far as the code holds it, and one line added to it. Definitions only; crate frame shows that it is what
 -- the definition of a frame says.
 use mathlib.Core.Path.{_≡_}
+use mathlib.Core.Bool.{not}
 use mathlib.Core.List.{List, [], _∷_}
-use Prim.Native.Nat.{ℕ, _+_, _*_, _%_, _<_, _≤_}
+use Prim.Native.Nat.{ℕ, _+_, _*_, _<_}
+use lib.Dec.{T}
 use lib.ListN.{length, getD, set}
-use lib.Ieee.{Float, binary32, ofBits}
+use lib.Ieee.{Float, binary32, ofBits, nanBits}
 use Rattle.sheet.specs.Words.{attached}
 use Rattle.predict.specs.declared.Grid.{Grid}
 use Rattle.predict.specs.declared.Vector.{Vector}
@@ -43,10 +45,10 @@ passWords = 6
 abbrev pub wordLimit : ℕ
 wordLimit = passLimit * passWords
 
--- ---- numbers that are finite
+-- ---- numbers that a float holds
 
 pub record Tame (b : ℕ) : Type 0 where
-  pub finite : b % 0x8000_0000 < 0x7f80_0000
+  pub no-nan : T (not (nanBits binary32 b))
 
 pub record TameAxes (v : List ℕ) : Type 0 where
   pub ix : Tame (getD v 0 0)
@@ -100,14 +102,14 @@ withAxes s v =
 abbrev pub withBand : Settings → ℕ → Settings
 withBand s b = record { grid = s .grid; «edge_length_tol» = floatOf b }
 
--- a line of the opening: its floats are finite; what it says
+-- a line of the opening: its floats are no NaN; what it says
 abbrev pub TameOpening : OpeningKind → List ℕ → Type 0
 TameOpening OpeningKind.Frame v = Unit {0}
 TameOpening OpeningKind.CellSize v = Tame (getD v 0 0)
 TameOpening OpeningKind.Axes v = TameAxes v
 TameOpening OpeningKind.Band v = Tame (getD v 0 0)
 
-unfoldable pub withOpening : OpeningKind → Settings → List ℕ → Settings
+abbrev pub withOpening : OpeningKind → Settings → List ℕ → Settings
 withOpening OpeningKind.Frame s v = s
 withOpening OpeningKind.CellSize s v = withCellSize s (getD v 0 0)
 withOpening OpeningKind.Axes s v = withAxes s v
@@ -157,7 +159,7 @@ abbrev pub localWords : List ℕ → PassWords
 localWords v = record { kind = 2; search = getD v 0 0; factor = getD v 1 0; reach = getD v 3 0; rounds = countIn (getD v 2 0); depth = countIn (getD v 4 0) }
 
 -- "Bare `(grow)` means 0.35 1.5 2.0; bare `(fill)` means 0.35 1.5 1", an integer 1,000,000 higher
-unfoldable pub wordsIn : PassKind → List ℕ → PassWords
+abbrev pub wordsIn : PassKind → List ℕ → PassWords
 wordsIn PassKind.BareGrow v = growWords (0x3eb3_3333 ∷ 0x3fc0_0000 ∷ 0x4000_0000 ∷ 0 ∷ 0 ∷ [])
 wordsIn PassKind.Grow v = growWords v
 wordsIn PassKind.BareFill v = fillWords (0x3eb3_3333 ∷ 0x3fc0_0000 ∷ 1000001 ∷ 0 ∷ 0 ∷ [])
@@ -165,7 +167,7 @@ wordsIn PassKind.Fill v = fillWords v
 wordsIn PassKind.Local v = localWords v
 
 -- the words of the m-th pass
-unfoldable pub wordsPut : ℕ → PassWords → List ℕ → List ℕ
+abbrev pub wordsPut : ℕ → PassWords → List ℕ → List ℕ
 wordsPut m w l =
     let at = passWords * m in
     set (set (set (set (set (set l at (w .kind)) (at + 1) (w .search)) (at + 2) (w .factor)) (at + 3) (w .reach)) (at + 4) (w .rounds)) (at + 5) (w .depth)

@@ -2,7 +2,6 @@
 
 ghost use mathlib.Core.Path.{_≡_};
 ghost use Prim.Native.Nat.{_<_};
-ghost use lib.Ieee.{binary32, ofBits};
 ghost use Rattle.frame_state.specs.State.{cornerLimit, passLimit, Tame, TameAxes, nothing-said, atStage, withCellSize, withAxes, withBand, TameOpening, withOpening, withSettings, withCorner, withPass, CornerFits, CornerPut, LabelRoom, LabelPut, growWords, fillWords, localWords, wordsIn, wordsPut, arrays, state, Addable, adds};
 use arguments::Settings;
 use frame_line::HeldLabel;
@@ -41,14 +40,6 @@ pub struct PassWords {
     pub reach: u32,
     pub rounds: u32,
     pub depth: u32,
-}
-
-// The float of a finite pattern.
-fn float_of(bits: u32) -> f32
-    requires { ⌜ Tame bits ⌝ }
-    ensures { λ r. ⌜ r ≡ ofBits binary32 bits ⌝ }
-{
-    f32::from_bits(bits)
 }
 
 // Nothing said.
@@ -97,7 +88,7 @@ fn with_cell_size(s: Settings, bits: u32) -> Settings
     let grid = Grid {
         axis_i,
         axis_j,
-        cell_size: float_of(bits),
+        cell_size: f32::from_bits(bits),
     };
     Settings {
         grid,
@@ -112,12 +103,12 @@ fn with_axes(s: Settings, v: [u32; 5]) -> Settings
 {
     let before = s.grid;
     let axis_i = Vector {
-        x: float_of(v[0]),
-        y: float_of(v[1]),
+        x: f32::from_bits(v[0]),
+        y: f32::from_bits(v[1]),
     };
     let axis_j = Vector {
-        x: float_of(v[2]),
-        y: float_of(v[3]),
+        x: f32::from_bits(v[2]),
+        y: f32::from_bits(v[3]),
     };
     let grid = Grid {
         axis_i,
@@ -138,7 +129,7 @@ fn with_band(s: Settings, bits: u32) -> Settings
     let grid = s.grid;
     Settings {
         grid,
-        edge_length_tol: float_of(bits),
+        edge_length_tol: f32::from_bits(bits),
     }
 }
 
@@ -206,9 +197,9 @@ fn put_corner(
     requires { ⌜ CornerFits n v ⌝ }
     ensures { λ _. ⌜ CornerPut n v (now (xs .entry)) (now (ys .entry)) (now (pitches .entry)) (now (xs .exit)) (now (ys .exit)) (now (pitches .exit)) ⌝ }
 {
-    xs[n] = float_of(v[0]);
-    ys[n] = float_of(v[1]);
-    pitches[n] = float_of(v[2]);
+    xs[n] = f32::from_bits(v[0]);
+    ys[n] = f32::from_bits(v[1]);
+    pitches[n] = f32::from_bits(v[2]);
 }
 
 // A label is written: its corner to the sheet, and that the corner is used.
@@ -279,11 +270,10 @@ fn words_of(kind: PassKind, v: [u32; 5]) -> PassWords
 }
 
 // The words of the pass m are written.
-fn put_pass(passes: &mut [u32; WORDS], m: usize, kind: PassKind, v: [u32; 5])
+fn put_pass(passes: &mut [u32; WORDS], m: usize, words: PassWords)
     requires { ⌜ m < passLimit ⌝ }
-    ensures { λ _. ⌜ now (passes .exit) ≡ wordsPut m (wordsIn kind v) (now (passes .entry)) ⌝ }
+    ensures { λ _. ⌜ now (passes .exit) ≡ wordsPut m words (now (passes .entry)) ⌝ }
 {
-    let words = words_of(kind, v);
     let at = PASS_WORDS * m;
     passes[at] = words.kind;
     passes[at + 1] = words.search;
@@ -323,7 +313,7 @@ pub fn add_line(
             p
         }
         Kind::Pass(pass) => {
-            put_pass(passes, p.passes, pass, v);
+            put_pass(passes, p.passes, words_of(pass, v));
             with_pass(p)
         }
     }

@@ -2,7 +2,7 @@
 use Prim.Native.Nat.{_-_}
 use native.Mathlib.Omega.{arith}
 use Rattle.frame_state.specs.State.{cornerLimit}
-use Rattle.frame.proofs.Copying.{Copying, copying-start, copy-reads, copy-writes, copying-more, copied}
+use Rattle.frame.proofs.Leaving.{Copying, copying-start, copying-more, copied}
 use Rattle.frame.proofs.copy_floats.Statement.{statement}
 use Rattle.frame.proofs.copy_floats.Tie as tie
 

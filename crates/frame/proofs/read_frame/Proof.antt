@@ -1,7 +1,6 @@
 -- `frame::read_frame` meets its contract: 7 first, then the length of the text, then its lines. Assumes nothing.
 use mathlib.Core.Path.{sym, _∙_}
-use Rattle.frame.proofs.Leaving.{long-enough, call-short, call-long, call-read}
-use Rattle.frame.proofs.Said.{promised}
+use Rattle.frame.proofs.Leaving.{long-enough, call-short, call-long, call-read, promised}
 use borrow.Author.Needs.{needs}
 use Rattle.frame.proofs.read_frame.Statement.{statement}
 use Rattle.frame.proofs.read_frame.Tie as tie

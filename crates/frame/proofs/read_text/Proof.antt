@@ -27,7 +27,7 @@ copy-words-requires : tie.Need-copy-words-requires
 copy-words-requires c κs = passes-copied (whole-read (c .before .before .before .before .before .before .before .before .before .before .before .before .before .before .before .before .before .before .before .before .before .before .before .before .before .before .read-lines .ensures) _ (c .before .before .before .before .before .before .before .before .before .before .before .before .before .before .before .before .before .before .before .before .before .before .before .before .read2 .given .1)) (c .before .before .before .before .before .before .before .before .before .before .before .before .before .before .before .before .before .before .before .before .before .before .before .before .before .before .before .before .before .before .before .before .before .before .before .before .before .before .before .pre)
 
 returns : tie.Need-returns
-returns c = text-refused (c .before .before .before .read-lines .ensures) _ _ (c .before .read .given .1) _ _ _ _ _
+returns c = text-refused (c .before .before .before .read-lines .ensures) _ _ (c .before .read .given .1) _
 
 returns-2 : tie.Need-returns-2
 returns-2 c = text-accepted (whole-read (c .before .before .before .before .before .before .before .before .before .before .before .before .before .before .before .before .before .before .before .before .before .before .before .before .before .before .before .before .before .before .read-lines .ensures) _ (c .before .before .before .before .before .before .before .before .before .before .before .before .before .before .before .before .before .before .before .before .before .before .before .before .before .before .before .before .read2 .given .1)) (c .before .before .before .before .before .before .before .before .before .before .before .before .before .before .before .before .before .before .before .before .before .before .before .before .before .before .before .before .before .before .before .before .before .before .before .before .before .before .before .before .before .before .before .pre) _ _ _ _ _ (c .before .before .before .before .before .before .before .before .before .before .before .before .before .before .before .before .before .before .before .before .before .before .before .before .copy-floats .ensures) (c .before .before .before .before .before .before .before .before .before .before .before .before .before .before .before .before .before .before .before .copy-floats2 .ensures) (c .before .before .before .before .before .before .before .before .before .before .before .before .before .before .copy-floats3 .ensures) (c .before .before .before .before .before .before .before .before .before .copy-sheet .ensures) (c .before .before .before .copy-words .ensures)

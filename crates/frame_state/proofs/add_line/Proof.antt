@@ -18,10 +18,10 @@ put-label-requires : tie.Need-put-label-requires
 put-label-requires c κs = rw (c .label-of .ensures) (label-room (c .before .before .before .before .before .before .before .pre) (sym (c .before .before .before .before .before .before .kind-of .ensures) ∙ c .before .before .before .enum-told2 .given .1))
 
 put-pass-requires : tie.Need-put-pass-requires
-put-pass-requires c κs = pass-fits (c .before .before .before .before .before .before .pre) _ (sym (c .before .before .before .before .before .kind-of .ensures) ∙ c .before .before .kind2 .given .1)
+put-pass-requires c κs = pass-fits (c .before .before .before .before .before .before .before .pre) _ (sym (c .before .before .before .before .before .before .kind-of .ensures) ∙ c .before .before .before .kind2 .given .1)
 
 with-pass-requires : tie.Need-with-pass-requires
-with-pass-requires c κs = pass-fits (c .before .before .before .before .before .before .before .pre) _ (sym (c .before .before .before .before .before .before .kind-of .ensures) ∙ c .before .before .before .kind2 .given .1)
+with-pass-requires c κs = pass-fits (c .before .before .before .before .before .before .before .before .pre) _ (sym (c .before .before .before .before .before .before .before .kind-of .ensures) ∙ c .before .before .before .before .kind2 .given .1)
 
 returns : tie.Need-returns
 returns c = added-opening _ _ _ _ (sym (c .before .before .before .before .before .before .before .kind-of .ensures) ∙ c .before .before .before .before .kind .given .1) _ _ (c .before .with-opening .ensures) (c .with-settings .ensures)
@@ -33,7 +33,7 @@ returns-3 : tie.Need-returns-3
 returns-3 c = added-label _ _ _ (sym (c .before .before .before .before .before .before .before .kind-of .ensures) ∙ c .before .before .before .before .enum-told2 .given .1) _ _ (rw (← c .before .label-of .ensures) (c .put-label .ensures))
 
 returns-4 : tie.Need-returns-4
-returns-4 c = added-pass _ _ _ _ (sym (c .before .before .before .before .before .before .before .kind-of .ensures) ∙ c .before .before .before .before .kind2 .given .1) _ (c .with-pass .ensures) _ (c .before .put-pass .ensures)
+returns-4 c = added-pass _ _ _ _ (sym (c .before .before .before .before .before .before .before .before .kind-of .ensures) ∙ c .before .before .before .before .before .kind2 .given .1) _ (c .with-pass .ensures) _ (c .before .before .words-of .ensures) _ (c .before .put-pass .ensures)
 
 pub add-line-spec : {M : Type 1} → statement M
 add-line-spec =
@@ -50,6 +50,7 @@ add-line-spec =
     (λ c κs. search needs)
     put-label-requires
     (λ c. search needs)
+    (λ c κs. search needs)
     put-pass-requires
     with-pass-requires
     returns

@@ -16,19 +16,15 @@ with-band-requires : tie.Need-with-band-requires
 with-band-requires c κs = subst (λ (k : OpeningKind). TameOpening k (c .before .before .args .t3)) (c .enum-told4 .given .1) (c .before .before .pre)
 
 returns : tie.Need-returns
-unfolding withOpening
 returns c = sym (ap (λ (k : OpeningKind). withOpening k (c .before .before .args .s) (c .before .before .args .t3)) (c .enum-told .given .1))
 
 returns-2 : tie.Need-returns-2
-unfolding withOpening
 returns-2 c = c .with-cell-size .ensures ∙ sym (ap (λ (k : OpeningKind). withOpening k (c .before .before .before .args .s) (c .before .before .before .args .t3)) (c .before .enum-told2 .given .1))
 
 returns-3 : tie.Need-returns-3
-unfolding withOpening
 returns-3 c = c .with-axes .ensures ∙ sym (ap (λ (k : OpeningKind). withOpening k (c .before .before .before .args .s) (c .before .before .before .args .t3)) (c .before .enum-told3 .given .1))
 
 returns-4 : tie.Need-returns-4
-unfolding withOpening
 returns-4 c = c .with-band .ensures ∙ sym (ap (λ (k : OpeningKind). withOpening k (c .before .before .before .args .s) (c .before .before .before .args .t3)) (c .before .enum-told4 .given .1))
 
 pub with-opening-spec : {M : Type 1} → statement M

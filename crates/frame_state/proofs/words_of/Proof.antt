@@ -7,23 +7,18 @@ use Rattle.frame_state.proofs.words_of.Statement.{statement}
 use Rattle.frame_state.proofs.words_of.Tie as tie
 
 returns : tie.Need-returns
-unfolding wordsIn
 returns c = c .grow-words .ensures ∙ sym (ap (λ (k : PassKind). wordsIn k (c .before .before .before .args .v)) (c .before .enum-told .given .1))
 
 returns-2 : tie.Need-returns-2
-unfolding wordsIn
 returns-2 c = c .grow-words2 .ensures ∙ sym (ap (λ (k : PassKind). wordsIn k (c .before .before .before .args .v)) (c .before .enum-told2 .given .1))
 
 returns-3 : tie.Need-returns-3
-unfolding wordsIn
 returns-3 c = c .fill-words .ensures ∙ sym (ap (λ (k : PassKind). wordsIn k (c .before .before .before .args .v)) (c .before .enum-told3 .given .1))
 
 returns-4 : tie.Need-returns-4
-unfolding wordsIn
 returns-4 c = c .fill-words2 .ensures ∙ sym (ap (λ (k : PassKind). wordsIn k (c .before .before .before .args .v)) (c .before .enum-told4 .given .1))
 
 returns-5 : tie.Need-returns-5
-unfolding wordsIn
 returns-5 c = c .local-words .ensures ∙ sym (ap (λ (k : PassKind). wordsIn k (c .before .before .before .args .v)) (c .before .enum-told5 .given .1))
 
 pub words-of-spec : {M : Type 1} → statement M
