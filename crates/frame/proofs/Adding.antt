@@ -1,13 +1,14 @@
 -- A line as the code checks it and adds it is checked and held as the definition says. Assumes nothing.
 use mathlib.Core.Path.{_≡_, refl, sym, ap, ap₂, _∙_, subst}
 use mathlib.Core.Bool.{Bool, true, false, _||_, not, or-true, or-false, or-assoc}
+use mathlib.Core.Logic.{_⊎_, inl, inr}
 use mathlib.Core.List.{List, [], _∷_, _++_, append-assoc, append-nil, map-append}
 use Prim.Native.Nat.{ℕ, _≤_, suc, _+_, _*_, _<_}
 use native.Mathlib.Omega.{arith}
-use borrow.Author.Tests.{ne-eqb, eq-eqb, eqb-true, eqb-false, leb-false}
+use borrow.Author.Tests.{ne-eqb, eq-eqb, eqb-true, eqb-false, leb-false, ltb-true, ltb-false}
 use lib.IntN.{natAbs, ℤ, pos}
 use lib.ListN.{length, getD, set, take, length-set, length-append}
-use lib.Dec.{eqb}
+use lib.Dec.{eqb, ltb}
 use lib.Seq.{getD-set-same, getD-set-other, take-suc-set}
 use lib.Ieee.{Float}
 use Rattle.sheet.specs.Cells.{eqZ, OnSheet, placeOf}
@@ -36,6 +37,13 @@ use Rattle.frame_state.specs.declared.PassWords.{PassWords}
 use Rattle.frame.specs.Frame.{Parts, sameCell, someOf, doubled, checkedLine, opened, adding, added}
 use Rattle.frame.specs.Reading.{cornerTaken, HoldsLabels, Holds, HoldsCorners, HoldsPasses, FrameHeld}
 use Rattle.frame.specs.ReadFrame.{floatOf, settingsIn, labelled, fullOf, wordsOf, allWords}
+
+pub below-or-not : (a b : ℕ) → (a < b) ⊎ (b ≤ a)
+below-or-not a b = go (ltb a b) refl
+  where
+    go : (t : Bool) → ltb a b ≡ t → (a < b) ⊎ (b ≤ a)
+    go true e = inl (ltb-true a b e)
+    go false e = inr (ltb-false a b e)
 
 pub same-truth : (a b : Bool) → (a ≡ true → b ≡ true) → (b ≡ true → a ≡ true) → a ≡ b
 same-truth true b f g = sym (f refl)

@@ -153,7 +153,6 @@ module _ {f : FrameRead} {p : Progress} {a : Arrays} {b : Buffers} (w : Acceptin
 
 module _ (text : List ℕ) (b : Buffers) where
   pub long-enough : tooShort b ≡ false → LongEnough b
-  unfolding tooShort
   long-enough e =
       let i = or-false-both (ltb (length (b .xs)) cornerLimit) _ e in
       let j = or-false-both (ltb (length (b .ys)) cornerLimit) _ (i .1) in

@@ -1,12 +1,11 @@
 -- A line as the code takes it leads where the definition says, and so do all lines, turn by turn. Assumes nothing.
 use mathlib.Core.Path.{_≡_, refl, sym, ap, subst, _∙_}
 use mathlib.Core.Bool.{Bool, true, false, cond}
+use mathlib.Core.Logic.{⊎-elim}
 use mathlib.Core.List.{List, [], _∷_, _++_}
 use Prim.Native.Nat.{ℕ, suc, _+_, _-_, _<_, _≤_}
 use native.Mathlib.Omega.{arith}
 use native.Mathlib.Numerals.{add-one}
-use borrow.Author.Tests.{leb-true, leb-false}
-use lib.Dec.{leb}
 use lib.ListN.{length, take, drop}
 use Rattle.refusal.specs.declared.Refusal.{Refusal}
 use Rattle.arguments.specs.declared.Checked.{Checked}
@@ -26,7 +25,7 @@ use Rattle.frame.specs.Frame.{Frame, Parts, added, partsFrom, no-parts, 
 use Rattle.frame.specs.Reading.{FrameHeld, Room, Went, went, heldBy, heldStep, ReadAs, refused-as, held-as}
 use Rattle.frame.specs.declared.Stepped.{Stepped}
 use Rattle.frame.specs.declared.LinesRead.{LinesRead}
-use Rattle.frame.proofs.Adding.{checks-agree, line-held}
+use Rattle.frame.proofs.Adding.{below-or-not, checks-agree, line-held}
 
 -- ---- the parts with one line more
 
@@ -88,11 +87,8 @@ module _ (f : Frame) (s : State) (g : FrameHeld (partsOf f) s) (text : List ℕ)
 
 -- a line that has a turn has a row
 pub step-row : (stage row to : ℕ) (turn : Turn) → turn ≡ turnAt stage row → turn ≡ Turn.To to → row < rowCount
-step-row stage row to turn t e = go (leb rowCount row) refl
-  where
-    go : (x : Bool) → leb rowCount row ≡ x → row < rowCount
-    go true h = let n = no-row stage row (leb-true rowCount row h) in absurd (let z : _≡_ {A = ℕ} 0 1 = cc in omega arith)
-    go false h = leb-false rowCount row h
+step-row stage row to turn t e =
+    ⊎-elim (λ h. h) (λ h. let n = no-row stage row h in absurd (let z : _≡_ {A = ℕ} 0 1 = cc in omega arith)) (below-or-not row rowCount)
 
 module _ (p : Progress) (a : Arrays) (found : HeldLine) (turn : Turn) (t : turn ≡ turnAt (p .stage) (found .row)) where
   pub step-no : turn ≡ Turn.No → went (Stepped.Stopped Refusal.Malformed) a ≡ heldStep found (state p a)

@@ -130,7 +130,7 @@ abbrev pub frameOut : FrameAnswer → List Float → List Float → List Float �
 frameOut r xs ys pitches sheet passes = record { answer = r; buffers = record { xs = xs; ys = ys; pitches = pitches; sheet = sheet; passes = passes } }
 
 -- 7: 1,024 places each for positions and pitches, 16,384 sheet places, 16 passes of six words
-unfoldable pub tooShort : Buffers → Bool
+abbrev pub tooShort : Buffers → Bool
 tooShort b =
     ltb (length (b .xs)) cornerLimit
     || (ltb (length (b .ys)) cornerLimit

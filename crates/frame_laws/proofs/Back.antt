@@ -3,11 +3,12 @@
 -- that 01 allows. Assumes nothing.
 use mathlib.Core.Path.{_≡_, refl, sym, ap, ap₂, _∙_, subst}
 use mathlib.Core.Bool.{Bool, true, false, cond}
+use mathlib.Core.Logic.{⊎-elim}
 use mathlib.Core.List.{List, [], _∷_, _++_, map, append-nil, append-assoc}
 use Prim.Native.Nat.{ℕ, suc, _<_, _≤_}
 use native.Mathlib.Omega.{arith}
-use borrow.Author.Tests.{ltb-false, le-ltb, leb-false, lt-leb}
-use lib.Dec.{ltb, leb}
+use borrow.Author.Tests.{lt-ltb, le-ltb, leb-false, lt-leb}
+use lib.Dec.{leb}
 use lib.IntN.{natAbs}
 use lib.ListN.{length, length-append}
 use Rattle.refusal.specs.declared.Refusal.{Refusal}
@@ -33,7 +34,7 @@ use Rattle.frame_check.proofs.Laws.{AllFine, fine-all, all-fine}
 use Rattle.frame_state.specs.State.{cornerLimit, passLimit}
 use Rattle.frame.specs.Frame.{Frame, Parts, adding, added, partsFrom, no-parts, partsOf, sameCell, clash, someOf, doubled, checkedLine, Step, onward, stepBy, stepWith, stepLine, FrameRead, refused-at, accepted, atEnd, going, readLines, byteLimit, readFrame}
 use Rattle.frame.specs.Text.{frameText, All, InOrder, ends, next, InRange, Sound, Apart, WithinLimits, FrameReadsBack, FramePrintsBack, LabelsSound, Passed, none-yet, one-more}
-use Rattle.frame.proofs.Adding.{same-cell, cell-same}
+use Rattle.frame.proofs.Adding.{below-or-not, same-cell, cell-same}
 use Rattle.frame.proofs.Turn.{parts-more}
 use Rattle.frame_laws.proofs.Parts.{all-then, all-map, AllParts, parts-all, all-given}
 use Rattle.frame_laws.proofs.Refusals.{Stepping, stops, goes, stepping, Ending, all-read, one-fails, one-missing, ending}
@@ -237,16 +238,15 @@ prints-back text f h r =
 
 pub frame-prints-back : (text : List ℕ) (f : Frame) → readFrame text ≡ accepted f → FramePrintsBack text f
 unfolding readFrame
-frame-prints-back text f e = go (ltb byteLimit (length text)) refl e
+frame-prints-back text f e = ⊎-elim (λ h. none (rw (lt-ltb byteLimit (length text) h) at e)) (λ h. back h (ending 1 0 [] (linesOf text)) (rw (le-ltb byteLimit (length text) h) at e)) (below-or-not byteLimit (length text))
   where
+    none : refused-at Refusal.OverLimit 0 ≡ accepted f → FramePrintsBack text f
+    none d = absurd (let z : _≡_ {A = ℕ} 0 1 = cc in omega arith)
+
     back : {o : FrameRead} → length text ≤ byteLimit → Ending 1 0 [] (linesOf text) o → o ≡ accepted f → FramePrintsBack text f
-    back h (all-read last g p k) d = let same : g ≡ f = cc in subst (FramePrintsBack text) same (prints-back text g h (read-passing p k))
+    back h (all-read last g p k) d = let same : f ≡ g = cc in rw same (prints-back text g h (read-passing p k))
     back h (one-fails k m last g r l a p w) d = absurd (let z : _≡_ {A = ℕ} 0 1 = cc in omega arith)
     back h (one-missing m last g a p k) d = absurd (let z : _≡_ {A = ℕ} 0 1 = cc in omega arith)
-
-    go : (x : Bool) → ltb byteLimit (length text) ≡ x → cond x (refused-at Refusal.OverLimit 0) (readLines 1 0 [] (linesOf text)) ≡ accepted f → FramePrintsBack text f
-    go true p h = absurd (let z : _≡_ {A = ℕ} 0 1 = cc in omega arith)
-    go false p h = back (ltb-false byteLimit (length text) p) (ending 1 0 [] (linesOf text)) h
 
 within-passes : (s : ℕ) (p : Parts) (ls : List Line) → InOrder s ls → All (InRange (length (partsFrom p ls .corners))) ls → Limits (partsFrom p ls) → Passing s p ls
 unfolding partsFrom checkedLine

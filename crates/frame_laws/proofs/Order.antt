@@ -2,10 +2,11 @@
 -- them. Assumes nothing.
 use mathlib.Core.Path.{_≡_, refl, sym, ap, _∙_}
 use mathlib.Core.Bool.{Bool, true, false, not, true≢false, cond}
+use mathlib.Core.Logic.{⊎-elim}
 use Prim.Native.Nat.{ℕ, suc, _<_, _≤_}
 use native.Mathlib.Omega.{arith}
-use borrow.Author.Tests.{eqb-true, lt-ltb, le-ltb, ltb-true, ltb-false, leb-true, leb-false, not-true}
-use lib.Dec.{eqb, ltb, leb}
+use borrow.Author.Tests.{eqb-true, lt-ltb, le-ltb, ltb-true, not-true}
+use lib.Dec.{eqb, ltb}
 use lib.ListN.{take, drop, length-take, List·getD-eq-default}
 use Rattle.labels.specs.Labelled.{anyBelow}
 use Rattle.labels.proofs.Below.{any-hit}
@@ -15,20 +16,22 @@ use Rattle.frame_line.specs.declared.Kind.{Kind}
 use Rattle.frame_line.specs.declared.Sort.{Sort}
 use Rattle.frame_line.specs.declared.Turn.{Turn}
 use Rattle.frame_line.proofs.Checking.{no-stage}
+use Rattle.frame.proofs.Adding.{below-or-not}
 
--- a line that changes the opening; one that adds a corner; one that asks for a corner
+-- the part that a line changes: 0 the opening, 1 the corners, 2 the labels, 3 the passes
+abbrev pub partOf : Kind → ℕ
+partOf (Kind.Opening o) = 0
+partOf Kind.Corner = 1
+partOf Kind.Label = 2
+partOf (Kind.Pass p) = 3
+
 abbrev pub opens : Kind → Bool
-opens (Kind.Opening o) = true
-opens Kind.Corner = false
-opens Kind.Label = false
-opens (Kind.Pass p) = false
+opens k = eqb (partOf k) 0
 
 abbrev pub isCorner : Kind → Bool
-isCorner (Kind.Opening o) = false
-isCorner Kind.Corner = true
-isCorner Kind.Label = false
-isCorner (Kind.Pass p) = false
+isCorner k = eqb (partOf k) 1
 
+-- a number that asks for a corner; a row with such a number
 abbrev isCornerSort : Sort → Bool
 isCornerSort Sort.Nothing = false
 isCornerSort (Sort.Float q) = false
@@ -45,11 +48,8 @@ asks k = anyBelow 5 (λ m. isCornerSort (sortAt k m))
 -- a sort stands in one of five places
 asks-one : (k m : ℕ) → sortAt k m ≡ Sort.Corner → asks k ≡ true
 unfolding asks
-asks-one k m e = go (leb 5 m) refl
-  where
-    go : (t : Bool) → leb 5 m ≡ t → anyBelow 5 (λ i. isCornerSort (sortAt k i)) ≡ true
-    go false h = any-hit (λ i. isCornerSort (sortAt k i)) 5 m (leb-false 5 m h) (ap isCornerSort e)
-    go true h = absurd (true≢false (sym (ap isCornerSort e) ∙ ap isCornerSort (no-sort k m (leb-true 5 m h))))
+asks-one k m e =
+    ⊎-elim (λ h. any-hit (λ i. isCornerSort (sortAt k i)) 5 m h (ap isCornerSort e)) (λ h. absurd (true≢false (sym (ap isCornerSort e) ∙ ap isCornerSort (no-sort k m h)))) (below-or-not m 5)
 
 -- ---- rules of the table: what holds of every stage, row and next stage
 
@@ -64,12 +64,8 @@ ruled : (f : ℕ → ℕ → ℕ → Bool) → rule f ≡ true → (s k t : ℕ)
 ruled f r s k t few e =
     ap (byTurn (f s k)) (sym e) ∙ every-at (λ j. byTurn (f s j) (turnAt s j)) rowCount (every-at (λ i. everyBelow rowCount (λ j. byTurn (f i j) (turnAt i j))) stageCount r s inside) k few
   where
-    go : (x : Bool) → leb stageCount s ≡ x → s < stageCount
-    go true h = let n = no-stage s k (leb-true stageCount s h) in absurd (let z : _≡_ {A = ℕ} 0 1 = cc in omega arith)
-    go false h = leb-false stageCount s h
-
     inside : s < stageCount
-    inside = go (leb stageCount s) refl
+    inside = ⊎-elim (λ h. h) (λ h. let n = no-stage s k h in absurd (let z : _≡_ {A = ℕ} 0 1 = cc in omega arith)) (below-or-not s stageCount)
 
 -- up to stage 3 the line of that row must come, and from stage 4 on no line opens
 openingRule : ℕ → ℕ → ℕ → Bool
@@ -124,8 +120,4 @@ no-early = refl
 
 -- a frame ends after them
 pub ends-late : (s : ℕ) → mayEnd s ≡ true → 4 ≤ s
-ends-late s e = go (ltb s 4) refl
-  where
-    go : (x : Bool) → ltb s 4 ≡ x → 4 ≤ s
-    go true h = absurd (true≢false (sym e ∙ not-true (mayEnd s) (every-at (λ i. not (mayEnd i)) 4 no-early s (ltb-true s 4 h))))
-    go false h = ltb-false s 4 h
+ends-late s e = ⊎-elim (λ h. absurd (true≢false (sym e ∙ not-true (mayEnd s) (every-at (λ i. not (mayEnd i)) 4 no-early s h)))) (λ h. h) (below-or-not s 4)

@@ -2,11 +2,11 @@
 -- is refused so. Assumes nothing.
 use mathlib.Core.Path.{_≡_, refl, sym, ap, _∙_, subst}
 use mathlib.Core.Bool.{Bool, true, false, cond}
+use mathlib.Core.Logic.{⊎-elim}
 use mathlib.Core.List.{List, [], _∷_, _++_, append-nil}
 use Prim.Native.Nat.{ℕ, suc, _+_, _<_, _≤_}
 use native.Mathlib.Omega.{arith}
-use borrow.Author.Tests.{ltb-true, ltb-false, lt-ltb, le-ltb}
-use lib.Dec.{ltb}
+use borrow.Author.Tests.{lt-ltb, le-ltb}
 use lib.ListN.{length, getD, take, drop}
 use lib.Seq.{length-take-le, split-at}
 use Rattle.refusal.specs.declared.Refusal.{Refusal}
@@ -20,6 +20,7 @@ use Rattle.frame_line.specs.declared.Turn.{Turn}
 use Rattle.frame_check.specs.Checks.{checksInOrder, overLimit, twiceOf}
 use Rattle.frame.specs.Frame.{Frame, partsOf, doubled, checkedLine, Step, stopped, onward, stepBy, stepWith, stepLine, FrameRead, refused-at, accepted, atEnd, going, readLines, byteLimit, readFrame}
 use Rattle.frame.specs.Text.{FirstCheck, is-first, too-many, is-wild, is-off-sheet, is-unknown, is-doubled, FirstFault, has-no-form, not-its-turn, fails, Passed, none-yet, one-more, Refused, too-long, at-line, missing, RefusalsMean}
+use Rattle.frame.proofs.Adding.{below-or-not}
 
 -- ---- a line that fails
 
@@ -110,27 +111,23 @@ ending n stage f (text ∷ texts) = go (stepping stage f text) refl (λ stage' f
 
 pub refusals-mean : RefusalsMean
 unfolding readFrame
-refusals-mean text r n e = go (ltb byteLimit (length text)) refl e
+refusals-mean text r n e = ⊎-elim (λ h. bytes h (rw (lt-ltb byteLimit (length text) h) at e)) (λ h. why h (ending 1 0 [] (linesOf text)) (rw (le-ltb byteLimit (length text) h) at e)) (below-or-not byteLimit (length text))
   where
-    why : length text ≤ byteLimit → (o : FrameRead) → Ending 1 0 [] (linesOf text) o → o ≡ refused-at r n → Refused text r n
-    why h o (all-read last g p k) q = absurd (let z : _≡_ {A = ℕ} 0 1 = cc in omega arith)
-    why h o (one-fails k m last g s l a p w) q =
-        let same : s ≡ r = cc in
-        let number : m ≡ n = cc in
-        let here : suc k ≡ n = omega arith in
-        subst (Refused text r) here (at-line k last g r h l p (subst (FirstFault last g (readLine (getD (linesOf text) k []))) same w))
-    why h o (one-missing m last g a p k) q =
-        let same : Refusal.Malformed ≡ r = cc in
-        let number : m ≡ n = cc in
-        let here : suc (length (linesOf text)) ≡ n = omega arith in
-        subst (λ (s : Refusal). Refused text s n) same (subst (Refused text Refusal.Malformed) here (missing last g h p k))
+    bytes : byteLimit < length text → refused-at Refusal.OverLimit 0 ≡ refused-at r n → Refused text r n
+    bytes h q = let same : r ≡ Refusal.OverLimit = cc in let number : n ≡ 0 = cc in rw (same, number) (too-long h)
 
-    go : (x : Bool) → ltb byteLimit (length text) ≡ x → cond x (refused-at Refusal.OverLimit 0) (readLines 1 0 [] (linesOf text)) ≡ refused-at r n → Refused text r n
-    go true p h =
-        let same : Refusal.OverLimit ≡ r = cc in
-        let number : 0 ≡ n = cc in
-        subst (λ (s : Refusal). Refused text s n) same (subst (Refused text Refusal.OverLimit) number (too-long (ltb-true byteLimit (length text) p)))
-    go false p h = why (ltb-false byteLimit (length text) p) (readLines 1 0 [] (linesOf text)) (ending 1 0 [] (linesOf text)) h
+    why : length text ≤ byteLimit → {o : FrameRead} → Ending 1 0 [] (linesOf text) o → o ≡ refused-at r n → Refused text r n
+    why h (all-read last g p k) q = absurd (let z : _≡_ {A = ℕ} 0 1 = cc in omega arith)
+    why h (one-fails k m last g s l a p w) q =
+        let same : r ≡ s = cc in
+        let number : m ≡ n = cc in
+        let here : n ≡ suc k = omega arith in
+        rw (same, here) (at-line k last g s h l p w)
+    why h (one-missing m last g a p k) q =
+        let same : r ≡ Refusal.Malformed = cc in
+        let number : m ≡ n = cc in
+        let here : n ≡ suc (length (linesOf text)) = omega arith in
+        rw (same, here) (missing last g h p k)
 
 -- ---- and what the table says is refused so
 

@@ -1,13 +1,13 @@
 -- An accepted frame starts what demand 3 speaks of: its corners and the sheet of its given labels belong together, and each of its passes has
 -- its numbers in range, so that none is refused, after whatever list of calls. Assumes nothing.
 use mathlib.Core.Path.{_≡_, refl, sym, ap, subst}
-use mathlib.Core.Bool.{Bool, true, false}
+use mathlib.Core.Bool.{true, false}
+use mathlib.Core.Logic.{⊎-elim}
 use mathlib.Core.List.{List, [], _∷_, map}
 use Prim.Native.Nat.{ℕ, zero, suc, _<_, _≤_}
 use native.Mathlib.Nat.{not-suc-le-zero}
 use native.Mathlib.Omega.{arith}
-use borrow.Author.Tests.{ltb-true, ltb-false, not-false}
-use lib.Dec.{ltb}
+use borrow.Author.Tests.{not-false}
 use lib.IntN.{ℤ, pos, natAbs}
 use lib.Ieee.{Float, nan, ofBits, ofInt, le}
 use lib.ListN.{length, getD, length-map}
@@ -32,6 +32,7 @@ use Rattle.frame_state.specs.State.{cornerLimit}
 use Rattle.frame.specs.Frame.{Frame, Opening, Parts, opened, adding, added, partsFrom, no-parts, partsOf}
 use Rattle.frame.specs.Text.{All, InOrder, ends, next, InRange, WithinLimits}
 use Rattle.frame.specs.ReadFrame.{floatOf, xsOf, ysOf, pitchesOf, sheetOf, settingsOf, fullOf, passOf}
+use Rattle.frame.proofs.Adding.{below-or-not}
 use Rattle.frame_laws.specs.Calls.{cornersOf, frameRooms, passCall, callOf, callsOf, NoneRefused, Starts, AcceptedRuns}
 use Rattle.frame_laws.proofs.Order.{comes, later-opens, ends-late}
 use Rattle.frame_laws.proofs.Parts.{all-map, kept}
@@ -73,15 +74,14 @@ module _ (n : ℕ) (l : Line) (r : InRange n l) (p : Parts) where
   said-at (suc (suc (suc (suc s)))) h e t = absurd (omega arith)
 
   said-on : (s to : ℕ) → turnAt s (l .row) ≡ Turn.To to → OpeningTame s (p .opening) → OpeningTame to (added p l .opening)
-  said-on s to e t = go (ltb s 4) refl
+  said-on s to e t = ⊎-elim early late (below-or-not s 4)
     where
-      go : (x : Bool) → ltb s 4 ≡ x → OpeningTame to (added p l .opening)
-      go true h =
-          let c = comes s (l .row) to (r .proper .few) e (ltb-true s 4 h) in
-          subst (λ (i : ℕ). OpeningTame i (added p l .opening)) (sym (c .1)) (said-at s (ltb-true s 4 h) (c .0) t)
-      go false h =
-          let late = ltb-false s 4 h in
-          let same = kept (kindOf l) (l .numbers) p .0 (later-opens s (l .row) to (r .proper .few) e late .1) in
+      early : s < 4 → OpeningTame to (added p l .opening)
+      early h = let c = comes s (l .row) to (r .proper .few) e h in rw (c .1) (said-at s h (c .0) t)
+
+      late : 4 ≤ s → OpeningTame to (added p l .opening)
+      late h =
+          let same = kept (kindOf l) (l .numbers) p .0 (later-opens s (l .row) to (r .proper .few) e h .1) in
           rw same (record { cell = λ k. t .cell (omega arith); axes = λ k. t .axes (omega arith); band = λ k. t .band (omega arith) })
 
 all-said : (n s : ℕ) (p : Parts) (ls : List Line) → All (InRange n) ls → InOrder s ls → OpeningTame s (p .opening) → OpeningTame 4 (partsFrom p ls .opening)

@@ -1,6 +1,5 @@
--- A line that can be added: what its checks say of it, kind by kind, and the state after it. Assumes nothing.
+-- A line that can be added: what its checks say of it, kind by kind. Assumes nothing.
 use mathlib.Core.Path.{_≡_, refl, sym, ap, _∙_}
-use mathlib.Core.List.{List}
 use Prim.Native.Nat.{ℕ, _<_}
 use native.Mathlib.Omega.{arith}
 use borrow.Author.Tests.{leb-false}
@@ -21,11 +20,9 @@ use Rattle.frame_line.proofs.Checking.{tame-finite}
 use Rattle.frame_line.proofs.Words.{word-tame}
 use Rattle.frame_check.specs.Checks.{overLimit, twiceHeld, checkedHeld}
 use Rattle.frame_check.proofs.Laws.{AllFine, fine-all, label-fits}
-use Rattle.frame_state.specs.State.{cornerLimit, passLimit, Tame, TameOpening, withOpening, withSettings, withCorner, withPass, CornerFits, CornerPut, LabelRoom, LabelPut, wordsIn, wordsPut, Arrays, arrays, state, Addable, addsAs, adds}
+use Rattle.frame_state.specs.State.{cornerLimit, passLimit, Tame, TameOpening, CornerFits, LabelRoom, Arrays, Addable}
 use Rattle.frame_state.specs.declared.Progress.{Progress}
 use Rattle.frame_state.specs.declared.PassWords.{PassWords}
-
--- ---- what the checks say
 
 module _ {p : Progress} {a : Arrays} {line : HeldLine} (f : Addable p a line) where
   fine : AllFine (λ r. outsideHeld r (p .corners) line) (overLimit (p .corners) (p .passes) (kindAt (line .row))) (twiceHeld (a .sheet) (a .used) line)
@@ -68,25 +65,3 @@ module _ {p : Progress} {a : Arrays} {line : HeldLine} (f : Addable p a line) wh
   pub pass-fits : (k : PassKind) → kindAt (line .row) ≡ Kind.Pass k → p .passes < passLimit
   unfolding overLimit
   pass-fits k e = leb-false passLimit (p .passes) (sym (ap (overLimit (p .corners) (p .passes)) e) ∙ fine .room)
-
--- ---- the state after a line
-
-module _ (p : Progress) (a : Arrays) (line : HeldLine) where
-  pub added-opening : (o : OpeningKind) → kindAt (line .row) ≡ Kind.Opening o → (r : Progress) (x : Settings) → x ≡ withOpening o (p .settings) (line .values) → r ≡ withSettings p x → state r a ≡ adds line (state p a)
-  unfolding addsAs
-  added-opening o e r x h g = rw (e, g, h)
-
-  pub added-corner : kindAt (line .row) ≡ Kind.Corner → (r : Progress) → r ≡ withCorner p → (xs ys pitches : List Float)
-      → CornerPut (p .corners) (line .values) (a .xs) (a .ys) (a .pitches) xs ys pitches → state r (arrays xs ys pitches (a .sheet) (a .used) (a .passes)) ≡ adds line (state p a)
-  unfolding addsAs
-  added-corner e r g xs ys pitches w = rw (e, g, w .xs-are, w .ys-are, w .pitches-are)
-
-  pub added-label : kindAt (line .row) ≡ Kind.Label → (sheet used : List ℕ) → LabelPut (labelIn (line .values)) (a .sheet) (a .used) sheet used
-      → state p (arrays (a .xs) (a .ys) (a .pitches) sheet used (a .passes)) ≡ adds line (state p a)
-  unfolding addsAs
-  added-label e sheet used w = rw (e, w .sheet-is, w .used-is)
-
-  pub added-pass : (k : PassKind) → kindAt (line .row) ≡ Kind.Pass k → (r : Progress) → r ≡ withPass p → (words : PassWords) → words ≡ wordsIn k (line .values) → (passes : List ℕ)
-      → passes ≡ wordsPut (p .passes) words (a .passes) → state r (arrays (a .xs) (a .ys) (a .pitches) (a .sheet) (a .used) passes) ≡ adds line (state p a)
-  unfolding addsAs
-  added-pass k e r g words h passes w = rw (e, g, w, h)

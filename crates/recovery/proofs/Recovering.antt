@@ -78,7 +78,6 @@ module _ (text : List ℕ) (xs ys pitches : List Float) (sheet passes : List ℕ
   lent = record { xs = xs; ys = ys; pitches = pitches; sheet = sheet; passes = passes }
 
   long-enough : tooShort lent ≡ false
-  unfolding tooShort
   long-enough =
       rw (
         le-ltb (length xs) 1024 (room .xs-long),

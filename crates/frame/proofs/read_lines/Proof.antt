@@ -19,26 +19,20 @@ abbrev μ-loop : tie.MeasureT-loop
     length text - at
 
 -- the line has bytes, and its end lies in the text
-after : (c : tie.After-line-end Inv-loop μ-loop) → c .before .before .loop .at < c .line-end .result
-after c = end-after (c .before .before .before .before .before .args .text .now) (c .before .before .loop .at) (c .line-end .result) (c .before .loop-test .taken) (c .line-end .ensures)
-
-inside : (c : tie.After-line-end Inv-loop μ-loop) → c .line-end .result ≤ length (c .before .before .before .before .before .args .text .now)
-inside c = end-inside (c .before .before .before .before .before .args .text .now) (c .before .before .loop .at) (c .line-end .result) (c .before .loop-test .taken) (c .line-end .ensures)
+bounds : (c : tie.After-line-end Inv-loop μ-loop) → (c .before .before .loop .at < c .line-end .result) × (c .line-end .result ≤ length (c .before .before .before .before .before .args .text .now))
+bounds c = (end-after _ _ _ (c .before .loop-test .taken) (c .line-end .ensures), end-inside _ _ _ (c .before .loop-test .taken) (c .line-end .ensures))
 
 loop-holds : tie.Need-loop-holds Inv-loop μ-loop
 loop-holds c = rw (c .start .ensures) (turning-start _ _ _ refl (c .before .before .pre))
 
-line-end-requires : tie.Need-line-end-requires Inv-loop μ-loop
-line-end-requires c κs = c .before .loop .inv .inside
-
 sub-step-line : tie.Need-sub-step-line Inv-loop μ-loop
-sub-step-line c = omega (arith, after (c .before .before .before .before .before .before))
+sub-step-line c = omega (arith, bounds (c .before .before .before .before .before .before))
 
 part-step-line-start : tie.Need-part-step-line-start Inv-loop μ-loop
-part-step-line-start c = omega (arith, after (c .before .before .before .before .before .before))
+part-step-line-start c = omega (arith, bounds (c .before .before .before .before .before .before))
 
 part-step-line-end : tie.Need-part-step-line-end Inv-loop μ-loop
-part-step-line-end c = inside (c .before .before .before .before .before .before)
+part-step-line-end c = bounds (c .before .before .before .before .before .before) .1
 
 step-line-requires : tie.Need-step-line-requires Inv-loop μ-loop
 step-line-requires c κs = turn-room (c .before .before .before .before .before .before .before .before .before .loop .inv)
@@ -50,7 +44,7 @@ add-n : tie.Need-add-n Inv-loop μ-loop
 add-n c = record { fits = omega (arith, c .before .before .before .before .before .before .before .before .before .before .before .before .before .loop .inv .lines, c .before .before .before .before .before .before .before .before .before .before .before .before .loop-test .taken, c .before .before .before .before .before .before .before .before .before .before .before .before .before .before .before .before .good) }
 
 loop-less : tie.Need-loop-less Inv-loop μ-loop
-loop-less c = omega (arith, after (c .before .before .before .before .before .before .before .before .before .before .before), inside (c .before .before .before .before .before .before .before .before .before .before .before))
+loop-less c = omega (arith, bounds (c .before .before .before .before .before .before .before .before .before .before .before))
 
 loop-again : tie.Need-loop-again Inv-loop μ-loop
 loop-again c = turn-onward (c .before .before .before .before .before .before .before .before .before .before .before .before .before .loop .inv) (c .before .before .before .before .before .before .before .before .before .before .before .before .loop-test .taken) _ (c .before .before .before .before .before .before .before .before .before .before .before .line-end .ensures) _ _ (c .before .before .before .step-line .ensures) _ (c .before .stepped2 .given .1)
@@ -69,7 +63,7 @@ read-lines-spec =
     μ-loop
     (λ c κs. tt)
     loop-holds
-    line-end-requires
+    (λ c κs. omega arith)
     sub-step-line
     part-step-line-start
     part-step-line-end

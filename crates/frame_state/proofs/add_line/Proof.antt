@@ -1,6 +1,7 @@
 -- `frame_state::add_line` meets its contract, by the kind. Assumes nothing.
 use mathlib.Core.Path.{sym, _∙_}
-use Rattle.frame_state.proofs.Laws.{opening-fits, corner-fits, label-room, pass-fits, added-opening, added-corner, added-label, added-pass}
+use Rattle.frame_state.proofs.Laws.{opening-fits, corner-fits, label-room, pass-fits}
+use Rattle.frame_state.specs.State.{addsAs}
 use borrow.Author.Needs.{needs}
 use Rattle.frame_state.proofs.add_line.Statement.{statement}
 use Rattle.frame_state.proofs.add_line.Tie as tie
@@ -24,16 +25,20 @@ with-pass-requires : tie.Need-with-pass-requires
 with-pass-requires c κs = pass-fits (c .before .before .before .before .before .before .before .before .pre) _ (sym (c .before .before .before .before .before .before .before .kind-of .ensures) ∙ c .before .before .before .before .kind2 .given .1)
 
 returns : tie.Need-returns
-returns c = added-opening _ _ _ _ (sym (c .before .before .before .before .before .before .before .kind-of .ensures) ∙ c .before .before .before .before .kind .given .1) _ _ (c .before .with-opening .ensures) (c .with-settings .ensures)
+unfolding addsAs
+returns c = rw (sym (c .before .before .before .before .before .before .before .kind-of .ensures) ∙ c .before .before .before .before .kind .given .1, c .with-settings .ensures, c .before .with-opening .ensures)
 
 returns-2 : tie.Need-returns-2
-returns-2 c = added-corner _ _ _ (sym (c .before .before .before .before .before .before .before .before .kind-of .ensures) ∙ c .before .before .before .before .before .enum-told .given .1) _ (c .with-corner .ensures) _ _ _ (c .before .put-corner .ensures)
+unfolding addsAs
+returns-2 c = let w = c .before .put-corner .ensures in rw (sym (c .before .before .before .before .before .before .before .before .kind-of .ensures) ∙ c .before .before .before .before .before .enum-told .given .1, c .with-corner .ensures, w .xs-are, w .ys-are, w .pitches-are)
 
 returns-3 : tie.Need-returns-3
-returns-3 c = added-label _ _ _ (sym (c .before .before .before .before .before .before .before .kind-of .ensures) ∙ c .before .before .before .before .enum-told2 .given .1) _ _ (rw (← c .before .label-of .ensures) (c .put-label .ensures))
+unfolding addsAs
+returns-3 c = let w = c .put-label .ensures in rw (sym (c .before .before .before .before .before .before .before .kind-of .ensures) ∙ c .before .before .before .before .enum-told2 .given .1, w .sheet-is, w .used-is, c .before .label-of .ensures)
 
 returns-4 : tie.Need-returns-4
-returns-4 c = added-pass _ _ _ _ (sym (c .before .before .before .before .before .before .before .before .kind-of .ensures) ∙ c .before .before .before .before .before .kind2 .given .1) _ (c .with-pass .ensures) _ (c .before .before .words-of .ensures) _ (c .before .put-pass .ensures)
+unfolding addsAs
+returns-4 c = rw (sym (c .before .before .before .before .before .before .before .before .kind-of .ensures) ∙ c .before .before .before .before .before .kind2 .given .1, c .with-pass .ensures, c .before .put-pass .ensures, c .before .before .words-of .ensures)
 
 pub add-line-spec : {M : Type 1} → statement M
 add-line-spec =
