@@ -34,7 +34,7 @@ use Rattle.frame_check.specs.Checks.{checksInOrder, overLimit, labelTwice, twic
 use Rattle.frame_check.proofs.Laws.{checks-alike, AllFine, fine-all}
 use Rattle.frame_state.specs.State.{cornerLimit, passLimit, withOpening, wordsIn, wordsPut, State, addsAs, adds}
 use Rattle.frame_state.specs.declared.PassWords.{PassWords}
-use Rattle.frame.specs.Frame.{Parts, sameCell, someOf, doubled, checkedLine, opened, adding, added}
+use Rattle.frame.specs.Frame.{outsideIn, overIn, twiceIn, Parts, sameCell, someOf, doubled, checkedLine, opened, adding, added}
 use Rattle.frame.specs.Reading.{cornerTaken, HoldsLabels, Holds, HoldsCorners, HoldsPasses, FrameHeld}
 use Rattle.frame.specs.ReadFrame.{floatOf, settingsIn, labelled, fullOf, wordsOf, allWords}
 
@@ -70,6 +70,14 @@ unfolding someOf
 some-either f g [] = refl
 some-either f g (a ∷ l) = ap (λ (t : Bool). (f a || g a) || t) (some-either f g l) ∙ or-swap (f a) (g a) (someOf f l) (someOf g l)
 
+-- what is found of a line that passes its checks
+abbrev pub FineLine : Parts → Line → Type 0
+FineLine p l = AllFine (outsideIn p l) (overIn p (kindOf l)) (twiceIn p (kindOf l) (l .numbers))
+
+pub line-fine : (p : Parts) (l : Line) → checkedLine p l ≡ Checked.Fine → FineLine p l
+unfolding checkedLine
+line-fine p l c = fine-all (outsideIn p l) _ _ c
+
 -- doubled is asked of labels alone
 pub twice-alike : (kind : Kind) (a b : Bool) → (kind ≡ Kind.Label → a ≡ b) → twiceOf kind a ≡ twiceOf kind b
 unfolding twiceOf
@@ -94,7 +102,7 @@ module _ (f : Parts) (n : ℕ) (sheet used : List ℕ) (g : HoldsLabels (f .labe
   checks-agree m l p d =
       checks-alike (λ r. outsideHeld r n (heldLine l)) (λ r. outsideLine r n l) (overLimit n m (kindOf l)) _ _ (λ r. outside-held r n l few p)
       (λ off known. twice-alike (kindOf l) _ _ (twice l p off known))
-      ∙ ap₂ (λ (i j : ℕ). checksInOrder (λ r. outsideLine r i l) (overLimit i j (kindOf l)) (twiceOf (kindOf l) (doubled (f .labels) (labelLineOf (l .numbers))))) e d
+      ∙ ap₂ (λ (i j : ℕ). checksInOrder (λ r. outsideLine r i l) (overLimit i j (kindOf l)) (twiceIn f (kindOf l) (l .numbers))) e d
 
 -- ---- one more at the end
 
@@ -195,12 +203,11 @@ pass-held {ps} {m} g h p w e =
 -- ---- any line
 
 module _ (f : Parts) (s : State) (g : FrameHeld f s) (l : Line) (p : Proper l) (fine : checkedLine f l ≡ Checked.Fine) where
-  w : AllFine (λ r. outsideLine r (length (f .corners)) l) (overLimit (length (f .corners)) (length (f .passes)) (kindOf l)) (twiceOf (kindOf l) (doubled (f .labels) (labelLineOf (l .numbers))))
-  unfolding checkedLine
-  w = fine-all (λ r. outsideLine r (length (f .corners)) l) _ _ fine
+  w : FineLine f l
+  w = line-fine f l fine
 
-  room : (kind : Kind) → kindOf l ≡ kind → overLimit (length (f .corners)) (length (f .passes)) kind ≡ false
-  room kind e = sym (ap (overLimit (length (f .corners)) (length (f .passes))) e) ∙ w .room
+  room : (kind : Kind) → kindOf l ≡ kind → overIn f kind ≡ false
+  room kind e = sym (ap (overIn f) e) ∙ w .room
 
   settings-added : (k : OpeningKind) → kindOf l ≡ Kind.Opening k → withOpening k (s .progress .settings) (heldUpTo 5 (l .numbers)) ≡ settingsIn (opened k (l .numbers) (f .opening))
   unfolding opened slotsOf formAt rowAt rows

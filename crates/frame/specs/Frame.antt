@@ -97,12 +97,18 @@ doubled ls l = someOf (λ m. clash m l) ls
 
 -- ---- the checks of a line in its turn, with what the lines before it said
 
+-- some number of it has the refusal r; a line of its kind is one too many; it is doubled
+abbrev pub outsideIn : Parts → Line → ℕ → Bool
+outsideIn p l r = outsideLine r (length (p .corners)) l
+
+abbrev pub overIn : Parts → Kind → Bool
+overIn p kind = overLimit (length (p .corners)) (length (p .passes)) kind
+
+abbrev pub twiceIn : Parts → Kind → List Number → Bool
+twiceIn p kind ns = twiceOf kind (doubled (p .labels) (labelLineOf ns))
+
 unfoldable pub checkedLine : Parts → Line → Checked
-checkedLine p l =
-    checksInOrder
-    (λ r. outsideLine r (length (p .corners)) l)
-    (overLimit (length (p .corners)) (length (p .passes)) (kindOf l))
-    (twiceOf (kindOf l) (doubled (p .labels) (labelLineOf (l .numbers))))
+checkedLine p l = checksInOrder (outsideIn p l) (overIn p (kindOf l)) (twiceIn p (kindOf l) (l .numbers))
 
 -- ---- a whole frame
 

@@ -10,12 +10,11 @@ use Rattle.refusal.specs.declared.Refusal.{Refusal}
 use Rattle.sheet.specs.Cells.{OnSheet}
 use Rattle.line_form.specs.Lines.{linesOf}
 use Rattle.frame_line.specs.Table.{turnAt, mayEnd}
-use Rattle.frame_line.specs.Lines.{Line, kindOf, Proper, lineText, LabelLine, labelLineOf, LineRead, ill-formed, line, readLine}
+use Rattle.frame_line.specs.Lines.{Line, kindOf, Proper, lineText, LabelLine, LineRead, ill-formed, line, readLine}
 use Rattle.frame_line.specs.Checks.{outsideLine}
 use Rattle.frame_line.specs.declared.Turn.{Turn}
-use Rattle.frame_check.specs.Checks.{overLimit, twiceOf}
 use Rattle.frame_state.specs.State.{cornerLimit, passLimit}
-use Rattle.frame.specs.Frame.{Frame, partsOf, doubled, onward, stepLine, refused-at, accepted, byteLimit, readFrame}
+use Rattle.frame.specs.Frame.{Frame, partsOf, outsideIn, overIn, twiceIn, onward, stepLine, refused-at, accepted, byteLimit, readFrame}
 
 -- ---- printed
 
@@ -97,7 +96,7 @@ pub data FirstFault (stage : ℕ) (f : Frame) : LineRead → Refusal → Type 0 
   has-no-form : FirstFault stage f ill-formed Refusal.Malformed
   not-its-turn : {l : Line} → turnAt stage (l .row) ≡ Turn.No → FirstFault stage f (line l) Refusal.Malformed
   fails : {l : Line} {to : ℕ} {r : Refusal} → turnAt stage (l .row) ≡ Turn.To to
-      → FirstCheck (λ q. outsideLine q (length (partsOf f .corners)) l) (overLimit (length (partsOf f .corners)) (length (partsOf f .passes)) (kindOf l)) (twiceOf (kindOf l) (doubled (partsOf f .labels) (labelLineOf (l .numbers)))) r
+      → FirstCheck (outsideIn (partsOf f) l) (overIn (partsOf f) (kindOf l)) (twiceIn (partsOf f) (kindOf l) (l .numbers)) r
       → FirstFault stage f (line l) r
 
 -- lines that all pass their checks, one after the other, from a stage and a frame to another

@@ -2,7 +2,7 @@
 -- labels and passes are as the ranges say. What is printed of a frame within the limits is accepted and read back: the reader refuses nothing
 -- that 01 allows. Assumes nothing.
 use mathlib.Core.Path.{_≡_, refl, sym, ap, ap₂, _∙_, subst}
-use mathlib.Core.Bool.{Bool, true, false, cond}
+use mathlib.Core.Bool.{Bool, true, false}
 use mathlib.Core.Logic.{⊎-elim}
 use mathlib.Core.List.{List, [], _∷_, _++_, map, append-nil, append-assoc}
 use Prim.Native.Nat.{ℕ, suc, _<_, _≤_}
@@ -30,11 +30,11 @@ use Rattle.frame_line.proofs.Laws.{line-reads-back, line-prints-back}
 use Rattle.frame_line.proofs.Words.{counts-alike}
 use Rattle.frame_line.proofs.Said.{CornerTame, PassTame, corner-said, label-exact, pass-said}
 use Rattle.frame_check.specs.Checks.{overLimit, twiceOf}
-use Rattle.frame_check.proofs.Laws.{AllFine, fine-all, all-fine}
+use Rattle.frame_check.proofs.Laws.{all-fine}
 use Rattle.frame_state.specs.State.{cornerLimit, passLimit}
-use Rattle.frame.specs.Frame.{Frame, Parts, adding, added, partsFrom, no-parts, partsOf, sameCell, clash, someOf, doubled, checkedLine, Step, onward, stepBy, stepWith, stepLine, FrameRead, refused-at, accepted, atEnd, going, readLines, byteLimit, readFrame}
+use Rattle.frame.specs.Frame.{outsideIn, overIn, twiceIn, Frame, Parts, adding, added, partsFrom, no-parts, partsOf, sameCell, clash, someOf, doubled, checkedLine, Step, onward, stepBy, stepWith, stepLine, FrameRead, refused-at, accepted, atEnd, going, readLines, byteLimit, readFrame}
 use Rattle.frame.specs.Text.{frameText, All, InOrder, ends, next, InRange, Sound, Apart, WithinLimits, FrameReadsBack, FramePrintsBack, LabelsSound, Passed, none-yet, one-more}
-use Rattle.frame.proofs.Adding.{below-or-not, same-cell, cell-same}
+use Rattle.frame.proofs.Adding.{below-or-not, same-cell, cell-same, line-fine}
 use Rattle.frame.proofs.Turn.{parts-more}
 use Rattle.frame_laws.proofs.Parts.{all-then, all-map, AllParts, parts-all, all-given}
 use Rattle.frame_laws.proofs.Refusals.{Stepping, stops, goes, stepping, Ending, all-read, one-fails, one-missing, ending}
@@ -111,13 +111,6 @@ rows-of : {stage : ℕ} {p : Parts} {ls : List Line} → Passing stage p ls → 
 rows-of (end-here e) = tt
 rows-of (pass-on l p t c more) = (p .few, rows-of more)
 
-abbrev FineLine : Parts → Line → Type 0
-FineLine p l = AllFine (λ r. outsideLine r (length (p .corners)) l) (overLimit (length (p .corners)) (length (p .passes)) (kindOf l)) (twiceOf (kindOf l) (doubled (p .labels) (labelLineOf (l .numbers))))
-
-line-fine : (p : Parts) (l : Line) → checkedLine p l ≡ Checked.Fine → FineLine p l
-unfolding checkedLine
-line-fine p l c = fine-all (λ r. outsideLine r (length (p .corners)) l) _ _ c
-
 -- the corners before a line that asks for one are all corners
 counted-all : (s t : ℕ) (p : Parts) (l : Line) (ls : List Line) → turnAt s (l .row) ≡ Turn.To t → All (λ m. m .row < rowCount) (l ∷ ls) → InOrder t ls → (r : ℕ)
     → outsideLine r (length (p .corners)) l ≡ outsideLine r (length (partsFrom p (l ∷ ls) .corners)) l
@@ -182,8 +175,8 @@ record Limits (p : Parts) : Type 0 where
 
 -- a line of this kind passes no limit, and is not doubled
 record Fits (k : Kind) (ns : List Number) (p : Parts) : Type 0 where
-  room : overLimit (length (p .corners)) (length (p .passes)) k ≡ false
-  once : twiceOf k (doubled (p .labels) (labelLineOf ns)) ≡ false
+  room : overIn p k ≡ false
+  once : twiceIn p k ns ≡ false
 
 limits-after : (k : Kind) (ns : List Number) (p : Parts) → Fits k ns p → Limits p → Limits (adding k ns p)
 unfolding adding overLimit twiceOf
@@ -255,7 +248,7 @@ within-passes s p ls (next {to = t} {ls = rest} l e o) r m =
     let all = counted-all s t p l rest e (all-map (λ k x. x .proper .few) (l ∷ rest) r) o in
     let fits = limits-before (kindOf l) (l .numbers) p (limits-first (added p l) rest m) .1 in
     pass-on l (r .0 .proper) e
-    (all-fine (λ q. outsideLine q (length (p .corners)) l) _ _
+    (all-fine (outsideIn p l) _ _
     (record {
       first = all 1 ∙ r .0 .first;
       room = fits .room;

@@ -14,11 +14,10 @@ use Rattle.arguments.specs.Arguments.{refusedIf}
 use Rattle.arguments.specs.declared.Checked.{Checked}
 use Rattle.line_form.specs.Lines.{linesOf}
 use Rattle.frame_line.specs.Table.{turnAt, mayEnd}
-use Rattle.frame_line.specs.Lines.{Line, kindOf, labelLineOf, LineRead, ill-formed, line, readLine}
-use Rattle.frame_line.specs.Checks.{outsideLine}
+use Rattle.frame_line.specs.Lines.{Line, kindOf, LineRead, ill-formed, line, readLine}
 use Rattle.frame_line.specs.declared.Turn.{Turn}
-use Rattle.frame_check.specs.Checks.{checksInOrder, overLimit, twiceOf}
-use Rattle.frame.specs.Frame.{Frame, partsOf, doubled, checkedLine, Step, stopped, onward, stepBy, stepWith, stepLine, FrameRead, refused-at, accepted, atEnd, going, readLines, byteLimit, readFrame}
+use Rattle.frame_check.specs.Checks.{checksInOrder}
+use Rattle.frame.specs.Frame.{outsideIn, overIn, twiceIn, Frame, partsOf, checkedLine, Step, stopped, onward, stepBy, stepWith, stepLine, FrameRead, refused-at, accepted, atEnd, going, readLines, byteLimit, readFrame}
 use Rattle.frame.specs.Text.{FirstCheck, is-first, too-many, is-wild, is-off-sheet, is-unknown, is-doubled, FirstFault, has-no-form, not-its-turn, fails, Passed, none-yet, one-more, Refused, too-long, at-line, missing, RefusalsMean}
 use Rattle.frame.proofs.Adding.{below-or-not}
 
@@ -74,7 +73,7 @@ module _ (stage : ℕ) (f : Frame) where
   unfolding checkedLine
   fault-stops l r has-no-form = refl
   fault-stops l r (not-its-turn a) = rw a
-  fault-stops l r (fails {l = m} a b) = rw (a, check-first (λ q. outsideLine q (length (partsOf f .corners)) m) (overLimit (length (partsOf f .corners)) (length (partsOf f .passes)) (kindOf m)) (twiceOf (kindOf m) (doubled (partsOf f .labels) (labelLineOf (m .numbers)))) r b)
+  fault-stops l r (fails {l = m} a b) = rw (a, check-first (outsideIn (partsOf f) m) (overIn (partsOf f) (kindOf m)) (twiceIn (partsOf f) (kindOf m) (m .numbers)) r b)
 
 -- ---- all lines
 
