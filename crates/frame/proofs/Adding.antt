@@ -1,4 +1,5 @@
--- A line as the code checks it and adds it is checked and held as the definition says. Assumes nothing.
+-- A line as the code checks it and adds it is checked and held as the definition says, part by part; nothing is held before the first. Assumes
+-- nothing.
 use mathlib.Core.Path.{_≡_, refl, sym, ap, ap₂, _∙_, subst}
 use mathlib.Core.Bool.{Bool, true, false, _||_, not, or-true, or-false, or-assoc}
 use mathlib.Core.Logic.{_⊎_, inl, inr}
@@ -7,7 +8,7 @@ use Prim.Native.Nat.{ℕ, _≤_, suc, _+_, _*_, _<_}
 use native.Mathlib.Omega.{arith}
 use borrow.Author.Tests.{ne-eqb, eq-eqb, eqb-true, eqb-false, leb-false, ltb-true, ltb-false}
 use lib.IntN.{natAbs, ℤ, pos}
-use lib.ListN.{length, getD, set, take, length-set, length-append}
+use lib.ListN.{length, getD, set, take, length-set, length-append, replicate, length-replicate, getD-replicate}
 use lib.Dec.{eqb, ltb}
 use lib.Seq.{getD-set-same, getD-set-other, take-suc-set}
 use lib.Ieee.{Float}
@@ -32,9 +33,9 @@ use Rattle.frame_line.proofs.Shapes.{bits-held, whole-held}
 use Rattle.frame_line.proofs.Words.{tame-count}
 use Rattle.frame_check.specs.Checks.{checksInOrder, overLimit, labelTwice, twiceOf, checkedHeld, isSet}
 use Rattle.frame_check.proofs.Laws.{checks-alike, AllFine, fine-all}
-use Rattle.frame_state.specs.State.{cornerLimit, passLimit, withOpening, wordsIn, wordsPut, State, addsAs, adds}
+use Rattle.frame_state.specs.State.{cornerLimit, passLimit, withOpening, wordsIn, wordsPut, State, addsAs, adds, placeCount, wordLimit, atStage, nothing-said, arrays, state}
 use Rattle.frame_state.specs.declared.PassWords.{PassWords}
-use Rattle.frame.specs.Frame.{outsideIn, overIn, twiceIn, Parts, sameCell, someOf, doubled, checkedLine, opened, adding, added}
+use Rattle.frame.specs.Frame.{outsideIn, overIn, twiceIn, Parts, sameCell, someOf, doubled, checkedLine, opened, adding, added, no-parts}
 use Rattle.frame.specs.Reading.{cornerTaken, HoldsLabels, Holds, HoldsCorners, HoldsPasses, FrameHeld}
 use Rattle.frame.specs.ReadFrame.{floatOf, settingsIn, labelled, fullOf, wordsOf, allWords}
 
@@ -86,23 +87,24 @@ twice-alike Kind.Corner a b h = refl
 twice-alike Kind.Label a b h = h refl
 twice-alike (Kind.Pass p) a b h = refl
 
-module _ (f : Parts) (n : ℕ) (sheet used : List ℕ) (g : HoldsLabels (f .labels) sheet used) (few : n ≤ cornerLimit) (e : n ≡ length (f .corners)) where
-  twice : (l : Line) → Proper l → outsideLine 4 n l ≡ false → outsideLine 5 n l ≡ false → kindOf l ≡ Kind.Label
-      → labelTwice sheet used (labelIn (heldUpTo 5 (l .numbers))) ≡ doubled (f .labels) (labelLineOf (l .numbers))
-  twice l p off known k =
-      let h = label-exact n l p k few off known in
+module _ (f : Parts) (s : State) (g : FrameHeld f s) (l : Line) (p : Proper l) where
+  twice : outsideLine 4 (s .progress .corners) l ≡ false → outsideLine 5 (s .progress .corners) l ≡ false → kindOf l ≡ Kind.Label
+      → labelTwice (s .held .sheet) (s .held .used) (labelIn (heldUpTo 5 (l .numbers))) ≡ doubled (f .labels) (labelLineOf (l .numbers))
+  twice off known k =
+      let h = label-exact (s .progress .corners) l p k (g .corners .xs-held .some) off known in
       let m = labelLineOf (l .numbers) in
-      ap (labelTwice sheet used) (h .held-so)
-      ∙ ap₂ _||_ (g .cells (m .cell) (h .on-sheet)) (g .corners (natAbs (m .corner)) (omega (arith, h .given)) ∙ ap (cornerTaken (f .labels)) (sym (h .is-corner)))
+      ap (labelTwice (s .held .sheet) (s .held .used)) (h .held-so)
+      ∙ ap₂ _||_ (g .labels .cells (m .cell) (h .on-sheet)) (g .labels .corners (natAbs (m .corner)) (omega (arith, h .given, g .corners .xs-held .some)) ∙ ap (cornerTaken (f .labels)) (sym (h .is-corner)))
       ∙ sym (some-either (λ k. sameCell (k .cell) (m .cell)) (λ k. eqZ (k .corner) (m .corner)) (f .labels))
 
   -- all checks
-  pub checks-agree : (m : ℕ) (l : Line) → Proper l → m ≡ length (f .passes) → checkedHeld n m sheet used (heldLine l) ≡ checkedLine f l
+  pub checks-agree : checkedHeld (s .progress .corners) (s .progress .passes) (s .held .sheet) (s .held .used) (heldLine l) ≡ checkedLine f l
   unfolding checkedHeld checkedLine
-  checks-agree m l p d =
-      checks-alike (λ r. outsideHeld r n (heldLine l)) (λ r. outsideLine r n l) (overLimit n m (kindOf l)) _ _ (λ r. outside-held r n l few p)
-      (λ off known. twice-alike (kindOf l) _ _ (twice l p off known))
-      ∙ ap₂ (λ (i j : ℕ). checksInOrder (λ r. outsideLine r i l) (overLimit i j (kindOf l)) (twiceIn f (kindOf l) (l .numbers))) e d
+  checks-agree =
+      checks-alike (λ r. outsideHeld r (s .progress .corners) (heldLine l)) (λ r. outsideLine r (s .progress .corners) l) (overLimit (s .progress .corners) (s .progress .passes) (kindOf l)) _ _
+      (λ r. outside-held r (s .progress .corners) l (g .corners .xs-held .some) p)
+      (λ off known. twice-alike (kindOf l) _ _ (twice off known))
+      ∙ ap₂ (λ (i j : ℕ). checksInOrder (λ r. outsideLine r i l) (overLimit i j (kindOf l)) (twiceIn f (kindOf l) (l .numbers))) (g .corners .count) (g .passes .count)
 
 -- ---- one more at the end
 
@@ -280,3 +282,37 @@ module _ (f : Parts) (s : State) (g : FrameHeld f s) (l : Line) (p : Proper l) (
 
   pub line-held : FrameHeld (added f l) (adds (heldLine l) s)
   line-held = by-kind (kindOf l) refl
+
+-- the stage is not held
+pub restaged : (f : Parts) (s : State) (stage : ℕ) → FrameHeld f s → FrameHeld f (state (atStage (s .progress) stage) (s .held))
+restaged f s stage g = record { settings-are = g .settings-are; corners = g .corners; labels = g .labels; passes = g .passes }
+
+-- ---- before the first line
+
+none-set : (n k : ℕ) → k < n → isSet (replicate n 0) k ≡ false
+none-set n k h = ap (λ (v : ℕ). not (eqb v 0)) (getD-replicate n k 0 0 h)
+
+holds-none : {A : Type 0} (size : ℕ) (a : A) → Holds size 0 (replicate size a) []
+holds-none size a = record { long = length-replicate size a; some = omega arith; are = refl }
+
+no-labels : HoldsLabels [] (replicate placeCount 0) (replicate cornerLimit 0)
+unfolding someOf labelled emptySheet
+no-labels =
+    record {
+      sheet-is = refl;
+      sheet-long = length-replicate {A = ℕ} placeCount 0;
+      used-long = length-replicate {A = ℕ} cornerLimit 0;
+      cells = λ c h. none-set placeCount (placeOf c) (place-in c h);
+      corners = λ k h. none-set cornerLimit k h;
+    }
+
+pub nothing-held : (x : Float) → FrameHeld no-parts (state nothing-said (arrays (replicate cornerLimit x) (replicate cornerLimit x) (replicate cornerLimit x) (replicate placeCount 0) (replicate cornerLimit 0) (replicate wordLimit 0)))
+unfolding allWords
+nothing-held x =
+    let front = holds-none cornerLimit x in
+    record {
+      settings-are = refl;
+      corners = record { count = refl; xs-held = front; ys-held = front; pitches-held = front };
+      labels = no-labels;
+      passes = record { count = refl; words-held = holds-none wordLimit 0 };
+    }

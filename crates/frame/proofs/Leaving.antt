@@ -2,29 +2,25 @@
 -- what the answer says. Assumes nothing.
 use mathlib.Core.Path.{_≡_, refl, sym, ap, _∙_}
 use mathlib.Core.List.{List, _++_, []}
-use mathlib.Core.Bool.{true, false, not, Bool, cond}
+use mathlib.Core.Bool.{true, false, Bool, cond}
 use Prim.Native.Nat.{ℕ, suc, _+_, _<_, _≤_, _*_}
 use native.Mathlib.Omega.{arith}
 use native.Mathlib.Numerals.{add-one}
 use borrow.Author.Tests.{lt-ltb, le-ltb, ltb-false}
-use lib.ListN.{length, getD, set, take, drop, length-set, replicate, length-replicate, getD-replicate}
+use lib.ListN.{length, getD, set, take, drop, length-set}
 use lib.Seq.{length-take-le, drop-cons, set-at, append-snoc, take-suc, take-all}
-use lib.Dec.{ltb, eqb}
+use lib.Dec.{ltb}
 use lib.Ieee.{Float}
 use Rattle.refusal.specs.declared.Refusal.{Refusal}
 use Rattle.refusal.specs.Said.{number-and-line}
-use Rattle.sheet.specs.Cells.{placeOf}
-use Rattle.sheet.specs.Words.{emptySheet}
-use Rattle.sheet.proofs.Laws.{place-in}
 use Rattle.arguments.specs.Front.{over}
 use Rattle.arguments.proofs.Chains.{or-false-both}
 use Rattle.line_form.specs.Lines.{linesOf}
-use Rattle.frame_check.specs.Checks.{isSet}
-use Rattle.frame_state.specs.State.{cornerLimit, placeCount, passWords, wordLimit, Arrays, arrays, state, nothing-said}
+use Rattle.frame_state.specs.State.{cornerLimit, placeCount, passWords, wordLimit, Arrays, state}
 use Rattle.frame_state.specs.declared.Progress.{Progress}
-use Rattle.frame.specs.Reading.{Copies, Holds, HoldsLabels, FrameHeld, ReadAs, refused-as, held-as, LongEnough, buffers}
-use Rattle.frame.specs.Frame.{Frame, no-parts, partsOf, someOf, FrameRead, refused-at, accepted, readLines, byteLimit, readFrame}
-use Rattle.frame.specs.ReadFrame.{xsOf, ysOf, pitchesOf, settingsOf, labelled, sheetOf, allWords, Buffers, frameOut, tooShort, leaves, readInto, FrameOut, unlessShort}
+use Rattle.frame.specs.Reading.{Copies, Holds, FrameHeld, ReadAs, refused-as, held-as, LongEnough, buffers}
+use Rattle.frame.specs.Frame.{Frame, partsOf, FrameRead, refused-at, accepted, readLines, byteLimit, readFrame}
+use Rattle.frame.specs.ReadFrame.{xsOf, ysOf, pitchesOf, settingsOf, sheetOf, Buffers, frameOut, tooShort, leaves, readInto, FrameOut, unlessShort}
 use Rattle.frame.specs.declared.FrameAnswer.{FrameAnswer}
 use Rattle.frame.specs.declared.LinesRead.{LinesRead}
 use Rattle.frame.specs.Said.{headValues, frameSaid, lineValues, readDue, frameDue}
@@ -63,36 +59,6 @@ module _ {A : Type 0} {size n : ℕ} {from before to : List A} {i : ℕ} (g : Co
       let e : i ≡ n = omega (arith, g .some) in
       let front : length (take n from) ≡ n = length-take-le n from (omega (arith, g .copies .some, g .copies .whole)) in
       g .so-far ∙ ap (λ (k : ℕ). take k from ++ drop k before) e ∙ ap (λ (k : ℕ). take n from ++ drop k before) (sym front)
-
--- ---- before the first line
-
-none-set : (n k : ℕ) → k < n → isSet (replicate n 0) k ≡ false
-none-set n k h = ap (λ (v : ℕ). not (eqb v 0)) (getD-replicate n k 0 0 h)
-
-holds-none : {A : Type 0} (size : ℕ) (a : A) → Holds size 0 (replicate size a) []
-holds-none size a = record { long = length-replicate size a; some = omega arith; are = refl }
-
-no-labels : HoldsLabels [] (replicate placeCount 0) (replicate cornerLimit 0)
-unfolding someOf labelled emptySheet
-no-labels =
-    record {
-      sheet-is = refl;
-      sheet-long = length-replicate {A = ℕ} placeCount 0;
-      used-long = length-replicate {A = ℕ} cornerLimit 0;
-      cells = λ c h. none-set placeCount (placeOf c) (place-in c h);
-      corners = λ k h. none-set cornerLimit k h;
-    }
-
-pub nothing-held : (x : Float) → FrameHeld no-parts (state nothing-said (arrays (replicate cornerLimit x) (replicate cornerLimit x) (replicate cornerLimit x) (replicate placeCount 0) (replicate cornerLimit 0) (replicate wordLimit 0)))
-unfolding allWords
-nothing-held x =
-    let front = holds-none cornerLimit x in
-    record {
-      settings-are = refl;
-      corners = record { count = refl; xs-held = front; ys-held = front; pitches-held = front };
-      labels = no-labels;
-      passes = record { count = refl; words-held = holds-none wordLimit 0 };
-    }
 
 -- ---- at the end
 

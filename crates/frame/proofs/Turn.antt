@@ -25,7 +25,7 @@ use Rattle.frame.specs.Frame.{Frame, Parts, added, partsFrom, no-parts, 
 use Rattle.frame.specs.Reading.{FrameHeld, Room, Went, went, heldBy, heldStep, ReadAs, refused-as, held-as}
 use Rattle.frame.specs.declared.Stepped.{Stepped}
 use Rattle.frame.specs.declared.LinesRead.{LinesRead}
-use Rattle.frame.proofs.Adding.{below-or-not, checks-agree, line-held}
+use Rattle.frame.proofs.Adding.{below-or-not, checks-agree, line-held, restaged}
 
 -- ---- the parts with one line more
 
@@ -53,10 +53,6 @@ SteppedAs step (Stepped.Onward p) a = WentOn step p a
 abbrev LedAs : Step → Went → Type 0
 LedAs step w = SteppedAs step (w .answer) (w .held)
 
--- the stage is not held
-restaged : (f : Parts) (s : State) (stage : ℕ) → FrameHeld f s → FrameHeld f (state (atStage (s .progress) stage) (s .held))
-restaged f s stage g = record { settings-are = g .settings-are; corners = g .corners; labels = g .labels; passes = g .passes }
-
 module _ (f : Frame) (s : State) (g : FrameHeld (partsOf f) s) (text : List ℕ) where
   abbrev Agreed : LineRead → Type 0
   Agreed r = LedAs (stepWith (s .progress .stage) f r) (heldStep (heldRead r) s)
@@ -65,7 +61,7 @@ module _ (f : Frame) (s : State) (g : FrameHeld (partsOf f) s) (text : List ℕ)
   unfolding heldStep heldRead
   line-agrees l e =
       subst (λ (c : Checked). LedAs (stepBy (turnAt (s .progress .stage) (l .row)) (checkedLine (partsOf f) l) (f ++ (l ∷ []))) (heldBy (turnAt (s .progress .stage) (l .row)) c (adds (heldLine l) s) (s .held)))
-      (sym (checks-agree (partsOf f) (s .progress .corners) (s .held .sheet) (s .held .used) (g .labels) (g .corners .xs-held .some) (g .corners .count) (s .progress .passes) l (line-prints-back text l e .proper) (g .passes .count)))
+      (sym (checks-agree (partsOf f) s g l (line-prints-back text l e .proper)))
       (go (turnAt (s .progress .stage) (l .row)) (checkedLine (partsOf f) l) refl)
     where
       go : (u : Turn) (c : Checked) → checkedLine (partsOf f) l ≡ c → LedAs (stepBy u c (f ++ (l ∷ []))) (heldBy u c (adds (heldLine l) s) (s .held))

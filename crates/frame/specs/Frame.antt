@@ -57,6 +57,13 @@ withLabel l p = record { opening = p .opening; corners = p .corners; labels = p 
 abbrev pub withPass : PassLine → Parts → Parts
 withPass q p = record { opening = p .opening; corners = p .corners; labels = p .labels; passes = p .passes ++ (q ∷ []) }
 
+-- the part that a line of a kind changes: 0 the opening, 1 the corners, 2 the labels, 3 the passes
+abbrev pub partOf : Kind → ℕ
+partOf (Kind.Opening o) = 0
+partOf Kind.Corner = 1
+partOf Kind.Label = 2
+partOf (Kind.Pass p) = 3
+
 -- what a line of a kind adds: the one part that it changes
 unfoldable pub adding : Kind → List Number → Parts → Parts
 adding (Kind.Opening k) ns p = withOpening (opened k ns (p .opening)) p

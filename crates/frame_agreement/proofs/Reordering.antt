@@ -21,7 +21,8 @@ use Rattle.frame.specs.Frame.{Frame, partsOf}
 use Rattle.frame.specs.Text.{All, Sound, WithinLimits}
 use Rattle.frame.specs.ReadFrame.{floatOf, xsOf, ysOf, pitchesOf, labelled, sheetOf, settingsIn, settingsOf}
 use Rattle.frame_laws.specs.Calls.{cornersOf, callOf, callsOf}
-use Rattle.frame_laws.proofs.Back.{frame-prints-back, labels-sound}
+use Rattle.frame_laws.proofs.Parts.{labels-sound}
+use Rattle.frame_laws.proofs.Back.{frame-prints-back}
 use Rattle.frame_laws.proofs.Runs.{frame-standing}
 use Rattle.frame_agreement.specs.Reordering.{renumbered, SameButOrder, RunAlike, FramesRunAlike}
 

@@ -1,42 +1,32 @@
--- Reading and printing. A text that is accepted is what is printed of the frame that was read, and that frame is within the limits; its corners,
--- labels and passes are as the ranges say. What is printed of a frame within the limits is accepted and read back: the reader refuses nothing
+-- Reading and printing. A text that is accepted is what is printed of the frame that was read, and that frame is within the limits. What is printed
+-- of a frame within the limits is accepted and read back: the reader refuses nothing
 -- that 01 allows. Assumes nothing.
 use mathlib.Core.Path.{_≡_, refl, sym, ap, ap₂, _∙_, subst}
-use mathlib.Core.Bool.{Bool, true, false}
+use mathlib.Core.Bool.{Bool, true}
 use mathlib.Core.Logic.{⊎-elim}
 use mathlib.Core.List.{List, [], _∷_, _++_, map, append-nil, append-assoc}
 use Prim.Native.Nat.{ℕ, suc, _<_, _≤_}
 use native.Mathlib.Omega.{arith}
-use borrow.Author.Tests.{lt-ltb, le-ltb, leb-false, lt-leb}
-use lib.Dec.{leb}
-use lib.IntN.{natAbs}
-use lib.ListN.{length, length-append}
+use borrow.Author.Tests.{lt-ltb, le-ltb}
+use lib.ListN.{length}
 use Rattle.refusal.specs.declared.Refusal.{Refusal}
-use Rattle.sheet.specs.Cells.{eqZ}
-use Rattle.sheet.proofs.Laws.{eqZ-equal, equal-eqZ}
-use Rattle.labels.proofs.Below.{no-both}
 use Rattle.arguments.specs.declared.Checked.{Checked}
-use Rattle.arguments.proofs.Chains.{or-false, or-false-both}
-use Rattle.line_form.specs.Forms.{Number}
 use Rattle.line_form.specs.Lines.{linesOf}
 use Rattle.line_form.proofs.Every.{everyBelow, every-at}
 use Rattle.line_form.proofs.Ends.{isNone, endsOnce, printed-ends, first-line, joined, lines-joined}
 use Rattle.frame_line.specs.Table.{rows, rowCount, rowAt, formAt, turnAt, mayEnd}
-use Rattle.frame_line.specs.Lines.{Line, kindOf, Proper, lineText, LabelLine, labelLineOf, LineRead}
+use Rattle.frame_line.specs.Lines.{Line, kindOf, Proper, lineText, LineRead}
 use Rattle.frame_line.specs.Checks.{outsideLine}
 use Rattle.frame_line.specs.declared.Kind.{Kind}
 use Rattle.frame_line.specs.declared.Turn.{Turn}
 use Rattle.frame_line.proofs.Laws.{line-reads-back, line-prints-back}
 use Rattle.frame_line.proofs.Words.{counts-alike}
-use Rattle.frame_line.proofs.Said.{CornerTame, PassTame, corner-said, label-exact, pass-said}
-use Rattle.frame_check.specs.Checks.{overLimit, twiceOf}
 use Rattle.frame_check.proofs.Laws.{all-fine}
-use Rattle.frame_state.specs.State.{cornerLimit, passLimit}
-use Rattle.frame.specs.Frame.{outsideIn, overIn, twiceIn, Frame, Parts, adding, added, partsFrom, no-parts, partsOf, sameCell, clash, someOf, doubled, checkedLine, Step, onward, stepBy, stepWith, stepLine, FrameRead, refused-at, accepted, atEnd, going, readLines, byteLimit, readFrame}
-use Rattle.frame.specs.Text.{frameText, All, InOrder, ends, next, InRange, Sound, Apart, WithinLimits, FrameReadsBack, FramePrintsBack, LabelsSound, Passed, none-yet, one-more}
-use Rattle.frame.proofs.Adding.{below-or-not, same-cell, cell-same, line-fine}
+use Rattle.frame.specs.Frame.{outsideIn, Frame, Parts, added, partsFrom, no-parts, partsOf, checkedLine, Step, onward, stepBy, stepWith, stepLine, FrameRead, refused-at, accepted, atEnd, going, readLines, byteLimit, readFrame}
+use Rattle.frame.specs.Text.{frameText, All, InOrder, ends, next, InRange, FrameReadsBack, FramePrintsBack, Passed, none-yet, one-more}
+use Rattle.frame.proofs.Adding.{below-or-not, line-fine}
 use Rattle.frame.proofs.Turn.{parts-more}
-use Rattle.frame_laws.proofs.Parts.{all-then, all-map, AllParts, parts-all, all-given}
+use Rattle.frame_laws.proofs.Parts.{all-map, all-given, Limits, limits-after, limits-before, limits-first, no-limits, within-limits, frame-limits}
 use Rattle.frame_laws.proofs.Refusals.{Stepping, stops, goes, stepping, Ending, all-read, one-fails, one-missing, ending}
 
 -- ---- the lines of what is printed
@@ -125,88 +115,13 @@ numbers-of {stage} {p} (pass-on {to = to} {ls = ls} l proper t c more) =
     let all = counted-all stage to p l ls t (proper .few, rows-of more) (passing-order more) in
     (record { proper = proper; first = sym (all 1) ∙ f .first; ranges = sym (all 3) ∙ f .ranges; on-sheet = sym (all 4) ∙ f .on; known = sym (all 5) ∙ f .known }, numbers-of more)
 
--- ---- labels that are apart
-
-abbrev Differ : LabelLine → LabelLine → Type 0
-Differ m l = (m .cell ≡ l .cell → ⊥) × (m .corner ≡ l .corner → ⊥)
-
-differ : (m l : LabelLine) → clash m l ≡ false → Differ m l
-differ m l e = let n = or-false-both _ _ e in (λ q. no-both _ (cell-same (m .cell) (l .cell) q) (n .0), λ q. no-both _ (equal-eqZ (m .corner) (l .corner) q) (n .1))
-
-no-clash : (m l : LabelLine) → Differ m l → clash m l ≡ false
-no-clash m l d = or-false _ _ (not-so (sameCell (m .cell) (l .cell)) (λ e. d .0 (same-cell (m .cell) (l .cell) e))) (not-so (eqZ (m .corner) (l .corner)) (λ e. d .1 (eqZ-equal (m .corner) (l .corner) e)))
-  where
-    not-so : (t : Bool) → (t ≡ true → ⊥) → t ≡ false
-    not-so true h = absurd (h refl)
-    not-so false h = refl
-
--- one label more, which is not doubled
-apart-more : (ls : List LabelLine) (l : LabelLine) → Apart ls → doubled ls l ≡ false → Apart (ls ++ (l ∷ []))
-unfolding someOf
-apart-more [] l a e = (tt, tt)
-apart-more (m ∷ ls) l a e =
-    let n = or-false-both (clash m l) (doubled ls l) e in
-    (all-then (Differ m) ls (l ∷ []) (a .0) (differ m l (n .0), tt), apart-more ls l (a .1) (n .1))
-
-apart-before : (ls : List LabelLine) (l : LabelLine) → Apart (ls ++ (l ∷ [])) → Apart ls × (doubled ls l ≡ false)
-unfolding someOf
-apart-before [] l a = (tt, refl)
-apart-before (m ∷ ls) l a =
-    let d = all-before (Differ m) ls l (a .0) in
-    let r = apart-before ls l (a .1) in
-    ((d .0, r .0), or-false (clash m l) (doubled ls l) (no-clash m l (d .1)) (r .1))
-  where
-    all-before : (P : LabelLine → Type 0) (ks : List LabelLine) (b : LabelLine) → All P (ks ++ (b ∷ [])) → All P ks × P b
-    all-before P [] b p = (tt, p .0)
-    all-before P (k ∷ ks) b p = let r = all-before P ks b (p .1) in ((p .0, r .0), r .1)
-
--- ---- the limits, before a line and after it
-
-one-longer : {A : Type 0} (n : ℕ) (l : List A) (a : A) → leb n (length l) ≡ false → length (l ++ (a ∷ [])) ≤ n
-one-longer n l a e = let h = leb-false n (length l) e in omega (arith, length-append l (a ∷ []))
-
-shorter : {A : Type 0} (n : ℕ) (l : List A) (a : A) → length (l ++ (a ∷ [])) ≤ n → length l < n
-shorter n l a h = omega (arith, length-append l (a ∷ []))
-
-record Limits (p : Parts) : Type 0 where
-  corners : length (p .corners) ≤ cornerLimit
-  passes : length (p .passes) ≤ passLimit
-  once : Apart (p .labels)
-
--- a line of this kind passes no limit, and is not doubled
-record Fits (k : Kind) (ns : List Number) (p : Parts) : Type 0 where
-  room : overIn p k ≡ false
-  once : twiceIn p k ns ≡ false
-
-limits-after : (k : Kind) (ns : List Number) (p : Parts) → Fits k ns p → Limits p → Limits (adding k ns p)
-unfolding adding overLimit twiceOf
-limits-after (Kind.Opening o) ns p f m = record { corners = m .corners; passes = m .passes; once = m .once }
-limits-after Kind.Corner ns p f m = record { corners = one-longer cornerLimit (p .corners) _ (f .room); passes = m .passes; once = m .once }
-limits-after Kind.Label ns p f m = record { corners = m .corners; passes = m .passes; once = apart-more (p .labels) (labelLineOf ns) (m .once) (f .once) }
-limits-after (Kind.Pass q) ns p f m = record { corners = m .corners; passes = one-longer passLimit (p .passes) _ (f .room); once = m .once }
-
-limits-before : (k : Kind) (ns : List Number) (p : Parts) → Limits (adding k ns p) → Limits p × Fits k ns p
-unfolding adding overLimit twiceOf
-limits-before (Kind.Opening o) ns p m = (record { corners = m .corners; passes = m .passes; once = m .once }, record { room = refl; once = refl })
-limits-before Kind.Corner ns p m =
-    let h = shorter cornerLimit (p .corners) _ (m .corners) in
-    (record { corners = omega arith; passes = m .passes; once = m .once }, record { room = lt-leb cornerLimit (length (p .corners)) h; once = refl })
-limits-before Kind.Label ns p m =
-    let a = apart-before (p .labels) (labelLineOf ns) (m .once) in (record { corners = m .corners; passes = m .passes; once = a .0 }, record { room = refl; once = a .1 })
-limits-before (Kind.Pass q) ns p m =
-    let h = shorter passLimit (p .passes) _ (m .passes) in
-    (record { corners = m .corners; passes = omega arith; once = m .once }, record { room = lt-leb passLimit (length (p .passes)) h; once = refl })
+-- ---- the limits
 
 limits-of : {stage : ℕ} {p : Parts} {ls : List Line} → Passing stage p ls → Limits p → Limits (partsFrom p ls)
 unfolding partsFrom
 limits-of (end-here e) m = m
 limits-of {stage} {p} (pass-on l proper t c more) m =
     let f = line-fine p l c in limits-of more (limits-after (kindOf l) (l .numbers) p (record { room = f .room; once = f .once }) m)
-
-limits-first : (p : Parts) (ls : List Line) → Limits (partsFrom p ls) → Limits p
-unfolding partsFrom
-limits-first p [] m = m
-limits-first p (l ∷ ls) m = limits-before (kindOf l) (l .numbers) p (limits-first (added p l) ls m) .0
 
 -- ---- the laws
 
@@ -215,18 +130,9 @@ unfolding partsOf partsFrom
 prints-back text f h r =
     let t : text ≡ frameText f = sym (lines-joined text) ∙ ap joined (r .texts-again) ∙ lines-text (r .lines) ∙ ap frameText (sym (r .all-are)) in
     let passing : Passing 0 no-parts f = subst (Passing 0 no-parts) (sym (r .all-are)) (r .passing) in
-    let m = limits-of passing (record { corners = omega arith; passes = omega arith; once = tt }) in
     record {
       text-again = t;
-      within =
-          record {
-            bytes = subst (λ (x : List ℕ). length x ≤ byteLimit) t h;
-            order = passing-order passing;
-            numbers = numbers-of passing;
-            corners = m .corners;
-            passes = m .passes;
-            once = m .once;
-          };
+      within = within-limits (subst (λ (x : List ℕ). length x ≤ byteLimit) t h) (passing-order passing) (numbers-of passing) (limits-of passing no-limits);
     }
 
 pub frame-prints-back : (text : List ℕ) (f : Frame) → readFrame text ≡ accepted f → FramePrintsBack text f
@@ -262,23 +168,4 @@ pub frame-reads-back : FrameReadsBack
 unfolding readFrame partsOf partsFrom
 frame-reads-back f w =
     rw (le-ltb byteLimit (length (frameText f)) (w .bytes), lines-printed (length (partsOf f .corners)) f (w .numbers))
-    (passing-read 1 [] refl (within-passes 0 no-parts f (w .order) (w .numbers) (record { corners = w .corners; passes = w .passes; once = w .once })))
-
--- what the lines of a frame within the limits say
-pub parts-tame : (f : Frame) → WithinLimits f → AllParts CornerTame (Sound (length (partsOf f .corners))) PassTame (partsOf f)
-unfolding partsOf
-parts-tame f w =
-    let n = length (partsOf f .corners) in
-    parts-all CornerTame (Sound n) PassTame no-parts f
-    (all-map
-    (λ l r. record {
-      corner = λ e. corner-said n l (r .proper) (r .ranges) e;
-      label = λ e.
-          let h = label-exact n l (r .proper) e (w .corners) (r .on-sheet) (r .known) in
-          record { on-sheet = h .on-sheet; corner = natAbs (labelLineOf (l .numbers) .corner); is-corner = h .is-corner; given = h .given };
-      pass = λ q e. pass-said n l (r .proper) (r .ranges) q e;
-    }) f (w .numbers))
-    (record { corners = tt; labels = tt; passes = tt })
-
-pub labels-sound : LabelsSound
-labels-sound f w = parts-tame f w .labels
+    (passing-read 1 [] refl (within-passes 0 no-parts f (w .order) (w .numbers) (frame-limits w)))

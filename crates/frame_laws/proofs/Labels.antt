@@ -22,8 +22,7 @@ use Rattle.frame.specs.Frame.{Frame, partsOf}
 use Rattle.frame.specs.ReadFrame.{labelled, sheetOf}
 use Rattle.frame.specs.Text.{All, Sound, Apart, WithinLimits}
 use Rattle.frame_laws.specs.Calls.{NamedBy, GivenLabels}
-use Rattle.frame_laws.proofs.Parts.{all-map}
-use Rattle.frame_laws.proofs.Back.{labels-sound}
+use Rattle.frame_laws.proofs.Parts.{all-map, labels-sound}
 
 abbrev put : List ℕ → LabelLine → List ℕ
 put sheet l = attached sheet (l .cell) (natAbs (l .corner))

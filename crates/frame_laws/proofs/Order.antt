@@ -16,15 +16,10 @@ use Rattle.frame_line.specs.declared.Kind.{Kind}
 use Rattle.frame_line.specs.declared.Sort.{Sort}
 use Rattle.frame_line.specs.declared.Turn.{Turn}
 use Rattle.frame_line.proofs.Checking.{no-stage}
+use Rattle.frame.specs.Frame.{partOf}
 use Rattle.frame.proofs.Adding.{below-or-not}
 
--- the part that a line changes: 0 the opening, 1 the corners, 2 the labels, 3 the passes
-abbrev pub partOf : Kind → ℕ
-partOf (Kind.Opening o) = 0
-partOf Kind.Corner = 1
-partOf Kind.Label = 2
-partOf (Kind.Pass p) = 3
-
+-- a line that changes the opening; one that adds a corner
 abbrev pub opens : Kind → Bool
 opens k = eqb (partOf k) 0
 

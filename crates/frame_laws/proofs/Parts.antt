@@ -1,9 +1,20 @@
--- The parts of a frame: what holds of all of a part, and what comes no more. Assumes nothing.
+-- The parts of a frame, kind by kind: what holds of all of a part, what comes no more, the limits before a line and after it, and what the lines
+-- say. Assumes nothing.
 use mathlib.Core.Path.{_≡_, refl, sym, ap, _∙_}
-use mathlib.Core.Bool.{false, true≢false}
+use mathlib.Core.Bool.{false, true≢false, Bool, true}
 use mathlib.Core.List.{List, [], _∷_, _++_}
-use Prim.Native.Nat.{ℕ, _<_}
-use lib.ListN.{length}
+use Prim.Native.Nat.{ℕ, _<_, _≤_}
+use native.Mathlib.Omega.{arith}
+use borrow.Author.Tests.{leb-false, lt-leb}
+use lib.ListN.{length, length-append}
+use lib.Dec.{leb}
+use lib.IntN.{natAbs}
+use Rattle.refusal.specs.declared.Refusal.{Refusal}
+use Rattle.sheet.specs.Cells.{eqZ}
+use Rattle.sheet.proofs.Laws.{eqZ-equal, equal-eqZ}
+use Rattle.labels.proofs.Below.{no-both}
+use Rattle.arguments.specs.declared.Checked.{Checked}
+use Rattle.arguments.proofs.Chains.{or-false, or-false-both}
 use Rattle.line_form.specs.Forms.{Number}
 use Rattle.frame_line.specs.Table.{rowCount, turnAt, sortAt}
 use Rattle.frame_line.specs.Lines.{Line, kindOf, CornerLine, cornerLineOf, LabelLine, labelLineOf, PassLine, passLineOf}
@@ -11,8 +22,12 @@ use Rattle.frame_line.specs.declared.Kind.{Kind}
 use Rattle.frame_line.specs.declared.PassKind.{PassKind}
 use Rattle.frame_line.specs.declared.Sort.{Sort}
 use Rattle.frame_line.specs.declared.Turn.{Turn}
-use Rattle.frame.specs.Frame.{Parts, adding, added, partsFrom}
-use Rattle.frame.specs.Text.{All, InOrder, ends, next}
+use Rattle.frame_line.proofs.Said.{CornerTame, PassTame, corner-said, label-exact, pass-said}
+use Rattle.frame_check.specs.Checks.{overLimit, twiceOf}
+use Rattle.frame_state.specs.State.{cornerLimit, passLimit}
+use Rattle.frame.specs.Frame.{Parts, adding, added, partsFrom, overIn, twiceIn, Frame, no-parts, partsOf, sameCell, clash, someOf, doubled, byteLimit}
+use Rattle.frame.specs.Text.{All, InOrder, ends, next, frameText, InRange, Sound, Apart, WithinLimits, LabelsSound}
+use Rattle.frame.proofs.Adding.{same-cell, cell-same}
 use Rattle.frame_laws.proofs.Order.{opens, isCorner, past-corners, asked-corner}
 
 -- ---- what holds of all elements of a list
@@ -75,3 +90,111 @@ unfolding partsFrom
 all-given s t p l ls e r o m c =
     let n = asked-corner s (l .row) t (r .0) e m c in
     ap length (sym (corners-kept t (added p l) ls (n .0) (r .1) o ∙ kept (kindOf l) (l .numbers) p .1 (n .1)))
+
+-- ---- labels that are apart
+
+abbrev Differ : LabelLine → LabelLine → Type 0
+Differ m l = (m .cell ≡ l .cell → ⊥) × (m .corner ≡ l .corner → ⊥)
+
+differ : (m l : LabelLine) → clash m l ≡ false → Differ m l
+differ m l e = let n = or-false-both _ _ e in (λ q. no-both _ (cell-same (m .cell) (l .cell) q) (n .0), λ q. no-both _ (equal-eqZ (m .corner) (l .corner) q) (n .1))
+
+no-clash : (m l : LabelLine) → Differ m l → clash m l ≡ false
+no-clash m l d = or-false _ _ (not-so (sameCell (m .cell) (l .cell)) (λ e. d .0 (same-cell (m .cell) (l .cell) e))) (not-so (eqZ (m .corner) (l .corner)) (λ e. d .1 (eqZ-equal (m .corner) (l .corner) e)))
+  where
+    not-so : (t : Bool) → (t ≡ true → ⊥) → t ≡ false
+    not-so true h = absurd (h refl)
+    not-so false h = refl
+
+-- one label more, which is not doubled
+apart-more : (ls : List LabelLine) (l : LabelLine) → Apart ls → doubled ls l ≡ false → Apart (ls ++ (l ∷ []))
+unfolding someOf
+apart-more [] l a e = (tt, tt)
+apart-more (m ∷ ls) l a e =
+    let n = or-false-both (clash m l) (doubled ls l) e in
+    (all-then (Differ m) ls (l ∷ []) (a .0) (differ m l (n .0), tt), apart-more ls l (a .1) (n .1))
+
+apart-before : (ls : List LabelLine) (l : LabelLine) → Apart (ls ++ (l ∷ [])) → Apart ls × (doubled ls l ≡ false)
+unfolding someOf
+apart-before [] l a = (tt, refl)
+apart-before (m ∷ ls) l a =
+    let d = all-before (Differ m) ls l (a .0) in
+    let r = apart-before ls l (a .1) in
+    ((d .0, r .0), or-false (clash m l) (doubled ls l) (no-clash m l (d .1)) (r .1))
+  where
+    all-before : (P : LabelLine → Type 0) (ks : List LabelLine) (b : LabelLine) → All P (ks ++ (b ∷ [])) → All P ks × P b
+    all-before P [] b p = (tt, p .0)
+    all-before P (k ∷ ks) b p = let r = all-before P ks b (p .1) in ((p .0, r .0), r .1)
+
+-- ---- the limits, before a line and after it
+
+one-longer : {A : Type 0} (n : ℕ) (l : List A) (a : A) → leb n (length l) ≡ false → length (l ++ (a ∷ [])) ≤ n
+one-longer n l a e = let h = leb-false n (length l) e in omega (arith, length-append l (a ∷ []))
+
+shorter : {A : Type 0} (n : ℕ) (l : List A) (a : A) → length (l ++ (a ∷ [])) ≤ n → length l < n
+shorter n l a h = omega (arith, length-append l (a ∷ []))
+
+pub record Limits (p : Parts) : Type 0 where
+  pub corners : length (p .corners) ≤ cornerLimit
+  pub passes : length (p .passes) ≤ passLimit
+  pub once : Apart (p .labels)
+
+-- a line of this kind passes no limit, and is not doubled
+pub record Fits (k : Kind) (ns : List Number) (p : Parts) : Type 0 where
+  pub room : overIn p k ≡ false
+  pub once : twiceIn p k ns ≡ false
+
+pub limits-after : (k : Kind) (ns : List Number) (p : Parts) → Fits k ns p → Limits p → Limits (adding k ns p)
+unfolding adding overLimit twiceOf
+limits-after (Kind.Opening o) ns p f m = record { corners = m .corners; passes = m .passes; once = m .once }
+limits-after Kind.Corner ns p f m = record { corners = one-longer cornerLimit (p .corners) _ (f .room); passes = m .passes; once = m .once }
+limits-after Kind.Label ns p f m = record { corners = m .corners; passes = m .passes; once = apart-more (p .labels) (labelLineOf ns) (m .once) (f .once) }
+limits-after (Kind.Pass q) ns p f m = record { corners = m .corners; passes = one-longer passLimit (p .passes) _ (f .room); once = m .once }
+
+pub limits-before : (k : Kind) (ns : List Number) (p : Parts) → Limits (adding k ns p) → Limits p × Fits k ns p
+unfolding adding overLimit twiceOf
+limits-before (Kind.Opening o) ns p m = (record { corners = m .corners; passes = m .passes; once = m .once }, record { room = refl; once = refl })
+limits-before Kind.Corner ns p m =
+    let h = shorter cornerLimit (p .corners) _ (m .corners) in
+    (record { corners = omega arith; passes = m .passes; once = m .once }, record { room = lt-leb cornerLimit (length (p .corners)) h; once = refl })
+limits-before Kind.Label ns p m =
+    let a = apart-before (p .labels) (labelLineOf ns) (m .once) in (record { corners = m .corners; passes = m .passes; once = a .0 }, record { room = refl; once = a .1 })
+limits-before (Kind.Pass q) ns p m =
+    let h = shorter passLimit (p .passes) _ (m .passes) in
+    (record { corners = m .corners; passes = omega arith; once = m .once }, record { room = lt-leb passLimit (length (p .passes)) h; once = refl })
+
+pub limits-first : (p : Parts) (ls : List Line) → Limits (partsFrom p ls) → Limits p
+unfolding partsFrom
+limits-first p [] m = m
+limits-first p (l ∷ ls) m = limits-before (kindOf l) (l .numbers) p (limits-first (added p l) ls m) .0
+
+pub no-limits : Limits no-parts
+no-limits = record { corners = omega arith; passes = omega arith; once = tt }
+
+-- of a frame
+pub within-limits : {f : Frame} → length (frameText f) ≤ byteLimit → InOrder 0 f → All (InRange (length (partsOf f .corners))) f → Limits (partsOf f) → WithinLimits f
+within-limits b o n m = record { bytes = b; order = o; numbers = n; corners = m .corners; passes = m .passes; once = m .once }
+
+pub frame-limits : {f : Frame} → WithinLimits f → Limits (partsOf f)
+frame-limits w = record { corners = w .corners; passes = w .passes; once = w .once }
+
+-- ---- what the lines say
+
+-- what the lines of a frame within the limits say
+pub parts-tame : (f : Frame) → WithinLimits f → AllParts CornerTame (Sound (length (partsOf f .corners))) PassTame (partsOf f)
+unfolding partsOf
+parts-tame f w =
+    let n = length (partsOf f .corners) in
+    parts-all CornerTame (Sound n) PassTame no-parts f
+    (all-map
+    (λ l r. record {
+      corner = λ e. corner-said n l (r .proper) (r .ranges) e;
+      label = λ e.
+          let h = label-exact n l (r .proper) e (w .corners) (r .on-sheet) (r .known) in
+          record { on-sheet = h .on-sheet; corner = natAbs (labelLineOf (l .numbers) .corner); is-corner = h .is-corner; given = h .given };
+      pass = λ q e. pass-said n l (r .proper) (r .ranges) q e;
+    }) f (w .numbers))
+    (record { corners = tt; labels = tt; passes = tt })
+
+pub labels-sound : LabelsSound
+labels-sound f w = parts-tame f w .labels

@@ -35,8 +35,8 @@ use Rattle.frame.specs.ReadFrame.{floatOf, xsOf, ysOf, pitchesOf, sheetOf, sett
 use Rattle.frame.proofs.Adding.{below-or-not}
 use Rattle.frame_laws.specs.Calls.{cornersOf, frameRooms, passCall, callOf, callsOf, NoneRefused, Starts, AcceptedRuns}
 use Rattle.frame_laws.proofs.Order.{comes, later-opens, ends-late}
-use Rattle.frame_laws.proofs.Parts.{all-map, kept}
-use Rattle.frame_laws.proofs.Back.{frame-prints-back, parts-tame}
+use Rattle.frame_laws.proofs.Parts.{all-map, kept, parts-tame}
+use Rattle.frame_laws.proofs.Back.{frame-prints-back}
 use Rattle.frame_laws.proofs.Labels.{given-labels, sheet-long, corner-known, one-cell}
 
 -- ---- numbers in range

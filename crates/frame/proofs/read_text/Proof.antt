@@ -1,6 +1,7 @@
 -- `frame::read_text` meets its contract: a refusal writes nothing, and an accepted frame is copied. Assumes nothing.
 use native.Mathlib.Omega.{arith}
-use Rattle.frame.proofs.Leaving.{nothing-held, whole-read, text-refused, xs-copied, ys-copied, pitches-copied, sheet-copied, passes-copied, text-accepted}
+use Rattle.frame.proofs.Adding.{nothing-held}
+use Rattle.frame.proofs.Leaving.{whole-read, text-refused, xs-copied, ys-copied, pitches-copied, sheet-copied, passes-copied, text-accepted}
 use borrow.Author.Needs.{needs}
 use Rattle.frame.proofs.read_text.Statement.{statement}
 use Rattle.frame.proofs.read_text.Tie as tie
