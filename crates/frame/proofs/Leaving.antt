@@ -78,40 +78,25 @@ text-refused (refused-as q k) r n e b = let i : r ≡ q = cc in let j : n ≡ k 
 text-refused (held-as f p g) r n e b = absurd (let z : _≡_ {A = ℕ} 0 1 = cc in omega arith)
 
 -- the front of an array that is copied, and what a buffer has after it
-copies : {A : Type 0} {size n : ℕ} {entries these to : List A} → Holds size n entries these → size ≤ length to → Copies size n entries to
+pub copies : {A : Type 0} {size n : ℕ} {entries these to : List A} → Holds size n entries these → size ≤ length to → Copies size n entries to
 copies g h = record { whole = g .long; some = g .some; room = h }
 
 left : {A : Type 0} {size n : ℕ} {entries these : List A} → Holds size n entries these → (to after : List A) → after ≡ over (take n entries) to → after ≡ over these to
 left g to after e = e ∙ ap (λ (l : List _). over l to) (g .are)
 
-module _ {f : FrameRead} {p : Progress} {a : Arrays} {b : Buffers} (w : Accepting f p a) (long : LongEnough b) where
-  sheet-held : Holds placeCount placeCount (a .sheet) (sheetOf (w .frame))
+module _ {f : FrameRead} {p : Progress} {a : Arrays} (w : Accepting f p a) where
+  pub sheet-held : Holds placeCount placeCount (a .sheet) (sheetOf (w .frame))
   unfolding sheetOf
   sheet-held =
       let g = w .holds .labels in
       record { long = g .sheet-long; some = omega arith; are = take-all placeCount (a .sheet) (omega (arith, g .sheet-long)) ∙ g .sheet-is }
 
-  pub xs-copied : Copies cornerLimit (p .corners) (a .xs) (b .xs)
-  xs-copied = copies (w .holds .corners .xs-held) (long .xs-long)
-
-  pub ys-copied : Copies cornerLimit (p .corners) (a .ys) (b .ys)
-  ys-copied = copies (w .holds .corners .ys-held) (long .ys-long)
-
-  pub pitches-copied : Copies cornerLimit (p .corners) (a .pitches) (b .pitches)
-  pitches-copied = copies (w .holds .corners .pitches-held) (long .pitches-long)
-
-  pub sheet-copied : Copies placeCount placeCount (a .sheet) (b .sheet)
-  sheet-copied = copies sheet-held (long .sheet-long)
-
-  pub passes-copied : Copies wordLimit (passWords * p .passes) (a .passes) (b .passes)
-  passes-copied = copies (w .holds .passes .words-held) (long .passes-long)
-
   -- an accepted frame is written
-  pub text-accepted : (xs ys pitches : List Float) (sheet passes : List ℕ) → xs ≡ over (take (p .corners) (a .xs)) (b .xs) → ys ≡ over (take (p .corners) (a .ys)) (b .ys)
+  pub text-accepted : (b : Buffers) (xs ys pitches : List Float) (sheet passes : List ℕ) → xs ≡ over (take (p .corners) (a .xs)) (b .xs) → ys ≡ over (take (p .corners) (a .ys)) (b .ys)
       → pitches ≡ over (take (p .corners) (a .pitches)) (b .pitches) → sheet ≡ over (take placeCount (a .sheet)) (b .sheet) → passes ≡ over (take (passWords * p .passes) (a .passes)) (b .passes)
       → frameOut (FrameAnswer.Accepted (record { settings = p .settings; corners = p .corners; passes = p .passes })) xs ys pitches sheet passes ≡ leaves f b
   unfolding settingsOf xsOf ysOf pitchesOf
-  text-accepted xs ys pitches sheet passes x y z s q =
+  text-accepted b xs ys pitches sheet passes x y z s q =
       let c = w .holds .corners in
       rw (w .is, left (c .xs-held) _ _ x, left (c .ys-held) _ _ y, left (c .pitches-held) _ _ z, left sheet-held _ _ s, left (w .holds .passes .words-held) _ _ q, w .holds .settings-are, c .count, w .holds .passes .count)
 
@@ -154,10 +139,7 @@ unfolding frameSaid
 unless-said true text b = refl
 unless-said false text b = read-said (readFrame text) b
 
-frame-said : (text : List ℕ) (b : Buffers) (out : FrameOut) → out ≡ readInto text b → frameSaid (out .answer) ≡ frameDue text b
-unfolding readInto frameDue
-frame-said text b out e = ap (λ (w : FrameOut). frameSaid (w .answer)) e ∙ unless-said (tooShort b) text b
-
 -- both promises of `read_frame` at once
 pub promised : (text : List ℕ) (b : Buffers) {out : FrameOut} → out ≡ readInto text b → (out ≡ readInto text b) × (frameSaid (out .answer) ≡ frameDue text b)
-promised text b e = (e, frame-said text b _ e)
+unfolding readInto frameDue
+promised text b e = (e, ap (λ (w : FrameOut). frameSaid (w .answer)) e ∙ unless-said (tooShort b) text b)

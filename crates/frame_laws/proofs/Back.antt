@@ -1,6 +1,5 @@
 -- Reading and printing. A text that is accepted is what is printed of the frame that was read, and that frame is within the limits. What is printed
--- of a frame within the limits is accepted and read back: the reader refuses nothing
--- that 01 allows. Assumes nothing.
+-- of a frame within the limits is accepted and read back: the reader refuses nothing that 01 allows. Assumes nothing.
 use mathlib.Core.Path.{_≡_, refl, sym, ap, ap₂, _∙_, subst}
 use mathlib.Core.Bool.{Bool, true}
 use mathlib.Core.Logic.{⊎-elim}

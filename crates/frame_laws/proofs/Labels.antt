@@ -2,7 +2,7 @@
 -- to the frame's corners, each corner at one cell. Assumes nothing.
 use mathlib.Core.Path.{_≡_, refl, sym, ap, subst, _∙_}
 use mathlib.Core.Bool.{false}
-use mathlib.Core.Logic.{_⊎_, inl, inr}
+use mathlib.Core.Logic.{_⊎_, inl, inr, ⊎-elim}
 use mathlib.Core.List.{List, [], _∷_, List·Memᴰ, List·Memᴰ·head, List·Memᴰ·tail}
 use Prim.Native.Nat.{ℕ, _<_, _≤_}
 use native.Mathlib.Omega.{arith}
@@ -79,15 +79,13 @@ module _ {n : ℕ} (few : n ≤ cornerLimit) where
   only-named : (ls : List LabelLine) (sheet : List ℕ) → placeCount ≤ length sheet → All (Sound n) ls → (c : Cell) (k : ℕ) → labelAt (labelled sheet ls) c ≡ Label.Corner k → NamedBy ls c k ⊎ (labelAt sheet c ≡ Label.Corner k)
   unfolding labelled
   only-named [] sheet long s c k e = inr e
-  only-named (l ∷ ls) sheet long s c k e = go (only-named ls (put sheet l) (still-long sheet long l (s .0)) (s .1) c k e)
+  only-named (l ∷ ls) sheet long s c k e = ⊎-elim (λ h. inl (later h)) (λ h. ⊎-elim (λ i. inl (first i)) inr (label-cases sheet long l (s .0) c k h)) (only-named ls (put sheet l) (still-long sheet long l (s .0)) (s .1) c k e)
     where
-      first : ((l .cell ≡ c) × (l .corner ≡ pos k)) ⊎ (labelAt sheet c ≡ Label.Corner k) → NamedBy (l ∷ ls) c k ⊎ (labelAt sheet c ≡ Label.Corner k)
-      first (inl h) = inl (record { label = l; listed = List·Memᴰ·head refl; cell = h .0; corner = h .1 })
-      first (inr h) = inr h
+      first : (l .cell ≡ c) × (l .corner ≡ pos k) → NamedBy (l ∷ ls) c k
+      first h = record { label = l; listed = List·Memᴰ·head refl; cell = h .0; corner = h .1 }
 
-      go : NamedBy ls c k ⊎ (labelAt (put sheet l) c ≡ Label.Corner k) → NamedBy (l ∷ ls) c k ⊎ (labelAt sheet c ≡ Label.Corner k)
-      go (inl h) = inl (record { label = h .label; listed = List·Memᴰ·tail (h .listed); cell = h .cell; corner = h .corner })
-      go (inr h) = first (label-cases sheet long l (s .0) c k h)
+      later : NamedBy ls c k → NamedBy (l ∷ ls) c k
+      later h = record { label = h .label; listed = List·Memᴰ·tail (h .listed); cell = h .cell; corner = h .corner }
 
   no-marks : (ls : List LabelLine) (sheet : List ℕ) → placeCount ≤ length sheet → All (Sound n) ls → (c : Cell) → (holeAt sheet c ≡ false) × (ambiguousAt sheet c ≡ false)
       → (holeAt (labelled sheet ls) c ≡ false) × (ambiguousAt (labelled sheet ls) c ≡ false)
@@ -120,14 +118,10 @@ module _ (f : Frame) (w : WithinLimits f) where
       let s = labels-sound f w in
       record {
         each = each-held (w .corners) (partsOf f .labels) emptySheet long s (w .once);
-        only = λ c k e. named c k (only-named (w .corners) (partsOf f .labels) emptySheet long s c k e);
+        only = λ c k e. ⊎-elim (λ h. h) (λ h. absurd (no-corner k (sym (empty-label c) ∙ h))) (only-named (w .corners) (partsOf f .labels) emptySheet long s c k e);
         no-hole = λ c. no-marks (w .corners) (partsOf f .labels) emptySheet long s c (empty-hole c, empty-ambiguous c) .0;
         no-ambiguous = λ c. no-marks (w .corners) (partsOf f .labels) emptySheet long s c (empty-hole c, empty-ambiguous c) .1;
       }
-    where
-      named : (c : Cell) (k : ℕ) → NamedBy (partsOf f .labels) c k ⊎ (labelAt emptySheet c ≡ Label.Corner k) → NamedBy (partsOf f .labels) c k
-      named c k (inl h) = h
-      named c k (inr h) = absurd (no-corner k (sym (empty-label c) ∙ h))
 
   pub sheet-long : placeCount ≤ length (sheetOf f)
   unfolding sheetOf

@@ -9,11 +9,9 @@ use borrow.Author.Tests.{leb-false, lt-leb}
 use lib.ListN.{length, length-append}
 use lib.Dec.{leb}
 use lib.IntN.{natAbs}
-use Rattle.refusal.specs.declared.Refusal.{Refusal}
 use Rattle.sheet.specs.Cells.{eqZ}
 use Rattle.sheet.proofs.Laws.{eqZ-equal, equal-eqZ}
 use Rattle.labels.proofs.Below.{no-both}
-use Rattle.arguments.specs.declared.Checked.{Checked}
 use Rattle.arguments.proofs.Chains.{or-false, or-false-both}
 use Rattle.line_form.specs.Forms.{Number}
 use Rattle.frame_line.specs.Table.{rowCount, turnAt, sortAt}

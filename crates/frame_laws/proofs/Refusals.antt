@@ -143,24 +143,16 @@ short-enough : (text : List ℕ) → length text ≤ byteLimit → readFrame tex
 unfolding readFrame
 short-enough text h = rw (le-ltb byteLimit (length text) h)
 
-stops-there : (n stage : ℕ) (f : Frame) (text : List ℕ) (texts : List (List ℕ)) (r : Refusal) → stepLine stage f text ≡ stopped r → readLines n stage f (text ∷ texts) ≡ refused-at r n
-unfolding readLines
-stops-there n stage f text texts r e = ap (λ (s : Step). going n s (λ stage' f'. readLines (suc n) stage' f' texts)) e
-
-ends-early : (n stage : ℕ) (f : Frame) → mayEnd stage ≡ false → readLines n stage f [] ≡ refused-at Refusal.Malformed n
-unfolding readLines atEnd
-ends-early n stage f h = rw h
-
 -- so a text is refused with one number at one line, for the one reason that the table gives
 pub refused-so : (text : List ℕ) (r : Refusal) (n : ℕ) → Refused text r n → readFrame text ≡ refused-at r n
-unfolding readFrame stepLine
+unfolding readFrame readLines atEnd stepLine
 refused-so text r n (too-long h) = rw (lt-ltb byteLimit (length text) h)
 refused-so text r n (at-line k stage f s h l p w) =
     let texts = linesOf text in
     let number : 1 + length (take k texts) ≡ suc k = omega (arith, length-take-le k texts (omega arith)) in
     short-enough text h ∙ ap (readLines 1 0 []) (split-at texts k [] l) ∙ passed-read 1 (getD texts k [] ∷ drop (suc k) texts) p
-    ∙ stops-there (1 + length (take k texts)) stage f (getD texts k []) (drop (suc k) texts) s (fault-stops stage f (readLine (getD texts k [])) s w) ∙ ap (refused-at s) number
+    ∙ ap (λ (x : Step). going (1 + length (take k texts)) x (λ to g. readLines (suc (1 + length (take k texts))) to g (drop (suc k) texts))) (fault-stops stage f (readLine (getD texts k [])) s w) ∙ ap (refused-at s) number
 refused-so text r n (missing stage f h p l) =
     let texts = linesOf text in
     let number : 1 + length texts ≡ suc (length texts) = omega arith in
-    short-enough text h ∙ ap (readLines 1 0 []) (sym (append-nil texts)) ∙ passed-read 1 [] p ∙ ends-early (1 + length texts) stage f l ∙ ap (refused-at Refusal.Malformed) number
+    short-enough text h ∙ ap (readLines 1 0 []) (sym (append-nil texts)) ∙ passed-read 1 [] p ∙ ap (λ (x : Bool). cond x (accepted f) (refused-at Refusal.Malformed (1 + length texts))) l ∙ ap (refused-at Refusal.Malformed) number

@@ -17,7 +17,7 @@ use Rattle.sheet.specs.Corners.{cornerOf}
 use Rattle.arguments.specs.Arguments.{outside, queueNeeded}
 use Rattle.arguments.specs.declared.Pass.{Pass}
 use Rattle.arguments.specs.Accepted.{CornerInside, SettingsInside, PassInside}
-use Rattle.passes.specs.Outcome.{After, Outcome, done}
+use Rattle.passes.specs.Outcome.{Outcome}
 use Rattle.passes.specs.Step.{CornerLists}
 use Rattle.passes.specs.Run.{Call, PassStats, step, sheetAfter, run}
 use Rattle.invariants.specs.Calls.{Standing, CallInside, passOf as passChecked}
@@ -186,14 +186,12 @@ module _ (f : Frame) (w : WithinLimits f) where
 
 -- ---- none is refused
 
-not-refused : (o : Outcome PassStats) (a : After PassStats) (os : List (Outcome PassStats)) → o ≡ done a → NoneRefused os → NoneRefused (o ∷ os)
-not-refused o a os e h = subst (λ (x : Outcome PassStats). NoneRefused (x ∷ os)) (sym e) h
-
 none-refused : (l : CornerLists) (sheet : List ℕ) → Standing l sheet → (cs : List Call) → All (CallInside l) cs → NoneRefused (run l sheet cs)
 unfolding run
 none-refused l sheet s [] g = tt
 none-refused l sheet s (c ∷ cs) g =
-    not-refused (step l sheet c) _ (run l (sheetAfter sheet (step l sheet c)) cs) (fit-accepts l sheet c s (g .0) .done-so) (none-refused l (sheetAfter sheet (step l sheet c)) (standing-step l sheet s c) cs (g .1))
+    let rest = none-refused l (sheetAfter sheet (step l sheet c)) (standing-step l sheet s c) cs (g .1) in
+    subst (λ (o : Outcome PassStats). NoneRefused (o ∷ run l (sheetAfter sheet (step l sheet c)) cs)) (sym (fit-accepts l sheet c s (g .0) .done-so)) rest
 
 -- ---- the law
 
