@@ -33,7 +33,7 @@ use Rattle.frame_line.proofs.Shapes.{bits-held, whole-held}
 use Rattle.frame_line.proofs.Words.{tame-count}
 use Rattle.frame_check.specs.Checks.{checksInOrder, overLimit, labelTwice, twiceOf, checkedHeld, isSet}
 use Rattle.frame_check.proofs.Laws.{checks-alike, AllFine, fine-all}
-use Rattle.frame_state.specs.State.{cornerLimit, passLimit, withOpening, wordsIn, wordsPut, State, addsAs, adds, placeCount, wordLimit, atStage, nothing-said, arrays, state}
+use Rattle.frame_state.specs.State.{cornerLimit, usedCount, passLimit, withOpening, wordsIn, wordsPut, State, addsAs, adds, placeCount, wordLimit, atStage, nothing-said, arrays, state}
 use Rattle.frame_state.specs.declared.PassWords.{PassWords}
 use Rattle.frame.specs.Frame.{outsideIn, overIn, twiceIn, Parts, sameCell, someOf, doubled, checkedLine, opened, adding, added, no-parts}
 use Rattle.frame.specs.Reading.{cornerTaken, HoldsLabels, Holds, HoldsCorners, HoldsPasses, FrameHeld}
@@ -295,18 +295,18 @@ none-set n k h = ap (λ (v : ℕ). not (eqb v 0)) (getD-replicate n k 0 0 h)
 holds-none : {A : Type 0} (size : ℕ) (a : A) → Holds size 0 (replicate size a) []
 holds-none size a = record { long = length-replicate size a; some = omega arith; are = refl }
 
-no-labels : HoldsLabels [] (replicate placeCount 0) (replicate cornerLimit 0)
+no-labels : HoldsLabels [] (replicate placeCount 0) (replicate usedCount 0)
 unfolding someOf labelled emptySheet
 no-labels =
     record {
       sheet-is = refl;
       sheet-long = length-replicate {A = ℕ} placeCount 0;
-      used-long = length-replicate {A = ℕ} cornerLimit 0;
+      used-long = length-replicate {A = ℕ} usedCount 0;
       cells = λ c h. none-set placeCount (placeOf c) (place-in c h);
-      corners = λ k h. none-set cornerLimit k h;
+      corners = λ k h. none-set usedCount k (omega arith);
     }
 
-pub nothing-held : (x : Float) → FrameHeld no-parts (state nothing-said (arrays (replicate cornerLimit x) (replicate cornerLimit x) (replicate cornerLimit x) (replicate placeCount 0) (replicate cornerLimit 0) (replicate wordLimit 0)))
+pub nothing-held : (x : Float) → FrameHeld no-parts (state nothing-said (arrays (replicate cornerLimit x) (replicate cornerLimit x) (replicate cornerLimit x) (replicate placeCount 0) (replicate usedCount 0) (replicate wordLimit 0)))
 unfolding allWords
 nothing-held x =
     let front = holds-none cornerLimit x in

@@ -17,7 +17,7 @@ use Rattle.frame_line.specs.Table.{turnAt}
 use Rattle.frame_line.specs.declared.HeldLine.{HeldLine}
 use Rattle.frame_line.specs.declared.Turn.{Turn}
 use Rattle.frame_check.specs.Checks.{isSet, checkedHeld}
-use Rattle.frame_state.specs.State.{cornerLimit, placeCount, passWords, wordLimit, atStage, Arrays, State, state, adds}
+use Rattle.frame_state.specs.State.{cornerLimit, usedCount, placeCount, passWords, wordLimit, atStage, Arrays, State, state, adds}
 use Rattle.frame_state.specs.declared.Progress.{Progress}
 use Rattle.frame.specs.Frame.{Frame, Parts, partsOf, sameCell, someOf, FrameRead, refused-at, accepted}
 use Rattle.frame.specs.ReadFrame.{floatOf, settingsIn, labelled, allWords, Buffers}
@@ -59,7 +59,7 @@ cornerTaken ls z = someOf (λ l. eqZ (l .corner) z) ls
 pub record HoldsLabels (ls : List LabelLine) (sheet used : List ℕ) : Type 0 where
   pub sheet-is : sheet ≡ labelled emptySheet ls
   pub sheet-long : length sheet ≡ placeCount
-  pub used-long : length used ≡ cornerLimit
+  pub used-long : length used ≡ usedCount
   pub cells : (c : Cell) → OnSheet c → isSet sheet (placeOf c) ≡ cellTaken ls c
   pub corners : (k : ℕ) → k < cornerLimit → isSet used k ≡ cornerTaken ls (pos k)
 

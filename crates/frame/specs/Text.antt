@@ -49,10 +49,14 @@ pub record Sound (n : ℕ) (l : LabelLine) : Type 0 where
   pub is-corner : l .corner ≡ pos corner
   pub given : corner < n
 
+-- each element differs from all behind it
+abbrev pub AllDiffer : {A : Type 0} → (A → A → Type 0) → List A → Type 0
+AllDiffer D [] = Unit {0}
+AllDiffer D (a ∷ rest) = All (D a) rest × AllDiffer D rest
+
 -- no cell and no corner is labelled twice
 abbrev pub Apart : List LabelLine → Type 0
-Apart [] = Unit {0}
-Apart (l ∷ ls) = All (λ m. (l .cell ≡ m .cell → ⊥) × (l .corner ≡ m .corner → ⊥)) ls × Apart ls
+Apart ls = AllDiffer (λ l m. (l .cell ≡ m .cell → ⊥) × (l .corner ≡ m .corner → ⊥)) ls
 
 -- a frame that 01 allows: "At most 65,536 bytes, 1,024 corners, 16 passes", its lines in order, every number in its range, labels on the sheet
 -- and of given corners, no cell or corner labelled twice

@@ -20,6 +20,7 @@ use frame_state::CORNERS;
 use frame_state::PASS_WORDS;
 use frame_state::PLACES;
 use frame_state::Progress;
+use frame_state::USED;
 use frame_state::WORDS;
 use line_form::text::line_end;
 use refusal::Refusal;
@@ -59,7 +60,7 @@ fn step_line(
     ys: &mut [f32; CORNERS],
     pitches: &mut [f32; CORNERS],
     sheet: &mut [u16; PLACES],
-    used: &mut [u8; CORNERS],
+    used: &mut [u8; USED],
     passes: &mut [u32; WORDS],
     line: &[u8],
 ) -> Stepped
@@ -99,7 +100,7 @@ fn read_lines(
     ys: &mut [f32; CORNERS],
     pitches: &mut [f32; CORNERS],
     sheet: &mut [u16; PLACES],
-    used: &mut [u8; CORNERS],
+    used: &mut [u8; USED],
     passes: &mut [u32; WORDS],
 ) -> LinesRead
     requires { ⌜ FrameHeld no-parts (state nothing-said (arrays (now xs) (now ys) (now pitches) (now sheet) (now used) (now passes))) ⌝ }
@@ -199,7 +200,7 @@ fn read_text(
     let mut own_ys = [0.0f32; CORNERS];
     let mut own_pitches = [0.0f32; CORNERS];
     let mut own_sheet = [0u16; PLACES];
-    let mut own_used = [0u8; CORNERS];
+    let mut own_used = [0u8; USED];
     let mut own_passes = [0u32; WORDS];
     let read = read_lines(
         text,

@@ -24,7 +24,7 @@ use Rattle.frame_line.proofs.Said.{CornerTame, PassTame, corner-said, label-exa
 use Rattle.frame_check.specs.Checks.{overLimit, twiceOf}
 use Rattle.frame_state.specs.State.{cornerLimit, passLimit}
 use Rattle.frame.specs.Frame.{Parts, adding, added, partsFrom, overIn, twiceIn, Frame, no-parts, partsOf, sameCell, clash, someOf, doubled, byteLimit}
-use Rattle.frame.specs.Text.{All, InOrder, ends, next, frameText, InRange, Sound, Apart, WithinLimits, LabelsSound}
+use Rattle.frame.specs.Text.{All, InOrder, ends, next, frameText, InRange, Sound, AllDiffer, Apart, WithinLimits, LabelsSound}
 use Rattle.frame.proofs.Adding.{same-cell, cell-same}
 use Rattle.frame_laws.proofs.Order.{opens, isCorner, past-corners, asked-corner}
 
@@ -33,6 +33,10 @@ use Rattle.frame_laws.proofs.Order.{opens, isCorner, past-corners, aske
 pub all-then : {A : Type 0} (P : A → Type 0) (a b : List A) → All P a → All P b → All P (a ++ b)
 all-then P [] b p q = q
 all-then P (c ∷ a) b p q = (p .0, all-then P a b (p .1) q)
+
+all-before : {A : Type 0} (P : A → Type 0) (l : List A) (a : A) → All P (l ++ (a ∷ [])) → All P l × P a
+all-before P [] a p = (tt, p .0)
+all-before P (b ∷ l) a p = let r = all-before P l a (p .1) in ((p .0, r .0), r .1)
 
 pub all-map : {A : Type 0} {P Q : A → Type 0} → ((a : A) → P a → Q a) → (l : List A) → All P l → All Q l
 all-map h [] p = tt
@@ -89,7 +93,24 @@ all-given s t p l ls e r o m c =
     let n = asked-corner s (l .row) t (r .0) e m c in
     ap length (sym (corners-kept t (added p l) ls (n .0) (r .1) o ∙ kept (kindOf l) (l .numbers) p .1 (n .1)))
 
--- ---- labels that are apart
+-- ---- what is not doubled
+
+-- by a test that tells what differs
+module _ {A : Type 0} (D : A → A → Type 0) (clash : A → A → Bool) (to : (a b : A) → clash a b ≡ false → D a b) (from : (a b : A) → D a b → clash a b ≡ false) where
+  differ-more : (l : List A) (a : A) → AllDiffer D l → someOf (λ b. clash b a) l ≡ false → AllDiffer D (l ++ (a ∷ []))
+  unfolding someOf
+  differ-more [] a d e = (tt, tt)
+  differ-more (b ∷ l) a d e =
+      let n = or-false-both (clash b a) (someOf (λ c. clash c a) l) e in
+      (all-then (D b) l (a ∷ []) (d .0) (to b a (n .0), tt), differ-more l a (d .1) (n .1))
+
+  differ-before : (l : List A) (a : A) → AllDiffer D (l ++ (a ∷ [])) → AllDiffer D l × (someOf (λ b. clash b a) l ≡ false)
+  unfolding someOf
+  differ-before [] a d = (tt, refl)
+  differ-before (b ∷ l) a d =
+      let e = all-before (D b) l a (d .0) in
+      let r = differ-before l a (d .1) in
+      ((e .0, r .0), or-false (clash b a) (someOf (λ c. clash c a) l) (from b a (e .1)) (r .1))
 
 abbrev Differ : LabelLine → LabelLine → Type 0
 Differ m l = (m .cell ≡ l .cell → ⊥) × (m .corner ≡ l .corner → ⊥)
@@ -97,32 +118,12 @@ Differ m l = (m .cell ≡ l .cell → ⊥) × (m .corner ≡ l .corner → ⊥)
 differ : (m l : LabelLine) → clash m l ≡ false → Differ m l
 differ m l e = let n = or-false-both _ _ e in (λ q. no-both _ (cell-same (m .cell) (l .cell) q) (n .0), λ q. no-both _ (equal-eqZ (m .corner) (l .corner) q) (n .1))
 
+not-so : (t : Bool) → (t ≡ true → ⊥) → t ≡ false
+not-so true h = absurd (h refl)
+not-so false h = refl
+
 no-clash : (m l : LabelLine) → Differ m l → clash m l ≡ false
 no-clash m l d = or-false _ _ (not-so (sameCell (m .cell) (l .cell)) (λ e. d .0 (same-cell (m .cell) (l .cell) e))) (not-so (eqZ (m .corner) (l .corner)) (λ e. d .1 (eqZ-equal (m .corner) (l .corner) e)))
-  where
-    not-so : (t : Bool) → (t ≡ true → ⊥) → t ≡ false
-    not-so true h = absurd (h refl)
-    not-so false h = refl
-
--- one label more, which is not doubled
-apart-more : (ls : List LabelLine) (l : LabelLine) → Apart ls → doubled ls l ≡ false → Apart (ls ++ (l ∷ []))
-unfolding someOf
-apart-more [] l a e = (tt, tt)
-apart-more (m ∷ ls) l a e =
-    let n = or-false-both (clash m l) (doubled ls l) e in
-    (all-then (Differ m) ls (l ∷ []) (a .0) (differ m l (n .0), tt), apart-more ls l (a .1) (n .1))
-
-apart-before : (ls : List LabelLine) (l : LabelLine) → Apart (ls ++ (l ∷ [])) → Apart ls × (doubled ls l ≡ false)
-unfolding someOf
-apart-before [] l a = (tt, refl)
-apart-before (m ∷ ls) l a =
-    let d = all-before (Differ m) ls l (a .0) in
-    let r = apart-before ls l (a .1) in
-    ((d .0, r .0), or-false (clash m l) (doubled ls l) (no-clash m l (d .1)) (r .1))
-  where
-    all-before : (P : LabelLine → Type 0) (ks : List LabelLine) (b : LabelLine) → All P (ks ++ (b ∷ [])) → All P ks × P b
-    all-before P [] b p = (tt, p .0)
-    all-before P (k ∷ ks) b p = let r = all-before P ks b (p .1) in ((p .0, r .0), r .1)
 
 -- ---- the limits, before a line and after it
 
@@ -146,7 +147,7 @@ pub limits-after : (k : Kind) (ns : List Number) (p : Parts) → Fits k ns p →
 unfolding adding overLimit twiceOf
 limits-after (Kind.Opening o) ns p f m = record { corners = m .corners; passes = m .passes; once = m .once }
 limits-after Kind.Corner ns p f m = record { corners = one-longer cornerLimit (p .corners) _ (f .room); passes = m .passes; once = m .once }
-limits-after Kind.Label ns p f m = record { corners = m .corners; passes = m .passes; once = apart-more (p .labels) (labelLineOf ns) (m .once) (f .once) }
+limits-after Kind.Label ns p f m = record { corners = m .corners; passes = m .passes; once = differ-more Differ clash differ no-clash (p .labels) (labelLineOf ns) (m .once) (f .once) }
 limits-after (Kind.Pass q) ns p f m = record { corners = m .corners; passes = one-longer passLimit (p .passes) _ (f .room); once = m .once }
 
 pub limits-before : (k : Kind) (ns : List Number) (p : Parts) → Limits (adding k ns p) → Limits p × Fits k ns p
@@ -156,7 +157,7 @@ limits-before Kind.Corner ns p m =
     let h = shorter cornerLimit (p .corners) _ (m .corners) in
     (record { corners = omega arith; passes = m .passes; once = m .once }, record { room = lt-leb cornerLimit (length (p .corners)) h; once = refl })
 limits-before Kind.Label ns p m =
-    let a = apart-before (p .labels) (labelLineOf ns) (m .once) in (record { corners = m .corners; passes = m .passes; once = a .0 }, record { room = refl; once = a .1 })
+    let a = differ-before Differ clash differ no-clash (p .labels) (labelLineOf ns) (m .once) in (record { corners = m .corners; passes = m .passes; once = a .0 }, record { room = refl; once = a .1 })
 limits-before (Kind.Pass q) ns p m =
     let h = shorter passLimit (p .passes) _ (m .passes) in
     (record { corners = m .corners; passes = omega arith; once = m .once }, record { room = lt-leb passLimit (length (p .passes)) h; once = refl })

@@ -35,6 +35,10 @@ cornerLimit = 1024
 abbrev pub passLimit : ℕ
 passLimit = 16
 
+-- an entry for each corner that a label may use
+abbrev pub usedCount : ℕ
+usedCount = cornerLimit
+
 -- 128 times 128 places of the sheet; the words of a pass, and of all passes
 abbrev pub placeCount : ℕ
 placeCount = 16384

@@ -13,10 +13,12 @@ use frame_line::count_of;
 use predict::Grid;
 use predict::Vector;
 
-// At most so many corners and passes; the places of the sheet; the words of a pass, and of all passes.
+// At most so many corners and passes; an entry for each corner that a label may use; the places of the sheet; the words of a pass, and of all.
 pub const CORNERS: usize = 1024;
 
 pub const PASSES: usize = 16;
+
+pub const USED: usize = CORNERS;
 
 pub const PLACES: usize = 16384;
 
@@ -203,7 +205,7 @@ fn put_corner(
 }
 
 // A label is written: its corner to the sheet, and that the corner is used.
-fn put_label(sheet: &mut [u16; PLACES], used: &mut [u8; CORNERS], label: HeldLabel)
+fn put_label(sheet: &mut [u16; PLACES], used: &mut [u8; USED], label: HeldLabel)
     requires { ⌜ LabelRoom (now sheet) label ⌝ }
     ensures { λ _. ⌜ LabelPut label (now (sheet .entry)) (now (used .entry)) (now (sheet .exit)) (now (used .exit)) ⌝ }
 {
@@ -290,7 +292,7 @@ pub fn add_line(
     ys: &mut [f32; CORNERS],
     pitches: &mut [f32; CORNERS],
     sheet: &mut [u16; PLACES],
-    used: &mut [u8; CORNERS],
+    used: &mut [u8; USED],
     passes: &mut [u32; WORDS],
     line: HeldLine,
 ) -> Progress
