@@ -12,28 +12,19 @@ Inv-loop from to₀ i₀ to i = Copying placeCount placeCount from to₀ to i
 abbrev μ-loop : tie.MeasureT-loop
 μ-loop from to₀ i₀ to i = placeCount - i
 
-loop-holds : tie.Need-loop-holds Inv-loop μ-loop
-loop-holds c = copying-start _ _ _ _ (c .pre)
-
-loop-again : tie.Need-loop-again Inv-loop μ-loop
-loop-again c = copying-more (c .before .before .loop .inv) _ (c .before .loop-test .taken)
-
-returns : tie.Need-returns Inv-loop μ-loop
-returns c = copied (c .before .loop .inv) (c .loop-test .left)
-
 pub copy-sheet-spec : {M : Type 1} → statement M
 copy-sheet-spec =
     tie.close
     (tie.spec
     Inv-loop
     μ-loop
-    loop-holds
+    (λ c. copying-start _ _ _ _ (c .pre))
     (λ c. omega arith)
     (λ c. omega arith)
     (λ c. omega arith)
     (λ c. omega arith)
     (λ c. omega arith)
     (λ c. omega arith)
-    loop-again
+    (λ c. copying-more (c .before .before .loop .inv) _ (c .before .loop-test .taken))
     (λ c. omega arith)
-    returns)
+    (λ c. copied (c .before .loop .inv) (c .loop-test .left)))

@@ -3,9 +3,6 @@ use borrow.Author.Needs.{needs}
 use Rattle.frame_state.proofs.fill_words.Statement.{statement}
 use Rattle.frame_state.proofs.fill_words.Tie as tie
 
-returns : tie.Need-returns
-returns c = rw (c .count-of .ensures)
-
 pub fill-words-spec : {M : Type 1} → statement M
 fill-words-spec =
-    tie.close (tie.spec (λ c. search needs) (λ c. search needs) (λ c. search needs) (λ c κs. search needs) returns)
+    tie.close (tie.spec (λ c. search needs) (λ c. search needs) (λ c. search needs) (λ c κs. search needs) (λ c. rw (c .count-of .ensures)))

@@ -3,9 +3,6 @@ use borrow.Author.Needs.{needs}
 use Rattle.frame_state.proofs.local_words.Statement.{statement}
 use Rattle.frame_state.proofs.local_words.Tie as tie
 
-returns : tie.Need-returns
-returns c = rw (c .before .count-of .ensures, c .count-of2 .ensures)
-
 pub local-words-spec : {M : Type 1} → statement M
 local-words-spec =
     tie.close
@@ -17,4 +14,4 @@ local-words-spec =
     (λ c κs. search needs)
     (λ c. search needs)
     (λ c κs. search needs)
-    returns)
+    (λ c. rw (c .before .count-of .ensures, c .count-of2 .ensures)))
