@@ -21,7 +21,7 @@ use Rattle.arguments.specs.declared.Checked.{Checked}
 use Rattle.line_form.specs.Held.{heldUpTo}
 use Rattle.frame_line.specs.Lines.{Line, kindOf, Proper, labelLineOf, wholeAt, CornerLine, cornerLineOf, LabelLine, PassLine, passLineOf}
 use Rattle.frame_line.specs.Checks.{outsideLine}
-use Rattle.frame_line.specs.Held.{heldLine, labelIn, outsideHeld}
+use Rattle.frame_line.specs.Held.{countIn, heldLine, labelIn, outsideHeld}
 use Rattle.frame_line.specs.declared.Kind.{Kind}
 use Rattle.frame_line.proofs.Numbers.{outside-held, slotsOf}
 use Rattle.frame_line.proofs.Said.{label-exact, pass-said}
@@ -94,21 +94,25 @@ module _ (f : Parts) (s : State) (g : FrameHeld f s) (l : Line) (p : Proper l) w
       let h = label-exact (s .progress .corners) l p k (g .corners .xs-held .some) off known in
       let m = labelLineOf (l .numbers) in
       ap (labelTwice (s .held .sheet) (s .held .used)) (h .held-so)
-      ∙ ap₂ _||_ (g .labels .cells (m .cell) (h .on-sheet)) (g .labels .corners (natAbs (m .corner)) (omega (arith, h .given, g .corners .xs-held .some)) ∙ ap (cornerTaken (f .labels)) (sym (h .is-corner)))
+      ∙ ap₂ _||_ (g .labels .cells (m .cell) (h .on-sheet))
+      (g .labels .corners (natAbs (m .corner)) (omega (arith, h .given, g .corners .xs-held .some)) ∙ ap (cornerTaken (f .labels)) (sym (h .is-corner)))
       ∙ sym (some-either (λ k. sameCell (k .cell) (m .cell)) (λ k. eqZ (k .corner) (m .corner)) (f .labels))
 
   -- all checks
   pub checks-agree : checkedHeld (s .progress .corners) (s .progress .passes) (s .held .sheet) (s .held .used) (heldLine l) ≡ checkedLine f l
   unfolding checkedHeld checkedLine
   checks-agree =
-      checks-alike (λ r. outsideHeld r (s .progress .corners) (heldLine l)) (λ r. outsideLine r (s .progress .corners) l) (overLimit (s .progress .corners) (s .progress .passes) (kindOf l)) _ _
+      checks-alike (λ r. outsideHeld r (s .progress .corners) (heldLine l)) (λ r. outsideLine r (s .progress .corners) l)
+      (overLimit (s .progress .corners) (s .progress .passes) (kindOf l)) _ _
       (λ r. outside-held r (s .progress .corners) l (g .corners .xs-held .some) p)
       (λ off known. twice-alike (kindOf l) _ _ (twice off known))
-      ∙ ap₂ (λ (i j : ℕ). checksInOrder (λ r. outsideLine r i l) (overLimit i j (kindOf l)) (twiceIn f (kindOf l) (l .numbers))) (g .corners .count) (g .passes .count)
+      ∙ ap₂ (λ (i j : ℕ). checksInOrder (λ r. outsideLine r i l) (overLimit i j (kindOf l)) (twiceIn f (kindOf l) (l .numbers))) (g .corners .count)
+      (g .passes .count)
 
 -- ---- one more at the end
 
-labelled-more : (sheet : List ℕ) (ls : List LabelLine) (l : LabelLine) → labelled sheet (ls ++ (l ∷ [])) ≡ attached (labelled sheet ls) (l .cell) (natAbs (l .corner))
+labelled-more : (sheet : List ℕ) (ls : List LabelLine) (l : LabelLine)
+    → labelled sheet (ls ++ (l ∷ [])) ≡ attached (labelled sheet ls) (l .cell) (natAbs (l .corner))
 unfolding labelled
 labelled-more sheet [] l = refl
 labelled-more sheet (m ∷ ls) l = labelled-more (attached sheet (m .cell) (natAbs (m .corner))) ls l
@@ -116,7 +120,8 @@ labelled-more sheet (m ∷ ls) l = labelled-more (attached sheet (m .cell) (natA
 words-more : (ps : List PassLine) (p : PassLine) → allWords (ps ++ (p ∷ [])) ≡ allWords ps ++ wordsOf (fullOf p)
 unfolding allWords
 words-more [] p = simp append-nil
-words-more (q ∷ ps) p = ap (λ (l : List ℕ). wordsOf (fullOf q) ++ l) (words-more ps p) ∙ sym (append-assoc (wordsOf (fullOf q)) (allWords ps) (wordsOf (fullOf p)))
+words-more (q ∷ ps) p =
+    ap (λ (l : List ℕ). wordsOf (fullOf q) ++ l) (words-more ps p) ∙ sym (append-assoc (wordsOf (fullOf q)) (allWords ps) (wordsOf (fullOf p)))
 
 some-more : {A : Type 0} (f : A → Bool) (rest : List A) (a : A) → someOf f (rest ++ (a ∷ [])) ≡ (someOf f rest || f a)
 unfolding someOf
@@ -124,7 +129,8 @@ some-more f [] a = or-false (f a)
 some-more f (b ∷ rest) a = ap (λ (t : Bool). f b || t) (some-more f rest a) ∙ sym (or-assoc (f b) (someOf f rest) (f a))
 
 -- an array with one entry written behind those that it holds
-holds-more : {A : Type 0} {size n : ℕ} {entries these : List A} → Holds size n entries these → n < size → (a : A) (m : ℕ) → m ≡ suc n → Holds size m (set entries n a) (these ++ (a ∷ []))
+holds-more : {A : Type 0} {size n : ℕ} {entries these : List A} → Holds size n entries these → n < size → (a : A) (m : ℕ) → m ≡ suc n
+    → Holds size m (set entries n a) (these ++ (a ∷ []))
 holds-more {n = n} {entries = l} g h a m e =
     record {
       long = length-set l n a ∙ g .long;
@@ -152,20 +158,23 @@ set-set entries p q w h z = go (eqb p q) refl
   where
     go : (t : Bool) → eqb p q ≡ t → isSet (set entries p w) q ≡ (isSet entries q || t)
     go true e =
-        ap not (ap (λ (k : ℕ). eqb (getD (set entries p w) k 0) 0) (sym (eqb-true p q e)) ∙ ap (λ (v : ℕ). eqb v 0) (getD-set-same entries p w 0 h) ∙ ne-eqb w 0 z)
+        ap not
+        (ap (λ (k : ℕ). eqb (getD (set entries p w) k 0) 0) (sym (eqb-true p q e)) ∙ ap (λ (v : ℕ). eqb v 0) (getD-set-same entries p w 0 h) ∙ ne-eqb w 0 z)
         ∙ sym (or-true (isSet entries q))
     go false e = ap (λ (v : ℕ). not (eqb v 0)) (getD-set-other entries p q w 0 (λ d. eqb-false p q e (sym d))) ∙ sym (or-false (isSet entries q))
 
 -- cells of the sheet have one place exactly if they are one
 place-same : (c d : Cell) → OnSheet c → OnSheet d → eqb (placeOf c) (placeOf d) ≡ sameCell c d
 place-same c d g h =
-    same-truth _ _ (λ e. cell-same c d (place-one c d g h (eqb-true (placeOf c) (placeOf d) e))) (λ e. ap (λ (k : Cell). eqb (placeOf c) (placeOf k)) (sym (same-cell c d e)) ∙ eq-eqb (placeOf c) (placeOf c) refl)
+    same-truth _ _ (λ e. cell-same c d (place-one c d g h (eqb-true (placeOf c) (placeOf d) e)))
+    (λ e. ap (λ (k : Cell). eqb (placeOf c) (placeOf k)) (sym (same-cell c d e)) ∙ eq-eqb (placeOf c) (placeOf c) refl)
 
 word-some : (w k : ℕ) → withLabel w k ≡ 0 → ⊥
 unfolding wordOf numberOfLabel
 word-some w k e = omega arith
 
-label-held : {ls : List LabelLine} {sheet used : List ℕ} → HoldsLabels ls sheet used → (l : LabelLine) (k : ℕ) → OnSheet (l .cell) → l .corner ≡ pos k → k < cornerLimit
+label-held : {ls : List LabelLine} {sheet used : List ℕ} → HoldsLabels ls sheet used → (l : LabelLine) (k : ℕ) → OnSheet (l .cell) → l .corner ≡ pos k
+    → k < cornerLimit
     → HoldsLabels (ls ++ (l ∷ [])) (attached sheet (l .cell) k) (set used k 1)
 unfolding attached
 label-held {ls} {sheet} {used} g l k on is small =
@@ -191,7 +200,8 @@ label-held {ls} {sheet} {used} g l k on is small =
 abbrev listed : PassWords → List ℕ
 listed w = w .kind ∷ w .search ∷ w .factor ∷ w .reach ∷ w .rounds ∷ w .depth ∷ []
 
-pass-held : {ps : List PassLine} {m : ℕ} {words : List ℕ} → HoldsPasses ps m words → m < passLimit → (p : PassLine) (w : PassWords) → listed w ≡ wordsOf (fullOf p)
+pass-held : {ps : List PassLine} {m : ℕ} {words : List ℕ} → HoldsPasses ps m words → m < passLimit → (p : PassLine) (w : PassWords)
+    → listed w ≡ wordsOf (fullOf p)
     → HoldsPasses (ps ++ (p ∷ [])) (m + 1) (wordsPut m w words)
 pass-held {ps} {m} g h p w e =
     let a = holds-more (g .words-held) (omega arith) (w .kind) (6 * m + 1) (omega arith) in
@@ -211,7 +221,8 @@ module _ (f : Parts) (s : State) (g : FrameHeld f s) (l : Line) (p : Proper l) (
   room : (kind : Kind) → kindOf l ≡ kind → overIn f kind ≡ false
   room kind e = sym (ap (overIn f) e) ∙ w .room
 
-  settings-added : (k : OpeningKind) → kindOf l ≡ Kind.Opening k → withOpening k (s .progress .settings) (heldUpTo 5 (l .numbers)) ≡ settingsIn (opened k (l .numbers) (f .opening))
+  settings-added : (k : OpeningKind) → kindOf l ≡ Kind.Opening k
+      → withOpening k (s .progress .settings) (heldUpTo 5 (l .numbers)) ≡ settingsIn (opened k (l .numbers) (f .opening))
   unfolding opened slotsOf formAt rowAt rows
   settings-added OpeningKind.Frame e = g .settings-are
   settings-added OpeningKind.CellSize e = rw (bits-held l p (Kind.Opening OpeningKind.CellSize) e 0 (omega arith) refl, g .settings-are)
@@ -231,20 +242,15 @@ module _ (f : Parts) (s : State) (g : FrameHeld f s) (l : Line) (p : Proper l) (
   words-agree PassKind.Fill e =
       let b = bits-held l p (Kind.Pass PassKind.Fill) e in
       let tame = pass-said (length (f .corners)) l p (w .ranges) PassKind.Fill e in
-      rw (b 0 (omega arith) refl, b 1 (omega arith) refl, whole-held l p (Kind.Pass PassKind.Fill) e 2 (omega arith) refl, tame-count 64 (wholeAt 2 (l .numbers)) (omega arith) (tame .1 .1))
+      let rounds = ap countIn (whole-held l p (Kind.Pass PassKind.Fill) e 2 (omega arith) refl) ∙ tame-count 64 (wholeAt 2 (l .numbers)) (omega arith) (tame .1 .1) in
+      rw (b 0 (omega arith) refl, b 1 (omega arith) refl, rounds)
   words-agree PassKind.Local e =
       let b = bits-held l p (Kind.Pass PassKind.Local) e in
       let c = whole-held l p (Kind.Pass PassKind.Local) e in
       let tame = pass-said (length (f .corners)) l p (w .ranges) PassKind.Local e in
-      rw (
-        b 0 (omega arith) refl,
-        b 1 (omega arith) refl,
-        b 3 (omega arith) refl,
-        c 2 (omega arith) refl,
-        c 4 (omega arith) refl,
-        tame-count 64 (wholeAt 2 (l .numbers)) (omega arith) (tame .1 .1 .0),
-        tame-count 4 (wholeAt 4 (l .numbers)) (omega arith) (tame .1 .1 .1 .1),
-      )
+      let rounds = ap countIn (c 2 (omega arith) refl) ∙ tame-count 64 (wholeAt 2 (l .numbers)) (omega arith) (tame .1 .1 .0) in
+      let depth = ap countIn (c 4 (omega arith) refl) ∙ tame-count 4 (wholeAt 4 (l .numbers)) (omega arith) (tame .1 .1 .1 .1) in
+      rw (b 0 (omega arith) refl, b 1 (omega arith) refl, b 3 (omega arith) refl, rounds, depth)
 
   -- a line of a kind changes its own part
   by-kind : (kind : Kind) → kindOf l ≡ kind → FrameHeld (adding kind (l .numbers) f) (addsAs kind (heldUpTo 5 (l .numbers)) s)
@@ -255,7 +261,9 @@ module _ (f : Parts) (s : State) (g : FrameHeld f s) (l : Line) (p : Proper l) (
       let n = leb-false cornerLimit (length (f .corners)) (room Kind.Corner e) in
       record {
         settings-are = g .settings-are;
-        corners = rw (b 0 (omega arith) refl, b 1 (omega arith) refl, b 2 (omega arith) refl) (corner-held (g .corners) (omega (arith, g .corners .count)) (cornerLineOf (l .numbers)));
+        corners =
+            rw (b 0 (omega arith) refl, b 1 (omega arith) refl, b 2 (omega arith) refl)
+            (corner-held (g .corners) (omega (arith, g .corners .count)) (cornerLineOf (l .numbers)));
         labels = g .labels;
         passes = g .passes;
       }
@@ -267,7 +275,8 @@ module _ (f : Parts) (s : State) (g : FrameHeld f s) (l : Line) (p : Proper l) (
         settings-are = g .settings-are;
         corners = g .corners;
         labels =
-            subst (λ (x : HeldLabel). HoldsLabels (f .labels ++ (m ∷ [])) (attached (s .held .sheet) (x .cell) (x .corner)) (set (s .held .used) (x .corner) 1)) (sym (h .held-so))
+            subst (λ (x : HeldLabel). HoldsLabels (f .labels ++ (m ∷ [])) (attached (s .held .sheet) (x .cell) (x .corner)) (set (s .held .used) (x .corner) 1))
+            (sym (h .held-so))
             (label-held (g .labels) m (natAbs (m .corner)) (h .on-sheet) (h .is-corner) (omega (arith, h .given, few)));
         passes = g .passes;
       }
@@ -306,7 +315,10 @@ no-labels =
       corners = λ k h. none-set usedCount k (omega arith);
     }
 
-pub nothing-held : (x : Float) → FrameHeld no-parts (state nothing-said (arrays (replicate cornerLimit x) (replicate cornerLimit x) (replicate cornerLimit x) (replicate placeCount 0) (replicate usedCount 0) (replicate wordLimit 0)))
+pub nothing-held : (x : Float)
+    → FrameHeld no-parts
+    (state nothing-said
+    (arrays (replicate cornerLimit x) (replicate cornerLimit x) (replicate cornerLimit x) (replicate placeCount 0) (replicate usedCount 0) (replicate wordLimit 0)))
 unfolding allWords
 nothing-held x =
     let front = holds-none cornerLimit x in

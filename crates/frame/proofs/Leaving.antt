@@ -73,7 +73,8 @@ whole-read (refused-as q k) p e = absurd (let z : _≡_ {A = ℕ} 0 1 = cc in om
 whole-read {a = a} (held-as f q g) p e = let d : p ≡ q = cc in record { frame = f; is = refl; holds = rw d g }
 
 -- a refusal leaves the buffers as they were
-pub text-refused : {f : FrameRead} {l : LinesRead} {a : Arrays} → ReadAs f l a → (r : Refusal) (n : ℕ) → l ≡ LinesRead.Refused r n → (b : Buffers) → record { answer = FrameAnswer.Refused r n; buffers = b } ≡ leaves f b
+pub text-refused : {f : FrameRead} {l : LinesRead} {a : Arrays} → ReadAs f l a → (r : Refusal) (n : ℕ) → l ≡ LinesRead.Refused r n → (b : Buffers)
+    → record { answer = FrameAnswer.Refused r n; buffers = b } ≡ leaves f b
 text-refused (refused-as q k) r n e b = let i : r ≡ q = cc in let j : n ≡ k = cc in rw (i, j)
 text-refused (held-as f p g) r n e b = absurd (let z : _≡_ {A = ℕ} 0 1 = cc in omega arith)
 
@@ -81,7 +82,8 @@ text-refused (held-as f p g) r n e b = absurd (let z : _≡_ {A = ℕ} 0 1 = cc 
 pub copies : {A : Type 0} {size n : ℕ} {entries these to : List A} → Holds size n entries these → size ≤ length to → Copies size n entries to
 copies g h = record { whole = g .long; some = g .some; room = h }
 
-left : {A : Type 0} {size n : ℕ} {entries these : List A} → Holds size n entries these → (to after : List A) → after ≡ over (take n entries) to → after ≡ over these to
+left : {A : Type 0} {size n : ℕ} {entries these : List A} → Holds size n entries these → (to after : List A) → after ≡ over (take n entries) to
+    → after ≡ over these to
 left g to after e = e ∙ ap (λ (l : List _). over l to) (g .are)
 
 module _ {f : FrameRead} {p : Progress} {a : Arrays} (w : Accepting f p a) where
@@ -92,13 +94,17 @@ module _ {f : FrameRead} {p : Progress} {a : Arrays} (w : Accepting f p a) where
       record { long = g .sheet-long; some = omega arith; are = take-all placeCount (a .sheet) (omega (arith, g .sheet-long)) ∙ g .sheet-is }
 
   -- an accepted frame is written
-  pub text-accepted : (b : Buffers) (xs ys pitches : List Float) (sheet passes : List ℕ) → xs ≡ over (take (p .corners) (a .xs)) (b .xs) → ys ≡ over (take (p .corners) (a .ys)) (b .ys)
-      → pitches ≡ over (take (p .corners) (a .pitches)) (b .pitches) → sheet ≡ over (take placeCount (a .sheet)) (b .sheet) → passes ≡ over (take (passWords * p .passes) (a .passes)) (b .passes)
+  pub text-accepted : (b : Buffers) (xs ys pitches : List Float) (sheet passes : List ℕ) → xs ≡ over (take (p .corners) (a .xs)) (b .xs)
+      → ys ≡ over (take (p .corners) (a .ys)) (b .ys)
+      → pitches ≡ over (take (p .corners) (a .pitches)) (b .pitches) → sheet ≡ over (take placeCount (a .sheet)) (b .sheet)
+      → passes ≡ over (take (passWords * p .passes) (a .passes)) (b .passes)
       → frameOut (FrameAnswer.Accepted (record { settings = p .settings; corners = p .corners; passes = p .passes })) xs ys pitches sheet passes ≡ leaves f b
   unfolding settingsOf xsOf ysOf pitchesOf
   text-accepted b xs ys pitches sheet passes x y z s q =
-      let c = w .holds .corners in
-      rw (w .is, left (c .xs-held) _ _ x, left (c .ys-held) _ _ y, left (c .pitches-held) _ _ z, left sheet-held _ _ s, left (w .holds .passes .words-held) _ _ q, w .holds .settings-are, c .count, w .holds .passes .count)
+      let h = w .holds in
+      let c = h .corners in
+      rw (w .is, h .settings-are, c .count, h .passes .count)
+      (rw (left (c .xs-held) _ _ x, left (c .ys-held) _ _ y, left (c .pitches-held) _ _ z, left sheet-held _ _ s, left (h .passes .words-held) _ _ q))
 
 -- ---- the call
 
@@ -134,7 +140,8 @@ unfolding settingsOf headValues frameSaid lineValues readDue
 read-said (refused-at r line) b = refl
 read-said (accepted f) b = refl
 
-unless-said : (short : Bool) (text : List ℕ) (b : Buffers) → frameSaid (unlessShort short text b .answer) ≡ cond short (number-and-line 7 0) (readDue (readFrame text))
+unless-said : (short : Bool) (text : List ℕ) (b : Buffers)
+    → frameSaid (unlessShort short text b .answer) ≡ cond short (number-and-line 7 0) (readDue (readFrame text))
 unfolding frameSaid
 unless-said true text b = refl
 unless-said false text b = read-said (readFrame text) b

@@ -60,7 +60,10 @@ module _ (f : Frame) (s : State) (g : FrameHeld (partsOf f) s) (text : List ℕ)
   line-agrees : (l : Line) → readLine text ≡ line l → Agreed (line l)
   unfolding heldStep heldRead
   line-agrees l e =
-      subst (λ (c : Checked). LedAs (stepBy (turnAt (s .progress .stage) (l .row)) (checkedLine (partsOf f) l) (f ++ (l ∷ []))) (heldBy (turnAt (s .progress .stage) (l .row)) c (adds (heldLine l) s) (s .held)))
+      subst
+      (λ (c : Checked).
+      LedAs (stepBy (turnAt (s .progress .stage) (l .row)) (checkedLine (partsOf f) l) (f ++ (l ∷ [])))
+      (heldBy (turnAt (s .progress .stage) (l .row)) c (adds (heldLine l) s) (s .held)))
       (sym (checks-agree (partsOf f) s g l (line-prints-back text l e .proper)))
       (go (turnAt (s .progress .stage) (l .row)) (checkedLine (partsOf f) l) refl)
     where
@@ -100,7 +103,8 @@ module _ (p : Progress) (a : Arrays) (found : HeldLine) (turn : Turn) (t : turn 
       pub step-addable : Room p a → checked ≡ Checked.Fine → Addable p a found
       step-addable g h = record { fine = sym c ∙ h; fits = record { few = g .few; row-fits = step-row (p .stage) (found .row) to turn t e }; long = g .long }
 
-      pub step-onward : checked ≡ Checked.Fine → (next last : Progress) (b : Arrays) → state next b ≡ adds found (state p a) → last ≡ atStage next to → went (Stepped.Onward last) b ≡ heldStep found (state p a)
+      pub step-onward : checked ≡ Checked.Fine → (next last : Progress) (b : Arrays) → state next b ≡ adds found (state p a) → last ≡ atStage next to
+          → went (Stepped.Onward last) b ≡ heldStep found (state p a)
       unfolding heldStep
       step-onward h next last b d k = rw (← t, e, ← c, h, k) (ap (λ (x : State). went (Stepped.Onward (atStage (x .progress) to)) (x .held)) d)
 
@@ -116,7 +120,8 @@ pub record Turning (text : List ℕ) (p : Progress) (n at : ℕ) (a : Arrays) : 
 
 pub turning-start : (text : List ℕ) (p : Progress) (a : Arrays) → p .stage ≡ 0 → FrameHeld no-parts (state p a) → Turning text p 1 0 a
 unfolding partsOf partsFrom
-turning-start text p a e g = record { inside = omega arith; lines = omega arith; frame = []; holds = g; rest = ap (λ (k : ℕ). readLines 1 k [] (linesOf text)) e }
+turning-start text p a e g =
+    record { inside = omega arith; lines = omega arith; frame = []; holds = g; rest = ap (λ (k : ℕ). readLines 1 k [] (linesOf text)) e }
 
 module _ {text : List ℕ} {p : Progress} {n at : ℕ} {a : Arrays} (g : Turning text p n at a) where
   pub turn-room : Room p a
@@ -133,14 +138,17 @@ module _ {text : List ℕ} {p : Progress} {n at : ℕ} {a : Arrays} (g : Turning
 
     module _ (r : Stepped) (b : Arrays) (w : went r b ≡ heldStep (heldRead (readLine (take (end - at) (drop at text)))) (state p a)) where
       stepped : SteppedAs (stepLine (p .stage) (g .frame) (take (end - at) (drop at text))) r b
-      stepped = subst (LedAs (stepLine (p .stage) (g .frame) (take (end - at) (drop at text)))) (sym w) (steps-agree (g .frame) (state p a) (g .holds) (take (end - at) (drop at text)))
+      stepped =
+          subst (LedAs (stepLine (p .stage) (g .frame) (take (end - at) (drop at text)))) (sym w)
+          (steps-agree (g .frame) (state p a) (g .holds) (take (end - at) (drop at text)))
 
       led : (x : Stepped) → r ≡ x → SteppedAs (stepLine (p .stage) (g .frame) (take (end - at) (drop at text))) x b
       led x d = subst (λ (y : Stepped). SteppedAs (stepLine (p .stage) (g .frame) (take (end - at) (drop at text))) y b) d stepped
 
       pub turn-stopped : (q : Refusal) → r ≡ Stepped.Stopped q → ReadAs (readLines 1 0 [] (linesOf text)) (LinesRead.Refused q n) b
       unfolding behind
-      turn-stopped q d = subst (λ (x : FrameRead). ReadAs x (LinesRead.Refused q n) b) (sym (one-line ∙ ap behind (led (Stepped.Stopped q) d)) ∙ g .rest) (refused-as q n)
+      turn-stopped q d =
+          subst (λ (x : FrameRead). ReadAs x (LinesRead.Refused q n) b) (sym (one-line ∙ ap behind (led (Stepped.Stopped q) d)) ∙ g .rest) (refused-as q n)
 
       pub turn-onward : (next : Progress) → r ≡ Stepped.Onward next → Turning text next (n + 1) end b
       unfolding behind
@@ -159,7 +167,8 @@ module _ {text : List ℕ} {p : Progress} {n at : ℕ} {a : Arrays} (g : Turning
     at-the-end : (t : Bool) → mayEnd (p .stage) ≡ t → readLines 1 0 [] (linesOf text) ≡ cond t (accepted (g .frame)) (refused-at Refusal.Malformed n)
     unfolding readLines atEnd
     at-the-end t e =
-        sym (g .rest) ∙ ap (readLines n (p .stage) (g .frame)) (no-lines text at h) ∙ ap (λ (x : Bool). cond x (accepted (g .frame)) (refused-at Refusal.Malformed n)) e
+        sym (g .rest) ∙ ap (readLines n (p .stage) (g .frame)) (no-lines text at h)
+        ∙ ap (λ (x : Bool). cond x (accepted (g .frame)) (refused-at Refusal.Malformed n)) e
 
     pub end-missing : mayEnd (p .stage) ≡ false → ReadAs (readLines 1 0 [] (linesOf text)) (LinesRead.Refused Refusal.Malformed n) a
     end-missing e = subst (λ (x : FrameRead). ReadAs x (LinesRead.Refused Refusal.Malformed n) a) (sym (at-the-end false e)) (refused-as Refusal.Malformed n)

@@ -53,10 +53,12 @@ lines-text (l ∷ ls) = ap (λ (t : List ℕ). lineText l ++ t) (lines-text ls)
 
 data Passing : ℕ → Parts → List Line → Type 0 where
   end-here : {stage : ℕ} {p : Parts} → mayEnd stage ≡ true → Passing stage p []
-  pass-on : {stage to : ℕ} {p : Parts} {ls : List Line} (l : Line) → Proper l → turnAt stage (l .row) ≡ Turn.To to → checkedLine p l ≡ Checked.Fine → Passing to (added p l) ls
+  pass-on : {stage to : ℕ} {p : Parts} {ls : List Line} (l : Line) → Proper l → turnAt stage (l .row) ≡ Turn.To to → checkedLine p l ≡ Checked.Fine
+      → Passing to (added p l) ls
       → Passing stage p (l ∷ ls)
 
-passing-read : (n : ℕ) {stage : ℕ} {p : Parts} (f : Frame) → p ≡ partsOf f → {ls : List Line} → Passing stage p ls → readLines n stage f (map lineText ls) ≡ accepted (f ++ ls)
+passing-read : (n : ℕ) {stage : ℕ} {p : Parts} (f : Frame) → p ≡ partsOf f → {ls : List Line} → Passing stage p ls
+    → readLines n stage f (map lineText ls) ≡ accepted (f ++ ls)
 unfolding readLines atEnd stepLine
 passing-read n f is (end-here e) = rw e (ap accepted (sym (append-nil f)))
 passing-read n {stage} f is (pass-on {to = to} {ls = ls} l p t c more) =
@@ -75,7 +77,8 @@ record ReadBack (stage : ℕ) (f g : Frame) (texts : List (List ℕ)) : Type 0 w
 
 read-passing : {stage last : ℕ} {f g : Frame} {texts : List (List ℕ)} → Passed stage f texts last g → mayEnd last ≡ true → ReadBack stage f g texts
 read-passing {f = f} none-yet h = record { lines = []; all-are = sym (append-nil f); texts-again = refl; passing = end-here h }
-read-passing {stage} {last} {f} {g} (one-more {stage' = to} {f' = next-frame} {text = text} {texts = texts} e more) h = go (stepping stage f text) e (read-passing more h)
+read-passing {stage} {last} {f} {g} (one-more {stage' = to} {f' = next-frame} {text = text} {texts = texts} e more) h =
+    go (stepping stage f text) e (read-passing more h)
   where
     go : {s : Step} → Stepping stage f text s → s ≡ onward to next-frame → ReadBack to next-frame g texts → ReadBack stage f g (text ∷ texts)
     go (stops r w) d b = absurd (let z : _≡_ {A = ℕ} 0 1 = cc in omega arith)
@@ -87,7 +90,9 @@ read-passing {stage} {last} {f} {g} (one-more {stage' = to} {f' = next-frame} {t
           lines = l ∷ b .lines;
           all-are = b .all-are ∙ ap (λ (x : Frame). x ++ b .lines) (sym frame) ∙ append-assoc f (l ∷ []) (b .lines);
           texts-again = ap₂ _∷_ (said .text-again) (b .texts-again);
-          passing = pass-on l (said .proper) (p ∙ ap Turn.To there) q (subst (λ (x : Parts). Passing to x (b .lines)) (ap partsOf (sym frame) ∙ parts-more f l) (b .passing));
+          passing =
+              pass-on l (said .proper) (p ∙ ap Turn.To there) q
+              (subst (λ (x : Parts). Passing to x (b .lines)) (ap partsOf (sym frame) ∙ parts-more f l) (b .passing));
         }
 
 -- ---- each line's numbers
@@ -104,15 +109,18 @@ rows-of (pass-on l p t c more) = (p .few, rows-of more)
 counted-all : (s t : ℕ) (p : Parts) (l : Line) (ls : List Line) → turnAt s (l .row) ≡ Turn.To t → All (λ m. m .row < rowCount) (l ∷ ls) → InOrder t ls → (r : ℕ)
     → outsideLine r (length (p .corners)) l ≡ outsideLine r (length (partsFrom p (l ∷ ls) .corners)) l
 unfolding outsideLine
-counted-all s t p l ls e rs o r = counts-alike r (length (p .corners)) (length (partsFrom p (l ∷ ls) .corners)) (l .row) (all-given s t p l ls e rs o) 0 (l .numbers)
+counted-all s t p l ls e rs o r =
+    counts-alike r (length (p .corners)) (length (partsFrom p (l ∷ ls) .corners)) (l .row) (all-given s t p l ls e rs o) 0 (l .numbers)
 
 numbers-of : {stage : ℕ} {p : Parts} {ls : List Line} → Passing stage p ls → All (InRange (length (partsFrom p ls .corners))) ls
 unfolding partsFrom
 numbers-of (end-here e) = tt
 numbers-of {stage} {p} (pass-on {to = to} {ls = ls} l proper t c more) =
     let f = line-fine p l c in
-    let all = counted-all stage to p l ls t (proper .few, rows-of more) (passing-order more) in
-    (record { proper = proper; first = sym (all 1) ∙ f .first; ranges = sym (all 3) ∙ f .ranges; on-sheet = sym (all 4) ∙ f .on; known = sym (all 5) ∙ f .known }, numbers-of more)
+    let all = counted-all stage to p l ls t (proper .few, rows-of more) (passing-order more) in (
+      record { proper = proper; first = sym (all 1) ∙ f .first; ranges = sym (all 3) ∙ f .ranges; on-sheet = sym (all 4) ∙ f .on; known = sym (all 5) ∙ f .known },
+      numbers-of more,
+    )
 
 -- ---- the limits
 
@@ -136,7 +144,9 @@ prints-back text f h r =
 
 pub frame-prints-back : (text : List ℕ) (f : Frame) → readFrame text ≡ accepted f → FramePrintsBack text f
 unfolding readFrame
-frame-prints-back text f e = ⊎-elim (λ h. none (rw (lt-ltb byteLimit (length text) h) at e)) (λ h. back h (ending 1 0 [] (linesOf text)) (rw (le-ltb byteLimit (length text) h) at e)) (below-or-not byteLimit (length text))
+frame-prints-back text f e =
+    ⊎-elim (λ h. none (rw (lt-ltb byteLimit (length text) h) at e)) (λ h. back h (ending 1 0 [] (linesOf text)) (rw (le-ltb byteLimit (length text) h) at e))
+    (below-or-not byteLimit (length text))
   where
     none : refused-at Refusal.OverLimit 0 ≡ accepted f → FramePrintsBack text f
     none d = absurd (let z : _≡_ {A = ℕ} 0 1 = cc in omega arith)
@@ -146,7 +156,8 @@ frame-prints-back text f e = ⊎-elim (λ h. none (rw (lt-ltb byteLimit (length 
     back h (one-fails k m last g r l a p w) d = absurd (let z : _≡_ {A = ℕ} 0 1 = cc in omega arith)
     back h (one-missing m last g a p k) d = absurd (let z : _≡_ {A = ℕ} 0 1 = cc in omega arith)
 
-within-passes : (s : ℕ) (p : Parts) (ls : List Line) → InOrder s ls → All (InRange (length (partsFrom p ls .corners))) ls → Limits (partsFrom p ls) → Passing s p ls
+within-passes : (s : ℕ) (p : Parts) (ls : List Line) → InOrder s ls → All (InRange (length (partsFrom p ls .corners))) ls → Limits (partsFrom p ls)
+    → Passing s p ls
 unfolding partsFrom checkedLine
 within-passes s p ls (ends e) r m = end-here e
 within-passes s p ls (next {to = t} {ls = rest} l e o) r m =

@@ -31,7 +31,9 @@ module _ {n : ℕ} (few : n ≤ cornerLimit) where
   -- ---- one label
 
   module _ (sheet : List ℕ) (long : placeCount ≤ length sheet) (l : LabelLine) (s : Sound n l) where
-    changed : Changed sheet (put sheet l) (l .cell) (record { label = Label.Corner (natAbs (l .corner)); hole = holeAt sheet (l .cell); ambiguous = ambiguousAt sheet (l .cell) })
+    changed :
+        Changed sheet (put sheet l) (l .cell)
+        (record { label = Label.Corner (natAbs (l .corner)); hole = holeAt sheet (l .cell); ambiguous = ambiguousAt sheet (l .cell) })
     changed = attached-changes sheet (l .cell) long (s .on-sheet) (natAbs (l .corner)) (omega (arith, ap natAbs (s .is-corner), s .given))
 
     still-long : placeCount ≤ length (put sheet l)
@@ -61,13 +63,15 @@ module _ {n : ℕ} (few : n ≤ cornerLimit) where
   all-long [] sheet long s = long
   all-long (l ∷ ls) sheet long s = all-long ls (put sheet l) (still-long sheet long l (s .0)) (s .1)
 
-  others-keep : (ls : List LabelLine) (sheet : List ℕ) → placeCount ≤ length sheet → All (Sound n) ls → (c : Cell) → All (λ m. c ≡ m .cell → ⊥) ls → labelAt (labelled sheet ls) c ≡ labelAt sheet c
+  others-keep : (ls : List LabelLine) (sheet : List ℕ) → placeCount ≤ length sheet → All (Sound n) ls → (c : Cell) → All (λ m. c ≡ m .cell → ⊥) ls
+      → labelAt (labelled sheet ls) c ≡ labelAt sheet c
   unfolding labelled
   others-keep [] sheet long s c d = refl
   others-keep (l ∷ ls) sheet long s c d =
       others-keep ls (put sheet l) (still-long sheet long l (s .0)) (s .1) c (d .1) ∙ label-else (changed sheet long l (s .0)) (s .0 .on-sheet) c (d .0)
 
-  each-held : (ls : List LabelLine) (sheet : List ℕ) → placeCount ≤ length sheet → All (Sound n) ls → Apart ls → All (λ l. labelAt (labelled sheet ls) (l .cell) ≡ Label.Corner (natAbs (l .corner))) ls
+  each-held : (ls : List LabelLine) (sheet : List ℕ) → placeCount ≤ length sheet → All (Sound n) ls → Apart ls
+      → All (λ l. labelAt (labelled sheet ls) (l .cell) ≡ Label.Corner (natAbs (l .corner))) ls
   unfolding labelled
   each-held [] sheet long s a = tt
   each-held (l ∷ ls) sheet long s a =
@@ -76,10 +80,13 @@ module _ {n : ℕ} (few : n ≤ cornerLimit) where
         each-held ls (put sheet l) after (s .1) (a .1),
       )
 
-  only-named : (ls : List LabelLine) (sheet : List ℕ) → placeCount ≤ length sheet → All (Sound n) ls → (c : Cell) (k : ℕ) → labelAt (labelled sheet ls) c ≡ Label.Corner k → NamedBy ls c k ⊎ (labelAt sheet c ≡ Label.Corner k)
+  only-named : (ls : List LabelLine) (sheet : List ℕ) → placeCount ≤ length sheet → All (Sound n) ls → (c : Cell) (k : ℕ)
+      → labelAt (labelled sheet ls) c ≡ Label.Corner k → NamedBy ls c k ⊎ (labelAt sheet c ≡ Label.Corner k)
   unfolding labelled
   only-named [] sheet long s c k e = inr e
-  only-named (l ∷ ls) sheet long s c k e = ⊎-elim (λ h. inl (later h)) (λ h. ⊎-elim (λ i. inl (first i)) inr (label-cases sheet long l (s .0) c k h)) (only-named ls (put sheet l) (still-long sheet long l (s .0)) (s .1) c k e)
+  only-named (l ∷ ls) sheet long s c k e =
+      ⊎-elim (λ h. inl (later h)) (λ h. ⊎-elim (λ i. inl (first i)) inr (label-cases sheet long l (s .0) c k h))
+      (only-named ls (put sheet l) (still-long sheet long l (s .0)) (s .1) c k e)
     where
       first : (l .cell ≡ c) × (l .corner ≡ pos k) → NamedBy (l ∷ ls) c k
       first h = record { label = l; listed = List·Memᴰ·head refl; cell = h .0; corner = h .1 }
@@ -87,11 +94,13 @@ module _ {n : ℕ} (few : n ≤ cornerLimit) where
       later : NamedBy ls c k → NamedBy (l ∷ ls) c k
       later h = record { label = h .label; listed = List·Memᴰ·tail (h .listed); cell = h .cell; corner = h .corner }
 
-  no-marks : (ls : List LabelLine) (sheet : List ℕ) → placeCount ≤ length sheet → All (Sound n) ls → (c : Cell) → (holeAt sheet c ≡ false) × (ambiguousAt sheet c ≡ false)
+  no-marks : (ls : List LabelLine) (sheet : List ℕ) → placeCount ≤ length sheet → All (Sound n) ls → (c : Cell)
+      → (holeAt sheet c ≡ false) × (ambiguousAt sheet c ≡ false)
       → (holeAt (labelled sheet ls) c ≡ false) × (ambiguousAt (labelled sheet ls) c ≡ false)
   unfolding labelled
   no-marks [] sheet long s c g = g
-  no-marks (l ∷ ls) sheet long s c g = let k = marks-kept sheet long l (s .0) c in no-marks ls (put sheet l) (still-long sheet long l (s .0)) (s .1) c (k .0 ∙ g .0, k .1 ∙ g .1)
+  no-marks (l ∷ ls) sheet long s c g =
+      let k = marks-kept sheet long l (s .0) c in no-marks ls (put sheet l) (still-long sheet long l (s .0)) (s .1) c (k .0 ∙ g .0, k .1 ∙ g .1)
 
 -- ---- labels that are apart
 
@@ -118,7 +127,8 @@ module _ (f : Frame) (w : WithinLimits f) where
       let s = labels-sound f w in
       record {
         each = each-held (w .corners) (partsOf f .labels) emptySheet long s (w .once);
-        only = λ c k e. ⊎-elim (λ h. h) (λ h. absurd (no-corner k (sym (empty-label c) ∙ h))) (only-named (w .corners) (partsOf f .labels) emptySheet long s c k e);
+        only = λ c k e.
+            ⊎-elim (λ h. h) (λ h. absurd (no-corner k (sym (empty-label c) ∙ h))) (only-named (w .corners) (partsOf f .labels) emptySheet long s c k e);
         no-hole = λ c. no-marks (w .corners) (partsOf f .labels) emptySheet long s c (empty-hole c, empty-ambiguous c) .0;
         no-ambiguous = λ c. no-marks (w .corners) (partsOf f .labels) emptySheet long s c (empty-hole c, empty-ambiguous c) .1;
       }
@@ -129,7 +139,8 @@ module _ (f : Frame) (w : WithinLimits f) where
 
   -- the label of a place
   named-at : (p k : ℕ) → p < placeCount → labelOf (getD (sheetOf f) p 0) ≡ Label.Corner k → NamedBy (partsOf f .labels) (cellOf p) k
-  named-at p k h e = given-labels .only (cellOf p) k (label-on (sheetOf f) (cellOf p) (cell-on p h) ∙ ap (λ (q : ℕ). labelOf (getD (sheetOf f) q 0)) (place-cell p h) ∙ e)
+  named-at p k h e =
+      given-labels .only (cellOf p) k (label-on (sheetOf f) (cellOf p) (cell-on p h) ∙ ap (λ (q : ℕ). labelOf (getD (sheetOf f) q 0)) (place-cell p h) ∙ e)
 
   pub corner-known : (p k : ℕ) → p < placeCount → labelOf (getD (sheetOf f) p 0) ≡ Label.Corner k → k < length (partsOf f .corners)
   corner-known p k h e =
@@ -144,5 +155,6 @@ module _ (f : Frame) (w : WithinLimits f) where
         one-place = λ p q k g h d e.
             let a = named-at p k g d in
             let b = named-at q k h e in
-            sym (place-cell p g) ∙ ap placeOf (sym (a .cell) ∙ one-label (w .once) (a .listed) (b .listed) (a .corner ∙ sym (b .corner)) ∙ b .cell) ∙ place-cell q h;
+            sym (place-cell p g) ∙ ap placeOf (sym (a .cell) ∙ one-label (w .once) (a .listed) (b .listed) (a .corner ∙ sym (b .corner)) ∙ b .cell)
+            ∙ place-cell q h;
       }

@@ -44,7 +44,8 @@ asks k = anyBelow 5 (λ m. isCornerSort (sortAt k m))
 asks-one : (k m : ℕ) → sortAt k m ≡ Sort.Corner → asks k ≡ true
 unfolding asks
 asks-one k m e =
-    ⊎-elim (λ h. any-hit (λ i. isCornerSort (sortAt k i)) 5 m h (ap isCornerSort e)) (λ h. absurd (true≢false (sym (ap isCornerSort e) ∙ ap isCornerSort (no-sort k m h)))) (below-or-not m 5)
+    ⊎-elim (λ h. any-hit (λ i. isCornerSort (sortAt k i)) 5 m h (ap isCornerSort e))
+    (λ h. absurd (true≢false (sym (ap isCornerSort e) ∙ ap isCornerSort (no-sort k m h)))) (below-or-not m 5)
 
 -- ---- rules of the table: what holds of every stage, row and next stage
 
@@ -57,7 +58,8 @@ rule f = everyBelow stageCount (λ s. everyBelow rowCount (λ k. byTurn (f s k) 
 
 ruled : (f : ℕ → ℕ → ℕ → Bool) → rule f ≡ true → (s k t : ℕ) → k < rowCount → turnAt s k ≡ Turn.To t → f s k t ≡ true
 ruled f r s k t few e =
-    ap (byTurn (f s k)) (sym e) ∙ every-at (λ j. byTurn (f s j) (turnAt s j)) rowCount (every-at (λ i. everyBelow rowCount (λ j. byTurn (f i j) (turnAt i j))) stageCount r s inside) k few
+    ap (byTurn (f s k)) (sym e)
+    ∙ every-at (λ j. byTurn (f s j) (turnAt s j)) rowCount (every-at (λ i. everyBelow rowCount (λ j. byTurn (f i j) (turnAt i j))) stageCount r s inside) k few
   where
     inside : s < stageCount
     inside = ⊎-elim (λ h. h) (λ h. let n = no-stage s k h in absurd (let z : _≡_ {A = ℕ} 0 1 = cc in omega arith)) (below-or-not s stageCount)

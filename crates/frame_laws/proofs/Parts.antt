@@ -23,7 +23,7 @@ use Rattle.frame_line.specs.declared.Turn.{Turn}
 use Rattle.frame_line.proofs.Said.{CornerTame, PassTame, corner-said, label-exact, pass-said}
 use Rattle.frame_check.specs.Checks.{overLimit, twiceOf}
 use Rattle.frame_state.specs.State.{cornerLimit, passLimit}
-use Rattle.frame.specs.Frame.{Parts, adding, added, partsFrom, overIn, twiceIn, Frame, no-parts, partsOf, sameCell, clash, someOf, doubled, byteLimit}
+use Rattle.frame.specs.Frame.{Parts, adding, added, partsFrom, overIn, twiceIn, Frame, no-parts, partsOf, sameCell, clash, someOf, byteLimit}
 use Rattle.frame.specs.Text.{All, InOrder, ends, next, frameText, InRange, Sound, AllDiffer, Apart, WithinLimits, LabelsSound}
 use Rattle.frame.proofs.Adding.{same-cell, cell-same}
 use Rattle.frame_laws.proofs.Order.{opens, isCorner, past-corners, asked-corner}
@@ -59,9 +59,12 @@ module _ (P : CornerLine → Type 0) (Q : LabelLine → Type 0) (R : PassLine �
   said : (k : Kind) (ns : List Number) (p : Parts) → Says k ns → AllParts p → AllParts (adding k ns p)
   unfolding adding
   said (Kind.Opening o) ns p s a = record { corners = a .corners; labels = a .labels; passes = a .passes }
-  said Kind.Corner ns p s a = record { corners = all-then P (p .corners) (cornerLineOf ns ∷ []) (a .corners) (s .corner refl, tt); labels = a .labels; passes = a .passes }
-  said Kind.Label ns p s a = record { corners = a .corners; labels = all-then Q (p .labels) (labelLineOf ns ∷ []) (a .labels) (s .label refl, tt); passes = a .passes }
-  said (Kind.Pass q) ns p s a = record { corners = a .corners; labels = a .labels; passes = all-then R (p .passes) (passLineOf q ns ∷ []) (a .passes) (s .pass q refl, tt) }
+  said Kind.Corner ns p s a =
+      record { corners = all-then P (p .corners) (cornerLineOf ns ∷ []) (a .corners) (s .corner refl, tt); labels = a .labels; passes = a .passes }
+  said Kind.Label ns p s a =
+      record { corners = a .corners; labels = all-then Q (p .labels) (labelLineOf ns ∷ []) (a .labels) (s .label refl, tt); passes = a .passes }
+  said (Kind.Pass q) ns p s a =
+      record { corners = a .corners; labels = a .labels; passes = all-then R (p .passes) (passLineOf q ns ∷ []) (a .passes) (s .pass q refl, tt) }
 
   pub parts-all : (p : Parts) (ls : List Line) → All (λ l. Says (kindOf l) (l .numbers)) ls → AllParts p → AllParts (partsFrom p ls)
   unfolding partsFrom
@@ -71,7 +74,8 @@ module _ (P : CornerLine → Type 0) (Q : LabelLine → Type 0) (R : PassLine �
 -- ---- what comes no more
 
 -- a line that is not of the opening keeps it, and one that is no corner the corners
-pub kept : (k : Kind) (ns : List Number) (p : Parts) → (opens k ≡ false → adding k ns p .opening ≡ p .opening) × (isCorner k ≡ false → adding k ns p .corners ≡ p .corners)
+pub kept : (k : Kind) (ns : List Number) (p : Parts)
+    → (opens k ≡ false → adding k ns p .opening ≡ p .opening) × (isCorner k ≡ false → adding k ns p .corners ≡ p .corners)
 unfolding adding
 kept (Kind.Opening o) ns p = (λ e. absurd (true≢false e), λ e. refl)
 kept Kind.Corner ns p = (λ e. refl, λ e. absurd (true≢false e))
@@ -116,14 +120,17 @@ abbrev Differ : LabelLine → LabelLine → Type 0
 Differ m l = (m .cell ≡ l .cell → ⊥) × (m .corner ≡ l .corner → ⊥)
 
 differ : (m l : LabelLine) → clash m l ≡ false → Differ m l
-differ m l e = let n = or-false-both _ _ e in (λ q. no-both _ (cell-same (m .cell) (l .cell) q) (n .0), λ q. no-both _ (equal-eqZ (m .corner) (l .corner) q) (n .1))
+differ m l e =
+    let n = or-false-both _ _ e in (λ q. no-both _ (cell-same (m .cell) (l .cell) q) (n .0), λ q. no-both _ (equal-eqZ (m .corner) (l .corner) q) (n .1))
 
 not-so : (t : Bool) → (t ≡ true → ⊥) → t ≡ false
 not-so true h = absurd (h refl)
 not-so false h = refl
 
 no-clash : (m l : LabelLine) → Differ m l → clash m l ≡ false
-no-clash m l d = or-false _ _ (not-so (sameCell (m .cell) (l .cell)) (λ e. d .0 (same-cell (m .cell) (l .cell) e))) (not-so (eqZ (m .corner) (l .corner)) (λ e. d .1 (eqZ-equal (m .corner) (l .corner) e)))
+no-clash m l d =
+    or-false _ _ (not-so (sameCell (m .cell) (l .cell)) (λ e. d .0 (same-cell (m .cell) (l .cell) e)))
+    (not-so (eqZ (m .corner) (l .corner)) (λ e. d .1 (eqZ-equal (m .corner) (l .corner) e)))
 
 -- ---- the limits, before a line and after it
 
@@ -147,7 +154,8 @@ pub limits-after : (k : Kind) (ns : List Number) (p : Parts) → Fits k ns p →
 unfolding adding overLimit twiceOf
 limits-after (Kind.Opening o) ns p f m = record { corners = m .corners; passes = m .passes; once = m .once }
 limits-after Kind.Corner ns p f m = record { corners = one-longer cornerLimit (p .corners) _ (f .room); passes = m .passes; once = m .once }
-limits-after Kind.Label ns p f m = record { corners = m .corners; passes = m .passes; once = differ-more Differ clash differ no-clash (p .labels) (labelLineOf ns) (m .once) (f .once) }
+limits-after Kind.Label ns p f m =
+    record { corners = m .corners; passes = m .passes; once = differ-more Differ clash differ no-clash (p .labels) (labelLineOf ns) (m .once) (f .once) }
 limits-after (Kind.Pass q) ns p f m = record { corners = m .corners; passes = one-longer passLimit (p .passes) _ (f .room); once = m .once }
 
 pub limits-before : (k : Kind) (ns : List Number) (p : Parts) → Limits (adding k ns p) → Limits p × Fits k ns p
@@ -157,7 +165,8 @@ limits-before Kind.Corner ns p m =
     let h = shorter cornerLimit (p .corners) _ (m .corners) in
     (record { corners = omega arith; passes = m .passes; once = m .once }, record { room = lt-leb cornerLimit (length (p .corners)) h; once = refl })
 limits-before Kind.Label ns p m =
-    let a = differ-before Differ clash differ no-clash (p .labels) (labelLineOf ns) (m .once) in (record { corners = m .corners; passes = m .passes; once = a .0 }, record { room = refl; once = a .1 })
+    let a = differ-before Differ clash differ no-clash (p .labels) (labelLineOf ns) (m .once) in
+    (record { corners = m .corners; passes = m .passes; once = a .0 }, record { room = refl; once = a .1 })
 limits-before (Kind.Pass q) ns p m =
     let h = shorter passLimit (p .passes) _ (m .passes) in
     (record { corners = m .corners; passes = omega arith; once = m .once }, record { room = lt-leb passLimit (length (p .passes)) h; once = refl })
@@ -171,7 +180,8 @@ pub no-limits : Limits no-parts
 no-limits = record { corners = omega arith; passes = omega arith; once = tt }
 
 -- of a frame
-pub within-limits : {f : Frame} → length (frameText f) ≤ byteLimit → InOrder 0 f → All (InRange (length (partsOf f .corners))) f → Limits (partsOf f) → WithinLimits f
+pub within-limits : {f : Frame} → length (frameText f) ≤ byteLimit → InOrder 0 f → All (InRange (length (partsOf f .corners))) f → Limits (partsOf f)
+    → WithinLimits f
 within-limits b o n m = record { bytes = b; order = o; numbers = n; corners = m .corners; passes = m .passes; once = m .once }
 
 pub frame-limits : {f : Frame} → WithinLimits f → Limits (partsOf f)

@@ -31,7 +31,9 @@ first-check f over twice s = go (f 1) over (f 3) (f 4) (f 5) twice refl refl ref
     same r w e = let d : r ≡ s = cc in subst (FirstCheck f over twice) d w
 
     go : (t2 t3 t4 t5 t6 t7 : Bool) → f 1 ≡ t2 → over ≡ t3 → f 3 ≡ t4 → f 4 ≡ t5 → f 5 ≡ t6 → twice ≡ t7
-        → refusedIf t2 Refusal.Malformed (refusedIf t3 Refusal.OverLimit (refusedIf t4 Refusal.OutOfRange (refusedIf t5 Refusal.OffSheet (refusedIf t6 Refusal.UnknownCorner (refusedIf t7 Refusal.Duplicate Checked.Fine)))))
+        → refusedIf t2 Refusal.Malformed
+        (refusedIf t3 Refusal.OverLimit
+        (refusedIf t4 Refusal.OutOfRange (refusedIf t5 Refusal.OffSheet (refusedIf t6 Refusal.UnknownCorner (refusedIf t7 Refusal.Duplicate Checked.Fine)))))
         ≡ Checked.Refused s → FirstCheck f over twice s
     go true t3 t4 t5 t6 t7 a b c d g h e = same _ (is-first a) e
     go false true t4 t5 t6 t7 a b c d g h e = same _ (too-many a b) e
@@ -54,13 +56,15 @@ module _ (stage : ℕ) (f : Frame) where
   -- where a line leads, and why
   pub data Stepping (text : List ℕ) : Step → Type 0 where
     stops : (r : Refusal) → FirstFault stage f (readLine text) r → Stepping text (stopped r)
-    goes : (l : Line) (to : ℕ) → readLine text ≡ line l → turnAt stage (l .row) ≡ Turn.To to → checkedLine (partsOf f) l ≡ Checked.Fine → Stepping text (onward to (f ++ (l ∷ [])))
+    goes : (l : Line) (to : ℕ) → readLine text ≡ line l → turnAt stage (l .row) ≡ Turn.To to → checkedLine (partsOf f) l ≡ Checked.Fine
+        → Stepping text (onward to (f ++ (l ∷ [])))
 
   pub stepping : (text : List ℕ) → Stepping text (stepLine stage f text)
   unfolding stepLine checkedLine
   stepping text = go (readLine text) refl
     where
-      by : (l : Line) (u : Turn) (c : Checked) → readLine text ≡ line l → turnAt stage (l .row) ≡ u → checkedLine (partsOf f) l ≡ c → Stepping text (stepBy u c (f ++ (l ∷ [])))
+      by : (l : Line) (u : Turn) (c : Checked) → readLine text ≡ line l → turnAt stage (l .row) ≡ u → checkedLine (partsOf f) l ≡ c
+          → Stepping text (stepBy u c (f ++ (l ∷ [])))
       by l Turn.No c r p q = stops Refusal.Malformed (rw r (not-its-turn p))
       by l (Turn.To to) Checked.Fine r p q = goes l to r p q
       by l (Turn.To to) (Checked.Refused s) r p q = stops s (rw r (fails p (first-check _ _ _ s q)))
@@ -73,7 +77,8 @@ module _ (stage : ℕ) (f : Frame) where
   unfolding checkedLine
   fault-stops l r has-no-form = refl
   fault-stops l r (not-its-turn a) = rw a
-  fault-stops l r (fails {l = m} a b) = rw (a, check-first (outsideIn (partsOf f) m) (overIn (partsOf f) (kindOf m)) (twiceIn (partsOf f) (kindOf m) (m .numbers)) r b)
+  fault-stops l r (fails {l = m} a b) =
+      rw (a, check-first (outsideIn (partsOf f) m) (overIn (partsOf f) (kindOf m)) (twiceIn (partsOf f) (kindOf m) (m .numbers)) r b)
 
 -- ---- all lines
 
@@ -81,12 +86,15 @@ module _ (stage : ℕ) (f : Frame) where
 -- first four is missing
 pub data Ending (n stage : ℕ) (f : Frame) (texts : List (List ℕ)) : FrameRead → Type 0 where
   all-read : (last : ℕ) (g : Frame) → Passed stage f texts last g → mayEnd last ≡ true → Ending n stage f texts (accepted g)
-  one-fails : (k m last : ℕ) (g : Frame) (r : Refusal) → k < length texts → m ≡ n + k → Passed stage f (take k texts) last g → FirstFault last g (readLine (getD texts k [])) r
+  one-fails : (k m last : ℕ) (g : Frame) (r : Refusal) → k < length texts → m ≡ n + k → Passed stage f (take k texts) last g
+      → FirstFault last g (readLine (getD texts k [])) r
       → Ending n stage f texts (refused-at r m)
-  one-missing : (m last : ℕ) (g : Frame) → m ≡ n + length texts → Passed stage f texts last g → mayEnd last ≡ false → Ending n stage f texts (refused-at Refusal.Malformed m)
+  one-missing : (m last : ℕ) (g : Frame) → m ≡ n + length texts → Passed stage f texts last g → mayEnd last ≡ false
+      → Ending n stage f texts (refused-at Refusal.Malformed m)
 
 -- one line more in front
-ending-more : (n stage : ℕ) (f : Frame) (text : List ℕ) (texts : List (List ℕ)) (stage' : ℕ) (f' : Frame) → stepLine stage f text ≡ onward stage' f' → (o : FrameRead)
+ending-more : (n stage : ℕ) (f : Frame) (text : List ℕ) (texts : List (List ℕ)) (stage' : ℕ) (f' : Frame) → stepLine stage f text ≡ onward stage' f'
+    → (o : FrameRead)
     → Ending (suc n) stage' f' texts o → Ending n stage f (text ∷ texts) o
 ending-more n stage f text texts stage' f' e o (all-read last g p h) = all-read last g (one-more e p) h
 ending-more n stage f text texts stage' f' e o (one-fails k m last g r h q p w) = one-fails (suc k) m last g r (omega arith) (omega arith) (one-more e p) w
@@ -101,7 +109,8 @@ ending n stage f [] = go (mayEnd stage) refl
     go false e = one-missing n stage f (omega arith) none-yet e
 ending n stage f (text ∷ texts) = go (stepping stage f text) refl (λ stage' f'. ending (suc n) stage' f' texts)
   where
-    go : {s : Step} → Stepping stage f text s → stepLine stage f text ≡ s → ((stage' : ℕ) (f' : Frame) → Ending (suc n) stage' f' texts (readLines (suc n) stage' f' texts))
+    go : {s : Step} → Stepping stage f text s → stepLine stage f text ≡ s
+        → ((stage' : ℕ) (f' : Frame) → Ending (suc n) stage' f' texts (readLines (suc n) stage' f' texts))
         → Ending n stage f (text ∷ texts) (going n s (λ stage' f'. readLines (suc n) stage' f' texts))
     go (stops r w) e rest = one-fails 0 n stage f r (omega arith) (omega arith) none-yet w
     go (goes l to r p q) e rest = ending-more n stage f text texts to (f ++ (l ∷ [])) e (readLines (suc n) to (f ++ (l ∷ [])) texts) (rest to (f ++ (l ∷ [])))
@@ -110,7 +119,9 @@ ending n stage f (text ∷ texts) = go (stepping stage f text) refl (λ stage' f
 
 pub refusals-mean : RefusalsMean
 unfolding readFrame
-refusals-mean text r n e = ⊎-elim (λ h. bytes h (rw (lt-ltb byteLimit (length text) h) at e)) (λ h. why h (ending 1 0 [] (linesOf text)) (rw (le-ltb byteLimit (length text) h) at e)) (below-or-not byteLimit (length text))
+refusals-mean text r n e =
+    ⊎-elim (λ h. bytes h (rw (lt-ltb byteLimit (length text) h) at e)) (λ h. why h (ending 1 0 [] (linesOf text)) (rw (le-ltb byteLimit (length text) h) at e))
+    (below-or-not byteLimit (length text))
   where
     bytes : byteLimit < length text → refused-at Refusal.OverLimit 0 ≡ refused-at r n → Refused text r n
     bytes h q = let same : r ≡ Refusal.OverLimit = cc in let number : n ≡ 0 = cc in rw (same, number) (too-long h)
@@ -137,7 +148,8 @@ unfolding readLines
 passed-read n {stage} {f} rest none-yet = let e : n ≡ n + 0 = omega arith in ap (λ (m : ℕ). readLines m stage f rest) e
 passed-read n {last = last} {g = g} rest (one-more {texts = texts} e p) =
     let m : suc n + length texts ≡ n + suc (length texts) = omega arith in
-    ap (λ (s : Step). going n s (λ stage' f'. readLines (suc n) stage' f' (texts ++ rest))) e ∙ passed-read (suc n) rest p ∙ ap (λ (k : ℕ). readLines k last g rest) m
+    ap (λ (s : Step). going n s (λ stage' f'. readLines (suc n) stage' f' (texts ++ rest))) e ∙ passed-read (suc n) rest p
+    ∙ ap (λ (k : ℕ). readLines k last g rest) m
 
 short-enough : (text : List ℕ) → length text ≤ byteLimit → readFrame text ≡ readLines 1 0 [] (linesOf text)
 unfolding readFrame
@@ -151,8 +163,11 @@ refused-so text r n (at-line k stage f s h l p w) =
     let texts = linesOf text in
     let number : 1 + length (take k texts) ≡ suc k = omega (arith, length-take-le k texts (omega arith)) in
     short-enough text h ∙ ap (readLines 1 0 []) (split-at texts k [] l) ∙ passed-read 1 (getD texts k [] ∷ drop (suc k) texts) p
-    ∙ ap (λ (x : Step). going (1 + length (take k texts)) x (λ to g. readLines (suc (1 + length (take k texts))) to g (drop (suc k) texts))) (fault-stops stage f (readLine (getD texts k [])) s w) ∙ ap (refused-at s) number
+    ∙ ap (λ (x : Step). going (1 + length (take k texts)) x (λ to g. readLines (suc (1 + length (take k texts))) to g (drop (suc k) texts)))
+    (fault-stops stage f (readLine (getD texts k [])) s w)
+    ∙ ap (refused-at s) number
 refused-so text r n (missing stage f h p l) =
     let texts = linesOf text in
     let number : 1 + length texts ≡ suc (length texts) = omega arith in
-    short-enough text h ∙ ap (readLines 1 0 []) (sym (append-nil texts)) ∙ passed-read 1 [] p ∙ ap (λ (x : Bool). cond x (accepted f) (refused-at Refusal.Malformed (1 + length texts))) l ∙ ap (refused-at Refusal.Malformed) number
+    short-enough text h ∙ ap (readLines 1 0 []) (sym (append-nil texts)) ∙ passed-read 1 [] p
+    ∙ ap (λ (x : Bool). cond x (accepted f) (refused-at Refusal.Malformed (1 + length texts))) l ∙ ap (refused-at Refusal.Malformed) number

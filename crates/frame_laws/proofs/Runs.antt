@@ -50,7 +50,8 @@ small n z e = let c = counted n z e in subst (λ (k : ℕ). k ≤ n) (sym (ap na
 
 -- ---- the corners
 
-each-float : {A : Type 0} (q : Quantity) (f : A → Float) (l : List A) → All (λ a. inRange q (f a) ≡ true) l → (k : ℕ) → k < length l → inRange q (getD (map f l) k nan) ≡ true
+each-float : {A : Type 0} (q : Quantity) (f : A → Float) (l : List A) → All (λ a. inRange q (f a) ≡ true) l → (k : ℕ) → k < length l
+    → inRange q (getD (map f l) k nan) ≡ true
 each-float q f [] p k h = absurd (not-suc-le-zero h)
 each-float q f (a ∷ l) p zero h = p .0
 each-float q f (a ∷ l) p (suc k) h = each-float q f l (p .1) k (omega arith)
@@ -63,14 +64,20 @@ record OpeningTame (s : ℕ) (o : Opening) : Type 0 where
   axes : 2 < s → AxesTame (o .axes)
   band : 3 < s → wildBits Quantity.Band (o .band) ≡ false
 
+none-yet : (s : ℕ) (o : Opening) → s < 2 → OpeningTame s o
+none-yet s o h = record { cell = λ k. absurd (omega arith); axes = λ k. absurd (omega arith); band = λ k. absurd (omega arith) }
+
 module _ (n : ℕ) (l : Line) (r : InRange n l) (p : Parts) where
   -- the line of row s
   said-at : (s : ℕ) → s < 4 → l .row ≡ s → OpeningTame s (p .opening) → OpeningTame (suc s) (added p l .opening)
   unfolding adding opened kindAt
-  said-at zero h e t = record { cell = λ k. absurd (omega arith); axes = λ k. absurd (omega arith); band = λ k. absurd (omega arith) }
-  said-at (suc zero) h e t = rw e (record { cell = λ k. cell-said n l (r .proper) (r .ranges) (ap kindAt e); axes = λ k. absurd (omega arith); band = λ k. absurd (omega arith) })
-  said-at (suc (suc zero)) h e t = rw e (record { cell = λ k. t .cell (omega arith); axes = λ k. axes-said n l (r .proper) (r .ranges) (ap kindAt e); band = λ k. absurd (omega arith) })
-  said-at (suc (suc (suc zero))) h e t = rw e (record { cell = λ k. t .cell (omega arith); axes = λ k. t .axes (omega arith); band = λ k. band-said n l (r .proper) (r .ranges) (ap kindAt e) })
+  said-at zero h e t = none-yet 1 _ (omega arith)
+  said-at (suc zero) h e t =
+      rw e (record { cell = λ k. cell-said n l (r .proper) (r .ranges) (ap kindAt e); axes = λ k. absurd (omega arith); band = λ k. absurd (omega arith) })
+  said-at (suc (suc zero)) h e t =
+      rw e (record { cell = λ k. t .cell (omega arith); axes = λ k. axes-said n l (r .proper) (r .ranges) (ap kindAt e); band = λ k. absurd (omega arith) })
+  said-at (suc (suc (suc zero))) h e t =
+      rw e (record { cell = λ k. t .cell (omega arith); axes = λ k. t .axes (omega arith); band = λ k. band-said n l (r .proper) (r .ranges) (ap kindAt e) })
   said-at (suc (suc (suc (suc s)))) h e t = absurd (omega arith)
 
   said-on : (s to : ℕ) → turnAt s (l .row) ≡ Turn.To to → OpeningTame s (p .opening) → OpeningTame to (added p l .opening)
@@ -86,7 +93,8 @@ module _ (n : ℕ) (l : Line) (r : InRange n l) (p : Parts) where
 
 all-said : (n s : ℕ) (p : Parts) (ls : List Line) → All (InRange n) ls → InOrder s ls → OpeningTame s (p .opening) → OpeningTame 4 (partsFrom p ls .opening)
 unfolding partsFrom
-all-said n s p ls r (ends e) t = let h = ends-late s e in record { cell = λ k. t .cell (omega arith); axes = λ k. t .axes (omega arith); band = λ k. t .band (omega arith) }
+all-said n s p ls r (ends e) t =
+    let h = ends-late s e in record { cell = λ k. t .cell (omega arith); axes = λ k. t .axes (omega arith); band = λ k. t .band (omega arith) }
 all-said n s p ls r (next {to = to} {ls = rest} l e o) t = all-said n to (added p l) rest (r .1) o (said-on n l (r .0) p s to e t)
 
 module _ (f : Frame) (w : WithinLimits f) where
@@ -102,13 +110,15 @@ module _ (f : Frame) (w : WithinLimits f) where
       record {
         x = each-float Quantity.Position (λ c. floatOf (c .x)) cs (all-map (λ c t. inside Quantity.Position (c .x) (t .0)) cs (parts-tame f w .corners)) k l;
         y = each-float Quantity.Position (λ c. floatOf (c .y)) cs (all-map (λ c t. inside Quantity.Position (c .y) (t .1 .0)) cs (parts-tame f w .corners)) k l;
-        pitch = each-float Quantity.Pitch (λ c. floatOf (c .pitch)) cs (all-map (λ c t. inside Quantity.Pitch (c .pitch) (t .1 .1)) cs (parts-tame f w .corners)) k l;
+        pitch =
+            each-float Quantity.Pitch (λ c. floatOf (c .pitch)) cs (all-map (λ c t. inside Quantity.Pitch (c .pitch) (t .1 .1)) cs (parts-tame f w .corners)) k
+            l;
       }
 
   settings-inside : SettingsInside (settingsOf f)
   unfolding settingsOf partsOf
   settings-inside =
-      let t = all-said (length (partsOf f .corners)) 0 no-parts f (w .numbers) (w .order) (record { cell = λ k. absurd (omega arith); axes = λ k. absurd (omega arith); band = λ k. absurd (omega arith) }) in
+      let t = all-said (length (partsOf f .corners)) 0 no-parts f (w .numbers) (w .order) (none-yet 0 _ (omega arith)) in
       let a = t .axes (omega arith) in
       record {
         cell-size = inside Quantity.CellSize _ (t .cell (omega arith));
@@ -119,21 +129,18 @@ module _ (f : Frame) (w : WithinLimits f) where
 
   -- ---- the passes
 
-  checked-so : (q : Pass) → passChecked (passCall q) ≡ q
-  checked-so (Pass.Grow p) = refl
-  checked-so (Pass.Fill p) = refl
-  checked-so (Pass.Local p) = refl
-
-  queue-fits : (q : Pass) (n : ℕ) → n ≤ cornerLimit → queueNeeded q n ≤ frameRooms .queue
+  -- a pass as it is called
+  called : (q : Pass) (n : ℕ) → n ≤ cornerLimit → PassInside q → PassInside (passChecked (passCall q)) × (queueNeeded (passChecked (passCall q)) n ≤ frameRooms .queue)
   unfolding queueNeeded
-  queue-fits (Pass.Grow p) n h = omega arith
-  queue-fits (Pass.Fill p) n h = omega arith
-  queue-fits (Pass.Local p) n h = omega arith
+  called (Pass.Grow p) n h i = (i, omega arith)
+  called (Pass.Fill p) n h i = (i, omega arith)
+  called (Pass.Local p) n h i = (i, omega arith)
 
   pass-inside : (p : PassLine) → PassTame p → PassInside (passOf (fullOf p))
   unfolding fullOf passOf endsOf le ofBits ofInt
   pass-inside bare-grow t = record { search = refl; factor = refl; boundary = refl }
-  pass-inside (grow s a b) t = record { search = inside Quantity.Multiple s (t .0); factor = inside Quantity.Factor a (t .1 .0); boundary = inside Quantity.Multiple b (t .1 .1) }
+  pass-inside (grow s a b) t =
+      record { search = inside Quantity.Multiple s (t .0); factor = inside Quantity.Factor a (t .1 .0); boundary = inside Quantity.Multiple b (t .1 .1) }
   pass-inside bare-fill t = record { search = refl; factor = refl; rounds = omega arith }
   pass-inside (fill s a r) t = record { search = inside Quantity.Multiple s (t .0); factor = inside Quantity.Factor a (t .1 .0); rounds = small 64 r (t .1 .1) }
   pass-inside (local s a r g d) t =
@@ -150,14 +157,14 @@ module _ (f : Frame) (w : WithinLimits f) where
 
   pass-fit : (p : PassLine) → PassTame p → CallInside (cornersOf f) (callOf f p)
   pass-fit p t =
-      let q = sym (checked-so (passOf (fullOf p))) in
+      let c = called (passOf (fullOf p)) (length (xsOf f)) few (pass-inside p t) in
       record {
         few = few;
-        queue-long = subst (λ (a : Pass). queueNeeded a (length (xsOf f)) ≤ frameRooms .queue) q (queue-fits (passOf (fullOf p)) (length (xsOf f)) few);
+        queue-long = c .1;
         attached-long = omega (arith, few);
         corners-inside = corners-inside;
         settings-inside = settings-inside;
-        pass-inside = subst PassInside q (pass-inside p t);
+        pass-inside = c .0;
       }
 
   passes-fit : (ps : List PassLine) → All PassTame ps → All (CallInside (cornersOf f)) (map (callOf f) ps)

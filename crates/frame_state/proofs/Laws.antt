@@ -33,7 +33,8 @@ module _ {p : Progress} {a : Arrays} {line : HeldLine} (f : Addable p a line) wh
   tame-at : (kind : Kind) → kindAt (line .row) ≡ kind → (m : ℕ) (q : Quantity) → m < 5 → sortAt (rowOf kind) m ≡ Sort.Float q → Tame (getD (line .values) m 0)
   tame-at kind e m q h s =
       let is = ap (λ (k : ℕ). sortAt k m) (row-of (line .row) kind (f .fits .row-fits) e) ∙ s in
-      record { no-nan = pattern (getD (line .values) m 0) (omega (arith, tame-finite q (getD (line .values) m 0) (word-tame (p .corners) line (fine .ranges) m h q is))) }
+      let t = tame-finite q (getD (line .values) m 0) (word-tame (p .corners) line (fine .ranges) m h q is) in
+      record { no-nan = pattern (getD (line .values) m 0) (omega arith) }
 
   pub opening-fits : (o : OpeningKind) → kindAt (line .row) ≡ Kind.Opening o → TameOpening o (line .values)
   unfolding sortAt sortOf rowAt rows

@@ -6,18 +6,12 @@ use Rattle.frame.proofs.Leaving.{Copying, copying-start, copying-more, 
 use Rattle.frame.proofs.copy_sheet.Statement.{statement}
 use Rattle.frame.proofs.copy_sheet.Tie as tie
 
-abbrev Inv-loop : tie.InvT-loop
-Inv-loop from to₀ i₀ to i = Copying placeCount placeCount from to₀ to i
-
-abbrev μ-loop : tie.MeasureT-loop
-μ-loop from to₀ i₀ to i = placeCount - i
-
 pub copy-sheet-spec : {M : Type 1} → statement M
 copy-sheet-spec =
     tie.close
     (tie.spec
-    Inv-loop
-    μ-loop
+    (λ from to₀ i₀ to i. Copying placeCount placeCount from to₀ to i)
+    (λ from to₀ i₀ to i. placeCount - i)
     (λ c. copying-start _ _ _ _ (c .pre))
     (λ c. omega arith)
     (λ c. omega arith)

@@ -6,18 +6,12 @@ use Rattle.frame.proofs.Leaving.{Copying, copying-start, copying-more, 
 use Rattle.frame.proofs.copy_words.Statement.{statement}
 use Rattle.frame.proofs.copy_words.Tie as tie
 
-abbrev Inv-loop : tie.InvT-loop
-Inv-loop from n to₀ i₀ to i = Copying wordLimit n from to₀ to i
-
-abbrev μ-loop : tie.MeasureT-loop
-μ-loop from n to₀ i₀ to i = n - i
-
 pub copy-words-spec : {M : Type 1} → statement M
 copy-words-spec =
     tie.close
     (tie.spec
-    Inv-loop
-    μ-loop
+    (λ from n to₀ i₀ to i. Copying wordLimit n from to₀ to i)
+    (λ from n to₀ i₀ to i. n - i)
     (λ c. copying-start _ _ _ _ (c .pre))
     (λ c. omega arith)
     (λ c. omega arith)
