@@ -9,6 +9,8 @@ use arguments::GrowParams;
 use arguments::LocalExtensionParams;
 use arguments::Pass;
 use arguments::Settings;
+use binary32::hex::Bits;
+use binary32::hex::FloatRead;
 use libc::STDOUT_FILENO;
 use passes::Counts;
 use passes::FillStats;
@@ -21,8 +23,6 @@ use predict::Vector;
 use refusal::Refusal;
 use sheet::Label;
 use sizes::PLACES;
-use binary32::hex::Bits;
-use binary32::hex::FloatRead;
 
 // ---- reading
 

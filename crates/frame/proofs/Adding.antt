@@ -243,7 +243,8 @@ module _ (f : Parts) (s : State) (g : FrameHeld f s) (l : Line) (p : Proper l) (
   words-agree PassKind.Fill e =
       let b = bits-held l p (Kind.Pass PassKind.Fill) e in
       let tame = pass-said (length (f .corners)) l p (w .ranges) PassKind.Fill e in
-      let rounds = ap countIn (whole-held l p (Kind.Pass PassKind.Fill) e 2 (omega arith) refl) ∙ tame-count 64 (wholeAt 2 (l .numbers)) (omega arith) (tame .1 .1) in
+      let c = whole-held l p (Kind.Pass PassKind.Fill) e in
+      let rounds = ap countIn (c 2 (omega arith) refl) ∙ tame-count 64 (wholeAt 2 (l .numbers)) (omega arith) (tame .1 .1) in
       rw (b 0 (omega arith) refl, b 1 (omega arith) refl, rounds)
   words-agree PassKind.Local e =
       let b = bits-held l p (Kind.Pass PassKind.Local) e in
@@ -319,7 +320,8 @@ no-labels =
 pub nothing-held : (x : Float)
     → FrameHeld no-parts
     (state nothing-said
-    (arrays (replicate cornerLimit x) (replicate cornerLimit x) (replicate cornerLimit x) (replicate placeCount 0) (replicate usedCount 0) (replicate allPassWords 0)))
+    (arrays (replicate cornerLimit x) (replicate cornerLimit x) (replicate cornerLimit x)
+    (replicate placeCount 0) (replicate usedCount 0) (replicate allPassWords 0)))
 unfolding allWords
 nothing-held x =
     let front = holds-none cornerLimit x in

@@ -116,10 +116,10 @@ counted-all s t p l ls e rs o r =
 numbers-of : {stage : ℕ} {p : Parts} {ls : List Line} → Passing stage p ls → All (InRange (length (partsFrom p ls .corners))) ls
 unfolding partsFrom
 numbers-of (end-here e) = tt
-numbers-of {stage} {p} (pass-on {to = to} {ls = ls} l proper t c more) =
+numbers-of {stage} {p} (pass-on {to = to} {ls = ls} l q t c more) =
     let f = line-fine p l c in
-    let all = counted-all stage to p l ls t (proper .few, rows-of more) (passing-order more) in (
-      record { proper = proper; first = sym (all 1) ∙ f .first; ranges = sym (all 3) ∙ f .ranges; on-sheet = sym (all 4) ∙ f .on; known = sym (all 5) ∙ f .known },
+    let all = counted-all stage to p l ls t (q .few, rows-of more) (passing-order more) in (
+      record { proper = q; first = sym (all 1) ∙ f .first; ranges = sym (all 3) ∙ f .ranges; on-sheet = sym (all 4) ∙ f .on; known = sym (all 5) ∙ f .known },
       numbers-of more,
     )
 

@@ -100,21 +100,21 @@ all-given s t p l ls e r o m c =
 -- ---- what is not doubled
 
 -- by a test that tells what differs
-module _ {A : Type 0} (D : A → A → Type 0) (clash : A → A → Bool) (to : (a b : A) → clash a b ≡ false → D a b) (from : (a b : A) → D a b → clash a b ≡ false) where
-  differ-more : (l : List A) (a : A) → AllDiffer D l → someOf (λ b. clash b a) l ≡ false → AllDiffer D (l ++ (a ∷ []))
+module _ {A : Type 0} (D : A → A → Type 0) (eq : A → A → Bool) (to : (a b : A) → eq a b ≡ false → D a b) (from : (a b : A) → D a b → eq a b ≡ false) where
+  differ-more : (l : List A) (a : A) → AllDiffer D l → someOf (λ b. eq b a) l ≡ false → AllDiffer D (l ++ (a ∷ []))
   unfolding someOf
   differ-more [] a d e = (tt, tt)
   differ-more (b ∷ l) a d e =
-      let n = or-false-both (clash b a) (someOf (λ c. clash c a) l) e in
+      let n = or-false-both (eq b a) (someOf (λ c. eq c a) l) e in
       (all-then (D b) l (a ∷ []) (d .0) (to b a (n .0), tt), differ-more l a (d .1) (n .1))
 
-  differ-before : (l : List A) (a : A) → AllDiffer D (l ++ (a ∷ [])) → AllDiffer D l × (someOf (λ b. clash b a) l ≡ false)
+  differ-before : (l : List A) (a : A) → AllDiffer D (l ++ (a ∷ [])) → AllDiffer D l × (someOf (λ b. eq b a) l ≡ false)
   unfolding someOf
   differ-before [] a d = (tt, refl)
   differ-before (b ∷ l) a d =
       let e = all-before (D b) l a (d .0) in
       let r = differ-before l a (d .1) in
-      ((e .0, r .0), or-false (clash b a) (someOf (λ c. clash c a) l) (from b a (e .1)) (r .1))
+      ((e .0, r .0), or-false (eq b a) (someOf (λ c. eq c a) l) (from b a (e .1)) (r .1))
 
 abbrev Differ : LabelLine → LabelLine → Type 0
 Differ m l = (m .cell ≡ l .cell → ⊥) × (m .corner ≡ l .corner → ⊥)

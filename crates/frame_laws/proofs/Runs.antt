@@ -130,7 +130,8 @@ module _ (f : Frame) (w : WithinLimits f) where
   -- ---- the passes
 
   -- a pass as it is called
-  called : (q : Pass) (n : ℕ) → n ≤ cornerLimit → PassInside q → PassInside q × (queueNeeded q n ≤ frameRooms .queue)
+  called : (q : Pass) (n : ℕ) → n ≤ cornerLimit → PassInside q
+      → PassInside q × (queueNeeded q n ≤ frameRooms .queue)
   unfolding queueNeeded
   called (Pass.Grow p) n h i = (i, omega arith)
   called (Pass.Fill p) n h i = (i, omega arith)
