@@ -1,4 +1,4 @@
--- `passes_main::read_floats` is safe and ends: the measure is the number of floats that are left, and the array keeps its length. Assumes nothing.
+-- `call_text::read_floats` is safe and ends: the measure is the number of floats that are left, and the array keeps its length. Assumes nothing.
 use Prim.Native.Nat.{_-_}
 use mathlib.Core.Path.{_≡_, refl}
 use native.Mathlib.Omega.{arith}

@@ -1,4 +1,4 @@
--- `passes_main::read_labels` is safe and ends: the measure is the number of labels that are left, and the sheet keeps its length. Assumes nothing.
+-- `call_text::read_labels` is safe and ends: the measure is the number of labels that are left, and the sheet keeps its length. Assumes nothing.
 use Prim.Native.Nat.{_-_}
 use mathlib.Core.Path.{_≡_, refl}
 use native.Mathlib.Omega.{arith}

@@ -1,4 +1,4 @@
--- `passes_main::sum_of` is safe and ends: the measure is the number of places that are left. Assumes nothing.
+-- `call_text::sum_of` is safe and ends: the measure is the number of places that are left. Assumes nothing.
 use Prim.Native.Nat.{_-_}
 use native.Mathlib.Omega.{arith}
 use borrow.Author.Needs.{needs}
