@@ -5,6 +5,7 @@ use mathlib.Core.List.{List}
 use Prim.Native.Nat.{ℕ, _<_, _≤_}
 use lib.Dec.{leb, eqb}
 use lib.ListN.{getD}
+use Rattle.sizes.specs.Sizes.{cornerLimit, passLimit}
 use Rattle.refusal.specs.declared.Refusal.{Refusal}
 use Rattle.sheet.specs.Cells.{OnSheet, placeOf}
 use Rattle.arguments.specs.Arguments.{refusedIf}
@@ -25,19 +26,12 @@ checksInOrder outside over twice =
     (refusedIf (outside 5) Refusal.UnknownCorner
     (refusedIf twice Refusal.Duplicate Checked.Fine)))))
 
--- "At most .. 1,024 corners, 16 passes"
-abbrev pub mostCorners : ℕ
-mostCorners = 1024
-
-abbrev pub mostPasses : ℕ
-mostPasses = 16
-
--- 2, overfull, n corners and m passes standing already
+-- 2, overfull ("At most .. 1,024 corners, 16 passes"), n corners and m passes standing already
 unfoldable pub overLimit : ℕ → ℕ → Kind → Bool
 overLimit n m (Kind.Opening o) = false
-overLimit n m Kind.Corner = leb mostCorners n
+overLimit n m Kind.Corner = leb cornerLimit n
 overLimit n m Kind.Label = false
-overLimit n m (Kind.Pass p) = leb mostPasses m
+overLimit n m (Kind.Pass p) = leb passLimit m
 
 -- ---- as the code makes them, with n corners, m passes, the sheet and the corners used so far; each is what Frame (crate frame) says of the
 -- line, as `frame/proofs` shows
@@ -68,10 +62,10 @@ checkedHeld n m sheet used line = checksInOrder (λ r. outsideHeld r n line) (ov
 
 pub record LabelFits (l : HeldLabel) : Type 0 where
   pub on : OnSheet (l .cell)
-  pub entry : l .corner < mostCorners
+  pub entry : l .corner < cornerLimit
 
 pub record LineFits (n : ℕ) (line : HeldLine) : Type 0 where
-  pub few : n ≤ mostCorners
+  pub few : n ≤ cornerLimit
   pub row-fits : line .row < rowCount
 
 pub record NumbersFine (n : ℕ) (line : HeldLine) : Type 0 where

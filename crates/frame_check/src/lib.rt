@@ -9,14 +9,9 @@ use frame_line::HeldLine;
 use frame_line::Kind;
 use frame_line::has_refusal;
 use refusal::Refusal;
-
-// "At most .. 1,024 corners, 16 passes".
-const MOST_CORNERS: usize = 1024;
-
-const MOST_PASSES: usize = 16;
-
-// The places of the sheet.
-const PLACES: usize = 16384;
+use sizes::CORNERS;
+use sizes::PASSES;
+use sizes::PLACES;
 
 // 2: whether there are as many corners or passes already as there may be.
 fn over_limit(corners: usize, passes: usize, row: usize) -> bool
@@ -26,14 +21,14 @@ fn over_limit(corners: usize, passes: usize, row: usize) -> bool
     let kind = frame_line::kind_of(row);
     match kind {
         Kind::Opening(_) => false,
-        Kind::Corner => MOST_CORNERS <= corners,
+        Kind::Corner => CORNERS <= corners,
         Kind::Label => false,
-        Kind::Pass(_) => MOST_PASSES <= passes,
+        Kind::Pass(_) => PASSES <= passes,
     }
 }
 
 // 6 of a label: whether its cell or its corner has a label already.
-fn label_twice(sheet: &[u16; PLACES], used: &[u8; MOST_CORNERS], label: HeldLabel) -> bool
+fn label_twice(sheet: &[u16; PLACES], used: &[u8; CORNERS], label: HeldLabel) -> bool
     requires { ⌜ LabelFits label ⌝ }
     ensures { λ r. ⌜ r ≡ labelTwice (now (sheet .entry)) (now (used .entry)) label ⌝ }
 {
@@ -46,12 +41,7 @@ fn label_twice(sheet: &[u16; PLACES], used: &[u8; MOST_CORNERS], label: HeldLabe
 }
 
 // 6: a label's, and none of any other line.
-fn is_twice(
-    corners: usize,
-    sheet: &[u16; PLACES],
-    used: &[u8; MOST_CORNERS],
-    line: HeldLine,
-) -> bool
+fn is_twice(corners: usize, sheet: &[u16; PLACES], used: &[u8; CORNERS], line: HeldLine) -> bool
     requires { ⌜ NumbersFine corners line ⌝ }
     ensures { λ r. ⌜ r ≡ twiceHeld (now (sheet .entry)) (now (used .entry)) line ⌝ }
 {
@@ -72,7 +62,7 @@ pub fn check_line(
     corners: usize,
     passes: usize,
     sheet: &[u16; PLACES],
-    used: &[u8; MOST_CORNERS],
+    used: &[u8; CORNERS],
     line: HeldLine,
 ) -> Checked
     requires { ⌜ LineFits corners line ⌝ }

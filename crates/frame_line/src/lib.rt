@@ -4,6 +4,7 @@ ghost use mathlib.Core.Path.{_≡_};
 ghost use mathlib.Core.Bool.{cond};
 ghost use Prim.Native.Nat.{_<_, _≤_, _*_, min};
 ghost use lib.ListN.{getD};
+ghost use Rattle.sizes.specs.Sizes.{cornerLimit};
 ghost use Rattle.labels.specs.Labelled.{anyBelow};
 ghost use Rattle.line_form.specs.Integers.{offset};
 ghost use Rattle.line_form.specs.Forms.{secondIs};
@@ -280,7 +281,7 @@ fn refusal_if(holds: bool, refusal: u32) -> u32
 
 // The refusal of a number, 0 where it has none.
 fn refusal_of(corners: u32, sort: Sort, word: u32) -> u32
-    requires { ⌜ corners ≤ 1024 ⌝ }
+    requires { ⌜ corners ≤ cornerLimit ⌝ }
     ensures { λ r. ⌜ r ≡ refusalIn corners sort word ⌝ }
 {
     match sort {
@@ -293,7 +294,7 @@ fn refusal_of(corners: u32, sort: Sort, word: u32) -> u32
 
 // The refusals of a line's numbers, by the letters of its row.
 pub fn refusals_of(corners: u32, line: HeldLine) -> [u32; 5]
-    requires { ⌜ (line .row < rowCount) × (corners ≤ 1024) ⌝ }
+    requires { ⌜ (line .row < rowCount) × (corners ≤ cornerLimit) ⌝ }
     ensures { λ r. ⌜ r ≡ refusalsIn corners line ⌝ }
 {
     let fronts = FRONTS;

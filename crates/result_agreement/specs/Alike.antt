@@ -4,6 +4,7 @@ use mathlib.Core.Path.{_≡_}
 use mathlib.Core.List.{List, _++_}
 use Prim.Native.Nat.{ℕ, _<_}
 use lib.ListN.{getD}
+use Rattle.sizes.specs.Sizes.{placeCount}
 use Rattle.sheet.specs.Cells.{cellOf}
 use Rattle.sheet.specs.Words.{labelOf}
 use Rattle.sheet.specs.declared.Label.{Label}
@@ -46,9 +47,9 @@ numbers same = same .pairs .to
 -- with the corners of its cell lines numbered anew.
 pub record ResultsAlike (text text' : List ℕ) (f f' : Frame) (same : SameButOrder f f') : Type 0 where
   pub stats : frameStats f' ≡ frameStats f
-  pub labels : (p : ℕ) → p < 16384 → labelOf (getD (frameSheet f') p 0) ≡ numberedAnew (numbers same) (labelOf (getD (frameSheet f) p 0))
-  pub holes : (p : ℕ) → p < 16384 → holeLine (frameSheet f') p ≡ holeLine (frameSheet f) p
-  pub ambiguous : (p : ℕ) → p < 16384 → ambiguousLine (frameSheet f') p ≡ ambiguousLine (frameSheet f) p
+  pub labels : (p : ℕ) → p < placeCount → labelOf (getD (frameSheet f') p 0) ≡ numberedAnew (numbers same) (labelOf (getD (frameSheet f) p 0))
+  pub holes : (p : ℕ) → p < placeCount → holeLine (frameSheet f') p ≡ holeLine (frameSheet f) p
+  pub ambiguous : (p : ℕ) → p < placeCount → ambiguousLine (frameSheet f') p ≡ ambiguousLine (frameSheet f) p
   pub first-answer : answerText text ≡ resultText (frameStats f) (frameSheet f)
   pub second-answer : answerText text' ≡ renumberedText (numbers same) (frameStats f) (frameSheet f)
 

@@ -4,6 +4,7 @@ use mathlib.Core.List.{List, [], _∷_, _++_}
 use Prim.Native.Nat.{ℕ, suc, _<_, _≤_}
 use lib.Dec.{eqb, ltb}
 use lib.ListN.{set}
+use Rattle.sizes.specs.Sizes.{placeCount}
 use Rattle.sheet.specs.Cells.{onSheet, placeOf}
 use Rattle.sheet.specs.Words.{labelOf, withLabel, withHole, withAmbiguous, withoutMarks, emptySheet}
 use Rattle.sheet.specs.Corners.{seenThrough}
@@ -26,7 +27,7 @@ written p v = record { place = p; word = v }
 -- places of the sheet from n on, rising
 pub data Rise : ℕ → List Written → Type 0 where
   no-more : {n : ℕ} → Rise n []
-  then : {n : ℕ} {e : Written} {es : List Written} → n ≤ e .place → e .place < 16384 → Rise (suc (e .place)) es → Rise n (e ∷ es)
+  then : {n : ℕ} {e : Written} {es : List Written} → n ≤ e .place → e .place < placeCount → Rise (suc (e .place)) es → Rise n (e ∷ es)
 
 -- the sheet
 unfoldable pub sheetWith : List Written → List ℕ
@@ -83,7 +84,7 @@ putIn (e ∷ es) p v = cond (ltb p (e .place)) (written p v ∷ e ∷ es) (cond 
 
 -- nothing is put past the sheet
 unfoldable pub put : List Written → ℕ → ℕ → List Written
-put w p v = cond (ltb p 16384) (putIn w p v) w
+put w p v = cond (ltb p placeCount) (putIn w p v) w
 
 abbrev pub attachedIn : List Written → Cell → ℕ → List Written
 attachedIn w c k = put w (placeOf c) (withLabel (wordIn w (placeOf c)) k)
