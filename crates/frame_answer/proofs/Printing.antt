@@ -13,10 +13,11 @@ use Rattle.arguments.specs.declared.Checked.{Checked}
 use Rattle.labels.proofs.Below.{any-no}
 use Rattle.line_form.specs.Written.{Wrote}
 use Rattle.report_line.specs.Result.{Piece, resultPiece, lineCount}
-use Rattle.report.specs.WriteResult.{TextLent, textLent, statsIn, inputShort, overLimit, wildOutcome, wild, checkedPiece, pieceIn, PieceOut, pieceOut, pieceLeaves, writesPiece}
+use Rattle.report.specs.WriteResult.{TextLent, textLent, inputShort, overLimit, wild, checkedPiece, pieceIn, PieceOut, pieceOut, pieceLeaves, writesPiece}
+use Rattle.report_words.specs.Outcomes.{statsIn, wildOutcome}
 use Rattle.report.specs.declared.PieceAnswer.{PieceAnswer}
 use Rattle.report.proofs.Laws.{piece-moves}
-use Rattle.report.proofs.Outcomes.{stats-length}
+use Rattle.report_words.proofs.Outcomes.{stats-length}
 use Rattle.arguments.specs.Front.{over}
 use Rattle.report_line.specs.Refused.{refusedText}
 use Rattle.frame_answer.specs.Answer.{refusedPiece, heldLines, heldPiece, CanSay, Printable, WrotePiece, Moves}

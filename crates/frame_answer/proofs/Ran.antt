@@ -37,9 +37,9 @@ use Rattle.frame_laws.proofs.Runs.{accepted-runs}
 use Rattle.count_bounds.specs.Bounds.{FewCounts, FiniteResidual, Small, small-grow, small-fill, small-local}
 use Rattle.count_bounds.proofs.Small.{small}
 use Rattle.sheet.specs.Words.{bitOf}
-use Rattle.report.specs.WriteResult.{residualWords, outcomeWords, wordAt, statsFrom, statsIn, largestCount, wildCounts, wildResidual, wildOutcome}
-use Rattle.report.specs.Asked.{Tame, put, withOutcome, FloatOrNone, IsFloat}
-use Rattle.report.proofs.Laws.{put-last}
+use Rattle.report_words.specs.Outcomes.{residualWords, outcomeWords, wordAt, statsFrom, statsIn, largestCount, wildCounts, wildResidual, wildOutcome}
+use Rattle.report_words.specs.Asked.{Tame, put, withOutcome, FloatOrNone, IsFloat}
+use Rattle.report_words.proofs.Putting.{put-last}
 use Rattle.arguments.specs.Front.{over}
 use Rattle.frame_answer.specs.Running.{passAt, callAt, Left, left, noted, leftBy, leftByAll}
 use Rattle.frame_answer.specs.Answer.{statsOf, frameStats, frameSheet, Recorded}

@@ -14,7 +14,7 @@ use Rattle.passes.specs.declared.Counts.{Counts}
 use Rattle.passes.specs.declared.PassAnswer.{PassAnswer}
 use Rattle.count_bounds.specs.Bounds.{FewCounts, Small, small-grow, small-fill, small-local}
 use Rattle.pass_call.specs.Call.{callOf, doneAnswer, PassOut, passOut, passLeaves, SmallAnswer}
-use Rattle.report.specs.Asked.{withOutcome, CountsFit, AnswerFits, withAnswer}
+use Rattle.report_words.specs.Asked.{withOutcome, CountsFit, AnswerFits, withAnswer}
 use Rattle.frame_answer.specs.Running.{passAt, callAt, noted, Left, left, leftBy, leftByAll}
 
 -- ---- one pass

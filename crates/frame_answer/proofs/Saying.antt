@@ -7,8 +7,8 @@ use lib.ListN.{length}
 use Rattle.frame.specs.Frame.{Frame, FrameRead, refused-at, accepted, readFrame}
 use Rattle.passes.specs.Run.{PassStats}
 use Rattle.report_line.specs.Result.{resultPiece, lineCount}
-use Rattle.report.specs.WriteResult.{statsFrom}
-use Rattle.report.proofs.Outcomes.{stats-length}
+use Rattle.report_words.specs.Outcomes.{statsFrom}
+use Rattle.report_words.proofs.Outcomes.{stats-length}
 use Rattle.frame_answer.specs.Answer.{frameStats, Recorded, Lent, Recovers, recovers-not, recovers, answerLines, answerPiece, heldLines, heldPiece, CanSay, FewPasses, Says}
 use Rattle.frame_answer.specs.declared.Recovered.{Recovered}
 use Rattle.frame_answer.proofs.Refusing.{refused-line}

@@ -18,7 +18,7 @@ use Rattle.report_line.specs.Refused.{refusedText}
 use Rattle.report_line.specs.Result.{resultText, resultFrom, Piece, resultPiece, lineCount}
 use Rattle.sizes.specs.Sizes.{placeCount, cornerLimit, passLimit, outcomeSize}
 use Rattle.report_line.specs.Sizes.{lineRoom}
-use Rattle.report.specs.WriteResult.{statsIn, wildOutcome}
+use Rattle.report_words.specs.Outcomes.{statsIn, wildOutcome}
 use Rattle.line_form.specs.Written.{Wrote}
 use Rattle.frame_answer.specs.declared.Recovered.{Recovered}
 use Rattle.frame_answer.specs.declared.PieceWritten.{PieceWritten}

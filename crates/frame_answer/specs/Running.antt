@@ -15,7 +15,7 @@ use Rattle.passes.specs.Run.{Call, PassStats, step, sheetAfter}
 use Rattle.pass_call.specs.Call.{callOf}
 use Rattle.frame.specs.ReadFrame.{growOf, fillOf, localOf}
 use Rattle.sizes.specs.Sizes.{placeCount, cornerLimit, passLimit, passSize, allPassWords, allOutcomeWords}
-use Rattle.report.specs.Asked.{withOutcome}
+use Rattle.report_words.specs.Asked.{withOutcome}
 
 -- ---- a pass from its six words: kind (0 grow, 1 fill, 2 local), search, factor, boundary or residual, rounds, depth
 

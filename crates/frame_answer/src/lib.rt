@@ -90,7 +90,7 @@ fn run_pass(
     ensures { λ _. ⌜ left (now (sheet .exit)) (now (words .exit)) ≡ leftBy (cornerLists (now (xs .entry)) (now (ys .entry)) (now (pitches .entry))) (callOf settings (length (now (queue .entry))) (length (now (attached .entry))) pass) k (left (now (sheet .entry)) (now (words .entry))) ⌝ }
 {
     let answer = pass_call::call_pass(xs, ys, pitches, sheet, queue, attached, settings, pass);
-    report::words::put_outcome(words, k, answer);
+    report_words::put::put_outcome(words, k, answer);
 }
 
 // Runs the first n passes in order on one sheet, and notes their outcomes.

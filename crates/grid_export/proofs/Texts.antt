@@ -13,12 +13,13 @@ use Rattle.arguments.specs.declared.Checked.{Checked}
 use Rattle.arguments.proofs.Chains.{or-false-both, not-refused}
 use Rattle.passes.specs.Run.{PassStats}
 use Rattle.report_line.specs.Result.{linesFrom, resultLine, lineCount, resultFrom, Piece}
-use Rattle.report.specs.WriteResult.{TextLent, statsIn, textOf, inputShort, overLimit, wild, checkedRest, checkedText, TextOut, textOut, textLeaves, writesText, pieceIn, checkedPiece, PieceOut, pieceOut, pieceLeaves, writesPiece}
+use Rattle.report.specs.WriteResult.{TextLent, textOf, inputShort, overLimit, wild, checkedRest, checkedText, TextOut, textOut, textLeaves, writesText, pieceIn, checkedPiece, PieceOut, pieceOut, pieceLeaves, writesPiece}
+use Rattle.report_words.specs.Outcomes.{statsIn}
 use Rattle.report.specs.declared.TextAnswer.{TextAnswer}
 use Rattle.report.specs.declared.PieceAnswer.{PieceAnswer}
 use Rattle.report.proofs.Joining.{no-lines, one-line-more}
 use Rattle.report.proofs.Laws.{from-the-start, piece-joins, piece-stops, line-short}
-use Rattle.report.proofs.Outcomes.{stats-length}
+use Rattle.report_words.proofs.Outcomes.{stats-length}
 use Rattle.grid_export.specs.Frames.{Word}
 use Rattle.grid_export.specs.Texts.{TextLeft, textLeft, textTold, textWritten, textUnless, textExported, pieceTold, pieceWritten, pieceUnless, pieceExported}
 use Rattle.grid_export.proofs.Entering.{one, two}

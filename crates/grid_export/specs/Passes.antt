@@ -17,7 +17,7 @@ use Rattle.passes.specs.Run.{PassStats, step}
 use Rattle.passes.specs.declared.PassAnswer.{PassAnswer}
 use Rattle.pass_call.specs.Call.{callOf}
 use Rattle.sizes.specs.Sizes.{outcomeSize}
-use Rattle.report.specs.Asked.{withOutcome}
+use Rattle.report_words.specs.Asked.{withOutcome}
 use Rattle.arguments.specs.Front.{over}
 
 -- ---- numbers as the calls have them

@@ -65,7 +65,7 @@ fn run_pass(
     ensures { λ r. ⌜ passLeft r (now (sheet .exit)) (now (queue .exit)) (now (attached .exit)) (now (out .exit)) ≡ passTold (step (cornerLists (now (xs .entry)) (now (ys .entry)) (now (pitches .entry))) (now (sheet .entry)) (callOf settings (length (now (queue .entry))) (length (now (attached .entry))) pass)) (now (sheet .entry)) (now (queue .entry)) (now (attached .entry)) (now (out .entry)) ⌝ }
 {
     let answer = pass_call::call_pass(xs, ys, pitches, sheet, queue, attached, settings, pass);
-    report::words::put_outcome(out, 0, answer);
+    report_words::put::put_outcome(out, 0, answer);
     answer_number(answer)
 }
 

@@ -12,14 +12,15 @@ use Rattle.arguments.proofs.Chains.{or-false-both, not-refused}
 use Rattle.line_form.specs.Written.{Wrote}
 use Rattle.report_line.specs.Result.{lineCount, Piece}
 use Rattle.arguments.specs.Front.{over}
-use Rattle.report.specs.WriteResult.{TextLent, statsIn, textOf, inputShort, overLimit, wild, checkedRest, checkedText, TextOut, textOut, textLeaves, writesText, pieceIn, checkedPiece, PieceOut, pieceOut, pieceLeaves, writesPiece}
+use Rattle.report.specs.WriteResult.{TextLent, textOf, inputShort, overLimit, wild, checkedRest, checkedText, TextOut, textOut, textLeaves, writesText, pieceIn, checkedPiece, PieceOut, pieceOut, pieceLeaves, writesPiece}
+use Rattle.report_words.specs.Outcomes.{statsIn}
 use Rattle.report.specs.Said.{textSaid, textDue, pieceSaid, pieceDue}
 use Rattle.report.specs.Asked.{Sound, textFrom, pieceFrom, AllAsked, SomeAsked, WrotePiece}
 use Rattle.report.specs.declared.TextAnswer.{TextAnswer}
 use Rattle.report.specs.declared.PieceAnswer.{PieceAnswer}
 use Rattle.report.specs.declared.lines.PieceEnd.{PieceEnd}
 use Rattle.report.proofs.Laws.{from-the-start}
-use Rattle.report.proofs.Outcomes.{all-tame}
+use Rattle.report.proofs.Short.{all-tame}
 use Rattle.report.proofs.Checking.{all-lent}
 use Rattle.report.proofs.Said.{text-promised, piece-promised}
 

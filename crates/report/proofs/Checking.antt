@@ -1,36 +1,21 @@
 -- What the tests of a call say, one after the other. Assumes nothing.
 use mathlib.Core.Path.{_≡_, refl, sym, ap, _∙_}
-use mathlib.Core.Bool.{Bool, true, false, not, _||_}
+use mathlib.Core.Bool.{Bool, true, false, _||_}
 use mathlib.Core.List.{List}
-use Prim.Native.Nat.{ℕ, _*_, _/_, _%_, _≤_, _<_}
-use native.Mathlib.Decide.{decLe}
+use Prim.Native.Nat.{ℕ, _*_, _/_, _≤_, _<_}
 use native.Mathlib.Omega.{arith}
-use borrow.Author.Tests.{lt-ltb, le-ltb, ltb-true, ltb-false, le-leb, lt-leb, eq-eqb, ne-eqb}
-use lib.Dec.{ltb, leb}
+use borrow.Author.Tests.{lt-ltb, le-ltb, ltb-true, ltb-false}
+use lib.Dec.{ltb}
 use lib.ListN.{length}
-use lib.Ieee.{binary32, ofBits}
 use Rattle.refusal.specs.declared.Refusal.{Refusal}
-use Rattle.binary32.specs.Ranges.{isFinite}
-use Rattle.binary32.proofs.Finite.{finite-bits, infinite-bits}
 use Rattle.arguments.specs.declared.Checked.{Checked}
 use Rattle.arguments.proofs.Tests.{holds, fails}
 use Rattle.arguments.proofs.Chains.{or-false, or-false-both, refused, passed}
 use Rattle.report_line.specs.Result.{lineCount}
-use Rattle.report.specs.WriteResult.{TextLent, wordAt, statsIn, textOf, inputShort, overLimit, wildResidual, wild, checkedRest, checkedText, checkedPiece}
+use Rattle.report.specs.WriteResult.{TextLent, textOf, inputShort, overLimit, wild, checkedRest, checkedText, checkedPiece}
+use Rattle.report_words.specs.Outcomes.{statsIn}
 use Rattle.report.specs.Asked.{AllLent, textFrom, CornersAsked, cornersChecked}
 use Rattle.report.proofs.Laws.{from-the-start}
-
--- ---- a number against a bound
-
-module _ (a r w : ℕ) (e : r ≡ w) where
-  pub above : a < r → ltb a w ≡ true
-  above h = lt-ltb a w (omega arith)
-
-  pub not-above : r ≤ a → ltb a w ≡ false
-  not-above h = le-ltb a w (omega arith)
-
-  pub as-above : ltb a r ≡ ltb a w
-  as-above = ap (ltb a) e
 
 -- ---- 7: nine words an outcome, by a division that cannot overflow
 
@@ -40,29 +25,6 @@ ninth n passes = go (ltb n (9 * passes)) refl
     go : (t : Bool) → ltb n (9 * passes) ≡ t → ltb (n / 9) passes ≡ t
     go true e = let h = ltb-true n (9 * passes) e in lt-ltb (n / 9) passes (omega arith)
     go false e = let h = ltb-false n (9 * passes) e in le-ltb (n / 9) passes (omega arith)
-
--- ---- 3: a residual
-
-not-finite : (b : ℕ) → leb 0x7f80_0000 (b % 0x8000_0000) ≡ not (isFinite (ofBits binary32 b))
-not-finite b = go (decLe 0x7f80_0000 (b % 0x8000_0000))
-  where
-    go : Dec (0x7f80_0000 ≤ b % 0x8000_0000) → leb 0x7f80_0000 (b % 0x8000_0000) ≡ not (isFinite (ofBits binary32 b))
-    go (yes l) = le-leb 0x7f80_0000 (b % 0x8000_0000) l ∙ sym (ap not (infinite-bits b l))
-    go (no f) = lt-leb 0x7f80_0000 (b % 0x8000_0000) (omega arith) ∙ sym (ap not (finite-bits b (omega arith)))
-
-module _ (words : List ℕ) (k flag : ℕ) (e : flag ≡ wordAt words k 6) where
-  pub flag-wild : 1 < flag → true ≡ wildResidual words k
-  unfolding wildResidual
-  flag-wild h = holds _ _ (above 1 flag _ e h)
-
-  pub flag-none : flag ≡ 0 → false ≡ wildResidual words k
-  unfolding wildResidual
-  flag-none h = fails _ _ _ (not-above 1 flag _ e (omega arith)) (rw (ne-eqb (wordAt words k 6) 1 (λ z. omega arith)))
-
-  pub flag-some : flag ≤ 1 → (flag ≡ 0 → ⊥) → leb 0x7f80_0000 (wordAt words k 7 % 0x8000_0000) ≡ wildResidual words k
-  unfolding wildResidual
-  flag-some h d =
-      fails _ _ _ (not-above 1 flag _ e h) (rw (eq-eqb (wordAt words k 6) 1 (omega arith)) (not-finite (wordAt words k 7)))
 
 -- ---- one refusal after the other
 

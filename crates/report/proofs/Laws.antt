@@ -1,18 +1,16 @@
--- Laws of a result's text: from line 0 on it is the whole text, its pieces join to it, no line is longer than 127 bytes, and an outcome that was put
--- is read again. Assumes nothing.
+-- Laws of a result's text: from line 0 on it is the whole text, its pieces join to it, and no line is longer than 127 bytes. Assumes nothing.
 use mathlib.Core.Path.{_≡_, refl, ap, ap₂, _∙_}
 use mathlib.Core.Bool.{Bool, false, cond}
 use mathlib.Core.List.{List, [], _∷_, _++_}
-use Prim.Native.Nat.{ℕ, suc, _+_, _-_, _*_, _≤_, _<_}
+use Prim.Native.Nat.{ℕ, suc, _+_, _-_, _≤_, _<_}
 use native.Mathlib.Omega.{arith}
 use borrow.Author.Tests.{lt-ltb, le-ltb}
 use lib.ListN.{length}
 use Rattle.passes.specs.Run.{PassStats}
 use Rattle.report_line.specs.Result.{passLine, passLines, cellLine, holeLine, ambiguousLine, linesFrom, allPlaces, heading, resultText, passLineAt, sheetLine, afterHeading, resultLine, lineCount, resultFrom, Piece, resultPiece}
-use Rattle.report.specs.WriteResult.{TextLent, outcomeWords, statsAt, statsIn, wild, pieceIn}
-use Rattle.report.specs.Asked.{HasOutcome, withOutcome, IsFloat}
-use Rattle.report.proofs.Outcomes as outcomes
-use Rattle.report.proofs.Putting as putting
+use Rattle.report.specs.WriteResult.{TextLent, wild, pieceIn}
+use Rattle.report_words.specs.Outcomes.{statsIn}
+use Rattle.report_words.proofs.Outcomes.{stats-length}
 use Rattle.report.proofs.Short as short
 use Rattle.report.proofs.Joining.{one-line-more, lines-split, lines-same, Cut, cut, moves, fits}
 
@@ -124,12 +122,4 @@ module _ (l : TextLent) (tame : wild l ≡ false) where
   pub piece-in-room : (k room : ℕ) → length (pieceIn l k room .text) ≤ room
   piece-in-room k room =
       piece-fits (statsIn (l .passes) (l .words)) (l .sheet) k room
-      (λ i h. line-short i (rw (outcomes.stats-length (l .words) 0 (l .passes)) at h))
-
--- an outcome that was put at its place is read there again, if its residual is a value of binary32 or none
-pub decode-encode : (before after : List ℕ) (k : ℕ) (s : PassStats) → length before ≡ 9 * k → IsFloat s → statsAt (before ++ (outcomeWords s ++ after)) k ≡ s
-decode-encode before after k s e f = outcomes.decode-encode before after k s e f
-
--- an outcome put behind k others is the last of one more
-pub put-last : (words : List ℕ) (k : ℕ) (s : PassStats) → HasOutcome words k → IsFloat s → statsIn (suc k) (withOutcome words k s) ≡ statsIn k words ++ (s ∷ [])
-put-last words k s h f = putting.put-last words k s h f
+      (λ i h. line-short i (rw (stats-length (l .words) 0 (l .passes)) at h))

@@ -1,7 +1,5 @@
 -- The laws of a result's text: `Laws` is the file to cite.
 pub mod Joining
-pub mod Outcomes
-pub mod Putting
 pub mod Numbered
 pub mod Short
 pub mod Laws

@@ -7,20 +7,18 @@ use native.Mathlib.Omega.{arith}
 use borrow.Author.Tests.{lt-ltb, le-ltb, ltb-true, ltb-false, eq-eqb, ne-eqb}
 use lib.Dec.{ltb}
 use lib.ListN.{length, length-append}
-use lib.Ieee.{Float}
-use Rattle.binary32.specs.Ranges.{isFinite}
 use Rattle.passes.specs.declared.GrowStats.{GrowStats}
 use Rattle.passes.specs.declared.FillStats.{FillStats}
 use Rattle.passes.specs.declared.LocalStats.{LocalStats}
-use Rattle.passes.specs.declared.LargestResidual.{LargestResidual}
 use Rattle.report_line.specs.Result.{growLine, fillLine, localLine, passLine, passLineAt, sheetLine, linesFrom, resultLine, lineCount, resultFrom}
-use Rattle.report_line.specs.Like.{ResidualLike, GrowLike, FillLike, LocalLike}
+use Rattle.report_line.specs.Like.{GrowLike, FillLike, LocalLike}
 use Rattle.report_line.proofs.Like.{grow-like, fill-like, local-like}
 use Rattle.line_form.specs.Written.{Wrote}
-use Rattle.report.specs.WriteResult.{wordAt, yesAt, residualAt, statsAt, statsIn}
-use Rattle.report.specs.Asked.{growAt, fillAt, localAt, lineAt, textFrom}
+use Rattle.report_words.specs.Outcomes.{wordAt, statsAt, statsIn}
+use Rattle.report_words.specs.Asked.{growAt, fillAt, localAt}
+use Rattle.report.specs.Asked.{lineAt, textFrom}
 use Rattle.report.proofs.Joining.{no-lines, one-line-more}
-use Rattle.report.proofs.Outcomes.{stats-length, pass-line-at}
+use Rattle.report_words.proofs.Outcomes.{stats-length, pass-line-at}
 
 -- ---- pass lines, by the outcome's kind
 
@@ -49,12 +47,6 @@ module _ (words : List ℕ) (k kind : ℕ) (e : kind ≡ wordAt words k 0) where
   pub local-counted : (r : LocalStats) (n : ℕ) (old new : List ℕ) → LocalLike (localAt words k) r → (kind ≡ 0 → ⊥) → (kind ≡ 1 → ⊥) → Wrote (localLine r) old new n
       → n ≡ length (passLine (statsAt words k))
   local-counted r n old new l h i w = w .count ∙ local-like (localAt words k) r l ∙ ap (λ (t : List ℕ). length t) (local-kind words k kind e h i)
-
-pub like-none : (words : List ℕ) (k : ℕ) → yesAt words k 6 ≡ false → ResidualLike (residualAt words k) LargestResidual.Nothing
-like-none words k e = rw e tt
-
-pub like-some : (words : List ℕ) (k : ℕ) (x : Float) → isFinite x ≡ true → yesAt words k 6 ≡ true → ResidualLike (residualAt words k) (LargestResidual.Residual x)
-like-some words k x f e = rw e f
 
 -- ---- lines by their numbers
 

@@ -7,13 +7,21 @@ use native.Mathlib.Omega.{arith}
 use borrow.Author.Tests.{ltb-true, ltb-false}
 use lib.Dec.{ltb, eqb}
 use lib.ListN.{length}
+use Rattle.labels.proofs.Below.{any-none}
 use Rattle.report_line.specs.Result.{passLine, sheetLine, passLineAt, resultLine, lineCount}
 use Rattle.passes.specs.Run.{growStats, fillStats, localStats}
-use Rattle.report.specs.WriteResult.{TextLent, wordAt, countsAt, statsAt, statsIn, wild}
+use Rattle.report.specs.WriteResult.{TextLent, wild}
+use Rattle.report_words.specs.Outcomes.{wildOutcome, wordAt, countsAt, statsAt, statsIn}
 use Rattle.report_line.specs.Written.{Few}
 use Rattle.report_line.proofs.Short.{grow-short, fill-short, local-short, sheet-short}
-use Rattle.report.specs.Asked.{growAt, fillAt, localAt, Tame, lineAt}
-use Rattle.report.proofs.Outcomes.{all-tame, stats-length, pass-line-at}
+use Rattle.report_words.specs.Asked.{growAt, fillAt, localAt, Tame}
+use Rattle.report.specs.Asked.{lineAt}
+use Rattle.report_words.proofs.Outcomes.{tame, stats-length, pass-line-at}
+
+-- each outcome passes the check
+pub all-tame : (l : TextLent) → wild l ≡ false → (k : ℕ) → k < l .passes → Tame (l .words) k
+unfolding wild
+all-tame l e k h = tame (l .words) k (any-none (wildOutcome (l .words)) (l .passes) k e h)
 
 -- the line of an outcome that passes the check
 pub pass-short : (words : List ℕ) (k : ℕ) → Tame words k → length (passLine (statsAt words k)) ≤ 127

@@ -17,11 +17,12 @@ use Rattle.report_line.specs.Result.{heading, growLine, fillLine, localLine, pa
 use Rattle.report_line.specs.Written.{Few, GrowAsked, FillAsked, LocalAsked, LineAsked as SheetAsked}
 use Rattle.report_line.proofs.Forms.{same-room}
 use Rattle.arguments.specs.Front.{over}
-use Rattle.report.specs.WriteResult.{wordAt, countsAt, statsAt, statsIn}
-use Rattle.report.specs.Asked.{growAt, fillAt, localAt, Tame, PassAsked, LineAsked, AllAsked, SomeAsked, WrotePiece, lineAt, textFrom, pieceFrom}
+use Rattle.report_words.specs.Outcomes.{wordAt, countsAt, statsAt, statsIn}
+use Rattle.report_words.specs.Asked.{growAt, fillAt, localAt, Tame}
+use Rattle.report.specs.Asked.{PassAsked, LineAsked, AllAsked, SomeAsked, WrotePiece, lineAt, textFrom, pieceFrom}
 use Rattle.report.specs.declared.lines.PieceEnd.{PieceEnd}
 use Rattle.report.proofs.Numbered.{grow-kind, fill-kind, local-kind, pass-line, sheet-line, text-more, text-ends}
-use Rattle.report.proofs.Outcomes.{stats-length, residual-finite}
+use Rattle.report_words.proofs.Outcomes.{stats-length, residual-finite}
 
 -- ---- pass lines, by the outcome's kind
 

@@ -1,7 +1,6 @@
 // The text of a result (01, "Frame and result"), whole or piece by piece, as library calls.
 mod lines; // lines.rt: the lines by their numbers
 mod tests; // tests.rt: refusals 7, 2, 3, 5 and 6
-pub mod words; // words.rt: outcomes as words
 
 ghost use mathlib.Core.Path.{_≡_};
 ghost use Rattle.report.specs.WriteResult.{textLent, textOut, writesText, pieceOut, writesPiece};

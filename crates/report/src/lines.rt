@@ -7,8 +7,9 @@ ghost use lib.ListN.{length};
 ghost use Rattle.line_form.specs.Written.{Wrote};
 ghost use Rattle.report_line.specs.Result.{passLine};
 ghost use Rattle.sizes.specs.Sizes.{placeCount};
-ghost use Rattle.report.specs.WriteResult.{statsAt};
-ghost use Rattle.report.specs.Asked.{HasOutcome, AllLent, HasLine, PassAsked, LineAsked, AllAsked, SomeAsked, WrotePiece, BlankLines, Skipped, lineAt, textFrom, pieceFrom};
+ghost use Rattle.report_words.specs.Asked.{HasOutcome};
+ghost use Rattle.report_words.specs.Outcomes.{statsAt};
+ghost use Rattle.report.specs.Asked.{AllLent, HasLine, PassAsked, LineAsked, AllAsked, SomeAsked, WrotePiece, BlankLines, Skipped, lineAt, textFrom, pieceFrom};
 use report_line::line::write_fill;
 use report_line::line::write_grow;
 use report_line::line::write_heading;
@@ -25,14 +26,14 @@ fn pass_length(words: &[u32], k: usize) -> usize
     ensures { λ r. ⌜ r ≡ length (passLine (statsAt (now (words .entry)) k)) ⌝ }
 {
     let mut line = [0u8; LINE_ROOM];
-    let kind = super::words::word_at(words, k, 0);
+    let kind = report_words::read::word_at(words, k, 0);
     if kind == 0 {
-        return write_grow(super::words::grow_like(words, k), &mut line);
+        return write_grow(report_words::like::grow_like(words, k), &mut line);
     }
     if kind == 1 {
-        return write_fill(super::words::fill_like(words, k), &mut line);
+        return write_fill(report_words::like::fill_like(words, k), &mut line);
     }
-    write_local(super::words::local_like(words, k), &mut line)
+    write_local(report_words::like::local_like(words, k), &mut line)
 }
 
 // The length of line k: what its writer writes.
@@ -74,14 +75,14 @@ fn write_pass(words: &[u32], k: usize, out: &mut [u8]) -> usize
     requires { ⌜ PassAsked (now words) k (now out) ⌝ }
     ensures { λ r. ⌜ Wrote (passLine (statsAt (now (words .entry)) k)) (now (out .entry)) (now (out .exit)) r ⌝ }
 {
-    let kind = super::words::word_at(words, k, 0);
+    let kind = report_words::read::word_at(words, k, 0);
     if kind == 0 {
-        return write_grow(super::words::grow_at(words, k), out);
+        return write_grow(report_words::read::grow_at(words, k), out);
     }
     if kind == 1 {
-        return write_fill(super::words::fill_at(words, k), out);
+        return write_fill(report_words::read::fill_at(words, k), out);
     }
-    write_local(super::words::local_at(words, k), out)
+    write_local(report_words::read::local_at(words, k), out)
 }
 
 // Writes line k to the front of a part.

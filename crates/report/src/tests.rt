@@ -3,8 +3,8 @@ ghost use mathlib.Core.Path.{_≡_};
 ghost use Prim.Native.Nat.{_*_, _≤_};
 ghost use lib.ListN.{length};
 ghost use Rattle.sizes.specs.Sizes.{outcomeSize};
-ghost use Rattle.report.specs.WriteResult.{textLent, inputShort, overLimit, wildCounts, wildResidual, wildOutcome, wild, checkedRest, checkedText, checkedPiece};
-ghost use Rattle.report.specs.Asked.{HasOutcome, CornersAsked, cornersChecked};
+ghost use Rattle.report.specs.WriteResult.{textLent, inputShort, overLimit, wild, checkedRest, checkedText, checkedPiece};
+ghost use Rattle.report.specs.Asked.{CornersAsked, cornersChecked};
 use arguments::Checked;
 use refusal::Refusal;
 use report_line::line_sizes::LINE_ROOM;
@@ -34,66 +34,14 @@ fn over_limit(corners: usize, passes: usize, words: &[u32], sheet: &[u16]) -> bo
     CORNERS < corners
 }
 
-// Whether a count is above 64 rounds of 16,384 cells.
-fn wild_counts(words: &[u32], k: usize) -> bool
-    requires { ⌜ HasOutcome (now words) k ⌝ }
-    ensures { λ r. ⌜ r ≡ wildCounts (now (words .entry)) k ⌝ }
-{
-    if 1048576 < super::words::word_at(words, k, 1) {
-        return true;
-    }
-    if 1048576 < super::words::word_at(words, k, 2) {
-        return true;
-    }
-    if 1048576 < super::words::word_at(words, k, 3) {
-        return true;
-    }
-    1048576 < super::words::word_at(words, k, 4)
-}
-
-// Whether the residual's flag is neither 0 nor 1, or a residual is not finite.
-fn wild_residual(words: &[u32], k: usize) -> bool
-    requires { ⌜ HasOutcome (now words) k ⌝ }
-    ensures { λ r. ⌜ r ≡ wildResidual (now (words .entry)) k ⌝ }
-{
-    let flag = super::words::word_at(words, k, 6);
-    if 1 < flag {
-        return true;
-    }
-    if flag == 0 {
-        return false;
-    }
-    0x7f80_0000 <= words[OUTCOME_WORDS * k + 7] % 0x8000_0000
-}
-
-// Whether an outcome's words are not those that an outcome has.
-fn wild_outcome(words: &[u32], k: usize) -> bool
-    requires { ⌜ HasOutcome (now words) k ⌝ }
-    ensures { λ r. ⌜ r ≡ wildOutcome (now (words .entry)) k ⌝ }
-{
-    if 2 < super::words::word_at(words, k, 0) {
-        return true;
-    }
-    if wild_counts(words, k) {
-        return true;
-    }
-    if 64 < super::words::word_at(words, k, 5) {
-        return true;
-    }
-    if wild_residual(words, k) {
-        return true;
-    }
-    1 < super::words::word_at(words, k, 8)
-}
-
-// 3: whether some outcome's are not.
+// 3: whether some outcome's words are not those that an outcome has.
 fn is_wild(corners: usize, passes: usize, words: &[u32], sheet: &[u16]) -> bool
     requires { ⌜ outcomeSize * passes ≤ length (now words) ⌝ }
     ensures { λ r. ⌜ r ≡ wild (textLent corners passes (now (words .entry)) (now (sheet .entry))) ⌝ }
 {
     let mut k = 0usize;
     while k < passes {
-        if wild_outcome(words, k) {
+        if report_words::wild::wild_outcome(words, k) {
             return true;
         }
         k += 1;

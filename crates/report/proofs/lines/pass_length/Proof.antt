@@ -1,5 +1,5 @@
 -- `lines::pass_length` meets its contract, by the kind of the outcome. Assumes nothing.
-use Rattle.report.specs.Asked.{growAt, fillAt, localAt}
+use Rattle.report_words.specs.Asked.{growAt, fillAt, localAt}
 use Rattle.report.proofs.Numbered.{grow-counted, fill-counted, local-counted}
 use Rattle.report_line.proofs.Like.{grow-like-asked, fill-like-asked, local-like-asked}
 use native.Mathlib.Omega.{arith}

@@ -1,7 +1,7 @@
 -- `lines::write_pass` meets its contract, by the kind of the outcome. Assumes nothing.
 use Rattle.report_line.proofs.Forms.{same-wrote}
 use Rattle.report_line.specs.Result.{passLine}
-use Rattle.report.specs.WriteResult.{statsAt}
+use Rattle.report_words.specs.Outcomes.{statsAt}
 use Rattle.report.proofs.Writing.{grow-line, grow-asked, fill-line, fill-asked, local-line, local-asked}
 use borrow.Author.Needs.{needs}
 use Rattle.report.proofs.lines.write_pass.Statement.{statement}

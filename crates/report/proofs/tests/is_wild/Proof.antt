@@ -3,7 +3,8 @@ use mathlib.Core.Path.{sym, _∙_}
 use Prim.Native.Nat.{_-_}
 use native.Mathlib.Omega.{arith}
 use Rattle.labels.proofs.Below.{Searching, searching-start, searching-more, searching-hit, searching-end}
-use Rattle.report.specs.WriteResult.{wildOutcome, wild}
+use Rattle.report_words.specs.Outcomes.{wildOutcome}
+use Rattle.report.specs.WriteResult.{wild}
 use Rattle.report.proofs.tests.is_wild.Statement.{statement}
 use Rattle.report.proofs.tests.is_wild.Tie as tie
 

@@ -1,0 +1,4 @@
+-- The laws of outcomes as words.
+pub mod Outcomes
+pub mod Putting
+pub mod Checking
