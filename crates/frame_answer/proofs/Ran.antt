@@ -41,7 +41,7 @@ use Rattle.report_words.specs.Outcomes.{residualWords, outcomeWords, wordAt, st
 use Rattle.report_words.specs.Asked.{Tame, put, withOutcome, FloatOrNone, IsFloat}
 use Rattle.report_words.proofs.Putting.{put-last}
 use Rattle.arguments.specs.Front.{over}
-use Rattle.frame_answer.specs.Running.{passAt, callAt, Left, left, noted, leftBy, leftByAll}
+use Rattle.frame_passes.specs.Running.{passAt, callAt, Left, left, noted, leftBy, leftByAll}
 use Rattle.frame_answer.specs.Answer.{statsOf, frameStats, frameSheet, Recorded}
 use Rattle.arguments.proofs.Chains.{or-false}
 

@@ -17,13 +17,15 @@ use Rattle.frame.specs.Text.{WithinLimits}
 use Rattle.frame.specs.ReadFrame.{floatOf, xsOf, ysOf, pitchesOf, sheetOf, labelled, settingsOf, FullPass, full-grow, full-fill, full-local, fullOf, wordsOf, allWords, Buffers, FrameOut, frameOut, tooShort, leaves, unlessShort, readInto}
 use Rattle.frame_line.specs.Lines.{CornerLine, LabelLine, PassLine}
 use Rattle.sheet.specs.Words.{emptySheet, attached}
+use Rattle.sizes.specs.Sizes.{allOutcomeWords}
 use Rattle.sheet.proofs.Words.{empty-length}
 use Rattle.frame.specs.declared.FrameHead.{FrameHead}
 use Rattle.frame.specs.declared.FrameAnswer.{FrameAnswer}
 use Rattle.frame_laws.specs.Calls.{cornersOf, callsOf}
 use Rattle.frame_laws.proofs.Back.{frame-prints-back}
 use Rattle.arguments.specs.Front.{over}
-use Rattle.frame_answer.specs.Running.{callAt, Left, left, leftByAll, PassWords, AtFront, FrameRoom, PassRoom}
+use Rattle.frame_passes.specs.Running.{callAt, Left, left, leftByAll, PassWords, AtFront}
+use Rattle.frame_answer.specs.Room.{FrameRoom, PassRoom}
 use Rattle.frame_answer.specs.Answer.{Recorded, Lent, lentAs, Recovers, recovers-not, recovers}
 use Rattle.frame_answer.specs.declared.Recovered.{Recovered}
 use Rattle.frame_answer.proofs.Ran.{recorded}
@@ -120,7 +122,7 @@ module _ (text : List ℕ) (xs ys pitches : List Float) (sheet passes : List ℕ
       pub sheet-so : sheet' ≡ over (sheetOf frame) sheet
       pub passes-so : passes' ≡ over (allWords (partsOf frame .passes)) passes
 
-    pub read-accepted : (head : FrameHead) → answer ≡ FrameAnswer.Accepted head → Read head
+    read-accepted : (head : FrameHead) → answer ≡ FrameAnswer.Accepted head → Read head
     read-accepted head t = go (readFrame text) refl (e ∙ into)
       where
         go : (a : FrameRead) → readFrame text ≡ a → frameOut answer xs' ys' pitches' sheet' passes' ≡ leaves a lent → Read head
@@ -141,13 +143,13 @@ module _ (text : List ℕ) (xs ys pitches : List Float) (sheet passes : List ℕ
             }
 
     -- what running the passes of the accepted frame asks
-    pub passes-ready : (head : FrameHead) → Read head → PassWords (head .passes) passes'
+    passes-ready : (head : FrameHead) → Read head → PassWords (head .passes) passes'
     passes-ready head w =
         let lengths : length passes' ≡ length passes = ap length (w .passes-so) ∙ over-long (allWords (partsOf (w .frame) .passes)) passes (omega (arith, words-length (partsOf (w .frame) .passes), w .within .passes, room .passes-long)) in
         let count : head .passes ≡ length (partsOf (w .frame) .passes) = ap (λ (h : FrameHead). h .passes) (w .head-so) in
         record { few = omega (arith, count, w .within .passes); long = omega (arith, lengths, room .passes-long) }
 
-    pub corners-ready : (head : FrameHead) → Read head → AtFront (head .corners) xs' ys' pitches'
+    corners-ready : (head : FrameHead) → Read head → AtFront (head .corners) xs' ys' pitches'
     unfolding xsOf ysOf pitchesOf
     corners-ready head w =
         let f = w .frame in
@@ -178,7 +180,7 @@ module _ (text : List ℕ) (xs ys pitches : List Float) (sheet passes : List ℕ
     same words l set q a ps m s = λ t. leftByAll (l t) (callAt (set t) (q t) (a t) (ps t)) (m t) 0 (left (s t) words)
 
     -- what it leads to
-    pub recovered : (head : FrameHead) → Read head → (queue places words : List ℕ) → PassRoom queue places words → (before after : Lent)
+    recovered : (head : FrameHead) → Read head → (queue places words : List ℕ) → PassRoom queue places words → (before after : Lent)
         → left (after .frame .sheet) (after .words) ≡ leftByAll (cornerLists (take (head .corners) xs') (take (head .corners) ys') (take (head .corners) pitches')) (callAt (head .settings) (length queue) (length places) passes') (head .passes) 0 (left sheet' words)
         → Recovers text before after (Recovered.Done (head .corners) (head .passes))
     recovered head w queue places words r before after g =
@@ -204,3 +206,14 @@ module _ (text : List ℕ) (xs ys pitches : List Float) (sheet passes : List ℕ
         so =
             g
             ∙ same words (corners-read head w) settings-so (r .queue-whole) (r .attached-whole) (w .passes-so) passes-count (sheet-read head w)
+
+    -- the same, from what the reader answers
+    module _ (head : FrameHead) (t : answer ≡ FrameAnswer.Accepted head) where
+      pub frame-ready : (queue places words : List ℕ) → PassRoom queue places words
+          → PassWords (head .passes) passes' × (AtFront (head .corners) xs' ys' pitches' × (allOutcomeWords ≤ length words))
+      frame-ready queue places words r = let w = read-accepted head t in (passes-ready head w, (corners-ready head w, r .words-long))
+
+      pub recovered-done : (queue places words : List ℕ) → PassRoom queue places words → (before after : Lent)
+          → left (after .frame .sheet) (after .words) ≡ leftByAll (cornerLists (take (head .corners) xs') (take (head .corners) ys') (take (head .corners) pitches')) (callAt (head .settings) (length queue) (length places) passes') (head .passes) 0 (left sheet' words)
+          → Recovers text before after (Recovered.Done (head .corners) (head .passes))
+      recovered-done queue places words r before after g = recovered head (read-accepted head t) queue places words r before after g

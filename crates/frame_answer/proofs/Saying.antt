@@ -11,7 +11,7 @@ use Rattle.report_words.specs.Outcomes.{statsFrom}
 use Rattle.report_words.proofs.Outcomes.{stats-length}
 use Rattle.frame_answer.specs.Answer.{frameStats, Recorded, Lent, Recovers, recovers-not, recovers, answerLines, answerPiece, heldLines, heldPiece, CanSay, FewPasses, Says}
 use Rattle.frame_answer.specs.declared.Recovered.{Recovered}
-use Rattle.frame_answer.proofs.Refusing.{refused-line}
+use Rattle.frame_laws.proofs.Refusing.{refused-line}
 
 pub says : (text : List ℕ) (before after : Lent) (r : Recovered) → Recovers text before after r → Says text (after .frame .sheet) (after .words) r
 unfolding CanSay heldLines heldPiece answerLines answerPiece

@@ -1,3 +1,3 @@
--- The definitions of a frame's passes as they are run. Definitions only.
-pub mod Running
+-- The definitions of what is answered to a text. Definitions only.
+pub mod Room
 pub mod Answer

@@ -1,26 +1,16 @@
-// A frame in, a result or one refusal out: the passes of a frame run in order on one sheet, and the text of the answer.
+// A frame in, a result or one refusal out: a frame read and its passes run, and the text of the answer.
 ghost use mathlib.Core.Path.{_≡_};
 ghost use Prim.Native.Nat.{_<_, _≤_};
-ghost use lib.ListN.{length, take};
-ghost use lib.Ieee.{binary32, ofBits};
-ghost use Rattle.passes.specs.Step.{cornerLists};
-ghost use Rattle.pass_call.specs.Call.{callOf};
-ghost use Rattle.frame_answer.specs.Running.{passAt, callAt, left, leftBy, leftByAll, RoomFor, PassWords, AtFront, FrameRoom, PassRoom};
+ghost use lib.ListN.{length};
+ghost use Rattle.frame_answer.specs.Room.{FrameRoom, PassRoom};
 ghost use Rattle.frame_answer.specs.Answer.{Recovers, lentAs, heldLines, heldPiece, FewPasses, Printable, CanSay, WrotePiece, Moves};
 ghost use mathlib.Core.List.{[]};
 ghost use Rattle.report_line.specs.Result.{lineCount};
-ghost use Rattle.sizes.specs.Sizes.{passLimit, allPassWords, allOutcomeWords};
 ghost use Rattle.report_line.specs.Sizes.{lineRoom};
-use arguments::FillParams;
-use arguments::GrowParams;
-use arguments::LocalExtensionParams;
-use arguments::Pass;
-use arguments::Settings;
 use frame::FrameAnswer;
 use refusal::Refusal;
 use report::PieceAnswer;
 use report_line::line_sizes::SHEET_LINES;
-use sizes::PASS_WORDS;
 
 // A refusal with its line, or the number of corners and of passes of a frame whose passes have run.
 pub enum Recovered {
@@ -28,141 +18,7 @@ pub enum Recovered {
     Done(usize, usize),
 }
 
-// The float of a pattern.
-fn float_of(bits: u32) -> f32
-    ensures { λ r. ⌜ r ≡ ofBits binary32 bits ⌝ }
-{
-    if 0x7f80_0000 < bits % 0x8000_0000 {
-        return 0.0 / 0.0;
-    }
-    f32::from_bits(bits)
-}
-
-// The pass that six words stand for.
-fn pass_at(passes: &[u32], k: usize) -> Pass
-    requires { ⌜ k < passLimit ⌝ }
-    requires { ⌜ allPassWords ≤ length (now passes) ⌝ }
-    ensures { λ r. ⌜ r ≡ passAt (now (passes .entry)) k ⌝ }
-{
-    let at = PASS_WORDS * k;
-    let search = float_of(passes[at + 1]);
-    let factor = float_of(passes[at + 2]);
-    let third = float_of(passes[at + 3]);
-    if passes[at] == 0 {
-        return Pass::Grow(GrowParams {
-            attach_search_rel: search,
-            attach_ambiguity_factor: factor,
-            boundary_search_factor: third,
-        });
-    }
-    if passes[at] == 1 {
-        return Pass::Fill(FillParams {
-            attach_search_rel: search,
-            attach_ambiguity_factor: factor,
-            max_iters: passes[at + 4],
-        });
-    }
-    Pass::Local(LocalExtensionParams {
-        search_rel: search,
-        ambiguity_factor: factor,
-        max_iters: passes[at + 4],
-        max_residual_rel: third,
-        extend_depth: passes[at + 5],
-    })
-}
-
-// ---- the passes
-
-// Runs a pass, and notes its outcome as number k.
-fn run_pass(
-    xs: &[f32],
-    ys: &[f32],
-    pitches: &[f32],
-    sheet: &mut [u16],
-    queue: &mut [u16],
-    attached: &mut [u16],
-    settings: Settings,
-    pass: Pass,
-    k: usize,
-    words: &mut [u32],
-)
-    requires { ⌜ RoomFor k (now words) ⌝ }
-    ensures { λ _. ⌜ left (now (sheet .exit)) (now (words .exit)) ≡ leftBy (cornerLists (now (xs .entry)) (now (ys .entry)) (now (pitches .entry))) (callOf settings (length (now (queue .entry))) (length (now (attached .entry))) pass) k (left (now (sheet .entry)) (now (words .entry))) ⌝ }
-{
-    let answer = pass_call::call_pass(xs, ys, pitches, sheet, queue, attached, settings, pass);
-    report_words::put::put_outcome(words, k, answer);
-}
-
-// Runs the first n passes in order on one sheet, and notes their outcomes.
-pub fn run_passes(
-    passes: &[u32],
-    n: usize,
-    xs: &[f32],
-    ys: &[f32],
-    pitches: &[f32],
-    sheet: &mut [u16],
-    queue: &mut [u16],
-    attached: &mut [u16],
-    settings: Settings,
-    words: &mut [u32],
-)
-    requires { ⌜ PassWords n (now passes) ⌝ }
-    requires { ⌜ allOutcomeWords ≤ length (now words) ⌝ }
-    ensures { λ _. ⌜ left (now (sheet .exit)) (now (words .exit)) ≡ leftByAll (cornerLists (now (xs .entry)) (now (ys .entry)) (now (pitches .entry))) (callAt settings (length (now (queue .entry))) (length (now (attached .entry))) (now (passes .entry))) n 0 (left (now (sheet .entry)) (now (words .entry))) ⌝ }
-{
-    let mut k = 0usize;
-    while k < n {
-        let pass = pass_at(passes, k);
-        run_pass(
-            xs,
-            ys,
-            pitches,
-            sheet,
-            queue,
-            attached,
-            settings,
-            pass,
-            k,
-            words,
-        );
-        k += 1;
-    }
-}
-
 // ---- a frame
-
-// Runs the m passes of a frame with n corners, which stand at the front of their buffers.
-fn run_frame(
-    passes: &[u32],
-    m: usize,
-    xs: &[f32],
-    ys: &[f32],
-    pitches: &[f32],
-    n: usize,
-    sheet: &mut [u16],
-    queue: &mut [u16],
-    attached: &mut [u16],
-    settings: Settings,
-    words: &mut [u32],
-)
-    requires { ⌜ PassWords m (now passes) ⌝ }
-    requires { ⌜ AtFront n (now xs) (now ys) (now pitches) ⌝ }
-    requires { ⌜ allOutcomeWords ≤ length (now words) ⌝ }
-    ensures { λ _. ⌜ left (now (sheet .exit)) (now (words .exit)) ≡ leftByAll (cornerLists (take n (now (xs .entry))) (take n (now (ys .entry))) (take n (now (pitches .entry)))) (callAt settings (length (now (queue .entry))) (length (now (attached .entry))) (now (passes .entry))) m 0 (left (now (sheet .entry)) (now (words .entry))) ⌝ }
-{
-    run_passes(
-        passes,
-        m,
-        &xs[..n],
-        &ys[..n],
-        &pitches[..n],
-        sheet,
-        queue,
-        attached,
-        settings,
-        words,
-    );
-}
 
 // Reads a frame and runs its passes in order on one sheet: then the sheet and the words of the outcomes say what the result has to say.
 // A refused frame changes none of the buffers.
@@ -185,23 +41,8 @@ pub fn recover_frame(
     match answer {
         FrameAnswer::Refused(refusal, line) => Recovered::Refused(refusal, line),
         FrameAnswer::Accepted(head) => {
-            let n = head.corners;
-            let m = head.passes;
-            let settings = head.settings;
-            run_frame(
-                passes,
-                m,
-                xs,
-                ys,
-                pitches,
-                n,
-                sheet,
-                queue,
-                attached,
-                settings,
-                words,
-            );
-            Recovered::Done(n, m)
+            frame_passes::run_frame(passes, xs, ys, pitches, sheet, queue, attached, head, words);
+            Recovered::Done(head.corners, head.passes)
         }
     }
 }

@@ -2,6 +2,7 @@
 pub mod Order
 pub mod Parts
 pub mod Refusals
+pub mod Refusing
 pub mod Back
 pub mod Labels
 pub mod Runs

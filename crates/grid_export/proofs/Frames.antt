@@ -14,7 +14,7 @@ use Rattle.frame.specs.ReadFrame.{Buffers, FrameOut, frameOut, tooShort, leaves
 use Rattle.frame.specs.declared.FrameHead.{FrameHead}
 use Rattle.frame.specs.declared.FrameAnswer.{FrameAnswer}
 use Rattle.frame_laws.proofs.Back.{frame-prints-back}
-use Rattle.frame_answer.proofs.Refusing.{refused-line}
+use Rattle.frame_laws.proofs.Refusing.{refused-line}
 use Rattle.grid_export.specs.Frames.{Word, settingsEntered, countsEntered, refusedAnswer, Told, told, frameTold, FrameLeft, frameLeft, frameRead, headShort, frameUnless, frameExported, HeadRoom, Sayable}
 use Rattle.arguments.proofs.Chains.{or-false-both}
 

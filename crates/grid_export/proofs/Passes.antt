@@ -13,7 +13,7 @@ use Rattle.passes.specs.Run.{PassStats, growStats, fillStats, localStats, step}
 use Rattle.passes.specs.declared.PassAnswer.{PassAnswer}
 use Rattle.pass_call.specs.Call.{callOf, doneAnswer, PassOut, passOut, passLeaves}
 use Rattle.report_words.specs.Asked.{withOutcome, withAnswer}
-use Rattle.frame_answer.proofs.Running.{noted-answer}
+use Rattle.frame_passes.proofs.Running.{noted-answer}
 use Rattle.grid_export.specs.Passes.{answerNumber, PassLeft, passLeft, passTold, passExported}
 
 done-number : (s : PassStats) → answerNumber (doneAnswer s) ≡ 0

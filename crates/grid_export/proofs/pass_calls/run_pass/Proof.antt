@@ -1,6 +1,6 @@
 -- `pass_calls::run_pass` meets its contract: what the pass answers and leaves is told. Assumes nothing.
 use Rattle.grid_export.proofs.Passes.{pass-told}
-use Rattle.frame_answer.proofs.Running.{small-fits}
+use Rattle.frame_passes.proofs.Running.{small-fits}
 use Rattle.pass_call.specs.Call.{callOf}
 use Rattle.passes.specs.Run.{step}
 use Rattle.passes.specs.Step.{cornerLists}

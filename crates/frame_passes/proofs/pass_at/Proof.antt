@@ -1,11 +1,11 @@
 -- `pass_at` meets its contract. Assumes nothing.
 use borrow.Author.Needs.{needs}
-use Rattle.frame_answer.proofs.pass_at.Statement.{statement}
-use Rattle.frame_answer.proofs.pass_at.Tie as tie
-use Rattle.frame_answer.proofs.pass_at.Reads as reads
-use Rattle.frame_answer.proofs.pass_at.Lts as lts
-use Rattle.frame_answer.proofs.float_of.Reads as float-of-reads
-use Rattle.frame_answer.proofs.Words.{as-grow, as-fill, as-local}
+use Rattle.frame_passes.proofs.pass_at.Statement.{statement}
+use Rattle.frame_passes.proofs.pass_at.Tie as tie
+use Rattle.frame_passes.proofs.pass_at.Reads as reads
+use Rattle.frame_passes.proofs.pass_at.Lts as lts
+use Rattle.frame_passes.proofs.float_of.Reads as float-of-reads
+use Rattle.frame_passes.proofs.Words.{as-grow, as-fill, as-local}
 
 mul-at : tie.Need-mul-at
 mul-at c = search needs

@@ -1,12 +1,12 @@
 -- `run_pass` meets its contract. Assumes nothing.
-use Rattle.frame_answer.proofs.Running.{small-fits, pass-left}
+use Rattle.frame_passes.proofs.Running.{small-fits, pass-left}
 use Rattle.pass_call.specs.Call.{callOf}
 use Rattle.passes.specs.Step.{cornerLists}
 use lib.ListN.{length}
 use native.Mathlib.Omega.{arith}
 use borrow.Author.Needs.{needs}
-use Rattle.frame_answer.proofs.run_pass.Statement.{statement}
-use Rattle.frame_answer.proofs.run_pass.Tie as tie
+use Rattle.frame_passes.proofs.run_pass.Statement.{statement}
+use Rattle.frame_passes.proofs.run_pass.Tie as tie
 
 call-pass-requires : tie.Need-call-pass-requires
 call-pass-requires c κs = search needs

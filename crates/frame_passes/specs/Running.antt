@@ -1,20 +1,18 @@
 -- The passes of a frame, run in order on one sheet (document 01, "Lists of passes, for demand 3": "a frame's passes are one such list"). Definitions only.
 use mathlib.Core.Bool.{cond}
-use mathlib.Core.Path.{_≡_}
-use mathlib.Core.List.{List, [], _∷_, _++_}
+use mathlib.Core.List.{List}
 use Prim.Native.Nat.{ℕ, zero, suc, _+_, _*_, _<_, _≤_}
 use lib.Dec.{eqb}
-use lib.ListN.{length, getD, take, drop}
+use lib.ListN.{length, getD}
 use lib.Ieee.{Float}
-use Rattle.refusal.specs.declared.Refusal.{Refusal}
 use Rattle.arguments.specs.declared.Pass.{Pass}
 use Rattle.arguments.specs.declared.Settings.{Settings}
-use Rattle.passes.specs.Outcome.{After, Outcome, refused, done}
+use Rattle.passes.specs.Outcome.{Outcome, refused, done}
 use Rattle.passes.specs.Step.{CornerLists}
 use Rattle.passes.specs.Run.{Call, PassStats, step, sheetAfter}
 use Rattle.pass_call.specs.Call.{callOf}
 use Rattle.frame.specs.ReadFrame.{growOf, fillOf, localOf}
-use Rattle.sizes.specs.Sizes.{placeCount, cornerLimit, passLimit, passSize, allPassWords, allOutcomeWords}
+use Rattle.sizes.specs.Sizes.{passLimit, passSize, allPassWords, allOutcomeWords}
 use Rattle.report_words.specs.Asked.{withOutcome}
 
 -- ---- a pass from its six words: kind (0 grow, 1 fill, 2 local), search, factor, boundary or residual, rounds, depth
@@ -71,17 +69,3 @@ pub record AtFront (n : ℕ) (xs ys pitches : List Float) : Type 0 where
   pub in-xs : n ≤ length xs
   pub in-ys : n ≤ length ys
   pub in-pitches : n ≤ length pitches
-
--- what a frame is read into
-pub record FrameRoom (xs ys pitches : List Float) (sheet passes : List ℕ) : Type 0 where
-  pub xs-long : cornerLimit ≤ length xs
-  pub ys-long : cornerLimit ≤ length ys
-  pub pitches-long : cornerLimit ≤ length pitches
-  pub sheet-whole : length sheet ≡ placeCount
-  pub passes-long : allPassWords ≤ length passes
-
--- what its passes are lent beside that
-pub record PassRoom (queue attached words : List ℕ) : Type 0 where
-  pub queue-whole : length queue ≡ 4 * cornerLimit
-  pub attached-whole : length attached ≡ cornerLimit
-  pub words-long : allOutcomeWords ≤ length words

@@ -13,7 +13,7 @@ use lib.Ieee.Bits.{nanBits-is, nanBits-above}
 use Rattle.binary32.specs.Ranges.{isFinite}
 use Rattle.binary32.proofs.Digits.{filled}
 use Rattle.arguments.specs.declared.Pass.{Pass}
-use Rattle.frame_answer.specs.Running.{passWord, passAt}
+use Rattle.frame_passes.specs.Running.{passWord, passAt}
 
 -- ---- patterns
 

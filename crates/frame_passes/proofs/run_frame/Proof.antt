@@ -2,11 +2,11 @@
 use native.Mathlib.Omega.{arith}
 use lib.ListN.{length-take}
 use borrow.Author.Needs.{needs}
-use Rattle.frame_answer.proofs.run_frame.Statement.{statement}
-use Rattle.frame_answer.proofs.run_frame.Tie as tie
-use Rattle.frame_answer.proofs.run_frame.Reads as reads
-use Rattle.frame_answer.proofs.run_frame.Lts as lts
-use Rattle.frame_answer.proofs.run_passes.Reads as run-passes-reads
+use Rattle.frame_passes.proofs.run_frame.Statement.{statement}
+use Rattle.frame_passes.proofs.run_frame.Tie as tie
+use Rattle.frame_passes.proofs.run_frame.Reads as reads
+use Rattle.frame_passes.proofs.run_frame.Lts as lts
+use Rattle.frame_passes.proofs.run_passes.Reads as run-passes-reads
 
 slice-aggregate-run-passes : tie.Need-slice-aggregate-run-passes
 slice-aggregate-run-passes c = simp length-take (omega (arith, c .before .before .before .before .before .before .before .before .before .pre))

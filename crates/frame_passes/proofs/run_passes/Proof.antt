@@ -3,13 +3,13 @@ use Prim.Native.Nat.{_-_}
 use native.Mathlib.Omega.{arith}
 use native.Mathlib.Numerals.{add-one}
 use Rattle.passes.specs.Step.{cornerLists}
-use Rattle.frame_answer.proofs.Running.{Turning, first-turn, next-turn, last-turn}
-use Rattle.frame_answer.proofs.run_passes.Statement.{statement}
-use Rattle.frame_answer.proofs.run_passes.Tie as tie
-use Rattle.frame_answer.proofs.run_passes.Reads as reads
-use Rattle.frame_answer.proofs.run_passes.Lts as lts
-use Rattle.frame_answer.proofs.pass_at.Reads as pass-at-reads
-use Rattle.frame_answer.proofs.run_pass.Reads as run-pass-reads
+use Rattle.frame_passes.proofs.Running.{Turning, first-turn, next-turn, last-turn}
+use Rattle.frame_passes.proofs.run_passes.Statement.{statement}
+use Rattle.frame_passes.proofs.run_passes.Tie as tie
+use Rattle.frame_passes.proofs.run_passes.Reads as reads
+use Rattle.frame_passes.proofs.run_passes.Lts as lts
+use Rattle.frame_passes.proofs.pass_at.Reads as pass-at-reads
+use Rattle.frame_passes.proofs.run_pass.Reads as run-pass-reads
 
 abbrev Inv-loop : tie.InvT-loop
 Inv-loop passes n xs ys pitches sheet₀ queue₀ attached₀ settings words₀ k₀ sheet queue attached words k =

@@ -1,12 +1,12 @@
 -- `float_of` meets its contract: what is no pattern of a number is a NaN. Assumes nothing.
 use borrow.Author.Needs.{needs}
-use Rattle.frame_answer.proofs.float_of.Statement.{statement}
-use Rattle.frame_answer.proofs.float_of.Tie as tie
-use Rattle.frame_answer.proofs.float_of.Reads as reads
-use Rattle.frame_answer.proofs.float_of.Lts as lts
+use Rattle.frame_passes.proofs.float_of.Statement.{statement}
+use Rattle.frame_passes.proofs.float_of.Tie as tie
+use Rattle.frame_passes.proofs.float_of.Reads as reads
+use Rattle.frame_passes.proofs.float_of.Lts as lts
 use mathlib.Core.Path.{_≡_, refl, sym, ap, _∙_}
 use Rattle.binary32.proofs.Answered.{pattern}
-use Rattle.frame_answer.proofs.Words.{nan-pattern}
+use Rattle.frame_passes.proofs.Words.{nan-pattern}
 use lib.Ieee.{ofBits, div}
 use native.Mathlib.Omega.{arith}
 

@@ -15,7 +15,7 @@ use Rattle.passes.specs.declared.PassAnswer.{PassAnswer}
 use Rattle.count_bounds.specs.Bounds.{FewCounts, Small, small-grow, small-fill, small-local}
 use Rattle.pass_call.specs.Call.{callOf, doneAnswer, PassOut, passOut, passLeaves, SmallAnswer}
 use Rattle.report_words.specs.Asked.{withOutcome, CountsFit, AnswerFits, withAnswer}
-use Rattle.frame_answer.specs.Running.{passAt, callAt, noted, Left, left, leftBy, leftByAll}
+use Rattle.frame_passes.specs.Running.{passAt, callAt, noted, Left, left, leftBy, leftByAll}
 
 -- ---- one pass
 

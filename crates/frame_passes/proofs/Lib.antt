@@ -1,0 +1,3 @@
+-- The laws of a frame's passes.
+pub mod Running
+pub mod Words

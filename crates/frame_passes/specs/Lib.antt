@@ -1,0 +1,2 @@
+-- The definitions of a frame's passes as they are run. Definitions only.
+pub mod Running
