@@ -1,4 +1,2 @@
--- The public face as functions for other languages. Definitions only.
+-- The passes as functions for other languages. Definitions only.
 pub mod Passes
-pub mod Frames
-pub mod Texts

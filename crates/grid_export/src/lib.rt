@@ -4,4 +4,3 @@
 pub mod frame_calls; // frame_calls.rt: the reader
 pub mod pass_calls; // pass_calls.rt: grow, fill and local
 pub mod text_calls; // text_calls.rt: the result's text
-mod words; // words.rt: answers and words

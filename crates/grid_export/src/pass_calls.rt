@@ -77,7 +77,7 @@ fn answer_number(answer: PassAnswer) -> u32
         PassAnswer::Grow(_) => 0,
         PassAnswer::Fill(_) => 0,
         PassAnswer::Local(_) => 0,
-        PassAnswer::Refused(refusal) => super::words::number_of(refusal),
+        PassAnswer::Refused(refusal) => grid_words::words::number_of(refusal),
     }
 }
 
