@@ -8,14 +8,16 @@
 ghost use mathlib.Core.Path.{_≡_};
 ghost use Prim.Native.Nat.{_≤_, _<_};
 ghost use lib.ListN.{length};
+use call_print::print_answer;
+use call_print::print_call;
+use call_print::print_sheet;
+use call_print::print_sums;
+use call_print::print_word;
 use call_text::at_most;
-use call_text::number_at;
+use call_text::has_unknown_kind;
+use call_text::header_at;
+use call_text::lengths_at;
 use call_text::pass_at;
-use call_text::print_answer;
-use call_text::print_call;
-use call_text::print_sheet;
-use call_text::print_sums;
-use call_text::print_word;
 use call_text::read_floats;
 use call_text::read_labels;
 use call_text::settings_at;
@@ -40,27 +42,6 @@ fn call(
     let settings = settings_at(text, at + 1);
     let answer = pass_call::call_pass(xs, ys, pitches, sheet, queue, attached, settings, pass);
     print_answer(text, answer, sheet, queue, attached);
-}
-
-// How many places of each buffer a call is lent.
-struct Lengths {
-    ys: usize,
-    pitches: usize,
-    sheet: usize,
-    queue: usize,
-    attached: usize,
-}
-
-fn lengths_at(text: &[u8], k: usize) -> Lengths
-    requires { ⌜ k ≤ 9000 ⌝ }
-{
-    Lengths {
-        ys: number_at(text, k),
-        pitches: number_at(text, k + 1),
-        sheet: number_at(text, k + 2),
-        queue: number_at(text, k + 3),
-        attached: number_at(text, k + 4),
-    }
 }
 
 // A call that is lent the front of every buffer, and the whole sheet after it.
@@ -129,32 +110,6 @@ fn calls(
     }
 }
 
-// How many corners, labels and calls a list has.
-struct Header {
-    n: usize,
-    labels: usize,
-    count: usize,
-    // the number at which its calls begin, and how many numbers it has
-    first: usize,
-    all: usize,
-}
-
-fn header_at(text: &[u8]) -> Header
-    ensures { λ r. ⌜ (r .n ≤ 1025) × (r .labels ≤ 2048) × (r .count ≤ 40) × (r .first ≤ 7200) × (4 ≤ r .all) × (r .all ≤ 8000) ⌝ }
-{
-    let n = at_most(number_at(text, 0), 1025);
-    let labels = at_most(number_at(text, 1), 2048);
-    let count = at_most(number_at(text, 2), 40);
-    let first = 4 + 3 * n + 2 * labels;
-    Header {
-        n,
-        labels,
-        count,
-        first,
-        all: first + 17 * count,
-    }
-}
-
 fn queue_buffer() -> [u16; 4100]
     ensures { λ r. ⌜ 4100 ≡ length r ⌝ }
 {
@@ -191,19 +146,6 @@ fn run(text: &[u8]) -> usize
         &mut attached,
     );
     h.all
-}
-
-// Whether a call of the list is of none of the three kinds.
-fn has_unknown_kind(text: &[u8]) -> bool {
-    let h = header_at(text);
-    let mut i = 0usize;
-    while i < h.count {
-        if 2 < number_at(text, h.first + 17 * i) {
-            return true;
-        }
-        i += 1;
-    }
-    false
 }
 
 // List after list, up to the end or to one that cannot be run.

@@ -1,10 +1,10 @@
--- `call_text::sum_of` is safe and ends: the measure is the number of places that are left. Assumes nothing.
+-- `call_print::sum_of` is safe and ends: the measure is the number of places that are left. Assumes nothing.
 use Prim.Native.Nat.{_-_}
 use native.Mathlib.Omega.{arith}
 use borrow.Author.Needs.{needs}
 use lib.ListN.{length}
-use Rattle.call_text.proofs.sum_of.Statement.{statement}
-use Rattle.call_text.proofs.sum_of.Tie as tie
+use Rattle.call_print.proofs.sum_of.Statement.{statement}
+use Rattle.call_print.proofs.sum_of.Tie as tie
 
 abbrev Inv-loop : tie.InvT-loop
 Inv-loop list sum₀ i₀ sum i = Unit {0}

@@ -1,10 +1,10 @@
--- `call_text::print_places` is safe and ends: the measure is the number of places that are left. Assumes nothing.
+-- `call_print::print_places` is safe and ends: the measure is the number of places that are left. Assumes nothing.
 use Prim.Native.Nat.{_-_}
 use native.Mathlib.Omega.{arith}
 use borrow.Author.Needs.{needs}
 use lib.ListN.{length}
-use Rattle.call_text.proofs.print_places.Statement.{statement}
-use Rattle.call_text.proofs.print_places.Tie as tie
+use Rattle.call_print.proofs.print_places.Statement.{statement}
+use Rattle.call_print.proofs.print_places.Tie as tie
 
 abbrev Inv-loop : tie.InvT-loop
 Inv-loop kind sheet p₀ p = Unit {0}

@@ -1,8 +1,8 @@
--- `passes_main::has_unknown_kind` is safe and ends: the measure is the number of calls that are left. Assumes nothing.
+-- `call_text::has_unknown_kind` is safe and ends: the measure is the number of calls that are left. Assumes nothing.
 use Prim.Native.Nat.{_-_, _≤_}
 use native.Mathlib.Omega.{arith}
-use Rattle.passes_main.proofs.has_unknown_kind.Statement.{statement}
-use Rattle.passes_main.proofs.has_unknown_kind.Tie as tie
+use Rattle.call_text.proofs.has_unknown_kind.Statement.{statement}
+use Rattle.call_text.proofs.has_unknown_kind.Tie as tie
 
 abbrev Inv-loop : tie.InvT-loop
 Inv-loop text h i₀ i = (h .first ≤ 7200) × (h .count ≤ 40)
