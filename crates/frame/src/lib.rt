@@ -2,7 +2,9 @@
 // it said. Until the whole frame is accepted it is held in arrays of the reader's own, so that a refused one has written nothing.
 
 ghost use mathlib.Core.Path.{_≡_};
+ghost use mathlib.Core.Bool.{_||_};
 ghost use mathlib.Core.List.{[]};
+ghost use lib.Dec.{ltb};
 ghost use lib.ListN.{take};
 ghost use Rattle.frame_line.specs.Lines.{readLine};
 ghost use Rattle.frame_line.specs.Held.{heldRead};
@@ -11,7 +13,7 @@ ghost use Rattle.sizes.specs.Sizes.{cornerLimit, placeCount, allPassWords};
 ghost use Rattle.frame_state.specs.State.{nothing-said, arrays, state};
 ghost use Rattle.arguments.specs.Front.{over};
 ghost use Rattle.frame.specs.Frame.{no-parts, readLines};
-ghost use Rattle.frame.specs.ReadFrame.{frameOut, tooShort, leaves, readInto};
+ghost use Rattle.frame.specs.ReadFrame.{frameOut, leaves, readInto};
 ghost use Rattle.frame.specs.Said.{frameSaid, frameDue};
 ghost use Rattle.frame.specs.Reading.{FrameHeld, Room, went, heldStep, ReadAs, buffers, Copies, LongEnough};
 use arguments::Checked;
@@ -164,23 +166,23 @@ fn copy_words(from: &[u32; ALL_PASS_WORDS], n: usize, to: &mut [u32])
     }
 }
 
-// 7: whether a lent buffer is too short.
-fn too_short(xs: &[f32], ys: &[f32], pitches: &[f32], sheet: &[u16], passes: &[u32]) -> bool
-    ensures { λ r. ⌜ r ≡ tooShort (buffers (now (xs .entry)) (now (ys .entry)) (now (pitches .entry)) (now (sheet .entry)) (now (passes .entry))) ⌝ }
+// 7: whether a lent buffer is too short, by the lengths.
+fn too_short(xs: usize, ys: usize, pitches: usize, sheet: usize, passes: usize) -> bool
+    ensures { λ r. ⌜ r ≡ (ltb xs cornerLimit || (ltb ys cornerLimit || (ltb pitches cornerLimit || (ltb sheet placeCount || ltb passes allPassWords)))) ⌝ }
 {
-    if xs.len() < CORNERS {
+    if xs < CORNERS {
         return true;
     }
-    if ys.len() < CORNERS {
+    if ys < CORNERS {
         return true;
     }
-    if pitches.len() < CORNERS {
+    if pitches < CORNERS {
         return true;
     }
-    if sheet.len() < PLACES {
+    if sheet < PLACES {
         return true;
     }
-    passes.len() < ALL_PASS_WORDS
+    passes < ALL_PASS_WORDS
 }
 
 // A text that is not too long, with buffers that are long enough.
@@ -244,7 +246,7 @@ pub fn read_frame(
     ensures said { λ r. ⌜ frameSaid r ≡ frameDue (now (text .entry))
         (buffers (now (xs .entry)) (now (ys .entry)) (now (pitches .entry)) (now (sheet .entry)) (now (passes .entry))) ⌝ }
 {
-    if too_short(xs, ys, pitches, sheet, passes) {
+    if too_short(xs.len(), ys.len(), pitches.len(), sheet.len(), passes.len()) {
         return FrameAnswer::Refused(Refusal::BufferTooShort, 0);
     }
     if BYTES < text.len() {
