@@ -7,7 +7,7 @@ use arguments::Checked;
 use frame_line::HeldLabel;
 use frame_line::HeldLine;
 use frame_line::Kind;
-use frame_line::has_refusal;
+use frame_number::has_refusal;
 use refusal::Refusal;
 use sizes::CORNERS;
 use sizes::PASSES;
@@ -51,7 +51,7 @@ fn is_twice(corners: usize, sheet: &[u16; PLACES], used: &[u8; CORNERS], line: H
         Kind::Corner => false,
         Kind::Label => {
             let values = line.values;
-            label_twice(sheet, used, frame_line::label_of(values))
+            label_twice(sheet, used, frame_number::label_of(values))
         }
         Kind::Pass(_) => false,
     }
@@ -69,7 +69,7 @@ pub fn check_line(
     ensures { λ r. ⌜ r ≡ checkedHeld corners passes (now (sheet .entry)) (now (used .entry)) line ⌝ }
 {
     let given = corners as u32;
-    let found = frame_line::refusals_of(given, line);
+    let found = frame_number::refusals_of(given, line);
     if has_refusal(found, 1) {
         return Checked::Refused(Refusal::Malformed);
     }

@@ -10,7 +10,7 @@ use frame_line::HeldLine;
 use frame_line::Kind;
 use frame_line::OpeningKind;
 use frame_line::PassKind;
-use frame_line::count_of;
+use frame_number::count_of;
 use predict::Grid;
 use predict::Vector;
 use sizes::ALL_PASS_WORDS;
@@ -306,7 +306,7 @@ pub fn add_line(
             with_corner(p)
         }
         Kind::Label => {
-            put_label(sheet, used, frame_line::label_of(v));
+            put_label(sheet, used, frame_number::label_of(v));
             p
         }
         Kind::Pass(pass) => {

@@ -1,8 +1,8 @@
--- `frame_line::sort_of` meets its contract, by the letter. Assumes nothing.
+-- `frame_number::sort_of` meets its contract, by the letter. Assumes nothing.
 use borrow.Author.Tests.{ne-eqb}
 use Rattle.frame_line.specs.Table.{sortOf}
-use Rattle.frame_line.proofs.sort_of.Statement.{statement}
-use Rattle.frame_line.proofs.sort_of.Tie as tie
+use Rattle.frame_number.proofs.sort_of.Statement.{statement}
+use Rattle.frame_number.proofs.sort_of.Tie as tie
 
 pub sort-of-spec : {M : Type 1} → statement M
 unfolding sortOf

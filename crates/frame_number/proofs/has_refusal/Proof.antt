@@ -1,11 +1,11 @@
--- `frame_line::has_refusal` meets its contract: none of those passed is the refusal. Assumes nothing.
+-- `frame_number::has_refusal` meets its contract: none of those passed is the refusal. Assumes nothing.
 use Prim.Native.Nat.{_-_}
 use native.Mathlib.Omega.{arith}
 use borrow.Author.Tests.{eq-eqb, ne-eqb}
 use Rattle.labels.proofs.Below.{Searching, searching-start, searching-more, searching-hit, searching-end}
 use Rattle.frame_line.specs.Held.{isRefusal}
-use Rattle.frame_line.proofs.has_refusal.Statement.{statement}
-use Rattle.frame_line.proofs.has_refusal.Tie as tie
+use Rattle.frame_number.proofs.has_refusal.Statement.{statement}
+use Rattle.frame_number.proofs.has_refusal.Tie as tie
 
 abbrev Inv-loop : tie.InvT-loop
 Inv-loop number found m₀ m = Searching (isRefusal found number) 5 m

@@ -1,10 +1,10 @@
--- `frame_line::cell_of` meets its contract: both numbers less 1,000,000 fit. Assumes nothing.
+-- `frame_number::cell_of` meets its contract: both numbers less 1,000,000 fit. Assumes nothing.
 use native.Mathlib.Omega.{arith}
 use borrow.Author.Needs.{needs}
 use lib.IntN.{pos}
 use Rattle.sheet.proofs.Laws.{sub-fits, sub-read}
-use Rattle.frame_line.proofs.cell_of.Statement.{statement}
-use Rattle.frame_line.proofs.cell_of.Tie as tie
+use Rattle.frame_number.proofs.cell_of.Statement.{statement}
+use Rattle.frame_number.proofs.cell_of.Tie as tie
 
 returns : tie.Need-returns
 returns c =

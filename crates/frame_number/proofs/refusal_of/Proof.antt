@@ -1,8 +1,8 @@
--- `frame_line::refusal_of` meets its contract, by the sort of the number. Assumes nothing.
+-- `frame_number::refusal_of` meets its contract, by the sort of the number. Assumes nothing.
 use Rattle.frame_line.specs.Held.{refusalIn}
 use borrow.Author.Needs.{needs}
-use Rattle.frame_line.proofs.refusal_of.Statement.{statement}
-use Rattle.frame_line.proofs.refusal_of.Tie as tie
+use Rattle.frame_number.proofs.refusal_of.Statement.{statement}
+use Rattle.frame_number.proofs.refusal_of.Tie as tie
 
 pub refusal-of-spec : {M : Type 1} → statement M
 unfolding refusalIn

@@ -1,7 +1,7 @@
--- `frame_line::label_of` meets its contract. Assumes nothing.
+-- `frame_number::label_of` meets its contract. Assumes nothing.
 use borrow.Author.Needs.{needs}
-use Rattle.frame_line.proofs.label_of.Statement.{statement}
-use Rattle.frame_line.proofs.label_of.Tie as tie
+use Rattle.frame_number.proofs.label_of.Statement.{statement}
+use Rattle.frame_number.proofs.label_of.Tie as tie
 
 pub label-of-spec : {M : Type 1} → statement M
 label-of-spec =
