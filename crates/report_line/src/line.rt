@@ -1,4 +1,4 @@
-// The lines of a result, each written to the front of a part of the output buffer, the unfilled rest of it: each writer answers how many bytes it wrote, and leaves
+// The lines of a result but those of the passes (crate `pass_line`), each written to the front of a part of the output buffer, the unfilled rest of it: each writer answers how many bytes it wrote, and leaves
 // what follows them as it was.
 ghost use mathlib.Core.Path.{_≡_};
 ghost use Prim.Native.Nat.{_≤_};
@@ -7,21 +7,17 @@ ghost use lib.ListN.{length};
 ghost use Rattle.line_form.specs.Written.{unheldWhole, Wrote};
 ghost use Rattle.report_line.specs.Sizes.{lineRoom};
 ghost use Rattle.report_line.specs.Refused.{refusedText};
-ghost use Rattle.report_line.specs.Result.{heading, growLine, fillLine, localLine, cellLine, holeLine, ambiguousLine, sheetLine};
-ghost use Rattle.report_line.specs.Written.{largestHeld, GrowAsked, FillAsked, LocalAsked, BareAsked, FullAsked, bareLocalText, fullLocalText, CellAsked, CornerAsked, holeText, ambiguousText, cellText, PlaceAsked, LineAsked};
+ghost use Rattle.report_line.specs.Result.{heading, cellLine, holeLine, ambiguousLine, sheetLine};
+ghost use Rattle.report_line.specs.Written.{largestHeld, CellAsked, CornerAsked, holeText, ambiguousText, cellText, PlaceAsked, LineAsked};
 use super::line_sizes::FIRST_AMBIGUOUS;
 use line_form::write::write_form;
-use passes::FillStats;
-use passes::GrowStats;
-use passes::LargestResidual;
-use passes::LocalStats;
 use refusal::Refusal;
 use sheet::Cell;
 use sheet::Label;
 use sizes::PLACES;
 
 // A count as a form takes it: 1,000,000 more, so that 32 bits hold it.
-fn held(n: usize) -> u32
+pub fn held(n: usize) -> u32
     requires { ⌜ n ≤ largestHeld ⌝ }
     ensures { λ r. ⌜ unheldWhole r ≡ pos n ⌝ }
 {
@@ -54,87 +50,6 @@ pub fn write_heading(out: &mut [u8]) -> usize
 {
     let words = [0u32; 1];
     write_form(b"(result 1)\n", &words, out)
-}
-
-// Grow's line: attached, no candidate, ambiguous, edge, rim.
-pub fn write_grow(s: GrowStats, out: &mut [u8]) -> usize
-    requires { ⌜ GrowAsked s (now out) ⌝ }
-    ensures { λ r. ⌜ Wrote (growLine s) (now (out .entry)) (now (out .exit)) r ⌝ }
-{
-    let c = s.counts;
-    let words = [
-        held(c.attached),
-        held(c.rejected_no_candidate),
-        held(c.rejected_ambiguous),
-        held(c.rejected_edge),
-    ];
-    if s.rim {
-        return write_form(b"(grow # # # # yes)\n", &words, out);
-    }
-    write_form(b"(grow # # # # no)\n", &words, out)
-}
-
-// Fill's line: added, rounds, rim.
-pub fn write_fill(s: FillStats, out: &mut [u8]) -> usize
-    requires { ⌜ FillAsked s (now out) ⌝ }
-    ensures { λ r. ⌜ Wrote (fillLine s) (now (out .entry)) (now (out .exit)) r ⌝ }
-{
-    let words = [held(s.added), held(s.iterations)];
-    if s.rim {
-        return write_form(b"(fill # # yes)\n", &words, out);
-    }
-    write_form(b"(fill # # no)\n", &words, out)
-}
-
-// Local's line where no residual was recorded: grow's four, rounds, `none`, rim.
-fn write_bare_local(s: LocalStats, out: &mut [u8]) -> usize
-    requires { ⌜ BareAsked s (now out) ⌝ }
-    ensures { λ r. ⌜ Wrote (bareLocalText s) (now (out .entry)) (now (out .exit)) r ⌝ }
-{
-    let c = s.counts;
-    let words = [
-        held(c.attached),
-        held(c.rejected_no_candidate),
-        held(c.rejected_ambiguous),
-        held(c.rejected_edge),
-        held(s.iterations),
-    ];
-    if s.rim {
-        return write_form(b"(local # # # # # none yes)\n", &words, out);
-    }
-    write_form(b"(local # # # # # none no)\n", &words, out)
-}
-
-// Local's line with a residual: grow's four, rounds, the residual's eight digits, rim.
-fn write_full_local(s: LocalStats, residual: f32, out: &mut [u8]) -> usize
-    requires { ⌜ FullAsked s residual (now out) ⌝ }
-    ensures { λ r. ⌜ Wrote (fullLocalText s residual) (now (out .entry)) (now (out .exit)) r ⌝ }
-{
-    let c = s.counts;
-    let words = [
-        held(c.attached),
-        held(c.rejected_no_candidate),
-        held(c.rejected_ambiguous),
-        held(c.rejected_edge),
-        held(s.iterations),
-        f32::to_bits(residual),
-    ];
-    if s.rim {
-        return write_form(b"(local # # # # # % yes)\n", &words, out);
-    }
-    write_form(b"(local # # # # # % no)\n", &words, out)
-}
-
-// Local's line: grow's four, rounds, largest residual or `none`, rim.
-pub fn write_local(s: LocalStats, out: &mut [u8]) -> usize
-    requires { ⌜ LocalAsked s (now out) ⌝ }
-    ensures { λ r. ⌜ Wrote (localLine s) (now (out .entry)) (now (out .exit)) r ⌝ }
-{
-    let residual = s.residual;
-    match residual {
-        LargestResidual::Nothing => write_bare_local(s, out),
-        LargestResidual::Residual(x) => write_full_local(s, x, out),
-    }
 }
 
 // A cell line: the cell and its corner.

@@ -1,8 +1,8 @@
--- `line::write_grow` meets its contract, by whether the rim was reached. Assumes nothing.
+-- `pass_line::write_grow` meets its contract, by whether the rim was reached. Assumes nothing.
 use Rattle.report_line.proofs.Forms.{grow-yes, grow-no, same-room, same-wrote}
 use borrow.Author.Needs.{needs}
-use Rattle.report_line.proofs.line.write_grow.Statement.{statement}
-use Rattle.report_line.proofs.line.write_grow.Tie as tie
+use Rattle.pass_line.proofs.write_grow.Statement.{statement}
+use Rattle.pass_line.proofs.write_grow.Tie as tie
 
 held-requires : tie.Need-held-requires
 held-requires c κs = search needs

@@ -1,8 +1,8 @@
--- `line::write_bare_local` meets its contract, by whether the rim was reached. Assumes nothing.
+-- `pass_line::write_bare_local` meets its contract, by whether the rim was reached. Assumes nothing.
 use Rattle.report_line.proofs.Forms.{bare-yes, bare-no, same-room, same-wrote}
 use borrow.Author.Needs.{needs}
-use Rattle.report_line.proofs.line.write_bare_local.Statement.{statement}
-use Rattle.report_line.proofs.line.write_bare_local.Tie as tie
+use Rattle.pass_line.proofs.write_bare_local.Statement.{statement}
+use Rattle.pass_line.proofs.write_bare_local.Tie as tie
 
 held-requires : tie.Need-held-requires
 held-requires c κs = search needs

@@ -1,10 +1,10 @@
--- `line::write_local` meets its contract, by whether a residual was recorded. Assumes nothing.
+-- `pass_line::write_local` meets its contract, by whether a residual was recorded. Assumes nothing.
 use Rattle.report_line.proofs.Forms.{bare-line, bare-asked, full-line, full-asked, same-wrote}
 use Rattle.report_line.specs.Result.{localLine}
 use Rattle.report_line.specs.Written.{bareLocalText}
 use borrow.Author.Needs.{needs}
-use Rattle.report_line.proofs.line.write_local.Statement.{statement}
-use Rattle.report_line.proofs.line.write_local.Tie as tie
+use Rattle.pass_line.proofs.write_local.Statement.{statement}
+use Rattle.pass_line.proofs.write_local.Tie as tie
 
 enum-told : tie.Need-enum-told
 enum-told c = search needs

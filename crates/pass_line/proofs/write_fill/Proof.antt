@@ -1,8 +1,8 @@
--- `line::write_fill` meets its contract, by whether the rim was reached. Assumes nothing.
+-- `pass_line::write_fill` meets its contract, by whether the rim was reached. Assumes nothing.
 use Rattle.report_line.proofs.Forms.{fill-yes, fill-no, same-room, same-wrote}
 use borrow.Author.Needs.{needs}
-use Rattle.report_line.proofs.line.write_fill.Statement.{statement}
-use Rattle.report_line.proofs.line.write_fill.Tie as tie
+use Rattle.pass_line.proofs.write_fill.Statement.{statement}
+use Rattle.pass_line.proofs.write_fill.Tie as tie
 
 held-requires : tie.Need-held-requires
 held-requires c κs = search needs
