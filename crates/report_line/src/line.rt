@@ -1,5 +1,5 @@
-// The lines of a result but those of the passes (crate `pass_line`), each written to the front of a part of the output buffer, the unfilled rest of it: each writer answers how many bytes it wrote, and leaves
-// what follows them as it was.
+// The lines of a result but those of the passes (crate `pass_line`), each written to the front of a part of the output buffer, the unfilled rest of it: each
+// writer answers how many bytes it wrote, and leaves what follows them as it was.
 ghost use mathlib.Core.Path.{_≡_};
 ghost use Prim.Native.Nat.{_≤_};
 ghost use lib.IntN.{pos, natAbs};
