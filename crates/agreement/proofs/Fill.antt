@@ -10,7 +10,7 @@ use lib.ListN.{length}
 use lib.Ieee.{lt}
 use lib.Ieee.Scale.{finite}
 use Rattle.sheet.specs.Cells.{OnSheet, placeOf, cellOf}
-use Rattle.sheet.specs.Corners.{cornerOf, seenOf, Given}
+use Rattle.sheet.specs.Corners.{CornerLists, cornerOf, cornersOf, seenOf, Given}
 use Rattle.sheet.specs.Pairing.{Shuffle, PairedCorners, PairedSheets}
 use Rattle.sheet.specs.declared.Cell.{Cell}
 use Rattle.sheet.proofs.Laws.{cell-on}
@@ -32,11 +32,10 @@ use Rattle.extension_common.proofs.Laws.{attachable}
 use Rattle.passes.specs.Grow.{tolerancesOf}
 use Rattle.passes.specs.Rounds.{roundsFrom}
 use Rattle.passes.specs.Fill.{boxAndStrips, fillCells, FillState, fillSearch, fillWith, fillAt, fillVisit, fillPass, fillFrom, fillLimit, fillRun}
-use Rattle.passes.specs.Step.{CornerLists}
 use Rattle.passes.specs.History.{begun}
 use Rattle.passes.proofs.Rounds.{Alike, SameRounds, rounds-same}
 use Rattle.invariants.specs.Kept.{Sound}
-use Rattle.invariants.specs.Calls.{cornersIn, Standing}
+use Rattle.invariants.specs.Calls.{Standing}
 use Rattle.invariants.proofs.Waiting.{waiting-none, first-on}
 use Rattle.invariants.proofs.Fill.{Filling, sound-then, filling-visit, filling-begins}
 use Rattle.invariants.proofs.Run.{standing-sound, sound-standing}
@@ -71,7 +70,7 @@ with-same {s = s} same long c on few (TryCellResult.Attached k) given =
 
 -- ---- the run
 
-module _ (l l' : CornerLists) (corners : PairedCorners (l .xs) (l .ys) (l .pitches) (l' .xs) (l' .ys) (l' .pitches)) (few : length (l .xs) ≤ 1024)
+module _ (l l' : CornerLists) (corners : PairedCorners l l') (few : length (l .xs) ≤ 1024)
     (set : Settings) (params : FillParams) (inside : SettingsInside set) (numbers : FillInside params) (above : lt one (params .«attach_ambiguity_factor») ≡ true) where
   finite-radius : T (finite (squaredRadius (fillSearch set params .«search_r»)))
   unfolding fillSearch
@@ -81,28 +80,28 @@ module _ (l l' : CornerLists) (corners : PairedCorners (l .xs) (l .ys) (l .pitch
   unfolding fillSearch
   factor-above = above
 
-  module _ (a a' : FillState) (same : SameFill (corners .pairs) a a') (given : Given (l .xs) (l .ys) (l .pitches) (a .sheet)) (c : Cell) (on : OnSheet c) where
-    at-same : (at : Prediction) → SameFill (corners .pairs) (fillAt (cornersIn l) set params c at a) (fillAt (cornersIn l') set params c at a')
+  module _ (a a' : FillState) (same : SameFill (corners .pairs) a a') (given : Given (length (l .xs)) (a .sheet)) (c : Cell) (on : OnSheet c) where
+    at-same : (at : Prediction) → SameFill (corners .pairs) (fillAt (cornersOf l) set params c at a) (fillAt (cornersOf l') set params c at a')
     unfolding fillAt
     at-same Prediction.NoNeighbour = same
     at-same (Prediction.At at) =
         rw (try-paired l l' corners (a .sheet) (a' .sheet) (same .sheet) given (tolerancesOf set) (fillSearch set params) c at finite-radius factor-above)
-        (with-same same (given .long) c on few (tryAt (cornersIn l) (a .sheet) (tolerancesOf set) (fillSearch set params) c at)
-        (λ k h. attachable (cornersIn l) (a .sheet) (tolerancesOf set) (fillSearch set params) c at k h .given))
+        (with-same same (given .long) c on few (tryAt (cornersOf l) (a .sheet) (tolerancesOf set) (fillSearch set params) c at)
+        (λ k h. attachable (cornersOf l) (a .sheet) (tolerancesOf set) (fillSearch set params) c at k h .given))
 
-    visit-same : SameFill (corners .pairs) (fillVisit (cornersIn l) set params c a) (fillVisit (cornersIn l') set params c a')
+    visit-same : SameFill (corners .pairs) (fillVisit (cornersOf l) set params c a) (fillVisit (cornersOf l') set params c a')
     unfolding fillVisit
-    visit-same = rw (prediction-paired corners (same .sheet) given (set .grid) c) (at-same (predictionOf (seenOf (cornerOf (l .xs) (l .ys) (l .pitches)) (a .sheet)) (set .grid) c))
+    visit-same = rw (prediction-paired corners (same .sheet) given (set .grid) c) (at-same (predictionOf (seenOf (cornerOf l) (a .sheet)) (set .grid) c))
 
   module _ (first : List ℕ) (begins : Standing l first) where
-    sound : Sound (cornersIn l) first
+    sound : Sound (cornersOf l) first
     sound = standing-sound begins
 
     -- where both runs stand, with these cells still to come: in the first run each waits for its turn
     abbrev Both : List ℕ → FillState → FillState → Type 0
-    Both ps a a' = Filling (cornersIn l) (tolerancesOf set) first ps a × SameFill (corners .pairs) a a'
+    Both ps a a' = Filling (cornersOf l) (tolerancesOf set) first ps a × SameFill (corners .pairs) a a'
 
-    alike : Alike (fillPass (cornersIn l) set params) (fillPass (cornersIn l') set params) Both
+    alike : Alike (fillPass (cornersOf l) set params) (fillPass (cornersOf l') set params) Both
     alike =
         record {
           cells = λ a a' g. fill-cells-same (g .1 .sheet);
@@ -116,7 +115,7 @@ module _ (l l' : CornerLists) (corners : PairedCorners (l .xs) (l .ys) (l .pitch
 
     -- the whole run
     pub fill-same : (first' : List ℕ) → PairedSheets (corners .pairs) first first'
-        → SameRounds (SameFill (corners .pairs)) (fillRun (cornersIn l) set params first) (fillRun (cornersIn l') set params first')
+        → SameRounds (SameFill (corners .pairs)) (fillRun (cornersOf l) set params first) (fillRun (cornersOf l') set params first')
     unfolding fillRun fillFrom
     fill-same first' paired = rw (paired-count paired) (record { state = both .state .1; rounds = both .rounds })
       where
@@ -127,8 +126,8 @@ module _ (l l' : CornerLists) (corners : PairedCorners (l .xs) (l .ys) (l .pitch
         start' = record { sheet = first'; made = [] }
 
         both : SameRounds (Both [])
-            (roundsFrom (fillPass (cornersIn l) set params) (fillLimit (labelCount first) (params .«max_iters»)) (record { state = start; rounds = 0 }))
-            (roundsFrom (fillPass (cornersIn l') set params) (fillLimit (labelCount first) (params .«max_iters»)) (record { state = start'; rounds = 0 }))
+            (roundsFrom (fillPass (cornersOf l) set params) (fillLimit (labelCount first) (params .«max_iters»)) (record { state = start; rounds = 0 }))
+            (roundsFrom (fillPass (cornersOf l') set params) (fillLimit (labelCount first) (params .«max_iters»)) (record { state = start'; rounds = 0 }))
         both =
             rounds-same Both alike (fillLimit (labelCount first) (params .«max_iters»))
             (record { state = start; rounds = 0 }) (record { state = start'; rounds = 0 })

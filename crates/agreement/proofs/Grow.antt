@@ -12,7 +12,7 @@ use lib.Ieee.{lt}
 use lib.Ieee.Scale.{finite}
 use Rattle.sheet.specs.Cells.{onSheet, OnSheet, placeOf, cellOf, moved}
 use Rattle.sheet.specs.Words.{attached}
-use Rattle.sheet.specs.Corners.{cornerOf, seenOf, Given}
+use Rattle.sheet.specs.Corners.{CornerLists, cornerOf, cornersOf, seenOf, Given}
 use Rattle.sheet.specs.Pairing.{Shuffle, PairedCorners, PairedSheets}
 use Rattle.sheet.specs.declared.Cell.{Cell}
 use Rattle.sheet.specs.declared.Offset.{Offset}
@@ -34,9 +34,8 @@ use Rattle.extension_common.specs.declared.TryCellResult.{TryCellResult}
 use Rattle.extension_common.proofs.Laws.{attachable}
 use Rattle.passes.specs.Counting.{oneMore}
 use Rattle.passes.specs.Grow.{tolerancesOf, GrowState, member, wanted, enqueued, enqueuedAt, spread, seededFrom, startOf, radiusOf, searchOf, missed, growWith, growAt, growVisit, growFrom, growRun}
-use Rattle.passes.specs.Step.{CornerLists}
 use Rattle.invariants.specs.Kept.{Sound}
-use Rattle.invariants.specs.Calls.{cornersIn, Standing}
+use Rattle.invariants.specs.Calls.{Standing}
 use Rattle.invariants.proofs.Waiting.{first-on}
 use Rattle.invariants.proofs.Grow.{Growing, growing-start, turn, sound-now, growing-visit}
 use Rattle.invariants.proofs.Run.{standing-sound, sound-standing}
@@ -129,7 +128,7 @@ module _ {n : ℕ} {s : Shuffle n} {a a' : GrowState} (same : SameGrow s a a') (
 
 -- ---- the run
 
-module _ (l l' : CornerLists) (corners : PairedCorners (l .xs) (l .ys) (l .pitches) (l' .xs) (l' .ys) (l' .pitches)) (few : length (l .xs) ≤ 1024)
+module _ (l l' : CornerLists) (corners : PairedCorners l l') (few : length (l .xs) ≤ 1024)
     (set : Settings) (params : GrowParams) (inside : SettingsInside set) (numbers : GrowInside params) (above : lt one (params .«attach_ambiguity_factor») ≡ true) where
   -- both radii have a finite square
   finite-radius : (e : Bool) → T (finite (squaredRadius (searchOf set params e .«search_r»)))
@@ -141,57 +140,57 @@ module _ (l l' : CornerLists) (corners : PairedCorners (l .xs) (l .ys) (l .pitch
   unfolding searchOf
   factor-above e = above
 
-  module _ (a a' : GrowState) (same : SameGrow (corners .pairs) a a') (given : Given (l .xs) (l .ys) (l .pitches) (a .sheet)) (c : Cell) (on : OnSheet c) where
-    at-same : (at : Prediction) → SameGrow (corners .pairs) (growAt (cornersIn l) set params c at a) (growAt (cornersIn l') set params c at a')
+  module _ (a a' : GrowState) (same : SameGrow (corners .pairs) a a') (given : Given (length (l .xs)) (a .sheet)) (c : Cell) (on : OnSheet c) where
+    at-same : (at : Prediction) → SameGrow (corners .pairs) (growAt (cornersOf l) set params c at a) (growAt (cornersOf l') set params c at a')
     unfolding growAt
     at-same Prediction.NoNeighbour = missed-same same (given .long) c on
     at-same (Prediction.At at) =
-        let e = extrapolating (seenOf (cornerOf (l .xs) (l .ys) (l .pitches)) (a .sheet)) c in
+        let e = extrapolating (seenOf (cornerOf l) (a .sheet)) c in
         let search = searchOf set params e in
         rw (extrapolating-paired corners (same .sheet) given c, try-paired l l' corners (a .sheet) (a' .sheet) (same .sheet) given (tolerancesOf set) search c at (finite-radius e) (factor-above e))
-        (with-same same (given .long) c on few (tryAt (cornersIn l) (a .sheet) (tolerancesOf set) search c at)
-        (λ k h. attachable (cornersIn l) (a .sheet) (tolerancesOf set) search c at k h .given))
+        (with-same same (given .long) c on few (tryAt (cornersOf l) (a .sheet) (tolerancesOf set) search c at)
+        (λ k h. attachable (cornersOf l) (a .sheet) (tolerancesOf set) search c at k h .given))
 
-    visit-same : SameGrow (corners .pairs) (growVisit (cornersIn l) set params c a) (growVisit (cornersIn l') set params c a')
+    visit-same : SameGrow (corners .pairs) (growVisit (cornersOf l) set params c a) (growVisit (cornersOf l') set params c a')
     unfolding growVisit
-    visit-same = rw (prediction-paired corners (same .sheet) given (set .grid) c) (at-same (predictionOf (seenOf (cornerOf (l .xs) (l .ys) (l .pitches)) (a .sheet)) (set .grid) c))
+    visit-same = rw (prediction-paired corners (same .sheet) given (set .grid) c) (at-same (predictionOf (seenOf (cornerOf l) (a .sheet)) (set .grid) c))
 
   module _ (first : List ℕ) (begins : Standing l first) where
     -- at most m cells more: in the first run every visited cell lies on the sheet
-    from-same : (m head : ℕ) (a a' : GrowState) → Growing (cornersIn l) (tolerancesOf set) first head a → SameGrow (corners .pairs) a a'
-        → SameGrow (corners .pairs) (growFrom (cornersIn l) set params m head a) (growFrom (cornersIn l') set params m head a')
+    from-same : (m head : ℕ) (a a' : GrowState) → Growing (cornersOf l) (tolerancesOf set) first head a → SameGrow (corners .pairs) a a'
+        → SameGrow (corners .pairs) (growFrom (cornersOf l) set params m head a) (growFrom (cornersOf l') set params m head a')
     unfolding growFrom
     from-same zero head a a' g same = same
     from-same (suc m) head a a' g same =
         subst
         (λ (q : List ℕ).
-        SameGrow (corners .pairs) (growFrom (cornersIn l) set params (suc m) head a)
-        (cond (ltb head (length q)) (growFrom (cornersIn l') set params m (head + 1) (growVisit (cornersIn l') set params (cellOf (getD q head 0)) a')) a'))
+        SameGrow (corners .pairs) (growFrom (cornersOf l) set params (suc m) head a)
+        (cond (ltb head (length q)) (growFrom (cornersOf l') set params m (head + 1) (growVisit (cornersOf l') set params (cellOf (getD q head 0)) a')) a'))
         (sym (same .queued)) (go (ltb head (length (a .queued))) refl (λ h. from-same m (head + 1) _ _ (growing-visit set params few sound head a g h) (next h)))
       where
         cell : Cell
         cell = cellOf (getD (a .queued) head 0)
 
-        sound : Sound (cornersIn l) first
+        sound : Sound (cornersOf l) first
         sound = standing-sound begins
 
-        next : head < length (a .queued) → SameGrow (corners .pairs) (growVisit (cornersIn l) set params cell a) (growVisit (cornersIn l') set params cell a')
+        next : head < length (a .queued) → SameGrow (corners .pairs) (growVisit (cornersOf l) set params cell a) (growVisit (cornersOf l') set params cell a')
         next h =
             visit-same a a' same (sound-standing begins (sound-now few sound head a g h) .given) cell
             (cell-on (getD (a .queued) head 0) (first-on (turn few sound head a g h)))
 
         go : (t : Bool) → ltb head (length (a .queued)) ≡ t
             → (head < length (a .queued)
-            → SameGrow (corners .pairs) (growFrom (cornersIn l) set params m (head + 1) (growVisit (cornersIn l) set params cell a))
-            (growFrom (cornersIn l') set params m (head + 1) (growVisit (cornersIn l') set params cell a')))
-            → SameGrow (corners .pairs) (cond t (growFrom (cornersIn l) set params m (head + 1) (growVisit (cornersIn l) set params cell a)) a)
-            (cond t (growFrom (cornersIn l') set params m (head + 1) (growVisit (cornersIn l') set params cell a')) a')
+            → SameGrow (corners .pairs) (growFrom (cornersOf l) set params m (head + 1) (growVisit (cornersOf l) set params cell a))
+            (growFrom (cornersOf l') set params m (head + 1) (growVisit (cornersOf l') set params cell a')))
+            → SameGrow (corners .pairs) (cond t (growFrom (cornersOf l) set params m (head + 1) (growVisit (cornersOf l) set params cell a)) a)
+            (cond t (growFrom (cornersOf l') set params m (head + 1) (growVisit (cornersOf l') set params cell a')) a')
         go true e w = w (ltb-true head (length (a .queued)) e)
         go false e w = same
 
     -- the whole run
-    pub grow-same : (first' : List ℕ) → PairedSheets (corners .pairs) first first' → SameGrow (corners .pairs) (growRun (cornersIn l) set params first) (growRun (cornersIn l') set params first')
+    pub grow-same : (first' : List ℕ) → PairedSheets (corners .pairs) first first' → SameGrow (corners .pairs) (growRun (cornersOf l) set params first) (growRun (cornersOf l') set params first')
     unfolding growRun
     grow-same first' paired =
-        subst (λ (k : ℕ). SameGrow (corners .pairs) (growRun (cornersIn l) set params first) (growFrom (cornersIn l') set params (4 * k) 0 (startOf first'))) (sym (corners .same-xs))
-        (from-same (4 * length (l .xs)) 0 (startOf first) (startOf first') (growing-start (cornersIn l) (tolerancesOf set) first) (start-same paired))
+        subst (λ (k : ℕ). SameGrow (corners .pairs) (growRun (cornersOf l) set params first) (growFrom (cornersOf l') set params (4 * k) 0 (startOf first'))) (sym (corners .same-xs))
+        (from-same (4 * length (l .xs)) 0 (startOf first) (startOf first') (growing-start (cornersOf l) (tolerancesOf set) first) (start-same paired))

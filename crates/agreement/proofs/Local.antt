@@ -11,7 +11,7 @@ use lib.Ieee.{Float, binary32, ofBits, lt}
 use lib.Ieee.Scale.{finite}
 use Rattle.sheet.specs.Cells.{OnSheet, placeOf, cellOf}
 use Rattle.sheet.specs.Words.{attached}
-use Rattle.sheet.specs.Corners.{seenOf, Given}
+use Rattle.sheet.specs.Corners.{CornerLists, cornersOf, seenOf, Given}
 use Rattle.sheet.specs.Pairing.{Shuffle, PairedCorners, PairedSheets}
 use Rattle.sheet.specs.declared.Cell.{Cell}
 use Rattle.sheet.proofs.Laws.{cell-on}
@@ -33,12 +33,11 @@ use Rattle.passes.specs.Counting.{noCounts}
 use Rattle.passes.specs.Rounds.{roundsFrom}
 use Rattle.passes.specs.Grow.{tolerancesOf}
 use Rattle.passes.specs.Local.{depthOf, localRegion, localCells, byReach, supportsOf, cellPoint, LocalFit, none, fitted, localFit, LocalState, worst, recordedAll, withResiduals, localSearch, gateOf, localWith, localAt, localVisit, localPass, localFrom, localLimit, localRun}
-use Rattle.passes.specs.Step.{CornerLists}
 use Rattle.passes.specs.declared.LargestResidual.{LargestResidual}
 use Rattle.passes.specs.History.{begun}
 use Rattle.passes.proofs.Rounds.{Alike, SameRounds, rounds-same}
 use Rattle.invariants.specs.Kept.{Sound}
-use Rattle.invariants.specs.Calls.{cornersIn, Standing}
+use Rattle.invariants.specs.Calls.{Standing}
 use Rattle.invariants.proofs.Waiting.{waiting-none, first-on}
 use Rattle.invariants.proofs.Local.{Trying, sound-tried, trying-visit, trying-begins}
 use Rattle.invariants.proofs.Run.{standing-sound, sound-standing}
@@ -93,7 +92,7 @@ with-same {s = s} {a = a} same long c on few (TryCellResult.Attached k) given =
 
 -- ---- the run
 
-module _ (l l' : CornerLists) (corners : PairedCorners (l .xs) (l .ys) (l .pitches) (l' .xs) (l' .ys) (l' .pitches)) (few : length (l .xs) ≤ 1024)
+module _ (l l' : CornerLists) (corners : PairedCorners l l') (few : length (l .xs) ≤ 1024)
     (set : Settings) (params : LocalExtensionParams) (inside : SettingsInside set) (numbers : LocalInside params) (above : lt one (params .«ambiguity_factor») ≡ true) where
   finite-radius : T (finite (squaredRadius (localSearch set params .«search_r»)))
   unfolding localSearch
@@ -103,12 +102,12 @@ module _ (l l' : CornerLists) (corners : PairedCorners (l .xs) (l .ys) (l .pitch
   unfolding localSearch
   factor-above = above
 
-  module _ (a a' : LocalState) (same : SameLocal (corners .pairs) a a') (given : Given (l .xs) (l .ys) (l .pitches) (a .sheet)) (c : Cell) (on : OnSheet c) where
+  module _ (a a' : LocalState) (same : SameLocal (corners .pairs) a a') (given : Given (length (l .xs)) (a .sheet)) (c : Cell) (on : OnSheet c) where
     -- the same fit, or none: the supports, and what is seen of them, are the same
-    fit-same : localFit (seenOf (cornersIn l' .corner) (a' .sheet)) (supportsOf c (a' .sheet)) ≡ localFit (seenOf (cornersIn l .corner) (a .sheet)) (supportsOf c (a .sheet))
+    fit-same : localFit (seenOf (cornersOf l' .corner) (a' .sheet)) (supportsOf c (a' .sheet)) ≡ localFit (seenOf (cornersOf l .corner) (a .sheet)) (supportsOf c (a .sheet))
     fit-same = ap₂ localFit (seen-paired corners (same .sheet) given) (supports-same (same .sheet) c)
 
-    at-same : (fit : LocalFit) → SameLocal (corners .pairs) (localAt (cornersIn l) set params c fit a) (localAt (cornersIn l') set params c fit a')
+    at-same : (fit : LocalFit) → SameLocal (corners .pairs) (localAt (cornersOf l) set params c fit a) (localAt (cornersOf l') set params c fit a')
     unfolding localAt
     at-same none = same
     at-same (fitted h rs) =
@@ -116,7 +115,7 @@ module _ (l l' : CornerLists) (corners : PairedCorners (l .xs) (l .ys) (l .pitch
         (go (lt (gateOf set params) (worst (ofBits binary32 0) rs)))
       where
         found : TryCellResult
-        found = tryAt (cornersIn l) (a .sheet) (tolerancesOf set) (localSearch set params) c (applied h (cellPoint c))
+        found = tryAt (cornersOf l) (a .sheet) (tolerancesOf set) (localSearch set params) c (applied h (cellPoint c))
 
         go : (t : Bool)
             → SameLocal (corners .pairs) (cond t (withResiduals rs a) (localWith c found (withResiduals rs a)))
@@ -124,23 +123,23 @@ module _ (l l' : CornerLists) (corners : PairedCorners (l .xs) (l .ys) (l .pitch
         go true = recorded-same same rs
         go false =
             with-same (recorded-same same rs) (given .long) c on few found
-            (λ k e. attachable (cornersIn l) (a .sheet) (tolerancesOf set) (localSearch set params) c (applied h (cellPoint c)) k e .given)
+            (λ k e. attachable (cornersOf l) (a .sheet) (tolerancesOf set) (localSearch set params) c (applied h (cellPoint c)) k e .given)
 
-    visit-same : SameLocal (corners .pairs) (localVisit (cornersIn l) set params c a) (localVisit (cornersIn l') set params c a')
+    visit-same : SameLocal (corners .pairs) (localVisit (cornersOf l) set params c a) (localVisit (cornersOf l') set params c a')
     unfolding localVisit
     visit-same =
-        subst (λ (fit : LocalFit). SameLocal (corners .pairs) (localVisit (cornersIn l) set params c a) (localAt (cornersIn l') set params c fit a')) (sym fit-same)
-        (at-same (localFit (seenOf (cornersIn l .corner) (a .sheet)) (supportsOf c (a .sheet))))
+        subst (λ (fit : LocalFit). SameLocal (corners .pairs) (localVisit (cornersOf l) set params c a) (localAt (cornersOf l') set params c fit a')) (sym fit-same)
+        (at-same (localFit (seenOf (cornersOf l .corner) (a .sheet)) (supportsOf c (a .sheet))))
 
   module _ (first : List ℕ) (begins : Standing l first) where
-    sound : Sound (cornersIn l) first
+    sound : Sound (cornersOf l) first
     sound = standing-sound begins
 
     -- where both runs stand, with these cells still to come: in the first run each waits for its turn
     abbrev Both : List ℕ → LocalState → LocalState → Type 0
-    Both ps a a' = Trying (cornersIn l) (tolerancesOf set) first ps a × SameLocal (corners .pairs) a a'
+    Both ps a a' = Trying (cornersOf l) (tolerancesOf set) first ps a × SameLocal (corners .pairs) a a'
 
-    alike : Alike (localPass (cornersIn l) set params) (localPass (cornersIn l') set params) Both
+    alike : Alike (localPass (cornersOf l) set params) (localPass (cornersOf l') set params) Both
     alike =
         record {
           cells = λ a a' g. local-cells-same (g .1 .sheet) (depthOf params);
@@ -154,7 +153,7 @@ module _ (l l' : CornerLists) (corners : PairedCorners (l .xs) (l .ys) (l .pitch
 
     -- the whole run
     pub local-same : (first' : List ℕ) → PairedSheets (corners .pairs) first first'
-        → SameRounds (SameLocal (corners .pairs)) (localRun (cornersIn l) set params first) (localRun (cornersIn l') set params first')
+        → SameRounds (SameLocal (corners .pairs)) (localRun (cornersOf l) set params first) (localRun (cornersOf l') set params first')
     unfolding localRun localFrom
     local-same first' paired = rw (paired-count paired) (record { state = both .state .1; rounds = both .rounds })
       where
@@ -165,8 +164,8 @@ module _ (l l' : CornerLists) (corners : PairedCorners (l .xs) (l .ys) (l .pitch
         start' = record { sheet = first'; made = []; counts = noCounts; largest = LargestResidual.Nothing }
 
         both : SameRounds (Both [])
-            (roundsFrom (localPass (cornersIn l) set params) (localLimit (labelCount first) (params .«max_iters»)) (record { state = start; rounds = 0 }))
-            (roundsFrom (localPass (cornersIn l') set params) (localLimit (labelCount first) (params .«max_iters»)) (record { state = start'; rounds = 0 }))
+            (roundsFrom (localPass (cornersOf l) set params) (localLimit (labelCount first) (params .«max_iters»)) (record { state = start; rounds = 0 }))
+            (roundsFrom (localPass (cornersOf l') set params) (localLimit (labelCount first) (params .«max_iters»)) (record { state = start'; rounds = 0 }))
         both =
             rounds-same Both alike (localLimit (labelCount first) (params .«max_iters»))
             (record { state = start; rounds = 0 }) (record { state = start'; rounds = 0 })

@@ -8,8 +8,9 @@ use native.Mathlib.Omega.{arith}
 use lib.ListN.{length}
 use lib.Ieee.{lt}
 use Rattle.refusal.specs.declared.Refusal.{Refusal}
+use Rattle.sheet.specs.Corners.{CornerLists, cornersOf}
 use Rattle.sheet.specs.Pairing.{Shuffle, PairedCorners, PairedSheets}
-use Rattle.sheet.proofs.Pairing.{given-paired}
+use Rattle.sheet.proofs.Pairing.{given-paired, listed-paired}
 use Rattle.labels.proofs.Pairing.{paired-rim, paired-one}
 use Rattle.arguments.specs.Arguments.{checked}
 use Rattle.arguments.specs.Accepted.{SettingsInside, GrowInside, FillInside, LocalInside, PassInside}
@@ -25,9 +26,9 @@ use Rattle.passes.specs.Outcome.{After, Outcome, refused, done}
 use Rattle.passes.specs.Grow.{growAfter}
 use Rattle.passes.specs.Fill.{fillAfter}
 use Rattle.passes.specs.Local.{depthOf, localAfter}
-use Rattle.passes.specs.Step.{CornerLists, Rooms, lentOf, unless, growStep, fillStep, localStep}
+use Rattle.passes.specs.Step.{Rooms, lentOf, unless, growStep, fillStep, localStep}
 use Rattle.passes.specs.Run.{Call, PassStats, growStats, fillStats, localStats, step, sheetAfter, run}
-use Rattle.invariants.specs.Calls.{cornersIn, Standing, checkedCall, answering, afterPass, afterCall}
+use Rattle.invariants.specs.Calls.{Standing, checkedCall, answering, afterPass, afterCall}
 use Rattle.invariants.proofs.Run.{step-as, call-accepted, standing-step, invariants}
 use Rattle.binary32.specs.Numbers.{one}
 use Rattle.agreement.specs.Agreement.{SameAfter, SameOutcome, both-refused, both-done, Agree, agree-end, agree-call, factorOf, AboveOne, FactorsAbove, was-refused, ran, Agreement}
@@ -65,7 +66,7 @@ above-split (ran h f) = (λ a e. h, f)
 
 -- ---- one call
 
-module _ (l l' : CornerLists) (corners : PairedCorners (l .xs) (l .ys) (l .pitches) (l' .xs) (l' .ys) (l' .pitches)) (sheet sheet' : List ℕ)
+module _ (l l' : CornerLists) (corners : PairedCorners l l') (sheet sheet' : List ℕ)
     (paired : PairedSheets (corners .pairs) sheet sheet') (begins : Standing l sheet) where
   -- refused alike
   pub checked-same : (set : Settings) (rooms : Rooms) (pass : Pass) → checked (lentOf l' sheet' rooms) set pass ≡ checked (lentOf l sheet rooms) set pass
@@ -75,7 +76,7 @@ module _ (l l' : CornerLists) (corners : PairedCorners (l .xs) (l .ys) (l .pitch
   -- what each pass does
   module _ (few : length (l .xs) ≤ 1024) (set : Settings) (inside : SettingsInside set) where
     grow-after-same : (p : GrowParams) → GrowInside p → lt one (p .«attach_ambiguity_factor») ≡ true
-        → SameAfter (corners .pairs) (growAfter (cornersIn l) set p sheet) (growAfter (cornersIn l') set p sheet')
+        → SameAfter (corners .pairs) (growAfter (cornersOf l) set p sheet) (growAfter (cornersOf l') set p sheet')
     unfolding growAfter
     grow-after-same p numbers above =
         let same = grow-same l l' corners few set p inside numbers above sheet begins sheet' paired in
@@ -87,7 +88,7 @@ module _ (l l' : CornerLists) (corners : PairedCorners (l .xs) (l .ys) (l .pitch
         }
 
     fill-after-same : (p : FillParams) → FillInside p → lt one (p .«attach_ambiguity_factor») ≡ true
-        → SameAfter (corners .pairs) (fillAfter (cornersIn l) set p sheet) (fillAfter (cornersIn l') set p sheet')
+        → SameAfter (corners .pairs) (fillAfter (cornersOf l) set p sheet) (fillAfter (cornersOf l') set p sheet')
     unfolding fillAfter
     fill-after-same p numbers above =
         let same = fill-same l l' corners few set p inside numbers above sheet begins sheet' paired in
@@ -99,7 +100,7 @@ module _ (l l' : CornerLists) (corners : PairedCorners (l .xs) (l .ys) (l .pitch
         }
 
     local-after-same : (p : LocalExtensionParams) → LocalInside p → lt one (p .«ambiguity_factor») ≡ true
-        → SameAfter (corners .pairs) (localAfter (cornersIn l) set p sheet) (localAfter (cornersIn l') set p sheet')
+        → SameAfter (corners .pairs) (localAfter (cornersOf l) set p sheet) (localAfter (cornersOf l') set p sheet')
     unfolding localAfter
     local-after-same p numbers above =
         let same = local-same l l' corners few set p inside numbers above sheet begins sheet' paired in
@@ -149,11 +150,11 @@ module _ (l l' : CornerLists) (corners : PairedCorners (l .xs) (l .ys) (l .pitch
 
   -- the second frame's corners and sheet belong together too
   pub standing-paired : Standing l' sheet'
-  standing-paired = record { given = given-paired corners paired (begins .given); one-cell = paired-one paired (begins .given .known) (begins .one-cell) }
+  standing-paired = record { listed = listed-paired corners (begins .listed); given = given-paired corners paired (begins .given); one-cell = paired-one paired (begins .given .known) (begins .one-cell) }
 
 -- ---- a list of calls
 
-pub run-same : (l l' : CornerLists) (corners : PairedCorners (l .xs) (l .ys) (l .pitches) (l' .xs) (l' .ys) (l' .pitches)) (sheet sheet' : List ℕ)
+pub run-same : (l l' : CornerLists) (corners : PairedCorners l l') (sheet sheet' : List ℕ)
     → PairedSheets (corners .pairs) sheet sheet' → Standing l sheet → (calls : List Call) → FactorsAbove calls (run l sheet calls)
     → Agree (corners .pairs) sheet sheet' (run l sheet calls) (run l' sheet' calls)
 unfolding run

@@ -7,7 +7,7 @@ use lib.Dec.{T}
 use lib.ListN.{length}
 use lib.Ieee.{Float, lt}
 use lib.Ieee.Scale.{finite}
-use Rattle.sheet.specs.Corners.{cornerOf, seenOf, Given}
+use Rattle.sheet.specs.Corners.{CornerLists, cornerOf, cornersOf, seenOf, Given}
 use Rattle.sheet.specs.Pairing.{PairedCorners, PairedSheets}
 use Rattle.sheet.specs.declared.Cell.{Cell}
 use Rattle.sheet.specs.declared.Corner.{Corner}
@@ -25,8 +25,6 @@ use Rattle.extension_common.specs.declared.ChoiceRule.{ChoiceRule}
 use Rattle.extension_common.specs.declared.Search.{Search}
 use Rattle.extension_common.specs.declared.TryCellResult.{TryCellResult}
 use Rattle.extension_common.proofs.Laws.{chosen}
-use Rattle.passes.specs.Step.{CornerLists}
-use Rattle.invariants.specs.Calls.{cornersIn}
 use Rattle.binary32.specs.Numbers.{one}
 
 -- what is found, with the paired corner
@@ -36,19 +34,19 @@ pairedResult to TryCellResult.Ambiguous = TryCellResult.Ambiguous
 pairedResult to TryCellResult.EdgeRejected = TryCellResult.EdgeRejected
 pairedResult to (TryCellResult.Attached k) = TryCellResult.Attached (to k)
 
-module _ (l l' : CornerLists) (corners : PairedCorners (l .xs) (l .ys) (l .pitches) (l' .xs) (l' .ys) (l' .pitches)) (sheet sheet' : List ℕ)
-    (paired : PairedSheets (corners .pairs) sheet sheet') (given : Given (l .xs) (l .ys) (l .pitches) sheet) where
+module _ (l l' : CornerLists) (corners : PairedCorners l l') (sheet sheet' : List ℕ)
+    (paired : PairedSheets (corners .pairs) sheet sheet') (given : Given (length (l .xs)) sheet) where
   -- either rule chooses the paired corner
   choice-paired : (rule : ChoiceRule) (radius factor : Float) (p : Position) → T (finite (squaredRadius radius)) → lt one factor ≡ true
-      → choiceBy rule (gathered (cornersIn l') sheet' radius p) factor ≡ renumbered (corners .pairs .to) (choiceBy rule (gathered (cornersIn l) sheet radius p) factor)
+      → choiceBy rule (gathered (cornersOf l') sheet' radius p) factor ≡ renumbered (corners .pairs .to) (choiceBy rule (gathered (cornersOf l) sheet radius p) factor)
   unfolding choiceBy gathered
   choice-paired rule radius factor p small above = rw (corners .same-xs) (go rule)
     where
       position : ℕ → Position
-      position k = cornerOf (l .xs) (l .ys) (l .pitches) k .position
+      position k = cornerOf l k .position
 
       position' : ℕ → Position
-      position' k = cornerOf (l' .xs) (l' .ys) (l' .pitches) k .position
+      position' k = cornerOf l' k .position
 
       place : (i : ℕ) → i < length (l .xs) → position' (corners .pairs .to i) ≡ position i
       place i h = ap (λ (k : Corner). k .position) (corners .same-corner i h)
@@ -64,9 +62,9 @@ module _ (l l' : CornerLists) (corners : PairedCorners (l .xs) (l .ys) (l .pitch
 
   -- the chosen corner's edges say the same
   edges-paired : (tol : Tolerances) (c : Cell) (k : ℕ) → k < length (l .xs)
-      → edgesOf (cornersIn l') sheet' tol c (corners .pairs .to k) ≡ pairedResult (corners .pairs .to) (edgesOf (cornersIn l) sheet tol c k)
+      → edgesOf (cornerOf l') sheet' tol c (corners .pairs .to k) ≡ pairedResult (corners .pairs .to) (edgesOf (cornerOf l) sheet tol c k)
   unfolding edgesOf pairedResult
-  edges-paired tol c k h = rw (verdict-paired corners paired given tol c k h) (go (passes (verdictOf (seenOf (cornerOf (l .xs) (l .ys) (l .pitches)) sheet) tol c (cornerOf (l .xs) (l .ys) (l .pitches) k))))
+  edges-paired tol c k h = rw (verdict-paired corners paired given tol c k h) (go (passes (verdictOf (seenOf (cornerOf l) sheet) tol c (cornerOf l k))))
     where
       go : (t : Bool) → cond t (TryCellResult.Attached (corners .pairs .to k)) TryCellResult.EdgeRejected ≡ pairedResult (corners .pairs .to) (cond t (TryCellResult.Attached k) TryCellResult.EdgeRejected)
       go true = refl
@@ -74,15 +72,15 @@ module _ (l l' : CornerLists) (corners : PairedCorners (l .xs) (l .ys) (l .pitch
 
   -- what trying a cell finds
   pub try-paired : (tol : Tolerances) (search : Search) (c : Cell) (p : Position) → T (finite (squaredRadius (search .«search_r»))) → lt one (search .«ambiguity_factor») ≡ true
-      → tryAt (cornersIn l') sheet' tol search c p ≡ pairedResult (corners .pairs .to) (tryAt (cornersIn l) sheet tol search c p)
+      → tryAt (cornersOf l') sheet' tol search c p ≡ pairedResult (corners .pairs .to) (tryAt (cornersOf l) sheet tol search c p)
   unfolding tryAt resultOf pairedResult
   try-paired tol search c p small above =
-      ap (resultOf (cornersIn l') sheet' tol c) (choice-paired (search .rule) (search .«search_r») (search .«ambiguity_factor») p small above)
-      ∙ go (choiceBy (search .rule) (gathered (cornersIn l) sheet (search .«search_r») p) (search .«ambiguity_factor»)) refl
+      ap (resultOf (cornerOf l') sheet' tol c) (choice-paired (search .rule) (search .«search_r») (search .«ambiguity_factor») p small above)
+      ∙ go (choiceBy (search .rule) (gathered (cornersOf l) sheet (search .«search_r») p) (search .«ambiguity_factor»)) refl
     where
-      go : (choice : CandidateChoice) → choiceBy (search .rule) (gathered (cornersIn l) sheet (search .«search_r») p) (search .«ambiguity_factor») ≡ choice
-          → resultOf (cornersIn l') sheet' tol c (renumbered (corners .pairs .to) choice) ≡ pairedResult (corners .pairs .to) (resultOf (cornersIn l) sheet tol c choice)
+      go : (choice : CandidateChoice) → choiceBy (search .rule) (gathered (cornersOf l) sheet (search .«search_r») p) (search .«ambiguity_factor») ≡ choice
+          → resultOf (cornerOf l') sheet' tol c (renumbered (corners .pairs .to) choice) ≡ pairedResult (corners .pairs .to) (resultOf (cornerOf l) sheet tol c choice)
       go CandidateChoice.Nothing e = refl
       go CandidateChoice.Ambiguous e = refl
       go (CandidateChoice.Unique k) e =
-          edges-paired tol c k (chosen (search .rule) (cornersIn l) sheet (search .«search_r») (search .«ambiguity_factor») p k e .there)
+          edges-paired tol c k (chosen (search .rule) (cornersOf l) sheet (search .«search_r») (search .«ambiguity_factor») p k e .there)

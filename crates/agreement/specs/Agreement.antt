@@ -6,10 +6,10 @@ use mathlib.Core.List.{List, [], _∷_}
 use Prim.Native.Nat.{ℕ}
 use lib.Ieee.{Float, lt}
 use Rattle.refusal.specs.declared.Refusal.{Refusal}
+use Rattle.sheet.specs.Corners.{CornerLists}
 use Rattle.sheet.specs.Pairing.{Shuffle, PairedCorners, PairedSheets}
 use Rattle.arguments.specs.declared.Pass.{Pass}
 use Rattle.passes.specs.Outcome.{After, Outcome, refused, done}
-use Rattle.passes.specs.Step.{CornerLists}
 use Rattle.passes.specs.Run.{Call, PassStats, sheetAfter, run}
 use Rattle.invariants.specs.Calls.{Standing, Invariant}
 use Rattle.binary32.specs.Numbers.{one}
@@ -19,7 +19,7 @@ use Rattle.binary32.specs.Numbers.{one}
 -- "The reordering pairs the corner lines of both frames one to one, each with an equal line; a pair is one physical corner. The labels name
 -- paired corners": the corners, and the sheets of the given labels, which belong to them, each corner at one cell
 pub record Reordered (l l' : CornerLists) (given given' : List ℕ) : Type 0 where
-  pub corners : PairedCorners (l .xs) (l .ys) (l .pitches) (l' .xs) (l' .ys) (l' .pitches)
+  pub corners : PairedCorners l l'
   pub labels : PairedSheets (corners .pairs) given given'
   pub standing : Standing l given
 

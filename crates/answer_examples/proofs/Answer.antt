@@ -3,15 +3,15 @@ use mathlib.Core.Path.{_≡_, refl, sym, ap, ap₂, _∙_, subst}
 use mathlib.Core.List.{List, [], _∷_, _++_, map}
 use Prim.Native.Nat.{ℕ}
 use lib.IntN.{natAbs}
+use Rattle.sheet.specs.Corners.{CornerLists}
 use Rattle.sheet.specs.Words.{labelOf, labelOfNumber}
-use Rattle.passes.specs.Step.{CornerLists}
 use Rattle.passes.specs.Run.{Call, PassStats, run, sheetOf as sheetAfterAll}
 use Rattle.invariants.specs.Calls.{Standing, CallInside}
 use Rattle.frame_line.specs.Lines.{LabelLine}
 use Rattle.frame.specs.Frame.{Frame, partsOf, readFrame, accepted}
 use Rattle.frame.specs.Text.{All}
 use Rattle.frame.specs.ReadFrame.{labelled, sheetOf}
-use Rattle.frame_laws.specs.Calls.{cornersOf, callsOf}
+use Rattle.frame_laws.specs.Calls.{frameCorners, callsOf}
 use Rattle.frame_laws.proofs.Runs.{accepted-runs}
 use Rattle.report_line.specs.Result.{passLines, heading, resultText}
 use Rattle.frame_answer.specs.Answer.{statsOf, frameStats, frameSheet, answerOf, answerText}
@@ -66,14 +66,14 @@ renumbered-so to stats w h =
 
 module _ (text : List ℕ) (f : Frame) (e : readFrame text ≡ accepted f) where
   -- a list of calls from the frame's corners and given labels
-  pub frame-went : (qs : List Asked) → AsAsked (cornersOf f) qs → Went (cornersOf f) (givenIn f) qs
-  frame-went qs g = went (cornersOf f) qs (givenIn f) (given-rises f) (subst (Standing (cornersOf f)) (given-so f) (accepted-runs text f e .standing)) g
+  pub frame-went : (qs : List Asked) → AsAsked (frameCorners f) qs → Went (frameCorners f) (givenIn f) qs
+  frame-went qs g = went (frameCorners f) qs (givenIn f) (given-rises f) (subst (Standing (frameCorners f)) (given-so f) (accepted-runs text f e .standing)) g
 
-  own : Went (cornersOf f) (givenIn f) (asked f)
-  own = frame-went (asked f) (all-run (cornersOf f) (callsOf f) (accepted-runs text f e .fit))
+  own : Went (frameCorners f) (givenIn f) (asked f)
+  own = frame-went (asked f) (all-run (frameCorners f) (callsOf f) (accepted-runs text f e .fit))
 
-  pub own-run : run (cornersOf f) (sheetOf f) (callsOf f) ≡ frameRun f .outcomes
-  own-run = ap₂ (λ (sheet : List ℕ) (cs : List Call). run (cornersOf f) sheet cs) (given-so f) (sym (calls-back (callsOf f))) ∙ own .run-so
+  pub own-run : run (frameCorners f) (sheetOf f) (callsOf f) ≡ frameRun f .outcomes
+  own-run = ap₂ (λ (sheet : List ℕ) (cs : List Call). run (frameCorners f) sheet cs) (given-so f) (sym (calls-back (callsOf f))) ∙ own .run-so
 
   pub own-stats : frameStats f ≡ statsOf (frameRun f .outcomes)
   unfolding frameStats
@@ -81,7 +81,7 @@ module _ (text : List ℕ) (f : Frame) (e : readFrame text ≡ accepted f) where
 
   pub own-sheet : frameSheet f ≡ sheetWith (frameRun f .left)
   unfolding frameSheet
-  own-sheet = ap₂ (λ (sheet : List ℕ) (cs : List Call). sheetAfterAll (cornersOf f) sheet cs) (given-so f) (sym (calls-back (callsOf f))) ∙ own .left-so
+  own-sheet = ap₂ (λ (sheet : List ℕ) (cs : List Call). sheetAfterAll (frameCorners f) sheet cs) (given-so f) (sym (calls-back (callsOf f))) ∙ own .left-so
 
   pub own-rises : Rise 0 (frameRun f .left)
   own-rises = own .left-rises

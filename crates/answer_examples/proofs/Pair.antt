@@ -28,7 +28,7 @@ use Rattle.binary32.specs.Hex.{digits}
 use Rattle.line_form.specs.Integers.{decimalUpTo, decimal, integerText}
 use Rattle.line_form.specs.Forms.{numberText, printed}
 use Rattle.report_line.specs.Result.{localLine as localSays, growLine as growSays, fillLine as fillSays, passLine, passLines}
-use Rattle.frame_laws.specs.Calls.{cornersOf, frameRooms, callOf, callsOf}
+use Rattle.frame_laws.specs.Calls.{frameCorners, frameRooms, callOf, callsOf}
 use Rattle.frame_laws.proofs.Runs.{accepted-runs}
 use Rattle.frame_agreement.proofs.Reordering.{frames-run-alike}
 use Rattle.written_places.specs.Written.{Written, Rise, sheetWith, told}
@@ -62,7 +62,7 @@ fill-above = refl
 -- ---- which calls run
 
 -- each pass of the frame is one that runs
-fits : All (CallInside (cornersOf firstFrame)) (callsOf firstFrame)
+fits : All (CallInside (frameCorners firstFrame)) (callsOf firstFrame)
 fits = accepted-runs firstText firstFrame first-read .fit
 
 list : List Asked
@@ -79,28 +79,28 @@ or-last true b = refl
 or-last false true = refl
 or-last false false = refl
 
-module _ (sheet : List ℕ) (s : Standing (cornersOf firstFrame) sheet) where
+module _ (sheet : List ℕ) (s : Standing (frameCorners firstFrame) sheet) where
   abbrev c : Call
   c = callOf firstFrame refusedLine
 
-  long : tooShort (lentOf (cornersOf firstFrame) sheet frameRooms) (c .pass) ≡ false
+  long : tooShort (lentOf (frameCorners firstFrame) sheet frameRooms) (c .pass) ≡ false
   unfolding queueNeeded fullOf passOf xsOf kindAt bitsAt wholeAt passLineOf opened adding partsFrom partsOf
   long =
       not-short _ _
-      (record { ys-long = s .given .ys-long; pitches-long = s .given .pitches-long; sheet-long = s .given .long; queue-long = omega arith; attached-long = omega arith })
+      (record { ys-long = s .listed .ys-long; pitches-long = s .listed .pitches-long; sheet-long = s .given .long; queue-long = omega arith; attached-long = omega arith })
 
-  deep : outOfRange (lentOf (cornersOf firstFrame) sheet frameRooms) (c .settings) (c .pass) ≡ true
+  deep : outOfRange (lentOf (frameCorners firstFrame) sheet frameRooms) (c .settings) (c .pass) ≡ true
   unfolding outOfRange passOutside localOutside outside endsOf ofBits ofInt le fullOf passOf
-  deep = or-last (someCornerOutside (xsOf firstFrame) (ysOf firstFrame) (pitchesOf firstFrame)) (settingsOutside (c .settings))
+  deep = or-last (someCornerOutside (frameCorners firstFrame)) (settingsOutside (c .settings))
 
-  wild : checkedCall (cornersOf firstFrame) sheet c ≡ Checked.Refused Refusal.OutOfRange
+  wild : checkedCall (frameCorners firstFrame) sheet c ≡ Checked.Refused Refusal.OutOfRange
   unfolding checked overLimit xsOf kindAt bitsAt wholeAt passLineOf opened adding partsFrom partsOf
   wild = rw (long, deep) refl
 
-  refused-so : step (cornersOf firstFrame) sheet c ≡ refused Refusal.OutOfRange
-  refused-so = step-as (cornersOf firstFrame) sheet c ∙ ap (λ (k : Checked). unless k (afterCall (cornersOf firstFrame) sheet c)) wild
+  refused-so : step (frameCorners firstFrame) sheet c ≡ refused Refusal.OutOfRange
+  refused-so = step-as (frameCorners firstFrame) sheet c ∙ ap (λ (k : Checked). unless k (afterCall (frameCorners firstFrame) sheet c)) wild
 
-list-goes : AsAsked (cornersOf firstFrame) list
+list-goes : AsAsked (frameCorners firstFrame) list
 unfolding list callsOf fullOf kindAt bitsAt wholeAt passLineOf opened adding partsFrom partsOf
 list-goes = one-runs (fits .0) (one-refused refused-so (one-runs (fits .1 .0) (one-runs (fits .1 .1 .0) ends)))
 
@@ -126,18 +126,18 @@ unfolding runIn callsOf fullOf kindAt bitsAt wholeAt passLineOf opened adding pa
 own-left = ap (λ (a : AfterIn PassStats). a .sheet) fill-next
 
 -- the list of calls
-list-run : run (cornersOf firstFrame) (sheetOf firstFrame) calls ≡ done (afterOf localLeft) ∷ refused Refusal.OutOfRange ∷ done (afterOf growLeft) ∷ done (afterOf fillLeft) ∷ []
+list-run : run (frameCorners firstFrame) (sheetOf firstFrame) calls ≡ done (afterOf localLeft) ∷ refused Refusal.OutOfRange ∷ done (afterOf growLeft) ∷ done (afterOf fillLeft) ∷ []
 unfolding list callsAsked runIn
 list-run =
-    ap (λ (sheet : List ℕ). run (cornersOf firstFrame) sheet calls) (given-so firstFrame) ∙ frame-went firstText firstFrame first-read list list-goes .run-so
+    ap (λ (sheet : List ℕ). run (frameCorners firstFrame) sheet calls) (given-so firstFrame) ∙ frame-went firstText firstFrame first-read list list-goes .run-so
     ∙ (λ t. done (afterOf (local-did t)) ∷ refused Refusal.OutOfRange ∷ done (afterOf (grow-next t)) ∷ done (afterOf (fill-next t)) ∷ [])
 
-own-factors : FactorsAbove (callsOf firstFrame) (run (cornersOf firstFrame) (sheetOf firstFrame) (callsOf firstFrame))
+own-factors : FactorsAbove (callsOf firstFrame) (run (frameCorners firstFrame) (sheetOf firstFrame) (callsOf firstFrame))
 unfolding callsOf fullOf kindAt bitsAt wholeAt passLineOf opened adding partsFrom partsOf
 own-factors =
     subst (FactorsAbove (callsOf firstFrame)) (sym (own-run firstText firstFrame first-read ∙ own-outcomes)) (ran local-above (ran grow-above (ran fill-above no-more)))
 
-list-factors : FactorsAbove calls (run (cornersOf firstFrame) (sheetOf firstFrame) calls)
+list-factors : FactorsAbove calls (run (frameCorners firstFrame) (sheetOf firstFrame) calls)
 list-factors = subst (FactorsAbove calls) (sym list-run) (ran local-above (was-not-run (ran grow-above (ran fill-above no-more))))
 
 -- ---- the claims

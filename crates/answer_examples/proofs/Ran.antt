@@ -34,7 +34,7 @@ use Rattle.frame_line.specs.Table.{kindAt}
 use Rattle.frame_line.specs.Lines.{PassLine, bitsAt, wholeAt, passLineOf}
 use Rattle.frame.specs.Frame.{opened, adding, partsFrom, partsOf}
 use Rattle.frame.specs.ReadFrame.{xsOf, ysOf, pitchesOf, settingsOf, fullOf, passOf}
-use Rattle.frame_laws.specs.Calls.{cornersOf, callOf}
+use Rattle.frame_laws.specs.Calls.{frameCorners, callOf}
 use Rattle.written_places.specs.Written.{Written, written, wordIn, told, anyIn, labelIn, putIn, put}
 use Rattle.written_places.specs.Passes.{AfterIn, gatheredIn, edgesIn, resultIn, tryIn, enqueuedIn, enqueuedAtIn, seededFromIn, growWithIn, growAtIn, growVisitIn, growFromIn, growRunIn, growAfterIn, fillWithIn, fillAtIn, fillVisitIn, fillAfterIn, quickFitWith, quickFitFrom, quickFit, localFitIn, localWithIn, localAtIn, localVisitIn, localAfterIn}
 use Rattle.written_places.specs.Run.{afterPassIn}
@@ -103,7 +103,7 @@ fillLeft =
 -- ---- a pass line's call on some written places
 
 abbrev pub after : PassLine → List Written → AfterIn PassStats
-after p w = afterPassIn (cornersOf firstFrame) w (callOf firstFrame p .settings) (callOf firstFrame p .pass)
+after p w = afterPassIn (frameCorners firstFrame) w (callOf firstFrame p .settings) (callOf firstFrame p .pass)
 
 pub local-did : after localLine (givenIn firstFrame) ≡ localLeft
 unfolding ofBits ofInt toBits add sub mul div neg lt le eq isFinite unitsOf reaches climb rooted table concatenated every allFinite largest swapped gained cleared eliminated rightSides carried answered mean distance scaleOf normalizationOf forward mapRow moved normalized equation equations backward multiplied undone quotients scaledOf applied onSheet placeOf cellOf labelOfNumber numberOfLabel bitOf labelOf holeOf ambiguousOf wordOf cornerOf seenThrough passing namesCorner isLabelled lowerOf higherOf widened names onRim rimAt eligible squaredDistance insert ordered candidatesAt firstTwo chooseWithFloor lengthOf meanPitch expectedLength inBand edgeOk cardinalOffsets edgeTo followedBy tried verdictOf passes choiceBy cellsOf depthOf rowAmong columnAmong localRegion nearer placed byReach cellPoint picturedAt residualOf residualsOf trusted worst recorded recordedAll localSearch localLimit xsOf ysOf pitchesOf settingsOf fullOf passOf kindAt bitsAt wholeAt passLineOf opened adding partsFrom partsOf wordIn told anyIn labelIn putIn put gatheredIn edgesIn resultIn tryIn quickFitWith quickFitFrom quickFit localFitIn localWithIn localAtIn localVisitIn walk oneRound roundsFrom localAfterIn afterPassIn labelledIn

@@ -8,7 +8,7 @@ use Rattle.sheet.specs.Words.{labelOf}
 use Rattle.passes.specs.Run.{PassStats}
 use Rattle.frame_line.specs.Lines.{LabelLine}
 use Rattle.frame.specs.Frame.{Frame, partsOf}
-use Rattle.frame_laws.specs.Calls.{cornersOf, callsOf}
+use Rattle.frame_laws.specs.Calls.{frameCorners, callsOf}
 use Rattle.report_line.specs.Result.{labelLine, passLines, heading}
 use Rattle.frame_answer.specs.Answer.{statsOf}
 use Rattle.result_agreement.specs.Alike.{numberedAnew}
@@ -29,7 +29,7 @@ abbrev pub asked : Frame → List Asked
 asked f = map runs (callsOf f)
 
 abbrev pub frameRun : Frame → RunIn
-frameRun f = runIn (cornersOf f) (givenIn f) (asked f)
+frameRun f = runIn (frameCorners f) (givenIn f) (asked f)
 
 -- the text of a run
 unfoldable pub runText : RunIn → List ℕ

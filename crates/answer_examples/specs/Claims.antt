@@ -14,7 +14,7 @@ use Rattle.agreement.specs.Agreement.{Agree, FactorsAbove}
 use Rattle.frame_line.specs.Lines.{PassLine, grow, fill, local}
 use Rattle.frame.specs.Frame.{readFrame, accepted}
 use Rattle.frame.specs.ReadFrame.{sheetOf}
-use Rattle.frame_laws.specs.Calls.{cornersOf, callOf, callsOf}
+use Rattle.frame_laws.specs.Calls.{frameCorners, callOf, callsOf}
 use Rattle.frame_agreement.specs.Reordering.{cornerLine, SameButOrder, RunAlike}
 use Rattle.frame_answer.specs.Answer.{answerText}
 use Rattle.result_agreement.specs.Alike.{ResultsAlike}
@@ -62,18 +62,18 @@ pub record Met : Type 0 where
   pub same : SameButOrder firstFrame secondFrame
   pub pairing : (k : ℕ) → k < 10 → same .pairs .to k ≡ getD numbersInSecond k 0
   pub equal-lines : cornerLine firstFrame 7 ≡ cornerLine firstFrame 6
-  pub factors : FactorsAbove (callsOf firstFrame) (run (cornersOf firstFrame) (sheetOf firstFrame) (callsOf firstFrame))
-  pub outcomes : map toldOf (run (cornersOf firstFrame) (sheetOf firstFrame) calls)
+  pub factors : FactorsAbove (callsOf firstFrame) (run (frameCorners firstFrame) (sheetOf firstFrame) (callsOf firstFrame))
+  pub outcomes : map toldOf (run (frameCorners firstFrame) (sheetOf firstFrame) calls)
       ≡ local-attached 1 (LargestResidual.Residual (ofBits binary32 0x3635_04f3)) ∷ was-refused 3 ∷ grow-attached 1 ∷ fill-added 1 ∷ []
-  pub list-factors : FactorsAbove calls (run (cornersOf firstFrame) (sheetOf firstFrame) calls)
+  pub list-factors : FactorsAbove calls (run (frameCorners firstFrame) (sheetOf firstFrame) calls)
 
 -- So demand 3 holds of them: the runs of both frames are alike, those of the list of calls agree, and the answers differ only in the corner numbers of
 -- their cell lines. The second answer is had from the first, by demand 3.
 pub record Agreed (m : Met) : Type 0 where
   pub runs : RunAlike firstFrame secondFrame (m .same)
   pub list-agrees :
-      Agree (runs .reordered .corners .pairs) (sheetOf firstFrame) (sheetOf secondFrame) (run (cornersOf firstFrame) (sheetOf firstFrame) calls)
-      (run (cornersOf secondFrame) (sheetOf secondFrame) calls)
+      Agree (runs .reordered .corners .pairs) (sheetOf firstFrame) (sheetOf secondFrame) (run (frameCorners firstFrame) (sheetOf firstFrame) calls)
+      (run (frameCorners secondFrame) (sheetOf secondFrame) calls)
   pub results : ResultsAlike firstText secondText firstFrame secondFrame (m .same)
   pub first-answer : answerText firstText ≡ firstResult
   pub second-answer : answerText secondText ≡ secondResult

@@ -35,8 +35,8 @@ use Rattle.arguments.proofs.Chains.{or-false, or-false-both, not-refuse
 pub long-enough : (l : Lent) (pass : Pass) → tooShort l pass ≡ false → LongEnough l pass
 unfolding tooShort
 long-enough l pass e =
-    let ys = or-false-both (ltb (length (l .ys)) (cornerCount l)) _ e in
-    let pitches = or-false-both (ltb (length (l .pitches)) (cornerCount l)) _ (ys .1) in
+    let ys = or-false-both (ltb (length (l .corners .ys)) (cornerCount l)) _ e in
+    let pitches = or-false-both (ltb (length (l .corners .pitches)) (cornerCount l)) _ (ys .1) in
     let sheet = or-false-both (ltb (length (l .sheet)) 16384) _ (pitches .1) in
     let queue = or-false-both (ltb (l .queue) (queueNeeded pass (cornerCount l))) _ (sheet .1) in
     record {
@@ -234,16 +234,17 @@ module _ (l : Lent) (settings : Settings) (pass : Pass) where
       let a5 = not-refused (unknownCorner (cornerCount l) (l .sheet)) Refusal.UnknownCorner _ (a3 .1) in
       let a6 = not-refused (doubledCorner (l .sheet)) Refusal.Duplicate Checked.Fine (a5 .1) in
       let long = long-enough l pass (a7 .0) in
-      let numbers = or-false-both (someCornerOutside (l .xs) (l .ys) (l .pitches)) _ (a3 .0) in
+      let numbers = or-false-both (someCornerOutside (l .corners)) _ (a3 .0) in
       let others = or-false-both (settingsOutside settings) _ (numbers .1) in
       record {
         queue-long = long .queue-long;
         attached-long = long .attached-long;
         few = ltb-false _ _ (a2 .0);
-        corners-inside = λ k h. corner-inside _ (any-none (outsideAt (l .xs) (l .ys) (l .pitches)) (cornerCount l) k (numbers .0) h);
+        corners-inside = λ k h. corner-inside _ (any-none (outsideAt (l .corners)) (cornerCount l) k (numbers .0) h);
         settings-inside = settings-inside settings (others .0);
         pass-inside = pass-inside pass (others .1);
-        given = record { long = long .sheet-long; ys-long = long .ys-long; pitches-long = long .pitches-long; known = known _ _ (a5 .0) .known };
+        listed = record { ys-long = long .ys-long; pitches-long = long .pitches-long };
+        given = record { long = long .sheet-long; known = known _ _ (a5 .0) .known };
         one-cell = one-cell _ (a6 .0);
       }
 
@@ -252,9 +253,9 @@ module _ (l : Lent) (settings : Settings) (pass : Pass) where
   accepted-fine w =
       still-fine _ _ _
       (not-short l pass
-      (record { ys-long = w .given .ys-long; pitches-long = w .given .pitches-long; sheet-long = w .given .long; queue-long = w .queue-long; attached-long = w .attached-long }))
+      (record { ys-long = w .listed .ys-long; pitches-long = w .listed .pitches-long; sheet-long = w .given .long; queue-long = w .queue-long; attached-long = w .attached-long }))
       (still-fine _ _ _ (le-ltb _ _ (w .few))
       (still-fine _ _ _
-      (or-false _ _ (any-no (outsideAt (l .xs) (l .ys) (l .pitches)) _ (λ k h. corner-not-outside _ (w .corners-inside k h)))
+      (or-false _ _ (any-no (outsideAt (l .corners)) _ (λ k h. corner-not-outside _ (w .corners-inside k h)))
       (or-false _ _ (settings-not-outside _ (w .settings-inside)) (pass-not-outside _ (w .pass-inside))))
       (still-fine _ _ _ (not-unknown _ _ (record { known = w .given .known })) (still-fine _ _ _ (not-doubled _ (w .one-cell)) refl))))

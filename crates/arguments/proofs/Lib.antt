@@ -4,3 +4,4 @@ pub mod Tests
 pub mod Laws
 pub mod Pairing
 pub mod Meaning
+pub mod Holding

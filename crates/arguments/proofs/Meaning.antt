@@ -50,10 +50,10 @@ module _ (l : Lent) (settings : Settings) (pass : Pass) where
   numbers-inside : outOfRange l settings pass ≡ false → NumbersInside l settings pass
   unfolding outOfRange someCornerOutside outsideAt
   numbers-inside e =
-      let a = or-false-both (someCornerOutside (l .xs) (l .ys) (l .pitches)) _ e in
+      let a = or-false-both (someCornerOutside (l .corners)) _ e in
       let b = or-false-both (settingsOutside settings) _ (a .1) in
       record {
-        corners-inside = λ k h. corner-inside _ (any-none (outsideAt (l .xs) (l .ys) (l .pitches)) (cornerCount l) k (a .0) h);
+        corners-inside = λ k h. corner-inside _ (any-none (outsideAt (l .corners)) (cornerCount l) k (a .0) h);
         settings-inside = settings-inside settings (b .0);
         pass-inside = pass-inside pass (b .1);
       }
@@ -61,7 +61,7 @@ module _ (l : Lent) (settings : Settings) (pass : Pass) where
   numbers-not-outside : NumbersInside l settings pass → outOfRange l settings pass ≡ false
   unfolding outOfRange someCornerOutside outsideAt
   numbers-not-outside w =
-      or-false _ _ (any-no (outsideAt (l .xs) (l .ys) (l .pitches)) _ (λ k h. corner-not-outside _ (w .corners-inside k h)))
+      or-false _ _ (any-no (outsideAt (l .corners)) _ (λ k h. corner-not-outside _ (w .corners-inside k h)))
       (or-false _ _ (settings-not-outside _ (w .settings-inside)) (pass-not-outside _ (w .pass-inside)))
 
   is-outside : (NumbersInside l settings pass → ⊥) → outOfRange l settings pass ≡ true

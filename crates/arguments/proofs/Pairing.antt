@@ -56,12 +56,12 @@ module _ {n : ℕ} (s : Shuffle n) {sheet sheet' : List ℕ} (paired : PairedShe
 
 -- ---- the calls
 
-module _ (l l' : Lent) (settings : Settings) (pass : Pass) (paired : PairedCorners (l .xs) (l .ys) (l .pitches) (l' .xs) (l' .ys) (l' .pitches)) where
-  outside-paired : someCornerOutside (l' .xs) (l' .ys) (l' .pitches) ≡ someCornerOutside (l .xs) (l .ys) (l .pitches)
+module _ (l l' : Lent) (settings : Settings) (pass : Pass) (paired : PairedCorners (l .corners) (l' .corners)) where
+  outside-paired : someCornerOutside (l' .corners) ≡ someCornerOutside (l .corners)
   unfolding someCornerOutside outsideAt
   outside-paired =
       rw (paired .same-xs)
-      (any-paired (paired .pairs) (outsideAt (l .xs) (l .ys) (l .pitches)) (outsideAt (l' .xs) (l' .ys) (l' .pitches))
+      (any-paired (paired .pairs) (outsideAt (l .corners)) (outsideAt (l' .corners))
       (λ i h. ap cornerOutside (paired .same-corner i h)))
 
   -- equal lengths, and no sheet names a corner that is not given, or one at two places

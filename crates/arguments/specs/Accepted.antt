@@ -9,7 +9,7 @@ use Rattle.sizes.specs.Sizes.{placeCount, cornerLimit}
 use Rattle.binary32.specs.Ranges.{inRange}
 use Rattle.binary32.specs.declared.ranges.Quantity.{Quantity}
 use Rattle.sheet.specs.Words.{labelOf}
-use Rattle.sheet.specs.Corners.{cornerOf, Given}
+use Rattle.sheet.specs.Corners.{cornerOf, AllListed, Given}
 use Rattle.sheet.specs.declared.Label.{Label}
 use Rattle.sheet.specs.declared.Corner.{Corner}
 use Rattle.labels.specs.Used.{OneCell}
@@ -68,16 +68,17 @@ pub record Accepted (l : Lent) (settings : Settings) (pass : Pass) : Type 0 wher
   pub queue-long : queueNeeded pass (cornerCount l) ≤ l .queue
   pub attached-long : cornerCount l ≤ l .attached
   pub few : cornerCount l ≤ cornerLimit
-  pub corners-inside : (k : ℕ) → k < cornerCount l → CornerInside (cornerOf (l .xs) (l .ys) (l .pitches) k)
+  pub corners-inside : (k : ℕ) → k < cornerCount l → CornerInside (cornerOf (l .corners) k)
   pub settings-inside : SettingsInside settings
   pub pass-inside : PassInside pass
-  pub given : Given (l .xs) (l .ys) (l .pitches) (l .sheet)
+  pub listed : AllListed (l .corners)
+  pub given : Given (cornerCount l) (l .sheet)
   pub one-cell : OneCell (l .sheet)
 
 -- the buffers alone: as long as 7 needs them
 pub record LongEnough (l : Lent) (pass : Pass) : Type 0 where
-  pub ys-long : cornerCount l ≤ length (l .ys)
-  pub pitches-long : cornerCount l ≤ length (l .pitches)
+  pub ys-long : cornerCount l ≤ length (l .corners .ys)
+  pub pitches-long : cornerCount l ≤ length (l .corners .pitches)
   pub sheet-long : placeCount ≤ length (l .sheet)
   pub queue-long : queueNeeded pass (cornerCount l) ≤ l .queue
   pub attached-long : cornerCount l ≤ l .attached

@@ -11,7 +11,7 @@ use Rattle.refusal.specs.declared.Refusal.{Refusal}
 use Rattle.binary32.specs.Ranges.{inRange}
 use Rattle.binary32.specs.declared.ranges.Quantity.{Quantity}
 use Rattle.sheet.specs.Words.{labelOf}
-use Rattle.sheet.specs.Corners.{cornerOf}
+use Rattle.sheet.specs.Corners.{CornerLists, cornerLists, cornerOf}
 use Rattle.sheet.specs.declared.Label.{Label}
 use Rattle.sheet.specs.declared.Corner.{Corner}
 use Rattle.labels.specs.Labelled.{anyBelow}
@@ -24,21 +24,19 @@ use Rattle.arguments.specs.declared.Pass.{Pass}
 use Rattle.arguments.specs.declared.Settings.{Settings}
 use Rattle.arguments.specs.declared.Checked.{Checked}
 
--- what a call is lent: the corners as lists of x, y and pitch, the sheet, and the lengths of the queue and the attached list
+-- what a call is lent: the corners, the sheet, and the lengths of the queue and the attached list
 pub record Lent : Type 0 where
-  pub xs : List Float
-  pub ys : List Float
-  pub pitches : List Float
+  pub corners : CornerLists
   pub sheet : List ℕ
   pub queue : ℕ
   pub attached : ℕ
 
 abbrev pub lent : List Float → List Float → List Float → List ℕ → ℕ → ℕ → Lent
-lent xs ys pitches sheet queue attached = record { xs = xs; ys = ys; pitches = pitches; sheet = sheet; queue = queue; attached = attached }
+lent xs ys pitches sheet queue attached = record { corners = cornerLists xs ys pitches; sheet = sheet; queue = queue; attached = attached }
 
 -- the number of corners, n below: as many as there are xs
 abbrev pub cornerCount : Lent → ℕ
-cornerCount l = length (l .xs)
+cornerCount l = length (l .corners .xs)
 
 -- ---- 7, short: "lent buffer too short (library only)"
 
@@ -51,8 +49,8 @@ queueNeeded (Pass.Local p) n = 0
 -- "Needed are 16,384 sheet places, 4 queue places a corner, one attached place a corner", and each corner's y and pitch
 unfoldable pub tooShort : Lent → Pass → Bool
 tooShort l pass =
-    ltb (length (l .ys)) (cornerCount l)
-    || (ltb (length (l .pitches)) (cornerCount l)
+    ltb (length (l .corners .ys)) (cornerCount l)
+    || (ltb (length (l .corners .pitches)) (cornerCount l)
     || (ltb (length (l .sheet)) placeCount
     || (ltb (l .queue) (queueNeeded pass (cornerCount l))
     || ltb (l .attached) (cornerCount l))))
@@ -74,12 +72,12 @@ unfoldable pub cornerOutside : Corner → Bool
 cornerOutside c = outside Quantity.Position (c .position .x) || (outside Quantity.Position (c .position .y) || outside Quantity.Pitch (c .pitch))
 
 -- the corner k is one
-unfoldable pub outsideAt : List Float → List Float → List Float → ℕ → Bool
-outsideAt xs ys pitches k = cornerOutside (cornerOf xs ys pitches k)
+unfoldable pub outsideAt : CornerLists → ℕ → Bool
+outsideAt l k = cornerOutside (cornerOf l k)
 
 -- some corner of the n is one
-unfoldable pub someCornerOutside : List Float → List Float → List Float → Bool
-someCornerOutside xs ys pitches = anyBelow (length xs) (outsideAt xs ys pitches)
+unfoldable pub someCornerOutside : CornerLists → Bool
+someCornerOutside l = anyBelow (length (l .xs)) (outsideAt l)
 
 -- an axis with a part out of range
 unfoldable pub axisOutside : Vector → Bool
@@ -124,7 +122,7 @@ passOutside (Pass.Local p) = localOutside p
 
 -- any number of the call out of range
 unfoldable pub outOfRange : Lent → Settings → Pass → Bool
-outOfRange l settings pass = someCornerOutside (l .xs) (l .ys) (l .pitches) || (settingsOutside settings || passOutside pass)
+outOfRange l settings pass = someCornerOutside (l .corners) || (settingsOutside settings || passOutside pass)
 
 -- ---- 5, stranger: "label's corner not given"
 

@@ -2,19 +2,27 @@
 use mathlib.Core.Path.{_≡_}
 use mathlib.Core.Bool.{Bool, false, not}
 use mathlib.Core.List.{List}
-use Prim.Native.Nat.{ℕ, _<_, _≤_}
+use Prim.Native.Nat.{ℕ, _*_, _<_, _≤_}
 use lib.Dec.{eqb}
 use lib.ListN.{length, getD}
 use lib.Ieee.{Float}
 use Rattle.sizes.specs.Sizes.{placeCount, cornerLimit}
+use Rattle.sheet.specs.Corners.{noCorner, CornerLists, cornerIn, AllListed}
 use Rattle.sheet.specs.declared.Label.{Label}
 use Rattle.labels.specs.Used.{noted}
 use Rattle.arguments.specs.Accepted.{Known}
 
--- each corner's x, y and pitch is there
-pub record AllListed (xs ys pitches : List Float) : Type 0 where
-  pub ys-long : length xs ≤ length ys
-  pub pitches-long : length xs ≤ length pitches
+-- corners that are all there, with a number of one
+pub record HasCorner (l : CornerLists) (k : ℕ) : Type 0 where
+  pub listed : AllListed l
+  pub there : k < length (l .xs)
+
+-- corners that are all there, and at most 1,024, and an array that holds none
+pub record Holdable (l : CornerLists) (held : List Float) : Type 0 where
+  pub listed : AllListed l
+  pub few : length (l .xs) ≤ cornerLimit
+  pub size : length held ≡ 3 * cornerLimit
+  pub none : (k : ℕ) → cornerIn held k ≡ noCorner
 
 -- ---- the corners seen: 1,024 entries, that of a corner 1 if it was seen, and else 0
 

@@ -18,7 +18,7 @@ use Rattle.arguments.specs.declared.Settings.{Settings}
 
 -- every number of a call is in its range: those of the corners, of the settings and of the pass
 pub record NumbersInside (l : Lent) (settings : Settings) (pass : Pass) : Type 0 where
-  pub corners-inside : (k : ℕ) → k < cornerCount l → CornerInside (cornerOf (l .xs) (l .ys) (l .pitches) k)
+  pub corners-inside : (k : ℕ) → k < cornerCount l → CornerInside (cornerOf (l .corners) k)
   pub settings-inside : SettingsInside settings
   pub pass-inside : PassInside pass
 

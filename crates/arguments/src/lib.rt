@@ -6,14 +6,16 @@ ghost use Prim.Native.Nat.{_≤_};
 ghost use lib.Dec.{ltb};
 ghost use lib.ListN.{length};
 ghost use Rattle.sizes.specs.Sizes.{placeCount};
+ghost use Rattle.sheet.specs.Corners.{cornerLists, cornerOf, cornersOf, cornersIn, AllListed};
 ghost use Rattle.arguments.specs.Arguments.{lent, queueNeeded, tooShort, outside, cornerOutside, someCornerOutside, axisOutside, settingsOutside, growOutside, fillOutside, localOutside, passOutside, unknown, unknownCorner, doubledCorner, checked};
-ghost use Rattle.arguments.specs.Asked.{AllListed, HasEntry, HasEntries, Noted, Unseen};
+ghost use Rattle.arguments.specs.Asked.{HasCorner, Holdable, HasEntry, HasEntries, Noted, Unseen};
 use binary32::ranges::Quantity;
 use predict::Grid;
 use predict::Vector;
 use refusal::Refusal;
 use sheet::Corner;
 use sheet::Label;
+use sheet::Position;
 use sizes::CORNERS;
 use sizes::PLACES;
 
@@ -118,14 +120,42 @@ fn corner_outside(c: Corner) -> bool
     is_outside(Quantity::Pitch, c.pitch)
 }
 
-// Whether some corner's x, y or pitch is out of range.
-fn some_corner_outside(xs: &[f32], ys: &[f32], pitches: &[f32]) -> bool
-    requires { ⌜ AllListed (now xs) (now ys) (now pitches) ⌝ }
-    ensures { λ r. ⌜ r ≡ someCornerOutside (now (xs .entry)) (now (ys .entry)) (now (pitches .entry)) ⌝ }
+// The corner of a number, out of the lists that are lent.
+fn listed_corner(xs: &[f32], ys: &[f32], pitches: &[f32], k: usize) -> Corner
+    requires { ⌜ HasCorner (cornerLists (now xs) (now ys) (now pitches)) k ⌝ }
+    ensures { λ r. ⌜ r ≡ cornerOf (cornerLists (now (xs .entry)) (now (ys .entry)) (now (pitches .entry))) k ⌝ }
+{
+    let x = xs[k];
+    let y = ys[k];
+    let pitch = pitches[k];
+    let position = Position { x, y };
+    Corner { position, pitch }
+}
+
+// The corners that are lent, put into the array in which the passes hold them. It holds none before: a corner that there is not has a NaN in each of
+// its three places.
+pub fn hold_corners(xs: &[f32], ys: &[f32], pitches: &[f32], held: &mut [f32; 3 * CORNERS])
+    requires { ⌜ Holdable (cornerLists (now xs) (now ys) (now pitches)) (now held) ⌝ }
+    ensures { λ _. ⌜ cornersIn (now (held .exit)) (length (now (xs .entry)))
+        ≡ cornersOf (cornerLists (now (xs .entry)) (now (ys .entry)) (now (pitches .entry))) ⌝ }
 {
     let mut k = 0usize;
     while k < xs.len() {
-        if corner_outside(sheet::corner_at(xs, ys, pitches, k)) {
+        held[k] = xs[k];
+        held[k + CORNERS] = ys[k];
+        held[k + 2 * CORNERS] = pitches[k];
+        k += 1;
+    }
+}
+
+// Whether some corner's x, y or pitch is out of range.
+fn some_corner_outside(xs: &[f32], ys: &[f32], pitches: &[f32]) -> bool
+    requires { ⌜ AllListed (cornerLists (now xs) (now ys) (now pitches)) ⌝ }
+    ensures { λ r. ⌜ r ≡ someCornerOutside (cornerLists (now (xs .entry)) (now (ys .entry)) (now (pitches .entry))) ⌝ }
+{
+    let mut k = 0usize;
+    while k < xs.len() {
+        if corner_outside(listed_corner(xs, ys, pitches, k)) {
             return true;
         }
         k += 1;

@@ -15,9 +15,9 @@ use Rattle.float_order.proofs.Unsigned.{plain-no-nan, squares-plain, finite-und
 use Rattle.binary32.specs.Sqrt.{sqrtOrNan}
 use Rattle.binary32.proofs.Exists.{sqrt-unsigned, sqrt-fits}
 use Rattle.sheet.specs.declared.Position.{Position}
-use Rattle.sheet.specs.Corners.{cornerOf, squaredDistance, finitePosition}
+use Rattle.sheet.specs.Corners.{squaredDistance, finitePosition}
 use Rattle.candidates.specs.declared.Candidate.{Candidate}
-use Rattle.candidates.specs.Candidates.{positionsOf, eligible, squaredRadius, isCandidate, distanceOf, insertIf, ordered, candidatesAt}
+use Rattle.candidates.specs.Candidates.{eligible, squaredRadius, isCandidate, distanceOf, insertIf, ordered, candidatesAt}
 use Rattle.candidates.specs.Listing.{Exactly, Sorted}
 use Rattle.candidates.proofs.Listing.{nth, longer, exactly, sorted}
 
@@ -107,8 +107,3 @@ candidates-agree position position' unlabelled unlabelled' n p r same free =
     (ordered-agrees (distanceOf position p) (distanceOf position' p) (isCandidate position unlabelled p r) (isCandidate position' unlabelled' p r) n
     (λ k h. ap (λ (q : Position). sqrtOrNan (squaredDistance q p)) (same k h))
     (λ k h. ap₂ (λ (b : Bool) (q : Position). b && le (squaredDistance q p) (squaredRadius r)) (free k h) (same k h)))
-
--- the positions as the sheet has them
-pub corner-position : (xs ys pitches : List Float) (k : ℕ) → cornerOf xs ys pitches k .position ≡ positionsOf xs ys k
-unfolding cornerOf
-corner-position xs ys pitches k = refl

@@ -17,7 +17,7 @@ use Rattle.candidates.specs.declared.Candidate.{Candidate}
 use Rattle.candidates.specs.declared.Candidates.{Candidates}
 use Rattle.candidates.specs.declared.Candidates.the-variants.{Empty, Several}
 use Rattle.candidates.specs.declared.Found.{Found}
-use Rattle.candidates.specs.Candidates.{positionsOf, unmarked, eligible, squaredRadius, isCandidate, distanceOf, insert, ordered, candidatesAt, firstTwo}
+use Rattle.candidates.specs.Candidates.{positionsIn, unmarked, eligible, squaredRadius, isCandidate, distanceOf, insert, ordered, candidatesAt, firstTwo}
 use Rattle.candidates.specs.Steps.{kept, narrowed, isNear, isWithin, oneIf, countFrom, firstTwoBelow, Next, measured}
 use Rattle.candidates.proofs.Listing.{before-later, nth, exactly}
 use Rattle.candidates.proofs.Limit.{Limited, squared, limited-within, passed-over, narrowed-found, narrowed-limited}
@@ -184,43 +184,43 @@ module _ (position : ℕ → Position) (unlabelled : ℕ → Bool) (p : Position
 -- ---- the scan from one hit to the next: corner k is the next within the limit or there is none, what was found is right for those before it,
 -- and so is what stands beside it
 
-pub record Scanned (xs ys : List Float) (used : List ℕ) (p : Position) (r : Float) (found : Found) (k : ℕ) : Type 0 where
-  pub within : k ≤ length xs
-  pub hit : k < length xs → isWithin (positionsOf xs ys) (unmarked used) p (found .limit) k ≡ true
-  pub so-far : found .candidates ≡ firstTwoBelow xs ys used k p r
+pub record Scanned (held : List Float) (used : List ℕ) (n : ℕ) (p : Position) (r : Float) (found : Found) (k : ℕ) : Type 0 where
+  pub within : k ≤ n
+  pub hit : k < n → isWithin (positionsIn held) (unmarked used) p (found .limit) k ≡ true
+  pub so-far : found .candidates ≡ firstTwoBelow held used k p r
   pub limited : Limited (squaredRadius r) found
 
 -- ---- the whole scan
 
-module _ (xs ys : List Float) (used : List ℕ) (p : Position) (r : Float) where
-  pub nowhere-x : isFinite (p .x) ≡ false → Empty ≡ firstTwo (candidatesAt (positionsOf xs ys) (unmarked used) (length xs) p r)
+module _ (held : List Float) (used : List ℕ) (n : ℕ) (p : Position) (r : Float) where
+  pub nowhere-x : isFinite (p .x) ≡ false → Empty ≡ firstTwo (candidatesAt (positionsIn held) (unmarked used) n p r)
   unfolding candidatesAt firstTwo
   nowhere-x e = rw e
 
-  pub nowhere-y : isFinite (p .x) ≡ true → isFinite (p .y) ≡ false → Empty ≡ firstTwo (candidatesAt (positionsOf xs ys) (unmarked used) (length xs) p r)
+  pub nowhere-y : isFinite (p .x) ≡ true → isFinite (p .y) ≡ false → Empty ≡ firstTwo (candidatesAt (positionsIn held) (unmarked used) n p r)
   unfolding candidatesAt firstTwo
   nowhere-y e f = rw (e, f)
 
   -- from a corner, before which what was found is right, to the next within the limit
-  scanned-on : (found : Found) (from k : ℕ) → found .candidates ≡ firstTwoBelow xs ys used from p r
+  scanned-on : (found : Found) (from k : ℕ) → found .candidates ≡ firstTwoBelow held used from p r
       → Limited (squaredRadius r) found
-      → Next (isWithin (positionsOf xs ys) (unmarked used) p (found .limit)) (length xs) from k → Scanned xs ys used p r found k
+      → Next (isWithin (positionsIn held) (unmarked used) p (found .limit)) n from k → Scanned held used n p r found k
   scanned-on found from k e l s =
       record {
         within = s .within;
         hit = s .hit;
-        so-far = skips (distanceOf (positionsOf xs ys) p) (isCandidate (positionsOf xs ys) (unmarked used) p r) (found .candidates) from k (s .on) after e;
+        so-far = skips (distanceOf (positionsIn held) p) (isCandidate (positionsIn held) (unmarked used) p r) (found .candidates) from k (s .on) after e;
         limited = l;
       }
     where
-      after : (i : ℕ) → from ≤ i → i < k → isCandidate (positionsOf xs ys) (unmarked used) p r i ≡ true
-          → kept (found .candidates) (nth (distanceOf (positionsOf xs ys) p) i) ≡ found .candidates
+      after : (i : ℕ) → from ≤ i → i < k → isCandidate (positionsIn held) (unmarked used) p r i ≡ true
+          → kept (found .candidates) (nth (distanceOf (positionsIn held) p) i) ≡ found .candidates
       after i a b h =
-          let n = beyond (positionsOf xs ys) (unmarked used) p r (found .limit) i h (s .passed i a b) in
-          passed-over (squaredRadius r) found (squaredDistance (positionsOf xs ys i) p) (nth (distanceOf (positionsOf xs ys) p) i)
-          l (squared (positionsOf xs ys i) p (squaredRadius r) (n .0)) (n .1)
+          let n = beyond (positionsIn held) (unmarked used) p r (found .limit) i h (s .passed i a b) in
+          passed-over (squaredRadius r) found (squaredDistance (positionsIn held i) p) (nth (distanceOf (positionsIn held) p) i)
+          l (squared (positionsIn held i) p (squaredRadius r) (n .0)) (n .1)
 
-  none-yet : Empty ≡ firstTwoBelow xs ys used 0 p r
+  none-yet : Empty ≡ firstTwoBelow held used 0 p r
   unfolding ordered firstTwo
   none-yet = refl
 
@@ -228,43 +228,43 @@ module _ (xs ys : List Float) (used : List ℕ) (p : Position) (r : Float) where
   abbrev nothing : Float → Found
   nothing square = record { candidates = Empty; square = square; limit = squaredRadius r }
 
-  pub scanned-start : (square : Float) (k : ℕ) → Next (isWithin (positionsOf xs ys) (unmarked used) p (squaredRadius r)) (length xs) 0 k → Scanned xs ys used p r (nothing square) k
+  pub scanned-start : (square : Float) (k : ℕ) → Next (isWithin (positionsIn held) (unmarked used) p (squaredRadius r)) n 0 k → Scanned held used n p r (nothing square) k
   scanned-start square k s = scanned-on (nothing square) 0 k none-yet refl s
 
   -- one more candidate
-  pub scanned-more : (found more : Found) (k k' : ℕ) → Scanned xs ys used p r found k → k < length xs
-      → more ≡ narrowed found (measured (positionsOf xs ys) p k) (squaredDistance (positionsOf xs ys k) p)
-      → Next (isWithin (positionsOf xs ys) (unmarked used) p (more .limit)) (length xs) (k + 1) k' → Scanned xs ys used p r more k'
+  pub scanned-more : (found more : Found) (k k' : ℕ) → Scanned held used n p r found k → k < n
+      → more ≡ narrowed found (measured (positionsIn held) p k) (squaredDistance (positionsIn held k) p)
+      → Next (isWithin (positionsIn held) (unmarked used) p (more .limit)) n (k + 1) k' → Scanned held used n p r more k'
   scanned-more found more k k' h l e s =
       scanned-on more (k + 1) k'
       (ap (λ (f : Found). f .candidates) e ∙ narrowed-found found c d2 ∙ ap (λ (f : Candidates). kept f c) (h .so-far)
-      ∙ rw add-one (grows (distanceOf (positionsOf xs ys) p) (isCandidate (positionsOf xs ys) (unmarked used) p r) k taken))
+      ∙ rw add-one (grows (distanceOf (positionsIn held) p) (isCandidate (positionsIn held) (unmarked used) p r) k taken))
       (subst (λ (f : Found). Limited (squaredRadius r) f) (sym e)
-      (narrowed-limited (squaredRadius r) found c d2 (h .limited) (squared (positionsOf xs ys k) p (squaredRadius r) near)))
+      (narrowed-limited (squaredRadius r) found c d2 (h .limited) (squared (positionsIn held k) p (squaredRadius r) near)))
       s
     where
       c : Candidate
-      c = measured (positionsOf xs ys) p k
+      c = measured (positionsIn held) p k
 
       d2 : Float
-      d2 = squaredDistance (positionsOf xs ys k) p
+      d2 = squaredDistance (positionsIn held k) p
 
-      taken : isCandidate (positionsOf xs ys) (unmarked used) p r k ≡ true
-      taken = hits (positionsOf xs ys) (unmarked used) p r (found .limit) k (limited-within (squaredRadius r) found d2 (h .limited)) (h .hit l)
+      taken : isCandidate (positionsIn held) (unmarked used) p r k ≡ true
+      taken = hits (positionsIn held) (unmarked used) p r (found .limit) k (limited-within (squaredRadius r) found d2 (h .limited)) (h .hit l)
 
       near : le d2 (squaredRadius r) ≡ true
       near = and-eq-true-iff (eligible (unmarked used) k) (le d2 (squaredRadius r)) .0 taken .1
 
-  whole : isFinite (p .x) ≡ true → isFinite (p .y) ≡ true → firstTwoBelow xs ys used (length xs) p r ≡ firstTwo (candidatesAt (positionsOf xs ys) (unmarked used) (length xs) p r)
+  whole : isFinite (p .x) ≡ true → isFinite (p .y) ≡ true → firstTwoBelow held used n p r ≡ firstTwo (candidatesAt (positionsIn held) (unmarked used) n p r)
   unfolding candidatesAt
   whole e f = rw (e, f)
 
   -- no candidate is left that could change the first two
-  pub scanned-all : (found : Found) (k : ℕ) → Scanned xs ys used p r found k → length xs ≤ k → isFinite (p .x) ≡ true → isFinite (p .y) ≡ true
-      → found .candidates ≡ firstTwo (candidatesAt (positionsOf xs ys) (unmarked used) (length xs) p r)
-  scanned-all found k h l e f = h .so-far ∙ ap (λ (n : ℕ). firstTwoBelow xs ys used n p r) (omega (arith, h .within)) ∙ whole e f
+  pub scanned-all : (found : Found) (k : ℕ) → Scanned held used n p r found k → n ≤ k → isFinite (p .x) ≡ true → isFinite (p .y) ≡ true
+      → found .candidates ≡ firstTwo (candidatesAt (positionsIn held) (unmarked used) n p r)
+  scanned-all found k h l e f = h .so-far ∙ ap (λ (n : ℕ). firstTwoBelow held used n p r) (omega (arith, h .within)) ∙ whole e f
 
   -- there was none at all
-  pub nowhere : (k : ℕ) → Next (isWithin (positionsOf xs ys) (unmarked used) p (squaredRadius r)) (length xs) 0 k → k ≡ length xs
-      → isFinite (p .x) ≡ true → isFinite (p .y) ≡ true → Empty ≡ firstTwo (candidatesAt (positionsOf xs ys) (unmarked used) (length xs) p r)
+  pub nowhere : (k : ℕ) → Next (isWithin (positionsIn held) (unmarked used) p (squaredRadius r)) n 0 k → k ≡ n
+      → isFinite (p .x) ≡ true → isFinite (p .y) ≡ true → Empty ≡ firstTwo (candidatesAt (positionsIn held) (unmarked used) n p r)
   nowhere k s l e f = scanned-all (nothing (squaredRadius r)) k (scanned-start (squaredRadius r) k s) (omega arith) e f

@@ -5,18 +5,18 @@ use mathlib.Core.List.{List, [], _∷_}
 use Prim.Native.Nat.{ℕ, zero, suc}
 use lib.Dec.{eqb, ltb}
 use lib.ListN.{getD}
-use lib.Ieee.{Float, nan, binary32, mul, lt, le, ofBits}
+use lib.Ieee.{Float, binary32, mul, lt, le, ofBits}
 use Rattle.binary32.specs.Sqrt.{sqrtOrNan}
 use Rattle.sheet.specs.declared.Position.{Position}
-use Rattle.sheet.specs.Corners.{squaredDistance, finitePosition}
+use Rattle.sheet.specs.Corners.{cornerIn, squaredDistance, finitePosition}
 use Rattle.candidates.specs.declared.Candidate.{Candidate}
 use Rattle.candidates.specs.declared.Candidates.{Candidates}
 use Rattle.candidates.specs.declared.Candidates.the-variants.{Empty, One, Several}
 
--- ---- the corners as they are lent: corner k lies at (x k, y k), and is unlabelled if its mark is 0
+-- ---- the corners as the passes hold them: where corner k lies, and that it is unlabelled if its mark is 0
 
-abbrev pub positionsOf : List Float → List Float → ℕ → Position
-positionsOf xs ys k = record { x = getD xs k nan; y = getD ys k nan }
+abbrev pub positionsIn : List Float → ℕ → Position
+positionsIn held k = cornerIn held k .position
 
 abbrev pub unmarked : List ℕ → ℕ → Bool
 unmarked used k = eqb (getD used k 0) 0

@@ -3,21 +3,14 @@ use mathlib.Core.Path.{_≡_}
 use mathlib.Core.Bool.{Bool, true, false, _&&_, cond}
 use mathlib.Core.List.{List}
 use Prim.Native.Nat.{ℕ, zero, suc, _+_, _≤_, _<_}
-use lib.ListN.{length}
 use lib.Ieee.{Float, lt, le}
-use Rattle.sizes.specs.Sizes.{cornerLimit}
 use Rattle.sheet.specs.declared.Position.{Position}
 use Rattle.sheet.specs.Corners.{squaredDistance}
 use Rattle.candidates.specs.declared.Candidate.{Candidate}
 use Rattle.candidates.specs.declared.Candidates.{Candidates}
 use Rattle.candidates.specs.declared.Candidates.the-variants.{Empty, One, Several}
 use Rattle.candidates.specs.declared.Found.{Found}
-use Rattle.candidates.specs.Candidates.{positionsOf, unmarked, eligible, isCandidate, distanceOf, ordered, firstTwo}
-
--- every corner has a y and a mark
-pub record Lent (xs ys : List Float) : Type 0 where
-  pub with-y : length xs ≤ length ys
-  pub with-mark : length xs ≤ cornerLimit
+use Rattle.candidates.specs.Candidates.{positionsIn, unmarked, eligible, isCandidate, distanceOf, ordered, firstTwo}
 
 -- one more candidate, whose number is above all others': nearer than the first, or than the second, or neither
 abbrev pub kept : Candidates → Candidate → Candidates
@@ -61,9 +54,9 @@ countFrom test from zero = 0
 countFrom test from (suc k) = countFrom test from k + oneIf test (from + k)
 
 -- the first two of the candidates among the first n corners, the prediction being finite
-abbrev pub firstTwoBelow : List Float → List Float → List ℕ → ℕ → Position → Float → Candidates
-firstTwoBelow xs ys used n prediction radius =
-    firstTwo (ordered (distanceOf (positionsOf xs ys) prediction) (isCandidate (positionsOf xs ys) (unmarked used) prediction radius) n)
+abbrev pub firstTwoBelow : List Float → List ℕ → ℕ → Position → Float → Candidates
+firstTwoBelow held used n prediction radius =
+    firstTwo (ordered (distanceOf (positionsIn held) prediction) (isCandidate (positionsIn held) (unmarked used) prediction radius) n)
 
 -- the next candidate of n corners from one on, or n if there is none
 pub record Next (candidate : ℕ → Bool) (n from r : ℕ) : Type 0 where

@@ -2,13 +2,12 @@
 // two rules by which one of them is chosen. Port of shared/grow/mod.rs and of the quotients of extension/common.rs and fill.rs.
 ghost use mathlib.Core.Path.{_≡_};
 ghost use Prim.Native.Nat.{_+_, _≤_, _<_};
-ghost use lib.ListN.{length};
 ghost use Rattle.sizes.specs.Sizes.{cornerLimit};
 ghost use Rattle.binary32.specs.Sqrt.{sqrtOrNan};
 ghost use Rattle.sheet.specs.Corners.{squaredDistance};
-ghost use Rattle.candidates.specs.Candidates.{positionsOf, unmarked, eligible, candidatesAt, firstTwo, lastDistance};
+ghost use Rattle.candidates.specs.Candidates.{positionsIn, unmarked, eligible, candidatesAt, firstTwo, lastDistance};
 ghost use Rattle.candidates.specs.Choice.{byQuotient, chooseUnambiguous, raised, chooseWithFloor};
-ghost use Rattle.candidates.specs.Steps.{Lent, Next, isNear, isWithin, oneIf, countFrom, measured, twoFound, narrowed};
+ghost use Rattle.candidates.specs.Steps.{Next, isNear, isWithin, oneIf, countFrom, measured, twoFound, narrowed};
 use sheet::Position;
 use sizes::CORNERS;
 
@@ -121,31 +120,41 @@ fn keep(found: Found, c: Candidate, d2: f32) -> Found
     }
 }
 
+// Where a corner lies.
+fn position_of(corners: &[f32; 3 * CORNERS], k: usize) -> Position
+    requires { ⌜ k < cornerLimit ⌝ }
+    ensures { λ r. ⌜ r ≡ positionsIn (now (corners .entry)) k ⌝ }
+{
+    Position {
+        x: corners[k],
+        y: corners[k + CORNERS],
+    }
+}
+
 // Whether corner k is unlabelled, and its squared distance at most the limit. No root is taken for it.
 fn is_within(
-    xs: &[f32],
-    ys: &[f32],
+    corners: &[f32; 3 * CORNERS],
     used: &[u8; CORNERS],
     k: usize,
     prediction: Position,
     limit: f32,
 ) -> bool
-    requires { ⌜ Lent (now xs) (now ys) × (k < length (now xs)) ⌝ }
-    ensures { λ r. ⌜ r ≡ isWithin (positionsOf (now (xs .entry)) (now (ys .entry))) (unmarked (now (used .entry))) prediction limit k ⌝ }
+    requires { ⌜ k < cornerLimit ⌝ }
+    ensures { λ r. ⌜ r ≡ isWithin (positionsIn (now (corners .entry))) (unmarked (now (used .entry))) prediction limit k ⌝ }
 {
     if !is_eligible(used, k) {
         return false;
     }
-    let corner = Position { x: xs[k], y: ys[k] };
+    let corner = position_of(corners, k);
     squared_distance(corner, prediction) <= limit
 }
 
 // 1 if corner k, labelled or not, lies within the limit, and else 0.
-fn one_if_near(xs: &[f32], ys: &[f32], k: usize, prediction: Position, limit: f32) -> u32
-    requires { ⌜ Lent (now xs) (now ys) × (k < length (now xs)) ⌝ }
-    ensures { λ r. ⌜ r ≡ oneIf (isNear (positionsOf (now (xs .entry)) (now (ys .entry))) prediction limit) k ⌝ }
+fn one_if_near(corners: &[f32; 3 * CORNERS], k: usize, prediction: Position, limit: f32) -> u32
+    requires { ⌜ k < cornerLimit ⌝ }
+    ensures { λ r. ⌜ r ≡ oneIf (isNear (positionsIn (now (corners .entry))) prediction limit) k ⌝ }
 {
-    let corner = Position { x: xs[k], y: ys[k] };
+    let corner = position_of(corners, k);
     if squared_distance(corner, prediction) <= limit {
         1
     } else {
@@ -155,14 +164,14 @@ fn one_if_near(xs: &[f32], ys: &[f32], k: usize, prediction: Position, limit: f3
 
 // How many of the 32 corners from this one on, labelled or not, lie within the limit. No corner ends the loop early, so that the
 // compiler tests several at once.
-fn count_near(xs: &[f32], ys: &[f32], from: usize, prediction: Position, limit: f32) -> u32
-    requires { ⌜ Lent (now xs) (now ys) × (from + 32 ≤ length (now xs)) ⌝ }
-    ensures { λ r. ⌜ r ≡ countFrom (isNear (positionsOf (now (xs .entry)) (now (ys .entry))) prediction limit) from 32 ⌝ }
+fn count_near(corners: &[f32; 3 * CORNERS], from: usize, prediction: Position, limit: f32) -> u32
+    requires { ⌜ from + 32 ≤ cornerLimit ⌝ }
+    ensures { λ r. ⌜ r ≡ countFrom (isNear (positionsIn (now (corners .entry))) prediction limit) from 32 ⌝ }
 {
     let mut count = 0u32;
     let mut k = 0usize;
     while k < 32 {
-        count += one_if_near(xs, ys, from + k, prediction, limit);
+        count += one_if_near(corners, from + k, prediction, limit);
         k += 1;
     }
     count
@@ -170,19 +179,19 @@ fn count_near(xs: &[f32], ys: &[f32], from: usize, prediction: Position, limit: 
 
 // The number of the next corner within the limit from this one on, or the number of corners if there is none. Each is tested.
 fn next_tested(
-    xs: &[f32],
-    ys: &[f32],
+    corners: &[f32; 3 * CORNERS],
+    count: usize,
     used: &[u8; CORNERS],
     from: usize,
     prediction: Position,
     limit: f32,
 ) -> usize
-    requires { ⌜ Lent (now xs) (now ys) × (from ≤ length (now xs)) ⌝ }
-    ensures { λ r. ⌜ Next (isWithin (positionsOf (now (xs .entry)) (now (ys .entry))) (unmarked (now (used .entry))) prediction limit) (length (now (xs .entry))) from r ⌝ }
+    requires { ⌜ (count ≤ cornerLimit) × (from ≤ count) ⌝ }
+    ensures { λ r. ⌜ Next (isWithin (positionsIn (now (corners .entry))) (unmarked (now (used .entry))) prediction limit) count from r ⌝ }
 {
     let mut k = from;
-    while k < xs.len() {
-        if is_within(xs, ys, used, k, prediction, limit) {
+    while k < count {
+        if is_within(corners, used, k, prediction, limit) {
             return k;
         }
         k += 1;
@@ -192,32 +201,33 @@ fn next_tested(
 
 // The same, 32 corners at once as long as none of them lies within the limit.
 fn next_within(
-    xs: &[f32],
-    ys: &[f32],
+    corners: &[f32; 3 * CORNERS],
+    count: usize,
     used: &[u8; CORNERS],
     from: usize,
     prediction: Position,
     limit: f32,
 ) -> usize
-    requires { ⌜ Lent (now xs) (now ys) × (from ≤ length (now xs)) ⌝ }
-    ensures { λ r. ⌜ Next (isWithin (positionsOf (now (xs .entry)) (now (ys .entry))) (unmarked (now (used .entry))) prediction limit) (length (now (xs .entry))) from r ⌝ }
+    requires { ⌜ (count ≤ cornerLimit) × (from ≤ count) ⌝ }
+    ensures { λ r. ⌜ Next (isWithin (positionsIn (now (corners .entry))) (unmarked (now (used .entry))) prediction limit) count from r ⌝ }
 {
     let mut k = from;
-    while k + 32 <= xs.len() {
-        if count_near(xs, ys, k, prediction, limit) != 0 {
-            return next_tested(xs, ys, used, k, prediction, limit);
+    while k + 32 <= count {
+        if count_near(corners, k, prediction, limit) != 0 {
+            return next_tested(corners, count, used, k, prediction, limit);
         }
         k += 32;
     }
-    next_tested(xs, ys, used, k, prediction, limit)
+    next_tested(corners, count, used, k, prediction, limit)
 }
 
 // Corner k as one more candidate, with the root of its squared distance.
-fn keep_corner(found: Found, xs: &[f32], ys: &[f32], k: usize, prediction: Position) -> Found
-    requires { ⌜ Lent (now xs) (now ys) × (k < length (now xs)) ⌝ }
-    ensures { λ r. ⌜ r ≡ narrowed found (measured (positionsOf (now (xs .entry)) (now (ys .entry))) prediction k) (squaredDistance (positionsOf (now (xs .entry)) (now (ys .entry)) k) prediction) ⌝ }
+fn keep_corner(found: Found, corners: &[f32; 3 * CORNERS], k: usize, prediction: Position) -> Found
+    requires { ⌜ k < cornerLimit ⌝ }
+    ensures { λ r. ⌜ r ≡ narrowed found (measured (positionsIn (now (corners .entry))) prediction k)
+        (squaredDistance (positionsIn (now (corners .entry)) k) prediction) ⌝ }
 {
-    let corner = Position { x: xs[k], y: ys[k] };
+    let corner = position_of(corners, k);
     let d2 = squared_distance(corner, prediction);
     let distance = binary32::root::sqrt_or_nan(d2);
     let c = Candidate {
@@ -230,14 +240,14 @@ fn keep_corner(found: Found, xs: &[f32], ys: &[f32], k: usize, prediction: Posit
 // The first two of the candidates at the prediction, in order of distance and then corner number: all unlabelled corners whose
 // squared distance is at most the squared radius, and none if the prediction is not finite.
 pub fn collect_candidates(
-    xs: &[f32],
-    ys: &[f32],
+    corners: &[f32; 3 * CORNERS],
+    count: usize,
     used: &[u8; CORNERS],
     prediction: Position,
     search_r: f32,
 ) -> Candidates
-    requires { ⌜ Lent (now xs) (now ys) ⌝ }
-    ensures { λ r. ⌜ r ≡ firstTwo (candidatesAt (positionsOf (now (xs .entry)) (now (ys .entry))) (unmarked (now (used .entry))) (length (now (xs .entry))) prediction «search_r») ⌝ }
+    requires { ⌜ count ≤ cornerLimit ⌝ }
+    ensures { λ r. ⌜ r ≡ firstTwo (candidatesAt (positionsIn (now (corners .entry))) (unmarked (now (used .entry))) count prediction «search_r») ⌝ }
 {
     if !binary32::ranges::is_finite(prediction.x) {
         return Candidates::Empty;
@@ -246,8 +256,8 @@ pub fn collect_candidates(
         return Candidates::Empty;
     }
     let r2 = search_r * search_r;
-    let mut k = next_within(xs, ys, used, 0, prediction, r2);
-    if k == xs.len() {
+    let mut k = next_within(corners, count, used, 0, prediction, r2);
+    if k == count {
         return Candidates::Empty;
     }
     let mut found = Found {
@@ -255,10 +265,10 @@ pub fn collect_candidates(
         square: 0.0,
         limit: r2,
     };
-    while k < xs.len() {
-        let more = keep_corner(found, xs, ys, k, prediction);
+    while k < count {
+        let more = keep_corner(found, corners, k, prediction);
         found = more;
-        k = next_within(xs, ys, used, k + 1, prediction, more.limit);
+        k = next_within(corners, count, used, k + 1, prediction, more.limit);
     }
     found.candidates
 }

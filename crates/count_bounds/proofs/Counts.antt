@@ -10,7 +10,7 @@ use lib.Ieee.{Float, binary32, ofBits, lt}
 use Rattle.predict.specs.Predict.{predictionOf, extrapolating}
 use Rattle.predict.specs.declared.Prediction.{Prediction}
 use Rattle.sheet.specs.Cells.{cellOf}
-use Rattle.sheet.specs.Corners.{seenOf}
+use Rattle.sheet.specs.Corners.{Corners, seenOf}
 use Rattle.sheet.specs.declared.Cell.{Cell}
 use Rattle.labels.specs.Labelled.{namesCorner, labelCount, labelledPlaces}
 use Rattle.labels.specs.Box.{boxOf}
@@ -18,7 +18,7 @@ use Rattle.labels.proofs.Below.{passing-few}
 use Rattle.arguments.specs.declared.Settings.{Settings}
 use Rattle.arguments.specs.declared.GrowParams.{GrowParams}
 use Rattle.arguments.specs.declared.LocalExtensionParams.{LocalExtensionParams}
-use Rattle.extension_common.specs.TryCell.{Corners, tryAt}
+use Rattle.extension_common.specs.TryCell.{tryAt}
 use Rattle.extension_common.specs.declared.TryCellResult.{TryCellResult}
 use Rattle.passes.specs.declared.Counts.{Counts}
 use Rattle.passes.specs.Grow.{noCounts, tolerancesOf, GrowState, startOf, searchOf, growWith, growAt, growVisit, growFrom, growRun}

@@ -13,7 +13,7 @@ use Rattle.binary32.specs.Sqrt.{sqrtOrNan}
 use Rattle.binary32.proofs.Exists.{sqrt-fits}
 use Rattle.homography.specs.Fit.{Answer, NoFit, Entries, homographyOf}
 use Rattle.sheet.specs.Cells.{cellOf}
-use Rattle.sheet.specs.Corners.{seenOf, squaredDistance}
+use Rattle.sheet.specs.Corners.{Corners, cornersOf, seenOf, squaredDistance}
 use Rattle.sheet.specs.declared.Cell.{Cell}
 use Rattle.sheet.specs.declared.Seen.{Seen}
 use Rattle.labels.specs.Labelled.{isLabelled, labelledPlaces, labelCount}
@@ -22,7 +22,6 @@ use Rattle.arguments.specs.Accepted.{PassInside}
 use Rattle.arguments.specs.declared.Settings.{Settings}
 use Rattle.arguments.specs.declared.FillParams.{FillParams}
 use Rattle.arguments.specs.declared.LocalExtensionParams.{LocalExtensionParams}
-use Rattle.extension_common.specs.TryCell.{Corners, cornersOf}
 use Rattle.extension_common.specs.declared.TryCellResult.{TryCellResult}
 use Rattle.arguments.specs.declared.Pass.{Pass}
 use Rattle.passes.specs.declared.Counts.{Counts}
@@ -163,7 +162,7 @@ unfolding growAfter fillAfter localAfter fillRun localRun labelCount labelledPla
 small l sheet c w = go (c .pass) (w .pass-inside) (let r = call-ran l sheet c w in omega (arith, r .counted, r .extended .count, passing-few (λ p. isLabelled (getD (afterCall l sheet c .sheet) p 0)) 16384))
   where
     cs : Corners
-    cs = cornersOf (l .xs) (l .ys) (l .pitches)
+    cs = cornersOf l
 
     set : Settings
     set = c .settings

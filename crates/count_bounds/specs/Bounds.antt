@@ -5,6 +5,7 @@ use mathlib.Core.List.{List}
 use Prim.Native.Nat.{ℕ, _≤_}
 use lib.Dec.{T}
 use lib.Ieee.{Float, binary32, fits}
+use Rattle.sheet.specs.Corners.{CornerLists}
 use Rattle.binary32.specs.Ranges.{isFinite}
 use Rattle.arguments.specs.Accepted.{Accepted}
 use Rattle.passes.specs.declared.Counts.{Counts}
@@ -12,7 +13,7 @@ use Rattle.passes.specs.declared.GrowStats.{GrowStats}
 use Rattle.passes.specs.declared.FillStats.{FillStats}
 use Rattle.passes.specs.declared.LocalStats.{LocalStats}
 use Rattle.passes.specs.declared.LargestResidual.{LargestResidual}
-use Rattle.passes.specs.Step.{CornerLists, lentOf}
+use Rattle.passes.specs.Step.{lentOf}
 use Rattle.passes.specs.Run.{Call, PassStats, growStats, fillStats, localStats}
 use Rattle.invariants.specs.Calls.{afterCall}
 

@@ -3,11 +3,10 @@ use mathlib.Core.Path.{_≡_}
 use mathlib.Core.Bool.{Bool, not, cond}
 use mathlib.Core.List.{List}
 use Prim.Native.Nat.{ℕ, _≤_, _<_}
-use lib.ListN.{length}
 use lib.Ieee.{Float}
 use Rattle.sizes.specs.Sizes.{cornerLimit}
 use Rattle.sheet.specs.Cells.{OnSheet}
-use Rattle.sheet.specs.Corners.{cornerOf, seenOf, Given}
+use Rattle.sheet.specs.Corners.{Corners, seenOf, Given}
 use Rattle.sheet.specs.declared.Cell.{Cell}
 use Rattle.sheet.specs.declared.Corner.{Corner}
 use Rattle.sheet.specs.declared.Position.{Position}
@@ -21,14 +20,6 @@ use Rattle.positions_policy.specs.declared.Tolerances.{Tolerances}
 use Rattle.extension_common.specs.declared.ChoiceRule.{ChoiceRule}
 use Rattle.extension_common.specs.declared.Search.{Search}
 use Rattle.extension_common.specs.declared.TryCellResult.{TryCellResult}
-
--- the corners of a frame: how many there are, and each by its number
-pub record Corners : Type 0 where
-  pub count : ℕ
-  pub corner : ℕ → Corner
-
-abbrev pub cornersOf : List Float → List Float → List Float → Corners
-cornersOf xs ys pitches = record { count = length xs; corner = cornerOf xs ys pitches }
 
 -- a corner is unlabelled if no cell of the sheet holds it
 abbrev pub unlabelledOn : List ℕ → ℕ → Bool
@@ -44,38 +35,37 @@ choiceBy ChoiceRule.Unambiguous candidates factor = chooseUnambiguous candidates
 choiceBy ChoiceRule.WithFloor candidates factor = chooseWithFloor candidates factor
 
 -- the edges of a chosen corner: they pass if one is accepted, or if no cardinal neighbour is labelled
-unfoldable pub edgesOf : Corners → List ℕ → Tolerances → Cell → ℕ → TryCellResult
-edgesOf cs sheet tol c k =
-    cond (passes (verdictOf (seenOf (cs .corner) sheet) tol c (cs .corner k))) (TryCellResult.Attached k) TryCellResult.EdgeRejected
+unfoldable pub edgesOf : (ℕ → Corner) → List ℕ → Tolerances → Cell → ℕ → TryCellResult
+edgesOf corner sheet tol c k =
+    cond (passes (verdictOf (seenOf corner sheet) tol c (corner k))) (TryCellResult.Attached k) TryCellResult.EdgeRejected
 
-unfoldable pub resultOf : Corners → List ℕ → Tolerances → Cell → CandidateChoice → TryCellResult
-resultOf cs sheet tol c CandidateChoice.Nothing = TryCellResult.NoCandidates
-resultOf cs sheet tol c CandidateChoice.Ambiguous = TryCellResult.Ambiguous
-resultOf cs sheet tol c (CandidateChoice.Unique k) = edgesOf cs sheet tol c k
+unfoldable pub resultOf : (ℕ → Corner) → List ℕ → Tolerances → Cell → CandidateChoice → TryCellResult
+resultOf corner sheet tol c CandidateChoice.Nothing = TryCellResult.NoCandidates
+resultOf corner sheet tol c CandidateChoice.Ambiguous = TryCellResult.Ambiguous
+resultOf corner sheet tol c (CandidateChoice.Unique k) = edgesOf corner sheet tol c k
 
 -- what trying a cell finds: candidates, then choice, then edges
 unfoldable pub tryAt : Corners → List ℕ → Tolerances → Search → Cell → Position → TryCellResult
 tryAt cs sheet tol search c prediction =
-    resultOf cs sheet tol c (choiceBy (search .rule) (gathered cs sheet (search .«search_r») prediction) (search .«ambiguity_factor»))
+    resultOf (cs .corner) sheet tol c (choiceBy (search .rule) (gathered cs sheet (search .«search_r») prediction) (search .«ambiguity_factor»))
 
 -- ---- what the functions ask
 
--- corners and a sheet that belong together, at most 1,024 corners, an array that says which are used, and a cell of the sheet
-pub record Ready (xs ys pitches : List Float) (sheet used : List ℕ) (c : Cell) : Type 0 where
-  pub given : Given xs ys pitches sheet
-  pub few : length xs ≤ cornerLimit
+-- at most 1,024 corners, a sheet that names no other, an array that says which are used, and a cell of the sheet
+pub record Ready (n : ℕ) (sheet used : List ℕ) (c : Cell) : Type 0 where
+  pub given : Given n sheet
+  pub few : n ≤ cornerLimit
   pub tied : Tied sheet used
   pub on : OnSheet c
 
--- what was gathered at some prediction for a cell of the sheet
-pub record Gathered (xs ys pitches : List Float) (sheet : List ℕ) (c : Cell) (search : Search) (candidates : Candidates) : Type 0 where
-  pub given : Given xs ys pitches sheet
+-- candidates of which none but a corner that is held can be chosen, for a cell of the sheet
+pub record Choosable (sheet : List ℕ) (c : Cell) (search : Search) (candidates : Candidates) : Type 0 where
+  pub given : Given cornerLimit sheet
   pub on : OnSheet c
-  pub at : Position
-  pub are : candidates ≡ gathered (cornersOf xs ys pitches) sheet (search .«search_r») at
+  pub there : (k : ℕ) → choiceBy (search .rule) candidates (search .«ambiguity_factor») ≡ CandidateChoice.Unique k → k < cornerLimit
 
--- a corner that was chosen among those given, at a cell of the sheet
-pub record Chosen (xs ys pitches : List Float) (sheet : List ℕ) (c : Cell) (k : ℕ) : Type 0 where
-  pub given : Given xs ys pitches sheet
+-- a corner that was chosen among those held, at a cell of the sheet
+pub record Chosen (sheet : List ℕ) (c : Cell) (k : ℕ) : Type 0 where
+  pub given : Given cornerLimit sheet
   pub on : OnSheet c
-  pub there : k < length xs
+  pub there : k < cornerLimit

@@ -1,7 +1,8 @@
 // What all three passes do at a cell once they have a prediction: gather the candidates, choose, and try the edges (port of
 // shared/extension/common.rs). Whatever this answers, nothing is written.
 ghost use mathlib.Core.Path.{_≡_};
-ghost use Rattle.extension_common.specs.TryCell.{cornersOf, tryAt, Ready, Gathered, Chosen, edgesOf, choiceBy, resultOf};
+ghost use Rattle.sheet.specs.Corners.{cornerIn, cornersIn};
+ghost use Rattle.extension_common.specs.TryCell.{tryAt, Ready, Choosable, Chosen, edgesOf, choiceBy, resultOf};
 use candidates::CandidateChoice;
 use candidates::Candidates;
 use positions_policy::Tolerances;
@@ -43,9 +44,8 @@ pub fn choose(rule: ChoiceRule, candidates: Candidates, factor: f32) -> Candidat
 
 // Tries a cell at a prediction: no candidate, an ambiguous choice, edges that refuse the chosen corner, or the corner to attach.
 pub fn try_attach_at_cell(
-    xs: &[f32],
-    ys: &[f32],
-    pitches: &[f32],
+    corners: &[f32; 3 * CORNERS],
+    count: usize,
     sheet: &[u16],
     used: &[u8; CORNERS],
     c: Cell,
@@ -53,51 +53,49 @@ pub fn try_attach_at_cell(
     search: Search,
     tol: Tolerances,
 ) -> TryCellResult
-    requires { ⌜ Ready (now xs) (now ys) (now pitches) (now sheet) (now used) c ⌝ }
-    ensures { λ r. ⌜ r ≡ tryAt (cornersOf (now (xs .entry)) (now (ys .entry)) (now (pitches .entry))) (now (sheet .entry)) tol search c prediction ⌝ }
+    requires { ⌜ Ready count (now sheet) (now used) c ⌝ }
+    ensures { λ r. ⌜ r ≡ tryAt (cornersIn (now (corners .entry)) count) (now (sheet .entry)) tol search c prediction ⌝ }
 {
-    let candidates = candidates::collect_candidates(xs, ys, used, prediction, search.search_r);
-    try_candidates(xs, ys, pitches, sheet, c, candidates, search, tol)
+    let radius = search.search_r;
+    let candidates = candidates::collect_candidates(corners, count, used, prediction, radius);
+    try_candidates(corners, sheet, c, candidates, search, tol)
 }
 
 // Tries a cell with the candidates that were gathered at its prediction.
 pub fn try_candidates(
-    xs: &[f32],
-    ys: &[f32],
-    pitches: &[f32],
+    corners: &[f32; 3 * CORNERS],
     sheet: &[u16],
     c: Cell,
     candidates: Candidates,
     search: Search,
     tol: Tolerances,
 ) -> TryCellResult
-    requires { ⌜ Gathered (now xs) (now ys) (now pitches) (now sheet) c search candidates ⌝ }
-    ensures { λ r. ⌜ r ≡ resultOf (cornersOf (now (xs .entry)) (now (ys .entry)) (now (pitches .entry))) (now (sheet .entry)) tol c (choiceBy (search .rule) candidates (search .«ambiguity_factor»)) ⌝ }
+    requires { ⌜ Choosable (now sheet) c search candidates ⌝ }
+    ensures { λ r. ⌜ r ≡ resultOf (cornerIn (now (corners .entry))) (now (sheet .entry)) tol c
+        (choiceBy (search .rule) candidates (search .«ambiguity_factor»)) ⌝ }
 {
     let rule = search.rule;
     let choice = choose(rule, candidates, search.ambiguity_factor);
     match choice {
         CandidateChoice::Nothing => TryCellResult::NoCandidates,
         CandidateChoice::Ambiguous => TryCellResult::Ambiguous,
-        CandidateChoice::Unique(k) => try_edges(xs, ys, pitches, sheet, c, k, tol),
+        CandidateChoice::Unique(k) => try_edges(corners, sheet, c, k, tol),
     }
 }
 
 // The edges of a chosen corner: it does not pass, or it is to be attached.
 fn try_edges(
-    xs: &[f32],
-    ys: &[f32],
-    pitches: &[f32],
+    corners: &[f32; 3 * CORNERS],
     sheet: &[u16],
     c: Cell,
     k: usize,
     tol: Tolerances,
 ) -> TryCellResult
-    requires { ⌜ Chosen (now xs) (now ys) (now pitches) (now sheet) c k ⌝ }
-    ensures { λ r. ⌜ r ≡ edgesOf (cornersOf (now (xs .entry)) (now (ys .entry)) (now (pitches .entry))) (now (sheet .entry)) tol c k ⌝ }
+    requires { ⌜ Chosen (now sheet) c k ⌝ }
+    ensures { λ r. ⌜ r ≡ edgesOf (cornerIn (now (corners .entry))) (now (sheet .entry)) tol c k ⌝ }
 {
-    let candidate = sheet::corner_at(xs, ys, pitches, k);
-    let verdict = positions_policy::any_cardinal_edge_ok(xs, ys, pitches, sheet, c, candidate, tol);
+    let candidate = sheet::corner_at(corners, k);
+    let verdict = positions_policy::any_cardinal_edge_ok(corners, sheet, c, candidate, tol);
     if !positions_policy::passes(verdict) {
         return TryCellResult::EdgeRejected;
     }

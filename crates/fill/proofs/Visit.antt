@@ -9,7 +9,7 @@ use lib.Seq.{length-take-le}
 use lib.Ieee.{Float}
 use Rattle.sheet.specs.Cells.{OnSheet, placeOf}
 use Rattle.sheet.specs.Words.{labelAt, attached}
-use Rattle.sheet.specs.Corners.{seenOf}
+use Rattle.sheet.specs.Corners.{Corners, seenOf}
 use Rattle.sheet.specs.declared.Cell.{Cell}
 use Rattle.sheet.specs.declared.Label.{Label}
 use Rattle.sheet.specs.declared.Position.{Position}
@@ -22,7 +22,7 @@ use Rattle.predict.specs.declared.Prediction.{Prediction}
 use Rattle.positions_policy.specs.declared.Tolerances.{Tolerances}
 use Rattle.arguments.specs.declared.Settings.{Settings}
 use Rattle.arguments.specs.declared.FillParams.{FillParams}
-use Rattle.extension_common.specs.TryCell.{Corners, tryAt}
+use Rattle.extension_common.specs.TryCell.{tryAt}
 use Rattle.extension_common.specs.declared.TryCellResult.{TryCellResult}
 use Rattle.extension_common.proofs.Laws.{Attachable, attachable}
 use Rattle.passes.specs.Grow.{tolerancesOf}
@@ -77,12 +77,12 @@ module _ (cs : Corners) (set : Settings) (p : FillParams) (c : Cell) (s : FillSt
 -- ---- what the code leaves
 
 -- the same state by another expression
-pub left-as : {s after : FillState} {xs ys pitches : List Float} {before sheet list used : List ℕ} {made : ℕ} → after ≡ s → Left s xs ys pitches before sheet list used made
-    → Left after xs ys pitches before sheet list used made
+pub left-as : {s after : FillState} {n : ℕ} {before sheet list used : List ℕ} {made : ℕ} → after ≡ s → Left s n before sheet list used made
+    → Left after n before sheet list used made
 left-as e l = rw e l
 
-module _ {xs ys pitches : List Float} {sheet list used : List ℕ} {made : ℕ} (f : Filling xs ys pitches sheet list used made) where
-  pub made-few : made ≤ length xs
+module _ {n : ℕ} {sheet list used : List ℕ} {made : ℕ} (f : Filling n sheet list used made) where
+  pub made-few : made ≤ n
   made-few = omega (arith, f .room, labels-few (f .given) (f .one-cell))
 
   pub made-in : made ≤ length list
@@ -92,10 +92,10 @@ module _ {xs ys pitches : List Float} {sheet list used : List ℕ} {made : ℕ} 
   pub stands : StateHeld (stateOf sheet list made) list sheet list made
   stands = record { sheet-is = refl; list-is = sym (over-own list made made-in); made-is = sym (length-take-le made list made-in) }
 
-  pub untouched : {after : FillState} → after ≡ stateOf sheet list made → Left after xs ys pitches list sheet list used made
+  pub untouched : {after : FillState} → after ≡ stateOf sheet list made → Left after n list sheet list used made
   untouched e = rw e (record { holds = stands; filling = f })
 
-module _ {xs ys pitches : List Float} {sheet list used : List ℕ} {made : ℕ} {c : Cell} {k : ℕ} (t : Taking xs ys pitches sheet list used made c k) where
+module _ {n : ℕ} {sheet list used : List ℕ} {made : ℕ} {c : Cell} {k : ℕ} (t : Taking n sheet list used made c k) where
   pub taking-fits : k < 1024
   taking-fits = omega (arith, t .there, t .trying .filling .few)
 
@@ -110,18 +110,18 @@ module _ {xs ys pitches : List Float} {sheet list used : List ℕ} {made : ℕ} 
 
   -- a corner attached
   pub took : {sheet' list' used' : List ℕ} {made' : ℕ} → Wrote sheet list used made c k sheet' list' used' made'
-      → Left (fillWith c (TryCellResult.Attached k) (stateOf sheet list made)) xs ys pitches list sheet' list' used' made'
+      → Left (fillWith c (TryCellResult.Attached k) (stateOf sheet list made)) n list sheet' list' used' made'
   unfolding fillWith
   took w =
       let f = t .trying .filling in
-      let n : length (take made list) ≡ made = length-take-le made list (made-in f) in
+      let taken : length (take made list) ≡ made = length-take-le made list (made-in f) in
       rw (w .sheet-is, w .list-is, w .used-is, w .made-is)
       (record {
         holds =
             record {
               sheet-is = refl;
-              list-is = ap₂ (λ (l : List ℕ) (m : ℕ). set l m (placeOf c)) (sym (over-own list made (made-in f))) (sym n) ∙ over-more (take made list) list (placeOf c) (omega (arith, n, taking-room));
-              made-is = omega (arith, n, length-append (take made list) (placeOf c ∷ []));
+              list-is = ap₂ (λ (l : List ℕ) (m : ℕ). set l m (placeOf c)) (sym (over-own list made (made-in f))) (sym taken) ∙ over-more (take made list) list (placeOf c) (omega (arith, taken, taking-room));
+              made-is = omega (arith, taken, length-append (take made list) (placeOf c ∷ []));
             };
         filling =
             record {
@@ -136,20 +136,20 @@ module _ {xs ys pitches : List Float} {sheet list used : List ℕ} {made : ℕ} 
 
 -- ---- by what was found
 
-module _ {xs ys pitches : List Float} {sheet list used : List ℕ} {made : ℕ} (c : Cell) {after : FillState} {r : TryCellResult} (e : after ≡ fillWith c r (stateOf sheet list made)) where
-  module _ (f : Filling xs ys pitches sheet list used made) where
-    pub found-none : r ≡ TryCellResult.NoCandidates → Left after xs ys pitches list sheet list used made
+module _ {n : ℕ} {sheet list used : List ℕ} {made : ℕ} (c : Cell) {after : FillState} {r : TryCellResult} (e : after ≡ fillWith c r (stateOf sheet list made)) where
+  module _ (f : Filling n sheet list used made) where
+    pub found-none : r ≡ TryCellResult.NoCandidates → Left after n list sheet list used made
     unfolding fillWith
     found-none g = untouched f (e ∙ rw g)
 
-    pub found-ambiguous : r ≡ TryCellResult.Ambiguous → Left after xs ys pitches list sheet list used made
+    pub found-ambiguous : r ≡ TryCellResult.Ambiguous → Left after n list sheet list used made
     unfolding fillWith
     found-ambiguous g = untouched f (e ∙ rw g)
 
-    pub found-refused : r ≡ TryCellResult.EdgeRejected → Left after xs ys pitches list sheet list used made
+    pub found-refused : r ≡ TryCellResult.EdgeRejected → Left after n list sheet list used made
     unfolding fillWith
     found-refused g = untouched f (e ∙ rw g)
 
-  pub found-corner : {k : ℕ} {sheet' list' used' : List ℕ} {made' : ℕ} → Taking xs ys pitches sheet list used made c k → r ≡ TryCellResult.Attached k
-      → Wrote sheet list used made c k sheet' list' used' made' → Left after xs ys pitches list sheet' list' used' made'
+  pub found-corner : {k : ℕ} {sheet' list' used' : List ℕ} {made' : ℕ} → Taking n sheet list used made c k → r ≡ TryCellResult.Attached k
+      → Wrote sheet list used made c k sheet' list' used' made' → Left after n list sheet' list' used' made'
   found-corner t g w = rw (e, g) (took t w)

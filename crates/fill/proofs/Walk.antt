@@ -6,6 +6,7 @@ use Prim.Native.Nat.{ℕ, _+_, _<_, _≤_}
 use native.Mathlib.Omega.{arith}
 use lib.ListN.{length}
 use lib.Ieee.{Float}
+use Rattle.sheet.specs.Corners.{Corners}
 use Rattle.sheet.specs.Cells.{cellOf}
 use Rattle.sheet.specs.Words.{labelOf, labelAt}
 use Rattle.sheet.specs.declared.Cell.{Cell}
@@ -17,7 +18,6 @@ use Rattle.labels.specs.declared.LabelBox.{LabelBox}
 use Rattle.labels.proofs.Labelled.{word-else}
 use Rattle.arguments.specs.declared.Settings.{Settings}
 use Rattle.arguments.specs.declared.FillParams.{FillParams}
-use Rattle.extension_common.specs.TryCell.{Corners, cornersOf}
 use Rattle.positions_policy.specs.declared.Tolerances.{Tolerances}
 use Rattle.passes.specs.Fill.{FillState, boxAndStrips, fillCells, fillVisit, fillRound}
 use Rattle.passes.proofs.Over.{over-read, over-over}
@@ -77,8 +77,8 @@ pub holds-state : {s : FillState} {before sheet list : List ℕ} {made : ℕ} �
 holds-state {s} {before} h = rw (h .sheet-is, h .list-is, h .made-is) (ap (λ (l : List ℕ). record { sheet = s .sheet; made = l }) (over-read (s .made) before))
 
 -- one function after another: the rest of the list is as it was before the first
-pub left-then : {s after : FillState} {xs ys pitches : List Float} {before sheet list sheet' list' used' : List ℕ} {made made' : ℕ} → StateHeld s before sheet list made
-    → length (s .made) ≤ length (after .made) → Left after xs ys pitches list sheet' list' used' made' → Left after xs ys pitches before sheet' list' used' made'
+pub left-then : {s after : FillState} {n : ℕ} {before sheet list sheet' list' used' : List ℕ} {made made' : ℕ} → StateHeld s before sheet list made
+    → length (s .made) ≤ length (after .made) → Left after n list sheet' list' used' made' → Left after n before sheet' list' used' made'
 left-then {s} {after} {before = before} h g l =
     record {
       holds =
@@ -91,28 +91,28 @@ left-then {s} {after} {before = before} h g l =
     }
 
 -- the loop over the places of a round: n of them have been looked at
-pub record Walking (set : Settings) (p : FillParams) (xs ys pitches : List Float) (sheet₀ list₀ : List ℕ) (made₀ : ℕ) (sheet list used : List ℕ) (made n : ℕ) : Type 0 where
+pub record Walking (set : Settings) (p : FillParams) (cs : Corners) (sheet₀ list₀ : List ℕ) (made₀ : ℕ) (sheet list used : List ℕ) (made n : ℕ) : Type 0 where
   pub upto : n ≤ 16384
   pub long : 16384 ≤ length sheet₀
   pub same-sheet : length sheet ≡ length sheet₀
   pub same-list : length list ≡ length list₀
-  pub left : Left (walkedTo (cornersOf xs ys pitches) set p (stateOf sheet₀ list₀ made₀) n) xs ys pitches list₀ sheet list used made
+  pub left : Left (walkedTo cs set p (stateOf sheet₀ list₀ made₀) n) (cs .count) list₀ sheet list used made
 
-module _ (set : Settings) (p : FillParams) (xs ys pitches : List Float) (sheet₀ list₀ : List ℕ) (made₀ : ℕ) where
-  pub walking-start : (used : List ℕ) → Filling xs ys pitches sheet₀ list₀ used made₀ → Walking set p xs ys pitches sheet₀ list₀ made₀ sheet₀ list₀ used made₀ 0
+module _ (set : Settings) (p : FillParams) (cs : Corners) (sheet₀ list₀ : List ℕ) (made₀ : ℕ) where
+  pub walking-start : (used : List ℕ) → Filling (cs .count) sheet₀ list₀ used made₀ → Walking set p cs sheet₀ list₀ made₀ sheet₀ list₀ used made₀ 0
   walking-start used f =
       record {
         upto = omega arith;
         long = f .given .long;
         same-sheet = refl;
         same-list = refl;
-        left = untouched f (walked-start (fillVisit (cornersOf xs ys pitches) set p) (λ t. t .sheet) (regionOf sheet₀) (stateOf sheet₀ list₀ made₀));
+        left = untouched f (walked-start (fillVisit cs set p) (λ t. t .sheet) (regionOf sheet₀) (stateOf sheet₀ list₀ made₀));
       }
 
-  module _ (sheet list used : List ℕ) (made n : ℕ) (w : Walking set p xs ys pitches sheet₀ list₀ made₀ sheet list used made n) where
+  module _ (sheet list used : List ℕ) (made n : ℕ) (w : Walking set p cs sheet₀ list₀ made₀ sheet list used made n) where
     pub walking-more : (around : LabelBox) (sheet' list' used' : List ℕ) (made' : ℕ) → n < 16384 → around ≡ boxOf sheet₀ → length sheet' ≡ length sheet → length list' ≡ length list
-        → Left (lookedAt (cornersOf xs ys pitches) set p around n (stateOf sheet list made)) xs ys pitches list sheet' list' used' made'
-        → Walking set p xs ys pitches sheet₀ list₀ made₀ sheet' list' used' made' (n + 1)
+        → Left (lookedAt cs set p around n (stateOf sheet list made)) (cs .count) list sheet' list' used' made'
+        → Walking set p cs sheet₀ list₀ made₀ sheet' list' used' made' (n + 1)
     walking-more around sheet' list' used' made' h b e g l =
         record {
           upto = omega arith;
@@ -124,9 +124,6 @@ module _ (set : Settings) (p : FillParams) (xs ys pitches : List Float) (sheet�
               (looked-grows (fillVisit cs set p) (λ t. length (t .made)) (visit-grows cs set p) (λ t. t .sheet) (boxAndStrips around (cellOf n)) n (walkedTo cs set p s n))) l);
         }
       where
-        cs : Corners
-        cs = cornersOf xs ys pitches
-
         s : FillState
         s = stateOf sheet₀ list₀ made₀
 
@@ -136,18 +133,18 @@ module _ (set : Settings) (p : FillParams) (xs ys pitches : List Float) (sheet�
             ∙ looked (fillVisit cs set p) (λ t. t .sheet) (visit-else cs (w .left .filling .few) set p)
             (regionOf sheet₀) s (w .long) n h (ap (λ (a : LabelBox). boxAndStrips a (cellOf n)) b)
 
-    pub walking-end : 16384 ≤ n → Left (fillRound (cornersOf xs ys pitches) set p (stateOf sheet₀ list₀ made₀)) xs ys pitches list₀ sheet list used made
+    pub walking-end : 16384 ≤ n → Left (fillRound cs set p (stateOf sheet₀ list₀ made₀)) (cs .count) list₀ sheet list used made
     walking-end h =
         let e : n ≡ 16384 = omega (arith, w .upto) in
-        rw (← walked-round (cornersOf xs ys pitches) set p (stateOf sheet₀ list₀ made₀), ← e) (w .left)
+        rw (← walked-round cs set p (stateOf sheet₀ list₀ made₀), ← e) (w .left)
 
   -- to the next place of the window: no place before it is in the region
   pub walking-jumps : (sheet list used : List ℕ) (made : ℕ) (around : LabelBox) (window : Window) → around ≡ boxOf sheet₀ → Windowed 1 around window → {n r : ℕ}
-      → Walking set p xs ys pitches sheet₀ list₀ made₀ sheet list used made n → NextIn window n r → Walking set p xs ys pitches sheet₀ list₀ made₀ sheet list used made r
+      → Walking set p cs sheet₀ list₀ made₀ sheet list used made n → NextIn window n r → Walking set p cs sheet₀ list₀ made₀ sheet list used made r
   walking-jumps sheet list used made around window b c w t =
-      jumps window (Walking set p xs ys pitches sheet₀ list₀ made₀ sheet list used made)
+      jumps window (Walking set p cs sheet₀ list₀ made₀ sheet list used made)
       (λ q h out v. walking-more sheet list used made q v around sheet list used made h b refl refl
       (untouched (v .left .filling)
-      (looked-out (fillVisit (cornersOf xs ys pitches) set p) (λ t. t .sheet) (boxAndStrips around (cellOf q)) q (stateOf sheet list made)
+      (looked-out (fillVisit cs set p) (λ t. t .sheet) (boxAndStrips around (cellOf q)) q (stateOf sheet list made)
       (in-window around window q c h out))))
       t w

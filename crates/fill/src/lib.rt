@@ -4,13 +4,12 @@
 ghost use mathlib.Core.Path.{_≡_};
 ghost use mathlib.Core.Bool.{_&&_};
 ghost use lib.ListN.{length};
-ghost use Rattle.arguments.specs.Arguments.{lent};
+ghost use Rattle.sheet.specs.Corners.{cornerLists, cornersOf, cornersIn};
 ghost use Rattle.arguments.specs.Accepted.{Accepted};
-ghost use Rattle.extension_common.specs.TryCell.{cornersOf};
 ghost use Rattle.passes.specs.Outcome.{done};
 ghost use Rattle.passes.specs.Grow.{tolerancesOf};
 ghost use Rattle.passes.specs.Fill.{nearI, nearJ, boxAndStrips, fillSearch, fillVisit, fillRound, fillFrom, fillLimit, fillAfter};
-ghost use Rattle.passes.specs.Step.{fillStep, fillOut, fillLeaves};
+ghost use Rattle.passes.specs.Step.{fillStep, fillOut, fillLeaves, lentOf, rooms};
 ghost use Rattle.passes.specs.Said.{fillValues, fillSaid, outcomeDue};
 ghost use Rattle.region.specs.Small.{SmallBounds, SmallBox};
 ghost use Rattle.fill.specs.Filling.{stateOf, Filling, Left, Trying, Writable, Wrote, Looking, lookedAt, startOf, RoundsLeft};
@@ -35,6 +34,13 @@ use sizes::PLACES;
 struct FillProgress {
     made: usize,
     rounds: usize,
+}
+
+// What the rounds are given beside their buffers: how many corners there are, the settings, and the numbers of the pass.
+struct FillSetup {
+    count: usize,
+    settings: Settings,
+    params: FillParams,
 }
 
 // Whether a cell lies in the box or in one of the two strips along its low and high j.
@@ -107,7 +113,8 @@ fn attach_corner(
     k: usize,
 ) -> usize
     requires { ⌜ Writable (now sheet) (now attached) (now used) made c k ⌝ }
-    ensures { λ r. ⌜ Wrote (now (sheet .entry)) (now (attached .entry)) (now (used .entry)) made c k (now (sheet .exit)) (now (attached .exit)) (now (used .exit)) r ⌝ }
+    ensures { λ r. ⌜ Wrote (now (sheet .entry)) (now (attached .entry)) (now (used .entry)) made c k (now (sheet .exit)) (now (attached .exit))
+        (now (used .exit)) r ⌝ }
 {
     sheet::attach(sheet, c, k);
     attached[made] = sheet::place_of(c) as u16;
@@ -118,33 +125,32 @@ fn attach_corner(
 // Tries an unlabelled cell: where a corner is found, it is attached, else nothing is written. Answers how many places of the attached
 // list are written now.
 fn try_fill_cell(
-    xs: &[f32],
-    ys: &[f32],
-    pitches: &[f32],
+    corners: &[f32; 3 * CORNERS],
     sheet: &mut [u16],
     attached: &mut [u16],
     used: &mut [u8; CORNERS],
     made: usize,
     c: Cell,
-    settings: Settings,
-    params: FillParams,
+    setup: FillSetup,
 ) -> usize
-    requires { ⌜ Trying (now xs) (now ys) (now pitches) (now sheet) (now attached) (now used) made c ⌝ }
-    ensures { λ r. ⌜ Left (fillVisit (cornersOf (now (xs .entry)) (now (ys .entry)) (now (pitches .entry))) settings params c (stateOf (now (sheet .entry)) (now (attached .entry)) made)) (now (xs .entry)) (now (ys .entry)) (now (pitches .entry)) (now (attached .entry)) (now (sheet .exit)) (now (attached .exit)) (now (used .exit)) r ⌝ }
+    requires { ⌜ Trying (setup .count) (now sheet) (now attached) (now used) made c ⌝ }
+    ensures { λ r. ⌜ Left (fillVisit (cornersIn (now (corners .entry)) (setup .count)) (setup .settings) (setup .params) c
+        (stateOf (now (sheet .entry)) (now (attached .entry)) made)) (setup .count) (now (attached .entry)) (now (sheet .exit)) (now (attached .exit))
+        (now (used .exit)) r ⌝ }
 {
-    let prediction = predict::predict_from_neighbours(xs, ys, pitches, sheet, c, settings.grid);
+    let settings = setup.settings;
+    let prediction = predict::predict_from_neighbours(corners, sheet, c, settings.grid);
     let Prediction::At(at) = prediction else {
         return made;
     };
     let found = extension_common::try_attach_at_cell(
-        xs,
-        ys,
-        pitches,
+        corners,
+        setup.count,
         sheet,
         used,
         c,
         at,
-        search_of(settings, params),
+        search_of(settings, setup.params),
         tolerances_of(settings),
     );
     match found {
@@ -158,20 +164,19 @@ fn try_fill_cell(
 // Looks at a place: its cell is tried if it lies in the region about `around` and is unlabelled. Answers how many places of the
 // attached list are written now.
 fn fill_place(
-    xs: &[f32],
-    ys: &[f32],
-    pitches: &[f32],
+    corners: &[f32; 3 * CORNERS],
     sheet: &mut [u16],
     attached: &mut [u16],
     used: &mut [u8; CORNERS],
     made: usize,
     around: LabelBox,
     place: usize,
-    settings: Settings,
-    params: FillParams,
+    setup: FillSetup,
 ) -> usize
-    requires { ⌜ Looking (now xs) (now ys) (now pitches) (now sheet) (now attached) (now used) made around place ⌝ }
-    ensures { λ r. ⌜ Left (lookedAt (cornersOf (now (xs .entry)) (now (ys .entry)) (now (pitches .entry))) settings params around place (stateOf (now (sheet .entry)) (now (attached .entry)) made)) (now (xs .entry)) (now (ys .entry)) (now (pitches .entry)) (now (attached .entry)) (now (sheet .exit)) (now (attached .exit)) (now (used .exit)) r ⌝ }
+    requires { ⌜ Looking (setup .count) (now sheet) (now attached) (now used) made around place ⌝ }
+    ensures { λ r. ⌜ Left (lookedAt (cornersIn (now (corners .entry)) (setup .count)) (setup .settings) (setup .params) around place
+        (stateOf (now (sheet .entry)) (now (attached .entry)) made)) (setup .count) (now (attached .entry)) (now (sheet .exit)) (now (attached .exit))
+        (now (used .exit)) r ⌝ }
 {
     let c = sheet::cell_of(place);
     if !is_fill_cell(around, c) {
@@ -180,35 +185,23 @@ fn fill_place(
     if labels::is_labelled(sheet[place]) {
         return made;
     }
-    try_fill_cell(
-        xs,
-        ys,
-        pitches,
-        sheet,
-        attached,
-        used,
-        made,
-        c,
-        settings,
-        params,
-    )
+    try_fill_cell(corners, sheet, attached, used, made, c, setup)
 }
 
 // One round: all cells of the region about the label box of now that are unlabelled, by i then j. Answers how many places of the
 // attached list are written now.
 fn fill_round(
-    xs: &[f32],
-    ys: &[f32],
-    pitches: &[f32],
+    corners: &[f32; 3 * CORNERS],
     sheet: &mut [u16],
     attached: &mut [u16],
     used: &mut [u8; CORNERS],
     made: usize,
-    settings: Settings,
-    params: FillParams,
+    setup: FillSetup,
 ) -> usize
-    requires { ⌜ Filling (now xs) (now ys) (now pitches) (now sheet) (now attached) (now used) made ⌝ }
-    ensures { λ r. ⌜ Left (fillRound (cornersOf (now (xs .entry)) (now (ys .entry)) (now (pitches .entry))) settings params (stateOf (now (sheet .entry)) (now (attached .entry)) made)) (now (xs .entry)) (now (ys .entry)) (now (pitches .entry)) (now (attached .entry)) (now (sheet .exit)) (now (attached .exit)) (now (used .exit)) r ⌝ }
+    requires { ⌜ Filling (setup .count) (now sheet) (now attached) (now used) made ⌝ }
+    ensures { λ r. ⌜ Left (fillRound (cornersIn (now (corners .entry)) (setup .count)) (setup .settings) (setup .params)
+        (stateOf (now (sheet .entry)) (now (attached .entry)) made)) (setup .count) (now (attached .entry)) (now (sheet .exit)) (now (attached .exit))
+        (now (used .exit)) r ⌝ }
 {
     let around = labels::label_box(sheet);
     let window = region::window_of(around, 1);
@@ -216,17 +209,14 @@ fn fill_round(
     let mut place = region::next_inside(window, 0);
     while place < PLACES {
         reached = fill_place(
-            xs,
-            ys,
-            pitches,
+            corners,
             sheet,
             attached,
             used,
             reached,
             around,
             place,
-            settings,
-            params,
+            setup,
         );
         place = region::next_inside(window, place + 1);
     }
@@ -248,33 +238,22 @@ fn round_limit(labels: usize, max_iters: u32) -> usize
 
 // Round after round, until one attaches nothing or the limit is reached.
 fn fill_rounds(
-    xs: &[f32],
-    ys: &[f32],
-    pitches: &[f32],
+    corners: &[f32; 3 * CORNERS],
     sheet: &mut [u16],
     attached: &mut [u16],
     used: &mut [u8; CORNERS],
     limit: usize,
-    settings: Settings,
-    params: FillParams,
+    setup: FillSetup,
 ) -> FillProgress
-    requires { ⌜ Filling (now xs) (now ys) (now pitches) (now sheet) (now attached) (now used) 0 ⌝ }
-    ensures { λ r. ⌜ RoundsLeft (fillFrom (cornersOf (now (xs .entry)) (now (ys .entry)) (now (pitches .entry))) settings params limit (startOf (now (sheet .entry)) (now (attached .entry)))) (now (xs .entry)) (now (ys .entry)) (now (pitches .entry)) (now (attached .entry)) (now (sheet .exit)) (now (attached .exit)) (now (used .exit)) r ⌝ }
+    requires { ⌜ Filling (setup .count) (now sheet) (now attached) (now used) 0 ⌝ }
+    ensures { λ r. ⌜ RoundsLeft (fillFrom (cornersIn (now (corners .entry)) (setup .count)) (setup .settings) (setup .params) limit
+        (startOf (now (sheet .entry)) (now (attached .entry)))) (setup .count) (now (attached .entry)) (now (sheet .exit)) (now (attached .exit))
+        (now (used .exit)) r ⌝ }
 {
     let mut made = 0usize;
     let mut rounds = 0usize;
     while rounds < limit {
-        let next = fill_round(
-            xs,
-            ys,
-            pitches,
-            sheet,
-            attached,
-            used,
-            made,
-            settings,
-            params,
-        );
+        let next = fill_round(corners, sheet, attached, used, made, setup);
         rounds += 1;
         if next == made {
             return FillProgress { made, rounds };
@@ -294,22 +273,23 @@ fn fill_accepted(
     settings: Settings,
     params: FillParams,
 ) -> FillStats
-    requires { ⌜ Accepted (lent (now xs) (now ys) (now pitches) (now sheet) 0 (length (now attached))) settings (Pass.Fill params) ⌝ }
-    ensures { λ r. ⌜ fillOut (FillAnswer.Done r) (now (sheet .exit)) (now (attached .exit)) ≡ fillLeaves (done (fillAfter (cornersOf (now (xs .entry)) (now (ys .entry)) (now (pitches .entry))) settings params (now (sheet .entry)))) (now (sheet .entry)) (now (attached .entry)) ⌝ }
+    requires { ⌜ Accepted (lentOf (cornerLists (now xs) (now ys) (now pitches)) (now sheet) (rooms 0 (length (now attached))))
+        settings (Pass.Fill params) ⌝ }
+    ensures { λ r. ⌜ fillOut (FillAnswer.Done r) (now (sheet .exit)) (now (attached .exit))
+        ≡ fillLeaves (done (fillAfter (cornersOf (cornerLists (now (xs .entry)) (now (ys .entry)) (now (pitches .entry)))) settings params
+        (now (sheet .entry)))) (now (sheet .entry)) (now (attached .entry)) ⌝ }
 {
     let limit = round_limit(labels::label_count(sheet), params.max_iters);
     let mut used = labels::mark_used(sheet);
-    let progress = fill_rounds(
-        xs,
-        ys,
-        pitches,
-        sheet,
-        attached,
-        &mut used,
-        limit,
+    let nothing = 0.0f32 / 0.0f32;
+    let mut corners = [nothing; 3 * CORNERS];
+    arguments::hold_corners(xs, ys, pitches, &mut corners);
+    let setup = FillSetup {
+        count: xs.len(),
         settings,
         params,
-    );
+    };
+    let progress = fill_rounds(&corners, sheet, attached, &mut used, limit, setup);
     let rim = labels::rim_reached(sheet, 1);
     FillStats {
         added: progress.made,
@@ -331,9 +311,11 @@ pub fn fill_grid_holes(
     settings: Settings,
     params: FillParams,
 ) -> FillAnswer
-    ensures { λ r. ⌜ fillOut r (now (sheet .exit)) (now (attached .exit)) ≡ fillLeaves (fillStep (record { xs = now (xs .entry); ys = now (ys .entry); pitches = now (pitches .entry) }) (now (sheet .entry)) settings params (record { queue = 0; attached = length (now (attached .entry)) })) (now (sheet .entry)) (now (attached .entry)) ⌝ }
-    ensures said { λ r. ⌜ fillSaid r ≡ outcomeDue fillValues (fillStep (record { xs = now (xs .entry); ys = now (ys .entry); pitches = now (pitches .entry) })
-        (now (sheet .entry)) settings params (record { queue = 0; attached = length (now (attached .entry)) })) ⌝ }
+    ensures { λ r. ⌜ fillOut r (now (sheet .exit)) (now (attached .exit))
+        ≡ fillLeaves (fillStep (cornerLists (now (xs .entry)) (now (ys .entry)) (now (pitches .entry))) (now (sheet .entry)) settings params
+        (rooms 0 (length (now (attached .entry))))) (now (sheet .entry)) (now (attached .entry)) ⌝ }
+    ensures said { λ r. ⌜ fillSaid r ≡ outcomeDue fillValues (fillStep (cornerLists (now (xs .entry)) (now (ys .entry)) (now (pitches .entry)))
+        (now (sheet .entry)) settings params (rooms 0 (length (now (attached .entry))))) ⌝ }
 {
     let checked = arguments::check_arguments(
         xs,

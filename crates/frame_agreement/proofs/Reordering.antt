@@ -9,7 +9,7 @@ use lib.IntN.{natAbs}
 use lib.Ieee.{Float, nan}
 use lib.ListN.{length, getD, length-set, length-map}
 use Rattle.sheet.specs.Words.{emptySheet, attached}
-use Rattle.sheet.specs.Corners.{cornerOf}
+use Rattle.sheet.proofs.Corners.{listed-corner}
 use Rattle.sheet.specs.Pairing.{Shuffle, PairedCorners, PairedSheets}
 use Rattle.sheet.proofs.Words.{empty-length}
 use Rattle.sheet.proofs.Pairing.{paired-attached, paired-empty}
@@ -20,7 +20,7 @@ use Rattle.frame_line.specs.Lines.{CornerLine, LabelLine, PassLine}
 use Rattle.frame.specs.Frame.{Frame, partsOf}
 use Rattle.frame.specs.Text.{All, Sound, WithinLimits}
 use Rattle.frame.specs.ReadFrame.{floatOf, xsOf, ysOf, pitchesOf, labelled, sheetOf, settingsIn, settingsOf}
-use Rattle.frame_laws.specs.Calls.{cornersOf, callOf, callsOf}
+use Rattle.frame_laws.specs.Calls.{frameCorners, callOf, callsOf}
 use Rattle.frame_laws.proofs.Parts.{labels-sound}
 use Rattle.frame_laws.proofs.Back.{frame-prints-back}
 use Rattle.frame_laws.proofs.Runs.{frame-standing}
@@ -81,8 +81,8 @@ module _ (f f' : Frame) (w : WithinLimits f) (same : SameButOrder f f') where
   as-long : (g : CornerLine → Float) → length (map g (partsOf f' .corners)) ≡ length (map g (partsOf f .corners))
   as-long g = length-map (partsOf f' .corners) g ∙ same .count ∙ sym (length-map (partsOf f .corners) g)
 
-  corners-paired : PairedCorners (xsOf f) (ysOf f) (pitchesOf f) (xsOf f') (ysOf f') (pitchesOf f')
-  unfolding xsOf ysOf pitchesOf cornerOf pairs
+  corners-paired : PairedCorners (frameCorners f) (frameCorners f')
+  unfolding xsOf ysOf pitchesOf pairs
   corners-paired =
       record {
         same-xs = as-long (λ c. floatOf (c .x));
@@ -92,7 +92,9 @@ module _ (f f' : Frame) (w : WithinLimits f) (same : SameButOrder f f') where
         same-corner =
             λ i h.
             let k : i < length (partsOf f .corners) = omega (arith, same-length) in
-            λ t. record { position = record { x = part (λ c. floatOf (c .x)) i k t; y = part (λ c. floatOf (c .y)) i k t }; pitch = part (λ c. floatOf (c .pitch)) i k t };
+            listed-corner (frameCorners f') (pairs .to i) (subst (λ (n : ℕ). pairs .to i < n) (sym (as-long (λ c. floatOf (c .x)))) (pairs .to-in i h))
+            ∙ (λ t. record { position = record { x = part (λ c. floatOf (c .x)) i k t; y = part (λ c. floatOf (c .y)) i k t }; pitch = part (λ c. floatOf (c .pitch)) i k t })
+            ∙ sym (listed-corner (frameCorners f) i h);
       }
 
   sheets-paired : PairedSheets pairs (sheetOf f) (sheetOf f')
@@ -102,7 +104,7 @@ module _ (f f' : Frame) (w : WithinLimits f) (same : SameButOrder f f') where
       (labelled-paired pairs (λ k h. omega (arith, same-length)) (omega (arith, same-length, w .corners)) (partsOf f .labels) emptySheet emptySheet (omega (arith, empty-length)) (labels-sound f w)
       (paired-empty pairs))
 
-  pub frames-reordered : Reordered (cornersOf f) (cornersOf f') (sheetOf f) (sheetOf f')
+  pub frames-reordered : Reordered (frameCorners f) (frameCorners f') (sheetOf f) (sheetOf f')
   unfolding corners-paired
   frames-reordered = record { corners = corners-paired; labels = sheets-paired; standing = frame-standing f w }
 
@@ -127,7 +129,7 @@ module _ (f f' : Frame) (w : WithinLimits f) (same : SameButOrder f f') where
   pub limits-alike : RunAlike f f' same
   unfolding frames-reordered corners-paired pairs
   limits-alike =
-      let holds = agreement (cornersOf f) (cornersOf f') (sheetOf f) (sheetOf f') frames-reordered in
+      let holds = agreement (frameCorners f) (frameCorners f') (sheetOf f) (sheetOf f') frames-reordered in
       record {
         reordered = frames-reordered;
         paired-to = λ k. refl;
@@ -136,7 +138,7 @@ module _ (f f' : Frame) (w : WithinLimits f) (same : SameButOrder f f') where
         same-calls = calls-same;
         own-list =
             λ above.
-            subst (λ (calls : List Call). Agree (frames-reordered .corners .pairs) (sheetOf f) (sheetOf f') (run (cornersOf f) (sheetOf f) (callsOf f)) (run (cornersOf f') (sheetOf f') calls))
+            subst (λ (calls : List Call). Agree (frames-reordered .corners .pairs) (sheetOf f) (sheetOf f') (run (frameCorners f) (sheetOf f) (callsOf f)) (run (frameCorners f') (sheetOf f') calls))
             (sym calls-same) (holds (callsOf f) .agree above);
       }
 

@@ -12,7 +12,7 @@ use Rattle.agreement.specs.Agreement.{Reordered, Agree, FactorsAbove, BothRuns}
 use Rattle.frame_line.specs.Lines.{CornerLine, LabelLine}
 use Rattle.frame.specs.Frame.{Frame, partsOf, readFrame, accepted}
 use Rattle.frame.specs.ReadFrame.{sheetOf}
-use Rattle.frame_laws.specs.Calls.{cornersOf, callsOf}
+use Rattle.frame_laws.specs.Calls.{frameCorners, callsOf}
 
 -- the corner line of a number; zeros where there is none
 abbrev pub cornerLine : Frame → ℕ → CornerLine
@@ -35,13 +35,13 @@ pub record SameButOrder (f f' : Frame) : Type 0 where
 -- calls from there has the invariants in both runs and, if each call that runs has an ambiguity factor above 1, both runs agree after every call;
 -- the frames' own passes are such a list, the same for both.
 pub record RunAlike (f f' : Frame) (same : SameButOrder f f') : Type 0 where
-  pub reordered : Reordered (cornersOf f) (cornersOf f') (sheetOf f) (sheetOf f')
+  pub reordered : Reordered (frameCorners f) (frameCorners f') (sheetOf f) (sheetOf f')
   pub paired-to : (k : ℕ) → reordered .corners .pairs .to k ≡ same .pairs .to k
   pub paired-from : (k : ℕ) → reordered .corners .pairs .from k ≡ same .pairs .from k
-  pub any-list : (calls : List Call) → BothRuns (cornersOf f) (cornersOf f') (sheetOf f) (sheetOf f') reordered calls
+  pub any-list : (calls : List Call) → BothRuns (frameCorners f) (frameCorners f') (sheetOf f) (sheetOf f') reordered calls
   pub same-calls : callsOf f' ≡ callsOf f
-  pub own-list : FactorsAbove (callsOf f) (run (cornersOf f) (sheetOf f) (callsOf f))
-      → Agree (reordered .corners .pairs) (sheetOf f) (sheetOf f') (run (cornersOf f) (sheetOf f) (callsOf f)) (run (cornersOf f') (sheetOf f') (callsOf f'))
+  pub own-list : FactorsAbove (callsOf f) (run (frameCorners f) (sheetOf f) (callsOf f))
+      → Agree (reordered .corners .pairs) (sheetOf f) (sheetOf f') (run (frameCorners f) (sheetOf f) (callsOf f)) (run (frameCorners f') (sheetOf f') (callsOf f'))
 
 abbrev pub FramesRunAlike : Type 0
 FramesRunAlike =

@@ -22,7 +22,7 @@ use Rattle.passes.specs.declared.Counts.{Counts}
 use Rattle.passes.specs.declared.LocalStats.{LocalStats}
 use Rattle.passes.specs.declared.LargestResidual.{LargestResidual}
 use Rattle.passes.specs.Outcome.{After, Outcome, refused, done}
-use Rattle.passes.specs.Step.{CornerLists, unless}
+use Rattle.passes.specs.Step.{unless}
 use Rattle.passes.specs.Run.{Call, PassStats, growStats, fillStats, localStats, step, sheetAfter, run, sheetOf as sheetAfterAll}
 use Rattle.invariants.specs.Calls.{Standing, checkedCall, afterCall}
 use Rattle.invariants.proofs.Run.{step-as, call-accepted, standing-after}
@@ -31,11 +31,12 @@ use Rattle.frame.specs.Frame.{Frame, partsOf, readFrame, accepted}
 use Rattle.frame.specs.Text.{WithinLimits}
 use Rattle.frame.specs.ReadFrame.{floatOf, xsOf, sheetOf, settingsOf, FullPass, full-grow, full-fill, full-local, fullOf, passOf, wordsOf, allWords}
 use Rattle.pass_call.specs.Call.{callOf}
-use Rattle.frame_laws.specs.Calls.{cornersOf, callOf as frameCall, callsOf, NoneRefused}
+use Rattle.frame_laws.specs.Calls.{frameCorners, callOf as frameCall, callsOf, NoneRefused}
 use Rattle.frame_laws.proofs.Back.{frame-prints-back}
 use Rattle.frame_laws.proofs.Runs.{accepted-runs}
 use Rattle.count_bounds.specs.Bounds.{FewCounts, FiniteResidual, Small, small-grow, small-fill, small-local}
 use Rattle.count_bounds.proofs.Small.{small}
+use Rattle.sheet.specs.Corners.{CornerLists}
 use Rattle.sheet.specs.Words.{bitOf}
 use Rattle.report_words.specs.Outcomes.{residualWords, outcomeWords, wordAt, statsFrom, statsIn, largestCount, wildCounts, wildResidual, wildOutcome}
 use Rattle.report_words.specs.Asked.{Tame, put, withOutcome, FloatOrNone, IsFloat}
@@ -84,12 +85,12 @@ module _ (f : Frame) (rest : List ℕ) where
 
   -- the passes that are read from their words are those of the frame
   by-list : (before words : List ℕ) (ps : List PassLine) (k : ℕ) (s : Left) → length before ≡ 6 * k → words ≡ before ++ (allWords ps ++ rest)
-      → leftByAll (cornersOf f) (callAt (settingsOf f) 4096 1024 words) (length ps) k s ≡ leftByList (cornersOf f) (map (frameCall f) ps) k s
+      → leftByAll (frameCorners f) (callAt (settingsOf f) 4096 1024 words) (length ps) k s ≡ leftByList (frameCorners f) (map (frameCall f) ps) k s
   unfolding leftByAll leftByList allWords
   by-list before words [] k s e w = refl
   by-list before words (p ∷ ps) k s e w =
       by-list (before ++ wordsOf (fullOf p)) words ps (suc k) _ longer again
-      ∙ ap (λ (c : Call). leftByList (cornersOf f) (map (frameCall f) ps) (suc k) (leftBy (cornersOf f) c k s)) now
+      ∙ ap (λ (c : Call). leftByList (frameCorners f) (map (frameCall f) ps) (suc k) (leftBy (frameCorners f) c k s)) now
     where
       split : (wordsOf (fullOf p) ++ allWords ps) ++ rest ≡ wordsOf (fullOf p) ++ (allWords ps ++ rest)
       split = append-assoc (wordsOf (fullOf p)) (allWords ps) rest
@@ -292,9 +293,9 @@ said l (c ∷ cs) k sheet words none room t = go (step l sheet c) (answered l sh
 
 -- what the passes of an accepted frame leave
 abbrev pub ranOf : Frame → List ℕ → List ℕ → Left
-ranOf f passes₀ words₀ = leftByAll (cornersOf f) (callAt (settingsOf f) 4096 1024 (over (allWords (partsOf f .passes)) passes₀)) (length (partsOf f .passes)) 0 (left (sheetOf f) words₀)
+ranOf f passes₀ words₀ = leftByAll (frameCorners f) (callAt (settingsOf f) 4096 1024 (over (allWords (partsOf f .passes)) passes₀)) (length (partsOf f .passes)) 0 (left (sheetOf f) words₀)
 
-module _ (f : Frame) (w : WithinLimits f) (stands : Standing (cornersOf f) (sheetOf f)) (runs : NoneRefused (run (cornersOf f) (sheetOf f) (callsOf f))) where
+module _ (f : Frame) (w : WithinLimits f) (stands : Standing (frameCorners f) (sheetOf f)) (runs : NoneRefused (run (frameCorners f) (sheetOf f) (callsOf f))) where
   as-many : length (xsOf f) ≡ length (partsOf f .corners)
   unfolding xsOf
   as-many = length-map (partsOf f .corners) (λ c. floatOf (c .x))
@@ -303,13 +304,13 @@ module _ (f : Frame) (w : WithinLimits f) (stands : Standing (cornersOf f) (shee
   unfolding callsOf
   as-many-calls = length-map (partsOf f .passes) (frameCall f)
 
-  as-list : (passes₀ words₀ : List ℕ) → ranOf f passes₀ words₀ ≡ leftByList (cornersOf f) (callsOf f) 0 (left (sheetOf f) words₀)
+  as-list : (passes₀ words₀ : List ℕ) → ranOf f passes₀ words₀ ≡ leftByList (frameCorners f) (callsOf f) 0 (left (sheetOf f) words₀)
   unfolding callsOf
   as-list passes₀ words₀ = by-list f (drop (length (allWords (partsOf f .passes))) passes₀) [] _ (partsOf f .passes) 0 (left (sheetOf f) words₀) refl refl
 
-  last-stands : Standing (cornersOf f) (frameSheet f)
+  last-stands : Standing (frameCorners f) (frameSheet f)
   unfolding frameSheet
-  last-stands = standing-after (cornersOf f) (sheetOf f) stands (callsOf f)
+  last-stands = standing-after (frameCorners f) (sheetOf f) stands (callsOf f)
 
   record-so : (words₀ : List ℕ) → 144 ≤ length words₀ → (end : Left) → Said 0 (length (callsOf f)) words₀ (frameSheet f) (frameStats f) end
       → Recorded f (length (partsOf f .corners)) (length (partsOf f .passes)) (end .sheet) (end .words)
@@ -336,7 +337,7 @@ module _ (f : Frame) (w : WithinLimits f) (stands : Standing (cornersOf f) (shee
   unfolding frameSheet frameStats
   ran-so passes₀ words₀ long =
       subst (λ (e : Left). Recorded f (length (partsOf f .corners)) (length (partsOf f .passes)) (e .sheet) (e .words)) (sym (as-list passes₀ words₀))
-      (record-so words₀ long _ (said (cornersOf f) (callsOf f) 0 (sheetOf f) words₀ runs (omega (arith, as-many-calls, w .passes, long)) (λ i h. absurd (not-suc-le-zero h))))
+      (record-so words₀ long _ (said (frameCorners f) (callsOf f) 0 (sheetOf f) words₀ runs (omega (arith, as-many-calls, w .passes, long)) (λ i h. absurd (not-suc-le-zero h))))
 
 pub recorded : (text : List ℕ) (f : Frame) → readFrame text ≡ accepted f → (passes₀ words₀ : List ℕ) → 96 ≤ length passes₀ → 144 ≤ length words₀
     → Recorded f (length (partsOf f .corners)) (length (partsOf f .passes)) (ranOf f passes₀ words₀ .sheet) (ranOf f passes₀ words₀ .words)

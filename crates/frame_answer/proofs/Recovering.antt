@@ -11,17 +11,17 @@ use lib.ListN.{length, take, drop, set, length-set, length-append, length-drop, 
 use lib.Ieee.{Float}
 use Rattle.refusal.specs.declared.Refusal.{Refusal}
 use Rattle.arguments.specs.declared.Settings.{Settings}
-use Rattle.passes.specs.Step.{CornerLists, cornerLists}
 use Rattle.frame.specs.Frame.{Frame, partsOf, FrameRead, refused-at, accepted, readFrame}
 use Rattle.frame.specs.Text.{WithinLimits}
 use Rattle.frame.specs.ReadFrame.{floatOf, xsOf, ysOf, pitchesOf, sheetOf, labelled, settingsOf, FullPass, full-grow, full-fill, full-local, fullOf, wordsOf, allWords, Buffers, FrameOut, frameOut, tooShort, leaves, unlessShort, readInto}
 use Rattle.frame_line.specs.Lines.{CornerLine, LabelLine, PassLine}
+use Rattle.sheet.specs.Corners.{CornerLists, cornerLists}
 use Rattle.sheet.specs.Words.{emptySheet, attached}
 use Rattle.sizes.specs.Sizes.{allOutcomeWords}
 use Rattle.sheet.proofs.Words.{empty-length}
 use Rattle.frame.specs.declared.FrameHead.{FrameHead}
 use Rattle.frame.specs.declared.FrameAnswer.{FrameAnswer}
-use Rattle.frame_laws.specs.Calls.{cornersOf, callsOf}
+use Rattle.frame_laws.specs.Calls.{frameCorners, callsOf}
 use Rattle.frame_laws.proofs.Back.{frame-prints-back}
 use Rattle.arguments.specs.Front.{over}
 use Rattle.frame_passes.specs.Running.{callAt, Left, left, leftByAll, PassWords, AtFront}
@@ -160,7 +160,7 @@ module _ (text : List ℕ) (xs ys pitches : List Float) (sheet passes : List ℕ
         let d : length pitches' ≡ length pitches = ap length (w .pitches-so) ∙ over-long (pitchesOf f) pitches (omega (arith, length-map (partsOf f .corners) (λ (c : CornerLine). floatOf (c .pitch)), few, room .pitches-long)) in
         record { in-xs = omega (arith, count, a, few, room .xs-long); in-ys = omega (arith, count, b, few, room .ys-long); in-pitches = omega (arith, count, d, few, room .pitches-long) }
 
-    corners-read : (head : FrameHead) (w : Read head) → cornerLists (take (head .corners) xs') (take (head .corners) ys') (take (head .corners) pitches') ≡ cornersOf (w .frame)
+    corners-read : (head : FrameHead) (w : Read head) → cornerLists (take (head .corners) xs') (take (head .corners) ys') (take (head .corners) pitches') ≡ frameCorners (w .frame)
     unfolding xsOf ysOf pitchesOf
     corners-read head w =
         let f = w .frame in
@@ -202,7 +202,7 @@ module _ (text : List ℕ) (xs ys pitches : List Float) (sheet passes : List ℕ
         settings-so : head .settings ≡ settingsOf f
         settings-so = ap (λ (h : FrameHead). h .settings) (w .head-so)
 
-        so : left (after .frame .sheet) (after .words) ≡ leftByAll (cornersOf f) (callAt (settingsOf f) 4096 1024 (over (allWords (partsOf f .passes)) passes)) (length (partsOf f .passes)) 0 (left (sheetOf f) words)
+        so : left (after .frame .sheet) (after .words) ≡ leftByAll (frameCorners f) (callAt (settingsOf f) 4096 1024 (over (allWords (partsOf f .passes)) passes)) (length (partsOf f .passes)) 0 (left (sheetOf f) words)
         so =
             g
             ∙ same words (corners-read head w) settings-so (r .queue-whole) (r .attached-whole) (w .passes-so) passes-count (sheet-read head w)

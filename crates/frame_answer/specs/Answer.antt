@@ -13,7 +13,7 @@ use Rattle.passes.specs.Outcome.{After, Outcome, refused, done}
 use Rattle.passes.specs.Run.{PassStats, run, sheetOf as sheetAfterAll}
 use Rattle.frame.specs.Frame.{Frame, partsOf, FrameRead, refused-at, accepted, readFrame}
 use Rattle.frame.specs.ReadFrame.{sheetOf, Buffers}
-use Rattle.frame_laws.specs.Calls.{cornersOf, callsOf}
+use Rattle.frame_laws.specs.Calls.{frameCorners, callsOf}
 use Rattle.report_line.specs.Refused.{refusedText}
 use Rattle.report_line.specs.Result.{resultText, resultFrom, Piece, resultPiece, lineCount}
 use Rattle.sizes.specs.Sizes.{placeCount, cornerLimit, passLimit, outcomeSize}
@@ -33,10 +33,10 @@ statsOf (done a ∷ os) = a .answer ∷ statsOf os
 
 -- the passes as run, and the sheet that they leave
 unfoldable pub frameStats : Frame → List PassStats
-frameStats f = statsOf (run (cornersOf f) (sheetOf f) (callsOf f))
+frameStats f = statsOf (run (frameCorners f) (sheetOf f) (callsOf f))
 
 unfoldable pub frameSheet : Frame → List ℕ
-frameSheet f = sheetAfterAll (cornersOf f) (sheetOf f) (callsOf f)
+frameSheet f = sheetAfterAll (frameCorners f) (sheetOf f) (callsOf f)
 
 unfoldable pub answerOf : FrameRead → List ℕ
 answerOf (refused-at r line) = refusedText r line

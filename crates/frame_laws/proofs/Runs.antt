@@ -13,12 +13,12 @@ use lib.Ieee.{Float, nan, ofBits, ofInt, le}
 use lib.ListN.{length, getD, length-map}
 use Rattle.binary32.specs.Ranges.{endsOf, inRange}
 use Rattle.binary32.specs.declared.ranges.Quantity.{Quantity}
-use Rattle.sheet.specs.Corners.{cornerOf}
+use Rattle.sheet.specs.Corners.{CornerLists, cornerOf}
+use Rattle.sheet.proofs.Corners.{listed-corner}
 use Rattle.arguments.specs.Arguments.{outside, queueNeeded}
 use Rattle.arguments.specs.declared.Pass.{Pass}
 use Rattle.arguments.specs.Accepted.{CornerInside, SettingsInside, PassInside}
 use Rattle.passes.specs.Outcome.{Outcome}
-use Rattle.passes.specs.Step.{CornerLists}
 use Rattle.passes.specs.Run.{Call, PassStats, step, sheetAfter, run}
 use Rattle.invariants.specs.Calls.{Standing, CallInside}
 use Rattle.invariants.proofs.Run.{standing-step, fit-accepts, never-refused, invariants}
@@ -33,7 +33,7 @@ use Rattle.frame.specs.Frame.{Frame, Opening, Parts, opened, adding, added, par
 use Rattle.frame.specs.Text.{All, InOrder, ends, next, InRange, WithinLimits}
 use Rattle.frame.specs.ReadFrame.{floatOf, xsOf, ysOf, pitchesOf, sheetOf, settingsOf, fullOf, passOf}
 use Rattle.frame.proofs.Adding.{below-or-not}
-use Rattle.frame_laws.specs.Calls.{cornersOf, frameRooms, callOf, callsOf, NoneRefused, Starts, AcceptedRuns}
+use Rattle.frame_laws.specs.Calls.{frameCorners, frameRooms, callOf, callsOf, NoneRefused, Starts, AcceptedRuns}
 use Rattle.frame_laws.proofs.Order.{comes, later-opens, ends-late}
 use Rattle.frame_laws.proofs.Parts.{all-map, kept, parts-tame}
 use Rattle.frame_laws.proofs.Back.{frame-prints-back}
@@ -102,18 +102,19 @@ module _ (f : Frame) (w : WithinLimits f) where
   unfolding xsOf
   same-length = length-map (partsOf f .corners) (λ c. floatOf (c .x))
 
-  corners-inside : (k : ℕ) → k < length (xsOf f) → CornerInside (cornerOf (xsOf f) (ysOf f) (pitchesOf f) k)
-  unfolding cornerOf xsOf ysOf pitchesOf
+  corners-inside : (k : ℕ) → k < length (xsOf f) → CornerInside (cornerOf (frameCorners f) k)
+  unfolding xsOf ysOf pitchesOf
   corners-inside k h =
       let l : k < length (partsOf f .corners) = omega (arith, same-length) in
       let cs = partsOf f .corners in
-      record {
+      rw (listed-corner (frameCorners f) k h)
+      (record {
         x = each-float Quantity.Position (λ c. floatOf (c .x)) cs (all-map (λ c t. inside Quantity.Position (c .x) (t .0)) cs (parts-tame f w .corners)) k l;
         y = each-float Quantity.Position (λ c. floatOf (c .y)) cs (all-map (λ c t. inside Quantity.Position (c .y) (t .1 .0)) cs (parts-tame f w .corners)) k l;
         pitch =
             each-float Quantity.Pitch (λ c. floatOf (c .pitch)) cs (all-map (λ c t. inside Quantity.Pitch (c .pitch) (t .1 .1)) cs (parts-tame f w .corners)) k
             l;
-      }
+      })
 
   settings-inside : SettingsInside (settingsOf f)
   unfolding settingsOf partsOf
@@ -156,7 +157,7 @@ module _ (f : Frame) (w : WithinLimits f) where
   few : length (xsOf f) ≤ cornerLimit
   few = omega (arith, same-length, w .corners)
 
-  pass-fit : (p : PassLine) → PassTame p → CallInside (cornersOf f) (callOf f p)
+  pass-fit : (p : PassLine) → PassTame p → CallInside (frameCorners f) (callOf f p)
   pass-fit p t =
       let c = called (passOf (fullOf p)) (length (xsOf f)) few (pass-inside p t) in
       record {
@@ -168,27 +169,26 @@ module _ (f : Frame) (w : WithinLimits f) where
         pass-inside = c .0;
       }
 
-  passes-fit : (ps : List PassLine) → All PassTame ps → All (CallInside (cornersOf f)) (map (callOf f) ps)
+  passes-fit : (ps : List PassLine) → All PassTame ps → All (CallInside (frameCorners f)) (map (callOf f) ps)
   passes-fit [] t = tt
   passes-fit (p ∷ ps) t = (pass-fit p (t .0), passes-fit ps (t .1))
 
-  calls-fit : All (CallInside (cornersOf f)) (callsOf f)
+  calls-fit : All (CallInside (frameCorners f)) (callsOf f)
   unfolding callsOf
   calls-fit = passes-fit (partsOf f .passes) (parts-tame f w .passes)
 
   -- ---- the corners and the given labels
 
-  pub frame-standing : Standing (cornersOf f) (sheetOf f)
+  pub frame-standing : Standing (frameCorners f) (sheetOf f)
   unfolding xsOf ysOf pitchesOf
   frame-standing =
       record {
-        given =
+        listed =
             record {
-              long = sheet-long f w;
               ys-long = omega (arith, same-length, length-map (partsOf f .corners) (λ c. floatOf (c .y)));
               pitches-long = omega (arith, same-length, length-map (partsOf f .corners) (λ c. floatOf (c .pitch)));
-              known = λ p k h e. omega (arith, same-length, corner-known f w p k h e);
             };
+        given = record { long = sheet-long f w; known = λ p k h e. omega (arith, same-length, corner-known f w p k h e) };
         one-cell = one-cell f w;
       }
 
@@ -209,10 +209,10 @@ limits-start f w =
     record {
       given = given-labels f w;
       standing = s;
-      invariant = invariants (cornersOf f) (sheetOf f) s;
+      invariant = invariants (frameCorners f) (sheetOf f) s;
       fit = calls-fit f w;
-      accepts = λ cs. all-map (λ c g. never-refused (cornersOf f) (sheetOf f) s cs c g) (callsOf f) (calls-fit f w);
-      runs = none-refused (cornersOf f) (sheetOf f) s (callsOf f) (calls-fit f w);
+      accepts = λ cs. all-map (λ c g. never-refused (frameCorners f) (sheetOf f) s cs c g) (callsOf f) (calls-fit f w);
+      runs = none-refused (frameCorners f) (sheetOf f) s (callsOf f) (calls-fit f w);
     }
 
 pub accepted-runs : AcceptedRuns

@@ -5,11 +5,12 @@ use mathlib.Core.Bool.{false}
 use mathlib.Core.List.{List, [], _∷_, List·Memᴰ, map}
 use Prim.Native.Nat.{ℕ, _*_}
 use lib.IntN.{pos, natAbs}
+use Rattle.sheet.specs.Corners.{CornerLists}
 use Rattle.sheet.specs.Words.{labelAt, holeAt, ambiguousAt}
 use Rattle.sheet.specs.declared.Cell.{Cell}
 use Rattle.sheet.specs.declared.Label.{Label}
 use Rattle.passes.specs.Outcome.{Outcome, refused, done}
-use Rattle.passes.specs.Step.{CornerLists, Rooms}
+use Rattle.passes.specs.Step.{Rooms}
 use Rattle.passes.specs.Run.{Call, PassStats, run, sheetOf as sheetLeft}
 use Rattle.invariants.specs.Calls.{Standing, Invariant, CallInside, Accepts}
 use Rattle.frame_line.specs.Lines.{LabelLine, PassLine}
@@ -19,8 +20,8 @@ use Rattle.frame.specs.Text.{All}
 use Rattle.frame.specs.ReadFrame.{xsOf, ysOf, pitchesOf, sheetOf, settingsOf, fullOf, passOf}
 
 -- the corners of a frame, as each call is lent them
-abbrev pub cornersOf : Frame → CornerLists
-cornersOf f = record { xs = xsOf f; ys = ysOf f; pitches = pitchesOf f }
+abbrev pub frameCorners : Frame → CornerLists
+frameCorners f = record { xs = xsOf f; ys = ysOf f; pitches = pitchesOf f }
 
 -- ---- the sheet of the given labels
 
@@ -64,11 +65,11 @@ NoneRefused (done a ∷ os) = NoneRefused os
 -- of calls, and none is in the frame's own run.
 pub record Starts (f : Frame) : Type 0 where
   pub given : GivenLabels f
-  pub standing : Standing (cornersOf f) (sheetOf f)
-  pub invariant : (calls : List Call) → Invariant (cornersOf f) (sheetOf f) calls
-  pub fit : All (CallInside (cornersOf f)) (callsOf f)
-  pub accepts : (calls : List Call) → All (Accepts (cornersOf f) (sheetLeft (cornersOf f) (sheetOf f) calls)) (callsOf f)
-  pub runs : NoneRefused (run (cornersOf f) (sheetOf f) (callsOf f))
+  pub standing : Standing (frameCorners f) (sheetOf f)
+  pub invariant : (calls : List Call) → Invariant (frameCorners f) (sheetOf f) calls
+  pub fit : All (CallInside (frameCorners f)) (callsOf f)
+  pub accepts : (calls : List Call) → All (Accepts (frameCorners f) (sheetLeft (frameCorners f) (sheetOf f) calls)) (callsOf f)
+  pub runs : NoneRefused (run (frameCorners f) (sheetOf f) (callsOf f))
 
 abbrev pub AcceptedRuns : Type 0
 AcceptedRuns = (text : List ℕ) (f : Frame) → readFrame text ≡ accepted f → Starts f

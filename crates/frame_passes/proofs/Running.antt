@@ -5,10 +5,10 @@ use Prim.Native.Nat.{ℕ, suc, _-_, _<_, _≤_}
 use native.Mathlib.Omega.{arith}
 use native.Mathlib.Nat.{sub-zero}
 use lib.ListN.{length}
+use Rattle.sheet.specs.Corners.{CornerLists}
 use Rattle.arguments.specs.declared.Pass.{Pass}
 use Rattle.arguments.specs.declared.Settings.{Settings}
 use Rattle.passes.specs.Outcome.{After, Outcome, refused, done}
-use Rattle.passes.specs.Step.{CornerLists}
 use Rattle.passes.specs.Run.{Call, PassStats, growStats, fillStats, localStats, step, sheetAfter}
 use Rattle.passes.specs.declared.Counts.{Counts}
 use Rattle.passes.specs.declared.PassAnswer.{PassAnswer}

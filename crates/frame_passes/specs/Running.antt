@@ -5,10 +5,10 @@ use Prim.Native.Nat.{ℕ, zero, suc, _+_, _*_, _<_, _≤_}
 use lib.Dec.{eqb}
 use lib.ListN.{length, getD}
 use lib.Ieee.{Float}
+use Rattle.sheet.specs.Corners.{CornerLists}
 use Rattle.arguments.specs.declared.Pass.{Pass}
 use Rattle.arguments.specs.declared.Settings.{Settings}
 use Rattle.passes.specs.Outcome.{Outcome, refused, done}
-use Rattle.passes.specs.Step.{CornerLists}
 use Rattle.passes.specs.Run.{Call, PassStats, step, sheetAfter}
 use Rattle.pass_call.specs.Call.{callOf}
 use Rattle.frame.specs.ReadFrame.{growOf, fillOf, localOf}

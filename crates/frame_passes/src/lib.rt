@@ -3,7 +3,7 @@ ghost use mathlib.Core.Path.{_≡_};
 ghost use Prim.Native.Nat.{_<_, _≤_};
 ghost use lib.ListN.{length, take};
 ghost use lib.Ieee.{binary32, ofBits};
-ghost use Rattle.passes.specs.Step.{cornerLists};
+ghost use Rattle.sheet.specs.Corners.{cornerLists};
 ghost use Rattle.pass_call.specs.Call.{callOf};
 ghost use Rattle.sizes.specs.Sizes.{passLimit, allPassWords, allOutcomeWords};
 ghost use Rattle.frame_passes.specs.Running.{passAt, callAt, left, leftBy, leftByAll, RoomFor, PassWords, AtFront};

@@ -5,10 +5,10 @@ use Prim.Native.Nat.{ℕ, _<_, _≤_}
 use native.Mathlib.Omega.{arith}
 use borrow.Author.Tests.{lt-ltb, le-ltb}
 use lib.ListN.{length}
+use Rattle.sheet.specs.Corners.{CornerLists}
 use Rattle.arguments.specs.declared.Pass.{Pass}
 use Rattle.arguments.specs.declared.Settings.{Settings}
 use Rattle.passes.specs.Outcome.{After, Outcome, refused, done}
-use Rattle.passes.specs.Step.{CornerLists}
 use Rattle.passes.specs.Run.{PassStats, growStats, fillStats, localStats, step}
 use Rattle.passes.specs.declared.PassAnswer.{PassAnswer}
 use Rattle.pass_call.specs.Call.{callOf, doneAnswer, PassOut, passOut, passLeaves}

@@ -12,7 +12,7 @@ use lib.Ieee.{Float}
 use Rattle.refusal.specs.declared.Refusal.{Refusal}
 use Rattle.sheet.specs.Cells.{placeOf, cellOf}
 use Rattle.sheet.specs.Words.{attached, holeMarked, ambiguousMarked}
-use Rattle.sheet.specs.Corners.{seenOf, Given}
+use Rattle.sheet.specs.Corners.{Corners, CornerLists, cornersOf, seenOf, Given}
 use Rattle.sheet.specs.declared.Cell.{Cell}
 use Rattle.sheet.specs.declared.Position.{Position}
 use Rattle.labels.specs.Labelled.{labelledPlaces, labelCount}
@@ -21,20 +21,20 @@ use Rattle.labels.specs.Used.{usedOn, Tied}
 use Rattle.labels.proofs.Used.{tied-hole, tied-ambiguous, tied-attached}
 use Rattle.predict.specs.Predict.{predictionOf, extrapolating}
 use Rattle.predict.specs.declared.Prediction.{Prediction}
-use Rattle.arguments.specs.Arguments.{lent, checked, queueNeeded}
+use Rattle.arguments.specs.Arguments.{checked, queueNeeded}
 use Rattle.arguments.specs.Accepted.{Accepted}
 use Rattle.arguments.proofs.Laws.{accepted}
 use Rattle.arguments.specs.declared.Checked.{Checked}
 use Rattle.arguments.specs.declared.GrowParams.{GrowParams}
 use Rattle.arguments.specs.declared.Pass.{Pass}
 use Rattle.arguments.specs.declared.Settings.{Settings}
-use Rattle.extension_common.specs.TryCell.{Corners, cornersOf, tryAt}
+use Rattle.extension_common.specs.TryCell.{tryAt}
 use Rattle.extension_common.specs.declared.Search.{Search}
 use Rattle.extension_common.specs.declared.TryCellResult.{TryCellResult}
 use Rattle.passes.specs.Outcome.{done}
 use Rattle.passes.specs.Counting.{oneMore}
 use Rattle.passes.specs.Grow.{GrowState, noCounts, tolerancesOf, searchOf, spread, startOf, growWith, growAt, growVisit, growFrom, growRun, growAfter}
-use Rattle.passes.specs.Step.{growStep, GrowOut, growOut, growLeaves, cornerLists, rooms}
+use Rattle.passes.specs.Step.{growStep, GrowOut, growOut, growLeaves, lentOf, rooms}
 use Rattle.passes.specs.Said.{growValues, growSaid, outcomeDue}
 use Rattle.passes.specs.declared.Counts.{Counts}
 use Rattle.passes.specs.declared.GrowAnswer.{GrowAnswer}
@@ -111,16 +111,16 @@ module _ {sheet queue attached used seen : List ℕ} {c : Cell} {found : TryCell
     settled-edge e m n = rw (n, m, e) (marked (holeMarked sheet c) _ (tied-hole sheet c (w .long) (w .on) (w .used-tied)))
 
 -- a cell that is visited, and what was found there
-pub visit-settled : (xs ys pitches : List Float) (set : Settings) (p : GrowParams) (sheet queue news : List ℕ) (c : Cell) (at : Progress) (found : TryCellResult) → found ≡ foundAt (cornersOf xs ys pitches) set p sheet c
+pub visit-settled : (cs : Corners) (set : Settings) (p : GrowParams) (sheet queue news : List ℕ) (c : Cell) (at : Progress) (found : TryCellResult) → found ≡ foundAt cs set p sheet c
     → (sheet' queue' news' used' seen' : List ℕ) (at' : Progress) → Leaves queue news sheet' queue' news' used' seen' at' (growWith c found (stateOf sheet queue news at))
-    → Leaves queue news sheet' queue' news' used' seen' at' (growVisit (cornersOf xs ys pitches) set p c (stateOf sheet queue news at))
-visit-settled xs ys pitches set p sheet queue news c at found is sheet' queue' news' used' seen' at' l =
+    → Leaves queue news sheet' queue' news' used' seen' at' (growVisit cs set p c (stateOf sheet queue news at))
+visit-settled cs set p sheet queue news c at found is sheet' queue' news' used' seen' at' l =
     subst (λ (s : GrowState). Leaves queue news sheet' queue' news' used' seen' at' s)
-    (ap (λ (r : TryCellResult). growWith c r (stateOf sheet queue news at)) is ∙ visit-as (cornersOf xs ys pitches) set p c (stateOf sheet queue news at)) l
+    (ap (λ (r : TryCellResult). growWith c r (stateOf sheet queue news at)) is ∙ visit-as cs set p c (stateOf sheet queue news at)) l
 
-pub visit-settleable : {xs ys pitches : List Float} (set : Settings) (p : GrowParams) {sheet queue news used seen : List ℕ} {c : Cell} {at : Progress} → Visitable xs ys pitches sheet queue news used seen c at
-    → {found : TryCellResult} → found ≡ foundAt (cornersOf xs ys pitches) set p sheet c → Settleable sheet queue news used seen c found at
-visit-settleable {xs} {ys} {pitches} set p {sheet} {queue} {news} {used} {seen} {c} {at} w is =
+pub visit-settleable : (cs : Corners) (set : Settings) (p : GrowParams) {sheet queue news used seen : List ℕ} {c : Cell} {at : Progress} → Visitable (cs .count) sheet queue news used seen c at
+    → {found : TryCellResult} → found ≡ foundAt cs set p sheet c → Settleable sheet queue news used seen c found at
+visit-settleable cs set p {sheet} {queue} {news} {used} {seen} {c} {at} w is =
     record {
       long = w .given .long;
       on = w .on;
@@ -129,10 +129,10 @@ visit-settleable {xs} {ys} {pitches} set p {sheet} {queue} {news} {used} {seen} 
       small = w .small;
       used-tied = w .used-tied;
       seen-flagged = w .seen-flagged;
-      to-attach = λ k e. attach k (found-spare (cornersOf xs ys pitches) set p sheet c k (sym is ∙ e));
+      to-attach = λ k e. attach k (found-spare cs set p sheet c k (sym is ∙ e));
     }
   where
-    attach : (k : ℕ) → Free (cornersOf xs ys pitches) sheet k → Attachable sheet queue news used seen c k at
+    attach : (k : ℕ) → Free cs sheet k → Attachable sheet queue news used seen c k at
     attach k f =
         record {
           attaching = record { long = w .given .long; on = w .on; bare = w .bare; corner-fits = omega (arith, f .given, w .few) };
@@ -228,22 +228,22 @@ leaves-then {queue} {news} {s₁ = s₁} {s₂ = s₂} a b g =
 
 -- A run that has visited `head` cells: what the buffers hold is a state of the definition's run, and with the cells that are left it is
 -- what it shall be.
-pub record Running (xs ys pitches : List Float) (set : Settings) (p : GrowParams) (sheet queue news : List ℕ) (sheet' queue' news' used' seen' : List ℕ) (at : Progress) (head : ℕ) : Type 0 where
+pub record Running (cs : Corners) (set : Settings) (p : GrowParams) (sheet queue news : List ℕ) (sheet' queue' news' used' seen' : List ℕ) (at : Progress) (head : ℕ) : Type 0 where
   pub state : GrowState
   pub leaves : Leaves queue news sheet' queue' news' used' seen' at state
-  pub going : Going (cornersOf xs ys pitches) head state
+  pub going : Going cs head state
   pub sheet-same : length sheet' ≡ length sheet
-  pub rest : growFrom (cornersOf xs ys pitches) set p (4 * length xs - head) head state ≡ growRun (cornersOf xs ys pitches) set p sheet
+  pub rest : growFrom cs set p (4 * cs .count - head) head state ≡ growRun cs set p sheet
 
-module _ {xs ys pitches : List Float} {sheet queue news used seen : List ℕ} {tail : ℕ} (w : Startable xs ys pitches sheet queue news used seen tail) where
-  start-fit : Belongs (cornersOf xs ys pitches) sheet
+module _ (cs : Corners) {sheet queue news used seen : List ℕ} {tail : ℕ} (w : Startable (cs .count) sheet queue news used seen tail) where
+  start-fit : Belongs cs sheet
   start-fit = record { long = w .given .long; few = w .few; known = w .given .known; one-cell = w .one-cell }
 
   start-in : tail ≤ length queue
   unfolding labelCount startOf
-  start-in = omega (arith, w .count, queue-few (start-going (cornersOf xs ys pitches) sheet start-fit), w .queue-long)
+  start-in = omega (arith, w .count, queue-few (start-going cs sheet start-fit), w .queue-long)
 
-  pub running-start : (set : Settings) (p : GrowParams) → Running xs ys pitches set p sheet queue news sheet queue news used seen (record { tail = tail; counts = noCounts }) 0
+  pub running-start : (set : Settings) (p : GrowParams) → Running cs set p sheet queue news sheet queue news used seen (record { tail = tail; counts = noCounts }) 0
   unfolding startOf growRun
   running-start set p =
       record {
@@ -258,12 +258,12 @@ module _ {xs ys pitches : List Float} {sheet queue news used seen : List ℕ} {t
               used-tied = w .used-tied;
               seen-flagged = w .seen-flagged;
             };
-        going = start-going (cornersOf xs ys pitches) sheet start-fit;
+        going = start-going cs sheet start-fit;
         sheet-same = refl;
-        rest = let e : 4 * length xs - 0 ≡ 4 * length xs = omega arith in ap (λ (m : ℕ). growFrom (cornersOf xs ys pitches) set p m 0 (startOf sheet)) e;
+        rest = let e : 4 * cs .count - 0 ≡ 4 * cs .count = omega arith in ap (λ (m : ℕ). growFrom cs set p m 0 (startOf sheet)) e;
       }
 
-  module _ {set : Settings} {p : GrowParams} {sheet' queue' news' used' seen' : List ℕ} {at : Progress} {head : ℕ} (r : Running xs ys pitches set p sheet queue news sheet' queue' news' used' seen' at head) where
+  module _ {set : Settings} {p : GrowParams} {sheet' queue' news' used' seen' : List ℕ} {at : Progress} {head : ℕ} (r : Running cs set p sheet queue news sheet' queue' news' used' seen' at head) where
     pub running-queue : length queue' ≡ length queue
     running-queue = rw (r .leaves .queue-is) (over-length (r .state .queued) queue (omega (arith, queue-few (r .going), w .queue-long)))
 
@@ -297,12 +297,12 @@ module _ {xs ys pitches : List Float} {sheet queue news used seen : List ℕ} {t
           rw (r .leaves .counts-are)
           (record { attached-small = omega arith; no-candidate-small = omega arith; ambiguous-small = omega arith; edge-small = omega arith })
 
-      pub running-visitable : {c : Cell} → c ≡ cellOf (getD queue' head 0) → Visitable xs ys pitches sheet' queue' news' used' seen' c at
+      pub running-visitable : {c : Cell} → c ≡ cellOf (getD queue' head 0) → Visitable (cs .count) sheet' queue' news' used' seen' c at
       running-visitable {c} e =
           let g = r .going in
           let l = r .leaves in
           let d : c ≡ nextOf (r .state) head = e ∙ ap cellOf next-place in
-          let given : Given xs ys pitches sheet' = rw (l .sheet-is) (record { long = g .fit .long; ys-long = w .given .ys-long; pitches-long = w .given .pitches-long; known = g .fit .known }) in
+          let given : Given (cs .count) sheet' = rw (l .sheet-is) (record { long = g .fit .long; known = g .fit .known }) in
           record {
             given = given;
             few = w .few;
@@ -316,42 +316,48 @@ module _ {xs ys pitches : List Float} {sheet queue news used seen : List ℕ} {t
             spare = λ k h f. spare k h (rw (l .sheet-is) at f);
           }
         where
-          spare : (k : ℕ) → k < length xs → usedOn (r .state .sheet) k ≡ false → Spare queue' news' at
+          spare : (k : ℕ) → k < cs .count → usedOn (r .state .sheet) k ≡ false → Spare queue' news' at
           spare k h f =
-              let free : Free (cornersOf xs ys pitches) (r .state .sheet) k = record { given = h; free = f } in
+              let free : Free cs (r .state .sheet) k = record { given = h; free = f } in
               record {
                 queue-room = omega (arith, r .leaves .tail-is, room-left (r .going) here k free, running-queue, w .queue-long);
                 attached-room = rw (r .leaves .counts-are) (omega (arith, r .going .made-counted, slot-left (r .going) here k free, running-news, w .attached-long));
               }
 
       pub running-more : {c : Cell} → c ≡ cellOf (getD queue' head 0) → {sheet₂ queue₂ news₂ used₂ seen₂ : List ℕ} {at₂ : Progress}
-          → Leaves queue' news' sheet₂ queue₂ news₂ used₂ seen₂ at₂ (growVisit (cornersOf xs ys pitches) set p c (stateOf sheet' queue' news' at)) → Running xs ys pitches set p sheet queue news sheet₂ queue₂ news₂ used₂ seen₂ at₂ (head + 1)
+          → Leaves queue' news' sheet₂ queue₂ news₂ used₂ seen₂ at₂ (growVisit cs set p c (stateOf sheet' queue' news' at)) → Running cs set p sheet queue news sheet₂ queue₂ news₂ used₂ seen₂ at₂ (head + 1)
       running-more {c} e {sheet₂} {queue₂} {news₂} {used₂} {seen₂} {at₂} m =
           let d : c ≡ nextOf (r .state) head = e ∙ ap cellOf next-place in
-          let next = growVisit (cornersOf xs ys pitches) set p (nextOf (r .state) head) (r .state) in
+          let next = growVisit cs set p (nextOf (r .state) head) (r .state) in
           let l : Leaves queue' news' sheet₂ queue₂ news₂ used₂ seen₂ at₂ next = rw (d, read) at m in
-          let grown = visit-grown (cornersOf xs ys pitches) set p (nextOf (r .state) head) (r .state) in
-          let fuel : 4 * length xs - head ≡ suc (4 * length xs - (head + 1)) = omega (arith, here, queue-few (r .going)) in
+          let grown = visit-grown cs set p (nextOf (r .state) head) (r .state) in
+          let fuel : 4 * cs .count - head ≡ suc (4 * cs .count - (head + 1)) = omega (arith, here, queue-few (r .going)) in
           record {
             state = next;
             leaves = leaves-then (r .leaves) l grown;
-            going = visit-going (cornersOf xs ys pitches) set p head (r .state) (r .going) here;
+            going = visit-going cs set p head (r .state) (r .going) here;
             sheet-same = ap length (l .sheet-is) ∙ grown .sheet-same ∙ sym (ap length (r .leaves .sheet-is)) ∙ r .sheet-same;
             rest =
-                sym (from-next (cornersOf xs ys pitches) set p (4 * length xs - (head + 1)) head (r .state) here)
-                ∙ sym (ap (λ (m : ℕ). growFrom (cornersOf xs ys pitches) set p m head (r .state)) fuel)
+                sym (from-next cs set p (4 * cs .count - (head + 1)) head (r .state) here)
+                ∙ sym (ap (λ (m : ℕ). growFrom cs set p m head (r .state)) fuel)
                 ∙ r .rest;
           }
 
-    pub running-end : at .tail ≤ head → Leaves queue news sheet' queue' news' used' seen' at (growRun (cornersOf xs ys pitches) set p sheet)
+    pub running-end : at .tail ≤ head → Leaves queue news sheet' queue' news' used' seen' at (growRun cs set p sheet)
     running-end h =
-        let e = sym (from-ended (cornersOf xs ys pitches) set p (4 * length xs - head) head (r .state) (omega (arith, r .leaves .tail-is))) ∙ r .rest in
+        let e = sym (from-ended cs set p (4 * cs .count - head) head (r .state) (omega (arith, r .leaves .tail-is))) ∙ r .rest in
         subst (λ (s : GrowState). Leaves queue news sheet' queue' news' used' seen' at s) e (r .leaves)
 
 -- ---- the call
 
-module _ (xs ys pitches : List Float) (set : Settings) (p : GrowParams) (sheet queue news : List ℕ) where
-  module _ (a : Accepted (lent xs ys pitches sheet (length queue) (length news)) set (Pass.Grow p)) where
+-- the run on the corners that are lent, by that on those that are held
+pub run-lent : {cs cs' : Corners} (set : Settings) (p : GrowParams) (sheet : List ℕ) {queue news sheet' queue' news' used' seen' : List ℕ} {at : Progress} → cs ≡ cs'
+    → Leaves queue news sheet' queue' news' used' seen' at (growRun cs set p sheet) → Leaves queue news sheet' queue' news' used' seen' at (growRun cs' set p sheet)
+run-lent set p sheet {queue} {news} {sheet'} {queue'} {news'} {used'} {seen'} {at} e l =
+    subst (λ (cs : Corners). Leaves queue news sheet' queue' news' used' seen' at (growRun cs set p sheet)) e l
+
+module _ (corners : CornerLists) (set : Settings) (p : GrowParams) (sheet queue news : List ℕ) where
+  module _ (a : Accepted (lentOf corners sheet (rooms (length queue) (length news))) set (Pass.Grow p)) where
     seeds-few : 4 * labelCount sheet ≤ length queue
     unfolding queueNeeded
     seeds-few = omega (arith, a .queue-long, labels-few (belongs-accepted a))
@@ -365,7 +371,7 @@ module _ (xs ys pitches : List Float) (set : Settings) (p : GrowParams) (sheet q
       unfolding labelCount
       same = holds-length h (omega (arith, seeded-longer sheet (labelledPlaces sheet) [] .few, seeds-few))
 
-      pub call-startable : {used : List ℕ} → Tied sheet used → Startable xs ys pitches sheet queue' news used seen' tail
+      pub call-startable : {used : List ℕ} → Tied sheet used → Startable (length (corners .xs)) sheet queue' news used seen' tail
       unfolding queueNeeded
       call-startable t =
           record {
@@ -381,48 +387,48 @@ module _ (xs ys pitches : List Float) (set : Settings) (p : GrowParams) (sheet q
           }
 
       -- the sheet's length is kept, so that the rim can be looked for
-      pub call-long : {sheet₂ queue₂ news₂ used₂ seen₂ : List ℕ} {end : Progress} → Leaves queue' news sheet₂ queue₂ news₂ used₂ seen₂ end (growRun (cornersOf xs ys pitches) set p sheet) → 16384 ≤ length sheet₂
+      pub call-long : {sheet₂ queue₂ news₂ used₂ seen₂ : List ℕ} {end : Progress} → Leaves queue' news sheet₂ queue₂ news₂ used₂ seen₂ end (growRun (cornersOf corners) set p sheet) → 16384 ≤ length sheet₂
       unfolding growRun startOf
       call-long l =
-          let s = from-grown (cornersOf xs ys pitches) set p (4 * length xs) 0 (startOf sheet) .sheet-same in
+          let s = from-grown (cornersOf corners) set p (4 * length (corners .xs)) 0 (startOf sheet) .sheet-same in
           rw (l .sheet-is, s) (a .given .long)
 
       -- the pass done
-      pub call-left : {sheet₂ queue₂ news₂ used₂ seen₂ : List ℕ} {end : Progress} {reached : Bool} → Leaves queue' news sheet₂ queue₂ news₂ used₂ seen₂ end (growRun (cornersOf xs ys pitches) set p sheet) → reached ≡ rim 1 sheet₂
-          → growOut (GrowAnswer.Done (record { counts = end .counts; rim = reached })) sheet₂ queue₂ news₂ ≡ growLeaves (done (growAfter (cornersOf xs ys pitches) set p sheet)) sheet queue news
+      pub call-left : {sheet₂ queue₂ news₂ used₂ seen₂ : List ℕ} {end : Progress} {reached : Bool} → Leaves queue' news sheet₂ queue₂ news₂ used₂ seen₂ end (growRun (cornersOf corners) set p sheet) → reached ≡ rim 1 sheet₂
+          → growOut (GrowAnswer.Done (record { counts = end .counts; rim = reached })) sheet₂ queue₂ news₂ ≡ growLeaves (done (growAfter (cornersOf corners) set p sheet)) sheet queue news
       unfolding growAfter growRun startOf
       call-left l e =
-          let longer = from-grown (cornersOf xs ys pitches) set p (4 * length xs) 0 (startOf sheet) .queued-more in
-          let q = l .queue-is ∙ ap (over (growRun (cornersOf xs ys pitches) set p sheet .queued)) (h .written) ∙ over-over (seeded sheet) (growRun (cornersOf xs ys pitches) set p sheet .queued) queue longer in
+          let longer = from-grown (cornersOf corners) set p (4 * length (corners .xs)) 0 (startOf sheet) .queued-more in
+          let q = l .queue-is ∙ ap (over (growRun (cornersOf corners) set p sheet .queued)) (h .written) ∙ over-over (seeded sheet) (growRun (cornersOf corners) set p sheet .queued) queue longer in
           rw (e, l .counts-are, l .sheet-is, q, l .attached-is)
 
   -- what the call promises of its answer and its buffers, and of what the answer says
   abbrev pub Promised : GrowOut → Type 0
   Promised out =
-      let o = growStep (cornerLists xs ys pitches) sheet set p (rooms (length queue) (length news)) in
+      let o = growStep corners sheet set p (rooms (length queue) (length news)) in
       (out ≡ growLeaves o sheet queue news) × (growSaid (out .answer) ≡ outcomeDue growValues o)
 
-  promised : {out : GrowOut} → out ≡ growLeaves (growStep (cornerLists xs ys pitches) sheet set p (rooms (length queue) (length news))) sheet queue news → Promised out
+  promised : {out : GrowOut} → out ≡ growLeaves (growStep corners sheet set p (rooms (length queue) (length news))) sheet queue news → Promised out
   promised e = (e, grow-said _ sheet queue news _ e)
 
   -- by what the check of the arguments finds
-  module _ {found : Checked} (is : found ≡ checked (lent xs ys pitches sheet (length queue) (length news)) set (Pass.Grow p)) where
+  module _ {found : Checked} (is : found ≡ checked (lentOf corners sheet (rooms (length queue) (length news))) set (Pass.Grow p)) where
     leaves-refused : {r : Refusal} → found ≡ Checked.Refused r
-        → growOut (GrowAnswer.Refused r) sheet queue news ≡ growLeaves (growStep (cornerLists xs ys pitches) sheet set p (rooms (length queue) (length news))) sheet queue news
+        → growOut (GrowAnswer.Refused r) sheet queue news ≡ growLeaves (growStep corners sheet set p (rooms (length queue) (length news))) sheet queue news
     unfolding growStep
     leaves-refused e = rw (← is, e)
 
     pub call-refused : {r : Refusal} → found ≡ Checked.Refused r → Promised (growOut (GrowAnswer.Refused r) sheet queue news)
     call-refused e = promised (leaves-refused e)
 
-    pub call-accepted : found ≡ Checked.Fine → Accepted (lent xs ys pitches sheet (length queue) (length news)) set (Pass.Grow p)
+    pub call-accepted : found ≡ Checked.Fine → Accepted (lentOf corners sheet (rooms (length queue) (length news))) set (Pass.Grow p)
     call-accepted e = accepted _ _ _ (sym is ∙ e)
 
-    leaves-done : found ≡ Checked.Fine → {out : GrowOut} → out ≡ growLeaves (done (growAfter (cornersOf xs ys pitches) set p sheet)) sheet queue news
-        → out ≡ growLeaves (growStep (cornerLists xs ys pitches) sheet set p (rooms (length queue) (length news))) sheet queue news
+    leaves-done : found ≡ Checked.Fine → {out : GrowOut} → out ≡ growLeaves (done (growAfter (cornersOf corners) set p sheet)) sheet queue news
+        → out ≡ growLeaves (growStep corners sheet set p (rooms (length queue) (length news))) sheet queue news
     unfolding growStep
     leaves-done e h = rw (← is, e) h
 
-    pub call-done : found ≡ Checked.Fine → {r : GrowAnswer} {s q n : List ℕ} → growOut r s q n ≡ growLeaves (done (growAfter (cornersOf xs ys pitches) set p sheet)) sheet queue news
+    pub call-done : found ≡ Checked.Fine → {r : GrowAnswer} {s q n : List ℕ} → growOut r s q n ≡ growLeaves (done (growAfter (cornersOf corners) set p sheet)) sheet queue news
         → Promised (growOut r s q n)
     call-done e h = promised (leaves-done e h)

@@ -5,11 +5,10 @@ use mathlib.Core.Bool.{false}
 use mathlib.Core.List.{List}
 use Prim.Native.Nat.{ℕ, _+_, _*_, _<_, _≤_}
 use lib.ListN.{length, take}
-use lib.Ieee.{Float}
 use Rattle.sizes.specs.Sizes.{placeCount, cornerLimit}
 use Rattle.sheet.specs.Cells.{OnSheet}
 use Rattle.sheet.specs.Words.{labelAt}
-use Rattle.sheet.specs.Corners.{seenOf, Given}
+use Rattle.sheet.specs.Corners.{Corners, seenOf, Given}
 use Rattle.sheet.specs.declared.Cell.{Cell}
 use Rattle.sheet.specs.declared.Label.{Label}
 use Rattle.labels.specs.Labelled.{Attaching}
@@ -18,7 +17,7 @@ use Rattle.predict.specs.Predict.{predictionOf, extrapolating}
 use Rattle.predict.specs.declared.Prediction.{Prediction}
 use Rattle.arguments.specs.declared.GrowParams.{GrowParams}
 use Rattle.arguments.specs.declared.Settings.{Settings}
-use Rattle.extension_common.specs.TryCell.{Corners, tryAt}
+use Rattle.extension_common.specs.TryCell.{tryAt}
 use Rattle.extension_common.specs.declared.TryCellResult.{TryCellResult}
 use Rattle.passes.specs.Grow.{GrowState, tolerancesOf, searchOf}
 use Rattle.passes.specs.declared.Counts.{Counts}
@@ -90,9 +89,9 @@ pub record Settleable (sheet queue attached used seen : List ℕ) (c : Cell) (fo
   pub to-attach : (k : ℕ) → found ≡ TryCellResult.Attached k → Attachable sheet queue attached used seen c k at
 
 -- an unlabelled cell of the sheet, and room for a corner as long as there is one that no cell holds
-pub record Visitable (xs ys pitches : List Float) (sheet queue attached used seen : List ℕ) (c : Cell) (at : Progress) : Type 0 where
-  pub given : Given xs ys pitches sheet
-  pub few : length xs ≤ cornerLimit
+pub record Visitable (n : ℕ) (sheet queue attached used seen : List ℕ) (c : Cell) (at : Progress) : Type 0 where
+  pub given : Given n sheet
+  pub few : n ≤ cornerLimit
   pub on : OnSheet c
   pub bare : labelAt sheet c ≡ Label.Unlabelled
   pub queue-in : at .tail ≤ length queue
@@ -100,15 +99,15 @@ pub record Visitable (xs ys pitches : List Float) (sheet queue attached used see
   pub small : SmallCounts (at .counts)
   pub used-tied : Tied sheet used
   pub seen-flagged : Flagged (take (at .tail) queue) seen
-  pub spare : (k : ℕ) → k < length xs → usedOn sheet k ≡ false → Spare queue attached at
+  pub spare : (k : ℕ) → k < n → usedOn sheet k ≡ false → Spare queue attached at
 
 -- what an accepted call lends, with the seeds queued
-pub record Startable (xs ys pitches : List Float) (sheet queue attached used seen : List ℕ) (tail : ℕ) : Type 0 where
-  pub given : Given xs ys pitches sheet
-  pub few : length xs ≤ cornerLimit
+pub record Startable (n : ℕ) (sheet queue attached used seen : List ℕ) (tail : ℕ) : Type 0 where
+  pub given : Given n sheet
+  pub few : n ≤ cornerLimit
   pub one-cell : OneCell sheet
-  pub queue-long : 4 * length xs ≤ length queue
-  pub attached-long : length xs ≤ length attached
+  pub queue-long : 4 * n ≤ length queue
+  pub attached-long : n ≤ length attached
   pub used-tied : Tied sheet used
   pub queued : take tail queue ≡ seeded sheet
   pub count : tail ≡ length (seeded sheet)

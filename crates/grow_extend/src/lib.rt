@@ -4,12 +4,12 @@
 
 ghost use mathlib.Core.Path.{_≡_};
 ghost use lib.ListN.{length};
-ghost use Rattle.arguments.specs.Arguments.{lent};
+ghost use Rattle.sheet.specs.Corners.{cornerLists, cornersOf, cornersIn};
 ghost use Rattle.arguments.specs.Accepted.{Accepted};
-ghost use Rattle.extension_common.specs.TryCell.{cornersOf, Ready};
+ghost use Rattle.extension_common.specs.TryCell.{Ready};
 ghost use Rattle.passes.specs.Outcome.{Outcome};
 ghost use Rattle.passes.specs.Grow.{radiusOf, searchOf, growWith, growVisit, growRun, growAfter};
-ghost use Rattle.passes.specs.Step.{growStep, growOut, growLeaves, cornerLists, rooms};
+ghost use Rattle.passes.specs.Step.{growStep, growOut, growLeaves, lentOf, rooms};
 ghost use Rattle.passes.specs.Said.{growValues, growSaid, outcomeDue};
 ghost use Rattle.grow_extend.specs.Grow.{foundAt, stateOf, Leaves, Attachable, Settleable, Visitable, Startable};
 use arguments::Checked;
@@ -32,6 +32,13 @@ use sizes::PLACES;
 pub struct Progress {
     pub tail: usize,
     pub counts: Counts,
+}
+
+// What a run is given beside its buffers: how many corners there are, the settings, and the numbers of the pass.
+pub struct GrowSetup {
+    pub count: usize,
+    pub settings: Settings,
+    pub params: GrowParams,
 }
 
 // The radius: search times cell size, times boundary where extrapolating.
@@ -59,20 +66,19 @@ fn search_for(settings: Settings, params: GrowParams, extrapolating: bool) -> Se
 
 // What is found at a cell: it is tried at its prediction; one with no labelled neighbour has no candidate.
 fn try_cell(
-    xs: &[f32],
-    ys: &[f32],
-    pitches: &[f32],
+    corners: &[f32; 3 * CORNERS],
     sheet: &[u16],
     used: &[u8; CORNERS],
     c: Cell,
-    settings: Settings,
-    params: GrowParams,
+    setup: GrowSetup,
 ) -> TryCellResult
-    requires { ⌜ Ready (now xs) (now ys) (now pitches) (now sheet) (now used) c ⌝ }
-    ensures { λ r. ⌜ r ≡ foundAt (cornersOf (now (xs .entry)) (now (ys .entry)) (now (pitches .entry))) settings params (now (sheet .entry)) c ⌝ }
+    requires { ⌜ Ready (setup .count) (now sheet) (now used) c ⌝ }
+    ensures { λ r. ⌜ r ≡ foundAt (cornersIn (now (corners .entry)) (setup .count)) (setup .settings) (setup .params) (now (sheet .entry)) c ⌝ }
 {
+    let settings = setup.settings;
+    let params = setup.params;
     let grid = settings.grid;
-    let prediction = predict::predict_from_neighbours(xs, ys, pitches, sheet, c, grid);
+    let prediction = predict::predict_from_neighbours(corners, sheet, c, grid);
     match prediction {
         Prediction::NoNeighbour => TryCellResult::NoCandidates,
         Prediction::At(at) => {
@@ -81,7 +87,16 @@ fn try_cell(
                 cell_size: grid.cell_size,
                 edge_length_tol: settings.edge_length_tol,
             };
-            extension_common::try_attach_at_cell(xs, ys, pitches, sheet, used, c, at, search, tol)
+            extension_common::try_attach_at_cell(
+                corners,
+                setup.count,
+                sheet,
+                used,
+                c,
+                at,
+                search,
+                tol,
+            )
         }
     }
 }
@@ -98,7 +113,8 @@ fn attach_corner(
     at: Progress,
 ) -> Progress
     requires { ⌜ Attachable (now sheet) (now queue) (now attached) (now used) (now seen) c k at ⌝ }
-    ensures { λ r. ⌜ Leaves (now (queue .entry)) (now (attached .entry)) (now (sheet .exit)) (now (queue .exit)) (now (attached .exit)) (now (used .exit)) (now (seen .exit)) r (growWith c (TryCellResult.Attached k) (stateOf (now (sheet .entry)) (now (queue .entry)) (now (attached .entry)) at)) ⌝ }
+    ensures { λ r. ⌜ Leaves (now (queue .entry)) (now (attached .entry)) (now (sheet .exit)) (now (queue .exit)) (now (attached .exit)) (now (used .exit))
+        (now (seen .exit)) r (growWith c (TryCellResult.Attached k) (stateOf (now (sheet .entry)) (now (queue .entry)) (now (attached .entry)) at)) ⌝ }
 {
     let counts = at.counts;
     let made = counts.attached;
@@ -125,7 +141,8 @@ fn settle(
     at: Progress,
 ) -> Progress
     requires { ⌜ Settleable (now sheet) (now queue) (now attached) (now used) (now seen) c found at ⌝ }
-    ensures { λ r. ⌜ Leaves (now (queue .entry)) (now (attached .entry)) (now (sheet .exit)) (now (queue .exit)) (now (attached .exit)) (now (used .exit)) (now (seen .exit)) r (growWith c found (stateOf (now (sheet .entry)) (now (queue .entry)) (now (attached .entry)) at)) ⌝ }
+    ensures { λ r. ⌜ Leaves (now (queue .entry)) (now (attached .entry)) (now (sheet .exit)) (now (queue .exit)) (now (attached .exit)) (now (used .exit))
+        (now (seen .exit)) r (growWith c found (stateOf (now (sheet .entry)) (now (queue .entry)) (now (attached .entry)) at)) ⌝ }
 {
     let tail = at.tail;
     match found {
@@ -150,42 +167,39 @@ fn settle(
 
 // Visits a cell of the queue.
 fn visit(
-    xs: &[f32],
-    ys: &[f32],
-    pitches: &[f32],
+    corners: &[f32; 3 * CORNERS],
     sheet: &mut [u16],
     queue: &mut [u16],
     attached: &mut [u16],
     used: &mut [u8; CORNERS],
     seen: &mut [u8; PLACES],
     c: Cell,
-    settings: Settings,
-    params: GrowParams,
+    setup: GrowSetup,
     at: Progress,
 ) -> Progress
-    requires { ⌜ Visitable (now xs) (now ys) (now pitches) (now sheet) (now queue) (now attached) (now used) (now seen) c at ⌝ }
-    ensures { λ r. ⌜ Leaves (now (queue .entry)) (now (attached .entry)) (now (sheet .exit)) (now (queue .exit)) (now (attached .exit)) (now (used .exit)) (now (seen .exit)) r (growVisit (cornersOf (now (xs .entry)) (now (ys .entry)) (now (pitches .entry))) settings params c (stateOf (now (sheet .entry)) (now (queue .entry)) (now (attached .entry)) at)) ⌝ }
+    requires { ⌜ Visitable (setup .count) (now sheet) (now queue) (now attached) (now used) (now seen) c at ⌝ }
+    ensures { λ r. ⌜ Leaves (now (queue .entry)) (now (attached .entry)) (now (sheet .exit)) (now (queue .exit)) (now (attached .exit)) (now (used .exit))
+        (now (seen .exit)) r (growVisit (cornersIn (now (corners .entry)) (setup .count)) (setup .settings) (setup .params) c
+        (stateOf (now (sheet .entry)) (now (queue .entry)) (now (attached .entry)) at)) ⌝ }
 {
-    let found = try_cell(xs, ys, pitches, sheet, used, c, settings, params);
+    let found = try_cell(corners, sheet, used, c, setup);
     settle(sheet, queue, attached, used, seen, c, found, at)
 }
 
 // The run: the queue's cells, of which the first `tail` are the seeds, are visited in order until none is left.
 fn grow(
-    xs: &[f32],
-    ys: &[f32],
-    pitches: &[f32],
+    corners: &[f32; 3 * CORNERS],
     sheet: &mut [u16],
     queue: &mut [u16],
     attached: &mut [u16],
     used: &mut [u8; CORNERS],
     seen: &mut [u8; PLACES],
-    settings: Settings,
-    params: GrowParams,
+    setup: GrowSetup,
     tail: usize,
 ) -> Progress
-    requires { ⌜ Startable (now xs) (now ys) (now pitches) (now sheet) (now queue) (now attached) (now used) (now seen) tail ⌝ }
-    ensures { λ r. ⌜ Leaves (now (queue .entry)) (now (attached .entry)) (now (sheet .exit)) (now (queue .exit)) (now (attached .exit)) (now (used .exit)) (now (seen .exit)) r (growRun (cornersOf (now (xs .entry)) (now (ys .entry)) (now (pitches .entry))) settings params (now (sheet .entry))) ⌝ }
+    requires { ⌜ Startable (setup .count) (now sheet) (now queue) (now attached) (now used) (now seen) tail ⌝ }
+    ensures { λ r. ⌜ Leaves (now (queue .entry)) (now (attached .entry)) (now (sheet .exit)) (now (queue .exit)) (now (attached .exit)) (now (used .exit))
+        (now (seen .exit)) r (growRun (cornersIn (now (corners .entry)) (setup .count)) (setup .settings) (setup .params) (now (sheet .entry))) ⌝ }
 {
     let counts = Counts {
         attached: 0,
@@ -197,20 +211,7 @@ fn grow(
     let mut head = 0usize;
     while head < at.tail {
         let c = sheet::cell_of(queue[head] as usize);
-        let next = visit(
-            xs,
-            ys,
-            pitches,
-            sheet,
-            queue,
-            attached,
-            used,
-            seen,
-            c,
-            settings,
-            params,
-            at,
-        );
+        let next = visit(corners, sheet, queue, attached, used, seen, c, setup, at);
         at = next;
         head += 1;
     }
@@ -228,23 +229,31 @@ fn extend(
     settings: Settings,
     params: GrowParams,
 ) -> GrowStats
-    requires { ⌜ Accepted (lent (now xs) (now ys) (now pitches) (now sheet) (length (now queue)) (length (now attached))) settings (Pass.Grow params) ⌝ }
-    ensures { λ r. ⌜ growOut (GrowAnswer.Done r) (now (sheet .exit)) (now (queue .exit)) (now (attached .exit)) ≡ growLeaves (Outcome.done (growAfter (cornersOf (now (xs .entry)) (now (ys .entry)) (now (pitches .entry))) settings params (now (sheet .entry)))) (now (sheet .entry)) (now (queue .entry)) (now (attached .entry)) ⌝ }
+    requires { ⌜ Accepted (lentOf (cornerLists (now xs) (now ys) (now pitches)) (now sheet) (rooms (length (now queue)) (length (now attached)))) settings
+        (Pass.Grow params) ⌝ }
+    ensures { λ r. ⌜ growOut (GrowAnswer.Done r) (now (sheet .exit)) (now (queue .exit)) (now (attached .exit))
+        ≡ growLeaves (Outcome.done (growAfter (cornersOf (cornerLists (now (xs .entry)) (now (ys .entry)) (now (pitches .entry)))) settings params
+        (now (sheet .entry)))) (now (sheet .entry)) (now (queue .entry)) (now (attached .entry)) ⌝ }
 {
+    let nothing = 0.0f32 / 0.0f32;
+    let mut corners = [nothing; 3 * CORNERS];
+    arguments::hold_corners(xs, ys, pitches, &mut corners);
     let mut used = labels::mark_used(sheet);
     let mut seen = [0u8; PLACES];
     let tail = grow_queue::seed(sheet, queue, &mut seen);
+    let setup = GrowSetup {
+        count: xs.len(),
+        settings,
+        params,
+    };
     let end = grow(
-        xs,
-        ys,
-        pitches,
+        &corners,
         sheet,
         queue,
         attached,
         &mut used,
         &mut seen,
-        settings,
-        params,
+        setup,
         tail,
     );
     let counts = end.counts;
@@ -265,7 +274,9 @@ pub fn extend_from_labelled(
     settings: Settings,
     params: GrowParams,
 ) -> GrowAnswer
-    ensures { λ r. ⌜ growOut r (now (sheet .exit)) (now (queue .exit)) (now (attached .exit)) ≡ growLeaves (growStep (cornerLists (now (xs .entry)) (now (ys .entry)) (now (pitches .entry))) (now (sheet .entry)) settings params (rooms (length (now (queue .entry))) (length (now (attached .entry))))) (now (sheet .entry)) (now (queue .entry)) (now (attached .entry)) ⌝ }
+    ensures { λ r. ⌜ growOut r (now (sheet .exit)) (now (queue .exit)) (now (attached .exit))
+        ≡ growLeaves (growStep (cornerLists (now (xs .entry)) (now (ys .entry)) (now (pitches .entry))) (now (sheet .entry)) settings params
+        (rooms (length (now (queue .entry))) (length (now (attached .entry))))) (now (sheet .entry)) (now (queue .entry)) (now (attached .entry)) ⌝ }
     ensures said { λ r. ⌜ growSaid r ≡ outcomeDue growValues (growStep (cornerLists (now (xs .entry)) (now (ys .entry)) (now (pitches .entry)))
         (now (sheet .entry)) settings params (rooms (length (now (queue .entry))) (length (now (attached .entry))))) ⌝ }
 {

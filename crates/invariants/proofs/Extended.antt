@@ -8,6 +8,7 @@ use native.Mathlib.Decide.{ℕ-discrete}
 use native.Mathlib.Omega.{arith}
 use lib.Dec.{T}
 use lib.ListN.{length, getD, length-append}
+use Rattle.sheet.specs.Corners.{Corners}
 use Rattle.sheet.specs.Cells.{onSheet, placeOf, cellOf}
 use Rattle.sheet.specs.Words.{labelOf, wordAt, labelAt, holeAt, ambiguousAt, attached}
 use Rattle.sheet.specs.declared.Cell.{Cell}
@@ -19,7 +20,6 @@ use Rattle.labels.proofs.Labelled.{labels-places, same-count, label-after, word
 use Rattle.labels.proofs.Used.{one-same, one-attached}
 use Rattle.positions_policy.specs.declared.Tolerances.{Tolerances}
 use Rattle.arguments.specs.Accepted.{Known}
-use Rattle.extension_common.specs.TryCell.{Corners}
 use Rattle.passes.specs.History.{Attaches}
 use Rattle.invariants.specs.Kept.{Sound, Kept, Once, Extended}
 

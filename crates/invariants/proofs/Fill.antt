@@ -3,7 +3,7 @@ use mathlib.Core.Path.{_≡_, refl}
 use mathlib.Core.List.{List, [], _∷_}
 use Prim.Native.Nat.{ℕ, _≤_}
 use Rattle.sheet.specs.Cells.{cellOf}
-use Rattle.sheet.specs.Corners.{seenOf}
+use Rattle.sheet.specs.Corners.{Corners, seenOf}
 use Rattle.sheet.proofs.Laws.{place-cell}
 use Rattle.labels.specs.Labelled.{labelCount}
 use Rattle.labels.specs.Box.{boxOf}
@@ -12,7 +12,6 @@ use Rattle.predict.specs.declared.Prediction.{Prediction}
 use Rattle.positions_policy.specs.declared.Tolerances.{Tolerances}
 use Rattle.arguments.specs.declared.Settings.{Settings}
 use Rattle.arguments.specs.declared.FillParams.{FillParams}
-use Rattle.extension_common.specs.TryCell.{Corners}
 use Rattle.extension_common.specs.declared.TryCellResult.{TryCellResult}
 use Rattle.passes.specs.Grow.{tolerancesOf}
 use Rattle.passes.specs.Fill.{boxAndStrips, fillCells, FillState, fillWith, fillAt, fillVisit, fillPass, fillFrom, fillLimit, fillRun}

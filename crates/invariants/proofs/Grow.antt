@@ -12,7 +12,7 @@ use lib.ListN.{length, getD, drop, length-append}
 use lib.Seq.{drop-cons, drop-append-le}
 use Rattle.sheet.specs.Cells.{onSheet, OnSheet, placeOf, cellOf, moved}
 use Rattle.sheet.specs.Words.{labelAt, attached}
-use Rattle.sheet.specs.Corners.{seenOf}
+use Rattle.sheet.specs.Corners.{Corners, seenOf}
 use Rattle.sheet.specs.declared.Cell.{Cell}
 use Rattle.sheet.specs.declared.Label.{Label}
 use Rattle.sheet.specs.declared.Offset.{Offset}
@@ -27,7 +27,6 @@ use Rattle.positions_policy.specs.Edge.{cardinalOffsets}
 use Rattle.positions_policy.specs.declared.Tolerances.{Tolerances}
 use Rattle.arguments.specs.declared.Settings.{Settings}
 use Rattle.arguments.specs.declared.GrowParams.{GrowParams}
-use Rattle.extension_common.specs.TryCell.{Corners}
 use Rattle.extension_common.specs.declared.TryCellResult.{TryCellResult}
 use Rattle.passes.specs.Grow.{tolerancesOf, GrowState, member, wanted, enqueued, enqueuedAt, spread, seededFrom, startOf, missed, growWith, growAt, growVisit, growFrom, growRun}
 use Rattle.passes.specs.History.{Attaches, History, begun, marked, attaches}

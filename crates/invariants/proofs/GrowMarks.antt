@@ -13,7 +13,7 @@ use lib.ListN.{length, getD, take, length-append, List·getD-append}
 use lib.Seq.{take-suc, take-append-le, take-length, getD-append-seam, length-take-le}
 use Rattle.sheet.specs.Cells.{placeOf, cellOf, moved}
 use Rattle.sheet.specs.Words.{bitOf, labelAt}
-use Rattle.sheet.specs.Corners.{seenOf}
+use Rattle.sheet.specs.Corners.{Corners, seenOf}
 use Rattle.sheet.specs.declared.Cell.{Cell}
 use Rattle.sheet.specs.declared.Label.{Label}
 use Rattle.sheet.specs.declared.Offset.{Offset}
@@ -24,7 +24,7 @@ use Rattle.predict.specs.declared.Prediction.{Prediction}
 use Rattle.positions_policy.specs.Edge.{cardinalOffsets}
 use Rattle.arguments.specs.declared.Settings.{Settings}
 use Rattle.arguments.specs.declared.GrowParams.{GrowParams}
-use Rattle.extension_common.specs.TryCell.{Corners, tryAt}
+use Rattle.extension_common.specs.TryCell.{tryAt}
 use Rattle.extension_common.specs.declared.TryCellResult.{TryCellResult}
 use Rattle.passes.specs.Grow.{tolerancesOf, GrowState, wanted, enqueued, enqueuedAt, spread, startOf, searchOf, growWith, growAt, growVisit, growFrom, growRun}
 use Rattle.passes.specs.Changes.{isAttached, isNoCandidate, isAmbiguous, isEdgeRefusal, SameMarks, MarksSet, GrowVisit}

@@ -9,10 +9,10 @@ use native.Mathlib.Decide.{decLt}
 use native.Mathlib.Omega.{arith}
 use lib.ListN.{length, length-append, List·getD-append}
 use lib.Seq.{take-append-le, take-append-seam, take-append-add, getD-append-seam, getD-append-add}
+use Rattle.sheet.specs.Corners.{Corners}
 use Rattle.sheet.specs.Cells.{cellOf}
 use Rattle.sheet.specs.Words.{attached}
 use Rattle.positions_policy.specs.declared.Tolerances.{Tolerances}
-use Rattle.extension_common.specs.TryCell.{Corners}
 use Rattle.passes.specs.History.{History, begun, marked, attaches}
 use Rattle.invariants.specs.Kept.{Sound, Kept, Extended, Attachment, AttachedAt, Histories, before, pass, AttachedInTurn}
 use Rattle.invariants.proofs.Extended.{extended-marked, extended-attached, extended-then, attached-label}

@@ -9,7 +9,7 @@ use lib.ListN.{length, length-append}
 use lib.Ieee.{Float, binary32, ofBits, lt}
 use Rattle.sheet.specs.Cells.{OnSheet, placeOf, cellOf}
 use Rattle.sheet.specs.Words.{attached, marksCleared}
-use Rattle.sheet.specs.Corners.{seenOf}
+use Rattle.sheet.specs.Corners.{Corners, seenOf}
 use Rattle.sheet.proofs.Laws.{cell-on, place-cell}
 use Rattle.sheet.proofs.Words.{cleared-changes}
 use Rattle.labels.specs.Labelled.{labelCount, labelledPlaces, SameLabels}
@@ -18,7 +18,6 @@ use Rattle.labels.proofs.Labelled.{cleared-keeps}
 use Rattle.positions_policy.specs.declared.Tolerances.{Tolerances}
 use Rattle.arguments.specs.declared.Settings.{Settings}
 use Rattle.arguments.specs.declared.LocalExtensionParams.{LocalExtensionParams}
-use Rattle.extension_common.specs.TryCell.{Corners}
 use Rattle.extension_common.specs.declared.TryCellResult.{TryCellResult}
 use Rattle.passes.specs.Grow.{tolerancesOf, noCounts}
 use Rattle.passes.specs.Local.{depthOf, localRegion, localCells, supportsOf, LocalFit, none, fitted, localFit, LocalState, worst, withResiduals, gateOf, localWith, localAt, localVisit, localPass, localFrom, localLimit, localRun}

@@ -10,6 +10,7 @@ use Prim.Native.Nat.{ℕ, _<_, _≤_}
 use native.Mathlib.Nat.{not-suc-le-zero}
 use lib.ListN.{length}
 use Rattle.refusal.specs.declared.Refusal.{Refusal}
+use Rattle.sheet.specs.Corners.{CornerLists, cornersOf}
 use Rattle.sheet.specs.Cells.{cellOf}
 use Rattle.sheet.specs.Words.{labelAt}
 use Rattle.sheet.specs.declared.Cell.{Cell}
@@ -26,13 +27,13 @@ use Rattle.passes.specs.Outcome.{After, Outcome, refused, done}
 use Rattle.passes.specs.Grow.{tolerancesOf, growAfter}
 use Rattle.passes.specs.Fill.{fillAfter}
 use Rattle.passes.specs.Local.{localAfter}
-use Rattle.passes.specs.Step.{CornerLists, lentOf, unless, growStep, fillStep, localStep}
+use Rattle.passes.specs.Step.{lentOf, unless, growStep, fillStep, localStep}
 use Rattle.passes.specs.Run.{Call, PassStats, growStats, fillStats, localStats, renamed, stepAs, step, sheetAfter, run, sheetOf}
 use Rattle.passes.specs.History.{History}
 use Rattle.passes.specs.Changes.{NoMarks}
 use Rattle.passes.proofs.Changes.{same-marks}
 use Rattle.invariants.specs.Kept.{Sound, Kept, Extended, Histories, before, pass, AttachedInTurn}
-use Rattle.invariants.specs.Calls.{cornersIn, Standing, checkedCall, answering, afterPass, afterCall, attachedCount, Ran, Goes, ended, refuses, runs, attachedIn, Invariants, CallInside, Accepts, NeverRefused}
+use Rattle.invariants.specs.Calls.{Standing, checkedCall, answering, afterPass, afterCall, attachedCount, Ran, Goes, ended, refuses, runs, attachedIn, Invariants, CallInside, Accepts, NeverRefused}
 use Rattle.invariants.specs.Marks.{MarksStand, NotIn, PassMarks, clearedBy, clearedIn, visitedIn, MarksOver}
 use Rattle.invariants.proofs.Extended.{still-labelled, extended-marked, extended-then}
 use Rattle.invariants.proofs.History.{history-extended, attached-at, histories-then, attached-in-turn}
@@ -54,24 +55,21 @@ step-as l sheet c = go (c .pass)
     under f (Checked.Refused r) a = refl
 
     go : (p : Pass) → stepAs l sheet (c .settings) (c .rooms) p ≡ unless (checked (lentOf l sheet (c .rooms)) (c .settings) p) (afterPass l sheet (c .settings) p)
-    go (Pass.Grow p) = under growStats (checked (lentOf l sheet (c .rooms)) (c .settings) (Pass.Grow p)) (growAfter (cornersIn l) (c .settings) p sheet)
-    go (Pass.Fill p) = under fillStats (checked (lentOf l sheet (c .rooms)) (c .settings) (Pass.Fill p)) (fillAfter (cornersIn l) (c .settings) p sheet)
-    go (Pass.Local p) = under localStats (checked (lentOf l sheet (c .rooms)) (c .settings) (Pass.Local p)) (localAfter (cornersIn l) (c .settings) p sheet)
+    go (Pass.Grow p) = under growStats (checked (lentOf l sheet (c .rooms)) (c .settings) (Pass.Grow p)) (growAfter (cornersOf l) (c .settings) p sheet)
+    go (Pass.Fill p) = under fillStats (checked (lentOf l sheet (c .rooms)) (c .settings) (Pass.Fill p)) (fillAfter (cornersOf l) (c .settings) p sheet)
+    go (Pass.Local p) = under localStats (checked (lentOf l sheet (c .rooms)) (c .settings) (Pass.Local p)) (localAfter (cornersOf l) (c .settings) p sheet)
 
-pub standing-sound : {l : CornerLists} {sheet : List ℕ} → Standing l sheet → Sound (cornersIn l) sheet
+pub standing-sound : {l : CornerLists} {sheet : List ℕ} → Standing l sheet → Sound (cornersOf l) sheet
 standing-sound s = record { long = s .given .long; known = record { known = s .given .known }; one-cell = s .one-cell }
 
 -- a sheet that still belongs to the corners
-pub sound-standing : {l : CornerLists} {sheet after : List ℕ} → Standing l sheet → Sound (cornersIn l) after → Standing l after
+pub sound-standing : {l : CornerLists} {sheet after : List ℕ} → Standing l sheet → Sound (cornersOf l) after → Standing l after
 sound-standing s a =
-    record {
-      given = record { long = a .long; ys-long = s .given .ys-long; pitches-long = s .given .pitches-long; known = a .known .known };
-      one-cell = a .one-cell;
-    }
+    record { listed = s .listed; given = record { long = a .long; known = a .known .known }; one-cell = a .one-cell }
 
 -- what each pass does to the labels, and that it counts its new cells
-module _ (l : CornerLists) (sheet : List ℕ) (set : Settings) (few : length (l .xs) ≤ 1024) (s : Sound (cornersIn l) sheet) where
-  pass-history : (p : Pass) → History (cornersIn l) (tolerancesOf set) sheet (afterPass l sheet set p .attached) (afterPass l sheet set p .sheet)
+module _ (l : CornerLists) (sheet : List ℕ) (set : Settings) (few : length (l .xs) ≤ 1024) (s : Sound (cornersOf l) sheet) where
+  pass-history : (p : Pass) → History (cornersOf l) (tolerancesOf set) sheet (afterPass l sheet set p .attached) (afterPass l sheet set p .sheet)
   unfolding growAfter fillAfter localAfter
   pass-history (Pass.Grow p) = grow-history set p few s .history
   pass-history (Pass.Fill p) = fill-history few s set p
@@ -86,9 +84,9 @@ module _ (l : CornerLists) (sheet : List ℕ) (set : Settings) (few : length (l 
   -- what each pass does to the marks
   pass-marks : (p : Pass) → PassMarks p sheet (afterPass l sheet set p)
   unfolding growAfter fillAfter localAfter
-  pass-marks (Pass.Grow p) = grow-marks (cornersIn l) set p sheet (record { long = s .long; few = few; known = s .known .known; one-cell = s .one-cell })
-  pass-marks (Pass.Fill p) = fill-marks (cornersIn l) few sheet set p (s .long)
-  pass-marks (Pass.Local p) = local-marks (cornersIn l) few sheet set p (s .long)
+  pass-marks (Pass.Grow p) = grow-marks (cornersOf l) set p sheet (record { long = s .long; few = few; known = s .known .known; one-cell = s .one-cell })
+  pass-marks (Pass.Fill p) = fill-marks (cornersOf l) few sheet set p (s .long)
+  pass-marks (Pass.Local p) = local-marks (cornersOf l) few sheet set p (s .long)
 
 -- a call that is not refused
 pub call-accepted : (l : CornerLists) (sheet : List ℕ) (c : Call) → checkedCall l sheet c ≡ Checked.Fine → Accepted (lentOf l sheet (c .rooms)) (c .settings) (c .pass)
@@ -96,7 +94,7 @@ call-accepted l sheet c e = accepted (lentOf l sheet (c .rooms)) (c .settings) (
 
 pub call-ran : (l : CornerLists) (sheet : List ℕ) (c : Call) → Accepted (lentOf l sheet (c .rooms)) (c .settings) (c .pass) → Ran l c sheet (afterCall l sheet c)
 call-ran l sheet c w =
-    let s = standing-sound {l = l} (record { given = w .given; one-cell = w .one-cell }) in
+    let s = standing-sound {l = l} (record { listed = w .listed; given = w .given; one-cell = w .one-cell }) in
     let h = pass-history l sheet (c .settings) (w .few) s (c .pass) in
     record {
       history = h;
@@ -191,25 +189,25 @@ module _ (l : CornerLists) where
   standing-after sheet s (c ∷ cs) = standing-after (sheetAfter sheet (step l sheet c)) (standing-step sheet s c) cs
 
   -- all that happened to the labels, from the given ones on
-  pub run-histories : (sheet : List ℕ) (cs : List Call) → Histories (cornersIn l) sheet (attachedIn (run l sheet cs)) (sheetOf l sheet cs)
+  pub run-histories : (sheet : List ℕ) (cs : List Call) → Histories (cornersOf l) sheet (attachedIn (run l sheet cs)) (sheetOf l sheet cs)
   unfolding run sheetOf attachedIn
   run-histories sheet [] = before
   run-histories sheet (c ∷ cs) = go (step l sheet c) (outcomes l sheet c) (λ after. run-histories after cs)
     where
-      go : (o : Outcome PassStats) → Outcomes l sheet c o → ((after : List ℕ) → Histories (cornersIn l) after (attachedIn (run l after cs)) (sheetOf l after cs))
-          → Histories (cornersIn l) sheet (attachedIn (o ∷ run l (sheetAfter sheet o) cs)) (sheetOf l (sheetAfter sheet o) cs)
+      go : (o : Outcome PassStats) → Outcomes l sheet c o → ((after : List ℕ) → Histories (cornersOf l) after (attachedIn (run l after cs)) (sheetOf l after cs))
+          → Histories (cornersOf l) sheet (attachedIn (o ∷ run l (sheetAfter sheet o) cs)) (sheetOf l (sheetAfter sheet o) cs)
       go o (was-refused r) w = w sheet
       go o (ran a b d) w = histories-then (pass (tolerancesOf (c .settings)) before (d .history)) (w (a .sheet))
 
   -- the labelled cells after a list of calls are the given ones and all new ones
-  pub run-extended : (sheet : List ℕ) → Standing l sheet → (cs : List Call) → Extended (cornersIn l) sheet (attachedIn (run l sheet cs)) (sheetOf l sheet cs)
+  pub run-extended : (sheet : List ℕ) → Standing l sheet → (cs : List Call) → Extended (cornersOf l) sheet (attachedIn (run l sheet cs)) (sheetOf l sheet cs)
   unfolding run sheetOf attachedIn
   run-extended sheet s [] = extended-marked (standing-sound s) refl (record { same-label = λ p h. refl })
   run-extended sheet s (c ∷ cs) = go (step l sheet c) (outcomes l sheet c) (λ after t. run-extended after t cs)
     where
       go : (o : Outcome PassStats) → Outcomes l sheet c o
-          → ((after : List ℕ) → Standing l after → Extended (cornersIn l) after (attachedIn (run l after cs)) (sheetOf l after cs))
-          → Extended (cornersIn l) sheet (attachedIn (o ∷ run l (sheetAfter sheet o) cs)) (sheetOf l (sheetAfter sheet o) cs)
+          → ((after : List ℕ) → Standing l after → Extended (cornersOf l) after (attachedIn (run l after cs)) (sheetOf l after cs))
+          → Extended (cornersOf l) sheet (attachedIn (o ∷ run l (sheetAfter sheet o) cs)) (sheetOf l (sheetAfter sheet o) cs)
       go o (was-refused r) w = w sheet s
       go o (ran a b d) w = extended-then (d .extended) (w (a .sheet) (sound-standing s (d .extended .sound)))
 
@@ -226,7 +224,7 @@ module _ (l : CornerLists) where
 
   -- each new corner had an accepted edge to a labelled cardinal neighbour, or no such neighbour, when it was attached
   pub run-attached : (sheet : List ℕ) → Standing l sheet → (cs : List Call) (n : ℕ) → n < length (attachedIn (run l sheet cs))
-      → AttachedInTurn (cornersIn l) sheet (attachedIn (run l sheet cs)) (sheetOf l sheet cs) n
+      → AttachedInTurn (cornersOf l) sheet (attachedIn (run l sheet cs)) (sheetOf l sheet cs) n
   run-attached sheet s cs n h = attached-in-turn (few-corners sheet cs n h) (standing-sound s) (run-histories sheet cs) n h
 
   -- ---- marks
@@ -301,6 +299,7 @@ module _ (l : CornerLists) where
             corners-inside = f .corners-inside;
             settings-inside = f .settings-inside;
             pass-inside = f .pass-inside;
+            listed = s .listed;
             given = s .given;
             one-cell = s .one-cell;
           }

@@ -8,7 +8,7 @@ use Prim.Native.Nat.{ℕ, zero, suc, _<_, _≤_}
 use native.Mathlib.Omega.{arith}
 use Rattle.sheet.specs.Cells.{placeOf, cellOf}
 use Rattle.sheet.specs.Words.{labelAt, attached}
-use Rattle.sheet.specs.Corners.{seenOf}
+use Rattle.sheet.specs.Corners.{Corners, seenOf}
 use Rattle.sheet.specs.declared.Cell.{Cell}
 use Rattle.sheet.specs.declared.Label.{Label}
 use Rattle.sheet.specs.declared.Position.{Position}
@@ -18,7 +18,7 @@ use Rattle.labels.specs.Labelled.{passing, namesCorner, SameLabels}
 use Rattle.labels.proofs.Below.{no-both, both, passing-in}
 use Rattle.positions_policy.specs.declared.Tolerances.{Tolerances}
 use Rattle.positions_policy.proofs.Laws.{passes-exactly}
-use Rattle.extension_common.specs.TryCell.{Corners, tryAt}
+use Rattle.extension_common.specs.TryCell.{tryAt}
 use Rattle.extension_common.specs.declared.Search.{Search}
 use Rattle.extension_common.specs.declared.TryCellResult.{TryCellResult}
 use Rattle.extension_common.proofs.Laws.{attachable}

@@ -6,31 +6,27 @@ use Prim.Native.Nat.{ℕ, _<_, _≤_}
 use lib.ListN.{length}
 use Rattle.sizes.specs.Sizes.{cornerLimit}
 use Rattle.refusal.specs.declared.Refusal.{Refusal}
-use Rattle.sheet.specs.Corners.{cornerOf, Given}
+use Rattle.sheet.specs.Corners.{Corners, CornerLists, cornerOf, cornersOf, AllListed, Given}
 use Rattle.labels.specs.Used.{OneCell}
 use Rattle.arguments.specs.Arguments.{queueNeeded, checked}
 use Rattle.arguments.specs.Accepted.{CornerInside, SettingsInside, PassInside}
 use Rattle.arguments.specs.declared.Checked.{Checked}
 use Rattle.arguments.specs.declared.Pass.{Pass}
 use Rattle.arguments.specs.declared.Settings.{Settings}
-use Rattle.extension_common.specs.TryCell.{Corners, cornersOf}
 use Rattle.passes.specs.Outcome.{After, Outcome, refused, done}
 use Rattle.passes.specs.Grow.{tolerancesOf, growAfter}
 use Rattle.passes.specs.Fill.{fillAfter}
 use Rattle.passes.specs.Local.{localAfter}
-use Rattle.passes.specs.Step.{CornerLists, lentOf}
+use Rattle.passes.specs.Step.{lentOf}
 use Rattle.passes.specs.Run.{Call, PassStats, growStats, fillStats, localStats, step, run, sheetOf}
 use Rattle.passes.specs.History.{History}
 use Rattle.invariants.specs.Kept.{Kept, Extended, AttachedAt, AttachedInTurn}
 use Rattle.invariants.specs.Marks.{PassMarks, MarksOver}
 
--- the corners of a frame as the passes see them
-abbrev pub cornersIn : CornerLists → Corners
-cornersIn l = cornersOf (l .xs) (l .ys) (l .pitches)
-
 -- the corners and a sheet that belong together, each corner at one cell: what an accepted frame starts from, and what every call leaves
 pub record Standing (l : CornerLists) (sheet : List ℕ) : Type 0 where
-  pub given : Given (l .xs) (l .ys) (l .pitches) sheet
+  pub listed : AllListed l
+  pub given : Given (length (l .xs)) sheet
   pub one-cell : OneCell sheet
 
 abbrev pub checkedCall : CornerLists → List ℕ → Call → Checked
@@ -41,9 +37,9 @@ abbrev pub answering : {A B : Type 0} → (A → B) → After A → After B
 answering f a = record { answer = f (a .answer); sheet = a .sheet; attached = a .attached; visited = a .visited }
 
 abbrev pub afterPass : CornerLists → List ℕ → Settings → Pass → After PassStats
-afterPass l sheet set (Pass.Grow p) = answering growStats (growAfter (cornersIn l) set p sheet)
-afterPass l sheet set (Pass.Fill p) = answering fillStats (fillAfter (cornersIn l) set p sheet)
-afterPass l sheet set (Pass.Local p) = answering localStats (localAfter (cornersIn l) set p sheet)
+afterPass l sheet set (Pass.Grow p) = answering growStats (growAfter (cornersOf l) set p sheet)
+afterPass l sheet set (Pass.Fill p) = answering fillStats (fillAfter (cornersOf l) set p sheet)
+afterPass l sheet set (Pass.Local p) = answering localStats (localAfter (cornersOf l) set p sheet)
 
 abbrev pub afterCall : CornerLists → List ℕ → Call → After PassStats
 afterCall l sheet c = afterPass l sheet (c .settings) (c .pass)
@@ -60,9 +56,9 @@ attachedCount (localStats s) = s .counts .attached
 -- labelled cardinal neighbour, or no such neighbour, when attached, and the labelled cells after the call are those before it and those of its
 -- attached list, "whose length is attached (fill: added)"; and what its pass did to the marks.
 pub record Ran (l : CornerLists) (c : Call) (sheet : List ℕ) (a : After PassStats) : Type 0 where
-  pub history : History (cornersIn l) (tolerancesOf (c .settings)) sheet (a .attached) (a .sheet)
-  pub extended : Extended (cornersIn l) sheet (a .attached) (a .sheet)
-  pub each : (n : ℕ) → n < length (a .attached) → AttachedAt (cornersIn l) (tolerancesOf (c .settings)) sheet (a .attached) (a .sheet) n
+  pub history : History (cornersOf l) (tolerancesOf (c .settings)) sheet (a .attached) (a .sheet)
+  pub extended : Extended (cornersOf l) sheet (a .attached) (a .sheet)
+  pub each : (n : ℕ) → n < length (a .attached) → AttachedAt (cornersOf l) (tolerancesOf (c .settings)) sheet (a .attached) (a .sheet) n
   pub counted : attachedCount (a .answer) ≡ length (a .attached)
   pub marks : PassMarks (c .pass) sheet a
 
@@ -85,8 +81,8 @@ attachedIn (done a ∷ os) = a .attached ++ attachedIn os
 -- list only grow sets marks and only local clears them
 pub record Invariant (l : CornerLists) (given : List ℕ) (cs : List Call) : Type 0 where
   pub each-call : Goes l given given cs (run l given cs)
-  pub whole : Extended (cornersIn l) given (attachedIn (run l given cs)) (sheetOf l given cs)
-  pub each-corner : (n : ℕ) → n < length (attachedIn (run l given cs)) → AttachedInTurn (cornersIn l) given (attachedIn (run l given cs)) (sheetOf l given cs) n
+  pub whole : Extended (cornersOf l) given (attachedIn (run l given cs)) (sheetOf l given cs)
+  pub each-corner : (n : ℕ) → n < length (attachedIn (run l given cs)) → AttachedInTurn (cornersOf l) given (attachedIn (run l given cs)) (sheetOf l given cs) n
   pub marks : MarksOver given cs (run l given cs) (sheetOf l given cs)
 
 -- for any list of calls from corners and a sheet that belong together
@@ -100,7 +96,7 @@ pub record CallInside (l : CornerLists) (c : Call) : Type 0 where
   pub few : length (l .xs) ≤ cornerLimit
   pub queue-long : queueNeeded (c .pass) (length (l .xs)) ≤ c .rooms .queue
   pub attached-long : length (l .xs) ≤ c .rooms .attached
-  pub corners-inside : (k : ℕ) → k < length (l .xs) → CornerInside (cornerOf (l .xs) (l .ys) (l .pitches) k)
+  pub corners-inside : (k : ℕ) → k < length (l .xs) → CornerInside (cornerOf l k)
   pub settings-inside : SettingsInside (c .settings)
   pub pass-inside : PassInside (c .pass)
 

@@ -7,6 +7,7 @@ use mathlib.Core.Logic.{_↔_, _⊎_}
 use Prim.Native.Nat.{ℕ, _+_, _<_, _≤_}
 use lib.ListN.{length, getD, take}
 use Rattle.sizes.specs.Sizes.{placeCount}
+use Rattle.sheet.specs.Corners.{Corners}
 use Rattle.sheet.specs.Cells.{cellOf}
 use Rattle.sheet.specs.Words.{labelAt}
 use Rattle.sheet.specs.declared.Cell.{Cell}
@@ -15,7 +16,6 @@ use Rattle.labels.specs.Labelled.{LabelledCell, labelCount}
 use Rattle.labels.specs.Used.{OneCell}
 use Rattle.positions_policy.specs.declared.Tolerances.{Tolerances}
 use Rattle.arguments.specs.Accepted.{Known}
-use Rattle.extension_common.specs.TryCell.{Corners}
 use Rattle.passes.specs.History.{Attaches, History}
 
 -- a sheet that belongs to the corners: it is long enough, names given corners only, and each at one cell

@@ -3,27 +3,30 @@
 // local_cell). What was worked out of a cell is remembered until a new label may change it (crate remembered).
 
 ghost use mathlib.Core.Path.{_≡_};
+ghost use Prim.Native.Nat.{_≤_};
 ghost use lib.ListN.{length};
-ghost use Rattle.extension_common.specs.TryCell.{cornersOf};
+ghost use Rattle.sizes.specs.Sizes.{placeCount};
+ghost use Rattle.sheet.specs.Corners.{cornerLists, cornersOf, cornersIn};
 ghost use Rattle.passes.specs.Outcome.{done};
 ghost use Rattle.passes.specs.Local.{depthOf, localRound, localFrom, localAfter};
-ghost use Rattle.passes.specs.Step.{CornerLists, Rooms, localStep, localOut, localLeaves};
+ghost use Rattle.passes.specs.Step.{localStep, localOut, localLeaves, lentOf, rooms};
 ghost use Rattle.passes.specs.Said.{localValues, localSaid, outcomeDue};
-ghost use Rattle.arguments.specs.Arguments.{lent};
 ghost use Rattle.arguments.specs.Accepted.{Accepted};
-ghost use Rattle.region.specs.Region.{regionOf};
+ghost use Rattle.region.specs.Region.{regionOf, Telling};
 ghost use Rattle.local_cell.specs.Extending.{stateOf, Left, Recalls};
-ghost use Rattle.local.specs.Rounds.{Looking, lookedAt, RoundAsked, noProgress, startOf, RoundsAsked, RoundsLeft, statsOf};
+ghost use Rattle.local.specs.Rounds.{triedAt, Tellable, NextTried, RoundAsked, noProgress, startOf, RoundsAsked, RoundsLeft, statsOf};
 use arguments::Checked;
 use arguments::LocalExtensionParams;
 use arguments::Pass;
 use arguments::Settings;
 use labels::LabelBox;
 use local_cell::LocalProgress;
+use local_cell::LocalSetup;
 use passes::Counts;
 use passes::LargestResidual;
 use passes::LocalAnswer;
 use passes::LocalStats;
+use region::Window;
 use sizes::CORNERS;
 use sizes::PLACES;
 
@@ -43,56 +46,50 @@ fn depth_of(params: LocalExtensionParams) -> u32
     params.extend_depth
 }
 
-// Looks at a place: its cell is tried if it lies in the region and is unlabelled. Answers how far the pass has come.
-fn local_place(
-    xs: &[f32],
-    ys: &[f32],
-    pitches: &[f32],
-    sheet: &mut [u16],
-    attached: &mut [u16],
-    used: &mut [u8; CORNERS],
-    places: &mut [u16; CORNERS],
-    memory: &mut [u16; PLACES],
-    predictions: &mut [f32; 3 * PLACES],
-    at: LocalProgress,
+// Whether a round tries the cell of a place: it lies in the region and is unlabelled.
+fn is_tried(
+    sheet: &[u16],
     around: LabelBox,
     rows: &[u8; 128],
     columns: &[u8; 128],
     place: usize,
-    settings: Settings,
-    params: LocalExtensionParams,
-) -> LocalProgress
-    requires { ⌜ Looking (now xs) (now ys) (now pitches) (now sheet) (now attached) (now used) (now places) at (regionOf around (now rows) (now columns)) place params × Recalls settings params (now xs) (now ys) (now pitches) (now sheet) (now memory) (now predictions) at ⌝ }
-    ensures { λ r. ⌜ Left (lookedAt (cornersOf (now (xs .entry)) (now (ys .entry)) (now (pitches .entry))) settings params (regionOf around (now (rows .entry)) (now (columns .entry))) place (stateOf (now (sheet .entry)) (now (attached .entry)) at)) (now (xs .entry)) (now (ys .entry)) (now (pitches .entry)) (now (attached .entry)) (now (sheet .exit)) (now (attached .exit)) (now (used .exit)) (now (places .exit)) r × Recalls settings params (now (xs .entry)) (now (ys .entry)) (now (pitches .entry)) (now (sheet .exit)) (now (memory .exit)) (now (predictions .exit)) r ⌝ }
+    depth: u32,
+) -> bool
+    requires { ⌜ Telling (regionOf around (now rows) (now columns)) place depth × (placeCount ≤ length (now sheet)) ⌝ }
+    ensures { λ r. ⌜ r ≡ triedAt depth (regionOf around (now (rows .entry)) (now (columns .entry))) (now (sheet .entry)) place ⌝ }
 {
-    if !region::is_local_cell(around, rows, columns, place, depth_of(params)) {
-        return at;
+    if !region::is_local_cell(around, rows, columns, place, depth) {
+        return false;
     }
-    if labels::is_labelled(sheet[place]) {
-        return at;
+    !labels::is_labelled(sheet[place])
+}
+
+// The next place from one on whose cell a round tries, or 16,384 where there is none.
+fn next_tried(
+    sheet: &[u16],
+    window: Window,
+    around: LabelBox,
+    rows: &[u8; 128],
+    columns: &[u8; 128],
+    depth: u32,
+    from: usize,
+) -> usize
+    requires { ⌜ Tellable depth (regionOf around (now rows) (now columns)) window (now sheet) × (from ≤ placeCount) ⌝ }
+    ensures { λ r. ⌜ NextTried (triedAt depth (regionOf around (now (rows .entry)) (now (columns .entry))) (now (sheet .entry))) from r ⌝ }
+{
+    let mut place = region::next_inside(window, from);
+    while place < PLACES {
+        if is_tried(sheet, around, rows, columns, place, depth) {
+            return place;
+        }
+        place = region::next_inside(window, place + 1);
     }
-    local_cell::try_local_cell(
-        xs,
-        ys,
-        pitches,
-        sheet,
-        attached,
-        used,
-        places,
-        memory,
-        predictions,
-        at,
-        sheet::cell_of(place),
-        settings,
-        params,
-    )
+    place
 }
 
 // One round: all unlabelled cells of the region of now, by i then j. Answers how far the pass has come.
 fn local_round(
-    xs: &[f32],
-    ys: &[f32],
-    pitches: &[f32],
+    corners: &[f32; 3 * CORNERS],
     sheet: &mut [u16],
     attached: &mut [u16],
     used: &mut [u8; CORNERS],
@@ -100,23 +97,25 @@ fn local_round(
     memory: &mut [u16; PLACES],
     predictions: &mut [f32; 3 * PLACES],
     at: LocalProgress,
-    settings: Settings,
-    params: LocalExtensionParams,
+    setup: LocalSetup,
 ) -> LocalProgress
-    requires { ⌜ RoundAsked (now xs) (now ys) (now pitches) (now sheet) (now attached) (now used) (now places) at params × Recalls settings params (now xs) (now ys) (now pitches) (now sheet) (now memory) (now predictions) at ⌝ }
-    ensures { λ r. ⌜ Left (localRound (cornersOf (now (xs .entry)) (now (ys .entry)) (now (pitches .entry))) settings params (stateOf (now (sheet .entry)) (now (attached .entry)) at)) (now (xs .entry)) (now (ys .entry)) (now (pitches .entry)) (now (attached .entry)) (now (sheet .exit)) (now (attached .exit)) (now (used .exit)) (now (places .exit)) r × Recalls settings params (now (xs .entry)) (now (ys .entry)) (now (pitches .entry)) (now (sheet .exit)) (now (memory .exit)) (now (predictions .exit)) r ⌝ }
+    requires { ⌜ RoundAsked (setup .count) (now sheet) (now attached) (now used) (now places) at (setup .params)
+        × Recalls (setup .settings) (setup .params) (cornersIn (now corners) (setup .count)) (now sheet) (now memory) (now predictions) at ⌝ }
+    ensures { λ r. ⌜ Left (localRound (cornersIn (now (corners .entry)) (setup .count)) (setup .settings) (setup .params)
+        (stateOf (now (sheet .entry)) (now (attached .entry)) at)) (setup .count) (now (attached .entry)) (now (sheet .exit)) (now (attached .exit))
+        (now (used .exit)) (now (places .exit)) r × Recalls (setup .settings) (setup .params) (cornersIn (now (corners .entry)) (setup .count))
+        (now (sheet .exit)) (now (memory .exit)) (now (predictions .exit)) r ⌝ }
 {
     let around = labels::label_box(sheet);
     let rows = region::rows_of(places, at.labels);
     let columns = region::columns_of(places, at.labels);
-    let window = region::window_of(around, depth_of(params));
+    let depth = depth_of(setup.params);
+    let window = region::window_of(around, depth);
     let mut reached = at;
-    let mut place = region::next_inside(window, 0);
+    let mut place = next_tried(sheet, window, around, &rows, &columns, depth, 0);
     while place < PLACES {
-        let next = local_place(
-            xs,
-            ys,
-            pitches,
+        let next = local_cell::try_local_cell(
+            corners,
             sheet,
             attached,
             used,
@@ -124,15 +123,11 @@ fn local_round(
             memory,
             predictions,
             reached,
-            around,
-            &rows,
-            &columns,
-            place,
-            settings,
-            params,
+            sheet::cell_of(place),
+            setup,
         );
         reached = next;
-        place = region::next_inside(window, place + 1);
+        place = next_tried(sheet, window, around, &rows, &columns, depth, place + 1);
     }
     reached
 }
@@ -157,9 +152,7 @@ fn no_progress(labels: usize) -> LocalProgress
 
 // Round after round, until one attaches nothing or the limit is reached; a limit of 0 does none.
 fn local_rounds(
-    xs: &[f32],
-    ys: &[f32],
-    pitches: &[f32],
+    corners: &[f32; 3 * CORNERS],
     sheet: &mut [u16],
     attached: &mut [u16],
     used: &mut [u8; CORNERS],
@@ -167,20 +160,23 @@ fn local_rounds(
     memory: &mut [u16; PLACES],
     predictions: &mut [f32; 3 * PLACES],
     labels: usize,
-    settings: Settings,
-    params: LocalExtensionParams,
+    setup: LocalSetup,
 ) -> RoundsDone
-    requires { ⌜ RoundsAsked (now xs) (now ys) (now pitches) (now sheet) (now attached) (now used) (now places) labels params × Recalls settings params (now xs) (now ys) (now pitches) (now sheet) (now memory) (now predictions) (noProgress labels) ⌝ }
-    ensures { λ r. ⌜ RoundsLeft (localFrom (cornersOf (now (xs .entry)) (now (ys .entry)) (now (pitches .entry))) settings params (params .«max_iters») (startOf (now (sheet .entry)) (now (attached .entry)) labels)) (now (xs .entry)) (now (ys .entry)) (now (pitches .entry)) (now (attached .entry)) (now (sheet .exit)) (now (attached .exit)) (now (used .exit)) (now (places .exit)) r × Recalls settings params (now (xs .entry)) (now (ys .entry)) (now (pitches .entry)) (now (sheet .exit)) (now (memory .exit)) (now (predictions .exit)) (r .progress) ⌝ }
+    requires { ⌜ RoundsAsked (setup .count) (now sheet) (now attached) (now used) (now places) labels (setup .params)
+        × Recalls (setup .settings) (setup .params) (cornersIn (now corners) (setup .count)) (now sheet) (now memory) (now predictions)
+        (noProgress labels) ⌝ }
+    ensures { λ r. ⌜ RoundsLeft (localFrom (cornersIn (now (corners .entry)) (setup .count)) (setup .settings) (setup .params) (setup .params .«max_iters»)
+        (startOf (now (sheet .entry)) (now (attached .entry)) labels)) (setup .count) (now (attached .entry)) (now (sheet .exit)) (now (attached .exit))
+        (now (used .exit)) (now (places .exit)) r × Recalls (setup .settings) (setup .params) (cornersIn (now (corners .entry)) (setup .count))
+        (now (sheet .exit)) (now (memory .exit)) (now (predictions .exit)) (r .progress) ⌝ }
 {
+    let params = setup.params;
     let limit = params.max_iters as usize;
     let mut at = no_progress(labels);
     let mut rounds = 0usize;
     while rounds < limit {
         let next = local_round(
-            xs,
-            ys,
-            pitches,
+            corners,
             sheet,
             attached,
             used,
@@ -188,8 +184,7 @@ fn local_rounds(
             memory,
             predictions,
             at,
-            settings,
-            params,
+            setup,
         );
         rounds += 1;
         if next.counts.attached == at.counts.attached {
@@ -231,8 +226,11 @@ fn local_accepted(
     settings: Settings,
     params: LocalExtensionParams,
 ) -> LocalStats
-    requires { ⌜ Accepted (lent (now xs) (now ys) (now pitches) (now sheet) 0 (length (now attached))) settings (Pass.Local params) ⌝ }
-    ensures { λ r. ⌜ localOut (LocalAnswer.Done r) (now (sheet .exit)) (now (attached .exit)) ≡ localLeaves (done (localAfter (cornersOf (now (xs .entry)) (now (ys .entry)) (now (pitches .entry))) settings params (now (sheet .entry)))) (now (sheet .entry)) (now (attached .entry)) ⌝ }
+    requires { ⌜ Accepted (lentOf (cornerLists (now xs) (now ys) (now pitches)) (now sheet) (rooms 0 (length (now attached))))
+        settings (Pass.Local params) ⌝ }
+    ensures { λ r. ⌜ localOut (LocalAnswer.Done r) (now (sheet .exit)) (now (attached .exit))
+        ≡ localLeaves (done (localAfter (cornersOf (cornerLists (now (xs .entry)) (now (ys .entry)) (now (pitches .entry)))) settings params
+        (now (sheet .entry)))) (now (sheet .entry)) (now (attached .entry)) ⌝ }
 {
     let depth = depth_of(params);
     let mut places = [0u16; CORNERS];
@@ -247,10 +245,16 @@ fn local_accepted(
     let mut used = labels::mark_used(sheet);
     let mut memory = [0u16; PLACES];
     let mut predictions = [0.0f32; 3 * PLACES];
+    let nothing = 0.0f32 / 0.0f32;
+    let mut corners = [nothing; 3 * CORNERS];
+    arguments::hold_corners(xs, ys, pitches, &mut corners);
+    let setup = LocalSetup {
+        count: xs.len(),
+        settings,
+        params,
+    };
     let rounds = local_rounds(
-        xs,
-        ys,
-        pitches,
+        &corners,
         sheet,
         attached,
         &mut used,
@@ -258,8 +262,7 @@ fn local_accepted(
         &mut memory,
         &mut predictions,
         labels,
-        settings,
-        params,
+        setup,
     );
     stats_of(rounds, labels::rim_reached(sheet, depth))
 }
@@ -279,10 +282,12 @@ pub fn extend_via_local_homography(
     settings: Settings,
     params: LocalExtensionParams,
 ) -> LocalAnswer
-    ensures { λ r. ⌜ localOut r (now (sheet .exit)) (now (attached .exit)) ≡ localLeaves (localStep (record { xs = now (xs .entry); ys = now (ys .entry); pitches = now (pitches .entry) }) (now (sheet .entry)) settings params (record { queue = 0; attached = length (now (attached .entry)) })) (now (sheet .entry)) (now (attached .entry)) ⌝ }
+    ensures { λ r. ⌜ localOut r (now (sheet .exit)) (now (attached .exit))
+        ≡ localLeaves (localStep (cornerLists (now (xs .entry)) (now (ys .entry)) (now (pitches .entry))) (now (sheet .entry)) settings params
+        (rooms 0 (length (now (attached .entry))))) (now (sheet .entry)) (now (attached .entry)) ⌝ }
     ensures said { λ r. ⌜ localSaid r ≡ outcomeDue localValues (localStep
-        (record { xs = now (xs .entry); ys = now (ys .entry); pitches = now (pitches .entry) })
-        (now (sheet .entry)) settings params (record { queue = 0; attached = length (now (attached .entry)) })) ⌝ }
+        (cornerLists (now (xs .entry)) (now (ys .entry)) (now (pitches .entry)))
+        (now (sheet .entry)) settings params (rooms 0 (length (now (attached .entry))))) ⌝ }
 {
     let checked = arguments::check_arguments(
         xs,

@@ -8,7 +8,7 @@ use borrow.Author.Tests.{not-true, not-false}
 use lib.ListN.{take}
 use lib.Ieee.{Float, ofBits, binary32, lt}
 use Rattle.sheet.specs.Cells.{placeOf}
-use Rattle.sheet.specs.Corners.{cornerOf, seenOf}
+use Rattle.sheet.specs.Corners.{Corners, seenOf}
 use Rattle.sheet.specs.declared.Cell.{Cell}
 use Rattle.sheet.specs.declared.Corner.{Corner}
 use Rattle.sheet.specs.declared.Position.{Position}
@@ -16,7 +16,7 @@ use Rattle.arguments.specs.declared.Settings.{Settings}
 use Rattle.arguments.specs.declared.LocalExtensionParams.{LocalExtensionParams}
 use Rattle.candidates.specs.Candidates.{lastDistance}
 use Rattle.candidates.specs.declared.Candidates.{Candidates}
-use Rattle.extension_common.specs.TryCell.{cornersOf, gathered, tryAt}
+use Rattle.extension_common.specs.TryCell.{gathered, tryAt}
 use Rattle.extension_common.specs.declared.TryCellResult.{TryCellResult}
 use Rattle.homography.specs.Fit.{applied}
 use Rattle.passes.specs.Grow.{tolerancesOf}
@@ -41,53 +41,53 @@ use Rattle.local_cell.specs.declared.LocalProgress.{LocalProgress}
 use Rattle.local_cell.proofs.Visit.{nearby, supports-are, untouched, taking-attaching}
 
 -- an entry can be noted
-module _ {set : Settings} {p : LocalExtensionParams} {xs ys pitches : List Float} {sheet list used places memory : List ℕ} {predictions : List Float} {at : LocalProgress} {c : Cell}
-    (t : Trying xs ys pitches sheet list used places at c) (r : Recalls set p xs ys pitches sheet memory predictions at) where
+module _ {set : Settings} {p : LocalExtensionParams} {cs : Corners} {sheet list used places memory : List ℕ} {predictions : List Float} {at : LocalProgress} {c : Cell}
+    (t : Trying (cs .count) sheet list used places at c) (r : Recalls set p cs sheet memory predictions at) where
   pub noting : {known : Known} → Notable known → Noting memory predictions c known
   noting h = record { size = r .size; room = r .room; on = t .on; notable = h }
 
 -- how far a support is can be noted
-pub reaches-small : {xs ys pitches : List Float} {sheet list used places : List ℕ} {at : LocalProgress} {c : Cell} {near : Supports} → Trying xs ys pitches sheet list used places at c
+pub reaches-small : {n : ℕ} {sheet list used places : List ℕ} {at : LocalProgress} {c : Cell} {near : Supports} → Trying n sheet list used places at c
     → keptOf near ≡ nearestAmong c (take (at .labels) places) → ReachesSmall near
 reaches-small {c = c} t e = nearest-small (nearby (t .extending) c (t .on)) e
 
 -- ---- a cell of which nothing is known
 
-module _ (set : Settings) (p : LocalExtensionParams) {xs ys pitches : List Float} {sheet list used places memory : List ℕ} {predictions : List Float} (at : LocalProgress) (c : Cell)
-    (t : Trying xs ys pitches sheet list used places at c) (r : Recalls set p xs ys pitches sheet memory predictions at) (near : Supports)
+module _ (set : Settings) (p : LocalExtensionParams) {cs : Corners} {sheet list used places memory : List ℕ} {predictions : List Float} (at : LocalProgress) (c : Cell)
+    (t : Trying (cs .count) sheet list used places at c) (r : Recalls set p cs sheet memory predictions at) (near : Supports)
     (nearest : keptOf near ≡ nearestAmong c (take (at .labels) places)) {fit : SupportFit}
-    (is : fit ≡ supportFitOf (localFit (seenOf (cornerOf xs ys pitches) sheet) (placesOf near))) where
+    (is : fit ≡ supportFitOf (localFit (seenOf (cs .corner) sheet) (placesOf near))) where
   supports : placesOf near ≡ supportsOf c sheet
   supports = supports-are (t .extending) c near (nearest-places (nearby (t .extending) c (t .on)) nearest)
 
   far : Reached c near
   far = nearest-reached (nearby (t .extending) c (t .on)) nearest
 
-  of : localFit (seenOf (cornerOf xs ys pitches) sheet) (placesOf near) ≡ fitAt (cornersOf xs ys pitches) sheet c
-  of = ap (localFit (seenOf (cornerOf xs ys pitches) sheet)) supports
+  of : localFit (seenOf (cs .corner) sheet) (placesOf near) ≡ fitAt cs sheet c
+  of = ap (localFit (seenOf (cs .corner) sheet)) supports
 
   -- there is no fit
   pub unknown-none : {memory' : List ℕ} {predictions' : List Float} → not (fit .found) ≡ true → Noted memory predictions c (Known.Idle (near .fourth .reach)) memory' predictions'
-      → Left (localVisit (cornersOf xs ys pitches) set p c (stateOf sheet list at)) xs ys pitches list sheet list used places at × Recalls set p xs ys pitches sheet memory' predictions' at
+      → Left (localVisit cs set p c (stateOf sheet list at)) (cs .count) list sheet list used places at × Recalls set p cs sheet memory' predictions' at
   unknown-none e n =
       let g = fit-none _ is (not-true (fit .found) e) in (
-        untouched (t .extending) (visit-none (cornersOf xs ys pitches) set p c (stateOf sheet list at) _ of g),
-        noted r (t .on) (made-none (cornersOf xs ys pitches) set p (at .residual) sheet c near supports far (sym of ∙ g)) n,
+        untouched (t .extending) (visit-none cs set p c (stateOf sheet list at) _ of g),
+        noted r (t .on) (made-none cs set p (at .residual) sheet c near supports far (sym of ∙ g)) n,
       )
 
   module _ (found : not (fit .found) ≡ false) {gate most : Float} (gated : gate ≡ gateOf set p) (largest : most ≡ worst (ofBits binary32 0) (fit .residuals)) where
-    has : localFit (seenOf (cornerOf xs ys pitches) sheet) (placesOf near) ≡ fitted (fit .h) (fit .residuals)
+    has : localFit (seenOf (cs .corner) sheet) (placesOf near) ≡ fitted (fit .h) (fit .residuals)
     has = fit-some _ is (not-false (fit .found) found)
 
     -- a residual is above the gate
     pub unknown-above : {next : LocalProgress} {memory' : List ℕ} {predictions' : List Float} → next ≡ residualsRecorded at (fit .residuals) → lt gate most ≡ true
         → Noted memory predictions c (Known.Idle (near .fourth .reach)) memory' predictions'
-        → Left (localVisit (cornersOf xs ys pitches) set p c (stateOf sheet list at)) xs ys pitches list sheet list used places next × Recalls set p xs ys pitches sheet memory' predictions' next
+        → Left (localVisit cs set p c (stateOf sheet list at)) (cs .count) list sheet list used places next × Recalls set p cs sheet memory' predictions' next
     unknown-above f e n =
         let k = sym (ap₂ lt gated largest) ∙ e in
         rw f (
-          untouched (t .extending) (visit-gated (cornersOf xs ys pitches) set p c (stateOf sheet list at) _ of _ _ has k),
-          noted (larger (fit .residuals) r) (t .on) (made-above (cornersOf xs ys pitches) set p (at .residual) sheet c near supports far (fit .h) (fit .residuals) (sym of ∙ has) k) n,
+          untouched (t .extending) (visit-gated cs set p c (stateOf sheet list at) _ of _ _ has k),
+          noted (larger (fit .residuals) r) (t .on) (made-above cs set p (at .residual) sheet c near supports far (fit .h) (fit .residuals) (sym of ∙ has) k) n,
         )
 
     -- all are within
@@ -98,12 +98,12 @@ module _ (set : Settings) (p : LocalExtensionParams) {xs ys pitches : List Float
       mapped : prediction ≡ applied (fit .h) (cellPoint c)
       mapped = maps ∙ ap (applied (fit .h)) at-point
 
-      pub unknown-known : KnownAt (cornersOf xs ys pitches) set p (residualsRecorded at (fit .residuals) .residual) sheet c (Known.Predicted (near .fourth .reach) prediction)
-      unknown-known = rw mapped (made-within (cornersOf xs ys pitches) set p (at .residual) sheet c near supports far (fit .h) (fit .residuals) (sym of ∙ has) within)
+      pub unknown-known : KnownAt cs set p (residualsRecorded at (fit .residuals) .residual) sheet c (Known.Predicted (near .fourth .reach) prediction)
+      unknown-known = rw mapped (made-within cs set p (at .residual) sheet c near supports far (fit .h) (fit .residuals) (sym of ∙ has) within)
 
       module _ {next : LocalProgress} (f : next ≡ residualsRecorded at (fit .residuals)) where
         pub unknown-asked : {memory' : List ℕ} {predictions' : List Float} → Noted memory predictions c (Known.Predicted (near .fourth .reach) prediction) memory' predictions'
-            → Trying xs ys pitches sheet list used places next c × (Recalls set p xs ys pitches sheet memory' predictions' next × Foretold set p xs ys pitches sheet next c (near .fourth .reach) prediction)
+            → Trying (cs .count) sheet list used places next c × (Recalls set p cs sheet memory' predictions' next × Foretold set p cs sheet next c (near .fourth .reach) prediction)
         unknown-asked n =
             rw f (
               record { extending = t .extending; on = t .on; bare = t .bare; countable = t .countable },
@@ -113,63 +113,63 @@ module _ (set : Settings) (p : LocalExtensionParams) {xs ys pitches : List Float
               ),
             )
 
-        pub unknown-visit : localVisit (cornersOf xs ys pitches) set p c (stateOf sheet list at)
-            ≡ localWith c (tryAt (cornersOf xs ys pitches) sheet (tolerancesOf set) (localSearch set p) c prediction) (stateOf sheet list next)
-        unknown-visit = rw (f, mapped) (visit-fitted (cornersOf xs ys pitches) set p c (stateOf sheet list at) _ of _ _ has within)
+        pub unknown-visit : localVisit cs set p c (stateOf sheet list at)
+            ≡ localWith c (tryAt cs sheet (tolerancesOf set) (localSearch set p) c prediction) (stateOf sheet list next)
+        unknown-visit = rw (f, mapped) (visit-fitted cs set p c (stateOf sheet list at) _ of _ _ has within)
 
 -- ---- where the fit maps a cell to
 
-module _ {set : Settings} {p : LocalExtensionParams} {xs ys pitches : List Float} {sheet memory : List ℕ} {predictions : List Float} {at : LocalProgress}
-    (r : Recalls set p xs ys pitches sheet memory predictions at) where
+module _ {set : Settings} {p : LocalExtensionParams} {cs : Corners} {sheet memory : List ℕ} {predictions : List Float} {at : LocalProgress}
+    (r : Recalls set p cs sheet memory predictions at) where
   module _ {list used places : List ℕ} {c : Cell} where
     -- the counts alone change
-    pub recalls-counted : {n : Counts} {at' : LocalProgress} → Trying xs ys pitches sheet list used places at c → at' ≡ record { counts = n; residual = at .residual; labels = at .labels }
-        → Recalls set p xs ys pitches sheet memory predictions at'
+    pub recalls-counted : {n : Counts} {at' : LocalProgress} → Trying (cs .count) sheet list used places at c → at' ≡ record { counts = n; residual = at .residual; labels = at .labels }
+        → Recalls set p cs sheet memory predictions at'
     recalls-counted t e = rw e r
 
     -- a corner attached
-    pub recalls-attached : {k : ℕ} {taken : Corner} {sheet' list' used' places' memory' : List ℕ} {at' : LocalProgress} → Taking xs ys pitches sheet list used places at c k
-        → taken ≡ cornerOf xs ys pitches k → Wrote sheet list used places at c k sheet' list' used' places' at' → Forgotten memory predictions c (taken .position) memory'
-        → Recalls set p xs ys pitches sheet' memory' predictions at'
+    pub recalls-attached : {k : ℕ} {taken : Corner} {sheet' list' used' places' memory' : List ℕ} {at' : LocalProgress} → Taking (cs .count) sheet list used places at c k
+        → taken ≡ cs .corner k → Wrote sheet list used places at c k sheet' list' used' places' at' → Forgotten memory predictions c (taken .position) memory'
+        → Recalls set p cs sheet' memory' predictions at'
     recalls-attached t e w f = rw (w .sheet-is, w .largest-is) (attach-remembered (taking-attaching t) (t .trying .extending .four) r (rw e at f))
 
     -- no candidate
     pub recalls-missed : {reach : ℕ} {prediction : Position} {at' : LocalProgress} {found : TryCellResult} {memory' : List ℕ} {predictions' : List Float}
-        → Trying xs ys pitches sheet list used places at c → Foretold set p xs ys pitches sheet at c reach prediction
-        → found ≡ tryAt (cornersOf xs ys pitches) sheet (tolerancesOf set) (localSearch set p) c prediction → found ≡ TryCellResult.NoCandidates → at' ≡ cellCounted at found
-        → Noted memory predictions c (Known.NoCandidates reach) memory' predictions' → Recalls set p xs ys pitches sheet memory' predictions' at'
+        → Trying (cs .count) sheet list used places at c → Foretold set p cs sheet at c reach prediction
+        → found ≡ tryAt cs sheet (tolerancesOf set) (localSearch set p) c prediction → found ≡ TryCellResult.NoCandidates → at' ≡ cellCounted at found
+        → Noted memory predictions c (Known.NoCandidates reach) memory' predictions' → Recalls set p cs sheet memory' predictions' at'
     recalls-missed t k d g e n = rw e (noted r (t .on) (made-no-candidates (k .known) (sym d ∙ g)) n)
 
     -- an ambiguous choice
     pub recalls-ambiguous : {reach : ℕ} {prediction : Position} {at' : LocalProgress} {candidates : Candidates} {limit : Float} {found : TryCellResult} {memory' : List ℕ} {predictions' : List Float}
-        → Trying xs ys pitches sheet list used places at c → Foretold set p xs ys pitches sheet at c reach prediction
-        → candidates ≡ gathered (cornersOf xs ys pitches) sheet (localSearch set p .«search_r») prediction → limit ≡ lastDistance candidates
-        → found ≡ tryAt (cornersOf xs ys pitches) sheet (tolerancesOf set) (localSearch set p) c prediction → found ≡ TryCellResult.Ambiguous → at' ≡ cellCounted at found
-        → Noted memory predictions c (Known.Ambiguous reach prediction limit) memory' predictions' → Recalls set p xs ys pitches sheet memory' predictions' at'
+        → Trying (cs .count) sheet list used places at c → Foretold set p cs sheet at c reach prediction
+        → candidates ≡ gathered cs sheet (localSearch set p .«search_r») prediction → limit ≡ lastDistance candidates
+        → found ≡ tryAt cs sheet (tolerancesOf set) (localSearch set p) c prediction → found ≡ TryCellResult.Ambiguous → at' ≡ cellCounted at found
+        → Noted memory predictions c (Known.Ambiguous reach prediction limit) memory' predictions' → Recalls set p cs sheet memory' predictions' at'
     recalls-ambiguous t k i h d g e n = rw e (noted r (t .on) (made-ambiguous (k .known) (sym d ∙ g) (h ∙ ap lastDistance i)) n)
 
 -- ---- by what is known of a cell
 
-module _ {set : Settings} {p : LocalExtensionParams} {xs ys pitches : List Float} {sheet list used places memory : List ℕ} {predictions : List Float} (at : LocalProgress) (c : Cell)
-    (t : Trying xs ys pitches sheet list used places at c) (r : Recalls set p xs ys pitches sheet memory predictions at) {known : Known} (is : known ≡ entryOf memory predictions (placeOf c)) where
-  says : {k : Known} → known ≡ k → KnownAt (cornersOf xs ys pitches) set p (at .residual) sheet c k
+module _ {set : Settings} {p : LocalExtensionParams} {cs : Corners} {sheet list used places memory : List ℕ} {predictions : List Float} (at : LocalProgress) (c : Cell)
+    (t : Trying (cs .count) sheet list used places at c) (r : Recalls set p cs sheet memory predictions at) {known : Known} (is : known ≡ entryOf memory predictions (placeOf c)) where
+  says : {k : Known} → known ≡ k → KnownAt cs set p (at .residual) sheet c k
   says {k} e = rw e at (recalled r (t .on) is)
 
-  pub known-idle : {reach : ℕ} → known ≡ Known.Idle reach → localVisit (cornersOf xs ys pitches) set p c (stateOf sheet list at) ≡ stateOf sheet list at
-  known-idle e = visit-idle (cornersOf xs ys pitches) set p c (stateOf sheet list at) (says e)
+  pub known-idle : {reach : ℕ} → known ≡ Known.Idle reach → localVisit cs set p c (stateOf sheet list at) ≡ stateOf sheet list at
+  known-idle e = visit-idle cs set p c (stateOf sheet list at) (says e)
 
   pub known-no-candidates : {reach : ℕ} → known ≡ Known.NoCandidates reach
-      → localVisit (cornersOf xs ys pitches) set p c (stateOf sheet list at) ≡ localWith c TryCellResult.NoCandidates (stateOf sheet list at)
-  known-no-candidates e = visit-no-candidates (cornersOf xs ys pitches) set p c (stateOf sheet list at) (says e)
+      → localVisit cs set p c (stateOf sheet list at) ≡ localWith c TryCellResult.NoCandidates (stateOf sheet list at)
+  known-no-candidates e = visit-no-candidates cs set p c (stateOf sheet list at) (says e)
 
   pub known-ambiguous : {reach : ℕ} {prediction : Position} {limit : Float} → known ≡ Known.Ambiguous reach prediction limit
-      → localVisit (cornersOf xs ys pitches) set p c (stateOf sheet list at) ≡ localWith c TryCellResult.Ambiguous (stateOf sheet list at)
-  known-ambiguous e = visit-ambiguous (cornersOf xs ys pitches) set p c (stateOf sheet list at) (says e)
+      → localVisit cs set p c (stateOf sheet list at) ≡ localWith c TryCellResult.Ambiguous (stateOf sheet list at)
+  known-ambiguous e = visit-ambiguous cs set p c (stateOf sheet list at) (says e)
 
   module _ {reach : ℕ} {prediction : Position} (e : known ≡ Known.Predicted reach prediction) where
-    pub known-predicted : localVisit (cornersOf xs ys pitches) set p c (stateOf sheet list at)
-        ≡ localWith c (tryAt (cornersOf xs ys pitches) sheet (tolerancesOf set) (localSearch set p) c prediction) (stateOf sheet list at)
-    known-predicted = visit-predicted (cornersOf xs ys pitches) set p c (stateOf sheet list at) (says e)
+    pub known-predicted : localVisit cs set p c (stateOf sheet list at)
+        ≡ localWith c (tryAt cs sheet (tolerancesOf set) (localSearch set p) c prediction) (stateOf sheet list at)
+    known-predicted = visit-predicted cs set p c (stateOf sheet list at) (says e)
 
-    pub known-foretold : Notable known → Foretold set p xs ys pitches sheet at c reach prediction
+    pub known-foretold : Notable known → Foretold set p cs sheet at c reach prediction
     known-foretold h = record { known = says e; small = predicted-below e h }

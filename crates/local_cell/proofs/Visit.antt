@@ -10,8 +10,7 @@ use lib.Seq.{length-take-le, getD-take}
 use lib.Ieee.{Float, ofBits, binary32, lt}
 use Rattle.sheet.specs.Cells.{OnSheet, placeOf}
 use Rattle.sheet.specs.Words.{labelAt, attached, marksCleared}
-use Rattle.sheet.specs.Corners as corners
-use Rattle.sheet.specs.Corners.{Given, seenOf}
+use Rattle.sheet.specs.Corners.{Corners, cornersIn, Given, seenOf}
 use Rattle.sheet.specs.declared.Cell.{Cell}
 use Rattle.sheet.specs.declared.Label.{Label}
 use Rattle.sheet.specs.declared.Position.{Position}
@@ -24,9 +23,9 @@ use Rattle.labels.proofs.Used.{tied-attached, tied-cleared, one-attached, one-c
 use Rattle.positions_policy.specs.declared.Tolerances.{Tolerances}
 use Rattle.arguments.specs.declared.Settings.{Settings}
 use Rattle.arguments.specs.declared.LocalExtensionParams.{LocalExtensionParams}
-use Rattle.candidates.specs.Candidates.{positionsOf, unmarked, candidatesAt, firstTwo}
+use Rattle.candidates.specs.Candidates.{positionsIn, unmarked, candidatesAt, firstTwo}
 use Rattle.candidates.specs.declared.Candidates.{Candidates}
-use Rattle.extension_common.specs.TryCell.{Corners, cornersOf, gathered, tryAt}
+use Rattle.extension_common.specs.TryCell.{gathered, tryAt}
 use Rattle.extension_common.specs.declared.Search.{Search}
 use Rattle.extension_common.specs.declared.TryCellResult.{TryCellResult}
 use Rattle.extension_common.proofs.Laws.{gathered-tied, Attachable, attachable}
@@ -96,8 +95,8 @@ module _ {sheet : List ℕ} {c : Cell} {k : ℕ} (a : Attaching sheet c k) where
   pub clear-count : labelCount (attachedClear sheet c k) ≡ labelCount sheet + 1
   clear-count = same-count (attached sheet c k) (attachedClear sheet c k) (labels-places (clear-labels a)) ∙ count-attached a
 
-  module _ {xs ys pitches : List Float} (given : Given xs ys pitches sheet) (there : k < length xs) where
-    pub clear-given : Given xs ys pitches (attachedClear sheet c k)
+  module _ {n : ℕ} (given : Given n sheet) (there : k < n) where
+    pub clear-given : Given n (attachedClear sheet c k)
     clear-given = given-cleared (given-attached given c (a .on) k there (a .corner-fits)) c (a .on)
 
   pub clear-one : usedOn sheet k ≡ false → OneCell sheet → OneCell (attachedClear sheet c k)
@@ -141,7 +140,7 @@ module _ (sheet : List ℕ) (c : Cell) (k : ℕ) {first second : List ℕ} (e : 
 
 -- ---- the supports
 
-module _ {xs ys pitches : List Float} {sheet list used places : List ℕ} {made labels : ℕ} (f : Extending xs ys pitches sheet list used places made labels) where
+module _ {n : ℕ} {sheet list used places : List ℕ} {made labels : ℕ} (f : Extending n sheet list used places made labels) where
   pub labels-in : labels ≤ 1024
   labels-in = omega (arith, f .labels-are, f .few, labels-few (f .given) (f .one-cell))
 
@@ -174,18 +173,18 @@ module _ {xs ys pitches : List Float} {sheet list used places : List ℕ} {made 
 -- ---- what the code leaves
 
 -- the same state by another expression
-pub left-as : {s after : LocalState} {xs ys pitches : List Float} {before sheet list used places : List ℕ} {at : LocalProgress} → after ≡ s
-    → Left s xs ys pitches before sheet list used places at → Left after xs ys pitches before sheet list used places at
+pub left-as : {s after : LocalState} {n : ℕ} {before sheet list used places : List ℕ} {at : LocalProgress} → after ≡ s
+    → Left s n before sheet list used places at → Left after n before sheet list used places at
 left-as e l = rw e l
 
-module _ {xs ys pitches : List Float} {sheet list used places : List ℕ} {made labels : ℕ} (f : Extending xs ys pitches sheet list used places made labels) where
-  pub made-few : made ≤ length xs
+module _ {n : ℕ} {sheet list used places : List ℕ} {made labels : ℕ} (f : Extending n sheet list used places made labels) where
+  pub made-few : made ≤ n
   made-few = omega (arith, f .room, labels-few (f .given) (f .one-cell))
 
   pub made-in : made ≤ length list
   made-in = omega (arith, made-few, f .list-long)
 
-module _ {xs ys pitches : List Float} {sheet list used places : List ℕ} {at : LocalProgress} (f : Extending xs ys pitches sheet list used places (at .counts .attached) (at .labels)) where
+module _ {n : ℕ} {sheet list used places : List ℕ} {at : LocalProgress} (f : Extending n sheet list used places (at .counts .attached) (at .labels)) where
   -- nothing written
   pub stands : Holds (stateOf sheet list at) list sheet list at
   stands =
@@ -197,17 +196,17 @@ module _ {xs ys pitches : List Float} {sheet list used places : List ℕ} {at : 
         largest-is = refl;
       }
 
-  pub untouched : {after : LocalState} → after ≡ stateOf sheet list at → Left after xs ys pitches list sheet list used places at
+  pub untouched : {after : LocalState} → after ≡ stateOf sheet list at → Left after n list sheet list used places at
   untouched e = rw e (record { holds = stands; extending = f })
 
-module _ {xs ys pitches : List Float} {sheet list used places : List ℕ} {at : LocalProgress} {c : Cell} {k : ℕ} (t : Taking xs ys pitches sheet list used places at c k) where
+module _ {n : ℕ} {sheet list used places : List ℕ} {at : LocalProgress} {c : Cell} {k : ℕ} (t : Taking n sheet list used places at c k) where
   pub taking-fits : k < 1024
   taking-fits = omega (arith, t .there, t .trying .extending .few)
 
   pub taking-attaching : Attaching sheet c k
   taking-attaching = record { long = t .trying .extending .given .long; on = t .trying .on; bare = t .trying .bare; corner-fits = omega (arith, taking-fits) }
 
-  given' : Given xs ys pitches (attachedClear sheet c k)
+  given' : Given n (attachedClear sheet c k)
   given' = clear-given taking-attaching (t .trying .extending .given) (t .there)
 
   one' : OneCell (attachedClear sheet c k)
@@ -234,26 +233,21 @@ module _ {xs ys pitches : List Float} {sheet list used places : List ℕ} {at : 
         size = t .trying .extending .size;
       }
 
-  pub taking-listed : corners.Listed xs ys pitches k
-  taking-listed =
-      let g = t .trying .extending .given in
-      record { in-x = t .there; in-y = omega (arith, t .there, g .ys-long); in-pitch = omega (arith, t .there, g .pitches-long) }
-
   -- a corner attached
   pub took : {sheet' list' used' places' : List ℕ} {at' : LocalProgress} → Wrote sheet list used places at c k sheet' list' used' places' at'
-      → Left (localWith c (TryCellResult.Attached k) (stateOf sheet list at)) xs ys pitches list sheet' list' used' places' at'
+      → Left (localWith c (TryCellResult.Attached k) (stateOf sheet list at)) n list sheet' list' used' places' at'
   unfolding localWith
   took {sheet'} {list'} {used'} {places'} {at'} w =
       let f = t .trying .extending in
-      let n : length (take (at .counts .attached) list) ≡ at .counts .attached = length-take-le (at .counts .attached) list (made-in f) in
+      let taken : length (take (at .counts .attached) list) ≡ at .counts .attached = length-take-le (at .counts .attached) list (made-in f) in
       let m : at' .counts .attached ≡ at .counts .attached + 1 = ap (λ (x : Counts). x .attached) (w .counts-are) in
       rw (w .sheet-is, w .list-is, w .used-is)
       (record {
         holds =
             record {
               sheet-is = refl;
-              list-is = ap₂ (λ (l : List ℕ) (x : ℕ). set l x (placeOf c)) (sym (over-own list (at .counts .attached) (made-in f))) (sym n) ∙ over-more (take (at .counts .attached) list) list (placeOf c) (omega (arith, n, taking-room));
-              made-is = omega (arith, m, n, length-append (take (at .counts .attached) list) (placeOf c ∷ []));
+              list-is = ap₂ (λ (l : List ℕ) (x : ℕ). set l x (placeOf c)) (sym (over-own list (at .counts .attached) (made-in f))) (sym taken) ∙ over-more (take (at .counts .attached) list) list (placeOf c) (omega (arith, taken, taking-room));
+              made-is = omega (arith, m, taken, length-append (take (at .counts .attached) list) (placeOf c ∷ []));
               counts-are = w .counts-are;
               largest-is = w .largest-is;
             };
@@ -280,34 +274,34 @@ pub found-is : (cs : Corners) (sheet : List ℕ) (c : Cell) (prediction : Positi
 found-is cs sheet c prediction s t e = e ∙ rw (t, s)
 
 -- what was gathered by the array of used corners
-pub gathered-is : {xs ys pitches : List Float} {sheet list used places : List ℕ} {at : LocalProgress} {c : Cell} {candidates : Candidates} (radius : Float) (prediction : Position)
-    → Trying xs ys pitches sheet list used places at c → candidates ≡ firstTwo (candidatesAt (positionsOf xs ys) (unmarked used) (length xs) prediction radius)
-    → candidates ≡ gathered (cornersOf xs ys pitches) sheet radius prediction
-gathered-is {xs} {ys} {pitches} {sheet} {used = used} radius prediction t e = e ∙ gathered-tied xs ys pitches sheet used radius prediction (t .extending .few) (t .extending .tied)
+pub gathered-is : (held : List Float) {n : ℕ} {sheet list used places : List ℕ} {at : LocalProgress} {c : Cell} {candidates : Candidates} (radius : Float) (prediction : Position)
+    → Trying n sheet list used places at c → candidates ≡ firstTwo (candidatesAt (positionsIn held) (unmarked used) n prediction radius)
+    → candidates ≡ gathered (cornersIn held n) sheet radius prediction
+gathered-is held {n} {sheet} {used = used} radius prediction t e = e ∙ gathered-tied held n sheet used radius prediction (t .extending .few) (t .extending .tied)
 
 -- a corner that was found is to be attached
-pub taking : {xs ys pitches : List Float} {sheet list used places : List ℕ} {at : LocalProgress} {c : Cell} {k : ℕ} {r : TryCellResult} (tol : Tolerances) (search : Search) (prediction : Position)
-    → Trying xs ys pitches sheet list used places at c → r ≡ tryAt (cornersOf xs ys pitches) sheet tol search c prediction → r ≡ TryCellResult.Attached k
-    → Taking xs ys pitches sheet list used places at c k
-taking {xs} {ys} {pitches} {sheet} {c = c} {k} tol search prediction t e g =
-    let w = attachable (cornersOf xs ys pitches) sheet tol search c prediction k (sym e ∙ g) in
+pub taking : (cs : Corners) {sheet list used places : List ℕ} {at : LocalProgress} {c : Cell} {k : ℕ} {r : TryCellResult} (tol : Tolerances) (search : Search) (prediction : Position)
+    → Trying (cs .count) sheet list used places at c → r ≡ tryAt cs sheet tol search c prediction → r ≡ TryCellResult.Attached k
+    → Taking (cs .count) sheet list used places at c k
+taking cs {sheet} {c = c} {k} tol search prediction t e g =
+    let w = attachable cs sheet tol search c prediction k (sym e ∙ g) in
     record { trying = t; there = w .given; free = w .free }
 
-module _ {xs ys pitches : List Float} {sheet list used places : List ℕ} (at : LocalProgress) (c : Cell) {q r : TryCellResult} (d : r ≡ q) where
+module _ {n : ℕ} {sheet list used places : List ℕ} (at : LocalProgress) (c : Cell) {q r : TryCellResult} (d : r ≡ q) where
   -- no corner: the cell is counted, and nothing is written
-  module _ (f : Extending xs ys pitches sheet list used places (at .counts .attached) (at .labels)) {at' : LocalProgress} (is : at' ≡ cellCounted at r) where
-    pub found-none : r ≡ TryCellResult.NoCandidates → Left (localWith c q (stateOf sheet list at)) xs ys pitches list sheet list used places at'
+  module _ (f : Extending n sheet list used places (at .counts .attached) (at .labels)) {at' : LocalProgress} (is : at' ≡ cellCounted at r) where
+    pub found-none : r ≡ TryCellResult.NoCandidates → Left (localWith c q (stateOf sheet list at)) n list sheet list used places at'
     unfolding localWith
     found-none g = rw (is, ← d, g) (untouched f refl)
 
-    pub found-ambiguous : r ≡ TryCellResult.Ambiguous → Left (localWith c q (stateOf sheet list at)) xs ys pitches list sheet list used places at'
+    pub found-ambiguous : r ≡ TryCellResult.Ambiguous → Left (localWith c q (stateOf sheet list at)) n list sheet list used places at'
     unfolding localWith
     found-ambiguous g = rw (is, ← d, g) (untouched f refl)
 
-    pub found-refused : r ≡ TryCellResult.EdgeRejected → Left (localWith c q (stateOf sheet list at)) xs ys pitches list sheet list used places at'
+    pub found-refused : r ≡ TryCellResult.EdgeRejected → Left (localWith c q (stateOf sheet list at)) n list sheet list used places at'
     unfolding localWith
     found-refused g = rw (is, ← d, g) (untouched f refl)
 
-  pub found-corner : {k : ℕ} {sheet' list' used' places' : List ℕ} {at' : LocalProgress} → Taking xs ys pitches sheet list used places at c k → r ≡ TryCellResult.Attached k
-      → Wrote sheet list used places at c k sheet' list' used' places' at' → Left (localWith c q (stateOf sheet list at)) xs ys pitches list sheet' list' used' places' at'
+  pub found-corner : {k : ℕ} {sheet' list' used' places' : List ℕ} {at' : LocalProgress} → Taking n sheet list used places at c k → r ≡ TryCellResult.Attached k
+      → Wrote sheet list used places at c k sheet' list' used' places' at' → Left (localWith c q (stateOf sheet list at)) n list sheet' list' used' places' at'
   found-corner t g w = rw (← d, g) (took t w)

@@ -8,7 +8,7 @@ use lib.Ieee.{Float}
 use Rattle.sizes.specs.Sizes.{cornerLimit}
 use Rattle.sheet.specs.Cells.{OnSheet, placeOf}
 use Rattle.sheet.specs.Words.{labelAt, attached, marksCleared, SheetCell}
-use Rattle.sheet.specs.Corners.{Given}
+use Rattle.sheet.specs.Corners.{Corners, Given}
 use Rattle.sheet.specs.declared.Cell.{Cell}
 use Rattle.sheet.specs.declared.Label.{Label}
 use Rattle.sheet.specs.declared.Position.{Position}
@@ -16,7 +16,6 @@ use Rattle.labels.specs.Labelled.{labelledPlaces, labelCount}
 use Rattle.labels.specs.Used.{usedOn, Tied, OneCell}
 use Rattle.arguments.specs.declared.Settings.{Settings}
 use Rattle.arguments.specs.declared.LocalExtensionParams.{LocalExtensionParams}
-use Rattle.extension_common.specs.TryCell.{cornersOf}
 use Rattle.extension_common.specs.declared.TryCellResult.{TryCellResult}
 use Rattle.passes.specs.Counting.{oneMore, visits}
 use Rattle.passes.specs.Local.{recordedAll, LocalState}
@@ -45,12 +44,12 @@ stateOf sheet list at = record { sheet = sheet; made = take (at .counts .attache
 -- what holds between two cells: the sheet belongs to the corners, of which there are at most 1,024, no corner is at two cells, the array says
 -- which are used, the attached list has a place for each corner, no more places of it are written than there are labels, there are four
 -- labels, and the labelled places are listed
-pub record Extending (xs ys pitches : List Float) (sheet list used places : List ℕ) (made labels : ℕ) : Type 0 where
-  pub given : Given xs ys pitches sheet
-  pub few : length xs ≤ cornerLimit
+pub record Extending (n : ℕ) (sheet list used places : List ℕ) (made labels : ℕ) : Type 0 where
+  pub given : Given n sheet
+  pub few : n ≤ cornerLimit
   pub one-cell : OneCell sheet
   pub tied : Tied sheet used
-  pub list-long : length xs ≤ length list
+  pub list-long : n ≤ length list
   pub room : made ≤ labelCount sheet
   pub four : 4 ≤ labelCount sheet
   pub labels-are : labels ≡ labelCount sheet
@@ -67,32 +66,33 @@ pub record Holds (s : LocalState) (before sheet list : List ℕ) (at : LocalProg
   pub largest-is : at .residual ≡ s .largest
 
 -- what a function leaves: the buffers hold a state, and all may go on
-pub record Left (s : LocalState) (xs ys pitches : List Float) (before sheet list used places : List ℕ) (at : LocalProgress) : Type 0 where
+pub record Left (s : LocalState) (n : ℕ) (before sheet list used places : List ℕ) (at : LocalProgress) : Type 0 where
   pub holds : Holds s before sheet list at
-  pub extending : Extending xs ys pitches sheet list used places (at .counts .attached) (at .labels)
+  pub extending : Extending n sheet list used places (at .counts .attached) (at .labels)
 
 -- what is remembered of the cells holds, on the sheet of now and with the largest residual of now
-abbrev pub Recalls : Settings → LocalExtensionParams → List Float → List Float → List Float → List ℕ → List ℕ → List Float → LocalProgress → Type 0
-Recalls set p xs ys pitches sheet memory predictions at = Remembered (cornersOf xs ys pitches) set p (at .residual) sheet memory predictions
+abbrev pub Recalls : Settings → LocalExtensionParams → Corners → List ℕ → List ℕ → List Float → LocalProgress → Type 0
+Recalls set p cs sheet memory predictions at = Remembered cs set p (at .residual) sheet memory predictions
 
 -- ---- one cell
 
 -- an unlabelled cell of the sheet is to be tried, and its visit can be counted
-pub record Trying (xs ys pitches : List Float) (sheet list used places : List ℕ) (at : LocalProgress) (c : Cell) : Type 0 where
-  pub extending : Extending xs ys pitches sheet list used places (at .counts .attached) (at .labels)
+pub record Trying (n : ℕ) (sheet list used places : List ℕ) (at : LocalProgress) (c : Cell) : Type 0 where
+  pub extending : Extending n sheet list used places (at .counts .attached) (at .labels)
   pub on : OnSheet c
   pub bare : labelAt sheet c ≡ Label.Unlabelled
   pub countable : visits (at .counts) < 4294967296
 
 -- it is known where the fit maps the cell to
-pub record Foretold (set : Settings) (p : LocalExtensionParams) (xs ys pitches : List Float) (sheet : List ℕ) (at : LocalProgress) (c : Cell) (reach : ℕ) (prediction : Position) : Type 0 where
-  pub known : KnownAt (cornersOf xs ys pitches) set p (at .residual) sheet c (Known.Predicted reach prediction)
+pub record Foretold (set : Settings) (p : LocalExtensionParams) (cs : Corners) (sheet : List ℕ) (at : LocalProgress) (c : Cell) (reach : ℕ)
+    (prediction : Position) : Type 0 where
+  pub known : KnownAt cs set p (at .residual) sheet c (Known.Predicted reach prediction)
   pub small : reach < 8192
 
 -- a corner that no cell holds is to be attached there
-pub record Taking (xs ys pitches : List Float) (sheet list used places : List ℕ) (at : LocalProgress) (c : Cell) (k : ℕ) : Type 0 where
-  pub trying : Trying xs ys pitches sheet list used places at c
-  pub there : k < length xs
+pub record Taking (n : ℕ) (sheet list used places : List ℕ) (at : LocalProgress) (c : Cell) (k : ℕ) : Type 0 where
+  pub trying : Trying n sheet list used places at c
+  pub there : k < n
   pub free : usedOn sheet k ≡ false
 
 -- the sheet with a corner attached to a cell and both marks of the cell cleared

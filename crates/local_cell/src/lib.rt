@@ -4,8 +4,9 @@
 ghost use mathlib.Core.Path.{_≡_};
 ghost use Prim.Native.Nat.{_<_};
 ghost use lib.ListN.{length};
+ghost use Rattle.sheet.specs.Corners.{cornersIn};
 ghost use Rattle.sizes.specs.Sizes.{placeCount};
-ghost use Rattle.extension_common.specs.TryCell.{cornersOf, tryAt};
+ghost use Rattle.extension_common.specs.TryCell.{tryAt};
 ghost use Rattle.passes.specs.Counting.{visits};
 ghost use Rattle.passes.specs.Grow.{tolerancesOf};
 ghost use Rattle.passes.specs.Local.{localSearch, gateOf, localWith, localVisit};
@@ -30,6 +31,20 @@ pub struct LocalProgress {
     pub counts: Counts,
     pub residual: LargestResidual,
     pub labels: usize,
+}
+
+// What a pass is given beside its buffers: how many corners there are, the settings, and the numbers of the pass.
+pub struct LocalSetup {
+    pub count: usize,
+    pub settings: Settings,
+    pub params: LocalExtensionParams,
+}
+
+// A cell that is to be tried where its fit maps it to: how far its fourth support is, and the prediction.
+struct Target {
+    cell: Cell,
+    reach: u32,
+    prediction: Position,
 }
 
 // How local searches a cell: search times cell size as the radius, and fill's and local's rule of choice.
@@ -108,7 +123,9 @@ fn attach_corner(
     corner: Position,
 ) -> LocalProgress
     requires { ⌜ Writable (now sheet) (now attached) (now places) at c k × (length (now memory) ≡ placeCount) ⌝ }
-    ensures { λ r. ⌜ Wrote (now (sheet .entry)) (now (attached .entry)) (now (used .entry)) (now (places .entry)) at c k (now (sheet .exit)) (now (attached .exit)) (now (used .exit)) (now (places .exit)) r × Forgotten (now (memory .entry)) (now (predictions .entry)) c corner (now (memory .exit)) ⌝ }
+    ensures { λ r. ⌜ Wrote (now (sheet .entry)) (now (attached .entry)) (now (used .entry)) (now (places .entry)) at c k (now (sheet .exit))
+        (now (attached .exit)) (now (used .exit)) (now (places .exit)) r
+        × Forgotten (now (memory .entry)) (now (predictions .entry)) c corner (now (memory .exit)) ⌝ }
 {
     let n = at.counts;
     let made = n.attached;
@@ -130,9 +147,7 @@ fn attach_corner(
 // Tries an unlabelled cell where a fit maps it to: a corner that is found is attached, else nothing is written. Either is counted, and that there
 // is no candidate, or that the choice is ambiguous, is noted.
 fn try_predicted_cell(
-    xs: &[f32],
-    ys: &[f32],
-    pitches: &[f32],
+    corners: &[f32; 3 * CORNERS],
     sheet: &mut [u16],
     attached: &mut [u16],
     used: &mut [u8; CORNERS],
@@ -140,28 +155,34 @@ fn try_predicted_cell(
     memory: &mut [u16; PLACES],
     predictions: &mut [f32; 3 * PLACES],
     at: LocalProgress,
-    c: Cell,
-    reach: u32,
-    prediction: Position,
-    settings: Settings,
-    params: LocalExtensionParams,
+    target: Target,
+    setup: LocalSetup,
 ) -> LocalProgress
-    requires { ⌜ Trying (now xs) (now ys) (now pitches) (now sheet) (now attached) (now used) (now places) at c × (Recalls settings params (now xs) (now ys) (now pitches) (now sheet) (now memory) (now predictions) at × Foretold settings params (now xs) (now ys) (now pitches) (now sheet) at c reach prediction) ⌝ }
-    ensures { λ r. ⌜ Left (localWith c (tryAt (cornersOf (now (xs .entry)) (now (ys .entry)) (now (pitches .entry))) (now (sheet .entry)) (tolerancesOf settings) (localSearch settings params) c prediction) (stateOf (now (sheet .entry)) (now (attached .entry)) at)) (now (xs .entry)) (now (ys .entry)) (now (pitches .entry)) (now (attached .entry)) (now (sheet .exit)) (now (attached .exit)) (now (used .exit)) (now (places .exit)) r × Recalls settings params (now (xs .entry)) (now (ys .entry)) (now (pitches .entry)) (now (sheet .exit)) (now (memory .exit)) (now (predictions .exit)) r ⌝ }
+    requires { ⌜ Trying (setup .count) (now sheet) (now attached) (now used) (now places) at (target .cell)
+        × (Recalls (setup .settings) (setup .params) (cornersIn (now corners) (setup .count)) (now sheet) (now memory) (now predictions) at
+        × Foretold (setup .settings) (setup .params) (cornersIn (now corners) (setup .count)) (now sheet) at (target .cell) (target .reach)
+        (target .prediction)) ⌝ }
+    ensures { λ r. ⌜ Left (localWith (target .cell) (tryAt (cornersIn (now (corners .entry)) (setup .count)) (now (sheet .entry))
+        (tolerancesOf (setup .settings)) (localSearch (setup .settings) (setup .params)) (target .cell) (target .prediction))
+        (stateOf (now (sheet .entry)) (now (attached .entry)) at)) (setup .count) (now (attached .entry)) (now (sheet .exit)) (now (attached .exit))
+        (now (used .exit)) (now (places .exit)) r × Recalls (setup .settings) (setup .params) (cornersIn (now (corners .entry)) (setup .count))
+        (now (sheet .exit)) (now (memory .exit)) (now (predictions .exit)) r ⌝ }
 {
-    let search = search_of(settings, params);
-    let candidates = candidates::collect_candidates(xs, ys, used, prediction, search.search_r);
-    let tol = tolerances_of(settings);
-    let found = extension_common::try_candidates(
-        xs,
-        ys,
-        pitches,
-        sheet,
-        c,
-        candidates,
-        search,
-        tol,
+    let c = target.cell;
+    let reach = target.reach;
+    let prediction = target.prediction;
+    let settings = setup.settings;
+    let search = search_of(settings, setup.params);
+    let radius = search.search_r;
+    let candidates = candidates::collect_candidates(
+        corners,
+        setup.count,
+        used,
+        target.prediction,
+        radius,
     );
+    let tol = tolerances_of(settings);
+    let found = extension_common::try_candidates(corners, sheet, c, candidates, search, tol);
     match found {
         TryCellResult::NoCandidates => {
             remembered::note(memory, predictions, c, Known::NoCandidates(reach));
@@ -179,7 +200,7 @@ fn try_predicted_cell(
         }
         TryCellResult::EdgeRejected => count_cell(at, found),
         TryCellResult::Attached(k) => {
-            let taken = sheet::corner_at(xs, ys, pitches, k);
+            let taken = sheet::corner_at(corners, k);
             attach_corner(
                 sheet,
                 attached,
@@ -199,9 +220,7 @@ fn try_predicted_cell(
 // Tries an unlabelled cell of which nothing is known: by the fit on its four nearest labels, whose residuals are recorded. Without a fit, or with a
 // residual above the gate, nothing is counted. What is worked out is noted.
 fn try_unknown_cell(
-    xs: &[f32],
-    ys: &[f32],
-    pitches: &[f32],
+    corners: &[f32; 3 * CORNERS],
     sheet: &mut [u16],
     attached: &mut [u16],
     used: &mut [u8; CORNERS],
@@ -210,15 +229,18 @@ fn try_unknown_cell(
     predictions: &mut [f32; 3 * PLACES],
     at: LocalProgress,
     c: Cell,
-    settings: Settings,
-    params: LocalExtensionParams,
+    setup: LocalSetup,
 ) -> LocalProgress
-    requires { ⌜ Trying (now xs) (now ys) (now pitches) (now sheet) (now attached) (now used) (now places) at c × Recalls settings params (now xs) (now ys) (now pitches) (now sheet) (now memory) (now predictions) at ⌝ }
-    ensures { λ r. ⌜ Left (localVisit (cornersOf (now (xs .entry)) (now (ys .entry)) (now (pitches .entry))) settings params c (stateOf (now (sheet .entry)) (now (attached .entry)) at)) (now (xs .entry)) (now (ys .entry)) (now (pitches .entry)) (now (attached .entry)) (now (sheet .exit)) (now (attached .exit)) (now (used .exit)) (now (places .exit)) r × Recalls settings params (now (xs .entry)) (now (ys .entry)) (now (pitches .entry)) (now (sheet .exit)) (now (memory .exit)) (now (predictions .exit)) r ⌝ }
+    requires { ⌜ Trying (setup .count) (now sheet) (now attached) (now used) (now places) at c
+        × Recalls (setup .settings) (setup .params) (cornersIn (now corners) (setup .count)) (now sheet) (now memory) (now predictions) at ⌝ }
+    ensures { λ r. ⌜ Left (localVisit (cornersIn (now (corners .entry)) (setup .count)) (setup .settings) (setup .params) c
+        (stateOf (now (sheet .entry)) (now (attached .entry)) at)) (setup .count) (now (attached .entry)) (now (sheet .exit)) (now (attached .exit))
+        (now (used .exit)) (now (places .exit)) r × Recalls (setup .settings) (setup .params) (cornersIn (now (corners .entry)) (setup .count))
+        (now (sheet .exit)) (now (memory .exit)) (now (predictions .exit)) r ⌝ }
 {
     let nearest = supports::nearest_labelled_by_grid(places, at.labels, c);
     let reach = nearest.fourth.reach;
-    let fit = supports::local_fit(xs, ys, pitches, sheet, nearest);
+    let fit = supports::local_fit(corners, sheet, nearest);
     if !fit.found {
         remembered::note(memory, predictions, c, Known::Idle(reach));
         return at;
@@ -226,16 +248,14 @@ fn try_unknown_cell(
     let h = fit.h;
     let residuals = fit.residuals;
     let next = with_residuals(at, residuals);
-    if gate_of(settings, params) < supports::worst_of(residuals) {
+    if gate_of(setup.settings, setup.params) < supports::worst_of(residuals) {
         remembered::note(memory, predictions, c, Known::Idle(reach));
         return next;
     }
     let prediction = homography::apply(h, supports::cell_point(c));
     remembered::note(memory, predictions, c, Known::Predicted(reach, prediction));
     try_predicted_cell(
-        xs,
-        ys,
-        pitches,
+        corners,
         sheet,
         attached,
         used,
@@ -243,19 +263,18 @@ fn try_unknown_cell(
         memory,
         predictions,
         next,
-        c,
-        reach,
-        prediction,
-        settings,
-        params,
+        Target {
+            cell: c,
+            reach,
+            prediction,
+        },
+        setup,
     )
 }
 
 // Tries an unlabelled cell: by what is known of it from an earlier round, or anew.
 pub fn try_local_cell(
-    xs: &[f32],
-    ys: &[f32],
-    pitches: &[f32],
+    corners: &[f32; 3 * CORNERS],
     sheet: &mut [u16],
     attached: &mut [u16],
     used: &mut [u8; CORNERS],
@@ -264,18 +283,19 @@ pub fn try_local_cell(
     predictions: &mut [f32; 3 * PLACES],
     at: LocalProgress,
     c: Cell,
-    settings: Settings,
-    params: LocalExtensionParams,
+    setup: LocalSetup,
 ) -> LocalProgress
-    requires { ⌜ Trying (now xs) (now ys) (now pitches) (now sheet) (now attached) (now used) (now places) at c × Recalls settings params (now xs) (now ys) (now pitches) (now sheet) (now memory) (now predictions) at ⌝ }
-    ensures { λ r. ⌜ Left (localVisit (cornersOf (now (xs .entry)) (now (ys .entry)) (now (pitches .entry))) settings params c (stateOf (now (sheet .entry)) (now (attached .entry)) at)) (now (xs .entry)) (now (ys .entry)) (now (pitches .entry)) (now (attached .entry)) (now (sheet .exit)) (now (attached .exit)) (now (used .exit)) (now (places .exit)) r × Recalls settings params (now (xs .entry)) (now (ys .entry)) (now (pitches .entry)) (now (sheet .exit)) (now (memory .exit)) (now (predictions .exit)) r ⌝ }
+    requires { ⌜ Trying (setup .count) (now sheet) (now attached) (now used) (now places) at c
+        × Recalls (setup .settings) (setup .params) (cornersIn (now corners) (setup .count)) (now sheet) (now memory) (now predictions) at ⌝ }
+    ensures { λ r. ⌜ Left (localVisit (cornersIn (now (corners .entry)) (setup .count)) (setup .settings) (setup .params) c
+        (stateOf (now (sheet .entry)) (now (attached .entry)) at)) (setup .count) (now (attached .entry)) (now (sheet .exit)) (now (attached .exit))
+        (now (used .exit)) (now (places .exit)) r × Recalls (setup .settings) (setup .params) (cornersIn (now (corners .entry)) (setup .count))
+        (now (sheet .exit)) (now (memory .exit)) (now (predictions .exit)) r ⌝ }
 {
     let known = remembered::recall(memory, predictions, c);
     match known {
         Known::Nothing => try_unknown_cell(
-            xs,
-            ys,
-            pitches,
+            corners,
             sheet,
             attached,
             used,
@@ -284,16 +304,13 @@ pub fn try_local_cell(
             predictions,
             at,
             c,
-            settings,
-            params,
+            setup,
         ),
         Known::Idle(_) => at,
         Known::NoCandidates(_) => count_cell(at, TryCellResult::NoCandidates),
         Known::Ambiguous(_, _, _) => count_cell(at, TryCellResult::Ambiguous),
         Known::Predicted(reach, prediction) => try_predicted_cell(
-            xs,
-            ys,
-            pitches,
+            corners,
             sheet,
             attached,
             used,
@@ -301,11 +318,12 @@ pub fn try_local_cell(
             memory,
             predictions,
             at,
-            c,
-            reach,
-            prediction,
-            settings,
-            params,
+            Target {
+                cell: c,
+                reach,
+                prediction,
+            },
+            setup,
         ),
     }
 }

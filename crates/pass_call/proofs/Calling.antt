@@ -5,6 +5,7 @@ use Prim.Native.Nat.{ℕ}
 use native.Mathlib.Omega.{arith}
 use borrow.Author.Tests.{le-ltb}
 use lib.ListN.{length}
+use Rattle.sheet.specs.Corners.{CornerLists, cornersOf}
 use Rattle.refusal.specs.declared.Refusal.{Refusal}
 use Rattle.arguments.specs.Arguments.{queueNeeded, tooShort, overLimit, outOfRange, checked}
 use Rattle.arguments.specs.declared.Checked.{Checked}
@@ -13,11 +14,10 @@ use Rattle.arguments.specs.declared.Settings.{Settings}
 use Rattle.arguments.specs.declared.GrowParams.{GrowParams}
 use Rattle.arguments.specs.declared.FillParams.{FillParams}
 use Rattle.arguments.specs.declared.LocalExtensionParams.{LocalExtensionParams}
-use Rattle.extension_common.specs.TryCell.{cornersOf}
 use Rattle.passes.specs.Outcome.{After, Outcome, refused, done}
 use Rattle.passes.specs.Fill.{fillAfter}
 use Rattle.passes.specs.Local.{localAfter}
-use Rattle.passes.specs.Step.{CornerLists, lentOf, rooms, unless, growStep, GrowOut, growOut, growLeaves, fillStep, FillOut, fillOut, fillLeaves, localStep, LocalOut, localOut, localLeaves}
+use Rattle.passes.specs.Step.{lentOf, rooms, unless, growStep, GrowOut, growOut, growLeaves, fillStep, FillOut, fillOut, fillLeaves, localStep, LocalOut, localOut, localLeaves}
 use Rattle.passes.specs.Run.{Call, PassStats, growStats, fillStats, localStats, renamed, step}
 use Rattle.passes.specs.declared.GrowStats.{GrowStats}
 use Rattle.passes.specs.declared.FillStats.{FillStats}
@@ -56,11 +56,11 @@ module _ (l : CornerLists) (set : Settings) (sheet queue attached sheet' attache
       go (done a) w = ap told w
 
 -- and they visit no cells
-fill-visits-none : (l : CornerLists) (set : Settings) (p : FillParams) (sheet : List ℕ) → fillAfter (cornersOf (l .xs) (l .ys) (l .pitches)) set p sheet .visited ≡ []
+fill-visits-none : (l : CornerLists) (set : Settings) (p : FillParams) (sheet : List ℕ) → fillAfter (cornersOf l) set p sheet .visited ≡ []
 unfolding fillAfter
 fill-visits-none l set p sheet = refl
 
-local-visits-none : (l : CornerLists) (set : Settings) (p : LocalExtensionParams) (sheet : List ℕ) → localAfter (cornersOf (l .xs) (l .ys) (l .pitches)) set p sheet .visited ≡ []
+local-visits-none : (l : CornerLists) (set : Settings) (p : LocalExtensionParams) (sheet : List ℕ) → localAfter (cornersOf l) set p sheet .visited ≡ []
 unfolding localAfter
 local-visits-none l set p sheet = refl
 
@@ -76,9 +76,9 @@ module _ (l : CornerLists) (set : Settings) (sheet queue attached sheet' attache
       told : FillOut → PassOut
       told o = passOut (fillAnswered (o .answer)) (o .sheet) queue (o .attached)
 
-      go : (k : Checked) → fillOut answer sheet' attached' ≡ fillLeaves (unless k (fillAfter (cornersOf (l .xs) (l .ys) (l .pitches)) set p sheet)) sheet attached
+      go : (k : Checked) → fillOut answer sheet' attached' ≡ fillLeaves (unless k (fillAfter (cornersOf l) set p sheet)) sheet attached
           → passOut (fillAnswered answer) sheet' queue attached'
-          ≡ passLeaves (renamed fillStats (unless k (fillAfter (cornersOf (l .xs) (l .ys) (l .pitches)) set p sheet))) sheet queue attached
+          ≡ passLeaves (renamed fillStats (unless k (fillAfter (cornersOf l) set p sheet))) sheet queue attached
       go (Checked.Refused s) w = ap told w
       go Checked.Fine w = rw (fill-visits-none l set p sheet) (ap told w)
 
@@ -92,9 +92,9 @@ module _ (l : CornerLists) (set : Settings) (sheet queue attached sheet' attache
       told : LocalOut → PassOut
       told o = passOut (localAnswered (o .answer)) (o .sheet) queue (o .attached)
 
-      go : (k : Checked) → localOut answer sheet' attached' ≡ localLeaves (unless k (localAfter (cornersOf (l .xs) (l .ys) (l .pitches)) set p sheet)) sheet attached
+      go : (k : Checked) → localOut answer sheet' attached' ≡ localLeaves (unless k (localAfter (cornersOf l) set p sheet)) sheet attached
           → passOut (localAnswered answer) sheet' queue attached'
-          ≡ passLeaves (renamed localStats (unless k (localAfter (cornersOf (l .xs) (l .ys) (l .pitches)) set p sheet))) sheet queue attached
+          ≡ passLeaves (renamed localStats (unless k (localAfter (cornersOf l) set p sheet))) sheet queue attached
       go (Checked.Refused s) w = ap told w
       go Checked.Fine w = rw (local-visits-none l set p sheet) (ap told w)
 

@@ -1,7 +1,7 @@
 // The one place that runs a pass: the public call of the pass that is asked for, and what it answers.
 ghost use mathlib.Core.Path.{_≡_};
 ghost use lib.ListN.{length};
-ghost use Rattle.passes.specs.Step.{cornerLists};
+ghost use Rattle.sheet.specs.Corners.{cornerLists};
 ghost use Rattle.passes.specs.Run.{step};
 ghost use Rattle.pass_call.specs.Call.{growAnswered, fillAnswered, localAnswered, passOut, passLeaves, callOf, SmallAnswer};
 use arguments::Pass;

@@ -12,7 +12,7 @@ use lib.Dec.{ltb}
 use lib.ListN.{length, getD}
 use Rattle.sheet.specs.Cells.{OnSheet, placeOf, cellOf}
 use Rattle.sheet.specs.Words.{labelOf, attached, holeMarked, ambiguousMarked}
-use Rattle.sheet.specs.Corners.{seenOf}
+use Rattle.sheet.specs.Corners.{Corners, cornersOf, seenOf}
 use Rattle.sheet.specs.declared.Cell.{Cell}
 use Rattle.sheet.specs.declared.Label.{Label}
 use Rattle.sheet.specs.declared.Position.{Position}
@@ -30,7 +30,7 @@ use Rattle.arguments.proofs.Laws.{accepted}
 use Rattle.arguments.specs.declared.GrowParams.{GrowParams}
 use Rattle.arguments.specs.declared.Pass.{Pass}
 use Rattle.arguments.specs.declared.Settings.{Settings}
-use Rattle.extension_common.specs.TryCell.{Corners, cornersOf, tryAt}
+use Rattle.extension_common.specs.TryCell.{tryAt}
 use Rattle.extension_common.specs.declared.TryCellResult.{TryCellResult}
 use Rattle.extension_common.proofs.Laws.{attachable}
 use Rattle.passes.specs.Grow.{GrowState, startOf, tolerancesOf, searchOf, growWith, growAt, growVisit, growFrom, growRun}
@@ -48,7 +48,7 @@ pub record Belongs (cs : Corners) (sheet : List ℕ) : Type 0 where
   pub one-cell : OneCell sheet
 
 -- the sheet of every accepted call is one
-pub belongs-accepted : {l : Lent} {set : Settings} {pass : Pass} → Accepted l set pass → Belongs (cornersOf (l .xs) (l .ys) (l .pitches)) (l .sheet)
+pub belongs-accepted : {l : Lent} {set : Settings} {pass : Pass} → Accepted l set pass → Belongs (cornersOf (l .corners)) (l .sheet)
 belongs-accepted w = record { long = w .given .long; few = w .few; known = w .given .known; one-cell = w .one-cell }
 
 module _ {cs : Corners} {sheet : List ℕ} (f : Belongs cs sheet) where
@@ -259,4 +259,4 @@ enough cs set p sheet f =
 
 -- so for every call that the checks let pass
 pub nothing-cut-off : NothingCutOff
-nothing-cut-off l set p e = enough (cornersOf (l .xs) (l .ys) (l .pitches)) set p (l .sheet) (belongs-accepted (accepted l set (Pass.Grow p) e))
+nothing-cut-off l set p e = enough (cornersOf (l .corners)) set p (l .sheet) (belongs-accepted (accepted l set (Pass.Grow p) e))

@@ -5,8 +5,6 @@ use mathlib.Core.Bool.{false}
 use mathlib.Core.List.{List}
 use Prim.Native.Nat.{ℕ, _<_, _≤_}
 use native.Mathlib.Omega.{arith}
-use lib.ListN.{length}
-use lib.Ieee.{Float}
 use Rattle.sheet.specs.Corners.{Given}
 use Rattle.sheet.specs.Words.{attached}
 use Rattle.sheet.specs.declared.Cell.{Cell}
@@ -16,14 +14,14 @@ use Rattle.labels.specs.Used.{usedOn, OneCell}
 use Rattle.labels.proofs.Labelled.{count-attached}
 use Rattle.labels.proofs.Used.{one-attached, count-bounded}
 
-module _ {xs ys pitches : List Float} {sheet : List ℕ} (given : Given xs ys pitches sheet) (one : OneCell sheet) where
+module _ {n : ℕ} {sheet : List ℕ} (given : Given n sheet) (one : OneCell sheet) where
   -- at most as many labels as corners
-  pub labels-few : labelCount sheet ≤ length xs
-  labels-few = count-bounded sheet (length xs) (given .known) one
+  pub labels-few : labelCount sheet ≤ n
+  labels-few = count-bounded sheet n (given .known) one
 
   -- and fewer where a corner is left to attach
-  pub labels-fewer : {c : Cell} {k : ℕ} → Attaching sheet c k → k < length xs → usedOn sheet k ≡ false → labelCount sheet < length xs
+  pub labels-fewer : {c : Cell} {k : ℕ} → Attaching sheet c k → k < n → usedOn sheet k ≡ false → labelCount sheet < n
   labels-fewer {c} {k} a there free =
       let after = given-attached given c (a .on) k there (a .corner-fits) in
-      let few = count-bounded (attached sheet c k) (length xs) (after .known) (one-attached a free one) in
+      let few = count-bounded (attached sheet c k) n (after .known) (one-attached a free one) in
       omega (arith, few, count-attached a)

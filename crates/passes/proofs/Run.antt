@@ -2,8 +2,8 @@
 use mathlib.Core.Path.{_≡_, refl, ap}
 use mathlib.Core.List.{List, [], _∷_, _++_}
 use Prim.Native.Nat.{ℕ}
+use Rattle.sheet.specs.Corners.{CornerLists}
 use Rattle.passes.specs.Outcome.{Outcome}
-use Rattle.passes.specs.Step.{CornerLists}
 use Rattle.passes.specs.Run.{Call, PassStats, step, sheetAfter, run, sheetOf}
 
 pub run-then : (l : CornerLists) (sheet : List ℕ) (cs ds : List Call) → run l sheet (cs ++ ds) ≡ run l sheet cs ++ run l (sheetOf l sheet cs) ds

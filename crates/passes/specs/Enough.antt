@@ -4,13 +4,13 @@ use mathlib.Core.Path.{_≡_}
 use mathlib.Core.List.{List}
 use Prim.Native.Nat.{ℕ, _+_, _*_, _<_, _≤_}
 use lib.ListN.{length, getD}
+use Rattle.sheet.specs.Corners.{Corners, cornersOf}
 use Rattle.sizes.specs.Sizes.{placeCount}
 use Rattle.arguments.specs.Arguments.{Lent, checked}
 use Rattle.arguments.specs.declared.Checked.{Checked}
 use Rattle.arguments.specs.declared.GrowParams.{GrowParams}
 use Rattle.arguments.specs.declared.Pass.{Pass}
 use Rattle.arguments.specs.declared.Settings.{Settings}
-use Rattle.extension_common.specs.TryCell.{Corners, cornersOf}
 use Rattle.passes.specs.Grow.{GrowState, startOf, growFrom, growRun}
 use Rattle.passes.specs.declared.Counts.{Counts}
 
@@ -36,4 +36,4 @@ pub record Enough (cs : Corners) (set : Settings) (p : GrowParams) (sheet : List
 abbrev pub NothingCutOff : Type 0
 NothingCutOff =
     (l : Lent) (set : Settings) (p : GrowParams) → checked l set (Pass.Grow p) ≡ Checked.Fine
-    → Enough (cornersOf (l .xs) (l .ys) (l .pitches)) set p (l .sheet)
+    → Enough (cornersOf (l .corners)) set p (l .sheet)

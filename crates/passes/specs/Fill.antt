@@ -10,7 +10,7 @@ use lib.Ieee.{Float, binary32, mul}
 use Rattle.sizes.specs.Sizes.{placeCount}
 use Rattle.sheet.specs.Cells.{placeOf, cellOf}
 use Rattle.sheet.specs.Words.{labelAt, attached}
-use Rattle.sheet.specs.Corners.{seenOf}
+use Rattle.sheet.specs.Corners.{Corners, seenOf}
 use Rattle.sheet.specs.declared.Cell.{Cell}
 use Rattle.labels.specs.Labelled.{passing, namesCorner, labelCount}
 use Rattle.labels.specs.Box.{boxOf}
@@ -21,7 +21,7 @@ use Rattle.predict.specs.Predict.{predictionOf}
 use Rattle.predict.specs.declared.Prediction.{Prediction}
 use Rattle.arguments.specs.declared.Settings.{Settings}
 use Rattle.arguments.specs.declared.FillParams.{FillParams}
-use Rattle.extension_common.specs.TryCell.{Corners, tryAt}
+use Rattle.extension_common.specs.TryCell.{tryAt}
 use Rattle.extension_common.specs.declared.ChoiceRule.{ChoiceRule}
 use Rattle.extension_common.specs.declared.Search.{Search}
 use Rattle.extension_common.specs.declared.TryCellResult.{TryCellResult}

@@ -8,7 +8,7 @@ use lib.ListN.{length, getD}
 use lib.Ieee.{Float, binary32, mul}
 use Rattle.sheet.specs.Cells.{onSheet, placeOf, cellOf, moved}
 use Rattle.sheet.specs.Words.{labelAt, attached, holeMarked, ambiguousMarked}
-use Rattle.sheet.specs.Corners.{seenOf}
+use Rattle.sheet.specs.Corners.{Corners, seenOf}
 use Rattle.sheet.specs.declared.Cell.{Cell}
 use Rattle.sheet.specs.declared.Offset.{Offset}
 use Rattle.sheet.specs.declared.Seen.{Seen}
@@ -20,7 +20,7 @@ use Rattle.positions_policy.specs.Edge.{cardinalOffsets}
 use Rattle.positions_policy.specs.declared.Tolerances.{Tolerances}
 use Rattle.arguments.specs.declared.Settings.{Settings}
 use Rattle.arguments.specs.declared.GrowParams.{GrowParams}
-use Rattle.extension_common.specs.TryCell.{Corners, tryAt}
+use Rattle.extension_common.specs.TryCell.{tryAt}
 use Rattle.extension_common.specs.declared.ChoiceRule.{ChoiceRule}
 use Rattle.extension_common.specs.declared.Search.{Search}
 use Rattle.extension_common.specs.declared.TryCellResult.{TryCellResult}

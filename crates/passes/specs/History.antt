@@ -9,13 +9,12 @@ use lib.ListN.{length}
 use Rattle.sizes.specs.Sizes.{placeCount}
 use Rattle.sheet.specs.Cells.{cellOf}
 use Rattle.sheet.specs.Words.{labelAt, attached}
-use Rattle.sheet.specs.Corners.{seenOf}
+use Rattle.sheet.specs.Corners.{Corners, seenOf}
 use Rattle.sheet.specs.declared.Label.{Label}
 use Rattle.labels.specs.Labelled.{SameLabels}
 use Rattle.labels.specs.Used.{usedOn}
 use Rattle.positions_policy.specs.Edge.{AcceptedEdge, NoNeighbour}
 use Rattle.positions_policy.specs.declared.Tolerances.{Tolerances}
-use Rattle.extension_common.specs.TryCell.{Corners}
 
 -- corner k may be attached to the cell of place p: the cell is unlabelled, the corner is a given one that no cell holds, and it has an
 -- accepted edge to a labelled cardinal neighbour, or there is no such neighbour

@@ -11,7 +11,7 @@ use Rattle.binary32.specs.Ranges.{isFinite, allFinite}
 use Rattle.binary32.specs.Sqrt.{sqrtOrNan}
 use Rattle.sheet.specs.Cells.{placeOf, cellOf, differenceOf, magnitudeOf, eqZ, earlier}
 use Rattle.sheet.specs.Words.{labelAt, attached, marksCleared}
-use Rattle.sheet.specs.Corners.{seenOf, squaredDistance}
+use Rattle.sheet.specs.Corners.{Corners, seenOf, squaredDistance}
 use Rattle.sheet.specs.declared.Cell.{Cell}
 use Rattle.sheet.specs.declared.Position.{Position}
 use Rattle.sheet.specs.declared.Seen.{Seen}
@@ -23,7 +23,7 @@ use Rattle.labels.specs.declared.LabelBox.{LabelBox}
 use Rattle.homography.specs.Fit.{Answer, NoFit, Entries, homographyOf, applied}
 use Rattle.arguments.specs.declared.Settings.{Settings}
 use Rattle.arguments.specs.declared.LocalExtensionParams.{LocalExtensionParams}
-use Rattle.extension_common.specs.TryCell.{Corners, tryAt}
+use Rattle.extension_common.specs.TryCell.{tryAt}
 use Rattle.extension_common.specs.declared.ChoiceRule.{ChoiceRule}
 use Rattle.extension_common.specs.declared.Search.{Search}
 use Rattle.extension_common.specs.declared.TryCellResult.{TryCellResult}

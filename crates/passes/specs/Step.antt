@@ -2,7 +2,7 @@
 use mathlib.Core.List.{List, []}
 use Prim.Native.Nat.{ℕ}
 use lib.ListN.{length}
-use lib.Ieee.{Float}
+use Rattle.sheet.specs.Corners.{CornerLists, cornersOf}
 use Rattle.refusal.specs.declared.Refusal.{Refusal}
 use Rattle.arguments.specs.Arguments.{Lent, checked}
 use Rattle.arguments.specs.declared.Checked.{Checked}
@@ -11,7 +11,6 @@ use Rattle.arguments.specs.declared.Settings.{Settings}
 use Rattle.arguments.specs.declared.GrowParams.{GrowParams}
 use Rattle.arguments.specs.declared.FillParams.{FillParams}
 use Rattle.arguments.specs.declared.LocalExtensionParams.{LocalExtensionParams}
-use Rattle.extension_common.specs.TryCell.{cornersOf}
 use Rattle.arguments.specs.Front.{over}
 use Rattle.passes.specs.Outcome.{After, Outcome, refused, done}
 use Rattle.passes.specs.Grow.{growAfter}
@@ -24,25 +23,16 @@ use Rattle.passes.specs.declared.FillAnswer.{FillAnswer}
 use Rattle.passes.specs.declared.LocalStats.{LocalStats}
 use Rattle.passes.specs.declared.LocalAnswer.{LocalAnswer}
 
--- the corners as they are lent
-pub record CornerLists : Type 0 where
-  pub xs : List Float
-  pub ys : List Float
-  pub pitches : List Float
-
 -- the lengths of the other lent buffers; fill and local are lent no queue
 pub record Rooms : Type 0 where
   pub queue : ℕ
   pub attached : ℕ
 
-abbrev pub cornerLists : List Float → List Float → List Float → CornerLists
-cornerLists xs ys pitches = record { xs = xs; ys = ys; pitches = pitches }
-
 abbrev pub rooms : ℕ → ℕ → Rooms
 rooms queue attached = record { queue = queue; attached = attached }
 
 abbrev pub lentOf : CornerLists → List ℕ → Rooms → Lent
-lentOf l sheet r = record { xs = l .xs; ys = l .ys; pitches = l .pitches; sheet = sheet; queue = r .queue; attached = r .attached }
+lentOf l sheet r = record { corners = l; sheet = sheet; queue = r .queue; attached = r .attached }
 
 -- a refusal, or the pass
 abbrev pub unless : {A : Type 0} → Checked → After A → Outcome A
@@ -52,13 +42,13 @@ unless (Checked.Refused r) a = refused r
 -- ---- each pass
 
 unfoldable pub growStep : CornerLists → List ℕ → Settings → GrowParams → Rooms → Outcome GrowStats
-growStep l sheet set p r = unless (checked (lentOf l sheet r) set (Pass.Grow p)) (growAfter (cornersOf (l .xs) (l .ys) (l .pitches)) set p sheet)
+growStep l sheet set p r = unless (checked (lentOf l sheet r) set (Pass.Grow p)) (growAfter (cornersOf l) set p sheet)
 
 unfoldable pub fillStep : CornerLists → List ℕ → Settings → FillParams → Rooms → Outcome FillStats
-fillStep l sheet set p r = unless (checked (lentOf l sheet r) set (Pass.Fill p)) (fillAfter (cornersOf (l .xs) (l .ys) (l .pitches)) set p sheet)
+fillStep l sheet set p r = unless (checked (lentOf l sheet r) set (Pass.Fill p)) (fillAfter (cornersOf l) set p sheet)
 
 unfoldable pub localStep : CornerLists → List ℕ → Settings → LocalExtensionParams → Rooms → Outcome LocalStats
-localStep l sheet set p r = unless (checked (lentOf l sheet r) set (Pass.Local p)) (localAfter (cornersOf (l .xs) (l .ys) (l .pitches)) set p sheet)
+localStep l sheet set p r = unless (checked (lentOf l sheet r) set (Pass.Local p)) (localAfter (cornersOf l) set p sheet)
 
 -- ---- what a call leaves in the buffers that it is lent: all of it untouched where it is refused
 

@@ -10,7 +10,7 @@ use native.Mathlib.Omega.{arith}
 use lib.ListN.{length}
 use lib.Ieee.{Float}
 use Rattle.sheet.specs.Cells.{moved}
-use Rattle.sheet.specs.Corners.{cornerOf, seenOf, Given}
+use Rattle.sheet.specs.Corners.{CornerLists, cornerOf, seenOf, Given}
 use Rattle.sheet.specs.Pairing.{PairedCorners, PairedSheets}
 use Rattle.sheet.proofs.Pairing.{seen-paired}
 use Rattle.sheet.specs.declared.Cell.{Cell}
@@ -185,8 +185,8 @@ pub verdict-same : {seen seen' : Cell → Seen} {candidate candidate' : Corner} 
 verdict-same tol c e f = ap₂ (λ (s : Cell → Seen) (k : Corner). verdictOf s tol c k) e f
 
 -- two frames with paired corners and sheets: the pair of a corner gets that corner's verdict
-pub verdict-paired : {xs ys pitches xs' ys' pitches' : List Float} {sheet sheet' : List ℕ} (corners : PairedCorners xs ys pitches xs' ys' pitches')
-    → PairedSheets (corners .pairs) sheet sheet' → Given xs ys pitches sheet → (tol : Tolerances) (c : Cell) (k : ℕ) → k < length xs
-    → verdictOf (seenOf (cornerOf xs' ys' pitches') sheet') tol c (cornerOf xs' ys' pitches' (corners .pairs .to k))
-    ≡ verdictOf (seenOf (cornerOf xs ys pitches) sheet) tol c (cornerOf xs ys pitches k)
+pub verdict-paired : {l l' : CornerLists} {sheet sheet' : List ℕ} (corners : PairedCorners l l')
+    → PairedSheets (corners .pairs) sheet sheet' → Given (length (l .xs)) sheet → (tol : Tolerances) (c : Cell) (k : ℕ) → k < length (l .xs)
+    → verdictOf (seenOf (cornerOf l') sheet') tol c (cornerOf l' (corners .pairs .to k))
+    ≡ verdictOf (seenOf (cornerOf l) sheet) tol c (cornerOf l k)
 verdict-paired corners paired given tol c k h = verdict-same tol c (seen-paired corners paired given) (corners .same-corner k h)

@@ -3,13 +3,15 @@
 ghost use mathlib.Core.Path.{_≡_};
 ghost use Prim.Native.Nat.{_<_};
 ghost use Rattle.sheet.specs.Cells.{OnSheet};
-ghost use Rattle.sheet.specs.Corners.{cornerOf, seenOf, Given};
+ghost use Rattle.sizes.specs.Sizes.{cornerLimit};
+ghost use Rattle.sheet.specs.Corners.{cornerIn, seenOf, Given};
 ghost use Rattle.positions_policy.specs.Edge.{lengthOf, expectedLength, inBand, edgeOk, cardinalAt, edgeAt, verdictOf, passes};
 use sheet::Cell;
 use sheet::Corner;
 use sheet::Offset;
 use sheet::Position;
 use sheet::Seen;
+use sizes::CORNERS;
 
 // The numbers of the edge test. The band of 01 is `edge_length_tol`: the part of the expected length by which a length may differ.
 pub struct Tolerances {
@@ -82,20 +84,18 @@ pub fn cardinal_offset(k: usize) -> Offset
 
 // What the edge between the candidate, at the cell, and the k-th cardinal neighbour says.
 fn cardinal_edge(
-    xs: &[f32],
-    ys: &[f32],
-    pitches: &[f32],
+    corners: &[f32; 3 * CORNERS],
     sheet: &[u16],
     c: Cell,
     candidate: Corner,
     tol: Tolerances,
     k: usize,
 ) -> EdgeVerdict
-    requires { ⌜ Given (now xs) (now ys) (now pitches) (now sheet) × (OnSheet c × (k < 4)) ⌝ }
-    ensures { λ r. ⌜ r ≡ edgeAt (seenOf (cornerOf (now (xs .entry)) (now (ys .entry)) (now (pitches .entry))) (now (sheet .entry))) tol c candidate (cardinalAt k) ⌝ }
+    requires { ⌜ Given cornerLimit (now sheet) × (OnSheet c × (k < 4)) ⌝ }
+    ensures { λ r. ⌜ r ≡ edgeAt (seenOf (cornerIn (now (corners .entry))) (now (sheet .entry))) tol c candidate (cardinalAt k) ⌝ }
 {
     let beside = sheet::neighbour(c, cardinal_offset(k));
-    let seen = sheet::seen_at(xs, ys, pitches, sheet, beside);
+    let seen = sheet::seen_at(corners, sheet, beside);
     match seen {
         Seen::Nothing => EdgeVerdict::NonePresent,
         Seen::At(neighbour) => {
@@ -111,21 +111,19 @@ fn cardinal_edge(
 // What the edges between the candidate, at the cell, and the labelled cardinal neighbours say: they are tried in the order +i, -i,
 // +j, -j, and the search stops at the first accepted edge.
 pub fn any_cardinal_edge_ok(
-    xs: &[f32],
-    ys: &[f32],
-    pitches: &[f32],
+    corners: &[f32; 3 * CORNERS],
     sheet: &[u16],
     c: Cell,
     candidate: Corner,
     tol: Tolerances,
 ) -> EdgeVerdict
-    requires { ⌜ Given (now xs) (now ys) (now pitches) (now sheet) × OnSheet c ⌝ }
-    ensures { λ r. ⌜ r ≡ verdictOf (seenOf (cornerOf (now (xs .entry)) (now (ys .entry)) (now (pitches .entry))) (now (sheet .entry))) tol c candidate ⌝ }
+    requires { ⌜ Given cornerLimit (now sheet) × OnSheet c ⌝ }
+    ensures { λ r. ⌜ r ≡ verdictOf (seenOf (cornerIn (now (corners .entry))) (now (sheet .entry))) tol c candidate ⌝ }
 {
     let mut verdict = EdgeVerdict::NonePresent;
     let mut k = 0usize;
     while k < 4 {
-        let edge = cardinal_edge(xs, ys, pitches, sheet, c, candidate, tol, k);
+        let edge = cardinal_edge(corners, sheet, c, candidate, tol, k);
         match edge {
             EdgeVerdict::Accepted => {
                 verdict = EdgeVerdict::Accepted;

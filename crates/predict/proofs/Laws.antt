@@ -13,7 +13,7 @@ use lib.Seq.{drop-cons}
 use lib.Ieee.{Float, binary32, inFloat}
 use Rattle.sheet.specs.Cells.{OnSheet, moved, Within}
 use Rattle.sheet.specs.Words.{labelAt}
-use Rattle.sheet.specs.Corners.{cornerOf, seenOf, Given}
+use Rattle.sheet.specs.Corners.{CornerLists, cornerOf, seenOf, Given}
 use Rattle.sheet.specs.Pairing.{PairedCorners, PairedSheets}
 use Rattle.sheet.proofs.Words.{labelled-on}
 use Rattle.sheet.proofs.Corners.{seen-none, seen-some}
@@ -176,10 +176,10 @@ module _ {seen seen' : Cell → Seen} (same : seen' ≡ seen) where
 
 -- ---- two frames with paired corners and sheets
 
-module _ {xs ys pitches xs' ys' pitches' : List Float} {sheet sheet' : List ℕ}
-    (corners : PairedCorners xs ys pitches xs' ys' pitches') (paired : PairedSheets (corners .pairs) sheet sheet') (given : Given xs ys pitches sheet) where
-  pub prediction-paired : (grid : Grid) (c : Cell) → predictionOf (seenOf (cornerOf xs' ys' pitches') sheet') grid c ≡ predictionOf (seenOf (cornerOf xs ys pitches) sheet) grid c
+module _ {l l' : CornerLists} {sheet sheet' : List ℕ}
+    (corners : PairedCorners l l') (paired : PairedSheets (corners .pairs) sheet sheet') (given : Given (length (l .xs)) sheet) where
+  pub prediction-paired : (grid : Grid) (c : Cell) → predictionOf (seenOf (cornerOf l') sheet') grid c ≡ predictionOf (seenOf (cornerOf l) sheet) grid c
   prediction-paired = prediction-same (seen-paired corners paired given)
 
-  pub extrapolating-paired : (c : Cell) → extrapolating (seenOf (cornerOf xs' ys' pitches') sheet') c ≡ extrapolating (seenOf (cornerOf xs ys pitches) sheet) c
+  pub extrapolating-paired : (c : Cell) → extrapolating (seenOf (cornerOf l') sheet') c ≡ extrapolating (seenOf (cornerOf l) sheet) c
   extrapolating-paired = extrapolating-same (seen-paired corners paired given)

@@ -8,7 +8,7 @@ use lib.ListN.{length, getD}
 use lib.IntN.{ℤ, pos, negsuc}
 use lib.Signed.{ltZ}
 use lib.Ieee.{Float, binary32, ofInt, add, sub, mul, div}
-use Rattle.sizes.specs.Sizes.{placeCount}
+use Rattle.sizes.specs.Sizes.{placeCount, cornerLimit}
 use Rattle.sheet.specs.Cells.{OnSheet, moved, differenceOf}
 use Rattle.sheet.specs.Corners.{Given}
 use Rattle.sheet.specs.declared.Cell.{Cell}
@@ -197,20 +197,20 @@ withCell seen grid c s at = withSeen seen grid c s at (seen at)
 
 -- ---- what the functions ask
 
--- corners and a sheet that belong together, and a cell on that sheet
-pub record GivenCell (xs ys pitches : List Float) (sheet : List ℕ) (c : Cell) : Type 0 where
-  pub given : Given xs ys pitches sheet
+-- a sheet whose corners have their places in the array, and a cell on that sheet
+pub record GivenCell (sheet : List ℕ) (c : Cell) : Type 0 where
+  pub given : Given cornerLimit sheet
   pub on : OnSheet c
 
 -- two such cells
-pub record GivenCells (xs ys pitches : List Float) (sheet : List ℕ) (c d : Cell) : Type 0 where
-  pub given : Given xs ys pitches sheet
+pub record GivenCells (sheet : List ℕ) (c d : Cell) : Type 0 where
+  pub given : Given cornerLimit sheet
   pub on : OnSheet c
   pub on-too : OnSheet d
 
 -- a cell of the square around a cell, by its number
-pub record GivenSquare (xs ys pitches : List Float) (sheet : List ℕ) (c : Cell) (k : ℕ) : Type 0 where
-  pub given : Given xs ys pitches sheet
+pub record GivenSquare (sheet : List ℕ) (c : Cell) (k : ℕ) : Type 0 where
+  pub given : Given cornerLimit sheet
   pub on : OnSheet c
   pub small : k < 8
 

@@ -7,7 +7,7 @@ ghost use lib.ListN.{length};
 ghost use Rattle.sizes.specs.Sizes.{placeCount};
 ghost use Rattle.sheet.specs.Cells.{Within};
 ghost use Rattle.sheet.specs.Words.{SheetCell};
-ghost use Rattle.sheet.specs.Corners.{cornerOf, seenOf};
+ghost use Rattle.sheet.specs.Corners.{cornerIn, seenOf};
 ghost use Rattle.predict.specs.Predict.{forwardOf, backwardOf, oneSided, bothSided, stepBetween, stepAt, vectorOf, axisOf, stepVector, weighed, withNeighbour, sumsOf, predictionOf, onSide, hasNeighbour, extrapolating, squareOffset, squareCell, isSeen, labelledOn, withCell, GivenCell, GivenCells, GivenSquare, SheetSquare};
 use sheet::Cell;
 use sheet::Corner;
@@ -15,6 +15,7 @@ use sheet::Label;
 use sheet::Offset;
 use sheet::Position;
 use sheet::Seen;
+use sizes::CORNERS;
 
 // A labelled cell beside another, and its corner's position.
 pub struct Neighbour {
@@ -146,18 +147,16 @@ fn step_between(here: Position, f: Seen, b: Seen) -> LocalStep
 // The step at a neighbour along i or j: half the difference of both sides' positions, or the one-sided difference, or else the
 // axis. (The Rust looks the neighbour's own position up again; here the neighbour has it.)
 pub fn local_step_at(
-    xs: &[f32],
-    ys: &[f32],
-    pitches: &[f32],
+    corners: &[f32; 3 * CORNERS],
     sheet: &[u16],
     n: Neighbour,
     d: Direction,
 ) -> LocalStep
-    requires { ⌜ GivenCell (now xs) (now ys) (now pitches) (now sheet) (n .at) ⌝ }
-    ensures { λ r. ⌜ r ≡ stepAt (seenOf (cornerOf (now (xs .entry)) (now (ys .entry)) (now (pitches .entry))) (now (sheet .entry))) n d ⌝ }
+    requires { ⌜ GivenCell (now sheet) (n .at) ⌝ }
+    ensures { λ r. ⌜ r ≡ stepAt (seenOf (cornerIn (now (corners .entry))) (now (sheet .entry))) n d ⌝ }
 {
-    let f = sheet::seen_at(xs, ys, pitches, sheet, sheet::neighbour(n.at, forward(d)));
-    let b = sheet::seen_at(xs, ys, pitches, sheet, sheet::neighbour(n.at, backward(d)));
+    let f = sheet::seen_at(corners, sheet, sheet::neighbour(n.at, forward(d)));
+    let b = sheet::seen_at(corners, sheet, sheet::neighbour(n.at, backward(d)));
     step_between(n.position, f, b)
 }
 
@@ -186,18 +185,16 @@ fn axis_of(grid: Grid, d: Direction) -> Vector
 
 // The step at a neighbour along i or j, as a vector.
 fn step_vector(
-    xs: &[f32],
-    ys: &[f32],
-    pitches: &[f32],
+    corners: &[f32; 3 * CORNERS],
     sheet: &[u16],
     grid: Grid,
     n: Neighbour,
     d: Direction,
 ) -> Vector
-    requires { ⌜ GivenCell (now xs) (now ys) (now pitches) (now sheet) (n .at) ⌝ }
-    ensures { λ r. ⌜ r ≡ stepVector (seenOf (cornerOf (now (xs .entry)) (now (ys .entry)) (now (pitches .entry))) (now (sheet .entry))) grid n d ⌝ }
+    requires { ⌜ GivenCell (now sheet) (n .at) ⌝ }
+    ensures { λ r. ⌜ r ≡ stepVector (seenOf (cornerIn (now (corners .entry))) (now (sheet .entry))) grid n d ⌝ }
 {
-    let step = local_step_at(xs, ys, pitches, sheet, n, d);
+    let step = local_step_at(corners, sheet, n, d);
     vector_of(axis_of(grid, d), grid.cell_size, step)
 }
 
@@ -222,68 +219,48 @@ fn weigh(sums: Sums, o: Offset, p: Position, i_step: Vector, j_step: Vector) -> 
 
 // A neighbour's part in the sums for a cell.
 fn add_neighbour(
-    xs: &[f32],
-    ys: &[f32],
-    pitches: &[f32],
+    corners: &[f32; 3 * CORNERS],
     sheet: &[u16],
     grid: Grid,
     c: Cell,
     sums: Sums,
     n: Neighbour,
 ) -> Sums
-    requires { ⌜ GivenCells (now xs) (now ys) (now pitches) (now sheet) c (n .at) ⌝ }
-    ensures { λ r. ⌜ r ≡ withNeighbour (seenOf (cornerOf (now (xs .entry)) (now (ys .entry)) (now (pitches .entry))) (now (sheet .entry))) grid c sums n ⌝ }
+    requires { ⌜ GivenCells (now sheet) c (n .at) ⌝ }
+    ensures { λ r. ⌜ r ≡ withNeighbour (seenOf (cornerIn (now (corners .entry))) (now (sheet .entry))) grid c sums n ⌝ }
 {
-    let i_step = step_vector(xs, ys, pitches, sheet, grid, n, Direction::I);
-    let j_step = step_vector(xs, ys, pitches, sheet, grid, n, Direction::J);
+    let i_step = step_vector(corners, sheet, grid, n, Direction::I);
+    let j_step = step_vector(corners, sheet, grid, n, Direction::J);
     weigh(sums, sheet::difference(c, n.at), n.position, i_step, j_step)
 }
 
 // The sums with the k-th cell of the square, if it is labelled.
 fn add_if_labelled(
-    xs: &[f32],
-    ys: &[f32],
-    pitches: &[f32],
+    corners: &[f32; 3 * CORNERS],
     sheet: &[u16],
     grid: Grid,
     c: Cell,
     sums: Sums,
     k: usize,
 ) -> Sums
-    requires { ⌜ GivenSquare (now xs) (now ys) (now pitches) (now sheet) c k ⌝ }
-    ensures { λ r. ⌜ r ≡ withCell (seenOf (cornerOf (now (xs .entry)) (now (ys .entry)) (now (pitches .entry))) (now (sheet .entry))) grid c sums (squareCell c k) ⌝ }
+    requires { ⌜ GivenSquare (now sheet) c k ⌝ }
+    ensures { λ r. ⌜ r ≡ withCell (seenOf (cornerIn (now (corners .entry))) (now (sheet .entry))) grid c sums (squareCell c k) ⌝ }
 {
     let at = sheet::neighbour(c, offset_of(k));
-    let seen = sheet::seen_at(xs, ys, pitches, sheet, at);
+    let seen = sheet::seen_at(corners, sheet, at);
     match seen {
         Seen::Nothing => sums,
         Seen::At(corner) => {
             let position = corner.position;
-            add_neighbour(
-                xs,
-                ys,
-                pitches,
-                sheet,
-                grid,
-                c,
-                sums,
-                Neighbour { at, position },
-            )
+            add_neighbour(corners, sheet, grid, c, sums, Neighbour { at, position })
         }
     }
 }
 
 // The sums over all neighbours, in their order.
-fn sum_neighbours(
-    xs: &[f32],
-    ys: &[f32],
-    pitches: &[f32],
-    sheet: &[u16],
-    c: Cell,
-    grid: Grid,
-) -> Sums
-    requires { ⌜ GivenCell (now xs) (now ys) (now pitches) (now sheet) c ⌝ }
-    ensures { λ r. ⌜ r ≡ sumsOf (seenOf (cornerOf (now (xs .entry)) (now (ys .entry)) (now (pitches .entry))) (now (sheet .entry))) grid c ⌝ }
+fn sum_neighbours(corners: &[f32; 3 * CORNERS], sheet: &[u16], c: Cell, grid: Grid) -> Sums
+    requires { ⌜ GivenCell (now sheet) c ⌝ }
+    ensures { λ r. ⌜ r ≡ sumsOf (seenOf (cornerIn (now (corners .entry))) (now (sheet .entry))) grid c ⌝ }
 {
     let mut sums = Sums {
         x: 0.0,
@@ -292,7 +269,7 @@ fn sum_neighbours(
     };
     let mut k = 0usize;
     while k < 8 {
-        let more = add_if_labelled(xs, ys, pitches, sheet, grid, c, sums, k);
+        let more = add_if_labelled(corners, sheet, grid, c, sums, k);
         sums = more;
         k += 1;
     }
@@ -353,20 +330,18 @@ pub fn has_neighbour(sheet: &[u16], c: Cell, side: Side) -> bool
 
 // The prediction for a cell: none where it has no neighbour, else the weighted mean over its neighbours.
 pub fn predict_from_neighbours(
-    xs: &[f32],
-    ys: &[f32],
-    pitches: &[f32],
+    corners: &[f32; 3 * CORNERS],
     sheet: &[u16],
     c: Cell,
     grid: Grid,
 ) -> Prediction
-    requires { ⌜ GivenCell (now xs) (now ys) (now pitches) (now sheet) c ⌝ }
-    ensures { λ r. ⌜ r ≡ predictionOf (seenOf (cornerOf (now (xs .entry)) (now (ys .entry)) (now (pitches .entry))) (now (sheet .entry))) grid c ⌝ }
+    requires { ⌜ GivenCell (now sheet) c ⌝ }
+    ensures { λ r. ⌜ r ≡ predictionOf (seenOf (cornerIn (now (corners .entry))) (now (sheet .entry))) grid c ⌝ }
 {
     if !has_neighbour(sheet, c, Side::Any) {
         return Prediction::NoNeighbour;
     }
-    let sums = sum_neighbours(xs, ys, pitches, sheet, c, grid);
+    let sums = sum_neighbours(corners, sheet, c, grid);
     Prediction::At(Position {
         x: sums.x / sums.w,
         y: sums.y / sums.w,

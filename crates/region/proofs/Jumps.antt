@@ -2,13 +2,14 @@
 use mathlib.Core.Path.{_≡_, refl, ap₂, _∙_, subst}
 use mathlib.Core.Bool.{Bool, true, false, _&&_}
 use mathlib.Core.List.{List, [], _∷_, List·Memᴰ, List·Memᴰ·head, List·Memᴰ·tail}
-use Prim.Native.Nat.{ℕ, zero, suc, _+_, _-_, _/_, _%_, min, _<_, _≤_}
+use Prim.Native.Nat.{ℕ, _+_, _-_, _/_, _%_, min, _<_, _≤_}
 use native.Mathlib.Omega.{arith}
 use lib.Dec.{T}
 use lib.IntN.{ℤ, pos, subℕ, _+ℤ_, _-ℤ_, +ℤ-idr}
 use lib.Signed.{leZ, _≤ℤ_}
 use Rattle.sheet.specs.Cells.{inRange, lineOf, OnSheet, placeOf, cellOf, eqZ}
 use Rattle.sheet.specs.declared.Cell.{Cell}
+use Rattle.sheet.proofs.Blank.{carried}
 use Rattle.sheet.proofs.Laws.{on-i, on-j, on-both, line-i, line-j, eqZ-equal}
 use Rattle.labels.specs.Labelled.{labelledPlaces}
 use Rattle.labels.specs.Box.{Inside, IsBox, boxOf}
@@ -118,20 +119,8 @@ module _ (past : ℕ) (around : LabelBox) (w : Window) where
 -- ---- a walk over the sheet
 
 -- what a place outside of the window does not change is as it was at the next place inside
-module _ (w : Window) (P : ℕ → Type 0) (step : (p : ℕ) → p < 16384 → (InWindow w p → ⊥) → P p → P (p + 1)) where
-  carried : (from n : ℕ) → from + n ≤ 16384 → ((p : ℕ) → from ≤ p → p < from + n → InWindow w p → ⊥) → P from → P (from + n)
-  carried from zero h b s = let d : from ≡ from + 0 = omega arith in subst P d s
-  carried from (suc n) h b s =
-      let d : from + n + 1 ≡ from + suc n = omega arith in
-      subst P d
-      (step (from + n) (omega arith) (b (from + n) (omega arith) (omega arith)) (carried from n (omega arith) (λ p x y. b p x (omega arith)) s))
-
-  pub jumps : {from r : ℕ} → NextIn w from r → P from → P r
-  jumps {from} {r} t s =
-      let l = t .start in
-      let u = t .upto in
-      let d : from + (r - from) ≡ r = omega arith in
-      subst P d (carried from (r - from) (omega arith) (λ p x y. t .out p x (omega arith)) s)
+pub jumps : (w : Window) (P : ℕ → Type 0) → ((p : ℕ) → p < 16384 → (InWindow w p → ⊥) → P p → P (p + 1)) → {from r : ℕ} → NextIn w from r → P from → P r
+jumps w P step t = carried P (λ p. InWindow w p → ⊥) step (t .start) (t .upto) (t .out)
 
 -- ---- the region of a round of local
 

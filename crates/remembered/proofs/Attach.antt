@@ -12,7 +12,7 @@ use lib.Ieee.Scale.{finite}
 use Rattle.binary32.specs.Sqrt.{sqrtOrNan}
 use Rattle.sheet.specs.Cells.{placeOf, cellOf}
 use Rattle.sheet.specs.Words.{labelOf, attached, marksCleared}
-use Rattle.sheet.specs.Corners.{seenThrough, seenOf, squaredDistance}
+use Rattle.sheet.specs.Corners.{Corners, seenThrough, seenOf, squaredDistance}
 use Rattle.sheet.specs.declared.Cell.{Cell}
 use Rattle.sheet.specs.declared.Corner.{Corner}
 use Rattle.sheet.specs.declared.Label.{Label}
@@ -28,7 +28,7 @@ use Rattle.labels.proofs.Used.{same-used, used-attached}
 use Rattle.arguments.specs.declared.Settings.{Settings}
 use Rattle.arguments.specs.declared.LocalExtensionParams.{LocalExtensionParams}
 use Rattle.candidates.specs.Candidates.{squaredRadius, lastDistance}
-use Rattle.extension_common.specs.TryCell.{Corners, unlabelledOn, gathered}
+use Rattle.extension_common.specs.TryCell.{unlabelledOn, gathered}
 use Rattle.passes.specs.Grow.{tolerancesOf}
 use Rattle.passes.specs.Local.{reachOf, byReach, supportsOf, picturedAs, picturedAt, LocalFit, localFit, localSearch}
 use Rattle.passes.specs.declared.LargestResidual.{LargestResidual}

@@ -5,12 +5,12 @@ use mathlib.Core.List.{List, [], _∷_}
 use Prim.Native.Nat.{ℕ}
 use lib.Ieee.{Float, lt}
 use Rattle.float_order.proofs.Order.{lt-irrefl, lt-trans}
+use Rattle.sheet.specs.Corners.{Corners}
 use Rattle.sheet.specs.declared.Cell.{Cell}
 use Rattle.sheet.specs.declared.Position.{Position}
 use Rattle.labels.proofs.Below.{no-both}
 use Rattle.arguments.specs.declared.Settings.{Settings}
 use Rattle.arguments.specs.declared.LocalExtensionParams.{LocalExtensionParams}
-use Rattle.extension_common.specs.TryCell.{Corners}
 use Rattle.passes.specs.Local.{LocalFit, recorded, recordedAll}
 use Rattle.passes.specs.declared.LargestResidual.{LargestResidual}
 use Rattle.remembered.specs.Remembered.{Covered, covered-none, covered-more, CoveredBy, nothing-yet, by, IdleFit, no-fit, above, Mapped, within, KnownAt, nothing, idle, no-candidates, predicted, ambiguous, Remembered}

@@ -4,13 +4,14 @@ use mathlib.Core.Bool.{true, false}
 use mathlib.Core.List.{List}
 use Prim.Native.Nat.{ℕ}
 use lib.Ieee.{Float, binary32, ofBits, lt}
+use Rattle.sheet.specs.Corners.{Corners}
 use Rattle.sheet.specs.declared.Cell.{Cell}
 use Rattle.sheet.specs.declared.Position.{Position}
 use Rattle.homography.specs.Fit.{applied}
 use Rattle.arguments.specs.declared.Settings.{Settings}
 use Rattle.arguments.specs.declared.LocalExtensionParams.{LocalExtensionParams}
 use Rattle.candidates.specs.Candidates.{lastDistance}
-use Rattle.extension_common.specs.TryCell.{Corners, gathered, tryAt}
+use Rattle.extension_common.specs.TryCell.{gathered, tryAt}
 use Rattle.extension_common.specs.declared.TryCellResult.{TryCellResult}
 use Rattle.passes.specs.Grow.{tolerancesOf}
 use Rattle.passes.specs.Local.{supportsOf, cellPoint, LocalFit, none, fitted, worst, recordedAll, localSearch, gateOf}

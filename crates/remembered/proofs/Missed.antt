@@ -10,8 +10,9 @@ use lib.Ieee.{Float, le, lt, div, binary32}
 use lib.Ieee.Scale.{finite}
 use Rattle.binary32.specs.Sqrt.{sqrtOrNan}
 use Rattle.sheet.specs.declared.Cell.{Cell}
+use Rattle.sheet.specs.declared.Corner.{Corner}
 use Rattle.sheet.specs.declared.Position.{Position}
-use Rattle.sheet.specs.Corners.{seenOf, squaredDistance, finitePosition}
+use Rattle.sheet.specs.Corners.{Corners, seenOf, squaredDistance, finitePosition}
 use Rattle.labels.proofs.Below.{no-both}
 use Rattle.candidates.specs.Candidates.{eligible, squaredRadius, isCandidate, distanceOf, before, insert, insertIf, ordered, candidatesAt, firstTwo, lastDistance}
 use Rattle.candidates.specs.Choice.{epsilon, raised, byQuotient, chooseUnambiguous, chooseWithFloor}
@@ -21,7 +22,7 @@ use Rattle.candidates.specs.declared.CandidateChoice.{CandidateChoice}
 use Rattle.candidates.proofs.Without.{first-two-stay}
 use Rattle.positions_policy.specs.Edge.{verdictOf, passes}
 use Rattle.positions_policy.specs.declared.Tolerances.{Tolerances}
-use Rattle.extension_common.specs.TryCell.{Corners, unlabelledOn, gathered, choiceBy, edgesOf, resultOf, tryAt}
+use Rattle.extension_common.specs.TryCell.{unlabelledOn, gathered, choiceBy, edgesOf, resultOf, tryAt}
 use Rattle.extension_common.specs.declared.ChoiceRule.{ChoiceRule}
 use Rattle.extension_common.specs.declared.Search.{Search}
 use Rattle.extension_common.specs.declared.TryCellResult.{TryCellResult}
@@ -106,12 +107,12 @@ unfolding choiceBy chooseUnambiguous chooseWithFloor
 none-choice ChoiceRule.Unambiguous factor = refl
 none-choice ChoiceRule.WithFloor factor = refl
 
-result-none : (cs : Corners) (sheet : List ℕ) (tol : Tolerances) (c : Cell) (choice : CandidateChoice) → resultOf cs sheet tol c choice ≡ TryCellResult.NoCandidates
+result-none : (corner : ℕ → Corner) (sheet : List ℕ) (tol : Tolerances) (c : Cell) (choice : CandidateChoice) → resultOf corner sheet tol c choice ≡ TryCellResult.NoCandidates
     → choice ≡ CandidateChoice.Nothing
 unfolding resultOf edgesOf
-result-none cs sheet tol c CandidateChoice.Nothing e = refl
-result-none cs sheet tol c CandidateChoice.Ambiguous e = absurd (zero-one cc)
-result-none cs sheet tol c (CandidateChoice.Unique k) e = absurd (go (passes (verdictOf (seenOf (cs .corner) sheet) tol c (cs .corner k))) e)
+result-none corner sheet tol c CandidateChoice.Nothing e = refl
+result-none corner sheet tol c CandidateChoice.Ambiguous e = absurd (zero-one cc)
+result-none corner sheet tol c (CandidateChoice.Unique k) e = absurd (go (passes (verdictOf (seenOf corner sheet) tol c (corner k))) e)
   where
     go : (t : Bool) → cond t (TryCellResult.Attached k) TryCellResult.EdgeRejected ≡ TryCellResult.NoCandidates → ⊥
     go true e = zero-one cc
@@ -132,18 +133,18 @@ module _ (cs : Corners) (sheet sheet' : List ℕ) (sub : (k : ℕ) → unlabelle
   unfolding tryAt resultOf
   still-missed tol search c at e =
       rw (
-        gathered-none (search .«search_r») at (choice-none (search .rule) _ (search .«ambiguity_factor») (result-none cs sheet tol c _ e)),
+        gathered-none (search .«search_r») at (choice-none (search .rule) _ (search .«ambiguity_factor») (result-none (cs .corner) sheet tol c _ e)),
         none-choice (search .rule) (search .«ambiguity_factor»),
       )
 
 -- ---- an ambiguous choice
 
-result-ambiguous : (cs : Corners) (sheet : List ℕ) (tol : Tolerances) (c : Cell) (choice : CandidateChoice) → resultOf cs sheet tol c choice ≡ TryCellResult.Ambiguous
+result-ambiguous : (corner : ℕ → Corner) (sheet : List ℕ) (tol : Tolerances) (c : Cell) (choice : CandidateChoice) → resultOf corner sheet tol c choice ≡ TryCellResult.Ambiguous
     → choice ≡ CandidateChoice.Ambiguous
 unfolding resultOf edgesOf
-result-ambiguous cs sheet tol c CandidateChoice.Nothing e = absurd (zero-one cc)
-result-ambiguous cs sheet tol c CandidateChoice.Ambiguous e = refl
-result-ambiguous cs sheet tol c (CandidateChoice.Unique k) e = absurd (go (passes (verdictOf (seenOf (cs .corner) sheet) tol c (cs .corner k))) e)
+result-ambiguous corner sheet tol c CandidateChoice.Nothing e = absurd (zero-one cc)
+result-ambiguous corner sheet tol c CandidateChoice.Ambiguous e = refl
+result-ambiguous corner sheet tol c (CandidateChoice.Unique k) e = absurd (go (passes (verdictOf (seenOf corner sheet) tol c (corner k))) e)
   where
     go : (t : Bool) → cond t (TryCellResult.Attached k) TryCellResult.EdgeRejected ≡ TryCellResult.Ambiguous → ⊥
     go true e = zero-one cc
@@ -159,4 +160,4 @@ module _ (cs : Corners) (sheet sheet' : List ℕ) (k : ℕ) (same : (j : ℕ) �
   pub still-ambiguous : (tol : Tolerances) (search : Search) (c : Cell) (at : Position) → gathered cs sheet' (search .«search_r») at ≡ gathered cs sheet (search .«search_r») at
       → tryAt cs sheet tol search c at ≡ TryCellResult.Ambiguous → tryAt cs sheet' tol search c at ≡ TryCellResult.Ambiguous
   unfolding tryAt resultOf
-  still-ambiguous tol search c at g e = rw (g, result-ambiguous cs sheet tol c (choiceBy (search .rule) (gathered cs sheet (search .«search_r») at) (search .«ambiguity_factor»)) e)
+  still-ambiguous tol search c at g e = rw (g, result-ambiguous (cs .corner) sheet tol c (choiceBy (search .rule) (gathered cs sheet (search .«search_r») at) (search .«ambiguity_factor»)) e)

@@ -8,6 +8,7 @@ use lib.ListN.{length, replicate, length-replicate, getD-replicate}
 use lib.Dec.{T}
 use lib.Ieee.{Float}
 use lib.Ieee.Scale.{finite}
+use Rattle.sheet.specs.Corners.{Corners}
 use Rattle.sheet.specs.Cells.{OnSheet, placeOf, cellOf}
 use Rattle.sheet.specs.declared.Cell.{Cell}
 use Rattle.sheet.specs.declared.Position.{Position}
@@ -15,7 +16,6 @@ use Rattle.sheet.proofs.Laws.{place-in, cell-place}
 use Rattle.arguments.specs.declared.Settings.{Settings}
 use Rattle.arguments.specs.declared.LocalExtensionParams.{LocalExtensionParams}
 use Rattle.candidates.specs.Candidates.{squaredRadius}
-use Rattle.extension_common.specs.TryCell.{Corners}
 use Rattle.passes.specs.Local.{localSearch}
 use Rattle.passes.specs.declared.LargestResidual.{LargestResidual}
 use Rattle.remembered.specs.Remembered.{KnownAt, nothing, knownOf, kindOf, reachIn, Notable, predictionAt, limitAt, entryOf, Remembered, Noted}

@@ -4,13 +4,13 @@ use mathlib.Core.Bool.{true, false}
 use mathlib.Core.List.{List}
 use Prim.Native.Nat.{ℕ}
 use lib.Ieee.{Float, binary32, ofBits, lt}
-use Rattle.sheet.specs.Corners.{seenOf}
+use Rattle.sheet.specs.Corners.{Corners, seenOf}
 use Rattle.sheet.specs.declared.Cell.{Cell}
 use Rattle.sheet.specs.declared.Position.{Position}
 use Rattle.homography.specs.Fit.{applied}
 use Rattle.arguments.specs.declared.Settings.{Settings}
 use Rattle.arguments.specs.declared.LocalExtensionParams.{LocalExtensionParams}
-use Rattle.extension_common.specs.TryCell.{Corners, tryAt}
+use Rattle.extension_common.specs.TryCell.{tryAt}
 use Rattle.extension_common.specs.declared.TryCellResult.{TryCellResult}
 use Rattle.passes.specs.Grow.{tolerancesOf}
 use Rattle.passes.specs.Local.{LocalState, supportsOf, cellPoint, LocalFit, none, fitted, localFit, worst, withResiduals, localSearch, gateOf, localWith, localAt, localVisit}

@@ -10,14 +10,14 @@ use lib.Ieee.Scale.{finite}
 use Rattle.sizes.specs.Sizes.{placeCount}
 use Rattle.binary32.specs.Sqrt.{sqrtOrNan}
 use Rattle.sheet.specs.Cells.{OnSheet, placeOf, cellOf}
-use Rattle.sheet.specs.Corners.{seenOf, squaredDistance}
+use Rattle.sheet.specs.Corners.{Corners, seenOf, squaredDistance}
 use Rattle.sheet.specs.declared.Cell.{Cell}
 use Rattle.sheet.specs.declared.Position.{Position}
 use Rattle.homography.specs.Fit.{applied}
 use Rattle.arguments.specs.declared.Settings.{Settings}
 use Rattle.arguments.specs.declared.LocalExtensionParams.{LocalExtensionParams}
 use Rattle.candidates.specs.Candidates.{squaredRadius, lastDistance}
-use Rattle.extension_common.specs.TryCell.{Corners, gathered, tryAt}
+use Rattle.extension_common.specs.TryCell.{gathered, tryAt}
 use Rattle.extension_common.specs.declared.TryCellResult.{TryCellResult}
 use Rattle.passes.specs.Grow.{tolerancesOf}
 use Rattle.passes.specs.Local.{reachOf, supportsOf, cellPoint, LocalFit, none, fitted, localFit, worst, gateOf, localSearch}

@@ -4,17 +4,17 @@ use mathlib.Core.List.{List, [], _∷_, _++_}
 use Prim.Native.Nat.{ℕ, zero, suc, _+_, _<_}
 use native.Mathlib.Omega.{arith}
 use lib.ListN.{getD}
+use Rattle.sheet.specs.Corners.{CornerLists}
 use Rattle.sheet.specs.Cells.{cellOf}
 use Rattle.sheet.specs.Words.{labelOf}
 use Rattle.sheet.specs.Pairing.{Shuffle, pairedLabel, PairedSheets}
 use Rattle.sheet.specs.declared.Label.{Label}
 use Rattle.passes.specs.Outcome.{Outcome}
-use Rattle.passes.specs.Step.{CornerLists}
 use Rattle.passes.specs.Run.{Call, PassStats, step, sheetAfter, run, sheetOf as sheetAfterAll}
 use Rattle.agreement.specs.Agreement.{both-refused, both-done, Agree, agree-end, agree-call}
 use Rattle.frame.specs.Frame.{Frame, readFrame, accepted}
 use Rattle.frame.specs.ReadFrame.{sheetOf}
-use Rattle.frame_laws.specs.Calls.{cornersOf, callsOf}
+use Rattle.frame_laws.specs.Calls.{frameCorners, callsOf}
 use Rattle.frame_agreement.proofs.Reordering.{frames-run-alike}
 use Rattle.report_line.specs.Result.{passLines, labelLine, cellLine, holeLine, ambiguousLine, linesFrom, allPlaces, heading, resultText}
 use Rattle.frame_answer.specs.Answer.{statsOf, frameStats, frameSheet, answerOf, answerText}
@@ -106,10 +106,10 @@ frames-answer-alike text text' f f' e e' same above =
     let s = alike .reordered .corners .pairs in
     let agree = alike .any-list (callsOf f) .agree above in
     let stats : frameStats f' ≡ frameStats f =
-    ap (λ (calls : List Call). statsOf (run (cornersOf f') (sheetOf f') calls)) (alike .same-calls) ∙ agree-stats agree in
+    ap (λ (calls : List Call). statsOf (run (frameCorners f') (sheetOf f') calls)) (alike .same-calls) ∙ agree-stats agree in
     let both : PairedSheets s (frameSheet f) (frameSheet f') =
-    subst (λ (calls : List Call). PairedSheets s (frameSheet f) (sheetAfterAll (cornersOf f') (sheetOf f') calls)) (sym (alike .same-calls))
-    (agree-sheets s (cornersOf f) (cornersOf f') (callsOf f) (sheetOf f) (sheetOf f') agree) in
+    subst (λ (calls : List Call). PairedSheets s (frameSheet f) (sheetAfterAll (frameCorners f') (sheetOf f') calls)) (sym (alike .same-calls))
+    (agree-sheets s (frameCorners f) (frameCorners f') (callsOf f) (sheetOf f) (sheetOf f') agree) in
     let to = numbers same in
     let so = alike .paired-to in
     record {

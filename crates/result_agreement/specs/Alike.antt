@@ -12,7 +12,7 @@ use Rattle.passes.specs.Run.{PassStats, run}
 use Rattle.agreement.specs.Agreement.{FactorsAbove}
 use Rattle.frame.specs.Frame.{Frame, readFrame, accepted}
 use Rattle.frame.specs.ReadFrame.{sheetOf}
-use Rattle.frame_laws.specs.Calls.{cornersOf, callsOf}
+use Rattle.frame_laws.specs.Calls.{frameCorners, callsOf}
 use Rattle.frame_agreement.specs.Reordering.{SameButOrder}
 use Rattle.report_line.specs.Result.{passLines, labelLine, holeLine, ambiguousLine, allPlaces, heading, resultText}
 use Rattle.frame_answer.specs.Answer.{frameStats, frameSheet, answerText}
@@ -57,4 +57,4 @@ pub record ResultsAlike (text text' : List ℕ) (f f' : Frame) (same : SameButOr
 abbrev pub FramesAnswerAlike : Type 0
 FramesAnswerAlike =
     (text text' : List ℕ) (f f' : Frame) → readFrame text ≡ accepted f → readFrame text' ≡ accepted f' → (same : SameButOrder f f')
-    → FactorsAbove (callsOf f) (run (cornersOf f) (sheetOf f) (callsOf f)) → ResultsAlike text text' f f' same
+    → FactorsAbove (callsOf f) (run (frameCorners f) (sheetOf f) (callsOf f)) → ResultsAlike text text' f f' same

@@ -106,21 +106,21 @@ module _ (sheet : List ℕ) (from : ℕ) where
 
 -- ---- a walk over the sheet
 
--- what a place that holds nothing does not change is as it was at the next place that holds something
-module _ (sheet : List ℕ) (P : ℕ → Type 0) (step : (p : ℕ) → p < 16384 → getD sheet p 0 ≡ 0 → P p → P (p + 1)) where
-  carried : (from n : ℕ) → from + n ≤ 16384 → ((p : ℕ) → from ≤ p → p < from + n → getD sheet p 0 ≡ 0) → P from → P (from + n)
-  carried from zero h b s = let d : from ≡ from + 0 = omega arith in subst P d s
-  carried from (suc n) h b s =
+-- what no place of some kind changes is as it was behind places of that kind
+module _ (P Q : ℕ → Type 0) (step : (p : ℕ) → p < 16384 → Q p → P p → P (p + 1)) where
+  over-some : (from n : ℕ) → from + n ≤ 16384 → ((p : ℕ) → from ≤ p → p < from + n → Q p) → P from → P (from + n)
+  over-some from zero h b s = let d : from ≡ from + 0 = omega arith in subst P d s
+  over-some from (suc n) h b s =
       let d : from + n + 1 ≡ from + suc n = omega arith in
       subst P d
-      (step (from + n) (omega arith) (b (from + n) (omega arith) (omega arith)) (carried from n (omega arith) (λ p x y. b p x (omega arith)) s))
+      (step (from + n) (omega arith) (b (from + n) (omega arith) (omega arith)) (over-some from n (omega arith) (λ p x y. b p x (omega arith)) s))
 
-  pub skips : {from r : ℕ} → NextWritten sheet from r → P from → P r
-  skips {from} {r} w s =
-      let l = w .passed .start in
-      let u = w .passed .upto in
-      let d : from + (r - from) ≡ r = omega arith in
-      subst P d (carried from (r - from) (omega arith) (λ p x y. w .passed .blank p x (omega arith)) s)
+  pub carried : {from r : ℕ} → from ≤ r → r ≤ 16384 → ((p : ℕ) → from ≤ p → p < r → Q p) → P from → P r
+  carried {from} {r} l u b s = let d : from + (r - from) ≡ r = omega arith in subst P d (over-some from (r - from) (omega arith) (λ p x y. b p x (omega arith)) s)
+
+-- so of places that hold nothing, up to the next place that holds something
+pub skips : (sheet : List ℕ) (P : ℕ → Type 0) → ((p : ℕ) → p < 16384 → getD sheet p 0 ≡ 0 → P p → P (p + 1)) → {from r : ℕ} → NextWritten sheet from r → P from → P r
+skips sheet P step w = carried P (λ p. getD sheet p 0 ≡ 0) step (w .passed .start) (w .passed .upto) (w .passed .blank)
 
 -- such a place has no label
 pub blank-label : {w : ℕ} → w ≡ 0 → labelOf w ≡ Label.Unlabelled

@@ -7,10 +7,9 @@ use Prim.Native.Nat.{ℕ, _<_, _≤_}
 use native.Mathlib.Decide.{ℕ-discrete}
 use lib.Dec.{T}
 use lib.ListN.{length, getD}
-use lib.Ieee.{Float}
 use Rattle.sheet.specs.Cells.{onSheet, OnSheet, placeOf}
 use Rattle.sheet.specs.Words.{Content, labelOfNumber, labelOf, holeOf, ambiguousOf, wordAt, labelAt, holeAt, ambiguousAt, attached, holeMarked, ambiguousMarked, marksCleared, emptySheet}
-use Rattle.sheet.specs.Corners.{cornerOf, seenThrough, seenOf, Given}
+use Rattle.sheet.specs.Corners.{CornerLists, cornerOf, seenThrough, seenOf, AllListed, Given}
 use Rattle.sheet.specs.Pairing.{Shuffle, pairedLabel, PairedCorners, PairedSheets}
 use Rattle.sheet.proofs.Laws.{place-in}
 use Rattle.sheet.proofs.Words.{Changed, attached-changes, hole-changes, ambiguous-changes, cleared-changes, no-corner, empty-word}
@@ -112,29 +111,32 @@ paired-empty s = record { same-length = refl; labels = λ p h. rw (empty-word p)
 
 -- ---- what is seen
 
-module _ {xs ys pitches xs' ys' pitches' : List Float} {sheet sheet' : List ℕ}
-    (corners : PairedCorners xs ys pitches xs' ys' pitches') (paired : PairedSheets (corners .pairs) sheet sheet') (given : Given xs ys pitches sheet) where
-  through : (l : Label) → ((k : ℕ) → l ≡ Label.Corner k → k < length xs) → seenThrough (cornerOf xs' ys' pitches') (pairedLabel (corners .pairs) l) ≡ seenThrough (cornerOf xs ys pitches) l
+module _ {l l' : CornerLists} {sheet sheet' : List ℕ}
+    (corners : PairedCorners l l') (paired : PairedSheets (corners .pairs) sheet sheet') (given : Given (length (l .xs)) sheet) where
+  through : (m : Label) → ((k : ℕ) → m ≡ Label.Corner k → k < length (l .xs)) → seenThrough (cornerOf l') (pairedLabel (corners .pairs) m) ≡ seenThrough (cornerOf l) m
   unfolding seenThrough pairedLabel
   through Label.Unlabelled h = refl
   through (Label.Corner k) h = ap Seen.At (corners .same-corner k (h k refl))
 
   -- the same is seen through both sheets, at every cell
-  pub seen-paired : seenOf (cornerOf xs' ys' pitches') sheet' ≡ seenOf (cornerOf xs ys pitches) sheet
+  pub seen-paired : seenOf (cornerOf l') sheet' ≡ seenOf (cornerOf l) sheet
   unfolding seenOf
   seen-paired =
       λ t c.
-      (ap (seenThrough (cornerOf xs' ys' pitches')) (paired-label paired c) ∙ through (labelAt sheet c) (label-known given c)) t
+      (ap (seenThrough (cornerOf l')) (paired-label paired c) ∙ through (labelAt sheet c) (label-known given c)) t
 
   -- the second frame's corners and sheet belong together too
-  pub given-paired : Given xs' ys' pitches' sheet'
+  pub given-paired : Given (length (l' .xs)) sheet'
   given-paired =
       record {
         long = rw (paired .same-length) (given .long);
-        ys-long = rw (corners .same-xs, corners .same-ys) (given .ys-long);
-        pitches-long = rw (corners .same-xs, corners .same-pitches) (given .pitches-long);
         known =
             λ p k h e.
-            named (corners .pairs) (labelOf (getD sheet p 0)) k (k < length xs') (sym (paired .labels p h) ∙ e)
+            named (corners .pairs) (labelOf (getD sheet p 0)) k (k < length (l' .xs)) (sym (paired .labels p h) ∙ e)
             (λ j f g. rw (corners .same-xs, sym g) (corners .pairs .to-in j (given .known p j h f)));
       }
+
+-- two frames' lists are as long
+pub listed-paired : {l l' : CornerLists} → PairedCorners l l' → AllListed l → AllListed l'
+listed-paired corners listed =
+    record { ys-long = rw (corners .same-xs, corners .same-ys) (listed .ys-long); pitches-long = rw (corners .same-xs, corners .same-pitches) (listed .pitches-long) }

@@ -1,11 +1,12 @@
--- Positions, the corners, given as three lists (x, y, pitch), and what is seen of them through the sheet at a cell. Definitions only.
+-- Positions; the corners, as they are lent and as the passes hold them; and what is seen of them through the sheet at a cell. Definitions only.
 use mathlib.Core.Path.{_≡_}
-use mathlib.Core.Bool.{Bool, _&&_}
+use mathlib.Core.Bool.{Bool, _&&_, cond}
 use mathlib.Core.List.{List}
-use Prim.Native.Nat.{ℕ, _<_, _≤_}
+use Prim.Native.Nat.{ℕ, _+_, _<_, _≤_}
+use lib.Dec.{ltb}
 use lib.ListN.{length, getD}
 use lib.Ieee.{Float, nan, binary32, add, sub, mul}
-use Rattle.sizes.specs.Sizes.{placeCount}
+use Rattle.sizes.specs.Sizes.{placeCount, cornerLimit}
 use Rattle.binary32.specs.Ranges.{isFinite}
 use Rattle.sheet.specs.Words.{labelOf, labelAt}
 use Rattle.sheet.specs.declared.Cell.{Cell}
@@ -25,9 +26,49 @@ squaredDistance to from =
 abbrev pub finitePosition : Position → Bool
 finitePosition p = isFinite (p .x) && isFinite (p .y)
 
--- the corner of a number
-unfoldable pub cornerOf : List Float → List Float → List Float → ℕ → Corner
-cornerOf xs ys pitches k = record { position = record { x = getD xs k nan; y = getD ys k nan }; pitch = getD pitches k nan }
+-- ---- the corners
+
+-- positions and pitches: how many corners there are, and each by its number
+pub record Corners : Type 0 where
+  pub count : ℕ
+  pub corner : ℕ → Corner
+
+-- what stands for a corner that there is not
+abbrev pub noCorner : Corner
+noCorner = record { position = record { x = nan; y = nan }; pitch = nan }
+
+-- As they are lent: lists of x, y and pitch. There are as many corners as there are xs, and what the other lists hold past these is not looked at.
+pub record CornerLists : Type 0 where
+  pub xs : List Float
+  pub ys : List Float
+  pub pitches : List Float
+
+abbrev pub cornerLists : List Float → List Float → List Float → CornerLists
+cornerLists xs ys pitches = record { xs = xs; ys = ys; pitches = pitches }
+
+unfoldable pub cornerOf : CornerLists → ℕ → Corner
+cornerOf l k =
+    cond (ltb k (length (l .xs)))
+    (record { position = record { x = getD (l .xs) k nan; y = getD (l .ys) k nan }; pitch = getD (l .pitches) k nan })
+    noCorner
+
+abbrev pub cornersOf : CornerLists → Corners
+cornersOf l = record { count = length (l .xs); corner = cornerOf l }
+
+-- As the passes hold them: one array of 1,024 xs, then as many ys, then as many pitches.
+unfoldable pub cornerIn : List Float → ℕ → Corner
+cornerIn held k =
+    cond (ltb k cornerLimit)
+    (record {
+      position = record { x = getD held k nan; y = getD held (k + cornerLimit) nan };
+      pitch = getD held (k + (cornerLimit + cornerLimit)) nan;
+    })
+    noCorner
+
+abbrev pub cornersIn : List Float → ℕ → Corners
+cornersIn held n = record { count = n; corner = cornerIn held }
+
+-- ---- seen through the sheet
 
 -- the corner that a label names
 unfoldable pub seenThrough : (ℕ → Corner) → Label → Seen
@@ -38,16 +79,14 @@ seenThrough corner (Label.Corner k) = Seen.At (corner k)
 unfoldable pub seenOf : (ℕ → Corner) → List ℕ → Cell → Seen
 seenOf corner sheet c = seenThrough corner (labelAt sheet c)
 
--- a corner's number is in all three lists
-pub record Listed (xs ys pitches : List Float) (k : ℕ) : Type 0 where
-  pub in-x : k < length xs
-  pub in-y : k < length ys
-  pub in-pitch : k < length pitches
+-- ---- what the functions ask
 
--- corners and a sheet that belong together: the sheet is long enough, each corner has its x, y and pitch, and the sheet
--- names no corner that is not given
-pub record Given (xs ys pitches : List Float) (sheet : List ℕ) : Type 0 where
+-- each corner's x, y and pitch is there
+pub record AllListed (l : CornerLists) : Type 0 where
+  pub ys-long : length (l .xs) ≤ length (l .ys)
+  pub pitches-long : length (l .xs) ≤ length (l .pitches)
+
+-- a sheet that is long enough and names no corner from n on
+pub record Given (n : ℕ) (sheet : List ℕ) : Type 0 where
   pub long : placeCount ≤ length sheet
-  pub ys-long : length xs ≤ length ys
-  pub pitches-long : length xs ≤ length pitches
-  pub known : (p k : ℕ) → p < placeCount → labelOf (getD sheet p 0) ≡ Label.Corner k → k < length xs
+  pub known : (p k : ℕ) → p < placeCount → labelOf (getD sheet p 0) ≡ Label.Corner k → k < n

@@ -4,10 +4,9 @@ use mathlib.Core.Path.{_≡_}
 use mathlib.Core.List.{List}
 use Prim.Native.Nat.{ℕ, _<_}
 use lib.ListN.{length, getD}
-use lib.Ieee.{Float}
 use Rattle.sizes.specs.Sizes.{placeCount}
 use Rattle.sheet.specs.Words.{labelOf, holeOf, ambiguousOf}
-use Rattle.sheet.specs.Corners.{cornerOf}
+use Rattle.sheet.specs.Corners.{CornerLists, cornerOf}
 use Rattle.sheet.specs.declared.Label.{Label}
 
 -- the numbers below n, paired one to one: `to` from the first frame to the second, `from` back
@@ -25,12 +24,12 @@ pairedLabel s Label.Unlabelled = Label.Unlabelled
 pairedLabel s (Label.Corner k) = Label.Corner (s .to k)
 
 -- the corners of two frames: lists of equal lengths, and each corner of the first has an equal one, its pair, in the second
-pub record PairedCorners (xs ys pitches xs' ys' pitches' : List Float) : Type 0 where
-  pub same-xs : length xs' ≡ length xs
-  pub same-ys : length ys' ≡ length ys
-  pub same-pitches : length pitches' ≡ length pitches
-  pub pairs : Shuffle (length xs)
-  pub same-corner : (i : ℕ) → i < length xs → cornerOf xs' ys' pitches' (pairs .to i) ≡ cornerOf xs ys pitches i
+pub record PairedCorners (l l' : CornerLists) : Type 0 where
+  pub same-xs : length (l' .xs) ≡ length (l .xs)
+  pub same-ys : length (l' .ys) ≡ length (l .ys)
+  pub same-pitches : length (l' .pitches) ≡ length (l .pitches)
+  pub pairs : Shuffle (length (l .xs))
+  pub same-corner : (i : ℕ) → i < length (l .xs) → cornerOf l' (pairs .to i) ≡ cornerOf l i
 
 -- two sheets of equal length: each place of the second holds the pair of what the first holds, and equal marks
 pub record PairedSheets {n : ℕ} (s : Shuffle n) (sheet sheet' : List ℕ) : Type 0 where

@@ -3,12 +3,13 @@
 ghost use mathlib.Core.Path.{_≡_};
 ghost use Prim.Native.Nat.{_+_, _<_, _≤_};
 ghost use lib.ListN.{length};
-ghost use Rattle.sizes.specs.Sizes.{placeCount};
+ghost use Rattle.sizes.specs.Sizes.{placeCount, cornerLimit};
 ghost use Rattle.sheet.specs.Cells.{onSheet, OnSheet, placeOf, cellOf, moved, differenceOf, magnitudeOf, Within, NearSheet};
 ghost use Rattle.sheet.specs.Words.{labelOf, holeOf, ambiguousOf, withLabel, withHole, withAmbiguous, withoutMarks, labelAt, attached, holeMarked, ambiguousMarked, marksCleared, SheetCell};
-ghost use Rattle.sheet.specs.Corners.{cornerOf, seenOf, Listed, Given};
+ghost use Rattle.sheet.specs.Corners.{cornerIn, seenOf, Given};
 ghost use Rattle.sheet.specs.Blank.{allBlank, BlankRun, BlankPlaces, NextWritten};
 ghost use lib.IntN.{natAbs};
+use sizes::CORNERS;
 use sizes::PLACES;
 
 // A cell of the checkerboard, by its two numbers. On the sheet both are from -64 to 63.
@@ -232,27 +233,27 @@ pub enum Seen {
     At(Corner),
 }
 
-// The corner of a number.
-pub fn corner_at(xs: &[f32], ys: &[f32], pitches: &[f32], k: usize) -> Corner
-    requires { ⌜ Listed (now xs) (now ys) (now pitches) k ⌝ }
-    ensures { λ r. ⌜ r ≡ cornerOf (now (xs .entry)) (now (ys .entry)) (now (pitches .entry)) k ⌝ }
+// The corner of a number. The corners are held in one array: all xs, then all ys, then all pitches, each with room for 1,024.
+pub fn corner_at(corners: &[f32; 3 * CORNERS], k: usize) -> Corner
+    requires { ⌜ k < cornerLimit ⌝ }
+    ensures { λ r. ⌜ r ≡ cornerIn (now (corners .entry)) k ⌝ }
 {
-    let x = xs[k];
-    let y = ys[k];
-    let pitch = pitches[k];
+    let x = corners[k];
+    let y = corners[k + CORNERS];
+    let pitch = corners[k + 2 * CORNERS];
     let position = Position { x, y };
     Corner { position, pitch }
 }
 
 // What is seen at a cell: the corner of its label, or nothing where it has none or is off the sheet.
-pub fn seen_at(xs: &[f32], ys: &[f32], pitches: &[f32], sheet: &[u16], c: Cell) -> Seen
-    requires { ⌜ Given (now xs) (now ys) (now pitches) (now sheet) ⌝ }
-    ensures { λ r. ⌜ r ≡ seenOf (cornerOf (now (xs .entry)) (now (ys .entry)) (now (pitches .entry))) (now (sheet .entry)) c ⌝ }
+pub fn seen_at(corners: &[f32; 3 * CORNERS], sheet: &[u16], c: Cell) -> Seen
+    requires { ⌜ Given cornerLimit (now sheet) ⌝ }
+    ensures { λ r. ⌜ r ≡ seenOf (cornerIn (now (corners .entry))) (now (sheet .entry)) c ⌝ }
 {
     let label = label_at(sheet, c);
     match label {
         Label::Unlabelled => Seen::Nothing,
-        Label::Corner(k) => Seen::At(corner_at(xs, ys, pitches, k)),
+        Label::Corner(k) => Seen::At(corner_at(corners, k)),
     }
 }
 

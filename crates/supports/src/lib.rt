@@ -10,7 +10,7 @@ ghost use lib.ListN.{length, take};
 ghost use lib.Ieee.{binary32, ofBits, lt};
 ghost use Rattle.sizes.specs.Sizes.{placeCount, cornerLimit};
 ghost use Rattle.sheet.specs.Cells.{OnSheet, placeOf, cellOf};
-ghost use Rattle.sheet.specs.Corners.{cornerOf, seenOf, Given};
+ghost use Rattle.sheet.specs.Corners.{cornerIn, seenOf, Given};
 ghost use Rattle.passes.specs.Local.{cellPoint, picturedAt, residualOf, none, localFit, worst, recorded, recordedAll};
 ghost use Rattle.binary32.specs.Ranges.{allFinite};
 ghost use Rattle.supports.specs.Nearest.{Listable, MoreListed, Gatherable, Gathered, supportAt, nothingKept, InOrder, MoreKept, EarlierKept, keptOf, placesOf, nearestAmong, Nearby, Keeping, Halved};
@@ -329,11 +329,11 @@ fn place_point(place: usize) -> Position
 }
 
 // The pictured corner of a place's cell; one that has none is nowhere.
-fn pictured(xs: &[f32], ys: &[f32], pitches: &[f32], sheet: &[u16], place: usize) -> Position
-    requires { ⌜ Given (now xs) (now ys) (now pitches) (now sheet) × (place < placeCount) ⌝ }
-    ensures { λ r. ⌜ r ≡ picturedAt (seenOf (cornerOf (now (xs .entry)) (now (ys .entry)) (now (pitches .entry))) (now (sheet .entry))) place ⌝ }
+fn pictured(corners: &[f32; 3 * CORNERS], sheet: &[u16], place: usize) -> Position
+    requires { ⌜ Given cornerLimit (now sheet) × (place < placeCount) ⌝ }
+    ensures { λ r. ⌜ r ≡ picturedAt (seenOf (cornerIn (now (corners .entry))) (now (sheet .entry))) place ⌝ }
 {
-    let seen = sheet::seen_at(xs, ys, pitches, sheet, sheet::cell_of(place));
+    let seen = sheet::seen_at(corners, sheet, sheet::cell_of(place));
     match seen {
         Seen::Nothing => Position {
             x: 0.0 / 0.0,
@@ -408,9 +408,9 @@ fn fit_points(cells: [Position; 4], corners: [Position; 4]) -> SupportFit
 
 // The fit on the supports: what takes their cells to the pictured corners, with the residual of each. There is none where the points have no
 // fit or a residual is not finite.
-pub fn local_fit(xs: &[f32], ys: &[f32], pitches: &[f32], sheet: &[u16], s: Supports) -> SupportFit
-    requires { ⌜ Given (now xs) (now ys) (now pitches) (now sheet) × Pictured s ⌝ }
-    ensures { λ r. ⌜ r ≡ supportFitOf (localFit (seenOf (cornerOf (now (xs .entry)) (now (ys .entry)) (now (pitches .entry))) (now (sheet .entry))) (placesOf s)) ⌝ }
+pub fn local_fit(corners: &[f32; 3 * CORNERS], sheet: &[u16], s: Supports) -> SupportFit
+    requires { ⌜ Given cornerLimit (now sheet) × Pictured s ⌝ }
+    ensures { λ r. ⌜ r ≡ supportFitOf (localFit (seenOf (cornerIn (now (corners .entry))) (now (sheet .entry))) (placesOf s)) ⌝ }
 {
     let a = s.first.place;
     let b = s.second.place;
@@ -423,10 +423,10 @@ pub fn local_fit(xs: &[f32], ys: &[f32], pitches: &[f32], sheet: &[u16], s: Supp
         place_point(d),
     ];
     let corners = [
-        pictured(xs, ys, pitches, sheet, a),
-        pictured(xs, ys, pitches, sheet, b),
-        pictured(xs, ys, pitches, sheet, c),
-        pictured(xs, ys, pitches, sheet, d),
+        pictured(corners, sheet, a),
+        pictured(corners, sheet, b),
+        pictured(corners, sheet, c),
+        pictured(corners, sheet, d),
     ];
     fit_points(cells, corners)
 }

@@ -15,7 +15,7 @@ use Rattle.homography.proofs.Normalizing.{normal-finite}
 use Rattle.homography.proofs.Fitting.{homography-is}
 use Rattle.sheet.specs.Cells.{onSheet, placeOf, cellOf, moved}
 use Rattle.sheet.specs.Words.{attached, marksCleared}
-use Rattle.sheet.specs.Corners.{seenOf}
+use Rattle.sheet.specs.Corners.{Corners, seenOf}
 use Rattle.sheet.specs.declared.Cell.{Cell}
 use Rattle.sheet.specs.declared.Offset.{Offset}
 use Rattle.sheet.specs.declared.Position.{Position}
@@ -31,7 +31,7 @@ use Rattle.arguments.specs.declared.Settings.{Settings}
 use Rattle.arguments.specs.declared.GrowParams.{GrowParams}
 use Rattle.arguments.specs.declared.FillParams.{FillParams}
 use Rattle.arguments.specs.declared.LocalExtensionParams.{LocalExtensionParams}
-use Rattle.extension_common.specs.TryCell.{Corners, gathered, choiceBy, edgesOf, resultOf, tryAt}
+use Rattle.extension_common.specs.TryCell.{gathered, choiceBy, edgesOf, resultOf, tryAt}
 use Rattle.extension_common.specs.declared.Search.{Search}
 use Rattle.extension_common.specs.declared.TryCellResult.{TryCellResult}
 use Rattle.passes.specs.Counting.{oneMore}
@@ -53,12 +53,12 @@ module _ (cs : Corners) (w : List Written) (r : Rise 0 w) where
   gathered-so radius at =
       ap (λ (free : ℕ → Bool). firstTwo (candidatesAt (λ k. cs .corner k .position) free (cs .count) at radius)) (fun-ext (λ k. ap not (used-so w r k)))
 
-  edges-so : (tol : Tolerances) (c : Cell) (k : ℕ) → edgesOf cs (sheetWith w) tol c k ≡ edgesIn cs w tol c k
+  edges-so : (tol : Tolerances) (c : Cell) (k : ℕ) → edgesOf (cs .corner) (sheetWith w) tol c k ≡ edgesIn cs w tol c k
   unfolding edgesOf edgesIn
   edges-so tol c k =
       ap (λ (seen : Cell → Seen). cond (passes (verdictOf seen tol c (cs .corner k))) (TryCellResult.Attached k) TryCellResult.EdgeRejected) (seen-so w (cs .corner))
 
-  result-so : (tol : Tolerances) (c : Cell) (choice : CandidateChoice) → resultOf cs (sheetWith w) tol c choice ≡ resultIn cs w tol c choice
+  result-so : (tol : Tolerances) (c : Cell) (choice : CandidateChoice) → resultOf (cs .corner) (sheetWith w) tol c choice ≡ resultIn cs w tol c choice
   unfolding resultOf resultIn
   result-so tol c CandidateChoice.Nothing = refl
   result-so tol c CandidateChoice.Ambiguous = refl
@@ -67,7 +67,7 @@ module _ (cs : Corners) (w : List Written) (r : Rise 0 w) where
   try-so : (tol : Tolerances) (search : Search) (c : Cell) (at : Position) → tryAt cs (sheetWith w) tol search c at ≡ tryIn cs w tol search c at
   unfolding tryAt tryIn
   try-so tol search c at =
-      ap (λ found. resultOf cs (sheetWith w) tol c (choiceBy (search .rule) found (search .«ambiguity_factor»))) (gathered-so (search .«search_r») at)
+      ap (λ found. resultOf (cs .corner) (sheetWith w) tol c (choiceBy (search .rule) found (search .«ambiguity_factor»))) (gathered-so (search .«search_r») at)
       ∙ result-so tol c (choiceBy (search .rule) (gatheredIn cs w (search .«search_r») at) (search .«ambiguity_factor»))
 
 -- ---- grow

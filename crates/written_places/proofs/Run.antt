@@ -2,12 +2,12 @@
 use mathlib.Core.Path.{_≡_, refl, ap, _∙_, subst}
 use mathlib.Core.List.{List, [], _∷_}
 use Prim.Native.Nat.{ℕ}
+use Rattle.sheet.specs.Corners.{CornerLists, cornersOf}
 use Rattle.arguments.specs.declared.Settings.{Settings}
 use Rattle.arguments.specs.declared.Pass.{Pass}
 use Rattle.passes.specs.Outcome.{done}
-use Rattle.passes.specs.Step.{CornerLists}
 use Rattle.passes.specs.Run.{Call, growStats, fillStats, localStats, step, sheetAfter, run, sheetOf}
-use Rattle.invariants.specs.Calls.{cornersIn, Standing, CallInside, answering, afterPass}
+use Rattle.invariants.specs.Calls.{Standing, CallInside, answering, afterPass}
 use Rattle.invariants.proofs.Run.{standing-step, fit-accepts}
 use Rattle.written_places.specs.Written.{Written, Rise, sheetWith}
 use Rattle.written_places.specs.Passes.{afterOf}
@@ -17,15 +17,15 @@ use Rattle.written_places.proofs.Passes.{grow-so, grow-rises, fill-so, 
 module _ (l : CornerLists) (w : List Written) (h : Rise 0 w) (set : Settings) where
   after-so : (p : Pass) → afterPass l (sheetWith w) set p ≡ afterOf (afterPassIn l w set p)
   unfolding afterPassIn
-  after-so (Pass.Grow p) = ap (answering growStats) (grow-so (cornersIn l) set p w h)
-  after-so (Pass.Fill p) = ap (answering fillStats) (fill-so (cornersIn l) set p w h)
-  after-so (Pass.Local p) = ap (answering localStats) (local-so (cornersIn l) set p w h)
+  after-so (Pass.Grow p) = ap (answering growStats) (grow-so (cornersOf l) set p w h)
+  after-so (Pass.Fill p) = ap (answering fillStats) (fill-so (cornersOf l) set p w h)
+  after-so (Pass.Local p) = ap (answering localStats) (local-so (cornersOf l) set p w h)
 
   after-rises : (p : Pass) → Rise 0 (afterPassIn l w set p .sheet)
   unfolding afterPassIn
-  after-rises (Pass.Grow p) = grow-rises (cornersIn l) set p w h
-  after-rises (Pass.Fill p) = fill-rises (cornersIn l) set p w h
-  after-rises (Pass.Local p) = local-rises (cornersIn l) set p w h
+  after-rises (Pass.Grow p) = grow-rises (cornersOf l) set p w h
+  after-rises (Pass.Fill p) = fill-rises (cornersOf l) set p w h
+  after-rises (Pass.Local p) = local-rises (cornersOf l) set p w h
 
 -- one call that runs
 step-so : (l : CornerLists) (w : List Written) → Rise 0 w → (c : Call) → Standing l (sheetWith w) → CallInside l c → step l (sheetWith w) c ≡ done (afterOf (afterPassIn l w (c .settings) (c .pass)))

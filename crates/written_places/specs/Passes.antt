@@ -11,6 +11,7 @@ use Rattle.elimination.specs.Solve.{Matrix, Row, eliminated, answered, nonzeroD
 use Rattle.homography.specs.Normalize.{normalizationOf, meanDistance, normalized, finitePoints}
 use Rattle.homography.specs.Undo.{undone}
 use Rattle.homography.specs.Fit.{Answer, NoFit, scaledOf, equationsOf, applied}
+use Rattle.sheet.specs.Corners.{Corners}
 use Rattle.sheet.specs.Cells.{onSheet, placeOf, cellOf, moved}
 use Rattle.sheet.specs.declared.Cell.{Cell}
 use Rattle.sheet.specs.declared.Offset.{Offset}
@@ -27,7 +28,7 @@ use Rattle.arguments.specs.declared.Settings.{Settings}
 use Rattle.arguments.specs.declared.GrowParams.{GrowParams}
 use Rattle.arguments.specs.declared.FillParams.{FillParams}
 use Rattle.arguments.specs.declared.LocalExtensionParams.{LocalExtensionParams}
-use Rattle.extension_common.specs.TryCell.{Corners, choiceBy}
+use Rattle.extension_common.specs.TryCell.{choiceBy}
 use Rattle.extension_common.specs.declared.Search.{Search}
 use Rattle.extension_common.specs.declared.TryCellResult.{TryCellResult}
 use Rattle.passes.specs.Outcome.{After}

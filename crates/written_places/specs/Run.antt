@@ -2,13 +2,13 @@
 use mathlib.Core.Path.{_≡_}
 use mathlib.Core.List.{List, [], _∷_}
 use Prim.Native.Nat.{ℕ}
+use Rattle.sheet.specs.Corners.{CornerLists, cornersOf}
 use Rattle.refusal.specs.declared.Refusal.{Refusal}
 use Rattle.arguments.specs.declared.Settings.{Settings}
 use Rattle.arguments.specs.declared.Pass.{Pass}
 use Rattle.passes.specs.Outcome.{Outcome, refused, done}
-use Rattle.passes.specs.Step.{CornerLists}
 use Rattle.passes.specs.Run.{Call, PassStats, growStats, fillStats, localStats, step}
-use Rattle.invariants.specs.Calls.{cornersIn, Standing, CallInside}
+use Rattle.invariants.specs.Calls.{Standing, CallInside}
 use Rattle.written_places.specs.Written.{Written}
 use Rattle.written_places.specs.Passes.{AfterIn, afterOf, growAfterIn, fillAfterIn, localAfterIn}
 
@@ -17,9 +17,9 @@ answeringIn f a = record { answer = f (a .answer); sheet = a .sheet; attached = 
 
 -- what a call does that is not refused
 unfoldable pub afterPassIn : CornerLists → List Written → Settings → Pass → AfterIn PassStats
-afterPassIn l w set (Pass.Grow p) = answeringIn growStats (growAfterIn (cornersIn l) set p w)
-afterPassIn l w set (Pass.Fill p) = answeringIn fillStats (fillAfterIn (cornersIn l) set p w)
-afterPassIn l w set (Pass.Local p) = answeringIn localStats (localAfterIn (cornersIn l) set p w)
+afterPassIn l w set (Pass.Grow p) = answeringIn growStats (growAfterIn (cornersOf l) set p w)
+afterPassIn l w set (Pass.Fill p) = answeringIn fillStats (fillAfterIn (cornersOf l) set p w)
+afterPassIn l w set (Pass.Local p) = answeringIn localStats (localAfterIn (cornersOf l) set p w)
 
 -- a call that runs, and one that is refused
 pub data Asked : Type 0 where

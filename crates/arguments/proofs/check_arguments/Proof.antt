@@ -3,6 +3,7 @@ use mathlib.Core.Path.{_≡_, sym, _∙_}
 use mathlib.Core.Bool.{false}
 use borrow.Author.Needs.{needs}
 use borrow.Author.Tests.{lt-ltb, le-ltb}
+use Rattle.sheet.specs.Corners.{cornerLists}
 use Rattle.arguments.specs.Arguments.{Lent, lent, cornerCount, tooShort, overLimit, someCornerOutside, settingsOutside, outOfRange, unknownCorner}
 use Rattle.arguments.specs.Accepted.{LongEnough}
 use Rattle.arguments.proofs.Laws.{long-enough, known, known-more}
@@ -21,7 +22,7 @@ passed-2 : (c : tie.Else2) → overLimit (at (c .before .before .before .before 
 unfolding overLimit
 passed-2 c = le-ltb _ _ (c .if2 .left)
 
-corners-passed : (c : tie.Else3) → someCornerOutside (c .before .before .before .before .before .before .before .before .before .args .xs .now) (c .before .before .before .before .before .before .before .before .before .args .ys .now) (c .before .before .before .before .before .before .before .before .before .args .pitches .now) ≡ false
+corners-passed : (c : tie.Else3) → someCornerOutside (cornerLists (c .before .before .before .before .before .before .before .before .before .args .xs .now) (c .before .before .before .before .before .before .before .before .before .args .ys .now) (c .before .before .before .before .before .before .before .before .before .args .pitches .now)) ≡ false
 corners-passed c = sym (c .before .some-corner-outside .ensures) ∙ c .if3 .left
 
 settings-passed : (c : tie.Else4) → settingsOutside (c .before .before .before .before .before .before .before .before .before .before .before .args .settings) ≡ false

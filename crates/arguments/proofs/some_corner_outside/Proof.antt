@@ -4,13 +4,14 @@ use Prim.Native.Nat.{_-_}
 use native.Mathlib.Omega.{arith}
 use borrow.Author.Needs.{needs}
 use lib.ListN.{length}
+use Rattle.sheet.specs.Corners.{cornerLists}
 use Rattle.labels.proofs.Below.{Searching, searching-start, searching-more, searching-hit, searching-end}
 use Rattle.arguments.specs.Arguments.{cornerOutside, outsideAt, someCornerOutside}
 use Rattle.arguments.proofs.some_corner_outside.Statement.{statement}
 use Rattle.arguments.proofs.some_corner_outside.Tie as tie
 
 abbrev Inv-loop : tie.InvT-loop
-Inv-loop xs ys pitches k₀ k = Searching (outsideAt xs ys pitches) (length xs) k
+Inv-loop xs ys pitches k₀ k = Searching (outsideAt (cornerLists xs ys pitches)) (length xs) k
 
 abbrev μ-loop : tie.MeasureT-loop
 μ-loop xs ys pitches k₀ k = length xs - k
@@ -18,18 +19,16 @@ abbrev μ-loop : tie.MeasureT-loop
 loop-holds : tie.Need-loop-holds Inv-loop μ-loop
 loop-holds c = searching-start _ _
 
-corner-at-requires : tie.Need-corner-at-requires Inv-loop μ-loop
-corner-at-requires c κs =
-    let asked = c .before .before .before .before .before .pre in
-    record { in-x = c .loop-test .taken; in-y = omega (arith, asked .ys-long); in-pitch = omega (arith, asked .pitches-long) }
+listed-corner-requires : tie.Need-listed-corner-requires Inv-loop μ-loop
+listed-corner-requires c κs = record { listed = c .before .before .before .before .before .pre; there = c .loop-test .taken }
 
 corner-outside-requires : tie.Need-corner-outside-requires Inv-loop μ-loop
 corner-outside-requires c κs = search needs
 
 -- what the body's test says of this corner
-said : (c : tie.After-corner-outside Inv-loop μ-loop) → let a = c .before .before .before .before .before .before .before .args in outsideAt (a .xs .now) (a .ys .now) (a .pitches .now) (c .before .before .before .loop .k) ≡ c .corner-outside .result
+said : (c : tie.After-corner-outside Inv-loop μ-loop) → let a = c .before .before .before .before .before .before .before .args in outsideAt (cornerLists (a .xs .now) (a .ys .now) (a .pitches .now)) (c .before .before .before .loop .k) ≡ c .corner-outside .result
 unfolding outsideAt
-said c = sym (c .corner-outside .ensures ∙ ap cornerOutside (c .before .corner-at .ensures))
+said c = sym (c .corner-outside .ensures ∙ ap cornerOutside (c .before .listed-corner .ensures))
 
 returns : tie.Need-returns Inv-loop μ-loop
 unfolding someCornerOutside
@@ -55,7 +54,7 @@ some-corner-outside-spec =
     Inv-loop
     μ-loop
     loop-holds
-    corner-at-requires
+    listed-corner-requires
     corner-outside-requires
     returns
     add-k

@@ -3,23 +3,16 @@ use mathlib.Core.Path.{ap, ap₂, _∙_}
 use Prim.Native.Nat.{ℕ}
 use borrow.Author.Needs.{needs}
 use lib.Ieee.{Float}
+use Rattle.sheet.specs.declared.Position.{Position}
+use Rattle.sheet.specs.Corners.{squaredDistance}
 use Rattle.binary32.specs.Sqrt.{sqrtOrNan}
 use Rattle.candidates.specs.declared.Candidate.{Candidate}
 use Rattle.candidates.specs.Steps.{narrowed}
 use Rattle.candidates.proofs.keep_corner.Statement.{statement}
 use Rattle.candidates.proofs.keep_corner.Tie as tie
 
-mul-t10 : tie.Need-mul-t10
-mul-t10 c = search needs
-
-shared-slice-read-t12 : tie.Need-shared-slice-read-t12
-shared-slice-read-t12 c = search needs
-
-mul-t13 : tie.Need-mul-t13
-mul-t13 c = search needs
-
-shared-slice-read-t15 : tie.Need-shared-slice-read-t15
-shared-slice-read-t15 c = search needs
+position-of-requires : tie.Need-position-of-requires
+position-of-requires c κs = search needs
 
 squared-distance-requires : tie.Need-squared-distance-requires
 squared-distance-requires c κs = search needs
@@ -36,19 +29,17 @@ far k d = record { number = k; distance = d }
 
 returns : tie.Need-returns
 returns c = let d = c .before .before in
-    let a = d .before .before .before .before .before .args in
+    let a = d .before .before .args in
+    let near = d .squared-distance .ensures ∙ ap (λ (q : Position). squaredDistance q (a .prediction)) (d .before .position-of .ensures) in
     c .keep .ensures
     ∙ ap₂ (λ (b : Candidate) (d2 : Float). narrowed (a .found) b d2)
-    (ap (far (a .k)) (c .before .sqrt-or-nan .ensures ∙ ap sqrtOrNan (d .squared-distance .ensures))) (d .squared-distance .ensures)
+    (ap (far (a .k)) (c .before .sqrt-or-nan .ensures ∙ ap sqrtOrNan near)) near
 
 pub keep-corner-spec : {M : Type 1} → statement M
 keep-corner-spec =
     tie.close
     (tie.spec
-    mul-t10
-    shared-slice-read-t12
-    mul-t13
-    shared-slice-read-t15
+    position-of-requires
     squared-distance-requires
     sqrt-or-nan-requires
     keep-requires

@@ -2,24 +2,23 @@
 use mathlib.Core.Path.{sym, _∙_}
 use Prim.Native.Nat.{_-_}
 use native.Mathlib.Omega.{arith}
-use lib.ListN.{length}
-use Rattle.candidates.specs.Candidates.{positionsOf, unmarked}
+use Rattle.candidates.specs.Candidates.{positionsIn, unmarked}
 use Rattle.candidates.specs.Steps.{isWithin}
 use Rattle.candidates.proofs.Scan.{Passing, passing-start, passing-more, passing-hit, passing-end}
 use Rattle.candidates.proofs.next_tested.Statement.{statement}
 use Rattle.candidates.proofs.next_tested.Tie as tie
 
 abbrev Inv-loop : tie.InvT-loop
-Inv-loop xs ys used from prediction limit k₀ k = Passing (isWithin (positionsOf xs ys) (unmarked used) prediction limit) (length xs) from k
+Inv-loop corners count used from prediction limit k₀ k = Passing (isWithin (positionsIn corners) (unmarked used) prediction limit) count from k
 
 abbrev μ-loop : tie.MeasureT-loop
-μ-loop xs ys used from prediction limit k₀ k = length xs - k
+μ-loop corners count used from prediction limit k₀ k = count - k
 
 loop-holds : tie.Need-loop-holds Inv-loop μ-loop
-loop-holds c = passing-start _ _ _ (c .before .before .pre .1)
+loop-holds c = passing-start _ _ _ (c .pre .1)
 
 is-within-requires : tie.Need-is-within-requires Inv-loop μ-loop
-is-within-requires c κs = (c .before .before .before .before .pre .0, c .loop-test .taken)
+is-within-requires c κs = omega (arith, c .before .before .pre .0)
 
 returns : tie.Need-returns Inv-loop μ-loop
 returns c = passing-hit _ _ _ _ (c .before .before .before .loop .inv) (sym (c .before .is-within .ensures) ∙ c .if1 .taken)

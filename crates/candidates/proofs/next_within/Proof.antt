@@ -1,30 +1,29 @@
 -- `next_within` meets its contract. The loop's invariant: no corner passed is a candidate. The measure is what is left of the corners. Assumes nothing.
 use Prim.Native.Nat.{_-_}
 use native.Mathlib.Omega.{arith}
-use lib.ListN.{length}
-use Rattle.candidates.specs.Candidates.{positionsOf, unmarked}
+use Rattle.candidates.specs.Candidates.{positionsIn, unmarked}
 use Rattle.candidates.specs.Steps.{isWithin}
 use Rattle.candidates.proofs.Scan.{Passing, passing-start, passing-next, passing-block}
 use Rattle.candidates.proofs.next_within.Statement.{statement}
 use Rattle.candidates.proofs.next_within.Tie as tie
 
 abbrev Inv-loop : tie.InvT-loop
-Inv-loop xs ys used from prediction limit k₀ k = Passing (isWithin (positionsOf xs ys) (unmarked used) prediction limit) (length xs) from k
+Inv-loop corners count used from prediction limit k₀ k = Passing (isWithin (positionsIn corners) (unmarked used) prediction limit) count from k
 
 abbrev μ-loop : tie.MeasureT-loop
-μ-loop xs ys used from prediction limit k₀ k = length xs - k
+μ-loop corners count used from prediction limit k₀ k = count - k
 
 loop-holds : tie.Need-loop-holds Inv-loop μ-loop
-loop-holds c = passing-start _ _ _ (c .before .before .pre .1)
+loop-holds c = passing-start _ _ _ (c .pre .1)
 
 add-loop : tie.Need-add-loop Inv-loop μ-loop
 add-loop c = omega (arith, c .loop .inv .within)
 
 count-near-requires : tie.Need-count-near-requires Inv-loop μ-loop
-count-near-requires c κs = (c .before .before .before .before .pre .0, c .loop-test .taken)
+count-near-requires c κs = omega (arith, c .before .before .pre .0)
 
 next-tested-requires : tie.Need-next-tested-requires Inv-loop μ-loop
-next-tested-requires c κs = (c .before .before .before .before .before .before .pre .0, c .before .before .before .loop .inv .within)
+next-tested-requires c κs = (c .before .before .before .before .pre .0, c .before .before .before .loop .inv .within)
 
 returns : tie.Need-returns Inv-loop μ-loop
 returns c = passing-next _ _ _ _ _ (c .before .before .before .before .loop .inv) (c .next-tested .ensures)
@@ -39,7 +38,7 @@ loop-again : tie.Need-loop-again Inv-loop μ-loop
 loop-again c = passing-block _ _ _ _ _ _ _ (c .before .before .before .loop .inv) (c .before .before .loop-test .taken) (c .before .count-near .ensures) (omega arith)
 
 next-tested-requires-2 : tie.Need-next-tested-requires-2 Inv-loop μ-loop
-next-tested-requires-2 c κs = (c .before .before .before .before .pre .0, c .before .loop .inv .within)
+next-tested-requires-2 c κs = (c .before .before .pre .0, c .before .loop .inv .within)
 
 returns-2 : tie.Need-returns-2 Inv-loop μ-loop
 returns-2 c = passing-next _ _ _ _ _ (c .before .before .loop .inv) (c .next-tested2 .ensures)

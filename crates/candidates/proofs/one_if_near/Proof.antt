@@ -1,39 +1,30 @@
 -- `one_if_near` meets its contract, by the squared distance. Assumes nothing.
+use mathlib.Core.Path.{ap, _∙_}
 use borrow.Author.Needs.{needs}
-use Rattle.candidates.specs.Candidates.{positionsOf}
+use Rattle.sheet.specs.declared.Position.{Position}
+use Rattle.sheet.specs.Corners.{squaredDistance}
+use Rattle.candidates.specs.Candidates.{positionsIn}
 use Rattle.candidates.proofs.Scan.{one-near, one-far}
 use Rattle.candidates.proofs.one_if_near.Statement.{statement}
 use Rattle.candidates.proofs.one_if_near.Tie as tie
 
-mul-if1 : tie.Need-mul-if1
-mul-if1 c = search needs
-
-shared-slice-read-if1 : tie.Need-shared-slice-read-if1
-shared-slice-read-if1 c = search needs
-
-mul-t10 : tie.Need-mul-t10
-mul-t10 c = search needs
-
-shared-slice-read-t12 : tie.Need-shared-slice-read-t12
-shared-slice-read-t12 c = search needs
+position-of-requires : tie.Need-position-of-requires
+position-of-requires c κs = search needs
 
 squared-distance-requires : tie.Need-squared-distance-requires
 squared-distance-requires c κs = search needs
 
 returns : tie.Need-returns
-returns c = let a = c .before .before .before .before .before .before .args in one-near (positionsOf (a .xs .now) (a .ys .now)) (a .prediction) (a .limit) (a .k) (c .before .squared-distance .ensures) (c .if1 .taken)
+returns c = let a = c .before .before .before .args in one-near (positionsIn (a .corners .now)) (a .prediction) (a .limit) (a .k) (c .before .squared-distance .ensures ∙ ap (λ (q : Position). squaredDistance q (a .prediction)) (c .before .before .position-of .ensures)) (c .if1 .taken)
 
 returns-2 : tie.Need-returns-2
-returns-2 c = let a = c .before .before .before .before .before .before .args in one-far (positionsOf (a .xs .now) (a .ys .now)) (a .prediction) (a .limit) (a .k) (c .before .squared-distance .ensures) (c .if1 .left)
+returns-2 c = let a = c .before .before .before .args in one-far (positionsIn (a .corners .now)) (a .prediction) (a .limit) (a .k) (c .before .squared-distance .ensures ∙ ap (λ (q : Position). squaredDistance q (a .prediction)) (c .before .before .position-of .ensures)) (c .if1 .left)
 
 pub one-if-near-spec : {M : Type 1} → statement M
 one-if-near-spec =
     tie.close
     (tie.spec
-    mul-if1
-    shared-slice-read-if1
-    mul-t10
-    shared-slice-read-t12
+    position-of-requires
     squared-distance-requires
     returns
     returns-2)

@@ -1,17 +1,9 @@
 -- `extension_common::try_candidates` meets its contract: each arm is given the choice. Assumes nothing.
-use mathlib.Core.Path.{_≡_, sym, ap, _∙_}
-use Rattle.candidates.specs.declared.Candidates.{Candidates}
-use Rattle.extension_common.specs.TryCell.{cornersOf, gathered, choiceBy, resultOf}
-use Rattle.extension_common.proofs.Laws.{chosen}
+use mathlib.Core.Path.{sym, ap, _∙_}
+use Rattle.extension_common.specs.TryCell.{resultOf}
 use borrow.Author.Needs.{needs}
 use Rattle.extension_common.proofs.try_candidates.Statement.{statement}
 use Rattle.extension_common.proofs.try_candidates.Tie as tie
-
--- the choice among what the definition gathers
-picked : (c : tie.After-choose) → let s = c .before .before .before .before .before in choiceBy (s .args .search .rule) (gathered (cornersOf (s .args .xs .now) (s .args .ys .now) (s .args .pitches .now)) (s .args .sheet .now) (s .args .search .«search_r») (s .pre .at)) (s .args .search .«ambiguity_factor») ≡ c .choose .result
-picked c =
-    let s = c .before .before .before .before .before in
-    sym (c .choose .ensures ∙ ap (λ (g : Candidates). choiceBy (s .args .search .rule) g (s .args .search .«ambiguity_factor»)) (s .pre .are))
 
 choose-requires : tie.Need-choose-requires
 choose-requires c κs = search needs
@@ -27,8 +19,8 @@ enum-known-choice c = search needs
 
 try-edges-requires : tie.Need-try-edges-requires
 try-edges-requires c κs =
-    let g = c .before .before .before .before .before .before .before .before .pre in
-    record { given = g .given; on = g .on; there = chosen _ _ _ _ _ _ _ (picked (c .before .before .before) ∙ c .before .choice .given .1) .there }
+    let g = c .before .before .before .before .before .pre in
+    record { given = g .given; on = g .on; there = g .there _ (sym (c .before .before .before .choose .ensures) ∙ c .before .choice .given .1) }
 
 returns : tie.Need-returns
 unfolding resultOf

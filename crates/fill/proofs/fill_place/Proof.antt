@@ -13,8 +13,8 @@ use Rattle.fill.proofs.fill_place.Statement.{statement}
 use Rattle.fill.proofs.fill_place.Tie as tie
 
 -- the place's cell lies in the region
-inside : (c : tie.Else1) → boxAndStrips (c .before .before .before .before .before .before .before .before .args .around) (cellOf (c .before .before .before .before .before .before .before .before .args .place)) ≡ true
-inside c = ap (boxAndStrips (c .before .before .before .before .before .before .before .before .args .around)) (sym (c .before .before .cell-of .ensures)) ∙ sym (c .before .is-fill-cell .ensures) ∙ not-false _ (c .if1 .left)
+inside : (c : tie.Else1) → boxAndStrips (c .before .before .before .before .before .args .around) (cellOf (c .before .before .before .before .before .args .place)) ≡ true
+inside c = ap (boxAndStrips (c .before .before .before .before .before .args .around)) (sym (c .before .before .cell-of .ensures)) ∙ sym (c .before .is-fill-cell .ensures) ∙ not-false _ (c .if1 .left)
 
 cell-of-requires : tie.Need-cell-of-requires
 cell-of-requires c κs = search needs
@@ -24,8 +24,8 @@ is-fill-cell-requires c κs = search needs
 
 returns : tie.Need-returns
 returns c =
-    untouched (c .before .before .before .before .before .before .before .before .pre .filling)
-    (looked-out _ _ _ _ _ (ap (boxAndStrips (c .before .before .before .before .before .before .before .before .args .around)) (sym (c .before .before .cell-of .ensures)) ∙ sym (c .before .is-fill-cell .ensures) ∙ not-true _ (c .if1 .taken)))
+    untouched (c .before .before .before .before .before .pre .filling)
+    (looked-out _ _ _ _ _ (ap (boxAndStrips (c .before .before .before .before .before .args .around)) (sym (c .before .before .cell-of .ensures)) ∙ sym (c .before .is-fill-cell .ensures) ∙ not-true _ (c .if1 .taken)))
 
 mul-is-labelled : tie.Need-mul-is-labelled
 mul-is-labelled c = search needs
@@ -37,11 +37,11 @@ is-labelled-requires : tie.Need-is-labelled-requires
 is-labelled-requires c κs = search needs
 
 returns-2 : tie.Need-returns-2
-returns-2 c = untouched (c .before .before .before .before .before .before .before .before .before .before .before .pre .filling) (looked-labelled _ _ _ _ _ (c .before .before .before .before .before .before .before .before .before .before .before .pre .below) (inside (c .before .before .before)) (sym (c .before .is-labelled .ensures) ∙ c .if2 .taken))
+returns-2 c = untouched (c .before .before .before .before .before .before .before .before .pre .filling) (looked-labelled _ _ _ _ _ (c .before .before .before .before .before .before .before .before .pre .below) (inside (c .before .before .before)) (sym (c .before .is-labelled .ensures) ∙ c .if2 .taken))
 
 try-fill-cell-requires : tie.Need-try-fill-cell-requires
 try-fill-cell-requires c κs =
-    let s = c .before .before .before .before .before .before .before .before .before .before .before .before .before .before in
+    let s = c .before .before .before .before .before .before .before .before .before .before .before in
     rw (c .before .before .before .before .before .before .before .before .cell-of .ensures)
     (record {
       filling = s .pre .filling;
@@ -57,7 +57,7 @@ same-length-2 c = search needs
 
 returns-3 : tie.Need-returns-3
 returns-3 c =
-    left-as (looked-bare _ _ _ _ _ (c .before .before .before .before .before .before .before .before .before .before .before .before .before .before .before .before .before .before .before .pre .below) (inside (c .before .before .before .before .before .before .before .before .before .before .before)) _ (c .before .before .before .before .before .before .before .before .before .before .before .before .before .cell-of .ensures) (sym (c .before .before .before .before .before .before .before .before .before .is-labelled .ensures) ∙ c .before .before .before .before .before .before .before .before .if2 .left)) (c .before .before .before .before .try-fill-cell .ensures)
+    left-as (looked-bare _ _ _ _ _ (c .before .before .before .before .before .before .before .before .before .before .before .before .before .before .before .before .pre .below) (inside (c .before .before .before .before .before .before .before .before .before .before .before)) _ (c .before .before .before .before .before .before .before .before .before .before .before .before .before .cell-of .ensures) (sym (c .before .before .before .before .before .before .before .before .before .is-labelled .ensures) ∙ c .before .before .before .before .before .before .before .before .if2 .left)) (c .before .before .before .before .try-fill-cell .ensures)
 
 pub fill-place-spec : {M : Type 1} → statement M
 fill-place-spec =

@@ -1,7 +1,7 @@
 -- `run_pass` meets its contract. Assumes nothing.
+use Rattle.sheet.specs.Corners.{cornerLists}
 use Rattle.frame_passes.proofs.Running.{small-fits, pass-left}
 use Rattle.pass_call.specs.Call.{callOf}
-use Rattle.passes.specs.Step.{cornerLists}
 use lib.ListN.{length}
 use native.Mathlib.Omega.{arith}
 use borrow.Author.Needs.{needs}

@@ -2,7 +2,7 @@
 use Prim.Native.Nat.{_-_}
 use native.Mathlib.Omega.{arith}
 use native.Mathlib.Numerals.{add-one}
-use Rattle.passes.specs.Step.{cornerLists}
+use Rattle.sheet.specs.Corners.{cornerLists}
 use Rattle.frame_passes.proofs.Running.{Turning, first-turn, next-turn, last-turn}
 use Rattle.frame_passes.proofs.run_passes.Statement.{statement}
 use Rattle.frame_passes.proofs.run_passes.Tie as tie

@@ -1,4 +1,5 @@
 -- `grow_extend::extend_from_labelled` meets its contract: refused, with nothing written, or the pass done. Assumes nothing.
+use Rattle.sheet.specs.Corners.{cornerLists}
 use Rattle.grow_extend.proofs.Laws.{call-refused, call-accepted, call-done}
 use borrow.Author.Needs.{needs}
 use Rattle.grow_extend.proofs.extend_from_labelled.Statement.{statement}
@@ -17,7 +18,7 @@ extend-requires : tie.Need-extend-requires
 extend-requires c κs =
     let s = c .before .before .before .before .before .before .before .before .before .before .before .before .before in
     let a = s .args in
-    call-accepted (a .xs .now) (a .ys .now) (a .pitches .now) (a .settings) (a .params) (a .sheet .now) (a .queue .now) (a .attached .now) (c .before .before .before .before .before .check-arguments .ensures) (c .before .before .before .enum-told .given .1)
+    call-accepted (cornerLists (a .xs .now) (a .ys .now) (a .pitches .now)) (a .settings) (a .params) (a .sheet .now) (a .queue .now) (a .attached .now) (c .before .before .before .before .before .check-arguments .ensures) (c .before .before .before .enum-told .given .1)
 
 same-length : tie.Need-same-length
 same-length c = search needs
@@ -26,7 +27,7 @@ returns : tie.Need-returns
 returns c =
     let s = c .before .before .before .before .before .before .before .before .before .before .before in
     let a = s .args in
-    call-refused (a .xs .now) (a .ys .now) (a .pitches .now) (a .settings) (a .params) (a .sheet .now) (a .queue .now) (a .attached .now) (c .before .before .before .check-arguments .ensures) (c .before .checked .given .1)
+    call-refused (cornerLists (a .xs .now) (a .ys .now) (a .pitches .now)) (a .settings) (a .params) (a .sheet .now) (a .queue .now) (a .attached .now) (c .before .before .before .check-arguments .ensures) (c .before .checked .given .1)
 
 same-length-2 : tie.Need-same-length-2
 same-length-2 c = search needs
@@ -41,7 +42,7 @@ returns-2 : tie.Need-returns-2
 returns-2 c =
     let s = c .before .before .before .before .before .before .before .before .before .before .before .before .before .before .before .before .before .before .before .before in
     let a = s .args in
-    call-done (a .xs .now) (a .ys .now) (a .pitches .now) (a .settings) (a .params) (a .sheet .now) (a .queue .now) (a .attached .now) (c .before .before .before .before .before .before .before .before .before .before .before .before .check-arguments .ensures) (c .before .before .before .before .before .before .before .before .before .before .enum-told .given .1) (c .before .before .before .before .before .before .extend .ensures)
+    call-done (cornerLists (a .xs .now) (a .ys .now) (a .pitches .now)) (a .settings) (a .params) (a .sheet .now) (a .queue .now) (a .attached .now) (c .before .before .before .before .before .before .before .before .before .before .before .before .check-arguments .ensures) (c .before .before .before .before .before .before .before .before .before .before .enum-told .given .1) (c .before .before .before .before .before .before .extend .ensures)
 
 pub extend-from-labelled-spec : {M : Type 1} → statement M
 extend-from-labelled-spec =

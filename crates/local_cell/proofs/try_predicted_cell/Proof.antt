@@ -1,33 +1,34 @@
 -- `local_cell::try_predicted_cell` meets its contract: by what trying the cell with its candidates finds. Assumes nothing.
 use mathlib.Core.Path.{_≡_, ap, _∙_}
-use Rattle.extension_common.specs.TryCell.{cornersOf, gathered, tryAt}
+use Rattle.sheet.specs.Corners.{cornersIn}
+use Rattle.extension_common.specs.TryCell.{gathered, tryAt}
 use Rattle.extension_common.specs.declared.Search.{Search}
-use Rattle.extension_common.proofs.Laws.{tried-with}
+use Rattle.extension_common.proofs.Laws.{choosable, tried-with}
 use Rattle.passes.specs.Grow.{tolerancesOf}
 use Rattle.passes.specs.Local.{localSearch}
 use Rattle.remembered.proofs.Notes.{notable-no-candidates, notable-ambiguous}
 use Rattle.local_cell.specs.Extending.{Taking}
-use Rattle.local_cell.proofs.Visit.{gathered-is, found-is, taking, taking-writable, taking-listed, found-none, found-ambiguous, found-refused, found-corner}
+use Rattle.local_cell.proofs.Visit.{gathered-is, found-is, taking, taking-writable, taking-fits, found-none, found-ambiguous, found-refused, found-corner}
 use Rattle.local_cell.proofs.Memory.{noting, recalls-counted, recalls-attached, recalls-missed, recalls-ambiguous}
 use borrow.Author.Needs.{needs}
 use Rattle.local_cell.proofs.try_predicted_cell.Statement.{statement}
 use Rattle.local_cell.proofs.try_predicted_cell.Tie as tie
 
 -- what was gathered is what the definition gathers
-held : (c : tie.After-collect-candidates) → let a = c .before .before .before .before .before .before .before .before .args in c .collect-candidates .result ≡ gathered (cornersOf (a .xs .now) (a .ys .now) (a .pitches .now)) (a .sheet .now) (c .before .before .search-of .result .«search_r») (a .prediction)
-held c = gathered-is _ _ (c .before .before .before .before .before .before .before .before .pre .0) (c .collect-candidates .ensures)
+held : (c : tie.After-collect-candidates) → let a = c .before .before .before .before .before .before .before .before .args in c .collect-candidates .result ≡ gathered (cornersIn (a .corners .now) (a .setup .count)) (a .sheet .now) (c .before .before .search-of .result .«search_r») (a .target .prediction)
+held c = gathered-is _ _ _ (c .before .before .before .before .before .before .before .before .pre .0) (c .collect-candidates .ensures)
 
 -- by the search of the definition
-candidates : (c : tie.After-collect-candidates) → let a = c .before .before .before .before .before .before .before .before .args in c .collect-candidates .result ≡ gathered (cornersOf (a .xs .now) (a .ys .now) (a .pitches .now)) (a .sheet .now) (localSearch (a .settings) (a .params) .«search_r») (a .prediction)
-candidates c = let a = c .before .before .before .before .before .before .before .before .args in held c ∙ ap (λ (s : Search). gathered (cornersOf (a .xs .now) (a .ys .now) (a .pitches .now)) (a .sheet .now) (s .«search_r») (a .prediction)) (c .before .before .search-of .ensures)
+candidates : (c : tie.After-collect-candidates) → let a = c .before .before .before .before .before .before .before .before .args in c .collect-candidates .result ≡ gathered (cornersIn (a .corners .now) (a .setup .count)) (a .sheet .now) (localSearch (a .setup .settings) (a .setup .params) .«search_r») (a .target .prediction)
+candidates c = let a = c .before .before .before .before .before .before .before .before .args in held c ∙ ap (λ (s : Search). gathered (cornersIn (a .corners .now) (a .setup .count)) (a .sheet .now) (s .«search_r») (a .target .prediction)) (c .before .before .search-of .ensures)
 
 -- what was found is what the definition finds
-found : (c : tie.After-try-candidates) → let a = c .before .before .before .before .before .before .before .before .before .before .before .args in c .try-candidates .result ≡ tryAt (cornersOf (a .xs .now) (a .ys .now) (a .pitches .now)) (a .sheet .now) (tolerancesOf (a .settings)) (localSearch (a .settings) (a .params)) (a .c) (a .prediction)
+found : (c : tie.After-try-candidates) → let a = c .before .before .before .before .before .before .before .before .before .before .before .args in c .try-candidates .result ≡ tryAt (cornersIn (a .corners .now) (a .setup .count)) (a .sheet .now) (tolerancesOf (a .setup .settings)) (localSearch (a .setup .settings) (a .setup .params)) (a .target .cell) (a .target .prediction)
 found c = found-is _ _ _ _ (c .before .before .before .before .before .search-of .ensures) (c .before .before .tolerances-of .ensures) (tried-with _ _ _ _ _ _ (held (c .before .before .before)) (c .try-candidates .ensures))
 
 -- the corner to attach
-attach-this : (c : tie.After-found) → let a = c .before .before .before .before .before .before .before .before .before .before .before .before .before .args in Taking (a .xs .now) (a .ys .now) (a .pitches .now) (a .sheet .now) (a .attached .now) (a .used .now) (a .places .now) (a .at) (a .c) (c .found .given .0 .0)
-attach-this c = taking _ _ _ (c .before .before .before .before .before .before .before .before .before .before .before .before .before .pre .0) (found (c .before .before)) (c .found .given .1)
+attach-this : (c : tie.After-found) → let a = c .before .before .before .before .before .before .before .before .before .before .before .before .before .args in Taking (a .setup .count) (a .sheet .now) (a .attached .now) (a .used .now) (a .places .now) (a .at) (a .target .cell) (c .found .given .0 .0)
+attach-this c = taking _ _ _ _ (c .before .before .before .before .before .before .before .before .before .before .before .before .before .pre .0) (found (c .before .before)) (c .found .given .1)
 
 search-of-requires : tie.Need-search-of-requires
 search-of-requires c κs = search needs
@@ -39,7 +40,7 @@ tolerances-of-requires : tie.Need-tolerances-of-requires
 tolerances-of-requires c κs = search needs
 
 try-candidates-requires : tie.Need-try-candidates-requires
-try-candidates-requires c κs = record { given = c .before .before .before .before .before .before .before .before .before .before .pre .0 .extending .given; on = c .before .before .before .before .before .before .before .before .before .before .pre .0 .on; at = c .before .before .before .before .before .before .before .before .before .before .args .prediction; are = held (c .before .before) }
+try-candidates-requires c κs = choosable _ _ _ _ _ _ (c .before .before .before .before .before .before .before .before .before .before .pre .0 .extending .few) (c .before .before .before .before .before .before .before .before .before .before .pre .0 .extending .given) (c .before .before .before .before .before .before .before .before .before .before .pre .0 .on) (held (c .before .before))
 
 enum-told : tie.Need-enum-told
 enum-told c = search needs
@@ -72,7 +73,7 @@ enum-known-found : tie.Need-enum-known-found
 enum-known-found c = search needs
 
 corner-at-requires : tie.Need-corner-at-requires
-corner-at-requires c κs = taking-listed (attach-this (c .before))
+corner-at-requires c κs = taking-fits (attach-this (c .before))
 
 attach-corner-requires : tie.Need-attach-corner-requires
 attach-corner-requires c κs = (taking-writable (attach-this (c .before .before .before .before .before .before .before .before)), c .before .before .before .before .before .before .before .before .before .before .before .before .before .before .before .before .before .before .before .before .before .pre .1 .0 .size)

@@ -1,7 +1,7 @@
 -- `call_pass` meets its contract, by the pass that is asked for. Assumes nothing.
+use Rattle.sheet.specs.Corners.{cornerLists}
 use Rattle.pass_call.proofs.Calling.{grow-left, fill-left, local-left, both}
 use Rattle.pass_call.specs.Call.{callOf}
-use Rattle.passes.specs.Step.{cornerLists}
 use lib.ListN.{length}
 use borrow.Author.Needs.{needs}
 use Rattle.pass_call.proofs.call_pass.Statement.{statement}

@@ -4,25 +4,25 @@ use mathlib.Core.Logic.{⊎-elim}
 use Prim.Native.Nat.{_-_, _<_}
 use native.Mathlib.Omega.{arith}
 use borrow.Author.Needs.{needs}
-use Rattle.sheet.specs.Corners.{cornerOf, seenOf}
+use Rattle.sheet.specs.Corners.{cornerIn, seenOf}
 use Rattle.positions_policy.specs.Edge.{edgeAt, verdictOf}
 use Rattle.positions_policy.proofs.Search.{Open, opened, ended, passed, refused, stopped}
 use Rattle.positions_policy.proofs.any_cardinal_edge_ok.Statement.{statement}
 use Rattle.positions_policy.proofs.any_cardinal_edge_ok.Tie as tie
 
 abbrev Inv-loop : tie.InvT-loop
-Inv-loop xs ys pitches sheet c candidate tol verdict₀ k₀ verdict k =
-    Open (edgeAt (seenOf (cornerOf xs ys pitches) sheet) tol c candidate) verdict k
+Inv-loop corners sheet c candidate tol verdict₀ k₀ verdict k =
+    Open (edgeAt (seenOf (cornerIn corners) sheet) tol c candidate) verdict k
 
 abbrev μ-loop : tie.MeasureT-loop
-μ-loop xs ys pitches sheet c candidate tol verdict₀ k₀ verdict k = 4 - k
+μ-loop corners sheet c candidate tol verdict₀ k₀ verdict k = 4 - k
 
 loop-holds : tie.Need-loop-holds Inv-loop μ-loop
 loop-holds c = opened _
 
 cardinal-edge-requires : tie.Need-cardinal-edge-requires Inv-loop μ-loop
 cardinal-edge-requires c κs =
-    let s = c .before .before .before .before .before .before in
+    let s = c .before .before .before in
     (s .pre .0, (s .pre .1, omega arith))
 
 enum-told : tie.Need-enum-told Inv-loop μ-loop

@@ -29,7 +29,7 @@ offset-of-requires c κs = search needs
 
 neighbour-requires : tie.Need-neighbour-requires
 neighbour-requires c κs =
-    let s = c .before .before .before .before .before in
+    let s = c .before .before in
     (s .pre .on, rw (c .offset-of .ensures) (square-within (s .args .k) (s .pre .small)))
 
 seen-at-requires : tie.Need-seen-at-requires
@@ -44,22 +44,22 @@ enum-known-seen c = search needs
 add-neighbour-requires : tie.Need-add-neighbour-requires
 add-neighbour-requires c κs =
     record {
-      given = c .before .before .before .before .before .before .before .before .before .before .before .pre .given;
-      on = c .before .before .before .before .before .before .before .before .before .before .before .pre .on;
+      given = c .before .before .before .before .before .before .before .before .pre .given;
+      on = c .before .before .before .before .before .before .before .before .pre .on;
       on-too = seen-on _ _ _ _ (sym (c .before .before .before .before .seen-at .ensures) ∙ c .before .before .seen .given .1);
     }
 
 returns : tie.Need-returns
 returns c =
     passed _ _ _ _
-    (c .before .before .before .neighbour .ensures ∙ ap (moved (c .before .before .before .before .before .before .before .before .before .args .c)) (c .before .before .before .before .offset-of .ensures))
+    (c .before .before .before .neighbour .ensures ∙ ap (moved (c .before .before .before .before .before .before .args .c)) (c .before .before .before .before .offset-of .ensures))
     (c .before .before .seen-at .ensures)
     (c .enum-told .given .1)
 
 returns-2 : tie.Need-returns-2
 returns-2 c =
     added _ _ _ _
-    (c .before .before .before .before .before .before .neighbour .ensures ∙ ap (moved (c .before .before .before .before .before .before .before .before .before .before .before .before .args .c)) (c .before .before .before .before .before .before .before .offset-of .ensures))
+    (c .before .before .before .before .before .before .neighbour .ensures ∙ ap (moved (c .before .before .before .before .before .before .before .before .before .args .c)) (c .before .before .before .before .before .before .before .offset-of .ensures))
     (c .before .before .before .before .before .seen-at .ensures)
     _
     (c .before .before .before .seen .given .1)

@@ -14,11 +14,11 @@ step-vector-requires-2 c κs = search needs
 
 difference-requires : tie.Need-difference-requires
 difference-requires c κs =
-    let s = c .before .before .before .before .before .before in (on-near _ (s .pre .on), on-near _ (s .pre .on-too))
+    let s = c .before .before .before in (on-near _ (s .pre .on), on-near _ (s .pre .on-too))
 
 weigh-requires : tie.Need-weigh-requires
 weigh-requires c κs =
-    let s = c .before .before .before .before .before .before .before in
+    let s = c .before .before .before .before in
     rw (c .difference .ensures) (difference-within _ _ (on-near _ (s .pre .on)) (on-near _ (s .pre .on-too)))
 
 returns : tie.Need-returns

@@ -24,7 +24,7 @@ forward-requires c κs = search needs
 
 neighbour-requires : tie.Need-neighbour-requires
 neighbour-requires c κs =
-    let s = c .before .before .before .before .before in (s .pre .on, rw (c .forward .ensures) (forward-within (s .args .d)))
+    let s = c .before .before in (s .pre .on, rw (c .forward .ensures) (forward-within (s .args .d)))
 
 seen-at-requires : tie.Need-seen-at-requires
 seen-at-requires c κs = search needs
@@ -34,7 +34,7 @@ backward-requires c κs = search needs
 
 neighbour-requires-2 : tie.Need-neighbour-requires-2
 neighbour-requires-2 c κs =
-    let s = c .before .before .before .before .before .before .before .before in (s .pre .on, rw (c .backward .ensures) (backward-within (s .args .d)))
+    let s = c .before .before .before .before .before in (s .pre .on, rw (c .backward .ensures) (backward-within (s .args .d)))
 
 seen-at-requires-2 : tie.Need-seen-at-requires-2
 seen-at-requires-2 c κs = search needs

@@ -2,17 +2,17 @@
 use mathlib.Core.Path.{_≡_, refl, sym, _∙_}
 use Prim.Native.Nat.{_≤_, _-_}
 use native.Mathlib.Omega.{arith}
-use Rattle.sheet.specs.Corners.{cornerOf, seenOf}
+use Rattle.sheet.specs.Corners.{cornerIn, seenOf}
 use Rattle.predict.specs.Predict.{neighboursOf, sumsFrom, noSums, sumsOf}
 use Rattle.predict.proofs.Laws.{neighboursFrom, sums-next, sums-end}
 use Rattle.predict.proofs.sum_neighbours.Statement.{statement}
 use Rattle.predict.proofs.sum_neighbours.Tie as tie
 
 abbrev Inv-loop : tie.InvT-loop
-Inv-loop xs ys pitches sheet c grid sums₀ k₀ sums k = (k ≤ 8) × (sumsFrom (seenOf (cornerOf xs ys pitches) sheet) grid c sums (neighboursFrom (seenOf (cornerOf xs ys pitches) sheet) c k) ≡ sumsOf (seenOf (cornerOf xs ys pitches) sheet) grid c)
+Inv-loop corners sheet c grid sums₀ k₀ sums k = (k ≤ 8) × (sumsFrom (seenOf (cornerIn corners) sheet) grid c sums (neighboursFrom (seenOf (cornerIn corners) sheet) c k) ≡ sumsOf (seenOf (cornerIn corners) sheet) grid c)
 
 abbrev μ-loop : tie.MeasureT-loop
-μ-loop xs ys pitches sheet c grid sums₀ k₀ sums k = 8 - k
+μ-loop corners sheet c grid sums₀ k₀ sums k = 8 - k
 
 loop-holds : tie.Need-loop-holds Inv-loop μ-loop
 unfolding neighboursOf noSums sumsOf
@@ -20,7 +20,7 @@ loop-holds c = (omega arith, refl)
 
 add-if-labelled-requires : tie.Need-add-if-labelled-requires Inv-loop μ-loop
 add-if-labelled-requires c κs =
-    let s = c .before .before .before .before .before .before in record { given = s .pre .given; on = s .pre .on; small = omega arith }
+    let s = c .before .before .before in record { given = s .pre .given; on = s .pre .on; small = omega arith }
 
 add-k : tie.Need-add-k Inv-loop μ-loop
 add-k c = omega arith

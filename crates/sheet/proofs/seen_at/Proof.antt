@@ -1,6 +1,6 @@
 -- `sheet::seen_at` meets its contract, by the cell's label, whose corner is given. Assumes nothing.
 use mathlib.Core.Path.{sym, ap, _∙_}
-use Rattle.sheet.proofs.Corners.{seen-none, seen-some, label-listed}
+use Rattle.sheet.proofs.Corners.{seen-none, seen-some, label-known}
 use Rattle.sheet.specs.declared.Seen.{Seen}
 use borrow.Author.Needs.{needs}
 use Rattle.sheet.proofs.seen_at.Statement.{statement}
@@ -17,8 +17,8 @@ enum-known-label c = search needs
 
 corner-at-requires : tie.Need-corner-at-requires
 corner-at-requires c κs =
-    let s = c .before .before .before .before .before .before .before .before in
-    label-listed (s .pre) (s .args .c) _ (sym (c .before .before .before .label-at .ensures) ∙ c .before .label .given .1)
+    let s = c .before .before .before .before .before in
+    label-known (s .pre) (s .args .c) _ (sym (c .before .before .before .label-at .ensures) ∙ c .before .label .given .1)
 
 returns : tie.Need-returns
 returns c = sym (seen-none _ _ _ (sym (c .before .before .label-at .ensures) ∙ c .enum-told .given .1))

@@ -23,16 +23,16 @@ pictured-requires-2 : tie.Need-pictured-requires-2
 pictured-requires-2 c κs = search needs
 
 pictured-requires-3 : tie.Need-pictured-requires-3
-pictured-requires-3 c κs = (c .before .before .before .before .before .before .before .before .before .before .pre .0, c .before .before .before .before .before .before .before .before .before .before .pre .1 .third-below)
+pictured-requires-3 c κs = (c .before .before .before .before .before .before .before .pre .0, c .before .before .before .before .before .before .before .pre .1 .third-below)
 
 pictured-requires-4 : tie.Need-pictured-requires-4
-pictured-requires-4 c κs = (c .before .before .before .before .before .before .before .before .before .before .before .pre .0, c .before .before .before .before .before .before .before .before .before .before .before .pre .1 .fourth-below)
+pictured-requires-4 c κs = (c .before .before .before .before .before .before .before .before .pre .0, c .before .before .before .before .before .before .before .before .pre .1 .fourth-below)
 
 fit-points-requires : tie.Need-fit-points-requires
 fit-points-requires c κs = search needs
 
 returns : tie.Need-returns
-returns c = fit-is _ (c .before .before .before .before .before .before .before .before .before .before .before .before .before .args .s) _ _ _ _ _ _ _ _ _ (c .before .before .before .before .before .before .before .before .place-point .ensures) (c .before .before .before .before .before .before .before .place-point2 .ensures) (c .before .before .before .before .before .before .place-point3 .ensures) (c .before .before .before .before .before .place-point4 .ensures) (c .before .before .before .before .pictured .ensures) (c .before .before .before .pictured2 .ensures) (c .before .before .pictured3 .ensures) (c .before .pictured4 .ensures) (c .fit-points .ensures)
+returns c = fit-is _ (c .before .before .before .before .before .before .before .before .before .before .args .s) _ _ _ _ _ _ _ _ _ (c .before .before .before .before .before .before .before .before .place-point .ensures) (c .before .before .before .before .before .before .before .place-point2 .ensures) (c .before .before .before .before .before .before .place-point3 .ensures) (c .before .before .before .before .before .place-point4 .ensures) (c .before .before .before .before .pictured .ensures) (c .before .before .before .pictured2 .ensures) (c .before .before .pictured3 .ensures) (c .before .pictured4 .ensures) (c .fit-points .ensures)
 
 pub local-fit-spec : {M : Type 1} → statement M
 local-fit-spec =

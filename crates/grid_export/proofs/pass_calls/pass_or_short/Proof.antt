@@ -1,6 +1,6 @@
 -- `pass_calls::pass_or_short` meets its contract, by whether there is room for nine words. Assumes nothing.
+use Rattle.sheet.specs.Corners.{cornerLists}
 use Rattle.grid_export.proofs.Passes.{pass-short, pass-room}
-use Rattle.passes.specs.Step.{cornerLists}
 use mathlib.Core.Path.{_∙_}
 use borrow.Author.Needs.{needs}
 use Rattle.grid_export.proofs.pass_calls.pass_or_short.Statement.{statement}

@@ -1,11 +1,9 @@
 -- `pass_calls::projective_grid_extend_from_labelled` meets its contract: grow by its numbers. Assumes nothing.
+use Rattle.sheet.specs.Corners.{cornerLists}
 use Rattle.grid_export.proofs.Passes.{exported-as}
-use Rattle.passes.specs.Step.{cornerLists}
 use mathlib.Core.Path.{_∙_}
 use borrow.Author.Needs.{needs}
-use Rattle.grid_export.proofs.pass_calls.projective_grid_extend_from_labelled.Statement.{
-  statement,
-}
+use Rattle.grid_export.proofs.pass_calls.projective_grid_extend_from_labelled.Statement.{statement}
 use Rattle.grid_export.proofs.pass_calls.projective_grid_extend_from_labelled.Tie as tie
 
 settings-of-requires : tie.Need-settings-of-requires

@@ -1,10 +1,8 @@
 -- `pass_calls::projective_grid_extend_via_local_homography` meets its contract: local by its numbers. Assumes nothing.
+use Rattle.sheet.specs.Corners.{cornerLists}
 use Rattle.grid_export.proofs.Passes.{exported-bare}
-use Rattle.passes.specs.Step.{cornerLists}
 use borrow.Author.Needs.{needs}
-use Rattle.grid_export.proofs.pass_calls.projective_grid_extend_via_local_homography.Statement.{
-  statement,
-}
+use Rattle.grid_export.proofs.pass_calls.projective_grid_extend_via_local_homography.Statement.{statement}
 use Rattle.grid_export.proofs.pass_calls.projective_grid_extend_via_local_homography.Tie as tie
 
 settings-of-requires : tie.Need-settings-of-requires

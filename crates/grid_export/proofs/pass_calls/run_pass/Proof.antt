@@ -1,9 +1,9 @@
 -- `pass_calls::run_pass` meets its contract: what the pass answers and leaves is told. Assumes nothing.
+use Rattle.sheet.specs.Corners.{cornerLists}
 use Rattle.grid_export.proofs.Passes.{pass-told}
 use Rattle.frame_passes.proofs.Running.{small-fits}
 use Rattle.pass_call.specs.Call.{callOf}
 use Rattle.passes.specs.Run.{step}
-use Rattle.passes.specs.Step.{cornerLists}
 use lib.ListN.{length}
 use native.Mathlib.Omega.{arith}
 use borrow.Author.Needs.{needs}

@@ -2,9 +2,7 @@
 use mathlib.Core.Path.{_∙_}
 use Rattle.grid_words.proofs.Texts.{piece-short, piece-room}
 use borrow.Author.Needs.{needs}
-use Rattle.grid_words.proofs.text_calls.piece_or_short.Statement.{
-  statement,
-}
+use Rattle.grid_words.proofs.text_calls.piece_or_short.Statement.{statement}
 use Rattle.grid_words.proofs.text_calls.piece_or_short.Tie as tie
 
 returns : tie.Need-returns
