@@ -46,6 +46,7 @@ pub record CornerLists : Type 0 where
 abbrev pub cornerLists : List Float → List Float → List Float → CornerLists
 cornerLists xs ys pitches = record { xs = xs; ys = ys; pitches = pitches }
 
+-- the corner of a number; from the number of corners on there is none
 unfoldable pub cornerOf : CornerLists → ℕ → Corner
 cornerOf l k =
     cond (ltb k (length (l .xs)))
