@@ -13,6 +13,9 @@ use sizes::CORNERS;
 use sizes::PASSES;
 use sizes::PLACES;
 
+// Entries of the corners used: one for each corner that a label may use.
+pub const USED: usize = CORNERS;
+
 // 2: whether there are as many corners or passes already as there may be.
 fn over_limit(corners: usize, passes: usize, row: usize) -> bool
     requires { ⌜ row < rowCount ⌝ }
@@ -28,7 +31,7 @@ fn over_limit(corners: usize, passes: usize, row: usize) -> bool
 }
 
 // 6 of a label: whether its cell or its corner has a label already.
-fn label_twice(sheet: &[u16; PLACES], used: &[u8; CORNERS], label: HeldLabel) -> bool
+fn label_twice(sheet: &[u16; PLACES], used: &[u8; USED], label: HeldLabel) -> bool
     requires { ⌜ LabelFits label ⌝ }
     ensures { λ r. ⌜ r ≡ labelTwice (now (sheet .entry)) (now (used .entry)) label ⌝ }
 {
@@ -41,7 +44,7 @@ fn label_twice(sheet: &[u16; PLACES], used: &[u8; CORNERS], label: HeldLabel) ->
 }
 
 // 6: a label's, and none of any other line.
-fn is_twice(corners: usize, sheet: &[u16; PLACES], used: &[u8; CORNERS], line: HeldLine) -> bool
+fn is_twice(corners: usize, sheet: &[u16; PLACES], used: &[u8; USED], line: HeldLine) -> bool
     requires { ⌜ NumbersFine corners line ⌝ }
     ensures { λ r. ⌜ r ≡ twiceHeld (now (sheet .entry)) (now (used .entry)) line ⌝ }
 {
@@ -62,7 +65,7 @@ pub fn check_line(
     corners: usize,
     passes: usize,
     sheet: &[u16; PLACES],
-    used: &[u8; CORNERS],
+    used: &[u8; USED],
     line: HeldLine,
 ) -> Checked
     requires { ⌜ LineFits corners line ⌝ }

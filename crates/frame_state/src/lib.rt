@@ -19,7 +19,7 @@ use sizes::PASS_WORDS;
 use sizes::PLACES;
 
 // An entry for each corner that a label may use.
-pub const USED: usize = CORNERS;
+pub const USED: usize = frame_check::USED;
 
 // Cell size, axes and band, how many corners and passes there are, and the stage that the lines have come to.
 pub struct Progress {
