@@ -41,7 +41,8 @@ pub record RunAlike (f f' : Frame) (same : SameButOrder f f') : Type 0 where
   pub any-list : (calls : List Call) → BothRuns (frameCorners f) (frameCorners f') (sheetOf f) (sheetOf f') reordered calls
   pub same-calls : callsOf f' ≡ callsOf f
   pub own-list : FactorsAbove (callsOf f) (run (frameCorners f) (sheetOf f) (callsOf f))
-      → Agree (reordered .corners .pairs) (sheetOf f) (sheetOf f') (run (frameCorners f) (sheetOf f) (callsOf f)) (run (frameCorners f') (sheetOf f') (callsOf f'))
+      → Agree (reordered .corners .pairs) (sheetOf f) (sheetOf f')
+      (run (frameCorners f) (sheetOf f) (callsOf f)) (run (frameCorners f') (sheetOf f') (callsOf f'))
 
 abbrev pub FramesRunAlike : Type 0
 FramesRunAlike =

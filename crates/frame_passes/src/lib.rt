@@ -74,7 +74,9 @@ fn run_pass(
     words: &mut [u32],
 )
     requires { ⌜ RoomFor k (now words) ⌝ }
-    ensures { λ _. ⌜ left (now (sheet .exit)) (now (words .exit)) ≡ leftBy (cornerLists (now (xs .entry)) (now (ys .entry)) (now (pitches .entry))) (callOf settings (length (now (queue .entry))) (length (now (attached .entry))) pass) k (left (now (sheet .entry)) (now (words .entry))) ⌝ }
+    ensures { λ _. ⌜ left (now (sheet .exit)) (now (words .exit))
+        ≡ leftBy (cornerLists (now (xs .entry)) (now (ys .entry)) (now (pitches .entry)))
+        (callOf settings (length (now (queue .entry))) (length (now (attached .entry))) pass) k (left (now (sheet .entry)) (now (words .entry))) ⌝ }
 {
     let answer = pass_call::call_pass(xs, ys, pitches, sheet, queue, attached, settings, pass);
     report_words::put::put_outcome(words, k, answer);
@@ -95,7 +97,10 @@ pub fn run_passes(
 )
     requires { ⌜ PassWords n (now passes) ⌝ }
     requires { ⌜ allOutcomeWords ≤ length (now words) ⌝ }
-    ensures { λ _. ⌜ left (now (sheet .exit)) (now (words .exit)) ≡ leftByAll (cornerLists (now (xs .entry)) (now (ys .entry)) (now (pitches .entry))) (callAt settings (length (now (queue .entry))) (length (now (attached .entry))) (now (passes .entry))) n 0 (left (now (sheet .entry)) (now (words .entry))) ⌝ }
+    ensures { λ _. ⌜ left (now (sheet .exit)) (now (words .exit))
+        ≡ leftByAll (cornerLists (now (xs .entry)) (now (ys .entry)) (now (pitches .entry)))
+        (callAt settings (length (now (queue .entry))) (length (now (attached .entry))) (now (passes .entry))) n 0
+        (left (now (sheet .entry)) (now (words .entry))) ⌝ }
 {
     let mut k = 0usize;
     while k < n {
@@ -133,7 +138,10 @@ pub fn run_frame(
     requires { ⌜ PassWords (head .passes) (now passes) ⌝ }
     requires { ⌜ AtFront (head .corners) (now xs) (now ys) (now pitches) ⌝ }
     requires { ⌜ allOutcomeWords ≤ length (now words) ⌝ }
-    ensures { λ _. ⌜ left (now (sheet .exit)) (now (words .exit)) ≡ leftByAll (cornerLists (take (head .corners) (now (xs .entry))) (take (head .corners) (now (ys .entry))) (take (head .corners) (now (pitches .entry)))) (callAt (head .settings) (length (now (queue .entry))) (length (now (attached .entry))) (now (passes .entry))) (head .passes) 0 (left (now (sheet .entry)) (now (words .entry))) ⌝ }
+    ensures { λ _. ⌜ left (now (sheet .exit)) (now (words .exit))
+        ≡ leftByAll (cornerLists (take (head .corners) (now (xs .entry))) (take (head .corners) (now (ys .entry)))
+        (take (head .corners) (now (pitches .entry)))) (callAt (head .settings) (length (now (queue .entry))) (length (now (attached .entry)))
+        (now (passes .entry))) (head .passes) 0 (left (now (sheet .entry)) (now (words .entry))) ⌝ }
 {
     let n = head.corners;
     run_passes(

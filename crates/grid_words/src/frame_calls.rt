@@ -82,7 +82,9 @@ fn run_read(
     out: &mut [u32],
 ) -> u32
     requires { ⌜ HeadRoom (now settings) (now out) ⌝ }
-    ensures { λ r. ⌜ frameLeft r (now (xs .exit)) (now (ys .exit)) (now (pitches .exit)) (now (sheet .exit)) (now (passes .exit)) (now (settings .exit)) (now (out .exit)) ≡ frameRead (readInto (now (text .entry)) (buffers (now (xs .entry)) (now (ys .entry)) (now (pitches .entry)) (now (sheet .entry)) (now (passes .entry)))) (now (settings .entry)) (now (out .entry)) ⌝ }
+    ensures { λ r. ⌜ frameLeft r (now (xs .exit)) (now (ys .exit)) (now (pitches .exit)) (now (sheet .exit)) (now (passes .exit)) (now (settings .exit))
+        (now (out .exit)) ≡ frameRead (readInto (now (text .entry)) (buffers (now (xs .entry)) (now (ys .entry)) (now (pitches .entry)) (now (sheet .entry))
+        (now (passes .entry)))) (now (settings .entry)) (now (out .entry)) ⌝ }
 {
     let answer = frame::read_frame(text, xs, ys, pitches, sheet, passes);
     tell(answer, settings, out)
@@ -99,7 +101,9 @@ pub fn read_or_short(
     settings: &mut [f32],
     out: &mut [u32],
 ) -> u32
-    ensures { λ r. ⌜ frameLeft r (now (xs .exit)) (now (ys .exit)) (now (pitches .exit)) (now (sheet .exit)) (now (passes .exit)) (now (settings .exit)) (now (out .exit)) ≡ frameExported (now (text .entry)) (buffers (now (xs .entry)) (now (ys .entry)) (now (pitches .entry)) (now (sheet .entry)) (now (passes .entry))) (now (settings .entry)) (now (out .entry)) ⌝ }
+    ensures { λ r. ⌜ frameLeft r (now (xs .exit)) (now (ys .exit)) (now (pitches .exit)) (now (sheet .exit)) (now (passes .exit)) (now (settings .exit))
+        (now (out .exit)) ≡ frameExported (now (text .entry)) (buffers (now (xs .entry)) (now (ys .entry)) (now (pitches .entry)) (now (sheet .entry))
+        (now (passes .entry))) (now (settings .entry)) (now (out .entry)) ⌝ }
 {
     if head_short(settings.len(), out.len()) {
         return 7;

@@ -17,7 +17,8 @@ fn run_text(
     out: &mut [u32],
 ) -> u32
     requires { ⌜ 1 ≤ length (now out) ⌝ }
-    ensures { λ r. ⌜ textLeft r (now (text .exit)) (now (out .exit)) ≡ textWritten (writesText (textLent corners passes (now (words .entry)) (now (sheet .entry))) (now (text .entry))) (now (out .entry)) ⌝ }
+    ensures { λ r. ⌜ textLeft r (now (text .exit)) (now (out .exit))
+        ≡ textWritten (writesText (textLent corners passes (now (words .entry)) (now (sheet .entry))) (now (text .entry))) (now (out .entry)) ⌝ }
 {
     let answer = report::write_result(corners, passes, words, sheet, text);
     match answer {
@@ -38,7 +39,8 @@ pub fn text_or_short(
     text: &mut [u8],
     out: &mut [u32],
 ) -> u32
-    ensures { λ r. ⌜ textLeft r (now (text .exit)) (now (out .exit)) ≡ textExported (textLent corners passes (now (words .entry)) (now (sheet .entry))) (now (text .entry)) (now (out .entry)) ⌝ }
+    ensures { λ r. ⌜ textLeft r (now (text .exit)) (now (out .exit))
+        ≡ textExported (textLent corners passes (now (words .entry)) (now (sheet .entry))) (now (text .entry)) (now (out .entry)) ⌝ }
 {
     if out.len() < 1 {
         return 7;
@@ -57,7 +59,8 @@ fn run_piece(
     out: &mut [u32],
 ) -> u32
     requires { ⌜ 2 ≤ length (now out) ⌝ }
-    ensures { λ r. ⌜ textLeft r (now (text .exit)) (now (out .exit)) ≡ pieceWritten (writesPiece (textLent corners passes (now (words .entry)) (now (sheet .entry))) from (now (text .entry))) (now (out .entry)) ⌝ }
+    ensures { λ r. ⌜ textLeft r (now (text .exit)) (now (out .exit))
+        ≡ pieceWritten (writesPiece (textLent corners passes (now (words .entry)) (now (sheet .entry))) from (now (text .entry))) (now (out .entry)) ⌝ }
 {
     let answer = report::write_result_piece(corners, passes, words, sheet, from, text);
     match answer {
@@ -80,7 +83,8 @@ pub fn piece_or_short(
     text: &mut [u8],
     out: &mut [u32],
 ) -> u32
-    ensures { λ r. ⌜ textLeft r (now (text .exit)) (now (out .exit)) ≡ pieceExported (textLent corners passes (now (words .entry)) (now (sheet .entry))) from (now (text .entry)) (now (out .entry)) ⌝ }
+    ensures { λ r. ⌜ textLeft r (now (text .exit)) (now (out .exit))
+        ≡ pieceExported (textLent corners passes (now (words .entry)) (now (sheet .entry))) from (now (text .entry)) (now (out .entry)) ⌝ }
 {
     if out.len() < 2 {
         return 7;
