@@ -13,11 +13,11 @@ use lib.Dec.{eqb, ltb}
 use lib.ListN.{length, getD, set, length-set, length-append}
 use lib.Seq.{getD-set-same, getD-set-other}
 use Rattle.sheet.specs.Cells.{OnSheet, placeOf}
-use Rattle.sheet.specs.Words.{bitOf, labelOfNumber, labelOf, labelAt, attached, holeMarked, ambiguousMarked, marksCleared, emptySheet}
+use Rattle.sheet.specs.Words.{bitOf, labelOfNumber, labelOf, attached, holeMarked, ambiguousMarked, marksCleared, emptySheet}
 use Rattle.sheet.specs.Blank.{NextWritten}
 use Rattle.sheet.proofs.Blank.{skips, blank-label}
 use Rattle.sheet.proofs.Laws.{place-in}
-use Rattle.sheet.proofs.Words.{label-on, labelled-on, no-corner, empty-word}
+use Rattle.sheet.proofs.Words.{no-corner, empty-word}
 use Rattle.sheet.specs.declared.Cell.{Cell}
 use Rattle.sheet.specs.declared.Label.{Label}
 use Rattle.labels.specs.Labelled.{passing, anyBelow, isLabelled, labelledPlaces, labelCount, Attaching, SameLabels}
@@ -51,11 +51,6 @@ module _ (sheet : List ℕ) (k : ℕ) where
   pub used-there : UsedAt sheet k → usedOn sheet k ≡ true
   unfolding usedOn
   used-there u = any-hit (λ q. names k (labelOf (getD sheet q 0))) 16384 (u .place) (u .below) (names-it k (labelOf (getD sheet (u .place) 0)) (u .holds))
-
-  pub used-cell : (c : Cell) → labelAt sheet c ≡ Label.Corner k → usedOn sheet k ≡ true
-  used-cell c e =
-      let on = labelled-on sheet c k e in
-      used-there (record { place = placeOf c; below = place-in c on; holds = sym (label-on sheet c on) ∙ e })
 
   pub unused : usedOn sheet k ≡ false → UsedAt sheet k → ⊥
   unused e u = no-both (usedOn sheet k) (used-there u) e
@@ -146,9 +141,6 @@ one-attached {sheet} {c} {k} a free o = record { one-place = λ p q j g h x y. g
     go p q j g h x y (no d) (yes e) = absurd (clash q p j e d g y x)
     go p q j g h x y (no d) (no e) = o .one-place p q j g h (ap labelOf (sym (word-else a p d)) ∙ x) (ap labelOf (sym (word-else a q e)) ∙ y)
 
-pub one-empty : OneCell emptySheet
-one-empty = record { one-place = λ p q k g h a b. absurd (unused emptySheet k (used-empty k) (record { place = p; below = g; holds = a })) }
-
 -- ---- the marks
 
 module _ (sheet : List ℕ) (c : Cell) (long : 16384 ≤ length sheet) (on : OnSheet c) where
@@ -160,12 +152,6 @@ module _ (sheet : List ℕ) (c : Cell) (long : 16384 ≤ length sheet) (on : OnS
 
   pub tied-cleared : {used : List ℕ} → Tied sheet used → Tied (marksCleared sheet c) used
   tied-cleared t = tied-same (cleared-keeps sheet c long on) t
-
-  pub one-hole : OneCell sheet → OneCell (holeMarked sheet c)
-  one-hole o = one-same (hole-keeps sheet c long on) o
-
-  pub one-ambiguous : OneCell sheet → OneCell (ambiguousMarked sheet c)
-  one-ambiguous o = one-same (ambiguous-keeps sheet c long on) o
 
   pub one-cleared : OneCell sheet → OneCell (marksCleared sheet c)
   one-cleared o = one-same (cleared-keeps sheet c long on) o

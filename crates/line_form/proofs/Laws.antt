@@ -3,7 +3,7 @@
 use mathlib.Core.Path.{_≡_, refl, sym, ap, _∙_, subst}
 use mathlib.Core.Bool.{Bool, true, false, _||_, cond}
 use mathlib.Core.List.{List, [], _∷_, _++_}
-use Prim.Native.Nat.{ℕ, suc, _+_, _-_, _*_, _/_, _%_, _≤_, _<_, min}
+use Prim.Native.Nat.{ℕ, suc, _+_, _-_, _*_, _/_, _%_, _≤_, _<_}
 use native.Mathlib.Omega.{arith}
 use borrow.Author.Tests.{lt-leb, le-leb, lt-ltb, le-ltb, ltb-true, ltb-false, eq-eqb, eqb-true}
 use lib.Dec.{ltb, eqb}
@@ -17,7 +17,6 @@ use Rattle.binary32.proofs.Digits.{digits-length, bits-read-written, bits-writt
 use Rattle.line_form.specs.Integers.{decimal, integerText, Front, broken, front, isDigit, readInteger}
 use Rattle.line_form.specs.Forms.{Number, bits, whole, numberText, isSlot, firstText, printed, no-piece, same, bitsPiece, wholePiece, bytePiece, pieceOf, Fitted, misfit, fitted, before, then, fitOf, Suits, none-left, a-float, an-integer, a-byte, endsFirst, apart, ReadsBack, PrintsBack}
 use Rattle.line_form.specs.Lengths.{slots, Short}
-use Rattle.line_form.specs.Held.{heldWhole}
 use Rattle.line_form.specs.Written.{unheldWhole}
 use Rattle.line_form.proofs.Decimal as integers
 use Rattle.line_form.proofs.Decimal.{Ended, integer-read, integer-told}
@@ -224,15 +223,3 @@ unheld-above n = let e : 1000000 + n - 1000000 ≡ n = omega arith in rw (le-ltb
 pub unheld-below : (n : ℕ) → n < 1000000 → unheldWhole (1000000 - suc n) ≡ negsuc n
 unfolding unheldWhole
 unheld-below n h = let e : 1000000 - (1000000 - suc n) ≡ suc n = omega arith in rw (lt-ltb (1000000 - suc n) 1000000 (omega arith), e)
-
--- an integer of no more than 1,000,000 either way comes back from its word
-pub unheld-held : (z : ℤ) → natAbs z ≤ 1000000 → unheldWhole (heldWhole z) ≡ z
-unfolding heldWhole
-unheld-held (pos n) h = let e : min 1000000 n ≡ n = omega arith in rw (e, unheld-above n)
-unheld-held (negsuc n) h = unheld-below n h
-
--- and so does the integer of a word that is not at either end
-pub held-exact : (z : ℤ) → 0 < heldWhole z → heldWhole z < 2000000 → z ≡ unheldWhole (heldWhole z)
-unfolding heldWhole
-held-exact (pos n) h k = let e : min 1000000 n ≡ n = omega arith in rw e (sym (unheld-above n))
-held-exact (negsuc n) h k = sym (unheld-below n (omega arith))

@@ -1,7 +1,7 @@
 -- The words that say what is known of a cell: read, written and forgotten. Assumes nothing.
 use mathlib.Core.Path.{_≡_, refl, sym, ap, ap₂, _∙_}
 use mathlib.Core.List.{List}
-use mathlib.Core.Bool.{Bool, true, false, not, _&&_, cond}
+use mathlib.Core.Bool.{Bool, true, false, _&&_, cond}
 use Prim.Native.Nat.{ℕ, zero, suc, _+_, _*_, _/_, _%_, _<_, _≤_}
 use native.Mathlib.Decide.{ℕ-discrete}
 use native.Mathlib.Omega.{arith}
@@ -63,14 +63,6 @@ pub entry-is : (memory : List ℕ) (predictions : List Float) {place q : ℕ} {a
 entry-is memory predictions e f g h = h ∙ rw (f, g, e)
 
 -- ---- a word written
-
-pub word-below : (known : Known) → Notable known → knownWord known < 65536
-unfolding knownWord reachIn
-word-below Known.Nothing h = omega arith
-word-below (Known.Idle r) h = omega arith
-word-below (Known.NoCandidates r) h = omega arith
-word-below (Known.Predicted r at) h = omega arith
-word-below (Known.Ambiguous r at limit) h = omega arith
 
 -- by what is known
 module _ {known : Known} where

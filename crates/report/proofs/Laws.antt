@@ -8,9 +8,8 @@ use borrow.Author.Tests.{lt-ltb, le-ltb}
 use lib.ListN.{length}
 use Rattle.passes.specs.Run.{PassStats}
 use Rattle.report_line.specs.Result.{passLine, passLines, cellLine, holeLine, ambiguousLine, linesFrom, allPlaces, heading, resultText, passLineAt, sheetLine, afterHeading, resultLine, lineCount, resultFrom, Piece, resultPiece}
-use Rattle.report.specs.WriteResult.{TextLent, wild, pieceIn}
+use Rattle.report.specs.WriteResult.{TextLent, wild}
 use Rattle.report_words.specs.Outcomes.{statsIn}
-use Rattle.report_words.proofs.Outcomes.{stats-length}
 use Rattle.report.proofs.Short as short
 use Rattle.report.proofs.Joining.{one-line-more, lines-split, lines-same, Cut, cut, moves, fits}
 
@@ -104,9 +103,6 @@ module _ (stats : List PassStats) (sheet : List ℕ) where
     pub piece-stops : k ≤ lineCount (length stats) → resultPiece stats sheet k room .next ≤ lineCount (length stats)
     piece-stops h = let high = of .upto in omega arith
 
-    pub piece-starts : k ≤ resultPiece stats sheet k room .next
-    piece-starts = of .from
-
     -- and no longer than the room, if no line is longer than 127 bytes
     pub piece-fits : ((i : ℕ) → i < lineCount (length stats) → length (resultLine stats sheet i) ≤ 127) → length (resultPiece stats sheet k room .text) ≤ room
     unfolding resultPiece
@@ -118,8 +114,3 @@ module _ (l : TextLent) (tame : wild l ≡ false) where
   -- "No line is longer than 127 bytes"
   pub line-short : (k : ℕ) → k < lineCount (l .passes) → length (resultLine (statsIn (l .passes) (l .words)) (l .sheet) k) ≤ 127
   line-short k h = short.line-short l tame k h
-
-  pub piece-in-room : (k room : ℕ) → length (pieceIn l k room .text) ≤ room
-  piece-in-room k room =
-      piece-fits (statsIn (l .passes) (l .words)) (l .sheet) k room
-      (λ i h. line-short i (rw (stats-length (l .words) 0 (l .passes)) at h))

@@ -9,10 +9,10 @@ use borrow.Author.Tests.{lt-ltb}
 use lib.ListN.{length, getD}
 use lib.Ieee.{Float, nan}
 use Rattle.sheet.specs.Cells.{OnSheet, placeOf}
-use Rattle.sheet.specs.Words.{Content, labelOfNumber, labelOf, labelAt, attached, marksCleared, emptySheet}
+use Rattle.sheet.specs.Words.{Content, labelOf, labelAt, attached, marksCleared}
 use Rattle.sheet.specs.Corners.{CornerLists, cornerOf, cornerIn, seenThrough, seenOf, Given}
 use Rattle.sheet.proofs.Laws.{place-in}
-use Rattle.sheet.proofs.Words.{label-on, labelled-on, Changed, attached-changes, cleared-changes, empty-length, empty-word, no-corner}
+use Rattle.sheet.proofs.Words.{label-on, labelled-on, Changed, attached-changes, cleared-changes}
 use Rattle.sheet.specs.declared.Cell.{Cell}
 use Rattle.sheet.specs.declared.Label.{Label}
 use Rattle.sheet.specs.declared.Corner.{Corner}
@@ -68,8 +68,3 @@ module _ {n : ℕ} {sheet : List ℕ} (given : Given n sheet) where
 -- with more corners
 pub given-more : {n m : ℕ} {sheet : List ℕ} → n ≤ m → Given n sheet → Given m sheet
 given-more h given = record { long = given .long; known = λ p k l e. let b = given .known p k l e in omega (arith, b, h) }
-
--- the empty sheet names no corner
-pub given-empty : (n : ℕ) → Given n emptySheet
-unfolding labelOf labelOfNumber
-given-empty n = record { long = omega (arith, empty-length); known = λ p k m e. absurd (no-corner k (sym (ap labelOf (empty-word p)) ∙ e)) }

@@ -4,16 +4,15 @@ use mathlib.Core.Path.{_≡_, refl, sym, ap, ap₂, _∙_}
 use mathlib.Core.Bool.{Bool, true, false, not, _&&_, _||_, true≢false}
 use Prim.Native.Nat.{ℕ, zero, suc, _+_, _-_, _*_, _/_, _%_, _<_, _≤_}
 use native.Mathlib.Omega.{arith}
-use lib.IntN.{ℤ, pos, negsuc, negℤ, _+ℤ_, _-ℤ_, natAbs, subℕ, +ℤ-comm, +ℤ-negℤ-cancel, -ℤ-+ℤ-cancel}
+use lib.IntN.{ℤ, pos, negsuc, negℤ, _+ℤ_, _-ℤ_, natAbs, subℕ}
 use lib.Signed.{leZ, ltZ}
 use lib.Dec.{T, leb, ltb, eqb, leb→le, le→leb}
 use borrow.Author.Tests.{le-ltb, lt-ltb, ltb-true, ltb-false, le-leb, lt-leb, eq-eqb, ne-eqb, eqb-true, eqb-false}
 use mir.Syntax.{w32}
 use mir.Val.{SFits, toZ, ofZ}
 use mir.Facts.{and-yes, yes-and, toZ-ofZ}
-use Rattle.sheet.specs.Cells.{inRange, onSheet, OnSheet, lineOf, placeOf, cellOf, moved, differenceOf, eqZ, earlier, Within, NearSheet}
+use Rattle.sheet.specs.Cells.{inRange, onSheet, OnSheet, lineOf, placeOf, cellOf, differenceOf, eqZ, earlier, Within, NearSheet}
 use Rattle.sheet.specs.declared.Cell.{Cell}
-use Rattle.sheet.specs.declared.Offset.{Offset}
 
 -- ---- a - b of two naturals, by which is larger
 
@@ -149,19 +148,6 @@ on-near c h = let a = line-i c h in let b = line-j c h in record { i-near = omeg
 -- two near cells differ by at most 400 each way
 pub difference-within : (a b : Cell) → NearSheet a → NearSheet b → Within 1000 (differenceOf a b)
 difference-within a b g h = record { di-small = omega (arith, abs-sub (a .i) (b .i)); dj-small = omega (arith, abs-sub (a .j) (b .j)) }
-
--- moving by a difference, and the difference of a move
-pub moved-difference : (c d : Cell) → moved c (differenceOf d c) ≡ d
-moved-difference c d = λ t. record { i = back (c .i) (d .i) t; j = back (c .j) (d .j) t }
-  where
-    back : (x y : ℤ) → x +ℤ (y -ℤ x) ≡ y
-    back x y = +ℤ-comm x (y -ℤ x) ∙ -ℤ-+ℤ-cancel y x
-
-pub difference-moved : (c : Cell) (o : Offset) → differenceOf (moved c o) c ≡ o
-difference-moved c o = λ t. record { di = back (c .i) (o .di) t; dj = back (c .j) (o .dj) t }
-  where
-    back : (x y : ℤ) → x +ℤ y -ℤ x ≡ y
-    back x y = ap (λ (z : ℤ). z -ℤ x) (+ℤ-comm x y) ∙ +ℤ-negℤ-cancel y x
 
 -- a place is below 16384
 pub place-in : (c : Cell) → OnSheet c → placeOf c < 16384
