@@ -5,9 +5,9 @@ use mathlib.Core.Bool.{Bool, true, false, _||_, cond}
 use mathlib.Core.List.{List, [], _∷_, _++_}
 use Prim.Native.Nat.{ℕ, suc, _+_, _-_, _*_, _/_, _%_, _≤_, _<_}
 use native.Mathlib.Omega.{arith}
-use borrow.Author.Tests.{lt-leb, le-leb, lt-ltb, le-ltb, ltb-true, ltb-false, eq-eqb, eqb-true}
+use borrow.Author.Tests.{lt-leb, le-leb, ltb-true, ltb-false, eq-eqb, eqb-true}
 use lib.Dec.{ltb, eqb}
-use lib.IntN.{ℤ, pos, negsuc, natAbs}
+use lib.IntN.{ℤ, natAbs}
 use lib.ListN.{length, drop, length-append}
 use lib.Seq.{drop-at}
 use Rattle.binary32.specs.Hex.{hexText, readBits}
@@ -17,7 +17,6 @@ use Rattle.binary32.proofs.Digits.{digits-length, bits-read-written, bits-writt
 use Rattle.line_form.specs.Integers.{decimal, integerText, Front, broken, front, isDigit, readInteger}
 use Rattle.line_form.specs.Forms.{Number, bits, whole, numberText, isSlot, firstText, printed, no-piece, same, bitsPiece, wholePiece, bytePiece, pieceOf, Fitted, misfit, fitted, before, then, fitOf, Suits, none-left, a-float, an-integer, a-byte, endsFirst, apart, ReadsBack, PrintsBack}
 use Rattle.line_form.specs.Lengths.{slots, Short}
-use Rattle.line_form.specs.Written.{unheldWhole}
 use Rattle.line_form.proofs.Decimal as integers
 use Rattle.line_form.proofs.Decimal.{Ended, integer-read, integer-told}
 
@@ -213,13 +212,3 @@ printed-length (c ∷ form) ns h = go (isSlot c) (printed-length form ns h) (pri
         → length (cond s (firstText ns) (c ∷ []) ++ printed form (cond s (drop 1 ns) ns)) ≤ suc (length form) + 7 * (cond s 1 0 + slots form)
     go true p q = let l = number-length ns h in simp length-append (omega arith)
     go false p q = omega arith
-
--- ---- words that hold integers
-
-pub unheld-above : (n : ℕ) → unheldWhole (1000000 + n) ≡ pos n
-unfolding unheldWhole
-unheld-above n = let e : 1000000 + n - 1000000 ≡ n = omega arith in rw (le-ltb (1000000 + n) 1000000 (omega arith), e)
-
-pub unheld-below : (n : ℕ) → n < 1000000 → unheldWhole (1000000 - suc n) ≡ negsuc n
-unfolding unheldWhole
-unheld-below n h = let e : 1000000 - (1000000 - suc n) ≡ suc n = omega arith in rw (lt-ltb (1000000 - suc n) 1000000 (omega arith), e)
