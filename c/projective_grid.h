@@ -1,7 +1,7 @@
 /* The proved grid recovery for C: the three passes, the reader of a frame and the text of a result.
  *
  * The functions are those of the crate grid_export; `rt staticlib grid_export` proves them and writes
- * target/staticlib/libgrid_export.a, which links on x86-64. "01" is the specification.
+ * target/staticlib/libgrid_export.a, which links on x86-64. "01" is the specification, "02" the list of requests.
  *
  * WHAT HOLDS OF EVERY FUNCTION
  *
@@ -16,7 +16,7 @@
  * - The buffers of one call must not overlap one another.
  * - A start must not be null and must be aligned for its type, even where the length is 0.
  * - No other thread may write to a buffer during a call, or read one that the call may write to.
- * - Stack: local needs some 240 KB of it, the reader some 60 KB, the others less; a thread of 300 KB is enough for all.
+ * - Stack: a pass needs some 260 KB of it, whichever it is, the others less; a thread of 300 KB is enough for all.
  *
  * A buffer may be longer than needed.
  */
@@ -36,10 +36,10 @@ enum projective_grid_answer {
     PROJECTIVE_GRID_DONE = 0,
     PROJECTIVE_GRID_MALFORMED = 1,        /* bent: line missing, out of order or ill-formed */
     PROJECTIVE_GRID_OVER_LIMIT = 2,       /* overfull: a limit on bytes, corners or passes passed */
-    PROJECTIVE_GRID_OUT_OF_RANGE = 3,     /* wild: number non-finite or out of range */
+    PROJECTIVE_GRID_OUT_OF_RANGE = 3,     /* wild: number non-finite or out of range; shade byte above 2 */
     PROJECTIVE_GRID_OFF_SHEET = 4,        /* off sheet: label's cell outside */
-    PROJECTIVE_GRID_UNKNOWN_CORNER = 5,   /* stranger: label's corner not given */
-    PROJECTIVE_GRID_DUPLICATE = 6,        /* doubled: cell or corner labelled twice */
+    PROJECTIVE_GRID_UNKNOWN_CORNER = 5,   /* stranger: label's or shade's corner not given */
+    PROJECTIVE_GRID_DUPLICATE = 6,        /* doubled: cell or corner labelled twice, corner shaded twice */
     PROJECTIVE_GRID_BUFFER_TOO_SHORT = 7  /* short: lent buffer too short */
 };
 
@@ -53,7 +53,7 @@ enum {
     PROJECTIVE_GRID_QUEUE_PER_CORNER = 4,
     PROJECTIVE_GRID_ATTACHED_PER_CORNER = 1,
     PROJECTIVE_GRID_PASS_WORDS = 6,
-    PROJECTIVE_GRID_OUTCOME_WORDS = 9,
+    PROJECTIVE_GRID_OUTCOME_WORDS = 11,
     PROJECTIVE_GRID_SETTINGS = 6,
     PROJECTIVE_GRID_READ_OUT = 2,
     PROJECTIVE_GRID_WRITE_OUT = 1,
@@ -72,6 +72,16 @@ enum {
 #define PROJECTIVE_GRID_HOLE 0x4000
 #define PROJECTIVE_GRID_AMBIGUOUS 0x8000
 
+/* THE SHADES: a byte for each corner, whether it has a kind and which (02, 1/14). Where one of the first n is not 0, the
+ * cell (i, j) takes only corners of kind 0 if i + j is even and of kind 1 if it is odd, and a corner without a shade is
+ * never a candidate. Labels that stand on the sheet are not tested. A byte above 2 among the first n is refused with 3;
+ * bytes behind them are not looked at. Where no corner has a kind, lend n zeros. */
+enum projective_grid_shade {
+    PROJECTIVE_GRID_NO_SHADE = 0,
+    PROJECTIVE_GRID_KIND_0 = 1,
+    PROJECTIVE_GRID_KIND_1 = 2
+};
+
 /* A PASS OF A FRAME: six words. Floats are the bits of a float. */
 enum projective_grid_pass {
     PROJECTIVE_GRID_PASS_KIND = 0,    /* a kind, see below */
@@ -84,8 +94,8 @@ enum projective_grid_pass {
 
 enum projective_grid_kind { PROJECTIVE_GRID_GROW = 0, PROJECTIVE_GRID_FILL = 1, PROJECTIVE_GRID_LOCAL = 2 };
 
-/* THE OUTCOME OF A PASS: nine words; 0 for what the pass does not have. A pass writes them, and the writers read them:
- * lend pass k the words from 9 * k on, and the writers all of them. */
+/* THE OUTCOME OF A PASS: eleven words; 0 for what the pass does not have. A pass writes them, and the writers read them:
+ * lend pass k the words from 11 * k on, and the writers all of them. */
 enum projective_grid_outcome {
     PROJECTIVE_GRID_OUTCOME_KIND = 0,
     PROJECTIVE_GRID_OUTCOME_ATTACHED = 1,  /* fill: added. So many places of the attached list are new */
@@ -95,7 +105,9 @@ enum projective_grid_outcome {
     PROJECTIVE_GRID_OUTCOME_ROUNDS = 5,
     PROJECTIVE_GRID_OUTCOME_HAS_RESIDUAL = 6,  /* 1 if local recorded a residual, else 0 */
     PROJECTIVE_GRID_OUTCOME_RESIDUAL = 7,      /* the bits of the largest one */
-    PROJECTIVE_GRID_OUTCOME_RIM = 8            /* 1 for yes, 0 for no */
+    PROJECTIVE_GRID_OUTCOME_RIM = 8,           /* 1 for yes, 0 for no */
+    PROJECTIVE_GRID_OUTCOME_SHADED = 9,        /* 1 if local was lent a shade, else 0 */
+    PROJECTIVE_GRID_OUTCOME_UNMATCHED = 10     /* local, lent a shade: the corners passed over for it, at every gathering */
 };
 
 /* THE SETTINGS: six floats, as the reader writes them and in the order in which the passes take them. */
@@ -108,14 +120,15 @@ enum projective_grid_setting {
     PROJECTIVE_GRID_EDGE_LENGTH_TOL = 5  /* 01's band */
 };
 
-/* Grow. The corners are xs, ys and pitches; their number n is xs_len. Needed: n places each of ys, pitches and attached,
- * 4 * n of queue, 16,384 of sheet, 9 of out.
+/* Grow. The corners are xs, ys, pitches and shades; their number n is xs_len. Needed: n places each of ys, pitches, shades
+ * and attached, 4 * n of queue, 16,384 of sheet, 11 of out.
  * Done: the sheet holds what grow left there, the front of queue the places of the visited cells in order, the front of
- * attached those of the new cells in order, the front of out grow's nine words. */
+ * attached those of the new cells in order, the front of out grow's eleven words. */
 uint32_t projective_grid_extend_from_labelled(
     const float *xs, size_t xs_len,
     const float *ys, size_t ys_len,
     const float *pitches, size_t pitches_len,
+    const uint8_t *shades, size_t shades_len,
     uint16_t *sheet, size_t sheet_len,
     uint16_t *queue, size_t queue_len,
     uint16_t *attached, size_t attached_len,
@@ -128,6 +141,7 @@ uint32_t projective_grid_fill_grid_holes(
     const float *xs, size_t xs_len,
     const float *ys, size_t ys_len,
     const float *pitches, size_t pitches_len,
+    const uint8_t *shades, size_t shades_len,
     uint16_t *sheet, size_t sheet_len,
     uint16_t *attached, size_t attached_len,
     float cell_size, float axis_i_x, float axis_i_y, float axis_j_x, float axis_j_y, float edge_length_tol,
@@ -139,15 +153,17 @@ uint32_t projective_grid_extend_via_local_homography(
     const float *xs, size_t xs_len,
     const float *ys, size_t ys_len,
     const float *pitches, size_t pitches_len,
+    const uint8_t *shades, size_t shades_len,
     uint16_t *sheet, size_t sheet_len,
     uint16_t *attached, size_t attached_len,
     float cell_size, float axis_i_x, float axis_i_y, float axis_j_x, float axis_j_y, float edge_length_tol,
     float search_rel, float ambiguity_factor, uint32_t max_iters, float max_residual_rel, uint32_t extend_depth,
     uint32_t *out, size_t out_len);
 
-/* Reads a frame. Needed: 1,024 places each of xs, ys and pitches, 16,384 of sheet, 96 of passes, 6 of settings, 2 of out.
- * Done: the corners stand at the front of xs, ys and pitches, the sheet of the given labels in the first 16,384 places
- * of sheet, six words for each pass at the front of passes, the six settings at the front of settings, and in out the
+/* Reads a frame. Needed: 1,024 places each of xs, ys, pitches and shades, 16,384 of sheet, 96 of passes, 6 of settings, 2
+ * of out.
+ * Done: the corners stand at the front of xs, ys, pitches and shades, the sheet of the given labels in the first 16,384
+ * places of sheet, six words for each pass at the front of passes, the six settings at the front of settings, and in out the
  * number of corners and the number of passes.
  * Refused: the answer is the number plus 16 times the line of the frame; the line is 0 where there are too many bytes, and
  * for 7. PROJECTIVE_GRID_NUMBER and PROJECTIVE_GRID_LINE take it apart. */
@@ -159,15 +175,17 @@ uint32_t projective_grid_read_frame(
     float *xs, size_t xs_len,
     float *ys, size_t ys_len,
     float *pitches, size_t pitches_len,
+    uint8_t *shades, size_t shades_len,
     uint16_t *sheet, size_t sheet_len,
     uint32_t *passes, size_t passes_len,
     float *settings, size_t settings_len,
     uint32_t *out, size_t out_len);
 
-/* Writes the whole text of a result. Needed: 9 * passes words, 16,384 places of sheet, the text's length of text, 1 of out.
+/* Writes the whole text of a result. Needed: 11 * passes words, 16,384 places of sheet, the text's length of text, 1 of out.
  * Done: the text stands at the front of text, and out[0] is its length in bytes. No NUL is written behind it.
  * 3 is for words that no pass writes: a kind above 2, a count above 1,048,576, rounds above 64, a flag or a rim above 1,
- * a residual that is not finite. */
+ * a residual that is not finite; unmatched above 1,073,741,824, or not 0 without a shade; a shade of a pass that is not
+ * local. */
 uint32_t projective_grid_write_result(
     size_t corners, size_t passes,
     const uint32_t *words, size_t words_len,
@@ -178,7 +196,8 @@ uint32_t projective_grid_write_result(
 /* Writes a piece of it: whole lines from line `from` on, as long as 128 bytes are left before each. Needed: as above, but
  * 128 of text and 2 of out.
  * Done: the piece stands at the front of text, out[0] is its length in bytes and out[1] the next line. There are
- * passes + 49,153 lines, most of them empty; pieces from line 0 on until that number is reached, joined, are the text.
+ * passes + 49,153 lines, most of them empty; local's line and its unmatched line are one. Pieces from line 0 on until that
+ * number is reached, joined, are the text.
  * 3 also where `from` is above that number. */
 uint32_t projective_grid_write_result_piece(
     size_t corners, size_t passes,

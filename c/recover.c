@@ -8,6 +8,7 @@
 
 static uint8_t frame[PROJECTIVE_GRID_FRAME_BYTES + 1]; /* one more byte shows that there are too many */
 static float xs[PROJECTIVE_GRID_CORNERS], ys[PROJECTIVE_GRID_CORNERS], pitches[PROJECTIVE_GRID_CORNERS];
+static uint8_t shades[PROJECTIVE_GRID_CORNERS];
 static uint16_t sheet[PROJECTIVE_GRID_SHEET];
 static uint16_t queue[PROJECTIVE_GRID_QUEUE_PER_CORNER * PROJECTIVE_GRID_CORNERS], attached[PROJECTIVE_GRID_CORNERS];
 static uint32_t passes[PROJECTIVE_GRID_PASS_WORDS * PROJECTIVE_GRID_PASSES];
@@ -28,14 +29,14 @@ static uint32_t run_pass(const uint32_t *p, size_t n, uint32_t *out) {
     uint32_t rounds = p[PROJECTIVE_GRID_PASS_ROUNDS], depth = p[PROJECTIVE_GRID_PASS_DEPTH];
     if (p[PROJECTIVE_GRID_PASS_KIND] == PROJECTIVE_GRID_GROW)
         return projective_grid_extend_from_labelled(
-            xs, n, ys, n, pitches, n, sheet, PROJECTIVE_GRID_SHEET, queue, 4 * n, attached, n,
+            xs, n, ys, n, pitches, n, shades, n, sheet, PROJECTIVE_GRID_SHEET, queue, 4 * n, attached, n,
             s[0], s[1], s[2], s[3], s[4], s[5], search, factor, third, out, PROJECTIVE_GRID_OUTCOME_WORDS);
     if (p[PROJECTIVE_GRID_PASS_KIND] == PROJECTIVE_GRID_FILL)
         return projective_grid_fill_grid_holes(
-            xs, n, ys, n, pitches, n, sheet, PROJECTIVE_GRID_SHEET, attached, n,
+            xs, n, ys, n, pitches, n, shades, n, sheet, PROJECTIVE_GRID_SHEET, attached, n,
             s[0], s[1], s[2], s[3], s[4], s[5], search, factor, rounds, out, PROJECTIVE_GRID_OUTCOME_WORDS);
     return projective_grid_extend_via_local_homography(
-        xs, n, ys, n, pitches, n, sheet, PROJECTIVE_GRID_SHEET, attached, n,
+        xs, n, ys, n, pitches, n, shades, n, sheet, PROJECTIVE_GRID_SHEET, attached, n,
         s[0], s[1], s[2], s[3], s[4], s[5], search, factor, rounds, third, depth, out, PROJECTIVE_GRID_OUTCOME_WORDS);
 }
 
@@ -76,12 +77,12 @@ int main(int count, char **arguments) {
     uint32_t head[PROJECTIVE_GRID_READ_OUT];
     uint32_t answer = projective_grid_read_frame(
         frame, bytes, xs, PROJECTIVE_GRID_CORNERS, ys, PROJECTIVE_GRID_CORNERS, pitches, PROJECTIVE_GRID_CORNERS,
-        sheet, PROJECTIVE_GRID_SHEET, passes, PROJECTIVE_GRID_PASS_WORDS * PROJECTIVE_GRID_PASSES,
+        shades, PROJECTIVE_GRID_CORNERS, sheet, PROJECTIVE_GRID_SHEET, passes, PROJECTIVE_GRID_PASS_WORDS * PROJECTIVE_GRID_PASSES,
         s, PROJECTIVE_GRID_SETTINGS, head, PROJECTIVE_GRID_READ_OUT);
     if (answer != PROJECTIVE_GRID_DONE)
         return written(printf("(refused %u %u)\n", (unsigned)PROJECTIVE_GRID_NUMBER(answer), (unsigned)PROJECTIVE_GRID_LINE(answer)) > 0);
     for (size_t k = 0; k < head[1]; k++)
-        if (run_pass(passes + 6 * k, head[0], words + 9 * k) != PROJECTIVE_GRID_DONE)
+        if (run_pass(passes + PROJECTIVE_GRID_PASS_WORDS * k, head[0], words + PROJECTIVE_GRID_OUTCOME_WORDS * k) != PROJECTIVE_GRID_DONE)
             return failed("a pass was refused");
     return write_result(head[0], head[1]);
 }

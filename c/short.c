@@ -1,6 +1,7 @@
 /* Lends every exported function every buffer one place short, once each: the answer has to be 7, and no place of any
  * buffer may change. With exactly the places that are needed it has to be done, and with more the rest has to stay as it
- * was. Then values that are refused by 1 to 6: again no place may change.
+ * was: of what is lent as shades that is more than a byte may be, and must not be looked at. Then values that are refused
+ * by 1 to 6: again no place may change.
  * Argument: an accepted frame. */
 #include <math.h>
 #include <stdio.h>
@@ -10,12 +11,13 @@
 #include "projective_grid.h"
 
 enum { MORE = 3, CORNERS = PROJECTIVE_GRID_CORNERS + 1 + MORE, TEXT = PROJECTIVE_GRID_LONGEST_TEXT };
+enum { WORDS = PROJECTIVE_GRID_OUTCOME_WORDS, UNTOUCHED = 0xa5 };
 
 static uint8_t frame[PROJECTIVE_GRID_FRAME_BYTES + 1 + MORE];
 static float xs[CORNERS], ys[CORNERS], pitches[CORNERS], settings[PROJECTIVE_GRID_SETTINGS + MORE];
 static uint16_t sheet[PROJECTIVE_GRID_SHEET + MORE], queue[4 * CORNERS], attached[CORNERS];
-static uint32_t passes[96 + MORE], words[144 + MORE], out[9 + MORE];
-static uint8_t text[TEXT + MORE];
+static uint32_t passes[96 + MORE], words[16 * WORDS + MORE], out[WORDS + MORE];
+static uint8_t shades[CORNERS], text[TEXT + MORE];
 
 /* A buffer as it is lent: where, its places and their size, how many of them are needed, and how it was before the call. */
 struct lent {
@@ -61,23 +63,23 @@ static uint32_t rounds, depth;
 #define SETTINGS cell_size, settings[1], settings[2], settings[3], settings[4], band
 
 static uint32_t call_grow(const size_t *n) {
-    return projective_grid_extend_from_labelled(xs, n[0], ys, n[1], pitches, n[2], sheet, n[3], queue, n[4], attached, n[5],
-                                                SETTINGS, search, factor, boundary, out, n[6]);
+    return projective_grid_extend_from_labelled(xs, n[0], ys, n[1], pitches, n[2], shades, n[3], sheet, n[4], queue, n[5],
+                                                attached, n[6], SETTINGS, search, factor, boundary, out, n[7]);
 }
 
 static uint32_t call_fill(const size_t *n) {
-    return projective_grid_fill_grid_holes(xs, n[0], ys, n[1], pitches, n[2], sheet, n[3], attached, n[4],
-                                           SETTINGS, search, factor, rounds, out, n[5]);
+    return projective_grid_fill_grid_holes(xs, n[0], ys, n[1], pitches, n[2], shades, n[3], sheet, n[4], attached, n[5],
+                                           SETTINGS, search, factor, rounds, out, n[6]);
 }
 
 static uint32_t call_local(const size_t *n) {
-    return projective_grid_extend_via_local_homography(xs, n[0], ys, n[1], pitches, n[2], sheet, n[3], attached, n[4],
-                                                       SETTINGS, search, factor, rounds, residual, depth, out, n[5]);
+    return projective_grid_extend_via_local_homography(xs, n[0], ys, n[1], pitches, n[2], shades, n[3], sheet, n[4], attached, n[5],
+                                                       SETTINGS, search, factor, rounds, residual, depth, out, n[6]);
 }
 
 static uint32_t call_read(const size_t *n) {
-    return projective_grid_read_frame(frame, n[0], xs, n[1], ys, n[2], pitches, n[3], sheet, n[4], passes, n[5],
-                                      settings, n[6], out, n[7]);
+    return projective_grid_read_frame(frame, n[0], xs, n[1], ys, n[2], pitches, n[3], shades, n[4], sheet, n[5], passes, n[6],
+                                      settings, n[7], out, n[8]);
 }
 
 static uint32_t call_write(const size_t *n) {
@@ -94,12 +96,12 @@ struct call {
     const char *name;
     uint32_t (*run)(const size_t *);
     size_t count;
-    struct lent b[8];
+    struct lent b[9];
 };
 
 /* Runs it with these lengths; all buffers are as they were before, and `keep` holds how they were. */
 static uint32_t run(struct call *c, size_t shorter, size_t more) {
-    size_t n[8];
+    size_t n[9];
     for (size_t k = 0; k < c->count; k++)
         n[k] = c->b[k].needed - (k == shorter) + (c->b[k].fixes_none ? 0 : more);
     keep(c->b, c->count);
@@ -158,6 +160,20 @@ static void floats(struct call *c) {
     }
 }
 
+/* 3: a shade byte that is none, on the first corner and on the last; tried before the labels. */
+static void bytes(struct call *c) {
+    uint16_t first = sheet[0];
+    for (size_t k = 0; k < corners; k += corners > 1 ? corners - 1 : 1) {
+        uint8_t right = shades[k];
+        shades[k] = k % 2 ? 3 : 255;
+        refused(c, PROJECTIVE_GRID_OUT_OF_RANGE, "a shade above 2");
+        sheet[0] = (uint16_t)(corners + 1);
+        refused(c, PROJECTIVE_GRID_OUT_OF_RANGE, "a shade above 2, and a stranger");
+        sheet[0] = first;
+        shades[k] = right;
+    }
+}
+
 /* 2: 1,025 corners, with room for them. */
 static void too_many(struct call *c) {
     struct call many = *c;
@@ -170,6 +186,7 @@ static void too_many(struct call *c) {
 static void pass(struct call *c) {
     too_many(c);
     floats(c);
+    bytes(c);
     labels(c);
     lengths(c);
 }
@@ -195,20 +212,46 @@ static void reader(struct call *c) {
     read_refused(c, "(frame 1)\n(cell 41200000)\n", 26, PROJECTIVE_GRID_MALFORMED, 3);
     read_refused(c, "(frame 1)\n(cell 7f800000)\n", 26, PROJECTIVE_GRID_OUT_OF_RANGE, 2);
     read_refused(c, long_text, PROJECTIVE_GRID_FRAME_BYTES + 1, PROJECTIVE_GRID_OVER_LIMIT, 0);
+    static const struct { const char *lines; uint32_t number, line; } shaded[] = {
+        {"(shade 0 2)\n", PROJECTIVE_GRID_MALFORMED, 6},
+        {"(shade 1 2)\n", PROJECTIVE_GRID_MALFORMED, 6},
+        {"(shade 1 0)\n", PROJECTIVE_GRID_UNKNOWN_CORNER, 6},
+        {"(shade 0 1)\n(shade 0 1)\n", PROJECTIVE_GRID_DUPLICATE, 7},
+        {"(grow)\n(shade 0 1)\n", PROJECTIVE_GRID_MALFORMED, 7},
+    };
+    for (size_t k = 0; k < sizeof shaded / sizeof shaded[0]; k++) {
+        char lines[256];
+        int length = snprintf(lines, sizeof lines, "(frame 1)\n(cell 41200000)\n(axes (3f800000 00000000) (00000000 3f800000))\n"
+                              "(band 3e800000)\n(corner (41200000 41200000) 00000000)\n%s", shaded[k].lines);
+        read_refused(c, lines, (size_t)length, shaded[k].number, shaded[k].line);
+    }
     lengths(c);
+    for (size_t k = 0; k < sizeof shades; k++)
+        check(k < out[0] ? shades[k] <= PROJECTIVE_GRID_KIND_1 : shades[k] == UNTOUCHED, c->name,
+              "a shade that is none, or one behind the last corner's", "shades");
 }
 
 /* 2, 3, 5 and 6 of a writer, with room for a longer text than the right one. */
 static void writer(struct call *c) {
     struct call roomy = *c;
     roomy.b[2].needed = TEXT;
-    uint32_t wild[][2] = {{0, 3}, {1, 1048577}, {5, 65}, {6, 2}, {8, 2}};
+    /* of grow, which has no shade, and of local, the third */
+    uint32_t *local = words + 2 * WORDS;
+    uint32_t wild[][2] = {{0, 3}, {1, 1048577}, {5, 65}, {6, 2}, {8, 2}, {9, 1}, {9, 2}, {10, 1}, {2 * WORDS + 9, 2},
+                          {2 * WORDS + 10, local[9] ? 1073741825 : 1}};
     for (size_t k = 0; k < sizeof wild / sizeof wild[0]; k++) {
         uint32_t right = words[wild[k][0]];
         words[wild[k][0]] = wild[k][1];
         refused(&roomy, PROJECTIVE_GRID_OUT_OF_RANGE, "wild");
         words[wild[k][0]] = right;
     }
+    uint32_t shaded[2] = {local[9], local[10]};
+    local[9] = 0, local[10] = 1;
+    refused(&roomy, PROJECTIVE_GRID_OUT_OF_RANGE, "unmatched without a shade");
+    local[9] = 1, local[10] = 1073741824;
+    check(run(&roomy, roomy.count, 0) == PROJECTIVE_GRID_DONE, roomy.name, "the largest unmatched is not written", "words");
+    restore(roomy.b, roomy.count);
+    local[9] = shaded[0], local[10] = shaded[1];
     labels(&roomy);
     size_t right = corners;
     corners = PROJECTIVE_GRID_CORNERS + 1;
@@ -225,7 +268,7 @@ static void joined(size_t bytes) {
         size_t at = 0, line = 0;
         while (line < pass_count + 49153) {
             uint32_t end[2];
-            uint32_t answer = projective_grid_write_result_piece(corners, pass_count, words, 9 * pass_count, sheet,
+            uint32_t answer = projective_grid_write_result_piece(corners, pass_count, words, WORDS * pass_count, sheet,
                                                                  PROJECTIVE_GRID_SHEET, line, text, room, end, 2);
             if (answer || end[1] <= line || at + end[0] > bytes || memcmp(whole + at, text, end[0])) {
                 check(0, "write_result_piece", "the pieces, joined, are not the text", "text");
@@ -250,13 +293,13 @@ int main(int count, char **arguments) {
     if (!file)
         return fprintf(stderr, "short: it takes one frame file\n"), 2;
     frame_bytes = fread(frame, 1, PROJECTIVE_GRID_FRAME_BYTES, file);
-    memset(out, 0xa5, sizeof out), memset(text, 0xa5, sizeof text), memset(words, 0xa5, sizeof words);
-    memset(queue, 0xa5, sizeof queue), memset(attached, 0xa5, sizeof attached), memset(passes, 0xa5, sizeof passes);
-    memset(sheet, 0xa5, sizeof sheet), memset(xs, 0xa5, sizeof xs), memset(ys, 0xa5, sizeof ys);
-    memset(pitches, 0xa5, sizeof pitches), memset(settings, 0xa5, sizeof settings);
+    memset(out, UNTOUCHED, sizeof out), memset(text, UNTOUCHED, sizeof text), memset(words, UNTOUCHED, sizeof words);
+    memset(queue, UNTOUCHED, sizeof queue), memset(attached, UNTOUCHED, sizeof attached), memset(passes, UNTOUCHED, sizeof passes);
+    memset(sheet, UNTOUCHED, sizeof sheet), memset(xs, UNTOUCHED, sizeof xs), memset(ys, UNTOUCHED, sizeof ys);
+    memset(pitches, UNTOUCHED, sizeof pitches), memset(shades, UNTOUCHED, sizeof shades), memset(settings, UNTOUCHED, sizeof settings);
 
-    struct call reading = {"read_frame", call_read, 8,
-                           {GIVEN(frame, frame_bytes), LENT(xs, 1024), LENT(ys, 1024), LENT(pitches, 1024),
+    struct call reading = {"read_frame", call_read, 9,
+                           {GIVEN(frame, frame_bytes), LENT(xs, 1024), LENT(ys, 1024), LENT(pitches, 1024), LENT(shades, 1024),
                             LENT(sheet, 16384), LENT(passes, 96), LENT(settings, 6), LENT(out, 2)}};
     made(&reading);
     reader(&reading);
@@ -266,27 +309,27 @@ int main(int count, char **arguments) {
     if (!corners || corners > 1024 || failures)
         return printf("short: the frame was not read, or has no corner\n"), 1;
 
-    struct call growing = {"extend_from_labelled", call_grow, 7,
-                           {GIVEN(xs, corners), LENT(ys, corners), LENT(pitches, corners), LENT(sheet, 16384),
-                            LENT(queue, 4 * corners), LENT(attached, corners), LENT(out, 9)}};
-    struct call filling = {"fill_grid_holes", call_fill, 6,
-                           {GIVEN(xs, corners), LENT(ys, corners), LENT(pitches, corners), LENT(sheet, 16384),
-                            LENT(attached, corners), LENT(out, 9)}};
-    struct call mapping = {"extend_via_local_homography", call_local, 6,
-                           {GIVEN(xs, corners), LENT(ys, corners), LENT(pitches, corners), LENT(sheet, 16384),
-                            LENT(attached, corners), LENT(out, 9)}};
+    struct call growing = {"extend_from_labelled", call_grow, 8,
+                           {GIVEN(xs, corners), LENT(ys, corners), LENT(pitches, corners), LENT(shades, corners),
+                            LENT(sheet, 16384), LENT(queue, 4 * corners), LENT(attached, corners), LENT(out, WORDS)}};
+    struct call filling = {"fill_grid_holes", call_fill, 7,
+                           {GIVEN(xs, corners), LENT(ys, corners), LENT(pitches, corners), LENT(shades, corners),
+                            LENT(sheet, 16384), LENT(attached, corners), LENT(out, WORDS)}};
+    struct call mapping = {"extend_via_local_homography", call_local, 7,
+                           {GIVEN(xs, corners), LENT(ys, corners), LENT(pitches, corners), LENT(shades, corners),
+                            LENT(sheet, 16384), LENT(attached, corners), LENT(out, WORDS)}};
     struct call *all[] = {&growing, &filling, &mapping};
     for (size_t k = 0; k < 3; k++) {
         made(all[k]);
         pass(all[k]);
-        memcpy(words + 9 * k, out, 9 * sizeof out[0]);
+        memcpy(words + WORDS * k, out, WORDS * sizeof out[0]);
     }
 
     pass_count = 3;
     struct call cutting = {"write_result_piece", call_piece, 4,
-                           {LENT(words, 27), LENT(sheet, 16384), LENT(text, 128), LENT(out, 2)}};
+                           {LENT(words, 3 * WORDS), LENT(sheet, 16384), LENT(text, 128), LENT(out, 2)}};
     struct call writing = {"write_result", call_write, 4,
-                           {LENT(words, 27), LENT(sheet, 16384), LENT(text, TEXT), LENT(out, 1)}};
+                           {LENT(words, 3 * WORDS), LENT(sheet, 16384), LENT(text, TEXT), LENT(out, 1)}};
     made(&writing), made(&cutting);
     if (run(&writing, writing.count, 0) != PROJECTIVE_GRID_DONE)
         return printf("short: the result is not written\n"), 1;

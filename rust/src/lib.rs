@@ -8,7 +8,7 @@
 //! use projective_grid_verified::{Cell, Corner, CornerNumber, GrowParams, Recovery, Settings};
 //!
 //! let settings = Settings { cell_size: 10.0, axis_i: [1.0, 0.0], axis_j: [0.0, 1.0], edge_length_tol: 0.25 };
-//! let corners = [10.0, 20.0, 30.0].map(|x| Corner { x, y: 10.0, pitch: 0.0 });
+//! let corners = [10.0, 20.0, 30.0].map(|x| Corner { x, y: 10.0, pitch: 0.0, shade: None });
 //! let labels = [0, 1].map(|k| (CornerNumber::new(k).unwrap(), Cell::new(k as i8, 0).unwrap()));
 //! let mut recovery = Recovery::new(settings, &corners, &labels)?;
 //! let grown = recovery.grow(GrowParams::default())?;
@@ -29,7 +29,7 @@ mod refusal;
 mod sheet;
 
 pub use frame::{Frame, Outcome};
-pub use recovery::{Corner, FillOutcome, FillParams, GrowOutcome, GrowParams};
+pub use recovery::{Corner, FillOutcome, FillParams, GrowOutcome, GrowParams, Kind};
 pub use recovery::{LocalOutcome, LocalParams, Pass, PassOutcome, Recovery, Settings};
 pub use refusal::{Refusal, RefusedFrame};
 pub use sheet::{Cell, CornerNumber, Sheet};

@@ -3,7 +3,28 @@ use crate::calls::{self, Corners, Done};
 use crate::sheet::{Cell, CornerNumber, Sheet};
 use crate::Refusal;
 
-/// A pictured corner: its position, -16,384 to 16,384, and its pitch, 0 to 16,384 (0 if unknown).
+/// The kind of a corner, on panels that print two.
+#[derive(Clone, Copy, Debug, PartialEq, Eq, Hash)]
+pub enum Kind {
+    /// Kind 0: that of cells whose i + j is even.
+    Zero,
+    /// Kind 1: that of cells whose i + j is odd.
+    One,
+}
+
+impl Kind {
+    /// The kind that a cell takes.
+    pub fn at(cell: Cell) -> Kind {
+        match (i32::from(cell.i()) + i32::from(cell.j())).rem_euclid(2) {
+            0 => Kind::Zero,
+            _ => Kind::One,
+        }
+    }
+}
+
+/// A pictured corner: its position, -16,384 to 16,384, its pitch, 0 to 16,384 (0 if unknown), and its kind.
+///
+/// Where any corner of a recovery has a kind, a cell takes only corners of its own, and none without.
 #[derive(Clone, Copy, Debug, PartialEq)]
 pub struct Corner {
     /// Its position from left to right.
@@ -12,6 +33,8 @@ pub struct Corner {
     pub y: f32,
     /// The distance of its neighbours about it.
     pub pitch: f32,
+    /// Its kind, if it has one.
+    pub shade: Option<Kind>,
 }
 
 /// What all passes of a recovery share.
@@ -132,6 +155,9 @@ pub struct LocalOutcome {
     pub largest_residual: Option<f32>,
     /// Whether a labelled cell lies in the outermost rings, as many as the depth.
     pub rim: bool,
+    /// How many unlabelled corners within the radius were passed over for their kind, or for having none, counted each
+    /// time that candidates were gathered. `None` where no corner has a kind.
+    pub unmatched: Option<u32>,
 }
 
 /// What a pass did.
@@ -151,14 +177,14 @@ fn cells(places: &[u16]) -> Vec<Cell> {
 
 /// Corners, settings and a sheet that starts with the given labels.
 ///
-/// Only its passes write to the sheet, and corners and settings stay as they are: what is proved of lists of passes asks
-/// for that.
+/// Only its passes write to the sheet, and settings and corners, but for their kinds, stay as they are: what is proved of
+/// lists of passes asks for that. Each pass may have kinds of its own.
 #[derive(Clone, Debug)]
 pub struct Recovery {
     settings: Settings,
     corners: Corners,
     sheet: Sheet,
-    /// Nine words for each pass that was run.
+    /// Eleven words for each pass that was run.
     words: Vec<u32>,
 }
 
@@ -194,7 +220,7 @@ impl Recovery {
     /// Grows from the labelled cells.
     pub fn grow(&mut self, params: GrowParams) -> Result<GrowOutcome, Refusal> {
         let done = calls::grow(&self.corners, &self.settings, &params, &mut self.sheet)?;
-        let [_, _, no_candidate, ambiguous, edge, .., rim] = self.noted(&done);
+        let [_, _, no_candidate, ambiguous, edge, _, _, _, rim, ..] = self.noted(&done);
         Ok(GrowOutcome {
             attached: cells(&done.attached),
             visited: cells(&done.visited),
@@ -208,14 +234,15 @@ impl Recovery {
     /// Fills the holes of the labelled box and the strips along it.
     pub fn fill(&mut self, params: FillParams) -> Result<FillOutcome, Refusal> {
         let done = calls::fill(&self.corners, &self.settings, &params, &mut self.sheet)?;
-        let [_, _, _, _, _, rounds, .., rim] = self.noted(&done);
+        let [_, _, _, _, _, rounds, _, _, rim, ..] = self.noted(&done);
         Ok(FillOutcome { added: cells(&done.attached), rounds, rim: rim == 1 })
     }
 
     /// Extends by maps that are fitted to the four nearest labelled cells.
     pub fn local(&mut self, params: LocalParams) -> Result<LocalOutcome, Refusal> {
         let done = calls::local(&self.corners, &self.settings, &params, &mut self.sheet)?;
-        let [_, _, no_candidate, ambiguous, edge, rounds, has_residual, residual, rim] = self.noted(&done);
+        let [_, _, no_candidate, ambiguous, edge, rounds, has_residual, residual, rim, shaded, unmatched] =
+            self.noted(&done);
         Ok(LocalOutcome {
             attached: cells(&done.attached),
             no_candidate,
@@ -224,6 +251,7 @@ impl Recovery {
             rounds,
             largest_residual: (has_residual == 1).then(|| f32::from_bits(residual)),
             rim: rim == 1,
+            unmatched: (shaded == 1).then_some(unmatched),
         })
     }
 
@@ -255,6 +283,11 @@ impl Recovery {
     /// The corner of this number, if there is one.
     pub fn corner(&self, number: CornerNumber) -> Option<Corner> {
         self.corners.get(number.index())
+    }
+
+    /// Gives a corner another kind, or none, for the passes from now on; whether there is such a corner.
+    pub fn set_shade(&mut self, number: CornerNumber, shade: Option<Kind>) -> bool {
+        self.corners.set_shade(number.index(), shade)
     }
 
     /// The corners and their numbers, from 0 on.

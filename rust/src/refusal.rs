@@ -13,9 +13,9 @@ pub enum Refusal {
     OutOfRange = 3,
     /// 4, "off sheet": the cell of a label is outside the sheet.
     OffSheet = 4,
-    /// 5, "stranger": the corner of a label is not given.
+    /// 5, "stranger": the corner of a label or of a shade is not given.
     UnknownCorner = 5,
-    /// 6, "doubled": a cell or a corner is labelled twice.
+    /// 6, "doubled": a cell or a corner is labelled twice, or a corner is shaded twice.
     Duplicate = 6,
     /// 7, "short": a lent buffer is too short. This crate lends none that is, so it does not come up.
     BufferTooShort = 7,
@@ -63,8 +63,8 @@ impl fmt::Display for Refusal {
             Refusal::OverLimit => "there are too many bytes, corners or passes",
             Refusal::OutOfRange => "a number is not finite or out of range",
             Refusal::OffSheet => "the cell of a label is outside the sheet",
-            Refusal::UnknownCorner => "the corner of a label is not given",
-            Refusal::Duplicate => "a cell or a corner is labelled twice",
+            Refusal::UnknownCorner => "the corner of a label or a shade is not given",
+            Refusal::Duplicate => "a cell or a corner is labelled twice, or a corner shaded twice",
             Refusal::BufferTooShort => "a lent buffer is too short",
         })
     }

@@ -1,6 +1,6 @@
 //! Frames: the specification's example by hand, each refusal, and the frame's passes one by one.
 use projective_grid_verified::{
-    Cell, Corner, FillParams, Frame, GrowParams, LocalParams, Pass, PassOutcome, Recovery, Refusal, RefusedFrame,
+    Cell, Corner, FillParams, Frame, GrowParams, Kind, LocalParams, Pass, PassOutcome, Recovery, Refusal, RefusedFrame,
     Settings, MAX_FRAME_BYTES,
 };
 
@@ -92,6 +92,10 @@ fn each_refusal() {
     expect(format!("{HEAD}{ROW}(label 3 (2 0))\n"), Refusal::UnknownCorner, 10);
     expect(format!("{HEAD}{ROW}(label 2 (1 0))\n"), Refusal::Duplicate, 10);
     expect(format!("{HEAD}{ROW}(label 1 (2 0))\n"), Refusal::Duplicate, 10);
+    expect(format!("{HEAD}{ROW}(shade 9 2)\n"), Refusal::Malformed, 10);
+    expect(format!("{HEAD}{ROW}(shade 3 0)\n"), Refusal::UnknownCorner, 10);
+    expect(format!("{HEAD}{ROW}(shade 2 0)\n(shade 2 1)\n"), Refusal::Duplicate, 11);
+    expect(format!("{HEAD}{ROW}(shade 2 0)\n(label 2 (2 0))\n"), Refusal::Malformed, 11);
 
     let bent = refused(String::new());
     assert_eq!(bent.text(), b"(refused 1 1)\n");
@@ -106,6 +110,39 @@ fn numbers_and_words() {
     for (n, word) in (1..).zip(table) {
         assert_eq!(words[n as usize], Some((n, word)));
     }
+}
+
+#[test]
+fn two_kinds() {
+    let local = "(local 3eb33333 3fc00000 1 3f000000 1)\n";
+    // The lattice by parity, but corner 2, of cell (0 2), of the other kind and corner 16, of cell (2 0), without one.
+    let kinds: String = (0..64)
+        .filter(|&k| k != 16)
+        .map(|k| format!("(shade {k} {})\n", (k / 8 + k + i32::from(k == 2)) % 2))
+        .collect();
+    let frame = parse(lattice(&format!("{kinds}(grow)\n{local}"))).expect("accepted");
+    let shade = |k: usize| frame.start().corners().nth(k).expect("64 corners").1.shade;
+    assert_eq!((shade(0), shade(1), shade(2), shade(16)), (Some(Kind::Zero), Some(Kind::One), Some(Kind::One), None));
+    let outcome = frame.recover();
+    let [PassOutcome::Grow(_), PassOutcome::Local(mapped)] = outcome.passes() else {
+        panic!("grow and local: {:?}", outcome.passes());
+    };
+    // Each is passed over at its cell, and corner 16 also at (2 -1), three of whose supports are in a line.
+    assert_eq!(mapped.unmatched, Some(3));
+    assert!(mapped.attached.is_empty());
+    let sheet = outcome.sheet();
+    assert_eq!((sheet.label(cell(0, 2)), sheet.label(cell(2, 0))), (None, None));
+    assert_eq!(sheet.labelled().count(), 61);
+    for (cell, corner) in sheet.labelled() {
+        let shade = outcome.clone().into_recovery().corner(corner).expect("there").shade;
+        assert_eq!(shade, Some(Kind::at(cell)));
+    }
+    let text = String::from_utf8(outcome.text()).expect("text");
+    assert_eq!(text.lines().nth(3), Some("(unmatched 3)"));
+    // Without a shade nothing of it is printed.
+    let plain = parse(lattice(&format!("(grow)\n{local}"))).expect("accepted").recover();
+    assert!(matches!(&plain.passes()[1], PassOutcome::Local(mapped) if mapped.unmatched.is_none()));
+    assert!(!String::from_utf8(plain.text()).expect("text").contains("unmatched"));
 }
 
 #[test]

@@ -1,6 +1,6 @@
 //! What cannot be made, and what is refused.
 use projective_grid_verified::{
-    Cell, Corner, CornerNumber, FillParams, GrowParams, LocalParams, Recovery, Refusal, Settings, MAX_CORNERS,
+    Cell, Corner, CornerNumber, FillParams, GrowParams, Kind, LocalParams, Recovery, Refusal, Settings, MAX_CORNERS,
 };
 
 const SETTINGS: Settings = Settings { cell_size: 10.0, axis_i: [1.0, 0.0], axis_j: [0.0, 1.0], edge_length_tol: 0.25 };
@@ -8,7 +8,7 @@ const LOCAL: LocalParams =
     LocalParams { search_rel: 0.35, ambiguity_factor: 1.5, max_iters: 1, max_residual_rel: 0.5, extend_depth: 1 };
 
 fn row(count: usize) -> Vec<Corner> {
-    let corner = |k| Corner { x: 10.0 * k as f32, y: 0.0, pitch: 0.0 };
+    let corner = |k| Corner { x: 10.0 * k as f32, y: 0.0, pitch: 0.0, shade: None };
     (0..count).map(corner).collect()
 }
 
@@ -88,7 +88,36 @@ fn no_labels_and_few() {
     let filled = recovery.fill(FillParams::default()).expect("in range");
     assert!(filled.added.is_empty());
     let local = recovery.local(LOCAL).expect("in range");
-    assert_eq!((local.attached.len(), local.largest_residual), (0, None));
+    assert_eq!((local.attached.len(), local.largest_residual, local.unmatched), (0, None, None));
+}
+
+#[test]
+fn kinds_from_pass_to_pass() {
+    let mut corners = row(4);
+    corners[2].shade = Some(Kind::One);
+    let mut recovery = Recovery::new(SETTINGS, &corners, &[label(0, 0), label(1, 1)]).expect("in range");
+    let number = |k| CornerNumber::new(k).expect("below 1,024");
+    let attached = |recovery: &mut Recovery| recovery.grow(GrowParams::default()).expect("in range").attached.len();
+    // Cell (2, 0) takes kind 0, and no corner without a shade while another has one.
+    assert_eq!(attached(&mut recovery.clone()), 0);
+    assert!(recovery.set_shade(number(2), None) && recovery.set_shade(number(0), Some(Kind::Zero)));
+    assert_eq!(attached(&mut recovery.clone()), 0);
+    assert!(recovery.set_shade(number(2), Some(Kind::Zero)));
+    assert_eq!(attached(&mut recovery), 1);
+    // Without any, all are taken as they come.
+    assert!(recovery.set_shade(number(2), None) && recovery.set_shade(number(0), None));
+    assert_eq!(attached(&mut recovery), 1);
+    assert_eq!(recovery.corner(number(3)).expect("there").shade, None);
+    assert!(!recovery.set_shade(number(4), Some(Kind::One)), "there is no corner 4");
+}
+
+#[test]
+fn the_kind_of_a_cell() {
+    for (i, j, kind) in
+        [(0, 0, Kind::Zero), (-1, 0, Kind::One), (0, -1, Kind::One), (-64, 63, Kind::One), (63, 63, Kind::Zero)]
+    {
+        assert_eq!(Kind::at(Cell::new(i, j).expect("on the sheet")), kind);
+    }
 }
 
 #[test]

@@ -10,7 +10,7 @@ use lib.ListN.{length}
 use lib.Ieee.{lt}
 use lib.Ieee.Scale.{finite}
 use Rattle.sheet.specs.Cells.{OnSheet, placeOf, cellOf}
-use Rattle.sheet.specs.Corners.{CornerLists, cornerOf, cornersOf, seenOf, Given}
+use Rattle.sheet.specs.Corners.{CornerLists, cornerOf, seenOf, Given}
 use Rattle.sheet.specs.Pairing.{Shuffle, PairedCorners, PairedSheets}
 use Rattle.sheet.specs.declared.Cell.{Cell}
 use Rattle.sheet.proofs.Laws.{cell-on}
@@ -23,6 +23,7 @@ use Rattle.candidates.proofs.Radius.{search-radius}
 use Rattle.predict.specs.Predict.{predictionOf}
 use Rattle.predict.specs.declared.Prediction.{Prediction}
 use Rattle.predict.proofs.Laws.{prediction-paired}
+use Rattle.arguments.specs.Shades.{cornersOf, PairedShades}
 use Rattle.arguments.specs.Accepted.{SettingsInside, FillInside}
 use Rattle.arguments.specs.declared.Settings.{Settings}
 use Rattle.arguments.specs.declared.FillParams.{FillParams}
@@ -70,8 +71,8 @@ with-same {s = s} same long c on few (TryCellResult.Attached k) given =
 
 -- ---- the run
 
-module _ (l l' : CornerLists) (corners : PairedCorners l l') (few : length (l .xs) ≤ 1024)
-    (set : Settings) (params : FillParams) (inside : SettingsInside set) (numbers : FillInside params) (above : lt one (params .«attach_ambiguity_factor») ≡ true) where
+module _ (l l' : CornerLists) (corners : PairedCorners l l') (shades shades' : List ℕ) (kinds : PairedShades (corners .pairs) shades shades')
+    (long : length (l .xs) ≤ length shades) (few : length (l .xs) ≤ 1024) (set : Settings) (params : FillParams) (inside : SettingsInside set) (numbers : FillInside params) (above : lt one (params .«attach_ambiguity_factor») ≡ true) where
   finite-radius : T (finite (squaredRadius (fillSearch set params .«search_r»)))
   unfolding fillSearch
   finite-radius = search-radius (params .«attach_search_rel») (set .grid .«cell_size») (numbers .search) (inside .cell-size)
@@ -81,27 +82,27 @@ module _ (l l' : CornerLists) (corners : PairedCorners l l') (few : length (l .x
   factor-above = above
 
   module _ (a a' : FillState) (same : SameFill (corners .pairs) a a') (given : Given (length (l .xs)) (a .sheet)) (c : Cell) (on : OnSheet c) where
-    at-same : (at : Prediction) → SameFill (corners .pairs) (fillAt (cornersOf l) set params c at a) (fillAt (cornersOf l') set params c at a')
+    at-same : (at : Prediction) → SameFill (corners .pairs) (fillAt (cornersOf l shades) set params c at a) (fillAt (cornersOf l' shades') set params c at a')
     unfolding fillAt
     at-same Prediction.NoNeighbour = same
     at-same (Prediction.At at) =
-        rw (try-paired l l' corners (a .sheet) (a' .sheet) (same .sheet) given (tolerancesOf set) (fillSearch set params) c at finite-radius factor-above)
-        (with-same same (given .long) c on few (tryAt (cornersOf l) (a .sheet) (tolerancesOf set) (fillSearch set params) c at)
-        (λ k h. attachable (cornersOf l) (a .sheet) (tolerancesOf set) (fillSearch set params) c at k h .given))
+        rw (try-paired l l' corners shades shades' kinds long (a .sheet) (a' .sheet) (same .sheet) given (tolerancesOf set) (fillSearch set params) c at finite-radius factor-above)
+        (with-same same (given .long) c on few (tryAt (cornersOf l shades) (a .sheet) (tolerancesOf set) (fillSearch set params) c at)
+        (λ k h. attachable (cornersOf l shades) (a .sheet) (tolerancesOf set) (fillSearch set params) c at k h .given))
 
-    visit-same : SameFill (corners .pairs) (fillVisit (cornersOf l) set params c a) (fillVisit (cornersOf l') set params c a')
+    visit-same : SameFill (corners .pairs) (fillVisit (cornersOf l shades) set params c a) (fillVisit (cornersOf l' shades') set params c a')
     unfolding fillVisit
     visit-same = rw (prediction-paired corners (same .sheet) given (set .grid) c) (at-same (predictionOf (seenOf (cornerOf l) (a .sheet)) (set .grid) c))
 
   module _ (first : List ℕ) (begins : Standing l first) where
-    sound : Sound (cornersOf l) first
+    sound : Sound (length (l .xs)) first
     sound = standing-sound begins
 
     -- where both runs stand, with these cells still to come: in the first run each waits for its turn
     abbrev Both : List ℕ → FillState → FillState → Type 0
-    Both ps a a' = Filling (cornersOf l) (tolerancesOf set) first ps a × SameFill (corners .pairs) a a'
+    Both ps a a' = Filling (cornersOf l shades) (tolerancesOf set) first ps a × SameFill (corners .pairs) a a'
 
-    alike : Alike (fillPass (cornersOf l) set params) (fillPass (cornersOf l') set params) Both
+    alike : Alike (fillPass (cornersOf l shades) set params) (fillPass (cornersOf l' shades') set params) Both
     alike =
         record {
           cells = λ a a' g. fill-cells-same (g .1 .sheet);
@@ -115,7 +116,7 @@ module _ (l l' : CornerLists) (corners : PairedCorners l l') (few : length (l .x
 
     -- the whole run
     pub fill-same : (first' : List ℕ) → PairedSheets (corners .pairs) first first'
-        → SameRounds (SameFill (corners .pairs)) (fillRun (cornersOf l) set params first) (fillRun (cornersOf l') set params first')
+        → SameRounds (SameFill (corners .pairs)) (fillRun (cornersOf l shades) set params first) (fillRun (cornersOf l' shades') set params first')
     unfolding fillRun fillFrom
     fill-same first' paired = rw (paired-count paired) (record { state = both .state .1; rounds = both .rounds })
       where
@@ -126,8 +127,8 @@ module _ (l l' : CornerLists) (corners : PairedCorners l l') (few : length (l .x
         start' = record { sheet = first'; made = [] }
 
         both : SameRounds (Both [])
-            (roundsFrom (fillPass (cornersOf l) set params) (fillLimit (labelCount first) (params .«max_iters»)) (record { state = start; rounds = 0 }))
-            (roundsFrom (fillPass (cornersOf l') set params) (fillLimit (labelCount first) (params .«max_iters»)) (record { state = start'; rounds = 0 }))
+            (roundsFrom (fillPass (cornersOf l shades) set params) (fillLimit (labelCount first) (params .«max_iters»)) (record { state = start; rounds = 0 }))
+            (roundsFrom (fillPass (cornersOf l' shades') set params) (fillLimit (labelCount first) (params .«max_iters»)) (record { state = start'; rounds = 0 }))
         both =
             rounds-same Both alike (fillLimit (labelCount first) (params .«max_iters»))
             (record { state = start; rounds = 0 }) (record { state = start'; rounds = 0 })

@@ -12,7 +12,7 @@ use lib.Ieee.{lt}
 use lib.Ieee.Scale.{finite}
 use Rattle.sheet.specs.Cells.{onSheet, OnSheet, placeOf, cellOf, moved}
 use Rattle.sheet.specs.Words.{attached}
-use Rattle.sheet.specs.Corners.{CornerLists, cornerOf, cornersOf, seenOf, Given}
+use Rattle.sheet.specs.Corners.{CornerLists, cornerOf, seenOf, Given}
 use Rattle.sheet.specs.Pairing.{Shuffle, PairedCorners, PairedSheets}
 use Rattle.sheet.specs.declared.Cell.{Cell}
 use Rattle.sheet.specs.declared.Offset.{Offset}
@@ -26,6 +26,7 @@ use Rattle.predict.specs.Predict.{predictionOf, extrapolating}
 use Rattle.predict.specs.declared.Prediction.{Prediction}
 use Rattle.predict.proofs.Laws.{prediction-paired, extrapolating-paired}
 use Rattle.positions_policy.specs.Edge.{cardinalOffsets}
+use Rattle.arguments.specs.Shades.{cornersOf, PairedShades}
 use Rattle.arguments.specs.Accepted.{SettingsInside, GrowInside}
 use Rattle.arguments.specs.declared.Settings.{Settings}
 use Rattle.arguments.specs.declared.GrowParams.{GrowParams}
@@ -128,8 +129,8 @@ module _ {n : ℕ} {s : Shuffle n} {a a' : GrowState} (same : SameGrow s a a') (
 
 -- ---- the run
 
-module _ (l l' : CornerLists) (corners : PairedCorners l l') (few : length (l .xs) ≤ 1024)
-    (set : Settings) (params : GrowParams) (inside : SettingsInside set) (numbers : GrowInside params) (above : lt one (params .«attach_ambiguity_factor») ≡ true) where
+module _ (l l' : CornerLists) (corners : PairedCorners l l') (shades shades' : List ℕ) (kinds : PairedShades (corners .pairs) shades shades')
+    (long : length (l .xs) ≤ length shades) (few : length (l .xs) ≤ 1024) (set : Settings) (params : GrowParams) (inside : SettingsInside set) (numbers : GrowInside params) (above : lt one (params .«attach_ambiguity_factor») ≡ true) where
   -- both radii have a finite square
   finite-radius : (e : Bool) → T (finite (squaredRadius (searchOf set params e .«search_r»)))
   unfolding searchOf radiusOf
@@ -141,56 +142,56 @@ module _ (l l' : CornerLists) (corners : PairedCorners l l') (few : length (l .x
   factor-above e = above
 
   module _ (a a' : GrowState) (same : SameGrow (corners .pairs) a a') (given : Given (length (l .xs)) (a .sheet)) (c : Cell) (on : OnSheet c) where
-    at-same : (at : Prediction) → SameGrow (corners .pairs) (growAt (cornersOf l) set params c at a) (growAt (cornersOf l') set params c at a')
+    at-same : (at : Prediction) → SameGrow (corners .pairs) (growAt (cornersOf l shades) set params c at a) (growAt (cornersOf l' shades') set params c at a')
     unfolding growAt
     at-same Prediction.NoNeighbour = missed-same same (given .long) c on
     at-same (Prediction.At at) =
         let e = extrapolating (seenOf (cornerOf l) (a .sheet)) c in
         let search = searchOf set params e in
-        rw (extrapolating-paired corners (same .sheet) given c, try-paired l l' corners (a .sheet) (a' .sheet) (same .sheet) given (tolerancesOf set) search c at (finite-radius e) (factor-above e))
-        (with-same same (given .long) c on few (tryAt (cornersOf l) (a .sheet) (tolerancesOf set) search c at)
-        (λ k h. attachable (cornersOf l) (a .sheet) (tolerancesOf set) search c at k h .given))
+        rw (extrapolating-paired corners (same .sheet) given c, try-paired l l' corners shades shades' kinds long (a .sheet) (a' .sheet) (same .sheet) given (tolerancesOf set) search c at (finite-radius e) (factor-above e))
+        (with-same same (given .long) c on few (tryAt (cornersOf l shades) (a .sheet) (tolerancesOf set) search c at)
+        (λ k h. attachable (cornersOf l shades) (a .sheet) (tolerancesOf set) search c at k h .given))
 
-    visit-same : SameGrow (corners .pairs) (growVisit (cornersOf l) set params c a) (growVisit (cornersOf l') set params c a')
+    visit-same : SameGrow (corners .pairs) (growVisit (cornersOf l shades) set params c a) (growVisit (cornersOf l' shades') set params c a')
     unfolding growVisit
     visit-same = rw (prediction-paired corners (same .sheet) given (set .grid) c) (at-same (predictionOf (seenOf (cornerOf l) (a .sheet)) (set .grid) c))
 
   module _ (first : List ℕ) (begins : Standing l first) where
     -- at most m cells more: in the first run every visited cell lies on the sheet
-    from-same : (m head : ℕ) (a a' : GrowState) → Growing (cornersOf l) (tolerancesOf set) first head a → SameGrow (corners .pairs) a a'
-        → SameGrow (corners .pairs) (growFrom (cornersOf l) set params m head a) (growFrom (cornersOf l') set params m head a')
+    from-same : (m head : ℕ) (a a' : GrowState) → Growing (cornersOf l shades) (tolerancesOf set) first head a → SameGrow (corners .pairs) a a'
+        → SameGrow (corners .pairs) (growFrom (cornersOf l shades) set params m head a) (growFrom (cornersOf l' shades') set params m head a')
     unfolding growFrom
     from-same zero head a a' g same = same
     from-same (suc m) head a a' g same =
         subst
         (λ (q : List ℕ).
-        SameGrow (corners .pairs) (growFrom (cornersOf l) set params (suc m) head a)
-        (cond (ltb head (length q)) (growFrom (cornersOf l') set params m (head + 1) (growVisit (cornersOf l') set params (cellOf (getD q head 0)) a')) a'))
+        SameGrow (corners .pairs) (growFrom (cornersOf l shades) set params (suc m) head a)
+        (cond (ltb head (length q)) (growFrom (cornersOf l' shades') set params m (head + 1) (growVisit (cornersOf l' shades') set params (cellOf (getD q head 0)) a')) a'))
         (sym (same .queued)) (go (ltb head (length (a .queued))) refl (λ h. from-same m (head + 1) _ _ (growing-visit set params few sound head a g h) (next h)))
       where
         cell : Cell
         cell = cellOf (getD (a .queued) head 0)
 
-        sound : Sound (cornersOf l) first
+        sound : Sound (length (l .xs)) first
         sound = standing-sound begins
 
-        next : head < length (a .queued) → SameGrow (corners .pairs) (growVisit (cornersOf l) set params cell a) (growVisit (cornersOf l') set params cell a')
+        next : head < length (a .queued) → SameGrow (corners .pairs) (growVisit (cornersOf l shades) set params cell a) (growVisit (cornersOf l' shades') set params cell a')
         next h =
             visit-same a a' same (sound-standing begins (sound-now few sound head a g h) .given) cell
             (cell-on (getD (a .queued) head 0) (first-on (turn few sound head a g h)))
 
         go : (t : Bool) → ltb head (length (a .queued)) ≡ t
             → (head < length (a .queued)
-            → SameGrow (corners .pairs) (growFrom (cornersOf l) set params m (head + 1) (growVisit (cornersOf l) set params cell a))
-            (growFrom (cornersOf l') set params m (head + 1) (growVisit (cornersOf l') set params cell a')))
-            → SameGrow (corners .pairs) (cond t (growFrom (cornersOf l) set params m (head + 1) (growVisit (cornersOf l) set params cell a)) a)
-            (cond t (growFrom (cornersOf l') set params m (head + 1) (growVisit (cornersOf l') set params cell a')) a')
+            → SameGrow (corners .pairs) (growFrom (cornersOf l shades) set params m (head + 1) (growVisit (cornersOf l shades) set params cell a))
+            (growFrom (cornersOf l' shades') set params m (head + 1) (growVisit (cornersOf l' shades') set params cell a')))
+            → SameGrow (corners .pairs) (cond t (growFrom (cornersOf l shades) set params m (head + 1) (growVisit (cornersOf l shades) set params cell a)) a)
+            (cond t (growFrom (cornersOf l' shades') set params m (head + 1) (growVisit (cornersOf l' shades') set params cell a')) a')
         go true e w = w (ltb-true head (length (a .queued)) e)
         go false e w = same
 
     -- the whole run
-    pub grow-same : (first' : List ℕ) → PairedSheets (corners .pairs) first first' → SameGrow (corners .pairs) (growRun (cornersOf l) set params first) (growRun (cornersOf l') set params first')
+    pub grow-same : (first' : List ℕ) → PairedSheets (corners .pairs) first first' → SameGrow (corners .pairs) (growRun (cornersOf l shades) set params first) (growRun (cornersOf l' shades') set params first')
     unfolding growRun
     grow-same first' paired =
-        subst (λ (k : ℕ). SameGrow (corners .pairs) (growRun (cornersOf l) set params first) (growFrom (cornersOf l') set params (4 * k) 0 (startOf first'))) (sym (corners .same-xs))
-        (from-same (4 * length (l .xs)) 0 (startOf first) (startOf first') (growing-start (cornersOf l) (tolerancesOf set) first) (start-same paired))
+        subst (λ (k : ℕ). SameGrow (corners .pairs) (growRun (cornersOf l shades) set params first) (growFrom (cornersOf l' shades') set params (4 * k) 0 (startOf first'))) (sym (corners .same-xs))
+        (from-same (4 * length (l .xs)) 0 (startOf first) (startOf first') (growing-start (cornersOf l shades) (tolerancesOf set) first) (start-same paired))

@@ -1,13 +1,15 @@
--- Two runs of one list of calls on two frames that hold the same corners in another order (document 01, "Lists of passes, for demand 3"):
--- what is compared after each call, and the claim that the runs agree. Definitions only.
+-- Two runs of one list of calls on two frames that hold the same corners in another order (document 01, "Lists of passes, for demand 3"; document 02,
+-- 1/14: their shades with them): what is compared after each call, and the claim that the runs agree. Definitions only.
 use mathlib.Core.Path.{_≡_}
-use mathlib.Core.Bool.{true}
+use mathlib.Core.Bool.{true, false}
 use mathlib.Core.List.{List, [], _∷_}
 use Prim.Native.Nat.{ℕ}
+use lib.ListN.{length}
 use lib.Ieee.{Float, lt}
 use Rattle.refusal.specs.declared.Refusal.{Refusal}
 use Rattle.sheet.specs.Corners.{CornerLists}
 use Rattle.sheet.specs.Pairing.{Shuffle, PairedCorners, PairedSheets}
+use Rattle.arguments.specs.Shades.{anyShade, PairedShades}
 use Rattle.arguments.specs.declared.Pass.{Pass}
 use Rattle.passes.specs.Outcome.{After, Outcome, refused, done}
 use Rattle.passes.specs.Run.{Call, PassStats, sheetAfter, run}
@@ -23,10 +25,30 @@ pub record Reordered (l l' : CornerLists) (given given' : List ℕ) : Type 0 whe
   pub labels : PairedSheets (corners .pairs) given given'
   pub standing : Standing l given
 
+-- ---- the two lists of calls
+
+-- "Relisting corners relists their shades, those of a frame's lines and those lent to a call alike: both corners of a pair have the same kind or none"
+-- (document 02, 1/14): the same call, lent the relisted shades
+pub record RelistedCall {n : ℕ} (s : Shuffle n) (c c' : Call) : Type 0 where
+  pub same-pass : c' .pass ≡ c .pass
+  pub same-settings : c' .settings ≡ c .settings
+  pub same-rooms : c' .rooms ≡ c .rooms
+  pub shades : PairedShades s (c .shades) (c' .shades)
+
+-- so call by call
+pub data Relisted {n : ℕ} (s : Shuffle n) : List Call → List Call → Type 0 where
+  no-call : Relisted s [] []
+  relisted : {c c' : Call} {cs cs' : List Call} → RelistedCall s c c' → Relisted s cs cs' → Relisted s (c ∷ cs) (c' ∷ cs')
+
+-- a list of calls to which no shade is lent is its own
+abbrev pub NoneShaded : ℕ → List Call → Type 0
+NoneShaded n [] = Unit {0}
+NoneShaded n (c ∷ cs) = (anyShade (c .shades) n ≡ false) × NoneShaded n cs
+
 -- ---- what is compared after each call
 
--- Of a call that ran: every count answered, and all else that the pass line says; "a cell holds a corner in one run exactly when it holds the
--- paired one in the other", and equal marks cell by cell; attached lists and grow's visited cells, in order.
+-- Of a call that ran: every count answered, that of unmatched corners among them, and all else that the pass line says; "a cell holds a corner in one
+-- run exactly when it holds the paired one in the other", and equal marks cell by cell; attached lists and grow's visited cells, in order.
 pub record SameAfter {n : ℕ} (s : Shuffle n) {A : Type 0} (a a' : After A) : Type 0 where
   pub answer : a' .answer ≡ a .answer
   pub sheet : PairedSheets s (a .sheet) (a' .sheet)
@@ -65,15 +87,23 @@ pub data FactorsAbove : List Call → List (Outcome PassStats) → Type 0 where
 
 -- ---- the claim
 
--- For two frames and a list of calls: in both runs, whatever the factors, given labels are kept, no corner holds two cells, and each new corner
--- had an accepted edge to a labelled cardinal neighbour, or no such neighbour, when attached. If each call that runs has an ambiguity factor
--- above 1, the two runs agree after every call.
-pub record BothRuns (l l' : CornerLists) (given given' : List ℕ) (frames : Reordered l l' given given') (calls : List Call) : Type 0 where
+-- For two frames and a list of calls, relisted for the second: in both runs, whatever the factors, given labels are kept, no corner holds two cells, and
+-- each new corner had an accepted edge to a labelled cardinal neighbour, or no such neighbour, when attached. If each call that runs has an ambiguity
+-- factor above 1, the two runs agree after every call.
+pub record BothRuns (l l' : CornerLists) (given given' : List ℕ) (frames : Reordered l l' given given') (calls calls' : List Call) : Type 0 where
   pub first-run : Invariant l given calls
-  pub second-run : Invariant l' given' calls
-  pub agree : FactorsAbove calls (run l given calls) → Agree (frames .corners .pairs) given given' (run l given calls) (run l' given' calls)
+  pub second-run : Invariant l' given' calls'
+  pub agree : FactorsAbove calls (run l given calls) → Agree (frames .corners .pairs) given given' (run l given calls) (run l' given' calls')
 
 -- Any list of calls, refused ones among them, each on the sheet that the last one left, from the given labels of two accepted frames that
--- differ only in the order of their corner lines, labels renumbered to match.
+-- differ only in the order of their corner lines, labels renumbered and shades relisted to match.
 abbrev pub Agreement : Type 0
-Agreement = (l l' : CornerLists) (given given' : List ℕ) (frames : Reordered l l' given given') (calls : List Call) → BothRuns l l' given given' frames calls
+Agreement =
+    (l l' : CornerLists) (given given' : List ℕ) (frames : Reordered l l' given given') (calls calls' : List Call)
+    → Relisted (frames .corners .pairs) calls calls' → BothRuns l l' given given' frames calls calls'
+
+-- where no shade is lent, the same list of calls
+abbrev pub AgreementUnshaded : Type 0
+AgreementUnshaded =
+    (l l' : CornerLists) (given given' : List ℕ) (frames : Reordered l l' given given') (calls : List Call)
+    → NoneShaded (length (l .xs)) calls → BothRuns l l' given given' frames calls calls

@@ -5,6 +5,7 @@ use Prim.Native.Nat.{ℕ}
 use lib.IntN.{natAbs}
 use Rattle.sheet.specs.Corners.{CornerLists}
 use Rattle.sheet.specs.Words.{labelOf, labelOfNumber}
+use Rattle.passes.specs.Outcome.{Outcome}
 use Rattle.passes.specs.Run.{Call, PassStats, run, sheetOf as sheetAfterAll}
 use Rattle.invariants.specs.Calls.{Standing, CallInside}
 use Rattle.frame_line.specs.Lines.{LabelLine}
@@ -17,6 +18,7 @@ use Rattle.report_line.specs.Result.{passLines, heading, resultText}
 use Rattle.frame_answer.specs.Answer.{statsOf, frameStats, frameSheet, answerOf, answerText}
 use Rattle.written_places.specs.Written.{Written, Rise, no-more, sheetWith, attachedIn}
 use Rattle.written_places.specs.Run.{Asked, runs, callsOf as callsAsked, AsAsked, ends, one-runs}
+use Rattle.written_places.specs.Text.{textIn}
 use Rattle.written_places.proofs.Written.{rise-put, attached-so, all-told}
 use Rattle.written_places.proofs.Run.{Went, went}
 use Rattle.written_places.proofs.Text.{holes-so, ambiguous-so, text-so}
@@ -56,7 +58,7 @@ calls-back (c ∷ cs) = λ t. c ∷ calls-back cs t
 
 -- ---- a result with other corner numbers
 
-pub renumbered-so : (to : ℕ → ℕ) (stats : List PassStats) (w : List Written) → Rise 0 w → renumberedText to stats (sheetWith w) ≡ renumberedIn to stats w
+renumbered-so : (to : ℕ → ℕ) (stats : List PassStats) (w : List Written) → Rise 0 w → renumberedText to stats (sheetWith w) ≡ renumberedIn to stats w
 unfolding renumberedText renumberedIn cellLineAnew numberedAnew labelOf labelOfNumber
 renumbered-so to stats w h =
     let cells = all-told (cellSaysAnew to) (λ p. refl) w h in
@@ -75,18 +77,29 @@ module _ (text : List ℕ) (f : Frame) (e : readFrame text ≡ accepted f) where
   pub own-run : run (frameCorners f) (sheetOf f) (callsOf f) ≡ frameRun f .outcomes
   own-run = ap₂ (λ (sheet : List ℕ) (cs : List Call). run (frameCorners f) sheet cs) (given-so f) (sym (calls-back (callsOf f))) ∙ own .run-so
 
-  pub own-stats : frameStats f ≡ statsOf (frameRun f .outcomes)
+  own-stats : frameStats f ≡ statsOf (frameRun f .outcomes)
   unfolding frameStats
   own-stats = ap statsOf own-run
 
-  pub own-sheet : frameSheet f ≡ sheetWith (frameRun f .left)
+  own-sheet : frameSheet f ≡ sheetWith (frameRun f .left)
   unfolding frameSheet
   own-sheet = ap₂ (λ (sheet : List ℕ) (cs : List Call). sheetAfterAll (frameCorners f) sheet cs) (given-so f) (sym (calls-back (callsOf f))) ∙ own .left-so
 
-  pub own-rises : Rise 0 (frameRun f .left)
+  own-rises : Rise 0 (frameRun f .left)
   own-rises = own .left-rises
 
   pub answer-so : answerText text ≡ runText (frameRun f)
   unfolding answerText answerOf runText
   answer-so =
       ap answerOf e ∙ ap₂ resultText own-stats own-sheet ∙ text-so (frameRun f .left) own-rises (statsOf (frameRun f .outcomes))
+
+  -- where it is known what the run says and leaves
+  module _ (os : List (Outcome PassStats)) (w : List Written) (says : frameRun f .outcomes ≡ os) (leaves : frameRun f .left ≡ w) where
+    pub answer-known : answerText text ≡ textIn (statsOf os) w
+    unfolding runText
+    answer-known = answer-so ∙ ap₂ (λ (ps : List (Outcome PassStats)) (v : List Written). textIn (statsOf ps) v) says leaves
+
+    pub renumbered-known : (to : ℕ → ℕ) → renumberedText to (frameStats f) (frameSheet f) ≡ renumberedIn to (statsOf os) w
+    renumbered-known to =
+        ap₂ (renumberedText to) (own-stats ∙ ap statsOf says) (own-sheet ∙ ap sheetWith leaves)
+        ∙ renumbered-so to (statsOf os) w (subst (Rise 0) leaves own-rises)

@@ -4,3 +4,4 @@ pub mod Paper
 pub mod Pairing
 pub mod Ran
 pub mod Pair
+pub mod Shaded

@@ -1,6 +1,6 @@
 -- The two texts meet what demand 3 asks, so it speaks of them: their runs are alike, and the second answer is the first with the corners of its cell lines
 -- numbered anew. Assumes nothing.
-use mathlib.Core.Path.{_≡_, refl, sym, ap, ap₂, _∙_, subst}
+use mathlib.Core.Path.{_≡_, refl, sym, ap, _∙_, subst}
 use mathlib.Core.Bool.{Bool, true, false, _||_}
 use mathlib.Core.List.{List, [], _∷_, map}
 use Prim.Native.Nat.{ℕ}
@@ -18,46 +18,46 @@ use Rattle.passes.specs.Step.{lentOf, unless}
 use Rattle.passes.specs.Run.{Call, PassStats, step, run}
 use Rattle.invariants.specs.Calls.{Standing, checkedCall, afterCall, CallInside}
 use Rattle.invariants.proofs.Run.{step-as}
-use Rattle.agreement.specs.Agreement.{AboveOne, FactorsAbove, no-more, was-refused as was-not-run, ran}
+use Rattle.agreement.specs.Agreement.{no-call, relisted, AboveOne, FactorsAbove, no-more, was-refused as was-not-run, ran}
 use Rattle.frame_line.specs.Table.{kindAt}
 use Rattle.frame_line.specs.Lines.{bitsAt, wholeAt, passLineOf}
-use Rattle.frame.specs.Frame.{opened, adding, partsFrom, partsOf}
+use Rattle.frame.specs.Frame.{Frame, opened, adding, partsFrom, partsOf}
 use Rattle.frame.specs.Text.{All}
-use Rattle.frame.specs.ReadFrame.{xsOf, ysOf, pitchesOf, sheetOf, fullOf, passOf}
+use Rattle.frame.specs.ReadFrame.{xsOf, shaded, shadesOf, sheetOf, fullOf, passOf}
 use Rattle.binary32.specs.Hex.{digits}
 use Rattle.line_form.specs.Integers.{decimalUpTo, decimal, integerText}
 use Rattle.line_form.specs.Forms.{numberText, printed}
-use Rattle.report_line.specs.Result.{localLine as localSays, growLine as growSays, fillLine as fillSays, passLine, passLines}
+use Rattle.report_line.specs.Result.{localLine as localSays, unmatchedLine, localLines, growLine as growSays, fillLine as fillSays, passLine, passLines}
 use Rattle.frame_laws.specs.Calls.{frameCorners, frameRooms, callOf, callsOf}
 use Rattle.frame_laws.proofs.Runs.{accepted-runs}
 use Rattle.frame_agreement.proofs.Reordering.{frames-run-alike}
-use Rattle.written_places.specs.Written.{Written, Rise, sheetWith, told}
+use Rattle.written_places.specs.Written.{told}
 use Rattle.written_places.specs.Passes.{AfterIn, afterOf}
 use Rattle.written_places.specs.Run.{Asked, runs, refuses, callsOf as callsAsked, AsAsked, ends, one-runs, one-refused, runIn}
 use Rattle.written_places.specs.Text.{textIn}
 use Rattle.frame_answer.specs.Answer.{statsOf, answerText}
-use Rattle.result_agreement.specs.Alike.{numberedAnew, renumberedText, numbers, ResultsAlike}
+use Rattle.result_agreement.specs.Alike.{numberedAnew, numbers, ResultsAlike}
 use Rattle.result_agreement.proofs.Alike.{frames-answer-alike}
-use Rattle.answer_examples.specs.Answer.{givenIn, frameRun, runText, renumberedIn}
+use Rattle.answer_examples.specs.Answer.{givenIn, frameRun, renumberedIn}
 use Rattle.answer_examples.specs.Pair.{firstText, secondText, localLine, firstFrame, secondFrame, firstResult, secondResult}
-use Rattle.answer_examples.specs.Claims.{refusedLine, growLine, fillLine, calls, toldOf, Met, Agreed}
-use Rattle.answer_examples.proofs.Answer.{given-so, renumbered-so, frame-went, own-run, own-stats, own-sheet, own-rises, answer-so}
+use Rattle.answer_examples.specs.Claims.{refusedLine, growLine, fillLine, callsFrom, calls, toldOf, Met, Agreed}
+use Rattle.answer_examples.proofs.Answer.{given-so, frame-went, own-run, answer-known, renumbered-known}
 use Rattle.answer_examples.proofs.Pairing.{first-read, second-read, same}
 use Rattle.answer_examples.proofs.Ran.{localLeft, growLeft, fillLeft, after, local-did, grow-did, fill-did}
 
--- ---- the factors
+-- ---- the factors, whatever the frame
 
-local-above : AboveOne (callOf firstFrame localLine)
+pub local-above : (f : Frame) → AboveOne (callOf f localLine)
 unfolding ofBits lt fullOf passOf
-local-above = refl
+local-above f = refl
 
-grow-above : AboveOne (callOf firstFrame growLine)
+pub grow-above : (f : Frame) → AboveOne (callOf f growLine)
 unfolding ofBits lt fullOf passOf
-grow-above = refl
+grow-above f = refl
 
-fill-above : AboveOne (callOf firstFrame fillLine)
+fill-above : (f : Frame) → AboveOne (callOf f fillLine)
 unfolding ofBits lt fullOf passOf
-fill-above = refl
+fill-above f = refl
 
 -- ---- which calls run
 
@@ -83,15 +83,22 @@ module _ (sheet : List ℕ) (s : Standing (frameCorners firstFrame) sheet) where
   abbrev c : Call
   c = callOf firstFrame refusedLine
 
-  long : tooShort (lentOf (frameCorners firstFrame) sheet frameRooms) (c .pass) ≡ false
-  unfolding queueNeeded fullOf passOf xsOf kindAt bitsAt wholeAt passLineOf opened adding partsFrom partsOf
+  long : tooShort (lentOf (frameCorners firstFrame) (shadesOf firstFrame) sheet frameRooms) (c .pass) ≡ false
+  unfolding queueNeeded fullOf passOf xsOf shaded shadesOf kindAt bitsAt wholeAt passLineOf opened adding partsFrom partsOf
   long =
       not-short _ _
-      (record { ys-long = s .listed .ys-long; pitches-long = s .listed .pitches-long; sheet-long = s .given .long; queue-long = omega arith; attached-long = omega arith })
+      (record {
+        ys-long = s .listed .ys-long;
+        pitches-long = s .listed .pitches-long;
+        shades-long = omega arith;
+        sheet-long = s .given .long;
+        queue-long = omega arith;
+        attached-long = omega arith;
+      })
 
-  deep : outOfRange (lentOf (frameCorners firstFrame) sheet frameRooms) (c .settings) (c .pass) ≡ true
+  deep : outOfRange (lentOf (frameCorners firstFrame) (shadesOf firstFrame) sheet frameRooms) (c .settings) (c .pass) ≡ true
   unfolding outOfRange passOutside localOutside outside endsOf ofBits ofInt le fullOf passOf
-  deep = or-last (someCornerOutside (frameCorners firstFrame)) (settingsOutside (c .settings))
+  deep = or-last (someCornerOutside (frameCorners firstFrame) (shadesOf firstFrame)) (settingsOutside (c .settings))
 
   wild : checkedCall (frameCorners firstFrame) sheet c ≡ Checked.Refused Refusal.OutOfRange
   unfolding checked overLimit xsOf kindAt bitsAt wholeAt passLineOf opened adding partsFrom partsOf
@@ -107,11 +114,11 @@ list-goes = one-runs (fits .0) (one-refused refused-so (one-runs (fits .1 .0) (o
 -- ---- what they do
 
 -- each pass after the ones before it
-grow-next : after growLine (after localLine (givenIn firstFrame) .sheet) ≡ growLeft
-grow-next = ap (λ (a : AfterIn PassStats). after growLine (a .sheet)) local-did ∙ grow-did
+grow-next : after firstFrame growLine (after firstFrame localLine (givenIn firstFrame) .sheet) ≡ growLeft
+grow-next = ap (λ (a : AfterIn PassStats). after firstFrame growLine (a .sheet)) local-did ∙ grow-did
 
-fill-next : after fillLine (after growLine (after localLine (givenIn firstFrame) .sheet) .sheet) ≡ fillLeft
-fill-next = ap (λ (a : AfterIn PassStats). after fillLine (a .sheet)) grow-next ∙ fill-did
+fill-next : after firstFrame fillLine (after firstFrame growLine (after firstFrame localLine (givenIn firstFrame) .sheet) .sheet) ≡ fillLeft
+fill-next = ap (λ (a : AfterIn PassStats). after firstFrame fillLine (a .sheet)) grow-next ∙ fill-did
 
 -- the frame's own passes
 abbrev outcomes : List (Outcome PassStats)
@@ -126,7 +133,8 @@ unfolding runIn callsOf fullOf kindAt bitsAt wholeAt passLineOf opened adding pa
 own-left = ap (λ (a : AfterIn PassStats). a .sheet) fill-next
 
 -- the list of calls
-list-run : run (frameCorners firstFrame) (sheetOf firstFrame) calls ≡ done (afterOf localLeft) ∷ refused Refusal.OutOfRange ∷ done (afterOf growLeft) ∷ done (afterOf fillLeft) ∷ []
+list-run : run (frameCorners firstFrame) (sheetOf firstFrame) calls
+    ≡ done (afterOf localLeft) ∷ refused Refusal.OutOfRange ∷ done (afterOf growLeft) ∷ done (afterOf fillLeft) ∷ []
 unfolding list callsAsked runIn
 list-run =
     ap (λ (sheet : List ℕ). run (frameCorners firstFrame) sheet calls) (given-so firstFrame) ∙ frame-went firstText firstFrame first-read list list-goes .run-so
@@ -135,10 +143,13 @@ list-run =
 own-factors : FactorsAbove (callsOf firstFrame) (run (frameCorners firstFrame) (sheetOf firstFrame) (callsOf firstFrame))
 unfolding callsOf fullOf kindAt bitsAt wholeAt passLineOf opened adding partsFrom partsOf
 own-factors =
-    subst (FactorsAbove (callsOf firstFrame)) (sym (own-run firstText firstFrame first-read ∙ own-outcomes)) (ran local-above (ran grow-above (ran fill-above no-more)))
+    subst (FactorsAbove (callsOf firstFrame)) (sym (own-run firstText firstFrame first-read ∙ own-outcomes))
+    (ran (local-above firstFrame) (ran (grow-above firstFrame) (ran (fill-above firstFrame) no-more)))
 
 list-factors : FactorsAbove calls (run (frameCorners firstFrame) (sheetOf firstFrame) calls)
-list-factors = subst (FactorsAbove calls) (sym list-run) (ran local-above (was-not-run (ran grow-above (ran fill-above no-more))))
+list-factors =
+    subst (FactorsAbove calls) (sym list-run)
+    (ran (local-above firstFrame) (was-not-run (ran (grow-above firstFrame) (ran (fill-above firstFrame) no-more))))
 
 -- ---- the claims
 
@@ -158,24 +169,19 @@ met =
 
 -- the answers: of the first text by its run, of the second by demand 3
 first-text : textIn (statsOf outcomes) (fillLeft .sheet) ≡ firstResult
-unfolding textIn told statsOf passLines passLine localSays growSays fillSays printed numberText integerText decimal decimalUpTo digits toBits ofBits cellOf labelOfNumber labelOf holeOf ambiguousOf
+unfolding textIn told statsOf passLines passLine localLines localSays unmatchedLine growSays fillSays printed numberText integerText decimal decimalUpTo digits toBits ofBits cellOf labelOfNumber labelOf holeOf ambiguousOf
 first-text = refl
 
 second-text : renumberedIn (numbers same) (statsOf outcomes) (fillLeft .sheet) ≡ secondResult
-unfolding same renumberedIn numberedAnew told statsOf passLines passLine localSays growSays fillSays printed numberText integerText decimal decimalUpTo digits toBits ofBits cellOf labelOfNumber labelOf holeOf ambiguousOf
+unfolding same renumberedIn numberedAnew told statsOf passLines passLine localLines localSays unmatchedLine growSays fillSays printed numberText integerText decimal decimalUpTo digits toBits ofBits cellOf labelOfNumber labelOf holeOf ambiguousOf
 second-text = refl
 
 first-said : answerText firstText ≡ firstResult
-unfolding runText
-first-said =
-    answer-so firstText firstFrame first-read ∙ ap₂ (λ (os : List (Outcome PassStats)) (w : List Written). textIn (statsOf os) w) own-outcomes own-left ∙ first-text
+first-said = answer-known firstText firstFrame first-read outcomes (fillLeft .sheet) own-outcomes own-left ∙ first-text
 
 second-said : ResultsAlike firstText secondText firstFrame secondFrame same → answerText secondText ≡ secondResult
 second-said results =
-    results .second-answer
-    ∙ ap₂ (renumberedText (numbers same)) (own-stats firstText firstFrame first-read ∙ ap statsOf own-outcomes) (own-sheet firstText firstFrame first-read ∙ ap sheetWith own-left)
-    ∙ renumbered-so (numbers same) (statsOf outcomes) (fillLeft .sheet) (subst (Rise 0) own-left (own-rises firstText firstFrame first-read))
-    ∙ second-text
+    results .second-answer ∙ renumbered-known firstText firstFrame first-read outcomes (fillLeft .sheet) own-outcomes own-left (numbers same) ∙ second-text
 
 pub agreed : Agreed met
 unfolding met
@@ -184,7 +190,11 @@ agreed =
     let results = frames-answer-alike firstText secondText firstFrame secondFrame first-read second-read same own-factors in
     record {
       runs = alike;
-      list-agrees = alike .any-list calls .agree list-factors;
+      list-agrees =
+          alike .any-list calls (callsFrom secondFrame)
+          (relisted (alike .relisted-call localLine)
+          (relisted (alike .relisted-call refusedLine) (relisted (alike .relisted-call growLine) (relisted (alike .relisted-call fillLine) no-call))))
+          .agree list-factors;
       results = results;
       first-answer = first-said;
       second-answer = second-said results;

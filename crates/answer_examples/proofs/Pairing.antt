@@ -10,6 +10,7 @@ use Rattle.binary32.specs.Hex.{digitValue, readDigits}
 use Rattle.binary32.specs.Ranges.{endsOf}
 use Rattle.sheet.specs.Pairing.{Shuffle}
 use Rattle.arguments.specs.Arguments.{outside}
+use Rattle.arguments.specs.Shades.{shadeOf}
 use Rattle.line_form.specs.Integers.{digitsAfter, readPositive, readInteger}
 use Rattle.line_form.specs.Forms.{pieceOf, fitOf}
 use Rattle.line_form.specs.Lines.{linesOf}
@@ -19,7 +20,8 @@ use Rattle.frame_line.specs.Lines.{bitsAt, wholeAt, passLineOf, firstFit, readL
 use Rattle.frame_line.specs.Checks.{wildBits, numberOutside, someOutside, outsideLine}
 use Rattle.frame_check.specs.Checks.{checksInOrder, overLimit, twiceOf}
 use Rattle.frame.specs.Frame.{opened, adding, partsFrom, partsOf, someOf, checkedLine, accepted, stepLine, atEnd, readLines, readFrame}
-use Rattle.frame_agreement.specs.Reordering.{cornerLine, SameButOrder}
+use Rattle.frame.specs.ReadFrame.{shaded, shadesOf}
+use Rattle.frame_agreement.specs.Reordering.{cornerLine, cornerShade, SameShades, SameButOrder}
 use Rattle.answer_examples.specs.Pair.{firstText, secondText, firstFrame, secondFrame, numbersInSecond, numbersInFirst}
 
 -- ---- the texts are read
@@ -72,6 +74,13 @@ same-lines =
     below (λ k. cornerLine secondFrame (pairs .to k) ≡ cornerLine firstFrame k) 10
     ((((((((((tt, refl), refl), refl), refl), refl), refl), refl), refl), refl), refl)
 
+-- no shade in either
+pub same-shades : SameShades pairs firstFrame secondFrame
+unfolding shadeOf shaded shadesOf kindAt bitsAt wholeAt passLineOf opened adding partsFrom partsOf
+same-shades =
+    below (λ k. cornerShade secondFrame (pairs .to k) ≡ cornerShade firstFrame k) 10
+    ((((((((((tt, refl), refl), refl), refl), refl), refl), refl), refl), refl), refl)
+
 unfoldable pub same : SameButOrder firstFrame secondFrame
 unfolding kindAt bitsAt wholeAt passLineOf opened adding partsFrom partsOf
-same = record { opening = refl; count = refl; pairs = pairs; same-line = same-lines; labels = refl; passes = refl }
+same = record { opening = refl; count = refl; pairs = pairs; same-line = same-lines; labels = refl; shades = same-shades; passes = refl }

@@ -15,28 +15,30 @@ use Rattle.homography.specs.Fit.{quotients, scaledOf, applied}
 use Rattle.sheet.specs.Cells.{onSheet, placeOf, cellOf}
 use Rattle.sheet.specs.Words.{labelOfNumber, numberOfLabel, bitOf, labelOf, holeOf, ambiguousOf, wordOf}
 use Rattle.sheet.specs.Corners.{cornerOf, seenThrough, squaredDistance}
-use Rattle.labels.specs.Labelled.{passing, namesCorner, isLabelled}
+use Rattle.labels.specs.Labelled.{anyBelow, passing, namesCorner, isLabelled}
 use Rattle.labels.specs.Box.{lowerOf, higherOf, widened}
 use Rattle.labels.specs.Used.{names}
 use Rattle.labels.specs.Rim.{onRim, rimAt}
-use Rattle.candidates.specs.Candidates.{eligible, insert, ordered, candidatesAt, firstTwo}
+use Rattle.candidates.specs.Candidates.{insert, ordered, candidatesAt, firstTwo}
 use Rattle.candidates.specs.Choice.{chooseUnambiguous, chooseWithFloor}
 use Rattle.positions_policy.specs.Edge.{lengthOf, meanPitch, expectedLength, inBand, edgeOk, cardinalOffsets, edgeTo, followedBy, tried, verdictOf, passes}
 use Rattle.predict.specs.Predict.{neighbourOffsets, putBefore, labelledAmong, neighboursOf, stepAt, stepVector, weighed, withNeighbour, sumsFrom, noSums, sumsOf, meanOf, predictionFrom, predictionOf, onSide, anyOn, hasNeighbour, extrapolating}
+use Rattle.arguments.specs.Shades.{shadeOf, stands, anyShade}
 use Rattle.extension_common.specs.TryCell.{choiceBy}
 use Rattle.passes.specs.Grow.{member, radiusOf, searchOf}
 use Rattle.passes.specs.Rounds.{walk, oneRound, roundsFrom}
 use Rattle.passes.specs.Fill.{cellsOf, fillSearch, fillLimit}
-use Rattle.passes.specs.Local.{depthOf, rowAmong, columnAmong, localRegion, nearer, placed, byReach, cellPoint, picturedAt, residualOf, residualsOf, trusted, worst, recorded, recordedAll, localSearch, localLimit}
+use Rattle.passes.specs.Local.{depthOf, rowAmong, columnAmong, localRegion, nearer, placed, byReach, cellPoint, picturedAt, residualOf, residualsOf, trusted, worst, recorded, recordedAll, localSearch, localLimit, unmatchedIf}
 use Rattle.passes.specs.Run.{PassStats, growStats, fillStats, localStats}
 use Rattle.passes.specs.declared.LargestResidual.{LargestResidual}
+use Rattle.passes.specs.declared.Unmatched.{Unmatched}
 use Rattle.frame_line.specs.Table.{kindAt}
 use Rattle.frame_line.specs.Lines.{PassLine, bitsAt, wholeAt, passLineOf}
-use Rattle.frame.specs.Frame.{opened, adding, partsFrom, partsOf}
-use Rattle.frame.specs.ReadFrame.{xsOf, ysOf, pitchesOf, settingsOf, fullOf, passOf}
+use Rattle.frame.specs.Frame.{Frame, opened, adding, partsFrom, partsOf}
+use Rattle.frame.specs.ReadFrame.{xsOf, ysOf, pitchesOf, shaded, shadesOf, settingsOf, fullOf, passOf}
 use Rattle.frame_laws.specs.Calls.{frameCorners, callOf}
 use Rattle.written_places.specs.Written.{Written, written, wordIn, told, anyIn, labelIn, putIn, put}
-use Rattle.written_places.specs.Passes.{AfterIn, gatheredIn, edgesIn, resultIn, tryIn, enqueuedIn, enqueuedAtIn, seededFromIn, growWithIn, growAtIn, growVisitIn, growFromIn, growRunIn, growAfterIn, fillWithIn, fillAtIn, fillVisitIn, fillAfterIn, quickFitWith, quickFitFrom, quickFit, localFitIn, localWithIn, localAtIn, localVisitIn, localAfterIn}
+use Rattle.written_places.specs.Passes.{AfterIn, gatheredBy, edgesIn, resultIn, tryIn, enqueuedIn, enqueuedAtIn, seededFromIn, growWithIn, growAtIn, growVisitIn, growFromIn, growRunIn, growAfterIn, fillWithIn, fillAtIn, fillVisitIn, fillAfterIn, quickFitWith, quickFitFrom, quickFit, localFitIn, localWithIn, unmatchedBy, localTryIn, localAtIn, localVisitIn, localAfterIn}
 use Rattle.written_places.specs.Run.{afterPassIn}
 use Rattle.answer_examples.specs.Answer.{labelledIn, givenIn}
 use Rattle.answer_examples.specs.Pair.{firstFrame, localLine}
@@ -54,6 +56,7 @@ localLeft =
             iterations = 1;
             residual = LargestResidual.Residual (ofBits binary32 0x3635_04f3);
             rim = false;
+            unmatched = Unmatched.NoShades;
           });
       sheet = written 8256 1 ∷ written 8257 3 ∷ written 8384 2 ∷ written 8385 4 ∷ written 8512 5 ∷ [];
       attached = 8512 ∷ [];
@@ -100,19 +103,19 @@ fillLeft =
       visited = [];
     }
 
--- ---- a pass line's call on some written places
+-- ---- a pass line's call from a frame, on some written places
 
-abbrev pub after : PassLine → List Written → AfterIn PassStats
-after p w = afterPassIn (frameCorners firstFrame) w (callOf firstFrame p .settings) (callOf firstFrame p .pass)
+abbrev pub after : Frame → PassLine → List Written → AfterIn PassStats
+after f p w = afterPassIn (frameCorners f) (callOf f p .shades) w (callOf f p .settings) (callOf f p .pass)
 
-pub local-did : after localLine (givenIn firstFrame) ≡ localLeft
-unfolding ofBits ofInt toBits add sub mul div neg lt le eq isFinite unitsOf reaches climb rooted table concatenated every allFinite largest swapped gained cleared eliminated rightSides carried answered mean distance scaleOf normalizationOf forward mapRow moved normalized equation equations backward multiplied undone quotients scaledOf applied onSheet placeOf cellOf labelOfNumber numberOfLabel bitOf labelOf holeOf ambiguousOf wordOf cornerOf seenThrough passing namesCorner isLabelled lowerOf higherOf widened names onRim rimAt eligible squaredDistance insert ordered candidatesAt firstTwo chooseWithFloor lengthOf meanPitch expectedLength inBand edgeOk cardinalOffsets edgeTo followedBy tried verdictOf passes choiceBy cellsOf depthOf rowAmong columnAmong localRegion nearer placed byReach cellPoint picturedAt residualOf residualsOf trusted worst recorded recordedAll localSearch localLimit xsOf ysOf pitchesOf settingsOf fullOf passOf kindAt bitsAt wholeAt passLineOf opened adding partsFrom partsOf wordIn told anyIn labelIn putIn put gatheredIn edgesIn resultIn tryIn quickFitWith quickFitFrom quickFit localFitIn localWithIn localAtIn localVisitIn walk oneRound roundsFrom localAfterIn afterPassIn labelledIn
+pub local-did : after firstFrame localLine (givenIn firstFrame) ≡ localLeft
+unfolding ofBits ofInt toBits add sub mul div neg lt le eq isFinite anyBelow shadeOf stands anyShade unitsOf reaches climb rooted table concatenated every allFinite largest swapped gained cleared eliminated rightSides carried answered mean distance scaleOf normalizationOf forward mapRow moved normalized equation equations backward multiplied undone quotients scaledOf applied onSheet placeOf cellOf labelOfNumber numberOfLabel bitOf labelOf holeOf ambiguousOf wordOf cornerOf seenThrough passing namesCorner isLabelled lowerOf higherOf widened names onRim rimAt squaredDistance insert ordered candidatesAt firstTwo chooseWithFloor lengthOf meanPitch expectedLength inBand edgeOk cardinalOffsets edgeTo followedBy tried verdictOf passes choiceBy cellsOf depthOf rowAmong columnAmong localRegion nearer placed byReach cellPoint picturedAt residualOf residualsOf trusted worst recorded recordedAll localSearch localLimit xsOf ysOf pitchesOf shaded shadesOf settingsOf fullOf passOf kindAt bitsAt wholeAt passLineOf opened adding partsFrom partsOf wordIn told anyIn labelIn putIn put gatheredBy edgesIn resultIn tryIn quickFitWith quickFitFrom quickFit localFitIn localWithIn unmatchedBy localTryIn localAtIn localVisitIn walk oneRound roundsFrom unmatchedIf localAfterIn afterPassIn labelledIn
 local-did = refl
 
-pub grow-did : after growLine (localLeft .sheet) ≡ growLeft
-unfolding ofBits ofInt toBits add sub mul div neg lt le eq isFinite unitsOf reaches climb rooted onSheet placeOf cellOf labelOfNumber numberOfLabel bitOf labelOf holeOf ambiguousOf wordOf cornerOf seenThrough namesCorner isLabelled names onRim rimAt eligible squaredDistance insert ordered candidatesAt firstTwo chooseUnambiguous lengthOf meanPitch expectedLength inBand edgeOk cardinalOffsets edgeTo followedBy tried verdictOf passes neighbourOffsets putBefore labelledAmong neighboursOf stepAt stepVector weighed withNeighbour sumsFrom noSums sumsOf meanOf predictionFrom predictionOf onSide anyOn hasNeighbour extrapolating choiceBy member radiusOf searchOf xsOf ysOf pitchesOf settingsOf fullOf passOf kindAt bitsAt wholeAt passLineOf opened adding partsFrom partsOf wordIn told anyIn labelIn putIn put gatheredIn edgesIn resultIn tryIn enqueuedIn enqueuedAtIn seededFromIn growWithIn growAtIn growVisitIn growFromIn growRunIn growAfterIn afterPassIn
+pub grow-did : after firstFrame growLine (localLeft .sheet) ≡ growLeft
+unfolding ofBits ofInt toBits add sub mul div neg lt le eq isFinite anyBelow shadeOf stands anyShade unitsOf reaches climb rooted onSheet placeOf cellOf labelOfNumber numberOfLabel bitOf labelOf holeOf ambiguousOf wordOf cornerOf seenThrough namesCorner isLabelled names onRim rimAt squaredDistance insert ordered candidatesAt firstTwo chooseUnambiguous lengthOf meanPitch expectedLength inBand edgeOk cardinalOffsets edgeTo followedBy tried verdictOf passes neighbourOffsets putBefore labelledAmong neighboursOf stepAt stepVector weighed withNeighbour sumsFrom noSums sumsOf meanOf predictionFrom predictionOf onSide anyOn hasNeighbour extrapolating choiceBy member radiusOf searchOf xsOf ysOf pitchesOf shaded shadesOf settingsOf fullOf passOf kindAt bitsAt wholeAt passLineOf opened adding partsFrom partsOf wordIn told anyIn labelIn putIn put gatheredBy edgesIn resultIn tryIn enqueuedIn enqueuedAtIn seededFromIn growWithIn growAtIn growVisitIn growFromIn growRunIn growAfterIn afterPassIn
 grow-did = refl
 
-pub fill-did : after fillLine (growLeft .sheet) ≡ fillLeft
-unfolding ofBits ofInt toBits add sub mul div neg lt le eq isFinite unitsOf reaches climb rooted onSheet placeOf cellOf labelOfNumber numberOfLabel bitOf labelOf holeOf ambiguousOf wordOf cornerOf seenThrough passing namesCorner isLabelled lowerOf higherOf widened names onRim rimAt eligible squaredDistance insert ordered candidatesAt firstTwo chooseWithFloor lengthOf meanPitch expectedLength inBand edgeOk cardinalOffsets edgeTo followedBy tried verdictOf passes neighbourOffsets putBefore labelledAmong neighboursOf stepAt stepVector weighed withNeighbour sumsFrom noSums sumsOf meanOf predictionFrom predictionOf choiceBy cellsOf fillSearch fillLimit xsOf ysOf pitchesOf settingsOf fullOf passOf kindAt bitsAt wholeAt passLineOf opened adding partsFrom partsOf wordIn told anyIn labelIn putIn put gatheredIn edgesIn resultIn tryIn fillWithIn fillAtIn fillVisitIn walk oneRound roundsFrom fillAfterIn afterPassIn
+pub fill-did : after firstFrame fillLine (growLeft .sheet) ≡ fillLeft
+unfolding ofBits ofInt toBits add sub mul div neg lt le eq isFinite anyBelow shadeOf stands anyShade unitsOf reaches climb rooted onSheet placeOf cellOf labelOfNumber numberOfLabel bitOf labelOf holeOf ambiguousOf wordOf cornerOf seenThrough passing namesCorner isLabelled lowerOf higherOf widened names onRim rimAt squaredDistance insert ordered candidatesAt firstTwo chooseWithFloor lengthOf meanPitch expectedLength inBand edgeOk cardinalOffsets edgeTo followedBy tried verdictOf passes neighbourOffsets putBefore labelledAmong neighboursOf stepAt stepVector weighed withNeighbour sumsFrom noSums sumsOf meanOf predictionFrom predictionOf choiceBy cellsOf fillSearch fillLimit xsOf ysOf pitchesOf shaded shadesOf settingsOf fullOf passOf kindAt bitsAt wholeAt passLineOf opened adding partsFrom partsOf wordIn told anyIn labelIn putIn put gatheredBy edgesIn resultIn tryIn fillWithIn fillAtIn fillVisitIn walk oneRound roundsFrom fillAfterIn afterPassIn
 fill-did = refl

@@ -12,7 +12,7 @@ use Rattle.passes.specs.Run.{Call, PassStats, growStats, fillStats, localStats,
 use Rattle.passes.specs.declared.LargestResidual.{LargestResidual}
 use Rattle.agreement.specs.Agreement.{Agree, FactorsAbove}
 use Rattle.frame_line.specs.Lines.{PassLine, grow, fill, local}
-use Rattle.frame.specs.Frame.{readFrame, accepted}
+use Rattle.frame.specs.Frame.{Frame, readFrame, accepted}
 use Rattle.frame.specs.ReadFrame.{sheetOf}
 use Rattle.frame_laws.specs.Calls.{frameCorners, callOf, callsOf}
 use Rattle.frame_agreement.specs.Reordering.{cornerLine, SameButOrder, RunAlike}
@@ -33,8 +33,12 @@ growLine = grow 0x3eb3_3333 0x3fc0_0000 0x4000_0000
 abbrev pub fillLine : PassLine
 fillLine = fill 0x3eb3_3333 0x3fc0_0000 (pos 1)
 
+-- the pass lines as calls from a frame
+abbrev pub callsFrom : Frame → List Call
+callsFrom f = map (callOf f) (localLine ∷ refusedLine ∷ growLine ∷ fillLine ∷ [])
+
 abbrev pub calls : List Call
-calls = map (callOf firstFrame) (localLine ∷ refusedLine ∷ growLine ∷ fillLine ∷ [])
+calls = callsFrom firstFrame
 
 -- what is told of a call: the number of its refusal, or how many corners it attached, of local with the largest residual recorded
 pub data Told : Type 0 where
@@ -73,7 +77,7 @@ pub record Agreed (m : Met) : Type 0 where
   pub runs : RunAlike firstFrame secondFrame (m .same)
   pub list-agrees :
       Agree (runs .reordered .corners .pairs) (sheetOf firstFrame) (sheetOf secondFrame) (run (frameCorners firstFrame) (sheetOf firstFrame) calls)
-      (run (frameCorners secondFrame) (sheetOf secondFrame) calls)
+      (run (frameCorners secondFrame) (sheetOf secondFrame) (callsFrom secondFrame))
   pub results : ResultsAlike firstText secondText firstFrame secondFrame (m .same)
   pub first-answer : answerText firstText ≡ firstResult
   pub second-answer : answerText secondText ≡ secondResult

@@ -54,15 +54,18 @@ fourLabels a b c d = label a 0 0 ∷ label b 1 0 ∷ label c 0 1 ∷ label d 1 1
 abbrev pub localLine : PassLine
 localLine = local 0x3dcc_cccd 0x3fc0_0000 (pos 1) 0x3e80_0000 (pos 1)
 
-abbrev pub frameWith : List Line → List Line → Frame
-frameWith corners labels =
+-- the local as a line, and behind it the bare passes
+abbrev pub localAnd : List Line → List Line
+localAnd bare = said 10 (bits 0x3dcc_cccd ∷ bits 0x3fc0_0000 ∷ whole (pos 1) ∷ bits 0x3e80_0000 ∷ whole (pos 1) ∷ []) ∷ bare
+
+-- the opening lines, the corners, labels with shades if there are any, and the passes
+abbrev pub frameWith : List Line → List Line → List Line → Frame
+frameWith corners labels passes =
     said 0 []
     ∷ said 1 (bits 0x4120_0000 ∷ [])
     ∷ said 2 (bits 0x3f80_0000 ∷ bits 0 ∷ bits 0 ∷ bits 0x3f80_0000 ∷ [])
     ∷ said 3 (bits 0x3e80_0000 ∷ [])
-    ∷ (corners
-    ++ (labels
-    ++ (said 10 (bits 0x3dcc_cccd ∷ bits 0x3fc0_0000 ∷ whole (pos 1) ∷ bits 0x3e80_0000 ∷ whole (pos 1) ∷ []) ∷ said 6 [] ∷ said 8 [] ∷ [])))
+    ∷ (corners ++ (labels ++ passes))
 
 -- (10 10), (20 10), (10 20), (20.5 20.5), (30 10), (10 32), (0 10), (0 10) once more, (40 10) and (43 10), each with pitch 0
 abbrev pub firstCorners : List Line
@@ -94,11 +97,14 @@ secondCorners =
     ∷ corner 0x4120_0000 0x41a0_0000
     ∷ []
 
+abbrev pub threePasses : List Line
+threePasses = localAnd (said 6 [] ∷ said 8 [] ∷ [])
+
 abbrev pub firstFrame : Frame
-firstFrame = frameWith firstCorners (fourLabels 0 1 2 3)
+firstFrame = frameWith firstCorners (fourLabels 0 1 2 3) threePasses
 
 abbrev pub secondFrame : Frame
-secondFrame = frameWith secondCorners (fourLabels 3 7 9 1)
+secondFrame = frameWith secondCorners (fourLabels 3 7 9 1) threePasses
 
 -- the number of each line in the other frame
 abbrev pub numbersInSecond : List ℕ

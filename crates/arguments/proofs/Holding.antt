@@ -1,4 +1,4 @@
--- The corners that are lent, put into the array that the passes hold one after the other. Assumes nothing.
+-- The positions and pitches that are lent, put into the array that the passes hold one after the other. Assumes nothing.
 use mathlib.Core.Path.{_≡_, refl, sym, ap, _∙_}
 use mathlib.Core.Bool.{Bool, true, false, cond}
 use mathlib.Core.List.{List}
@@ -11,10 +11,9 @@ use lib.Dec.{ltb}
 use lib.ListN.{length, getD, set, replicate, length-set, length-replicate, getD-replicate}
 use lib.Seq.{getD-set-same, getD-set-other}
 use lib.Ieee.{Float, nan, binary32, div, ofBits}
-use Rattle.sheet.specs.declared.Corner.{Corner}
-use Rattle.sheet.specs.Corners.{noCorner, CornerLists, AllListed, cornerOf, cornersOf, cornerIn, cornersIn}
+use Rattle.sheet.specs.Corners.{noCorner, CornerLists, AllListed, cornerOf, cornerIn}
 use Rattle.sheet.proofs.Corners.{listed-corner, held-corner}
-use Rattle.arguments.specs.Asked.{Holdable}
+use Rattle.arguments.specs.Asked.{NoKinds, Holdable}
 
 -- corner k put in
 abbrev pub put : List Float → ℕ → Float → Float → Float → List Float
@@ -30,13 +29,14 @@ unheld held k h = rw (le-ltb k 1024 h) refl
 
 -- with the first k corners in it, the array holds these, and no other
 pub record Holding (l : CornerLists) (held : List Float) (k : ℕ) : Type 0 where
-  pub size : length held ≡ 3072
+  pub size : length held ≡ 4096
   pub within : k ≤ length (l .xs)
   pub first : (m : ℕ) → m < k → cornerIn held m ≡ cornerOf l m
   pub rest : (m : ℕ) → k ≤ m → cornerIn held m ≡ noCorner
+  pub no-kinds : (m : ℕ) → m < 1024 → getD held (m + 3072) nan ≡ nan
 
-module _ (held : List Float) (k : ℕ) (x y pitch : Float) (h : k < 1024) (size : length held ≡ 3072) where
-  put-size : length (put held k x y pitch) ≡ 3072
+module _ (held : List Float) (k : ℕ) (x y pitch : Float) (h : k < 1024) (size : length held ≡ 4096) where
+  put-size : length (put held k x y pitch) ≡ 4096
   put-size = length-set (set (set held k x) (k + 1024) y) (k + 2048) pitch ∙ length-set (set held k x) (k + 1024) y ∙ length-set held k x ∙ size
 
   -- the corner itself
@@ -75,23 +75,36 @@ module _ (held : List Float) (k : ℕ) (x y pitch : Float) (h : k < 1024) (size 
 
 -- at first none
 pub holding-start : (l : CornerLists) (held : List Float) → Holdable l held → Holding l held 0
-holding-start l held w = record { size = w .size; within = omega arith; first = λ m h. absurd (omega arith); rest = λ m h. w .none m }
+holding-start l held w =
+    record {
+      size = w .no-kinds .size;
+      within = omega arith;
+      first = λ m h. absurd (omega arith);
+      rest = λ m h. w .no-corners m;
+      no-kinds = w .no-kinds .none;
+    }
 
 -- an array of NaNs holds none: 0 / 0 is one
-pub holdable : (l : CornerLists) → AllListed l → length (l .xs) ≤ 1024 → Holdable l (replicate 3072 (div binary32 (ofBits binary32 0) (ofBits binary32 0)))
+pub holdable : (l : CornerLists) → AllListed l → length (l .xs) ≤ 1024 → Holdable l (replicate 4096 (div binary32 (ofBits binary32 0) (ofBits binary32 0)))
 unfolding div ofBits
-holdable l listed few = record { listed = listed; few = few; size = length-replicate 3072 nan; none = λ m. go m (ltb m 1024) refl }
+holdable l listed few =
+    record {
+      listed = listed;
+      few = few;
+      no-corners = λ m. go m (ltb m 1024) refl;
+      no-kinds = record { size = length-replicate 4096 nan; none = λ m h. getD-replicate 4096 (m + 3072) nan nan (omega arith) };
+    }
   where
-    go : (m : ℕ) (t : Bool) → ltb m 1024 ≡ t → cornerIn (replicate 3072 nan) m ≡ noCorner
+    go : (m : ℕ) (t : Bool) → ltb m 1024 ≡ t → cornerIn (replicate 4096 nan) m ≡ noCorner
     go m true e =
         let h = ltb-true m 1024 e in
-        held-corner (replicate 3072 nan) m h
+        held-corner (replicate 4096 nan) m h
         ∙ rw (
-          getD-replicate 3072 m nan nan (omega arith),
-          getD-replicate 3072 (m + 1024) nan nan (omega arith),
-          getD-replicate 3072 (m + 2048) nan nan (omega arith),
+          getD-replicate 4096 m nan nan (omega arith),
+          getD-replicate 4096 (m + 1024) nan nan (omega arith),
+          getD-replicate 4096 (m + 2048) nan nan (omega arith),
         ) refl
-    go m false e = unheld (replicate 3072 nan) m (ltb-false m 1024 e)
+    go m false e = unheld (replicate 4096 nan) m (ltb-false m 1024 e)
 
 module _ {l : CornerLists} {held : List Float} {k : ℕ} (few : length (l .xs) ≤ 1024) (g : Holding l held k) where
   -- one more
@@ -102,6 +115,8 @@ module _ {l : CornerLists} {held : List Float} {k : ℕ} (few : length (l .xs) �
         within = omega arith;
         first = λ m a. first-at m a (ℕ-discrete m k);
         rest = λ m a. put-there held k _ _ _ small (g .size) m (λ e. omega arith) ∙ g .rest m (omega arith);
+        no-kinds =
+            λ m a. kept-at held k _ _ _ small (g .size) (m + 3072) (λ e. omega arith) (λ e. omega arith) (λ e. omega arith) ∙ g .no-kinds m a;
       }
     where
       small : k < 1024
@@ -112,9 +127,13 @@ module _ {l : CornerLists} {held : List Float} {k : ℕ} (few : length (l .xs) �
       first-at m a (no d) = put-there held k _ _ _ small (g .size) m d ∙ g .first m (omega (arith, d))
 
   -- with the last one the array holds the corners that are lent
-  pub holding-all : length (l .xs) ≤ k → cornersIn held (length (l .xs)) ≡ cornersOf l
-  holding-all h = ap (λ (corner : ℕ → Corner). record { count = length (l .xs); corner = corner }) (λ t m. at m (ltb m k) refl t)
+  pub holding-all : length (l .xs) ≤ k → cornerIn held ≡ cornerOf l
+  holding-all h = λ t m. at m (ltb m k) refl t
     where
       at : (m : ℕ) (t : Bool) → ltb m k ≡ t → cornerIn held m ≡ cornerOf l m
       at m true e = g .first m (ltb-true m k e)
       at m false e = let a = ltb-false m k e in g .rest m a ∙ sym (unlisted l m (omega arith))
+
+  -- and no kind yet
+  pub holding-no-kinds : NoKinds held
+  holding-no-kinds = record { size = g .size; none = g .no-kinds }

@@ -14,13 +14,14 @@ use Rattle.refusal.specs.declared.Refusal.{Refusal}
 use Rattle.binary32.specs.Ranges.{inRange}
 use Rattle.binary32.specs.declared.ranges.Quantity.{Quantity}
 use Rattle.sheet.specs.Words.{labelOf}
+use Rattle.sheet.specs.Corners.{CornerLists, cornerOf}
 use Rattle.sheet.specs.declared.Label.{Label}
 use Rattle.sheet.specs.declared.Corner.{Corner}
 use Rattle.labels.specs.Used.{names, OneCell}
 use Rattle.labels.proofs.Below.{no-both, any-hit, any-yes, any-none, any-no}
 use Rattle.labels.proofs.Used.{names-it, it-names}
 use Rattle.predict.specs.declared.Vector.{Vector}
-use Rattle.arguments.specs.Arguments.{Lent, cornerCount, queueNeeded, tooShort, overLimit, outside, cornerOutside, outsideAt, someCornerOutside, axisOutside, settingsOutside, growOutside, fillOutside, localOutside, passOutside, outOfRange, unknown, unknownAt, unknownCorner, sameCorner, doubledAt, doubledCorner, refusedIf, checked}
+use Rattle.arguments.specs.Arguments.{Lent, cornerCount, queueNeeded, tooShort, overLimit, outside, cornerOutside, shadeOutside, outsideAt, someCornerOutside, axisOutside, settingsOutside, growOutside, fillOutside, localOutside, passOutside, outOfRange, unknown, unknownAt, unknownCorner, sameCorner, doubledAt, doubledCorner, refusedIf, checked}
 use Rattle.arguments.specs.Accepted.{CornerInside, AxisInside, SettingsInside, GrowInside, FillInside, LocalInside, PassInside, Accepted, LongEnough, Known, OnTwoPlaces}
 use Rattle.arguments.specs.declared.GrowParams.{GrowParams}
 use Rattle.arguments.specs.declared.FillParams.{FillParams}
@@ -37,11 +38,13 @@ unfolding tooShort
 long-enough l pass e =
     let ys = or-false-both (ltb (length (l .corners .ys)) (cornerCount l)) _ e in
     let pitches = or-false-both (ltb (length (l .corners .pitches)) (cornerCount l)) _ (ys .1) in
-    let sheet = or-false-both (ltb (length (l .sheet)) 16384) _ (pitches .1) in
+    let shades = or-false-both (ltb (length (l .shades)) (cornerCount l)) _ (pitches .1) in
+    let sheet = or-false-both (ltb (length (l .sheet)) 16384) _ (shades .1) in
     let queue = or-false-both (ltb (l .queue) (queueNeeded pass (cornerCount l))) _ (sheet .1) in
     record {
       ys-long = ltb-false _ _ (ys .0);
       pitches-long = ltb-false _ _ (pitches .0);
+      shades-long = ltb-false _ _ (shades .0);
       sheet-long = ltb-false _ _ (sheet .0);
       queue-long = ltb-false _ _ (queue .0);
       attached-long = ltb-false _ _ (queue .1);
@@ -52,7 +55,8 @@ unfolding tooShort
 not-short l pass w =
     or-false _ _ (le-ltb _ _ (w .ys-long))
     (or-false _ _ (le-ltb _ _ (w .pitches-long))
-    (or-false _ _ (le-ltb _ _ (w .sheet-long)) (or-false _ _ (le-ltb _ _ (w .queue-long)) (le-ltb _ _ (w .attached-long)))))
+    (or-false _ _ (le-ltb _ _ (w .shades-long))
+    (or-false _ _ (le-ltb _ _ (w .sheet-long)) (or-false _ _ (le-ltb _ _ (w .queue-long)) (le-ltb _ _ (w .attached-long))))))
 
 -- ---- 3: numbers in their ranges
 
@@ -75,6 +79,19 @@ corner-inside c e =
 pub corner-not-outside : (c : Corner) → CornerInside c → cornerOutside c ≡ false
 unfolding cornerOutside
 corner-not-outside c i = or-false _ _ (not-outside _ _ (i .x)) (or-false _ _ (not-outside _ _ (i .y)) (not-outside _ _ (i .pitch)))
+
+-- of each corner that is lent, and of its shade
+module _ (l : CornerLists) (shades : List ℕ) where
+  pub corners-inside : someCornerOutside l shades ≡ false → (k : ℕ) → k < length (l .xs) → CornerInside (cornerOf l k) × (getD shades k 0 ≤ 2)
+  unfolding someCornerOutside outsideAt shadeOutside
+  corners-inside e k h =
+      let b = or-false-both (cornerOutside (cornerOf l k)) _ (any-none (outsideAt l shades) (length (l .xs)) k e h) in
+      (corner-inside _ (b .0), ltb-false 2 (getD shades k 0) (b .1))
+
+  pub corners-not-outside : ((k : ℕ) → k < length (l .xs) → CornerInside (cornerOf l k)) → ((k : ℕ) → k < length (l .xs) → getD shades k 0 ≤ 2)
+      → someCornerOutside l shades ≡ false
+  unfolding someCornerOutside outsideAt shadeOutside
+  corners-not-outside c s = any-no (outsideAt l shades) _ (λ k h. or-false _ _ (corner-not-outside _ (c k h)) (le-ltb 2 (getD shades k 0) (s k h)))
 
 pub axis-inside : (v : Vector) → axisOutside v ≡ false → AxisInside v
 unfolding axisOutside
@@ -226,7 +243,7 @@ still-fine b r rest e f = rw e f
 
 module _ (l : Lent) (settings : Settings) (pass : Pass) where
   pub accepted : checked l settings pass ≡ Checked.Fine → Accepted l settings pass
-  unfolding checked overLimit outOfRange someCornerOutside outsideAt
+  unfolding checked overLimit outOfRange
   accepted e =
       let a7 = not-refused (tooShort l pass) Refusal.BufferTooShort _ e in
       let a2 = not-refused (overLimit l) Refusal.OverLimit _ (a7 .1) in
@@ -234,13 +251,15 @@ module _ (l : Lent) (settings : Settings) (pass : Pass) where
       let a5 = not-refused (unknownCorner (cornerCount l) (l .sheet)) Refusal.UnknownCorner _ (a3 .1) in
       let a6 = not-refused (doubledCorner (l .sheet)) Refusal.Duplicate Checked.Fine (a5 .1) in
       let long = long-enough l pass (a7 .0) in
-      let numbers = or-false-both (someCornerOutside (l .corners)) _ (a3 .0) in
+      let numbers = or-false-both (someCornerOutside (l .corners) (l .shades)) _ (a3 .0) in
       let others = or-false-both (settingsOutside settings) _ (numbers .1) in
       record {
         queue-long = long .queue-long;
         attached-long = long .attached-long;
+        shades-long = long .shades-long;
         few = ltb-false _ _ (a2 .0);
-        corners-inside = λ k h. corner-inside _ (any-none (outsideAt (l .corners)) (cornerCount l) k (numbers .0) h);
+        corners-inside = λ k h. corners-inside (l .corners) (l .shades) (numbers .0) k h .0;
+        shades-inside = λ k h. corners-inside (l .corners) (l .shades) (numbers .0) k h .1;
         settings-inside = settings-inside settings (others .0);
         pass-inside = pass-inside pass (others .1);
         listed = record { ys-long = long .ys-long; pitches-long = long .pitches-long };
@@ -249,13 +268,20 @@ module _ (l : Lent) (settings : Settings) (pass : Pass) where
       }
 
   pub accepted-fine : Accepted l settings pass → checked l settings pass ≡ Checked.Fine
-  unfolding checked overLimit outOfRange someCornerOutside outsideAt
+  unfolding checked overLimit outOfRange
   accepted-fine w =
       still-fine _ _ _
       (not-short l pass
-      (record { ys-long = w .listed .ys-long; pitches-long = w .listed .pitches-long; sheet-long = w .given .long; queue-long = w .queue-long; attached-long = w .attached-long }))
+      (record {
+        ys-long = w .listed .ys-long;
+        pitches-long = w .listed .pitches-long;
+        shades-long = w .shades-long;
+        sheet-long = w .given .long;
+        queue-long = w .queue-long;
+        attached-long = w .attached-long;
+      }))
       (still-fine _ _ _ (le-ltb _ _ (w .few))
       (still-fine _ _ _
-      (or-false _ _ (any-no (outsideAt (l .corners)) _ (λ k h. corner-not-outside _ (w .corners-inside k h)))
+      (or-false _ _ (corners-not-outside (l .corners) (l .shades) (w .corners-inside) (w .shades-inside))
       (or-false _ _ (settings-not-outside _ (w .settings-inside)) (pass-not-outside _ (w .pass-inside))))
       (still-fine _ _ _ (not-unknown _ _ (record { known = w .given .known })) (still-fine _ _ _ (not-doubled _ (w .one-cell)) refl))))

@@ -5,3 +5,4 @@ pub mod Laws
 pub mod Pairing
 pub mod Meaning
 pub mod Holding
+pub mod HoldingShades

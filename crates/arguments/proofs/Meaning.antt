@@ -9,15 +9,15 @@ use lib.ListN.{getD}
 use Rattle.refusal.specs.declared.Refusal.{Refusal}
 use Rattle.sheet.specs.Words.{labelOf}
 use Rattle.sheet.specs.declared.Label.{Label}
-use Rattle.labels.proofs.Below.{no-both, any-hit, any-yes, any-none, any-no}
-use Rattle.arguments.specs.Arguments.{Lent, cornerCount, tooShort, overLimit, outsideAt, someCornerOutside, settingsOutside, outOfRange, unknown, unknownAt, unknownCorner, doubledCorner, refusedIf, checked}
+use Rattle.labels.proofs.Below.{no-both, any-hit, any-yes}
+use Rattle.arguments.specs.Arguments.{Lent, cornerCount, tooShort, overLimit, someCornerOutside, settingsOutside, outOfRange, unknown, unknownAt, unknownCorner, doubledCorner, refusedIf, checked}
 use Rattle.arguments.specs.Accepted.{LongEnough}
 use Rattle.arguments.specs.Meaning.{NumbersInside, NamesUnknown, RefusedFor, Meaning, RefusedExactlyIf}
 use Rattle.arguments.specs.declared.Checked.{Checked}
 use Rattle.arguments.specs.declared.Pass.{Pass}
 use Rattle.arguments.specs.declared.Settings.{Settings}
 use Rattle.arguments.proofs.Chains.{or-false, or-false-both}
-use Rattle.arguments.proofs.Laws.{long-enough, not-short, corner-inside, corner-not-outside, settings-inside, settings-not-outside, pass-inside, pass-not-outside, known, not-unknown, on-two-places, doubled, accepted, accepted-fine}
+use Rattle.arguments.proofs.Laws.{long-enough, not-short, corners-inside, corners-not-outside, settings-inside, settings-not-outside, pass-inside, pass-not-outside, known, not-unknown, on-two-places, doubled, accepted, accepted-fine}
 use Rattle.arguments.proofs.Tests.{refused-7, refused-2, refused-3, refused-5, refused-6, refused-none}
 
 -- a test that cannot say no says yes
@@ -48,20 +48,21 @@ module _ (l : Lent) (settings : Settings) (pass : Pass) where
   few e = ltb-false 1024 (cornerCount l) e
 
   numbers-inside : outOfRange l settings pass ≡ false → NumbersInside l settings pass
-  unfolding outOfRange someCornerOutside outsideAt
+  unfolding outOfRange
   numbers-inside e =
-      let a = or-false-both (someCornerOutside (l .corners)) _ e in
+      let a = or-false-both (someCornerOutside (l .corners) (l .shades)) _ e in
       let b = or-false-both (settingsOutside settings) _ (a .1) in
       record {
-        corners-inside = λ k h. corner-inside _ (any-none (outsideAt (l .corners)) (cornerCount l) k (a .0) h);
+        corners-inside = λ k h. corners-inside (l .corners) (l .shades) (a .0) k h .0;
+        shades-inside = λ k h. corners-inside (l .corners) (l .shades) (a .0) k h .1;
         settings-inside = settings-inside settings (b .0);
         pass-inside = pass-inside pass (b .1);
       }
 
   numbers-not-outside : NumbersInside l settings pass → outOfRange l settings pass ≡ false
-  unfolding outOfRange someCornerOutside outsideAt
+  unfolding outOfRange
   numbers-not-outside w =
-      or-false _ _ (any-no (outsideAt (l .corners)) _ (λ k h. corner-not-outside _ (w .corners-inside k h)))
+      or-false _ _ (corners-not-outside (l .corners) (l .shades) (w .corners-inside) (w .shades-inside))
       (or-false _ _ (settings-not-outside _ (w .settings-inside)) (pass-not-outside _ (w .pass-inside)))
 
   is-outside : (NumbersInside l settings pass → ⊥) → outOfRange l settings pass ≡ true

@@ -1,34 +1,46 @@
 -- Two calls on frames that hold the same corners in another order, with the same settings, pass and buffer lengths, are
 -- refused alike. Assumes nothing.
-use mathlib.Core.Path.{_≡_, refl, sym, ap, _∙_}
-use mathlib.Core.Bool.{Bool, true, false}
+use mathlib.Core.Path.{_≡_, refl, sym, ap, ap₂, _∙_}
+use mathlib.Core.Bool.{Bool, true, false, not, _||_}
 use mathlib.Core.List.{List}
-use Prim.Native.Nat.{ℕ, _<_}
+use Prim.Native.Nat.{ℕ, _<_, _≤_}
 use lib.ListN.{length, getD}
+use borrow.Author.Tests.{lt-ltb}
 use Rattle.sheet.specs.Words.{labelOf}
+use Rattle.sheet.specs.Shades.{Shade, isKind, takesKind}
+use Rattle.sheet.specs.declared.Corner.{Corner}
 use Rattle.sheet.specs.Pairing.{Shuffle, pairedLabel, PairedCorners, PairedSheets}
 use Rattle.sheet.proofs.Words.{no-corner}
 use Rattle.sheet.proofs.Pairing.{to-one}
 use Rattle.sheet.specs.declared.Label.{Label}
-use Rattle.labels.specs.Labelled.{anyBelow}
 use Rattle.labels.specs.Used.{OneCell}
-use Rattle.labels.proofs.Below.{any-hit, any-yes, any-none, any-no}
-use Rattle.arguments.specs.Arguments.{Lent, cornerCount, tooShort, overLimit, cornerOutside, outsideAt, someCornerOutside, outOfRange, checked}
+use Rattle.labels.proofs.Count.{any-paired}
+use Rattle.arguments.specs.Arguments.{Lent, cornerCount, tooShort, overLimit, cornerOutside, shadeOutside, outsideAt, someCornerOutside, outOfRange, checked}
+use Rattle.arguments.specs.Shades.{shadeOf, stands, anyShade, shadeAt, shadesOf, PairedShades}
 use Rattle.arguments.specs.Accepted.{Known}
-use Rattle.arguments.proofs.Laws.{not-unknown, not-doubled}
+use Rattle.arguments.proofs.Laws.{long-enough, not-unknown, not-doubled}
+use Rattle.arguments.proofs.Tests.{refused-7}
 use Rattle.arguments.specs.declared.Pass.{Pass}
 use Rattle.arguments.specs.declared.Settings.{Settings}
 
--- ---- a test of every number below n, and of its pair
+-- ---- the shades
 
-any-paired : {n : ℕ} (s : Shuffle n) (f g : ℕ → Bool) → ((i : ℕ) → i < n → g (s .to i) ≡ f i) → anyBelow n g ≡ anyBelow n f
-any-paired {n} s f g same = go (anyBelow n f) refl
-  where
-    go : (t : Bool) → anyBelow n f ≡ t → anyBelow n g ≡ t
-    go true e = let w = any-yes f n e in any-hit g n (s .to (w .number)) (s .to-in (w .number) (w .below)) (same (w .number) (w .below) ∙ w .passes)
-    go false e =
-        any-no g n
-        (λ j h. ap g (sym (s .to-from j h)) ∙ same (s .from j) (s .from-in j h) ∙ any-none f n (s .from j) e (s .from-in j h))
+module _ {n : ℕ} (s : Shuffle n) {shades shades' : List ℕ} (paired : PairedShades s shades shades') (long : n ≤ length shades) where
+  -- one stands in both or in neither
+  pub paired-any : anyShade shades' n ≡ anyShade shades n
+  unfolding anyShade
+  paired-any = any-paired s _ _ (λ i h. ap (λ (b : ℕ). stands (shadeOf b)) (paired .same-shade long i h))
+
+  shade-here : (shades : List ℕ) (k : ℕ) → k < n → shadeAt shades n k ≡ shadeOf (getD shades k 0)
+  unfolding shadeAt
+  shade-here shades k h = rw (lt-ltb k n h)
+
+  -- and a cell takes both corners of a pair or neither
+  pub paired-takes : (w i : ℕ) → i < n → takesKind (shadesOf shades' n) w (s .to i) ≡ takesKind (shadesOf shades n) w i
+  unfolding takesKind
+  paired-takes w i h =
+      ap₂ (λ (any : Bool) (x : Shade). not any || isKind w x) paired-any
+      (shade-here shades' (s .to i) (s .to-in i h) ∙ ap shadeOf (paired .same-shade long i h) ∙ sym (shade-here shades i h))
 
 -- ---- the sheets
 
@@ -56,21 +68,34 @@ module _ {n : ℕ} (s : Shuffle n) {sheet sheet' : List ℕ} (paired : PairedShe
 
 -- ---- the calls
 
-module _ (l l' : Lent) (settings : Settings) (pass : Pass) (paired : PairedCorners (l .corners) (l' .corners)) where
-  outside-paired : someCornerOutside (l' .corners) ≡ someCornerOutside (l .corners)
+module _ (l l' : Lent) (settings : Settings) (pass : Pass) (paired : PairedCorners (l .corners) (l' .corners))
+    (kinds : PairedShades (paired .pairs) (l .shades) (l' .shades)) where
+  outside-paired : cornerCount l ≤ length (l .shades) → someCornerOutside (l' .corners) (l' .shades) ≡ someCornerOutside (l .corners) (l .shades)
   unfolding someCornerOutside outsideAt
-  outside-paired =
+  outside-paired long =
       rw (paired .same-xs)
-      (any-paired (paired .pairs) (outsideAt (l .corners)) (outsideAt (l' .corners))
-      (λ i h. ap cornerOutside (paired .same-corner i h)))
+      (any-paired (paired .pairs) (outsideAt (l .corners) (l .shades)) (outsideAt (l' .corners) (l' .shades))
+      (λ i h. ap₂ (λ (c : Corner) (b : ℕ). cornerOutside c || shadeOutside b) (paired .same-corner i h) (kinds .same-shade long i h)))
 
-  -- equal lengths, and no sheet names a corner that is not given, or one at two places
+  -- equal lengths: too short in both calls or in neither
+  short-paired : length (l' .sheet) ≡ length (l .sheet) → l' .queue ≡ l .queue → l' .attached ≡ l .attached → tooShort l' pass ≡ tooShort l pass
+  unfolding tooShort
+  short-paired s q a = rw (paired .same-xs, paired .same-ys, paired .same-pitches, kinds .same-length, s, q, a) refl
+
+  -- and no sheet names a corner that is not given, or one at two places
   pub checked-paired : length (l' .sheet) ≡ length (l .sheet) → l' .queue ≡ l .queue → l' .attached ≡ l .attached
       → Known (cornerCount l) (l .sheet) → OneCell (l .sheet) → Known (cornerCount l') (l' .sheet) → OneCell (l' .sheet)
       → checked l' settings pass ≡ checked l settings pass
-  unfolding checked tooShort overLimit outOfRange
-  checked-paired s q a k o k' o' =
-      rw (not-unknown _ _ k, not-doubled _ o, not-unknown _ _ k', not-doubled _ o', outside-paired, paired .same-xs, paired .same-ys, paired .same-pitches, s, q, a) refl
+  unfolding checked overLimit outOfRange
+  checked-paired s q a k o k' o' = go (tooShort l pass) refl
+    where
+      short : tooShort l' pass ≡ tooShort l pass
+      short = short-paired s q a
+
+      go : (t : Bool) → tooShort l pass ≡ t → checked l' settings pass ≡ checked l settings pass
+      go true e = sym (refused-7 l' settings pass (short ∙ e)) ∙ refused-7 l settings pass e
+      go false e =
+          rw (short, not-unknown _ _ k, not-doubled _ o, not-unknown _ _ k', not-doubled _ o', outside-paired (long-enough l pass e .shades-long), paired .same-xs) refl
 
   -- the same where the sheets are paired, and the first names given corners only, each at one place
   pub checked-alike : PairedSheets (paired .pairs) (l .sheet) (l' .sheet) → l' .queue ≡ l .queue → l' .attached ≡ l .attached

@@ -62,13 +62,15 @@ PassInside (Pass.Local p) = LocalInside p
 
 -- ---- a call that is not refused
 
--- the buffers are long enough, the corners at most 1,024, all numbers in their ranges, and the sheet names given corners
--- only, each at one place
+-- the buffers are long enough, the corners at most 1,024, all numbers in their ranges, those of the shades too, and the sheet names given
+-- corners only, each at one place
 pub record Accepted (l : Lent) (settings : Settings) (pass : Pass) : Type 0 where
   pub queue-long : queueNeeded pass (cornerCount l) ≤ l .queue
   pub attached-long : cornerCount l ≤ l .attached
+  pub shades-long : cornerCount l ≤ length (l .shades)
   pub few : cornerCount l ≤ cornerLimit
   pub corners-inside : (k : ℕ) → k < cornerCount l → CornerInside (cornerOf (l .corners) k)
+  pub shades-inside : (k : ℕ) → k < cornerCount l → getD (l .shades) k 0 ≤ 2
   pub settings-inside : SettingsInside settings
   pub pass-inside : PassInside pass
   pub listed : AllListed (l .corners)
@@ -79,6 +81,7 @@ pub record Accepted (l : Lent) (settings : Settings) (pass : Pass) : Type 0 wher
 pub record LongEnough (l : Lent) (pass : Pass) : Type 0 where
   pub ys-long : cornerCount l ≤ length (l .corners .ys)
   pub pitches-long : cornerCount l ≤ length (l .corners .pitches)
+  pub shades-long : cornerCount l ≤ length (l .shades)
   pub sheet-long : placeCount ≤ length (l .sheet)
   pub queue-long : queueNeeded pass (cornerCount l) ≤ l .queue
   pub attached-long : cornerCount l ≤ l .attached

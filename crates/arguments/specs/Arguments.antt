@@ -24,15 +24,17 @@ use Rattle.arguments.specs.declared.Pass.{Pass}
 use Rattle.arguments.specs.declared.Settings.{Settings}
 use Rattle.arguments.specs.declared.Checked.{Checked}
 
--- what a call is lent: the corners, the sheet, and the lengths of the queue and the attached list
+-- what a call is lent: the corners, their shades, the sheet, and the lengths of the queue and the attached list
 pub record Lent : Type 0 where
   pub corners : CornerLists
+  pub shades : List ℕ
   pub sheet : List ℕ
   pub queue : ℕ
   pub attached : ℕ
 
-abbrev pub lent : List Float → List Float → List Float → List ℕ → ℕ → ℕ → Lent
-lent xs ys pitches sheet queue attached = record { corners = cornerLists xs ys pitches; sheet = sheet; queue = queue; attached = attached }
+abbrev pub lent : List Float → List Float → List Float → List ℕ → List ℕ → ℕ → ℕ → Lent
+lent xs ys pitches shades sheet queue attached =
+    record { corners = cornerLists xs ys pitches; shades = shades; sheet = sheet; queue = queue; attached = attached }
 
 -- the number of corners, n below: as many as there are xs
 abbrev pub cornerCount : Lent → ℕ
@@ -46,14 +48,15 @@ queueNeeded (Pass.Grow p) n = 4 * n
 queueNeeded (Pass.Fill p) n = 0
 queueNeeded (Pass.Local p) n = 0
 
--- "Needed are 16,384 sheet places, 4 queue places a corner, one attached place a corner", and each corner's y and pitch
+-- "Needed are 16,384 sheet places, 4 queue places a corner, one attached place a corner", and each corner's y, pitch and shade
 unfoldable pub tooShort : Lent → Pass → Bool
 tooShort l pass =
     ltb (length (l .corners .ys)) (cornerCount l)
     || (ltb (length (l .corners .pitches)) (cornerCount l)
+    || (ltb (length (l .shades)) (cornerCount l)
     || (ltb (length (l .sheet)) placeCount
     || (ltb (l .queue) (queueNeeded pass (cornerCount l))
-    || ltb (l .attached) (cornerCount l))))
+    || ltb (l .attached) (cornerCount l)))))
 
 -- ---- 2, overfull: "a limit on .. corners .. passed"
 
@@ -71,13 +74,17 @@ outside q x = not (inRange q x)
 unfoldable pub cornerOutside : Corner → Bool
 cornerOutside c = outside Quantity.Position (c .position .x) || (outside Quantity.Position (c .position .y) || outside Quantity.Pitch (c .pitch))
 
--- the corner k is one
-unfoldable pub outsideAt : CornerLists → ℕ → Bool
-outsideAt l k = cornerOutside (cornerOf l k)
+-- "a k other than 0 or 1 .. lent to a call 3" (document 02, 1/14): a byte that is neither no shade nor one of the two kinds
+unfoldable pub shadeOutside : ℕ → Bool
+shadeOutside b = ltb 2 b
+
+-- the corner k is such a one, or its byte is
+unfoldable pub outsideAt : CornerLists → List ℕ → ℕ → Bool
+outsideAt l shades k = cornerOutside (cornerOf l k) || shadeOutside (getD shades k 0)
 
 -- some corner of the n is one
-unfoldable pub someCornerOutside : CornerLists → Bool
-someCornerOutside l = anyBelow (length (l .xs)) (outsideAt l)
+unfoldable pub someCornerOutside : CornerLists → List ℕ → Bool
+someCornerOutside l shades = anyBelow (length (l .xs)) (outsideAt l shades)
 
 -- an axis with a part out of range
 unfoldable pub axisOutside : Vector → Bool
@@ -122,7 +129,7 @@ passOutside (Pass.Local p) = localOutside p
 
 -- any number of the call out of range
 unfoldable pub outOfRange : Lent → Settings → Pass → Bool
-outOfRange l settings pass = someCornerOutside (l .corners) || (settingsOutside settings || passOutside pass)
+outOfRange l settings pass = someCornerOutside (l .corners) (l .shades) || (settingsOutside settings || passOutside pass)
 
 -- ---- 5, stranger: "label's corner not given"
 

@@ -16,9 +16,10 @@ use Rattle.arguments.specs.declared.Checked.{Checked}
 use Rattle.arguments.specs.declared.Pass.{Pass}
 use Rattle.arguments.specs.declared.Settings.{Settings}
 
--- every number of a call is in its range: those of the corners, of the settings and of the pass
+-- every number of a call is in its range: those of the corners and their shades, of the settings and of the pass
 pub record NumbersInside (l : Lent) (settings : Settings) (pass : Pass) : Type 0 where
   pub corners-inside : (k : ℕ) → k < cornerCount l → CornerInside (cornerOf (l .corners) k)
+  pub shades-inside : (k : ℕ) → k < cornerCount l → getD (l .shades) k 0 ≤ 2
   pub settings-inside : SettingsInside settings
   pub pass-inside : PassInside pass
 

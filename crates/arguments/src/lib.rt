@@ -6,9 +6,11 @@ ghost use Prim.Native.Nat.{_≤_};
 ghost use lib.Dec.{ltb};
 ghost use lib.ListN.{length};
 ghost use Rattle.sizes.specs.Sizes.{placeCount};
-ghost use Rattle.sheet.specs.Corners.{cornerLists, cornerOf, cornersOf, cornersIn, AllListed};
+ghost use Rattle.sheet.specs.Shades.{shadesIn};
+ghost use Rattle.sheet.specs.Corners.{cornerLists, cornerOf, cornerIn, cornersIn};
+ghost use Rattle.arguments.specs.Shades.{anyShade, shadesOf, cornersOf};
 ghost use Rattle.arguments.specs.Arguments.{lent, queueNeeded, tooShort, outside, cornerOutside, someCornerOutside, axisOutside, settingsOutside, growOutside, fillOutside, localOutside, passOutside, unknown, unknownCorner, doubledCorner, checked};
-ghost use Rattle.arguments.specs.Asked.{HasCorner, Holdable, HasEntry, HasEntries, Noted, Unseen};
+ghost use Rattle.arguments.specs.Asked.{HasCorner, AllShaded, NoKinds, Holdable, TwoKinds, entryOf, HasEntry, HasEntries, Noted, Unseen};
 use binary32::ranges::Quantity;
 use predict::Grid;
 use predict::Vector;
@@ -78,17 +80,22 @@ fn too_short(
     xs: &[f32],
     ys: &[f32],
     pitches: &[f32],
+    shades: &[u8],
     sheet: &[u16],
     queue: usize,
     attached: usize,
     pass: Pass,
 ) -> bool
-    ensures { λ r. ⌜ r ≡ tooShort (lent (now (xs .entry)) (now (ys .entry)) (now (pitches .entry)) (now (sheet .entry)) queue attached) pass ⌝ }
+    ensures { λ r. ⌜ r ≡ tooShort (lent (now (xs .entry)) (now (ys .entry)) (now (pitches .entry)) (now (shades .entry)) (now (sheet .entry))
+        queue attached) pass ⌝ }
 {
     if ys.len() < xs.len() {
         return true;
     }
     if pitches.len() < xs.len() {
+        return true;
+    }
+    if shades.len() < xs.len() {
         return true;
     }
     if sheet.len() < PLACES {
@@ -132,12 +139,12 @@ fn listed_corner(xs: &[f32], ys: &[f32], pitches: &[f32], k: usize) -> Corner
     Corner { position, pitch }
 }
 
-// The corners that are lent, put into the array in which the passes hold them. It holds none before: a corner that there is not has a NaN in each of
-// its three places.
-pub fn hold_corners(xs: &[f32], ys: &[f32], pitches: &[f32], held: &mut [f32; 3 * CORNERS])
+// The positions and pitches that are lent, put into the array in which the passes hold the corners. It holds none before: a corner that there is not
+// has a NaN in each of its three places.
+fn hold_positions(xs: &[f32], ys: &[f32], pitches: &[f32], held: &mut [f32; 4 * CORNERS])
     requires { ⌜ Holdable (cornerLists (now xs) (now ys) (now pitches)) (now held) ⌝ }
-    ensures { λ _. ⌜ cornersIn (now (held .exit)) (length (now (xs .entry)))
-        ≡ cornersOf (cornerLists (now (xs .entry)) (now (ys .entry)) (now (pitches .entry))) ⌝ }
+    ensures { λ _. ⌜ (cornerIn (now (held .exit)) ≡ cornerOf (cornerLists (now (xs .entry)) (now (ys .entry)) (now (pitches .entry))))
+        × NoKinds (now (held .exit)) ⌝ }
 {
     let mut k = 0usize;
     while k < xs.len() {
@@ -148,14 +155,76 @@ pub fn hold_corners(xs: &[f32], ys: &[f32], pitches: &[f32], held: &mut [f32; 3 
     }
 }
 
-// Whether some corner's x, y or pitch is out of range.
-fn some_corner_outside(xs: &[f32], ys: &[f32], pitches: &[f32]) -> bool
-    requires { ⌜ AllListed (cornerLists (now xs) (now ys) (now pitches)) ⌝ }
-    ensures { λ r. ⌜ r ≡ someCornerOutside (cornerLists (now (xs .entry)) (now (ys .entry)) (now (pitches .entry))) ⌝ }
+// Whether any shade stands among the first n corners.
+pub fn any_shade(shades: &[u8], n: usize) -> bool
+    requires { ⌜ n ≤ length (now shades) ⌝ }
+    ensures { λ r. ⌜ r ≡ anyShade (now (shades .entry)) n ⌝ }
+{
+    let mut k = 0usize;
+    while k < n {
+        if shades[k] != 0 {
+            return true;
+        }
+        k += 1;
+    }
+    false
+}
+
+// The number that is held for a shade's byte: 1 or 2 for the two kinds, and a NaN for no shade.
+fn entry_of(shade: u8) -> f32
+    ensures { λ r. ⌜ r ≡ entryOf shade ⌝ }
+{
+    if shade == 0 {
+        return 0.0 / 0.0;
+    }
+    if shade == 1 {
+        return 1.0;
+    }
+    2.0
+}
+
+// The shades of n corners, put into that array; where none stands, the first of the kinds is 0.
+fn hold_shades(shades: &[u8], n: usize, held: &mut [f32; 4 * CORNERS])
+    requires { ⌜ TwoKinds (now shades) n × NoKinds (now held) ⌝ }
+    ensures { λ _. ⌜ (cornerIn (now (held .exit)) ≡ cornerIn (now (held .entry))) × (shadesIn (now (held .exit)) ≡ shadesOf (now (shades .entry)) n) ⌝ }
+{
+    let mut k = 0usize;
+    while k < n {
+        held[k + 3 * CORNERS] = entry_of(shades[k]);
+        k += 1;
+    }
+    if !any_shade(shades, n) {
+        held[3 * CORNERS] = 0.0;
+    }
+}
+
+// The corners that are lent, with their shades, put into the array in which the passes hold them. It holds none before.
+pub fn hold_corners(
+    xs: &[f32],
+    ys: &[f32],
+    pitches: &[f32],
+    shades: &[u8],
+    held: &mut [f32; 4 * CORNERS],
+)
+    requires { ⌜ Holdable (cornerLists (now xs) (now ys) (now pitches)) (now held) × TwoKinds (now shades) (length (now xs)) ⌝ }
+    ensures { λ _. ⌜ cornersIn (now (held .exit)) (length (now (xs .entry)))
+        ≡ cornersOf (cornerLists (now (xs .entry)) (now (ys .entry)) (now (pitches .entry))) (now (shades .entry)) ⌝ }
+{
+    hold_positions(xs, ys, pitches, held);
+    hold_shades(shades, xs.len(), held);
+}
+
+// Whether some corner's x, y or pitch is out of range, or its shade neither none nor one of the two kinds.
+fn some_corner_outside(xs: &[f32], ys: &[f32], pitches: &[f32], shades: &[u8]) -> bool
+    requires { ⌜ AllShaded (cornerLists (now xs) (now ys) (now pitches)) (now shades) ⌝ }
+    ensures { λ r. ⌜ r ≡ someCornerOutside (cornerLists (now (xs .entry)) (now (ys .entry)) (now (pitches .entry))) (now (shades .entry)) ⌝ }
 {
     let mut k = 0usize;
     while k < xs.len() {
         if corner_outside(listed_corner(xs, ys, pitches, k)) {
+            return true;
+        }
+        if 2 < shades[k] {
             return true;
         }
         k += 1;
@@ -314,21 +383,23 @@ pub fn check_arguments(
     xs: &[f32],
     ys: &[f32],
     pitches: &[f32],
+    shades: &[u8],
     sheet: &[u16],
     queue: usize,
     attached: usize,
     settings: Settings,
     pass: Pass,
 ) -> Checked
-    ensures { λ r. ⌜ r ≡ checked (lent (now (xs .entry)) (now (ys .entry)) (now (pitches .entry)) (now (sheet .entry)) queue attached) settings pass ⌝ }
+    ensures { λ r. ⌜ r ≡ checked (lent (now (xs .entry)) (now (ys .entry)) (now (pitches .entry)) (now (shades .entry)) (now (sheet .entry))
+        queue attached) settings pass ⌝ }
 {
-    if too_short(xs, ys, pitches, sheet, queue, attached, pass) {
+    if too_short(xs, ys, pitches, shades, sheet, queue, attached, pass) {
         return Checked::Refused(Refusal::BufferTooShort);
     }
     if CORNERS < xs.len() {
         return Checked::Refused(Refusal::OverLimit);
     }
-    if some_corner_outside(xs, ys, pitches) {
+    if some_corner_outside(xs, ys, pitches, shades) {
         return Checked::Refused(Refusal::OutOfRange);
     }
     if settings_outside(settings) {

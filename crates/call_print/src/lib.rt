@@ -8,6 +8,7 @@ use passes::GrowStats;
 use passes::LargestResidual;
 use passes::LocalStats;
 use passes::PassAnswer;
+use passes::Unmatched;
 use refusal::Refusal;
 use sheet::Label;
 
@@ -192,6 +193,18 @@ fn print_residual(residual: LargestResidual) {
     }
 }
 
+// Local's line of the corners that it passed over, where a shade stands.
+fn print_unmatched(unmatched: Unmatched) {
+    match unmatched {
+        Unmatched::NoShades => {}
+        Unmatched::Count(count) => {
+            print_word(b"(unmatched ");
+            print_number(count);
+            print_word(b")\n");
+        }
+    }
+}
+
 fn print_local(stats: LocalStats) {
     print_word(b"(local ");
     let counts = stats.counts;
@@ -202,6 +215,8 @@ fn print_local(stats: LocalStats) {
     let residual = stats.residual;
     print_residual(residual);
     print_rim(stats.rim);
+    let unmatched = stats.unmatched;
+    print_unmatched(unmatched);
 }
 
 // How many cells grow visited: each is counted once.

@@ -16,9 +16,10 @@ use sizes::PLACES;
 
 // ---- numbers
 
-// The k-th number of the text, and 0 where there is none.
+// The k-th number of the text, counted from 0, and 0 where there is none or its number is past 7,280, which is more than a list of 1,024 corners, as
+// many labels and 16 calls has.
 pub fn number_at(text: &[u8], k: usize) -> usize {
-    if 7000 < k {
+    if 7280 < k {
         return 0;
     }
     let at = k * 9;
@@ -45,7 +46,7 @@ fn not_finite(bits: usize) -> f32 {
 
 // The k-th float of the text.
 fn float_at(text: &[u8], k: usize) -> f32 {
-    if 7000 < k {
+    if 7280 < k {
         return 0.0;
     }
     let at = k * 9;
@@ -66,7 +67,7 @@ pub fn at_most(n: usize, most: usize) -> usize
     if n < most { n } else { most }
 }
 
-// n floats, every third from number `from` on.
+// n floats, every fourth number from number `from` on.
 pub fn read_floats(text: &[u8], from: usize, n: usize) -> [f32; 1025]
     requires { ⌜ from ≤ 100 ⌝ }
     requires { ⌜ n ≤ 1025 ⌝ }
@@ -75,7 +76,34 @@ pub fn read_floats(text: &[u8], from: usize, n: usize) -> [f32; 1025]
     let mut out = [0.0f32; 1025];
     let mut i = 0usize;
     while i < n {
-        out[i] = float_at(text, from + 3 * i);
+        out[i] = float_at(text, from + 4 * i);
+        i += 1;
+    }
+    out
+}
+
+// The byte that is lent to call `call`, counted from 0, for a corner: two bits of the word that the corner has for all calls of a list, the
+// lowest for call 0 and for call 16 again.
+fn shade_of(word: usize, call: usize) -> u8 {
+    let mut rest = word;
+    let mut i = 0usize;
+    while i < call % 16 {
+        rest = rest / 4;
+        i += 1;
+    }
+    (rest % 4) as u8
+}
+
+// The shades of n corners as call `call` is lent them, every fourth number from number `from` on.
+pub fn read_shades(text: &[u8], from: usize, n: usize, call: usize) -> [u8; 1025]
+    requires { ⌜ from ≤ 100 ⌝ }
+    requires { ⌜ n ≤ 1025 ⌝ }
+    ensures { λ r. ⌜ 1025 ≡ length r ⌝ }
+{
+    let mut out = [0u8; 1025];
+    let mut i = 0usize;
+    while i < n {
+        out[i] = shade_of(number_at(text, from + 4 * i), call);
         i += 1;
     }
     out
@@ -94,7 +122,7 @@ fn place_at(text: &[u8], k: usize) -> usize
 
 // A sheet with m labels: for each its corner, then its place.
 pub fn read_labels(text: &[u8], from: usize, m: usize) -> [u16; PLACES]
-    requires { ⌜ from ≤ 4000 ⌝ }
+    requires { ⌜ from ≤ 4200 ⌝ }
     requires { ⌜ m ≤ 2048 ⌝ }
     ensures { λ r. ⌜ placeCount ≡ length r ⌝ }
 {
@@ -120,7 +148,7 @@ fn vector_at(text: &[u8], k: usize) -> Vector
 
 // Cell, the four axis parts, band.
 pub fn settings_at(text: &[u8], k: usize) -> Settings
-    requires { ⌜ k ≤ 9000 ⌝ }
+    requires { ⌜ k ≤ 9100 ⌝ }
 {
     let axis_i = vector_at(text, k + 1);
     let axis_j = vector_at(text, k + 3);
@@ -145,7 +173,7 @@ fn rounds_at(text: &[u8], k: usize) -> u32 {
 
 // The pass of a call: kind 0 is grow, 1 fill, and any other local.
 pub fn pass_at(text: &[u8], at: usize) -> Pass
-    requires { ⌜ at ≤ 8000 ⌝ }
+    requires { ⌜ at ≤ 9000 ⌝ }
 {
     let kind = number_at(text, at);
     let search = float_at(text, at + 7);
@@ -180,10 +208,11 @@ pub struct Lengths {
     pub sheet: usize,
     pub queue: usize,
     pub attached: usize,
+    pub shades: usize,
 }
 
 pub fn lengths_at(text: &[u8], k: usize) -> Lengths
-    requires { ⌜ k ≤ 9000 ⌝ }
+    requires { ⌜ k ≤ 9100 ⌝ }
 {
     Lengths {
         ys: number_at(text, k),
@@ -191,6 +220,7 @@ pub fn lengths_at(text: &[u8], k: usize) -> Lengths
         sheet: number_at(text, k + 2),
         queue: number_at(text, k + 3),
         attached: number_at(text, k + 4),
+        shades: number_at(text, k + 5),
     }
 }
 
@@ -207,18 +237,18 @@ pub struct Header {
 }
 
 pub fn header_at(text: &[u8]) -> Header
-    ensures { λ r. ⌜ (r .n ≤ 1025) × (r .labels ≤ 2048) × (r .count ≤ 40) × (r .first ≤ 7200) × (4 ≤ r .all) × (r .all ≤ 8000) ⌝ }
+    ensures { λ r. ⌜ (r .n ≤ 1025) × (r .labels ≤ 2048) × (r .count ≤ 40) × (r .first ≤ 8200) × (4 ≤ r .all) × (r .all ≤ 9000) ⌝ }
 {
     let n = at_most(number_at(text, 0), 1025);
     let labels = at_most(number_at(text, 1), 2048);
     let count = at_most(number_at(text, 2), 40);
-    let first = 4 + 3 * n + 2 * labels;
+    let first = 4 + 4 * n + 2 * labels;
     Header {
         n,
         labels,
         count,
         first,
-        all: first + 17 * count,
+        all: first + 18 * count,
     }
 }
 
@@ -227,7 +257,7 @@ pub fn has_unknown_kind(text: &[u8]) -> bool {
     let h = header_at(text);
     let mut i = 0usize;
     while i < h.count {
-        if 2 < number_at(text, h.first + 17 * i) {
+        if 2 < number_at(text, h.first + 18 * i) {
             return true;
         }
         i += 1;

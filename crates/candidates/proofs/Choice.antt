@@ -16,16 +16,16 @@ use Rattle.binary32.specs.Numbers.{one}
 use Rattle.sheet.specs.Corners.{squaredDistance, finitePosition}
 use Rattle.candidates.specs.declared.Candidate.{Candidate}
 use Rattle.candidates.specs.declared.CandidateChoice.the-variants.{Nothing, Ambiguous, Unique}
-use Rattle.candidates.specs.Candidates.{eligible, squaredRadius, candidatesAt, firstTwo}
+use Rattle.candidates.specs.Candidates.{squaredRadius, candidatesAt, firstTwo}
 use Rattle.candidates.specs.Choice.{epsilon, byQuotient, chooseUnambiguous, raised, chooseWithFloor}
 use Rattle.candidates.proofs.Collected.{Sound, sound-no-nan, within, candidates-none, candidates-exactly}
 
 -- ---- what is chosen is a candidate
 
--- corner k is among the n corners, is unlabelled and lies within the radius
-pub record Chosen (position : ℕ → Position) (unlabelled : ℕ → Bool) (n : ℕ) (p : Position) (r : Float) (k : ℕ) : Type 0 where
+-- corner k is among the n corners, may be a candidate and lies within the radius
+pub record Chosen (position : ℕ → Position) (may : ℕ → Bool) (n : ℕ) (p : Position) (r : Float) (k : ℕ) : Type 0 where
   pub there : k < n
-  pub free : unlabelled k ≡ true
+  pub free : may k ≡ true
   pub near : le (squaredDistance (position k) p) (squaredRadius r) ≡ true
 
 picks : (b : Bool) (j k : ℕ) → cond b Ambiguous (Unique j) ≡ Unique k → j ≡ k
@@ -55,26 +55,25 @@ floor-first [] factor k h = absurd (nothing k h)
 floor-first (a ∷ []) factor k h = (a, List·Memᴰ·head refl, picks false (a .number) k h)
 floor-first (a ∷ (b ∷ l)) factor k h = (a, List·Memᴰ·head refl, picks (lt (div binary32 (b .distance) (raised (a .distance))) factor) (a .number) k h)
 
-module _ (position : ℕ → Position) (unlabelled : ℕ → Bool) (n : ℕ) (p : Position) (r : Float) where
-  member : (k : ℕ) → (c : Candidate) × List·Memᴰ c (candidatesAt position unlabelled n p r) × (c .number ≡ k) → Chosen position unlabelled n p r k
-  unfolding eligible
+module _ (position : ℕ → Position) (may : ℕ → Bool) (n : ℕ) (p : Position) (r : Float) where
+  member : (k : ℕ) → (c : Candidate) × List·Memᴰ c (candidatesAt position may n p r) × (c .number ≡ k) → Chosen position may n p r k
   member k (c, m, e) = go (finitePosition p) refl
     where
-      go : (t : Bool) → finitePosition p ≡ t → Chosen position unlabelled n p r k
+      go : (t : Bool) → finitePosition p ≡ t → Chosen position may n p r k
       go true f =
-          let o = candidates-exactly position unlabelled n p r f .only c m in
+          let o = candidates-exactly position may n p r f .only c m in
           record {
             there = subst (λ (j : ℕ). j < n) e (o .there);
-            free = and-eq-true-iff (unlabelled k) (le (squaredDistance (position k) p) (squaredRadius r)) .0 (rw e at (o .is-candidate)) .0;
-            near = within position unlabelled p r k (rw e at (o .is-candidate));
+            free = and-eq-true-iff (may k) (le (squaredDistance (position k) p) (squaredRadius r)) .0 (rw e at (o .is-candidate)) .0;
+            near = within position may p r k (rw e at (o .is-candidate));
           }
-      go false f = absurd (List·Memᴰ·not-nil (rw (candidates-none position unlabelled n p r f) at m))
+      go false f = absurd (List·Memᴰ·not-nil (rw (candidates-none position may n p r f) at m))
 
-  pub chosen-unambiguous : (factor : Float) (k : ℕ) → chooseUnambiguous (firstTwo (candidatesAt position unlabelled n p r)) factor ≡ Unique k → Chosen position unlabelled n p r k
-  chosen-unambiguous factor k h = member k (unambiguous-first (candidatesAt position unlabelled n p r) factor k h)
+  pub chosen-unambiguous : (factor : Float) (k : ℕ) → chooseUnambiguous (firstTwo (candidatesAt position may n p r)) factor ≡ Unique k → Chosen position may n p r k
+  chosen-unambiguous factor k h = member k (unambiguous-first (candidatesAt position may n p r) factor k h)
 
-  pub chosen-with-floor : (factor : Float) (k : ℕ) → chooseWithFloor (firstTwo (candidatesAt position unlabelled n p r)) factor ≡ Unique k → Chosen position unlabelled n p r k
-  chosen-with-floor factor k h = member k (floor-first (candidatesAt position unlabelled n p r) factor k h)
+  pub chosen-with-floor : (factor : Float) (k : ℕ) → chooseWithFloor (firstTwo (candidatesAt position may n p r)) factor ≡ Unique k → Chosen position may n p r k
+  chosen-with-floor factor k h = member k (floor-first (candidatesAt position may n p r) factor k h)
 
 -- ---- a tie for the first place
 

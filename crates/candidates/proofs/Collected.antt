@@ -17,7 +17,7 @@ use Rattle.binary32.proofs.Exists.{sqrt-unsigned, sqrt-fits}
 use Rattle.sheet.specs.declared.Position.{Position}
 use Rattle.sheet.specs.Corners.{squaredDistance, finitePosition}
 use Rattle.candidates.specs.declared.Candidate.{Candidate}
-use Rattle.candidates.specs.Candidates.{eligible, squaredRadius, isCandidate, distanceOf, insertIf, ordered, candidatesAt}
+use Rattle.candidates.specs.Candidates.{squaredRadius, isCandidate, distanceOf, insertIf, ordered, candidatesAt}
 use Rattle.candidates.specs.Listing.{Exactly, Sorted}
 use Rattle.candidates.proofs.Listing.{nth, longer, exactly, sorted}
 
@@ -43,10 +43,10 @@ root-sound (fin false m e) s =
       held = sqrt-fits (fin false m e) (s .held);
     }
 
-module _ (position : ℕ → Position) (unlabelled : ℕ → Bool) (p : Position) (r : Float) where
+module _ (position : ℕ → Position) (may : ℕ → Bool) (p : Position) (r : Float) where
   -- a candidate lies within the radius
-  pub within : (k : ℕ) → isCandidate position unlabelled p r k ≡ true → le (squaredDistance (position k) p) (squaredRadius r) ≡ true
-  within k h = and-eq-true-iff (eligible unlabelled k) (le (squaredDistance (position k) p) (squaredRadius r)) .0 h .1
+  pub within : (k : ℕ) → isCandidate position may p r k ≡ true → le (squaredDistance (position k) p) (squaredRadius r) ≡ true
+  within k h = and-eq-true-iff (may k) (le (squaredDistance (position k) p) (squaredRadius r)) .0 h .1
 
   square-sound : T (finite (squaredRadius r)) → (k : ℕ) → le (squaredDistance (position k) p) (squaredRadius r) ≡ true → Sound (squaredDistance (position k) p)
   unfolding squaredDistance
@@ -57,31 +57,31 @@ module _ (position : ℕ → Position) (unlabelled : ℕ → Bool) (p : Position
       record { unsigned = u; bounded = finite-under _ _ u small h; held = add-fits binary32 (mul binary32 dx dx) (mul binary32 dy dy) }
 
   -- so its distance is finite and has no sign
-  pub distance-sound : T (finite (squaredRadius r)) → (k : ℕ) → isCandidate position unlabelled p r k ≡ true → Sound (distanceOf position p k)
+  pub distance-sound : T (finite (squaredRadius r)) → (k : ℕ) → isCandidate position may p r k ≡ true → Sound (distanceOf position p k)
   distance-sound small k h = root-sound (squaredDistance (position k) p) (square-sound small k (within k h))
 
 -- ---- the list
 
-module _ (position : ℕ → Position) (unlabelled : ℕ → Bool) (n : ℕ) (p : Position) (r : Float) where
-  pub candidates-none : finitePosition p ≡ false → candidatesAt position unlabelled n p r ≡ []
+module _ (position : ℕ → Position) (may : ℕ → Bool) (n : ℕ) (p : Position) (r : Float) where
+  pub candidates-none : finitePosition p ≡ false → candidatesAt position may n p r ≡ []
   unfolding candidatesAt
   candidates-none e = rw e
 
-  pub candidates-are : finitePosition p ≡ true → candidatesAt position unlabelled n p r ≡ ordered (distanceOf position p) (isCandidate position unlabelled p r) n
+  pub candidates-are : finitePosition p ≡ true → candidatesAt position may n p r ≡ ordered (distanceOf position p) (isCandidate position may p r) n
   unfolding candidatesAt
   candidates-are e = rw e
 
   -- exactly the candidates, each once
-  pub candidates-exactly : finitePosition p ≡ true → Exactly (distanceOf position p) (isCandidate position unlabelled p r) n (candidatesAt position unlabelled n p r)
-  candidates-exactly e = rw (candidates-are e) (exactly (distanceOf position p) (isCandidate position unlabelled p r) n)
+  pub candidates-exactly : finitePosition p ≡ true → Exactly (distanceOf position p) (isCandidate position may p r) n (candidatesAt position may n p r)
+  candidates-exactly e = rw (candidates-are e) (exactly (distanceOf position p) (isCandidate position may p r) n)
 
   -- by distance, then corner number
-  pub candidates-sorted : T (finite (squaredRadius r)) → Sorted (candidatesAt position unlabelled n p r)
+  pub candidates-sorted : T (finite (squaredRadius r)) → Sorted (candidatesAt position may n p r)
   candidates-sorted small = go (finitePosition p) refl
     where
-      go : (t : Bool) → finitePosition p ≡ t → Sorted (candidatesAt position unlabelled n p r)
+      go : (t : Bool) → finitePosition p ≡ t → Sorted (candidatesAt position may n p r)
       go true e =
-          rw (candidates-are e) (sorted (distanceOf position p) (isCandidate position unlabelled p r) (λ k h. sound-no-nan _ (distance-sound position unlabelled p r small k h)) n)
+          rw (candidates-are e) (sorted (distanceOf position p) (isCandidate position may p r) (λ k h. sound-no-nan _ (distance-sound position may p r small k h)) n)
       go false e = rw (candidates-none e) tt
 
 -- ---- nothing but the corners below n counts
@@ -98,12 +98,12 @@ ordered-agrees distance distance' candidate candidate' (suc n) d c =
         → insertIf (candidate n) (nth distance n) (ordered distance candidate n) ≡ insertIf (candidate' n) (nth distance' n) (ordered distance' candidate' n)
     go rest e f = rw (rest, e, f)
 
-pub candidates-agree : (position position' : ℕ → Position) (unlabelled unlabelled' : ℕ → Bool) (n : ℕ) (p : Position) (r : Float)
-    → ((k : ℕ) → k < n → position k ≡ position' k) → ((k : ℕ) → k < n → unlabelled k ≡ unlabelled' k)
-    → candidatesAt position unlabelled n p r ≡ candidatesAt position' unlabelled' n p r
-unfolding candidatesAt eligible
-candidates-agree position position' unlabelled unlabelled' n p r same free =
+pub candidates-agree : (position position' : ℕ → Position) (may may' : ℕ → Bool) (n : ℕ) (p : Position) (r : Float)
+    → ((k : ℕ) → k < n → position k ≡ position' k) → ((k : ℕ) → k < n → may k ≡ may' k)
+    → candidatesAt position may n p r ≡ candidatesAt position' may' n p r
+unfolding candidatesAt
+candidates-agree position position' may may' n p r same free =
     ap (λ (l : List Candidate). cond (finitePosition p) l [])
-    (ordered-agrees (distanceOf position p) (distanceOf position' p) (isCandidate position unlabelled p r) (isCandidate position' unlabelled' p r) n
+    (ordered-agrees (distanceOf position p) (distanceOf position' p) (isCandidate position may p r) (isCandidate position' may' p r) n
     (λ k h. ap (λ (q : Position). sqrtOrNan (squaredDistance q p)) (same k h))
     (λ k h. ap₂ (λ (b : Bool) (q : Position). b && le (squaredDistance q p) (squaredRadius r)) (free k h) (same k h)))

@@ -17,7 +17,7 @@ use Rattle.candidates.specs.declared.Candidate.{Candidate}
 use Rattle.candidates.specs.declared.Candidates.{Candidates}
 use Rattle.candidates.specs.declared.Candidates.the-variants.{Empty, One, Several}
 use Rattle.candidates.specs.declared.CandidateChoice.the-variants.{Ambiguous, Unique}
-use Rattle.candidates.specs.Candidates.{eligible, squaredRadius, isCandidate, distanceOf, candidatesAt, firstTwo}
+use Rattle.candidates.specs.Candidates.{squaredRadius, isCandidate, distanceOf, candidatesAt, firstTwo}
 use Rattle.candidates.specs.Choice.{epsilon, byQuotient, chooseUnambiguous, raised, chooseWithFloor, renumbered}
 use Rattle.candidates.proofs.Listing.{nth}
 use Rattle.candidates.proofs.Collected.{Sound, sound-no-nan, distance-sound, candidates-none, candidates-are}
@@ -147,32 +147,31 @@ module _ (to : ℕ → ℕ) (factor : Float) (above : lt one factor ≡ true) wh
 
 -- Corner i of the first order is corner `to i` of the second: it lies at the same place, and is labelled in both or in neither.
 -- The squared radius is finite, and the factor is above 1.
-module _ {n : ℕ} (s : Shuffle n) (position position' : ℕ → Position) (unlabelled unlabelled' : ℕ → Bool)
+module _ {n : ℕ} (s : Shuffle n) (position position' : ℕ → Position) (may may' : ℕ → Bool)
     (same-place : (i : ℕ) → i < n → position' (s .to i) ≡ position i)
-    (same-label : (i : ℕ) → i < n → unlabelled' (s .to i) ≡ unlabelled i)
+    (same-label : (i : ℕ) → i < n → may' (s .to i) ≡ may i)
     (p : Position) (r : Float) (small : T (finite (squaredRadius r))) where
-  pub found-alike : Alike (s .to) (firstTwo (candidatesAt position unlabelled n p r)) (firstTwo (candidatesAt position' unlabelled' n p r))
-  unfolding eligible
+  pub found-alike : Alike (s .to) (firstTwo (candidatesAt position may n p r)) (firstTwo (candidatesAt position' may' n p r))
   found-alike = go (finitePosition p) refl
     where
-      go : (t : Bool) → finitePosition p ≡ t → Alike (s .to) (firstTwo (candidatesAt position unlabelled n p r)) (firstTwo (candidatesAt position' unlabelled' n p r))
+      go : (t : Bool) → finitePosition p ≡ t → Alike (s .to) (firstTwo (candidatesAt position may n p r)) (firstTwo (candidatesAt position' may' n p r))
       go true e =
-          rw (candidates-are position unlabelled n p r e, candidates-are position' unlabelled' n p r e)
-          (alike s (distanceOf position p) (distanceOf position' p) (isCandidate position unlabelled p r) (isCandidate position' unlabelled' p r)
+          rw (candidates-are position may n p r e, candidates-are position' may' n p r e)
+          (alike s (distanceOf position p) (distanceOf position' p) (isCandidate position may p r) (isCandidate position' may' p r)
           (λ i h. ap (λ (q : Position). sqrtOrNan (squaredDistance q p)) (same-place i h))
           (λ i h. ap₂ (λ (b : Bool) (q : Position). b && le (squaredDistance q p) (squaredRadius r)) (same-label i h) (same-place i h))
-          (distance-sound position unlabelled p r small)
+          (distance-sound position may p r small)
           _ _
-          (found (distanceOf position p) (isCandidate position unlabelled p r) (λ k h. sound-no-nan _ (distance-sound position unlabelled p r small k h)) n)
-          (found (distanceOf position' p) (isCandidate position' unlabelled' p r) (λ k h. sound-no-nan _ (distance-sound position' unlabelled' p r small k h)) n))
-      go false e = rw (candidates-none position unlabelled n p r e, candidates-none position' unlabelled' n p r e) (unfold firstTwo in alike-none)
+          (found (distanceOf position p) (isCandidate position may p r) (λ k h. sound-no-nan _ (distance-sound position may p r small k h)) n)
+          (found (distanceOf position' p) (isCandidate position' may' p r) (λ k h. sound-no-nan _ (distance-sound position' may' p r small k h)) n))
+      go false e = rw (candidates-none position may n p r e, candidates-none position' may' n p r e) (unfold firstTwo in alike-none)
 
   -- grow's choice is the same through the pairing
   pub paired-unambiguous : (factor : Float) → lt one factor ≡ true
-      → chooseUnambiguous (firstTwo (candidatesAt position' unlabelled' n p r)) factor ≡ renumbered (s .to) (chooseUnambiguous (firstTwo (candidatesAt position unlabelled n p r)) factor)
+      → chooseUnambiguous (firstTwo (candidatesAt position' may' n p r)) factor ≡ renumbered (s .to) (chooseUnambiguous (firstTwo (candidatesAt position may n p r)) factor)
   paired-unambiguous factor above = unambiguous-alike (s .to) factor above _ _ found-alike
 
   -- and so is fill's and local's
   pub paired-with-floor : (factor : Float) → lt one factor ≡ true
-      → chooseWithFloor (firstTwo (candidatesAt position' unlabelled' n p r)) factor ≡ renumbered (s .to) (chooseWithFloor (firstTwo (candidatesAt position unlabelled n p r)) factor)
+      → chooseWithFloor (firstTwo (candidatesAt position' may' n p r)) factor ≡ renumbered (s .to) (chooseWithFloor (firstTwo (candidatesAt position may n p r)) factor)
   paired-with-floor factor above = floor-alike (s .to) factor above _ _ found-alike

@@ -17,7 +17,7 @@ use Rattle.candidates.specs.declared.Candidate.{Candidate}
 use Rattle.candidates.specs.declared.Candidates.{Candidates}
 use Rattle.candidates.specs.declared.Candidates.the-variants.{Empty, Several}
 use Rattle.candidates.specs.declared.Found.{Found}
-use Rattle.candidates.specs.Candidates.{positionsIn, unmarked, eligible, squaredRadius, isCandidate, distanceOf, insert, ordered, candidatesAt, firstTwo}
+use Rattle.candidates.specs.Candidates.{positionsIn, eligible, squaredRadius, isCandidate, distanceOf, insert, ordered, candidatesAt, firstTwo}
 use Rattle.candidates.specs.Steps.{kept, narrowed, isNear, isWithin, oneIf, countFrom, firstTwoBelow, Next, measured}
 use Rattle.candidates.proofs.Listing.{before-later, nth, exactly}
 use Rattle.candidates.proofs.Limit.{Limited, squared, limited-within, passed-over, narrowed-found, narrowed-limited}
@@ -74,27 +74,40 @@ skips distance candidate found from (suc r) h after e = go (λ l. skips distance
 
 -- ---- the test of one corner
 
-module _ (position : ℕ → Position) (unlabelled : ℕ → Bool) (p : Position) (limit : Float) (k : ℕ) where
-  pub labelled : eligible unlabelled k ≡ false → false ≡ isWithin position unlabelled p limit k
+module _ (position : ℕ → Position) (unlabelled taken : ℕ → Bool) (p : Position) (limit : Float) (k : ℕ) where
+  pub labelled : unlabelled k ≡ false → false ≡ isWithin position (eligible unlabelled taken) p limit k
+  unfolding eligible
   labelled e = rw e
 
-  pub free : eligible unlabelled k ≡ true → le (squaredDistance (position k) p) limit ≡ isWithin position unlabelled p limit k
-  free e = rw e
+  pub far : le (squaredDistance (position k) p) limit ≡ false → false ≡ isWithin position (eligible unlabelled taken) p limit k
+  far e = rw e (go (eligible unlabelled taken k))
+    where
+      go : (t : Bool) → false ≡ (t && false)
+      go true = refl
+      go false = refl
+
+  pub by-kind : unlabelled k ≡ true → le (squaredDistance (position k) p) limit ≡ true → taken k ≡ isWithin position (eligible unlabelled taken) p limit k
+  unfolding eligible
+  by-kind e f = rw (e, f) (go (taken k))
+    where
+      go : (t : Bool) → t ≡ (t && true)
+      go true = refl
+      go false = refl
 
 -- the same test with a smaller limit than the squared radius
-module _ (position : ℕ → Position) (unlabelled : ℕ → Bool) (p : Position) (r limit : Float) (k : ℕ) where
+module _ (position : ℕ → Position) (may : ℕ → Bool) (p : Position) (r limit : Float) (k : ℕ) where
   -- what passes it is a candidate
   hits : (le (squaredDistance (position k) p) limit ≡ true → le (squaredDistance (position k) p) (squaredRadius r) ≡ true)
-      → isWithin position unlabelled p limit k ≡ true → isCandidate position unlabelled p r k ≡ true
+      → isWithin position may p limit k ≡ true → isCandidate position may p r k ≡ true
   hits more h =
-      let b = and-eq-true-iff (eligible unlabelled k) (le (squaredDistance (position k) p) limit) .0 h in
+      let b = and-eq-true-iff (may k) (le (squaredDistance (position k) p) limit) .0 h in
       rw (b .0, more (b .1))
 
   -- and a candidate that does not pass it is beyond the limit
-  beyond : isCandidate position unlabelled p r k ≡ true → isWithin position unlabelled p limit k ≡ false
+  beyond : isCandidate position may p r k ≡ true → isWithin position may p limit k ≡ false
       → (le (squaredDistance (position k) p) (squaredRadius r) ≡ true) × (le (squaredDistance (position k) p) limit ≡ false)
   beyond h n =
-      let b = and-eq-true-iff (eligible unlabelled k) (le (squaredDistance (position k) p) (squaredRadius r)) .0 h in
+      let b = and-eq-true-iff (may k) (le (squaredDistance (position k) p) (squaredRadius r)) .0 h in
       (b .1, rw (b .0) at n)
 
 -- ---- the search for the next corner within the limit: the corners passed are not
@@ -165,62 +178,62 @@ module _ (position : ℕ → Position) (p : Position) (limit : Float) (k : ℕ) 
   one-far h = rw (← e, h)
 
 -- none of them lies within the limit, so none is a candidate
-module _ (position : ℕ → Position) (unlabelled : ℕ → Bool) (p : Position) (limit : Float) where
-  pub passing-block : (n from k : ℕ) {count : ℕ} → Passing (isWithin position unlabelled p limit) n from k → k + 32 ≤ n → count ≡ countFrom (isNear position p limit) k 32 → count ≡ 0
-      → Passing (isWithin position unlabelled p limit) n from (k + 32)
+module _ (position : ℕ → Position) (may : ℕ → Bool) (p : Position) (limit : Float) where
+  pub passing-block : (n from k : ℕ) {count : ℕ} → Passing (isWithin position may p limit) n from k → k + 32 ≤ n → count ≡ countFrom (isNear position p limit) k 32 → count ≡ 0
+      → Passing (isWithin position may p limit) n from (k + 32)
   passing-block n from k h room e z = record { on = omega (arith, h .on); within = room; passed = λ i a b. go i a b (leb k i) refl }
     where
-      far : (i : ℕ) → k ≤ i → i < k + 32 → isWithin position unlabelled p limit i ≡ false
-      far i a b = rw (count-none (isNear position p limit) k 32 (sym e ∙ z) i a b) (both (eligible unlabelled i))
+      far : (i : ℕ) → k ≤ i → i < k + 32 → isWithin position may p limit i ≡ false
+      far i a b = rw (count-none (isNear position p limit) k 32 (sym e ∙ z) i a b) (both (may i))
         where
           both : (t : Bool) → (t && false) ≡ false
           both true = refl
           both false = refl
 
-      go : (i : ℕ) → from ≤ i → i < k + 32 → (t : Bool) → leb k i ≡ t → isWithin position unlabelled p limit i ≡ false
+      go : (i : ℕ) → from ≤ i → i < k + 32 → (t : Bool) → leb k i ≡ t → isWithin position may p limit i ≡ false
       go i a b true l = far i (leb-true k i l) b
       go i a b false l = h .passed i a (leb-false k i l)
 
 -- ---- the scan from one hit to the next: corner k is the next within the limit or there is none, what was found is right for those before it,
 -- and so is what stands beside it
 
-pub record Scanned (held : List Float) (used : List ℕ) (n : ℕ) (p : Position) (r : Float) (found : Found) (k : ℕ) : Type 0 where
+pub record Scanned (held : List Float) (may : ℕ → Bool) (n : ℕ) (p : Position) (r : Float) (found : Found) (k : ℕ) : Type 0 where
   pub within : k ≤ n
-  pub hit : k < n → isWithin (positionsIn held) (unmarked used) p (found .limit) k ≡ true
-  pub so-far : found .candidates ≡ firstTwoBelow held used k p r
+  pub hit : k < n → isWithin (positionsIn held) may p (found .limit) k ≡ true
+  pub so-far : found .candidates ≡ firstTwoBelow held may k p r
   pub limited : Limited (squaredRadius r) found
 
 -- ---- the whole scan
 
-module _ (held : List Float) (used : List ℕ) (n : ℕ) (p : Position) (r : Float) where
-  pub nowhere-x : isFinite (p .x) ≡ false → Empty ≡ firstTwo (candidatesAt (positionsIn held) (unmarked used) n p r)
+module _ (held : List Float) (may : ℕ → Bool) (n : ℕ) (p : Position) (r : Float) where
+  pub nowhere-x : isFinite (p .x) ≡ false → Empty ≡ firstTwo (candidatesAt (positionsIn held) may n p r)
   unfolding candidatesAt firstTwo
   nowhere-x e = rw e
 
-  pub nowhere-y : isFinite (p .x) ≡ true → isFinite (p .y) ≡ false → Empty ≡ firstTwo (candidatesAt (positionsIn held) (unmarked used) n p r)
+  pub nowhere-y : isFinite (p .x) ≡ true → isFinite (p .y) ≡ false → Empty ≡ firstTwo (candidatesAt (positionsIn held) may n p r)
   unfolding candidatesAt firstTwo
   nowhere-y e f = rw (e, f)
 
   -- from a corner, before which what was found is right, to the next within the limit
-  scanned-on : (found : Found) (from k : ℕ) → found .candidates ≡ firstTwoBelow held used from p r
+  scanned-on : (found : Found) (from k : ℕ) → found .candidates ≡ firstTwoBelow held may from p r
       → Limited (squaredRadius r) found
-      → Next (isWithin (positionsIn held) (unmarked used) p (found .limit)) n from k → Scanned held used n p r found k
+      → Next (isWithin (positionsIn held) may p (found .limit)) n from k → Scanned held may n p r found k
   scanned-on found from k e l s =
       record {
         within = s .within;
         hit = s .hit;
-        so-far = skips (distanceOf (positionsIn held) p) (isCandidate (positionsIn held) (unmarked used) p r) (found .candidates) from k (s .on) after e;
+        so-far = skips (distanceOf (positionsIn held) p) (isCandidate (positionsIn held) may p r) (found .candidates) from k (s .on) after e;
         limited = l;
       }
     where
-      after : (i : ℕ) → from ≤ i → i < k → isCandidate (positionsIn held) (unmarked used) p r i ≡ true
+      after : (i : ℕ) → from ≤ i → i < k → isCandidate (positionsIn held) may p r i ≡ true
           → kept (found .candidates) (nth (distanceOf (positionsIn held) p) i) ≡ found .candidates
       after i a b h =
-          let n = beyond (positionsIn held) (unmarked used) p r (found .limit) i h (s .passed i a b) in
+          let n = beyond (positionsIn held) may p r (found .limit) i h (s .passed i a b) in
           passed-over (squaredRadius r) found (squaredDistance (positionsIn held i) p) (nth (distanceOf (positionsIn held) p) i)
           l (squared (positionsIn held i) p (squaredRadius r) (n .0)) (n .1)
 
-  none-yet : Empty ≡ firstTwoBelow held used 0 p r
+  none-yet : Empty ≡ firstTwoBelow held may 0 p r
   unfolding ordered firstTwo
   none-yet = refl
 
@@ -228,17 +241,17 @@ module _ (held : List Float) (used : List ℕ) (n : ℕ) (p : Position) (r : Flo
   abbrev nothing : Float → Found
   nothing square = record { candidates = Empty; square = square; limit = squaredRadius r }
 
-  pub scanned-start : (square : Float) (k : ℕ) → Next (isWithin (positionsIn held) (unmarked used) p (squaredRadius r)) n 0 k → Scanned held used n p r (nothing square) k
+  pub scanned-start : (square : Float) (k : ℕ) → Next (isWithin (positionsIn held) may p (squaredRadius r)) n 0 k → Scanned held may n p r (nothing square) k
   scanned-start square k s = scanned-on (nothing square) 0 k none-yet refl s
 
   -- one more candidate
-  pub scanned-more : (found more : Found) (k k' : ℕ) → Scanned held used n p r found k → k < n
+  pub scanned-more : (found more : Found) (k k' : ℕ) → Scanned held may n p r found k → k < n
       → more ≡ narrowed found (measured (positionsIn held) p k) (squaredDistance (positionsIn held k) p)
-      → Next (isWithin (positionsIn held) (unmarked used) p (more .limit)) n (k + 1) k' → Scanned held used n p r more k'
+      → Next (isWithin (positionsIn held) may p (more .limit)) n (k + 1) k' → Scanned held may n p r more k'
   scanned-more found more k k' h l e s =
       scanned-on more (k + 1) k'
       (ap (λ (f : Found). f .candidates) e ∙ narrowed-found found c d2 ∙ ap (λ (f : Candidates). kept f c) (h .so-far)
-      ∙ rw add-one (grows (distanceOf (positionsIn held) p) (isCandidate (positionsIn held) (unmarked used) p r) k taken))
+      ∙ rw add-one (grows (distanceOf (positionsIn held) p) (isCandidate (positionsIn held) may p r) k taken))
       (subst (λ (f : Found). Limited (squaredRadius r) f) (sym e)
       (narrowed-limited (squaredRadius r) found c d2 (h .limited) (squared (positionsIn held k) p (squaredRadius r) near)))
       s
@@ -249,22 +262,22 @@ module _ (held : List Float) (used : List ℕ) (n : ℕ) (p : Position) (r : Flo
       d2 : Float
       d2 = squaredDistance (positionsIn held k) p
 
-      taken : isCandidate (positionsIn held) (unmarked used) p r k ≡ true
-      taken = hits (positionsIn held) (unmarked used) p r (found .limit) k (limited-within (squaredRadius r) found d2 (h .limited)) (h .hit l)
+      taken : isCandidate (positionsIn held) may p r k ≡ true
+      taken = hits (positionsIn held) may p r (found .limit) k (limited-within (squaredRadius r) found d2 (h .limited)) (h .hit l)
 
       near : le d2 (squaredRadius r) ≡ true
-      near = and-eq-true-iff (eligible (unmarked used) k) (le d2 (squaredRadius r)) .0 taken .1
+      near = and-eq-true-iff (may k) (le d2 (squaredRadius r)) .0 taken .1
 
-  whole : isFinite (p .x) ≡ true → isFinite (p .y) ≡ true → firstTwoBelow held used n p r ≡ firstTwo (candidatesAt (positionsIn held) (unmarked used) n p r)
+  whole : isFinite (p .x) ≡ true → isFinite (p .y) ≡ true → firstTwoBelow held may n p r ≡ firstTwo (candidatesAt (positionsIn held) may n p r)
   unfolding candidatesAt
   whole e f = rw (e, f)
 
   -- no candidate is left that could change the first two
-  pub scanned-all : (found : Found) (k : ℕ) → Scanned held used n p r found k → n ≤ k → isFinite (p .x) ≡ true → isFinite (p .y) ≡ true
-      → found .candidates ≡ firstTwo (candidatesAt (positionsIn held) (unmarked used) n p r)
-  scanned-all found k h l e f = h .so-far ∙ ap (λ (n : ℕ). firstTwoBelow held used n p r) (omega (arith, h .within)) ∙ whole e f
+  pub scanned-all : (found : Found) (k : ℕ) → Scanned held may n p r found k → n ≤ k → isFinite (p .x) ≡ true → isFinite (p .y) ≡ true
+      → found .candidates ≡ firstTwo (candidatesAt (positionsIn held) may n p r)
+  scanned-all found k h l e f = h .so-far ∙ ap (λ (n : ℕ). firstTwoBelow held may n p r) (omega (arith, h .within)) ∙ whole e f
 
   -- there was none at all
-  pub nowhere : (k : ℕ) → Next (isWithin (positionsIn held) (unmarked used) p (squaredRadius r)) n 0 k → k ≡ n
-      → isFinite (p .x) ≡ true → isFinite (p .y) ≡ true → Empty ≡ firstTwo (candidatesAt (positionsIn held) (unmarked used) n p r)
+  pub nowhere : (k : ℕ) → Next (isWithin (positionsIn held) may p (squaredRadius r)) n 0 k → k ≡ n
+      → isFinite (p .x) ≡ true → isFinite (p .y) ≡ true → Empty ≡ firstTwo (candidatesAt (positionsIn held) may n p r)
   nowhere k s l e f = scanned-all (nothing (squaredRadius r)) k (scanned-start (squaredRadius r) k s) (omega arith) e f

@@ -13,7 +13,7 @@ use Rattle.sheet.specs.declared.Position.{Position}
 use Rattle.sheet.specs.Corners.{squaredDistance, finitePosition}
 use Rattle.candidates.specs.declared.Candidate.{Candidate}
 use Rattle.candidates.specs.declared.Candidates.{Candidates}
-use Rattle.candidates.specs.Candidates.{eligible, squaredRadius, isCandidate, distanceOf, before, insert, insertIf, ordered, candidatesAt, firstTwo, lastDistance}
+use Rattle.candidates.specs.Candidates.{squaredRadius, isCandidate, distanceOf, before, insert, insertIf, ordered, candidatesAt, firstTwo, lastDistance}
 use Rattle.candidates.specs.Listing.{Exactly, Sorted}
 use Rattle.candidates.proofs.Listing.{before-trans, before-not-farther, nth, exactly, sorted}
 use Rattle.candidates.proofs.Collected.{sound-no-nan, distance-sound, candidates-none, candidates-are}
@@ -118,22 +118,21 @@ module _ (distance : ℕ → Float) (candidate candidate' : ℕ → Bool) (k : �
 
 -- ---- the candidates at a prediction, once a corner is labelled that is farther than the first two
 
-module _ (position : ℕ → Position) (unlabelled unlabelled' : ℕ → Bool) (n : ℕ) (p : Position) (r : Float) (small : T (finite (squaredRadius r)))
-    (k : ℕ) (same : (j : ℕ) → unlabelled' j ≡ (not (eqb k j) && unlabelled j)) where
-  pub first-two-stay : lt (lastDistance (firstTwo (candidatesAt position unlabelled n p r))) (distanceOf position p k) ≡ true
-      → firstTwo (candidatesAt position unlabelled' n p r) ≡ firstTwo (candidatesAt position unlabelled n p r)
-  unfolding eligible
+module _ (position : ℕ → Position) (may may' : ℕ → Bool) (n : ℕ) (p : Position) (r : Float) (small : T (finite (squaredRadius r)))
+    (k : ℕ) (same : (j : ℕ) → may' j ≡ (not (eqb k j) && may j)) where
+  pub first-two-stay : lt (lastDistance (firstTwo (candidatesAt position may n p r))) (distanceOf position p k) ≡ true
+      → firstTwo (candidatesAt position may' n p r) ≡ firstTwo (candidatesAt position may n p r)
   first-two-stay far = go (finitePosition p) refl
     where
       and-assoc : (a b c : Bool) → ((a && b) && c) ≡ (a && (b && c))
       and-assoc true b c = refl
       and-assoc false b c = refl
 
-      go : (t : Bool) → finitePosition p ≡ t → firstTwo (candidatesAt position unlabelled' n p r) ≡ firstTwo (candidatesAt position unlabelled n p r)
-      go false e = rw (candidates-none position unlabelled n p r e, candidates-none position unlabelled' n p r e)
+      go : (t : Bool) → finitePosition p ≡ t → firstTwo (candidatesAt position may' n p r) ≡ firstTwo (candidatesAt position may n p r)
+      go false e = rw (candidates-none position may n p r e, candidates-none position may' n p r e)
       go true e =
-          rw (candidates-are position unlabelled n p r e, candidates-are position unlabelled' n p r e)
-          (ordered-stays (distanceOf position p) (isCandidate position unlabelled p r) (isCandidate position unlabelled' p r) k
-          (λ j. ap (λ (b : Bool). b && le (squaredDistance (position j) p) (squaredRadius r)) (same j) ∙ and-assoc (not (eqb k j)) (unlabelled j) (le (squaredDistance (position j) p) (squaredRadius r)))
-          (λ j h. sound-no-nan _ (distance-sound position unlabelled p r small j h)) n
-          (rw (candidates-are position unlabelled n p r e) at far))
+          rw (candidates-are position may n p r e, candidates-are position may' n p r e)
+          (ordered-stays (distanceOf position p) (isCandidate position may p r) (isCandidate position may' p r) k
+          (λ j. ap (λ (b : Bool). b && le (squaredDistance (position j) p) (squaredRadius r)) (same j) ∙ and-assoc (not (eqb k j)) (may j) (le (squaredDistance (position j) p) (squaredRadius r)))
+          (λ j h. sound-no-nan _ (distance-sound position may p r small j h)) n
+          (rw (candidates-are position may n p r e) at far))

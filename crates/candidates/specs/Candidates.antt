@@ -1,5 +1,5 @@
--- Document 01, "Candidates and choice": which corners are candidates at a prediction, and in which order they stand. Definitions only.
--- Corners are seen as functions of their number: where each lies, and whether it is unlabelled.
+-- Document 01, "Candidates and choice", with document 02, 1/14: which corners are candidates at a prediction, and in which order they stand.
+-- Corners are seen as functions of their number: where each lies, and whether it may be a candidate at all. Definitions only.
 use mathlib.Core.Bool.{Bool, true, false, not, _&&_, _||_, cond}
 use mathlib.Core.List.{List, [], _∷_}
 use Prim.Native.Nat.{ℕ, zero, suc}
@@ -8,6 +8,7 @@ use lib.ListN.{getD}
 use lib.Ieee.{Float, binary32, mul, lt, le, ofBits}
 use Rattle.binary32.specs.Sqrt.{sqrtOrNan}
 use Rattle.sheet.specs.declared.Position.{Position}
+use Rattle.sheet.specs.Shades.{takesKind, shadesIn}
 use Rattle.sheet.specs.Corners.{cornerIn, squaredDistance, finitePosition}
 use Rattle.candidates.specs.declared.Candidate.{Candidate}
 use Rattle.candidates.specs.declared.Candidates.{Candidates}
@@ -23,17 +24,20 @@ unmarked used k = eqb (getD used k 0) 0
 
 -- ---- a candidate
 
--- Which corners may be candidates at all: the unlabelled ones.
-unfoldable pub eligible : (ℕ → Bool) → ℕ → Bool
-eligible unlabelled k = unlabelled k
+-- Which corners may be candidates at all: the unlabelled ones that the cell takes.
+unfoldable pub eligible : (ℕ → Bool) → (ℕ → Bool) → ℕ → Bool
+eligible unlabelled taken k = unlabelled k && taken k
+
+-- the same of the corners as the passes hold them, for a cell of a kind
+abbrev pub eligibleIn : List Float → List ℕ → ℕ → ℕ → Bool
+eligibleIn held used kind = eligible (unmarked used) (takesKind (shadesIn held) kind)
 
 abbrev pub squaredRadius : Float → Float
 squaredRadius radius = mul binary32 radius radius
 
--- A candidate is an unlabelled corner whose squared distance is at most the squared radius.
+-- A candidate is an eligible corner whose squared distance is at most the squared radius.
 abbrev pub isCandidate : (ℕ → Position) → (ℕ → Bool) → Position → Float → ℕ → Bool
-isCandidate position unlabelled prediction radius k =
-    eligible unlabelled k && le (squaredDistance (position k) prediction) (squaredRadius radius)
+isCandidate position may prediction radius k = may k && le (squaredDistance (position k) prediction) (squaredRadius radius)
 
 -- ---- the order: by distance, then corner number
 
@@ -63,8 +67,8 @@ ordered distance candidate (suc k) = insertIf (candidate k) (record { number = k
 
 -- All candidates of n corners, in order. A non-finite prediction has none.
 unfoldable pub candidatesAt : (ℕ → Position) → (ℕ → Bool) → ℕ → Position → Float → List Candidate
-candidatesAt position unlabelled n prediction radius =
-    cond (finitePosition prediction) (ordered (distanceOf position prediction) (isCandidate position unlabelled prediction radius) n) []
+candidatesAt position may n prediction radius =
+    cond (finitePosition prediction) (ordered (distanceOf position prediction) (isCandidate position may prediction radius) n) []
 
 -- what a choice needs of them: the first, and whether there is a second and how far it is
 unfoldable pub firstTwo : List Candidate → Candidates

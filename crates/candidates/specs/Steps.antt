@@ -10,7 +10,7 @@ use Rattle.candidates.specs.declared.Candidate.{Candidate}
 use Rattle.candidates.specs.declared.Candidates.{Candidates}
 use Rattle.candidates.specs.declared.Candidates.the-variants.{Empty, One, Several}
 use Rattle.candidates.specs.declared.Found.{Found}
-use Rattle.candidates.specs.Candidates.{positionsIn, unmarked, eligible, isCandidate, distanceOf, ordered, firstTwo}
+use Rattle.candidates.specs.Candidates.{positionsIn, isCandidate, distanceOf, ordered, firstTwo}
 
 -- one more candidate, whose number is above all others': nearer than the first, or than the second, or neither
 abbrev pub kept : Candidates → Candidate → Candidates
@@ -40,9 +40,9 @@ narrowed found c d2 = narrowedFrom (found .candidates) (found .square) (found .l
 abbrev pub isNear : (ℕ → Position) → Position → Float → ℕ → Bool
 isNear position prediction limit k = le (squaredDistance (position k) prediction) limit
 
--- an unlabelled one: a candidate, if the limit is the squared radius
+-- an eligible one: a candidate, if the limit is the squared radius
 abbrev pub isWithin : (ℕ → Position) → (ℕ → Bool) → Position → Float → ℕ → Bool
-isWithin position unlabelled prediction limit k = eligible unlabelled k && isNear position prediction limit k
+isWithin position may prediction limit k = may k && isNear position prediction limit k
 
 -- 1 where a test is passed, and else 0
 abbrev pub oneIf : (ℕ → Bool) → ℕ → ℕ
@@ -54,9 +54,9 @@ countFrom test from zero = 0
 countFrom test from (suc k) = countFrom test from k + oneIf test (from + k)
 
 -- the first two of the candidates among the first n corners, the prediction being finite
-abbrev pub firstTwoBelow : List Float → List ℕ → ℕ → Position → Float → Candidates
-firstTwoBelow held used n prediction radius =
-    firstTwo (ordered (distanceOf (positionsIn held) prediction) (isCandidate (positionsIn held) (unmarked used) prediction radius) n)
+abbrev pub firstTwoBelow : List Float → (ℕ → Bool) → ℕ → Position → Float → Candidates
+firstTwoBelow held may n prediction radius =
+    firstTwo (ordered (distanceOf (positionsIn held) prediction) (isCandidate (positionsIn held) may prediction radius) n)
 
 -- the next candidate of n corners from one on, or n if there is none
 pub record Next (candidate : ℕ → Bool) (n from r : ℕ) : Type 0 where

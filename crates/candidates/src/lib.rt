@@ -1,11 +1,11 @@
-// Candidates and choice (document 01): the unlabelled corners near a prediction, in order of distance and then number, and the
-// two rules by which one of them is chosen. Port of shared/grow/mod.rs and of the quotients of extension/common.rs and fill.rs.
+// Candidates and choice (document 01; 02, 1/14): the unlabelled corners near a prediction that its cell takes, in order of distance and then
+// number, and the two rules by which one of them is chosen. Port of shared/grow/mod.rs and of the quotients of extension/common.rs and fill.rs.
 ghost use mathlib.Core.Path.{_≡_};
 ghost use Prim.Native.Nat.{_+_, _≤_, _<_};
 ghost use Rattle.sizes.specs.Sizes.{cornerLimit};
 ghost use Rattle.binary32.specs.Sqrt.{sqrtOrNan};
 ghost use Rattle.sheet.specs.Corners.{squaredDistance};
-ghost use Rattle.candidates.specs.Candidates.{positionsIn, unmarked, eligible, candidatesAt, firstTwo, lastDistance};
+ghost use Rattle.candidates.specs.Candidates.{positionsIn, eligibleIn, candidatesAt, firstTwo, lastDistance};
 ghost use Rattle.candidates.specs.Choice.{byQuotient, chooseUnambiguous, raised, chooseWithFloor};
 ghost use Rattle.candidates.specs.Steps.{Next, isNear, isWithin, oneIf, countFrom, measured, twoFound, narrowed};
 use sheet::Position;
@@ -43,16 +43,8 @@ pub enum CandidateChoice {
 // 2^-23, the first distance up to which two candidates are ambiguous for grow, and to which fill and local raise it.
 const EPSILON: f32 = 1.1920929e-7;
 
-// Whether corner k may be a candidate at all: it is unlabelled.
-fn is_eligible(used: &[u8; CORNERS], k: usize) -> bool
-    requires { ⌜ k < cornerLimit ⌝ }
-    ensures { λ r. ⌜ r ≡ eligible (unmarked (now (used .entry))) k ⌝ }
-{
-    used[k] == 0
-}
-
 // The squared distance of a corner from the prediction, each operation rounded.
-fn squared_distance(corner: Position, prediction: Position) -> f32
+pub fn squared_distance(corner: Position, prediction: Position) -> f32
     ensures { λ r. ⌜ r ≡ squaredDistance corner prediction ⌝ }
 {
     let dx = corner.x - prediction.x;
@@ -121,7 +113,7 @@ fn keep(found: Found, c: Candidate, d2: f32) -> Found
 }
 
 // Where a corner lies.
-fn position_of(corners: &[f32; 3 * CORNERS], k: usize) -> Position
+pub fn position_of(corners: &[f32; 4 * CORNERS], k: usize) -> Position
     requires { ⌜ k < cornerLimit ⌝ }
     ensures { λ r. ⌜ r ≡ positionsIn (now (corners .entry)) k ⌝ }
 {
@@ -131,26 +123,30 @@ fn position_of(corners: &[f32; 3 * CORNERS], k: usize) -> Position
     }
 }
 
-// Whether corner k is unlabelled, and its squared distance at most the limit. No root is taken for it.
+// Whether corner k is unlabelled, its squared distance at most the limit, and a cell of the kind takes it. No root is taken for it.
 fn is_within(
-    corners: &[f32; 3 * CORNERS],
+    corners: &[f32; 4 * CORNERS],
     used: &[u8; CORNERS],
+    kind: usize,
     k: usize,
     prediction: Position,
     limit: f32,
 ) -> bool
     requires { ⌜ k < cornerLimit ⌝ }
-    ensures { λ r. ⌜ r ≡ isWithin (positionsIn (now (corners .entry))) (unmarked (now (used .entry))) prediction limit k ⌝ }
+    ensures { λ r. ⌜ r ≡ isWithin (positionsIn (now (corners .entry))) (eligibleIn (now (corners .entry)) (now (used .entry)) kind) prediction limit k ⌝ }
 {
-    if !is_eligible(used, k) {
+    if used[k] != 0 {
         return false;
     }
     let corner = position_of(corners, k);
-    squared_distance(corner, prediction) <= limit
+    if squared_distance(corner, prediction) <= limit {
+        return sheet::is_taken(corners, kind, k);
+    }
+    false
 }
 
 // 1 if corner k, labelled or not, lies within the limit, and else 0.
-fn one_if_near(corners: &[f32; 3 * CORNERS], k: usize, prediction: Position, limit: f32) -> u32
+fn one_if_near(corners: &[f32; 4 * CORNERS], k: usize, prediction: Position, limit: f32) -> u32
     requires { ⌜ k < cornerLimit ⌝ }
     ensures { λ r. ⌜ r ≡ oneIf (isNear (positionsIn (now (corners .entry))) prediction limit) k ⌝ }
 {
@@ -164,7 +160,7 @@ fn one_if_near(corners: &[f32; 3 * CORNERS], k: usize, prediction: Position, lim
 
 // How many of the 32 corners from this one on, labelled or not, lie within the limit. No corner ends the loop early, so that the
 // compiler tests several at once.
-fn count_near(corners: &[f32; 3 * CORNERS], from: usize, prediction: Position, limit: f32) -> u32
+fn count_near(corners: &[f32; 4 * CORNERS], from: usize, prediction: Position, limit: f32) -> u32
     requires { ⌜ from + 32 ≤ cornerLimit ⌝ }
     ensures { λ r. ⌜ r ≡ countFrom (isNear (positionsIn (now (corners .entry))) prediction limit) from 32 ⌝ }
 {
@@ -179,19 +175,21 @@ fn count_near(corners: &[f32; 3 * CORNERS], from: usize, prediction: Position, l
 
 // The number of the next corner within the limit from this one on, or the number of corners if there is none. Each is tested.
 fn next_tested(
-    corners: &[f32; 3 * CORNERS],
+    corners: &[f32; 4 * CORNERS],
     count: usize,
     used: &[u8; CORNERS],
+    kind: usize,
     from: usize,
     prediction: Position,
     limit: f32,
 ) -> usize
     requires { ⌜ (count ≤ cornerLimit) × (from ≤ count) ⌝ }
-    ensures { λ r. ⌜ Next (isWithin (positionsIn (now (corners .entry))) (unmarked (now (used .entry))) prediction limit) count from r ⌝ }
+    ensures { λ r. ⌜ Next (isWithin (positionsIn (now (corners .entry))) (eligibleIn (now (corners .entry)) (now (used .entry)) kind) prediction limit)
+        count from r ⌝ }
 {
     let mut k = from;
     while k < count {
-        if is_within(corners, used, k, prediction, limit) {
+        if is_within(corners, used, kind, k, prediction, limit) {
             return k;
         }
         k += 1;
@@ -201,28 +199,30 @@ fn next_tested(
 
 // The same, 32 corners at once as long as none of them lies within the limit.
 fn next_within(
-    corners: &[f32; 3 * CORNERS],
+    corners: &[f32; 4 * CORNERS],
     count: usize,
     used: &[u8; CORNERS],
+    kind: usize,
     from: usize,
     prediction: Position,
     limit: f32,
 ) -> usize
     requires { ⌜ (count ≤ cornerLimit) × (from ≤ count) ⌝ }
-    ensures { λ r. ⌜ Next (isWithin (positionsIn (now (corners .entry))) (unmarked (now (used .entry))) prediction limit) count from r ⌝ }
+    ensures { λ r. ⌜ Next (isWithin (positionsIn (now (corners .entry))) (eligibleIn (now (corners .entry)) (now (used .entry)) kind) prediction limit)
+        count from r ⌝ }
 {
     let mut k = from;
     while k + 32 <= count {
         if count_near(corners, k, prediction, limit) != 0 {
-            return next_tested(corners, count, used, k, prediction, limit);
+            return next_tested(corners, count, used, kind, k, prediction, limit);
         }
         k += 32;
     }
-    next_tested(corners, count, used, k, prediction, limit)
+    next_tested(corners, count, used, kind, k, prediction, limit)
 }
 
 // Corner k as one more candidate, with the root of its squared distance.
-fn keep_corner(found: Found, corners: &[f32; 3 * CORNERS], k: usize, prediction: Position) -> Found
+fn keep_corner(found: Found, corners: &[f32; 4 * CORNERS], k: usize, prediction: Position) -> Found
     requires { ⌜ k < cornerLimit ⌝ }
     ensures { λ r. ⌜ r ≡ narrowed found (measured (positionsIn (now (corners .entry))) prediction k)
         (squaredDistance (positionsIn (now (corners .entry)) k) prediction) ⌝ }
@@ -237,17 +237,19 @@ fn keep_corner(found: Found, corners: &[f32; 3 * CORNERS], k: usize, prediction:
     keep(found, c, d2)
 }
 
-// The first two of the candidates at the prediction, in order of distance and then corner number: all unlabelled corners whose
-// squared distance is at most the squared radius, and none if the prediction is not finite.
+// The first two of the candidates at the prediction, in order of distance and then corner number: all unlabelled corners that a cell of the kind
+// takes and whose squared distance is at most the squared radius, and none if the prediction is not finite.
 pub fn collect_candidates(
-    corners: &[f32; 3 * CORNERS],
+    corners: &[f32; 4 * CORNERS],
     count: usize,
     used: &[u8; CORNERS],
+    kind: usize,
     prediction: Position,
     search_r: f32,
 ) -> Candidates
     requires { ⌜ count ≤ cornerLimit ⌝ }
-    ensures { λ r. ⌜ r ≡ firstTwo (candidatesAt (positionsIn (now (corners .entry))) (unmarked (now (used .entry))) count prediction «search_r») ⌝ }
+    ensures { λ r. ⌜ r ≡ firstTwo (candidatesAt (positionsIn (now (corners .entry))) (eligibleIn (now (corners .entry)) (now (used .entry)) kind) count
+        prediction «search_r») ⌝ }
 {
     if !binary32::ranges::is_finite(prediction.x) {
         return Candidates::Empty;
@@ -256,7 +258,7 @@ pub fn collect_candidates(
         return Candidates::Empty;
     }
     let r2 = search_r * search_r;
-    let mut k = next_within(corners, count, used, 0, prediction, r2);
+    let mut k = next_within(corners, count, used, kind, 0, prediction, r2);
     if k == count {
         return Candidates::Empty;
     }
@@ -268,7 +270,7 @@ pub fn collect_candidates(
     while k < count {
         let more = keep_corner(found, corners, k, prediction);
         found = more;
-        k = next_within(corners, count, used, k + 1, prediction, more.limit);
+        k = next_within(corners, count, used, kind, k + 1, prediction, more.limit);
     }
     found.candidates
 }

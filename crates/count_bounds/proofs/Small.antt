@@ -1,4 +1,4 @@
--- What a call that is not refused says is small: its counts, its rounds, and its residual, which is finite. Assumes nothing.
+-- What a call that is not refused says is small: its counts, its rounds, its residual, which is finite, and what it passed over. Assumes nothing.
 use mathlib.Core.Path.{_≡_, refl, sym, ap, subst}
 use mathlib.Core.Bool.{Bool, true, false, cond, _&&_}
 use mathlib.Core.List.{List, [], _∷_}
@@ -13,11 +13,12 @@ use Rattle.binary32.specs.Sqrt.{sqrtOrNan}
 use Rattle.binary32.proofs.Exists.{sqrt-fits}
 use Rattle.homography.specs.Fit.{Answer, NoFit, Entries, homographyOf}
 use Rattle.sheet.specs.Cells.{cellOf}
-use Rattle.sheet.specs.Corners.{Corners, cornersOf, seenOf, squaredDistance}
+use Rattle.sheet.specs.Corners.{Corners, seenOf, squaredDistance}
 use Rattle.sheet.specs.declared.Cell.{Cell}
 use Rattle.sheet.specs.declared.Seen.{Seen}
 use Rattle.labels.specs.Labelled.{isLabelled, labelledPlaces, labelCount}
 use Rattle.labels.proofs.Below.{both, passing-few}
+use Rattle.arguments.specs.Shades.{cornersOf}
 use Rattle.arguments.specs.Accepted.{PassInside}
 use Rattle.arguments.specs.declared.Settings.{Settings}
 use Rattle.arguments.specs.declared.FillParams.{FillParams}
@@ -28,11 +29,11 @@ use Rattle.passes.specs.declared.Counts.{Counts}
 use Rattle.passes.specs.declared.LargestResidual.{LargestResidual}
 use Rattle.passes.specs.Grow.{noCounts, growRun, growAfter}
 use Rattle.passes.specs.Fill.{FillState, fillRound, FillRounds, fillFrom, fillLimit, fillRun, fillAfter}
-use Rattle.passes.specs.Local.{depthOf, localCells, supportsOf, cellPoint, picturedAt, residualOf, residualsOf, LocalFit, none, fitted, trusted, localFit, LocalState, recorded, recordedAll, worst, withResiduals, gateOf, localWith, localAt, localVisit, localAll, localRound, LocalRounds, localFrom, localLimit, localRun, localAfter}
+use Rattle.passes.specs.Local.{depthOf, localCells, supportsOf, cellPoint, picturedAt, residualOf, residualsOf, LocalFit, none, fitted, trusted, localFit, LocalState, recorded, recordedAll, worst, withResiduals, withUnmatched, gateOf, localWith, localTry, localAt, localVisit, localAll, localRound, LocalRounds, localFrom, localLimit, localRun, unmatchedIf, localAfter}
 use Rattle.invariants.specs.Calls.{afterPass, afterCall, attachedCount}
 use Rattle.invariants.proofs.Run.{call-ran}
-use Rattle.count_bounds.specs.Bounds.{FewCounts, FiniteFloat, FiniteResidual, Small, small-grow, small-fill, small-local, SmallAnswers}
-use Rattle.count_bounds.proofs.Counts.{total, grow-counts, Turned, local-from}
+use Rattle.count_bounds.specs.Bounds.{FewCounts, FiniteFloat, FiniteResidual, FewUnmatched, Small, small-grow, small-fill, small-local, SmallAnswers}
+use Rattle.count_bounds.proofs.Counts.{total, grow-counts, Turned, local-from, passed-from}
 
 -- ---- fill's rounds
 
@@ -105,9 +106,9 @@ with-largest c (TryCellResult.Attached k) s = refl
 module _ (cs : Corners) (set : Settings) (p : LocalExtensionParams) where
   finite-at : (c : Cell) (fit : LocalFit) (s : LocalState) → ((h rs : List Float) → fit ≡ fitted h rs → Finites rs) → FiniteResidual (s .largest)
       → FiniteResidual (localAt cs set p c fit s .largest)
-  unfolding localAt
+  unfolding localAt localTry
   finite-at c none s f w = w
-  finite-at c (fitted h rs) s f w = go (lt (gateOf set p) (worst (ofBits binary32 0) rs)) _ (with-largest c _ (withResiduals rs s))
+  finite-at c (fitted h rs) s f w = go (lt (gateOf set p) (worst (ofBits binary32 0) rs)) _ (with-largest c _ (withUnmatched _ (withResiduals rs s)))
     where
       go : (t : Bool) (after : LocalState) → after .largest ≡ recordedAll (s .largest) rs → FiniteResidual (cond t (withResiduals rs s) after .largest)
       go true after e = all-finite (s .largest) rs w (f h rs refl)
@@ -156,27 +157,34 @@ local-limit-few n limit l = go (ltb n 4)
     go true = omega arith
     go false = l
 
+-- what was passed over, at most 1,024 corners for each cell counted
+few-unmatched : (any : Bool) (n counted : ℕ) → n ≤ 1024 * counted → counted ≤ 1048576 → FewUnmatched 1073741824 (unmatchedIf any n)
+unfolding unmatchedIf
+few-unmatched true n counted w l = omega (arith, w, l)
+few-unmatched false n counted w l = tt
+
 -- What a call that is not refused says is small.
 pub small : SmallAnswers
 unfolding growAfter fillAfter localAfter fillRun localRun labelCount labelledPlaces
 small l sheet c w = go (c .pass) (w .pass-inside) (let r = call-ran l sheet c w in omega (arith, r .counted, r .extended .count, passing-few (λ p. isLabelled (getD (afterCall l sheet c .sheet) p 0)) 16384))
   where
     cs : Corners
-    cs = cornersOf l
+    cs = cornersOf l (c .shades)
 
     set : Settings
     set = c .settings
 
-    go : (p : Pass) → PassInside p → attachedCount (afterPass l sheet set p .answer) ≤ 16384 → Small (afterPass l sheet set p .answer)
+    go : (p : Pass) → PassInside p → attachedCount (afterPass l (c .shades) sheet set p .answer) ≤ 16384 → Small (afterPass l (c .shades) sheet set p .answer)
     go (Pass.Grow p) i a = small-grow {s = growAfter cs set p sheet .answer} (few-counts 1048576 (4 * cs .count) _ (grow-counts cs set p sheet) (omega (arith, w .few)))
     go (Pass.Fill p) i a =
         let first : FillRounds = record { state = record { sheet = sheet; made = [] }; rounds = 0 } in
         let m = fillLimit (labelCount sheet) (p .«max_iters») in
         small-fill {s = fillAfter cs set p sheet .answer} (omega (arith, a)) (omega (arith, fill-from cs set p m first, limit-few (labelCount sheet) (p .«max_iters») (i .rounds)))
     go (Pass.Local p) i a =
-        let first : LocalRounds = record { state = record { sheet = sheet; made = []; counts = noCounts; largest = LargestResidual.Nothing }; rounds = 0 } in
+        let first : LocalRounds = record { state = record { sheet = sheet; made = []; counts = noCounts; largest = LargestResidual.Nothing; unmatched = 0 }; rounds = 0 } in
         let m = localLimit (labelCount sheet) (p .«max_iters») in
         let t = local-from cs set p m first in
         let k = local-limit-few (labelCount sheet) (p .«max_iters») (i .rounds) in
         small-local {s = localAfter cs set p sheet .answer} (few-counts 1048576 (m * 16384) _ (omega (arith, t .counts)) (omega (arith, k))) (omega (arith, t .rounds, k))
         (finite-from cs set p m first tt)
+        (few-unmatched (cs .shades .any) _ _ (passed-from cs (w .few) set p m first (omega arith)) (omega (arith, t .counts, k)))

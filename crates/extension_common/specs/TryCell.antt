@@ -6,15 +6,17 @@ use Prim.Native.Nat.{ℕ, _≤_, _<_}
 use lib.Ieee.{Float}
 use Rattle.sizes.specs.Sizes.{cornerLimit}
 use Rattle.sheet.specs.Cells.{OnSheet}
+use Rattle.sheet.specs.Shades.{takes}
 use Rattle.sheet.specs.Corners.{Corners, seenOf, Given}
 use Rattle.sheet.specs.declared.Cell.{Cell}
 use Rattle.sheet.specs.declared.Corner.{Corner}
 use Rattle.sheet.specs.declared.Position.{Position}
 use Rattle.labels.specs.Used.{usedOn, Tied}
-use Rattle.candidates.specs.Candidates.{candidatesAt, firstTwo}
+use Rattle.candidates.specs.Candidates.{eligible, candidatesAt, firstTwo}
 use Rattle.candidates.specs.Choice.{chooseUnambiguous, chooseWithFloor}
 use Rattle.candidates.specs.declared.Candidates.{Candidates}
 use Rattle.candidates.specs.declared.CandidateChoice.{CandidateChoice}
+use Rattle.passed_over.specs.PassedOver.{passedOver}
 use Rattle.positions_policy.specs.Edge.{verdictOf, passes}
 use Rattle.positions_policy.specs.declared.Tolerances.{Tolerances}
 use Rattle.extension_common.specs.declared.ChoiceRule.{ChoiceRule}
@@ -25,9 +27,15 @@ use Rattle.extension_common.specs.declared.TryCellResult.{TryCellResult}
 abbrev pub unlabelledOn : List ℕ → ℕ → Bool
 unlabelledOn sheet k = not (usedOn sheet k)
 
--- all candidates at a prediction, in order of distance and then corner number: what the choice needs of them
-unfoldable pub gathered : Corners → List ℕ → Float → Position → Candidates
-gathered cs sheet radius prediction = firstTwo (candidatesAt (λ k. cs .corner k .position) (unlabelledOn sheet) (cs .count) prediction radius)
+-- all candidates of a cell at a prediction, those that the cell takes, in order of distance and then corner number: what the choice needs of them
+unfoldable pub gathered : Corners → List ℕ → Float → Cell → Position → Candidates
+gathered cs sheet radius c prediction =
+    firstTwo (candidatesAt (λ k. cs .corner k .position) (eligible (unlabelledOn sheet) (takes (cs .shades) c)) (cs .count) prediction radius)
+
+-- "each unlabelled corner within the radius so passed over, with no shade or the other kind" (document 02, 1/14): how many
+unfoldable pub unmatched : Corners → List ℕ → Float → Cell → Position → ℕ
+unmatched cs sheet radius c prediction =
+    passedOver (λ k. cs .corner k .position) (unlabelledOn sheet) (takes (cs .shades) c) (cs .count) prediction radius
 
 -- grow's rule of choice, or fill's and local's
 unfoldable pub choiceBy : ChoiceRule → Candidates → Float → CandidateChoice
@@ -47,7 +55,7 @@ resultOf corner sheet tol c (CandidateChoice.Unique k) = edgesOf corner sheet to
 -- what trying a cell finds: candidates, then choice, then edges
 unfoldable pub tryAt : Corners → List ℕ → Tolerances → Search → Cell → Position → TryCellResult
 tryAt cs sheet tol search c prediction =
-    resultOf (cs .corner) sheet tol c (choiceBy (search .rule) (gathered cs sheet (search .«search_r») prediction) (search .«ambiguity_factor»))
+    resultOf (cs .corner) sheet tol c (choiceBy (search .rule) (gathered cs sheet (search .«search_r») c prediction) (search .«ambiguity_factor»))
 
 -- ---- what the functions ask
 

@@ -44,7 +44,7 @@ pub fn choose(rule: ChoiceRule, candidates: Candidates, factor: f32) -> Candidat
 
 // Tries a cell at a prediction: no candidate, an ambiguous choice, edges that refuse the chosen corner, or the corner to attach.
 pub fn try_attach_at_cell(
-    corners: &[f32; 3 * CORNERS],
+    corners: &[f32; 4 * CORNERS],
     count: usize,
     sheet: &[u16],
     used: &[u8; CORNERS],
@@ -57,13 +57,14 @@ pub fn try_attach_at_cell(
     ensures { λ r. ⌜ r ≡ tryAt (cornersIn (now (corners .entry)) count) (now (sheet .entry)) tol search c prediction ⌝ }
 {
     let radius = search.search_r;
-    let candidates = candidates::collect_candidates(corners, count, used, prediction, radius);
+    let kind = sheet::kind_at(c);
+    let candidates = candidates::collect_candidates(corners, count, used, kind, prediction, radius);
     try_candidates(corners, sheet, c, candidates, search, tol)
 }
 
 // Tries a cell with the candidates that were gathered at its prediction.
 pub fn try_candidates(
-    corners: &[f32; 3 * CORNERS],
+    corners: &[f32; 4 * CORNERS],
     sheet: &[u16],
     c: Cell,
     candidates: Candidates,
@@ -85,7 +86,7 @@ pub fn try_candidates(
 
 // The edges of a chosen corner: it does not pass, or it is to be attached.
 fn try_edges(
-    corners: &[f32; 3 * CORNERS],
+    corners: &[f32; 4 * CORNERS],
     sheet: &[u16],
     c: Cell,
     k: usize,

@@ -6,11 +6,12 @@ use Prim.Native.Nat.{ℕ, suc, _+_, _-_, _<_, _≤_}
 use native.Mathlib.Omega.{arith}
 use lib.ListN.{length}
 use lib.Ieee.{Float}
-use Rattle.sheet.specs.Corners.{Corners, CornerLists, cornersOf}
+use Rattle.sheet.specs.Corners.{Corners, CornerLists}
 use Rattle.refusal.specs.declared.Refusal.{Refusal}
 use Rattle.labels.specs.Labelled.{labelCount}
 use Rattle.labels.specs.Rim.{rim}
 use Rattle.labels.specs.Used.{Tied}
+use Rattle.arguments.specs.Shades.{cornersOf}
 use Rattle.arguments.specs.Arguments.{checked}
 use Rattle.arguments.specs.Accepted.{Accepted}
 use Rattle.arguments.specs.declared.Checked.{Checked}
@@ -107,16 +108,16 @@ module _ (set : Settings) (p : FillParams) (limit : ℕ) (cs : Corners) (sheet�
 
 -- ---- the pass
 
-module _ (corners : CornerLists) (sheet list : List ℕ) (set : Settings) (p : FillParams) where
+module _ (corners : CornerLists) (shades sheet list : List ℕ) (set : Settings) (p : FillParams) where
   -- arguments that are not refused
-  pub accepted-filling : (used : List ℕ) → Accepted (lentOf corners sheet (rooms 0 (length list))) set (Pass.Fill p) → Tied sheet used → Filling (length (corners .xs)) sheet list used 0
+  pub accepted-filling : (used : List ℕ) → Accepted (lentOf corners shades sheet (rooms 0 (length list))) set (Pass.Fill p) → Tied sheet used → Filling (length (corners .xs)) sheet list used 0
   accepted-filling used a t = record { given = a .given; few = a .few; one-cell = a .one-cell; tied = t; list-long = a .attached-long; room = omega arith }
 
   -- all rounds done
-  pub pass-done : (cs : Corners) → cs ≡ cornersOf corners → (limit : ℕ) (sheet' list' used' : List ℕ) (progress : FillProgress) (edge : Bool) → limit ≡ fillLimit (labelCount sheet) (p .«max_iters») → edge ≡ rim 1 sheet'
+  pub pass-done : (cs : Corners) → cs ≡ cornersOf corners shades → (limit : ℕ) (sheet' list' used' : List ℕ) (progress : FillProgress) (edge : Bool) → limit ≡ fillLimit (labelCount sheet) (p .«max_iters») → edge ≡ rim 1 sheet'
       → RoundsLeft (fillFrom cs set p limit (startOf sheet list)) (cs .count) list sheet' list' used' progress
       → fillOut (FillAnswer.Done (record { added = progress .made; iterations = progress .rounds; rim = edge })) sheet' list'
-      ≡ fillLeaves (done (fillAfter (cornersOf corners) set p sheet)) sheet list
+      ≡ fillLeaves (done (fillAfter (cornersOf corners shades) set p sheet)) sheet list
   unfolding fillAfter fillRun
   pass-done cs held limit sheet' list' used' progress edge e f l =
       rw (← held, ← e, f, l .rounds-are, l .left .holds .made-is, l .left .holds .sheet-is, l .left .holds .list-is)
@@ -126,17 +127,17 @@ module _ (corners : CornerLists) (sheet list : List ℕ) (set : Settings) (p : F
   -- what it promises of its answer and its buffers, and of what the answer says
   abbrev pub Promised : FillOut → Type 0
   Promised out =
-      let o = fillStep corners sheet set p (rooms 0 (length list)) in
+      let o = fillStep corners shades sheet set p (rooms 0 (length list)) in
       (out ≡ fillLeaves o sheet list) × (fillSaid (out .answer) ≡ outcomeDue fillValues o)
 
-  promised : {out : FillOut} → out ≡ fillLeaves (fillStep corners sheet set p (rooms 0 (length list))) sheet list → Promised out
+  promised : {out : FillOut} → out ≡ fillLeaves (fillStep corners shades sheet set p (rooms 0 (length list))) sheet list → Promised out
   promised e = (e, fill-said _ sheet list _ e)
 
   -- its check refuses it, or lets it pass
-  module _ (check : Checked) (is : check ≡ checked (lentOf corners sheet (rooms 0 (length list))) set (Pass.Fill p)) where
+  module _ (check : Checked) (is : check ≡ checked (lentOf corners shades sheet (rooms 0 (length list))) set (Pass.Fill p)) where
     leaves-refused : (r : Refusal) → check ≡ Checked.Refused r
         → fillOut (FillAnswer.Refused r) sheet list
-        ≡ fillLeaves (fillStep corners sheet set p (rooms 0 (length list))) sheet list
+        ≡ fillLeaves (fillStep corners shades sheet set p (rooms 0 (length list))) sheet list
     unfolding fillStep
     leaves-refused r e = rw (← is, e)
 
@@ -144,12 +145,12 @@ module _ (corners : CornerLists) (sheet list : List ℕ) (set : Settings) (p : F
     call-refused r e = promised (leaves-refused r e)
 
     module _ (e : check ≡ Checked.Fine) where
-      pub call-accepted : Accepted (lentOf corners sheet (rooms 0 (length list))) set (Pass.Fill p)
-      call-accepted = accepted (lentOf corners sheet (rooms 0 (length list))) set (Pass.Fill p) (sym is ∙ e)
+      pub call-accepted : Accepted (lentOf corners shades sheet (rooms 0 (length list))) set (Pass.Fill p)
+      call-accepted = accepted (lentOf corners shades sheet (rooms 0 (length list))) set (Pass.Fill p) (sym is ∙ e)
 
-      leaves-done : (out : FillOut) → out ≡ fillLeaves (done (fillAfter (cornersOf corners) set p sheet)) sheet list → out ≡ fillLeaves (fillStep corners sheet set p (rooms 0 (length list))) sheet list
+      leaves-done : (out : FillOut) → out ≡ fillLeaves (done (fillAfter (cornersOf corners shades) set p sheet)) sheet list → out ≡ fillLeaves (fillStep corners shades sheet set p (rooms 0 (length list))) sheet list
       unfolding fillStep
       leaves-done out h = rw (← is, e) h
 
-      pub call-done : (out : FillOut) → out ≡ fillLeaves (done (fillAfter (cornersOf corners) set p sheet)) sheet list → Promised out
+      pub call-done : (out : FillOut) → out ≡ fillLeaves (done (fillAfter (cornersOf corners shades) set p sheet)) sheet list → Promised out
       call-done out h = promised (leaves-done out h)

@@ -1,10 +1,11 @@
 // Fill (01, "Sheet"; port of shared/fill.rs): rounds over the unlabelled cells of the label box and one strip along each whole
-// side, by i then j, each tried at its prediction.
+// side, by i then j, each tried at its prediction. If any shade stands, a cell takes only corners of its kind (02, 1/14).
 
 ghost use mathlib.Core.Path.{_≡_};
 ghost use mathlib.Core.Bool.{_&&_};
 ghost use lib.ListN.{length};
-ghost use Rattle.sheet.specs.Corners.{cornerLists, cornersOf, cornersIn};
+ghost use Rattle.sheet.specs.Corners.{cornerLists, cornersIn};
+ghost use Rattle.arguments.specs.Shades.{cornersOf};
 ghost use Rattle.arguments.specs.Accepted.{Accepted};
 ghost use Rattle.passes.specs.Outcome.{done};
 ghost use Rattle.passes.specs.Grow.{tolerancesOf};
@@ -125,7 +126,7 @@ fn attach_corner(
 // Tries an unlabelled cell: where a corner is found, it is attached, else nothing is written. Answers how many places of the attached
 // list are written now.
 fn try_fill_cell(
-    corners: &[f32; 3 * CORNERS],
+    corners: &[f32; 4 * CORNERS],
     sheet: &mut [u16],
     attached: &mut [u16],
     used: &mut [u8; CORNERS],
@@ -164,7 +165,7 @@ fn try_fill_cell(
 // Looks at a place: its cell is tried if it lies in the region about `around` and is unlabelled. Answers how many places of the
 // attached list are written now.
 fn fill_place(
-    corners: &[f32; 3 * CORNERS],
+    corners: &[f32; 4 * CORNERS],
     sheet: &mut [u16],
     attached: &mut [u16],
     used: &mut [u8; CORNERS],
@@ -191,7 +192,7 @@ fn fill_place(
 // One round: all cells of the region about the label box of now that are unlabelled, by i then j. Answers how many places of the
 // attached list are written now.
 fn fill_round(
-    corners: &[f32; 3 * CORNERS],
+    corners: &[f32; 4 * CORNERS],
     sheet: &mut [u16],
     attached: &mut [u16],
     used: &mut [u8; CORNERS],
@@ -238,7 +239,7 @@ fn round_limit(labels: usize, max_iters: u32) -> usize
 
 // Round after round, until one attaches nothing or the limit is reached.
 fn fill_rounds(
-    corners: &[f32; 3 * CORNERS],
+    corners: &[f32; 4 * CORNERS],
     sheet: &mut [u16],
     attached: &mut [u16],
     used: &mut [u8; CORNERS],
@@ -268,22 +269,23 @@ fn fill_accepted(
     xs: &[f32],
     ys: &[f32],
     pitches: &[f32],
+    shades: &[u8],
     sheet: &mut [u16],
     attached: &mut [u16],
     settings: Settings,
     params: FillParams,
 ) -> FillStats
-    requires { ⌜ Accepted (lentOf (cornerLists (now xs) (now ys) (now pitches)) (now sheet) (rooms 0 (length (now attached))))
+    requires { ⌜ Accepted (lentOf (cornerLists (now xs) (now ys) (now pitches)) (now shades) (now sheet) (rooms 0 (length (now attached))))
         settings (Pass.Fill params) ⌝ }
     ensures { λ r. ⌜ fillOut (FillAnswer.Done r) (now (sheet .exit)) (now (attached .exit))
-        ≡ fillLeaves (done (fillAfter (cornersOf (cornerLists (now (xs .entry)) (now (ys .entry)) (now (pitches .entry)))) settings params
-        (now (sheet .entry)))) (now (sheet .entry)) (now (attached .entry)) ⌝ }
+        ≡ fillLeaves (done (fillAfter (cornersOf (cornerLists (now (xs .entry)) (now (ys .entry)) (now (pitches .entry))) (now (shades .entry)))
+        settings params (now (sheet .entry)))) (now (sheet .entry)) (now (attached .entry)) ⌝ }
 {
     let limit = round_limit(labels::label_count(sheet), params.max_iters);
     let mut used = labels::mark_used(sheet);
     let nothing = 0.0f32 / 0.0f32;
-    let mut corners = [nothing; 3 * CORNERS];
-    arguments::hold_corners(xs, ys, pitches, &mut corners);
+    let mut corners = [nothing; 4 * CORNERS];
+    arguments::hold_corners(xs, ys, pitches, shades, &mut corners);
     let setup = FillSetup {
         count: xs.len(),
         settings,
@@ -299,28 +301,30 @@ fn fill_accepted(
 }
 
 // Fills the sheet: each round walks, by i then j, the unlabelled cells of the label box and one strip along each whole side, and attaches a
-// corner where one is found; a round that attaches nothing is the last. The attached list holds the new cells' places in order at its front,
+// corner of the cell's kind where one is found; a round that attaches nothing is the last. The attached list holds the new cells' places in order at its front,
 // its rest untouched; no mark changes. The answer has the number of new cells, the number of rounds, and the rim. A refused call changes
 // nothing and answers why. `said` is the same answer in 01's number or values.
 pub fn fill_grid_holes(
     xs: &[f32],
     ys: &[f32],
     pitches: &[f32],
+    shades: &[u8],
     sheet: &mut [u16],
     attached: &mut [u16],
     settings: Settings,
     params: FillParams,
 ) -> FillAnswer
     ensures { λ r. ⌜ fillOut r (now (sheet .exit)) (now (attached .exit))
-        ≡ fillLeaves (fillStep (cornerLists (now (xs .entry)) (now (ys .entry)) (now (pitches .entry))) (now (sheet .entry)) settings params
-        (rooms 0 (length (now (attached .entry))))) (now (sheet .entry)) (now (attached .entry)) ⌝ }
+        ≡ fillLeaves (fillStep (cornerLists (now (xs .entry)) (now (ys .entry)) (now (pitches .entry))) (now (shades .entry)) (now (sheet .entry))
+        settings params (rooms 0 (length (now (attached .entry))))) (now (sheet .entry)) (now (attached .entry)) ⌝ }
     ensures said { λ r. ⌜ fillSaid r ≡ outcomeDue fillValues (fillStep (cornerLists (now (xs .entry)) (now (ys .entry)) (now (pitches .entry)))
-        (now (sheet .entry)) settings params (rooms 0 (length (now (attached .entry))))) ⌝ }
+        (now (shades .entry)) (now (sheet .entry)) settings params (rooms 0 (length (now (attached .entry))))) ⌝ }
 {
     let checked = arguments::check_arguments(
         xs,
         ys,
         pitches,
+        shades,
         sheet,
         0,
         attached.len(),
@@ -330,5 +334,5 @@ pub fn fill_grid_holes(
     if let Checked::Refused(refusal) = checked {
         return FillAnswer::Refused(refusal);
     }
-    FillAnswer::Done(fill_accepted(xs, ys, pitches, sheet, attached, settings, params))
+    FillAnswer::Done(fill_accepted(xs, ys, pitches, shades, sheet, attached, settings, params))
 }

@@ -19,26 +19,27 @@ use Rattle.sheet.specs.Words.{numberOfLabel, wordOf, withLabel, wordAt, attache
 use Rattle.labels.proofs.Below.{both}
 use Rattle.arguments.specs.declared.Checked.{Checked}
 use Rattle.line_form.specs.Held.{heldUpTo}
-use Rattle.frame_line.specs.Lines.{Line, kindOf, Proper, labelLineOf, wholeAt, CornerLine, cornerLineOf, LabelLine, PassLine, passLineOf}
+use Rattle.frame_line.specs.Lines.{Line, kindOf, Proper, labelLineOf, wholeAt, CornerLine, cornerLineOf, LabelLine, ShadeLine, shadeLineOf, PassLine, passLineOf}
 use Rattle.frame_line.specs.Checks.{outsideLine}
-use Rattle.frame_line.specs.Held.{countIn, heldLine, labelIn, outsideHeld}
+use Rattle.frame_line.specs.Held.{countIn, heldLine, labelIn, shadeIn, outsideHeld}
 use Rattle.frame_line.specs.declared.Kind.{Kind}
 use Rattle.frame_line.proofs.Numbers.{outside-held, slotsOf}
-use Rattle.frame_line.proofs.Said.{label-exact, pass-said}
+use Rattle.frame_line.proofs.Said.{label-exact, shade-corner, shade-kind, pass-said}
 use Rattle.frame_line.specs.Table.{rows, rowAt, formAt}
 use Rattle.frame_line.specs.declared.OpeningKind.{OpeningKind}
 use Rattle.frame_line.specs.declared.PassKind.{PassKind}
 use Rattle.frame_line.specs.declared.HeldLabel.{HeldLabel}
+use Rattle.frame_line.specs.declared.HeldShade.{HeldShade}
 use Rattle.frame_line.proofs.Shapes.{bits-held, whole-held}
 use Rattle.frame_line.proofs.Words.{tame-count}
-use Rattle.frame_check.specs.Checks.{checksInOrder, overLimit, labelTwice, twiceOf, checkedHeld, isSet}
+use Rattle.frame_check.specs.Checks.{checksInOrder, overLimit, labelTwice, shadeTwice, twiceOf, checkedHeld, isSet}
 use Rattle.frame_check.proofs.Laws.{checks-alike, AllFine, fine-all}
 use Rattle.sizes.specs.Sizes.{cornerLimit, passLimit, placeCount, allPassWords}
-use Rattle.frame_state.specs.State.{usedCount, withOpening, wordsIn, wordsPut, State, addsAs, adds, atStage, nothing-said, arrays, state}
+use Rattle.frame_state.specs.State.{usedCount, withOpening, shadePut, wordsIn, wordsPut, State, addsAs, adds, atStage, nothing-said, arrays, state}
 use Rattle.frame_state.specs.declared.PassWords.{PassWords}
-use Rattle.frame.specs.Frame.{outsideIn, overIn, twiceIn, Parts, sameCell, someOf, doubled, checkedLine, opened, adding, added, no-parts}
-use Rattle.frame.specs.Reading.{cornerTaken, HoldsLabels, Holds, HoldsCorners, HoldsPasses, FrameHeld}
-use Rattle.frame.specs.ReadFrame.{floatOf, settingsIn, labelled, fullOf, wordsOf, allWords}
+use Rattle.frame.specs.Frame.{outsideIn, overIn, twiceIn, Parts, sameCell, someOf, doubled, shadedBefore, checkedLine, opened, adding, added, no-parts}
+use Rattle.frame.specs.Reading.{cornerTaken, cornerShaded, HoldsLabels, HoldsShades, Holds, HoldsCorners, HoldsPasses, FrameHeld}
+use Rattle.frame.specs.ReadFrame.{floatOf, settingsIn, shaded, labelled, fullOf, wordsOf, allWords}
 
 pub below-or-not : (a b : ℕ) → (a < b) ⊎ (b ≤ a)
 below-or-not a b = go (ltb a b) refl
@@ -80,13 +81,14 @@ pub line-fine : (p : Parts) (l : Line) → checkedLine p l ≡ Checked.Fine → 
 unfolding checkedLine
 line-fine p l c = fine-all (outsideIn p l) _ _ c
 
--- doubled is asked of labels alone
-pub twice-alike : (kind : Kind) (a b : Bool) → (kind ≡ Kind.Label → a ≡ b) → twiceOf kind a ≡ twiceOf kind b
+-- doubled is asked of labels and of shades alone
+pub twice-alike : (kind : Kind) {a b c d : Bool} → (kind ≡ Kind.Label → a ≡ b) → (kind ≡ Kind.Shade → c ≡ d) → twiceOf kind a c ≡ twiceOf kind b d
 unfolding twiceOf
-twice-alike (Kind.Opening o) a b h = refl
-twice-alike Kind.Corner a b h = refl
-twice-alike Kind.Label a b h = h refl
-twice-alike (Kind.Pass p) a b h = refl
+twice-alike (Kind.Opening o) h i = refl
+twice-alike Kind.Corner h i = refl
+twice-alike Kind.Label h i = h refl
+twice-alike Kind.Shade h i = i refl
+twice-alike (Kind.Pass p) h i = refl
 
 module _ (f : Parts) (s : State) (g : FrameHeld f s) (l : Line) (p : Proper l) where
   twice : outsideLine 4 (s .progress .corners) l ≡ false → outsideLine 5 (s .progress .corners) l ≡ false → kindOf l ≡ Kind.Label
@@ -99,14 +101,22 @@ module _ (f : Parts) (s : State) (g : FrameHeld f s) (l : Line) (p : Proper l) w
       (g .labels .corners (natAbs (m .corner)) (omega (arith, h .given, g .corners .xs-held .some)) ∙ ap (cornerTaken (f .labels)) (sym (h .is-corner)))
       ∙ sym (some-either (λ k. sameCell (k .cell) (m .cell)) (λ k. eqZ (k .corner) (m .corner)) (f .labels))
 
+  twice-shaded : outsideLine 5 (s .progress .corners) l ≡ false → kindOf l ≡ Kind.Shade
+      → shadeTwice (s .held .shades) (shadeIn (heldUpTo 5 (l .numbers))) ≡ shadedBefore (f .shades) (shadeLineOf (l .numbers))
+  twice-shaded known k =
+      let h = shade-corner (s .progress .corners) l p k (g .corners .xs-held .some) known in
+      let m = shadeLineOf (l .numbers) in
+      ap (isSet (s .held .shades)) (h .held-so)
+      ∙ g .shades .corners (natAbs (m .corner)) (omega (arith, h .given, g .corners .xs-held .some)) ∙ ap (cornerShaded (f .shades)) (sym (h .is-corner))
+
   -- all checks
-  pub checks-agree : checkedHeld (s .progress .corners) (s .progress .passes) (s .held .sheet) (s .held .used) (heldLine l) ≡ checkedLine f l
+  pub checks-agree : checkedHeld (s .progress .corners) (s .progress .passes) (s .held .shades) (s .held .sheet) (s .held .used) (heldLine l) ≡ checkedLine f l
   unfolding checkedHeld checkedLine
   checks-agree =
       checks-alike (λ r. outsideHeld r (s .progress .corners) (heldLine l)) (λ r. outsideLine r (s .progress .corners) l)
       (overLimit (s .progress .corners) (s .progress .passes) (kindOf l)) _ _
       (λ r. outside-held r (s .progress .corners) l (g .corners .xs-held .some) p)
-      (λ off known. twice-alike (kindOf l) _ _ (twice off known))
+      (λ off known. twice-alike (kindOf l) (twice off known) (twice-shaded known))
       ∙ ap₂ (λ (i j : ℕ). checksInOrder (λ r. outsideLine r i l) (overLimit i j (kindOf l)) (twiceIn f (kindOf l) (l .numbers))) (g .corners .count)
       (g .passes .count)
 
@@ -117,6 +127,12 @@ labelled-more : (sheet : List ℕ) (ls : List LabelLine) (l : LabelLine)
 unfolding labelled
 labelled-more sheet [] l = refl
 labelled-more sheet (m ∷ ls) l = labelled-more (attached sheet (m .cell) (natAbs (m .corner))) ls l
+
+shaded-more : (shades : List ℕ) (ss : List ShadeLine) (s : ShadeLine)
+    → shaded shades (ss ++ (s ∷ [])) ≡ set (shaded shades ss) (natAbs (s .corner)) (natAbs (s .kind) + 1)
+unfolding shaded
+shaded-more shades [] s = refl
+shaded-more shades (t ∷ ss) s = shaded-more (set shades (natAbs (t .corner)) (natAbs (t .kind) + 1)) ss s
 
 words-more : (ps : List PassLine) (p : PassLine) → allWords (ps ++ (p ∷ [])) ≡ allWords ps ++ wordsOf (fullOf p)
 unfolding allWords
@@ -196,6 +212,24 @@ label-held {ls} {sheet} {used} g l k on is small =
           ∙ sym (some-more (λ m. eqZ (m .corner) (pos q)) ls l);
     }
 
+-- ---- shades
+
+shade-held : {ss : List ShadeLine} {shades : List ℕ} → HoldsShades ss shades → (s : ShadeLine) → s .corner ≡ pos (natAbs (s .corner))
+    → natAbs (s .corner) < cornerLimit
+    → HoldsShades (ss ++ (s ∷ [])) (set shades (natAbs (s .corner)) (natAbs (s .kind) + 1))
+shade-held {ss} {shades} g s is small =
+    let k = natAbs (s .corner) in
+    let v = natAbs (s .kind) + 1 in
+    record {
+      shades-are = ap (λ (l : List ℕ). set l k v) (g .shades-are) ∙ sym (shaded-more _ ss s);
+      shades-long = length-set shades k v ∙ g .shades-long;
+      corners =
+          λ q h.
+          set-set shades k q v (omega (arith, g .shades-long)) (λ e. omega arith)
+          ∙ ap₂ _||_ (g .corners q h) (sym (ap (λ (z : ℤ). eqZ z (pos q)) is))
+          ∙ sym (some-more (λ t. eqZ (t .corner) (pos q)) ss s);
+    }
+
 -- ---- passes
 
 abbrev listed : PassWords → List ℕ
@@ -257,7 +291,7 @@ module _ (f : Parts) (s : State) (g : FrameHeld f s) (l : Line) (p : Proper l) (
   -- a line of a kind changes its own part
   by-kind : (kind : Kind) → kindOf l ≡ kind → FrameHeld (adding kind (l .numbers) f) (addsAs kind (heldUpTo 5 (l .numbers)) s)
   unfolding adding addsAs overLimit slotsOf formAt rowAt rows
-  by-kind (Kind.Opening k) e = record { settings-are = settings-added k e; corners = g .corners; labels = g .labels; passes = g .passes }
+  by-kind (Kind.Opening k) e = record { settings-are = settings-added k e; corners = g .corners; labels = g .labels; shades = g .shades; passes = g .passes }
   by-kind Kind.Corner e =
       let b = bits-held l p Kind.Corner e in
       let n = leb-false cornerLimit (length (f .corners)) (room Kind.Corner e) in
@@ -267,6 +301,7 @@ module _ (f : Parts) (s : State) (g : FrameHeld f s) (l : Line) (p : Proper l) (
             rw (b 0 (omega arith) refl, b 1 (omega arith) refl, b 2 (omega arith) refl)
             (corner-held (g .corners) (omega (arith, g .corners .count)) (cornerLineOf (l .numbers)));
         labels = g .labels;
+        shades = g .shades;
         passes = g .passes;
       }
   by-kind Kind.Label e =
@@ -280,6 +315,23 @@ module _ (f : Parts) (s : State) (g : FrameHeld f s) (l : Line) (p : Proper l) (
             subst (λ (x : HeldLabel). HoldsLabels (f .labels ++ (m ∷ [])) (attached (s .held .sheet) (x .cell) (x .corner)) (set (s .held .used) (x .corner) 1))
             (sym (h .held-so))
             (label-held (g .labels) m (natAbs (m .corner)) (h .on-sheet) (h .is-corner) (omega (arith, h .given, few)));
+        shades = g .shades;
+        passes = g .passes;
+      }
+  by-kind Kind.Shade e =
+      let few : length (f .corners) ≤ cornerLimit = omega (arith, g .corners .count, g .corners .xs-held .some) in
+      let h = shade-corner (length (f .corners)) l p e few (w .known) in
+      let k = shade-kind (length (f .corners)) l p e (w .first) in
+      let m = shadeLineOf (l .numbers) in
+      let so : record { corner = natAbs (m .corner); kind = natAbs (m .kind) } ≡ shadeIn (heldUpTo 5 (l .numbers)) =
+      λ t. record { corner = sym (h .held-so) t; kind = sym (k .held-so) t } in
+      record {
+        settings-are = g .settings-are;
+        corners = g .corners;
+        labels = g .labels;
+        shades =
+            subst (λ (x : HeldShade). HoldsShades (f .shades ++ (m ∷ [])) (shadePut x (s .held .shades))) so
+            (shade-held (g .shades) m (h .is-corner) (omega (arith, h .given, few)));
         passes = g .passes;
       }
   by-kind (Kind.Pass k) e =
@@ -288,6 +340,7 @@ module _ (f : Parts) (s : State) (g : FrameHeld f s) (l : Line) (p : Proper l) (
         settings-are = g .settings-are;
         corners = g .corners;
         labels = g .labels;
+        shades = g .shades;
         passes = pass-held (g .passes) (omega (arith, g .passes .count)) (passLineOf k (l .numbers)) (wordsIn k (heldUpTo 5 (l .numbers))) (words-agree k e);
       }
 
@@ -296,7 +349,7 @@ module _ (f : Parts) (s : State) (g : FrameHeld f s) (l : Line) (p : Proper l) (
 
 -- the stage is not held
 pub restaged : (f : Parts) (s : State) (stage : ℕ) → FrameHeld f s → FrameHeld f (state (atStage (s .progress) stage) (s .held))
-restaged f s stage g = record { settings-are = g .settings-are; corners = g .corners; labels = g .labels; passes = g .passes }
+restaged f s stage g = record { settings-are = g .settings-are; corners = g .corners; labels = g .labels; shades = g .shades; passes = g .passes }
 
 -- ---- before the first line
 
@@ -317,11 +370,15 @@ no-labels =
       corners = λ k h. none-set usedCount k (omega arith);
     }
 
+no-shades : HoldsShades [] (replicate cornerLimit 0)
+unfolding someOf shaded
+no-shades = record { shades-are = refl; shades-long = length-replicate {A = ℕ} cornerLimit 0; corners = λ k h. none-set cornerLimit k h }
+
 pub nothing-held : (x : Float)
     → FrameHeld no-parts
     (state nothing-said
     (arrays (replicate cornerLimit x) (replicate cornerLimit x) (replicate cornerLimit x)
-    (replicate placeCount 0) (replicate usedCount 0) (replicate allPassWords 0)))
+    (replicate cornerLimit 0) (replicate placeCount 0) (replicate usedCount 0) (replicate allPassWords 0)))
 unfolding allWords
 nothing-held x =
     let front = holds-none cornerLimit x in
@@ -329,5 +386,6 @@ nothing-held x =
       settings-are = refl;
       corners = record { count = refl; xs-held = front; ys-held = front; pitches-held = front };
       labels = no-labels;
+      shades = no-shades;
       passes = record { count = refl; words-held = holds-none allPassWords 0 };
     }

@@ -1,27 +1,29 @@
 -- What the call leaves: arrays copied to the front of buffers, nothing held before the first line, the frame held at the end, the buffers, and
 -- what the answer says. Assumes nothing.
 use mathlib.Core.Path.{_≡_, refl, sym, ap, _∙_}
-use mathlib.Core.List.{List, _++_, []}
+use mathlib.Core.List.{List, _++_, [], _∷_}
 use mathlib.Core.Bool.{true, false, Bool, cond}
-use Prim.Native.Nat.{ℕ, suc, _+_, _<_, _≤_, _*_}
+use Prim.Native.Nat.{ℕ, zero, suc, _+_, _<_, _≤_, _*_}
 use native.Mathlib.Omega.{arith}
 use native.Mathlib.Numerals.{add-one}
 use borrow.Author.Tests.{lt-ltb, le-ltb, ltb-false}
-use lib.ListN.{length, getD, set, take, drop, length-set}
+use lib.ListN.{length, getD, set, take, drop, replicate, length-set}
 use lib.Seq.{length-take-le, drop-cons, set-at, append-snoc, take-suc, take-all}
 use lib.Dec.{ltb}
+use lib.IntN.{natAbs}
 use lib.Ieee.{Float}
 use Rattle.refusal.specs.declared.Refusal.{Refusal}
 use Rattle.refusal.specs.Said.{number-and-line}
 use Rattle.arguments.specs.Front.{over}
 use Rattle.arguments.proofs.Chains.{or-false-both}
 use Rattle.line_form.specs.Lines.{linesOf}
+use Rattle.frame_line.specs.Lines.{ShadeLine}
 use Rattle.sizes.specs.Sizes.{cornerLimit, placeCount, passSize, allPassWords, byteLimit}
 use Rattle.frame_state.specs.State.{Arrays, state}
 use Rattle.frame_state.specs.declared.Progress.{Progress}
 use Rattle.frame.specs.Reading.{Copies, Holds, FrameHeld, ReadAs, refused-as, held-as, LongEnough, buffers}
 use Rattle.frame.specs.Frame.{Frame, partsOf, FrameRead, refused-at, accepted, readLines, readFrame}
-use Rattle.frame.specs.ReadFrame.{xsOf, ysOf, pitchesOf, settingsOf, sheetOf, Buffers, frameOut, tooShort, leaves, readInto, FrameOut, unlessShort}
+use Rattle.frame.specs.ReadFrame.{xsOf, ysOf, pitchesOf, shaded, shadesOf, settingsOf, sheetOf, Buffers, frameOut, tooShort, leaves, readInto, FrameOut, unlessShort}
 use Rattle.frame.specs.declared.FrameAnswer.{FrameAnswer}
 use Rattle.frame.specs.declared.LinesRead.{LinesRead}
 use Rattle.frame.specs.Said.{headValues, frameSaid, lineValues, readDue, frameDue}
@@ -87,7 +89,42 @@ left : {A : Type 0} {size n : ℕ} {entries these : List A} → Holds size n ent
     → after ≡ over these to
 left g to after e = e ∙ ap (λ (l : List _). over l to) (g .are)
 
+-- the front of an array that is written, and of one that is all alike
+take-set : {A : Type 0} (n : ℕ) (l : List A) (i : ℕ) (a : A) → take n (set l i a) ≡ set (take n l) i a
+take-set zero l i a = refl
+take-set (suc n) [] i a = refl
+take-set (suc n) (x ∷ l) zero a = refl
+take-set (suc n) (x ∷ l) (suc i) a = ap (λ (r : List _). x ∷ r) (take-set n l i a)
+
+take-alike : {A : Type 0} (n m : ℕ) (a : A) → n ≤ m → take n (replicate m a) ≡ replicate n a
+take-alike zero m a h = refl
+take-alike (suc n) zero a h = absurd (omega arith)
+take-alike (suc n) (suc m) a h = ap (λ (r : List _). a ∷ r) (take-alike n m a (omega arith))
+
+-- the shades of the first n corners
+take-shaded : (n : ℕ) (shades : List ℕ) (ss : List ShadeLine) → take n (shaded shades ss) ≡ shaded (take n shades) ss
+unfolding shaded
+take-shaded n shades [] = refl
+take-shaded n shades (s ∷ ss) =
+    take-shaded n (set shades (natAbs (s .corner)) (natAbs (s .kind) + 1)) ss
+    ∙ ap (λ (l : List ℕ). shaded l ss) (take-set n shades (natAbs (s .corner)) (natAbs (s .kind) + 1))
+
 module _ {f : FrameRead} {p : Progress} {a : Arrays} (w : Accepting f p a) where
+  pub shades-held : Holds cornerLimit (p .corners) (a .shades) (shadesOf (w .frame))
+  unfolding shadesOf
+  shades-held =
+      let g = w .holds .shades in
+      let n = w .holds .corners in
+      let ss = partsOf (w .frame) .shades in
+      record {
+        long = g .shades-long;
+        some = n .xs-held .some;
+        are =
+            ap (take (p .corners)) (g .shades-are) ∙ take-shaded (p .corners) (replicate cornerLimit 0) ss
+            ∙ ap (λ (l : List ℕ). shaded l ss) (take-alike (p .corners) cornerLimit 0 (n .xs-held .some))
+            ∙ ap (λ (k : ℕ). shaded (replicate k 0) ss) (n .count);
+      }
+
   pub sheet-held : Holds placeCount placeCount (a .sheet) (sheetOf (w .frame))
   unfolding sheetOf
   sheet-held =
@@ -95,17 +132,20 @@ module _ {f : FrameRead} {p : Progress} {a : Arrays} (w : Accepting f p a) where
       record { long = g .sheet-long; some = omega arith; are = take-all placeCount (a .sheet) (omega (arith, g .sheet-long)) ∙ g .sheet-is }
 
   -- an accepted frame is written
-  pub text-accepted : (b : Buffers) (xs ys pitches : List Float) (sheet passes : List ℕ) → xs ≡ over (take (p .corners) (a .xs)) (b .xs)
+  pub text-accepted : (b : Buffers) (xs ys pitches : List Float) (shades sheet passes : List ℕ) → xs ≡ over (take (p .corners) (a .xs)) (b .xs)
       → ys ≡ over (take (p .corners) (a .ys)) (b .ys)
-      → pitches ≡ over (take (p .corners) (a .pitches)) (b .pitches) → sheet ≡ over (take placeCount (a .sheet)) (b .sheet)
+      → pitches ≡ over (take (p .corners) (a .pitches)) (b .pitches) → shades ≡ over (take (p .corners) (a .shades)) (b .shades)
+      → sheet ≡ over (take placeCount (a .sheet)) (b .sheet)
       → passes ≡ over (take (passSize * p .passes) (a .passes)) (b .passes)
-      → frameOut (FrameAnswer.Accepted (record { settings = p .settings; corners = p .corners; passes = p .passes })) xs ys pitches sheet passes ≡ leaves f b
+      → frameOut (FrameAnswer.Accepted (record { settings = p .settings; corners = p .corners; passes = p .passes })) xs ys pitches shades sheet passes
+      ≡ leaves f b
   unfolding settingsOf xsOf ysOf pitchesOf
-  text-accepted b xs ys pitches sheet passes x y z s q =
+  text-accepted b xs ys pitches shades sheet passes x y z d s q =
       let h = w .holds in
       let c = h .corners in
       rw (w .is, h .settings-are, c .count, h .passes .count)
-      (rw (left (c .xs-held) _ _ x, left (c .ys-held) _ _ y, left (c .pitches-held) _ _ z, left sheet-held _ _ s, left (h .passes .words-held) _ _ q))
+      (rw (left (c .xs-held) _ _ x, left (c .ys-held) _ _ y, left (c .pitches-held) _ _ z, left shades-held _ _ d, left sheet-held _ _ s)
+      (rw (left (h .passes .words-held) _ _ q)))
 
 -- ---- the call
 
@@ -115,11 +155,13 @@ module _ (text : List ℕ) (b : Buffers) where
       let i = or-false-both (ltb (length (b .xs)) cornerLimit) _ e in
       let j = or-false-both (ltb (length (b .ys)) cornerLimit) _ (i .1) in
       let k = or-false-both (ltb (length (b .pitches)) cornerLimit) _ (j .1) in
-      let l = or-false-both (ltb (length (b .sheet)) placeCount) _ (k .1) in
+      let m = or-false-both (ltb (length (b .shades)) cornerLimit) _ (k .1) in
+      let l = or-false-both (ltb (length (b .sheet)) placeCount) _ (m .1) in
       record {
         xs-long = ltb-false (length (b .xs)) cornerLimit (i .0);
         ys-long = ltb-false (length (b .ys)) cornerLimit (j .0);
         pitches-long = ltb-false (length (b .pitches)) cornerLimit (k .0);
+        shades-long = ltb-false (length (b .shades)) cornerLimit (m .0);
         sheet-long = ltb-false (length (b .sheet)) placeCount (l .0);
         passes-long = ltb-false (length (b .passes)) allPassWords (l .1);
       }

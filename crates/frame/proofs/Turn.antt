@@ -95,7 +95,7 @@ module _ (p : Progress) (a : Arrays) (found : HeldLine) (turn : Turn) (t : turn 
   step-no e = rw (← t, e)
 
   module _ (to : ℕ) (e : turn ≡ Turn.To to) where
-    module _ (checked : Checked) (c : checked ≡ checkedHeld (p .corners) (p .passes) (a .sheet) (a .used) found) where
+    module _ (checked : Checked) (c : checked ≡ checkedHeld (p .corners) (p .passes) (a .shades) (a .sheet) (a .used) found) where
       pub step-stopped : (r : Refusal) → checked ≡ Checked.Refused r → went (Stepped.Stopped r) a ≡ heldStep found (state p a)
       unfolding heldStep
       step-stopped r h = rw (← t, e, ← c, h)

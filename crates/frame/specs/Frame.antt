@@ -13,7 +13,7 @@ use Rattle.arguments.specs.declared.Checked.{Checked}
 use Rattle.line_form.specs.Forms.{Number}
 use Rattle.line_form.specs.Lines.{linesOf}
 use Rattle.frame_line.specs.Table.{turnAt, mayEnd}
-use Rattle.frame_line.specs.Lines.{Line, kindOf, bitsAt, Axes, axesLineOf, CornerLine, cornerLineOf, LabelLine, labelLineOf, PassLine, passLineOf, LineRead, ill-formed, line, readLine}
+use Rattle.frame_line.specs.Lines.{Line, kindOf, bitsAt, Axes, axesLineOf, CornerLine, cornerLineOf, LabelLine, labelLineOf, ShadeLine, shadeLineOf, PassLine, passLineOf, LineRead, ill-formed, line, readLine}
 use Rattle.frame_line.specs.Checks.{outsideLine}
 use Rattle.frame_line.specs.declared.Kind.{Kind}
 use Rattle.frame_line.specs.declared.OpeningKind.{OpeningKind}
@@ -32,11 +32,12 @@ pub record Opening : Type 0 where
   pub axes : Axes
   pub band : ℕ
 
--- corners, given labels and passes in the order of their lines, the passes bare or full
+-- corners, given labels, shades and passes in the order of their lines, the passes bare or full
 pub record Parts : Type 0 where
   pub opening : Opening
   pub corners : List CornerLine
   pub labels : List LabelLine
+  pub shades : List ShadeLine
   pub passes : List PassLine
 
 unfoldable pub opened : OpeningKind → List Number → Opening → Opening
@@ -47,29 +48,34 @@ opened OpeningKind.Band ns o = record { cell = o .cell; axes = o .axes; band = b
 
 -- one part is changed, and the others are as they were
 abbrev pub withOpening : Opening → Parts → Parts
-withOpening o p = record { opening = o; corners = p .corners; labels = p .labels; passes = p .passes }
+withOpening o p = record { opening = o; corners = p .corners; labels = p .labels; shades = p .shades; passes = p .passes }
 
 abbrev pub withCorner : CornerLine → Parts → Parts
-withCorner c p = record { opening = p .opening; corners = p .corners ++ (c ∷ []); labels = p .labels; passes = p .passes }
+withCorner c p = record { opening = p .opening; corners = p .corners ++ (c ∷ []); labels = p .labels; shades = p .shades; passes = p .passes }
 
 abbrev pub withLabel : LabelLine → Parts → Parts
-withLabel l p = record { opening = p .opening; corners = p .corners; labels = p .labels ++ (l ∷ []); passes = p .passes }
+withLabel l p = record { opening = p .opening; corners = p .corners; labels = p .labels ++ (l ∷ []); shades = p .shades; passes = p .passes }
+
+abbrev pub withShade : ShadeLine → Parts → Parts
+withShade s p = record { opening = p .opening; corners = p .corners; labels = p .labels; shades = p .shades ++ (s ∷ []); passes = p .passes }
 
 abbrev pub withPass : PassLine → Parts → Parts
-withPass q p = record { opening = p .opening; corners = p .corners; labels = p .labels; passes = p .passes ++ (q ∷ []) }
+withPass q p = record { opening = p .opening; corners = p .corners; labels = p .labels; shades = p .shades; passes = p .passes ++ (q ∷ []) }
 
--- the part that a line of a kind changes: 0 the opening, 1 the corners, 2 the labels, 3 the passes
+-- the part that a line of a kind changes: 0 the opening, 1 the corners, 2 the labels, 3 the shades, 4 the passes
 abbrev pub partOf : Kind → ℕ
 partOf (Kind.Opening o) = 0
 partOf Kind.Corner = 1
 partOf Kind.Label = 2
-partOf (Kind.Pass p) = 3
+partOf Kind.Shade = 3
+partOf (Kind.Pass p) = 4
 
 -- what a line of a kind adds: the one part that it changes
 unfoldable pub adding : Kind → List Number → Parts → Parts
 adding (Kind.Opening k) ns p = withOpening (opened k ns (p .opening)) p
 adding Kind.Corner ns p = withCorner (cornerLineOf ns) p
 adding Kind.Label ns p = withLabel (labelLineOf ns) p
+adding Kind.Shade ns p = withShade (shadeLineOf ns) p
 adding (Kind.Pass k) ns p = withPass (passLineOf k ns) p
 
 abbrev pub added : Parts → Line → Parts
@@ -81,12 +87,19 @@ partsFrom p (l ∷ ls) = partsFrom (added p l) ls
 
 -- before the first line
 abbrev pub no-parts : Parts
-no-parts = record { opening = record { cell = 0; axes = record { ix = 0; iy = 0; jx = 0; jy = 0 }; band = 0 }; corners = []; labels = []; passes = [] }
+no-parts =
+    record {
+      opening = record { cell = 0; axes = record { ix = 0; iy = 0; jx = 0; jy = 0 }; band = 0 };
+      corners = [];
+      labels = [];
+      shades = [];
+      passes = [];
+    }
 
 unfoldable pub partsOf : Frame → Parts
 partsOf f = partsFrom no-parts f
 
--- ---- 6, doubled: "cell or corner labelled twice"
+-- ---- 6, doubled: "cell or corner labelled twice", and "a second shade 6"
 
 abbrev pub sameCell : Cell → Cell → Bool
 sameCell a b = eqZ (a .i) (b .i) && eqZ (a .j) (b .j)
@@ -103,6 +116,10 @@ someOf f (a ∷ rest) = f a || someOf f rest
 abbrev pub doubled : List LabelLine → LabelLine → Bool
 doubled ls l = someOf (λ m. clash m l) ls
 
+-- some shade of the list has the corner of this one
+abbrev pub shadedBefore : List ShadeLine → ShadeLine → Bool
+shadedBefore ss s = someOf (λ t. eqZ (t .corner) (s .corner)) ss
+
 -- ---- the checks of a line in its turn, with what the lines before it said
 
 -- some number of it has the refusal r; a line of its kind is one too many; it is doubled
@@ -113,7 +130,7 @@ abbrev pub overIn : Parts → Kind → Bool
 overIn p kind = overLimit (length (p .corners)) (length (p .passes)) kind
 
 abbrev pub twiceIn : Parts → Kind → List Number → Bool
-twiceIn p kind ns = twiceOf kind (doubled (p .labels) (labelLineOf ns))
+twiceIn p kind ns = twiceOf kind (doubled (p .labels) (labelLineOf ns)) (shadedBefore (p .shades) (shadeLineOf ns))
 
 unfoldable pub checkedLine : Parts → Line → Checked
 checkedLine p l = checksInOrder (outsideIn p l) (overIn p (kindOf l)) (twiceIn p (kindOf l) (l .numbers))

@@ -1,11 +1,11 @@
--- What the library call that reads a frame leaves (document 01, "Frame and result"), and the corners, sheet, settings and passes that a frame
--- gives. Definitions only.
+-- What the library call that reads a frame leaves (document 01, "Frame and result"), and the corners, shades, sheet, settings and passes that a
+-- frame gives. Definitions only.
 use mathlib.Core.Bool.{Bool, true, false, _||_}
 use mathlib.Core.List.{List, [], _∷_, _++_, map}
-use Prim.Native.Nat.{ℕ}
+use Prim.Native.Nat.{ℕ, _+_}
 use lib.IntN.{natAbs}
 use lib.Dec.{ltb}
-use lib.ListN.{length}
+use lib.ListN.{length, set, replicate}
 use lib.Ieee.{Float, binary32, ofBits}
 use Rattle.refusal.specs.declared.Refusal.{Refusal}
 use Rattle.sheet.specs.Words.{emptySheet, attached}
@@ -16,7 +16,7 @@ use Rattle.arguments.specs.declared.FillParams.{FillParams}
 use Rattle.arguments.specs.declared.LocalExtensionParams.{LocalExtensionParams}
 use Rattle.arguments.specs.declared.Pass.{Pass}
 use Rattle.arguments.specs.declared.Settings.{Settings}
-use Rattle.frame_line.specs.Lines.{LabelLine, PassLine, bare-grow, grow, bare-fill, fill, local}
+use Rattle.frame_line.specs.Lines.{LabelLine, ShadeLine, PassLine, bare-grow, grow, bare-fill, fill, local}
 use Rattle.arguments.specs.Front.{over}
 use Rattle.sizes.specs.Sizes.{cornerLimit, placeCount, allPassWords}
 use Rattle.frame.specs.Frame.{Frame, Opening, partsOf, FrameRead, refused-at, accepted, readFrame}
@@ -36,6 +36,14 @@ ysOf f = map (λ c. floatOf (c .y)) (partsOf f .corners)
 
 unfoldable pub pitchesOf : Frame → List Float
 pitchesOf f = map (λ c. floatOf (c .pitch)) (partsOf f .corners)
+
+-- the shades as a call is lent them, one byte a corner: 0 where no shade stands, and 1 more than the kind where one does
+unfoldable pub shaded : List ℕ → List ShadeLine → List ℕ
+shaded shades [] = shades
+shaded shades (s ∷ ss) = shaded (set shades (natAbs (s .corner)) (natAbs (s .kind) + 1)) ss
+
+unfoldable pub shadesOf : Frame → List ℕ
+shadesOf f = shaded (replicate (length (partsOf f .corners)) 0) (partsOf f .shades)
 
 -- the sheet of the given labels: each label's corner at its cell, no marks
 unfoldable pub labelled : List ℕ → List LabelLine → List ℕ
@@ -118,6 +126,7 @@ pub record Buffers : Type 0 where
   pub xs : List Float
   pub ys : List Float
   pub pitches : List Float
+  pub shades : List ℕ
   pub sheet : List ℕ
   pub passes : List ℕ
 
@@ -126,19 +135,21 @@ pub record FrameOut : Type 0 where
   pub answer : FrameAnswer
   pub buffers : Buffers
 
-abbrev pub frameOut : FrameAnswer → List Float → List Float → List Float → List ℕ → List ℕ → FrameOut
-frameOut r xs ys pitches sheet passes = record { answer = r; buffers = record { xs = xs; ys = ys; pitches = pitches; sheet = sheet; passes = passes } }
+abbrev pub frameOut : FrameAnswer → List Float → List Float → List Float → List ℕ → List ℕ → List ℕ → FrameOut
+frameOut r xs ys pitches shades sheet passes =
+    record { answer = r; buffers = record { xs = xs; ys = ys; pitches = pitches; shades = shades; sheet = sheet; passes = passes } }
 
--- 7: 1,024 places each for positions and pitches, 16,384 sheet places, 16 passes of six words
+-- 7: 1,024 places each for positions, pitches and shades, 16,384 sheet places, 16 passes of six words
 abbrev pub tooShort : Buffers → Bool
 tooShort b =
     ltb (length (b .xs)) cornerLimit
     || (ltb (length (b .ys)) cornerLimit
     || (ltb (length (b .pitches)) cornerLimit
+    || (ltb (length (b .shades)) cornerLimit
     || (ltb (length (b .sheet)) placeCount
-    || ltb (length (b .passes)) allPassWords)))
+    || ltb (length (b .passes)) allPassWords))))
 
--- only an accepted frame writes: the corners and passes at the front of their buffers, and all 16,384 places of the sheet
+-- only an accepted frame writes: the corners, their shades and the passes at the front of their buffers, and all 16,384 places of the sheet
 abbrev pub leaves : FrameRead → Buffers → FrameOut
 leaves (refused-at r n) b = record { answer = FrameAnswer.Refused r n; buffers = b }
 leaves (accepted f) b =
@@ -149,6 +160,7 @@ leaves (accepted f) b =
             xs = over (xsOf f) (b .xs);
             ys = over (ysOf f) (b .ys);
             pitches = over (pitchesOf f) (b .pitches);
+            shades = over (shadesOf f) (b .shades);
             sheet = over (sheetOf f) (b .sheet);
             passes = over (allWords (partsOf f .passes)) (b .passes);
           };

@@ -5,14 +5,14 @@ use mathlib.Core.Bool.{Bool}
 use mathlib.Core.List.{List, map}
 use Prim.Native.Nat.{ℕ, _*_, _<_, _≤_}
 use lib.IntN.{ℤ, pos}
-use lib.ListN.{length, take}
+use lib.ListN.{length, take, replicate}
 use lib.Ieee.{Float}
 use Rattle.refusal.specs.declared.Refusal.{Refusal}
 use Rattle.sheet.specs.Cells.{OnSheet, placeOf, eqZ}
 use Rattle.sheet.specs.Words.{emptySheet}
 use Rattle.sheet.specs.declared.Cell.{Cell}
 use Rattle.arguments.specs.declared.Checked.{Checked}
-use Rattle.frame_line.specs.Lines.{CornerLine, LabelLine, PassLine}
+use Rattle.frame_line.specs.Lines.{CornerLine, LabelLine, ShadeLine, PassLine}
 use Rattle.frame_line.specs.Table.{turnAt}
 use Rattle.frame_line.specs.declared.HeldLine.{HeldLine}
 use Rattle.frame_line.specs.declared.Turn.{Turn}
@@ -21,7 +21,7 @@ use Rattle.sizes.specs.Sizes.{cornerLimit, placeCount, passSize, allPassWords}
 use Rattle.frame_state.specs.State.{usedCount, atStage, Arrays, State, state, adds}
 use Rattle.frame_state.specs.declared.Progress.{Progress}
 use Rattle.frame.specs.Frame.{Frame, Parts, partsOf, sameCell, someOf, FrameRead, refused-at, accepted}
-use Rattle.frame.specs.ReadFrame.{floatOf, settingsIn, labelled, allWords, Buffers}
+use Rattle.frame.specs.ReadFrame.{floatOf, settingsIn, shaded, labelled, allWords, Buffers}
 use Rattle.frame.specs.declared.Stepped.{Stepped}
 use Rattle.frame.specs.declared.LinesRead.{LinesRead}
 
@@ -64,6 +64,16 @@ pub record HoldsLabels (ls : List LabelLine) (sheet used : List ℕ) : Type 0 wh
   pub cells : (c : Cell) → OnSheet c → isSet sheet (placeOf c) ≡ cellTaken ls c
   pub corners : (k : ℕ) → k < cornerLimit → isSet used k ≡ cornerTaken ls (pos k)
 
+-- a shade of the list has this corner
+abbrev pub cornerShaded : List ShadeLine → ℤ → Bool
+cornerShaded ss z = someOf (λ s. eqZ (s .corner) z) ss
+
+-- the bytes of the shades, with an entry for each corner that a frame may have, which is 0 exactly if the corner has no shade
+pub record HoldsShades (ss : List ShadeLine) (shades : List ℕ) : Type 0 where
+  pub shades-are : shades ≡ shaded (replicate cornerLimit 0) ss
+  pub shades-long : length shades ≡ cornerLimit
+  pub corners : (k : ℕ) → k < cornerLimit → isSet shades k ≡ cornerShaded ss (pos k)
+
 -- the words of m passes stand at the front of an array
 pub record HoldsPasses (ps : List PassLine) (m : ℕ) (words : List ℕ) : Type 0 where
   pub count : m ≡ length ps
@@ -74,6 +84,7 @@ pub record FrameHeld (f : Parts) (s : State) : Type 0 where
   pub settings-are : s .progress .settings ≡ settingsIn (f .opening)
   pub corners : HoldsCorners (f .corners) (s .progress .corners) (s .held .xs) (s .held .ys) (s .held .pitches)
   pub labels : HoldsLabels (f .labels) (s .held .sheet) (s .held .used)
+  pub shades : HoldsShades (f .shades) (s .held .shades)
   pub passes : HoldsPasses (f .passes) (s .progress .passes) (s .held .passes)
 
 -- ---- one line
@@ -100,7 +111,7 @@ heldBy (Turn.To stage) (Checked.Refused r) s a = went (Stepped.Stopped r) a
 unfoldable pub heldStep : HeldLine → State → Went
 heldStep line s =
     heldBy (turnAt (s .progress .stage) (line .row))
-    (checkedHeld (s .progress .corners) (s .progress .passes) (s .held .sheet) (s .held .used) line) (adds line s) (s .held)
+    (checkedHeld (s .progress .corners) (s .progress .passes) (s .held .shades) (s .held .sheet) (s .held .used) line) (adds line s) (s .held)
 
 -- ---- all lines
 
@@ -115,11 +126,12 @@ pub record LongEnough (b : Buffers) : Type 0 where
   pub xs-long : cornerLimit ≤ length (b .xs)
   pub ys-long : cornerLimit ≤ length (b .ys)
   pub pitches-long : cornerLimit ≤ length (b .pitches)
+  pub shades-long : cornerLimit ≤ length (b .shades)
   pub sheet-long : placeCount ≤ length (b .sheet)
   pub passes-long : allPassWords ≤ length (b .passes)
 
-abbrev pub buffers : List Float → List Float → List Float → List ℕ → List ℕ → Buffers
-buffers xs ys pitches sheet passes = record { xs = xs; ys = ys; pitches = pitches; sheet = sheet; passes = passes }
+abbrev pub buffers : List Float → List Float → List Float → List ℕ → List ℕ → List ℕ → Buffers
+buffers xs ys pitches shades sheet passes = record { xs = xs; ys = ys; pitches = pitches; shades = shades; sheet = sheet; passes = passes }
 
 -- the first n of `size` entries have room in a buffer
 pub record Copies {A : Type 0} (size n : ℕ) (from to : List A) : Type 0 where

@@ -10,7 +10,7 @@ use Rattle.refusal.specs.declared.Refusal.{Refusal}
 use Rattle.sheet.specs.Cells.{OnSheet}
 use Rattle.line_form.specs.Lines.{linesOf}
 use Rattle.frame_line.specs.Table.{turnAt, mayEnd}
-use Rattle.frame_line.specs.Lines.{Line, kindOf, Proper, lineText, LabelLine, LineRead, ill-formed, line, readLine}
+use Rattle.frame_line.specs.Lines.{Line, kindOf, Proper, lineText, LabelLine, ShadeLine, LineRead, ill-formed, line, readLine}
 use Rattle.frame_line.specs.Checks.{outsideLine}
 use Rattle.frame_line.specs.declared.Turn.{Turn}
 use Rattle.sizes.specs.Sizes.{cornerLimit, passLimit, byteLimit}
@@ -33,8 +33,8 @@ pub data InOrder : ℕ → List Line → Type 0 where
   ends : {stage : ℕ} → mayEnd stage ≡ true → InOrder stage []
   next : {stage to : ℕ} {ls : List Line} (l : Line) → turnAt stage (l .row) ≡ Turn.To to → InOrder to ls → InOrder stage (l ∷ ls)
 
--- a line of the table, none of whose numbers has a refusal, with n corners given: each is in its range, a label is on the sheet and its corner
--- given
+-- a line of the table, none of whose numbers has a refusal, with n corners given: each is in its range, a shade's kind is 0 or 1, a label is on
+-- the sheet, and the corner of a label or a shade is given
 pub record InRange (n : ℕ) (l : Line) : Type 0 where
   pub proper : Proper l
   pub first : outsideLine 1 n l ≡ false
@@ -49,6 +49,15 @@ pub record Sound (n : ℕ) (l : LabelLine) : Type 0 where
   pub is-corner : l .corner ≡ pos corner
   pub given : corner < n
 
+-- a shade of one of n corners, its kind 0 or 1
+pub record SoundShade (n : ℕ) (s : ShadeLine) : Type 0 where
+  pub corner : ℕ
+  pub is-corner : s .corner ≡ pos corner
+  pub given : corner < n
+  pub kind : ℕ
+  pub is-kind : s .kind ≡ pos kind
+  pub small : kind ≤ 1
+
 -- each element differs from all behind it
 abbrev pub AllDiffer : {A : Type 0} → (A → A → Type 0) → List A → Type 0
 AllDiffer D [] = Unit {0}
@@ -58,8 +67,12 @@ AllDiffer D (a ∷ rest) = All (D a) rest × AllDiffer D rest
 abbrev pub Apart : List LabelLine → Type 0
 Apart ls = AllDiffer (λ l m. (l .cell ≡ m .cell → ⊥) × (l .corner ≡ m .corner → ⊥)) ls
 
--- a frame that 01 allows: "At most 65,536 bytes, 1,024 corners, 16 passes", its lines in order, every number in its range, labels on the sheet
--- and of given corners, no cell or corner labelled twice
+-- no corner is shaded twice
+abbrev pub ApartShades : List ShadeLine → Type 0
+ApartShades ss = AllDiffer (λ s t. s .corner ≡ t .corner → ⊥) ss
+
+-- a frame that 01 and 02 allow: "At most 65,536 bytes, 1,024 corners, 16 passes", its lines in order, every number in its range, labels on the
+-- sheet, labels and shades of given corners, no cell or corner labelled twice, no corner shaded twice
 pub record WithinLimits (f : Frame) : Type 0 where
   pub bytes : length (frameText f) ≤ byteLimit
   pub order : InOrder 0 f
@@ -67,10 +80,11 @@ pub record WithinLimits (f : Frame) : Type 0 where
   pub corners : length (partsOf f .corners) ≤ cornerLimit
   pub passes : length (partsOf f .passes) ≤ passLimit
   pub once : Apart (partsOf f .labels)
+  pub shaded-once : ApartShades (partsOf f .shades)
 
 -- ---- the laws
 
--- what is printed of a frame within the limits is accepted and read back: the reader refuses nothing that 01 allows
+-- what is printed of a frame within the limits is accepted and read back: the reader refuses nothing that 01 and 02 allow
 abbrev pub FrameReadsBack : Type 0
 FrameReadsBack = (f : Frame) → WithinLimits f → readFrame (frameText f) ≡ accepted f
 
@@ -82,6 +96,10 @@ pub record FramePrintsBack (text : List ℕ) (f : Frame) : Type 0 where
 -- the labels of a frame within the limits are on the sheet and of given corners
 abbrev pub LabelsSound : Type 0
 LabelsSound = (f : Frame) → WithinLimits f → All (Sound (length (partsOf f .corners))) (partsOf f .labels)
+
+-- its shades are of given corners and their kinds 0 or 1
+abbrev pub ShadesSound : Type 0
+ShadesSound = (f : Frame) → WithinLimits f → All (SoundShade (length (partsOf f .corners))) (partsOf f .shades)
 
 -- ---- what a refusal means
 

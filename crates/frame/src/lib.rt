@@ -60,20 +60,23 @@ fn step_line(
     xs: &mut [f32; CORNERS],
     ys: &mut [f32; CORNERS],
     pitches: &mut [f32; CORNERS],
+    shades: &mut [u8; CORNERS],
     sheet: &mut [u16; PLACES],
     used: &mut [u8; USED],
     passes: &mut [u32; ALL_PASS_WORDS],
     line: &[u8],
 ) -> Stepped
-    requires { ⌜ Room p (arrays (now xs) (now ys) (now pitches) (now sheet) (now used) (now passes)) ⌝ }
-    ensures { λ r. ⌜ went r (arrays (now (xs .exit)) (now (ys .exit)) (now (pitches .exit)) (now (sheet .exit)) (now (used .exit)) (now (passes .exit))) ≡ heldStep (heldRead (readLine (now (line .entry)))) (state p (arrays (now (xs .entry)) (now (ys .entry)) (now (pitches .entry)) (now (sheet .entry)) (now (used .entry)) (now (passes .entry)))) ⌝ }
+    requires { ⌜ Room p (arrays (now xs) (now ys) (now pitches) (now shades) (now sheet) (now used) (now passes)) ⌝ }
+    ensures { λ r. ⌜ went r (arrays (now (xs .exit)) (now (ys .exit)) (now (pitches .exit)) (now (shades .exit)) (now (sheet .exit)) (now (used .exit))
+        (now (passes .exit))) ≡ heldStep (heldRead (readLine (now (line .entry)))) (state p (arrays (now (xs .entry)) (now (ys .entry)) (now (pitches .entry))
+        (now (shades .entry)) (now (sheet .entry)) (now (used .entry)) (now (passes .entry)))) ⌝ }
 {
     let found = frame_line::read_line(line);
     let turn = frame_line::turn_at(p.stage, found.row);
     match turn {
         Turn::No => Stepped::Stopped(Refusal::Malformed),
         Turn::To(stage) => {
-            let checked = frame_check::check_line(p.corners, p.passes, sheet, used, found);
+            let checked = frame_check::check_line(p.corners, p.passes, shades, sheet, used, found);
             match checked {
                 Checked::Refused(refusal) => Stepped::Stopped(refusal),
                 Checked::Fine => {
@@ -82,6 +85,7 @@ fn step_line(
                         xs,
                         ys,
                         pitches,
+                        shades,
                         sheet,
                         used,
                         passes,
@@ -100,19 +104,32 @@ fn read_lines(
     xs: &mut [f32; CORNERS],
     ys: &mut [f32; CORNERS],
     pitches: &mut [f32; CORNERS],
+    shades: &mut [u8; CORNERS],
     sheet: &mut [u16; PLACES],
     used: &mut [u8; USED],
     passes: &mut [u32; ALL_PASS_WORDS],
 ) -> LinesRead
-    requires { ⌜ FrameHeld no-parts (state nothing-said (arrays (now xs) (now ys) (now pitches) (now sheet) (now used) (now passes))) ⌝ }
-    ensures { λ r. ⌜ ReadAs (readLines 1 0 [] (linesOf (now (text .entry)))) r (arrays (now (xs .exit)) (now (ys .exit)) (now (pitches .exit)) (now (sheet .exit)) (now (used .exit)) (now (passes .exit))) ⌝ }
+    requires { ⌜ FrameHeld no-parts (state nothing-said
+        (arrays (now xs) (now ys) (now pitches) (now shades) (now sheet) (now used) (now passes))) ⌝ }
+    ensures { λ r. ⌜ ReadAs (readLines 1 0 [] (linesOf (now (text .entry)))) r (arrays (now (xs .exit)) (now (ys .exit)) (now (pitches .exit))
+        (now (shades .exit)) (now (sheet .exit)) (now (used .exit)) (now (passes .exit))) ⌝ }
 {
     let mut p = frame_state::start();
     let mut n = 1usize;
     let mut at = 0usize;
     while at < text.len() {
         let end = line_end(text, at);
-        let stepped = step_line(p, xs, ys, pitches, sheet, used, passes, &text[at..end]);
+        let stepped = step_line(
+            p,
+            xs,
+            ys,
+            pitches,
+            shades,
+            sheet,
+            used,
+            passes,
+            &text[at..end],
+        );
         match stepped {
             Stepped::Stopped(refusal) => {
                 return LinesRead::Refused(refusal, n);
@@ -132,6 +149,18 @@ fn read_lines(
 
 // The first n floats are copied to the front of a buffer.
 fn copy_floats(from: &[f32; CORNERS], n: usize, to: &mut [f32])
+    requires { ⌜ Copies cornerLimit n (now from) (now to) ⌝ }
+    ensures { λ _. ⌜ now (to .exit) ≡ over (take n (now (from .entry))) (now (to .entry)) ⌝ }
+{
+    let mut i = 0usize;
+    while i < n {
+        to[i] = from[i];
+        i += 1;
+    }
+}
+
+// The first n bytes are copied to the front of a buffer.
+fn copy_bytes(from: &[u8; CORNERS], n: usize, to: &mut [u8])
     requires { ⌜ Copies cornerLimit n (now from) (now to) ⌝ }
     ensures { λ _. ⌜ now (to .exit) ≡ over (take n (now (from .entry))) (now (to .entry)) ⌝ }
 {
@@ -167,8 +196,16 @@ fn copy_words(from: &[u32; ALL_PASS_WORDS], n: usize, to: &mut [u32])
 }
 
 // 7: whether a lent buffer is too short, by the lengths.
-fn too_short(xs: usize, ys: usize, pitches: usize, sheet: usize, passes: usize) -> bool
-    ensures { λ r. ⌜ r ≡ (ltb xs cornerLimit || (ltb ys cornerLimit || (ltb pitches cornerLimit || (ltb sheet placeCount || ltb passes allPassWords)))) ⌝ }
+fn too_short(
+    xs: usize,
+    ys: usize,
+    pitches: usize,
+    shades: usize,
+    sheet: usize,
+    passes: usize,
+) -> bool
+    ensures { λ r. ⌜ r ≡ (ltb xs cornerLimit || (ltb ys cornerLimit || (ltb pitches cornerLimit || (ltb shades cornerLimit
+        || (ltb sheet placeCount || ltb passes allPassWords))))) ⌝ }
 {
     if xs < CORNERS {
         return true;
@@ -177,6 +214,9 @@ fn too_short(xs: usize, ys: usize, pitches: usize, sheet: usize, passes: usize) 
         return true;
     }
     if pitches < CORNERS {
+        return true;
+    }
+    if shades < CORNERS {
         return true;
     }
     if sheet < PLACES {
@@ -191,15 +231,19 @@ fn read_text(
     xs: &mut [f32],
     ys: &mut [f32],
     pitches: &mut [f32],
+    shades: &mut [u8],
     sheet: &mut [u16],
     passes: &mut [u32],
 ) -> FrameAnswer
-    requires { ⌜ LongEnough (buffers (now xs) (now ys) (now pitches) (now sheet) (now passes)) ⌝ }
-    ensures { λ r. ⌜ frameOut r (now (xs .exit)) (now (ys .exit)) (now (pitches .exit)) (now (sheet .exit)) (now (passes .exit)) ≡ leaves (readLines 1 0 [] (linesOf (now (text .entry)))) (buffers (now (xs .entry)) (now (ys .entry)) (now (pitches .entry)) (now (sheet .entry)) (now (passes .entry))) ⌝ }
+    requires { ⌜ LongEnough (buffers (now xs) (now ys) (now pitches) (now shades) (now sheet) (now passes)) ⌝ }
+    ensures { λ r. ⌜ frameOut r (now (xs .exit)) (now (ys .exit)) (now (pitches .exit)) (now (shades .exit)) (now (sheet .exit)) (now (passes .exit))
+        ≡ leaves (readLines 1 0 [] (linesOf (now (text .entry)))) (buffers (now (xs .entry)) (now (ys .entry)) (now (pitches .entry)) (now (shades .entry))
+        (now (sheet .entry)) (now (passes .entry))) ⌝ }
 {
     let mut own_xs = [0.0f32; CORNERS];
     let mut own_ys = [0.0f32; CORNERS];
     let mut own_pitches = [0.0f32; CORNERS];
+    let mut own_shades = [0u8; CORNERS];
     let mut own_sheet = [0u16; PLACES];
     let mut own_used = [0u8; USED];
     let mut own_passes = [0u32; ALL_PASS_WORDS];
@@ -208,6 +252,7 @@ fn read_text(
         &mut own_xs,
         &mut own_ys,
         &mut own_pitches,
+        &mut own_shades,
         &mut own_sheet,
         &mut own_used,
         &mut own_passes,
@@ -218,6 +263,7 @@ fn read_text(
             copy_floats(&own_xs, p.corners, xs);
             copy_floats(&own_ys, p.corners, ys);
             copy_floats(&own_pitches, p.corners, pitches);
+            copy_bytes(&own_shades, p.corners, shades);
             copy_sheet(&own_sheet, sheet);
             copy_words(&own_passes, PASS_WORDS * p.passes, passes);
             let settings = p.settings;
@@ -230,27 +276,37 @@ fn read_text(
     }
 }
 
-// Reads a frame. An accepted one is written to the buffers: its corners to the front of the first three, the sheet of its labels to the
-// first 16,384 places of the fourth, and its passes, six words each, to the front of the last; the rest of them stays. A refused one
-// writes nothing, and the answer has the refusal and the line, 0 where it is about no line. `said` is the same answer in 01's number with the line,
-// or values.
+// Reads a frame. An accepted one is written to the buffers: its corners to the front of the first three, their shades to the front of the fourth,
+// a byte each (0 none, 1 kind 0, 2 kind 1), the sheet of its labels to the first 16,384 places of the fifth, and its passes, six words each, to
+// the front of the last; the rest of them stays. A refused one writes nothing, and the answer has the refusal and the line, 0 where it is about
+// no line. `said` is the same answer in 01's number with the line, or values.
 pub fn read_frame(
     text: &[u8],
     xs: &mut [f32],
     ys: &mut [f32],
     pitches: &mut [f32],
+    shades: &mut [u8],
     sheet: &mut [u16],
     passes: &mut [u32],
 ) -> FrameAnswer
-    ensures { λ r. ⌜ frameOut r (now (xs .exit)) (now (ys .exit)) (now (pitches .exit)) (now (sheet .exit)) (now (passes .exit)) ≡ readInto (now (text .entry)) (buffers (now (xs .entry)) (now (ys .entry)) (now (pitches .entry)) (now (sheet .entry)) (now (passes .entry))) ⌝ }
+    ensures { λ r. ⌜ frameOut r (now (xs .exit)) (now (ys .exit)) (now (pitches .exit)) (now (shades .exit)) (now (sheet .exit)) (now (passes .exit))
+        ≡ readInto (now (text .entry))
+        (buffers (now (xs .entry)) (now (ys .entry)) (now (pitches .entry)) (now (shades .entry)) (now (sheet .entry)) (now (passes .entry))) ⌝ }
     ensures said { λ r. ⌜ frameSaid r ≡ frameDue (now (text .entry))
-        (buffers (now (xs .entry)) (now (ys .entry)) (now (pitches .entry)) (now (sheet .entry)) (now (passes .entry))) ⌝ }
+        (buffers (now (xs .entry)) (now (ys .entry)) (now (pitches .entry)) (now (shades .entry)) (now (sheet .entry)) (now (passes .entry))) ⌝ }
 {
-    if too_short(xs.len(), ys.len(), pitches.len(), sheet.len(), passes.len()) {
+    if too_short(
+        xs.len(),
+        ys.len(),
+        pitches.len(),
+        shades.len(),
+        sheet.len(),
+        passes.len(),
+    ) {
         return FrameAnswer::Refused(Refusal::BufferTooShort, 0);
     }
     if BYTES < text.len() {
         return FrameAnswer::Refused(Refusal::OverLimit, 0);
     }
-    read_text(text, xs, ys, pitches, sheet, passes)
+    read_text(text, xs, ys, pitches, shades, sheet, passes)
 }

@@ -1,2 +1,3 @@
 -- The laws of two frames that differ only in the order of their corner lines. Assumes nothing.
+pub mod Shades
 pub mod Reordering

@@ -1,5 +1,5 @@
--- Two accepted frames that differ only in the order of their corner lines are a reordering, so every list of calls from them, the frames' own
--- passes among them, runs alike. Assumes nothing.
+-- Two accepted frames that differ only in the order of their corner lines are a reordering, so every list of calls from them, relisted for the second,
+-- the frames' own passes among them, runs alike. Assumes nothing.
 use mathlib.Core.Path.{_≡_, refl, sym, ap, _∙_, subst}
 use mathlib.Core.List.{List, [], _∷_, map}
 use Prim.Native.Nat.{ℕ, zero, suc, _<_, _≤_}
@@ -13,18 +13,20 @@ use Rattle.sheet.proofs.Corners.{listed-corner}
 use Rattle.sheet.specs.Pairing.{Shuffle, PairedCorners, PairedSheets}
 use Rattle.sheet.proofs.Words.{empty-length}
 use Rattle.sheet.proofs.Pairing.{paired-attached, paired-empty}
-use Rattle.passes.specs.Run.{Call, run}
-use Rattle.agreement.specs.Agreement.{Reordered, Agree}
+use Rattle.arguments.specs.Shades.{PairedShades}
+use Rattle.agreement.specs.Agreement.{Reordered, RelistedCall, Relisted, no-call, relisted}
 use Rattle.agreement.proofs.Run.{agreement}
 use Rattle.frame_line.specs.Lines.{CornerLine, LabelLine, PassLine}
 use Rattle.frame.specs.Frame.{Frame, partsOf}
 use Rattle.frame.specs.Text.{All, Sound, WithinLimits}
-use Rattle.frame.specs.ReadFrame.{floatOf, xsOf, ysOf, pitchesOf, labelled, sheetOf, settingsIn, settingsOf}
+use Rattle.frame.specs.ReadFrame.{floatOf, xsOf, ysOf, pitchesOf, shadesOf, labelled, sheetOf, settingsIn, settingsOf}
 use Rattle.frame_laws.specs.Calls.{frameCorners, callOf, callsOf}
 use Rattle.frame_laws.proofs.Parts.{labels-sound}
 use Rattle.frame_laws.proofs.Back.{frame-prints-back}
+use Rattle.frame_laws.proofs.Shades.{shades-long}
 use Rattle.frame_laws.proofs.Runs.{frame-standing}
 use Rattle.frame_agreement.specs.Reordering.{renumbered, SameButOrder, RunAlike, FramesRunAlike}
+use Rattle.frame_agreement.proofs.Shades.{same-byte}
 
 -- an element of a map
 getD-map : {A B : Type 0} (g : A → B) (l : List A) (k : ℕ) (a : A) (b : B) → k < length l → getD (map g l) k b ≡ g (getD l k a)
@@ -108,21 +110,31 @@ module _ (f f' : Frame) (w : WithinLimits f) (same : SameButOrder f f') where
   unfolding corners-paired
   frames-reordered = record { corners = corners-paired; labels = sheets-paired; standing = frame-standing f w }
 
-  -- the frames' own passes are the same calls
+  -- ---- the frames' own passes
+
   settings-same : settingsOf f' ≡ settingsOf f
   unfolding settingsOf
   settings-same = ap settingsIn (same .opening)
 
-  call-same : (p : PassLine) → callOf f' p ≡ callOf f p
-  call-same p t = record { pass = callOf f p .pass; settings = settings-same t; rooms = callOf f p .rooms }
+  shades-paired : PairedShades pairs (shadesOf f) (shadesOf f')
+  unfolding pairs
+  shades-paired =
+      record {
+        same-length = shades-long f' ∙ same .count ∙ sym (shades-long f);
+        same-shade = λ long i h. same-byte _ _ (same .shades i (omega (arith, same-length)));
+      }
 
-  calls-same : callsOf f' ≡ callsOf f
+  call-relisted : (p : PassLine) → RelistedCall pairs (callOf f p) (callOf f' p)
+  call-relisted p = record { same-pass = refl; same-settings = settings-same; same-rooms = refl; shades = shades-paired }
+
+  calls-relisted : Relisted pairs (callsOf f) (callsOf f')
   unfolding callsOf
-  calls-same = each (partsOf f' .passes) ∙ ap (map (callOf f)) (same .passes)
+  calls-relisted =
+      subst (λ (ps : List PassLine). Relisted pairs (map (callOf f) (partsOf f .passes)) (map (callOf f') ps)) (sym (same .passes)) (each (partsOf f .passes))
     where
-      each : (ps : List PassLine) → map (callOf f') ps ≡ map (callOf f) ps
-      each [] = refl
-      each (p ∷ ps) = λ t. call-same p t ∷ each ps t
+      each : (ps : List PassLine) → Relisted pairs (map (callOf f) ps) (map (callOf f') ps)
+      each [] = no-call
+      each (p ∷ ps) = relisted (call-relisted p) (each ps)
 
   -- ---- the claim
 
@@ -135,11 +147,9 @@ module _ (f f' : Frame) (w : WithinLimits f) (same : SameButOrder f f') where
         paired-to = λ k. refl;
         paired-from = λ k. refl;
         any-list = holds;
-        same-calls = calls-same;
-        own-list =
-            λ above.
-            subst (λ (calls : List Call). Agree (frames-reordered .corners .pairs) (sheetOf f) (sheetOf f') (run (frameCorners f) (sheetOf f) (callsOf f)) (run (frameCorners f') (sheetOf f') calls))
-            (sym calls-same) (holds (callsOf f) .agree above);
+        relisted-call = call-relisted;
+        relisted-calls = calls-relisted;
+        own-list = holds (callsOf f) (callsOf f') calls-relisted .agree;
       }
 
 pub frames-run-alike : FramesRunAlike

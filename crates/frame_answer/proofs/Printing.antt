@@ -29,7 +29,7 @@ module _ (corners passes : ℕ) (words sheet : List ℕ) (p : Printable corners 
   unfolding checkedPiece inputShort overLimit wild
   fine =
       rw (
-        le-ltb (length words) (9 * passes) (p .words-long),
+        le-ltb (length words) (11 * passes) (p .words-long),
         le-ltb (length sheet) 16384 (p .sheet-long),
         le-ltb (length out) 128 room,
         le-ltb 16 passes (p .few-passes),

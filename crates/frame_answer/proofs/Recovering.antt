@@ -13,7 +13,7 @@ use Rattle.refusal.specs.declared.Refusal.{Refusal}
 use Rattle.arguments.specs.declared.Settings.{Settings}
 use Rattle.frame.specs.Frame.{Frame, partsOf, FrameRead, refused-at, accepted, readFrame}
 use Rattle.frame.specs.Text.{WithinLimits}
-use Rattle.frame.specs.ReadFrame.{floatOf, xsOf, ysOf, pitchesOf, sheetOf, labelled, settingsOf, FullPass, full-grow, full-fill, full-local, fullOf, wordsOf, allWords, Buffers, FrameOut, frameOut, tooShort, leaves, unlessShort, readInto}
+use Rattle.frame.specs.ReadFrame.{floatOf, xsOf, ysOf, pitchesOf, shadesOf, sheetOf, labelled, settingsOf, FullPass, full-grow, full-fill, full-local, fullOf, wordsOf, allWords, Buffers, FrameOut, frameOut, tooShort, leaves, unlessShort, readInto}
 use Rattle.frame_line.specs.Lines.{CornerLine, LabelLine, PassLine}
 use Rattle.sheet.specs.Corners.{CornerLists, cornerLists}
 use Rattle.sheet.specs.Words.{emptySheet, attached}
@@ -22,6 +22,7 @@ use Rattle.sheet.proofs.Words.{empty-length}
 use Rattle.frame.specs.declared.FrameHead.{FrameHead}
 use Rattle.frame.specs.declared.FrameAnswer.{FrameAnswer}
 use Rattle.frame_laws.specs.Calls.{frameCorners, callsOf}
+use Rattle.frame_laws.proofs.Shades.{shades-long}
 use Rattle.frame_laws.proofs.Back.{frame-prints-back}
 use Rattle.arguments.specs.Front.{over}
 use Rattle.frame_passes.specs.Running.{callAt, Left, left, leftByAll, PassWords, AtFront}
@@ -75,9 +76,9 @@ sheet-length : (f : Frame) → length (sheetOf f) ≡ 16384
 unfolding sheetOf
 sheet-length f = labelled-length emptySheet (partsOf f .labels) ∙ empty-length
 
-module _ (text : List ℕ) (xs ys pitches : List Float) (sheet passes : List ℕ) (room : FrameRoom xs ys pitches sheet passes) where
+module _ (text : List ℕ) (xs ys pitches : List Float) (shades sheet passes : List ℕ) (room : FrameRoom xs ys pitches shades sheet passes) where
   abbrev lent : Buffers
-  lent = record { xs = xs; ys = ys; pitches = pitches; sheet = sheet; passes = passes }
+  lent = record { xs = xs; ys = ys; pitches = pitches; shades = shades; sheet = sheet; passes = passes }
 
   long-enough : tooShort lent ≡ false
   long-enough =
@@ -85,6 +86,7 @@ module _ (text : List ℕ) (xs ys pitches : List Float) (sheet passes : List ℕ
         le-ltb (length xs) 1024 (room .xs-long),
         le-ltb (length ys) 1024 (room .ys-long),
         le-ltb (length pitches) 1024 (room .pitches-long),
+        le-ltb (length shades) 1024 (room .shades-long),
         le-ltb (length sheet) 16384 (omega (arith, room .sheet-whole)),
         le-ltb (length passes) 96 (room .passes-long),
       ) refl
@@ -93,21 +95,23 @@ module _ (text : List ℕ) (xs ys pitches : List Float) (sheet passes : List ℕ
   unfolding readInto
   into = ap (λ (b : Bool). unlessShort b text lent) long-enough
 
-  module _ (answer : FrameAnswer) (xs' ys' pitches' : List Float) (sheet' passes' : List ℕ) (e : frameOut answer xs' ys' pitches' sheet' passes' ≡ readInto text lent) where
+  module _ (answer : FrameAnswer) (xs' ys' pitches' : List Float) (shades' sheet' passes' : List ℕ)
+      (e : frameOut answer xs' ys' pitches' shades' sheet' passes' ≡ readInto text lent) where
     read-refused : (r : Refusal) (n : ℕ) → answer ≡ FrameAnswer.Refused r n → readFrame text ≡ refused-at r n
     read-refused r n t = go (readFrame text) (e ∙ into)
       where
-        go : (a : FrameRead) → frameOut answer xs' ys' pitches' sheet' passes' ≡ leaves a lent → a ≡ refused-at r n
+        go : (a : FrameRead) → frameOut answer xs' ys' pitches' shades' sheet' passes' ≡ leaves a lent → a ≡ refused-at r n
         go (refused-at r' n') w = let s : answer ≡ FrameAnswer.Refused r' n' = ap (λ (o : FrameOut). o .answer) w in cc
         go (accepted f) w =
             absurd (let s : answer ≡ FrameAnswer.Accepted (record { settings = settingsOf f; corners = length (partsOf f .corners); passes = length (partsOf f .passes) }) = ap (λ (o : FrameOut). o .answer) w in
             let z : _≡_ {A = ℕ} 0 1 = cc in omega arith)
 
     -- so a refused frame leaves all as it was
-    pub recovered-not : (r : Refusal) (n : ℕ) → answer ≡ FrameAnswer.Refused r n → (queue places words : List ℕ) → Recovers text (lentAs xs ys pitches sheet passes queue places words) (lentAs xs' ys' pitches' sheet' passes' queue places words) (Recovered.Refused r n)
+    pub recovered-not : (r : Refusal) (n : ℕ) → answer ≡ FrameAnswer.Refused r n → (queue places words : List ℕ) → Recovers text (lentAs xs ys pitches shades sheet passes queue places words)
+        (lentAs xs' ys' pitches' shades' sheet' passes' queue places words) (Recovered.Refused r n)
     recovered-not r n t queue places words =
         let q = read-refused r n t in
-        let w : frameOut answer xs' ys' pitches' sheet' passes' ≡ leaves (refused-at r n) lent = e ∙ into ∙ ap (λ (a : FrameRead). leaves a lent) q in
+        let w : frameOut answer xs' ys' pitches' shades' sheet' passes' ≡ leaves (refused-at r n) lent = e ∙ into ∙ ap (λ (a : FrameRead). leaves a lent) q in
         recovers-not r n q (ap (λ (o : FrameOut). record { frame = o .buffers; queue = queue; attached = places; words = words }) w)
 
     -- what an accepted frame leaves
@@ -119,13 +123,14 @@ module _ (text : List ℕ) (xs ys pitches : List Float) (sheet passes : List ℕ
       pub xs-so : xs' ≡ over (xsOf frame) xs
       pub ys-so : ys' ≡ over (ysOf frame) ys
       pub pitches-so : pitches' ≡ over (pitchesOf frame) pitches
+      pub shades-so : shades' ≡ over (shadesOf frame) shades
       pub sheet-so : sheet' ≡ over (sheetOf frame) sheet
       pub passes-so : passes' ≡ over (allWords (partsOf frame .passes)) passes
 
     read-accepted : (head : FrameHead) → answer ≡ FrameAnswer.Accepted head → Read head
     read-accepted head t = go (readFrame text) refl (e ∙ into)
       where
-        go : (a : FrameRead) → readFrame text ≡ a → frameOut answer xs' ys' pitches' sheet' passes' ≡ leaves a lent → Read head
+        go : (a : FrameRead) → readFrame text ≡ a → frameOut answer xs' ys' pitches' shades' sheet' passes' ≡ leaves a lent → Read head
         go (refused-at r n) q w =
             absurd (let s : answer ≡ FrameAnswer.Refused r n = ap (λ (o : FrameOut). o .answer) w in let z : _≡_ {A = ℕ} 0 1 = cc in omega arith)
         go (accepted f) q w =
@@ -138,6 +143,7 @@ module _ (text : List ℕ) (xs ys pitches : List Float) (sheet passes : List ℕ
               xs-so = ap (λ (o : FrameOut). o .buffers .xs) w;
               ys-so = ap (λ (o : FrameOut). o .buffers .ys) w;
               pitches-so = ap (λ (o : FrameOut). o .buffers .pitches) w;
+              shades-so = ap (λ (o : FrameOut). o .buffers .shades) w;
               sheet-so = ap (λ (o : FrameOut). o .buffers .sheet) w;
               passes-so = ap (λ (o : FrameOut). o .buffers .passes) w;
             }
@@ -149,7 +155,7 @@ module _ (text : List ℕ) (xs ys pitches : List Float) (sheet passes : List ℕ
         let count : head .passes ≡ length (partsOf (w .frame) .passes) = ap (λ (h : FrameHead). h .passes) (w .head-so) in
         record { few = omega (arith, count, w .within .passes); long = omega (arith, lengths, room .passes-long) }
 
-    corners-ready : (head : FrameHead) → Read head → AtFront (head .corners) xs' ys' pitches'
+    corners-ready : (head : FrameHead) → Read head → AtFront (head .corners) xs' ys' pitches' shades'
     unfolding xsOf ysOf pitchesOf
     corners-ready head w =
         let f = w .frame in
@@ -158,7 +164,13 @@ module _ (text : List ℕ) (xs ys pitches : List Float) (sheet passes : List ℕ
         let a : length xs' ≡ length xs = ap length (w .xs-so) ∙ over-long (xsOf f) xs (omega (arith, length-map (partsOf f .corners) (λ (c : CornerLine). floatOf (c .x)), few, room .xs-long)) in
         let b : length ys' ≡ length ys = ap length (w .ys-so) ∙ over-long (ysOf f) ys (omega (arith, length-map (partsOf f .corners) (λ (c : CornerLine). floatOf (c .y)), few, room .ys-long)) in
         let d : length pitches' ≡ length pitches = ap length (w .pitches-so) ∙ over-long (pitchesOf f) pitches (omega (arith, length-map (partsOf f .corners) (λ (c : CornerLine). floatOf (c .pitch)), few, room .pitches-long)) in
-        record { in-xs = omega (arith, count, a, few, room .xs-long); in-ys = omega (arith, count, b, few, room .ys-long); in-pitches = omega (arith, count, d, few, room .pitches-long) }
+        let e : length shades' ≡ length shades = ap length (w .shades-so) ∙ over-long (shadesOf f) shades (omega (arith, shades-long f, few, room .shades-long)) in
+        record {
+          in-xs = omega (arith, count, a, few, room .xs-long);
+          in-ys = omega (arith, count, b, few, room .ys-long);
+          in-pitches = omega (arith, count, d, few, room .pitches-long);
+          in-shades = omega (arith, count, e, few, room .shades-long);
+        }
 
     corners-read : (head : FrameHead) (w : Read head) → cornerLists (take (head .corners) xs') (take (head .corners) ys') (take (head .corners) pitches') ≡ frameCorners (w .frame)
     unfolding xsOf ysOf pitchesOf
@@ -170,18 +182,23 @@ module _ (text : List ℕ) (xs ys pitches : List Float) (sheet passes : List ℕ
         cornerLists (front (λ (c : CornerLine). floatOf (c .x)) (partsOf f .corners) xs t) (front (λ (c : CornerLine). floatOf (c .y)) (partsOf f .corners) ys t)
         (front (λ (c : CornerLine). floatOf (c .pitch)) (partsOf f .corners) pitches t))
 
+    shades-read : (head : FrameHead) (w : Read head) → take (head .corners) shades' ≡ shadesOf (w .frame)
+    shades-read head w =
+        let count : head .corners ≡ length (partsOf (w .frame) .corners) = ap (λ (h : FrameHead). h .corners) (w .head-so) in
+        rw (w .shades-so, count, sym (shades-long (w .frame))) (take-over (shadesOf (w .frame)) shades)
+
     sheet-read : (head : FrameHead) (w : Read head) → sheet' ≡ sheetOf (w .frame)
     sheet-read head w = w .sheet-so ∙ over-whole (sheetOf (w .frame)) sheet (sheet-length (w .frame) ∙ sym (room .sheet-whole))
 
     -- equal arguments lead to equal ends
-    same : (words : List ℕ) {l l' : CornerLists} {set set' : Settings} {q q' a a' : ℕ} {ps ps' : List ℕ} {m m' : ℕ} {s s' : List ℕ}
-        → l ≡ l' → set ≡ set' → q ≡ q' → a ≡ a' → ps ≡ ps' → m ≡ m' → s ≡ s'
-        → leftByAll l (callAt set q a ps) m 0 (left s words) ≡ leftByAll l' (callAt set' q' a' ps') m' 0 (left s' words)
-    same words l set q a ps m s = λ t. leftByAll (l t) (callAt (set t) (q t) (a t) (ps t)) (m t) 0 (left (s t) words)
+    same : (words : List ℕ) {l l' : CornerLists} {set set' : Settings} {k k' : List ℕ} {q q' a a' : ℕ} {ps ps' : List ℕ} {m m' : ℕ} {s s' : List ℕ}
+        → l ≡ l' → set ≡ set' → k ≡ k' → q ≡ q' → a ≡ a' → ps ≡ ps' → m ≡ m' → s ≡ s'
+        → leftByAll l (callAt set k q a ps) m 0 (left s words) ≡ leftByAll l' (callAt set' k' q' a' ps') m' 0 (left s' words)
+    same words l set k q a ps m s = λ t. leftByAll (l t) (callAt (set t) (k t) (q t) (a t) (ps t)) (m t) 0 (left (s t) words)
 
     -- what it leads to
     recovered : (head : FrameHead) → Read head → (queue places words : List ℕ) → PassRoom queue places words → (before after : Lent)
-        → left (after .frame .sheet) (after .words) ≡ leftByAll (cornerLists (take (head .corners) xs') (take (head .corners) ys') (take (head .corners) pitches')) (callAt (head .settings) (length queue) (length places) passes') (head .passes) 0 (left sheet' words)
+        → left (after .frame .sheet) (after .words) ≡ leftByAll (cornerLists (take (head .corners) xs') (take (head .corners) ys') (take (head .corners) pitches')) (callAt (head .settings) (take (head .corners) shades') (length queue) (length places) passes') (head .passes) 0 (left sheet' words)
         → Recovers text before after (Recovered.Done (head .corners) (head .passes))
     recovered head w queue places words r before after g =
         recovers f (head .corners) (head .passes) (w .is-accepted)
@@ -202,18 +219,18 @@ module _ (text : List ℕ) (xs ys pitches : List Float) (sheet passes : List ℕ
         settings-so : head .settings ≡ settingsOf f
         settings-so = ap (λ (h : FrameHead). h .settings) (w .head-so)
 
-        so : left (after .frame .sheet) (after .words) ≡ leftByAll (frameCorners f) (callAt (settingsOf f) 4096 1024 (over (allWords (partsOf f .passes)) passes)) (length (partsOf f .passes)) 0 (left (sheetOf f) words)
+        so : left (after .frame .sheet) (after .words) ≡ leftByAll (frameCorners f) (callAt (settingsOf f) (shadesOf f) 4096 1024 (over (allWords (partsOf f .passes)) passes)) (length (partsOf f .passes)) 0 (left (sheetOf f) words)
         so =
             g
-            ∙ same words (corners-read head w) settings-so (r .queue-whole) (r .attached-whole) (w .passes-so) passes-count (sheet-read head w)
+            ∙ same words (corners-read head w) settings-so (shades-read head w) (r .queue-whole) (r .attached-whole) (w .passes-so) passes-count (sheet-read head w)
 
     -- the same, from what the reader answers
     module _ (head : FrameHead) (t : answer ≡ FrameAnswer.Accepted head) where
       pub frame-ready : (queue places words : List ℕ) → PassRoom queue places words
-          → PassWords (head .passes) passes' × (AtFront (head .corners) xs' ys' pitches' × (allOutcomeWords ≤ length words))
+          → PassWords (head .passes) passes' × (AtFront (head .corners) xs' ys' pitches' shades' × (allOutcomeWords ≤ length words))
       frame-ready queue places words r = let w = read-accepted head t in (passes-ready head w, (corners-ready head w, r .words-long))
 
       pub recovered-done : (queue places words : List ℕ) → PassRoom queue places words → (before after : Lent)
-          → left (after .frame .sheet) (after .words) ≡ leftByAll (cornerLists (take (head .corners) xs') (take (head .corners) ys') (take (head .corners) pitches')) (callAt (head .settings) (length queue) (length places) passes') (head .passes) 0 (left sheet' words)
+          → left (after .frame .sheet) (after .words) ≡ leftByAll (cornerLists (take (head .corners) xs') (take (head .corners) ys') (take (head .corners) pitches')) (callAt (head .settings) (take (head .corners) shades') (length queue) (length places) passes') (head .passes) 0 (left sheet' words)
           → Recovers text before after (Recovered.Done (head .corners) (head .passes))
       recovered-done queue places words r before after g = recovered head (read-accepted head t) queue places words r before after g

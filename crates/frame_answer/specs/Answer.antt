@@ -68,9 +68,14 @@ pub record Lent : Type 0 where
   pub attached : List ℕ
   pub words : List ℕ
 
-abbrev pub lentAs : List Float → List Float → List Float → List ℕ → List ℕ → List ℕ → List ℕ → List ℕ → Lent
-lentAs xs ys pitches sheet passes queue attached words =
-    record { frame = record { xs = xs; ys = ys; pitches = pitches; sheet = sheet; passes = passes }; queue = queue; attached = attached; words = words }
+abbrev pub lentAs : List Float → List Float → List Float → List ℕ → List ℕ → List ℕ → List ℕ → List ℕ → List ℕ → Lent
+lentAs xs ys pitches shades sheet passes queue attached words =
+    record {
+      frame = record { xs = xs; ys = ys; pitches = pitches; shades = shades; sheet = sheet; passes = passes };
+      queue = queue;
+      attached = attached;
+      words = words;
+    }
 
 -- the answer to a text, with the buffers before and after: a refused frame changes none of them, and after an accepted one the sheet and the
 -- words go with the answer

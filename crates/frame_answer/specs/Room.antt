@@ -7,10 +7,11 @@ use lib.Ieee.{Float}
 use Rattle.sizes.specs.Sizes.{placeCount, cornerLimit, allPassWords, allOutcomeWords}
 
 -- what a frame is read into
-pub record FrameRoom (xs ys pitches : List Float) (sheet passes : List ℕ) : Type 0 where
+pub record FrameRoom (xs ys pitches : List Float) (shades sheet passes : List ℕ) : Type 0 where
   pub xs-long : cornerLimit ≤ length xs
   pub ys-long : cornerLimit ≤ length ys
   pub pitches-long : cornerLimit ≤ length pitches
+  pub shades-long : cornerLimit ≤ length shades
   pub sheet-whole : length sheet ≡ placeCount
   pub passes-long : allPassWords ≤ length passes
 

@@ -27,21 +27,36 @@ pub fn recover_frame(
     xs: &mut [f32],
     ys: &mut [f32],
     pitches: &mut [f32],
+    shades: &mut [u8],
     sheet: &mut [u16],
     passes: &mut [u32],
     queue: &mut [u16],
     attached: &mut [u16],
     words: &mut [u32],
 ) -> Recovered
-    requires { ⌜ FrameRoom (now xs) (now ys) (now pitches) (now sheet) (now passes) ⌝ }
+    requires { ⌜ FrameRoom (now xs) (now ys) (now pitches) (now shades) (now sheet) (now passes) ⌝ }
     requires { ⌜ PassRoom (now queue) (now attached) (now words) ⌝ }
-    ensures { λ r. ⌜ Recovers (now (text .entry)) (lentAs (now (xs .entry)) (now (ys .entry)) (now (pitches .entry)) (now (sheet .entry)) (now (passes .entry)) (now (queue .entry)) (now (attached .entry)) (now (words .entry))) (lentAs (now (xs .exit)) (now (ys .exit)) (now (pitches .exit)) (now (sheet .exit)) (now (passes .exit)) (now (queue .exit)) (now (attached .exit)) (now (words .exit))) r ⌝ }
+    ensures { λ r. ⌜ Recovers (now (text .entry)) (lentAs (now (xs .entry)) (now (ys .entry)) (now (pitches .entry)) (now (shades .entry))
+        (now (sheet .entry)) (now (passes .entry)) (now (queue .entry)) (now (attached .entry)) (now (words .entry)))
+        (lentAs (now (xs .exit)) (now (ys .exit)) (now (pitches .exit)) (now (shades .exit)) (now (sheet .exit)) (now (passes .exit))
+        (now (queue .exit)) (now (attached .exit)) (now (words .exit))) r ⌝ }
 {
-    let answer = frame::read_frame(text, xs, ys, pitches, sheet, passes);
+    let answer = frame::read_frame(text, xs, ys, pitches, shades, sheet, passes);
     match answer {
         FrameAnswer::Refused(refusal, line) => Recovered::Refused(refusal, line),
         FrameAnswer::Accepted(head) => {
-            frame_passes::run_frame(passes, xs, ys, pitches, sheet, queue, attached, head, words);
+            frame_passes::run_frame(
+                passes,
+                xs,
+                ys,
+                pitches,
+                shades,
+                sheet,
+                queue,
+                attached,
+                head,
+                words,
+            );
             Recovered::Done(head.corners, head.passes)
         }
     }

@@ -1,18 +1,21 @@
--- Laws of the checks in order: what is fine, checks that say the same, and a label that can be written. Assumes nothing.
+-- Laws of the checks in order: what is fine, checks that say the same, a label that can be written, and a shade's corner. Assumes nothing.
 use mathlib.Core.Path.{_≡_, refl, ap}
 use mathlib.Core.Bool.{Bool, true, false}
-use Prim.Native.Nat.{ℕ}
+use Prim.Native.Nat.{ℕ, _<_}
 use native.Mathlib.Omega.{arith}
+use lib.ListN.{getD}
 use Rattle.refusal.specs.declared.Refusal.{Refusal}
 use Rattle.arguments.specs.Arguments.{refusedIf}
 use Rattle.arguments.specs.declared.Checked.{Checked}
 use Rattle.arguments.proofs.Chains.{not-refused}
-use Rattle.frame_line.specs.Table.{kindAt}
-use Rattle.frame_line.specs.Held.{labelIn}
+use Rattle.frame_line.specs.Table.{rows, rowAt, kindAt, sortOf, sortAt}
+use Rattle.frame_line.specs.Held.{countIn, labelIn, shadeIn}
 use Rattle.frame_line.specs.declared.Kind.{Kind}
 use Rattle.frame_line.specs.declared.HeldLine.{HeldLine}
-use Rattle.frame_line.proofs.Shapes.{row-of}
-use Rattle.frame_line.proofs.Words.{label-on, label-known}
+use Rattle.frame_line.specs.declared.Sort.{Sort}
+use Rattle.frame_line.proofs.Shapes.{rowOf, row-of}
+use Rattle.frame_line.proofs.Words.{label-on, corner-known}
+use Rattle.sizes.specs.Sizes.{cornerLimit}
 use Rattle.frame_check.specs.Checks.{checksInOrder, LabelFits, NumbersFine}
 
 -- what all checks found of a line that is fine
@@ -43,7 +46,7 @@ refused-alike : (b b' : Bool) (r : Refusal) (x y : Checked) → b ≡ b' → (b'
 refused-alike b true r x y e f = rw e
 refused-alike b false r x y e f = rw e (f refl)
 
--- doubled is asked only of a label on the sheet and of a corner that is given
+-- doubled is asked only of a label on the sheet, and of a corner that is given
 pub checks-alike : (f g : ℕ → Bool) (over twice twice' : Bool) → ((r : ℕ) → f r ≡ g r) → (g 4 ≡ false → g 5 ≡ false → twice ≡ twice')
     → checksInOrder f over twice ≡ checksInOrder g over twice'
 unfolding checksInOrder
@@ -59,9 +62,18 @@ checks-alike f g over twice twice' e t =
     refused-alike (f 5) (g 5) Refusal.UnknownCorner _ _ (e 5)
     (λ known. ap (λ (x : Bool). refusedIf x Refusal.Duplicate Checked.Fine) (t on known))))))
 
--- ---- a label
+-- ---- a label and a shade
+
+-- the corner of either has an entry
+module _ (n : ℕ) (line : HeldLine) (f : NumbersFine n line) (kind : Kind) (e : kindAt (line .row) ≡ kind) where
+  corner-fits : sortAt (rowOf kind) 0 ≡ Sort.Corner → countIn (getD (line .values) 0 0) < cornerLimit
+  corner-fits first = omega (arith, corner-known n line kind (row-of (line .row) kind (f .fits .row-fits) e) first (f .known), f .fits .few)
 
 pub label-fits : (n : ℕ) (line : HeldLine) → NumbersFine n line → kindAt (line .row) ≡ Kind.Label → LabelFits (labelIn (line .values))
+unfolding sortAt sortOf rowAt rows
 label-fits n line f e =
-    let is = row-of (line .row) Kind.Label (f .fits .row-fits) e in
-    record { on = label-on n line is (f .on); entry = omega (arith, label-known n line is (f .known), f .fits .few) }
+    record { on = label-on n line (row-of (line .row) Kind.Label (f .fits .row-fits) e) (f .on); entry = corner-fits n line f Kind.Label e refl }
+
+pub shade-fits : (n : ℕ) (line : HeldLine) → NumbersFine n line → kindAt (line .row) ≡ Kind.Shade → shadeIn (line .values) .corner < cornerLimit
+unfolding sortAt sortOf rowAt rows
+shade-fits n line f e = corner-fits n line f Kind.Shade e refl

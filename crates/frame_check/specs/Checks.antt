@@ -11,10 +11,11 @@ use Rattle.sheet.specs.Cells.{OnSheet, placeOf}
 use Rattle.arguments.specs.Arguments.{refusedIf}
 use Rattle.arguments.specs.declared.Checked.{Checked}
 use Rattle.frame_line.specs.Table.{rowCount, kindAt}
-use Rattle.frame_line.specs.Held.{labelIn, outsideHeld}
+use Rattle.frame_line.specs.Held.{labelIn, shadeIn, outsideHeld}
 use Rattle.frame_line.specs.declared.Kind.{Kind}
 use Rattle.frame_line.specs.declared.HeldLabel.{HeldLabel}
 use Rattle.frame_line.specs.declared.HeldLine.{HeldLine}
+use Rattle.frame_line.specs.declared.HeldShade.{HeldShade}
 
 -- by what is said of a line: `outside r`, some number of it has the refusal r; `over`, a limit is passed; `twice`, it is doubled
 unfoldable pub checksInOrder : (ℕ → Bool) → Bool → Bool → Checked
@@ -31,10 +32,20 @@ unfoldable pub overLimit : ℕ → ℕ → Kind → Bool
 overLimit n m (Kind.Opening o) = false
 overLimit n m Kind.Corner = leb cornerLimit n
 overLimit n m Kind.Label = false
+overLimit n m Kind.Shade = false
 overLimit n m (Kind.Pass p) = leb passLimit m
 
--- ---- as the code makes them, with n corners, m passes, the sheet and the corners used so far; each is what Frame (crate frame) says of the
--- line, as `frame/proofs` shows
+-- 6, doubled, by the kind of the line: a label asks whether it is doubled, "cell or corner labelled twice", and a shade whether it is, "a second
+-- shade 6"
+unfoldable pub twiceOf : Kind → Bool → Bool → Bool
+twiceOf (Kind.Opening o) label shade = false
+twiceOf Kind.Corner label shade = false
+twiceOf Kind.Label label shade = label
+twiceOf Kind.Shade label shade = shade
+twiceOf (Kind.Pass p) label shade = false
+
+-- ---- as the code makes them, with n corners, m passes, and the shades, the sheet and the corners used so far; each is what Frame (crate frame)
+-- says of the line, as `frame/proofs` shows
 
 -- an entry that is not 0
 abbrev pub isSet : List ℕ → ℕ → Bool
@@ -43,20 +54,18 @@ isSet entries k = not (eqb (getD entries k 0) 0)
 abbrev pub labelTwice : List ℕ → List ℕ → HeldLabel → Bool
 labelTwice sheet used l = isSet sheet (placeOf (l .cell)) || isSet used (l .corner)
 
-unfoldable pub twiceOf : Kind → Bool → Bool
-twiceOf (Kind.Opening o) t = false
-twiceOf Kind.Corner t = false
-twiceOf Kind.Label t = t
-twiceOf (Kind.Pass p) t = false
+abbrev pub shadeTwice : List ℕ → HeldShade → Bool
+shadeTwice shades s = isSet shades (s .corner)
 
-abbrev pub twiceAs : List ℕ → List ℕ → HeldLine → Kind → Bool
-twiceAs sheet used line kind = twiceOf kind (labelTwice sheet used (labelIn (line .values)))
+abbrev pub twiceAs : List ℕ → List ℕ → List ℕ → HeldLine → Kind → Bool
+twiceAs shades sheet used line kind = twiceOf kind (labelTwice sheet used (labelIn (line .values))) (shadeTwice shades (shadeIn (line .values)))
 
-abbrev pub twiceHeld : List ℕ → List ℕ → HeldLine → Bool
-twiceHeld sheet used line = twiceAs sheet used line (kindAt (line .row))
+abbrev pub twiceHeld : List ℕ → List ℕ → List ℕ → HeldLine → Bool
+twiceHeld shades sheet used line = twiceAs shades sheet used line (kindAt (line .row))
 
-unfoldable pub checkedHeld : ℕ → ℕ → List ℕ → List ℕ → HeldLine → Checked
-checkedHeld n m sheet used line = checksInOrder (λ r. outsideHeld r n line) (overLimit n m (kindAt (line .row))) (twiceHeld sheet used line)
+unfoldable pub checkedHeld : ℕ → ℕ → List ℕ → List ℕ → List ℕ → HeldLine → Checked
+checkedHeld n m shades sheet used line =
+    checksInOrder (λ r. outsideHeld r n line) (overLimit n m (kindAt (line .row))) (twiceHeld shades sheet used line)
 
 -- ---- what the functions ask for
 

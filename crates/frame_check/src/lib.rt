@@ -2,10 +2,12 @@
 ghost use mathlib.Core.Path.{_≡_};
 ghost use Prim.Native.Nat.{_<_};
 ghost use Rattle.frame_line.specs.Table.{rowCount, kindAt};
-ghost use Rattle.frame_check.specs.Checks.{overLimit, labelTwice, twiceHeld, checkedHeld, LabelFits, LineFits, NumbersFine};
+ghost use Rattle.sizes.specs.Sizes.{cornerLimit};
+ghost use Rattle.frame_check.specs.Checks.{overLimit, labelTwice, shadeTwice, twiceHeld, checkedHeld, LabelFits, LineFits, NumbersFine};
 use arguments::Checked;
 use frame_line::HeldLabel;
 use frame_line::HeldLine;
+use frame_line::HeldShade;
 use frame_line::Kind;
 use frame_number::has_refusal;
 use refusal::Refusal;
@@ -26,6 +28,7 @@ fn over_limit(corners: usize, passes: usize, row: usize) -> bool
         Kind::Opening(_) => false,
         Kind::Corner => CORNERS <= corners,
         Kind::Label => false,
+        Kind::Shade => false,
         Kind::Pass(_) => PASSES <= passes,
     }
 }
@@ -43,10 +46,25 @@ fn label_twice(sheet: &[u16; PLACES], used: &[u8; USED], label: HeldLabel) -> bo
     used[corner] != 0
 }
 
-// 6: a label's, and none of any other line.
-fn is_twice(corners: usize, sheet: &[u16; PLACES], used: &[u8; USED], line: HeldLine) -> bool
+// 6 of a shade: whether its corner has a shade already.
+fn shade_twice(shades: &[u8; CORNERS], shade: HeldShade) -> bool
+    requires { ⌜ shade .corner < cornerLimit ⌝ }
+    ensures { λ r. ⌜ r ≡ shadeTwice (now (shades .entry)) shade ⌝ }
+{
+    let corner = shade.corner;
+    shades[corner] != 0
+}
+
+// 6: a label's, a shade's, and none of any other line.
+fn is_twice(
+    corners: usize,
+    shades: &[u8; CORNERS],
+    sheet: &[u16; PLACES],
+    used: &[u8; USED],
+    line: HeldLine,
+) -> bool
     requires { ⌜ NumbersFine corners line ⌝ }
-    ensures { λ r. ⌜ r ≡ twiceHeld (now (sheet .entry)) (now (used .entry)) line ⌝ }
+    ensures { λ r. ⌜ r ≡ twiceHeld (now (shades .entry)) (now (sheet .entry)) (now (used .entry)) line ⌝ }
 {
     let kind = frame_line::kind_of(line.row);
     match kind {
@@ -56,20 +74,26 @@ fn is_twice(corners: usize, sheet: &[u16; PLACES], used: &[u8; USED], line: Held
             let values = line.values;
             label_twice(sheet, used, frame_number::label_of(values))
         }
+        Kind::Shade => {
+            let values = line.values;
+            shade_twice(shades, frame_number::shade_of(values))
+        }
         Kind::Pass(_) => false,
     }
 }
 
-// All checks of a line in its turn, with the number of corners and of passes, the sheet and the corners used so far.
+// All checks of a line in its turn, with the number of corners and of passes, and the shades, the sheet and the corners used so far. An entry of
+// the shades is 0 where no shade stands yet.
 pub fn check_line(
     corners: usize,
     passes: usize,
+    shades: &[u8; CORNERS],
     sheet: &[u16; PLACES],
     used: &[u8; USED],
     line: HeldLine,
 ) -> Checked
     requires { ⌜ LineFits corners line ⌝ }
-    ensures { λ r. ⌜ r ≡ checkedHeld corners passes (now (sheet .entry)) (now (used .entry)) line ⌝ }
+    ensures { λ r. ⌜ r ≡ checkedHeld corners passes (now (shades .entry)) (now (sheet .entry)) (now (used .entry)) line ⌝ }
 {
     let given = corners as u32;
     let found = frame_number::refusals_of(given, line);
@@ -88,7 +112,7 @@ pub fn check_line(
     if has_refusal(found, 5) {
         return Checked::Refused(Refusal::UnknownCorner);
     }
-    if is_twice(corners, sheet, used, line) {
+    if is_twice(corners, shades, sheet, used, line) {
         return Checked::Refused(Refusal::Duplicate);
     }
     Checked::Fine

@@ -1,4 +1,5 @@
--- Frames read by the definition: 01's own example, which printing gives back, and texts that are refused. One theorem for the table.
+-- Frames read by the definition: 01's own example, which printing gives back, one with shades, and texts that are refused. One theorem for the
+-- table.
 use mathlib.Core.Path.{_≡_, refl}
 use mathlib.Core.List.{List, [], _∷_, _++_, map}
 use Prim.Native.Nat.{ℕ}
@@ -48,6 +49,22 @@ meant =
     ∷ said 6 []
     ∷ []
 
+-- shades behind the labels, the given label at cell (0 0) having kind 1, which no check minds
+abbrev pub shaded-example : List ℕ
+shaded-example = one-corner ++ bytes "(label 0 (0 0))\n(shade 0 1)\n(grow)\n"
+
+abbrev pub shaded-meant : Frame
+shaded-meant =
+    said 0 []
+    ∷ said 1 (bits 0x4120_0000 ∷ [])
+    ∷ said 2 (bits 0x3f80_0000 ∷ bits 0 ∷ bits 0 ∷ bits 0x3f80_0000 ∷ [])
+    ∷ said 3 (bits 0x3e80_0000 ∷ [])
+    ∷ said 4 (bits 0x4120_0000 ∷ bits 0x4120_0000 ∷ bits 0 ∷ [])
+    ∷ said 5 (whole (pos 0) ∷ whole (pos 0) ∷ whole (pos 0) ∷ [])
+    ∷ said 11 (whole (pos 0) ∷ whole (pos 1) ∷ [])
+    ∷ said 6 []
+    ∷ []
+
 abbrev pub four-passes : List ℕ
 four-passes = bytes "(grow)\n(fill)\n(grow)\n(fill)\n"
 
@@ -84,6 +101,16 @@ table =
     ∷ case (one-corner ++ bytes "(label 1 (63 0))\n") (refused-at Refusal.UnknownCorner 6)
     ∷ case (one-corner ++ bytes "(label -1 (0 -64))\n") (refused-at Refusal.UnknownCorner 6)
     ∷ case (one-corner ++ bytes "(label 0 (0 0))\n(label 0 (1 0))\n") (refused-at Refusal.Duplicate 7)
+    -- shades: read; behind a pass; before a label
+    ∷ case shaded-example (accepted shaded-meant)
+    ∷ case (one-corner ++ bytes "(grow)\n(shade 0 1)\n") (refused-at Refusal.Malformed 7)
+    ∷ case (one-corner ++ bytes "(shade 0 1)\n(label 0 (0 0))\n") (refused-at Refusal.Malformed 7)
+    -- a kind of 2 before a corner that is not given; below 0; two digits; not given; a second shade, of another kind too
+    ∷ case (one-corner ++ bytes "(shade 1 2)\n") (refused-at Refusal.Malformed 6)
+    ∷ case (one-corner ++ bytes "(shade 0 -1)\n") (refused-at Refusal.Malformed 6)
+    ∷ case (one-corner ++ bytes "(shade 0 00)\n") (refused-at Refusal.Malformed 6)
+    ∷ case (one-corner ++ bytes "(shade 1 0)\n") (refused-at Refusal.UnknownCorner 6)
+    ∷ case (one-corner ++ bytes "(shade 0 0)\n(shade 0 1)\n") (refused-at Refusal.Duplicate 7)
     ∷ []
 
 pub examples-read : map (λ (c : Case). readFrame (c .text)) table ≡ map (λ (c : Case). c .read) table
@@ -93,3 +120,7 @@ examples-read = refl
 pub example-printed : frameText meant ≡ example
 unfolding digits decimalUpTo decimal integerText numberText printed rows rowAt formAt lineText frameText
 example-printed = refl
+
+pub shaded-printed : frameText shaded-meant ≡ shaded-example
+unfolding digits decimalUpTo decimal integerText numberText printed rows rowAt formAt lineText frameText
+shaded-printed = refl

@@ -104,7 +104,7 @@ module _ {n : ℕ} (few : n ≤ cornerLimit) where
 
 -- ---- labels that are apart
 
-all-at : {A : Type 0} (P : A → Type 0) {l : List A} {a : A} → All P l → List·Memᴰ a l → P a
+pub all-at : {A : Type 0} (P : A → Type 0) {l : List A} {a : A} → All P l → List·Memᴰ a l → P a
 all-at P p (List·Memᴰ·head e) = subst P (sym e) (p .0)
 all-at P p (List·Memᴰ·tail m) = all-at P (p .1) m
 

@@ -5,5 +5,7 @@ pub mod Refusals
 pub mod Refusing
 pub mod Back
 pub mod Labels
+pub mod Shades
 pub mod Runs
+pub mod Unshaded
 pub mod Examples

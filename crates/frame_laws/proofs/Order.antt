@@ -53,10 +53,10 @@ abbrev byTurn : (ℕ → Bool) → Turn → Bool
 byTurn g Turn.No = true
 byTurn g (Turn.To t) = g t
 
-abbrev rule : (ℕ → ℕ → ℕ → Bool) → Bool
+abbrev pub rule : (ℕ → ℕ → ℕ → Bool) → Bool
 rule f = everyBelow stageCount (λ s. everyBelow rowCount (λ k. byTurn (f s k) (turnAt s k)))
 
-ruled : (f : ℕ → ℕ → ℕ → Bool) → rule f ≡ true → (s k t : ℕ) → k < rowCount → turnAt s k ≡ Turn.To t → f s k t ≡ true
+pub ruled : (f : ℕ → ℕ → ℕ → Bool) → rule f ≡ true → (s k t : ℕ) → k < rowCount → turnAt s k ≡ Turn.To t → f s k t ≡ true
 ruled f r s k t few e =
     ap (byTurn (f s k)) (sym e)
     ∙ every-at (λ j. byTurn (f s j) (turnAt s j)) rowCount (every-at (λ i. everyBelow rowCount (λ j. byTurn (f i j) (turnAt i j))) stageCount r s inside) k few

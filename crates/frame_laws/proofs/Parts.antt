@@ -15,16 +15,16 @@ use Rattle.labels.proofs.Below.{no-both}
 use Rattle.arguments.proofs.Chains.{or-false, or-false-both}
 use Rattle.line_form.specs.Forms.{Number}
 use Rattle.frame_line.specs.Table.{rowCount, turnAt, sortAt}
-use Rattle.frame_line.specs.Lines.{Line, kindOf, CornerLine, cornerLineOf, LabelLine, labelLineOf, PassLine, passLineOf}
+use Rattle.frame_line.specs.Lines.{Line, kindOf, CornerLine, cornerLineOf, LabelLine, labelLineOf, ShadeLine, shadeLineOf, PassLine, passLineOf}
 use Rattle.frame_line.specs.declared.Kind.{Kind}
 use Rattle.frame_line.specs.declared.PassKind.{PassKind}
 use Rattle.frame_line.specs.declared.Sort.{Sort}
 use Rattle.frame_line.specs.declared.Turn.{Turn}
-use Rattle.frame_line.proofs.Said.{CornerTame, PassTame, corner-said, label-exact, pass-said}
+use Rattle.frame_line.proofs.Said.{CornerTame, PassTame, corner-said, label-exact, shade-corner, shade-kind, pass-said}
 use Rattle.frame_check.specs.Checks.{overLimit, twiceOf}
 use Rattle.sizes.specs.Sizes.{cornerLimit, passLimit, byteLimit}
 use Rattle.frame.specs.Frame.{Parts, adding, added, partsFrom, overIn, twiceIn, Frame, no-parts, partsOf, sameCell, clash, someOf}
-use Rattle.frame.specs.Text.{All, InOrder, ends, next, frameText, InRange, Sound, AllDiffer, Apart, WithinLimits, LabelsSound}
+use Rattle.frame.specs.Text.{All, InOrder, ends, next, frameText, InRange, Sound, SoundShade, AllDiffer, Apart, ApartShades, WithinLimits, LabelsSound, ShadesSound}
 use Rattle.frame.proofs.Adding.{same-cell, cell-same}
 use Rattle.frame_laws.proofs.Order.{opens, isCorner, past-corners, asked-corner}
 
@@ -44,27 +44,51 @@ all-map h (a ∷ l) p = (h a (p .0), all-map h l (p .1))
 
 -- ---- what holds of all of each part
 
-module _ (P : CornerLine → Type 0) (Q : LabelLine → Type 0) (R : PassLine → Type 0) where
+module _ (P : CornerLine → Type 0) (Q : LabelLine → Type 0) (S : ShadeLine → Type 0) (R : PassLine → Type 0) where
   pub record AllParts (p : Parts) : Type 0 where
     pub corners : All P (p .corners)
     pub labels : All Q (p .labels)
+    pub shades : All S (p .shades)
     pub passes : All R (p .passes)
 
   -- it holds of what a line of this kind says
   pub record Says (k : Kind) (ns : List Number) : Type 0 where
     pub corner : k ≡ Kind.Corner → P (cornerLineOf ns)
     pub label : k ≡ Kind.Label → Q (labelLineOf ns)
+    pub shade : k ≡ Kind.Shade → S (shadeLineOf ns)
     pub pass : (q : PassKind) → k ≡ Kind.Pass q → R (passLineOf q ns)
 
   said : (k : Kind) (ns : List Number) (p : Parts) → Says k ns → AllParts p → AllParts (adding k ns p)
   unfolding adding
-  said (Kind.Opening o) ns p s a = record { corners = a .corners; labels = a .labels; passes = a .passes }
+  said (Kind.Opening o) ns p s a = record { corners = a .corners; labels = a .labels; shades = a .shades; passes = a .passes }
   said Kind.Corner ns p s a =
-      record { corners = all-then P (p .corners) (cornerLineOf ns ∷ []) (a .corners) (s .corner refl, tt); labels = a .labels; passes = a .passes }
+      record {
+        corners = all-then P (p .corners) (cornerLineOf ns ∷ []) (a .corners) (s .corner refl, tt);
+        labels = a .labels;
+        shades = a .shades;
+        passes = a .passes;
+      }
   said Kind.Label ns p s a =
-      record { corners = a .corners; labels = all-then Q (p .labels) (labelLineOf ns ∷ []) (a .labels) (s .label refl, tt); passes = a .passes }
+      record {
+        corners = a .corners;
+        labels = all-then Q (p .labels) (labelLineOf ns ∷ []) (a .labels) (s .label refl, tt);
+        shades = a .shades;
+        passes = a .passes;
+      }
+  said Kind.Shade ns p s a =
+      record {
+        corners = a .corners;
+        labels = a .labels;
+        shades = all-then S (p .shades) (shadeLineOf ns ∷ []) (a .shades) (s .shade refl, tt);
+        passes = a .passes;
+      }
   said (Kind.Pass q) ns p s a =
-      record { corners = a .corners; labels = a .labels; passes = all-then R (p .passes) (passLineOf q ns ∷ []) (a .passes) (s .pass q refl, tt) }
+      record {
+        corners = a .corners;
+        labels = a .labels;
+        shades = a .shades;
+        passes = all-then R (p .passes) (passLineOf q ns ∷ []) (a .passes) (s .pass q refl, tt);
+      }
 
   pub parts-all : (p : Parts) (ls : List Line) → All (λ l. Says (kindOf l) (l .numbers)) ls → AllParts p → AllParts (partsFrom p ls)
   unfolding partsFrom
@@ -80,6 +104,7 @@ unfolding adding
 kept (Kind.Opening o) ns p = (λ e. absurd (true≢false e), λ e. refl)
 kept Kind.Corner ns p = (λ e. refl, λ e. absurd (true≢false e))
 kept Kind.Label ns p = (λ e. refl, λ e. refl)
+kept Kind.Shade ns p = (λ e. refl, λ e. refl)
 kept (Kind.Pass q) ns p = (λ e. refl, λ e. refl)
 
 corners-kept : (s : ℕ) (p : Parts) (ls : List Line) → 4 < s → All (λ l. l .row < rowCount) ls → InOrder s ls → partsFrom p ls .corners ≡ p .corners
@@ -132,6 +157,18 @@ no-clash m l d =
     or-false _ _ (not-so (sameCell (m .cell) (l .cell)) (λ e. d .0 (same-cell (m .cell) (l .cell) e)))
     (not-so (eqZ (m .corner) (l .corner)) (λ e. d .1 (eqZ-equal (m .corner) (l .corner) e)))
 
+abbrev DifferShade : ShadeLine → ShadeLine → Type 0
+DifferShade t s = t .corner ≡ s .corner → ⊥
+
+abbrev sameCorner : ShadeLine → ShadeLine → Bool
+sameCorner t s = eqZ (t .corner) (s .corner)
+
+differ-shade : (t s : ShadeLine) → sameCorner t s ≡ false → DifferShade t s
+differ-shade t s e q = no-both _ (equal-eqZ (t .corner) (s .corner) q) e
+
+other-corner : (t s : ShadeLine) → DifferShade t s → sameCorner t s ≡ false
+other-corner t s d = not-so (sameCorner t s) (λ e. d (eqZ-equal (t .corner) (s .corner) e))
+
 -- ---- the limits, before a line and after it
 
 one-longer : {A : Type 0} (n : ℕ) (l : List A) (a : A) → leb n (length l) ≡ false → length (l ++ (a ∷ [])) ≤ n
@@ -144,6 +181,7 @@ pub record Limits (p : Parts) : Type 0 where
   pub corners : length (p .corners) ≤ cornerLimit
   pub passes : length (p .passes) ≤ passLimit
   pub once : Apart (p .labels)
+  pub shaded-once : ApartShades (p .shades)
 
 -- a line of this kind passes no limit, and is not doubled
 pub record Fits (k : Kind) (ns : List Number) (p : Parts) : Type 0 where
@@ -152,24 +190,46 @@ pub record Fits (k : Kind) (ns : List Number) (p : Parts) : Type 0 where
 
 pub limits-after : (k : Kind) (ns : List Number) (p : Parts) → Fits k ns p → Limits p → Limits (adding k ns p)
 unfolding adding overLimit twiceOf
-limits-after (Kind.Opening o) ns p f m = record { corners = m .corners; passes = m .passes; once = m .once }
-limits-after Kind.Corner ns p f m = record { corners = one-longer cornerLimit (p .corners) _ (f .room); passes = m .passes; once = m .once }
+limits-after (Kind.Opening o) ns p f m = record { corners = m .corners; passes = m .passes; once = m .once; shaded-once = m .shaded-once }
+limits-after Kind.Corner ns p f m =
+    record { corners = one-longer cornerLimit (p .corners) _ (f .room); passes = m .passes; once = m .once; shaded-once = m .shaded-once }
 limits-after Kind.Label ns p f m =
-    record { corners = m .corners; passes = m .passes; once = differ-more Differ clash differ no-clash (p .labels) (labelLineOf ns) (m .once) (f .once) }
-limits-after (Kind.Pass q) ns p f m = record { corners = m .corners; passes = one-longer passLimit (p .passes) _ (f .room); once = m .once }
+    record {
+      corners = m .corners;
+      passes = m .passes;
+      once = differ-more Differ clash differ no-clash (p .labels) (labelLineOf ns) (m .once) (f .once);
+      shaded-once = m .shaded-once;
+    }
+limits-after Kind.Shade ns p f m =
+    record {
+      corners = m .corners;
+      passes = m .passes;
+      once = m .once;
+      shaded-once = differ-more DifferShade sameCorner differ-shade other-corner (p .shades) (shadeLineOf ns) (m .shaded-once) (f .once);
+    }
+limits-after (Kind.Pass q) ns p f m =
+    record { corners = m .corners; passes = one-longer passLimit (p .passes) _ (f .room); once = m .once; shaded-once = m .shaded-once }
 
 pub limits-before : (k : Kind) (ns : List Number) (p : Parts) → Limits (adding k ns p) → Limits p × Fits k ns p
 unfolding adding overLimit twiceOf
-limits-before (Kind.Opening o) ns p m = (record { corners = m .corners; passes = m .passes; once = m .once }, record { room = refl; once = refl })
+limits-before (Kind.Opening o) ns p m =
+    (record { corners = m .corners; passes = m .passes; once = m .once; shaded-once = m .shaded-once }, record { room = refl; once = refl })
 limits-before Kind.Corner ns p m =
-    let h = shorter cornerLimit (p .corners) _ (m .corners) in
-    (record { corners = omega arith; passes = m .passes; once = m .once }, record { room = lt-leb cornerLimit (length (p .corners)) h; once = refl })
+    let h = shorter cornerLimit (p .corners) _ (m .corners) in (
+      record { corners = omega arith; passes = m .passes; once = m .once; shaded-once = m .shaded-once },
+      record { room = lt-leb cornerLimit (length (p .corners)) h; once = refl },
+    )
 limits-before Kind.Label ns p m =
     let a = differ-before Differ clash differ no-clash (p .labels) (labelLineOf ns) (m .once) in
-    (record { corners = m .corners; passes = m .passes; once = a .0 }, record { room = refl; once = a .1 })
+    (record { corners = m .corners; passes = m .passes; once = a .0; shaded-once = m .shaded-once }, record { room = refl; once = a .1 })
+limits-before Kind.Shade ns p m =
+    let a = differ-before DifferShade sameCorner differ-shade other-corner (p .shades) (shadeLineOf ns) (m .shaded-once) in
+    (record { corners = m .corners; passes = m .passes; once = m .once; shaded-once = a .0 }, record { room = refl; once = a .1 })
 limits-before (Kind.Pass q) ns p m =
-    let h = shorter passLimit (p .passes) _ (m .passes) in
-    (record { corners = m .corners; passes = omega arith; once = m .once }, record { room = lt-leb passLimit (length (p .passes)) h; once = refl })
+    let h = shorter passLimit (p .passes) _ (m .passes) in (
+      record { corners = m .corners; passes = omega arith; once = m .once; shaded-once = m .shaded-once },
+      record { room = lt-leb passLimit (length (p .passes)) h; once = refl },
+    )
 
 pub limits-first : (p : Parts) (ls : List Line) → Limits (partsFrom p ls) → Limits p
 unfolding partsFrom
@@ -177,33 +237,49 @@ limits-first p [] m = m
 limits-first p (l ∷ ls) m = limits-before (kindOf l) (l .numbers) p (limits-first (added p l) ls m) .0
 
 pub no-limits : Limits no-parts
-no-limits = record { corners = omega arith; passes = omega arith; once = tt }
+no-limits = record { corners = omega arith; passes = omega arith; once = tt; shaded-once = tt }
 
 -- of a frame
 pub within-limits : {f : Frame} → length (frameText f) ≤ byteLimit → InOrder 0 f → All (InRange (length (partsOf f .corners))) f → Limits (partsOf f)
     → WithinLimits f
-within-limits b o n m = record { bytes = b; order = o; numbers = n; corners = m .corners; passes = m .passes; once = m .once }
+within-limits b o n m =
+    record { bytes = b; order = o; numbers = n; corners = m .corners; passes = m .passes; once = m .once; shaded-once = m .shaded-once }
 
 pub frame-limits : {f : Frame} → WithinLimits f → Limits (partsOf f)
-frame-limits w = record { corners = w .corners; passes = w .passes; once = w .once }
+frame-limits w = record { corners = w .corners; passes = w .passes; once = w .once; shaded-once = w .shaded-once }
 
 -- ---- what the lines say
 
 -- what the lines of a frame within the limits say
-pub parts-tame : (f : Frame) → WithinLimits f → AllParts CornerTame (Sound (length (partsOf f .corners))) PassTame (partsOf f)
+pub parts-tame : (f : Frame) → WithinLimits f → AllParts CornerTame (Sound (length (partsOf f .corners))) (SoundShade (length (partsOf f .corners))) PassTame (partsOf f)
 unfolding partsOf
 parts-tame f w =
     let n = length (partsOf f .corners) in
-    parts-all CornerTame (Sound n) PassTame no-parts f
+    parts-all CornerTame (Sound n) (SoundShade n) PassTame no-parts f
     (all-map
     (λ l r. record {
       corner = λ e. corner-said n l (r .proper) (r .ranges) e;
       label = λ e.
           let h = label-exact n l (r .proper) e (w .corners) (r .on-sheet) (r .known) in
           record { on-sheet = h .on-sheet; corner = natAbs (labelLineOf (l .numbers) .corner); is-corner = h .is-corner; given = h .given };
+      shade = λ e.
+          let h = shade-corner n l (r .proper) e (w .corners) (r .known) in
+          let k = shade-kind n l (r .proper) e (r .first) in
+          let m = shadeLineOf (l .numbers) in
+          record {
+            corner = natAbs (m .corner);
+            is-corner = h .is-corner;
+            given = h .given;
+            kind = natAbs (m .kind);
+            is-kind = k .is-kind;
+            small = k .small;
+          };
       pass = λ q e. pass-said n l (r .proper) (r .ranges) q e;
     }) f (w .numbers))
-    (record { corners = tt; labels = tt; passes = tt })
+    (record { corners = tt; labels = tt; shades = tt; passes = tt })
 
 pub labels-sound : LabelsSound
 labels-sound f w = parts-tame f w .labels
+
+pub shades-sound : ShadesSound
+shades-sound f w = parts-tame f w .shades

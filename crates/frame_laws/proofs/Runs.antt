@@ -37,6 +37,7 @@ use Rattle.frame_laws.specs.Calls.{frameCorners, frameRooms, callOf, cal
 use Rattle.frame_laws.proofs.Order.{comes, later-opens, ends-late}
 use Rattle.frame_laws.proofs.Parts.{all-map, kept, parts-tame}
 use Rattle.frame_laws.proofs.Back.{frame-prints-back}
+use Rattle.frame_laws.proofs.Shades.{shades-long, shades-inside, given-shades}
 use Rattle.frame_laws.proofs.Labels.{given-labels, sheet-long, corner-known, one-cell}
 
 -- ---- numbers in range
@@ -97,15 +98,15 @@ all-said n s p ls r (ends e) t =
     let h = ends-late s e in record { cell = λ k. t .cell (omega arith); axes = λ k. t .axes (omega arith); band = λ k. t .band (omega arith) }
 all-said n s p ls r (next {to = to} {ls = rest} l e o) t = all-said n to (added p l) rest (r .1) o (said-on n l (r .0) p s to e t)
 
-module _ (f : Frame) (w : WithinLimits f) where
-  same-length : length (xsOf f) ≡ length (partsOf f .corners)
-  unfolding xsOf
-  same-length = length-map (partsOf f .corners) (λ c. floatOf (c .x))
+pub same-length : (f : Frame) → length (xsOf f) ≡ length (partsOf f .corners)
+unfolding xsOf
+same-length f = length-map (partsOf f .corners) (λ c. floatOf (c .x))
 
+module _ (f : Frame) (w : WithinLimits f) where
   corners-inside : (k : ℕ) → k < length (xsOf f) → CornerInside (cornerOf (frameCorners f) k)
   unfolding xsOf ysOf pitchesOf
   corners-inside k h =
-      let l : k < length (partsOf f .corners) = omega (arith, same-length) in
+      let l : k < length (partsOf f .corners) = omega (arith, same-length f) in
       let cs = partsOf f .corners in
       rw (listed-corner (frameCorners f) k h)
       (record {
@@ -155,7 +156,7 @@ module _ (f : Frame) (w : WithinLimits f) where
       }
 
   few : length (xsOf f) ≤ cornerLimit
-  few = omega (arith, same-length, w .corners)
+  few = omega (arith, same-length f, w .corners)
 
   pass-fit : (p : PassLine) → PassTame p → CallInside (frameCorners f) (callOf f p)
   pass-fit p t =
@@ -164,7 +165,9 @@ module _ (f : Frame) (w : WithinLimits f) where
         few = few;
         queue-long = c .1;
         attached-long = omega (arith, few);
+        shades-long = omega (arith, same-length f, shades-long f);
         corners-inside = corners-inside;
+        shades-inside = λ k h. shades-inside f w k;
         settings-inside = settings-inside;
         pass-inside = c .0;
       }
@@ -185,10 +188,10 @@ module _ (f : Frame) (w : WithinLimits f) where
       record {
         listed =
             record {
-              ys-long = omega (arith, same-length, length-map (partsOf f .corners) (λ c. floatOf (c .y)));
-              pitches-long = omega (arith, same-length, length-map (partsOf f .corners) (λ c. floatOf (c .pitch)));
+              ys-long = omega (arith, same-length f, length-map (partsOf f .corners) (λ c. floatOf (c .y)));
+              pitches-long = omega (arith, same-length f, length-map (partsOf f .corners) (λ c. floatOf (c .pitch)));
             };
-        given = record { long = sheet-long f w; known = λ p k h e. omega (arith, same-length, corner-known f w p k h e) };
+        given = record { long = sheet-long f w; known = λ p k h e. omega (arith, same-length f, corner-known f w p k h e) };
         one-cell = one-cell f w;
       }
 
@@ -208,6 +211,7 @@ limits-start f w =
     let s = frame-standing f w in
     record {
       given = given-labels f w;
+      shades = given-shades f w;
       standing = s;
       invariant = invariants (frameCorners f) (sheetOf f) s;
       fit = calls-fit f w;

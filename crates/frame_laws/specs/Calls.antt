@@ -12,12 +12,15 @@ use Rattle.sheet.specs.declared.Label.{Label}
 use Rattle.passes.specs.Outcome.{Outcome, refused, done}
 use Rattle.passes.specs.Step.{Rooms}
 use Rattle.passes.specs.Run.{Call, PassStats, run, sheetOf as sheetLeft}
+use Rattle.arguments.specs.Shades.{cornersOf}
 use Rattle.invariants.specs.Calls.{Standing, Invariant, CallInside, Accepts}
+use Rattle.invariants.specs.Unshaded.{Unshaded, CallsUnshaded}
 use Rattle.frame_line.specs.Lines.{LabelLine, PassLine}
 use Rattle.sizes.specs.Sizes.{cornerLimit}
 use Rattle.frame.specs.Frame.{Frame, partsOf, readFrame, accepted}
 use Rattle.frame.specs.Text.{All}
-use Rattle.frame.specs.ReadFrame.{xsOf, ysOf, pitchesOf, sheetOf, settingsOf, fullOf, passOf}
+use Rattle.frame.specs.ReadFrame.{xsOf, ysOf, pitchesOf, shadesOf, sheetOf, settingsOf, fullOf, passOf}
+use Rattle.frame_laws.specs.Shades.{GivenShades}
 
 -- the corners of a frame, as each call is lent them
 abbrev pub frameCorners : Frame → CornerLists
@@ -45,9 +48,9 @@ pub record GivenLabels (f : Frame) : Type 0 where
 abbrev pub frameRooms : Rooms
 frameRooms = record { queue = 4 * cornerLimit; attached = cornerLimit }
 
--- the call of a pass line: its numbers, those of a bare one included, and the frame's cell size, axes and band
+-- the call of a pass line: its numbers, those of a bare one included, and the frame's cell size, axes, band and shades
 abbrev pub callOf : Frame → PassLine → Call
-callOf f p = record { pass = passOf (fullOf p); settings = settingsOf f; rooms = frameRooms }
+callOf f p = record { pass = passOf (fullOf p); settings = settingsOf f; shades = shadesOf f; rooms = frameRooms }
 
 unfoldable pub callsOf : Frame → List Call
 callsOf f = map (callOf f) (partsOf f .passes)
@@ -60,11 +63,12 @@ NoneRefused [] = Unit {0}
 NoneRefused (refused r ∷ os) = ⊥
 NoneRefused (done a ∷ os) = NoneRefused os
 
--- The sheet is that of the given labels. The corners and it belong together, each corner at one cell, so every list of calls from there has
--- the invariants, whatever the factors. Each pass of the frame has its numbers in range and buffers long enough, so it is refused after no list
--- of calls, and none is in the frame's own run.
+-- The sheet is that of the given labels, and each corner has the shade that its line gives. The corners and the sheet belong together, each
+-- corner at one cell, so every list of calls from there has the invariants, whatever the factors. Each pass of the frame has its numbers in range
+-- and buffers long enough, so it is refused after no list of calls, and none is in the frame's own run.
 pub record Starts (f : Frame) : Type 0 where
   pub given : GivenLabels f
+  pub shades : GivenShades f
   pub standing : Standing (frameCorners f) (sheetOf f)
   pub invariant : (calls : List Call) → Invariant (frameCorners f) (sheetOf f) calls
   pub fit : All (CallInside (frameCorners f)) (callsOf f)
@@ -73,3 +77,14 @@ pub record Starts (f : Frame) : Type 0 where
 
 abbrev pub AcceptedRuns : Type 0
 AcceptedRuns = (text : List ℕ) (f : Frame) → readFrame text ≡ accepted f → Starts f
+
+-- ---- without shade lines
+
+-- "If any stands": a frame without shade lines is as before document 02. Its calls are lent its corners with no shade at all (`lent`), so every cell is
+-- tried as document 01 says, in all three passes, and local passes over none and says that there is no shade (`passes`).
+pub record FrameUnshaded (f : Frame) : Type 0 where
+  pub lent : CallsUnshaded (frameCorners f) (shadesOf f)
+  pub passes : Unshaded (cornersOf (frameCorners f) (shadesOf f))
+
+abbrev pub FrameAsBefore : Type 0
+FrameAsBefore = (f : Frame) → partsOf f .shades ≡ [] → FrameUnshaded f

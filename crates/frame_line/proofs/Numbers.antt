@@ -214,6 +214,7 @@ rowOf (Kind.Pass PassKind.Grow) = 7
 rowOf (Kind.Pass PassKind.BareFill) = 8
 rowOf (Kind.Pass PassKind.Fill) = 9
 rowOf (Kind.Pass PassKind.Local) = 10
+rowOf Kind.Shade = 11
 
 pub row-of : (k : ℕ) (kind : Kind) → k < rowCount → kindAt k ≡ kind → k ≡ rowOf kind
 unfolding kindAt
@@ -232,7 +233,7 @@ word-at (suc n) zero (whole-first z o) h = refl
 word-at (suc n) (suc m) (whole-first z o) h = word-at n m o (omega arith)
 
 module _ (l : Line) (p : Proper l) (kind : Kind) (e : kindOf l ≡ kind) where
-  pub kind-slots : OfSlots (slotsOf (formAt (rowOf kind))) (l .numbers)
+  kind-slots : OfSlots (slotsOf (formAt (rowOf kind))) (l .numbers)
   kind-slots = subst (λ (k : ℕ). OfSlots (slotsOf (formAt k)) (l .numbers)) (row-of (l .row) kind (p .few) e) (of-slots (p .suits))
 
   pub bits-held : (m : ℕ) → m < 5 → getD (slotsOf (formAt (rowOf kind))) m true ≡ true → getD (heldUpTo 5 (l .numbers)) m 0 ≡ bitsAt m (l .numbers)

@@ -1,11 +1,12 @@
--- What lines of each kind say: the numbers that no check refuses are in their ranges, and a label is held as it is. Assumes nothing.
+-- What lines of each kind say: the numbers that no check refuses are in their ranges, and a label and a shade are held as they are. Assumes
+-- nothing.
 use mathlib.Core.Path.{_≡_, refl, sym, ap, ap₂, subst, _∙_}
 use mathlib.Core.Bool.{Bool, true, false, _&&_, _||_, true≢false}
 use mathlib.Core.List.{List, [], _∷_}
 use Prim.Native.Nat.{ℕ, suc, _+_, _-_, _<_, _≤_, min}
 use native.Mathlib.Omega.{arith}
-use borrow.Author.Tests.{le-ltb, le-leb, ltb-true, ltb-false, leb-true, not-false}
-use lib.Dec.{T, ltb, leb}
+use borrow.Author.Tests.{eq-eqb, le-ltb, le-leb, ltb-true, ltb-false, leb-true, not-false}
+use lib.Dec.{T, eqb, ltb, leb}
 use lib.IntN.{ℤ, pos, negsuc, natAbs, _-ℤ_}
 use lib.ListN.{getD}
 use Rattle.binary32.specs.declared.ranges.Quantity.{Quantity}
@@ -14,21 +15,21 @@ use Rattle.sheet.proofs.Laws.{sub-lo, sub-hi}
 use Rattle.labels.proofs.Below.{both, any-none}
 use Rattle.arguments.proofs.Chains.{or-false-both}
 use Rattle.line_form.specs.Forms.{Number, bits, whole}
-use Rattle.line_form.specs.Held.{heldWhole, held, heldUpTo}
+use Rattle.line_form.specs.Held.{heldWhole, heldUpTo}
 use Rattle.line_form.specs.Written.{unheldWhole}
 use Rattle.frame_line.specs.Table.{rows, rowAt, formAt, sortOf, sortAt}
-use Rattle.frame_line.specs.Lines.{Line, kindOf, Proper, bitsAt, wholeAt, Axes, axesLineOf, CornerLine, cornerLineOf, LabelLine, labelLineOf}
+use Rattle.frame_line.specs.Lines.{Line, kindOf, Proper, bitsAt, wholeAt, Axes, axesLineOf, CornerLine, cornerLineOf, LabelLine, labelLineOf, ShadeLine, shadeLineOf}
 use Rattle.frame_line.specs.Lines.{PassLine, bare-grow, grow, bare-fill, fill, local, passLineOf}
 use Rattle.frame_line.specs.Checks.{wildBits, wildWhole, wild, numberOutside, someOutside, outsideLine}
-use Rattle.frame_line.specs.Held.{heldLine, countIn, labelIn, beyond, outsideWord, outsideAt, outsideHeld}
+use Rattle.frame_line.specs.Held.{heldLine, countIn, labelIn, shadeIn, beyond, outsideWord, outsideAt, outsideHeld}
 use Rattle.frame_line.specs.declared.Kind.{Kind}
 use Rattle.frame_line.specs.declared.OpeningKind.{OpeningKind}
 use Rattle.frame_line.specs.declared.PassKind.{PassKind}
 use Rattle.frame_line.specs.declared.Sort.{Sort}
 use Rattle.frame_line.specs.declared.HeldLine.{HeldLine}
 use Rattle.frame_line.specs.declared.HeldLabel.{HeldLabel}
-use Rattle.frame_line.proofs.Numbers.{slotsOf, OfSlots, no-number, whole-first, ranged, beyond-is, outside-is, outside-held}
-use Rattle.frame_line.proofs.Numbers.{rowOf, row-of, kind-slots, bits-held, whole-held}
+use Rattle.frame_line.proofs.Numbers.{slotsOf, ranged, beyond-is, outside-is, outside-held}
+use Rattle.frame_line.proofs.Numbers.{rowOf, row-of, bits-held, whole-held}
 
 -- ---- integers that are held as they are
 
@@ -88,28 +89,36 @@ module _ (n : ℕ) (line : HeldLine) where
   unfolding outsideWord
   word-tame e m h q s = fine-word 3 m (Sort.Float q) e h s
 
-  module _ (row-is : line .row ≡ rowOf Kind.Label) where
-    between : (r m low high : ℕ) (s : Sort) → m < 5 → sortAt 5 m ≡ s → outsideHeld r n line ≡ false
-        → (outsideWord r n s (wordOf line m) ≡ false → beyond low high (wordOf line m) ≡ false) → Between low high (wordOf line m)
-    between r m low high s h is e so =
-        let w = wordOf line m in
-        let t = or-false-both (ltb w low) (ltb high w) (so (fine-word r m s e h (ap (λ (k : ℕ). sortAt k m) row-is ∙ is))) in
-        (ltb-false w low (t .0), ltb-false high w (t .1))
+  between : (r m low high : ℕ) (s : Sort) → m < 5 → sortAt (line .row) m ≡ s → outsideHeld r n line ≡ false
+      → (outsideWord r n s (wordOf line m) ≡ false → beyond low high (wordOf line m) ≡ false) → Between low high (wordOf line m)
+  between r m low high s h is e so =
+      let w = wordOf line m in
+      let t = or-false-both (ltb w low) (ltb high w) (so (fine-word r m s e h is)) in
+      (ltb-false w low (t .0), ltb-false high w (t .1))
 
-    pub side-word : (m : ℕ) → m < 5 → sortAt 5 m ≡ Sort.Whole 4 999936 1000063 → outsideHeld 4 n line ≡ false → Between 999936 1000063 (wordOf line m)
+  -- a line of a kind whose first number is a corner's
+  module _ (kind : Kind) (row-is : line .row ≡ rowOf kind) (first : sortAt (rowOf kind) 0 ≡ Sort.Corner) where
+    corner-word : outsideHeld 5 n line ≡ false → Between 1000000 (999999 + n) (wordOf line 0)
     unfolding outsideWord
-    side-word m h is e = between 4 m 999936 1000063 _ h is e (λ f. f)
+    corner-word e = between 5 0 1000000 (999999 + n) Sort.Corner (omega arith) (ap (λ (k : ℕ). sortAt k 0) row-is ∙ first) e (λ f. f)
 
-    pub corner-word : outsideHeld 5 n line ≡ false → Between 1000000 (999999 + n) (wordOf line 0)
-    unfolding outsideWord sortAt sortOf rowAt rows
-    corner-word e = between 5 0 1000000 (999999 + n) Sort.Corner (omega arith) refl e (λ f. f)
+    pub corner-known : outsideHeld 5 n line ≡ false → countIn (wordOf line 0) < n
+    corner-known e = let b = corner-word e in rw (le-ltb (wordOf line 0) 1000000 (b .0)) (omega arith)
+
+  module _ (row-is : line .row ≡ rowOf Kind.Label) where
+    side-word : (m : ℕ) → m < 5 → sortAt 5 m ≡ Sort.Whole 4 999936 1000063 → outsideHeld 4 n line ≡ false → Between 999936 1000063 (wordOf line m)
+    unfolding outsideWord
+    side-word m h is e = between 4 m 999936 1000063 _ h (ap (λ (k : ℕ). sortAt k m) row-is ∙ is) e (λ f. f)
 
     pub label-on : outsideHeld 4 n line ≡ false → OnSheet (labelIn (line .values) .cell)
     unfolding onSheet sortAt sortOf rowAt rows
     label-on e = subst T (sym (ap₂ _&&_ (side-on _ (side-word 1 (omega arith) refl e)) (side-on _ (side-word 2 (omega arith) refl e)))) tt
 
-    pub label-known : outsideHeld 5 n line ≡ false → labelIn (line .values) .corner < n
-    label-known e = let b = corner-word e in rw (le-ltb (wordOf line 0) 1000000 (b .0)) (omega arith)
+  pub kind-known : line .row ≡ rowOf Kind.Shade → outsideHeld 1 n line ≡ false → shadeIn (line .values) .kind ≤ 1
+  unfolding outsideWord sortAt sortOf rowAt rows
+  kind-known row-is e =
+      let b = between 1 1 1000000 1000001 (Sort.Whole 1 1000000 1000001) (omega arith) (ap (λ (k : ℕ). sortAt k 1) row-is) e (λ f. f) in
+      rw (le-ltb (wordOf line 1) 1000000 (b .0)) (omega arith)
 
 -- ---- how many corners are given is asked only of a corner's number
 
@@ -149,23 +158,33 @@ PassTame bare-fill = Unit {0}
 PassTame (fill s f r) = Tame Quantity.Multiple s × (Tame Quantity.Factor f × UpTo 64 r)
 PassTame (local s f r g d) = Tame Quantity.Multiple s × (Tame Quantity.Factor f × (UpTo 64 r × (Tame Quantity.Multiple g × UpTo 4 d)))
 
+-- the refusals of ranges are not asked of a corner's number
+module _
+    (n : ℕ) (l : Line) (p : Proper l) (r : ℕ) (not-5 : eqb r 5 ≡ false) (fine : outsideLine r n l ≡ false) (kind : Kind) (e : kindOf l ≡ kind) (m : ℕ)
+    (h : m < 5) where
+  held-fine : outsideHeld r n (heldLine l) ≡ false
+  held-fine = outside-is r n l (λ f. absurd (true≢false (sym f ∙ not-5))) p ∙ fine
+
+  sort-is : {s : Sort} → sortAt (rowOf kind) m ≡ s → sortAt (l .row) m ≡ s
+  sort-is is = ap (λ (k : ℕ). sortAt k m) (row-of (l .row) kind (p .few) e) ∙ is
+
+  count-at : (high : ℕ) → ranged 1000000 high ≡ true → sortAt (rowOf kind) m ≡ Sort.Whole r 1000000 high
+      → getD (slotsOf (formAt (rowOf kind))) m true ≡ false → wildWhole (pos 0) (unheldWhole high) (wholeAt m (l .numbers)) ≡ false
+  unfolding outsideWord unheldWhole
+  count-at high g s slot =
+      sym (beyond-is 1000000 high (wholeAt m (l .numbers)) g) ∙ sym (ap (beyond 1000000 high) (whole-held l p kind e m h slot))
+      ∙ (rw (eq-eqb r r refl) at (fine-word n (heldLine l) r m (Sort.Whole r 1000000 high) held-fine h (sort-is s)))
+
 module _ (n : ℕ) (l : Line) (p : Proper l) (fine : outsideLine 3 n l ≡ false) where
   module _ (kind : Kind) (e : kindOf l ≡ kind) (m : ℕ) (h : m < 5) where
-    held-fine : outsideHeld 3 n (heldLine l) ≡ false
-    held-fine = outside-is 3 n l (λ f. absurd (true≢false (sym f))) p ∙ fine
-
-    sort-is : {s : Sort} → sortAt (rowOf kind) m ≡ s → sortAt (l .row) m ≡ s
-    sort-is is = ap (λ (k : ℕ). sortAt k m) (row-of (l .row) kind (p .few) e) ∙ is
-
     tame : (q : Quantity) → sortAt (rowOf kind) m ≡ Sort.Float q → getD (slotsOf (formAt (rowOf kind))) m true ≡ true → Tame q (bitsAt m (l .numbers))
-    tame q s slot = sym (ap (wildBits q) (bits-held l p kind e m h slot)) ∙ word-tame n (heldLine l) held-fine m h q (sort-is s)
+    tame q s slot =
+        sym (ap (wildBits q) (bits-held l p kind e m h slot))
+        ∙ word-tame n (heldLine l) (held-fine n l p 3 refl fine kind e m h) m h q (sort-is n l p 3 refl fine kind e m h s)
 
     count : (high : ℕ) → ranged 1000000 high ≡ true → sortAt (rowOf kind) m ≡ Sort.Whole 3 1000000 high → getD (slotsOf (formAt (rowOf kind))) m true ≡ false
         → wildWhole (pos 0) (unheldWhole high) (wholeAt m (l .numbers)) ≡ false
-    unfolding outsideWord unheldWhole
-    count high r s slot =
-        sym (beyond-is 1000000 high (wholeAt m (l .numbers)) r) ∙ sym (ap (beyond 1000000 high) (whole-held l p kind e m h slot))
-        ∙ fine-word n (heldLine l) 3 m (Sort.Whole 3 1000000 high) held-fine h (sort-is s)
+    count = count-at n l p 3 refl fine kind e m h
 
   pub cell-said : kindOf l ≡ Kind.Opening OpeningKind.CellSize → Tame Quantity.CellSize (bitsAt 0 (l .numbers))
   unfolding sortAt sortOf slotsOf formAt rowAt rows
@@ -212,6 +231,31 @@ module _ (n : ℕ) (l : Line) (p : Proper l) (fine : outsideLine 3 n l ≡ false
         ),
       )
 
+-- ---- the corner of a label or a shade
+
+-- one of n corners, held as it is
+pub record CornerHeld (n : ℕ) (z : ℤ) (k : ℕ) : Type 0 where
+  pub is-corner : z ≡ pos (natAbs z)
+  pub given : natAbs z < n
+  pub held-so : k ≡ natAbs z
+
+pub corner-exact : (n : ℕ) (l : Line) → Proper l → (kind : Kind) → kindOf l ≡ kind → sortAt (rowOf kind) 0 ≡ Sort.Corner
+    → getD (slotsOf (formAt (rowOf kind))) 0 true ≡ false → n ≤ 1024 → outsideLine 5 n l ≡ false
+    → CornerHeld n (wholeAt 0 (l .numbers)) (countIn (getD (heldUpTo 5 (l .numbers)) 0 0))
+corner-exact n l p kind e first slot few known =
+    let z = wholeAt 0 (l .numbers) in
+    let row-is = row-of (l .row) kind (p .few) e in
+    let fine = outside-held 5 n l few p ∙ known in
+    let held = whole-held l p kind e 0 (omega arith) slot in
+    let b = corner-word n (heldLine l) kind row-is first fine in
+    let is = count-exact z (omega (arith, held, b .0)) (omega (arith, held, b .1)) in
+    let so : countIn (getD (heldUpTo 5 (l .numbers)) 0 0) ≡ natAbs z = ap countIn held ∙ sym (ap natAbs is) in
+    record {
+      is-corner = is ∙ ap pos (sym (ap natAbs is));
+      given = subst (λ (k : ℕ). k < n) so (corner-known n (heldLine l) kind row-is first fine);
+      held-so = so;
+    }
+
 -- ---- a label
 
 -- a label on the sheet and of one of n corners, held as it is
@@ -223,26 +267,51 @@ pub record LabelHeld (n : ℕ) (l : LabelLine) (h : HeldLabel) : Type 0 where
 
 pub label-exact : (n : ℕ) (l : Line) → Proper l → kindOf l ≡ Kind.Label → n ≤ 1024 → outsideLine 4 n l ≡ false → outsideLine 5 n l ≡ false
     → LabelHeld n (labelLineOf (l .numbers)) (labelIn (heldUpTo 5 (l .numbers)))
-unfolding slotsOf formAt sortAt sortOf rowAt rows heldUpTo held wholeAt
-label-exact n l p e few off stranger =
-    go (kind-slots l p Kind.Label e) (at-row 4 (outside-held 4 n l few p ∙ off)) (at-row 5 (outside-held 5 n l few p ∙ stranger))
-  where
-    at-row : (r : ℕ) → outsideHeld r n (heldLine l) ≡ false → outsideHeld r n (record { row = 5; values = heldUpTo 5 (l .numbers) }) ≡ false
-    at-row r f = sym (ap (λ (k : ℕ). outsideHeld r n (record { row = k; values = heldUpTo 5 (l .numbers) })) (row-of (l .row) Kind.Label (p .few) e)) ∙ f
+unfolding slotsOf formAt sortAt sortOf rowAt rows
+label-exact n l p e few off known =
+    let row-is = row-of (l .row) Kind.Label (p .few) e in
+    let fine = outside-held 4 n l few p ∙ off in
+    let c = corner-exact n l p Kind.Label e refl refl few known in
+    let held = whole-held l p Kind.Label e in
+    let b = side-word n (heldLine l) row-is in
+    let i = b 1 (omega arith) refl fine in
+    let j = b 2 (omega arith) refl fine in
+    let signed : ℕ → ℤ = λ w. pos (min 2000000 w) -ℤ pos 1000000 in
+    let i-held = held 1 (omega arith) refl in
+    let j-held = held 2 (omega arith) refl in
+    let i-is = ap signed i-held ∙ side (wholeAt 1 (l .numbers)) (omega (arith, i-held, i .0)) (omega (arith, i-held, i .1)) in
+    let j-is = ap signed j-held ∙ side (wholeAt 2 (l .numbers)) (omega (arith, j-held, j .0)) (omega (arith, j-held, j .1)) in
+    let so : labelIn (heldUpTo 5 (l .numbers)) ≡ record { corner = natAbs (wholeAt 0 (l .numbers)); cell = labelLineOf (l .numbers) .cell } =
+    λ t. record { corner = c .held-so t; cell = record { i = i-is t; j = j-is t } } in
+    record {
+      on-sheet = subst OnSheet (ap (λ (x : HeldLabel). x .cell) so) (label-on n (heldLine l) row-is fine);
+      is-corner = c .is-corner;
+      given = c .given;
+      held-so = so;
+    }
 
-    go : {ns : List Number} → OfSlots (false ∷ false ∷ false ∷ []) ns → outsideHeld 4 n (record { row = 5; values = heldUpTo 5 ns }) ≡ false
-        → outsideHeld 5 n (record { row = 5; values = heldUpTo 5 ns }) ≡ false → LabelHeld n (labelLineOf ns) (labelIn (heldUpTo 5 ns))
-    go (whole-first a (whole-first b (whole-first c no-number))) f g =
-        let line : HeldLine = record { row = 5; values = heldWhole a ∷ heldWhole b ∷ heldWhole c ∷ 0 ∷ 0 ∷ [] } in
-        let i = side-word n line refl 1 (omega arith) refl f in
-        let j = side-word n line refl 2 (omega arith) refl f in
-        let k = corner-word n line refl g in
-        let is = count-exact a (k .0) (omega arith) in
-        let so : labelIn (line .values) ≡ record { corner = natAbs a; cell = record { i = b; j = c } } =
-        λ t. record { corner = sym (ap natAbs is) t; cell = record { i = side b (omega arith) (omega arith) t; j = side c (omega arith) (omega arith) t } } in
-        record {
-          on-sheet = subst OnSheet (ap (λ (x : HeldLabel). x .cell) so) (label-on n line refl f);
-          is-corner = is ∙ ap pos (sym (ap natAbs is));
-          given = subst (λ (m : ℕ). m < n) (ap (λ (x : HeldLabel). x .corner) so) (label-known n line refl g);
-          held-so = so;
-        }
+-- ---- a shade
+
+-- the kind of a shade, 0 or 1, held as it is
+pub record KindHeld (z : ℤ) (k : ℕ) : Type 0 where
+  pub is-kind : z ≡ pos (natAbs z)
+  pub small : natAbs z ≤ 1
+  pub held-so : k ≡ natAbs z
+
+pub shade-corner : (n : ℕ) (l : Line) → Proper l → kindOf l ≡ Kind.Shade → n ≤ 1024 → outsideLine 5 n l ≡ false
+    → CornerHeld n (shadeLineOf (l .numbers) .corner) (shadeIn (heldUpTo 5 (l .numbers)) .corner)
+unfolding slotsOf formAt sortAt sortOf rowAt rows
+shade-corner n l p e few known = corner-exact n l p Kind.Shade e refl refl few known
+
+pub shade-kind : (n : ℕ) (l : Line) → Proper l → kindOf l ≡ Kind.Shade → outsideLine 1 n l ≡ false
+    → KindHeld (shadeLineOf (l .numbers) .kind) (shadeIn (heldUpTo 5 (l .numbers)) .kind)
+unfolding slotsOf formAt sortAt sortOf rowAt rows unheldWhole
+shade-kind n l p e first =
+    let z = wholeAt 1 (l .numbers) in
+    let tame = count-at n l p 1 refl first Kind.Shade e 1 (omega arith) 1000001 refl refl refl in
+    let c = counted 1 z tame in
+    record {
+      is-kind = c .is ∙ ap pos (sym (ap natAbs (c .is)));
+      small = subst (λ (k : ℕ). k ≤ 1) (sym (ap natAbs (c .is))) (c .small);
+      held-so = ap countIn (whole-held l p Kind.Shade e 1 (omega arith) refl) ∙ tame-count 1 z (omega arith) tame;
+    }

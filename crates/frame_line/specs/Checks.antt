@@ -22,7 +22,8 @@ wildBits q b = outside q (ofBits binary32 b)
 abbrev pub wildWhole : ℤ → ℤ → ℤ → Bool
 wildWhole low high z = not (leZ low z && leZ z high)
 
--- the refusal of a sort: "number non-finite or out of range" (3), "label's cell outside" (4), "label's corner not given" (5)
+-- the refusal of a sort: "number non-finite or out of range" (3), "label's cell outside" (4), "label's corner not given" (5); of a shade, "a k
+-- other than 0 or 1 is number 1, .. an unknown corner 5"
 abbrev pub refusalOf : Sort → ℕ
 refusalOf Sort.Nothing = 0
 refusalOf (Sort.Float q) = 3

@@ -16,6 +16,7 @@ use Rattle.frame_line.specs.Checks.{wildBits, refusalOf}
 use Rattle.frame_line.specs.declared.Sort.{Sort}
 use Rattle.frame_line.specs.declared.HeldLine.{HeldLine}
 use Rattle.frame_line.specs.declared.HeldLabel.{HeldLabel}
+use Rattle.frame_line.specs.declared.HeldShade.{HeldShade}
 
 abbrev pub heldLine : Line → HeldLine
 heldLine l = record { row = l .row; values = heldUpTo 5 (l .numbers) }
@@ -35,6 +36,9 @@ cellIn i j = record { i = pos (min (2 * offset) i) -ℤ pos offset; j = pos (min
 
 abbrev pub labelIn : List ℕ → HeldLabel
 labelIn v = record { corner = countIn (getD v 0 0); cell = cellIn (getD v 1 0) (getD v 2 0) }
+
+abbrev pub shadeIn : List ℕ → HeldShade
+shadeIn v = record { corner = countIn (getD v 0 0); kind = countIn (getD v 1 0) }
 
 -- ---- the checks of the words
 

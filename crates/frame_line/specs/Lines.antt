@@ -100,6 +100,14 @@ pub record LabelLine : Type 0 where
 abbrev pub labelLineOf : List Number → LabelLine
 labelLineOf ns = record { corner = wholeAt 0 ns; cell = record { i = wholeAt 1 ns; j = wholeAt 2 ns } }
 
+-- "lines `(shade n k)`, corner n having kind k"
+pub record ShadeLine : Type 0 where
+  pub corner : ℤ
+  pub kind : ℤ
+
+abbrev pub shadeLineOf : List Number → ShadeLine
+shadeLineOf ns = record { corner = wholeAt 0 ns; kind = wholeAt 1 ns }
+
 -- `(grow search factor boundary)`, `(fill search factor rounds)`, `(local search factor rounds residual depth)`, and the bare ones
 pub data PassLine : Type 0 where
   bare-grow : PassLine

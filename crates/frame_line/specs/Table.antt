@@ -13,29 +13,31 @@ use Rattle.frame_line.specs.declared.PassKind.{PassKind}
 use Rattle.frame_line.specs.declared.Sort.{Sort}
 use Rattle.frame_line.specs.declared.Turn.{Turn}
 
--- "Lines, in order: frame, cell, axes (of i, then of j), band, corners (position, pitch; numbered from 0), labels (corner, cell), passes".
+-- "Lines, in order: frame, cell, axes (of i, then of j), band, corners (position, pitch; numbered from 0), labels (corner, cell), passes"; and of
+-- document 02, 1/14: "After the labels a frame may hold lines `(shade n k)`, corner n having kind k, 0 or 1".
 -- A row: for each stage before the line, the stage behind it, or . where the line may not come; a letter for each of its numbers; its form.
--- The stages: 0 to 3 frame, cell, axes, band must come; 4 corners; 5 labels; 6 passes.
+-- The stages: 0 to 3 frame, cell, axes, band must come; 4 corners; 5 labels; 6 shades; 7 passes.
 unfoldable pub rows : List (List ℕ)
 rows =
-    bytes "1...... ..... (frame 1)\n"
-    ∷ bytes ".2..... c.... (cell %)\n"
-    ∷ bytes "..3.... aaaa. (axes (% %) (% %))\n"
-    ∷ bytes "...4... b.... (band %)\n"
-    ∷ bytes "....4.. xxp.. (corner (% %) %)\n"
-    ∷ bytes "....55. nii.. (label # (# #))\n"
-    ∷ bytes "....666 ..... (grow)\n"
-    ∷ bytes "....666 mfm.. (grow % % %)\n"
-    ∷ bytes "....666 ..... (fill)\n"
-    ∷ bytes "....666 mfr.. (fill % % #)\n"
-    ∷ bytes "....666 mfrmd (local % % # % #)\n"
+    bytes "1....... ..... (frame 1)\n"
+    ∷ bytes ".2...... c.... (cell %)\n"
+    ∷ bytes "..3..... aaaa. (axes (% %) (% %))\n"
+    ∷ bytes "...4.... b.... (band %)\n"
+    ∷ bytes "....4... xxp.. (corner (% %) %)\n"
+    ∷ bytes "....55.. nii.. (label # (# #))\n"
+    ∷ bytes "....7777 ..... (grow)\n"
+    ∷ bytes "....7777 mfm.. (grow % % %)\n"
+    ∷ bytes "....7777 ..... (fill)\n"
+    ∷ bytes "....7777 mfr.. (fill % % #)\n"
+    ∷ bytes "....7777 mfrmd (local % % # % #)\n"
+    ∷ bytes "....666. nk... (shade # #)\n"
     ∷ []
 
 abbrev pub rowCount : ℕ
-rowCount = 11
+rowCount = 12
 
 abbrev pub stageCount : ℕ
-stageCount = 7
+stageCount = 8
 
 abbrev pub lettersFrom : ℕ
 lettersFrom = stageCount + 1
@@ -60,6 +62,7 @@ kinds =
     ∷ Kind.Pass PassKind.BareFill
     ∷ Kind.Pass PassKind.Fill
     ∷ Kind.Pass PassKind.Local
+    ∷ Kind.Shade
     ∷ []
 
 unfoldable pub kindAt : ℕ → Kind
@@ -81,7 +84,7 @@ turnAt stage k = turnBy (getD (take stageCount (rowAt k)) stage 46)
 
 -- "The first four lines must stand; the others may be none"
 abbrev pub ends : List Bool
-ends = false ∷ false ∷ false ∷ false ∷ true ∷ true ∷ true ∷ []
+ends = false ∷ false ∷ false ∷ false ∷ true ∷ true ∷ true ∷ true ∷ []
 
 unfoldable pub mayEnd : ℕ → Bool
 mayEnd stage = getD ends stage false
@@ -89,9 +92,10 @@ mayEnd stage = getD ends stage false
 -- ---- the numbers of a row
 
 -- "Ranges, by value": a axis part, b band, c cell, f factor, m multiple (search, boundary, residual), p pitch, x position; integers as they are
--- held, `offset` higher: d depth 0 to 4, r rounds 0 to 64, both else 3; i a cell's i or j, -64 to 63, else 4; n a corner's number, else 5
+-- held, `offset` higher: d depth 0 to 4, r rounds 0 to 64, both else 3; i a cell's i or j, -64 to 63, else 4; n a corner's number, else 5; and
+-- k a shade's kind: "a k other than 0 or 1 is number 1"
 abbrev pub letters : List ℕ
-letters = bytes "abcdfimnprx"
+letters = bytes "abcdfikmnprx"
 
 abbrev pub sorts : List Sort
 sorts =
@@ -101,6 +105,7 @@ sorts =
     ∷ Sort.Whole 3 offset (offset + 4)
     ∷ Sort.Float Quantity.Factor
     ∷ Sort.Whole 4 (offset - 64) (offset + 63)
+    ∷ Sort.Whole 1 offset (offset + 1)
     ∷ Sort.Float Quantity.Multiple
     ∷ Sort.Corner
     ∷ Sort.Float Quantity.Pitch

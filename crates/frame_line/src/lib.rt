@@ -33,6 +33,7 @@ pub enum Kind {
     Opening(OpeningKind),
     Corner,
     Label,
+    Shade,
     Pass(PassKind),
 }
 
@@ -67,11 +68,17 @@ pub struct HeldLabel {
     pub cell: Cell,
 }
 
-// How many stages there are: 0 to 3, frame, cell, axes and band must come; 4 corners; 5 labels; 6 passes.
-const STAGES: usize = 7;
+// A shade's corner and kind, both held as a label's corner is.
+pub struct HeldShade {
+    pub corner: usize,
+    pub kind: u32,
+}
+
+// How many stages there are: 0 to 3, frame, cell, axes and band must come; 4 corners; 5 labels; 6 shades; 7 passes.
+const STAGES: usize = 8;
 
 // How many rows there are.
-const ROWS: usize = 11;
+const ROWS: usize = 12;
 
 // How long the front of a row is, and where the letters of its numbers start.
 const FRONT: usize = STAGES + 7;
@@ -81,20 +88,21 @@ const LETTERS: usize = STAGES + 1;
 // The table, in two columns. The front of a row has the stage behind the line for each stage before it (. where it may not come), and a
 // letter for each of its numbers.
 const FRONTS: [u8; ROWS * FRONT] = *b"\
-1...... ..... \
-.2..... c.... \
-..3.... aaaa. \
-...4... b.... \
-....4.. xxp.. \
-....55. nii.. \
-....666 ..... \
-....666 mfm.. \
-....666 ..... \
-....666 mfr.. \
-....666 mfrmd ";
+1....... ..... \
+.2...... c.... \
+..3..... aaaa. \
+...4.... b.... \
+....4... xxp.. \
+....55.. nii.. \
+....7777 ..... \
+....7777 mfm.. \
+....7777 ..... \
+....7777 mfr.. \
+....7777 mfrmd \
+....666. nk... ";
 
 // Its form.
-const FORMS: [u8; 138] = *b"\
+const FORMS: [u8; 150] = *b"\
 (frame 1)\n\
 (cell %)\n\
 (axes (% %) (% %))\n\
@@ -105,10 +113,11 @@ const FORMS: [u8; 138] = *b"\
 (grow % % %)\n\
 (fill)\n\
 (fill % % #)\n\
-(local % % # % #)\n";
+(local % % # % #)\n\
+(shade # #)\n";
 
 // Where each form starts, and the end.
-const STARTS: [usize; ROWS + 1] = [0, 10, 19, 38, 47, 64, 80, 87, 100, 107, 120, 138];
+const STARTS: [usize; ROWS + 1] = [0, 10, 19, 38, 47, 64, 80, 87, 100, 107, 120, 138, 150];
 
 // The kinds of the rows.
 const KINDS: [Kind; ROWS] = [
@@ -123,10 +132,11 @@ const KINDS: [Kind; ROWS] = [
     Kind::Pass(PassKind::BareFill),
     Kind::Pass(PassKind::Fill),
     Kind::Pass(PassKind::Local),
+    Kind::Shade,
 ];
 
 // The stages at which a frame may end.
-const ENDS: [bool; STAGES] = [false, false, false, false, true, true, true];
+const ENDS: [bool; STAGES] = [false, false, false, false, true, true, true, true];
 
 // The kind of a row.
 pub fn kind_of(row: usize) -> Kind

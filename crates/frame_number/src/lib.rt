@@ -1,4 +1,4 @@
-// The numbers of a frame's line as they are held: the refusals of each by its sort, and what the words of counts and labels say.
+// The numbers of a frame's line as they are held: the refusals of each by its sort, and what the words of counts, labels and shades say.
 ghost use mathlib.Core.Path.{_≡_};
 ghost use mathlib.Core.Bool.{cond};
 ghost use Prim.Native.Nat.{_<_, _≤_, _*_, min};
@@ -7,18 +7,22 @@ ghost use Rattle.labels.specs.Labelled.{anyBelow};
 ghost use Rattle.line_form.specs.Integers.{offset};
 ghost use Rattle.frame_line.specs.Table.{rowCount, sortOf};
 ghost use Rattle.frame_line.specs.Checks.{wildBits};
-ghost use Rattle.frame_line.specs.Held.{countIn, cellIn, labelIn, beyond, refusalIn, refusalsIn, isRefusal};
+ghost use Rattle.frame_line.specs.Held.{countIn, cellIn, labelIn, shadeIn, beyond, refusalIn, refusalsIn, isRefusal};
 use binary32::ranges::Quantity;
 use frame_line::HeldLabel;
 use frame_line::HeldLine;
+use frame_line::HeldShade;
 use frame_line::Sort;
 use line_form::OFFSET;
 use sheet::Cell;
 
-// Integers as they are held: OFFSET is 0. The limits of a depth, of rounds and of a cell's i and j; -1; the largest that is held; and 0 signed.
+// Integers as they are held: OFFSET is 0. The limits of a depth, of rounds, of a shade's kind and of a cell's i and j; -1; the largest that is held;
+// and 0 signed.
 const MOST_DEPTH: u32 = OFFSET + 4;
 
 const MOST_ROUNDS: u32 = OFFSET + 64;
+
+const MOST_KIND: u32 = OFFSET + 1;
 
 const LEAST_SIDE: u32 = OFFSET - 64;
 
@@ -41,6 +45,7 @@ fn sort_of(letter: u8) -> Sort
         b'd' => Sort::Whole(3, OFFSET, MOST_DEPTH),
         b'f' => Sort::Float(Quantity::Factor),
         b'i' => Sort::Whole(4, LEAST_SIDE, MOST_SIDE),
+        b'k' => Sort::Whole(1, OFFSET, MOST_KIND),
         b'm' => Sort::Float(Quantity::Multiple),
         b'n' => Sort::Corner,
         b'p' => Sort::Float(Quantity::Pitch),
@@ -163,4 +168,13 @@ pub fn label_of(v: [u32; 5]) -> HeldLabel
     let corner = count_of(v[0]) as usize;
     let cell = cell_of(v[1], v[2]);
     HeldLabel { corner, cell }
+}
+
+// The shade whose numbers a shade line holds.
+pub fn shade_of(v: [u32; 5]) -> HeldShade
+    ensures { λ r. ⌜ r ≡ shadeIn v ⌝ }
+{
+    let corner = count_of(v[0]) as usize;
+    let kind = count_of(v[1]);
+    HeldShade { corner, kind }
 }

@@ -12,9 +12,10 @@ use Rattle.passes.specs.Outcome.{After, Outcome, refused, done}
 use Rattle.passes.specs.Run.{Call, PassStats, growStats, fillStats, localStats, step, sheetAfter}
 use Rattle.passes.specs.declared.Counts.{Counts}
 use Rattle.passes.specs.declared.PassAnswer.{PassAnswer}
-use Rattle.count_bounds.specs.Bounds.{FewCounts, Small, small-grow, small-fill, small-local}
+use Rattle.passes.specs.declared.Unmatched.{Unmatched}
+use Rattle.count_bounds.specs.Bounds.{FewCounts, FewUnmatched, Small, small-grow, small-fill, small-local}
 use Rattle.pass_call.specs.Call.{callOf, doneAnswer, PassOut, passOut, passLeaves, SmallAnswer}
-use Rattle.report_words.specs.Asked.{withOutcome, CountsFit, AnswerFits, withAnswer}
+use Rattle.report_words.specs.Asked.{withOutcome, CountsFit, UnmatchedFits, AnswerFits, withAnswer}
 use Rattle.frame_passes.specs.Running.{passAt, callAt, noted, Left, left, leftBy, leftByAll}
 
 -- ---- one pass
@@ -22,10 +23,14 @@ use Rattle.frame_passes.specs.Running.{passAt, callAt, noted, Left, left
 few : {c : Counts} → FewCounts 1048576 c → CountsFit c
 few f = record { attached = omega (arith, f .attached); no-candidate = omega (arith, f .no-candidate); ambiguous = omega (arith, f .ambiguous); edge = omega (arith, f .edge) }
 
+few-passed : (u : Unmatched) → FewUnmatched 1073741824 u → UnmatchedFits u
+few-passed Unmatched.NoShades h = tt
+few-passed (Unmatched.Count n) h = omega arith
+
 pub small-fits : (r : PassAnswer) → SmallAnswer r → AnswerFits r
 small-fits (PassAnswer.Grow s) (small-grow f) = few f
 small-fits (PassAnswer.Fill s) (small-fill a b) = record { added = omega arith; rounds = omega arith }
-small-fits (PassAnswer.Local s) (small-local f i r) = record { counts = few f; rounds = omega arith }
+small-fits (PassAnswer.Local s) (small-local f i r u) = record { counts = few f; rounds = omega arith; unmatched = few-passed (s .unmatched) u }
 small-fits (PassAnswer.Refused r) h = tt
 
 -- what is noted of a call is what its outcome says
@@ -65,38 +70,38 @@ unfolding leftByAll
 all-run l call n k first now h g = (let e : n - k ≡ 0 = omega arith in ap (λ (m : ℕ). leftByAll l call m k now) (sym e)) ∙ g .rest
 
 -- the loop over the passes: where it goes, and the buffers as long as they were
-pub record Turning (l : CornerLists) (set : Settings) (passes : List ℕ) (n : ℕ) (sheet₀ queue₀ attached₀ words₀ sheet queue attached words : List ℕ) (k : ℕ) : Type 0 where
-  pub going : Going l (callAt set (length queue₀) (length attached₀) passes) n k (left sheet₀ words₀) (left sheet words)
+pub record Turning (l : CornerLists) (set : Settings) (shades passes : List ℕ) (n : ℕ) (sheet₀ queue₀ attached₀ words₀ sheet queue attached words : List ℕ) (k : ℕ) : Type 0 where
+  pub going : Going l (callAt set shades (length queue₀) (length attached₀) passes) n k (left sheet₀ words₀) (left sheet words)
   pub same-sheet : length sheet ≡ length sheet₀
   pub same-queue : length queue ≡ length queue₀
   pub same-attached : length attached ≡ length attached₀
   pub same-words : length words ≡ length words₀
 
-pub first-turn : (l : CornerLists) (set : Settings) (passes : List ℕ) (n : ℕ) (sheet queue attached words : List ℕ)
-    → Turning l set passes n sheet queue attached words sheet queue attached words 0
-first-turn l set passes n sheet queue attached words =
-    record { going = none-run l (callAt set (length queue) (length attached) passes) n (left sheet words); same-sheet = refl; same-queue = refl; same-attached = refl; same-words = refl }
+pub first-turn : (l : CornerLists) (set : Settings) (shades passes : List ℕ) (n : ℕ) (sheet queue attached words : List ℕ)
+    → Turning l set shades passes n sheet queue attached words sheet queue attached words 0
+first-turn l set shades passes n sheet queue attached words =
+    record { going = none-run l (callAt set shades (length queue) (length attached) passes) n (left sheet words); same-sheet = refl; same-queue = refl; same-attached = refl; same-words = refl }
 
-pub next-turn : (l : CornerLists) (set : Settings) (passes : List ℕ) (n : ℕ) (sheet₀ queue₀ attached₀ words₀ sheet queue attached words : List ℕ) (k : ℕ)
-    → Turning l set passes n sheet₀ queue₀ attached₀ words₀ sheet queue attached words k → k < n
+pub next-turn : (l : CornerLists) (set : Settings) (shades passes : List ℕ) (n : ℕ) (sheet₀ queue₀ attached₀ words₀ sheet queue attached words : List ℕ) (k : ℕ)
+    → Turning l set shades passes n sheet₀ queue₀ attached₀ words₀ sheet queue attached words k → k < n
     → (pass : Pass) → pass ≡ passAt passes k → (sheet' queue' attached' words' : List ℕ)
     → length sheet' ≡ length sheet → length queue' ≡ length queue → length attached' ≡ length attached → length words' ≡ length words
-    → left sheet' words' ≡ leftBy l (callOf set (length queue) (length attached) pass) k (left sheet words)
-    → Turning l set passes n sheet₀ queue₀ attached₀ words₀ sheet' queue' attached' words' (suc k)
-next-turn l set passes n sheet₀ queue₀ attached₀ words₀ sheet queue attached words k t h pass e sheet' queue' attached' words' a b c d f =
+    → left sheet' words' ≡ leftBy l (callOf set shades (length queue) (length attached) pass) k (left sheet words)
+    → Turning l set shades passes n sheet₀ queue₀ attached₀ words₀ sheet' queue' attached' words' (suc k)
+next-turn l set shades passes n sheet₀ queue₀ attached₀ words₀ sheet queue attached words k t h pass e sheet' queue' attached' words' a b c d f =
     record {
-      going = subst (Going l (callAt set (length queue₀) (length attached₀) passes) n (suc k) (left sheet₀ words₀)) (sym so) (one-run l (callAt set (length queue₀) (length attached₀) passes) n k (left sheet₀ words₀) (left sheet words) h (t .going));
+      going = subst (Going l (callAt set shades (length queue₀) (length attached₀) passes) n (suc k) (left sheet₀ words₀)) (sym so) (one-run l (callAt set shades (length queue₀) (length attached₀) passes) n k (left sheet₀ words₀) (left sheet words) h (t .going));
       same-sheet = a ∙ t .same-sheet;
       same-queue = b ∙ t .same-queue;
       same-attached = c ∙ t .same-attached;
       same-words = d ∙ t .same-words;
     }
   where
-    so : left sheet' words' ≡ leftBy l (callAt set (length queue₀) (length attached₀) passes k) k (left sheet words)
+    so : left sheet' words' ≡ leftBy l (callAt set shades (length queue₀) (length attached₀) passes k) k (left sheet words)
     so = f ∙ rw (e, t .same-queue, t .same-attached) refl
 
-pub last-turn : (l : CornerLists) (set : Settings) (passes : List ℕ) (n : ℕ) (sheet₀ queue₀ attached₀ words₀ sheet queue attached words : List ℕ) (k : ℕ)
-    → Turning l set passes n sheet₀ queue₀ attached₀ words₀ sheet queue attached words k → n ≤ k
-    → left sheet words ≡ leftByAll l (callAt set (length queue₀) (length attached₀) passes) n 0 (left sheet₀ words₀)
-last-turn l set passes n sheet₀ queue₀ attached₀ words₀ sheet queue attached words k t h =
-    all-run l (callAt set (length queue₀) (length attached₀) passes) n k (left sheet₀ words₀) (left sheet words) h (t .going)
+pub last-turn : (l : CornerLists) (set : Settings) (shades passes : List ℕ) (n : ℕ) (sheet₀ queue₀ attached₀ words₀ sheet queue attached words : List ℕ) (k : ℕ)
+    → Turning l set shades passes n sheet₀ queue₀ attached₀ words₀ sheet queue attached words k → n ≤ k
+    → left sheet words ≡ leftByAll l (callAt set shades (length queue₀) (length attached₀) passes) n 0 (left sheet₀ words₀)
+last-turn l set shades passes n sheet₀ queue₀ attached₀ words₀ sheet queue attached words k t h =
+    all-run l (callAt set shades (length queue₀) (length attached₀) passes) n k (left sheet₀ words₀) (left sheet words) h (t .going)

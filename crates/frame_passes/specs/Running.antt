@@ -27,10 +27,10 @@ passAt words k =
     (localOf (passWord words k 1) (passWord words k 2) (passWord words k 4) (passWord words k 3) (passWord words k 5)))
 
 -- call k of the passes that are given as words
-abbrev pub callAt : Settings → ℕ → ℕ → List ℕ → ℕ → Call
-callAt set queue attached passes k = callOf set queue attached (passAt passes k)
+abbrev pub callAt : Settings → List ℕ → ℕ → ℕ → List ℕ → ℕ → Call
+callAt set shades queue attached passes k = callOf set shades queue attached (passAt passes k)
 
--- ---- what a call leaves: the sheet, and the words of the outcomes, nine of each
+-- ---- what a call leaves: the sheet, and the words of the outcomes, eleven of each
 
 -- the outcome of call k; a refused call has none
 abbrev pub noted : List ℕ → ℕ → Outcome PassStats → List ℕ
@@ -65,7 +65,8 @@ pub record PassWords (n : ℕ) (passes : List ℕ) : Type 0 where
   pub long : allPassWords ≤ length passes
 
 -- n corners at the front of their buffers
-pub record AtFront (n : ℕ) (xs ys pitches : List Float) : Type 0 where
+pub record AtFront (n : ℕ) (xs ys pitches : List Float) (shades : List ℕ) : Type 0 where
   pub in-xs : n ≤ length xs
   pub in-ys : n ≤ length ys
   pub in-pitches : n ≤ length pitches
+  pub in-shades : n ≤ length shades

@@ -60,48 +60,69 @@ fn pass_at(passes: &[u32], k: usize) -> Pass
 
 // ---- the passes
 
+// A pass, and the frame's cell size, axes and band.
+struct FrameCall {
+    settings: Settings,
+    pass: Pass,
+}
+
 // Runs a pass, and notes its outcome as number k.
 fn run_pass(
     xs: &[f32],
     ys: &[f32],
     pitches: &[f32],
+    shades: &[u8],
     sheet: &mut [u16],
     queue: &mut [u16],
     attached: &mut [u16],
-    settings: Settings,
-    pass: Pass,
+    call: FrameCall,
     k: usize,
     words: &mut [u32],
 )
     requires { ⌜ RoomFor k (now words) ⌝ }
     ensures { λ _. ⌜ left (now (sheet .exit)) (now (words .exit))
         ≡ leftBy (cornerLists (now (xs .entry)) (now (ys .entry)) (now (pitches .entry)))
-        (callOf settings (length (now (queue .entry))) (length (now (attached .entry))) pass) k (left (now (sheet .entry)) (now (words .entry))) ⌝ }
+        (callOf (call .settings) (now (shades .entry)) (length (now (queue .entry))) (length (now (attached .entry))) (call .pass)) k
+        (left (now (sheet .entry)) (now (words .entry))) ⌝ }
 {
-    let answer = pass_call::call_pass(xs, ys, pitches, sheet, queue, attached, settings, pass);
+    let settings = call.settings;
+    let pass = call.pass;
+    let answer = pass_call::call_pass(
+        xs,
+        ys,
+        pitches,
+        shades,
+        sheet,
+        queue,
+        attached,
+        settings,
+        pass,
+    );
     report_words::put::put_outcome(words, k, answer);
 }
 
-// Runs the first n passes in order on one sheet, and notes their outcomes.
-pub fn run_passes(
+// Runs a frame's passes in order on one sheet, and notes their outcomes.
+fn run_passes(
     passes: &[u32],
-    n: usize,
     xs: &[f32],
     ys: &[f32],
     pitches: &[f32],
+    shades: &[u8],
     sheet: &mut [u16],
     queue: &mut [u16],
     attached: &mut [u16],
-    settings: Settings,
+    head: FrameHead,
     words: &mut [u32],
 )
-    requires { ⌜ PassWords n (now passes) ⌝ }
+    requires { ⌜ PassWords (head .passes) (now passes) ⌝ }
     requires { ⌜ allOutcomeWords ≤ length (now words) ⌝ }
     ensures { λ _. ⌜ left (now (sheet .exit)) (now (words .exit))
         ≡ leftByAll (cornerLists (now (xs .entry)) (now (ys .entry)) (now (pitches .entry)))
-        (callAt settings (length (now (queue .entry))) (length (now (attached .entry))) (now (passes .entry))) n 0
-        (left (now (sheet .entry)) (now (words .entry))) ⌝ }
+        (callAt (head .settings) (now (shades .entry)) (length (now (queue .entry))) (length (now (attached .entry))) (now (passes .entry)))
+        (head .passes) 0 (left (now (sheet .entry)) (now (words .entry))) ⌝ }
 {
+    let settings = head.settings;
+    let n = head.passes;
     let mut k = 0usize;
     while k < n {
         let pass = pass_at(passes, k);
@@ -109,11 +130,11 @@ pub fn run_passes(
             xs,
             ys,
             pitches,
+            shades,
             sheet,
             queue,
             attached,
-            settings,
-            pass,
+            FrameCall { settings, pass },
             k,
             words,
         );
@@ -129,6 +150,7 @@ pub fn run_frame(
     xs: &[f32],
     ys: &[f32],
     pitches: &[f32],
+    shades: &[u8],
     sheet: &mut [u16],
     queue: &mut [u16],
     attached: &mut [u16],
@@ -136,24 +158,25 @@ pub fn run_frame(
     words: &mut [u32],
 )
     requires { ⌜ PassWords (head .passes) (now passes) ⌝ }
-    requires { ⌜ AtFront (head .corners) (now xs) (now ys) (now pitches) ⌝ }
+    requires { ⌜ AtFront (head .corners) (now xs) (now ys) (now pitches) (now shades) ⌝ }
     requires { ⌜ allOutcomeWords ≤ length (now words) ⌝ }
     ensures { λ _. ⌜ left (now (sheet .exit)) (now (words .exit))
         ≡ leftByAll (cornerLists (take (head .corners) (now (xs .entry))) (take (head .corners) (now (ys .entry)))
-        (take (head .corners) (now (pitches .entry)))) (callAt (head .settings) (length (now (queue .entry))) (length (now (attached .entry)))
-        (now (passes .entry))) (head .passes) 0 (left (now (sheet .entry)) (now (words .entry))) ⌝ }
+        (take (head .corners) (now (pitches .entry)))) (callAt (head .settings) (take (head .corners) (now (shades .entry)))
+        (length (now (queue .entry))) (length (now (attached .entry))) (now (passes .entry))) (head .passes) 0
+        (left (now (sheet .entry)) (now (words .entry))) ⌝ }
 {
     let n = head.corners;
     run_passes(
         passes,
-        head.passes,
         &xs[..n],
         &ys[..n],
         &pitches[..n],
+        &shades[..n],
         sheet,
         queue,
         attached,
-        head.settings,
+        head,
         words,
     );
 }

@@ -9,7 +9,7 @@ use Rattle.binary32.specs.declared.ranges.Quantity.{Quantity}
 use Rattle.arguments.specs.declared.Settings.{Settings}
 use Rattle.binary32.proofs.Answered.{pattern}
 use Rattle.frame_line.specs.Table.{rows, rowAt, kindAt, sortOf, sortAt}
-use Rattle.frame_line.specs.Held.{labelIn, outsideHeld}
+use Rattle.frame_line.specs.Held.{labelIn, shadeIn, outsideHeld}
 use Rattle.frame_line.specs.declared.Kind.{Kind}
 use Rattle.frame_line.specs.declared.OpeningKind.{OpeningKind}
 use Rattle.frame_line.specs.declared.PassKind.{PassKind}
@@ -17,16 +17,16 @@ use Rattle.frame_line.specs.declared.Sort.{Sort}
 use Rattle.frame_line.specs.declared.HeldLine.{HeldLine}
 use Rattle.frame_line.proofs.Shapes.{rowOf, row-of}
 use Rattle.frame_line.proofs.Checking.{tame-finite}
-use Rattle.frame_line.proofs.Words.{word-tame}
-use Rattle.frame_check.specs.Checks.{overLimit, twiceHeld, checkedHeld}
-use Rattle.frame_check.proofs.Laws.{AllFine, fine-all, label-fits}
+use Rattle.frame_line.proofs.Words.{word-tame, kind-known}
+use Rattle.frame_check.specs.Checks.{overLimit, twiceHeld, checkedHeld, NumbersFine}
+use Rattle.frame_check.proofs.Laws.{AllFine, fine-all, label-fits, shade-fits}
 use Rattle.sizes.specs.Sizes.{cornerLimit, passLimit}
-use Rattle.frame_state.specs.State.{Tame, TameOpening, CornerFits, LabelRoom, Arrays, Addable}
+use Rattle.frame_state.specs.State.{Tame, TameOpening, CornerFits, LabelRoom, ShadeFits, Arrays, Addable}
 use Rattle.frame_state.specs.declared.Progress.{Progress}
 use Rattle.frame_state.specs.declared.PassWords.{PassWords}
 
 module _ {p : Progress} {a : Arrays} {line : HeldLine} (f : Addable p a line) where
-  fine : AllFine (λ r. outsideHeld r (p .corners) line) (overLimit (p .corners) (p .passes) (kindAt (line .row))) (twiceHeld (a .sheet) (a .used) line)
+  fine : AllFine (λ r. outsideHeld r (p .corners) line) (overLimit (p .corners) (p .passes) (kindAt (line .row))) (twiceHeld (a .shades) (a .sheet) (a .used) line)
   unfolding checkedHeld
   fine = fine-all (λ r. outsideHeld r (p .corners) line) _ _ (f .fine)
 
@@ -61,8 +61,18 @@ module _ {p : Progress} {a : Arrays} {line : HeldLine} (f : Addable p a line) wh
         pitch = tame-at Kind.Corner e 2 Quantity.Pitch (omega arith) refl;
       }
 
+  numbers-fine : NumbersFine (p .corners) line
+  numbers-fine = record { fits = f .fits; on = fine .on; known = fine .known }
+
   pub label-room : kindAt (line .row) ≡ Kind.Label → LabelRoom (a .sheet) (labelIn (line .values))
-  label-room e = record { long = f .long; fits = label-fits (p .corners) line (record { fits = f .fits; on = fine .on; known = fine .known }) e }
+  label-room e = record { long = f .long; fits = label-fits (p .corners) line numbers-fine e }
+
+  pub shade-room : kindAt (line .row) ≡ Kind.Shade → ShadeFits (shadeIn (line .values))
+  shade-room e =
+      record {
+        entry = shade-fits (p .corners) line numbers-fine e;
+        small = kind-known (p .corners) line (row-of (line .row) Kind.Shade (f .fits .row-fits) e) (fine .first);
+      }
 
   pub pass-fits : (k : PassKind) → kindAt (line .row) ≡ Kind.Pass k → p .passes < passLimit
   unfolding overLimit

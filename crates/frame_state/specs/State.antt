@@ -3,7 +3,7 @@
 use mathlib.Core.Path.{_≡_}
 use mathlib.Core.Bool.{not}
 use mathlib.Core.List.{List, [], _∷_}
-use Prim.Native.Nat.{ℕ, _+_, _*_, _<_}
+use Prim.Native.Nat.{ℕ, _+_, _*_, _<_, _≤_}
 use lib.Dec.{T}
 use lib.ListN.{length, getD, set}
 use lib.Ieee.{Float, binary32, ofBits, nanBits}
@@ -14,12 +14,13 @@ use Rattle.predict.specs.declared.Vector.{Vector}
 use Rattle.arguments.specs.declared.Settings.{Settings}
 use Rattle.arguments.specs.declared.Checked.{Checked}
 use Rattle.frame_line.specs.Table.{kindAt}
-use Rattle.frame_line.specs.Held.{countIn, labelIn}
+use Rattle.frame_line.specs.Held.{countIn, labelIn, shadeIn}
 use Rattle.frame_line.specs.declared.Kind.{Kind}
 use Rattle.frame_line.specs.declared.OpeningKind.{OpeningKind}
 use Rattle.frame_line.specs.declared.PassKind.{PassKind}
 use Rattle.frame_line.specs.declared.HeldLabel.{HeldLabel}
 use Rattle.frame_line.specs.declared.HeldLine.{HeldLine}
+use Rattle.frame_line.specs.declared.HeldShade.{HeldShade}
 use Rattle.frame_check.specs.Checks.{checkedHeld, LabelFits, LineFits}
 use Rattle.frame_state.specs.declared.Progress.{Progress}
 use Rattle.frame_state.specs.declared.PassWords.{PassWords}
@@ -133,6 +134,17 @@ pub record LabelPut (l : HeldLabel) (sheet used sheet' used' : List ℕ) : Type 
   pub sheet-is : sheet' ≡ attached sheet (l .cell) (l .corner)
   pub used-is : used' ≡ set used (l .corner) 1
 
+-- ---- a shade
+
+-- its corner has an entry, and its kind is 0 or 1
+pub record ShadeFits (s : HeldShade) : Type 0 where
+  pub entry : s .corner < cornerLimit
+  pub small : s .kind ≤ 1
+
+-- the entry of its corner is 1 more than its kind, as shades are lent
+abbrev pub shadePut : HeldShade → List ℕ → List ℕ
+shadePut s shades = set shades (s .corner) (s .kind + 1)
+
 -- ---- a pass
 
 abbrev pub growWords : List ℕ → PassWords
@@ -164,12 +176,14 @@ pub record Arrays : Type 0 where
   pub xs : List Float
   pub ys : List Float
   pub pitches : List Float
+  pub shades : List ℕ
   pub sheet : List ℕ
   pub used : List ℕ
   pub passes : List ℕ
 
-abbrev pub arrays : List Float → List Float → List Float → List ℕ → List ℕ → List ℕ → Arrays
-arrays xs ys pitches sheet used passes = record { xs = xs; ys = ys; pitches = pitches; sheet = sheet; used = used; passes = passes }
+abbrev pub arrays : List Float → List Float → List Float → List ℕ → List ℕ → List ℕ → List ℕ → Arrays
+arrays xs ys pitches shades sheet used passes =
+    record { xs = xs; ys = ys; pitches = pitches; shades = shades; sheet = sheet; used = used; passes = passes }
 
 pub record State : Type 0 where
   pub progress : Progress
@@ -180,7 +194,7 @@ state p a = record { progress = p; held = a }
 
 -- a line can be added: it passed its checks, and the corners before it are few enough
 pub record Addable (p : Progress) (a : Arrays) (line : HeldLine) : Type 0 where
-  pub fine : checkedHeld (p .corners) (p .passes) (a .sheet) (a .used) line ≡ Checked.Fine
+  pub fine : checkedHeld (p .corners) (p .passes) (a .shades) (a .sheet) (a .used) line ≡ Checked.Fine
   pub fits : LineFits (p .corners) line
   pub long : length (a .sheet) ≡ placeCount
 
@@ -191,14 +205,20 @@ addsAs Kind.Corner v s =
     let n = s .progress .corners in
     let h = s .held in
     state (withCorner (s .progress))
-    (arrays (set (h .xs) n (floatOf (getD v 0 0))) (set (h .ys) n (floatOf (getD v 1 0))) (set (h .pitches) n (floatOf (getD v 2 0))) (h .sheet) (h .used) (h .passes))
+    (arrays (set (h .xs) n (floatOf (getD v 0 0))) (set (h .ys) n (floatOf (getD v 1 0))) (set (h .pitches) n (floatOf (getD v 2 0))) (h .shades) (h .sheet)
+    (h .used) (h .passes))
 addsAs Kind.Label v s =
     let h = s .held in
     let l = labelIn v in
-    state (s .progress) (arrays (h .xs) (h .ys) (h .pitches) (attached (h .sheet) (l .cell) (l .corner)) (set (h .used) (l .corner) 1) (h .passes))
+    state (s .progress)
+    (arrays (h .xs) (h .ys) (h .pitches) (h .shades) (attached (h .sheet) (l .cell) (l .corner)) (set (h .used) (l .corner) 1) (h .passes))
+addsAs Kind.Shade v s =
+    let h = s .held in
+    state (s .progress) (arrays (h .xs) (h .ys) (h .pitches) (shadePut (shadeIn v) (h .shades)) (h .sheet) (h .used) (h .passes))
 addsAs (Kind.Pass p) v s =
     let h = s .held in
-    state (withPass (s .progress)) (arrays (h .xs) (h .ys) (h .pitches) (h .sheet) (h .used) (wordsPut (s .progress .passes) (wordsIn p v) (h .passes)))
+    state (withPass (s .progress))
+    (arrays (h .xs) (h .ys) (h .pitches) (h .shades) (h .sheet) (h .used) (wordsPut (s .progress .passes) (wordsIn p v) (h .passes)))
 
 abbrev pub adds : HeldLine → State → State
 adds line s = addsAs (kindAt (line .row)) (line .values) s

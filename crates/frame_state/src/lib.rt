@@ -1,12 +1,13 @@
-// What a frame's lines have said so far, and one line added to it. Corners, labels and passes are held in arrays of the reader's own.
+// What a frame's lines have said so far, and one line added to it. Corners, shades, labels and passes are held in arrays of the reader's own.
 
 ghost use mathlib.Core.Path.{_≡_};
 ghost use Prim.Native.Nat.{_<_};
 ghost use Rattle.sizes.specs.Sizes.{cornerLimit, passLimit};
-ghost use Rattle.frame_state.specs.State.{Tame, TameAxes, nothing-said, atStage, withCellSize, withAxes, withBand, TameOpening, withOpening, withSettings, withCorner, withPass, CornerFits, CornerPut, LabelRoom, LabelPut, growWords, fillWords, localWords, wordsIn, wordsPut, arrays, state, Addable, adds};
+ghost use Rattle.frame_state.specs.State.{Tame, TameAxes, nothing-said, atStage, withCellSize, withAxes, withBand, TameOpening, withOpening, withSettings, withCorner, withPass, CornerFits, CornerPut, LabelRoom, LabelPut, ShadeFits, shadePut, growWords, fillWords, localWords, wordsIn, wordsPut, arrays, state, Addable, adds};
 use arguments::Settings;
 use frame_line::HeldLabel;
 use frame_line::HeldLine;
+use frame_line::HeldShade;
 use frame_line::Kind;
 use frame_line::OpeningKind;
 use frame_line::PassKind;
@@ -209,6 +210,15 @@ fn put_label(sheet: &mut [u16; PLACES], used: &mut [u8; USED], label: HeldLabel)
     used[corner] = 1;
 }
 
+// A shade is written: 1 more than its kind to the entry of its corner.
+fn put_shade(shades: &mut [u8; CORNERS], shade: HeldShade)
+    requires { ⌜ ShadeFits shade ⌝ }
+    ensures { λ _. ⌜ now (shades .exit) ≡ shadePut shade (now (shades .entry)) ⌝ }
+{
+    let corner = shade.corner;
+    shades[corner] = (shade.kind + 1) as u8;
+}
+
 // The numbers of bare grow, 0.35, 1.5 and 2.0, and of bare fill, 0.35, 1.5 and 1, as they are held.
 const BARE_GROW: [u32; 5] = [0x3eb3_3333, 0x3fc0_0000, 0x4000_0000, 0, 0];
 
@@ -286,13 +296,16 @@ pub fn add_line(
     xs: &mut [f32; CORNERS],
     ys: &mut [f32; CORNERS],
     pitches: &mut [f32; CORNERS],
+    shades: &mut [u8; CORNERS],
     sheet: &mut [u16; PLACES],
     used: &mut [u8; USED],
     passes: &mut [u32; ALL_PASS_WORDS],
     line: HeldLine,
 ) -> Progress
-    requires { ⌜ Addable p (arrays (now xs) (now ys) (now pitches) (now sheet) (now used) (now passes)) line ⌝ }
-    ensures { λ r. ⌜ state r (arrays (now (xs .exit)) (now (ys .exit)) (now (pitches .exit)) (now (sheet .exit)) (now (used .exit)) (now (passes .exit))) ≡ adds line (state p (arrays (now (xs .entry)) (now (ys .entry)) (now (pitches .entry)) (now (sheet .entry)) (now (used .entry)) (now (passes .entry)))) ⌝ }
+    requires { ⌜ Addable p (arrays (now xs) (now ys) (now pitches) (now shades) (now sheet) (now used) (now passes)) line ⌝ }
+    ensures { λ r. ⌜ state r (arrays (now (xs .exit)) (now (ys .exit)) (now (pitches .exit)) (now (shades .exit)) (now (sheet .exit)) (now (used .exit))
+        (now (passes .exit))) ≡ adds line (state p (arrays (now (xs .entry)) (now (ys .entry)) (now (pitches .entry)) (now (shades .entry))
+        (now (sheet .entry)) (now (used .entry)) (now (passes .entry)))) ⌝ }
 {
     let kind = frame_line::kind_of(line.row);
     let v = line.values;
@@ -307,6 +320,10 @@ pub fn add_line(
         }
         Kind::Label => {
             put_label(sheet, used, frame_number::label_of(v));
+            p
+        }
+        Kind::Shade => {
+            put_shade(shades, frame_number::shade_of(v));
             p
         }
         Kind::Pass(pass) => {

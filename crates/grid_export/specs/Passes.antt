@@ -1,4 +1,4 @@
--- The three passes for another language: numbers and lent buffers in; out come 0 or the refusal's number, and in nine lent words what the pass says. Definitions only.
+-- The three passes for another language: numbers and lent buffers in; out come 0 or the refusal's number, and in eleven lent words what the pass says. Definitions only.
 use mathlib.Core.Bool.{Bool, true, false}
 use mathlib.Core.List.{List}
 use Prim.Native.Nat.{ℕ}
@@ -53,20 +53,20 @@ pub record PassLeft : Type 0 where
 abbrev pub passLeft : ℕ → List ℕ → List ℕ → List ℕ → List ℕ → PassLeft
 passLeft answer sheet queue attached out = record { answer = answer; sheet = sheet; queue = queue; attached = attached; out = out }
 
--- a refusal's number, and all as it was; or 0, what the pass leaves, and its nine words at the front of the last buffer
+-- a refusal's number, and all as it was; or 0, what the pass leaves, and its eleven words at the front of the last buffer
 abbrev pub passTold : Outcome PassStats → List ℕ → List ℕ → List ℕ → List ℕ → PassLeft
 passTold (refused r) sheet queue attached out = passLeft (numberOf r) sheet queue attached out
 passTold (done a) sheet queue attached out =
     passLeft 0 (a .sheet) (over (a .visited) queue) (over (a .attached) attached) (withOutcome out 0 (a .answer))
 
--- 7 where there is no room for nine words, before anything is tried
+-- 7 where there is no room for eleven words, before anything is tried
 abbrev pub passUnless : Bool → Outcome PassStats → List ℕ → List ℕ → List ℕ → List ℕ → PassLeft
 passUnless true o sheet queue attached out = passLeft 7 sheet queue attached out
 passUnless false o sheet queue attached out = passTold o sheet queue attached out
 
-unfoldable pub passExported : CornerLists → Settings → Pass → List ℕ → List ℕ → List ℕ → List ℕ → PassLeft
-passExported l set p sheet queue attached out =
-    passUnless (ltb (length out) outcomeSize) (step l sheet (callOf set (length queue) (length attached) p)) sheet queue attached out
+unfoldable pub passExported : CornerLists → List ℕ → Settings → Pass → List ℕ → List ℕ → List ℕ → List ℕ → PassLeft
+passExported l shades set p sheet queue attached out =
+    passUnless (ltb (length out) outcomeSize) (step l sheet (callOf set shades (length queue) (length attached) p)) sheet queue attached out
 
 -- what is answered, by what the pass answers
 abbrev pub answerNumber : PassAnswer → ℕ

@@ -1,4 +1,4 @@
-// The passes: their numbers as settings and params, 7 where there is no room for nine words, else the pass, and its outcome as nine words.
+// The passes: their numbers as settings and params, 7 where there is no room for eleven words, else the pass, and its outcome as eleven words.
 ghost use mathlib.Core.Path.{_≡_};
 ghost use Prim.Native.Nat.{_≤_};
 ghost use lib.ListN.{length};
@@ -49,11 +49,12 @@ fn settings_of(
     }
 }
 
-// A pass, with room for nine words: its outcome is put, and its refusal's number or 0 answered.
+// A pass, with room for eleven words: its outcome is put, and its refusal's number or 0 answered.
 fn run_pass(
     xs: &[f32],
     ys: &[f32],
     pitches: &[f32],
+    shades: &[u8],
     sheet: &mut [u16],
     queue: &mut [u16],
     attached: &mut [u16],
@@ -62,9 +63,22 @@ fn run_pass(
     out: &mut [u32],
 ) -> u32
     requires { ⌜ outcomeSize ≤ length (now out) ⌝ }
-    ensures { λ r. ⌜ passLeft r (now (sheet .exit)) (now (queue .exit)) (now (attached .exit)) (now (out .exit)) ≡ passTold (step (cornerLists (now (xs .entry)) (now (ys .entry)) (now (pitches .entry))) (now (sheet .entry)) (callOf settings (length (now (queue .entry))) (length (now (attached .entry))) pass)) (now (sheet .entry)) (now (queue .entry)) (now (attached .entry)) (now (out .entry)) ⌝ }
+    ensures { λ r. ⌜ passLeft r (now (sheet .exit)) (now (queue .exit)) (now (attached .exit)) (now (out .exit))
+        ≡ passTold (step (cornerLists (now (xs .entry)) (now (ys .entry)) (now (pitches .entry))) (now (sheet .entry))
+        (callOf settings (now (shades .entry)) (length (now (queue .entry))) (length (now (attached .entry))) pass))
+        (now (sheet .entry)) (now (queue .entry)) (now (attached .entry)) (now (out .entry)) ⌝ }
 {
-    let answer = pass_call::call_pass(xs, ys, pitches, sheet, queue, attached, settings, pass);
+    let answer = pass_call::call_pass(
+        xs,
+        ys,
+        pitches,
+        shades,
+        sheet,
+        queue,
+        attached,
+        settings,
+        pass,
+    );
     report_words::put::put_outcome(out, 0, answer);
     answer_number(answer)
 }
@@ -86,6 +100,7 @@ fn pass_or_short(
     xs: &[f32],
     ys: &[f32],
     pitches: &[f32],
+    shades: &[u8],
     sheet: &mut [u16],
     queue: &mut [u16],
     attached: &mut [u16],
@@ -93,20 +108,34 @@ fn pass_or_short(
     pass: Pass,
     out: &mut [u32],
 ) -> u32
-    ensures { λ r. ⌜ passLeft r (now (sheet .exit)) (now (queue .exit)) (now (attached .exit)) (now (out .exit)) ≡ passExported (cornerLists (now (xs .entry)) (now (ys .entry)) (now (pitches .entry))) settings pass (now (sheet .entry)) (now (queue .entry)) (now (attached .entry)) (now (out .entry)) ⌝ }
+    ensures { λ r. ⌜ passLeft r (now (sheet .exit)) (now (queue .exit)) (now (attached .exit)) (now (out .exit))
+        ≡ passExported (cornerLists (now (xs .entry)) (now (ys .entry)) (now (pitches .entry))) (now (shades .entry)) settings pass
+        (now (sheet .entry)) (now (queue .entry)) (now (attached .entry)) (now (out .entry)) ⌝ }
 {
     if out.len() < OUTCOME_WORDS {
         return 7;
     }
-    run_pass(xs, ys, pitches, sheet, queue, attached, settings, pass, out)
+    run_pass(
+        xs,
+        ys,
+        pitches,
+        shades,
+        sheet,
+        queue,
+        attached,
+        settings,
+        pass,
+        out,
+    )
 }
 
-// Grow. `out` takes the nine words of its outcome.
+// Grow. `out` takes the eleven words of its outcome.
 #[no_mangle]
 pub extern "C" fn projective_grid_extend_from_labelled(
     xs: &[f32],
     ys: &[f32],
     pitches: &[f32],
+    shades: &[u8],
     sheet: &mut [u16],
     queue: &mut [u16],
     attached: &mut [u16],
@@ -121,7 +150,11 @@ pub extern "C" fn projective_grid_extend_from_labelled(
     boundary_search_factor: f32,
     out: &mut [u32],
 ) -> u32
-    ensures { λ r. ⌜ passLeft r (now (sheet .exit)) (now (queue .exit)) (now (attached .exit)) (now (out .exit)) ≡ passExported (cornerLists (now (xs .entry)) (now (ys .entry)) (now (pitches .entry))) (settingsOf «cell_size» «axis_i_x» «axis_i_y» «axis_j_x» «axis_j_y» «edge_length_tol») (Pass.Grow (growParams «attach_search_rel» «attach_ambiguity_factor» «boundary_search_factor»)) (now (sheet .entry)) (now (queue .entry)) (now (attached .entry)) (now (out .entry)) ⌝ }
+    ensures { λ r. ⌜ passLeft r (now (sheet .exit)) (now (queue .exit)) (now (attached .exit)) (now (out .exit))
+        ≡ passExported (cornerLists (now (xs .entry)) (now (ys .entry)) (now (pitches .entry))) (now (shades .entry))
+        (settingsOf «cell_size» «axis_i_x» «axis_i_y» «axis_j_x» «axis_j_y» «edge_length_tol»)
+        (Pass.Grow (growParams «attach_search_rel» «attach_ambiguity_factor» «boundary_search_factor»))
+        (now (sheet .entry)) (now (queue .entry)) (now (attached .entry)) (now (out .entry)) ⌝ }
 {
     let settings = settings_of(
         cell_size,
@@ -140,6 +173,7 @@ pub extern "C" fn projective_grid_extend_from_labelled(
         xs,
         ys,
         pitches,
+        shades,
         sheet,
         queue,
         attached,
@@ -149,12 +183,13 @@ pub extern "C" fn projective_grid_extend_from_labelled(
     )
 }
 
-// Fill, which is lent no queue. `out` takes the nine words of its outcome.
+// Fill, which is lent no queue. `out` takes the eleven words of its outcome.
 #[no_mangle]
 pub extern "C" fn projective_grid_fill_grid_holes(
     xs: &[f32],
     ys: &[f32],
     pitches: &[f32],
+    shades: &[u8],
     sheet: &mut [u16],
     attached: &mut [u16],
     cell_size: f32,
@@ -168,7 +203,11 @@ pub extern "C" fn projective_grid_fill_grid_holes(
     max_iters: u32,
     out: &mut [u32],
 ) -> u32
-    ensures { λ r. ⌜ passLeft r (now (sheet .exit)) [] (now (attached .exit)) (now (out .exit)) ≡ passExported (cornerLists (now (xs .entry)) (now (ys .entry)) (now (pitches .entry))) (settingsOf «cell_size» «axis_i_x» «axis_i_y» «axis_j_x» «axis_j_y» «edge_length_tol») (Pass.Fill (fillParams «attach_search_rel» «attach_ambiguity_factor» «max_iters»)) (now (sheet .entry)) [] (now (attached .entry)) (now (out .entry)) ⌝ }
+    ensures { λ r. ⌜ passLeft r (now (sheet .exit)) [] (now (attached .exit)) (now (out .exit))
+        ≡ passExported (cornerLists (now (xs .entry)) (now (ys .entry)) (now (pitches .entry))) (now (shades .entry))
+        (settingsOf «cell_size» «axis_i_x» «axis_i_y» «axis_j_x» «axis_j_y» «edge_length_tol»)
+        (Pass.Fill (fillParams «attach_search_rel» «attach_ambiguity_factor» «max_iters»))
+        (now (sheet .entry)) [] (now (attached .entry)) (now (out .entry)) ⌝ }
 {
     let mut none = [0u16; 0];
     let settings = settings_of(
@@ -188,6 +227,7 @@ pub extern "C" fn projective_grid_fill_grid_holes(
         xs,
         ys,
         pitches,
+        shades,
         sheet,
         &mut none,
         attached,
@@ -197,12 +237,13 @@ pub extern "C" fn projective_grid_fill_grid_holes(
     )
 }
 
-// Local, which is lent no queue. `out` takes the nine words of its outcome.
+// Local, which is lent no queue. `out` takes the eleven words of its outcome.
 #[no_mangle]
 pub extern "C" fn projective_grid_extend_via_local_homography(
     xs: &[f32],
     ys: &[f32],
     pitches: &[f32],
+    shades: &[u8],
     sheet: &mut [u16],
     attached: &mut [u16],
     cell_size: f32,
@@ -218,7 +259,11 @@ pub extern "C" fn projective_grid_extend_via_local_homography(
     extend_depth: u32,
     out: &mut [u32],
 ) -> u32
-    ensures { λ r. ⌜ passLeft r (now (sheet .exit)) [] (now (attached .exit)) (now (out .exit)) ≡ passExported (cornerLists (now (xs .entry)) (now (ys .entry)) (now (pitches .entry))) (settingsOf «cell_size» «axis_i_x» «axis_i_y» «axis_j_x» «axis_j_y» «edge_length_tol») (Pass.Local (localParams «search_rel» «ambiguity_factor» «max_iters» «max_residual_rel» «extend_depth»)) (now (sheet .entry)) [] (now (attached .entry)) (now (out .entry)) ⌝ }
+    ensures { λ r. ⌜ passLeft r (now (sheet .exit)) [] (now (attached .exit)) (now (out .exit))
+        ≡ passExported (cornerLists (now (xs .entry)) (now (ys .entry)) (now (pitches .entry))) (now (shades .entry))
+        (settingsOf «cell_size» «axis_i_x» «axis_i_y» «axis_j_x» «axis_j_y» «edge_length_tol»)
+        (Pass.Local (localParams «search_rel» «ambiguity_factor» «max_iters» «max_residual_rel» «extend_depth»))
+        (now (sheet .entry)) [] (now (attached .entry)) (now (out .entry)) ⌝ }
 {
     let mut none = [0u16; 0];
     let settings = settings_of(
@@ -240,6 +285,7 @@ pub extern "C" fn projective_grid_extend_via_local_homography(
         xs,
         ys,
         pitches,
+        shades,
         sheet,
         &mut none,
         attached,

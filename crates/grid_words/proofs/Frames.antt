@@ -51,12 +51,12 @@ module _ (text : List ℕ) (b : Buffers) where
       go true = omega arith
       go false = by-read (readFrame text) refl
 
-  module _ (answer : FrameAnswer) (xs ys pitches : List Float) (sheet passes : List ℕ) (e : frameOut answer xs ys pitches sheet passes ≡ readInto text b) where
+  module _ (answer : FrameAnswer) (xs ys pitches : List Float) (shades sheet passes : List ℕ) (e : frameOut answer xs ys pitches shades sheet passes ≡ readInto text b) where
     pub sayable : Sayable answer
     sayable = subst (λ (a : FrameAnswer). Sayable a) (sym (ap (λ (o : FrameOut). o .answer) e)) read-sayable
 
     pub read-left : (n : ℕ) (settings settings' : List Float) (out out' : List ℕ) → told n settings' out' ≡ frameTold answer settings out
-        → frameLeft n xs ys pitches sheet passes settings' out' ≡ frameRead (readInto text b) settings out
+        → frameLeft n xs ys pitches shades sheet passes settings' out' ≡ frameRead (readInto text b) settings out
     read-left n settings settings' out out' w =
         let says : told n settings' out' ≡ frameTold (readInto text b .answer) settings out = w ∙ ap (λ (o : FrameOut). frameTold (o .answer) settings out) e in
         λ t. record { said = says t; buffers = e t .buffers }
@@ -69,11 +69,11 @@ module _ (settings : List Float) (out : List ℕ) (t : Bool) (e : t ≡ (ltb (le
       let p = or-false-both (ltb (length settings) 6) (ltb (length out) 2) (sym e ∙ f) in
       record { floats = ltb-false (length settings) 6 (p .0); words = ltb-false (length out) 2 (p .1) }
 
-  module _ (text : List ℕ) (xs ys pitches : List Float) (sheet passes : List ℕ) where
+  module _ (text : List ℕ) (xs ys pitches : List Float) (shades sheet passes : List ℕ) where
     abbrev lent : Buffers
-    lent = record { xs = xs; ys = ys; pitches = pitches; sheet = sheet; passes = passes }
+    lent = record { xs = xs; ys = ys; pitches = pitches; shades = shades; sheet = sheet; passes = passes }
 
-    pub read-short : t ≡ true → frameLeft 7 xs ys pitches sheet passes settings out ≡ frameExported text lent settings out
+    pub read-short : t ≡ true → frameLeft 7 xs ys pitches shades sheet passes settings out ≡ frameExported text lent settings out
     unfolding frameExported headShort
     read-short f = sym (ap (λ (s : Bool). frameUnless s text lent settings out) (sym e ∙ f))
 

@@ -52,9 +52,12 @@ pub record FrameLeft : Type 0 where
   pub said : Told
   pub buffers : Buffers
 
-abbrev pub frameLeft : ℕ → List Float → List Float → List Float → List ℕ → List ℕ → List Float → List ℕ → FrameLeft
-frameLeft answer xs ys pitches sheet passes settings out =
-    record { said = told answer settings out; buffers = record { xs = xs; ys = ys; pitches = pitches; sheet = sheet; passes = passes } }
+abbrev pub frameLeft : ℕ → List Float → List Float → List Float → List ℕ → List ℕ → List ℕ → List Float → List ℕ → FrameLeft
+frameLeft answer xs ys pitches shades sheet passes settings out =
+    record {
+      said = told answer settings out;
+      buffers = record { xs = xs; ys = ys; pitches = pitches; shades = shades; sheet = sheet; passes = passes };
+    }
 
 -- what is said of a frame that is read
 abbrev pub frameRead : FrameOut → List Float → List ℕ → FrameLeft

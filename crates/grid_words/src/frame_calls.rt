@@ -76,17 +76,19 @@ fn run_read(
     xs: &mut [f32],
     ys: &mut [f32],
     pitches: &mut [f32],
+    shades: &mut [u8],
     sheet: &mut [u16],
     passes: &mut [u32],
     settings: &mut [f32],
     out: &mut [u32],
 ) -> u32
     requires { ⌜ HeadRoom (now settings) (now out) ⌝ }
-    ensures { λ r. ⌜ frameLeft r (now (xs .exit)) (now (ys .exit)) (now (pitches .exit)) (now (sheet .exit)) (now (passes .exit)) (now (settings .exit))
-        (now (out .exit)) ≡ frameRead (readInto (now (text .entry)) (buffers (now (xs .entry)) (now (ys .entry)) (now (pitches .entry)) (now (sheet .entry))
-        (now (passes .entry)))) (now (settings .entry)) (now (out .entry)) ⌝ }
+    ensures { λ r. ⌜ frameLeft r (now (xs .exit)) (now (ys .exit)) (now (pitches .exit)) (now (shades .exit)) (now (sheet .exit)) (now (passes .exit))
+        (now (settings .exit)) (now (out .exit)) ≡ frameRead (readInto (now (text .entry))
+        (buffers (now (xs .entry)) (now (ys .entry)) (now (pitches .entry)) (now (shades .entry)) (now (sheet .entry)) (now (passes .entry))))
+        (now (settings .entry)) (now (out .entry)) ⌝ }
 {
-    let answer = frame::read_frame(text, xs, ys, pitches, sheet, passes);
+    let answer = frame::read_frame(text, xs, ys, pitches, shades, sheet, passes);
     tell(answer, settings, out)
 }
 
@@ -96,17 +98,19 @@ pub fn read_or_short(
     xs: &mut [f32],
     ys: &mut [f32],
     pitches: &mut [f32],
+    shades: &mut [u8],
     sheet: &mut [u16],
     passes: &mut [u32],
     settings: &mut [f32],
     out: &mut [u32],
 ) -> u32
-    ensures { λ r. ⌜ frameLeft r (now (xs .exit)) (now (ys .exit)) (now (pitches .exit)) (now (sheet .exit)) (now (passes .exit)) (now (settings .exit))
-        (now (out .exit)) ≡ frameExported (now (text .entry)) (buffers (now (xs .entry)) (now (ys .entry)) (now (pitches .entry)) (now (sheet .entry))
-        (now (passes .entry))) (now (settings .entry)) (now (out .entry)) ⌝ }
+    ensures { λ r. ⌜ frameLeft r (now (xs .exit)) (now (ys .exit)) (now (pitches .exit)) (now (shades .exit)) (now (sheet .exit)) (now (passes .exit))
+        (now (settings .exit)) (now (out .exit)) ≡ frameExported (now (text .entry))
+        (buffers (now (xs .entry)) (now (ys .entry)) (now (pitches .entry)) (now (shades .entry)) (now (sheet .entry)) (now (passes .entry)))
+        (now (settings .entry)) (now (out .entry)) ⌝ }
 {
     if head_short(settings.len(), out.len()) {
         return 7;
     }
-    run_read(text, xs, ys, pitches, sheet, passes, settings, out)
+    run_read(text, xs, ys, pitches, shades, sheet, passes, settings, out)
 }

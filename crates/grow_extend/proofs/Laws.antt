@@ -12,7 +12,7 @@ use lib.Ieee.{Float}
 use Rattle.refusal.specs.declared.Refusal.{Refusal}
 use Rattle.sheet.specs.Cells.{placeOf, cellOf}
 use Rattle.sheet.specs.Words.{attached, holeMarked, ambiguousMarked}
-use Rattle.sheet.specs.Corners.{Corners, CornerLists, cornersOf, seenOf, Given}
+use Rattle.sheet.specs.Corners.{Corners, CornerLists, seenOf, Given}
 use Rattle.sheet.specs.declared.Cell.{Cell}
 use Rattle.sheet.specs.declared.Position.{Position}
 use Rattle.labels.specs.Labelled.{labelledPlaces, labelCount}
@@ -21,6 +21,7 @@ use Rattle.labels.specs.Used.{usedOn, Tied}
 use Rattle.labels.proofs.Used.{tied-hole, tied-ambiguous, tied-attached}
 use Rattle.predict.specs.Predict.{predictionOf, extrapolating}
 use Rattle.predict.specs.declared.Prediction.{Prediction}
+use Rattle.arguments.specs.Shades.{cornersOf}
 use Rattle.arguments.specs.Arguments.{checked, queueNeeded}
 use Rattle.arguments.specs.Accepted.{Accepted}
 use Rattle.arguments.proofs.Laws.{accepted}
@@ -356,8 +357,8 @@ pub run-lent : {cs cs' : Corners} (set : Settings) (p : GrowParams) (sheet : Lis
 run-lent set p sheet {queue} {news} {sheet'} {queue'} {news'} {used'} {seen'} {at} e l =
     subst (λ (cs : Corners). Leaves queue news sheet' queue' news' used' seen' at (growRun cs set p sheet)) e l
 
-module _ (corners : CornerLists) (set : Settings) (p : GrowParams) (sheet queue news : List ℕ) where
-  module _ (a : Accepted (lentOf corners sheet (rooms (length queue) (length news))) set (Pass.Grow p)) where
+module _ (corners : CornerLists) (set : Settings) (p : GrowParams) (shades sheet queue news : List ℕ) where
+  module _ (a : Accepted (lentOf corners shades sheet (rooms (length queue) (length news))) set (Pass.Grow p)) where
     seeds-few : 4 * labelCount sheet ≤ length queue
     unfolding queueNeeded
     seeds-few = omega (arith, a .queue-long, labels-few (belongs-accepted a))
@@ -387,48 +388,48 @@ module _ (corners : CornerLists) (set : Settings) (p : GrowParams) (sheet queue 
           }
 
       -- the sheet's length is kept, so that the rim can be looked for
-      pub call-long : {sheet₂ queue₂ news₂ used₂ seen₂ : List ℕ} {end : Progress} → Leaves queue' news sheet₂ queue₂ news₂ used₂ seen₂ end (growRun (cornersOf corners) set p sheet) → 16384 ≤ length sheet₂
+      pub call-long : {sheet₂ queue₂ news₂ used₂ seen₂ : List ℕ} {end : Progress} → Leaves queue' news sheet₂ queue₂ news₂ used₂ seen₂ end (growRun (cornersOf corners shades) set p sheet) → 16384 ≤ length sheet₂
       unfolding growRun startOf
       call-long l =
-          let s = from-grown (cornersOf corners) set p (4 * length (corners .xs)) 0 (startOf sheet) .sheet-same in
+          let s = from-grown (cornersOf corners shades) set p (4 * length (corners .xs)) 0 (startOf sheet) .sheet-same in
           rw (l .sheet-is, s) (a .given .long)
 
       -- the pass done
-      pub call-left : {sheet₂ queue₂ news₂ used₂ seen₂ : List ℕ} {end : Progress} {reached : Bool} → Leaves queue' news sheet₂ queue₂ news₂ used₂ seen₂ end (growRun (cornersOf corners) set p sheet) → reached ≡ rim 1 sheet₂
-          → growOut (GrowAnswer.Done (record { counts = end .counts; rim = reached })) sheet₂ queue₂ news₂ ≡ growLeaves (done (growAfter (cornersOf corners) set p sheet)) sheet queue news
+      pub call-left : {sheet₂ queue₂ news₂ used₂ seen₂ : List ℕ} {end : Progress} {reached : Bool} → Leaves queue' news sheet₂ queue₂ news₂ used₂ seen₂ end (growRun (cornersOf corners shades) set p sheet) → reached ≡ rim 1 sheet₂
+          → growOut (GrowAnswer.Done (record { counts = end .counts; rim = reached })) sheet₂ queue₂ news₂ ≡ growLeaves (done (growAfter (cornersOf corners shades) set p sheet)) sheet queue news
       unfolding growAfter growRun startOf
       call-left l e =
-          let longer = from-grown (cornersOf corners) set p (4 * length (corners .xs)) 0 (startOf sheet) .queued-more in
-          let q = l .queue-is ∙ ap (over (growRun (cornersOf corners) set p sheet .queued)) (h .written) ∙ over-over (seeded sheet) (growRun (cornersOf corners) set p sheet .queued) queue longer in
+          let longer = from-grown (cornersOf corners shades) set p (4 * length (corners .xs)) 0 (startOf sheet) .queued-more in
+          let q = l .queue-is ∙ ap (over (growRun (cornersOf corners shades) set p sheet .queued)) (h .written) ∙ over-over (seeded sheet) (growRun (cornersOf corners shades) set p sheet .queued) queue longer in
           rw (e, l .counts-are, l .sheet-is, q, l .attached-is)
 
   -- what the call promises of its answer and its buffers, and of what the answer says
   abbrev pub Promised : GrowOut → Type 0
   Promised out =
-      let o = growStep corners sheet set p (rooms (length queue) (length news)) in
+      let o = growStep corners shades sheet set p (rooms (length queue) (length news)) in
       (out ≡ growLeaves o sheet queue news) × (growSaid (out .answer) ≡ outcomeDue growValues o)
 
-  promised : {out : GrowOut} → out ≡ growLeaves (growStep corners sheet set p (rooms (length queue) (length news))) sheet queue news → Promised out
+  promised : {out : GrowOut} → out ≡ growLeaves (growStep corners shades sheet set p (rooms (length queue) (length news))) sheet queue news → Promised out
   promised e = (e, grow-said _ sheet queue news _ e)
 
   -- by what the check of the arguments finds
-  module _ {found : Checked} (is : found ≡ checked (lentOf corners sheet (rooms (length queue) (length news))) set (Pass.Grow p)) where
+  module _ {found : Checked} (is : found ≡ checked (lentOf corners shades sheet (rooms (length queue) (length news))) set (Pass.Grow p)) where
     leaves-refused : {r : Refusal} → found ≡ Checked.Refused r
-        → growOut (GrowAnswer.Refused r) sheet queue news ≡ growLeaves (growStep corners sheet set p (rooms (length queue) (length news))) sheet queue news
+        → growOut (GrowAnswer.Refused r) sheet queue news ≡ growLeaves (growStep corners shades sheet set p (rooms (length queue) (length news))) sheet queue news
     unfolding growStep
     leaves-refused e = rw (← is, e)
 
     pub call-refused : {r : Refusal} → found ≡ Checked.Refused r → Promised (growOut (GrowAnswer.Refused r) sheet queue news)
     call-refused e = promised (leaves-refused e)
 
-    pub call-accepted : found ≡ Checked.Fine → Accepted (lentOf corners sheet (rooms (length queue) (length news))) set (Pass.Grow p)
+    pub call-accepted : found ≡ Checked.Fine → Accepted (lentOf corners shades sheet (rooms (length queue) (length news))) set (Pass.Grow p)
     call-accepted e = accepted _ _ _ (sym is ∙ e)
 
-    leaves-done : found ≡ Checked.Fine → {out : GrowOut} → out ≡ growLeaves (done (growAfter (cornersOf corners) set p sheet)) sheet queue news
-        → out ≡ growLeaves (growStep corners sheet set p (rooms (length queue) (length news))) sheet queue news
+    leaves-done : found ≡ Checked.Fine → {out : GrowOut} → out ≡ growLeaves (done (growAfter (cornersOf corners shades) set p sheet)) sheet queue news
+        → out ≡ growLeaves (growStep corners shades sheet set p (rooms (length queue) (length news))) sheet queue news
     unfolding growStep
     leaves-done e h = rw (← is, e) h
 
-    pub call-done : found ≡ Checked.Fine → {r : GrowAnswer} {s q n : List ℕ} → growOut r s q n ≡ growLeaves (done (growAfter (cornersOf corners) set p sheet)) sheet queue news
+    pub call-done : found ≡ Checked.Fine → {r : GrowAnswer} {s q n : List ℕ} → growOut r s q n ≡ growLeaves (done (growAfter (cornersOf corners shades) set p sheet)) sheet queue news
         → Promised (growOut r s q n)
     call-done e h = promised (leaves-done e h)

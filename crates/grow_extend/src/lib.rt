@@ -1,10 +1,11 @@
 // Grow (01, "Grow"; port of shared/grow_extend.rs): from the neighbours of the labelled cells outwards, cell by cell, corners are attached
-// and holes and ambiguous cells marked. The Rust's test whether a queued cell is labelled by now is left out: no cell is queued twice, so
-// none is.
+// and holes and ambiguous cells marked. If any shade stands, a cell takes only corners of its kind (02, 1/14). The Rust's test whether a
+// queued cell is labelled by now is left out: no cell is queued twice, so none is.
 
 ghost use mathlib.Core.Path.{_≡_};
 ghost use lib.ListN.{length};
-ghost use Rattle.sheet.specs.Corners.{cornerLists, cornersOf, cornersIn};
+ghost use Rattle.sheet.specs.Corners.{cornerLists, cornersIn};
+ghost use Rattle.arguments.specs.Shades.{cornersOf};
 ghost use Rattle.arguments.specs.Accepted.{Accepted};
 ghost use Rattle.extension_common.specs.TryCell.{Ready};
 ghost use Rattle.passes.specs.Outcome.{Outcome};
@@ -66,7 +67,7 @@ fn search_for(settings: Settings, params: GrowParams, extrapolating: bool) -> Se
 
 // What is found at a cell: it is tried at its prediction; one with no labelled neighbour has no candidate.
 fn try_cell(
-    corners: &[f32; 3 * CORNERS],
+    corners: &[f32; 4 * CORNERS],
     sheet: &[u16],
     used: &[u8; CORNERS],
     c: Cell,
@@ -167,7 +168,7 @@ fn settle(
 
 // Visits a cell of the queue.
 fn visit(
-    corners: &[f32; 3 * CORNERS],
+    corners: &[f32; 4 * CORNERS],
     sheet: &mut [u16],
     queue: &mut [u16],
     attached: &mut [u16],
@@ -188,7 +189,7 @@ fn visit(
 
 // The run: the queue's cells, of which the first `tail` are the seeds, are visited in order until none is left.
 fn grow(
-    corners: &[f32; 3 * CORNERS],
+    corners: &[f32; 4 * CORNERS],
     sheet: &mut [u16],
     queue: &mut [u16],
     attached: &mut [u16],
@@ -223,21 +224,22 @@ fn extend(
     xs: &[f32],
     ys: &[f32],
     pitches: &[f32],
+    shades: &[u8],
     sheet: &mut [u16],
     queue: &mut [u16],
     attached: &mut [u16],
     settings: Settings,
     params: GrowParams,
 ) -> GrowStats
-    requires { ⌜ Accepted (lentOf (cornerLists (now xs) (now ys) (now pitches)) (now sheet) (rooms (length (now queue)) (length (now attached)))) settings
-        (Pass.Grow params) ⌝ }
+    requires { ⌜ Accepted (lentOf (cornerLists (now xs) (now ys) (now pitches)) (now shades) (now sheet) (rooms (length (now queue))
+        (length (now attached)))) settings (Pass.Grow params) ⌝ }
     ensures { λ r. ⌜ growOut (GrowAnswer.Done r) (now (sheet .exit)) (now (queue .exit)) (now (attached .exit))
-        ≡ growLeaves (Outcome.done (growAfter (cornersOf (cornerLists (now (xs .entry)) (now (ys .entry)) (now (pitches .entry)))) settings params
-        (now (sheet .entry)))) (now (sheet .entry)) (now (queue .entry)) (now (attached .entry)) ⌝ }
+        ≡ growLeaves (Outcome.done (growAfter (cornersOf (cornerLists (now (xs .entry)) (now (ys .entry)) (now (pitches .entry))) (now (shades .entry)))
+        settings params (now (sheet .entry)))) (now (sheet .entry)) (now (queue .entry)) (now (attached .entry)) ⌝ }
 {
     let nothing = 0.0f32 / 0.0f32;
-    let mut corners = [nothing; 3 * CORNERS];
-    arguments::hold_corners(xs, ys, pitches, &mut corners);
+    let mut corners = [nothing; 4 * CORNERS];
+    arguments::hold_corners(xs, ys, pitches, shades, &mut corners);
     let mut used = labels::mark_used(sheet);
     let mut seen = [0u8; PLACES];
     let tail = grow_queue::seed(sheet, queue, &mut seen);
@@ -261,13 +263,14 @@ fn extend(
     GrowStats { counts, rim }
 }
 
-// Grow on the corners and the sheet that are lent. A refusal says why and changes nothing. Else the sheet holds what grow left, the queue
-// holds the visited cells in order, the attached list the new cells in order, the rest of both untouched, and the answer has the counts
-// and the rim. `said` is the same answer in 01's number or values.
+// Grow on the corners, their shades and the sheet that are lent. A refusal says why and changes nothing. Else the sheet holds what grow
+// left, the queue holds the visited cells in order, the attached list the new cells in order, the rest of both untouched, and the answer
+// has the counts and the rim. `said` is the same answer in 01's number or values.
 pub fn extend_from_labelled(
     xs: &[f32],
     ys: &[f32],
     pitches: &[f32],
+    shades: &[u8],
     sheet: &mut [u16],
     queue: &mut [u16],
     attached: &mut [u16],
@@ -275,15 +278,17 @@ pub fn extend_from_labelled(
     params: GrowParams,
 ) -> GrowAnswer
     ensures { λ r. ⌜ growOut r (now (sheet .exit)) (now (queue .exit)) (now (attached .exit))
-        ≡ growLeaves (growStep (cornerLists (now (xs .entry)) (now (ys .entry)) (now (pitches .entry))) (now (sheet .entry)) settings params
-        (rooms (length (now (queue .entry))) (length (now (attached .entry))))) (now (sheet .entry)) (now (queue .entry)) (now (attached .entry)) ⌝ }
+        ≡ growLeaves (growStep (cornerLists (now (xs .entry)) (now (ys .entry)) (now (pitches .entry))) (now (shades .entry)) (now (sheet .entry))
+        settings params (rooms (length (now (queue .entry))) (length (now (attached .entry))))) (now (sheet .entry)) (now (queue .entry))
+        (now (attached .entry)) ⌝ }
     ensures said { λ r. ⌜ growSaid r ≡ outcomeDue growValues (growStep (cornerLists (now (xs .entry)) (now (ys .entry)) (now (pitches .entry)))
-        (now (sheet .entry)) settings params (rooms (length (now (queue .entry))) (length (now (attached .entry))))) ⌝ }
+        (now (shades .entry)) (now (sheet .entry)) settings params (rooms (length (now (queue .entry))) (length (now (attached .entry))))) ⌝ }
 {
     let checked = arguments::check_arguments(
         xs,
         ys,
         pitches,
+        shades,
         sheet,
         queue.len(),
         attached.len(),
@@ -296,6 +301,7 @@ pub fn extend_from_labelled(
             xs,
             ys,
             pitches,
+            shades,
             sheet,
             queue,
             attached,

@@ -59,9 +59,9 @@ not-bare l e = no-corner (l .corner) (sym e ∙ l .holds)
 
 -- ---- one step
 
-module _ {cs : Corners} {first : List ℕ} (s : Sound cs first) where
+module _ {n : ℕ} {first : List ℕ} (s : Sound n first) where
   -- marks change no label
-  pub extended-marked : {last : List ℕ} → length last ≡ length first → SameLabels first last → Extended cs first [] last
+  pub extended-marked : {last : List ℕ} → length last ≡ length first → SameLabels first last → Extended n first [] last
   extended-marked {last} e same =
       record {
         same-length = e;
@@ -78,6 +78,7 @@ module _ {cs : Corners} {first : List ℕ} (s : Sound cs first) where
         count = same-count first last (labels-places same) ∙ omega arith;
       }
 
+module _ {cs : Corners} {first : List ℕ} (s : Sound (cs .count) first) where
   module _ {tol : Tolerances} (few : cs .count ≤ 1024) {p k : ℕ} (a : Attaches cs tol first p k) where
     pub attaching : Attaching first (cellOf p) k
     attaching = record { long = s .long; on = cell-on p (a .on); bare = a .bare; corner-fits = omega (arith, a .given) }
@@ -111,7 +112,7 @@ module _ {cs : Corners} {first : List ℕ} (s : Sound cs first) where
         ne c j e d = no-corner j (sym (a .bare) ∙ ap (labelAt first) (sym d) ∙ e)
 
     -- one more label
-    pub extended-attached : Extended cs first (p ∷ []) (attached first (cellOf p) k)
+    pub extended-attached : Extended (cs .count) first (p ∷ []) (attached first (cellOf p) k)
     extended-attached =
         record {
           same-length = changed .same-length;
@@ -129,8 +130,8 @@ module _ {cs : Corners} {first : List ℕ} (s : Sound cs first) where
 
 -- ---- one after the other
 
-pub extended-then : {cs : Corners} {first made mid more last : List ℕ} → Extended cs first made mid → Extended cs mid more last → Extended cs first (made ++ more) last
-extended-then {cs} {first} {made} {mid} {more} {last} e f =
+pub extended-then : {n : ℕ} {first made mid more last : List ℕ} → Extended n first made mid → Extended n mid more last → Extended n first (made ++ more) last
+extended-then {n} {first} {made} {mid} {more} {last} e f =
     record {
       same-length = f .same-length ∙ e .same-length;
       sound = f .sound;

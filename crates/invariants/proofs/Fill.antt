@@ -30,8 +30,8 @@ pub cells-listed : (sheet : List ℕ) → Waiting sheet (fillCells sheet)
 unfolding fillCells
 cells-listed sheet = cells-wait (boxAndStrips (boxOf sheet)) sheet
 
-module _ {cs : Corners} {first : List ℕ} (few : cs .count ≤ 1024) (begins : Sound cs first) where
-  pub sound-then : {tol : Tolerances} {ps : List ℕ} {s : FillState} → Filling cs tol first ps s → Sound cs (s .sheet)
+module _ {cs : Corners} {first : List ℕ} (few : cs .count ≤ 1024) (begins : Sound (cs .count) first) where
+  pub sound-then : {tol : Tolerances} {ps : List ℕ} {s : FillState} → Filling cs tol first ps s → Sound (cs .count) (s .sheet)
   sound-then g = history-extended few begins (g .history) .sound
 
   filling-with : {tol : Tolerances} (p : ℕ) (ps : List ℕ) (s : FillState) → Filling cs tol first (p ∷ ps) s → (r : TryCellResult)

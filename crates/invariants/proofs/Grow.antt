@@ -124,13 +124,13 @@ growing-start cs tol first =
       queue = seeded-waits first 0 (labelledPlaces first) [] (record { upto = omega arith; waiting = waiting-none first });
     }
 
-module _ {cs : Corners} {tol : Tolerances} {first : List ℕ} (few : cs .count ≤ 1024) (begins : Sound cs first) (head : ℕ) (s : GrowState)
+module _ {cs : Corners} {tol : Tolerances} {first : List ℕ} (few : cs .count ≤ 1024) (begins : Sound (cs .count) first) (head : ℕ) (s : GrowState)
     (g : Growing cs tol first head s) (inside : head < length (s .queued)) where
   -- its place is on the sheet, its cell unlabelled, and so are those after it
   pub turn : Waiting (s .sheet) (getD (s .queued) head 0 ∷ drop (head + 1) (s .queued))
   turn = rw add-one (rw (drop-cons (s .queued) head 0 inside) at (g .queue .waiting))
 
-  pub sound-now : Sound cs (s .sheet)
+  pub sound-now : Sound (cs .count) (s .sheet)
   sound-now = history-extended few begins (g .history) .sound
 
   -- marks were changed, and one more is visited
@@ -173,7 +173,7 @@ module _ {cs : Corners} {tol : Tolerances} {first : List ℕ} (few : cs .count �
             (record { upto = omega arith; waiting = waiting-attached turn sound-now few a });
       }
 
-module _ {cs : Corners} {first : List ℕ} (set : Settings) (params : GrowParams) (few : cs .count ≤ 1024) (begins : Sound cs first) where
+module _ {cs : Corners} {first : List ℕ} (set : Settings) (params : GrowParams) (few : cs .count ≤ 1024) (begins : Sound (cs .count) first) where
   pub growing-visit : (head : ℕ) (s : GrowState) → Growing cs (tolerancesOf set) first head s → head < length (s .queued)
       → Growing cs (tolerancesOf set) first (head + 1) (growVisit cs set params (cellOf (getD (s .queued) head 0)) s)
   unfolding growVisit growAt

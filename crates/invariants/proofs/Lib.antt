@@ -1,4 +1,5 @@
 -- The laws of what stays true over a pass, and over every list of calls. Assumes nothing.
+pub mod Shading
 pub mod Extended
 pub mod History
 pub mod Waiting
@@ -8,3 +9,4 @@ pub mod Local
 pub mod Marks
 pub mod GrowMarks
 pub mod Run
+pub mod Unshaded

@@ -20,7 +20,7 @@ use Rattle.arguments.specs.declared.Settings.{Settings}
 use Rattle.arguments.specs.declared.LocalExtensionParams.{LocalExtensionParams}
 use Rattle.extension_common.specs.declared.TryCellResult.{TryCellResult}
 use Rattle.passes.specs.Grow.{tolerancesOf, noCounts}
-use Rattle.passes.specs.Local.{depthOf, localRegion, localCells, supportsOf, LocalFit, none, fitted, localFit, LocalState, worst, withResiduals, gateOf, localWith, localAt, localVisit, localPass, localFrom, localLimit, localRun}
+use Rattle.passes.specs.Local.{depthOf, localRegion, localCells, supportsOf, LocalFit, none, fitted, localFit, LocalState, worst, withResiduals, withUnmatched, gateOf, localWith, localTry, localAt, localVisit, localPass, localFrom, localLimit, localRun}
 use Rattle.passes.specs.History.{Attaches, History, begun, marked, attaches}
 use Rattle.passes.specs.declared.Counts.{Counts}
 use Rattle.passes.specs.declared.LargestResidual.{LargestResidual}
@@ -40,25 +40,26 @@ pub local-cells-listed : (depth : ℕ) (sheet : List ℕ) → Waiting sheet (loc
 unfolding localCells
 local-cells-listed depth sheet = cells-wait (localRegion depth (labelledPlaces sheet) (boxOf sheet)) sheet
 
-module _ {cs : Corners} {first : List ℕ} (few : cs .count ≤ 1024) (begins : Sound cs first) where
-  pub sound-tried : {tol : Tolerances} {ps : List ℕ} {s : LocalState} → Trying cs tol first ps s → Sound cs (s .sheet)
+module _ {cs : Corners} {first : List ℕ} (few : cs .count ≤ 1024) (begins : Sound (cs .count) first) where
+  pub sound-tried : {tol : Tolerances} {ps : List ℕ} {s : LocalState} → Trying cs tol first ps s → Sound (cs .count) (s .sheet)
   sound-tried g = history-extended few begins (g .history) .sound
 
   -- ---- one cell
 
   module _ {tol : Tolerances} (p : ℕ) (ps : List ℕ) (s : LocalState) (g : Trying cs tol first (p ∷ ps) s) where
     -- nothing was attached, whatever was counted or recorded
-    trying-next : (n : Counts) (largest : LargestResidual) → n .attached ≡ s .counts .attached → Trying cs tol first ps (record { sheet = s .sheet; made = s .made; counts = n; largest = largest })
-    trying-next n largest e = record { history = g .history; counted = rw e (g .counted); waiting = others-wait (g .waiting) }
+    trying-next : (n : Counts) (largest : LargestResidual) (unmatched : ℕ) → n .attached ≡ s .counts .attached
+        → Trying cs tol first ps (record { sheet = s .sheet; made = s .made; counts = n; largest = largest; unmatched = unmatched })
+    trying-next n largest unmatched e = record { history = g .history; counted = rw e (g .counted); waiting = others-wait (g .waiting) }
 
     -- what is found at the cell
-    trying-with : (r : TryCellResult) → ((k : ℕ) → r ≡ TryCellResult.Attached k → Attaches cs tol (s .sheet) p k) → (rs : List Float)
-        → Trying cs tol first ps (localWith (cellOf p) r (withResiduals rs s))
+    trying-with : (r : TryCellResult) → ((k : ℕ) → r ≡ TryCellResult.Attached k → Attaches cs tol (s .sheet) p k) → (rs : List Float) (m : ℕ)
+        → Trying cs tol first ps (localWith (cellOf p) r (withUnmatched m (withResiduals rs s)))
     unfolding localWith
-    trying-with TryCellResult.NoCandidates may rs = trying-next _ _ refl
-    trying-with TryCellResult.Ambiguous may rs = trying-next _ _ refl
-    trying-with TryCellResult.EdgeRejected may rs = trying-next _ _ refl
-    trying-with (TryCellResult.Attached k) may rs =
+    trying-with TryCellResult.NoCandidates may rs m = trying-next _ _ _ refl
+    trying-with TryCellResult.Ambiguous may rs m = trying-next _ _ _ refl
+    trying-with TryCellResult.EdgeRejected may rs m = trying-next _ _ _ refl
+    trying-with (TryCellResult.Attached k) may rs m =
         let a = may k refl in
         let now = attached (s .sheet) (cellOf p) k in
         let on : OnSheet (cellOf p) = cell-on p (first-on (g .waiting)) in
@@ -74,18 +75,18 @@ module _ {cs : Corners} {first : List ℕ} (few : cs .count ≤ 1024) (begins : 
 
   module _ (set : Settings) (params : LocalExtensionParams) where
     pub trying-visit : (p : ℕ) (ps : List ℕ) (s : LocalState) → Trying cs (tolerancesOf set) first (p ∷ ps) s → Trying cs (tolerancesOf set) first ps (localVisit cs set params (cellOf p) s)
-    unfolding localVisit localAt
+    unfolding localVisit localAt localTry
     trying-visit p ps s g = go (localFit (seenOf (cs .corner) (s .sheet)) (supportsOf (cellOf p) (s .sheet)))
       where
         gate : (t : Bool) (rs : List Float) (after : LocalState) → Trying cs (tolerancesOf set) first ps after → Trying cs (tolerancesOf set) first ps (cond t (withResiduals rs s) after)
-        gate true rs after w = trying-next p ps s g _ _ refl
+        gate true rs after w = trying-next p ps s g _ _ _ refl
         gate false rs after w = w
 
         go : (fit : LocalFit) → Trying cs (tolerancesOf set) first ps (localAt cs set params (cellOf p) fit s)
-        go none = trying-next p ps s g _ _ refl
+        go none = trying-next p ps s g _ _ _ refl
         go (fitted h rs) =
             gate (lt (gateOf set params) (worst (ofBits binary32 0) rs)) rs _
-            (trying-with p ps s g _ (λ k e. found-attaches (g .waiting) cs (tolerancesOf set) _ _ k e) rs)
+            (trying-with p ps s g _ (λ k e. found-attaches (g .waiting) cs (tolerancesOf set) _ _ k e) rs _)
 
     -- the whole run: a round lists its cells, and each waits for its turn
     pub trying-begins : (s : LocalState) → Trying cs (tolerancesOf set) first [] s
@@ -97,5 +98,5 @@ module _ {cs : Corners} {first : List ℕ} (few : cs .count ≤ 1024) (begins : 
     local-history =
         rounds-keep (localPass cs set params) (Trying cs (tolerancesOf set) first) trying-begins trying-visit
         (localLimit (labelCount first) (params .«max_iters»))
-        (record { state = record { sheet = first; made = []; counts = noCounts; largest = LargestResidual.Nothing }; rounds = 0 })
+        (record { state = record { sheet = first; made = []; counts = noCounts; largest = LargestResidual.Nothing; unmatched = 0 }; rounds = 0 })
         (record { history = begun; counted = refl; waiting = waiting-none first })

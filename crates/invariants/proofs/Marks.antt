@@ -30,7 +30,7 @@ use Rattle.extension_common.proofs.Laws.{attachable}
 use Rattle.passes.specs.Grow.{noCounts}
 use Rattle.passes.specs.Rounds.{RoundPass, Rounds, roundsFrom}
 use Rattle.passes.specs.Fill.{FillState, fillWith, fillAt, fillVisit, fillPass, fillFrom, fillLimit, fillRun}
-use Rattle.passes.specs.Local.{depthOf, supportsOf, LocalFit, none, fitted, localFit, LocalState, worst, withResiduals, gateOf, localWith, localAt, localVisit, localPass, localFrom, localLimit, localRun}
+use Rattle.passes.specs.Local.{depthOf, supportsOf, LocalFit, none, fitted, localFit, LocalState, worst, withResiduals, withUnmatched, gateOf, localWith, localTry, localAt, localVisit, localPass, localFrom, localLimit, localRun}
 use Rattle.passes.specs.Changes.{setsHole, setsAmbiguous, SameMarks, NoMarks, MarksSet, FillVisit, LocalVisit}
 use Rattle.passes.specs.declared.LargestResidual.{LargestResidual}
 use Rattle.passes.proofs.Changes.{same-marks, marks-then, visits}
@@ -196,29 +196,30 @@ module _ (cs : Corners) (few : cs .count ≤ 1024) (first : List ℕ) (set : Set
           (local-attached q h (record { hole = v .marks .hole; ambiguous = v .marks .ambiguous }) (λ d ne. v .labels .others d ne .marks) (w .marks))
 
   local-visit : (q : ℕ) → q < 16384 → (s : LocalState) → LocalKeeps first s → LocalKeeps first (localVisit cs set params (cellOf q) s)
-  unfolding localVisit localAt
+  unfolding localVisit localAt localTry
   local-visit q h s w = go (localFit (seenOf (cs .corner) (s .sheet)) (supportsOf (cellOf q) (s .sheet)))
     where
       gate : (t : Bool) (rs : List Float) (after : LocalState) → LocalKeeps first after → LocalKeeps first (cond t (withResiduals rs s) after)
       gate true rs after v = record { long = w .long; marks = w .marks }
       gate false rs after v = v
 
-      tried : (rs : List Float) (r : TryCellResult) → ((k : ℕ) → r ≡ TryCellResult.Attached k → k < 16383) → LocalKeeps first (localWith (cellOf q) r (withResiduals rs s))
-      tried rs r fits =
-          local-with q h r (withResiduals rs s) _
-          (visits .local (cellOf q) r (withResiduals rs s) (record { cell = record { long = w .long; on = cell-on q h }; corner-fits = fits }))
+      tried : (rs : List Float) (m : ℕ) (r : TryCellResult) → ((k : ℕ) → r ≡ TryCellResult.Attached k → k < 16383)
+          → LocalKeeps first (localWith (cellOf q) r (withUnmatched m (withResiduals rs s)))
+      tried rs m r fits =
+          local-with q h r (withUnmatched m (withResiduals rs s)) _
+          (visits .local (cellOf q) r (withUnmatched m (withResiduals rs s)) (record { cell = record { long = w .long; on = cell-on q h }; corner-fits = fits }))
           (record { long = w .long; marks = w .marks })
 
       go : (fit : LocalFit) → LocalKeeps first (localAt cs set params (cellOf q) fit s)
       go none = w
-      go (fitted h rs) = gate (lt (gateOf set params) (worst (ofBits binary32 0) rs)) rs _ (tried rs _ (λ k e. found-fits cs few (s .sheet) _ _ (cellOf q) _ k e))
+      go (fitted h rs) = gate (lt (gateOf set params) (worst (ofBits binary32 0) rs)) rs _ (tried rs _ _ (λ k e. found-fits cs few (s .sheet) _ _ (cellOf q) _ k e))
 
   pub local-marks : 16384 ≤ length first → LocalMarks first (localRun cs set params first .state .made) (localRun cs set params first .state .sheet)
   unfolding localRun localFrom
   local-marks long =
       rounds-on (localPass cs set params) (LocalKeeps first) (λ s. local-cells-listed (depthOf params) (s .sheet) .on) local-visit
       (localLimit (labelCount first) (params .«max_iters»))
-      (record { state = record { sheet = first; made = []; counts = noCounts; largest = LargestResidual.Nothing }; rounds = 0 })
+      (record { state = record { sheet = first; made = []; counts = noCounts; largest = LargestResidual.Nothing; unmatched = 0 }; rounds = 0 })
       (record {
         long = long;
         marks = record { cleared = λ p m. absurd (List·Memᴰ·not-nil m); others = λ c n. same-marks first c; none-new = λ c. stand-same (same-marks first c) };

@@ -1,7 +1,7 @@
 -- Laws of every list of calls, refused ones among them, whatever their factors: after each call the corners and the sheet belong together and
 -- no corner holds two cells, the given labels are kept, and each call that ran has its history; so each new corner had an accepted edge to a
--- labelled cardinal neighbour, or no such neighbour, when attached. Only grow sets marks, and only local clears them. A call whose numbers and
--- buffers are right is not refused in mid-list.
+-- labelled cardinal neighbour, or no such neighbour, when attached, and each that a call attached to which a shade is lent is of its cell's kind. Only
+-- grow sets marks, and only local clears them. A call whose numbers and buffers are right is not refused in mid-list.
 -- Assumes nothing.
 use mathlib.Core.Path.{_≡_, refl, sym, ap, _∙_, subst}
 use mathlib.Core.List.{List, [], _∷_, List·Memᴰ, List·Memᴰ·not-nil, List·Memᴰ·append-cases, Memᴰ·append-left, Memᴰ·append-right}
@@ -10,13 +10,14 @@ use Prim.Native.Nat.{ℕ, _<_, _≤_}
 use native.Mathlib.Nat.{not-suc-le-zero}
 use lib.ListN.{length}
 use Rattle.refusal.specs.declared.Refusal.{Refusal}
-use Rattle.sheet.specs.Corners.{CornerLists, cornersOf}
+use Rattle.sheet.specs.Corners.{CornerLists}
 use Rattle.sheet.specs.Cells.{cellOf}
 use Rattle.sheet.specs.Words.{labelAt}
 use Rattle.sheet.specs.declared.Cell.{Cell}
 use Rattle.sheet.specs.declared.Label.{Label}
 use Rattle.sheet.proofs.Words.{no-corner}
 use Rattle.labels.specs.Labelled.{LabelledCell}
+use Rattle.arguments.specs.Shades.{cornersOf}
 use Rattle.arguments.specs.Arguments.{checked}
 use Rattle.arguments.specs.Accepted.{Accepted}
 use Rattle.arguments.specs.declared.Checked.{Checked}
@@ -32,11 +33,12 @@ use Rattle.passes.specs.Run.{Call, PassStats, growStats, fillStats, localStats,
 use Rattle.passes.specs.History.{History}
 use Rattle.passes.specs.Changes.{NoMarks}
 use Rattle.passes.proofs.Changes.{same-marks}
-use Rattle.invariants.specs.Kept.{Sound, Kept, Extended, Histories, before, pass, AttachedInTurn}
-use Rattle.invariants.specs.Calls.{Standing, checkedCall, answering, afterPass, afterCall, attachedCount, Ran, Goes, ended, refuses, runs, attachedIn, Invariants, CallInside, Accepts, NeverRefused}
+use Rattle.invariants.specs.Kept.{Sound, Kept, Extended, AttachedAt, Histories, before, pass, AttachedInTurn}
+use Rattle.invariants.specs.Calls.{Standing, checkedCall, answering, afterPass, afterCall, attachedCount, OfItsKind, Ran, Goes, ended, refuses, runs, attachedIn, Invariants, CallInside, Accepts, NeverRefused}
 use Rattle.invariants.specs.Marks.{MarksStand, NotIn, PassMarks, clearedBy, clearedIn, visitedIn, MarksOver}
 use Rattle.invariants.proofs.Extended.{still-labelled, extended-marked, extended-then}
 use Rattle.invariants.proofs.History.{history-extended, attached-at, histories-then, attached-in-turn}
+use Rattle.invariants.proofs.Shading.{taken-kind}
 use Rattle.invariants.proofs.Grow.{grow-history}
 use Rattle.invariants.proofs.Fill.{fill-history}
 use Rattle.invariants.proofs.Local.{local-history}
@@ -54,60 +56,73 @@ step-as l sheet c = go (c .pass)
     under f Checked.Fine a = refl
     under f (Checked.Refused r) a = refl
 
-    go : (p : Pass) → stepAs l sheet (c .settings) (c .rooms) p ≡ unless (checked (lentOf l sheet (c .rooms)) (c .settings) p) (afterPass l sheet (c .settings) p)
-    go (Pass.Grow p) = under growStats (checked (lentOf l sheet (c .rooms)) (c .settings) (Pass.Grow p)) (growAfter (cornersOf l) (c .settings) p sheet)
-    go (Pass.Fill p) = under fillStats (checked (lentOf l sheet (c .rooms)) (c .settings) (Pass.Fill p)) (fillAfter (cornersOf l) (c .settings) p sheet)
-    go (Pass.Local p) = under localStats (checked (lentOf l sheet (c .rooms)) (c .settings) (Pass.Local p)) (localAfter (cornersOf l) (c .settings) p sheet)
+    go : (p : Pass) → stepAs l (c .shades) sheet (c .settings) (c .rooms) p ≡ unless (checked (lentOf l (c .shades) sheet (c .rooms)) (c .settings) p) (afterPass l (c .shades) sheet (c .settings) p)
+    go (Pass.Grow p) = under growStats (checked (lentOf l (c .shades) sheet (c .rooms)) (c .settings) (Pass.Grow p)) (growAfter (cornersOf l (c .shades)) (c .settings) p sheet)
+    go (Pass.Fill p) = under fillStats (checked (lentOf l (c .shades) sheet (c .rooms)) (c .settings) (Pass.Fill p)) (fillAfter (cornersOf l (c .shades)) (c .settings) p sheet)
+    go (Pass.Local p) = under localStats (checked (lentOf l (c .shades) sheet (c .rooms)) (c .settings) (Pass.Local p)) (localAfter (cornersOf l (c .shades)) (c .settings) p sheet)
 
-pub standing-sound : {l : CornerLists} {sheet : List ℕ} → Standing l sheet → Sound (cornersOf l) sheet
+pub standing-sound : {l : CornerLists} {sheet : List ℕ} → Standing l sheet → Sound (length (l .xs)) sheet
 standing-sound s = record { long = s .given .long; known = record { known = s .given .known }; one-cell = s .one-cell }
 
 -- a sheet that still belongs to the corners
-pub sound-standing : {l : CornerLists} {sheet after : List ℕ} → Standing l sheet → Sound (cornersOf l) after → Standing l after
+pub sound-standing : {l : CornerLists} {sheet after : List ℕ} → Standing l sheet → Sound (length (l .xs)) after → Standing l after
 sound-standing s a =
     record { listed = s .listed; given = record { long = a .long; known = a .known .known }; one-cell = a .one-cell }
 
 -- what each pass does to the labels, and that it counts its new cells
-module _ (l : CornerLists) (sheet : List ℕ) (set : Settings) (few : length (l .xs) ≤ 1024) (s : Sound (cornersOf l) sheet) where
-  pass-history : (p : Pass) → History (cornersOf l) (tolerancesOf set) sheet (afterPass l sheet set p .attached) (afterPass l sheet set p .sheet)
+module _ (l : CornerLists) (shades sheet : List ℕ) (set : Settings) (few : length (l .xs) ≤ 1024) (s : Sound (length (l .xs)) sheet) where
+  pass-history : (p : Pass) → History (cornersOf l shades) (tolerancesOf set) sheet (afterPass l shades sheet set p .attached) (afterPass l shades sheet set p .sheet)
   unfolding growAfter fillAfter localAfter
   pass-history (Pass.Grow p) = grow-history set p few s .history
   pass-history (Pass.Fill p) = fill-history few s set p
   pass-history (Pass.Local p) = local-history few s set p .history
 
-  pass-counted : (p : Pass) → attachedCount (afterPass l sheet set p .answer) ≡ length (afterPass l sheet set p .attached)
+  pass-counted : (p : Pass) → attachedCount (afterPass l shades sheet set p .answer) ≡ length (afterPass l shades sheet set p .attached)
   unfolding growAfter fillAfter localAfter
   pass-counted (Pass.Grow p) = grow-history set p few s .counted
   pass-counted (Pass.Fill p) = refl
   pass-counted (Pass.Local p) = local-history few s set p .counted
 
   -- what each pass does to the marks
-  pass-marks : (p : Pass) → PassMarks p sheet (afterPass l sheet set p)
+  pass-marks : (p : Pass) → PassMarks p sheet (afterPass l shades sheet set p)
   unfolding growAfter fillAfter localAfter
-  pass-marks (Pass.Grow p) = grow-marks (cornersOf l) set p sheet (record { long = s .long; few = few; known = s .known .known; one-cell = s .one-cell })
-  pass-marks (Pass.Fill p) = fill-marks (cornersOf l) few sheet set p (s .long)
-  pass-marks (Pass.Local p) = local-marks (cornersOf l) few sheet set p (s .long)
+  pass-marks (Pass.Grow p) = grow-marks (cornersOf l shades) set p sheet (record { long = s .long; few = few; known = s .known .known; one-cell = s .one-cell })
+  pass-marks (Pass.Fill p) = fill-marks (cornersOf l shades) few sheet set p (s .long)
+  pass-marks (Pass.Local p) = local-marks (cornersOf l shades) few sheet set p (s .long)
 
 -- a call that is not refused
-pub call-accepted : (l : CornerLists) (sheet : List ℕ) (c : Call) → checkedCall l sheet c ≡ Checked.Fine → Accepted (lentOf l sheet (c .rooms)) (c .settings) (c .pass)
-call-accepted l sheet c e = accepted (lentOf l sheet (c .rooms)) (c .settings) (c .pass) e
+pub call-accepted : (l : CornerLists) (sheet : List ℕ) (c : Call) → checkedCall l sheet c ≡ Checked.Fine → Accepted (lentOf l (c .shades) sheet (c .rooms)) (c .settings) (c .pass)
+call-accepted l sheet c e = accepted (lentOf l (c .shades) sheet (c .rooms)) (c .settings) (c .pass) e
 
-pub call-ran : (l : CornerLists) (sheet : List ℕ) (c : Call) → Accepted (lentOf l sheet (c .rooms)) (c .settings) (c .pass) → Ran l c sheet (afterCall l sheet c)
+-- each new corner is of its cell's kind, where a shade is lent
+of-its-kind : (l : CornerLists) (c : Call) (sheet : List ℕ) (a : After PassStats) (n : ℕ)
+    → AttachedAt (cornersOf l (c .shades)) (tolerancesOf (c .settings)) sheet (a .attached) (a .sheet) n → OfItsKind l c a n
+of-its-kind l c sheet a n w =
+    let t = w .attachment in
+    record {
+      corner = t .corner;
+      given = t .attaches .given;
+      holds = t .holds;
+      of-kind = λ any. taken-kind (c .shades) (length (l .xs)) _ (t .corner) (t .attaches .given) any (t .attaches .taken);
+    }
+
+pub call-ran : (l : CornerLists) (sheet : List ℕ) (c : Call) → Accepted (lentOf l (c .shades) sheet (c .rooms)) (c .settings) (c .pass) → Ran l c sheet (afterCall l sheet c)
 call-ran l sheet c w =
     let s = standing-sound {l = l} (record { listed = w .listed; given = w .given; one-cell = w .one-cell }) in
-    let h = pass-history l sheet (c .settings) (w .few) s (c .pass) in
+    let h = pass-history l (c .shades) sheet (c .settings) (w .few) s (c .pass) in
     record {
       history = h;
       extended = history-extended (w .few) s h;
       each = attached-at (w .few) s h;
-      counted = pass-counted l sheet (c .settings) (w .few) s (c .pass);
-      marks = pass-marks l sheet (c .settings) (w .few) s (c .pass);
+      kinds = λ n below. of-its-kind l c sheet _ n (attached-at (w .few) s h n below);
+      counted = pass-counted l (c .shades) sheet (c .settings) (w .few) s (c .pass);
+      marks = pass-marks l (c .shades) sheet (c .settings) (w .few) s (c .pass);
     }
 
 -- a call's outcome: refused, or it was accepted and ran
 pub data Outcomes (l : CornerLists) (sheet : List ℕ) (c : Call) : Outcome PassStats → Type 0 where
   was-refused : (r : Refusal) → Outcomes l sheet c (refused r)
-  ran : (a : After PassStats) → Accepted (lentOf l sheet (c .rooms)) (c .settings) (c .pass) → Ran l c sheet a → Outcomes l sheet c (done a)
+  ran : (a : After PassStats) → Accepted (lentOf l (c .shades) sheet (c .rooms)) (c .settings) (c .pass) → Ran l c sheet a → Outcomes l sheet c (done a)
 
 pub outcomes : (l : CornerLists) (sheet : List ℕ) (c : Call) → Outcomes l sheet c (step l sheet c)
 outcomes l sheet c = subst (Outcomes l sheet c) (sym (step-as l sheet c)) (go (checkedCall l sheet c) refl)
@@ -189,25 +204,25 @@ module _ (l : CornerLists) where
   standing-after sheet s (c ∷ cs) = standing-after (sheetAfter sheet (step l sheet c)) (standing-step sheet s c) cs
 
   -- all that happened to the labels, from the given ones on
-  pub run-histories : (sheet : List ℕ) (cs : List Call) → Histories (cornersOf l) sheet (attachedIn (run l sheet cs)) (sheetOf l sheet cs)
+  pub run-histories : (sheet : List ℕ) (cs : List Call) → Histories l sheet (attachedIn (run l sheet cs)) (sheetOf l sheet cs)
   unfolding run sheetOf attachedIn
   run-histories sheet [] = before
   run-histories sheet (c ∷ cs) = go (step l sheet c) (outcomes l sheet c) (λ after. run-histories after cs)
     where
-      go : (o : Outcome PassStats) → Outcomes l sheet c o → ((after : List ℕ) → Histories (cornersOf l) after (attachedIn (run l after cs)) (sheetOf l after cs))
-          → Histories (cornersOf l) sheet (attachedIn (o ∷ run l (sheetAfter sheet o) cs)) (sheetOf l (sheetAfter sheet o) cs)
+      go : (o : Outcome PassStats) → Outcomes l sheet c o → ((after : List ℕ) → Histories l after (attachedIn (run l after cs)) (sheetOf l after cs))
+          → Histories l sheet (attachedIn (o ∷ run l (sheetAfter sheet o) cs)) (sheetOf l (sheetAfter sheet o) cs)
       go o (was-refused r) w = w sheet
-      go o (ran a b d) w = histories-then (pass (tolerancesOf (c .settings)) before (d .history)) (w (a .sheet))
+      go o (ran a b d) w = histories-then (pass (c .shades) (tolerancesOf (c .settings)) before (d .history)) (w (a .sheet))
 
   -- the labelled cells after a list of calls are the given ones and all new ones
-  pub run-extended : (sheet : List ℕ) → Standing l sheet → (cs : List Call) → Extended (cornersOf l) sheet (attachedIn (run l sheet cs)) (sheetOf l sheet cs)
+  pub run-extended : (sheet : List ℕ) → Standing l sheet → (cs : List Call) → Extended (length (l .xs)) sheet (attachedIn (run l sheet cs)) (sheetOf l sheet cs)
   unfolding run sheetOf attachedIn
   run-extended sheet s [] = extended-marked (standing-sound s) refl (record { same-label = λ p h. refl })
   run-extended sheet s (c ∷ cs) = go (step l sheet c) (outcomes l sheet c) (λ after t. run-extended after t cs)
     where
       go : (o : Outcome PassStats) → Outcomes l sheet c o
-          → ((after : List ℕ) → Standing l after → Extended (cornersOf l) after (attachedIn (run l after cs)) (sheetOf l after cs))
-          → Extended (cornersOf l) sheet (attachedIn (o ∷ run l (sheetAfter sheet o) cs)) (sheetOf l (sheetAfter sheet o) cs)
+          → ((after : List ℕ) → Standing l after → Extended (length (l .xs)) after (attachedIn (run l after cs)) (sheetOf l after cs))
+          → Extended (length (l .xs)) sheet (attachedIn (o ∷ run l (sheetAfter sheet o) cs)) (sheetOf l (sheetAfter sheet o) cs)
       go o (was-refused r) w = w sheet s
       go o (ran a b d) w = extended-then (d .extended) (w (a .sheet) (sound-standing s (d .extended .sound)))
 
@@ -224,7 +239,7 @@ module _ (l : CornerLists) where
 
   -- each new corner had an accepted edge to a labelled cardinal neighbour, or no such neighbour, when it was attached
   pub run-attached : (sheet : List ℕ) → Standing l sheet → (cs : List Call) (n : ℕ) → n < length (attachedIn (run l sheet cs))
-      → AttachedInTurn (cornersOf l) sheet (attachedIn (run l sheet cs)) (sheetOf l sheet cs) n
+      → AttachedInTurn l sheet (attachedIn (run l sheet cs)) (sheetOf l sheet cs) n
   run-attached sheet s cs n h = attached-in-turn (few-corners sheet cs n h) (standing-sound s) (run-histories sheet cs) n h
 
   -- ---- marks
@@ -288,15 +303,17 @@ module _ (l : CornerLists) where
   -- ---- no refusal in mid-list
 
   pub fit-accepts : (sheet : List ℕ) (c : Call) → Standing l sheet → CallInside l c → Accepts l sheet c
-  fit-accepts sheet c s f = record { done-so = step-as l sheet c ∙ ap (λ (k : Checked). unless k (afterCall l sheet c)) (accepted-fine (lentOf l sheet (c .rooms)) (c .settings) (c .pass) right) }
+  fit-accepts sheet c s f = record { done-so = step-as l sheet c ∙ ap (λ (k : Checked). unless k (afterCall l sheet c)) (accepted-fine (lentOf l (c .shades) sheet (c .rooms)) (c .settings) (c .pass) right) }
     where
-      right : Accepted (lentOf l sheet (c .rooms)) (c .settings) (c .pass)
+      right : Accepted (lentOf l (c .shades) sheet (c .rooms)) (c .settings) (c .pass)
       right =
           record {
             queue-long = f .queue-long;
             attached-long = f .attached-long;
+            shades-long = f .shades-long;
             few = f .few;
             corners-inside = f .corners-inside;
+            shades-inside = f .shades-inside;
             settings-inside = f .settings-inside;
             pass-inside = f .pass-inside;
             listed = s .listed;

@@ -96,7 +96,7 @@ module _ {sheet ps : List ℕ} {p : ℕ} (w : Waiting sheet (p ∷ ps)) where
   waiting-marked same = waiting-same others-wait same
 
   -- and where a corner was attached to the first
-  pub waiting-attached : {cs : Corners} {tol : Tolerances} {k : ℕ} → Sound cs sheet → cs .count ≤ 1024 → Attaches cs tol sheet p k → Waiting (attached sheet (cellOf p) k) ps
+  pub waiting-attached : {cs : Corners} {tol : Tolerances} {k : ℕ} → Sound (cs .count) sheet → cs .count ≤ 1024 → Attaches cs tol sheet p k → Waiting (attached sheet (cellOf p) k) ps
   waiting-attached {k = k} s few a =
       record {
         on = λ q m. w .on q (List·Memᴰ·tail m);
@@ -120,5 +120,6 @@ module _ {sheet ps : List ℕ} {p : ℕ} (w : Waiting sheet (p ∷ ps)) where
         bare = first-bare;
         given = a .given;
         free = a .free;
+        taken = a .taken;
         edge = passes-exactly (seenOf (cs .corner) sheet) tol (cellOf p) (cs .corner k) .0 (a .edges);
       }

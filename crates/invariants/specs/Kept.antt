@@ -7,7 +7,7 @@ use mathlib.Core.Logic.{_↔_, _⊎_}
 use Prim.Native.Nat.{ℕ, _+_, _<_, _≤_}
 use lib.ListN.{length, getD, take}
 use Rattle.sizes.specs.Sizes.{placeCount}
-use Rattle.sheet.specs.Corners.{Corners}
+use Rattle.sheet.specs.Corners.{Corners, CornerLists}
 use Rattle.sheet.specs.Cells.{cellOf}
 use Rattle.sheet.specs.Words.{labelAt}
 use Rattle.sheet.specs.declared.Cell.{Cell}
@@ -16,12 +16,13 @@ use Rattle.labels.specs.Labelled.{LabelledCell, labelCount}
 use Rattle.labels.specs.Used.{OneCell}
 use Rattle.positions_policy.specs.declared.Tolerances.{Tolerances}
 use Rattle.arguments.specs.Accepted.{Known}
+use Rattle.arguments.specs.Shades.{cornersOf}
 use Rattle.passes.specs.History.{Attaches, History}
 
--- a sheet that belongs to the corners: it is long enough, names given corners only, and each at one cell
-pub record Sound (cs : Corners) (sheet : List ℕ) : Type 0 where
+-- a sheet that belongs to n corners: it is long enough, names given corners only, and each at one cell
+pub record Sound (n : ℕ) (sheet : List ℕ) : Type 0 where
   pub long : placeCount ≤ length sheet
-  pub known : Known (cs .count) sheet
+  pub known : Known n sheet
   pub one-cell : OneCell sheet
 
 -- labels that stood are kept
@@ -34,10 +35,10 @@ Once [] = Unit {0}
 Once (p ∷ ps) = (List·Memᴰ p ps → ⊥) × Once ps
 
 -- the sheet after some corners were attached to the listed places: the labels that stood are kept, the labelled cells are those before and
--- those listed, which were unlabelled, each listed once, and the sheet still belongs to the corners
-pub record Extended (cs : Corners) (first made last : List ℕ) : Type 0 where
+-- those listed, which were unlabelled, each listed once, and the sheet still belongs to the n corners
+pub record Extended (n : ℕ) (first made last : List ℕ) : Type 0 where
   pub same-length : length last ≡ length first
-  pub sound : Sound cs last
+  pub sound : Sound n last
   pub kept : Kept first last
   pub labelled : (p : ℕ) → p < placeCount → LabelledCell last (cellOf p) ↔ (LabelledCell first (cellOf p) ⊎ List·Memᴰ p made)
   pub on : (p : ℕ) → List·Memᴰ p made → p < placeCount
@@ -49,7 +50,7 @@ pub record Extended (cs : Corners) (first made last : List ℕ) : Type 0 where
 -- edge to a labelled cardinal neighbour, or there was no such neighbour; and the cell still holds it on the last sheet.
 pub record Attachment (cs : Corners) (tol : Tolerances) (first earlier sheet last : List ℕ) (p : ℕ) : Type 0 where
   pub corner : ℕ
-  pub labels : Extended cs first earlier sheet
+  pub labels : Extended (cs .count) first earlier sheet
   pub attaches : Attaches cs tol sheet p corner
   pub holds : labelAt last (cellOf p) ≡ Label.Corner corner
 
@@ -61,16 +62,18 @@ pub record AttachedAt (cs : Corners) (tol : Tolerances) (first made last : List 
 
 -- ---- several passes, one after the other
 
--- from the first sheet to the last by passes, each with some tolerances of its own, that attached the listed places in order
-pub data Histories (cs : Corners) (first : List ℕ) : List ℕ → List ℕ → Type 0 where
-  before : Histories cs first [] first
-  pass : {made last more after : List ℕ} (tol : Tolerances) → Histories cs first made last → History cs tol last more after → Histories cs first (made ++ more) after
+-- from the first sheet to the last by passes, each with some shades and tolerances of its own, that attached the listed places in order
+pub data Histories (l : CornerLists) (first : List ℕ) : List ℕ → List ℕ → Type 0 where
+  before : Histories l first [] first
+  pass : {made last more after : List ℕ} (shades : List ℕ) (tol : Tolerances) → Histories l first made last → History (cornersOf l shades) tol last more after
+      → Histories l first (made ++ more) after
 
--- The n-th of all new cells, counted over all passes: it was attached with some tolerances, on the sheet to which all before it had led. Which
--- tolerances is not said here. It is said call by call: `Invariant.each-call` (Calls.antt) holds for each call that ran a `Ran`, whose `each`
--- has that call's own cell size and band.
-pub record AttachedInTurn (cs : Corners) (first made last : List ℕ) (n : ℕ) : Type 0 where
+-- The n-th of all new cells, counted over all passes: it was attached with some shades and tolerances, on the sheet to which all before it had led.
+-- Which they are is not said here. It is said call by call: `Invariant.each-call` (Calls.antt) holds for each call that ran a `Ran`, whose `each`
+-- and `kinds` have that call's own shades, cell size and band.
+pub record AttachedInTurn (l : CornerLists) (first made last : List ℕ) (n : ℕ) : Type 0 where
+  pub shades : List ℕ
   pub tol : Tolerances
   pub sheet : List ℕ
-  pub reached : Histories cs first (take n made) sheet
-  pub attachment : Attachment cs tol first (take n made) sheet last (getD made n 0)
+  pub reached : Histories l first (take n made) sheet
+  pub attachment : Attachment (cornersOf l shades) tol first (take n made) sheet last (getD made n 0)

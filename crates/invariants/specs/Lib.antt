@@ -2,3 +2,4 @@
 pub mod Kept
 pub mod Marks
 pub mod Calls
+pub mod Unshaded

@@ -6,3 +6,4 @@ pub mod Box
 pub mod Rim
 pub mod Used
 pub mod Pairing
+pub mod Count

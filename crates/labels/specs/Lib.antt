@@ -4,3 +4,4 @@ pub mod Labelled
 pub mod Box
 pub mod Rim
 pub mod Used
+pub mod Count

@@ -9,7 +9,8 @@ use lib.ListN.{length}
 use lib.Dec.{T}
 use lib.Ieee.{Float}
 use lib.Ieee.Scale.{finite}
-use Rattle.sheet.specs.Corners.{Corners, CornerLists, cornersOf}
+use Rattle.sheet.specs.Corners.{Corners, CornerLists}
+use Rattle.arguments.specs.Shades.{anyShade, cornersOf}
 use Rattle.refusal.specs.declared.Refusal.{Refusal}
 use Rattle.labels.specs.Labelled.{labelCount}
 use Rattle.labels.specs.Rim.{rim}
@@ -118,9 +119,9 @@ module _ (set : Settings) (p : LocalExtensionParams) (limit : ℕ) (cs : Corners
 
 -- ---- the pass
 
-module _ (corners : CornerLists) (sheet list : List ℕ) (set : Settings) (p : LocalExtensionParams) where
+module _ (corners : CornerLists) (shades sheet list : List ℕ) (set : Settings) (p : LocalExtensionParams) where
   -- arguments that are not refused
-  module _ (a : Accepted (lentOf corners sheet (rooms 0 (length list))) set (Pass.Local p)) where
+  module _ (a : Accepted (lentOf corners shades sheet (rooms 0 (length list))) set (Pass.Local p)) where
     pub accepted-gatherable : {places : List ℕ} → length places ≡ 1024 → Gatherable sheet places
     accepted-gatherable n = record { long = a .given .long; few = omega (arith, labels-few (a .given) (a .one-cell), a .few); size = n }
 
@@ -151,37 +152,52 @@ module _ (corners : CornerLists) (sheet list : List ℕ) (set : Settings) (p : L
         }
 
   -- what the answer says of the rim, and of the rounds
-  module _ {labels depth : ℕ} {edge : Bool} {stats : LocalStats} (counted : labels ≡ labelCount sheet) (deep : depth ≡ depthOf p) where
+  module _ {labels depth : ℕ} {edge shaded : Bool} {stats : LocalStats} (counted : labels ≡ labelCount sheet) (deep : depth ≡ depthOf p)
+      (any : shaded ≡ anyShade shades (length (corners .xs))) where
     -- under four labels
-    pub pass-few : {at : LocalProgress} → labels < 4 → at ≡ noProgress labels → edge ≡ rim depth sheet → stats ≡ statsOf (record { progress = at; rounds = 0 }) edge
-        → localOut (LocalAnswer.Done stats) sheet list ≡ localLeaves (done (localAfter (cornersOf corners) set p sheet)) sheet list
+    pub pass-few : {at : LocalProgress} → labels < 4 → at ≡ noProgress labels → edge ≡ rim depth sheet → stats ≡ statsOf (record { progress = at; rounds = 0 }) edge shaded
+        → localOut (LocalAnswer.Done stats) sheet list ≡ localLeaves (done (localAfter (cornersOf corners shades) set p sheet)) sheet list
     unfolding localAfter localRun localLimit localFrom
-    pass-few h g f e = rw (← counted, lt-ltb labels 4 h, e, g, f, deep)
+    pass-few h g f e = rw (← counted, lt-ltb labels 4 h, e, g, f, deep, any)
 
     -- all rounds done
-    pub pass-done : (cs : Corners) → cs ≡ cornersOf corners → {sheet' list' used' places' : List ℕ} {answer : RoundsDone} → 4 ≤ labels
+    pub pass-done : (cs : Corners) → cs ≡ cornersOf corners shades → {sheet' list' used' places' : List ℕ} {answer : RoundsDone} → 4 ≤ labels
         → RoundsLeft (localFrom cs set p (p .«max_iters») (startOf sheet list labels)) (cs .count) list sheet' list' used' places' answer → edge ≡ rim depth sheet'
-        → stats ≡ statsOf answer edge → localOut (LocalAnswer.Done stats) sheet' list' ≡ localLeaves (done (localAfter (cornersOf corners) set p sheet)) sheet list
+        → stats ≡ statsOf answer edge shaded → localOut (LocalAnswer.Done stats) sheet' list' ≡ localLeaves (done (localAfter (cornersOf corners shades) set p sheet)) sheet list
     unfolding localAfter localRun localLimit
     pass-done cs held h l f e =
-        rw (← held, ← counted, le-ltb labels 4 h, e, f, deep, l .rounds-are, l .left .holds .counts-are, l .left .holds .largest-is, l .left .holds .sheet-is, l .left .holds .list-is)
+        rw (
+          ← held,
+          ← counted,
+          le-ltb labels 4 h,
+          e,
+          f,
+          deep,
+          any,
+          l .rounds-are,
+          l .left .holds .counts-are,
+          l .left .holds .largest-is,
+          l .left .holds .unmatched-is,
+          l .left .holds .sheet-is,
+          l .left .holds .list-is,
+        )
 
   -- ---- the call
 
   -- what it promises of its answer and its buffers, and of what the answer says
   abbrev pub Promised : LocalOut → Type 0
   Promised out =
-      let o = localStep corners sheet set p (rooms 0 (length list)) in
+      let o = localStep corners shades sheet set p (rooms 0 (length list)) in
       (out ≡ localLeaves o sheet list) × (localSaid (out .answer) ≡ outcomeDue localValues o)
 
-  promised : {out : LocalOut} → out ≡ localLeaves (localStep corners sheet set p (rooms 0 (length list))) sheet list → Promised out
+  promised : {out : LocalOut} → out ≡ localLeaves (localStep corners shades sheet set p (rooms 0 (length list))) sheet list → Promised out
   promised e = (e, local-said _ sheet list _ e)
 
   -- its check refuses it, or lets it pass
-  module _ (check : Checked) (is : check ≡ checked (lentOf corners sheet (rooms 0 (length list))) set (Pass.Local p)) where
+  module _ (check : Checked) (is : check ≡ checked (lentOf corners shades sheet (rooms 0 (length list))) set (Pass.Local p)) where
     leaves-refused : (r : Refusal) → check ≡ Checked.Refused r
         → localOut (LocalAnswer.Refused r) sheet list
-        ≡ localLeaves (localStep corners sheet set p (rooms 0 (length list))) sheet list
+        ≡ localLeaves (localStep corners shades sheet set p (rooms 0 (length list))) sheet list
     unfolding localStep
     leaves-refused r e = rw (← is, e)
 
@@ -189,12 +205,12 @@ module _ (corners : CornerLists) (sheet list : List ℕ) (set : Settings) (p : L
     call-refused r e = promised (leaves-refused r e)
 
     module _ (e : check ≡ Checked.Fine) where
-      pub call-accepted : Accepted (lentOf corners sheet (rooms 0 (length list))) set (Pass.Local p)
-      call-accepted = accepted (lentOf corners sheet (rooms 0 (length list))) set (Pass.Local p) (sym is ∙ e)
+      pub call-accepted : Accepted (lentOf corners shades sheet (rooms 0 (length list))) set (Pass.Local p)
+      call-accepted = accepted (lentOf corners shades sheet (rooms 0 (length list))) set (Pass.Local p) (sym is ∙ e)
 
-      leaves-done : (out : LocalOut) → out ≡ localLeaves (done (localAfter (cornersOf corners) set p sheet)) sheet list → out ≡ localLeaves (localStep corners sheet set p (rooms 0 (length list))) sheet list
+      leaves-done : (out : LocalOut) → out ≡ localLeaves (done (localAfter (cornersOf corners shades) set p sheet)) sheet list → out ≡ localLeaves (localStep corners shades sheet set p (rooms 0 (length list))) sheet list
       unfolding localStep
       leaves-done out h = rw (← is, e) h
 
-      pub call-done : (out : LocalOut) → out ≡ localLeaves (done (localAfter (cornersOf corners) set p sheet)) sheet list → Promised out
+      pub call-done : (out : LocalOut) → out ≡ localLeaves (done (localAfter (cornersOf corners shades) set p sheet)) sheet list → Promised out
       call-done out h = promised (leaves-done out h)

@@ -58,8 +58,8 @@ walked-round cs set p s = walked-all (localVisit cs set p) (λ t. t .sheet) (rou
 tried-else : {cs : Corners} {tol : Tolerances} {s after : LocalState} (n : ℕ) → n < 16384 → cs .count ≤ 1024 → 16384 ≤ length (s .sheet)
     → labelAt (s .sheet) (cellOf n) ≡ Label.Unlabelled
     → Tried cs tol (cellOf n) s after → Elsewhere (s .sheet) (after .sheet) n
-tried-else n h few long e (passed m l v) = record { same-length = refl; same-label = λ q k d. refl }
-tried-else n h few long e (attaches m l k v w) =
+tried-else n h few long e (passed m l u v) = record { same-length = refl; same-label = λ q k d. refl }
+tried-else n h few long e (attaches m l u k v w) =
     let t = attaching few long (cell-on n h) e w in
     record { same-length = clear-same t; same-label = λ q i d. clear-else t q i (λ z. d (z ∙ place-cell n h)) }
 
@@ -165,6 +165,7 @@ holds-state {s} {before} h =
       made = (ap₂ (λ (n : ℕ) (l : List ℕ). take n l) (h .made-is) (h .list-is) ∙ over-read (s .made) before) t;
       counts = h .counts-are t;
       largest = h .largest-is t;
+      unmatched = h .unmatched-is t;
     }
 
 -- one function after another: the rest of the list is as it was before the first
@@ -179,6 +180,7 @@ left-then {s} {after} {before = before} h g l =
             made-is = l .holds .made-is;
             counts-are = l .holds .counts-are;
             largest-is = l .holds .largest-is;
+            unmatched-is = l .holds .unmatched-is;
           };
       extending = l .extending;
     }

@@ -10,7 +10,7 @@ use Rattle.labels.specs.Labelled.{isLabelled}
 use Rattle.arguments.specs.declared.Settings.{Settings}
 use Rattle.arguments.specs.declared.LocalExtensionParams.{LocalExtensionParams}
 use Rattle.passes.specs.Counting.{noCounts, visits}
-use Rattle.passes.specs.Local.{depthOf, LocalState, LocalRounds, localVisit}
+use Rattle.passes.specs.Local.{depthOf, LocalState, LocalRounds, localVisit, unmatchedIf}
 use Rattle.passes.specs.declared.LargestResidual.{LargestResidual}
 use Rattle.passes.specs.declared.LocalStats.{LocalStats}
 use Rattle.region.specs.Region.{Region, regionAt}
@@ -57,7 +57,7 @@ pub record RoundAsked (n : ℕ) (sheet list used places : List ℕ) (at : LocalP
 
 -- nothing done yet
 abbrev pub noProgress : ℕ → LocalProgress
-noProgress labels = record { counts = noCounts; residual = LargestResidual.Nothing; labels = labels }
+noProgress labels = record { counts = noCounts; residual = LargestResidual.Nothing; labels = labels; unmatched = 0 }
 
 abbrev pub startOf : List ℕ → List ℕ → ℕ → LocalRounds
 startOf sheet list labels = record { state = stateOf sheet list (noProgress labels); rounds = 0 }
@@ -73,6 +73,13 @@ pub record RoundsLeft (r : LocalRounds) (n : ℕ) (before sheet list used places
   pub left : Left (r .state) n before sheet list used places (answer .progress)
   pub rounds-are : answer .rounds ≡ r .rounds
 
--- what the answer says of the rounds and of the rim
-abbrev pub statsOf : RoundsDone → Bool → LocalStats
-statsOf r edge = record { counts = r .progress .counts; iterations = r .rounds; residual = r .progress .residual; rim = edge }
+-- what the answer says of the rounds and of the rim, and, if any shade stands, of the corners passed over
+abbrev pub statsOf : RoundsDone → Bool → Bool → LocalStats
+statsOf r edge shaded =
+    record {
+      counts = r .progress .counts;
+      iterations = r .rounds;
+      residual = r .progress .residual;
+      rim = edge;
+      unmatched = unmatchedIf shaded (r .progress .unmatched);
+    }

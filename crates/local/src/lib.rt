@@ -6,9 +6,10 @@ ghost use mathlib.Core.Path.{_≡_};
 ghost use Prim.Native.Nat.{_≤_};
 ghost use lib.ListN.{length};
 ghost use Rattle.sizes.specs.Sizes.{placeCount};
-ghost use Rattle.sheet.specs.Corners.{cornerLists, cornersOf, cornersIn};
+ghost use Rattle.sheet.specs.Corners.{cornerLists, cornersIn};
+ghost use Rattle.arguments.specs.Shades.{cornersOf};
 ghost use Rattle.passes.specs.Outcome.{done};
-ghost use Rattle.passes.specs.Local.{depthOf, localRound, localFrom, localAfter};
+ghost use Rattle.passes.specs.Local.{depthOf, localRound, localFrom, unmatchedIf, localAfter};
 ghost use Rattle.passes.specs.Step.{localStep, localOut, localLeaves, lentOf, rooms};
 ghost use Rattle.passes.specs.Said.{localValues, localSaid, outcomeDue};
 ghost use Rattle.arguments.specs.Accepted.{Accepted};
@@ -26,6 +27,7 @@ use passes::Counts;
 use passes::LargestResidual;
 use passes::LocalAnswer;
 use passes::LocalStats;
+use passes::Unmatched;
 use region::Window;
 use sizes::CORNERS;
 use sizes::PLACES;
@@ -89,7 +91,7 @@ fn next_tried(
 
 // One round: all unlabelled cells of the region of now, by i then j. Answers how far the pass has come.
 fn local_round(
-    corners: &[f32; 3 * CORNERS],
+    corners: &[f32; 4 * CORNERS],
     sheet: &mut [u16],
     attached: &mut [u16],
     used: &mut [u8; CORNERS],
@@ -147,12 +149,13 @@ fn no_progress(labels: usize) -> LocalProgress
         counts,
         residual,
         labels,
+        unmatched: 0,
     }
 }
 
 // Round after round, until one attaches nothing or the limit is reached; a limit of 0 does none.
 fn local_rounds(
-    corners: &[f32; 3 * CORNERS],
+    corners: &[f32; 4 * CORNERS],
     sheet: &mut [u16],
     attached: &mut [u16],
     used: &mut [u8; CORNERS],
@@ -201,18 +204,31 @@ fn local_rounds(
     }
 }
 
-// What the answer says of the rounds and of the rim.
-fn stats_of(done: RoundsDone, rim: bool) -> LocalStats
-    ensures { λ r. ⌜ r ≡ statsOf done rim ⌝ }
+// How many corners were passed over, if any shade stands.
+fn unmatched_of(shaded: bool, unmatched: usize) -> Unmatched
+    ensures { λ r. ⌜ r ≡ unmatchedIf shaded unmatched ⌝ }
+{
+    if shaded {
+        Unmatched::Count(unmatched)
+    } else {
+        Unmatched::NoShades
+    }
+}
+
+// What the answer says of the rounds and of the rim, and of the corners passed over.
+fn stats_of(done: RoundsDone, rim: bool, shaded: bool) -> LocalStats
+    ensures { λ r. ⌜ r ≡ statsOf done rim shaded ⌝ }
 {
     let progress = done.progress;
     let counts = progress.counts;
     let residual = progress.residual;
+    let unmatched = unmatched_of(shaded, progress.unmatched);
     LocalStats {
         counts,
         iterations: done.rounds,
         residual,
         rim,
+        unmatched,
     }
 }
 
@@ -221,18 +237,20 @@ fn local_accepted(
     xs: &[f32],
     ys: &[f32],
     pitches: &[f32],
+    shades: &[u8],
     sheet: &mut [u16],
     attached: &mut [u16],
     settings: Settings,
     params: LocalExtensionParams,
 ) -> LocalStats
-    requires { ⌜ Accepted (lentOf (cornerLists (now xs) (now ys) (now pitches)) (now sheet) (rooms 0 (length (now attached))))
+    requires { ⌜ Accepted (lentOf (cornerLists (now xs) (now ys) (now pitches)) (now shades) (now sheet) (rooms 0 (length (now attached))))
         settings (Pass.Local params) ⌝ }
     ensures { λ r. ⌜ localOut (LocalAnswer.Done r) (now (sheet .exit)) (now (attached .exit))
-        ≡ localLeaves (done (localAfter (cornersOf (cornerLists (now (xs .entry)) (now (ys .entry)) (now (pitches .entry)))) settings params
-        (now (sheet .entry)))) (now (sheet .entry)) (now (attached .entry)) ⌝ }
+        ≡ localLeaves (done (localAfter (cornersOf (cornerLists (now (xs .entry)) (now (ys .entry)) (now (pitches .entry))) (now (shades .entry)))
+        settings params (now (sheet .entry)))) (now (sheet .entry)) (now (attached .entry)) ⌝ }
 {
     let depth = depth_of(params);
+    let shaded = arguments::any_shade(shades, xs.len());
     let mut places = [0u16; CORNERS];
     let labels = supports::gather_labelled(sheet, &mut places);
     if labels < 4 {
@@ -240,14 +258,14 @@ fn local_accepted(
             progress: no_progress(labels),
             rounds: 0,
         };
-        return stats_of(nothing, labels::rim_reached(sheet, depth));
+        return stats_of(nothing, labels::rim_reached(sheet, depth), shaded);
     }
     let mut used = labels::mark_used(sheet);
     let mut memory = [0u16; PLACES];
     let mut predictions = [0.0f32; 3 * PLACES];
     let nothing = 0.0f32 / 0.0f32;
-    let mut corners = [nothing; 3 * CORNERS];
-    arguments::hold_corners(xs, ys, pitches, &mut corners);
+    let mut corners = [nothing; 4 * CORNERS];
+    arguments::hold_corners(xs, ys, pitches, shades, &mut corners);
     let setup = LocalSetup {
         count: xs.len(),
         settings,
@@ -264,35 +282,37 @@ fn local_accepted(
         labels,
         setup,
     );
-    stats_of(rounds, labels::rim_reached(sheet, depth))
+    stats_of(rounds, labels::rim_reached(sheet, depth), shaded)
 }
 
 // Extends the labels by local fits: each round walks, by i then j, the unlabelled cells of the label box, of strips of the depth on labelled rows
 // and columns, and of the four corner blocks. A cell is tried where the fit on its four nearest labels maps it to, if there is one and none of its
-// residuals is above the gate; a corner that is found is attached, and both marks of its cell are cleared. A round that attaches nothing is the last,
-// and under four labels there is none. The attached list holds the new cells' places in order at its front, its rest untouched; no other mark
-// changes. The answer has the four counts, the number of rounds, the largest residual recorded, and the rim. A refused call changes nothing and
-// answers why. `said` is the same answer in 01's number or values.
+// residuals is above the gate; a corner of its kind that is found is attached, and both marks of its cell are cleared. A round that attaches nothing
+// is the last, and under four labels there is none. The attached list holds the new cells' places in order at its front, its rest untouched; no other mark
+// changes. The answer has the four counts, the number of rounds, the largest residual recorded, the rim, and, if any shade stands, how many
+// corners were passed over for their kind. A refused call changes nothing and answers why. `said` is the same answer in 01's number or values.
 pub fn extend_via_local_homography(
     xs: &[f32],
     ys: &[f32],
     pitches: &[f32],
+    shades: &[u8],
     sheet: &mut [u16],
     attached: &mut [u16],
     settings: Settings,
     params: LocalExtensionParams,
 ) -> LocalAnswer
     ensures { λ r. ⌜ localOut r (now (sheet .exit)) (now (attached .exit))
-        ≡ localLeaves (localStep (cornerLists (now (xs .entry)) (now (ys .entry)) (now (pitches .entry))) (now (sheet .entry)) settings params
-        (rooms 0 (length (now (attached .entry))))) (now (sheet .entry)) (now (attached .entry)) ⌝ }
+        ≡ localLeaves (localStep (cornerLists (now (xs .entry)) (now (ys .entry)) (now (pitches .entry))) (now (shades .entry)) (now (sheet .entry))
+        settings params (rooms 0 (length (now (attached .entry))))) (now (sheet .entry)) (now (attached .entry)) ⌝ }
     ensures said { λ r. ⌜ localSaid r ≡ outcomeDue localValues (localStep
-        (cornerLists (now (xs .entry)) (now (ys .entry)) (now (pitches .entry)))
+        (cornerLists (now (xs .entry)) (now (ys .entry)) (now (pitches .entry))) (now (shades .entry))
         (now (sheet .entry)) settings params (rooms 0 (length (now (attached .entry))))) ⌝ }
 {
     let checked = arguments::check_arguments(
         xs,
         ys,
         pitches,
+        shades,
         sheet,
         0,
         attached.len(),
@@ -302,5 +322,5 @@ pub fn extend_via_local_homography(
     if let Checked::Refused(refusal) = checked {
         return LocalAnswer::Refused(refusal);
     }
-    LocalAnswer::Done(local_accepted(xs, ys, pitches, sheet, attached, settings, params))
+    LocalAnswer::Done(local_accepted(xs, ys, pitches, shades, sheet, attached, settings, params))
 }

@@ -1,9 +1,10 @@
 -- A visit and what is remembered of the cells after it: of a cell of which nothing is known, where the fit maps one to, and by what is known of
 -- one. Assumes nothing.
-use mathlib.Core.Path.{_≡_, sym, ap, ap₂, _∙_}
-use mathlib.Core.Bool.{not, true, false}
+use mathlib.Core.Path.{_≡_, refl, sym, ap, ap₂, _∙_}
+use mathlib.Core.Bool.{Bool, not, true, false}
 use mathlib.Core.List.{List}
-use Prim.Native.Nat.{ℕ}
+use Prim.Native.Nat.{ℕ, _+_, _*_, _<_, _≤_}
+use native.Mathlib.Omega.{arith}
 use borrow.Author.Tests.{not-true, not-false}
 use lib.ListN.{take}
 use lib.Ieee.{Float, ofBits, binary32, lt}
@@ -16,19 +17,20 @@ use Rattle.arguments.specs.declared.Settings.{Settings}
 use Rattle.arguments.specs.declared.LocalExtensionParams.{LocalExtensionParams}
 use Rattle.candidates.specs.Candidates.{lastDistance}
 use Rattle.candidates.specs.declared.Candidates.{Candidates}
-use Rattle.extension_common.specs.TryCell.{gathered, tryAt}
+use Rattle.extension_common.specs.TryCell.{gathered, unmatched, tryAt}
+use Rattle.extension_common.proofs.Laws.{unmatched-few}
 use Rattle.extension_common.specs.declared.TryCellResult.{TryCellResult}
 use Rattle.homography.specs.Fit.{applied}
 use Rattle.passes.specs.Grow.{tolerancesOf}
-use Rattle.passes.specs.Local.{supportsOf, cellPoint, fitted, localFit, worst, localSearch, gateOf, localWith, localVisit}
-use Rattle.passes.specs.declared.Counts.{Counts}
+use Rattle.passes.specs.Local.{supportsOf, cellPoint, fitted, localFit, worst, withUnmatched, localSearch, gateOf, localWith, localTry, localVisit}
+use Rattle.passes.specs.Counting.{oneMore, visits}
 use Rattle.supports.specs.Nearest.{keptOf, placesOf, nearestAmong}
 use Rattle.supports.specs.Fitted.{supportFitOf}
 use Rattle.supports.specs.declared.Supports.{Supports}
 use Rattle.supports.specs.declared.SupportFit.{SupportFit}
 use Rattle.supports.proofs.Fitted.{fit-none, fit-some}
 use Rattle.supports.proofs.Nearest.{Reached, ReachesSmall, nearest-places, nearest-reached, nearest-small}
-use Rattle.remembered.specs.Remembered.{fitAt, KnownAt, Notable, Noting, Noted, Forgotten, entryOf}
+use Rattle.remembered.specs.Remembered.{fitAt, KnownAt, Remembered, Notable, Noting, Noted, Forgotten, entryOf}
 use Rattle.remembered.specs.declared.Known.{Known}
 use Rattle.remembered.proofs.Words.{predicted-below}
 use Rattle.remembered.proofs.Notes.{recalled, noted}
@@ -36,15 +38,15 @@ use Rattle.remembered.proofs.Larger.{larger}
 use Rattle.remembered.proofs.Visits.{visit-none, visit-gated, visit-fitted, visit-idle, visit-no-candidates, visit-ambiguous, visit-predicted}
 use Rattle.remembered.proofs.Made.{made-none, made-above, made-within, made-no-candidates, made-ambiguous}
 use Rattle.remembered.proofs.Attach.{attach-remembered}
-use Rattle.local_cell.specs.Extending.{cellCounted, residualsRecorded, stateOf, Left, Recalls, Trying, Foretold, Taking, Wrote}
+use Rattle.local_cell.specs.Extending.{cellCounted, residualsRecorded, unmatchedCounted, stateOf, Left, Recalls, Trying, Foretold, Taking, Wrote, NotedIfBare}
 use Rattle.local_cell.specs.declared.LocalProgress.{LocalProgress}
-use Rattle.local_cell.proofs.Visit.{nearby, supports-are, untouched, taking-attaching}
+use Rattle.local_cell.proofs.Visit.{nearby, supports-are, untouched, taking-attaching, left-as, try-counts, counted-left, visits-more, with-counts, with-unmatched}
 
 -- an entry can be noted
 module _ {set : Settings} {p : LocalExtensionParams} {cs : Corners} {sheet list used places memory : List ℕ} {predictions : List Float} {at : LocalProgress} {c : Cell}
     (t : Trying (cs .count) sheet list used places at c) (r : Recalls set p cs sheet memory predictions at) where
   pub noting : {known : Known} → Notable known → Noting memory predictions c known
-  noting h = record { size = r .size; room = r .room; on = t .on; notable = h }
+  noting h = record { size = r .remembered .size; room = r .remembered .room; on = t .on; notable = h }
 
 -- how far a support is can be noted
 pub reaches-small : {n : ℕ} {sheet list used places : List ℕ} {at : LocalProgress} {c : Cell} {near : Supports} → Trying n sheet list used places at c
@@ -72,7 +74,7 @@ module _ (set : Settings) (p : LocalExtensionParams) {cs : Corners} {sheet list 
   unknown-none e n =
       let g = fit-none _ is (not-true (fit .found) e) in (
         untouched (t .extending) (visit-none cs set p c (stateOf sheet list at) _ of g),
-        noted r (t .on) (made-none cs set p (at .residual) sheet c near supports far (sym of ∙ g)) n,
+        record { remembered = noted (r .remembered) (t .on) (made-none cs set p (at .residual) sheet c near supports far (sym of ∙ g)) n; unmatched-few = r .unmatched-few },
       )
 
   module _ (found : not (fit .found) ≡ false) {gate most : Float} (gated : gate ≡ gateOf set p) (largest : most ≡ worst (ofBits binary32 0) (fit .residuals)) where
@@ -87,7 +89,12 @@ module _ (set : Settings) (p : LocalExtensionParams) {cs : Corners} {sheet list 
         let k = sym (ap₂ lt gated largest) ∙ e in
         rw f (
           untouched (t .extending) (visit-gated cs set p c (stateOf sheet list at) _ of _ _ has k),
-          noted (larger (fit .residuals) r) (t .on) (made-above cs set p (at .residual) sheet c near supports far (fit .h) (fit .residuals) (sym of ∙ has) k) n,
+          record {
+            remembered =
+                noted (larger (fit .residuals) (r .remembered)) (t .on)
+                (made-above cs set p (at .residual) sheet c near supports far (fit .h) (fit .residuals) (sym of ∙ has) k) n;
+            unmatched-few = r .unmatched-few;
+          },
         )
 
     -- all are within
@@ -108,52 +115,103 @@ module _ (set : Settings) (p : LocalExtensionParams) {cs : Corners} {sheet list 
             rw f (
               record { extending = t .extending; on = t .on; bare = t .bare; countable = t .countable },
               (
-                noted (larger (fit .residuals) r) (t .on) unknown-known n,
+                record { remembered = noted (larger (fit .residuals) (r .remembered)) (t .on) unknown-known n; unmatched-few = r .unmatched-few },
                 record { known = unknown-known; small = reaches-small t nearest .fourth-small },
               ),
             )
 
-        pub unknown-visit : localVisit cs set p c (stateOf sheet list at)
-            ≡ localWith c (tryAt cs sheet (tolerancesOf set) (localSearch set p) c prediction) (stateOf sheet list next)
+        pub unknown-visit : localVisit cs set p c (stateOf sheet list at) ≡ localTry cs set p c prediction (stateOf sheet list next)
         unknown-visit = rw (f, mapped) (visit-fitted cs set p c (stateOf sheet list at) _ of _ _ has within)
 
 -- ---- where the fit maps a cell to
 
 module _ {set : Settings} {p : LocalExtensionParams} {cs : Corners} {sheet memory : List ℕ} {predictions : List Float} {at : LocalProgress}
     (r : Recalls set p cs sheet memory predictions at) where
+  more : (found : TryCellResult) → at .unmatched ≤ 1024 * visits (oneMore found (at .counts))
+  more found = omega (arith, r .unmatched-few, visits-more found (at .counts))
+
   module _ {list used places : List ℕ} {c : Cell} where
-    -- the counts alone change
-    pub recalls-counted : {n : Counts} {at' : LocalProgress} → Trying (cs .count) sheet list used places at c → at' ≡ record { counts = n; residual = at .residual; labels = at .labels }
+    -- one cell more is counted
+    pub recalls-counted : (found : TryCellResult) {at' : LocalProgress} → Trying (cs .count) sheet list used places at c → at' ≡ cellCounted at found
         → Recalls set p cs sheet memory predictions at'
-    recalls-counted t e = rw e r
+    recalls-counted found t e = rw e (record { remembered = r .remembered; unmatched-few = more found })
 
     -- a corner attached
     pub recalls-attached : {k : ℕ} {taken : Corner} {sheet' list' used' places' memory' : List ℕ} {at' : LocalProgress} → Taking (cs .count) sheet list used places at c k
         → taken ≡ cs .corner k → Wrote sheet list used places at c k sheet' list' used' places' at' → Forgotten memory predictions c (taken .position) memory'
         → Recalls set p cs sheet' memory' predictions at'
-    recalls-attached t e w f = rw (w .sheet-is, w .largest-is) (attach-remembered (taking-attaching t) (t .trying .extending .four) r (rw e at f))
+    recalls-attached {k} t e w f =
+        record {
+          remembered = rw (w .sheet-is, w .largest-is) (attach-remembered (taking-attaching t) (t .trying .extending .four) (r .remembered) (rw e at f));
+          unmatched-few = rw (w .unmatched-is, w .counts-are) (more (TryCellResult.Attached k));
+        }
+
+    -- noted where no shade stands
+    noted-if : (found : TryCellResult) {known : Known} {at' : LocalProgress} {memory' : List ℕ} {predictions' : List Float} → Trying (cs .count) sheet list used places at c
+        → (cs .shades .any ≡ false → KnownAt cs set p (at .residual) sheet c known) → at' ≡ cellCounted at found
+        → NotedIfBare (cs .shades .any) memory predictions c known memory' predictions' → Recalls set p cs sheet memory' predictions' at'
+    noted-if found {memory' = memory'} {predictions' = predictions'} t k e n =
+        rw e (record { remembered = go (cs .shades .any) refl; unmatched-few = more found })
+      where
+        go : (b : Bool) → cs .shades .any ≡ b → Remembered cs set p (at .residual) sheet memory' predictions'
+        go true s = rw (n .memory-kept s, n .predictions-kept s) (r .remembered)
+        go false s = noted (r .remembered) (t .on) (k s) (n .bare s)
 
     -- no candidate
-    pub recalls-missed : {reach : ℕ} {prediction : Position} {at' : LocalProgress} {found : TryCellResult} {memory' : List ℕ} {predictions' : List Float}
+    pub recalls-missed : {reach : ℕ} {prediction : Position} {at' : LocalProgress} (found : TryCellResult) {memory' : List ℕ} {predictions' : List Float}
         → Trying (cs .count) sheet list used places at c → Foretold set p cs sheet at c reach prediction
         → found ≡ tryAt cs sheet (tolerancesOf set) (localSearch set p) c prediction → found ≡ TryCellResult.NoCandidates → at' ≡ cellCounted at found
-        → Noted memory predictions c (Known.NoCandidates reach) memory' predictions' → Recalls set p cs sheet memory' predictions' at'
-    recalls-missed t k d g e n = rw e (noted r (t .on) (made-no-candidates (k .known) (sym d ∙ g)) n)
+        → NotedIfBare (cs .shades .any) memory predictions c (Known.NoCandidates reach) memory' predictions' → Recalls set p cs sheet memory' predictions' at'
+    recalls-missed found t k d g e n = noted-if found t (λ s. made-no-candidates (k .known) (sym d ∙ g) s) e n
 
     -- an ambiguous choice
-    pub recalls-ambiguous : {reach : ℕ} {prediction : Position} {at' : LocalProgress} {candidates : Candidates} {limit : Float} {found : TryCellResult} {memory' : List ℕ} {predictions' : List Float}
+    pub recalls-ambiguous : {reach : ℕ} {prediction : Position} {at' : LocalProgress} {candidates : Candidates} {limit : Float} (found : TryCellResult) {memory' : List ℕ} {predictions' : List Float}
         → Trying (cs .count) sheet list used places at c → Foretold set p cs sheet at c reach prediction
-        → candidates ≡ gathered cs sheet (localSearch set p .«search_r») prediction → limit ≡ lastDistance candidates
+        → candidates ≡ gathered cs sheet (localSearch set p .«search_r») c prediction → limit ≡ lastDistance candidates
         → found ≡ tryAt cs sheet (tolerancesOf set) (localSearch set p) c prediction → found ≡ TryCellResult.Ambiguous → at' ≡ cellCounted at found
-        → Noted memory predictions c (Known.Ambiguous reach prediction limit) memory' predictions' → Recalls set p cs sheet memory' predictions' at'
-    recalls-ambiguous t k i h d g e n = rw e (noted r (t .on) (made-ambiguous (k .known) (sym d ∙ g) (h ∙ ap lastDistance i)) n)
+        → NotedIfBare (cs .shades .any) memory predictions c (Known.Ambiguous reach prediction limit) memory' predictions' → Recalls set p cs sheet memory' predictions' at'
+    recalls-ambiguous found t k i h d g e n = noted-if found t (λ s. made-ambiguous (k .known) (sym d ∙ g) (h ∙ ap lastDistance i) s) e n
+
+-- ---- what is passed over there
+
+module _ (set : Settings) (p : LocalExtensionParams) (cs : Corners) {sheet list used places memory : List ℕ} {predictions : List Float} (at : LocalProgress) (c : Cell) (prediction : Position)
+    (t : Trying (cs .count) sheet list used places at c) (r : Recalls set p cs sheet memory predictions at)
+    {sheet' list' used' places' memory' : List ℕ} {predictions' : List Float} {next : LocalProgress}
+    (l : Left (localWith c (tryAt cs sheet (tolerancesOf set) (localSearch set p) c prediction) (stateOf sheet list at)) (cs .count) list sheet' list' used' places' next)
+    (m : Recalls set p cs sheet' memory' predictions' next) {passed : ℕ} (is : passed ≡ unmatched cs sheet (localSearch set p .«search_r») c prediction) where
+  one-visit : visits (next .counts) ≡ visits (at .counts) + 1
+  one-visit =
+      ap visits (l .holds .counts-are ∙ with-counts c (tryAt cs sheet (tolerancesOf set) (localSearch set p) c prediction) (stateOf sheet list at))
+      ∙ visits-more (tryAt cs sheet (tolerancesOf set) (localSearch set p) c prediction) (at .counts)
+
+  same-unmatched : next .unmatched ≡ at .unmatched
+  same-unmatched = l .holds .unmatched-is ∙ with-unmatched c (tryAt cs sheet (tolerancesOf set) (localSearch set p) c prediction) (stateOf sheet list at)
+
+  passed-few : passed ≤ 1024
+  passed-few = omega (arith, is, unmatched-few cs sheet (localSearch set p .«search_r») c prediction, t .extending .few)
+
+  all-few : next .unmatched + passed ≤ 1024 * visits (next .counts)
+  all-few = omega (arith, one-visit, same-unmatched, passed-few, r .unmatched-few)
+
+  -- it can be counted
+  pub passed-fits : next .unmatched + passed < 9007199254740992
+  passed-fits = omega (arith, all-few, one-visit, t .countable)
+
+  -- and with it the cell is visited
+  pub passed-left : {next' : LocalProgress} → next' ≡ unmatchedCounted next passed
+      → Left (localTry cs set p c prediction (stateOf sheet list at)) (cs .count) list sheet' list' used' places' next' × Recalls set p cs sheet' memory' predictions' next'
+  passed-left e = (
+    left-as (try-counts cs set p c prediction (stateOf sheet list at) ∙ ap (λ (n : ℕ). withUnmatched n (localWith c (tryAt cs sheet (tolerancesOf set) (localSearch set p) c prediction) (stateOf sheet list at))) (sym is))
+        (counted-left passed e l),
+    rw e (record { remembered = m .remembered; unmatched-few = all-few }),
+  )
 
 -- ---- by what is known of a cell
 
 module _ {set : Settings} {p : LocalExtensionParams} {cs : Corners} {sheet list used places memory : List ℕ} {predictions : List Float} (at : LocalProgress) (c : Cell)
     (t : Trying (cs .count) sheet list used places at c) (r : Recalls set p cs sheet memory predictions at) {known : Known} (is : known ≡ entryOf memory predictions (placeOf c)) where
   says : {k : Known} → known ≡ k → KnownAt cs set p (at .residual) sheet c k
-  says {k} e = rw e at (recalled r (t .on) is)
+  says {k} e = rw e at (recalled (r .remembered) (t .on) is)
 
   pub known-idle : {reach : ℕ} → known ≡ Known.Idle reach → localVisit cs set p c (stateOf sheet list at) ≡ stateOf sheet list at
   known-idle e = visit-idle cs set p c (stateOf sheet list at) (says e)
@@ -167,8 +225,7 @@ module _ {set : Settings} {p : LocalExtensionParams} {cs : Corners} {sheet list 
   known-ambiguous e = visit-ambiguous cs set p c (stateOf sheet list at) (says e)
 
   module _ {reach : ℕ} {prediction : Position} (e : known ≡ Known.Predicted reach prediction) where
-    pub known-predicted : localVisit cs set p c (stateOf sheet list at)
-        ≡ localWith c (tryAt cs sheet (tolerancesOf set) (localSearch set p) c prediction) (stateOf sheet list at)
+    pub known-predicted : localVisit cs set p c (stateOf sheet list at) ≡ localTry cs set p c prediction (stateOf sheet list at)
     known-predicted = visit-predicted cs set p c (stateOf sheet list at) (says e)
 
     pub known-foretold : Notable known → Foretold set p cs sheet at c reach prediction

@@ -10,6 +10,7 @@ use lib.Seq.{length-take-le, getD-take}
 use lib.Ieee.{Float, ofBits, binary32, lt}
 use Rattle.sheet.specs.Cells.{OnSheet, placeOf}
 use Rattle.sheet.specs.Words.{labelAt, attached, marksCleared}
+use Rattle.sheet.specs.Shades.{kindAt, takes, shadesIn}
 use Rattle.sheet.specs.Corners.{Corners, cornersIn, Given, seenOf}
 use Rattle.sheet.specs.declared.Cell.{Cell}
 use Rattle.sheet.specs.declared.Label.{Label}
@@ -23,16 +24,17 @@ use Rattle.labels.proofs.Used.{tied-attached, tied-cleared, one-attached, one-c
 use Rattle.positions_policy.specs.declared.Tolerances.{Tolerances}
 use Rattle.arguments.specs.declared.Settings.{Settings}
 use Rattle.arguments.specs.declared.LocalExtensionParams.{LocalExtensionParams}
-use Rattle.candidates.specs.Candidates.{positionsIn, unmarked, candidatesAt, firstTwo}
+use Rattle.candidates.specs.Candidates.{positionsIn, unmarked, eligibleIn, candidatesAt, firstTwo}
 use Rattle.candidates.specs.declared.Candidates.{Candidates}
-use Rattle.extension_common.specs.TryCell.{gathered, tryAt}
+use Rattle.passed_over.specs.PassedOver.{passedOver}
+use Rattle.extension_common.specs.TryCell.{gathered, unmatched, tryAt}
 use Rattle.extension_common.specs.declared.Search.{Search}
 use Rattle.extension_common.specs.declared.TryCellResult.{TryCellResult}
-use Rattle.extension_common.proofs.Laws.{gathered-tied, Attachable, attachable}
+use Rattle.extension_common.proofs.Laws.{gathered-tied, unmatched-tied, Attachable, attachable}
 use Rattle.homography.specs.Fit.{applied}
 use Rattle.passes.specs.Counting.{oneMore, visits}
 use Rattle.passes.specs.Grow.{tolerancesOf}
-use Rattle.passes.specs.Local.{LocalState, supportsOf, byReach, cellPoint, LocalFit, none, fitted, localFit, worst, recordedAll, withResiduals, localSearch, gateOf, localWith, localAt, localVisit}
+use Rattle.passes.specs.Local.{LocalState, supportsOf, byReach, cellPoint, LocalFit, none, fitted, localFit, worst, recordedAll, withResiduals, withUnmatched, localSearch, gateOf, localWith, localTry, localAt, localVisit}
 use Rattle.passes.specs.declared.Counts.{Counts}
 use Rattle.passes.specs.declared.LargestResidual.{LargestResidual}
 use Rattle.passes.proofs.Over.{over-own, over-more, over-read, over-length}
@@ -40,47 +42,48 @@ use Rattle.passes.proofs.Free.{labels-few, labels-fewer}
 use Rattle.supports.specs.Nearest.{Nearby, Gatherable, Gathered, placesOf}
 use Rattle.supports.specs.declared.Supports.{Supports}
 use Rattle.remembered.proofs.Attach.{clear-long, clear-labels}
-use Rattle.local_cell.specs.Extending.{cellCounted, stateOf, Extending, Holds, Left, Trying, Taking, attachedClear, Writable, Wrote}
+use Rattle.local_cell.specs.Extending.{cellCounted, unmatchedCounted, stateOf, Extending, Holds, Left, Trying, Taking, attachedClear, Writable, Wrote}
 use Rattle.local_cell.specs.declared.LocalProgress.{LocalProgress}
 
 -- ---- what a visit does: no label changes, or it attaches a corner that may be attached; and it counts at most one cell
 
 pub data Tried (cs : Corners) (tol : Tolerances) (c : Cell) (s : LocalState) : LocalState → Type 0 where
-  passed : (n : Counts) (l : LargestResidual) → visits n ≤ visits (s .counts) + 1 → Tried cs tol c s (record { sheet = s .sheet; made = s .made; counts = n; largest = l })
-  attaches : (n : Counts) (l : LargestResidual) (k : ℕ) → visits n ≤ visits (s .counts) + 1 → Attachable cs (s .sheet) tol c k
-      → Tried cs tol c s (record { sheet = attachedClear (s .sheet) c k; made = s .made ++ (placeOf c ∷ []); counts = n; largest = l })
+  passed : (n : Counts) (l : LargestResidual) (u : ℕ) → visits n ≤ visits (s .counts) + 1
+      → Tried cs tol c s (record { sheet = s .sheet; made = s .made; counts = n; largest = l; unmatched = u })
+  attaches : (n : Counts) (l : LargestResidual) (u : ℕ) (k : ℕ) → visits n ≤ visits (s .counts) + 1 → Attachable cs (s .sheet) tol c k
+      → Tried cs tol c s (record { sheet = attachedClear (s .sheet) c k; made = s .made ++ (placeOf c ∷ []); counts = n; largest = l; unmatched = u })
 
 pub tried : (cs : Corners) (set : Settings) (p : LocalExtensionParams) (c : Cell) (s : LocalState) → Tried cs (tolerancesOf set) c s (localVisit cs set p c s)
-unfolding localVisit localAt localWith
+unfolding localVisit localAt localTry localWith
 tried cs set p c s = go (localFit (seenOf (cs .corner) (s .sheet)) (supportsOf c (s .sheet)))
   where
-    by : (rs : List Float) (r : TryCellResult) → ((k : ℕ) → r ≡ TryCellResult.Attached k → Attachable cs (s .sheet) (tolerancesOf set) c k)
-        → Tried cs (tolerancesOf set) c s (localWith c r (withResiduals rs s))
-    by rs TryCellResult.NoCandidates h = passed (oneMore TryCellResult.NoCandidates (s .counts)) (recordedAll (s .largest) rs) (omega arith)
-    by rs TryCellResult.Ambiguous h = passed (oneMore TryCellResult.Ambiguous (s .counts)) (recordedAll (s .largest) rs) (omega arith)
-    by rs TryCellResult.EdgeRejected h = passed (oneMore TryCellResult.EdgeRejected (s .counts)) (recordedAll (s .largest) rs) (omega arith)
-    by rs (TryCellResult.Attached k) h = attaches (oneMore (TryCellResult.Attached k) (s .counts)) (recordedAll (s .largest) rs) k (omega arith) (h k refl)
+    by : (rs : List Float) (u : ℕ) (r : TryCellResult) → ((k : ℕ) → r ≡ TryCellResult.Attached k → Attachable cs (s .sheet) (tolerancesOf set) c k)
+        → Tried cs (tolerancesOf set) c s (localWith c r (withUnmatched u (withResiduals rs s)))
+    by rs u TryCellResult.NoCandidates h = passed (oneMore TryCellResult.NoCandidates (s .counts)) (recordedAll (s .largest) rs) _ (omega arith)
+    by rs u TryCellResult.Ambiguous h = passed (oneMore TryCellResult.Ambiguous (s .counts)) (recordedAll (s .largest) rs) _ (omega arith)
+    by rs u TryCellResult.EdgeRejected h = passed (oneMore TryCellResult.EdgeRejected (s .counts)) (recordedAll (s .largest) rs) _ (omega arith)
+    by rs u (TryCellResult.Attached k) h = attaches (oneMore (TryCellResult.Attached k) (s .counts)) (recordedAll (s .largest) rs) _ k (omega arith) (h k refl)
 
     gated : (h rs : List Float) (t : Bool)
         → Tried cs (tolerancesOf set) c s
-        (cond t (withResiduals rs s) (localWith c (tryAt cs (s .sheet) (tolerancesOf set) (localSearch set p) c (applied h (cellPoint c))) (withResiduals rs s)))
-    gated h rs true = passed (s .counts) (recordedAll (s .largest) rs) (omega arith)
-    gated h rs false = by rs _ (λ k. attachable cs (s .sheet) (tolerancesOf set) (localSearch set p) c (applied h (cellPoint c)) k)
+        (cond t (withResiduals rs s) (localTry cs set p c (applied h (cellPoint c)) (withResiduals rs s)))
+    gated h rs true = passed (s .counts) (recordedAll (s .largest) rs) (s .unmatched) (omega arith)
+    gated h rs false = by rs _ _ (λ k. attachable cs (s .sheet) (tolerancesOf set) (localSearch set p) c (applied h (cellPoint c)) k)
 
     go : (f : LocalFit) → Tried cs (tolerancesOf set) c s (localAt cs set p c f s)
-    go none = passed (s .counts) (s .largest) (omega arith)
+    go none = passed (s .counts) (s .largest) (s .unmatched) (omega arith)
     go (fitted h rs) = gated h rs (lt (gateOf set p) (worst (ofBits binary32 0) rs))
 
 -- ---- the state after it
 
 module _ {cs : Corners} {tol : Tolerances} {c : Cell} {s : LocalState} where
   pub tried-grows : {after : LocalState} → Tried cs tol c s after → length (s .made) ≤ length (after .made)
-  tried-grows (passed n l h) = omega arith
-  tried-grows (attaches n l k h a) = omega (arith, length-append (s .made) (placeOf c ∷ []))
+  tried-grows (passed n l u h) = omega arith
+  tried-grows (attaches n l u k h a) = omega (arith, length-append (s .made) (placeOf c ∷ []))
 
   pub tried-counted : {after : LocalState} → Tried cs tol c s after → visits (after .counts) ≤ visits (s .counts) + 1
-  tried-counted (passed n l h) = h
-  tried-counted (attaches n l k h a) = h
+  tried-counted (passed n l u h) = h
+  tried-counted (attaches n l u k h a) = h
 
 -- a corner to be attached, as the laws of labels have it
 pub attaching : {cs : Corners} {sheet : List ℕ} {tol : Tolerances} {c : Cell} {k : ℕ} → cs .count ≤ 1024 → 16384 ≤ length sheet → OnSheet c
@@ -127,7 +130,8 @@ module _ (sheet : List ℕ) (c : Cell) (k : ℕ) {first second : List ℕ} (e : 
 
   pub wrote : (list used places : List ℕ) (at : LocalProgress) {place labels : ℕ} {places' : List ℕ} {n : Counts} → place ≡ placeOf c → Gathered second places places' labels
       → n ≡ oneMore (TryCellResult.Attached k) (at .counts)
-      → Wrote sheet list used places at c k second (set list (at .counts .attached) place) (set used k 1) places' (record { counts = n; residual = at .residual; labels = labels })
+      → Wrote sheet list used places at c k second (set list (at .counts .attached) place) (set used k 1) places'
+      (record { counts = n; residual = at .residual; labels = labels; unmatched = at .unmatched })
   wrote list used places at p w e =
       record {
         sheet-is = both-changes;
@@ -136,6 +140,7 @@ module _ (sheet : List ℕ) (c : Cell) (k : ℕ) {first second : List ℕ} (e : 
         places-are = rw both-changes at w;
         counts-are = e;
         largest-is = refl;
+        unmatched-is = refl;
       }
 
 -- ---- the supports
@@ -194,6 +199,7 @@ module _ {n : ℕ} {sheet list used places : List ℕ} {at : LocalProgress} (f :
         made-is = sym (length-take-le (at .counts .attached) list (made-in f));
         counts-are = refl;
         largest-is = refl;
+        unmatched-is = refl;
       }
 
   pub untouched : {after : LocalState} → after ≡ stateOf sheet list at → Left after n list sheet list used places at
@@ -250,6 +256,7 @@ module _ {n : ℕ} {sheet list used places : List ℕ} {at : LocalProgress} {c :
               made-is = omega (arith, m, taken, length-append (take (at .counts .attached) list) (placeOf c ∷ []));
               counts-are = w .counts-are;
               largest-is = w .largest-is;
+              unmatched-is = w .unmatched-is;
             };
         extending =
             record {
@@ -275,9 +282,17 @@ found-is cs sheet c prediction s t e = e ∙ rw (t, s)
 
 -- what was gathered by the array of used corners
 pub gathered-is : (held : List Float) {n : ℕ} {sheet list used places : List ℕ} {at : LocalProgress} {c : Cell} {candidates : Candidates} (radius : Float) (prediction : Position)
-    → Trying n sheet list used places at c → candidates ≡ firstTwo (candidatesAt (positionsIn held) (unmarked used) n prediction radius)
-    → candidates ≡ gathered (cornersIn held n) sheet radius prediction
-gathered-is held {n} {sheet} {used = used} radius prediction t e = e ∙ gathered-tied held n sheet used radius prediction (t .extending .few) (t .extending .tied)
+    → Trying n sheet list used places at c → {kind : ℕ} → kind ≡ kindAt c
+    → candidates ≡ firstTwo (candidatesAt (positionsIn held) (eligibleIn held used kind) n prediction radius)
+    → candidates ≡ gathered (cornersIn held n) sheet radius c prediction
+gathered-is held {n} {sheet} {used = used} {c = c} radius prediction t k e = e ∙ gathered-tied held n sheet used radius c prediction (t .extending .few) (t .extending .tied) k
+
+-- and passed over
+pub unmatched-is : (held : List Float) {n : ℕ} {sheet list used places : List ℕ} {at : LocalProgress} {c : Cell} {passed : ℕ} (radius : Float) (prediction : Position)
+    → Trying n sheet list used places at c → passed ≡ passedOver (positionsIn held) (unmarked used) (takes (shadesIn held) c) n prediction radius
+    → passed ≡ unmatched (cornersIn held n) sheet radius c prediction
+unmatched-is held {n} {sheet} {used = used} {c = c} radius prediction t e =
+    e ∙ unmatched-tied held n sheet used radius c prediction (t .extending .few) (t .extending .tied) refl
 
 -- a corner that was found is to be attached
 pub taking : (cs : Corners) {sheet list used places : List ℕ} {at : LocalProgress} {c : Cell} {k : ℕ} {r : TryCellResult} (tol : Tolerances) (search : Search) (prediction : Position)
@@ -305,3 +320,57 @@ module _ {n : ℕ} {sheet list used places : List ℕ} (at : LocalProgress) (c :
   pub found-corner : {k : ℕ} {sheet' list' used' places' : List ℕ} {at' : LocalProgress} → Taking n sheet list used places at c k → r ≡ TryCellResult.Attached k
       → Wrote sheet list used places at c k sheet' list' used' places' at' → Left (localWith c q (stateOf sheet list at)) n list sheet' list' used' places' at'
   found-corner t g w = rw (← d, g) (took t w)
+
+-- ---- the corners passed over
+
+-- what is passed over is counted before the cell is tried or after it
+pub try-counts : (cs : Corners) (set : Settings) (p : LocalExtensionParams) (c : Cell) (at : Position) (s : LocalState)
+    → localTry cs set p c at s
+    ≡ withUnmatched (unmatched cs (s .sheet) (localSearch set p .«search_r») c at) (localWith c (tryAt cs (s .sheet) (tolerancesOf set) (localSearch set p) c at) s)
+unfolding localTry
+try-counts cs set p c at s = go (tryAt cs (s .sheet) (tolerancesOf set) (localSearch set p) c at) (unmatched cs (s .sheet) (localSearch set p .«search_r») c at)
+  where
+    go : (r : TryCellResult) (n : ℕ) → localWith c r (withUnmatched n s) ≡ withUnmatched n (localWith c r s)
+    go TryCellResult.NoCandidates n = unfold localWith in refl
+    go TryCellResult.Ambiguous n = unfold localWith in refl
+    go TryCellResult.EdgeRejected n = unfold localWith in refl
+    go (TryCellResult.Attached k) n = unfold localWith in refl
+
+-- the buffers hold the state with them counted
+pub counted-left : {s : LocalState} {n : ℕ} {before sheet list used places : List ℕ} {at at' : LocalProgress} (m : ℕ) → at' ≡ unmatchedCounted at m
+    → Left s n before sheet list used places at → Left (withUnmatched m s) n before sheet list used places at'
+counted-left m e l =
+    rw e
+    (record {
+      holds =
+          record {
+            sheet-is = l .holds .sheet-is;
+            list-is = l .holds .list-is;
+            made-is = l .holds .made-is;
+            counts-are = l .holds .counts-are;
+            largest-is = l .holds .largest-is;
+            unmatched-is = ap (λ (u : ℕ). u + m) (l .holds .unmatched-is);
+          };
+      extending = l .extending;
+    })
+
+-- a try is one visit more, and passes over none by itself
+pub visits-more : (r : TryCellResult) (n : Counts) → visits (oneMore r n) ≡ visits n + 1
+visits-more TryCellResult.NoCandidates n = omega arith
+visits-more TryCellResult.Ambiguous n = omega arith
+visits-more TryCellResult.EdgeRejected n = omega arith
+visits-more (TryCellResult.Attached k) n = omega arith
+
+pub with-counts : (c : Cell) (r : TryCellResult) (s : LocalState) → localWith c r s .counts ≡ oneMore r (s .counts)
+unfolding localWith
+with-counts c TryCellResult.NoCandidates s = refl
+with-counts c TryCellResult.Ambiguous s = refl
+with-counts c TryCellResult.EdgeRejected s = refl
+with-counts c (TryCellResult.Attached k) s = refl
+
+pub with-unmatched : (c : Cell) (r : TryCellResult) (s : LocalState) → localWith c r s .unmatched ≡ s .unmatched
+unfolding localWith
+with-unmatched c TryCellResult.NoCandidates s = refl
+with-unmatched c TryCellResult.Ambiguous s = refl
+with-unmatched c TryCellResult.EdgeRejected s = refl
+with-unmatched c (TryCellResult.Attached k) s = refl

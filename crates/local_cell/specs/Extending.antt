@@ -1,8 +1,8 @@
 -- What the functions that try one cell of local ask and leave, in the terms of local's definition (crate passes, Local). Definitions only.
 use mathlib.Core.Path.{_≡_}
-use mathlib.Core.Bool.{false}
+use mathlib.Core.Bool.{Bool, true, false}
 use mathlib.Core.List.{List}
-use Prim.Native.Nat.{ℕ, _<_, _≤_}
+use Prim.Native.Nat.{ℕ, _+_, _*_, _<_, _≤_}
 use lib.ListN.{length, set, take}
 use lib.Ieee.{Float}
 use Rattle.sizes.specs.Sizes.{cornerLimit}
@@ -20,7 +20,7 @@ use Rattle.extension_common.specs.declared.TryCellResult.{TryCellResult}
 use Rattle.passes.specs.Counting.{oneMore, visits}
 use Rattle.passes.specs.Local.{recordedAll, LocalState}
 use Rattle.supports.specs.Nearest.{Gathered}
-use Rattle.remembered.specs.Remembered.{KnownAt, Remembered}
+use Rattle.remembered.specs.Remembered.{KnownAt, Remembered, Noted}
 use Rattle.remembered.specs.declared.Known.{Known}
 use Rattle.arguments.specs.Front.{over}
 use Rattle.local_cell.specs.declared.LocalProgress.{LocalProgress}
@@ -29,17 +29,23 @@ use Rattle.local_cell.specs.declared.LocalProgress.{LocalProgress}
 
 -- the progress with one cell more counted
 abbrev pub cellCounted : LocalProgress → TryCellResult → LocalProgress
-cellCounted at r = record { counts = oneMore r (at .counts); residual = at .residual; labels = at .labels }
+cellCounted at r = record { counts = oneMore r (at .counts); residual = at .residual; labels = at .labels; unmatched = at .unmatched }
 
 -- the progress with some residuals recorded
 abbrev pub residualsRecorded : LocalProgress → List Float → LocalProgress
-residualsRecorded at rs = record { counts = at .counts; residual = recordedAll (at .residual) rs; labels = at .labels }
+residualsRecorded at rs = record { counts = at .counts; residual = recordedAll (at .residual) rs; labels = at .labels; unmatched = at .unmatched }
+
+-- the progress with some corners more passed over
+abbrev pub unmatchedCounted : LocalProgress → ℕ → LocalProgress
+unmatchedCounted at n = record { counts = at .counts; residual = at .residual; labels = at .labels; unmatched = at .unmatched + n }
 
 -- ---- where the code stands
 
--- the state that the buffers hold: the sheet, as many places of the attached list as there are attached, the counts and the largest residual
+-- the state that the buffers hold: the sheet, as many places of the attached list as there are attached, the counts, the largest residual and the
+-- corners passed over
 abbrev pub stateOf : List ℕ → List ℕ → LocalProgress → LocalState
-stateOf sheet list at = record { sheet = sheet; made = take (at .counts .attached) list; counts = at .counts; largest = at .residual }
+stateOf sheet list at =
+    record { sheet = sheet; made = take (at .counts .attached) list; counts = at .counts; largest = at .residual; unmatched = at .unmatched }
 
 -- what holds between two cells: the sheet belongs to the corners, of which there are at most 1,024, no corner is at two cells, the array says
 -- which are used, the attached list has a place for each corner, no more places of it are written than there are labels, there are four
@@ -56,23 +62,26 @@ pub record Extending (n : ℕ) (sheet list used places : List ℕ) (made labels 
   pub places-are : take labels places ≡ labelledPlaces sheet
   pub size : length places ≡ cornerLimit
 
--- the buffers hold a state: its sheet, its new cells at the front of the attached list, whose rest is as it was before, its counts and its
--- largest residual
+-- the buffers hold a state: its sheet, its new cells at the front of the attached list, whose rest is as it was before, its counts, its largest
+-- residual and its corners passed over
 pub record Holds (s : LocalState) (before sheet list : List ℕ) (at : LocalProgress) : Type 0 where
   pub sheet-is : sheet ≡ s .sheet
   pub list-is : list ≡ over (s .made) before
   pub made-is : at .counts .attached ≡ length (s .made)
   pub counts-are : at .counts ≡ s .counts
   pub largest-is : at .residual ≡ s .largest
+  pub unmatched-is : at .unmatched ≡ s .unmatched
 
 -- what a function leaves: the buffers hold a state, and all may go on
 pub record Left (s : LocalState) (n : ℕ) (before sheet list used places : List ℕ) (at : LocalProgress) : Type 0 where
   pub holds : Holds s before sheet list at
   pub extending : Extending n sheet list used places (at .counts .attached) (at .labels)
 
--- what is remembered of the cells holds, on the sheet of now and with the largest residual of now
-abbrev pub Recalls : Settings → LocalExtensionParams → Corners → List ℕ → List ℕ → List Float → LocalProgress → Type 0
-Recalls set p cs sheet memory predictions at = Remembered cs set p (at .residual) sheet memory predictions
+-- what is remembered of the cells holds, on the sheet of now and with the largest residual of now; and no more corners were passed over than 1,024
+-- for each visit
+pub record Recalls (set : Settings) (p : LocalExtensionParams) (cs : Corners) (sheet memory : List ℕ) (predictions : List Float) (at : LocalProgress) : Type 0 where
+  pub remembered : Remembered cs set p (at .residual) sheet memory predictions
+  pub unmatched-few : at .unmatched ≤ cornerLimit * visits (at .counts)
 
 -- ---- one cell
 
@@ -116,3 +125,10 @@ pub record Wrote (sheet list used places : List ℕ) (at : LocalProgress) (c : C
   pub places-are : Gathered (attachedClear sheet c k) places places' (at' .labels)
   pub counts-are : at' .counts ≡ oneMore (TryCellResult.Attached k) (at .counts)
   pub largest-is : at' .residual ≡ at .residual
+  pub unmatched-is : at' .unmatched ≡ at .unmatched
+
+-- what is known of one cell noted where no shade stands, and nothing where one does
+pub record NotedIfBare (shaded : Bool) (memory : List ℕ) (predictions : List Float) (c : Cell) (known : Known) (memory' : List ℕ) (predictions' : List Float) : Type 0 where
+  pub bare : shaded ≡ false → Noted memory predictions c known memory' predictions'
+  pub memory-kept : shaded ≡ true → memory' ≡ memory
+  pub predictions-kept : shaded ≡ true → predictions' ≡ predictions

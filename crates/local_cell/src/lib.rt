@@ -2,16 +2,20 @@
 // or by the fit on its four nearest labels, where that leads. Crate local has the rounds and the public call.
 
 ghost use mathlib.Core.Path.{_≡_};
-ghost use Prim.Native.Nat.{_<_};
+ghost use Prim.Native.Nat.{_+_, _<_, _≤_};
 ghost use lib.ListN.{length};
 ghost use Rattle.sheet.specs.Corners.{cornersIn};
-ghost use Rattle.sizes.specs.Sizes.{placeCount};
+ghost use Rattle.sheet.specs.Cells.{OnSheet};
+ghost use Rattle.sheet.specs.Shades.{takes, anyIn, shadesIn};
+ghost use Rattle.sizes.specs.Sizes.{placeCount, cornerLimit};
+ghost use Rattle.candidates.specs.Candidates.{positionsIn, unmarked};
+ghost use Rattle.passed_over.specs.PassedOver.{passedOver};
 ghost use Rattle.extension_common.specs.TryCell.{tryAt};
 ghost use Rattle.passes.specs.Counting.{visits};
 ghost use Rattle.passes.specs.Grow.{tolerancesOf};
-ghost use Rattle.passes.specs.Local.{localSearch, gateOf, localWith, localVisit};
-ghost use Rattle.remembered.specs.Remembered.{Forgotten};
-ghost use Rattle.local_cell.specs.Extending.{cellCounted, residualsRecorded, stateOf, Left, Recalls, Foretold, Trying, Writable, Wrote};
+ghost use Rattle.passes.specs.Local.{localSearch, gateOf, localWith, localTry, localVisit};
+ghost use Rattle.remembered.specs.Remembered.{Noting, Forgotten};
+ghost use Rattle.local_cell.specs.Extending.{cellCounted, residualsRecorded, unmatchedCounted, stateOf, Left, Recalls, Foretold, Trying, Writable, Wrote, NotedIfBare};
 use arguments::LocalExtensionParams;
 use arguments::Settings;
 use extension_common::ChoiceRule;
@@ -26,11 +30,12 @@ use sheet::Position;
 use sizes::CORNERS;
 use sizes::PLACES;
 
-// How far the pass has come: the counts, the largest residual recorded, and how many cells are labelled.
+// How far the pass has come: the counts, the largest residual recorded, how many cells are labelled, and how many corners were passed over.
 pub struct LocalProgress {
     pub counts: Counts,
     pub residual: LargestResidual,
     pub labels: usize,
+    pub unmatched: usize,
 }
 
 // What a pass is given beside its buffers: how many corners there are, the settings, and the numbers of the pass.
@@ -90,6 +95,7 @@ fn count_cell(at: LocalProgress, found: TryCellResult) -> LocalProgress
         counts,
         residual,
         labels: at.labels,
+        unmatched: at.unmatched,
     }
 }
 
@@ -105,6 +111,7 @@ fn with_residuals(at: LocalProgress, residuals: [f32; 4]) -> LocalProgress
         counts,
         residual,
         labels: at.labels,
+        unmatched: at.unmatched,
     }
 }
 
@@ -141,13 +148,32 @@ fn attach_corner(
         counts,
         residual,
         labels,
+        unmatched: at.unmatched,
+    }
+}
+
+// Notes what is known of a cell where no shade stands. Where one does, what is passed over changes with every corner that is labelled, so that a
+// cell is gathered anew at each visit.
+fn note_if_bare(
+    corners: &[f32; 4 * CORNERS],
+    memory: &mut [u16; PLACES],
+    predictions: &mut [f32; 3 * PLACES],
+    c: Cell,
+    known: Known,
+)
+    requires { ⌜ Noting (now memory) (now predictions) c known ⌝ }
+    ensures { λ _. ⌜ NotedIfBare (anyIn (now (corners .entry))) (now (memory .entry)) (now (predictions .entry)) c known (now (memory .exit))
+        (now (predictions .exit)) ⌝ }
+{
+    if !sheet::is_shaded(corners) {
+        remembered::note(memory, predictions, c, known);
     }
 }
 
 // Tries an unlabelled cell where a fit maps it to: a corner that is found is attached, else nothing is written. Either is counted, and that there
-// is no candidate, or that the choice is ambiguous, is noted.
-fn try_predicted_cell(
-    corners: &[f32; 3 * CORNERS],
+// is no candidate, or that the choice is ambiguous, is noted where no shade stands.
+fn try_candidates_of(
+    corners: &[f32; 4 * CORNERS],
     sheet: &mut [u16],
     attached: &mut [u16],
     used: &mut [u8; CORNERS],
@@ -178,6 +204,7 @@ fn try_predicted_cell(
         corners,
         setup.count,
         used,
+        sheet::kind_at(c),
         target.prediction,
         radius,
     );
@@ -185,12 +212,13 @@ fn try_predicted_cell(
     let found = extension_common::try_candidates(corners, sheet, c, candidates, search, tol);
     match found {
         TryCellResult::NoCandidates => {
-            remembered::note(memory, predictions, c, Known::NoCandidates(reach));
+            note_if_bare(corners, memory, predictions, c, Known::NoCandidates(reach));
             count_cell(at, found)
         }
         TryCellResult::Ambiguous => {
             let limit = candidates::last_distance(candidates);
-            remembered::note(
+            note_if_bare(
+                corners,
                 memory,
                 predictions,
                 c,
@@ -217,10 +245,80 @@ fn try_predicted_cell(
     }
 }
 
+// How many unlabelled corners within the radius the cell does not take.
+fn count_unmatched(
+    corners: &[f32; 4 * CORNERS],
+    used: &[u8; CORNERS],
+    target: Target,
+    setup: LocalSetup,
+) -> usize
+    requires { ⌜ OnSheet (target .cell) × (setup .count ≤ cornerLimit) ⌝ }
+    ensures { λ r. ⌜ r ≡ passedOver (positionsIn (now (corners .entry))) (unmarked (now (used .entry))) (takes (shadesIn (now (corners .entry)))
+        (target .cell)) (setup .count) (target .prediction) (localSearch (setup .settings) (setup .params) .«search_r») ⌝ }
+{
+    let search = search_of(setup.settings, setup.params);
+    let kind = sheet::kind_at(target.cell);
+    let radius = search.search_r;
+    passed_over::count_passed_over(corners, setup.count, used, kind, target.prediction, radius)
+}
+
+// The progress with some corners more passed over.
+fn with_unmatched(at: LocalProgress, passed: usize) -> LocalProgress
+    requires { ⌜ at .unmatched + passed < 9007199254740992 ⌝ }
+    ensures { λ r. ⌜ r ≡ unmatchedCounted at passed ⌝ }
+{
+    let counts = at.counts;
+    let residual = at.residual;
+    LocalProgress {
+        counts,
+        residual,
+        labels: at.labels,
+        unmatched: at.unmatched + passed,
+    }
+}
+
+// Gathers at an unlabelled cell where a fit maps it to: what is passed over is counted, and the cell is tried.
+fn try_predicted_cell(
+    corners: &[f32; 4 * CORNERS],
+    sheet: &mut [u16],
+    attached: &mut [u16],
+    used: &mut [u8; CORNERS],
+    places: &mut [u16; CORNERS],
+    memory: &mut [u16; PLACES],
+    predictions: &mut [f32; 3 * PLACES],
+    at: LocalProgress,
+    target: Target,
+    setup: LocalSetup,
+) -> LocalProgress
+    requires { ⌜ Trying (setup .count) (now sheet) (now attached) (now used) (now places) at (target .cell)
+        × (Recalls (setup .settings) (setup .params) (cornersIn (now corners) (setup .count)) (now sheet) (now memory) (now predictions) at
+        × Foretold (setup .settings) (setup .params) (cornersIn (now corners) (setup .count)) (now sheet) at (target .cell) (target .reach)
+        (target .prediction)) ⌝ }
+    ensures { λ r. ⌜ Left (localTry (cornersIn (now (corners .entry)) (setup .count)) (setup .settings) (setup .params) (target .cell) (target .prediction)
+        (stateOf (now (sheet .entry)) (now (attached .entry)) at)) (setup .count) (now (attached .entry)) (now (sheet .exit)) (now (attached .exit))
+        (now (used .exit)) (now (places .exit)) r × Recalls (setup .settings) (setup .params) (cornersIn (now (corners .entry)) (setup .count))
+        (now (sheet .exit)) (now (memory .exit)) (now (predictions .exit)) r ⌝ }
+{
+    let passed = count_unmatched(corners, used, target, setup);
+    let next = try_candidates_of(
+        corners,
+        sheet,
+        attached,
+        used,
+        places,
+        memory,
+        predictions,
+        at,
+        target,
+        setup,
+    );
+    with_unmatched(next, passed)
+}
+
 // Tries an unlabelled cell of which nothing is known: by the fit on its four nearest labels, whose residuals are recorded. Without a fit, or with a
 // residual above the gate, nothing is counted. What is worked out is noted.
 fn try_unknown_cell(
-    corners: &[f32; 3 * CORNERS],
+    corners: &[f32; 4 * CORNERS],
     sheet: &mut [u16],
     attached: &mut [u16],
     used: &mut [u8; CORNERS],
@@ -274,7 +372,7 @@ fn try_unknown_cell(
 
 // Tries an unlabelled cell: by what is known of it from an earlier round, or anew.
 pub fn try_local_cell(
-    corners: &[f32; 3 * CORNERS],
+    corners: &[f32; 4 * CORNERS],
     sheet: &mut [u16],
     attached: &mut [u16],
     used: &mut [u8; CORNERS],

@@ -5,8 +5,9 @@ use Prim.Native.Nat.{ℕ}
 use native.Mathlib.Omega.{arith}
 use borrow.Author.Tests.{le-ltb}
 use lib.ListN.{length}
-use Rattle.sheet.specs.Corners.{CornerLists, cornersOf}
+use Rattle.sheet.specs.Corners.{CornerLists}
 use Rattle.refusal.specs.declared.Refusal.{Refusal}
+use Rattle.arguments.specs.Shades.{cornersOf}
 use Rattle.arguments.specs.Arguments.{queueNeeded, tooShort, overLimit, outOfRange, checked}
 use Rattle.arguments.specs.declared.Checked.{Checked}
 use Rattle.arguments.specs.declared.Pass.{Pass}
@@ -33,19 +34,19 @@ use Rattle.count_bounds.proofs.Small.{small}
 use Rattle.pass_call.specs.Call.{callOf, growAnswered, fillAnswered, localAnswered, doneAnswer, PassOut, passOut, passLeaves, SmallAnswer}
 
 -- fill and local are lent no queue: how long one is changes nothing
-no-queue : (l : CornerLists) (sheet : List ℕ) (queue attached : ℕ) (set : Settings) (p : Pass) → ((n : ℕ) → queueNeeded p n ≡ 0)
-    → checked (lentOf l sheet (rooms queue attached)) set p ≡ checked (lentOf l sheet (rooms 0 attached)) set p
+no-queue : (l : CornerLists) (shades sheet : List ℕ) (queue attached : ℕ) (set : Settings) (p : Pass) → ((n : ℕ) → queueNeeded p n ≡ 0)
+    → checked (lentOf l shades sheet (rooms queue attached)) set p ≡ checked (lentOf l shades sheet (rooms 0 attached)) set p
 unfolding checked tooShort overLimit outOfRange
-no-queue l sheet queue attached set p none = rw (none (length (l .xs)), le-ltb queue 0 (omega arith)) refl
+no-queue l shades sheet queue attached set p none = rw (none (length (l .xs)), le-ltb queue 0 (omega arith)) refl
 
 -- ---- what it leaves
 
-module _ (l : CornerLists) (set : Settings) (sheet queue attached sheet' attached' : List ℕ) (pass : Pass) (r : PassAnswer) where
+module _ (l : CornerLists) (set : Settings) (shades sheet queue attached sheet' attached' : List ℕ) (pass : Pass) (r : PassAnswer) where
   pub grow-left : (p : GrowParams) → pass ≡ Pass.Grow p → (queue' : List ℕ) (answer : GrowAnswer) → r ≡ growAnswered answer
-      → growOut answer sheet' queue' attached' ≡ growLeaves (growStep l sheet set p (rooms (length queue) (length attached))) sheet queue attached
-      → passOut r sheet' queue' attached' ≡ passLeaves (step l sheet (callOf set (length queue) (length attached) pass)) sheet queue attached
+      → growOut answer sheet' queue' attached' ≡ growLeaves (growStep l shades sheet set p (rooms (length queue) (length attached))) sheet queue attached
+      → passOut r sheet' queue' attached' ≡ passLeaves (step l sheet (callOf set shades (length queue) (length attached) pass)) sheet queue attached
   unfolding step
-  grow-left p t queue' answer q e = rw (t, q) (go (growStep l sheet set p (rooms (length queue) (length attached))) e)
+  grow-left p t queue' answer q e = rw (t, q) (go (growStep l shades sheet set p (rooms (length queue) (length attached))) e)
     where
       told : GrowOut → PassOut
       told o = passOut (growAnswered (o .answer)) (o .sheet) (o .queue) (o .attached)
@@ -56,47 +57,47 @@ module _ (l : CornerLists) (set : Settings) (sheet queue attached sheet' attache
       go (done a) w = ap told w
 
 -- and they visit no cells
-fill-visits-none : (l : CornerLists) (set : Settings) (p : FillParams) (sheet : List ℕ) → fillAfter (cornersOf l) set p sheet .visited ≡ []
+fill-visits-none : (l : CornerLists) (set : Settings) (p : FillParams) (shades sheet : List ℕ) → fillAfter (cornersOf l shades) set p sheet .visited ≡ []
 unfolding fillAfter
-fill-visits-none l set p sheet = refl
+fill-visits-none l set p shades sheet = refl
 
-local-visits-none : (l : CornerLists) (set : Settings) (p : LocalExtensionParams) (sheet : List ℕ) → localAfter (cornersOf l) set p sheet .visited ≡ []
+local-visits-none : (l : CornerLists) (set : Settings) (p : LocalExtensionParams) (shades sheet : List ℕ) → localAfter (cornersOf l shades) set p sheet .visited ≡ []
 unfolding localAfter
-local-visits-none l set p sheet = refl
+local-visits-none l set p shades sheet = refl
 
 -- so how long a queue is changes nothing, and it stays as it was
-module _ (l : CornerLists) (set : Settings) (sheet queue attached sheet' attached' : List ℕ) (pass : Pass) (r : PassAnswer) where
+module _ (l : CornerLists) (set : Settings) (shades sheet queue attached sheet' attached' : List ℕ) (pass : Pass) (r : PassAnswer) where
   pub fill-left : (p : FillParams) → pass ≡ Pass.Fill p → (answer : FillAnswer) → r ≡ fillAnswered answer
-      → fillOut answer sheet' attached' ≡ fillLeaves (fillStep l sheet set p (rooms 0 (length attached))) sheet attached
-      → passOut r sheet' queue attached' ≡ passLeaves (step l sheet (callOf set (length queue) (length attached) pass)) sheet queue attached
+      → fillOut answer sheet' attached' ≡ fillLeaves (fillStep l shades sheet set p (rooms 0 (length attached))) sheet attached
+      → passOut r sheet' queue attached' ≡ passLeaves (step l sheet (callOf set shades (length queue) (length attached) pass)) sheet queue attached
   unfolding step fillStep queueNeeded
   fill-left p t answer q e =
-      rw (t, q, no-queue l sheet (length queue) (length attached) set (Pass.Fill p) (λ n. refl)) (go (checked (lentOf l sheet (rooms 0 (length attached))) set (Pass.Fill p)) e)
+      rw (t, q, no-queue l shades sheet (length queue) (length attached) set (Pass.Fill p) (λ n. refl)) (go (checked (lentOf l shades sheet (rooms 0 (length attached))) set (Pass.Fill p)) e)
     where
       told : FillOut → PassOut
       told o = passOut (fillAnswered (o .answer)) (o .sheet) queue (o .attached)
 
-      go : (k : Checked) → fillOut answer sheet' attached' ≡ fillLeaves (unless k (fillAfter (cornersOf l) set p sheet)) sheet attached
+      go : (k : Checked) → fillOut answer sheet' attached' ≡ fillLeaves (unless k (fillAfter (cornersOf l shades) set p sheet)) sheet attached
           → passOut (fillAnswered answer) sheet' queue attached'
-          ≡ passLeaves (renamed fillStats (unless k (fillAfter (cornersOf l) set p sheet))) sheet queue attached
+          ≡ passLeaves (renamed fillStats (unless k (fillAfter (cornersOf l shades) set p sheet))) sheet queue attached
       go (Checked.Refused s) w = ap told w
-      go Checked.Fine w = rw (fill-visits-none l set p sheet) (ap told w)
+      go Checked.Fine w = rw (fill-visits-none l set p shades sheet) (ap told w)
 
   pub local-left : (p : LocalExtensionParams) → pass ≡ Pass.Local p → (answer : LocalAnswer) → r ≡ localAnswered answer
-      → localOut answer sheet' attached' ≡ localLeaves (localStep l sheet set p (rooms 0 (length attached))) sheet attached
-      → passOut r sheet' queue attached' ≡ passLeaves (step l sheet (callOf set (length queue) (length attached) pass)) sheet queue attached
+      → localOut answer sheet' attached' ≡ localLeaves (localStep l shades sheet set p (rooms 0 (length attached))) sheet attached
+      → passOut r sheet' queue attached' ≡ passLeaves (step l sheet (callOf set shades (length queue) (length attached) pass)) sheet queue attached
   unfolding step localStep queueNeeded
   local-left p t answer q e =
-      rw (t, q, no-queue l sheet (length queue) (length attached) set (Pass.Local p) (λ n. refl)) (go (checked (lentOf l sheet (rooms 0 (length attached))) set (Pass.Local p)) e)
+      rw (t, q, no-queue l shades sheet (length queue) (length attached) set (Pass.Local p) (λ n. refl)) (go (checked (lentOf l shades sheet (rooms 0 (length attached))) set (Pass.Local p)) e)
     where
       told : LocalOut → PassOut
       told o = passOut (localAnswered (o .answer)) (o .sheet) queue (o .attached)
 
-      go : (k : Checked) → localOut answer sheet' attached' ≡ localLeaves (unless k (localAfter (cornersOf l) set p sheet)) sheet attached
+      go : (k : Checked) → localOut answer sheet' attached' ≡ localLeaves (unless k (localAfter (cornersOf l shades) set p sheet)) sheet attached
           → passOut (localAnswered answer) sheet' queue attached'
-          ≡ passLeaves (renamed localStats (unless k (localAfter (cornersOf l) set p sheet))) sheet queue attached
+          ≡ passLeaves (renamed localStats (unless k (localAfter (cornersOf l shades) set p sheet))) sheet queue attached
       go (Checked.Refused s) w = ap told w
-      go Checked.Fine w = rw (local-visits-none l set p sheet) (ap told w)
+      go Checked.Fine w = rw (local-visits-none l set p shades sheet) (ap told w)
 
 -- ---- what it says is small
 

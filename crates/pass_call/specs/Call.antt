@@ -16,9 +16,9 @@ use Rattle.count_bounds.specs.Bounds.{Small}
 
 -- ---- the call
 
--- a pass, cell size with axes and band, and the lengths of the lent queue and attached list
-abbrev pub callOf : Settings → ℕ → ℕ → Pass → Call
-callOf set queue attached p = record { pass = p; settings = set; rooms = rooms queue attached }
+-- a pass, cell size with axes and band, the shades, and the lengths of the lent queue and attached list
+abbrev pub callOf : Settings → List ℕ → ℕ → ℕ → Pass → Call
+callOf set shades queue attached p = record { pass = p; settings = set; shades = shades; rooms = rooms queue attached }
 
 -- ---- its answer
 

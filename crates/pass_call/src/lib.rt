@@ -47,13 +47,17 @@ pub fn call_pass(
     xs: &[f32],
     ys: &[f32],
     pitches: &[f32],
+    shades: &[u8],
     sheet: &mut [u16],
     queue: &mut [u16],
     attached: &mut [u16],
     settings: Settings,
     pass: Pass,
 ) -> PassAnswer
-    ensures { λ r. ⌜ passOut r (now (sheet .exit)) (now (queue .exit)) (now (attached .exit)) ≡ passLeaves (step (cornerLists (now (xs .entry)) (now (ys .entry)) (now (pitches .entry))) (now (sheet .entry)) (callOf settings (length (now (queue .entry))) (length (now (attached .entry))) pass)) (now (sheet .entry)) (now (queue .entry)) (now (attached .entry)) ⌝ }
+    ensures { λ r. ⌜ passOut r (now (sheet .exit)) (now (queue .exit)) (now (attached .exit))
+        ≡ passLeaves (step (cornerLists (now (xs .entry)) (now (ys .entry)) (now (pitches .entry))) (now (sheet .entry))
+        (callOf settings (now (shades .entry)) (length (now (queue .entry))) (length (now (attached .entry))) pass))
+        (now (sheet .entry)) (now (queue .entry)) (now (attached .entry)) ⌝ }
     ensures small { λ r. ⌜ SmallAnswer r ⌝ }
 {
     match pass {
@@ -61,6 +65,7 @@ pub fn call_pass(
             xs,
             ys,
             pitches,
+            shades,
             sheet,
             queue,
             attached,
@@ -71,6 +76,7 @@ pub fn call_pass(
             xs,
             ys,
             pitches,
+            shades,
             sheet,
             attached,
             settings,
@@ -80,6 +86,7 @@ pub fn call_pass(
             xs,
             ys,
             pitches,
+            shades,
             sheet,
             attached,
             settings,

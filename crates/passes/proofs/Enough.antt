@@ -12,7 +12,8 @@ use lib.Dec.{ltb}
 use lib.ListN.{length, getD}
 use Rattle.sheet.specs.Cells.{OnSheet, placeOf, cellOf}
 use Rattle.sheet.specs.Words.{labelOf, attached, holeMarked, ambiguousMarked}
-use Rattle.sheet.specs.Corners.{Corners, cornersOf, seenOf}
+use Rattle.sheet.specs.Corners.{Corners, seenOf}
+use Rattle.arguments.specs.Shades.{cornersOf}
 use Rattle.sheet.specs.declared.Cell.{Cell}
 use Rattle.sheet.specs.declared.Label.{Label}
 use Rattle.sheet.specs.declared.Position.{Position}
@@ -48,7 +49,7 @@ pub record Belongs (cs : Corners) (sheet : List ℕ) : Type 0 where
   pub one-cell : OneCell sheet
 
 -- the sheet of every accepted call is one
-pub belongs-accepted : {l : Lent} {set : Settings} {pass : Pass} → Accepted l set pass → Belongs (cornersOf (l .corners)) (l .sheet)
+pub belongs-accepted : {l : Lent} {set : Settings} {pass : Pass} → Accepted l set pass → Belongs (cornersOf (l .corners) (l .shades)) (l .sheet)
 belongs-accepted w = record { long = w .given .long; few = w .few; known = w .given .known; one-cell = w .one-cell }
 
 module _ {cs : Corners} {sheet : List ℕ} (f : Belongs cs sheet) where
@@ -259,4 +260,4 @@ enough cs set p sheet f =
 
 -- so for every call that the checks let pass
 pub nothing-cut-off : NothingCutOff
-nothing-cut-off l set p e = enough (cornersOf (l .corners)) set p (l .sheet) (belongs-accepted (accepted l set (Pass.Grow p) e))
+nothing-cut-off l set p e = enough (cornersOf (l .corners) (l .shades)) set p (l .sheet) (belongs-accepted (accepted l set (Pass.Grow p) e))

@@ -4,7 +4,8 @@ use mathlib.Core.Path.{_≡_}
 use mathlib.Core.List.{List}
 use Prim.Native.Nat.{ℕ, _+_, _*_, _<_, _≤_}
 use lib.ListN.{length, getD}
-use Rattle.sheet.specs.Corners.{Corners, cornersOf}
+use Rattle.sheet.specs.Corners.{Corners}
+use Rattle.arguments.specs.Shades.{cornersOf}
 use Rattle.sizes.specs.Sizes.{placeCount}
 use Rattle.arguments.specs.Arguments.{Lent, checked}
 use Rattle.arguments.specs.declared.Checked.{Checked}
@@ -36,4 +37,4 @@ pub record Enough (cs : Corners) (set : Settings) (p : GrowParams) (sheet : List
 abbrev pub NothingCutOff : Type 0
 NothingCutOff =
     (l : Lent) (set : Settings) (p : GrowParams) → checked l set (Pass.Grow p) ≡ Checked.Fine
-    → Enough (cornersOf (l .corners)) set p (l .sheet)
+    → Enough (cornersOf (l .corners) (l .shades)) set p (l .sheet)

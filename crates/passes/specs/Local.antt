@@ -1,5 +1,5 @@
 -- Local (document 01, "Sheet": "the box, strips of the depth on labelled rows and columns only, and four corner blocks. Supports are the 4
--- nearest by |di|+|dj|, then i, then j."; shared/extension/local.rs). Definitions only.
+-- nearest by |di|+|dj|, then i, then j."; shared/extension/local.rs; document 02, 1/14: what it passes over). Definitions only.
 use mathlib.Core.Bool.{Bool, true, false, not, _&&_, _||_, cond}
 use mathlib.Core.List.{List, [], _∷_, _++_, map}
 use Prim.Native.Nat.{ℕ, _+_, max}
@@ -23,7 +23,7 @@ use Rattle.labels.specs.declared.LabelBox.{LabelBox}
 use Rattle.homography.specs.Fit.{Answer, NoFit, Entries, homographyOf, applied}
 use Rattle.arguments.specs.declared.Settings.{Settings}
 use Rattle.arguments.specs.declared.LocalExtensionParams.{LocalExtensionParams}
-use Rattle.extension_common.specs.TryCell.{tryAt}
+use Rattle.extension_common.specs.TryCell.{unmatched, tryAt}
 use Rattle.extension_common.specs.declared.ChoiceRule.{ChoiceRule}
 use Rattle.extension_common.specs.declared.Search.{Search}
 use Rattle.extension_common.specs.declared.TryCellResult.{TryCellResult}
@@ -35,6 +35,7 @@ use Rattle.passes.specs.Fill.{nearI, nearJ, cellsOf}
 use Rattle.passes.specs.declared.Counts.{Counts}
 use Rattle.passes.specs.declared.LargestResidual.{LargestResidual}
 use Rattle.passes.specs.declared.LocalStats.{LocalStats}
+use Rattle.passes.specs.declared.Unmatched.{Unmatched}
 
 -- "Depth 0 acts as 1", for the rim too
 unfoldable pub depthOf : LocalExtensionParams → ℕ
@@ -131,12 +132,13 @@ localFit seen ps = trusted seen ps (homographyOf (map (λ p. cellPoint (cellOf p
 
 -- ---- one cell
 
--- where local stands: the sheet, the new cells in order, the counts, and the largest residual recorded
+-- where local stands: the sheet, the new cells in order, the counts, the largest residual recorded, and how many corners were passed over
 pub record LocalState : Type 0 where
   pub sheet : List ℕ
   pub made : List ℕ
   pub counts : Counts
   pub largest : LargestResidual
+  pub unmatched : ℕ
 
 -- the largest of some residuals, from 0 on
 unfoldable pub worst : Float → List Float → Float
@@ -153,7 +155,12 @@ recordedAll l [] = l
 recordedAll l (r ∷ rs) = recordedAll (recorded l r) rs
 
 abbrev pub withResiduals : List Float → LocalState → LocalState
-withResiduals rs s = record { sheet = s .sheet; made = s .made; counts = s .counts; largest = recordedAll (s .largest) rs }
+withResiduals rs s =
+    record { sheet = s .sheet; made = s .made; counts = s .counts; largest = recordedAll (s .largest) rs; unmatched = s .unmatched }
+
+-- "Each time local gathers, it counts each unlabelled corner within the radius so passed over" (document 02, 1/14)
+abbrev pub withUnmatched : ℕ → LocalState → LocalState
+withUnmatched n s = record { sheet = s .sheet; made = s .made; counts = s .counts; largest = s .largest; unmatched = s .unmatched + n }
 
 unfoldable pub localSearch : Settings → LocalExtensionParams → Search
 localSearch s p = record {
@@ -168,7 +175,7 @@ gateOf s p = mul binary32 (p .«max_residual_rel») (s .grid .«cell_size»)
 
 -- one cell more is counted
 abbrev pub counted : TryCellResult → LocalState → LocalState
-counted r s = record { sheet = s .sheet; made = s .made; counts = oneMore r (s .counts); largest = s .largest }
+counted r s = record { sheet = s .sheet; made = s .made; counts = oneMore r (s .counts); largest = s .largest; unmatched = s .unmatched }
 
 -- local sets no mark; attaching clears both of its cell
 unfoldable pub localWith : Cell → TryCellResult → LocalState → LocalState
@@ -180,14 +187,20 @@ localWith c (TryCellResult.Attached k) s = record {
   made = s .made ++ (placeOf c ∷ []);
   counts = oneMore (TryCellResult.Attached k) (s .counts);
   largest = s .largest;
+  unmatched = s .unmatched;
 }
+
+-- local gathers at a cell's prediction: what is passed over is counted, and the cell is tried
+unfoldable pub localTry : Corners → Settings → LocalExtensionParams → Cell → Position → LocalState → LocalState
+localTry cs set p c at s =
+    localWith c (tryAt cs (s .sheet) (tolerancesOf set) (localSearch set p) c at)
+    (withUnmatched (unmatched cs (s .sheet) (localSearch set p .«search_r») c at) s)
 
 -- "No fit, or a residual above the gate, counts nothing; the gate's residuals are recorded"
 unfoldable pub localAt : Corners → Settings → LocalExtensionParams → Cell → LocalFit → LocalState → LocalState
 localAt cs set p c none s = s
 localAt cs set p c (fitted h rs) s =
-    cond (lt (gateOf set p) (worst (ofBits binary32 0) rs)) (withResiduals rs s)
-    (localWith c (tryAt cs (s .sheet) (tolerancesOf set) (localSearch set p) c (applied h (cellPoint c))) (withResiduals rs s))
+    cond (lt (gateOf set p) (worst (ofBits binary32 0) rs)) (withResiduals rs s) (localTry cs set p c (applied h (cellPoint c)) (withResiduals rs s))
 
 unfoldable pub localVisit : Corners → Settings → LocalExtensionParams → Cell → LocalState → LocalState
 localVisit cs set p c s = localAt cs set p c (localFit (seenOf (cs .corner) (s .sheet)) (supportsOf c (s .sheet))) s
@@ -222,15 +235,27 @@ localLimit labels limit = cond (ltb labels 4) 0 limit
 unfoldable pub localRun : Corners → Settings → LocalExtensionParams → List ℕ → LocalRounds
 localRun cs set p sheet =
     localFrom cs set p (localLimit (labelCount sheet) (p .«max_iters»))
-    (record { state = record { sheet = sheet; made = []; counts = noCounts; largest = LargestResidual.Nothing }; rounds = 0 })
+    (record { state = record { sheet = sheet; made = []; counts = noCounts; largest = LargestResidual.Nothing; unmatched = 0 }; rounds = 0 })
 
-abbrev pub localLeft : ℕ → LocalRounds → After LocalStats
-localLeft depth r = record {
-  answer = record { counts = r .state .counts; iterations = r .rounds; residual = r .state .largest; rim = rim depth (r .state .sheet) };
+-- "if any shade stands", how many
+unfoldable pub unmatchedIf : Bool → ℕ → Unmatched
+unmatchedIf false n = Unmatched.NoShades
+unmatchedIf true n = Unmatched.Count n
+
+abbrev pub localLeft : Bool → ℕ → LocalRounds → After LocalStats
+localLeft shaded depth r = record {
+  answer =
+      record {
+        counts = r .state .counts;
+        iterations = r .rounds;
+        residual = r .state .largest;
+        rim = rim depth (r .state .sheet);
+        unmatched = unmatchedIf shaded (r .state .unmatched);
+      };
   sheet = r .state .sheet;
   attached = r .state .made;
   visited = [];
 }
 
 unfoldable pub localAfter : Corners → Settings → LocalExtensionParams → List ℕ → After LocalStats
-localAfter cs set p sheet = localLeft (depthOf p) (localRun cs set p sheet)
+localAfter cs set p sheet = localLeft (cs .shades .any) (depthOf p) (localRun cs set p sheet)

@@ -12,10 +12,11 @@ use Rattle.passes.specs.declared.GrowStats.{GrowStats}
 use Rattle.passes.specs.declared.FillStats.{FillStats}
 use Rattle.passes.specs.declared.LocalStats.{LocalStats}
 
--- one call: which pass with its numbers, cell size, axes and band, and the lengths of the lent buffers
+-- one call: which pass with its numbers, cell size, axes and band, the shades that it is lent, and the lengths of the other lent buffers
 pub record Call : Type 0 where
   pub pass : Pass
   pub settings : Settings
+  pub shades : List ℕ
   pub rooms : Rooms
 
 -- what a pass answers
@@ -30,13 +31,13 @@ renamed f (refused r) = refused r
 renamed f (done a) = done (record { answer = f (a .answer); sheet = a .sheet; attached = a .attached; visited = a .visited })
 
 -- what a call does
-abbrev pub stepAs : CornerLists → List ℕ → Settings → Rooms → Pass → Outcome PassStats
-stepAs l sheet set r (Pass.Grow p) = renamed growStats (growStep l sheet set p r)
-stepAs l sheet set r (Pass.Fill p) = renamed fillStats (fillStep l sheet set p r)
-stepAs l sheet set r (Pass.Local p) = renamed localStats (localStep l sheet set p r)
+abbrev pub stepAs : CornerLists → List ℕ → List ℕ → Settings → Rooms → Pass → Outcome PassStats
+stepAs l shades sheet set r (Pass.Grow p) = renamed growStats (growStep l shades sheet set p r)
+stepAs l shades sheet set r (Pass.Fill p) = renamed fillStats (fillStep l shades sheet set p r)
+stepAs l shades sheet set r (Pass.Local p) = renamed localStats (localStep l shades sheet set p r)
 
 unfoldable pub step : CornerLists → List ℕ → Call → Outcome PassStats
-step l sheet c = stepAs l sheet (c .settings) (c .rooms) (c .pass)
+step l sheet c = stepAs l (c .shades) sheet (c .settings) (c .rooms) (c .pass)
 
 -- the sheet that a call leaves: a refused one leaves it as it was
 abbrev pub sheetAfter : List ℕ → Outcome PassStats → List ℕ

@@ -1,5 +1,5 @@
 -- What the answers of the passes say, in document 01's numbers and values ("Frame and result": "Grow: attached, no candidate, ambiguous, edge, rim.
--- Fill: added, rounds, rim. Local: grow's four, rounds, largest residual or `none`, rim."). Definitions only.
+-- Fill: added, rounds, rim. Local: grow's four, rounds, largest residual or `none`, rim."; document 02, 1/14: unmatched). Definitions only.
 use mathlib.Core.List.{List, [], _∷_}
 use Rattle.refusal.specs.Refusal.{numberOf}
 use Rattle.refusal.specs.Said.{Value, whole, float, yes-or-no, none, Said, number, values}
@@ -11,6 +11,7 @@ use Rattle.passes.specs.declared.FillStats.{FillStats}
 use Rattle.passes.specs.declared.FillAnswer.{FillAnswer}
 use Rattle.passes.specs.declared.LargestResidual.{LargestResidual}
 use Rattle.passes.specs.declared.LocalStats.{LocalStats}
+use Rattle.passes.specs.declared.Unmatched.{Unmatched}
 use Rattle.passes.specs.declared.LocalAnswer.{LocalAnswer}
 
 -- ---- the values of a pass that was run
@@ -44,13 +45,19 @@ abbrev pub residualValue : LargestResidual → Value
 residualValue LargestResidual.Nothing = none
 residualValue (LargestResidual.Residual x) = float x
 
--- grow's four, rounds, largest residual or `none`, rim
+-- how many were passed over, or none where no shade stands
+abbrev pub unmatchedValue : Unmatched → Value
+unmatchedValue Unmatched.NoShades = none
+unmatchedValue (Unmatched.Count n) = whole n
+
+-- grow's four, rounds, largest residual or `none`, rim; and unmatched
 unfoldable pub localValues : LocalStats → List Value
 localValues s =
     growsFour (s .counts)
     (whole (s .iterations)
     ∷ residualValue (s .residual)
     ∷ yes-or-no (s .rim)
+    ∷ unmatchedValue (s .unmatched)
     ∷ [])
 
 -- ---- each answer by its cases

@@ -2,7 +2,8 @@
 use mathlib.Core.List.{List, []}
 use Prim.Native.Nat.{ℕ}
 use lib.ListN.{length}
-use Rattle.sheet.specs.Corners.{CornerLists, cornersOf}
+use Rattle.sheet.specs.Corners.{CornerLists}
+use Rattle.arguments.specs.Shades.{cornersOf}
 use Rattle.refusal.specs.declared.Refusal.{Refusal}
 use Rattle.arguments.specs.Arguments.{Lent, checked}
 use Rattle.arguments.specs.declared.Checked.{Checked}
@@ -31,24 +32,24 @@ pub record Rooms : Type 0 where
 abbrev pub rooms : ℕ → ℕ → Rooms
 rooms queue attached = record { queue = queue; attached = attached }
 
-abbrev pub lentOf : CornerLists → List ℕ → Rooms → Lent
-lentOf l sheet r = record { corners = l; sheet = sheet; queue = r .queue; attached = r .attached }
+abbrev pub lentOf : CornerLists → List ℕ → List ℕ → Rooms → Lent
+lentOf l shades sheet r = record { corners = l; shades = shades; sheet = sheet; queue = r .queue; attached = r .attached }
 
 -- a refusal, or the pass
 abbrev pub unless : {A : Type 0} → Checked → After A → Outcome A
 unless Checked.Fine a = done a
 unless (Checked.Refused r) a = refused r
 
--- ---- each pass
+-- ---- each pass: the corners, their shades, the sheet, and the rest
 
-unfoldable pub growStep : CornerLists → List ℕ → Settings → GrowParams → Rooms → Outcome GrowStats
-growStep l sheet set p r = unless (checked (lentOf l sheet r) set (Pass.Grow p)) (growAfter (cornersOf l) set p sheet)
+unfoldable pub growStep : CornerLists → List ℕ → List ℕ → Settings → GrowParams → Rooms → Outcome GrowStats
+growStep l shades sheet set p r = unless (checked (lentOf l shades sheet r) set (Pass.Grow p)) (growAfter (cornersOf l shades) set p sheet)
 
-unfoldable pub fillStep : CornerLists → List ℕ → Settings → FillParams → Rooms → Outcome FillStats
-fillStep l sheet set p r = unless (checked (lentOf l sheet r) set (Pass.Fill p)) (fillAfter (cornersOf l) set p sheet)
+unfoldable pub fillStep : CornerLists → List ℕ → List ℕ → Settings → FillParams → Rooms → Outcome FillStats
+fillStep l shades sheet set p r = unless (checked (lentOf l shades sheet r) set (Pass.Fill p)) (fillAfter (cornersOf l shades) set p sheet)
 
-unfoldable pub localStep : CornerLists → List ℕ → Settings → LocalExtensionParams → Rooms → Outcome LocalStats
-localStep l sheet set p r = unless (checked (lentOf l sheet r) set (Pass.Local p)) (localAfter (cornersOf l) set p sheet)
+unfoldable pub localStep : CornerLists → List ℕ → List ℕ → Settings → LocalExtensionParams → Rooms → Outcome LocalStats
+localStep l shades sheet set p r = unless (checked (lentOf l shades sheet r) set (Pass.Local p)) (localAfter (cornersOf l shades) set p sheet)
 
 -- ---- what a call leaves in the buffers that it is lent: all of it untouched where it is refused
 

@@ -79,12 +79,19 @@ pub enum LargestResidual {
     Residual(f32),
 }
 
-// Local's pass line: grow's four counts, rounds, largest residual or none, rim.
+// How many corners local passed over for their kind, each time that it gathered; or that no shade stands, so that none could be.
+pub enum Unmatched {
+    NoShades,
+    Count(usize),
+}
+
+// Local's pass line: grow's four counts, rounds, largest residual or none, rim; and the corners passed over.
 pub struct LocalStats {
     pub counts: Counts,
     pub iterations: usize,
     pub residual: LargestResidual,
     pub rim: bool,
+    pub unmatched: Unmatched,
 }
 
 // What the public call of local answers.

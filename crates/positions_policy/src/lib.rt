@@ -84,7 +84,7 @@ pub fn cardinal_offset(k: usize) -> Offset
 
 // What the edge between the candidate, at the cell, and the k-th cardinal neighbour says.
 fn cardinal_edge(
-    corners: &[f32; 3 * CORNERS],
+    corners: &[f32; 4 * CORNERS],
     sheet: &[u16],
     c: Cell,
     candidate: Corner,
@@ -111,7 +111,7 @@ fn cardinal_edge(
 // What the edges between the candidate, at the cell, and the labelled cardinal neighbours say: they are tried in the order +i, -i,
 // +j, -j, and the search stops at the first accepted edge.
 pub fn any_cardinal_edge_ok(
-    corners: &[f32; 3 * CORNERS],
+    corners: &[f32; 4 * CORNERS],
     sheet: &[u16],
     c: Cell,
     candidate: Corner,

@@ -147,7 +147,7 @@ fn step_between(here: Position, f: Seen, b: Seen) -> LocalStep
 // The step at a neighbour along i or j: half the difference of both sides' positions, or the one-sided difference, or else the
 // axis. (The Rust looks the neighbour's own position up again; here the neighbour has it.)
 pub fn local_step_at(
-    corners: &[f32; 3 * CORNERS],
+    corners: &[f32; 4 * CORNERS],
     sheet: &[u16],
     n: Neighbour,
     d: Direction,
@@ -185,7 +185,7 @@ fn axis_of(grid: Grid, d: Direction) -> Vector
 
 // The step at a neighbour along i or j, as a vector.
 fn step_vector(
-    corners: &[f32; 3 * CORNERS],
+    corners: &[f32; 4 * CORNERS],
     sheet: &[u16],
     grid: Grid,
     n: Neighbour,
@@ -219,7 +219,7 @@ fn weigh(sums: Sums, o: Offset, p: Position, i_step: Vector, j_step: Vector) -> 
 
 // A neighbour's part in the sums for a cell.
 fn add_neighbour(
-    corners: &[f32; 3 * CORNERS],
+    corners: &[f32; 4 * CORNERS],
     sheet: &[u16],
     grid: Grid,
     c: Cell,
@@ -236,7 +236,7 @@ fn add_neighbour(
 
 // The sums with the k-th cell of the square, if it is labelled.
 fn add_if_labelled(
-    corners: &[f32; 3 * CORNERS],
+    corners: &[f32; 4 * CORNERS],
     sheet: &[u16],
     grid: Grid,
     c: Cell,
@@ -258,7 +258,7 @@ fn add_if_labelled(
 }
 
 // The sums over all neighbours, in their order.
-fn sum_neighbours(corners: &[f32; 3 * CORNERS], sheet: &[u16], c: Cell, grid: Grid) -> Sums
+fn sum_neighbours(corners: &[f32; 4 * CORNERS], sheet: &[u16], c: Cell, grid: Grid) -> Sums
     requires { ⌜ GivenCell (now sheet) c ⌝ }
     ensures { λ r. ⌜ r ≡ sumsOf (seenOf (cornerIn (now (corners .entry))) (now (sheet .entry))) grid c ⌝ }
 {
@@ -330,7 +330,7 @@ pub fn has_neighbour(sheet: &[u16], c: Cell, side: Side) -> bool
 
 // The prediction for a cell: none where it has no neighbour, else the weighted mean over its neighbours.
 pub fn predict_from_neighbours(
-    corners: &[f32; 3 * CORNERS],
+    corners: &[f32; 4 * CORNERS],
     sheet: &[u16],
     c: Cell,
     grid: Grid,

@@ -21,6 +21,7 @@ pub use passes::GrowStats;
 pub use passes::LargestResidual;
 pub use passes::LocalAnswer;
 pub use passes::LocalStats;
+pub use passes::Unmatched;
 pub use predict::Grid;
 pub use predict::Vector;
 

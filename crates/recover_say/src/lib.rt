@@ -31,6 +31,12 @@ fn float_buffer() -> [f32; CORNERS]
     [0.0; CORNERS]
 }
 
+fn shade_buffer() -> [u8; CORNERS]
+    ensures { λ r. ⌜ cornerLimit ≡ length r ⌝ }
+{
+    [0; CORNERS]
+}
+
 fn sheet_buffer() -> [u16; PLACES]
     ensures { λ r. ⌜ placeCount ≡ length r ⌝ }
 {
@@ -142,6 +148,7 @@ pub fn answer(text: &[u8]) -> Said
     let mut xs = float_buffer();
     let mut ys = float_buffer();
     let mut pitches = float_buffer();
+    let mut shades = shade_buffer();
     let mut sheet = sheet_buffer();
     let mut passes = pass_buffer();
     let mut queue = queue_buffer();
@@ -152,6 +159,7 @@ pub fn answer(text: &[u8]) -> Said
         &mut xs,
         &mut ys,
         &mut pitches,
+        &mut shades,
         &mut sheet,
         &mut passes,
         &mut queue,

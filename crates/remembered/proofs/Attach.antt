@@ -151,10 +151,11 @@ module _ (cs : Corners) (set : Settings) (p : LocalExtensionParams) (l : Largest
         mapped = mapped-stays d far n (u .mapped);
         undecided = still-ambiguous cs sheet (after sheet c k) k (clear-unlabelled a) (tolerancesOf set) (localSearch set p) d at same (u .undecided);
         last = u .last ∙ ap lastDistance (sym same);
+        no-shades = u .no-shades;
       })
     where
-      same : gathered cs (after sheet c k) (localSearch set p .«search_r») at ≡ gathered cs sheet (localSearch set p .«search_r») at
-      same = gathered-stays cs sheet (after sheet c k) k (clear-unlabelled a) (localSearch set p .«search_r») small at (sym (ap (λ (x : Float). lt x (sqrtOrNan (squaredDistance (cs .corner k .position) at))) (u .last)) ∙ e)
+      same : gathered cs (after sheet c k) (localSearch set p .«search_r») d at ≡ gathered cs sheet (localSearch set p .«search_r») d at
+      same = gathered-stays cs sheet (after sheet c k) k (clear-unlabelled a) (localSearch set p .«search_r») small d at (sym (ap (λ (x : Float). lt x (sqrtOrNan (squaredDistance (cs .corner k .position) at))) (u .last)) ∙ e)
 
   pub known-stays : (d : Cell) (known : Known) → reachIn known < reachOf d (placeOf c) → KnownAt cs set p l sheet d known
       → KnownAt cs set p l (after sheet c k) d (doubted (lt (limitIn known) (sqrtOrNan (squaredDistance (cs .corner k .position) (predictionIn known)))) known)
@@ -167,6 +168,7 @@ module _ (cs : Corners) (set : Settings) (p : LocalExtensionParams) (l : Largest
         at = m .at;
         mapped = mapped-stays d far n (m .mapped);
         missed = still-missed cs sheet (after sheet c k) (clear-used a) (tolerancesOf set) (localSearch set p) d (m .at) (m .missed);
+        none-over = m .none-over;
       })
   known-stays d (Known.Predicted r at) far (predicted n m) = predicted (within-stays a four d n far) (mapped-stays d far n m)
   known-stays d (Known.Ambiguous r at limit) far (ambiguous n u) = ambiguous-stays d far n u (lt limit (sqrtOrNan (squaredDistance (cs .corner k .position) at))) refl

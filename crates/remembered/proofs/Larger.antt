@@ -92,9 +92,9 @@ module _ {cs : Corners} {set : Settings} {p : LocalExtensionParams} {l : Largest
   pub known-all : {c : Cell} {known : Known} → KnownAt cs set p l sheet c known → KnownAt cs set p (recordedAll l rs) sheet c known
   known-all nothing = nothing
   known-all (idle n f) = idle n (idle-all rs f)
-  known-all (no-candidates n m) = no-candidates n (record { at = m .at; mapped = mapped-all rs (m .mapped); missed = m .missed })
+  known-all (no-candidates n m) = no-candidates n (record { at = m .at; mapped = mapped-all rs (m .mapped); missed = m .missed; none-over = m .none-over })
   known-all (predicted n m) = predicted n (mapped-all rs m)
-  known-all (ambiguous n u) = ambiguous n (record { mapped = mapped-all rs (u .mapped); undecided = u .undecided; last = u .last })
+  known-all (ambiguous n u) = ambiguous n (record { mapped = mapped-all rs (u .mapped); undecided = u .undecided; last = u .last; no-shades = u .no-shades })
 
   pub larger : {memory : List ℕ} {predictions : List Float} → Remembered cs set p l sheet memory predictions → Remembered cs set p (recordedAll l rs) sheet memory predictions
   larger m = record { size = m .size; room = m .room; at = λ a h. known-all (m .at a h); bounded = m .bounded }

@@ -39,14 +39,14 @@ module _ (cs : Corners) (set : Settings) (p : LocalExtensionParams) (l : Largest
   made-within h rs e k =
       predicted reached (subst (λ (f : LocalFit). Mapped set p (recordedAll l rs) c f (applied h (cellPoint c))) (sym e) (within k (covers l rs) refl))
 
--- no candidate at the prediction
+-- no candidate at the prediction, and no shade stands
 pub made-no-candidates : {cs : Corners} {set : Settings} {p : LocalExtensionParams} {l : LargestResidual} {sheet : List ℕ} {c : Cell} {r : ℕ} {at : Position}
     → KnownAt cs set p l sheet c (Known.Predicted r at) → tryAt cs sheet (tolerancesOf set) (localSearch set p) c at ≡ TryCellResult.NoCandidates
-    → KnownAt cs set p l sheet c (Known.NoCandidates r)
-made-no-candidates {at = at} (predicted n m) e = no-candidates n (record { at = at; mapped = m; missed = e })
+    → cs .shades .any ≡ false → KnownAt cs set p l sheet c (Known.NoCandidates r)
+made-no-candidates {at = at} (predicted n m) e s = no-candidates n (record { at = at; mapped = m; missed = e; none-over = s })
 
 -- an ambiguous choice there
 pub made-ambiguous : {cs : Corners} {set : Settings} {p : LocalExtensionParams} {l : LargestResidual} {sheet : List ℕ} {c : Cell} {r : ℕ} {at : Position} {limit : Float}
     → KnownAt cs set p l sheet c (Known.Predicted r at) → tryAt cs sheet (tolerancesOf set) (localSearch set p) c at ≡ TryCellResult.Ambiguous
-    → limit ≡ lastDistance (gathered cs sheet (localSearch set p .«search_r») at) → KnownAt cs set p l sheet c (Known.Ambiguous r at limit)
-made-ambiguous (predicted n m) e f = ambiguous n (record { mapped = m; undecided = e; last = f })
+    → limit ≡ lastDistance (gathered cs sheet (localSearch set p .«search_r») c at) → cs .shades .any ≡ false → KnownAt cs set p l sheet c (Known.Ambiguous r at limit)
+made-ambiguous (predicted n m) e f s = ambiguous n (record { mapped = m; undecided = e; last = f; no-shades = s })

@@ -1,7 +1,7 @@
 -- No candidate at a prediction: there is none later either, when more corners are labelled. An ambiguous choice: it stays so when a corner is labelled
 -- that is farther than the last of the first two candidates. Assumes nothing.
 use mathlib.Core.Path.{_≡_, refl, ap}
-use mathlib.Core.Bool.{Bool, true, false, not, cond, _&&_}
+use mathlib.Core.Bool.{Bool, true, false, not, cond, _&&_, and-eq-true-iff}
 use mathlib.Core.List.{List, [], _∷_}
 use Prim.Native.Nat.{ℕ, zero, suc, _<_}
 use native.Mathlib.Omega.{arith}
@@ -12,6 +12,7 @@ use Rattle.binary32.specs.Sqrt.{sqrtOrNan}
 use Rattle.sheet.specs.declared.Cell.{Cell}
 use Rattle.sheet.specs.declared.Corner.{Corner}
 use Rattle.sheet.specs.declared.Position.{Position}
+use Rattle.sheet.specs.Shades.{takes}
 use Rattle.sheet.specs.Corners.{Corners, seenOf, squaredDistance, finitePosition}
 use Rattle.labels.proofs.Below.{no-both}
 use Rattle.candidates.specs.Candidates.{eligible, squaredRadius, isCandidate, distanceOf, before, insert, insertIf, ordered, candidatesAt, firstTwo, lastDistance}
@@ -56,21 +57,21 @@ ordered-fewer distance candidate candidate' (suc n) sub e =
     go false f true g e w = absurd (no-both (candidate n) (sub n (omega arith) g) f)
     go false f false g e w = w e
 
-module _ (position : ℕ → Position) (unlabelled unlabelled' : ℕ → Bool) (n : ℕ) (prediction : Position) (radius : Float) (sub : (k : ℕ) → k < n → unlabelled' k ≡ true → unlabelled k ≡ true) where
-  candidates-fewer : candidatesAt position unlabelled n prediction radius ≡ [] → candidatesAt position unlabelled' n prediction radius ≡ []
-  unfolding candidatesAt eligible
+module _ (position : ℕ → Position) (may may' : ℕ → Bool) (n : ℕ) (prediction : Position) (radius : Float) (sub : (k : ℕ) → k < n → may' k ≡ true → may k ≡ true) where
+  candidates-fewer : candidatesAt position may n prediction radius ≡ [] → candidatesAt position may' n prediction radius ≡ []
+  unfolding candidatesAt
   candidates-fewer e = go (finitePosition prediction) e
     where
-      one : (k : ℕ) → k < n → (a b t : Bool) → unlabelled' k ≡ a → unlabelled k ≡ b → (a && t) ≡ true → (b && t) ≡ true
+      one : (k : ℕ) → k < n → (a b t : Bool) → may' k ≡ a → may k ≡ b → (a && t) ≡ true → (b && t) ≡ true
       one k h true true t f g m = m
-      one k h true false t f g m = absurd (no-both (unlabelled k) (sub k h f) g)
+      one k h true false t f g m = absurd (no-both (may k) (sub k h f) g)
       one k h false b t f g m = absurd (no-both false m refl)
 
-      go : (t : Bool) → cond t (ordered (distanceOf position prediction) (isCandidate position unlabelled prediction radius) n) [] ≡ []
-          → cond t (ordered (distanceOf position prediction) (isCandidate position unlabelled' prediction radius) n) [] ≡ []
+      go : (t : Bool) → cond t (ordered (distanceOf position prediction) (isCandidate position may prediction radius) n) [] ≡ []
+          → cond t (ordered (distanceOf position prediction) (isCandidate position may' prediction radius) n) [] ≡ []
       go true f =
-          ordered-fewer (distanceOf position prediction) (isCandidate position unlabelled prediction radius) (isCandidate position unlabelled' prediction radius) n
-          (λ k h m. one k h (unlabelled' k) (unlabelled k) (le (squaredDistance (position k) prediction) (squaredRadius radius)) refl refl m) f
+          ordered-fewer (distanceOf position prediction) (isCandidate position may prediction radius) (isCandidate position may' prediction radius) n
+          (λ k h m. one k h (may' k) (may k) (le (squaredDistance (position k) prediction) (squaredRadius radius)) refl refl m) f
       go false f = refl
 
 -- ---- no candidate and no choice
@@ -120,20 +121,35 @@ result-none corner sheet tol c (CandidateChoice.Unique k) e = absurd (go (passes
 
 -- ---- trying the cell
 
+-- a corner that is labelled is not eligible, whatever its kind
+eligible-fewer : (unlabelled unlabelled' taken : ℕ → Bool) (k : ℕ) → (unlabelled' k ≡ true → unlabelled k ≡ true) → eligible unlabelled' taken k ≡ true → eligible unlabelled taken k ≡ true
+unfolding eligible
+eligible-fewer unlabelled unlabelled' taken k sub e = let b = and-eq-true-iff (unlabelled' k) (taken k) .0 e in rw (sub (b .0), b .1)
+
+eligible-without : (unlabelled unlabelled' taken : ℕ → Bool) (k j : ℕ) → unlabelled' j ≡ (not (eqb k j) && unlabelled j)
+    → eligible unlabelled' taken j ≡ (not (eqb k j) && eligible unlabelled taken j)
+unfolding eligible
+eligible-without unlabelled unlabelled' taken k j e = rw e (go (not (eqb k j)))
+  where
+    go : (t : Bool) → ((t && unlabelled j) && taken j) ≡ (t && (unlabelled j && taken j))
+    go true = refl
+    go false = refl
+
 -- a sheet on which no corner is unlabelled that was not so before
 module _ (cs : Corners) (sheet sheet' : List ℕ) (sub : (k : ℕ) → unlabelledOn sheet' k ≡ true → unlabelledOn sheet k ≡ true) where
-  gathered-none : (radius : Float) (prediction : Position) → gathered cs sheet radius prediction ≡ Candidates.Empty → gathered cs sheet' radius prediction ≡ Candidates.Empty
+  gathered-none : (radius : Float) (c : Cell) (prediction : Position) → gathered cs sheet radius c prediction ≡ Candidates.Empty → gathered cs sheet' radius c prediction ≡ Candidates.Empty
   unfolding gathered firstTwo
-  gathered-none radius prediction e =
+  gathered-none radius c prediction e =
       ap firstTwo
-      (candidates-fewer (λ k. cs .corner k .position) (unlabelledOn sheet) (unlabelledOn sheet') (cs .count) prediction radius (λ k h. sub k) (first-none _ e))
+      (candidates-fewer (λ k. cs .corner k .position) _ (eligible (unlabelledOn sheet') (takes (cs .shades) c)) (cs .count) prediction radius
+      (λ k h. eligible-fewer (unlabelledOn sheet) (unlabelledOn sheet') (takes (cs .shades) c) k (sub k)) (first-none _ e))
 
   pub still-missed : (tol : Tolerances) (search : Search) (c : Cell) (at : Position) → tryAt cs sheet tol search c at ≡ TryCellResult.NoCandidates
       → tryAt cs sheet' tol search c at ≡ TryCellResult.NoCandidates
   unfolding tryAt resultOf
   still-missed tol search c at e =
       rw (
-        gathered-none (search .«search_r») at (choice-none (search .rule) _ (search .«ambiguity_factor») (result-none (cs .corner) sheet tol c _ e)),
+        gathered-none (search .«search_r») c at (choice-none (search .rule) _ (search .«ambiguity_factor») (result-none (cs .corner) sheet tol c _ e)),
         none-choice (search .rule) (search .«ambiguity_factor»),
       )
 
@@ -152,12 +168,14 @@ result-ambiguous corner sheet tol c (CandidateChoice.Unique k) e = absurd (go (p
 
 -- a sheet on which one more corner is labelled
 module _ (cs : Corners) (sheet sheet' : List ℕ) (k : ℕ) (same : (j : ℕ) → unlabelledOn sheet' j ≡ (not (eqb k j) && unlabelledOn sheet j)) where
-  module _ (radius : Float) (small : T (finite (squaredRadius radius))) (at : Position) (far : lt (lastDistance (gathered cs sheet radius at)) (sqrtOrNan (squaredDistance (cs .corner k .position) at)) ≡ true) where
-    pub gathered-stays : gathered cs sheet' radius at ≡ gathered cs sheet radius at
+  module _ (radius : Float) (small : T (finite (squaredRadius radius))) (c : Cell) (at : Position) (far : lt (lastDistance (gathered cs sheet radius c at)) (sqrtOrNan (squaredDistance (cs .corner k .position) at)) ≡ true) where
+    pub gathered-stays : gathered cs sheet' radius c at ≡ gathered cs sheet radius c at
     unfolding gathered
-    gathered-stays = first-two-stay (λ j. cs .corner j .position) (unlabelledOn sheet) (unlabelledOn sheet') (cs .count) at radius small k same far
+    gathered-stays =
+        first-two-stay (λ j. cs .corner j .position) (eligible (unlabelledOn sheet) (takes (cs .shades) c)) (eligible (unlabelledOn sheet') (takes (cs .shades) c)) (cs .count) at radius small k
+        (λ j. eligible-without (unlabelledOn sheet) (unlabelledOn sheet') (takes (cs .shades) c) k j (same j)) far
 
-  pub still-ambiguous : (tol : Tolerances) (search : Search) (c : Cell) (at : Position) → gathered cs sheet' (search .«search_r») at ≡ gathered cs sheet (search .«search_r») at
+  pub still-ambiguous : (tol : Tolerances) (search : Search) (c : Cell) (at : Position) → gathered cs sheet' (search .«search_r») c at ≡ gathered cs sheet (search .«search_r») c at
       → tryAt cs sheet tol search c at ≡ TryCellResult.Ambiguous → tryAt cs sheet' tol search c at ≡ TryCellResult.Ambiguous
   unfolding tryAt resultOf
-  still-ambiguous tol search c at g e = rw (g, result-ambiguous (cs .corner) sheet tol c (choiceBy (search .rule) (gathered cs sheet (search .«search_r») at) (search .«ambiguity_factor»)) e)
+  still-ambiguous tol search c at g e = rw (g, result-ambiguous (cs .corner) sheet tol c (choiceBy (search .rule) (gathered cs sheet (search .«search_r») c at) (search .«ambiguity_factor»)) e)

@@ -58,17 +58,20 @@ pub data Mapped (set : Settings) (p : LocalExtensionParams) (l : LargestResidual
   within : {h rs : List Float} {at : Position} → lt (gateOf set p) (worst (ofBits binary32 0) rs) ≡ false → CoveredBy l rs → at ≡ applied h (cellPoint c)
       → Mapped set p l c (fitted h rs) at
 
--- such a visit finds no candidate
+-- Such a visit finds no candidate, and passes over none, since no shade stands: where one does, what is passed over changes with every corner that is
+-- labelled, so a cell is gathered anew at each visit.
 pub record Missed (cs : Corners) (set : Settings) (p : LocalExtensionParams) (l : LargestResidual) (sheet : List ℕ) (c : Cell) : Type 0 where
   pub at : Position
   pub mapped : Mapped set p l c (fitAt cs sheet c) at
   pub missed : tryAt cs sheet (tolerancesOf set) (localSearch set p) c at ≡ TryCellResult.NoCandidates
+  pub none-over : cs .shades .any ≡ false
 
--- such a visit finds the choice ambiguous, and so far lies the last of the first two candidates
+-- such a visit finds the choice ambiguous, and so far lies the last of the first two candidates; no shade stands
 pub record Undecided (cs : Corners) (set : Settings) (p : LocalExtensionParams) (l : LargestResidual) (sheet : List ℕ) (c : Cell) (at : Position) (limit : Float) : Type 0 where
   pub mapped : Mapped set p l c (fitAt cs sheet c) at
   pub undecided : tryAt cs sheet (tolerancesOf set) (localSearch set p) c at ≡ TryCellResult.Ambiguous
-  pub last : limit ≡ lastDistance (gathered cs sheet (localSearch set p .«search_r») at)
+  pub last : limit ≡ lastDistance (gathered cs sheet (localSearch set p .«search_r») c at)
+  pub no-shades : cs .shades .any ≡ false
 
 -- what is known of a cell holds
 pub data KnownAt (cs : Corners) (set : Settings) (p : LocalExtensionParams) (l : LargestResidual) (sheet : List ℕ) (c : Cell) : Known → Type 0 where

@@ -14,34 +14,35 @@ use Rattle.arguments.proofs.Chains.{or-false, or-false-both, refused, passed}
 use Rattle.report_line.specs.Result.{lineCount}
 use Rattle.report.specs.WriteResult.{TextLent, textOf, inputShort, overLimit, wild, checkedRest, checkedText, checkedPiece}
 use Rattle.report_words.specs.Outcomes.{statsIn}
+use Rattle.sizes.specs.Sizes.{outcomeSize}
 use Rattle.report.specs.Asked.{AllLent, textFrom, CornersAsked, cornersChecked}
 use Rattle.report.proofs.Laws.{from-the-start}
 
--- ---- 7: nine words an outcome, by a division that cannot overflow
+-- ---- 7: eleven words an outcome, by a division that cannot overflow
 
-pub ninth : (n passes : ℕ) → ltb (n / 9) passes ≡ ltb n (9 * passes)
-ninth n passes = go (ltb n (9 * passes)) refl
+pub shorter : (n passes : ℕ) → ltb (n / outcomeSize) passes ≡ ltb n (outcomeSize * passes)
+shorter n passes = go (ltb n (outcomeSize * passes)) refl
   where
-    go : (t : Bool) → ltb n (9 * passes) ≡ t → ltb (n / 9) passes ≡ t
-    go true e = let h = ltb-true n (9 * passes) e in lt-ltb (n / 9) passes (omega arith)
-    go false e = let h = ltb-false n (9 * passes) e in le-ltb (n / 9) passes (omega arith)
+    go : (t : Bool) → ltb n (outcomeSize * passes) ≡ t → ltb (n / outcomeSize) passes ≡ t
+    go true e = let h = ltb-true n (outcomeSize * passes) e in lt-ltb (n / outcomeSize) passes (omega arith)
+    go false e = let h = ltb-false n (outcomeSize * passes) e in le-ltb (n / outcomeSize) passes (omega arith)
 
 -- ---- one refusal after the other
 
 module _ (l : TextLent) where
   -- 7, by its two tests
-  pub words-short : length (l .words) / 9 < l .passes → true ≡ inputShort l
+  pub words-short : length (l .words) / outcomeSize < l .passes → true ≡ inputShort l
   unfolding inputShort
-  words-short h = holds _ _ (sym (ninth (length (l .words)) (l .passes)) ∙ lt-ltb _ _ h)
+  words-short h = holds _ _ (sym (shorter (length (l .words)) (l .passes)) ∙ lt-ltb _ _ h)
 
-  pub sheet-short : l .passes ≤ length (l .words) / 9 → ltb (length (l .sheet)) 16384 ≡ inputShort l
+  pub sheet-short : l .passes ≤ length (l .words) / outcomeSize → ltb (length (l .sheet)) 16384 ≡ inputShort l
   unfolding inputShort
-  sheet-short h = fails _ _ _ (sym (ninth (length (l .words)) (l .passes)) ∙ le-ltb _ _ h) refl
+  sheet-short h = fails _ _ _ (sym (shorter (length (l .words)) (l .passes)) ∙ le-ltb _ _ h) refl
 
   pub all-lent : inputShort l ≡ false → AllLent (l .passes) (l .words) (l .sheet)
   unfolding inputShort
   all-lent e =
-      let r = or-false-both (ltb (length (l .words)) (9 * l .passes)) _ e in
+      let r = or-false-both (ltb (length (l .words)) (outcomeSize * l .passes)) _ e in
       record { words-long = ltb-false _ _ (r .0); sheet-long = ltb-false _ _ (r .1) }
 
   pub corners-few : overLimit l ≡ false → l .corners ≤ 1024

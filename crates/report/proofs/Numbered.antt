@@ -10,7 +10,7 @@ use lib.ListN.{length, length-append}
 use Rattle.passes.specs.declared.GrowStats.{GrowStats}
 use Rattle.passes.specs.declared.FillStats.{FillStats}
 use Rattle.passes.specs.declared.LocalStats.{LocalStats}
-use Rattle.report_line.specs.Result.{growLine, fillLine, localLine, passLine, passLineAt, sheetLine, linesFrom, resultLine, lineCount, resultFrom}
+use Rattle.report_line.specs.Result.{growLine, fillLine, localLines, passLine, passLineAt, sheetLine, linesFrom, resultLine, lineCount, resultFrom}
 use Rattle.report_line.specs.Like.{GrowLike, FillLike, LocalLike}
 use Rattle.report_line.proofs.Like.{grow-like, fill-like, local-like}
 use Rattle.line_form.specs.Written.{Wrote}
@@ -31,7 +31,7 @@ module _ (words : List ℕ) (k kind : ℕ) (e : kind ≡ wordAt words k 0) where
   unfolding passLine statsAt
   fill-kind h = rw (ne-eqb (wordAt words k 0) 0 (λ z. omega arith), eq-eqb (wordAt words k 0) 1 (sym e ∙ h))
 
-  pub local-kind : (kind ≡ 0 → ⊥) → (kind ≡ 1 → ⊥) → localLine (localAt words k) ≡ passLine (statsAt words k)
+  pub local-kind : (kind ≡ 0 → ⊥) → (kind ≡ 1 → ⊥) → localLines (localAt words k) ≡ passLine (statsAt words k)
   unfolding passLine statsAt
   local-kind a b = rw (ne-eqb (wordAt words k 0) 0 (λ z. a (e ∙ z)), ne-eqb (wordAt words k 0) 1 (λ z. b (e ∙ z)))
 
@@ -44,7 +44,7 @@ module _ (words : List ℕ) (k kind : ℕ) (e : kind ≡ wordAt words k 0) where
   pub fill-counted : (r : FillStats) (n : ℕ) (old new : List ℕ) → FillLike (fillAt words k) r → kind ≡ 1 → Wrote (fillLine r) old new n → n ≡ length (passLine (statsAt words k))
   fill-counted r n old new l h w = w .count ∙ fill-like (fillAt words k) r l ∙ ap (λ (t : List ℕ). length t) (fill-kind words k kind e h)
 
-  pub local-counted : (r : LocalStats) (n : ℕ) (old new : List ℕ) → LocalLike (localAt words k) r → (kind ≡ 0 → ⊥) → (kind ≡ 1 → ⊥) → Wrote (localLine r) old new n
+  pub local-counted : (r : LocalStats) (n : ℕ) (old new : List ℕ) → LocalLike (localAt words k) r → (kind ≡ 0 → ⊥) → (kind ≡ 1 → ⊥) → Wrote (localLines r) old new n
       → n ≡ length (passLine (statsAt words k))
   local-counted r n old new l h i w = w .count ∙ local-like (localAt words k) r l ∙ ap (λ (t : List ℕ). length t) (local-kind words k kind e h i)
 

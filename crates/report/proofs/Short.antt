@@ -16,7 +16,7 @@ use Rattle.report_line.specs.Written.{Few}
 use Rattle.report_line.proofs.Short.{grow-short, fill-short, local-short, sheet-short}
 use Rattle.report_words.specs.Asked.{growAt, fillAt, localAt, Tame}
 use Rattle.report.specs.Asked.{lineAt}
-use Rattle.report_words.proofs.Outcomes.{tame, stats-length, pass-line-at}
+use Rattle.report_words.proofs.Outcomes.{tame, stats-length, pass-line-at, unmatched-few}
 
 -- each outcome passes the check
 pub all-tame : (l : TextLent) → wild l ≡ false → (k : ℕ) → k < l .passes → Tame (l .words) k
@@ -34,7 +34,7 @@ pass-short words k h = go (eqb (wordAt words k 0) 0) (eqb (wordAt words k 0) 1)
     go : (a b : Bool) → length (passLine (cond a (growStats (growAt words k)) (cond b (fillStats (fillAt words k)) (localStats (localAt words k))))) ≤ 127
     go true b = grow-short _ few
     go false true = fill-short _ (omega (arith, h .attached)) (omega (arith, h .rounds))
-    go false false = local-short _ few (omega (arith, h .rounds))
+    go false false = local-short _ few (omega (arith, h .rounds)) (λ n e. omega (arith, unmatched-few words k h n e))
 
 -- ---- every line
 

@@ -1,28 +1,27 @@
 -- Lines written one after the other, each into the unfilled rest of a buffer. Assumes nothing.
-use mathlib.Core.Path.{_≡_, refl, sym, ap, ap₂, _∙_}
+use mathlib.Core.Path.{_≡_, refl, sym, ap, _∙_}
 use mathlib.Core.List.{List, [], _++_, append-assoc, append-nil}
 use Prim.Native.Nat.{ℕ, zero, suc, _+_, _-_, _≤_, _<_}
 use native.Mathlib.Omega.{arith}
 use borrow.Rule.Slice.PartMut.{putMid}
 use borrow.Author.Tests.{lt-ltb, le-ltb}
 use lib.ListN.{length, take, drop, length-append, length-drop}
-use lib.Seq.{take-at, drop-at, drop-drop}
 use Rattle.passes.specs.declared.GrowStats.{GrowStats}
 use Rattle.passes.specs.declared.FillStats.{FillStats}
 use Rattle.passes.specs.declared.LocalStats.{LocalStats}
 use Rattle.line_form.specs.Written.{Wrote}
 use Rattle.line_form.proofs.Reading.{part}
-use Rattle.line_form.proofs.Writing.{put-back}
-use Rattle.report_line.specs.Result.{heading, growLine, fillLine, localLine, passLine, sheetLine, lineCount, resultLine, Piece, ending, joined, pieceOf, resultPiece}
+use Rattle.report_line.specs.Result.{heading, growLine, fillLine, localLines, passLine, sheetLine, lineCount, resultLine, Piece, ending, joined, pieceOf, resultPiece}
 use Rattle.report_line.specs.Written.{Few, GrowAsked, FillAsked, LocalAsked, LineAsked as SheetAsked}
 use Rattle.report_line.proofs.Forms.{same-room}
+use Rattle.report_line.proofs.Behind.{front-length, one-more}
 use Rattle.arguments.specs.Front.{over}
 use Rattle.report_words.specs.Outcomes.{wordAt, countsAt, statsAt, statsIn}
 use Rattle.report_words.specs.Asked.{growAt, fillAt, localAt, Tame}
 use Rattle.report.specs.Asked.{PassAsked, LineAsked, AllAsked, SomeAsked, WrotePiece, lineAt, textFrom, pieceFrom}
 use Rattle.report.specs.declared.lines.PieceEnd.{PieceEnd}
 use Rattle.report.proofs.Numbered.{grow-kind, fill-kind, local-kind, pass-line, sheet-line, text-more, text-ends}
-use Rattle.report_words.proofs.Outcomes.{stats-length, residual-finite}
+use Rattle.report_words.proofs.Outcomes.{stats-length, residual-finite, unmatched-few}
 
 -- ---- pass lines, by the outcome's kind
 
@@ -47,8 +46,8 @@ module _ (words : List ℕ) (k kind : ℕ) (e : kind ≡ wordAt words k 0) where
         record { few = rw q (omega (arith, a .outcome .tame .attached)); rounds = rw q (omega (arith, a .outcome .tame .rounds)); room = same-room _ _ out fill-line (a .room) }
 
   module _ (s : LocalStats) (q : s ≡ localAt words k) (h : kind ≡ 0 → ⊥) (i : kind ≡ 1 → ⊥) where
-    pub local-line : localLine s ≡ passLine (statsAt words k)
-    local-line = ap localLine q ∙ local-kind words k kind e h i
+    pub local-line : localLines s ≡ passLine (statsAt words k)
+    local-line = ap localLines q ∙ local-kind words k kind e h i
 
     pub local-asked : (out : List ℕ) → PassAsked words k out → LocalAsked s out
     local-asked out a =
@@ -56,30 +55,9 @@ module _ (words : List ℕ) (k kind : ℕ) (e : kind ≡ wordAt words k 0) where
           few = rw q (few words k (a .outcome .tame));
           rounds = rw q (omega (arith, a .outcome .tame .rounds));
           finite = λ x d. residual-finite words k (a .outcome .tame) x (ap (λ (t : LocalStats). t .residual) (sym q) ∙ d);
+          unmatched = λ n d. omega (arith, unmatched-few words k (a .outcome .tame) n (ap (λ (t : LocalStats). t .unmatched) (sym q) ∙ d));
           room = same-room _ _ out local-line (a .room);
         }
-
--- ---- one line more at the front of a buffer
-
-module _ (done old new : List ℕ) (at : ℕ) (size : length done ≡ at) (fits : at ≤ length old) (is : new ≡ over done old) where
-  pub front-length : length new ≡ length old
-  front-length = ap length is ∙ length-append done (drop (length done) old) ∙ rest
-    where
-      rest : length done + length (drop (length done) old) ≡ length old
-      rest = let d = length-drop (length done) old in omega arith
-
-  front : take at new ≡ done
-  front = ap (take at) is ∙ take-at done (drop (length done) old) at size
-
-  back : drop at new ≡ drop (length done) old
-  back = ap (drop at) is ∙ drop-at done (drop (length done) old) at size
-
-  pub one-more : (line rest : List ℕ) (n : ℕ) → Wrote line (take (length new - at) (drop at new)) rest n → putMid at (length new - at) new rest ≡ over (done ++ line) old
-  one-more line rest n w =
-      put-back new rest at
-      ∙ ap₂ _++_ front (w .part ∙ ap (λ (l : List ℕ). line ++ drop (length line) l) (part new at ∙ back) ∙ ap (λ (l : List ℕ). line ++ l) (drop-drop (length line) (length done) old))
-      ∙ sym (append-assoc done line (drop (length done + length line) old))
-      ∙ ap (λ (m : ℕ). (done ++ line) ++ drop m old) (sym (length-append done line))
 
 -- ---- the whole text
 

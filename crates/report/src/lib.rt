@@ -20,8 +20,8 @@ pub enum PieceAnswer {
     Refused(Refusal),
 }
 
-// Writes the whole text of a result to the front of a buffer, and leaves the rest of it as it was. It is lent the outcomes of the passes as words, nine
-// for each, and the sheet, and told how many passes and corners there are. `said` is the same answer in 01's number or values.
+// Writes the whole text of a result to the front of a buffer, and leaves the rest of it as it was. It is lent the outcomes of the passes as words,
+// eleven for each, and the sheet, and told how many passes and corners there are. `said` is the same answer in 01's number or values.
 pub fn write_result(
     corners: usize,
     passes: usize,

@@ -1,5 +1,5 @@
-// The lines of a result by their numbers: 0 is the heading, then the pass lines, then 16,384 lines each of cells, holes and ambiguous cells,
-// most of them empty.
+// The lines of a result by their numbers: 0 is the heading, then one line for each pass (local's two count as one), then 16,384 lines each of cells,
+// holes and ambiguous cells, most of them empty.
 ghost use mathlib.Core.Path.{_≡_};
 ghost use Prim.Native.Nat.{_+_, _≤_};
 ghost use lib.Dec.{ltb};

@@ -24,8 +24,9 @@ use Rattle.passes.specs.declared.GrowStats.{GrowStats}
 use Rattle.passes.specs.declared.FillStats.{FillStats}
 use Rattle.passes.specs.declared.LocalStats.{LocalStats}
 use Rattle.passes.specs.declared.LargestResidual.{LargestResidual}
-use Rattle.report_line.specs.Result.{count, growForm, fillForm, localForm, bareLocalForm, fourCounts, growLine, fillLine, localLineWith, localLine, cellNumbers, labelLine, cellLine, holeLine, ambiguousLine, sheetLine, heading}
-use Rattle.report_line.specs.Written.{bareLocalText, fullLocalText, BareAsked, FullAsked, LocalAsked, cellText, holeText, ambiguousText, CellAsked, CornerAsked, PlaceAsked, LineAsked}
+use Rattle.passes.specs.declared.Unmatched.{Unmatched}
+use Rattle.report_line.specs.Result.{count, growForm, fillForm, localForm, bareLocalForm, fourCounts, growLine, fillLine, localLineWith, localLine, unmatchedLine, cellNumbers, labelLine, cellLine, holeLine, ambiguousLine, sheetLine, heading}
+use Rattle.report_line.specs.Written.{bareLocalText, fullLocalText, BareAsked, FullAsked, LocalLineAsked, cellText, holeText, ambiguousText, CellAsked, CornerAsked, PlaceAsked, LineAsked}
 use Rattle.report_line.proofs.Short.{corner-small}
 use Rattle.line_form.specs.Written.{unheldWhole, unheldNumber, unheld, formText, Wrote}
 
@@ -122,6 +123,10 @@ module _ (s : LocalStats) (a b c d f : ℕ)
     unfolding formText unheld unheldNumber
     full-no e = ap (printed (localForm false)) (five (bits (toBits binary32 x) ∷ [])) ∙ full-rim false e
 
+pub unmatched-form : (n a : ℕ) → unheldWhole a ≡ pos n → formText (bytes "(unmatched #)\n") (a ∷ []) ≡ unmatchedLine (Unmatched.Count n)
+unfolding formText unheld unheldNumber unmatchedLine
+unmatched-form n a e = rw e refl
+
 -- ---- the sheet's lines
 
 module _ (c : Cell) (a b : ℕ) (ea : unheldWhole a ≡ c .i) (eb : unheldWhole b ≡ c .j) where
@@ -205,7 +210,7 @@ module _ (s : LocalStats) (out : List ℕ) where
   unfolding localLine
   bare-line e = ap (λ (x : LargestResidual). localLineWith x s) (sym e)
 
-  pub bare-asked : LocalAsked s out → s .residual ≡ LargestResidual.Nothing → BareAsked s out
+  pub bare-asked : LocalLineAsked s out → s .residual ≡ LargestResidual.Nothing → BareAsked s out
   bare-asked a e = record { few = a .few; rounds = a .rounds; room = same-room _ _ out (bare-line e) (a .room) }
 
   module _ (x : Float) where
@@ -213,7 +218,7 @@ module _ (s : LocalStats) (out : List ℕ) where
     unfolding localLine
     full-line e = ap (λ (y : LargestResidual). localLineWith y s) (sym e)
 
-    pub full-asked : LocalAsked s out → s .residual ≡ LargestResidual.Residual x → FullAsked s x out
+    pub full-asked : LocalLineAsked s out → s .residual ≡ LargestResidual.Residual x → FullAsked s x out
     full-asked a e = record { few = a .few; rounds = a .rounds; finite = a .finite x e; room = same-room _ _ out (full-line e) (a .room) }
 
 -- ---- the line of a place, by what the place holds

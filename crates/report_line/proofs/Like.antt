@@ -12,16 +12,17 @@ use lib.ListN.{length, drop, length-append}
 use Rattle.binary32.specs.Ranges.{isFinite}
 use Rattle.binary32.proofs.Digits.{digits-length}
 use Rattle.line_form.specs.Integers.{decimal, integerText}
-use Rattle.line_form.specs.Forms.{Number, bits, numberText, isSlot, firstText, printed}
+use Rattle.line_form.specs.Forms.{bytes, Number, bits, numberText, isSlot, firstText, printed}
 use Rattle.line_form.proofs.Decimal.{one-digit, more-digits, decimal-length}
 use Rattle.passes.specs.declared.Counts.{Counts}
 use Rattle.passes.specs.declared.GrowStats.{GrowStats}
 use Rattle.passes.specs.declared.FillStats.{FillStats}
 use Rattle.passes.specs.declared.LocalStats.{LocalStats}
 use Rattle.passes.specs.declared.LargestResidual.{LargestResidual}
-use Rattle.report_line.specs.Result.{count, growForm, fillForm, localForm, bareLocalForm, fourCounts, growLine, fillLine, localLineWith, localLine}
+use Rattle.passes.specs.declared.Unmatched.{Unmatched}
+use Rattle.report_line.specs.Result.{count, growForm, fillForm, localForm, bareLocalForm, fourCounts, growLine, fillLine, localLineWith, localLine, unmatchedLine, localLines}
 use Rattle.report_line.specs.Written.{largestHeld, Few, GrowAsked, FillAsked, LocalAsked}
-use Rattle.report_line.specs.Like.{Like, CountsLike, ResidualLike, GrowLike, FillLike, LocalLike}
+use Rattle.report_line.specs.Like.{Like, CountsLike, ResidualLike, UnmatchedLike, GrowLike, FillLike, LocalLike}
 use Rattle.report_line.proofs.Short.{grow-short, fill-short, local-short}
 
 -- ---- a number of 32 bits
@@ -104,9 +105,9 @@ module _ (s r : FillStats) (l : FillLike s r) where
       record { few = l .added .held; rounds = l .rounds .held; room = omega (arith, fill-short r (l .added .held) (l .rounds .held), h) }
 
 module _ (s r : LocalStats) (l : LocalLike s r) where
-  pub local-like : length (localLine r) ≡ length (localLine s)
+  line-like : length (localLine r) ≡ length (localLine s)
   unfolding localLine
-  local-like = go (s .residual) (r .residual) (l .residual)
+  line-like = go (s .residual) (r .residual) (l .residual)
     where
       five : (ns ms : List Number) → SameLengths ms ns → SameLengths (fourCounts (r .counts) (count (r .iterations) ∷ ms)) (fourCounts (s .counts) (count (s .iterations) ∷ ns))
       five ns ms h = like-four (s .counts) (r .counts) (count (s .iterations) ∷ ns) (count (r .iterations) ∷ ms) (l .counts) (like-count (l .rounds), h)
@@ -118,13 +119,33 @@ module _ (s r : LocalStats) (l : LocalLike s r) where
       go (LargestResidual.Residual x) (LargestResidual.Residual y) h =
           rw (l .rim) (same-printed (localForm (s .rim)) _ _ (five (bits (toBits binary32 x) ∷ []) (bits (toBits binary32 y) ∷ []) (like-bits (toBits binary32 y) (toBits binary32 x), tt)))
 
+  unmatched-like : (a b : Unmatched) → UnmatchedLike a b → length (unmatchedLine b) ≡ length (unmatchedLine a)
+  unfolding unmatchedLine
+  unmatched-like Unmatched.NoShades Unmatched.NoShades h = refl
+  unmatched-like Unmatched.NoShades (Unmatched.Count m) h = absurd h
+  unmatched-like (Unmatched.Count n) Unmatched.NoShades h = absurd h
+  unmatched-like (Unmatched.Count n) (Unmatched.Count m) h = same-printed (bytes "(unmatched #)\n") (count m ∷ []) (count n ∷ []) (like-count h, tt)
+
+  pub local-like : length (localLines r) ≡ length (localLines s)
+  unfolding localLines
+  local-like =
+      length-append (localLine r) (unmatchedLine (r .unmatched))
+      ∙ omega (arith, length-append (localLine s) (unmatchedLine (s .unmatched)), line-like, unmatched-like (s .unmatched) (r .unmatched) (l .unmatched))
+
+  unmatched-held : (a b : Unmatched) → UnmatchedLike a b → (n : ℕ) → b ≡ Unmatched.Count n → n ≤ largestHeld
+  unmatched-held Unmatched.NoShades Unmatched.NoShades h n e = let z : _≡_ {A = ℕ} 0 1 = cc in absurd (omega arith)
+  unmatched-held Unmatched.NoShades (Unmatched.Count m) h n e = absurd h
+  unmatched-held (Unmatched.Count a) Unmatched.NoShades h n e = absurd h
+  unmatched-held (Unmatched.Count a) (Unmatched.Count m) h n e = let same : m ≡ n = cc in rw (← same) (h .held)
+
   pub local-like-asked : (out : List ℕ) → 128 ≤ length out → LocalAsked r out
   local-like-asked out h =
       record {
         few = few (l .counts);
         rounds = l .rounds .held;
         finite = λ x e. go (s .residual) (r .residual) (l .residual) x e;
-        room = omega (arith, local-short r (few (l .counts)) (l .rounds .held), h);
+        unmatched = unmatched-held (s .unmatched) (r .unmatched) (l .unmatched);
+        room = omega (arith, local-short r (few (l .counts)) (l .rounds .held) (unmatched-held (s .unmatched) (r .unmatched) (l .unmatched)), h);
       }
     where
       go : (a b : LargestResidual) → ResidualLike a b → (x : Float) → b ≡ LargestResidual.Residual x → isFinite x ≡ true

@@ -6,7 +6,7 @@ use Prim.Native.Nat.{ℕ, zero, suc, _+_, _-_, _*_, _%_, _≤_, _<_}
 use native.Mathlib.Omega.{arith}
 use borrow.Author.Tests.{ltb-true}
 use lib.Dec.{ltb}
-use lib.ListN.{length, getD}
+use lib.ListN.{length, getD, length-append}
 use lib.Ieee.{Float, binary32, toBits}
 use Rattle.sheet.specs.Cells.{OnSheet, cellOf}
 use Rattle.sheet.specs.Words.{labelOf, labelOfNumber, holeOf, ambiguousOf}
@@ -21,9 +21,10 @@ use Rattle.passes.specs.declared.GrowStats.{GrowStats}
 use Rattle.passes.specs.declared.FillStats.{FillStats}
 use Rattle.passes.specs.declared.LocalStats.{LocalStats}
 use Rattle.passes.specs.declared.LargestResidual.{LargestResidual}
+use Rattle.passes.specs.declared.Unmatched.{Unmatched}
 use Rattle.report_line.specs.Written.{largestHeld, Few}
 use Rattle.report_line.proofs.Wide.{Wide, printed-wide, count-wide, bits-wide}
-use Rattle.report_line.specs.Result.{count, growForm, fillForm, localForm, bareLocalForm, fourCounts, growLine, fillLine, localLineWith, localLine, cellNumbers, labelLine, cellLine, holeLine, ambiguousLine, sheetLine}
+use Rattle.report_line.specs.Result.{count, growForm, fillForm, localForm, bareLocalForm, fourCounts, growLine, fillLine, localLineWith, localLine, unmatchedLine, localLines, cellNumbers, labelLine, cellLine, holeLine, ambiguousLine, sheetLine}
 
 -- ---- pass lines
 
@@ -49,9 +50,9 @@ fill-short s h r = go (s .rim)
     go true = let l : _ ≤ 15 + 9 * 2 = printed-wide (fillForm true) (count (s .added) ∷ count (s .iterations) ∷ []) two in omega arith
     go false = let l : _ ≤ 14 + 9 * 2 = printed-wide (fillForm false) (count (s .added) ∷ count (s .iterations) ∷ []) two in omega arith
 
-pub local-short : (s : LocalStats) → Few (s .counts) → s .iterations ≤ largestHeld → length (localLine s) ≤ 127
+local-line-short : (s : LocalStats) → Few (s .counts) → s .iterations ≤ largestHeld → length (localLine s) ≤ 78
 unfolding localLine slots
-local-short s h r = go (s .residual) (s .rim)
+local-line-short s h r = go (s .residual) (s .rim)
   where
     bare : List Number
     bare = fourCounts (s .counts) (count (s .iterations) ∷ [])
@@ -65,11 +66,22 @@ local-short s h r = go (s .residual) (s .rim)
     full-wide : (x : Float) → Wide (full x)
     full-wide x = four-wide (s .counts) (count (s .iterations) ∷ bits (toBits binary32 x) ∷ []) h (count-wide _ r, (bits-wide (toBits binary32 x), tt))
 
-    go : (x : LargestResidual) (t : Bool) → length (localLineWith x (record { counts = s .counts; iterations = s .iterations; residual = x; rim = t })) ≤ 127
+    go : (x : LargestResidual) (t : Bool) → length (localLineWith x (record { counts = s .counts; iterations = s .iterations; residual = x; rim = t; unmatched = s .unmatched })) ≤ 78
     go LargestResidual.Nothing true = let l : _ ≤ 27 + 9 * 5 = printed-wide (bareLocalForm true) bare bare-wide in omega arith
     go LargestResidual.Nothing false = let l : _ ≤ 26 + 9 * 5 = printed-wide (bareLocalForm false) bare bare-wide in omega arith
     go (LargestResidual.Residual x) true = let l : _ ≤ 24 + 9 * 6 = printed-wide (localForm true) (full x) (full-wide x) in omega arith
     go (LargestResidual.Residual x) false = let l : _ ≤ 23 + 9 * 6 = printed-wide (localForm false) (full x) (full-wide x) in omega arith
+
+unmatched-short : (u : Unmatched) → ((n : ℕ) → u ≡ Unmatched.Count n → n ≤ largestHeld) → length (unmatchedLine u) ≤ 23
+unfolding unmatchedLine slots
+unmatched-short Unmatched.NoShades h = omega arith
+unmatched-short (Unmatched.Count n) h = let l : _ ≤ 14 + 9 * 1 = printed-wide (bytes "(unmatched #)\n") (count n ∷ []) (count-wide n (h n refl), tt) in omega arith
+
+-- the two together
+pub local-short : (s : LocalStats) → Few (s .counts) → s .iterations ≤ largestHeld → ((n : ℕ) → s .unmatched ≡ Unmatched.Count n → n ≤ largestHeld)
+    → length (localLines s) ≤ 127
+unfolding localLines
+local-short s h r u = omega (arith, length-append (localLine s) (unmatchedLine (s .unmatched)), local-line-short s h r, unmatched-short (s .unmatched) u)
 
 -- ---- the sheet's lines
 

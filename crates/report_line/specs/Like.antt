@@ -10,6 +10,7 @@ use Rattle.passes.specs.declared.GrowStats.{GrowStats}
 use Rattle.passes.specs.declared.FillStats.{FillStats}
 use Rattle.passes.specs.declared.LocalStats.{LocalStats}
 use Rattle.passes.specs.declared.LargestResidual.{LargestResidual}
+use Rattle.passes.specs.declared.Unmatched.{Unmatched}
 use Rattle.report_line.specs.Written.{largestHeld}
 
 -- a number that a line can hold, of as many digits as n
@@ -30,6 +31,13 @@ ResidualLike LargestResidual.Nothing (LargestResidual.Residual y) = ⊥
 ResidualLike (LargestResidual.Residual x) LargestResidual.Nothing = ⊥
 ResidualLike (LargestResidual.Residual x) (LargestResidual.Residual y) = isFinite y ≡ true
 
+-- a count for a count, and none for none
+abbrev pub UnmatchedLike : Unmatched → Unmatched → Type 0
+UnmatchedLike Unmatched.NoShades Unmatched.NoShades = Unit {0}
+UnmatchedLike Unmatched.NoShades (Unmatched.Count m) = ⊥
+UnmatchedLike (Unmatched.Count n) Unmatched.NoShades = ⊥
+UnmatchedLike (Unmatched.Count n) (Unmatched.Count m) = Like n m
+
 pub record GrowLike (s r : GrowStats) : Type 0 where
   pub counts : CountsLike (s .counts) (r .counts)
   pub rim : r .rim ≡ s .rim
@@ -44,3 +52,4 @@ pub record LocalLike (s r : LocalStats) : Type 0 where
   pub rounds : Like (s .iterations) (r .iterations)
   pub residual : ResidualLike (s .residual) (r .residual)
   pub rim : r .rim ≡ s .rim
+  pub unmatched : UnmatchedLike (s .unmatched) (r .unmatched)

@@ -1,5 +1,5 @@
--- The text of a result (document 01, "Frame and result"): `(result 1)`, "After the first line stand the pass lines as run. .. Then cells (cell,
--- corner), holes, `(ambiguous (i j))`, each by i, then j." Definitions only.
+-- The text of a result (document 01, "Frame and result": `(result 1)`, "After the first line stand the pass lines as run. .. Then cells (cell,
+-- corner), holes, `(ambiguous (i j))`, each by i, then j."; document 02, 1/14: `(unmatched count)` behind local's line). Definitions only.
 use mathlib.Core.Bool.{Bool, true, false, cond}
 use mathlib.Core.List.{List, [], _∷_, _++_}
 use Prim.Native.Nat.{ℕ, zero, suc, _+_, _-_}
@@ -17,6 +17,7 @@ use Rattle.passes.specs.declared.GrowStats.{GrowStats}
 use Rattle.passes.specs.declared.FillStats.{FillStats}
 use Rattle.passes.specs.declared.LocalStats.{LocalStats}
 use Rattle.passes.specs.declared.LargestResidual.{LargestResidual}
+use Rattle.passes.specs.declared.Unmatched.{Unmatched}
 use Rattle.passes.specs.Run.{PassStats, growStats, fillStats, localStats}
 use Rattle.sizes.specs.Sizes.{placeCount}
 use Rattle.report_line.specs.Sizes.{sheetLines, firstAmbiguous, lineRoom}
@@ -63,10 +64,19 @@ localLineWith (LargestResidual.Residual x) s = printed (localForm (s .rim)) (fou
 unfoldable pub localLine : LocalStats → List ℕ
 localLine s = localLineWith (s .residual) s
 
+-- "if any shade stands, prints `(unmatched count)` after its line" (document 02, 1/14)
+unfoldable pub unmatchedLine : Unmatched → List ℕ
+unmatchedLine Unmatched.NoShades = []
+unmatchedLine (Unmatched.Count n) = printed (bytes "(unmatched #)\n") (count n ∷ [])
+
+-- local's line, and behind it that of unmatched: together they count as one line
+unfoldable pub localLines : LocalStats → List ℕ
+localLines s = localLine s ++ unmatchedLine (s .unmatched)
+
 unfoldable pub passLine : PassStats → List ℕ
 passLine (growStats s) = growLine s
 passLine (fillStats s) = fillLine s
-passLine (localStats s) = localLine s
+passLine (localStats s) = localLines s
 
 unfoldable pub passLines : List PassStats → List ℕ
 passLines [] = []
@@ -107,8 +117,8 @@ heading = bytes "(result 1)\n"
 unfoldable pub resultText : List PassStats → List ℕ → List ℕ
 resultText stats sheet = heading ++ (passLines stats ++ (allPlaces (cellLine sheet) ++ (allPlaces (holeLine sheet) ++ allPlaces (ambiguousLine sheet))))
 
--- ---- the same text line by line, to be written piece by piece: line 0 is the heading, then the pass lines, then 16,384 lines each of cells,
--- holes and ambiguous cells, most of them empty
+-- ---- the same text line by line, to be written piece by piece: line 0 is the heading, then one line for each pass (local's two count as one), then
+-- 16,384 lines each of cells, holes and ambiguous cells, most of them empty
 
 abbrev pub passLineAt : List PassStats → ℕ → List ℕ
 passLineAt [] k = []

@@ -16,9 +16,10 @@ use Rattle.passes.specs.declared.GrowStats.{GrowStats}
 use Rattle.passes.specs.declared.FillStats.{FillStats}
 use Rattle.passes.specs.declared.LocalStats.{LocalStats}
 use Rattle.passes.specs.declared.LargestResidual.{LargestResidual}
+use Rattle.passes.specs.declared.Unmatched.{Unmatched}
 use Rattle.sizes.specs.Sizes.{placeCount}
 use Rattle.report_line.specs.Sizes.{sheetLines}
-use Rattle.report_line.specs.Result.{growLine, fillLine, localLineWith, localLine, cellNumbers, labelLine}
+use Rattle.report_line.specs.Result.{growLine, fillLine, localLineWith, localLine, unmatchedLine, localLines, cellNumbers, labelLine}
 
 -- the largest number that a line can have: 32 bits hold 1,000,000 more
 abbrev pub largestHeld : ℕ
@@ -60,11 +61,23 @@ pub record FullAsked (s : LocalStats) (x : Float) (out : List ℕ) : Type 0 wher
   pub finite : isFinite x ≡ true
   pub room : length (fullLocalText s x) ≤ length out
 
-pub record LocalAsked (s : LocalStats) (out : List ℕ) : Type 0 where
+pub record LocalLineAsked (s : LocalStats) (out : List ℕ) : Type 0 where
   pub few : Few (s .counts)
   pub rounds : s .iterations ≤ largestHeld
   pub finite : (x : Float) → s .residual ≡ LargestResidual.Residual x → isFinite x ≡ true
   pub room : length (localLine s) ≤ length out
+
+pub record UnmatchedAsked (u : Unmatched) (out : List ℕ) : Type 0 where
+  pub held : (n : ℕ) → u ≡ Unmatched.Count n → n ≤ largestHeld
+  pub room : length (unmatchedLine u) ≤ length out
+
+-- local's line and that of unmatched
+pub record LocalAsked (s : LocalStats) (out : List ℕ) : Type 0 where
+  pub few : Few (s .counts)
+  pub rounds : s .iterations ≤ largestHeld
+  pub finite : (x : Float) → s .residual ≡ LargestResidual.Residual x → isFinite x ≡ true
+  pub unmatched : (n : ℕ) → s .unmatched ≡ Unmatched.Count n → n ≤ largestHeld
+  pub room : length (localLines s) ≤ length out
 
 -- ---- the sheet's lines
 

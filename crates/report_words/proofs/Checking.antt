@@ -1,17 +1,17 @@
 -- What the tests of an outcome's words say. Assumes nothing.
-use mathlib.Core.Path.{_≡_, sym, ap, _∙_}
-use mathlib.Core.Bool.{true, false, not}
+use mathlib.Core.Path.{_≡_, refl, sym, ap, _∙_}
+use mathlib.Core.Bool.{Bool, true, false, not, _||_}
 use mathlib.Core.List.{List}
 use Prim.Native.Nat.{ℕ, _%_, _≤_, _<_}
 use native.Mathlib.Decide.{decLe}
 use native.Mathlib.Omega.{arith}
 use borrow.Author.Tests.{lt-ltb, le-ltb, le-leb, lt-leb, eq-eqb, ne-eqb}
-use lib.Dec.{ltb, leb}
+use lib.Dec.{ltb, leb, eqb}
 use lib.Ieee.{binary32, ofBits}
 use Rattle.binary32.specs.Ranges.{isFinite}
 use Rattle.binary32.proofs.Finite.{finite-bits, infinite-bits}
 use Rattle.arguments.proofs.Tests.{holds, fails}
-use Rattle.report_words.specs.Outcomes.{wordAt, wildResidual}
+use Rattle.report_words.specs.Outcomes.{wordAt, largestUnmatched, wildResidual, wildUnmatched}
 
 -- ---- a number against a bound
 
@@ -47,3 +47,25 @@ module _ (words : List ℕ) (k flag : ℕ) (e : flag ≡ wordAt words k 6) where
   unfolding wildResidual
   flag-some h d =
       fails _ _ _ (not-above 1 flag _ e h) (rw (eq-eqb (wordAt words k 6) 1 (omega arith)) (not-finite (wordAt words k 7)))
+
+-- ---- unmatched
+
+module _ (words : List ℕ) (k flag : ℕ) (e : flag ≡ wordAt words k 9) where
+  pub shade-wild : 1 < flag → true ≡ wildUnmatched words k
+  unfolding wildUnmatched
+  shade-wild h = holds _ _ (above 1 flag _ e h)
+
+  pub shade-none : flag ≡ 0 → (n : ℕ) → n ≡ wordAt words k 10 → not (eqb n 0) ≡ wildUnmatched words k
+  unfolding wildUnmatched
+  shade-none h n u = fails _ _ _ (not-above 1 flag _ e (omega arith)) (rw (eq-eqb (wordAt words k 9) 0 (omega arith), u) refl)
+
+  module _ (h : flag ≤ 1) (d : flag ≡ 0 → ⊥) (kind : ℕ) (g : kind ≡ wordAt words k 0) where
+    some : (t : Bool) → t ≡ (not (eqb (wordAt words k 0) 2) || ltb largestUnmatched (wordAt words k 10)) → t ≡ wildUnmatched words k
+    unfolding wildUnmatched
+    some t q = fails _ _ _ (not-above 1 flag _ e h) (rw (ne-eqb (wordAt words k 9) 0 (λ z. d (e ∙ z))) q)
+
+    pub shade-other : (kind ≡ 2 → ⊥) → true ≡ wildUnmatched words k
+    shade-other f = some true (holds _ _ (ap not (ne-eqb (wordAt words k 0) 2 (λ z. f (g ∙ z)))))
+
+    pub shade-local : kind ≡ 2 → (n : ℕ) → n ≡ wordAt words k 10 → ltb largestUnmatched n ≡ wildUnmatched words k
+    shade-local f n u = some (ltb largestUnmatched n) (fails _ _ _ (ap not (eq-eqb (wordAt words k 0) 2 (sym g ∙ f))) (ap (ltb largestUnmatched) u))

@@ -1,16 +1,16 @@
 -- Outcomes as words: what the check of them says, the outcomes from a number on, and that reading what was put gives the outcome back. Assumes nothing.
 use mathlib.Core.Path.{_≡_, refl, sym, ap, _∙_}
-use mathlib.Core.Bool.{Bool, true, false, not, _&&_, cond}
+use mathlib.Core.Bool.{Bool, true, false, not, _&&_, _||_, cond}
 use mathlib.Core.List.{List, [], _∷_, _++_}
 use Prim.Native.Nat.{ℕ, zero, suc, _+_, _*_, _%_, _≤_, _<_}
 use native.Mathlib.Nat.{not-suc-le-zero}
 use native.Mathlib.Decide.{ℕ-discrete, decLe}
 use native.Mathlib.Omega.{arith}
-use borrow.Author.Tests.{ltb-false, eq-eqb, eqb-false, not-false}
+use borrow.Author.Tests.{ltb-false, eq-eqb, ne-eqb, eqb-true, eqb-false, not-false}
 use lib.Dec.{T, ltb, eqb}
 use lib.ListN.{length, getD}
 use lib.Seq.{getD-append-add}
-use lib.Ieee.{Float, binary32, ofBits, toBits, fits, nanBits}
+use lib.Ieee.{Float, binary32, ofBits, nanBits}
 use lib.Ieee.Bits.{ofBits-toBits}
 use Rattle.binary32.specs.Ranges.{isFinite}
 use Rattle.binary32.proofs.Answered.{pattern}
@@ -20,13 +20,15 @@ use Rattle.passes.specs.declared.GrowStats.{GrowStats}
 use Rattle.passes.specs.declared.FillStats.{FillStats}
 use Rattle.passes.specs.declared.LocalStats.{LocalStats}
 use Rattle.passes.specs.declared.LargestResidual.{LargestResidual}
+use Rattle.passes.specs.declared.Unmatched.{Unmatched}
 use Rattle.passes.specs.Run.{PassStats, growStats, fillStats, localStats}
 use Rattle.arguments.proofs.Chains.{or-false-both}
 use Rattle.report_line.specs.Result.{passLine, passLineAt}
-use Rattle.report_line.specs.Like.{ResidualLike}
+use Rattle.report_line.specs.Like.{Like, ResidualLike, UnmatchedLike}
 use Rattle.sheet.specs.Words.{bitOf}
-use Rattle.report_words.specs.Outcomes.{residualWords, outcomeWords, wordAt, yesAt, residualAt, largestCount, statsAt, statsFrom, wildCounts, wildResidual, wildOutcome}
-use Rattle.report_words.specs.Asked.{Tame, FloatOrNone, IsFloat}
+use Rattle.sizes.specs.Sizes.{outcomeSize}
+use Rattle.report_words.specs.Outcomes.{residualWords, unmatchedWords, outcomeWords, wordAt, yesAt, residualAt, unmatchedAt, largestCount, largestUnmatched, statsAt, statsFrom, wildCounts, wildResidual, wildUnmatched, wildOutcome}
+use Rattle.report_words.specs.Asked.{Tame, flagOf, bitsOf, shadeFlag, unmatchedWord, FloatOrNone, IsFloat}
 
 at-most : (a b : ℕ) → ltb a b ≡ false → b ≤ a
 at-most a b e = ltb-false a b e
@@ -35,8 +37,23 @@ finite-if : (a b : Bool) → (a && not b) ≡ false → a ≡ true → b ≡ tru
 finite-if true b e h = not-false b e
 finite-if false b e h = absurd (no-both false h refl)
 
+-- what the test of unmatched says of it, of the word for shades and of the kind
+module _ (shades unmatched kind : ℕ)
+    (e : cond (eqb shades 0) (not (eqb unmatched 0)) (not (eqb kind 2) || ltb largestUnmatched unmatched) ≡ false) where
+  none-passed : shades ≡ 0 → unmatched ≡ 0
+  none-passed h = eqb-true unmatched 0 (not-false (eqb unmatched 0) (rw (eq-eqb shades 0 h) at e))
+
+  some-passed : shades ≡ 1 → (not (eqb kind 2) ≡ false) × (ltb largestUnmatched unmatched ≡ false)
+  some-passed h = or-false-both (not (eqb kind 2)) (ltb largestUnmatched unmatched) (rw (ne-eqb shades 0 (λ z. omega arith)) at e)
+
+  few-passed : shades ≡ 1 → unmatched ≤ largestUnmatched
+  few-passed h = at-most _ _ (some-passed h .1)
+
+  by-local : shades ≡ 1 → kind ≡ 2
+  by-local h = eqb-true kind 2 (not-false (eqb kind 2) (some-passed h .0))
+
 pub tame : (words : List ℕ) (k : ℕ) → wildOutcome words k ≡ false → Tame words k
-unfolding wildOutcome wildCounts wildResidual
+unfolding wildOutcome wildCounts wildResidual wildUnmatched
 tame words k e =
     let kind = or-false-both (ltb 2 (wordAt words k 0)) _ e in
     let counts = or-false-both (wildCounts words k) _ (kind .1) in
@@ -46,6 +63,8 @@ tame words k e =
     let rounds = or-false-both (ltb 64 (wordAt words k 5)) _ (counts .1) in
     let residual = or-false-both (wildResidual words k) _ (rounds .1) in
     let flag = or-false-both (ltb 1 (wordAt words k 6)) _ (residual .0) in
+    let rim = or-false-both (ltb 1 (wordAt words k 8)) _ (residual .1) in
+    let shades = or-false-both (ltb 1 (wordAt words k 9)) _ (rim .1) in
     record {
       kind = at-most _ _ (kind .0);
       attached = at-most _ _ (one .0);
@@ -55,7 +74,11 @@ tame words k e =
       rounds = at-most _ _ (rounds .0);
       flag = at-most _ _ (flag .0);
       finite = λ h. finite-if (eqb (wordAt words k 6) 1) (isFinite (ofBits binary32 (wordAt words k 7))) (flag .1) (eq-eqb _ _ h);
-      rim = at-most _ _ (residual .1);
+      rim = at-most _ _ (rim .0);
+      shades = at-most _ _ (shades .0);
+      unmatched = few-passed (wordAt words k 9) (wordAt words k 10) (wordAt words k 0) (shades .1);
+      unshaded = none-passed (wordAt words k 9) (wordAt words k 10) (wordAt words k 0) (shades .1);
+      local-alone = by-local (wordAt words k 9) (wordAt words k 10) (wordAt words k 0) (shades .1);
     }
 
 -- ---- the outcomes from a number on
@@ -92,38 +115,40 @@ module _ (words : List ℕ) (k : ℕ) where
 
   local-said : (s : LocalStats) → wordAt words k 0 ≡ 2 → wordAt words k 1 ≡ s .counts .attached → wordAt words k 2 ≡ s .counts .«rejected_no_candidate»
       → wordAt words k 3 ≡ s .counts .«rejected_ambiguous» → wordAt words k 4 ≡ s .counts .«rejected_edge» → wordAt words k 5 ≡ s .iterations
-      → residualAt words k ≡ s .residual → wordAt words k 8 ≡ bitOf (s .rim) → statsAt words k ≡ localStats s
+      → residualAt words k ≡ s .residual → wordAt words k 8 ≡ bitOf (s .rim) → unmatchedAt words k ≡ s .unmatched → statsAt words k ≡ localStats s
   unfolding statsAt
-  local-said s e0 e1 e2 e3 e4 e5 er e8 = rw (e0, er, e1, e2, e3, e4, e5, e8, bit-read (s .rim))
+  local-said s e0 e1 e2 e3 e4 e5 er e8 eu = rw (e0, er, eu, e1, e2, e3, e4, e5, e8, bit-read (s .rim))
 
-  none-said : wordAt words k 6 ≡ 0 → residualAt words k ≡ LargestResidual.Nothing
-  none-said e6 = rw e6
+  residual-said : (x : LargestResidual) → FloatOrNone x → wordAt words k 6 ≡ flagOf x → wordAt words k 7 ≡ bitsOf x → residualAt words k ≡ x
+  residual-said LargestResidual.Nothing f e6 e7 = rw e6
+  residual-said (LargestResidual.Residual x) f e6 e7 = rw (e6, e7, ofBits-toBits binary32 x f)
 
-  some-said : (x : Float) → T (fits binary32 x) → wordAt words k 6 ≡ 1 → wordAt words k 7 ≡ toBits binary32 x → residualAt words k ≡ LargestResidual.Residual x
-  some-said x f e6 e7 = rw (e6, e7, ofBits-toBits binary32 x f)
+  unmatched-said : (u : Unmatched) → wordAt words k 9 ≡ shadeFlag u → wordAt words k 10 ≡ unmatchedWord u → unmatchedAt words k ≡ u
+  unmatched-said Unmatched.NoShades e9 e10 = rw e9
+  unmatched-said (Unmatched.Count n) e9 e10 = rw (e9, e10)
 
 -- what stands at an outcome's place
-there : (before after : List ℕ) (k m : ℕ) → length before ≡ 9 * k → wordAt (before ++ after) k m ≡ getD after m 0
+there : (before after : List ℕ) (k m : ℕ) → length before ≡ outcomeSize * k → wordAt (before ++ after) k m ≡ getD after m 0
 there before after k m e = rw (← e) (getD-append-add before after m 0)
 
-abbrev localWords : LocalStats → LargestResidual → List ℕ
-localWords s x =
-    2 ∷ s .counts .attached ∷ s .counts .«rejected_no_candidate» ∷ s .counts .«rejected_ambiguous» ∷ s .counts .«rejected_edge» ∷ s .iterations
-    ∷ residualWords x (bitOf (s .rim) ∷ [])
-
-local-put : (before after : List ℕ) (k : ℕ) (s : LocalStats) (x : LargestResidual) → length before ≡ 9 * k → FloatOrNone x
-    → statsAt (before ++ (localWords s x ++ after)) k ≡ localStats (record { counts = s .counts; iterations = s .iterations; residual = x; rim = s .rim })
-local-put before after k s LargestResidual.Nothing e f = local-said _ k _ (at 0) (at 1) (at 2) (at 3) (at 4) (at 5) (none-said (before ++ (localWords s LargestResidual.Nothing ++ after)) k (at 6)) (at 8)
+-- local's words one by one
+pub local-listed : (s : LocalStats)
+    → outcomeWords (localStats s)
+    ≡ 2 ∷ s .counts .attached ∷ s .counts .«rejected_no_candidate» ∷ s .counts .«rejected_ambiguous» ∷ s .counts .«rejected_edge» ∷ s .iterations
+    ∷ flagOf (s .residual) ∷ bitsOf (s .residual) ∷ bitOf (s .rim) ∷ shadeFlag (s .unmatched) ∷ unmatchedWord (s .unmatched) ∷ []
+unfolding outcomeWords
+local-listed s =
+    ap (λ (l : List ℕ). 2 ∷ s .counts .attached ∷ s .counts .«rejected_no_candidate» ∷ s .counts .«rejected_ambiguous» ∷ s .counts .«rejected_edge» ∷ s .iterations ∷ l)
+    (go (s .residual) (s .unmatched))
   where
-    at : (m : ℕ) → wordAt (before ++ (localWords s LargestResidual.Nothing ++ after)) k m ≡ getD (localWords s LargestResidual.Nothing ++ after) m 0
-    at m = there before (localWords s LargestResidual.Nothing ++ after) k m e
-local-put before after k s (LargestResidual.Residual x) e f = local-said _ k _ (at 0) (at 1) (at 2) (at 3) (at 4) (at 5) (some-said (before ++ (localWords s (LargestResidual.Residual x) ++ after)) k x f (at 6) (at 7)) (at 8)
-  where
-    at : (m : ℕ) → wordAt (before ++ (localWords s (LargestResidual.Residual x) ++ after)) k m ≡ getD (localWords s (LargestResidual.Residual x) ++ after) m 0
-    at m = there before (localWords s (LargestResidual.Residual x) ++ after) k m e
+    go : (x : LargestResidual) (u : Unmatched) → residualWords x (bitOf (s .rim) ∷ unmatchedWords u) ≡ flagOf x ∷ bitsOf x ∷ bitOf (s .rim) ∷ shadeFlag u ∷ unmatchedWord u ∷ []
+    go LargestResidual.Nothing Unmatched.NoShades = refl
+    go LargestResidual.Nothing (Unmatched.Count n) = refl
+    go (LargestResidual.Residual x) Unmatched.NoShades = refl
+    go (LargestResidual.Residual x) (Unmatched.Count n) = refl
 
 -- reading what was put gives the outcome back; a residual is to be a value of binary32
-pub decode-encode : (before after : List ℕ) (k : ℕ) (s : PassStats) → length before ≡ 9 * k → IsFloat s → statsAt (before ++ (outcomeWords s ++ after)) k ≡ s
+pub decode-encode : (before after : List ℕ) (k : ℕ) (s : PassStats) → length before ≡ outcomeSize * k → IsFloat s → statsAt (before ++ (outcomeWords s ++ after)) k ≡ s
 unfolding outcomeWords
 decode-encode before after k (growStats s) e f = grow-said _ k s (at 0) (at 1) (at 2) (at 3) (at 4) (at 8)
   where
@@ -133,7 +158,19 @@ decode-encode before after k (fillStats s) e f = fill-said _ k s (at 0) (at 1) (
   where
     at : (m : ℕ) → wordAt (before ++ (outcomeWords (fillStats s) ++ after)) k m ≡ getD (outcomeWords (fillStats s) ++ after) m 0
     at m = there before (outcomeWords (fillStats s) ++ after) k m e
-decode-encode before after k (localStats s) e f = local-put before after k s (s .residual) e f
+decode-encode before after k (localStats s) e f =
+    local-said _ k s (at 0) (at 1) (at 2) (at 3) (at 4) (at 5) (residual-said words k (s .residual) f (at 6) (at 7)) (at 8) (unmatched-said words k (s .unmatched) (at 9) (at 10))
+  where
+    words : List ℕ
+    words = before ++ (outcomeWords (localStats s) ++ after)
+
+    listed : List ℕ
+    listed =
+        2 ∷ s .counts .attached ∷ s .counts .«rejected_no_candidate» ∷ s .counts .«rejected_ambiguous» ∷ s .counts .«rejected_edge» ∷ s .iterations
+        ∷ flagOf (s .residual) ∷ bitsOf (s .residual) ∷ bitOf (s .rim) ∷ shadeFlag (s .unmatched) ∷ unmatchedWord (s .unmatched) ∷ []
+
+    at : (m : ℕ) → wordAt words k m ≡ getD (listed ++ after) m 0
+    at m = there before (outcomeWords (localStats s) ++ after) k m e ∙ ap (λ (l : List ℕ). getD (l ++ after) m 0) (local-listed s)
 
 -- ---- a residual by its pattern
 
@@ -186,3 +223,30 @@ like-none words k e = rw e tt
 
 pub like-some : (words : List ℕ) (k : ℕ) (x : Float) → isFinite x ≡ true → yesAt words k 6 ≡ true → ResidualLike (residualAt words k) (LargestResidual.Residual x)
 like-some words k x f e = rw e f
+
+-- ---- a count for a count, and none for none
+
+module _ (words : List ℕ) (k : ℕ) where
+  pub unmatched-none : yesAt words k 9 ≡ false → Unmatched.NoShades ≡ unmatchedAt words k
+  unmatched-none e = rw e
+
+  pub unmatched-some : yesAt words k 9 ≡ true → (n : ℕ) → n ≡ wordAt words k 10 → Unmatched.Count n ≡ unmatchedAt words k
+  unmatched-some e n h = rw (e, h)
+
+  pub unmatched-like-none : yesAt words k 9 ≡ false → UnmatchedLike (unmatchedAt words k) Unmatched.NoShades
+  unmatched-like-none e = rw e tt
+
+  pub unmatched-like-some : yesAt words k 9 ≡ true → (n : ℕ) → Like (wordAt words k 10) n → UnmatchedLike (unmatchedAt words k) (Unmatched.Count n)
+  unmatched-like-some e n l = rw e l
+
+-- unmatched of an outcome that passes the check
+pub unmatched-few : (words : List ℕ) (k : ℕ) → Tame words k → (n : ℕ) → unmatchedAt words k ≡ Unmatched.Count n → n ≤ largestUnmatched
+unmatched-few words k w n e = go (eqb (wordAt words k 9) 0) refl e
+  where
+    go : (t : Bool) → eqb (wordAt words k 9) 0 ≡ t → cond (not t) (Unmatched.Count (wordAt words k 10)) Unmatched.NoShades ≡ Unmatched.Count n → n ≤ largestUnmatched
+    go true p q = absurd (let z : _≡_ {A = ℕ} 0 1 = cc in omega arith)
+    go false p q =
+        let low = w .shades in
+        let some = eqb-false (wordAt words k 9) 0 p in
+        let same : wordAt words k 10 ≡ n = cc in
+        rw (← same) (w .unmatched (omega arith))

@@ -12,10 +12,11 @@ use Rattle.passes.specs.declared.GrowStats.{GrowStats}
 use Rattle.passes.specs.declared.FillStats.{FillStats}
 use Rattle.passes.specs.declared.LocalStats.{LocalStats}
 use Rattle.passes.specs.declared.LargestResidual.{LargestResidual}
+use Rattle.passes.specs.declared.Unmatched.{Unmatched}
 use Rattle.passes.specs.declared.PassAnswer.{PassAnswer}
 use Rattle.passes.specs.Run.{PassStats, growStats, fillStats, localStats}
 use Rattle.sizes.specs.Sizes.{outcomeSize}
-use Rattle.report_words.specs.Outcomes.{outcomeWords, wordAt, countsAt, yesAt, residualAt, largestCount}
+use Rattle.report_words.specs.Outcomes.{outcomeWords, wordAt, countsAt, yesAt, residualAt, unmatchedAt, largestCount, largestUnmatched}
 
 -- ---- outcomes
 
@@ -27,9 +28,10 @@ abbrev pub fillAt : List ℕ → ℕ → FillStats
 fillAt words k = record { added = wordAt words k 1; iterations = wordAt words k 5; rim = yesAt words k 8 }
 
 abbrev pub localAt : List ℕ → ℕ → LocalStats
-localAt words k = record { counts = countsAt words k; iterations = wordAt words k 5; residual = residualAt words k; rim = yesAt words k 8 }
+localAt words k =
+    record { counts = countsAt words k; iterations = wordAt words k 5; residual = residualAt words k; rim = yesAt words k 8; unmatched = unmatchedAt words k }
 
--- the nine words of outcome k are there
+-- the eleven words of outcome k are there
 pub record HasOutcome (words : List ℕ) (k : ℕ) : Type 0 where
   pub there : outcomeSize * k + outcomeSize ≤ length words
 
@@ -44,6 +46,10 @@ pub record Tame (words : List ℕ) (k : ℕ) : Type 0 where
   pub flag : wordAt words k 6 ≤ 1
   pub finite : wordAt words k 6 ≡ 1 → isFinite (ofBits binary32 (wordAt words k 7)) ≡ true
   pub rim : wordAt words k 8 ≤ 1
+  pub shades : wordAt words k 9 ≤ 1
+  pub unmatched : wordAt words k 9 ≡ 1 → wordAt words k 10 ≤ largestUnmatched
+  pub unshaded : wordAt words k 9 ≡ 0 → wordAt words k 10 ≡ 0
+  pub local-alone : wordAt words k 9 ≡ 1 → wordAt words k 0 ≡ 2
 
 pub record TameOutcome (words : List ℕ) (k : ℕ) : Type 0 where
   pub has : HasOutcome words k
@@ -51,9 +57,9 @@ pub record TameOutcome (words : List ℕ) (k : ℕ) : Type 0 where
 
 -- ---- an outcome put at its place
 
--- the words with nine put at the place of outcome k, the others as they were; and with an outcome
+-- the words with eleven put at the place of outcome k, the others as they were; and with an outcome
 abbrev pub put : List ℕ → ℕ → List ℕ → List ℕ
-put words k nine = take (outcomeSize * k) words ++ (nine ++ drop (outcomeSize * k + outcomeSize) words)
+put words k eleven = take (outcomeSize * k) words ++ (eleven ++ drop (outcomeSize * k + outcomeSize) words)
 
 abbrev pub withOutcome : List ℕ → ℕ → PassStats → List ℕ
 withOutcome words k s = put words k (outcomeWords s)
@@ -66,6 +72,15 @@ flagOf (LargestResidual.Residual x) = 1
 abbrev pub bitsOf : LargestResidual → ℕ
 bitsOf LargestResidual.Nothing = 0
 bitsOf (LargestResidual.Residual x) = toBits binary32 x
+
+-- the two words of unmatched
+abbrev pub shadeFlag : Unmatched → ℕ
+shadeFlag Unmatched.NoShades = 0
+shadeFlag (Unmatched.Count n) = 1
+
+abbrev pub unmatchedWord : Unmatched → ℕ
+unmatchedWord Unmatched.NoShades = 0
+unmatchedWord (Unmatched.Count n) = n
 
 -- a count as a word
 abbrev pub FitsWord : ℕ → Type 0
@@ -81,9 +96,14 @@ pub record FillFits (s : FillStats) : Type 0 where
   pub added : FitsWord (s .added)
   pub rounds : FitsWord (s .iterations)
 
+abbrev pub UnmatchedFits : Unmatched → Type 0
+UnmatchedFits Unmatched.NoShades = Unit {0}
+UnmatchedFits (Unmatched.Count n) = FitsWord n
+
 pub record LocalFits (s : LocalStats) : Type 0 where
   pub counts : CountsFit (s .counts)
   pub rounds : FitsWord (s .iterations)
+  pub unmatched : UnmatchedFits (s .unmatched)
 
 -- what a pass answers has counts that are words
 abbrev pub AnswerFits : PassAnswer → Type 0

@@ -2,15 +2,16 @@
 // and a residual becomes 0.
 ghost use Prim.Native.Nat.{_+_, _*_, _<_};
 ghost use lib.ListN.{length};
-ghost use Rattle.report_line.specs.Like.{Like, CountsLike, ResidualLike, GrowLike, FillLike, LocalLike};
+ghost use Rattle.report_line.specs.Like.{Like, CountsLike, ResidualLike, UnmatchedLike, GrowLike, FillLike, LocalLike};
 ghost use Rattle.sizes.specs.Sizes.{outcomeSize};
-ghost use Rattle.report_words.specs.Outcomes.{wordAt, countsAt, residualAt};
+ghost use Rattle.report_words.specs.Outcomes.{wordAt, countsAt, residualAt, unmatchedAt};
 ghost use Rattle.report_words.specs.Asked.{HasOutcome, growAt, fillAt, localAt};
 use passes::Counts;
 use passes::FillStats;
 use passes::GrowStats;
 use passes::LargestResidual;
 use passes::LocalStats;
+use passes::Unmatched;
 use sizes::OUTCOME_WORDS;
 
 // Word m of outcome k.
@@ -49,6 +50,17 @@ fn residual_like(words: &[u32], k: usize) -> LargestResidual
     LargestResidual::Residual(0.0)
 }
 
+// How many corners were passed over, in an outcome.
+fn unmatched_like(words: &[u32], k: usize) -> Unmatched
+    requires { ⌜ HasOutcome (now words) k ⌝ }
+    ensures { λ r. ⌜ UnmatchedLike (unmatchedAt (now (words .entry)) k) r ⌝ }
+{
+    if !super::read::yes_at(words, k, 9) {
+        return Unmatched::NoShades;
+    }
+    Unmatched::Count(like_at(words, k, 10))
+}
+
 // An outcome of grow.
 pub fn grow_like(words: &[u32], k: usize) -> GrowStats
     requires { ⌜ HasOutcome (now words) k ⌝ }
@@ -83,10 +95,12 @@ pub fn local_like(words: &[u32], k: usize) -> LocalStats
     let iterations = like_at(words, k, 5);
     let residual = residual_like(words, k);
     let rim = super::read::yes_at(words, k, 8);
+    let unmatched = unmatched_like(words, k);
     LocalStats {
         counts,
         iterations,
         residual,
         rim,
+        unmatched,
     }
 }

@@ -4,12 +4,14 @@ ghost use lib.Ieee.{binary32, toBits};
 ghost use Rattle.passes.specs.Run.{growStats, fillStats, localStats};
 ghost use Rattle.sheet.specs.Words.{bitOf};
 ghost use Rattle.report_words.specs.Outcomes.{outcomeWords};
-ghost use Rattle.report_words.specs.Asked.{HasOutcome, flagOf, bitsOf, put, CountsFit, FillFits, LocalFits, AnswerFits, withAnswer};
+ghost use Rattle.report_words.specs.Asked.{HasOutcome, flagOf, bitsOf, shadeFlag, unmatchedWord, put};
+ghost use Rattle.report_words.specs.Asked.{CountsFit, FillFits, UnmatchedFits, LocalFits, AnswerFits, withAnswer};
 use passes::FillStats;
 use passes::GrowStats;
 use passes::LargestResidual;
 use passes::LocalStats;
 use passes::PassAnswer;
+use passes::Unmatched;
 use sizes::OUTCOME_WORDS;
 
 // Yes or no as a word.
@@ -52,7 +54,28 @@ fn residual_bits(x: LargestResidual) -> u32
     }
 }
 
-// Puts nine words at the place of outcome k.
+// Whether a shade stands, as a word.
+fn shade_flag(u: Unmatched) -> u32
+    ensures { λ r. ⌜ r ≡ shadeFlag u ⌝ }
+{
+    match u {
+        Unmatched::NoShades => 0,
+        Unmatched::Count(_) => 1,
+    }
+}
+
+// How many corners were passed over, and 0 where no shade stands.
+fn unmatched_word(u: Unmatched) -> u32
+    requires { ⌜ UnmatchedFits u ⌝ }
+    ensures { λ r. ⌜ r ≡ unmatchedWord u ⌝ }
+{
+    match u {
+        Unmatched::NoShades => 0,
+        Unmatched::Count(n) => n as u32,
+    }
+}
+
+// Puts eleven words at the place of outcome k.
 fn put_words(words: &mut [u32], k: usize, outcome: [u32; OUTCOME_WORDS])
     requires { ⌜ HasOutcome (now words) k ⌝ }
     ensures { λ _. ⌜ now (words .exit) ≡ put (now (words .entry)) k outcome ⌝ }
@@ -64,7 +87,7 @@ fn put_words(words: &mut [u32], k: usize, outcome: [u32; OUTCOME_WORDS])
     }
 }
 
-// The nine words of an outcome of grow.
+// The eleven words of an outcome of grow.
 fn grow_words(s: GrowStats) -> [u32; OUTCOME_WORDS]
     requires { ⌜ CountsFit (s .counts) ⌝ }
     ensures { λ r. ⌜ r ≡ outcomeWords (growStats s) ⌝ }
@@ -80,10 +103,12 @@ fn grow_words(s: GrowStats) -> [u32; OUTCOME_WORDS]
         0,
         0,
         bit(s.rim),
+        0,
+        0,
     ]
 }
 
-// The nine words of an outcome of fill.
+// The eleven words of an outcome of fill.
 fn fill_words(s: FillStats) -> [u32; OUTCOME_WORDS]
     requires { ⌜ FillFits s ⌝ }
     ensures { λ r. ⌜ r ≡ outcomeWords (fillStats s) ⌝ }
@@ -98,16 +123,19 @@ fn fill_words(s: FillStats) -> [u32; OUTCOME_WORDS]
         0,
         0,
         bit(s.rim),
+        0,
+        0,
     ]
 }
 
-// The nine words of an outcome of local.
+// The eleven words of an outcome of local.
 fn local_words(s: LocalStats) -> [u32; OUTCOME_WORDS]
     requires { ⌜ LocalFits s ⌝ }
     ensures { λ r. ⌜ r ≡ outcomeWords (localStats s) ⌝ }
 {
     let c = s.counts;
     let residual = s.residual;
+    let unmatched = s.unmatched;
     [
         2u32,
         c.attached as u32,
@@ -118,6 +146,8 @@ fn local_words(s: LocalStats) -> [u32; OUTCOME_WORDS]
         residual_flag(residual),
         residual_bits(residual),
         bit(s.rim),
+        shade_flag(unmatched),
+        unmatched_word(unmatched),
     ]
 }
 

@@ -3,13 +3,14 @@ ghost use mathlib.Core.Path.{_≡_};
 ghost use Prim.Native.Nat.{_+_, _*_, _<_};
 ghost use lib.ListN.{length};
 ghost use Rattle.sizes.specs.Sizes.{outcomeSize};
-ghost use Rattle.report_words.specs.Outcomes.{wordAt, countsAt, yesAt, residualAt};
+ghost use Rattle.report_words.specs.Outcomes.{wordAt, countsAt, yesAt, residualAt, unmatchedAt};
 ghost use Rattle.report_words.specs.Asked.{HasOutcome, TameOutcome, growAt, fillAt, localAt};
 use passes::Counts;
 use passes::FillStats;
 use passes::GrowStats;
 use passes::LargestResidual;
 use passes::LocalStats;
+use passes::Unmatched;
 use sizes::OUTCOME_WORDS;
 
 // Word m of outcome k.
@@ -79,6 +80,17 @@ fn residual_at(words: &[u32], k: usize) -> LargestResidual
     LargestResidual::Residual(x)
 }
 
+// How many corners were passed over, in an outcome of local.
+fn unmatched_at(words: &[u32], k: usize) -> Unmatched
+    requires { ⌜ HasOutcome (now words) k ⌝ }
+    ensures { λ r. ⌜ r ≡ unmatchedAt (now (words .entry)) k ⌝ }
+{
+    if !yes_at(words, k, 9) {
+        return Unmatched::NoShades;
+    }
+    Unmatched::Count(word_at(words, k, 10))
+}
+
 // An outcome of local that passes the check.
 pub fn local_at(words: &[u32], k: usize) -> LocalStats
     requires { ⌜ TameOutcome (now words) k ⌝ }
@@ -88,10 +100,12 @@ pub fn local_at(words: &[u32], k: usize) -> LocalStats
     let iterations = word_at(words, k, 5);
     let residual = residual_at(words, k);
     let rim = yes_at(words, k, 8);
+    let unmatched = unmatched_at(words, k);
     LocalStats {
         counts,
         iterations,
         residual,
         rim,
+        unmatched,
     }
 }

@@ -1,6 +1,6 @@
 // Whether an outcome's words are not those that an outcome has.
 ghost use mathlib.Core.Path.{_≡_};
-ghost use Rattle.report_words.specs.Outcomes.{wildCounts, wildResidual, wildOutcome};
+ghost use Rattle.report_words.specs.Outcomes.{wildCounts, wildResidual, wildUnmatched, wildOutcome};
 ghost use Rattle.report_words.specs.Asked.{HasOutcome};
 use sizes::OUTCOME_WORDS;
 
@@ -36,6 +36,25 @@ fn wild_residual(words: &[u32], k: usize) -> bool
     0x7f80_0000 <= words[OUTCOME_WORDS * k + 7] % 0x8000_0000
 }
 
+// Whether the word for shades is neither 0 nor 1, or 1 for a pass that is no local; or unmatched is above 64 rounds of 16,384 cells of 1,024 corners, or
+// not 0 where no shade stands.
+fn wild_unmatched(words: &[u32], k: usize) -> bool
+    requires { ⌜ HasOutcome (now words) k ⌝ }
+    ensures { λ r. ⌜ r ≡ wildUnmatched (now (words .entry)) k ⌝ }
+{
+    let shades = super::read::word_at(words, k, 9);
+    if 1 < shades {
+        return true;
+    }
+    if shades == 0 {
+        return super::read::word_at(words, k, 10) != 0;
+    }
+    if super::read::word_at(words, k, 0) != 2 {
+        return true;
+    }
+    1073741824 < super::read::word_at(words, k, 10)
+}
+
 // Whether an outcome's words are not those that an outcome has.
 pub fn wild_outcome(words: &[u32], k: usize) -> bool
     requires { ⌜ HasOutcome (now words) k ⌝ }
@@ -53,5 +72,8 @@ pub fn wild_outcome(words: &[u32], k: usize) -> bool
     if wild_residual(words, k) {
         return true;
     }
-    1 < super::read::word_at(words, k, 8)
+    if 1 < super::read::word_at(words, k, 8) {
+        return true;
+    }
+    wild_unmatched(words, k)
 }

@@ -1,5 +1,5 @@
 -- Where the runs of two frames agree, their results differ only in the corner numbers of their cell lines. Assumes nothing.
-use mathlib.Core.Path.{_≡_, refl, sym, ap, _∙_, subst}
+use mathlib.Core.Path.{_≡_, refl, ap, _∙_}
 use mathlib.Core.List.{List, [], _∷_, _++_}
 use Prim.Native.Nat.{ℕ, zero, suc, _+_, _<_}
 use native.Mathlib.Omega.{arith}
@@ -29,11 +29,12 @@ agree-stats (agree-call p (both-refused r) rest) = agree-stats rest
 agree-stats (agree-call p (both-done same) rest) = λ t. same .answer t ∷ agree-stats rest t
 
 module _ {n : ℕ} (s : Shuffle n) (l l' : CornerLists) where
-  agree-sheets : (calls : List Call) (sheet sheet' : List ℕ) → Agree s sheet sheet' (run l sheet calls) (run l' sheet' calls)
-      → PairedSheets s (sheetAfterAll l sheet calls) (sheetAfterAll l' sheet' calls)
+  agree-sheets : (calls calls' : List Call) (sheet sheet' : List ℕ) → Agree s sheet sheet' (run l sheet calls) (run l' sheet' calls')
+      → PairedSheets s (sheetAfterAll l sheet calls) (sheetAfterAll l' sheet' calls')
   unfolding run sheetAfterAll
-  agree-sheets [] sheet sheet' (agree-end p) = p
-  agree-sheets (c ∷ cs) sheet sheet' (agree-call p o rest) = agree-sheets cs (sheetAfter sheet (step l sheet c)) (sheetAfter sheet' (step l' sheet' c)) rest
+  agree-sheets [] [] sheet sheet' (agree-end p) = p
+  agree-sheets (c ∷ cs) (c' ∷ cs') sheet sheet' (agree-call p o rest) =
+      agree-sheets cs cs' (sheetAfter sheet (step l sheet c)) (sheetAfter sheet' (step l' sheet' c')) rest
 
 -- ---- labels
 
@@ -104,12 +105,10 @@ unfolding frameStats frameSheet
 frames-answer-alike text text' f f' e e' same above =
     let alike = frames-run-alike text text' f f' e e' same in
     let s = alike .reordered .corners .pairs in
-    let agree = alike .any-list (callsOf f) .agree above in
-    let stats : frameStats f' ≡ frameStats f =
-    ap (λ (calls : List Call). statsOf (run (frameCorners f') (sheetOf f') calls)) (alike .same-calls) ∙ agree-stats agree in
+    let agree = alike .own-list above in
+    let stats : frameStats f' ≡ frameStats f = agree-stats agree in
     let both : PairedSheets s (frameSheet f) (frameSheet f') =
-    subst (λ (calls : List Call). PairedSheets s (frameSheet f) (sheetAfterAll (frameCorners f') (sheetOf f') calls)) (sym (alike .same-calls))
-    (agree-sheets s (frameCorners f) (frameCorners f') (callsOf f) (sheetOf f) (sheetOf f') agree) in
+    agree-sheets s (frameCorners f) (frameCorners f') (callsOf f) (callsOf f') (sheetOf f) (sheetOf f') agree in
     let to = numbers same in
     let so = alike .paired-to in
     record {
@@ -118,5 +117,7 @@ frames-answer-alike text text' f f' e e' same above =
       holes = holes-same s to so (frameSheet f) (frameSheet f') both;
       ambiguous = ambiguous-same s to so (frameSheet f) (frameSheet f') both;
       first-answer = answer-of text f e;
-      second-answer = answer-of text' f' e' ∙ ap (λ (ss : List PassStats). resultText ss (frameSheet f')) stats ∙ text-anew s to so (frameSheet f) (frameSheet f') both (frameStats f);
+      second-answer =
+          answer-of text' f' e' ∙ ap (λ (ss : List PassStats). resultText ss (frameSheet f')) stats
+          ∙ text-anew s to so (frameSheet f) (frameSheet f') both (frameStats f);
     }

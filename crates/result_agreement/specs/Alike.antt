@@ -43,8 +43,8 @@ KeptNumbers = (stats : List PassStats) (sheet : List ℕ) → renumberedText (λ
 abbrev pub numbers : {f f' : Frame} → SameButOrder f f' → ℕ → ℕ
 numbers same = same .pairs .to
 
--- Equal pass lines; at each place paired corners or none in both, and equal lines of holes and ambiguous cells; so the second answer is the first
--- with the corners of its cell lines numbered anew.
+-- Equal pass lines, those of unmatched corners among them; at each place paired corners or none in both, and equal lines of holes and ambiguous cells;
+-- so the second answer is the first with the corners of its cell lines numbered anew.
 pub record ResultsAlike (text text' : List ℕ) (f f' : Frame) (same : SameButOrder f f') : Type 0 where
   pub stats : frameStats f' ≡ frameStats f
   pub labels : (p : ℕ) → p < placeCount → labelOf (getD (frameSheet f') p 0) ≡ numberedAnew (numbers same) (labelOf (getD (frameSheet f) p 0))

@@ -2,5 +2,6 @@
 pub mod Laws
 pub mod Words
 pub mod Blank
+pub mod Shades
 pub mod Corners
 pub mod Pairing

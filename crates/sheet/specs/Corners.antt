@@ -9,6 +9,7 @@ use lib.Ieee.{Float, nan, binary32, add, sub, mul}
 use Rattle.sizes.specs.Sizes.{placeCount, cornerLimit}
 use Rattle.binary32.specs.Ranges.{isFinite}
 use Rattle.sheet.specs.Words.{labelOf, labelAt}
+use Rattle.sheet.specs.Shades.{Shades, shadesIn}
 use Rattle.sheet.specs.declared.Cell.{Cell}
 use Rattle.sheet.specs.declared.Label.{Label}
 use Rattle.sheet.specs.declared.Corner.{Corner}
@@ -28,10 +29,11 @@ finitePosition p = isFinite (p .x) && isFinite (p .y)
 
 -- ---- the corners
 
--- positions and pitches: how many corners there are, and each by its number
+-- how many corners there are, each by its number with its position and pitch, and their shades
 pub record Corners : Type 0 where
   pub count : ℕ
   pub corner : ℕ → Corner
+  pub shades : Shades
 
 -- what stands for a corner that there is not
 abbrev pub noCorner : Corner
@@ -53,10 +55,7 @@ cornerOf l k =
     (record { position = record { x = getD (l .xs) k nan; y = getD (l .ys) k nan }; pitch = getD (l .pitches) k nan })
     noCorner
 
-abbrev pub cornersOf : CornerLists → Corners
-cornersOf l = record { count = length (l .xs); corner = cornerOf l }
-
--- As the passes hold them: one array of 1,024 xs, then as many ys, then as many pitches.
+-- As the passes hold them: one array of 1,024 xs, then as many ys, then as many pitches, then as many kinds.
 unfoldable pub cornerIn : List Float → ℕ → Corner
 cornerIn held k =
     cond (ltb k cornerLimit)
@@ -67,7 +66,7 @@ cornerIn held k =
     noCorner
 
 abbrev pub cornersIn : List Float → ℕ → Corners
-cornersIn held n = record { count = n; corner = cornerIn held }
+cornersIn held n = record { count = n; corner = cornerIn held; shades = shadesIn held }
 
 -- ---- seen through the sheet
 

@@ -6,6 +6,7 @@ ghost use lib.ListN.{length};
 ghost use Rattle.sizes.specs.Sizes.{placeCount, cornerLimit};
 ghost use Rattle.sheet.specs.Cells.{onSheet, OnSheet, placeOf, cellOf, moved, differenceOf, magnitudeOf, Within, NearSheet};
 ghost use Rattle.sheet.specs.Words.{labelOf, holeOf, ambiguousOf, withLabel, withHole, withAmbiguous, withoutMarks, labelAt, attached, holeMarked, ambiguousMarked, marksCleared, SheetCell};
+ghost use Rattle.sheet.specs.Shades.{anyIn, shadesIn, kindAt, takesKind};
 ghost use Rattle.sheet.specs.Corners.{cornerIn, seenOf, Given};
 ghost use Rattle.sheet.specs.Blank.{allBlank, BlankRun, BlankPlaces, NextWritten};
 ghost use lib.IntN.{natAbs};
@@ -233,8 +234,8 @@ pub enum Seen {
     At(Corner),
 }
 
-// The corner of a number. The corners are held in one array: all xs, then all ys, then all pitches, each with room for 1,024.
-pub fn corner_at(corners: &[f32; 3 * CORNERS], k: usize) -> Corner
+// The corner of a number. The corners are held in one array: all xs, then all ys, then all pitches, then all kinds, each with room for 1,024.
+pub fn corner_at(corners: &[f32; 4 * CORNERS], k: usize) -> Corner
     requires { ⌜ k < cornerLimit ⌝ }
     ensures { λ r. ⌜ r ≡ cornerIn (now (corners .entry)) k ⌝ }
 {
@@ -245,8 +246,44 @@ pub fn corner_at(corners: &[f32; 3 * CORNERS], k: usize) -> Corner
     Corner { position, pitch }
 }
 
+// Whether any shade stands: the first of the kinds is 0 exactly if none does.
+pub fn is_shaded(corners: &[f32; 4 * CORNERS]) -> bool
+    ensures { λ r. ⌜ r ≡ anyIn (now (corners .entry)) ⌝ }
+{
+    corners[3 * CORNERS] != 0.0
+}
+
+// The kind that a cell takes: the parity of i + j, taken of (i + 64) + (j + 64), which has no sign.
+pub fn kind_at(c: Cell) -> usize
+    requires { ⌜ OnSheet c ⌝ }
+    ensures { λ r. ⌜ r ≡ kindAt c ⌝ }
+{
+    let i = c.i + 64;
+    let j = c.j + 64;
+    ((i as usize) + (j as usize)) % 2
+}
+
+// Whether a cell of a kind takes a corner: any corner if no shade stands, else those of its kind. A kind is held as 1 or 2, and anything else is
+// that of a corner without a shade.
+pub fn is_taken(corners: &[f32; 4 * CORNERS], kind: usize, k: usize) -> bool
+    requires { ⌜ k < cornerLimit ⌝ }
+    ensures { λ r. ⌜ r ≡ takesKind (shadesIn (now (corners .entry))) kind k ⌝ }
+{
+    if !is_shaded(corners) {
+        return true;
+    }
+    let entry = corners[k + 3 * CORNERS];
+    if entry == 1.0 {
+        return kind == 0;
+    }
+    if entry == 2.0 {
+        return kind == 1;
+    }
+    false
+}
+
 // What is seen at a cell: the corner of its label, or nothing where it has none or is off the sheet.
-pub fn seen_at(corners: &[f32; 3 * CORNERS], sheet: &[u16], c: Cell) -> Seen
+pub fn seen_at(corners: &[f32; 4 * CORNERS], sheet: &[u16], c: Cell) -> Seen
     requires { ⌜ Given cornerLimit (now sheet) ⌝ }
     ensures { λ r. ⌜ r ≡ seenOf (cornerIn (now (corners .entry))) (now (sheet .entry)) c ⌝ }
 {

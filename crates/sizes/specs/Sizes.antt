@@ -20,7 +20,7 @@ abbrev pub passSize : ℕ
 passSize = 6
 
 abbrev pub outcomeSize : ℕ
-outcomeSize = 9
+outcomeSize = 11
 
 -- and of as many passes and outcomes as a frame can have
 abbrev pub allPassWords : ℕ

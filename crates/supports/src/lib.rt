@@ -329,7 +329,7 @@ fn place_point(place: usize) -> Position
 }
 
 // The pictured corner of a place's cell; one that has none is nowhere.
-fn pictured(corners: &[f32; 3 * CORNERS], sheet: &[u16], place: usize) -> Position
+fn pictured(corners: &[f32; 4 * CORNERS], sheet: &[u16], place: usize) -> Position
     requires { ⌜ Given cornerLimit (now sheet) × (place < placeCount) ⌝ }
     ensures { λ r. ⌜ r ≡ picturedAt (seenOf (cornerIn (now (corners .entry))) (now (sheet .entry))) place ⌝ }
 {
@@ -408,7 +408,7 @@ fn fit_points(cells: [Position; 4], corners: [Position; 4]) -> SupportFit
 
 // The fit on the supports: what takes their cells to the pictured corners, with the residual of each. There is none where the points have no
 // fit or a residual is not finite.
-pub fn local_fit(corners: &[f32; 3 * CORNERS], sheet: &[u16], s: Supports) -> SupportFit
+pub fn local_fit(corners: &[f32; 4 * CORNERS], sheet: &[u16], s: Supports) -> SupportFit
     requires { ⌜ Given cornerLimit (now sheet) × Pictured s ⌝ }
     ensures { λ r. ⌜ r ≡ supportFitOf (localFit (seenOf (cornerIn (now (corners .entry))) (now (sheet .entry))) (placesOf s)) ⌝ }
 {

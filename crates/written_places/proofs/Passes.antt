@@ -15,14 +15,16 @@ use Rattle.homography.proofs.Normalizing.{normal-finite}
 use Rattle.homography.proofs.Fitting.{homography-is}
 use Rattle.sheet.specs.Cells.{onSheet, placeOf, cellOf, moved}
 use Rattle.sheet.specs.Words.{attached, marksCleared}
+use Rattle.sheet.specs.Shades.{takes}
 use Rattle.sheet.specs.Corners.{Corners, seenOf}
 use Rattle.sheet.specs.declared.Cell.{Cell}
 use Rattle.sheet.specs.declared.Offset.{Offset}
 use Rattle.sheet.specs.declared.Position.{Position}
 use Rattle.sheet.specs.declared.Seen.{Seen}
 use Rattle.labels.specs.declared.LabelBox.{LabelBox}
-use Rattle.candidates.specs.Candidates.{candidatesAt, firstTwo}
+use Rattle.candidates.specs.Candidates.{eligible, candidatesAt, firstTwo}
 use Rattle.candidates.specs.declared.CandidateChoice.{CandidateChoice}
+use Rattle.passed_over.specs.PassedOver.{passedOver}
 use Rattle.positions_policy.specs.Edge.{cardinalOffsets, verdictOf, passes}
 use Rattle.positions_policy.specs.declared.Tolerances.{Tolerances}
 use Rattle.predict.specs.Predict.{predictionOf, extrapolating}
@@ -31,27 +33,47 @@ use Rattle.arguments.specs.declared.Settings.{Settings}
 use Rattle.arguments.specs.declared.GrowParams.{GrowParams}
 use Rattle.arguments.specs.declared.FillParams.{FillParams}
 use Rattle.arguments.specs.declared.LocalExtensionParams.{LocalExtensionParams}
-use Rattle.extension_common.specs.TryCell.{gathered, choiceBy, edgesOf, resultOf, tryAt}
+use Rattle.extension_common.specs.TryCell.{unlabelledOn, gathered, unmatched, choiceBy, edgesOf, resultOf, tryAt}
 use Rattle.extension_common.specs.declared.Search.{Search}
 use Rattle.extension_common.specs.declared.TryCellResult.{TryCellResult}
+use Rattle.extension_common.proofs.Laws.{gathered-bare, unmatched-bare}
 use Rattle.passes.specs.Counting.{oneMore}
 use Rattle.passes.specs.Rounds.{RoundPass, Rounds, roundsFrom}
 use Rattle.passes.specs.Grow.{GrowState, tolerancesOf, noCounts, member, wanted, enqueued, enqueuedAt, spread, seededFrom, startOf, searchOf, missed, growWith, growAt, growVisit, growFrom, growRun, growLeft, growAfter}
 use Rattle.passes.specs.Fill.{FillRounds, boxAndStrips, cellsOf, fillCells, fillSearch, fillWith, fillAt, fillVisit, fillPass, fillFrom, fillLimit, fillRun, fillLeft, fillAfter}
-use Rattle.passes.specs.Local.{LocalState, LocalFit, none, fitted, LocalRounds, depthOf, localRegion, localCells, byReach, supportsOf, cellPoint, picturedAt, trusted, localFit, worst, localSearch, gateOf, localWith, localAt, localVisit, localPass, localFrom, localLimit, localRun, localLeft, localAfter}
+use Rattle.passes.specs.Local.{LocalState, LocalFit, none, fitted, LocalRounds, depthOf, localRegion, localCells, byReach, supportsOf, cellPoint, picturedAt, trusted, localFit, worst, withUnmatched, localSearch, gateOf, localWith, localTry, localAt, localVisit, localPass, localFrom, localLimit, localRun, unmatchedIf, localLeft, localAfter}
 use Rattle.passes.specs.declared.LargestResidual.{LargestResidual}
 use Rattle.passes.proofs.Rounds.{Alike, rounds-same}
 use Rattle.written_places.specs.Written.{Written, Rise, sheetWith, seenIn, placesIn, attachedIn, clearedIn}
-use Rattle.written_places.specs.Passes.{afterOf, gatheredIn, edgesIn, resultIn, tryIn, GrowStateIn, growStateOf, enqueuedIn, enqueuedAtIn, spreadIn, seededFromIn, missedIn, growWithIn, growAtIn, growVisitIn, growFromIn, growRunIn, growAfterIn, FillStateIn, fillStateOf, fillCellsIn, fillWithIn, fillAtIn, fillVisitIn, fillPassIn, fillAfterIn, soundAnswers, quickFitWith, quickFitFrom, quickFit, LocalStateIn, localStateOf, localCellsIn, supportsIn, localFitIn, withResidualsIn, localWithIn, localAtIn, localVisitIn, localPassIn, localAfterIn}
+use Rattle.written_places.specs.Passes.{afterOf, unlabelledIn, gatheredBy, gatheredIn, unmatchedBy, unmatchedIn, edgesIn, resultIn, tryIn, GrowStateIn, growStateOf, enqueuedIn, enqueuedAtIn, spreadIn, seededFromIn, missedIn, growWithIn, growAtIn, growVisitIn, growFromIn, growRunIn, growAfterIn, FillStateIn, fillStateOf, fillCellsIn, fillWithIn, fillAtIn, fillVisitIn, fillPassIn, fillAfterIn, soundAnswers, quickFitWith, quickFitFrom, quickFit, LocalStateIn, localStateOf, localCellsIn, supportsIn, localFitIn, withResidualsIn, withUnmatchedIn, localWithIn, localTryIn, localAtIn, localVisitIn, localPassIn, localAfterIn}
 use Rattle.written_places.proofs.Written.{rise-put, attached-so, hole-so, ambiguous-so, cleared-so, seen-so, labelled-so, places-so, box-so, count-so, used-so, rim-so}
 
 -- ---- one cell
 
 module _ (cs : Corners) (w : List Written) (r : Rise 0 w) where
-  gathered-so : (radius : Float) (at : Position) → gathered cs (sheetWith w) radius at ≡ gatheredIn cs w radius at
-  unfolding gathered gatheredIn
-  gathered-so radius at =
-      ap (λ (free : ℕ → Bool). firstTwo (candidatesAt (λ k. cs .corner k .position) free (cs .count) at radius)) (fun-ext (λ k. ap not (used-so w r k)))
+  unlabelled-so : unlabelledOn (sheetWith w) ≡ unlabelledIn w
+  unlabelled-so = fun-ext (λ k. ap not (used-so w r k))
+
+  -- by whether any shade stands
+  module _ (radius : Float) (c : Cell) (at : Position) where
+    gathered-so : gathered cs (sheetWith w) radius c at ≡ gatheredIn cs w radius c at
+    unfolding gathered gatheredBy
+    gathered-so = go (cs .shades .any) refl
+      where
+        go : (t : Bool) → cs .shades .any ≡ t → gathered cs (sheetWith w) radius c at ≡ gatheredBy t cs w radius c at
+        go false e =
+            gathered-bare cs e (sheetWith w) radius c at
+            ∙ ap (λ (free : ℕ → Bool). firstTwo (candidatesAt (λ k. cs .corner k .position) free (cs .count) at radius)) unlabelled-so
+        go true e =
+            ap (λ (free : ℕ → Bool). firstTwo (candidatesAt (λ k. cs .corner k .position) (eligible free (takes (cs .shades) c)) (cs .count) at radius)) unlabelled-so
+
+    unmatched-so : unmatched cs (sheetWith w) radius c at ≡ unmatchedIn cs w radius c at
+    unfolding unmatched unmatchedBy
+    unmatched-so = go (cs .shades .any) refl
+      where
+        go : (t : Bool) → cs .shades .any ≡ t → unmatched cs (sheetWith w) radius c at ≡ unmatchedBy t cs w radius c at
+        go false e = unmatched-bare cs e (sheetWith w) radius c at
+        go true e = ap (λ (free : ℕ → Bool). passedOver (λ k. cs .corner k .position) free (takes (cs .shades) c) (cs .count) at radius) unlabelled-so
 
   edges-so : (tol : Tolerances) (c : Cell) (k : ℕ) → edgesOf (cs .corner) (sheetWith w) tol c k ≡ edgesIn cs w tol c k
   unfolding edgesOf edgesIn
@@ -67,8 +89,8 @@ module _ (cs : Corners) (w : List Written) (r : Rise 0 w) where
   try-so : (tol : Tolerances) (search : Search) (c : Cell) (at : Position) → tryAt cs (sheetWith w) tol search c at ≡ tryIn cs w tol search c at
   unfolding tryAt tryIn
   try-so tol search c at =
-      ap (λ found. resultOf (cs .corner) (sheetWith w) tol c (choiceBy (search .rule) found (search .«ambiguity_factor»))) (gathered-so (search .«search_r») at)
-      ∙ result-so tol c (choiceBy (search .rule) (gatheredIn cs w (search .«search_r») at) (search .«ambiguity_factor»))
+      ap (λ found. resultOf (cs .corner) (sheetWith w) tol c (choiceBy (search .rule) found (search .«ambiguity_factor»))) (gathered-so (search .«search_r») c at)
+      ∙ result-so tol c (choiceBy (search .rule) (gatheredIn cs w (search .«search_r») c at) (search .«ambiguity_factor»))
 
 -- ---- grow
 
@@ -307,7 +329,7 @@ local-with-so c TryCellResult.EdgeRejected s = refl
 local-with-so c (TryCellResult.Attached k) s =
     let e : marksCleared (attached (sheetWith (s .sheet)) c k) c ≡ sheetWith (clearedIn (attachedIn (s .sheet) c k) c) =
     ap (λ (sheet : List ℕ). marksCleared sheet c) (attached-so (s .sheet) c k) ∙ cleared-so (attachedIn (s .sheet) c k) c in
-    λ t. record { sheet = e t; made = s .made ++ (placeOf c ∷ []); counts = oneMore (TryCellResult.Attached k) (s .counts); largest = s .largest }
+    λ t. record { sheet = e t; made = s .made ++ (placeOf c ∷ []); counts = oneMore (TryCellResult.Attached k) (s .counts); largest = s .largest; unmatched = s .unmatched }
 
 local-with-rises : (c : Cell) (r : TryCellResult) (s : LocalStateIn) → Rise 0 (s .sheet) → Rise 0 (localWithIn c r s .sheet)
 unfolding localWithIn
@@ -317,16 +339,25 @@ local-with-rises c TryCellResult.EdgeRejected s h = h
 local-with-rises c (TryCellResult.Attached k) s h = rise-put (attachedIn (s .sheet) c k) (placeOf c) _ (rise-put (s .sheet) (placeOf c) _ h)
 
 module _ (cs : Corners) (set : Settings) (p : LocalExtensionParams) where
+  local-try-so : (c : Cell) (at : Position) (s : LocalStateIn) → Rise 0 (s .sheet) → localTry cs set p c at (localStateOf s) ≡ localStateOf (localTryIn cs set p c at s)
+  unfolding localTry localTryIn
+  local-try-so c at s h =
+      let m = unmatchedIn cs (s .sheet) (localSearch set p .«search_r») c at in
+      ap₂ (λ (r : TryCellResult) (n : ℕ). localWith c r (withUnmatched n (localStateOf s)))
+      (try-so cs (s .sheet) h (tolerancesOf set) (localSearch set p) c at) (unmatched-so cs (s .sheet) h (localSearch set p .«search_r») c at)
+      ∙ local-with-so c (tryIn cs (s .sheet) (tolerancesOf set) (localSearch set p) c at) (withUnmatchedIn m s)
+
+  local-try-rises : (c : Cell) (at : Position) (s : LocalStateIn) → Rise 0 (s .sheet) → Rise 0 (localTryIn cs set p c at s .sheet)
+  unfolding localTryIn
+  local-try-rises c at s h = local-with-rises c (tryIn cs (s .sheet) (tolerancesOf set) (localSearch set p) c at) (withUnmatchedIn _ s) h
+
   local-at-so : (c : Cell) (f : LocalFit) (s : LocalStateIn) → Rise 0 (s .sheet)
       → (localAt cs set p c f (localStateOf s) ≡ localStateOf (localAtIn cs set p c f s)) × Rise 0 (localAtIn cs set p c f s .sheet)
   unfolding localAt localAtIn
   local-at-so c none s h = (refl, h)
   local-at-so c (fitted m rs) s h =
-      let found = tryIn cs (s .sheet) (tolerancesOf set) (localSearch set p) c (applied m (cellPoint c)) in
-      let e =
-      ap (λ (r : TryCellResult). localWith c r (localStateOf (withResidualsIn rs s))) (try-so cs (s .sheet) h (tolerancesOf set) (localSearch set p) c (applied m (cellPoint c)))
-      ∙ local-with-so c found (withResidualsIn rs s) in
-      go (lt (gateOf set p) (worst (ofBits binary32 0) rs)) e (local-with-rises c found (withResidualsIn rs s) h)
+      let at = applied m (cellPoint c) in
+      go (lt (gateOf set p) (worst (ofBits binary32 0) rs)) (local-try-so c at (withResidualsIn rs s) h) (local-try-rises c at (withResidualsIn rs s) h)
     where
       go : (t : Bool) {a : LocalState} {b : LocalStateIn} → a ≡ localStateOf b → Rise 0 (b .sheet)
           → (cond t (localStateOf (withResidualsIn rs s)) a ≡ localStateOf (cond t (withResidualsIn rs s) b)) × Rise 0 (cond t (withResidualsIn rs s) b .sheet)
@@ -347,7 +378,7 @@ module _ (cs : Corners) (set : Settings) (p : LocalExtensionParams) where
   localRoundsOf r = record { state = localStateOf (r .state); rounds = r .rounds }
 
   abbrev localStart : List Written → Rounds LocalStateIn
-  localStart w = record { state = record { sheet = w; made = []; counts = noCounts; largest = LargestResidual.Nothing }; rounds = 0 }
+  localStart w = record { state = record { sheet = w; made = []; counts = noCounts; largest = LargestResidual.Nothing; unmatched = 0 }; rounds = 0 }
 
   abbrev localRunIn : List Written → Rounds LocalStateIn
   localRunIn w = roundsFrom (localPassIn cs set p) (localLimit (length (placesIn w)) (p .«max_iters»)) (localStart w)
@@ -370,9 +401,16 @@ module _ (cs : Corners) (set : Settings) (p : LocalExtensionParams) where
     local-so =
         let r = localRunIn w in
         let rim = rim-so (r .state .sheet) (local-run-so .1) (depthOf p) in
-        ap (localLeft (depthOf p)) (local-run-so .0)
+        ap (localLeft (cs .shades .any) (depthOf p)) (local-run-so .0)
         ∙ (λ t. record {
-          answer = record { counts = r .state .counts; iterations = r .rounds; residual = r .state .largest; rim = rim t };
+          answer =
+              record {
+                counts = r .state .counts;
+                iterations = r .rounds;
+                residual = r .state .largest;
+                rim = rim t;
+                unmatched = unmatchedIf (cs .shades .any) (r .state .unmatched);
+              };
           sheet = sheetWith (r .state .sheet);
           attached = r .state .made;
           visited = [];

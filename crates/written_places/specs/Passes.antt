@@ -1,6 +1,6 @@
 -- The passes on a sheet of which only the written places are kept: each definition is that of the crate `passes` or `extension_common` of the same name
 -- without the ending, its sheet kept so. `proofs/Passes.antt` shows that the passes do the same. Definitions only.
-use mathlib.Core.Bool.{Bool, not, _&&_, cond}
+use mathlib.Core.Bool.{Bool, true, false, not, _&&_, cond}
 use mathlib.Core.List.{List, [], _∷_, _++_, map}
 use Prim.Native.Nat.{ℕ, zero, suc, _+_, _*_}
 use lib.Dec.{ltb}
@@ -11,15 +11,17 @@ use Rattle.elimination.specs.Solve.{Matrix, Row, eliminated, answered, nonzeroD
 use Rattle.homography.specs.Normalize.{normalizationOf, meanDistance, normalized, finitePoints}
 use Rattle.homography.specs.Undo.{undone}
 use Rattle.homography.specs.Fit.{Answer, NoFit, scaledOf, equationsOf, applied}
+use Rattle.sheet.specs.Shades.{takes}
 use Rattle.sheet.specs.Corners.{Corners}
 use Rattle.sheet.specs.Cells.{onSheet, placeOf, cellOf, moved}
 use Rattle.sheet.specs.declared.Cell.{Cell}
 use Rattle.sheet.specs.declared.Offset.{Offset}
 use Rattle.sheet.specs.declared.Position.{Position}
 use Rattle.labels.specs.Box.{boxAround}
-use Rattle.candidates.specs.Candidates.{candidatesAt, firstTwo}
+use Rattle.candidates.specs.Candidates.{eligible, candidatesAt, firstTwo}
 use Rattle.candidates.specs.declared.Candidates.{Candidates}
 use Rattle.candidates.specs.declared.CandidateChoice.{CandidateChoice}
+use Rattle.passed_over.specs.PassedOver.{passedOver}
 use Rattle.positions_policy.specs.Edge.{cardinalOffsets, verdictOf, passes}
 use Rattle.positions_policy.specs.declared.Tolerances.{Tolerances}
 use Rattle.predict.specs.Predict.{predictionOf, extrapolating}
@@ -37,7 +39,7 @@ use Rattle.passes.specs.Rounds.{RoundPass, Rounds, roundsFrom}
 use Rattle.passes.specs.Grow.{GrowState, tolerancesOf, member, searchOf}
 use Rattle.passes.specs.Fill.{FillState, boxAndStrips, cellsOf, fillSearch, fillLimit}
 use Rattle.passes.specs.Local.{LocalState, LocalFit, none, fitted, depthOf, localRegion, byReach, cellPoint, picturedAt, trusted}
-use Rattle.passes.specs.Local.{worst, recordedAll, localSearch, gateOf, localLimit}
+use Rattle.passes.specs.Local.{worst, recordedAll, localSearch, gateOf, localLimit, unmatchedIf}
 use Rattle.passes.specs.declared.Counts.{Counts}
 use Rattle.passes.specs.declared.GrowStats.{GrowStats}
 use Rattle.passes.specs.declared.FillStats.{FillStats}
@@ -57,8 +59,24 @@ afterOf a = record { answer = a .answer; sheet = sheetWith (a .sheet); attached 
 
 -- ---- one cell
 
-unfoldable pub gatheredIn : Corners → List Written → Float → Position → Candidates
-gatheredIn cs w radius at = firstTwo (candidatesAt (λ k. cs .corner k .position) (λ k. not (usedIn w k)) (cs .count) at radius)
+abbrev pub unlabelledIn : List Written → ℕ → Bool
+unlabelledIn w k = not (usedIn w k)
+
+-- by whether any shade stands: no kind is looked at where none does
+unfoldable pub gatheredBy : Bool → Corners → List Written → Float → Cell → Position → Candidates
+gatheredBy false cs w radius c at = firstTwo (candidatesAt (λ k. cs .corner k .position) (unlabelledIn w) (cs .count) at radius)
+gatheredBy true cs w radius c at =
+    firstTwo (candidatesAt (λ k. cs .corner k .position) (eligible (unlabelledIn w) (takes (cs .shades) c)) (cs .count) at radius)
+
+abbrev pub gatheredIn : Corners → List Written → Float → Cell → Position → Candidates
+gatheredIn cs w radius c at = gatheredBy (cs .shades .any) cs w radius c at
+
+unfoldable pub unmatchedBy : Bool → Corners → List Written → Float → Cell → Position → ℕ
+unmatchedBy false cs w radius c at = 0
+unmatchedBy true cs w radius c at = passedOver (λ k. cs .corner k .position) (unlabelledIn w) (takes (cs .shades) c) (cs .count) at radius
+
+abbrev pub unmatchedIn : Corners → List Written → Float → Cell → Position → ℕ
+unmatchedIn cs w radius c at = unmatchedBy (cs .shades .any) cs w radius c at
 
 unfoldable pub edgesIn : Corners → List Written → Tolerances → Cell → ℕ → TryCellResult
 edgesIn cs w tol c k = cond (passes (verdictOf (seenIn (cs .corner) w) tol c (cs .corner k))) (TryCellResult.Attached k) TryCellResult.EdgeRejected
@@ -70,7 +88,7 @@ resultIn cs w tol c (CandidateChoice.Unique k) = edgesIn cs w tol c k
 
 unfoldable pub tryIn : Corners → List Written → Tolerances → Search → Cell → Position → TryCellResult
 tryIn cs w tol search c at =
-    resultIn cs w tol c (choiceBy (search .rule) (gatheredIn cs w (search .«search_r») at) (search .«ambiguity_factor»))
+    resultIn cs w tol c (choiceBy (search .rule) (gatheredIn cs w (search .«search_r») c at) (search .«ambiguity_factor»))
 
 -- ---- grow
 
@@ -199,9 +217,10 @@ pub record LocalStateIn : Type 0 where
   pub made : List ℕ
   pub counts : Counts
   pub largest : LargestResidual
+  pub unmatched : ℕ
 
 abbrev pub localStateOf : LocalStateIn → LocalState
-localStateOf s = record { sheet = sheetWith (s .sheet); made = s .made; counts = s .counts; largest = s .largest }
+localStateOf s = record { sheet = sheetWith (s .sheet); made = s .made; counts = s .counts; largest = s .largest; unmatched = s .unmatched }
 
 abbrev pub localCellsIn : ℕ → List Written → List ℕ
 localCellsIn depth w = cellsOf (localRegion depth (placesIn w) (boxAround (placesIn w))) (labelledIn w)
@@ -214,10 +233,14 @@ localFitIn cs w ps =
     trusted (seenIn (cs .corner) w) ps (quickFit (map (λ p. cellPoint (cellOf p)) ps) (map (picturedAt (seenIn (cs .corner) w)) ps))
 
 abbrev pub withResidualsIn : List Float → LocalStateIn → LocalStateIn
-withResidualsIn rs s = record { sheet = s .sheet; made = s .made; counts = s .counts; largest = recordedAll (s .largest) rs }
+withResidualsIn rs s =
+    record { sheet = s .sheet; made = s .made; counts = s .counts; largest = recordedAll (s .largest) rs; unmatched = s .unmatched }
+
+abbrev pub withUnmatchedIn : ℕ → LocalStateIn → LocalStateIn
+withUnmatchedIn n s = record { sheet = s .sheet; made = s .made; counts = s .counts; largest = s .largest; unmatched = s .unmatched + n }
 
 abbrev pub countedIn : TryCellResult → LocalStateIn → LocalStateIn
-countedIn r s = record { sheet = s .sheet; made = s .made; counts = oneMore r (s .counts); largest = s .largest }
+countedIn r s = record { sheet = s .sheet; made = s .made; counts = oneMore r (s .counts); largest = s .largest; unmatched = s .unmatched }
 
 unfoldable pub localWithIn : Cell → TryCellResult → LocalStateIn → LocalStateIn
 localWithIn c TryCellResult.NoCandidates s = countedIn TryCellResult.NoCandidates s
@@ -228,13 +251,19 @@ localWithIn c (TryCellResult.Attached k) s = record {
   made = s .made ++ (placeOf c ∷ []);
   counts = oneMore (TryCellResult.Attached k) (s .counts);
   largest = s .largest;
+  unmatched = s .unmatched;
 }
+
+unfoldable pub localTryIn : Corners → Settings → LocalExtensionParams → Cell → Position → LocalStateIn → LocalStateIn
+localTryIn cs set p c at s =
+    localWithIn c (tryIn cs (s .sheet) (tolerancesOf set) (localSearch set p) c at)
+    (withUnmatchedIn (unmatchedIn cs (s .sheet) (localSearch set p .«search_r») c at) s)
 
 unfoldable pub localAtIn : Corners → Settings → LocalExtensionParams → Cell → LocalFit → LocalStateIn → LocalStateIn
 localAtIn cs set p c none s = s
 localAtIn cs set p c (fitted h rs) s =
     cond (lt (gateOf set p) (worst (ofBits binary32 0) rs)) (withResidualsIn rs s)
-    (localWithIn c (tryIn cs (s .sheet) (tolerancesOf set) (localSearch set p) c (applied h (cellPoint c))) (withResidualsIn rs s))
+    (localTryIn cs set p c (applied h (cellPoint c)) (withResidualsIn rs s))
 
 unfoldable pub localVisitIn : Corners → Settings → LocalExtensionParams → Cell → LocalStateIn → LocalStateIn
 localVisitIn cs set p c s = localAtIn cs set p c (localFitIn cs (s .sheet) (supportsIn c (s .sheet))) s
@@ -242,9 +271,16 @@ localVisitIn cs set p c s = localAtIn cs set p c (localFitIn cs (s .sheet) (supp
 abbrev pub localPassIn : Corners → Settings → LocalExtensionParams → RoundPass LocalStateIn
 localPassIn cs set p = record { cells = λ s. localCellsIn (depthOf p) (s .sheet); visit = localVisitIn cs set p; made = λ s. s .made }
 
-abbrev pub localLeftIn : ℕ → Rounds LocalStateIn → AfterIn LocalStats
-localLeftIn depth r = record {
-  answer = record { counts = r .state .counts; iterations = r .rounds; residual = r .state .largest; rim = rimIn depth (r .state .sheet) };
+abbrev pub localLeftIn : Bool → ℕ → Rounds LocalStateIn → AfterIn LocalStats
+localLeftIn shaded depth r = record {
+  answer =
+      record {
+        counts = r .state .counts;
+        iterations = r .rounds;
+        residual = r .state .largest;
+        rim = rimIn depth (r .state .sheet);
+        unmatched = unmatchedIf shaded (r .state .unmatched);
+      };
   sheet = r .state .sheet;
   attached = r .state .made;
   visited = [];
@@ -252,6 +288,6 @@ localLeftIn depth r = record {
 
 unfoldable pub localAfterIn : Corners → Settings → LocalExtensionParams → List Written → AfterIn LocalStats
 localAfterIn cs set p w =
-    localLeftIn (depthOf p)
+    localLeftIn (cs .shades .any) (depthOf p)
     (roundsFrom (localPassIn cs set p) (localLimit (length (placesIn w)) (p .«max_iters»))
-    (record { state = record { sheet = w; made = []; counts = noCounts; largest = LargestResidual.Nothing }; rounds = 0 }))
+    (record { state = record { sheet = w; made = []; counts = noCounts; largest = LargestResidual.Nothing; unmatched = 0 }; rounds = 0 }))

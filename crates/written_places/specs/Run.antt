@@ -2,8 +2,9 @@
 use mathlib.Core.Path.{_≡_}
 use mathlib.Core.List.{List, [], _∷_}
 use Prim.Native.Nat.{ℕ}
-use Rattle.sheet.specs.Corners.{CornerLists, cornersOf}
+use Rattle.sheet.specs.Corners.{CornerLists}
 use Rattle.refusal.specs.declared.Refusal.{Refusal}
+use Rattle.arguments.specs.Shades.{cornersOf}
 use Rattle.arguments.specs.declared.Settings.{Settings}
 use Rattle.arguments.specs.declared.Pass.{Pass}
 use Rattle.passes.specs.Outcome.{Outcome, refused, done}
@@ -16,10 +17,10 @@ abbrev pub answeringIn : {A B : Type 0} → (A → B) → AfterIn A → AfterIn 
 answeringIn f a = record { answer = f (a .answer); sheet = a .sheet; attached = a .attached; visited = a .visited }
 
 -- what a call does that is not refused
-unfoldable pub afterPassIn : CornerLists → List Written → Settings → Pass → AfterIn PassStats
-afterPassIn l w set (Pass.Grow p) = answeringIn growStats (growAfterIn (cornersOf l) set p w)
-afterPassIn l w set (Pass.Fill p) = answeringIn fillStats (fillAfterIn (cornersOf l) set p w)
-afterPassIn l w set (Pass.Local p) = answeringIn localStats (localAfterIn (cornersOf l) set p w)
+unfoldable pub afterPassIn : CornerLists → List ℕ → List Written → Settings → Pass → AfterIn PassStats
+afterPassIn l shades w set (Pass.Grow p) = answeringIn growStats (growAfterIn (cornersOf l shades) set p w)
+afterPassIn l shades w set (Pass.Fill p) = answeringIn fillStats (fillAfterIn (cornersOf l shades) set p w)
+afterPassIn l shades w set (Pass.Local p) = answeringIn localStats (localAfterIn (cornersOf l shades) set p w)
 
 -- a call that runs, and one that is refused
 pub data Asked : Type 0 where
@@ -48,5 +49,5 @@ before o r = record { outcomes = o ∷ r .outcomes; left = r .left }
 
 unfoldable pub runIn : CornerLists → List Written → List Asked → RunIn
 runIn l w [] = record { outcomes = []; left = w }
-runIn l w (runs c ∷ qs) = let a = afterPassIn l w (c .settings) (c .pass) in before (done (afterOf a)) (runIn l (a .sheet) qs)
+runIn l w (runs c ∷ qs) = let a = afterPassIn l (c .shades) w (c .settings) (c .pass) in before (done (afterOf a)) (runIn l (a .sheet) qs)
 runIn l w (refuses c r ∷ qs) = before (refused r) (runIn l w qs)

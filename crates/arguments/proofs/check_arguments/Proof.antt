@@ -13,29 +13,30 @@ use Rattle.arguments.proofs.check_arguments.Tie as tie
 
 -- what is lent, and what each test that did not refuse says of it
 abbrev at : tie.Start → Lent
-at c = lent (c .args .xs .now) (c .args .ys .now) (c .args .pitches .now) (c .args .sheet .now) (c .args .queue) (c .args .attached)
+at c = lent (c .args .xs .now) (c .args .ys .now) (c .args .pitches .now) (c .args .shades .now) (c .args .sheet .now) (c .args .queue) (c .args .attached)
 
-passed-7 : (c : tie.Else1) → tooShort (at (c .before .before .before .before .before .before)) (c .before .before .before .before .before .before .args .pass) ≡ false
+passed-7 : (c : tie.Else1) → tooShort (at (c .before .before .before .before .before .before .before)) (c .before .before .before .before .before .before .before .args .pass) ≡ false
 passed-7 c = sym (c .before .too-short .ensures) ∙ c .if1 .left
 
-passed-2 : (c : tie.Else2) → overLimit (at (c .before .before .before .before .before .before .before)) ≡ false
+passed-2 : (c : tie.Else2) → overLimit (at (c .before .before .before .before .before .before .before .before)) ≡ false
 unfolding overLimit
 passed-2 c = le-ltb _ _ (c .if2 .left)
 
-corners-passed : (c : tie.Else3) → someCornerOutside (cornerLists (c .before .before .before .before .before .before .before .before .before .args .xs .now) (c .before .before .before .before .before .before .before .before .before .args .ys .now) (c .before .before .before .before .before .before .before .before .before .args .pitches .now)) ≡ false
+corners-passed : (c : tie.Else3) → let a = c .before .before .before .before .before .before .before .before .before .before .args in
+    someCornerOutside (cornerLists (a .xs .now) (a .ys .now) (a .pitches .now)) (a .shades .now) ≡ false
 corners-passed c = sym (c .before .some-corner-outside .ensures) ∙ c .if3 .left
 
-settings-passed : (c : tie.Else4) → settingsOutside (c .before .before .before .before .before .before .before .before .before .before .before .args .settings) ≡ false
+settings-passed : (c : tie.Else4) → settingsOutside (c .before .before .before .before .before .before .before .before .before .before .before .before .args .settings) ≡ false
 settings-passed c = sym (c .before .settings-outside .ensures) ∙ c .if4 .left
 
-passed-3 : (c : tie.Else5) → false ≡ outOfRange (at (c .before .before .before .before .before .before .before .before .before .before .before .before .before)) (c .before .before .before .before .before .before .before .before .before .before .before .before .before .args .settings) (c .before .before .before .before .before .before .before .before .before .before .before .before .before .args .pass)
+passed-3 : (c : tie.Else5) → false ≡ outOfRange (at (c .before .before .before .before .before .before .before .before .before .before .before .before .before .before)) (c .before .before .before .before .before .before .before .before .before .before .before .before .before .before .args .settings) (c .before .before .before .before .before .before .before .before .before .before .before .before .before .before .args .pass)
 unfolding outOfRange
 passed-3 c = fails _ _ _ (corners-passed (c .before .before .before .before)) (fails _ _ _ (settings-passed (c .before .before)) (sym (c .if5 .left) ∙ c .before .pass-outside .ensures))
 
-passed-5 : (c : tie.Else6) → unknownCorner (cornerCount (at (c .before .before .before .before .before .before .before .before .before .before .before .before .before .before .before))) (c .before .before .before .before .before .before .before .before .before .before .before .before .before .before .before .args .sheet .now) ≡ false
+passed-5 : (c : tie.Else6) → unknownCorner (cornerCount (at (c .before .before .before .before .before .before .before .before .before .before .before .before .before .before .before .before))) (c .before .before .before .before .before .before .before .before .before .before .before .before .before .before .before .before .args .sheet .now) ≡ false
 passed-5 c = sym (c .before .unknown-corner .ensures) ∙ c .if6 .left
 
-long : (c : tie.Else1) → LongEnough (at (c .before .before .before .before .before .before)) (c .before .before .before .before .before .before .args .pass)
+long : (c : tie.Else1) → LongEnough (at (c .before .before .before .before .before .before .before)) (c .before .before .before .before .before .before .before .args .pass)
 long c = long-enough _ _ (passed-7 c)
 
 too-short-requires : tie.Need-too-short-requires
@@ -49,7 +50,9 @@ unfolding overLimit
 returns-2 c = refused-2 _ _ _ (passed-7 (c .before)) (lt-ltb _ _ (c .if2 .taken))
 
 some-corner-outside-requires : tie.Need-some-corner-outside-requires
-some-corner-outside-requires c κs = let w = long (c .before) in record { ys-long = w .ys-long; pitches-long = w .pitches-long }
+some-corner-outside-requires c κs =
+    let w = long (c .before) in
+    record { listed = record { ys-long = w .ys-long; pitches-long = w .pitches-long }; shades-long = w .shades-long }
 
 returns-3 : tie.Need-returns-3
 unfolding outOfRange

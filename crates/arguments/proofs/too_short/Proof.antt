@@ -22,25 +22,35 @@ returns-3 c =
     (fails _ _ _ (le-ltb _ _ (c .before .if2 .left))
     (holds _ _ (lt-ltb _ _ (c .if3 .taken))))
 
-queue-short-requires : tie.Need-queue-short-requires
-queue-short-requires c κs = search needs
-
 returns-4 : tie.Need-returns-4
 unfolding tooShort
 returns-4 c =
-    fails _ _ _ (le-ltb _ _ (c .before .before .before .before .if1 .left))
-    (fails _ _ _ (le-ltb _ _ (c .before .before .before .if2 .left))
-    (fails _ _ _ (le-ltb _ _ (c .before .before .if3 .left))
-    (holds _ _ (sym (c .before .queue-short .ensures) ∙ c .if4 .taken))))
+    fails _ _ _ (le-ltb _ _ (c .before .before .before .if1 .left))
+    (fails _ _ _ (le-ltb _ _ (c .before .before .if2 .left))
+    (fails _ _ _ (le-ltb _ _ (c .before .if3 .left))
+    (holds _ _ (lt-ltb _ _ (c .if4 .taken)))))
+
+queue-short-requires : tie.Need-queue-short-requires
+queue-short-requires c κs = search needs
 
 returns-5 : tie.Need-returns-5
 unfolding tooShort
 returns-5 c =
-    fails _ _ _ (le-ltb _ _ (c .before .before .before .before .if1 .left))
-    (fails _ _ _ (le-ltb _ _ (c .before .before .before .if2 .left))
-    (fails _ _ _ (le-ltb _ _ (c .before .before .if3 .left))
-    (fails _ _ _ (sym (c .before .queue-short .ensures) ∙ c .if4 .left) refl)))
+    fails _ _ _ (le-ltb _ _ (c .before .before .before .before .before .if1 .left))
+    (fails _ _ _ (le-ltb _ _ (c .before .before .before .before .if2 .left))
+    (fails _ _ _ (le-ltb _ _ (c .before .before .before .if3 .left))
+    (fails _ _ _ (le-ltb _ _ (c .before .before .if4 .left))
+    (holds _ _ (sym (c .before .queue-short .ensures) ∙ c .if5 .taken)))))
+
+returns-6 : tie.Need-returns-6
+unfolding tooShort
+returns-6 c =
+    fails _ _ _ (le-ltb _ _ (c .before .before .before .before .before .if1 .left))
+    (fails _ _ _ (le-ltb _ _ (c .before .before .before .before .if2 .left))
+    (fails _ _ _ (le-ltb _ _ (c .before .before .before .if3 .left))
+    (fails _ _ _ (le-ltb _ _ (c .before .before .if4 .left))
+    (fails _ _ _ (sym (c .before .queue-short .ensures) ∙ c .if5 .left) refl))))
 
 pub too-short-spec : {M : Type 1} → statement M
 too-short-spec =
-    tie.close (tie.spec returns returns-2 returns-3 queue-short-requires returns-4 returns-5)
+    tie.close (tie.spec returns returns-2 returns-3 returns-4 queue-short-requires returns-5 returns-6)

@@ -5,7 +5,7 @@ use Rattle.call_text.proofs.has_unknown_kind.Statement.{statement}
 use Rattle.call_text.proofs.has_unknown_kind.Tie as tie
 
 abbrev Inv-loop : tie.InvT-loop
-Inv-loop text h i₀ i = (h .first ≤ 7200) × (h .count ≤ 40)
+Inv-loop text h i₀ i = (h .first ≤ 8200) × (h .count ≤ 40)
 
 abbrev μ-loop : tie.MeasureT-loop
 μ-loop text h i₀ i = h .count - i

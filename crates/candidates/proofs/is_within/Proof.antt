@@ -1,22 +1,33 @@
--- `is_within` meets its contract: the corner is labelled, or its square decides. Assumes nothing.
-use mathlib.Core.Path.{sym, ap, _∙_}
+-- `is_within` meets its contract: the corner is labelled, or its square is above the limit, or its kind decides. Assumes nothing.
+use mathlib.Core.Path.{_≡_, sym, ap, _∙_}
+use mathlib.Core.Bool.{Bool}
+use Prim.Native.Nat.{ℕ}
 use borrow.Author.Needs.{needs}
-use borrow.Author.Tests.{not-true, not-false}
+use borrow.Author.Tests.{eq-eqb, ne-eqb}
 use lib.Ieee.{Float, le}
 use Rattle.sheet.specs.declared.Position.{Position}
+use Rattle.sheet.specs.Shades.{takesKind, shadesIn}
 use Rattle.sheet.specs.Corners.{squaredDistance}
 use Rattle.candidates.specs.Candidates.{positionsIn, unmarked}
-use Rattle.candidates.proofs.Scan.{labelled, free}
+use Rattle.candidates.proofs.Scan.{labelled, far, by-kind}
 use Rattle.candidates.proofs.is_within.Statement.{statement}
 use Rattle.candidates.proofs.is_within.Tie as tie
 
-is-eligible-requires : tie.Need-is-eligible-requires
-is-eligible-requires c κs = search needs
+-- the corner's kind
+abbrev kinds : (s : tie.Start) → ℕ → Bool
+kinds s = takesKind (shadesIn (s .args .corners .now)) (s .args .kind)
+
+-- the code's square is the corner's
+square : (s : tie.Start) {at : Position} {d2 : Float} → at ≡ positionsIn (s .args .corners .now) (s .args .k) → d2 ≡ squaredDistance at (s .args .prediction)
+    → le (squaredDistance (positionsIn (s .args .corners .now) (s .args .k)) (s .args .prediction)) (s .args .limit) ≡ le d2 (s .args .limit)
+square s e f = sym (ap (λ (d2 : Float). le d2 (s .args .limit)) (f ∙ ap (λ (q : Position). squaredDistance q (s .args .prediction)) e))
+
+element-copy-out-if1 : tie.Need-element-copy-out-if1
+element-copy-out-if1 c = search needs
 
 returns : tie.Need-returns
-returns c = let o = c .before .before in
-    let a = o .args in
-    labelled (positionsIn (a .corners .now)) (unmarked (a .used .now)) (a .prediction) (a .limit) (a .k) (sym (c .before .is-eligible .ensures) ∙ not-true _ (c .if1 .taken))
+returns c = let s = c .before .before in
+    labelled (positionsIn (s .args .corners .now)) (unmarked (s .args .used .now)) (kinds s) (s .args .prediction) (s .args .limit) (s .args .k) (ne-eqb _ 0 (c .if1 .taken))
 
 position-of-requires : tie.Need-position-of-requires
 position-of-requires c κs = search needs
@@ -24,18 +35,30 @@ position-of-requires c κs = search needs
 squared-distance-requires : tie.Need-squared-distance-requires
 squared-distance-requires c κs = search needs
 
+is-taken-requires : tie.Need-is-taken-requires
+is-taken-requires c κs = search needs
+
 returns-2 : tie.Need-returns-2
-returns-2 c = let e = c .before .before in
-    let a = e .before .before .args in
-    ap (λ (d2 : Float). le d2 (a .limit)) (c .squared-distance .ensures ∙ ap (λ (q : Position). squaredDistance q (a .prediction)) (c .before .position-of .ensures))
-    ∙ free (positionsIn (a .corners .now)) (unmarked (a .used .now)) (a .prediction) (a .limit) (a .k) (sym (e .before .is-eligible .ensures) ∙ not-false _ (e .if1 .left))
+returns-2 c = let d = c .before .before in
+    let s = d .before .before .before .before in
+    c .is-taken .ensures
+    ∙ by-kind (positionsIn (s .args .corners .now)) (unmarked (s .args .used .now)) (kinds s) (s .args .prediction) (s .args .limit) (s .args .k) (eq-eqb _ 0 (d .before .before .if1 .left))
+    (square s (d .before .position-of .ensures) (d .squared-distance .ensures) ∙ c .before .if2 .taken)
+
+returns-3 : tie.Need-returns-3
+returns-3 c = let d = c .before in
+    let s = d .before .before .before .before in
+    far (positionsIn (s .args .corners .now)) (unmarked (s .args .used .now)) (kinds s) (s .args .prediction) (s .args .limit) (s .args .k)
+    (square s (d .before .position-of .ensures) (d .squared-distance .ensures) ∙ c .if2 .left)
 
 pub is-within-spec : {M : Type 1} → statement M
 is-within-spec =
     tie.close
     (tie.spec
-    is-eligible-requires
+    element-copy-out-if1
     returns
     position-of-requires
     squared-distance-requires
-    returns-2)
+    is-taken-requires
+    returns-2
+    returns-3)

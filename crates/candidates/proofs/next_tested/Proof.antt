@@ -2,17 +2,17 @@
 use mathlib.Core.Path.{sym, _∙_}
 use Prim.Native.Nat.{_-_}
 use native.Mathlib.Omega.{arith}
-use Rattle.candidates.specs.Candidates.{positionsIn, unmarked}
+use Rattle.candidates.specs.Candidates.{positionsIn, eligibleIn}
 use Rattle.candidates.specs.Steps.{isWithin}
 use Rattle.candidates.proofs.Scan.{Passing, passing-start, passing-more, passing-hit, passing-end}
 use Rattle.candidates.proofs.next_tested.Statement.{statement}
 use Rattle.candidates.proofs.next_tested.Tie as tie
 
 abbrev Inv-loop : tie.InvT-loop
-Inv-loop corners count used from prediction limit k₀ k = Passing (isWithin (positionsIn corners) (unmarked used) prediction limit) count from k
+Inv-loop corners count used kind from prediction limit k₀ k = Passing (isWithin (positionsIn corners) (eligibleIn corners used kind) prediction limit) count from k
 
 abbrev μ-loop : tie.MeasureT-loop
-μ-loop corners count used from prediction limit k₀ k = count - k
+μ-loop corners count used kind from prediction limit k₀ k = count - k
 
 loop-holds : tie.Need-loop-holds Inv-loop μ-loop
 loop-holds c = passing-start _ _ _ (c .pre .1)

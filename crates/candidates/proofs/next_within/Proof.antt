@@ -1,17 +1,17 @@
 -- `next_within` meets its contract. The loop's invariant: no corner passed is a candidate. The measure is what is left of the corners. Assumes nothing.
 use Prim.Native.Nat.{_-_}
 use native.Mathlib.Omega.{arith}
-use Rattle.candidates.specs.Candidates.{positionsIn, unmarked}
+use Rattle.candidates.specs.Candidates.{positionsIn, eligibleIn}
 use Rattle.candidates.specs.Steps.{isWithin}
 use Rattle.candidates.proofs.Scan.{Passing, passing-start, passing-next, passing-block}
 use Rattle.candidates.proofs.next_within.Statement.{statement}
 use Rattle.candidates.proofs.next_within.Tie as tie
 
 abbrev Inv-loop : tie.InvT-loop
-Inv-loop corners count used from prediction limit k₀ k = Passing (isWithin (positionsIn corners) (unmarked used) prediction limit) count from k
+Inv-loop corners count used kind from prediction limit k₀ k = Passing (isWithin (positionsIn corners) (eligibleIn corners used kind) prediction limit) count from k
 
 abbrev μ-loop : tie.MeasureT-loop
-μ-loop corners count used from prediction limit k₀ k = count - k
+μ-loop corners count used kind from prediction limit k₀ k = count - k
 
 loop-holds : tie.Need-loop-holds Inv-loop μ-loop
 loop-holds c = passing-start _ _ _ (c .pre .1)
@@ -35,7 +35,8 @@ loop-less : tie.Need-loop-less Inv-loop μ-loop
 loop-less c = omega arith
 
 loop-again : tie.Need-loop-again Inv-loop μ-loop
-loop-again c = passing-block _ _ _ _ _ _ _ (c .before .before .before .loop .inv) (c .before .before .loop-test .taken) (c .before .count-near .ensures) (omega arith)
+loop-again c = let a = c .before .before .before .before .args in
+    passing-block _ (eligibleIn (a .corners .now) (a .used .now) (a .kind)) _ _ _ _ _ (c .before .before .before .loop .inv) (c .before .before .loop-test .taken) (c .before .count-near .ensures) (omega arith)
 
 next-tested-requires-2 : tie.Need-next-tested-requires-2 Inv-loop μ-loop
 next-tested-requires-2 c κs = (c .before .before .pre .0, c .before .loop .inv .within)

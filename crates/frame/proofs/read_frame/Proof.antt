@@ -12,10 +12,10 @@ returns-2 : tie.Need-returns-2
 returns-2 c = promised _ _ (call-long _ _ (sym (c .before .before .too-short .ensures) ∙ c .before .if1 .left) (c .if2 .taken))
 
 read-text-requires : tie.Need-read-text-requires
-read-text-requires c κs = long-enough (c .before .before .before .before .before .before .before .before .before .before .before .before .before .before .args .text .now) _ (sym (c .before .before .before .before .before .before .before .too-short .ensures) ∙ c .before .before .before .before .before .before .if1 .left)
+read-text-requires c κs = long-enough (c .before .before .before .before .before .before .before .before .before .before .before .before .before .before .before .before .args .text .now) _ (sym (c .before .before .before .before .before .before .before .before .too-short .ensures) ∙ c .before .before .before .before .before .before .before .if1 .left)
 
 returns-3 : tie.Need-returns-3
-returns-3 c = promised _ _ (c .before .before .before .before .before .before .before .before .before .before .read-text .ensures ∙ call-read _ _ (sym (c .before .before .before .before .before .before .before .before .before .before .before .before .before .before .before .before .before .before .too-short .ensures) ∙ c .before .before .before .before .before .before .before .before .before .before .before .before .before .before .before .before .before .if1 .left) (c .before .before .before .before .before .before .before .before .before .before .before .before .before .before .before .before .if2 .left))
+returns-3 c = promised _ _ (c .before .before .before .before .before .before .before .before .before .before .before .before .read-text .ensures ∙ call-read _ _ (sym (c .before .before .before .before .before .before .before .before .before .before .before .before .before .before .before .before .before .before .before .before .before .too-short .ensures) ∙ c .before .before .before .before .before .before .before .before .before .before .before .before .before .before .before .before .before .before .before .before .if1 .left) (c .before .before .before .before .before .before .before .before .before .before .before .before .before .before .before .before .before .before .before .if2 .left))
 
 pub read-frame-spec : {M : Type 1} → statement M
 read-frame-spec =
@@ -25,6 +25,7 @@ read-frame-spec =
     returns
     returns-2
     read-text-requires
+    (λ c. search needs)
     (λ c. search needs)
     (λ c. search needs)
     (λ c. search needs)

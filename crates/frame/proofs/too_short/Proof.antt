@@ -18,7 +18,10 @@ returns-4 : tie.Need-returns-4
 returns-4 c = fails _ _ _ (le-ltb _ _ (c .before .before .before .if1 .left)) (fails _ _ _ (le-ltb _ _ (c .before .before .if2 .left)) (fails _ _ _ (le-ltb _ _ (c .before .if3 .left)) (holds _ _ (lt-ltb _ _ (c .if4 .taken)))))
 
 returns-5 : tie.Need-returns-5
-returns-5 c = fails _ _ _ (le-ltb _ _ (c .before .before .before .if1 .left)) (fails _ _ _ (le-ltb _ _ (c .before .before .if2 .left)) (fails _ _ _ (le-ltb _ _ (c .before .if3 .left)) (fails _ _ _ (le-ltb _ _ (c .if4 .left)) refl)))
+returns-5 c = fails _ _ _ (le-ltb _ _ (c .before .before .before .before .if1 .left)) (fails _ _ _ (le-ltb _ _ (c .before .before .before .if2 .left)) (fails _ _ _ (le-ltb _ _ (c .before .before .if3 .left)) (fails _ _ _ (le-ltb _ _ (c .before .if4 .left)) (holds _ _ (lt-ltb _ _ (c .if5 .taken))))))
+
+returns-6 : tie.Need-returns-6
+returns-6 c = fails _ _ _ (le-ltb _ _ (c .before .before .before .before .if1 .left)) (fails _ _ _ (le-ltb _ _ (c .before .before .before .if2 .left)) (fails _ _ _ (le-ltb _ _ (c .before .before .if3 .left)) (fails _ _ _ (le-ltb _ _ (c .before .if4 .left)) (fails _ _ _ (le-ltb _ _ (c .if5 .left)) (refl)))))
 
 pub too-short-spec : {M : Type 1} → statement M
-too-short-spec = tie.close (tie.spec returns returns-2 returns-3 returns-4 returns-5)
+too-short-spec = tie.close (tie.spec returns returns-2 returns-3 returns-4 returns-5 returns-6)

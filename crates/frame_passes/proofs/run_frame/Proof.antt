@@ -4,18 +4,18 @@ use lib.ListN.{length-take}
 use borrow.Author.Needs.{needs}
 use Rattle.frame_passes.proofs.run_frame.Statement.{statement}
 use Rattle.frame_passes.proofs.run_frame.Tie as tie
-use Rattle.frame_passes.proofs.run_frame.Reads as reads
-use Rattle.frame_passes.proofs.run_frame.Lts as lts
-use Rattle.frame_passes.proofs.run_passes.Reads as run-passes-reads
 
 slice-aggregate-run-passes : tie.Need-slice-aggregate-run-passes
-slice-aggregate-run-passes c = simp length-take (omega (arith, c .before .before .before .before .before .before .before .before .before .pre))
+slice-aggregate-run-passes c = simp length-take (omega (arith, c .before .before .before .before .before .before .before .before .before .before .pre))
 
 slice-aggregate-run-passes-2 : tie.Need-slice-aggregate-run-passes-2
-slice-aggregate-run-passes-2 c = simp length-take (omega (arith, c .before .before .before .before .before .before .before .before .before .before .pre))
+slice-aggregate-run-passes-2 c = simp length-take (omega (arith, c .before .before .before .before .before .before .before .before .before .before .before .pre))
 
 slice-aggregate-run-passes-3 : tie.Need-slice-aggregate-run-passes-3
-slice-aggregate-run-passes-3 c = simp length-take (omega (arith, c .before .before .before .before .before .before .before .before .before .before .before .pre))
+slice-aggregate-run-passes-3 c = simp length-take (omega (arith, c .before .before .before .before .before .before .before .before .before .before .before .before .pre))
+
+slice-aggregate-run-passes-4 : tie.Need-slice-aggregate-run-passes-4
+slice-aggregate-run-passes-4 c = simp length-take (omega (arith, c .before .before .before .before .before .before .before .before .before .before .before .before .before .pre))
 
 run-passes-requires : tie.Need-run-passes-requires
 run-passes-requires c κs = search needs
@@ -42,6 +42,7 @@ run-frame-spec =
     slice-aggregate-run-passes
     slice-aggregate-run-passes-2
     slice-aggregate-run-passes-3
+    slice-aggregate-run-passes-4
     run-passes-requires
     same-length
     same-length-2

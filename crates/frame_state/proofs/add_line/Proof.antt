@@ -1,6 +1,6 @@
 -- `frame_state::add_line` meets its contract, by the kind. Assumes nothing.
 use mathlib.Core.Path.{sym, _∙_}
-use Rattle.frame_state.proofs.Laws.{opening-fits, corner-fits, label-room, pass-fits}
+use Rattle.frame_state.proofs.Laws.{opening-fits, corner-fits, label-room, shade-room, pass-fits}
 use Rattle.frame_state.specs.State.{addsAs}
 use borrow.Author.Needs.{needs}
 use Rattle.frame_state.proofs.add_line.Statement.{statement}
@@ -17,6 +17,9 @@ with-corner-requires c κs = corner-fits (c .before .before .before .before .bef
 
 put-label-requires : tie.Need-put-label-requires
 put-label-requires c κs = rw (c .label-of .ensures) (label-room (c .before .before .before .before .before .before .before .pre) (sym (c .before .before .before .before .before .before .kind-of .ensures) ∙ c .before .before .before .enum-told2 .given .1))
+
+put-shade-requires : tie.Need-put-shade-requires
+put-shade-requires c κs = rw (c .shade-of .ensures) (shade-room (c .before .before .before .before .before .before .pre) (sym (c .before .before .before .before .before .kind-of .ensures) ∙ c .before .before .enum-told3 .given .1))
 
 put-pass-requires : tie.Need-put-pass-requires
 put-pass-requires c κs = pass-fits (c .before .before .before .before .before .before .before .pre) _ (sym (c .before .before .before .before .before .before .kind-of .ensures) ∙ c .before .before .before .kind2 .given .1)
@@ -38,7 +41,11 @@ returns-3 c = let w = c .put-label .ensures in rw (sym (c .before .before .befor
 
 returns-4 : tie.Need-returns-4
 unfolding addsAs
-returns-4 c = rw (sym (c .before .before .before .before .before .before .before .before .kind-of .ensures) ∙ c .before .before .before .before .before .kind2 .given .1, c .with-pass .ensures, c .before .put-pass .ensures, c .before .before .words-of .ensures)
+returns-4 c = rw (sym (c .before .before .before .before .before .before .kind-of .ensures) ∙ c .before .before .before .enum-told3 .given .1, c .put-shade .ensures, c .before .shade-of .ensures)
+
+returns-5 : tie.Need-returns-5
+unfolding addsAs
+returns-5 c = rw (sym (c .before .before .before .before .before .before .before .before .kind-of .ensures) ∙ c .before .before .before .before .before .kind2 .given .1, c .with-pass .ensures, c .before .put-pass .ensures, c .before .before .words-of .ensures)
 
 pub add-line-spec : {M : Type 1} → statement M
 add-line-spec =
@@ -56,9 +63,13 @@ add-line-spec =
     put-label-requires
     (λ c. search needs)
     (λ c κs. search needs)
+    put-shade-requires
+    (λ c. search needs)
+    (λ c κs. search needs)
     put-pass-requires
     with-pass-requires
     returns
     returns-2
     returns-3
-    returns-4)
+    returns-4
+    returns-5)

@@ -16,18 +16,18 @@ enum-told c = search needs
 
 extend-requires : tie.Need-extend-requires
 extend-requires c κs =
-    let s = c .before .before .before .before .before .before .before .before .before .before .before .before .before in
+    let s = c .before .before .before .before .before .before .before .before .before .before .before .before .before .before in
     let a = s .args in
-    call-accepted (cornerLists (a .xs .now) (a .ys .now) (a .pitches .now)) (a .settings) (a .params) (a .sheet .now) (a .queue .now) (a .attached .now) (c .before .before .before .before .before .check-arguments .ensures) (c .before .before .before .enum-told .given .1)
+    call-accepted (cornerLists (a .xs .now) (a .ys .now) (a .pitches .now)) (a .settings) (a .params) (a .shades .now) (a .sheet .now) (a .queue .now) (a .attached .now) (c .before .before .before .before .before .check-arguments .ensures) (c .before .before .before .enum-told .given .1)
 
 same-length : tie.Need-same-length
 same-length c = search needs
 
 returns : tie.Need-returns
 returns c =
-    let s = c .before .before .before .before .before .before .before .before .before .before .before in
+    let s = c .before .before .before .before .before .before .before .before .before .before .before .before in
     let a = s .args in
-    call-refused (cornerLists (a .xs .now) (a .ys .now) (a .pitches .now)) (a .settings) (a .params) (a .sheet .now) (a .queue .now) (a .attached .now) (c .before .before .before .check-arguments .ensures) (c .before .checked .given .1)
+    call-refused (cornerLists (a .xs .now) (a .ys .now) (a .pitches .now)) (a .settings) (a .params) (a .shades .now) (a .sheet .now) (a .queue .now) (a .attached .now) (c .before .before .before .check-arguments .ensures) (c .before .checked .given .1)
 
 same-length-2 : tie.Need-same-length-2
 same-length-2 c = search needs
@@ -40,9 +40,9 @@ same-length-4 c = search needs
 
 returns-2 : tie.Need-returns-2
 returns-2 c =
-    let s = c .before .before .before .before .before .before .before .before .before .before .before .before .before .before .before .before .before .before .before .before in
+    let s = c .before .before .before .before .before .before .before .before .before .before .before .before .before .before .before .before .before .before .before .before .before in
     let a = s .args in
-    call-done (cornerLists (a .xs .now) (a .ys .now) (a .pitches .now)) (a .settings) (a .params) (a .sheet .now) (a .queue .now) (a .attached .now) (c .before .before .before .before .before .before .before .before .before .before .before .before .check-arguments .ensures) (c .before .before .before .before .before .before .before .before .before .before .enum-told .given .1) (c .before .before .before .before .before .before .extend .ensures)
+    call-done (cornerLists (a .xs .now) (a .ys .now) (a .pitches .now)) (a .settings) (a .params) (a .shades .now) (a .sheet .now) (a .queue .now) (a .attached .now) (c .before .before .before .before .before .before .before .before .before .before .before .before .check-arguments .ensures) (c .before .before .before .before .before .before .before .before .before .before .enum-told .given .1) (c .before .before .before .before .before .before .extend .ensures)
 
 pub extend-from-labelled-spec : {M : Type 1} → statement M
 extend-from-labelled-spec =

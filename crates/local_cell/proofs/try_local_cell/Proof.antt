@@ -1,5 +1,6 @@
 -- `local_cell::try_local_cell` meets its contract: by what is known of the cell. Assumes nothing.
 use mathlib.Core.Path.{refl}
+use Rattle.extension_common.specs.declared.TryCellResult.{TryCellResult}
 use Rattle.local_cell.proofs.Visit.{untouched, left-as, found-none, found-ambiguous}
 use Rattle.local_cell.proofs.Memory.{recalls-counted, known-idle, known-no-candidates, known-ambiguous, known-predicted, known-foretold}
 use borrow.Author.Needs.{needs}
@@ -49,10 +50,10 @@ returns-2 : tie.Need-returns-2
 returns-2 c = (untouched (c .before .before .before .before .before .before .before .pre .0 .extending) (known-idle _ _ (c .before .before .before .before .before .before .before .pre .0) (c .before .before .before .before .before .before .before .pre .1) (c .before .before .recall .ensures .0) (c .enum-told2 .given .1)), c .before .before .before .before .before .before .before .pre .1)
 
 returns-3 : tie.Need-returns-3
-returns-3 c = (left-as (known-no-candidates _ _ (c .before .before .before .before .before .before .before .before .pre .0) (c .before .before .before .before .before .before .before .before .pre .1) (c .before .before .before .recall .ensures .0) (c .before .enum-told3 .given .1)) (found-none _ _ refl (c .before .before .before .before .before .before .before .before .pre .0 .extending) (c .count-cell .ensures) refl), recalls-counted (c .before .before .before .before .before .before .before .before .pre .1) (c .before .before .before .before .before .before .before .before .pre .0) (c .count-cell .ensures))
+returns-3 c = (left-as (known-no-candidates _ _ (c .before .before .before .before .before .before .before .before .pre .0) (c .before .before .before .before .before .before .before .before .pre .1) (c .before .before .before .recall .ensures .0) (c .before .enum-told3 .given .1)) (found-none _ _ refl (c .before .before .before .before .before .before .before .before .pre .0 .extending) (c .count-cell .ensures) refl), recalls-counted (c .before .before .before .before .before .before .before .before .pre .1) TryCellResult.NoCandidates (c .before .before .before .before .before .before .before .before .pre .0) (c .count-cell .ensures))
 
 returns-4 : tie.Need-returns-4
-returns-4 c = (left-as (known-ambiguous _ _ (c .before .before .before .before .before .before .before .before .pre .0) (c .before .before .before .before .before .before .before .before .pre .1) (c .before .before .before .recall .ensures .0) (c .before .enum-told4 .given .1)) (found-ambiguous _ _ refl (c .before .before .before .before .before .before .before .before .pre .0 .extending) (c .count-cell2 .ensures) refl), recalls-counted (c .before .before .before .before .before .before .before .before .pre .1) (c .before .before .before .before .before .before .before .before .pre .0) (c .count-cell2 .ensures))
+returns-4 c = (left-as (known-ambiguous _ _ (c .before .before .before .before .before .before .before .before .pre .0) (c .before .before .before .before .before .before .before .before .pre .1) (c .before .before .before .recall .ensures .0) (c .before .enum-told4 .given .1)) (found-ambiguous _ _ refl (c .before .before .before .before .before .before .before .before .pre .0 .extending) (c .count-cell2 .ensures) refl), recalls-counted (c .before .before .before .before .before .before .before .before .pre .1) TryCellResult.Ambiguous (c .before .before .before .before .before .before .before .before .pre .0) (c .count-cell2 .ensures))
 
 same-length-3 : tie.Need-same-length-3
 same-length-3 c = search needs

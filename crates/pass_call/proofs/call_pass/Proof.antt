@@ -44,7 +44,14 @@ same-length-3 : tie.Need-same-length-3
 same-length-3 c = search needs
 
 returns : tie.Need-returns
-returns c = both (cornerLists (c .before .before .before .before .before .before .before .before .before .before .before .before .before .before .before .before .before .before .before .before .args .xs .now) (c .before .before .before .before .before .before .before .before .before .before .before .before .before .before .before .before .before .before .before .before .args .ys .now) (c .before .before .before .before .before .before .before .before .before .before .before .before .before .before .before .before .before .before .before .before .args .pitches .now)) (c .before .before .before .before .before .before .before .before .before .before .before .before .before .before .before .before .before .before .before .before .args .sheet .now) (callOf (c .before .before .before .before .before .before .before .before .before .before .before .before .before .before .before .before .before .before .before .before .args .settings) (length (c .before .before .before .before .before .before .before .before .before .before .before .before .before .before .before .before .before .before .before .before .args .queue .now)) (length (c .before .before .before .before .before .before .before .before .before .before .before .before .before .before .before .before .before .before .before .before .args .attached .now)) (c .before .before .before .before .before .before .before .before .before .before .before .before .before .before .before .before .before .before .before .before .args .pass)) (c .before .before .before .before .before .before .before .before .before .before .before .before .before .before .before .before .before .before .before .before .args .queue .now) (c .before .before .before .before .before .before .before .before .before .before .before .before .before .before .before .before .before .before .before .before .args .attached .now) (c .before .before .before .before .before .before .before .extend-from-labelled .last .1 .1 .1 .0) (c .before .before .before .before .before .before .before .extend-from-labelled .last .1 .1 .1 .1 .0) (c .before .before .before .before .before .before .before .extend-from-labelled .last .1 .1 .1 .1 .1 .0) (c .of-grow .result) (grow-left (cornerLists (c .before .before .before .before .before .before .before .before .before .before .before .before .before .before .before .before .before .before .before .before .args .xs .now) (c .before .before .before .before .before .before .before .before .before .before .before .before .before .before .before .before .before .before .before .before .args .ys .now) (c .before .before .before .before .before .before .before .before .before .before .before .before .before .before .before .before .before .before .before .before .args .pitches .now)) (c .before .before .before .before .before .before .before .before .before .before .before .before .before .before .before .before .before .before .before .before .args .settings) (c .before .before .before .before .before .before .before .before .before .before .before .before .before .before .before .before .before .before .before .before .args .sheet .now) (c .before .before .before .before .before .before .before .before .before .before .before .before .before .before .before .before .before .before .before .before .args .queue .now) (c .before .before .before .before .before .before .before .before .before .before .before .before .before .before .before .before .before .before .before .before .args .attached .now) (c .before .before .before .before .before .before .before .extend-from-labelled .last .1 .1 .1 .0) (c .before .before .before .before .before .before .before .extend-from-labelled .last .1 .1 .1 .1 .1 .0) (c .before .before .before .before .before .before .before .before .before .before .before .before .before .before .before .before .before .before .before .before .args .pass) (c .of-grow .result) _ (c .before .before .before .before .before .before .before .before .before .before .before .before .pass .given .1) (c .before .before .before .before .before .before .before .extend-from-labelled .last .1 .1 .1 .1 .0) _ (c .of-grow .ensures) (c .before .before .before .before .before .before .before .extend-from-labelled .ensures .0))
+returns c =
+    let a = c .before .before .before .before .before .before .before .before .before .before .before .before .before .before .before .before .before .before .before .before .before .args in
+    let o = c .before .before .before .before .before .before .before .extend-from-labelled in
+    let l = cornerLists (a .xs .now) (a .ys .now) (a .pitches .now) in
+    both l (a .sheet .now) (callOf (a .settings) (a .shades .now) (length (a .queue .now)) (length (a .attached .now)) (a .pass))
+    (a .queue .now) (a .attached .now) (o .last .1 .1 .1 .1 .0) (o .last .1 .1 .1 .1 .1 .0) (o .last .1 .1 .1 .1 .1 .1 .0) (c .of-grow .result)
+    (grow-left l (a .settings) (a .shades .now) (a .sheet .now) (a .queue .now) (a .attached .now) (o .last .1 .1 .1 .1 .0) (o .last .1 .1 .1 .1 .1 .1 .0)
+    (a .pass) (c .of-grow .result) _ (c .before .before .before .before .before .before .before .before .before .before .before .before .pass .given .1) (o .last .1 .1 .1 .1 .1 .0) _ (c .of-grow .ensures) (o .ensures .0))
 
 same-length-4 : tie.Need-same-length-4
 same-length-4 c = search needs
@@ -53,7 +60,14 @@ same-length-5 : tie.Need-same-length-5
 same-length-5 c = search needs
 
 returns-2 : tie.Need-returns-2
-returns-2 c = both (cornerLists (c .before .before .before .before .before .before .before .before .before .before .before .before .before .before .before .before .before .args .xs .now) (c .before .before .before .before .before .before .before .before .before .before .before .before .before .before .before .before .before .args .ys .now) (c .before .before .before .before .before .before .before .before .before .before .before .before .before .before .before .before .before .args .pitches .now)) (c .before .before .before .before .before .before .before .before .before .before .before .before .before .before .before .before .before .args .sheet .now) (callOf (c .before .before .before .before .before .before .before .before .before .before .before .before .before .before .before .before .before .args .settings) (length (c .before .before .before .before .before .before .before .before .before .before .before .before .before .before .before .before .before .args .queue .now)) (length (c .before .before .before .before .before .before .before .before .before .before .before .before .before .before .before .before .before .args .attached .now)) (c .before .before .before .before .before .before .before .before .before .before .before .before .before .before .before .before .before .args .pass)) (c .before .before .before .before .before .before .before .before .before .before .before .before .before .before .before .before .before .args .queue .now) (c .before .before .before .before .before .before .before .before .before .before .before .before .before .before .before .before .before .args .attached .now) (c .before .before .before .before .before .fill-grid-holes .last .1 .1 .1 .0) (c .before .before .before .before .before .before .before .before .before .before .before .before .before .before .before .before .before .args .queue .now) (c .before .before .before .before .before .fill-grid-holes .last .1 .1 .1 .1 .0) (c .of-fill .result) (fill-left (cornerLists (c .before .before .before .before .before .before .before .before .before .before .before .before .before .before .before .before .before .args .xs .now) (c .before .before .before .before .before .before .before .before .before .before .before .before .before .before .before .before .before .args .ys .now) (c .before .before .before .before .before .before .before .before .before .before .before .before .before .before .before .before .before .args .pitches .now)) (c .before .before .before .before .before .before .before .before .before .before .before .before .before .before .before .before .before .args .settings) (c .before .before .before .before .before .before .before .before .before .before .before .before .before .before .before .before .before .args .sheet .now) (c .before .before .before .before .before .before .before .before .before .before .before .before .before .before .before .before .before .args .queue .now) (c .before .before .before .before .before .before .before .before .before .before .before .before .before .before .before .before .before .args .attached .now) (c .before .before .before .before .before .fill-grid-holes .last .1 .1 .1 .0) (c .before .before .before .before .before .fill-grid-holes .last .1 .1 .1 .1 .0) (c .before .before .before .before .before .before .before .before .before .before .before .before .before .before .before .before .before .args .pass) (c .of-fill .result) _ (c .before .before .before .before .before .before .before .before .before .pass2 .given .1) _ (c .of-fill .ensures) (c .before .before .before .before .before .fill-grid-holes .ensures .0))
+returns-2 c =
+    let a = c .before .before .before .before .before .before .before .before .before .before .before .before .before .before .before .before .before .before .args in
+    let o = c .before .before .before .before .before .fill-grid-holes in
+    let l = cornerLists (a .xs .now) (a .ys .now) (a .pitches .now) in
+    both l (a .sheet .now) (callOf (a .settings) (a .shades .now) (length (a .queue .now)) (length (a .attached .now)) (a .pass))
+    (a .queue .now) (a .attached .now) (o .last .1 .1 .1 .1 .0) (a .queue .now) (o .last .1 .1 .1 .1 .1 .0) (c .of-fill .result)
+    (fill-left l (a .settings) (a .shades .now) (a .sheet .now) (a .queue .now) (a .attached .now) (o .last .1 .1 .1 .1 .0) (o .last .1 .1 .1 .1 .1 .0)
+    (a .pass) (c .of-fill .result) _ (c .before .before .before .before .before .before .before .before .before .pass2 .given .1) _ (c .of-fill .ensures) (o .ensures .0))
 
 same-length-6 : tie.Need-same-length-6
 same-length-6 c = search needs
@@ -62,7 +76,14 @@ same-length-7 : tie.Need-same-length-7
 same-length-7 c = search needs
 
 returns-3 : tie.Need-returns-3
-returns-3 c = both (cornerLists (c .before .before .before .before .before .before .before .before .before .before .before .before .before .before .before .before .before .args .xs .now) (c .before .before .before .before .before .before .before .before .before .before .before .before .before .before .before .before .before .args .ys .now) (c .before .before .before .before .before .before .before .before .before .before .before .before .before .before .before .before .before .args .pitches .now)) (c .before .before .before .before .before .before .before .before .before .before .before .before .before .before .before .before .before .args .sheet .now) (callOf (c .before .before .before .before .before .before .before .before .before .before .before .before .before .before .before .before .before .args .settings) (length (c .before .before .before .before .before .before .before .before .before .before .before .before .before .before .before .before .before .args .queue .now)) (length (c .before .before .before .before .before .before .before .before .before .before .before .before .before .before .before .before .before .args .attached .now)) (c .before .before .before .before .before .before .before .before .before .before .before .before .before .before .before .before .before .args .pass)) (c .before .before .before .before .before .before .before .before .before .before .before .before .before .before .before .before .before .args .queue .now) (c .before .before .before .before .before .before .before .before .before .before .before .before .before .before .before .before .before .args .attached .now) (c .before .before .before .before .before .extend-via-local-homography .last .1 .1 .1 .0) (c .before .before .before .before .before .before .before .before .before .before .before .before .before .before .before .before .before .args .queue .now) (c .before .before .before .before .before .extend-via-local-homography .last .1 .1 .1 .1 .0) (c .of-local .result) (local-left (cornerLists (c .before .before .before .before .before .before .before .before .before .before .before .before .before .before .before .before .before .args .xs .now) (c .before .before .before .before .before .before .before .before .before .before .before .before .before .before .before .before .before .args .ys .now) (c .before .before .before .before .before .before .before .before .before .before .before .before .before .before .before .before .before .args .pitches .now)) (c .before .before .before .before .before .before .before .before .before .before .before .before .before .before .before .before .before .args .settings) (c .before .before .before .before .before .before .before .before .before .before .before .before .before .before .before .before .before .args .sheet .now) (c .before .before .before .before .before .before .before .before .before .before .before .before .before .before .before .before .before .args .queue .now) (c .before .before .before .before .before .before .before .before .before .before .before .before .before .before .before .before .before .args .attached .now) (c .before .before .before .before .before .extend-via-local-homography .last .1 .1 .1 .0) (c .before .before .before .before .before .extend-via-local-homography .last .1 .1 .1 .1 .0) (c .before .before .before .before .before .before .before .before .before .before .before .before .before .before .before .before .before .args .pass) (c .of-local .result) _ (c .before .before .before .before .before .before .before .before .before .pass3 .given .1) _ (c .of-local .ensures) (c .before .before .before .before .before .extend-via-local-homography .ensures .0))
+returns-3 c =
+    let a = c .before .before .before .before .before .before .before .before .before .before .before .before .before .before .before .before .before .before .args in
+    let o = c .before .before .before .before .before .extend-via-local-homography in
+    let l = cornerLists (a .xs .now) (a .ys .now) (a .pitches .now) in
+    both l (a .sheet .now) (callOf (a .settings) (a .shades .now) (length (a .queue .now)) (length (a .attached .now)) (a .pass))
+    (a .queue .now) (a .attached .now) (o .last .1 .1 .1 .1 .0) (a .queue .now) (o .last .1 .1 .1 .1 .1 .0) (c .of-local .result)
+    (local-left l (a .settings) (a .shades .now) (a .sheet .now) (a .queue .now) (a .attached .now) (o .last .1 .1 .1 .1 .0) (o .last .1 .1 .1 .1 .1 .0)
+    (a .pass) (c .of-local .result) _ (c .before .before .before .before .before .before .before .before .before .pass3 .given .1) _ (c .of-local .ensures) (o .ensures .0))
 
 pub call-pass-spec : {M : Type 1} → statement M
 call-pass-spec =

@@ -1,44 +1,43 @@
--- `pass_line::write_local` meets its contract, by whether a residual was recorded. Assumes nothing.
-use Rattle.report_line.proofs.Forms.{bare-line, bare-asked, full-line, full-asked, same-wrote}
-use Rattle.report_line.specs.Result.{localLine}
-use Rattle.report_line.specs.Written.{bareLocalText}
+-- `pass_line::write_local` meets its contract: one line behind the other. Assumes nothing.
+use native.Mathlib.Omega.{arith}
+use Rattle.report_line.proofs.Behind.{line-asked, line-within, unmatched-asked, local-wrote}
 use borrow.Author.Needs.{needs}
 use Rattle.pass_line.proofs.write_local.Statement.{statement}
 use Rattle.pass_line.proofs.write_local.Tie as tie
 
-enum-told : tie.Need-enum-told
-enum-told c = search needs
+write-local-line-requires : tie.Need-write-local-line-requires
+write-local-line-requires c κs = line-asked (c .before .before .args .s) (c .before .before .args .out .now) (c .before .before .pre)
 
-write-bare-local-requires : tie.Need-write-bare-local-requires
-write-bare-local-requires c κs = bare-asked (c .before .before .before .before .args .s) (c .before .before .before .before .args .out .now) (c .before .before .before .before .pre) (c .before .enum-told .given .1)
+sub-write-unmatched : tie.Need-sub-write-unmatched
+sub-write-unmatched c = omega (arith, line-within (c .before .before .before .before .before .args .s) (c .before .before .before .before .before .args .out .now) (c .before .before .before .before .before .pre) _ _ (c .before .before .write-local-line .ensures))
 
-enum-known-residual : tie.Need-enum-known-residual
-enum-known-residual c = search needs
+part-write-unmatched-start : tie.Need-part-write-unmatched-start
+part-write-unmatched-start c = omega (arith, line-within (c .before .before .before .before .before .args .s) (c .before .before .before .before .before .args .out .now) (c .before .before .before .before .before .pre) _ _ (c .before .before .write-local-line .ensures))
 
-write-full-local-requires : tie.Need-write-full-local-requires
-write-full-local-requires c κs = full-asked (c .before .before .before .before .before .args .s) (c .before .before .before .before .before .args .out .now) _ (c .before .before .before .before .before .pre) (c .before .before .residual .given .1)
+part-write-unmatched-end : tie.Need-part-write-unmatched-end
+part-write-unmatched-end c = search needs
+
+write-unmatched-requires : tie.Need-write-unmatched-requires
+write-unmatched-requires c κs = unmatched-asked (c .before .before .before .before .before .before .args .s) (c .before .before .before .before .before .before .args .out .now) (c .before .before .before .before .before .before .pre) _ _ (c .before .before .before .write-local-line .ensures)
+
+add-result : tie.Need-add-result
+add-result c = omega (arith, c .before .before .before .before .before .before .before .before .before .pre .room, local-wrote (c .before .before .before .before .before .before .before .before .before .args .s) (c .before .before .before .before .before .before .before .before .before .args .out .now) (c .before .before .before .before .before .before .before .before .before .pre) _ _ (c .before .before .before .before .before .before .write-local-line .ensures) _ _ (c .before .before .write-unmatched .ensures) .count)
 
 same-length : tie.Need-same-length
 same-length c = search needs
 
 returns : tie.Need-returns
-returns c = same-wrote (bareLocalText (c .before .before .before .before .before .before .before .args .s)) (localLine (c .before .before .before .before .before .before .before .args .s)) _ _ _ (bare-line (c .before .before .before .before .before .before .before .args .s) (c .before .before .before .before .before .before .before .args .out .now) (c .before .before .before .before .enum-told .given .1)) (c .before .before .write-bare-local .ensures)
-
-same-length-2 : tie.Need-same-length-2
-same-length-2 c = search needs
-
-returns-2 : tie.Need-returns-2
-returns-2 c = same-wrote _ (localLine (c .before .before .before .before .before .before .before .before .args .s)) _ _ _ (full-line (c .before .before .before .before .before .before .before .before .args .s) (c .before .before .before .before .before .before .before .before .args .out .now) _ (c .before .before .before .before .before .residual .given .1)) (c .before .before .write-full-local .ensures)
+returns c = local-wrote (c .before .before .before .before .before .before .before .before .before .args .s) (c .before .before .before .before .before .before .before .before .before .args .out .now) (c .before .before .before .before .before .before .before .before .before .pre) _ _ (c .before .before .before .before .before .before .write-local-line .ensures) _ _ (c .before .before .write-unmatched .ensures)
 
 pub write-local-spec : {M : Type 1} → statement M
 write-local-spec =
     tie.close
     (tie.spec
-    enum-told
-    write-bare-local-requires
-    enum-known-residual
-    write-full-local-requires
+    write-local-line-requires
+    sub-write-unmatched
+    part-write-unmatched-start
+    part-write-unmatched-end
+    write-unmatched-requires
+    add-result
     same-length
-    returns
-    same-length-2
-    returns-2)
+    returns)

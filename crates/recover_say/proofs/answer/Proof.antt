@@ -4,16 +4,6 @@ use Rattle.recover_say.proofs.Telling.{told}
 use borrow.Author.Needs.{needs}
 use Rattle.recover_say.proofs.answer.Statement.{statement}
 use Rattle.recover_say.proofs.answer.Tie as tie
-use Rattle.recover_say.proofs.answer.Reads as reads
-use Rattle.recover_say.proofs.answer.Lts as lts
-use Rattle.recover_say.proofs.attached_buffer.Reads as attached-buffer-reads
-use Rattle.recover_say.proofs.float_buffer.Reads as float-buffer-reads
-use Rattle.recover_say.proofs.pass_buffer.Reads as pass-buffer-reads
-use Rattle.recover_say.proofs.queue_buffer.Reads as queue-buffer-reads
-use Rattle.recover_say.proofs.say.Reads as say-reads
-use Rattle.recover_say.proofs.sheet_buffer.Reads as sheet-buffer-reads
-use Rattle.recover_say.proofs.word_buffer.Reads as word-buffer-reads
-use Rattle.frame_answer.proofs.recover_frame.Reads as recover-frame-reads
 
 float-buffer-requires : tie.Need-float-buffer-requires
 float-buffer-requires c κs = search needs
@@ -23,6 +13,9 @@ float-buffer-requires-2 c κs = search needs
 
 float-buffer-requires-3 : tie.Need-float-buffer-requires-3
 float-buffer-requires-3 c κs = search needs
+
+shade-buffer-requires : tie.Need-shade-buffer-requires
+shade-buffer-requires c κs = search needs
 
 sheet-buffer-requires : tie.Need-sheet-buffer-requires
 sheet-buffer-requires c κs = search needs
@@ -63,6 +56,9 @@ slice-aggregate-recover-frame-7 c = search needs
 slice-aggregate-recover-frame-8 : tie.Need-slice-aggregate-recover-frame-8
 slice-aggregate-recover-frame-8 c = search needs
 
+slice-aggregate-recover-frame-9 : tie.Need-slice-aggregate-recover-frame-9
+slice-aggregate-recover-frame-9 c = search needs
+
 recover-frame-requires : tie.Need-recover-frame-requires
 recover-frame-requires c κs = search needs
 
@@ -73,10 +69,10 @@ slice-aggregate-say-2 : tie.Need-slice-aggregate-say-2
 slice-aggregate-say-2 c = search needs
 
 say-requires : tie.Need-say-requires
-say-requires c κs = can-say _ _ _ _ (c .before .before .before .before .before .before .before .before .before .before .recover-frame .ensures)
+say-requires c κs = can-say _ _ _ _ (c .before .before .before .before .before .before .before .before .before .before .before .recover-frame .ensures)
 
 returns : tie.Need-returns
-returns c = told _ _ _ _ (c .before .before .before .before .before .before .before .before .before .before .before .recover-frame .ensures) (c .say .ensures)
+returns c = told _ _ _ _ (c .before .before .before .before .before .before .before .before .before .before .before .before .recover-frame .ensures) (c .say .ensures)
 
 pub answer-spec : {M : Type 1} → statement M
 answer-spec =
@@ -85,6 +81,7 @@ answer-spec =
     float-buffer-requires
     float-buffer-requires-2
     float-buffer-requires-3
+    shade-buffer-requires
     sheet-buffer-requires
     pass-buffer-requires
     queue-buffer-requires
@@ -98,6 +95,7 @@ answer-spec =
     slice-aggregate-recover-frame-6
     slice-aggregate-recover-frame-7
     slice-aggregate-recover-frame-8
+    slice-aggregate-recover-frame-9
     recover-frame-requires
     slice-aggregate-say
     slice-aggregate-say-2

@@ -19,10 +19,10 @@ shared-slice-read-n : tie.Need-shared-slice-read-n
 shared-slice-read-n c = search needs
 
 returns : tie.Need-returns
-returns c = like-largest _ (c .if1 .taken) (omega (arith, c .before .shared-slice-known .given (9 * c .before .before .args .k + c .before .before .args .m)))
+returns c = like-largest _ (c .if1 .taken) (omega (arith, c .before .shared-slice-known .given (11 * c .before .before .args .k + c .before .before .args .m)))
 
 cast-result : tie.Need-cast-result
-cast-result c = omega (arith, c .before .shared-slice-known .given (9 * c .before .before .args .k + c .before .before .args .m))
+cast-result c = omega (arith, c .before .shared-slice-known .given (11 * c .before .before .args .k + c .before .before .args .m))
 
 returns-2 : tie.Need-returns-2
 returns-2 c = like-itself _ (c .if1 .left)

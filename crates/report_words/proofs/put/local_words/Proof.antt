@@ -4,9 +4,6 @@ use borrow.Author.Needs.{needs}
 use Rattle.report_words.proofs.put.local_words.Statement.{statement}
 use Rattle.report_words.proofs.put.local_words.Tie as tie
 
-cast-t4 : tie.Need-cast-t4
-cast-t4 c = search needs
-
 cast-t5 : tie.Need-cast-t5
 cast-t5 c = search needs
 
@@ -19,6 +16,9 @@ cast-t7 c = search needs
 cast-t8 : tie.Need-cast-t8
 cast-t8 c = search needs
 
+cast-t9 : tie.Need-cast-t9
+cast-t9 c = search needs
+
 residual-flag-requires : tie.Need-residual-flag-requires
 residual-flag-requires c κs = search needs
 
@@ -28,19 +28,27 @@ residual-bits-requires c κs = search needs
 bit-requires : tie.Need-bit-requires
 bit-requires c κs = search needs
 
+shade-flag-requires : tie.Need-shade-flag-requires
+shade-flag-requires c κs = search needs
+
+unmatched-word-requires : tie.Need-unmatched-word-requires
+unmatched-word-requires c κs = search needs
+
 returns : tie.Need-returns
-returns c = local-words _ (c .before .before .before .before .before .before .before .before .before .args .s) _ _ (c .before .before .residual-flag .ensures) (c .before .residual-bits .ensures) (c .bit .ensures)
+returns c = local-words _ (c .before .before .before .before .before .before .before .before .before .before .before .args .s) _ _ _ _ (c .before .before .before .before .residual-flag .ensures) (c .before .before .before .residual-bits .ensures) (c .before .before .bit .ensures) (c .before .shade-flag .ensures) (c .unmatched-word .ensures)
 
 pub local-words-spec : {M : Type 1} → statement M
 local-words-spec =
     tie.close
     (tie.spec
-    cast-t4
     cast-t5
     cast-t6
     cast-t7
     cast-t8
+    cast-t9
     residual-flag-requires
     residual-bits-requires
     bit-requires
+    shade-flag-requires
+    unmatched-word-requires
     returns)

@@ -9,7 +9,7 @@ abbrev Inv-loop : tie.InvT-loop
 Inv-loop words₀ k outcome m₀ words m = Putting words₀ k outcome words m
 
 abbrev μ-loop : tie.MeasureT-loop
-μ-loop words₀ k outcome m₀ words m = 9 - m
+μ-loop words₀ k outcome m₀ words m = 11 - m
 
 loop-holds : tie.Need-loop-holds Inv-loop μ-loop
 loop-holds c = putting-start _ _ _ (c .pre) (omega arith)

@@ -15,10 +15,19 @@ residual-at-requires c κs = search needs
 yes-at-requires : tie.Need-yes-at-requires
 yes-at-requires c κs = search needs
 
+unmatched-at-requires : tie.Need-unmatched-at-requires
+unmatched-at-requires c κs = search needs
+
 returns : tie.Need-returns
 returns c = cc
 
 pub local-at-spec : {M : Type 1} → statement M
 local-at-spec =
     tie.close
-    (tie.spec counts-at-requires word-at-requires residual-at-requires yes-at-requires returns)
+    (tie.spec
+    counts-at-requires
+    word-at-requires
+    residual-at-requires
+    yes-at-requires
+    unmatched-at-requires
+    returns)

@@ -18,7 +18,7 @@ shared-slice-read-result : tie.Need-shared-slice-read-result
 shared-slice-read-result c = search needs
 
 cast-result : tie.Need-cast-result
-cast-result c = omega (arith, c .shared-slice-known .given (9 * c .before .args .k + c .before .args .m))
+cast-result c = omega (arith, c .shared-slice-known .given (11 * c .before .args .k + c .before .args .m))
 
 returns : tie.Need-returns
 returns c = search needs

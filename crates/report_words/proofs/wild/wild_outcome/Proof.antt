@@ -2,7 +2,7 @@
 use Rattle.arguments.proofs.Tests.{holds, fails}
 use mathlib.Core.Path.{sym, _∙_}
 use Rattle.report_words.specs.Outcomes.{wildOutcome}
-use Rattle.report_words.proofs.Checking.{above, not-above, as-above}
+use Rattle.report_words.proofs.Checking.{above, not-above}
 use borrow.Author.Needs.{needs}
 use Rattle.report_words.proofs.wild.wild_outcome.Statement.{statement}
 use Rattle.report_words.proofs.wild.wild_outcome.Tie as tie
@@ -40,7 +40,14 @@ word-at-requires-3 c κs = search needs
 
 returns-5 : tie.Need-returns-5
 unfolding wildOutcome
-returns-5 c = fails _ _ _ (not-above _ _ _ (c .before .before .before .before .before .before .before .before .word-at .ensures) (c .before .before .before .before .before .before .before .if1 .left)) (fails _ _ _ (sym (c .before .before .before .before .before .before .wild-counts .ensures) ∙ c .before .before .before .before .before .if2 .left) (fails _ _ _ (not-above _ _ _ (c .before .before .before .before .word-at2 .ensures) (c .before .before .before .if3 .left)) (fails _ _ _ (sym (c .before .before .wild-residual .ensures) ∙ c .before .if4 .left) (as-above _ _ _ (c .word-at3 .ensures)))))
+returns-5 c = fails _ _ _ (not-above _ _ _ (c .before .before .before .before .before .before .before .before .before .word-at .ensures) (c .before .before .before .before .before .before .before .before .if1 .left)) (fails _ _ _ (sym (c .before .before .before .before .before .before .before .wild-counts .ensures) ∙ c .before .before .before .before .before .before .if2 .left) (fails _ _ _ (not-above _ _ _ (c .before .before .before .before .before .word-at2 .ensures) (c .before .before .before .before .if3 .left)) (fails _ _ _ (sym (c .before .before .before .wild-residual .ensures) ∙ c .before .before .if4 .left) (holds _ _ (above _ _ _ (c .before .word-at3 .ensures) (c .if5 .taken))))))
+
+wild-unmatched-requires : tie.Need-wild-unmatched-requires
+wild-unmatched-requires c κs = search needs
+
+returns-6 : tie.Need-returns-6
+unfolding wildOutcome
+returns-6 c = fails _ _ _ (not-above _ _ _ (c .before .before .before .before .before .before .before .before .before .before .word-at .ensures) (c .before .before .before .before .before .before .before .before .before .if1 .left)) (fails _ _ _ (sym (c .before .before .before .before .before .before .before .before .wild-counts .ensures) ∙ c .before .before .before .before .before .before .before .if2 .left) (fails _ _ _ (not-above _ _ _ (c .before .before .before .before .before .before .word-at2 .ensures) (c .before .before .before .before .before .if3 .left)) (fails _ _ _ (sym (c .before .before .before .before .wild-residual .ensures) ∙ c .before .before .before .if4 .left) (fails _ _ _ (not-above _ _ _ (c .before .before .word-at3 .ensures) (c .before .if5 .left)) (c .wild-unmatched .ensures)))))
 
 pub wild-outcome-spec : {M : Type 1} → statement M
 wild-outcome-spec =
@@ -55,4 +62,6 @@ wild-outcome-spec =
     wild-residual-requires
     returns-4
     word-at-requires-3
-    returns-5)
+    returns-5
+    wild-unmatched-requires
+    returns-6)

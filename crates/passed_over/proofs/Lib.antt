@@ -1,0 +1,2 @@
+-- The laws of what gathering passes over.
+pub mod Laws

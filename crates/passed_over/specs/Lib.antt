@@ -1,0 +1,2 @@
+-- The definition of what gathering passes over. Definitions only.
+pub mod PassedOver
