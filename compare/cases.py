@@ -1,12 +1,14 @@
 #!/usr/bin/env python3
 """Frames that try the reader and the printer: every refusal, the order of the
-checks, exact limits, damage, and results longer than the output buffer.
+checks, exact limits, damage, shades (02, 1/14), and results longer than the
+output buffer.
 
     cases.py               checks reference.py against the refusals written here
     cases.py --out FOLDER  writes each case as NAME.frame and NAME.result
 
-A refusal that is written beside its frame comes from 01's table by hand; where
-none is written, the result is that of reference.py.
+A refusal that is written beside its frame comes from 01's table by hand, or from
+02's, as do a few whole results; where none is written, the result is that of
+reference.py.
 """
 
 import argparse
@@ -30,6 +32,11 @@ CORNERS = [
 LABELS = ["(label 0 (0 0))", "(label 1 (1 0))"]
 PASSES = ["(grow)"]
 EXAMPLE = HEAD + CORNERS + LABELS + PASSES
+# 01's example with shades, on lines 10 and 11; corner 2 stands where cell (2, 0)
+# is expected, which takes kind 0.
+SHADES = ["(shade 2 0)", "(shade 0 1)"]
+LOCAL = "(local 3eb33333 3fc00000 1 3e800000 1)"
+SHADED = HEAD + CORNERS + LABELS + SHADES + PASSES + [LOCAL]
 
 BUFFER = 4096  # the program's output buffer
 LEAST = 128  # it is written out when fewer bytes are left
@@ -218,6 +225,133 @@ def labels():
     yield "wild-then-stranger", text(HEAD + [corner(x="7f800000")] + CORNERS + ["(label 9 (0 0))"]), refused(3, 5)
 
 
+# ---- shades: 1, 5 and 6
+
+
+def spoilt(line):
+    """Ways to spoil a line's form."""
+    yield "cr", line + "\r"
+    yield "space-behind", line + " "
+    yield "space-before", " " + line
+    yield "nul", line + "\0"
+    yield "two-spaces", line.replace(" ", "  ", 1)
+    yield "two-spaces-last", "  ".join(line.rsplit(" ", 1))
+    yield "tab", line.replace(" ", "\t", 1)
+    yield "bracket", line[:-1]
+    yield "bracket-more", line + ")"
+    yield "bracket-before", "(" + line
+    yield "one-number", line.rsplit(" ", 1)[0] + ")"
+    yield "three-numbers", line[:-1] + " 0)"
+    yield "cell", "(shade (0 0) 0)"
+    yield "upper", line.replace("s", "S")
+    yield "plural", line.replace("shade", "shades")
+    yield "high-byte", line[:-1] + "\u0101"
+
+
+def bent_shades():
+    for number in (10, 11):
+        line, cut = SHADED[number - 1], text(SHADED[: number - 1])
+        yield f"shade-no-lf-{number}", cut + line.encode(), refused(1, number)
+        yield f"shade-half-{number}", cut + line[:5].encode(), refused(1, number)
+        yield f"shade-empty-line-{number}", put_in(number, "", SHADED), refused(1, number)
+        for name, bad in spoilt(line):
+            yield f"shade-{name}-{number}", changed(number, bad, SHADED), refused(1, number)
+    for name, k in (("zero-zero", "00"), ("leading-zero", "01"), ("plus", "+1"), ("minus-zero", "-0"), ("minus", "-"), ("none", ""), ("hex", "a"), ("point", "1.0"), ("float", "3f800000")):
+        yield f"shade-kind-{name}", changed(11, f"(shade 0 {k})", SHADED), refused(1, 11)
+        yield f"shade-corner-{name}", changed(11, f"(shade {k} 0)", SHADED), refused(1, 11)
+    for k in (2, 3, -1, -2, 10, 255, 256, 2**16, 2**32, 2**32 + 1, 2**64, 2**64 + 1, -(2**32)):
+        yield f"shade-kind-{k}", changed(11, f"(shade 0 {k})", SHADED), refused(1, 11)
+    yield "shade-kind-long", changed(11, f"(shade 0 {'1' * 10000})", SHADED), refused(1, 11)
+    yield "shade-kind-first-line", changed(10, "(shade 2 2)", SHADED), refused(1, 10)
+
+
+def misplaced_shades():
+    for number in range(2, 5):
+        yield f"shade-in-heading-{number}", put_in(number, "(shade 0 0)"), refused(1, number)
+    yield "shade-before-corners", put_in(5, "(shade 0 0)"), refused(5, 5)
+    yield "shade-for-heading", changed(4, "(shade 0 0)"), refused(1, 4)
+    yield "corner-after-shade", put_in(6, "(shade 0 0)"), refused(1, 7)
+    yield "label-after-shade", put_in(8, "(shade 0 0)"), refused(1, 9)
+    yield "label-between-shades", put_in(11, "(label 2 (5 5))", SHADED), refused(1, 11)
+    yield "corner-between-shades", put_in(11, CORNERS[0], SHADED), refused(1, 11)
+    yield "label-behind-shades", put_in(12, "(label 2 (5 5))", SHADED), refused(1, 12)
+    yield "wild-corner-behind-shades", put_in(12, corner(x="7f800000"), SHADED), refused(1, 12)
+    yield "shade-after-pass", put_in(11, "(shade 0 0)"), refused(1, 11)
+    yield "shade-between-passes", put_in(13, "(shade 1 0)", SHADED), refused(1, 13)
+    yield "shade-twice-after-pass", put_in(14, "(shade 2 0)", SHADED), refused(1, 14)
+    yield "stranger-after-pass", put_in(14, "(shade 99 0)", SHADED), refused(1, 14)
+    yield "shade-and-17-passes", text(SHADED + PASSES * 15), refused(2, 28)
+
+
+def strange_shades():
+    """5 and 6, and which of two faults on one line counts."""
+    for k in (3, -1, 99, 1024, 2**16, 2**32, 2**32 + 1, 2**64, 2**64 + 1, -(2**32)):
+        for number in (10, 11):
+            yield f"shade-stranger-{k}-{number}", changed(number, f"(shade {k} {number % 2})", SHADED), refused(5, number)
+    yield "shade-stranger-long", changed(11, f"(shade {'1' * 10000} 0)", SHADED), refused(5, 11)
+    yield "shade-stranger-no-corners", text(HEAD + ["(shade 0 0)"]), refused(5, 5)
+    yield "shade-1024-of-1024", text(HEAD + many_corners(1024) + ["(shade 1023 1)", "(shade 1024 1)"]), refused(5, 1030)
+    yield "shade-doubled", changed(11, "(shade 2 0)", SHADED), refused(6, 11)
+    yield "shade-doubled-other-kind", changed(11, "(shade 2 1)", SHADED), refused(6, 11)
+    yield "shade-doubled-far", put_in(12, "(shade 2 1)", SHADED), refused(6, 12)
+    yield "shade-doubled-last-corner", text(HEAD + many_corners(1024) + ["(shade 1023 1)", "(shade 1023 1)"]), refused(6, 1030)
+    yield "shade-1-before-5", changed(11, "(shade 99 2)", SHADED), refused(1, 11)
+    yield "shade-1-before-5-minus", changed(11, "(shade -1 -1)", SHADED), refused(1, 11)
+    yield "shade-1-before-6", changed(11, "(shade 2 2)", SHADED), refused(1, 11)
+    yield "shade-5-twice", text(SHADED[:9] + ["(shade 99 0)"] * 2), refused(5, 10)
+    yield "shade-5-then-1", text(SHADED[:9] + ["(shade 99 0)", "(shade 0 2)"]), refused(5, 10)
+    yield "shade-1-then-5", text(SHADED[:9] + ["(shade 0 2)", "(shade 99 0)"]), refused(1, 10)
+    yield "shade-6-then-1", text(SHADED[:10] + ["(shade 2 0)", "(nonsense)"]), refused(6, 11)
+    yield "shade-1-then-6", text(SHADED[:10] + ["(shade 2 0", "(shade 2 0)"]), refused(1, 11)
+    yield "label-6-then-shade-1", text(EXAMPLE[:8] + ["(label 0 (5 5))", "(shade 0 2)"]), refused(6, 9)
+    yield "shade-bytes-65537", (text(HEAD + many_corners(1024)) + b"(shade 0 0)\n" * 2500)[:65537], refused(2, 0)
+    yield "shade-bytes-65536", (text(HEAD + many_corners(1024)) + b"(shade 0 0)\n" * 2500)[:65536], refused(6, 1030)
+
+
+OTHER_KIND = """(result 1)
+(grow 0 6 0 0 no)
+(cell (0 0) 0)
+(cell (1 0) 1)
+(hole (-1 0))
+(hole (0 -1))
+(hole (0 1))
+(hole (1 -1))
+(hole (1 1))
+(hole (2 0))
+"""
+
+
+def whole_shades():
+    """Accepted frames with shades; a few results by hand."""
+    front = HEAD + CORNERS + LABELS
+    own = reference.result(text(EXAMPLE))
+    yield "shades", text(SHADED), None
+    yield "shade-own-kind", text(front + ["(shade 2 0)"] + PASSES), own
+    yield "shade-labels-not-tested", text(front + ["(shade 1 0)", "(shade 0 1)", "(shade 2 0)"] + PASSES), own
+    yield "shade-other-kind", text(front + ["(shade 2 1)"] + PASSES), OTHER_KIND
+    yield "shade-on-label-only", text(front + ["(shade 0 0)"] + PASSES), OTHER_KIND
+    yield "shade-on-label-only-other", text(front + ["(shade 0 1)"] + PASSES), OTHER_KIND
+    yield "shade-no-labels", text(HEAD + CORNERS + ["(shade 1 0)"] + PASSES), "(result 1)\n(grow 0 0 0 0 no)\n"
+    yield "shade-no-passes", text(front + SHADES), "(result 1)\n(cell (0 0) 0)\n(cell (1 0) 1)\n"
+    local = "(local 0 0 0 0 0 none no)\n(unmatched 0)\n"
+    yield "shade-local-few-labels", text(front + SHADES + [LOCAL]), f"(result 1)\n{local}(cell (0 0) 0)\n(cell (1 0) 1)\n"
+    yield "shade-local-16", text(front + SHADES + [LOCAL] * 16), f"(result 1)\n{local * 16}(cell (0 0) 0)\n(cell (1 0) 1)\n"
+    yield "shade-falling", text(front + ["(shade 2 0)", "(shade 1 1)", "(shade 0 0)"] + PASSES), own
+    square = [corner(x, "41a00000") for x in ("41200000", "41a00000", "41f00000")]
+    labels = ["(label 3 (0 1))", "(label 4 (1 1))"]
+    for shades in ((), ((2, 0),), ((2, 1),), ((5, 1),), ((5, 0), (2, 0)), ((0, 0),), ((2, 0), (5, 1))):
+        for search in ("3eb33333", "3fa00000"):
+            for rounds in (0, 1, 3):
+                lines = HEAD + CORNERS + square + LABELS + labels + [f"(shade {n} {k})" for n, k in shades]
+                name = "-".join(f"{n}-{k}" for n, k in shades) or "none"
+                passes = [f"(local {search} 3fc00000 {rounds} 3e800000 1)", "(fill)"]
+                yield f"shade-local-{name}-{search}-{rounds}", text(lines + passes), None
+    kinds = [f"(shade {n} {n % 2})" for n in range(1024)]
+    yield "shades-1024", text(HEAD + many_corners(1024) + ["(label 0 (0 0))"] + kinds + ["(fill)"]), None
+    for size in range(len(text(SHADED))):
+        yield f"shades-cut-{size}", text(SHADED)[:size], None
+
+
 # ---- whole frames
 
 
@@ -233,10 +367,12 @@ def whole():
         yield f"example-cut-{size}", text(EXAMPLE)[:size], None
 
 
-def damaged(seed, count):
-    """Good frames with bytes changed, left out, doubled or moved."""
+def damaged(seed, count, shaded=generate.SHADED):
+    """Good frames with bytes changed, left out, doubled or moved; `shaded` is
+    the share of them with shades."""
     rng = random.Random(seed)
-    good = [text(EXAMPLE)] + [data for _, data in generate.frames(seed, 20)]
+    good = [text(EXAMPLE)] * (shaded < 1) + [text(SHADED)] * (shaded > 0)
+    good += [data for _, data in generate.frames(seed, 20, shaded=shaded)]
     good = [data for data in good if len(data) < 4000]
     for number in range(count):
         data = bytearray(rng.choice(good))
@@ -278,7 +414,7 @@ def left_after_lines(result):
 def long_results(seed):
     """Results longer than the buffer, some with a line that ends where exactly 128 or 127 bytes are left."""
     wanted = {LEAST, LEAST - 1}
-    for number, (_, data) in enumerate(generate.frames(seed, 4000, "dense")):
+    for number, (_, data) in enumerate(generate.frames(seed, 4000, "dense", shaded=0)):
         result = reference.result(data)
         if len(result) <= BUFFER:
             continue
@@ -292,7 +428,9 @@ def long_results(seed):
 
 
 def cases():
-    for family in (whole(), bent(), overfull(), wild(), labels(), damaged(1, 300), random_bytes(1, 60), long_results(1)):
+    for family in (whole(), bent(), overfull(), wild(), labels(), damaged(1, 300, 0), random_bytes(1, 60), long_results(1)):
+        yield from family
+    for family in (whole_shades(), bent_shades(), misplaced_shades(), strange_shades(), damaged(2, 150, 1)):
         yield from family
 
 

@@ -74,6 +74,8 @@ EXAMPLE_ANSWER = b"""(result 1)
 (hole (3 0))
 """  # 01, "Frame and result"
 
+SHADED = cases.text(cases.SHADED)  # the same with shades, and with local
+
 NOT_READ = b"recover: standard input cannot be read\n"
 NOT_WRITTEN = b"recover: standard output cannot be written\n"
 OVERFULL = b"(refused 2 0)\n"
@@ -303,7 +305,7 @@ class Faults:
             return self.socket_run(send)
 
         self.begin("slow")
-        for data in (EXAMPLE, EXAMPLE[:100]):
+        for data in (EXAMPLE, EXAMPLE[:100], SHADED):
             self.answered("one byte at a time through a pipe", through_pipe(data), data)
             self.answered("one byte at a time through a socket", through_socket(data), data)
         self.answered("stopped and continued", self.stopped(EXAMPLE), EXAMPLE)
@@ -518,6 +520,11 @@ class Faults:
             run(f"a failure after {at} bytes, then the end", EXAMPLE, front + "e z ", failed=True)
             run(f"a failure after {at} bytes, then the rest", EXAMPLE, front + "e ", failed=True)
             run(f"the end after {at} bytes, then the rest", EXAMPLE, front + "z ", ends=at)
+        at = 0
+        for line in SHADED.splitlines(keepends=True):
+            at += len(line)
+            run(f"with shades, a failure after {at} bytes", SHADED, f"{at} e z ", failed=True)
+            run(f"with shades, the end after {at} bytes", SHADED, f"{at} z ", ends=at)
         for name, data in generate.frames(self.seed, 100):
             plan = "".join(rng.choice(("i ", f"{rng.randrange(1, 200)} ", f"{rng.randrange(1, 5000)} ")) for _ in range(rng.randrange(60)))
             run(f"{name}, short and interrupted reads", data, plan)
@@ -543,7 +550,7 @@ class Faults:
             else:
                 self.answered(name, seen, data, amiss)
 
-        for data in (EXAMPLE, EXAMPLE[:100], long):
+        for data in (EXAMPLE, EXAMPLE[:100], SHADED, long):
             size = len(answer_of(data))
             run("short writes", data, "1 7 100 " * 100)
             for fault in "esiz":

@@ -14,6 +14,7 @@ Every text comes from its own seed. Kinds of text:
     double      a frame with bytes doubled, or moved elsewhere
     lines       a frame with lines swapped, left out, doubled or of another frame
     numbers     a frame with numbers replaced: limits, just past them, not finite
+    shades      a frame with shade lines put in, doubled, moved, spoilt
     cut         a frame that ends early
     long        texts of 65,535 bytes and more
     load        up to 1,024 corners and 16 passes with many rounds
@@ -27,7 +28,8 @@ nothing to standard error, and writes to standard output either
     the refusal is the one that the reader of reference.py gives; or
 
     one whole result: the heading; a line for every pass of the frame, of its
-    kind; cells, holes and ambiguous cells, each strictly by i, then j, on the
+    kind, and an unmatched line behind each local where any shade stands, and
+    nowhere else; cells, holes and ambiguous cells, each strictly by i, then j, on the
     sheet; no corner twice, none that was not given, every given label where it
     was; as many cells as labels and attached corners; rounds within the limits
     of the pass; marks as many as the grow lines say, if there is one and no
@@ -173,6 +175,33 @@ class Texts:
             data = data[: place.start()] + new.encode() + data[place.end() :]
         return data
 
+    def shades(self, rng):
+        lines = self.frame(rng).splitlines()
+        corners = sum(line.startswith(b"(corner") for line in lines)
+        behind = [k for k, line in enumerate(lines) if line.startswith((b"(frame", b"(cell", b"(axes", b"(band", b"(corner", b"(label"))]
+        first = max(behind, default=-1) + 1
+        for _ in range(rng.choice(SIZES)):
+            n = rng.randrange(corners) if corners and rng.random() < 0.8 else rng.choice(WHOLES)
+            k = rng.choice([0, 1]) if rng.random() < 0.9 else rng.choice(WHOLES + ["3f800000", ""])
+            line = f"(shade {n} {k})".encode()
+            if rng.random() < 0.1:
+                at = rng.randrange(len(line) + 1)
+                line = line[:at] + rng.choice([b"", b" ", b")", b"(", b"-", b"0", b"\0"]) + line[at + rng.randrange(2) :]
+            shades = [k for k, other in enumerate(lines) if other.startswith(b"(shade ")]
+            way = rng.randrange(10)
+            if way < 6:  # among the shades
+                lines.insert(rng.choice(shades or [first]), line)
+            elif way == 6 and shades:
+                lines[rng.choice(shades)] = line
+            elif way == 7 and shades:
+                lines.insert(rng.choice(shades), lines[rng.choice(shades)])
+            elif way == 8 and shades:
+                moved = lines.pop(rng.choice(shades))
+                lines.insert(rng.randrange(len(lines) + 1), moved)
+            elif way == 9 and rng.random() < 0.3:
+                lines.insert(rng.randrange(len(lines) + 1), line)
+        return b"".join(line + b"\n" for line in lines)
+
     def cut(self, rng):
         data = self.frame(rng)
         return data[: rng.randrange(len(data) + 1)]
@@ -193,6 +222,10 @@ class Texts:
             while len(data) < size - 40 and k < 1024:
                 data += f"(label {k} ({k // 128 - 64} {k % 128 - 64}))\n".encode()
                 k += 1
+            k = 0
+            while len(data) < size - 40 and k < 1024 and size % 2:
+                data += f"(shade {k} {k % 2})\n".encode()
+                k += 1
         left = size - len(data)
         if left < 20:
             return data[:size]
@@ -211,6 +244,9 @@ class Texts:
                 draft.labels.append((len(draft.corners), at))
             x, y = i * spread * pitch, j * spread * pitch
             draft.corners.append((x + rng.gauss(0, 0.3), y + rng.gauss(0, 0.3), pitch))
+        if rng.random() < 0.5:  # every second corner of the wrong kind, or nearly all right
+            wrong = rng.choice([0.05, 0.5])
+            draft.shades = [(n, (sum(cell) * spread + (rng.random() < wrong)) % 2) for n, cell in enumerate(cells[:1024])]
         draft.cell = pitch
         draft.band = 4.0
         for _ in range(rng.choice([1, 1, 2, 4, 16])):
@@ -232,6 +268,7 @@ KINDS = {  # (how it is made, how often)
     "double": (Texts.doubled, 9),
     "lines": (Texts.lines, 15),
     "numbers": (Texts.numbers, 25),
+    "shades": (Texts.shades, 10),
     "cut": (Texts.cut, 6),
     "long": (Texts.long, 2),
     "load": (Texts.load, 0.1),
@@ -248,6 +285,7 @@ PASS_LINES = {
     "fill": re.compile(rf"\(fill {N} {N} (yes|no)\)"),
     "local": re.compile(rf"\(local {N} {N} {N} {N} {N} ([0-9a-f]{{8}}|none) (yes|no)\)"),
 }
+UNMATCHED = re.compile(rf"\(unmatched {N}\)")
 CELL = re.compile(rf"\(cell \({W} {W}\) {N}\)")
 HOLE = re.compile(rf"\(hole \({W} {W}\)\)")
 AMBIGUOUS = re.compile(rf"\(ambiguous \({W} {W}\)\)")
@@ -295,13 +333,18 @@ def check_result(frame, text):
     must(text.endswith("\n"), "the last line has no end")
     lines = text[:-1].split("\n")
     must(lines[0] == "(result 1)", "no heading")
-    after = 1 + len(frame.passes)
-    must(len(lines) >= after, "too few lines")
     attached = cleared = 0
     grows = [(0, 0)]  # the marks that each grow says: holes, ambiguous
-    for line, (kind, numbers) in zip(lines[1:after], frame.passes):
+    after, line = 1, ""
+    for kind, numbers in frame.passes:
+        must(after < len(lines), "too few lines")
+        line = lines[after]
         match = PASS_LINES[kind].fullmatch(line)
         must(match, f"not a line of {kind}: {line}")
+        after += 1
+        if kind == "local" and frame.shades:
+            check_unmatched(frame, lines[after : after + 1], int(match[5]))
+            after += 1
         attached += int(match[1])
         if kind == "grow":
             grows.append((int(match[2]) + int(match[4]), int(match[3])))
@@ -323,7 +366,15 @@ def check_result(frame, text):
         rings = max(numbers[4], 1) if kind == "local" else 1
         low, high = -64 + rings, 63 - rings
         rim = any(not (low <= i <= high and low <= j <= high) for i, j, _ in cells)
-        must(lines[after - 1].endswith(" yes)" if rim else " no)"), "the last pass's rim")
+        must(line.endswith(" yes)" if rim else " no)"), "the last pass's rim")
+
+
+def check_unmatched(frame, line, rounds):
+    """Each round passes over each corner at most once for each cell."""
+    match = UNMATCHED.fullmatch(line[0]) if line else None
+    must(match, f"no unmatched line behind local's, where a shade stands: {line}")
+    most = rounds * 16384 * (len(frame.x) - len(frame.labels))
+    must(int(match[1]) <= most, f"more corners passed over than there can be: {line}")
 
 
 def run_of(lines, at, form):

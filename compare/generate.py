@@ -3,6 +3,7 @@
 
     generate.py --seed S --count N --out FOLDER     writes N frames
     generate.py --seed S --count N --only FAMILY    prints them
+    --shaded SHARE                                  of the frames have shades
 
 Every frame is an accepted one. Families, each a function below:
 
@@ -23,6 +24,18 @@ Every frame is an accepted one. Families, each a function below:
     dense       up to 1,024 corners
     deciding    one of the above, one number set to the value that decides, or
                 one unit beside it
+
+Some of the frames are given shades (02, 1/14), by a draw of their own, so that
+the others are as they would be without: panels of two kinds, with kinds
+swapped, corners without a shade, all of one kind, a single shade, corners of
+the other kind beside those that are looked for. Their names say "shaded". In
+place of a few frames stands one of
+
+    twins       a corner of the other kind beside each one that is looked for,
+                nearer or not, so that the kind decides, in cells of both signs
+    rounds      local with several rounds: corners that one cell passes over and
+                another takes later, and ambiguous cells with such corners in
+                reach, visited again
 """
 
 import argparse
@@ -61,6 +74,7 @@ class Draft:
         self.band = 0.25
         self.corners = []  # (x, y, pitch)
         self.labels = []  # (corner, cell)
+        self.shades = []  # (corner, kind)
         self.passes = []  # (kind, numbers or None)
 
     def text(self):
@@ -76,6 +90,7 @@ class Draft:
             x, y = clip(x, -16384.0, 16384.0), clip(y, -16384.0, 16384.0)
             lines.append(f"(corner ({h(x)} {h(y)}) {h(clip(pitch, 0.0, 16384.0))})")
         lines += [f"(label {n} ({i} {j}))" for n, (i, j) in self.labels]
+        lines += [f"(shade {n} {kind})" for n, kind in self.shades]
         lines += [pass_line(kind, numbers) for kind, numbers in self.passes]
         return ("\n".join(lines) + "\n").encode()
 
@@ -203,6 +218,9 @@ def shuffled(rng, draft):
     draft.corners = [draft.corners[old] for old in order]
     draft.labels = [(place[n], cell) for n, cell in draft.labels]
     rng.shuffle(draft.labels)
+    if draft.shades:
+        draft.shades = [(place[n], kind) for n, kind in draft.shades]
+        rng.shuffle(draft.shades)
     return draft
 
 
@@ -367,7 +385,7 @@ def knife(rng):
     # What local attaches soon puts three supports in a line: few there.
     share = 0.15 if kind == "local" else 1.0
 
-    def put_two_and_look(frame, sheet, point, radius, watch):
+    def put_two_and_look(frame, sheet, cell, point, radius, watch):
         x, y = point
         if len(frame.x) < 150 and max(abs(x), abs(y)) < 16000 and rng.random() < share:
             turn, far = rng.uniform(0, 6.3), rng.uniform(0.02, 0.15) * pitch
@@ -382,7 +400,7 @@ def knife(rng):
                 frame.x.append(x)
                 frame.y.append(y)
                 frame.pitch.append(rnd(pitch))
-        return look(frame, sheet, point, radius, watch)
+        return look(frame, sheet, cell, point, radius, watch)
 
     ref.candidates = put_two_and_look
     try:
@@ -392,6 +410,13 @@ def knife(rng):
     draft.corners = list(zip(frame.x, frame.y, frame.pitch))
     draft.passes += some_passes(rng, 2)[:2]
     return shuffled(rng, draft) if rng.random() < 0.3 else draft
+
+
+def exactly(rng, cells, pitch):
+    """Cells on a lattice of whole positions, with both axes there."""
+    a, b, c, d = rng.choice([(1, 0, 0, 1), (1, 0, 0.5, 1), (0.75, 0.5, -0.5, 1)])
+    seen = {(i, j): ((a * i + c * j) * pitch, (b * i + d * j) * pitch) for i, j in cells}
+    return seen, ((a, b), (c, d))
 
 
 def supports(rng):
@@ -413,12 +438,7 @@ def supports(rng):
         ]
     )
     around = [(i, j) for i in range(-3, 7) for j in range(-3, 7)]
-    if exact:
-        a, b, c, d = rng.choice([(1, 0, 0, 1), (1, 0, 0.5, 1), (0.75, 0.5, -0.5, 1)])
-        seen = {(i, j): ((a * i + c * j) * pitch, (b * i + d * j) * pitch) for i, j in around}
-        draft.axes = ((a, b), (c, d))
-    else:
-        seen, draft.axes = pictured(rng, around, pitch)
+    seen, draft.axes = exactly(rng, around, pitch) if exact else pictured(rng, around, pitch)
     noise = 0.0 if exact else rng.choice([0.0, 0.01, 0.1])
     missing = rng.choice([0.1, 0.4, 0.7])
     for cell in around:
@@ -591,16 +611,191 @@ def dense(rng):
     return shuffled(rng, draft)
 
 
+# ---- Shades ---------------------------------------------------------------
+
+MOST_BYTES = 65536
+
+
+def likely_cells(draft):
+    """For each corner the cell that it is likely to be of: its label's or, for
+    the others, from the nearest corner whose cell is known by then, as many
+    steps of the axes as lie between. None where there is no label to go by."""
+    (a, b), (c, d) = [(u * draft.cell, v * draft.cell) for u, v in draft.axes]
+    area = a * d - b * c
+    cells = [None] * len(draft.corners)
+    nearest = {n: (math.inf, None) for n in range(len(draft.corners))}
+    known = []
+    for n, cell in draft.labels:
+        cells[n] = cell
+        known.append(n)
+        nearest.pop(n, None)
+    if not known or area == 0.0:
+        return cells
+    while known or nearest:
+        if not known:
+            n = min(nearest, key=lambda n: nearest[n][0])
+            far, other = nearest.pop(n)
+            if other is None:
+                break
+            dx, dy = (draft.corners[n][k] - draft.corners[other][k] for k in (0, 1))
+            di, dj = (d * dx - c * dy) / area, (a * dy - b * dx) / area
+            if max(abs(di), abs(dj)) > 1000:
+                break
+            cells[n] = (cells[other][0] + round(di), cells[other][1] + round(dj))
+            known.append(n)
+        other = known.pop()
+        x, y, _ = draft.corners[other]
+        for n, (far, _) in nearest.items():
+            dx, dy = draft.corners[n][0] - x, draft.corners[n][1] - y
+            if dx * dx + dy * dy < far:
+                nearest[n] = (dx * dx + dy * dy, other)
+    return cells
+
+
+def parity(cell):
+    return (cell[0] + cell[1]) % 2
+
+
+def strangers(rng, draft, cells):
+    """Corners beside some of the others, to be given the other kind."""
+    count = min(len(draft.corners), 1024 - len(draft.corners), 60)
+    for n in rng.sample(range(len(draft.corners)), count):
+        if rng.random() < 0.5:
+            x, y, pitch = draft.corners[n]
+            far = rng.choice([0.0, 0.02, 0.1, 0.3]) * draft.cell
+            x, y = x + rng.gauss(0, 1) * far, y + rng.gauss(0, 1) * far
+            draft.corners.append((x, y, pitch))
+            i, j = cells[n] or (rng.randint(-9, 9), rng.randint(-9, 9))
+            cells.append((i + 1, j) if rng.random() < 0.8 else (i, j))
+
+
+def shade(rng, draft):
+    """Gives corners of a draft shades, in one of several ways."""
+    way = rng.choice(
+        ["panel"] * 4 + ["strangers"] * 5 + ["swapped"] * 3 + ["some bare"] * 3 + ["mixed"] * 2
+        + ["one kind", "exchanged", "one label", "one", "any"]
+    )
+    cells = likely_cells(draft)
+    if way in ("strangers", "mixed"):
+        strangers(rng, draft, cells)
+    kinds = {n: parity(cell) if cell else rng.randrange(2) for n, cell in enumerate(cells)}
+    swapped, bare = rng.choice([0.05, 0.2, 0.5]), rng.choice([0.05, 0.2, 0.5])
+    given = {n for n, _ in draft.labels}
+    for n in kinds:
+        if way == "exchanged" or way in ("swapped", "mixed") and rng.random() < swapped:
+            kinds[n] = 1 - kinds[n]
+        elif way == "one kind":
+            kinds[n] = kinds[0]
+        elif way == "any" or n in given and rng.random() < 0.2:  # given labels are not tested
+            kinds[n] = rng.randrange(2)
+    if way in ("some bare", "mixed", "any"):
+        kinds = {n: kind for n, kind in kinds.items() if rng.random() >= bare}
+    elif way in ("one label", "one"):
+        among = sorted(given if way == "one label" and given else kinds)
+        kinds = {n: kinds[n] for n in among and [rng.choice(among)]}
+    draft.shades = list(kinds.items())
+    if rng.random() < 0.5:
+        rng.shuffle(draft.shades)
+    while len(draft.text()) > MOST_BYTES:
+        del draft.shades[-50:]
+    return draft
+
+
+def twins(rng):
+    """A panel of two kinds; beside each corner that is looked for, one of the
+    other kind or without a shade, nearer to its place or further."""
+    draft = Draft()
+    draft.cell = pitch = rng.choice([10.0, 37.5, 100.0])
+    width, height = rng.randint(2, 6), rng.randint(2, 6)
+    shift = (rng.randint(-6, 2), rng.randint(-6, 2))
+    cells = [(i, j) for i in range(-1, width + 1) for j in range(-1, height + 1)]
+    seen, draft.axes = pictured(rng, cells, pitch)
+    labelled = set(label_cells(rng, width, height))
+    noise = rng.choice([0.0, 0.01, 0.05]) * pitch
+    share = rng.choice([0.3, 0.7, 1.0])
+    for i, j in cells:
+        x, y = seen[i, j]
+        kind = (i + shift[0] + j + shift[1]) % 2
+        x, y = x + rng.gauss(0, 1) * noise, y + rng.gauss(0, 1) * noise
+        if (i, j) in labelled:
+            draft.labels.append((len(draft.corners), (i + shift[0], j + shift[1])))
+        if (i, j) in labelled or rng.random() < 0.9:
+            draft.shades.append((len(draft.corners), kind))
+            draft.corners.append((x, y, local_pitch(seen, (i, j), pitch)))
+        for _ in range(rng.choice([1, 1, 2]) if rng.random() < share else 0):
+            far = rng.choice([0.01, 0.05, 0.2]) * pitch
+            if rng.random() < 0.8:
+                draft.shades.append((len(draft.corners), 1 - kind))
+            draft.corners.append((x + rng.gauss(0, 1) * far, y + rng.gauss(0, 1) * far, pitch))
+    draft.band = rng.choice([0.25, 0.5, 1.0])
+    draft.passes = some_passes(rng)
+    return shuffled(rng, draft)
+
+
+def rounds(rng):
+    """Local with several rounds on few labels, and a search wide enough that a
+    cell has corners of its neighbours' kind in reach. What one cell passes over
+    another takes, in a later round too; some cells have two corners of their
+    own kind at about one distance, so that they stay ambiguous and are visited
+    again."""
+    draft = Draft()
+    draft.cell = pitch = 16.0
+    shift = (rng.randint(-9, 9), rng.randint(-9, 9))
+    base = rng.choice(
+        [
+            [(0, 0), (1, 0), (0, 1), (1, 1)],
+            [(0, 0), (2, 0), (0, 2), (2, 2)],
+            [(1, 0), (0, 1), (2, 1), (1, 2)],
+            [(0, 0), (1, 2), (3, 1), (2, 3)],
+        ]
+    )
+    low, high = rng.choice([(-3, 7), (-1, 4)])
+    around = [(i, j) for i in range(low, high) for j in range(low, high)]
+    exact = rng.random() < 0.7
+    seen, draft.axes = exactly(rng, around, pitch) if exact else pictured(rng, around, pitch)
+    missing = rng.choice([0.1, 0.3, 0.5])
+    for cell in around:
+        x, y = seen[cell]
+        kind = (sum(cell) + sum(shift)) % 2
+        if cell in base:
+            draft.labels.append((len(draft.corners), (cell[0] + shift[0], cell[1] + shift[1])))
+        elif rng.random() < missing:
+            continue
+        elif rng.random() < 0.3:  # two of its kind
+            far = 2.0 if exact else rng.uniform(0.5, 3.0)
+            draft.shades.append((len(draft.corners), kind))
+            draft.corners.append((x + far, y + (0.0 if exact else rng.gauss(0, 0.2)), 0.0))
+            x -= far
+        if rng.random() < 0.9:
+            draft.shades.append((len(draft.corners), kind))
+        draft.corners.append((x, y, 0.0))
+        if rng.random() < 0.3:  # on a lattice none that a cell could take
+            if rng.random() < 0.7 and not exact:
+                draft.shades.append((len(draft.corners), 1 - kind))
+            draft.corners.append((x + rng.gauss(0, 3), y + rng.gauss(0, 3), 0.0))
+    draft.band = rng.choice([0.5, 1.0, 4.0])
+    for _ in range(rng.randint(1, 3)):
+        search, factor = rng.choice([0.4, 0.8, 1.1, 1.3]), rng.choice([1.1, 1.2, 1.5, 2.0])
+        numbers = (search, factor, rng.choice([2, 3, 3, 5, 64]), rng.choice([0.3, 16.0]), rng.randint(0, 2))
+        draft.passes.append(("local", numbers))
+    if rng.random() < 0.3:
+        draft.passes.insert(rng.randrange(2), a_pass(rng, rng.choice(["grow", "fill"])))
+    return shuffled(rng, draft)
+
+
+SHADED_FAMILIES = {"twins": twins, "rounds": rounds}
+
+
 # ---- Deciding values ------------------------------------------------------
 
 
-def deciding(rng):
+def deciding(rng, shaded=lambda draft: draft):
     """Sets one number to the value that decides in one place, or one unit
     beside it. For the radius also to where the 65,536th part begins."""
     base = rng.choice(
         [panel] * 2 + [pairs] * 4 + [supports] * 2 + [equal, degenerate, scale, wild, horizon]
     )
-    draft = base(rng)
+    draft = shaded(base(rng))
     frame = ref.read(draft.text())
     sheet = frame.given()
     found = []
@@ -662,15 +857,42 @@ FAMILIES = {
 }
 
 
-def frames(seed, count, only=None, share=(0, 1)):
+SHADED = 0.45  # the share of frames with shades
+
+
+def shader(seed, shaded):
+    """The draws for a frame's shades, or None where it is to have none."""
+    own = random.Random(f"shades {seed}")
+    return own if own.random() < shaded else None
+
+
+def drawn(rng, own, family):
+    """A draft of a family, and the family's name. By the draws of `own`, if
+    any, it has shades; a third of those are of SHADED_FAMILIES instead."""
+    if family in SHADED_FAMILIES:
+        return SHADED_FAMILIES[family](rng), family
+    make, _ = FAMILIES[family]
+    if own is None:
+        return make(rng), family
+    if own.random() < 0.33:
+        family = own.choice(list(SHADED_FAMILIES))
+        return SHADED_FAMILIES[family](own), family
+    if make is deciding:
+        return deciding(rng, lambda draft: shade(own, draft)), f"shaded_{family}"
+    return shade(own, make(rng)), f"shaded_{family}"
+
+
+def frames(seed, count, only=None, share=(0, 1), shaded=SHADED):
     """Yields (name, bytes), each frame from its own seed. A share (K, N) is
-    every Nth frame from number K on."""
+    every Nth frame from number K on. With `shaded` 0 no frame has a shade; the
+    frames without one are the same whatever it is."""
     names = [only] if only else list(FAMILIES)
-    weights = [FAMILIES[name][1] for name in names]
+    weights = [FAMILIES[name][1] if name in FAMILIES else 1 for name in names]
     for k in range(share[0], count, share[1]):
         rng = random.Random(f"{seed} {k}")
         family = rng.choices(names, weights)[0]
-        data = FAMILIES[family][0](rng).text()
+        draft, family = drawn(rng, shader(f"{seed} {k}", shaded), family)
+        data = draft.text()
         try:
             ref.read(data)
         except ref.Refused as refused:
@@ -682,12 +904,13 @@ def main():
     parser = argparse.ArgumentParser(description=__doc__.splitlines()[0])
     parser.add_argument("--seed", type=int, default=1)
     parser.add_argument("--count", type=int, default=10)
-    parser.add_argument("--only", choices=list(FAMILIES))
+    parser.add_argument("--only", choices=list(FAMILIES) + list(SHADED_FAMILIES))
+    parser.add_argument("--shaded", type=float, default=SHADED)
     parser.add_argument("--out")
     options = parser.parse_args()
     if options.out:
         os.makedirs(options.out, exist_ok=True)
-    for name, data in frames(options.seed, options.count, options.only):
+    for name, data in frames(options.seed, options.count, options.only, shaded=options.shaded):
         if options.out:
             with open(os.path.join(options.out, name + ".frame"), "wb") as file:
                 file.write(data)

@@ -16,6 +16,9 @@ such a value, or one or two units in the last place below or above it:
     factor      the quotient of the second distance by the first
     gate        the residual, so that the gate is the worst residual of a fit
     band        so that 1 - band or 1 + band is an edge's length by the expected
+
+Some frames have shades, as in generate.py: a corner that a cell passes over for
+its kind then stands at the radius too, and local's unmatched count decides.
 """
 
 import argparse
@@ -152,14 +155,16 @@ def move_band(rng, frame):
 
 def small(draft):
     """Small enough to run often: few corners, at most three passes, and local
-    with at most two rounds and depth one. None if there are too many."""
+    with at most two rounds, with shades three, and depth one. None if there are
+    too many."""
     if len(draft.corners) > MOST_CORNERS:
         return None
     passes = []
     for kind, numbers in draft.passes[:3]:
         if kind == "local":
             search, factor, rounds, residual, depth = numbers
-            numbers = (search, factor, min(rounds, 2), residual, min(depth, 1))
+            rounds = min(rounds, 3 if draft.shades else 2)
+            numbers = (search, factor, rounds, residual, min(depth, 1))
         passes.append((kind, numbers))
     draft.passes = passes
     return draft
@@ -185,18 +190,21 @@ def move(rng, frame):
     return [m for m in moves if m]
 
 
-def frames(seed, count, only=None, share=(0, 1)):
+def frames(seed, count, only=None, share=(0, 1), shaded=generate.SHADED):
     """Yields (name, bytes, moves, fits), each frame from its own seed; at least
     one number of each is moved. A move is (parameter, units, kind of pass),
-    fits are those that reference.py has worked out. `share` as in generate.py."""
+    fits are those that reference.py has worked out. `share` and `shaded` as in
+    generate.py."""
     names = [only] if only else list(FAMILIES)
     weights = [FAMILIES.get(name, 1) for name in names]
     for k in range(share[0], count, share[1]):
         rng = random.Random(f"moved {seed} {k}")
+        own = generate.shader(f"moved {seed} {k}", shaded)
         moves = []
         while not moves:
             family = rng.choices(names, weights)[0]
-            draft = small(generate.FAMILIES[family][0](rng))
+            draft, family = generate.drawn(rng, own, family)
+            draft = small(draft)
             if draft is None:
                 continue
             frame = ref.read(draft.text())
@@ -209,9 +217,10 @@ def main():
     parser = argparse.ArgumentParser(description=__doc__.splitlines()[0])
     parser.add_argument("--seed", type=int, default=1)
     parser.add_argument("--count", type=int, default=10)
-    parser.add_argument("--only", choices=list(FAMILIES))
+    parser.add_argument("--only", choices=list(FAMILIES) + list(generate.SHADED_FAMILIES))
+    parser.add_argument("--shaded", type=float, default=generate.SHADED)
     options = parser.parse_args()
-    for name, data, moves, _ in frames(options.seed, options.count, options.only):
+    for name, data, moves, _ in frames(options.seed, options.count, options.only, shaded=options.shaded):
         print(f"# {name} {moves}\n{data.decode()}")
 
 

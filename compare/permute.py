@@ -2,22 +2,27 @@
 """Shuffles the corners of frames and compares the runs: 01, "Lists of passes,
 for demand 3", tried on our program.
 
-    permute.py [--seed S] [--count N] [--shuffles K] [--keep FOLDER]
+    permute.py [--seed S] [--count N] [--shuffles K] [--model] [--keep FOLDER]
 
 after `rt check passes_main`. A case is a frame and a list of 0 to 6 calls, each
-with a cell size, axes, a band and buffer lengths of its own; calls that are
-refused stand anywhere. Every call that runs has a factor above 1, down to the
-next float. The corner lines are put into K other orders and the labels
-renumbered; the pairing of the corners is the one that renumbers the labels,
-also where two corner lines are equal. After every call these are compared,
-corners through the pairing: refusal number; pass line with all counts, rounds,
-residual and rim; visited cells and attached lists in order; every cell and
-mark; sums over the whole queue and the whole list.
+with a cell size, axes, a band, shades and buffer lengths of its own; calls that
+are refused stand anywhere. Every call that runs has a factor above 1, down to
+the next float. The corner lines are put into K other orders and the labels
+renumbered; the shades lent to each call are relisted with the corners, so that
+both corners of a pair have the same kind or none. The pairing of the corners is
+the one that renumbers the labels, also where two corner lines are equal. After
+every call these are compared, corners through the pairing: refusal number; pass
+line with all counts, rounds, residual and rim; local's unmatched line; visited
+cells and attached lists in order; every cell and mark; sums over the whole
+queue and the whole list. With --model the first order is also compared with
+reference.py, call by call.
 
 Then the same cases are run with every factor exactly 1, which demand 3 leaves
 out: how many differ says how many of the cases hold two corners at one distance
-where it decides. Last, for each pass, a smallest pair that differs at factor 1
-and agrees at the next float.
+where it decides. Those with shades are also run with the shades left in place
+while the corners turn: how many differ says how many of the cases see the
+shades. Last, for each pass, a smallest pair that differs at factor 1 and agrees
+at the next float.
 
 Ends with status 1 if a compared call differs, if a call that was made to be
 refused is answered otherwise, or if the smallest pairs do not show what they
@@ -45,16 +50,23 @@ ABOVE_ONE = generate.beside(1.0, 1)
 
 
 class Call:
-    def __init__(self, kind, settings, numbers, lent):
+    def __init__(self, kind, settings, numbers, lent, shades):
         self.kind = kind
         self.settings = settings  # cell, axes, band
         self.numbers = list(numbers)
         self.lent = dict(lent)
+        self.shades = list(shades)  # a byte for each corner
         self.refused = None  # the number that it has to be refused with
 
     def copy(self):
-        other = Call(self.kind, self.settings, self.numbers, self.lent)
+        other = Call(self.kind, self.settings, self.numbers, self.lent, self.shades)
         other.refused = self.refused
+        return other
+
+    def relisted(self, order):
+        """The same call for corners in another order."""
+        other = self.copy()
+        other.shades = [self.shades[old] for old in order]
         return other
 
     def words(self):
@@ -68,13 +80,18 @@ class Case:
         self.calls = calls
 
     def words(self):
-        return words.list_words(self.corners, self.labels, [call.words() for call in self.calls], 2)
+        calls = [call.words() for call in self.calls]
+        return words.list_words(self.corners, self.labels, calls, 2, [call.shades for call in self.calls])
 
-    def reordered(self, order):
-        """Corner `order[k]` stands on line k."""
+    def reordered(self, order, relisted=True):
+        """Corner `order[k]` stands on line k, with its shades."""
         line = {old: new for new, old in enumerate(order)}
         labels = [(line[corner], cell) for corner, cell in self.labels]
-        return Case([self.corners[old] for old in order], labels, self.calls)
+        calls = [call.relisted(order) if relisted else call for call in self.calls]
+        return Case([self.corners[old] for old in order], labels, calls)
+
+    def shaded(self):
+        return any(any(call.shades) for call in self.calls if call.refused is None)
 
     def with_factor(self, factor):
         calls = [call.copy() for call in self.calls]
@@ -109,7 +126,7 @@ def spoil(rng, call, n):
     """Makes a call one that is refused, for a number or for a short buffer."""
     if rng.random() < 0.3:  # of a refused call nothing is asked
         call.numbers[1] = rng.choice([0.0, 1.0])
-    short = ["sheet"] + ["ys", "pitches", "attached"] * (n > 0) + ["queue"] * (n > 0 and call.kind == "grow")
+    short = ["sheet"] + ["ys", "pitches", "attached", "shades"] * (n > 0) + ["queue"] * (n > 0 and call.kind == "grow")
     if rng.random() < 0.4:
         for name in rng.sample(short, rng.randint(1, len(short))):
             call.lent[name] = rng.choice([0, words.lengths(n, {})[name] - 1])
@@ -117,8 +134,11 @@ def spoil(rng, call, n):
         return call
     call.refused = 3
     cell, axes, band = call.settings
-    what = rng.choice(["cell", "axes", "band", "number", "number", "number"])
-    if what == "cell":
+    what = rng.choice(["cell", "axes", "band", "number", "number", "number"] + ["shade"] * (n > 0))
+    if what == "shade":
+        for corner in rng.sample(range(n), rng.choice([1, 1, (n + 1) // 2])):
+            call.shades[corner] = 3
+    elif what == "cell":
         cell = rng.choice(NOT_FINITE + [0.0, -10.0, generate.beside(2.0**-10, -1), generate.beside(16384.0, 1)])
     elif what == "axes":
         axes = (axes[0], (rng.choice(NOT_FINITE + [5.0, -5.0]), axes[1][1]))
@@ -143,9 +163,23 @@ def changed_settings(rng, settings):
     return cell, axes, band
 
 
+def changed_shades(rng, shades):
+    """Calls of one list may be lent different ones."""
+    way = rng.choice(["none", "exchanged", "some gone", "some exchanged", "any"])
+    if way == "none":
+        return [0] * len(shades)
+    if way == "any":
+        return [rng.randrange(3) for _ in shades]
+    share = 1.0 if way == "exchanged" else rng.choice([0.05, 0.3])
+    new = {0: 0, 1: 2, 2: 1} if way in ("exchanged", "some exchanged") else {0: 0, 1: 0, 2: 0}
+    return [new[byte] if rng.random() < share else byte for byte in shades]
+
+
 def some_calls(rng, frame):
     """0 to 6 calls: those of the frame first, their factors put above 1."""
     n = len(frame.x)
+    shades = words.shade_bytes(frame)
+    own = any(shades) and rng.random() < 0.5  # each call its own
     count = rng.choice([0, 1, 1, 2, 2, 3, 3, 4, 5, 6])
     passes = list(frame.passes)[:count]
     while len(passes) < count:
@@ -161,10 +195,11 @@ def some_calls(rng, frame):
         if rng.random() < 0.2:
             settings = changed_settings(rng, settings)
         lent = words.lengths(n, {})
-        for name in ("ys", "pitches", "queue", "attached"):  # longer than needed
+        for name in ("ys", "pitches", "queue", "attached", "shades"):  # longer than needed
             if rng.random() < 0.1:
                 lent[name] += rng.choice([1, 4, 1000])
-        call = Call(kind, settings, numbers, lent)
+        lends = changed_shades(rng, shades) if own and rng.random() < 0.5 else shades
+        call = Call(kind, settings, numbers, lent, lends)
         calls.append(spoil(rng, call, n) if rng.random() < 0.15 else call)
     return calls
 
@@ -202,8 +237,13 @@ def clusters(rng):
 def doubled(rng, draft):
     """Some corner lines once or twice more, labelled ones among them."""
     if 0 < len(draft.corners) < 500:
+        kinds = dict(draft.shades)
         for _ in range(rng.choice([1, 2, len(draft.corners) // 3 + 1])):
-            draft.corners += [rng.choice(draft.corners)] * rng.choice([1, 1, 2])
+            n, more = rng.randrange(len(draft.corners)), rng.choice([1, 1, 2])
+            if n in kinds and rng.random() < 0.8:  # of its kind, or the other
+                kind = kinds[n] if rng.random() < 0.5 else 1 - kinds[n]
+                draft.shades += [(len(draft.corners) + k, kind) for k in range(more)]
+            draft.corners += [draft.corners[n]] * more
     return draft
 
 
@@ -222,12 +262,16 @@ FAMILIES = {
     "bare": (generate.bare, 1),
     "dense": (generate.dense, 0.3),
     "deciding": (generate.deciding, 8),
+    "twins": (generate.twins, 15),
+    "rounds": (generate.rounds, 10),
 }
 
 
 def a_case(rng):
     family = rng.choices(list(FAMILIES), [weight for _, weight in FAMILIES.values()])[0]
     draft = FAMILIES[family][0](rng)
+    if not draft.shades and rng.random() < 0.5:
+        draft = generate.shade(rng, draft)
     if rng.random() < 0.3:
         draft = doubled(rng, draft)
     frame = ref.read(draft.text())
@@ -282,6 +326,32 @@ def answers(cases):
     return found
 
 
+def modelled(case):
+    """What reference.py says of each call, without the sums. A refused call is
+    answered with its number; which one, a_case has said."""
+    blocks = []
+    frame = ref.Frame()
+    frame.x, frame.y, frame.pitch = (list(part) for part in zip(*case.corners)) if case.corners else ([], [], [])
+    frame.numbered = list(zip(range(len(frame.x)), frame.x, frame.y))
+    frame.labels = case.labels
+    sheet = frame.given()
+    for number, call in enumerate(case.calls):
+        frame.passes.append((call.kind, tuple(call.numbers)))
+        lent = ref.lent_shades((call.shades + [0] * 1025)[: call.lent["shades"]], len(frame.x))
+        if call.refused is not None:
+            answer = ref.Answer(f"(refused {lent if lent == ref.SHORT else call.refused})", [])
+        else:
+            frame.cell, frame.axes, frame.band = call.settings
+            frame.shades = lent
+            answer = ref.run_pass(frame, sheet, number)
+        blocks.append(ref.pass_text(frame, number, answer, sheet).splitlines())
+    return blocks
+
+
+def without_sums(block):
+    return [line for line in block if not line.startswith(("queue ", "list "))]
+
+
 def through(pairing, block):
     """The lines with each corner replaced by the one that it is paired with."""
     out = []
@@ -314,11 +384,15 @@ class Tally:
         self.least = 0
         self.wrong = 0
         self.at_one = 0
+        self.modelled = 0
+        self.shaded = 0  # cases with a shade in a call that runs
+        self.in_place = 0  # of those, where it is seen that shades were not relisted
 
     def case(self, family, case):
         self.families[family] += 1
         self.lists[len(case.calls)] += 1
         self.equal_lines += len(set(case.corners)) < len(case.corners)
+        self.shaded += case.shaded()
 
     def call(self, call, block):
         line = block[1]
@@ -326,6 +400,7 @@ class Tally:
             self.calls[call.kind, line.strip("()")] += 1
             return
         self.calls[call.kind, "run"] += 1
+        self.calls[call.kind, "run with a shade"] += any(call.shades)
         self.least += call.numbers[1] == ABOVE_ONE
         numbers = line.strip("()").split(" ")[1:]
         self.work[call.kind, "attached"] += int(numbers[0])
@@ -333,6 +408,8 @@ class Tally:
             self.work[call.kind, "no candidate"] += int(numbers[1])
             self.work[call.kind, "ambiguous"] += int(numbers[2])
             self.work[call.kind, "edge"] += int(numbers[3])
+        if call.kind == "local" and any(call.shades):
+            self.work["local", "unmatched"] += int(block[2].strip("()").split(" ")[1])
 
     def print(self, cases, shuffles):
         print(f"{cases} cases, each in {shuffles} other orders:", end="")
@@ -348,6 +425,9 @@ class Tally:
         compared = ", ".join(f"{n} {kind}" for kind, n in sorted(self.compared.items()))
         print(f"calls compared with another order: {sum(self.compared.values())} ({compared}); wrong: {self.wrong}")
         print(f"with every factor exactly 1: {self.at_one} of {cases} cases differ")
+        print(f"with shades left in place while the corners turn: {self.in_place} of {self.shaded} cases with shades differ")
+        if self.modelled:
+            print(f"calls compared with reference.py: {self.modelled}")
 
 
 class Run:
@@ -368,19 +448,33 @@ class Run:
         tried = list(orders(rng, len(case.corners), self.options.shuffles))
         cases = [case] + [case.reordered(order) for order in tried]
         one = case.with_factor(1.0)
-        cases += [one, one.reordered(tried[0])]
-        first, *others, at_one, at_one_turned = answers(cases)
+        cases += [one, one.reordered(tried[0]), case.reordered(tried[0], False)]
+        first, *others, at_one, at_one_turned, in_place = answers(cases)
         for number, (call, block) in enumerate(zip(case.calls, first), 1):
-            self.tally.call(call, block)
             said = block[1].strip("()").split(" ")
             if call.refused != (int(said[1]) if said[0] == "refused" else None):
                 self.wrong(name, f"call {number} {call.kind}: {block[1]} instead of number {call.refused}", [case])
+                return
+            if call.kind == "local" and call.refused is None and any(call.shades) != block[2].startswith("(unmatched "):
+                self.wrong(name, f"call {number} local: an unmatched line without a shade, or none with one", [case])
+                return
+            self.tally.call(call, block)
+        if self.options.model:
+            self.with_model(name, case, first)
         for order, other, shuffled in zip(tried, others, cases[1:]):
             self.tally.compared.update(call.kind for call in case.calls)
             difference = first_difference(first, order, other)
             if difference:
                 self.wrong(name, "call {}: {} | {}".format(*difference), [case, shuffled])
         self.tally.at_one += first_difference(at_one, tried[0], at_one_turned) is not None
+        self.tally.in_place += case.shaded() and first_difference(first, tried[0], in_place) is not None
+
+    def with_model(self, name, case, first):
+        self.tally.modelled += len(case.calls)
+        for number, (block, model) in enumerate(zip(first, modelled(case)), 1):
+            if without_sums(block) != model:
+                self.wrong(name, f"call {number} differs from reference.py", [case])
+                return
 
 
 # ---- The condition is needed ----------------------------------------------
@@ -393,7 +487,8 @@ def smallest(kind):
     if kind != "local":
         corners, cells = corners[:2] + corners[4:], cells[:2]
     numbers = {"grow": [0.25, 1.0, 1.0], "fill": [0.25, 1.0, 1], "local": [0.25, 1.0, 1, 0.25, 1]}[kind]
-    call = Call(kind, (16.0, ((1.0, 0.0), (0.0, 1.0)), 0.25), numbers, words.lengths(len(corners), {}))
+    settings = (16.0, ((1.0, 0.0), (0.0, 1.0)), 0.25)
+    call = Call(kind, settings, numbers, words.lengths(len(corners), {}), [0] * len(corners))
     return Case([(x, y, 0.0) for x, y in corners], list(enumerate(cells)), [call])
 
 
@@ -421,6 +516,7 @@ def main():
     parser.add_argument("--seed", type=int, default=1)
     parser.add_argument("--count", type=int, default=1000)
     parser.add_argument("--shuffles", type=int, default=3)
+    parser.add_argument("--model", action="store_true")
     parser.add_argument("--keep")
     options = parser.parse_args()
     if not os.path.exists(PROGRAM):

@@ -1,5 +1,6 @@
 #!/usr/bin/env python3
-"""An executable model of the specification (01), written from its text.
+"""An executable model of the specification (01), with request 1/14 of the
+list of requests (02), written from their text.
 
     reference.py < FRAME              01's result text, or (refused number line)
     reference.py --passes < FRAME     the sheet after every pass, as text
@@ -175,14 +176,21 @@ def extrapolating(near):
 # ---- Candidates and choice ------------------------------------------------
 
 
-def candidates(frame, sheet, point, radius, watch):
-    """(distance, corner) of each unlabelled corner whose squared distance is
-    at most the squared radius, by distance, then corner number. A non-finite
-    prediction has none."""
+def takes(frame, cell, corner):
+    """02, 1/14: if any shade stands, cell (i, j) takes only kind 0 where i+j
+    is even and kind 1 where odd, and no corner without a shade."""
+    return not frame.shades or frame.shades.get(corner) == (cell[0] + cell[1]) % 2
+
+
+def candidates(frame, sheet, cell, point, radius, watch):
+    """(distance, corner) of each unlabelled corner that the cell takes and
+    whose squared distance is at most the squared radius, by distance, then
+    corner number; and how many unlabelled corners within the radius the cell
+    does not take. A non-finite prediction has none of either."""
     px, py = point
     if not (isfinite(px) and isfinite(py)):
         watch.kinds.add("prediction")
-        return []
+        return [], 0
     square = rnd(radius * radius)
     # Rounding moves a squared distance by less than its 2^20th part, or by
     # less than 2^-140 where it is that small: what is further off than this is
@@ -190,6 +198,7 @@ def candidates(frame, sheet, point, radius, watch):
     reach = square * (1.0 + 2.0**-14) + 2.0**-140
     taken = frame.taken(sheet)
     found = []
+    passed = 0
     for n, x, y in frame.numbered:
         ex = x - px
         ey = y - py
@@ -201,10 +210,13 @@ def candidates(frame, sheet, point, radius, watch):
         if abs(d2 - square) <= square / 65536:
             watch.kinds.add("radius")
         if d2 <= square:
-            found.append((root(d2), n))
+            if takes(frame, cell, n):
+                found.append((root(d2), n))
+            else:
+                passed += 1
         watch.decided("radius", d2, square)
     found.sort()
-    return found
+    return found, passed
 
 
 AMBIGUOUS = "ambiguous"
@@ -407,12 +419,20 @@ def supported_fit(frame, sheet, supports):
 
 
 class Answer:
-    """A pass line, the new cells in order and, for grow, the visited ones."""
+    """A pass line, the new cells in order, for grow the visited ones and, for
+    local where any shade stands, the corners passed over for their kind."""
 
-    def __init__(self, line, attached, visited=None):
+    def __init__(self, line, attached, visited=None, unmatched=None):
         self.line = line
         self.attached = attached
         self.visited = visited
+        self.unmatched = unmatched
+
+    def lines(self):
+        """What the result says of the pass."""
+        if self.unmatched is None:
+            return [self.line]
+        return [self.line, f"(unmatched {self.unmatched})"]
 
 
 def yes_no(flag):
@@ -443,7 +463,7 @@ def grow(frame, sheet, numbers, watch):
         radius = rnd(search * frame.cell)
         if extrapolating(near):
             radius = rnd(radius * boundary)
-        found = candidates(frame, sheet, point, radius, watch)
+        found, _ = candidates(frame, sheet, cell, point, radius, watch)
         choice = choose(found, factor, False, watch)
         if choice is None:
             none += 1
@@ -492,7 +512,7 @@ def fill(frame, sheet, numbers, watch):
             if not near:
                 continue
             point = predict(frame, sheet, cell, near)
-            found = candidates(frame, sheet, point, radius, watch)
+            found, _ = candidates(frame, sheet, cell, point, radius, watch)
             if len(found) >= 2 and found[0][0] == found[1][0]:
                 watch.kinds.add("equal")
             choice = choose(found, factor, True, watch)
@@ -545,7 +565,7 @@ def local(frame, sheet, numbers, watch):
     search, factor, limit, residual, depth = numbers
     depth = max(depth, 1)
     attached = []
-    none = ambiguous = edge = rounds = 0
+    none = ambiguous = edge = rounds = unmatched = 0
     largest = None
     radius = rnd(search * frame.cell)
     gate = rnd(residual * frame.cell)
@@ -565,7 +585,8 @@ def local(frame, sheet, numbers, watch):
             if worst > gate:
                 continue
             point = map_point(h, float(cell[0]), float(cell[1]))
-            found = candidates(frame, sheet, point, radius, watch)
+            found, passed = candidates(frame, sheet, cell, point, radius, watch)
+            unmatched += passed
             choice = choose(found, factor, True, watch)
             if choice is None:
                 none += 1
@@ -583,7 +604,7 @@ def local(frame, sheet, numbers, watch):
     word = "none" if largest is None else to_hex(largest)
     rim = yes_no(sheet.rim(depth))
     line = f"(local {len(attached)} {none} {ambiguous} {edge} {rounds} {word} {rim})"
-    return Answer(line, attached)
+    return Answer(line, attached, unmatched=unmatched if frame.shades else None)
 
 
 PASSES = {"grow": grow, "fill": fill, "local": local}
@@ -599,6 +620,20 @@ def run_pass(frame, sheet, number, watch=None):
     return answer
 
 
+# ---- Library calls --------------------------------------------------------
+
+
+def lent_shades(shades, n):
+    """The shades that a call on n corners is lent, one byte a corner: 0 none,
+    1 kind 0, 2 kind 1; what lies past the first n is not looked at. The kinds
+    by corner, or the refusal's number: too few 7, any other byte 3."""
+    if len(shades) < n:
+        return SHORT
+    if any(byte > 2 for byte in shades[:n]):
+        return WILD
+    return {corner: byte - 1 for corner, byte in enumerate(shades[:n]) if byte}
+
+
 # ---- Frame and result -----------------------------------------------------
 
 
@@ -609,6 +644,7 @@ class Frame:
         self.band = 0.0
         self.x, self.y, self.pitch = [], [], []
         self.labels = []  # (corner, cell), in the order of their lines
+        self.shades = {}  # kind by corner, of those that have a shade
         self.passes = []  # (kind, numbers)
         self.numbered = []  # (corner, x, y)
         self.fits = {}  # fits already worked out
@@ -633,7 +669,7 @@ class Refused(Exception):
         self.line = line
 
 
-BENT, OVERFULL, WILD, OFF_SHEET, STRANGER, DOUBLED = 1, 2, 3, 4, 5, 6
+BENT, OVERFULL, WILD, OFF_SHEET, STRANGER, DOUBLED, SHORT = 1, 2, 3, 4, 5, 6, 7
 
 _FLOAT = r"([0-9a-f]{8})"
 _WHOLE = r"(0|-?[1-9][0-9]*)"
@@ -646,6 +682,7 @@ _FORMS = {
         "band": r"\(band F\)",
         "corner": r"\(corner \(F F\) F\)",
         "label": r"\(label W \(W W\)\)",
+        "shade": r"\(shade W W\)",
         "grow": r"\(grow(?: F F F)?\)",
         "fill": r"\(fill(?: F F W)?\)",
         "local": r"\(local F F W F W\)",
@@ -665,7 +702,7 @@ def _float(digits):
 
 
 _HEAD = ["frame", "cell", "axes", "band"]
-_RANK = {"corner": 0, "label": 1, "grow": 2, "fill": 2, "local": 2}
+_RANK = {"corner": 0, "label": 1, "shade": 2, "grow": 3, "fill": 3, "local": 3}
 _BARE = {
     "grow": (rnd(0.35), 1.5, 2.0),
     "fill": (rnd(0.35), 1.5, 1),
@@ -701,6 +738,8 @@ def read(data):
             _read_corner(frame, match, number)
         elif kind == "label":
             _read_label(frame, match, number, cells, corners)
+        elif kind == "shade":
+            _read_shade(frame, match, number)
         else:
             _read_pass(frame, kind, match, number)
     if unfinished or len(lines) < 4:
@@ -761,6 +800,19 @@ def _read_label(frame, match, number, cells, corners):
     frame.labels.append((corner, (i, j)))
 
 
+def _read_shade(frame, match, number):
+    """02, 1/14: a k other than 0 or 1 is number 1, an unknown corner 5, a
+    second shade 6."""
+    corner, kind = (_whole(group) for group in match.groups())
+    if kind not in (0, 1):
+        raise Refused(BENT, number)
+    if not 0 <= corner < len(frame.x):
+        raise Refused(STRANGER, number)
+    if corner in frame.shades:
+        raise Refused(DOUBLED, number)
+    frame.shades[corner] = kind
+
+
 def _read_pass(frame, kind, match, number):
     if len(frame.passes) == 16:
         raise Refused(OVERFULL, number)
@@ -783,12 +835,15 @@ def result(data):
     except Refused as refused:
         return f"{refused}\n"
     sheet = frame.given()
-    lines = [run_pass(frame, sheet, number).line for number in range(len(frame.passes))]
+    lines = []
+    for number in range(len(frame.passes)):
+        lines += run_pass(frame, sheet, number).lines()
     return result_text(lines, sheet)
 
 
 def result_text(pass_lines, sheet):
-    """01's result: the pass lines as run, then the sheet."""
+    """01's result: the pass lines as run, each with its unmatched line, then
+    the sheet."""
     lines = ["(result 1)"] + pass_lines
     for (i, j), corner in sorted(sheet.corner.items()):
         lines.append(f"(cell ({i} {j}) {corner})")
@@ -799,7 +854,7 @@ def result_text(pass_lines, sheet):
 
 def pass_text(frame, number, answer, sheet):
     """One pass in the form that the comparing program reads."""
-    lines = [f"pass {number + 1} {frame.passes[number][0]}", answer.line]
+    lines = [f"pass {number + 1} {frame.passes[number][0]}"] + answer.lines()
     if answer.visited is not None:
         lines += [f"visited {i} {j}" for i, j in answer.visited]
     lines += [f"attached {i} {j} {corner}" for (i, j), corner in answer.attached]

@@ -6,8 +6,9 @@
 Each case changes one thing of a good call, or two to show which is tried
 first. The expected numbers are those of 01's table, written here by hand. A
 refused call has to leave the sheet, the queue and the attached list as they
-were, every place of them; the good calls are shown to change them. At last,
-lists with a call of an unknown kind, which the program does not run.
+were, every place of them; the good calls are shown to change them. Then calls
+that are lent shades (02, 1/14), with what they answer, by hand. At last, lists
+with a call of an unknown kind, which the program does not run.
 """
 
 import os
@@ -54,25 +55,26 @@ class Call:
             self.labels += [(2, place(0, 1)), (3, place(1, 1))]
             self.numbers[2:] = [whole(1), F["0.25"], whole(1)]
         self.pitch = [F["0"]] * len(self.x)
+        self.shades = [0] * len(self.x)  # the byte that is lent
         self.cell = F["10"]
         self.axes = [F["1"], F["0"], F["0"], F["1"]]
         self.band = F["0.25"]
         self.lend = {}
 
     def corners(self, n):
-        self.x, self.y, self.pitch = [F["10"]] * n, [F["10"]] * n, [F["0"]] * n
+        self.x, self.y, self.pitch, self.shades = [F["10"]] * n, [F["10"]] * n, [F["0"]] * n, [0] * n
 
     def words(self):
         n = len(self.x)
-        lengths = {"ys": n, "pitches": n, "sheet": 16384, "queue": 4 * n, "attached": n}
+        lengths = {"ys": n, "pitches": n, "sheet": 16384, "queue": 4 * n, "attached": n, "shades": n}
         lengths.update(self.lend)
         out = [whole(n), whole(len(self.labels)), whole(1), whole(2)]
-        for corner in zip(self.x, self.y, self.pitch):
-            out += corner
+        for x, y, pitch, shade in zip(self.x, self.y, self.pitch, self.shades):
+            out += [x, y, pitch, whole(shade)]  # the first call's bits
         for corner, at in self.labels:
             out += [whole(corner), whole(at)]
         out += [whole(self.kind), self.cell, *self.axes, self.band, *self.numbers]
-        out += [whole(lengths[name]) for name in ("ys", "pitches", "sheet", "queue", "attached")]
+        out += [whole(lengths[name]) for name in ("ys", "pitches", "sheet", "queue", "attached", "shades")]
         return "\n".join(out) + "\n"
 
 
@@ -114,6 +116,13 @@ def cases(kind):
     yield "short sheet", lend("sheet", lambda n: 16383), 7
     yield "short list", lend("attached", lambda n: n - 1), 7
     yield "short queue", lend("queue", lambda n: 4 * n - 1), 7 if kind == GROW else None
+    yield "short shades", lend("shades", lambda n: n - 1), 7
+    yield "no shades lent", lend("shades", lambda n: 0), 7
+    yield "long shades", lend("shades", lambda n: n + 1), None
+    for corner, byte in ((0, 1), (1, 2), (2, 1), (-1, 2)):
+        yield "corner %d lent %d" % (corner, byte), put("shades", corner, byte), None
+    for corner in (0, 1, -1):
+        yield "corner %d lent 3" % corner, put("shades", corner, 3), 3
     yield "1,025 corners", lambda c: c.corners(1025), 2
     yield "1,024 corners", lambda c: c.corners(1024), None
     for field in ("x", "y"):
@@ -143,6 +152,16 @@ def cases(kind):
     yield "7 before 3", several(put("x", 0, "nan"), lend("attached", lambda n: n - 1)), 7
     yield "2 before 3", several(lambda c: c.corners(1025), put("x", 0, "nan")), 2
     yield "3 before 5", several(put("x", 0, "nan"), lambda c: c.labels.__setitem__(1, (len(c.x), place(1, 0)))), 3
+    stranger = lambda c: c.labels.__setitem__(1, (len(c.x), place(1, 0)))
+    yield "7 before 3, both of shades", several(put("shades", 0, 3), lend("shades", lambda n: n - 1)), 7
+    yield "7 before 3, a shade", several(put("shades", 0, 3), lend("ys", lambda n: n - 1)), 7
+    yield "7 of shades before 2", several(lambda c: c.corners(1025), lend("shades", lambda n: n - 1)), 7
+    yield "7 of shades before 3", several(put("x", 0, "nan"), lend("shades", lambda n: n - 1)), 7
+    yield "2 before 3, a shade", several(lambda c: c.corners(1025), put("shades", 0, 3)), 2
+    yield "3, a shade and a number", several(put("x", 0, "nan"), put("shades", 1, 3)), 3
+    yield "3, a shade, before 5", several(put("shades", 0, 3), stranger), 3
+    yield "3, a shade, before 6", several(put("shades", 0, 3), lambda c: c.labels.__setitem__(1, (0, place(1, 0)))), 3
+    yield "7 of shades before 5", several(lend("shades", lambda n: n - 1), stranger), 7
     yield "5 before 6", lambda c: c.labels.extend([(0, 9000), (len(c.x), 9001)]), 5
 
 
@@ -163,6 +182,35 @@ def own_cases(kind, put):
         yield "residual at the end", put("numbers", 3, "16"), None
         yield "depth 5", put("numbers", 4, whole(5)), 3
         yield "depth 4", put("numbers", 4, whole(4)), None
+
+
+def shaded(kind):
+    """(shades lent, the lines that stand behind the heading). The last corner
+    stands where cell (2, 0) is expected, which takes kind 0, lent as 1."""
+    if kind == GROW:
+        yield [0, 0, 0], ["(grow 1 8 0 0 no)", "visited"]
+        yield [0, 0, 1], ["(grow 1 8 0 0 no)", "visited"]
+        yield [2, 1, 1], ["(grow 1 8 0 0 no)", "visited"]  # labels are not tested
+        yield [0, 0, 2], ["(grow 0 6 0 0 no)", "visited"]
+        yield [1, 0, 0], ["(grow 0 6 0 0 no)", "visited"]
+    elif kind == FILL:
+        yield [0, 0, 0], ["(fill 1 1 no)", "attached"]
+        yield [0, 0, 1], ["(fill 1 1 no)", "attached"]
+        yield [0, 0, 2], ["(fill 0 1 no)", "cell"]
+        yield [1, 0, 0], ["(fill 0 1 no)", "cell"]
+    else:
+        yield [0, 0, 0, 0, 0], ["(local 1", "attached"]
+        yield [0, 0, 0, 0, 1], ["(local 1", "(unmatched 0)", "attached"]
+        yield [2, 1, 1, 2, 1], ["(local 1", "(unmatched 0)", "attached"]
+        yield [0, 0, 0, 0, 2], ["(local 0 12 0 0 1 ", "(unmatched 1)", "cell"]
+        yield [1, 0, 0, 0, 0], ["(local 0 12 0 0 1 ", "(unmatched 1)", "cell"]
+
+
+def shaded_is_fine(kind, shades, expected):
+    call = Call(kind)
+    call.shades = shades
+    out = run(call.words()).split("\n")[1:]
+    return all(line.startswith(front) for line, front in zip(out, expected)), out[: len(expected)]
 
 
 def is_fine(call, what, number):
@@ -190,6 +238,12 @@ def main():
             if not fine:
                 wrong += 1
                 print("wrong: %s, %s: expected %s, got %s" % (name, what, number, answer))
+        for shades, expected in shaded(kind):
+            fine, answer = shaded_is_fine(kind, shades, expected)
+            count += 1
+            if not fine:
+                wrong += 1
+                print("wrong: %s, lent %s: expected %s, got %s" % (name, shades, expected, answer))
     for kind in (3, 4, 65536, 2**32 - 1):
         call = Call(GROW)
         call.kind = kind

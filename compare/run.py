@@ -6,6 +6,7 @@
                                                       to values that decide
     run.py FRAME ...                                  frames from files
 
+    --shaded SHARE  the share of the frames that have shades (generate.py)
     --ours CMD      our program: a frame on standard input, every pass on
                     standard output, in the form of `reference.py --passes`;
                     without it reference.py itself is our side
@@ -31,7 +32,8 @@
     --store FOLDER  writes each frame of the run and the Rust's text for it,
                     where all its passes were compared and none differed
 
-Each pass is compared whole: pass line, attached list in order, cells, marks.
+Each pass is compared whole: pass line, for local the unmatched line if any
+shade stands, attached list in order, cells, marks.
 With --ours or --proved it is also compared with reference.py, started from our
 sheet, on every frame, and there the visited cells of grow too.
 
@@ -253,7 +255,7 @@ def compare(side, data, fits=None):
     for number in range(count):
         watch = Near()
         answer = ref.run_pass(frame, sheet, number, watch)
-        pass_lines.append(answer.line)
+        pass_lines += answer.lines()
         ours += split_passes(ref.pass_text(frame, number, answer, sheet), 1)
         met.append(watch.kinds)
         outcome.near.append(watch.near)
@@ -290,6 +292,7 @@ def compare_passes(frame, ours, rust, excluded):
                 "number": number,
                 "kind": kind,
                 "line": ours[number][0][1],
+                "unmatched": unmatched_of(ours[number][0]),
                 "excluded": kinds,
                 "after": after,
                 "equal": equal,
@@ -301,6 +304,12 @@ def compare_passes(frame, ours, rust, excluded):
     return passes
 
 
+def unmatched_of(lines):
+    """How many corners a pass has passed over for their kind, or None."""
+    line = lines[2] if len(lines) > 2 else ""
+    return int(line.strip("()").split(" ")[1]) if line.startswith("(unmatched ") else None
+
+
 def compare_result(text, passes, rust):
     """Recover's text beside the one that follows from the Rust's passes."""
     if not rust:
@@ -308,7 +317,8 @@ def compare_result(text, passes, rust):
     if any(p["excluded"] for p in passes):
         return "excluded"
     last = sheet_of(rust[-1][0])
-    return "equal" if text == ref.result_text([lines[1] for lines, _ in rust], last) else "differ"
+    pass_lines = [line for lines, _ in rust for line in lines if line.startswith("(")]
+    return "equal" if text == ref.result_text(pass_lines, last) else "differ"
 
 
 def attempt(side, data):
@@ -333,7 +343,8 @@ def departures(outcome):
 
 
 def without(lines, gone):
-    """The frame without one line; labels renumbered where it is a corner."""
+    """The frame without one line; labels and shades renumbered where it is a
+    corner."""
     if not lines[gone].startswith("(corner"):
         return lines[:gone] + lines[gone + 1 :]
     number = sum(line.startswith("(corner") for line in lines[:gone])
@@ -341,11 +352,11 @@ def without(lines, gone):
     for k, line in enumerate(lines):
         if k == gone:
             continue
-        if line.startswith("(label "):
-            corner, cell = line[len("(label ") :].split(" ", 1)
+        if line.startswith(("(label ", "(shade ")):
+            word, corner, rest = line.split(" ", 2)
             if int(corner) == number:
                 continue
-            line = f"(label {int(corner) - (int(corner) > number)} {cell}"
+            line = f"{word} {int(corner) - (int(corner) > number)} {rest}"
         kept.append(line)
     return kept
 
@@ -412,7 +423,7 @@ class Tally:
             return
         self.compared[view, kind, p["after"], p["equal"]] += 1
         if p["equal"]:
-            self.work.update({(view, what): n for what, n in work_of(kind, p["line"]).items()})
+            self.work.update({(view, what): n for what, n in work_of(kind, p).items()})
 
     def add_result(self, outcome):
         model, rust = outcome.result
@@ -479,8 +490,8 @@ class Tally:
         print()
 
 
-def work_of(kind, line):
-    words = line.strip("()").split(" ")
+def work_of(kind, p):
+    words = p["line"].strip("()").split(" ")
     names = {
         "grow": ["attached", "no candidate", "ambiguous", "edge"],
         "fill": ["attached", "rounds"],
@@ -490,6 +501,10 @@ def work_of(kind, line):
     work[f"{kind} passes that attached"] = int(int(words[1]) > 0)
     if kind == "local":
         work["local passes with a residual"] = int(words[6] != "none")
+    if p["unmatched"] is not None:
+        work["local passes with a shade"] = 1
+        work["local passes that passed over corners for their kind"] = int(p["unmatched"] > 0)
+        work["local unmatched"] = p["unmatched"]
     return work
 
 
@@ -512,9 +527,9 @@ def frames_of(options, share):
             with open(path, "rb") as file:
                 yield os.path.basename(path), file.read(), [], None
     elif options.moved:
-        yield from moved.frames(options.seed, options.count, options.only, share)
+        yield from moved.frames(options.seed, options.count, options.only, share, options.shaded)
     else:
-        for name, data in generate.frames(options.seed, options.count, options.only, share):
+        for name, data in generate.frames(options.seed, options.count, options.only, share, options.shaded):
             yield name, data, [], None
 
 
@@ -602,7 +617,8 @@ def arguments():
     parser.add_argument("files", nargs="*")
     parser.add_argument("--seed", type=int, default=1)
     parser.add_argument("--count", type=int, default=1000)
-    parser.add_argument("--only", choices=list(generate.FAMILIES))
+    parser.add_argument("--only", choices=list(generate.FAMILIES) + list(generate.SHADED_FAMILIES))
+    parser.add_argument("--shaded", type=float, default=generate.SHADED)
     parser.add_argument("--moved", action="store_true")
     parser.add_argument("--ours")
     parser.add_argument("--proved", action="store_true")

@@ -206,6 +206,78 @@ SLIPS = {
         "step(entry / last)",
         "step(entry * step(1.0 / last))",
     ),
+    "kinds by the other parity": (
+        "== (cell[0] + cell[1]) % 2",
+        "== (cell[0] + cell[1] + 1) % 2",
+    ),
+    "kinds by i alone": ("== (cell[0] + cell[1]) % 2", "== cell[0] % 2"),
+    "kinds by j alone": ("== (cell[0] + cell[1]) % 2", "== cell[1] % 2"),
+    "the remainder of a negative cell is negative": (
+        "== (cell[0] + cell[1]) % 2",
+        "== (cell[0] + cell[1]) - 2 * int((cell[0] + cell[1]) / 2)",
+    ),
+    "kinds not looked at": (
+        "return not frame.shades or frame.shades.get(corner) ==",
+        "return not frame.shades or True or frame.shades.get(corner) ==",
+    ),
+    "a corner without a shade is taken": (
+        "return not frame.shades or frame.shades.get(corner) ==",
+        "return corner not in frame.shades or frame.shades.get(corner) ==",
+    ),
+    "shades count only where a kind 1 stands": (
+        "return not frame.shades or",
+        "return 1 not in frame.shades.values() or",
+    ),
+    "the other kind is taken where its own is missing": (
+        "                passed += 1\n",
+        "                passed += 1\n                found.append((root(d2) + 1e6, n))\n",
+    ),
+    "unmatched counts labelled corners": (
+        "reach or n in taken:\n            continue",
+        "reach or n in taken:\n"
+        "            passed += ex * ex + ey * ey <= square and not takes(frame, cell, n)\n            continue",
+    ),
+    "unmatched counts no corner without a shade": (
+        "                passed += 1\n",
+        "                passed += n in frame.shades\n",
+    ),
+    "unmatched counts no corner of the other kind": (
+        "                passed += 1\n",
+        "                passed += n not in frame.shades\n",
+    ),
+    "unmatched once a cell": (
+        "            unmatched += passed\n",
+        "            unmatched += passed > 0\n",
+    ),
+    "unmatched in the first round only": (
+        "            unmatched += passed\n",
+        "            unmatched += passed if rounds == 1 else 0\n",
+    ),
+    "unmatched not counted again where the choice is ambiguous": (
+        "            unmatched += passed\n            choice = choose(found, factor, True, watch)\n",
+        "            choice = choose(found, factor, True, watch)\n"
+        "            unmatched += passed if rounds == 1 or choice is not AMBIGUOUS else 0\n",
+    ),
+    "unmatched not counted again where there is no candidate": (
+        "            unmatched += passed\n            choice = choose(found, factor, True, watch)\n",
+        "            choice = choose(found, factor, True, watch)\n"
+        "            unmatched += passed if rounds == 1 or choice is not None else 0\n",
+    ),
+    "unmatched counted where the gate is closed": (
+        "            if worst > gate:\n                continue\n"
+        "            point = map_point(h, float(cell[0]), float(cell[1]))\n",
+        "            point = map_point(h, float(cell[0]), float(cell[1]))\n"
+        "            if worst > gate:\n"
+        "                unmatched += candidates(frame, sheet, cell, point, radius, watch)[1]\n                continue\n",
+    ),
+    "unmatched 0 is not printed": (
+        "unmatched=unmatched if frame.shades else None",
+        "unmatched=unmatched or None",
+    ),
+    "unmatched printed without a shade": (
+        "unmatched=unmatched if frame.shades else None",
+        "unmatched=unmatched",
+    ),
     "row sums right to left": (
         "        left = rnd(rnd(row[0] * x) + rnd(row[1] * y))\n        return rnd(left + row[2])",
         "        left = rnd(rnd(row[1] * y) + row[2])\n        return rnd(left + rnd(row[0] * x))",

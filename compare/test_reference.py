@@ -1,6 +1,7 @@
 #!/usr/bin/env python3
 """Checks of reference.py against what 01 says in so many words: its example,
-M1 to M9, and each refusal with its line. Ends with 'N passed, 0 failed'."""
+M1 to M9, and each refusal with its line; and of shades against 02, 1/14. Ends
+with 'N passed, 0 failed'."""
 
 import sys
 
@@ -74,6 +75,88 @@ def worked_examples():
     yield "example", ref.result(EXAMPLE), RESULT
 
 
+def shaded(shades, passes=b"(grow)\n", corners=b"", labels=b""):
+    """The example with more corners and labels, with shades, and with these
+    passes. Corner 2 stands where cell (2, 0) is expected, which is even."""
+    lines = b"".join(b"(shade %d %d)\n" % shade for shade in shades)
+    return b"".join(LINES[:7]) + corners + b"".join(LINES[7:9]) + labels + lines + passes
+
+
+# Corners 3, 4 and 5 at (10, 20), (20, 20) and (30, 20); then corner 2 and 5 are
+# those of cells (2, 0) and (2, 1) beside the labelled square.
+SQUARE = b"".join(b"(corner (%s 41a00000) 00000000)\n" % x for x in (b"41200000", b"41a00000", b"41f00000"))
+SQUARE_LABELS = b"(label 3 (0 1))\n(label 4 (1 1))\n"
+
+
+def local(shades, passes=b"(local 3eb33333 3fc00000 1 3e800000 1)\n"):
+    return ref.result(shaded(shades, passes, SQUARE, SQUARE_LABELS)).split("\n")[1:3]
+
+
+def shades():
+    """02, 1/14, by hand."""
+
+    def line(*shades):
+        return ref.result(shaded(shades)).split("\n")[1]
+
+    # Cell (2, 0) takes kind 0; the labels' own kinds are not tested.
+    yield "its kind", line((2, 0)), "(grow 1 8 0 0 no)"
+    yield "its kind, labels of the other", line((2, 0), (0, 1), (1, 0)), "(grow 1 8 0 0 no)"
+    yield "the other kind", line((2, 1)), "(grow 0 6 0 0 no)"
+    yield "without a shade", line((0, 0)), "(grow 0 6 0 0 no)"
+    # A nearer corner of the other kind, or without a shade, is no candidate.
+    near = b"(corner (41f00001 41200000) 00000000)\n"
+    for more, expected in [([], "(grow 0 5 1 0 no)"), ([(2, 0)], "(grow 1 8 0 0 no)"), ([(3, 0)], "(grow 1 8 0 0 no)"),
+                           ([(2, 0), (3, 1)], "(grow 1 8 0 0 no)"), ([(2, 0), (3, 0)], "(grow 0 5 1 0 no)")]:
+        yield "two at one place", ref.result(shaded(more, corners=near)).split("\n")[1], expected
+    # The parity of a whole number: -1 is odd.
+    for cell, kind in [((0, 0), 0), ((-1, 0), 1), ((0, -1), 1), ((-1, -1), 0), ((-64, 63), 1), ((2, -1), 1)]:
+        frame = ref.Frame()
+        frame.shades = {0: kind, 1: 1 - kind}
+        yield f"cell {cell}", [ref.takes(frame, cell, n) for n in (0, 1, 2)], [True, False, False]
+    yield "no shade", [ref.takes(ref.Frame(), cell, 0) for cell in ((0, 0), (0, 1))], [True, True]
+    yield from unmatched()
+
+
+def unmatched():
+    """Local's count, and its line. Of the twelve cells about the labelled
+    square (2, 0) and (2, 1) have a corner at their place and the others none.
+    Where (2, 1) is attached, three of the four supports of (2, 2) are in a line:
+    it has no fit. Each other cell has one, with a residual of 0."""
+    yield "no shade", local([]), ["(local 2 9 0 0 1 00000000 no)", "(cell (0 0) 0)"]
+    yield "its kinds", local([(2, 0), (5, 1)]), ["(local 2 9 0 0 1 00000000 no)", "(unmatched 0)"]
+    yield "the other kind", local([(2, 1), (5, 1)]), ["(local 1 10 0 0 1 00000000 no)", "(unmatched 1)"]
+    yield "without a shade", local([(0, 0)]), ["(local 0 12 0 0 1 00000000 no)", "(unmatched 2)"]
+    # A round that attaches nothing is the last.
+    again = b"(local 3eb33333 3fc00000 3 3e800000 1)\n"
+    yield "the last round", local([(0, 0)], again), ["(local 0 12 0 0 1 00000000 no)", "(unmatched 2)"]
+    # Corner 5 is passed over at (2, 1) in both rounds.
+    yield "at every visit", local([(2, 0)], again)[1], "(unmatched 2)"
+    # Radius 12.5: corner 2 is passed over at (2, -1) and corner 5 at (2, 0); by (2, 1) corner 2 is labelled.
+    wide = b"(local 3fa00000 3fc00000 1 3e800000 1)\n"
+    yield "until it is labelled", local([(2, 0), (5, 1)], wide), ["(local 2 9 0 0 1 00000000 no)", "(unmatched 2)"]
+    yield "0 rounds", local([(0, 0)], b"(local 3eb33333 3fc00000 0 3e800000 1)\n"), ["(local 0 0 0 0 0 none no)", "(unmatched 0)"]
+    yield "under 4 labels", ref.result(shaded([(0, 0)], again)).split("\n")[1:3], ["(local 0 0 0 0 0 none no)", "(unmatched 0)"]
+    # Nothing of it for grow and fill, and a line for each local.
+    several = b"(grow)\n(local 3eb33333 3fc00000 0 3e800000 1)\n(fill)\n(local 3eb33333 3fc00000 0 3e800000 1)\n"
+    lines = [line.split(" ")[0] for line in ref.result(shaded([(0, 0)], several)).split("\n")[1:7]]
+    yield "where it stands", lines, ["(grow", "(local", "(unmatched", "(fill", "(local", "(unmatched"]
+
+
+def lent():
+    """02, 1/14: what is lent to a call; 01: a short buffer is 7."""
+    for bytes_lent, n, expected in [
+        ([], 0, {}),
+        ([0, 0], 2, {}),
+        ([1, 0, 2], 3, {0: 0, 2: 1}),
+        ([1, 0, 2, 3], 3, {0: 0, 2: 1}),
+        ([1, 0], 3, 7),
+        ([3, 0], 3, 7),
+        ([1, 0, 3], 3, 3),
+        ([255, 0, 0], 3, 3),
+    ]:
+        yield f"{bytes_lent} for {n}", ref.lent_shades(bytes_lent, n), expected
+
+
 def refusals():
     digits = b"9" * 5000
     many = HEAD + CORNER * 1024
@@ -142,6 +225,28 @@ def refusals():
         (HEAD + grows * 17, 2, 21),
         (HEAD + grows * 16 + b"(grow 7f800000 7f800000 7f800000)\n", 2, 21),
         (HEAD + grows * 16 + CORNER, 1, 21),
+        # 02, 1/14: k 1, unknown corner 5, second shade 6, in this order.
+        (shaded([(2, 2)]), 1, 10),
+        (shaded([(2, -1)]), 1, 10),
+        (shaded([(99, 2)]), 1, 10),
+        (shaded([(0, 0), (0, 2)]), 1, 11),
+        (with_line(10, b"(shade 2 00)\n"), 1, 10),
+        (with_line(10, b"(shade 2 -0)\n"), 1, 10),
+        (with_line(10, b"(shade 2 " + digits + b")\n"), 1, 10),
+        (with_line(10, b"(shade 02 0)\n"), 1, 10),
+        (with_line(10, b"(shade 2)\n"), 1, 10),
+        (with_line(10, b"(shade 2 0 0)\n"), 1, 10),
+        (shaded([(3, 0)]), 5, 10),
+        (shaded([(-1, 1)]), 5, 10),
+        (shaded([(99, 0), (99, 0)]), 5, 10),
+        (with_line(10, b"(shade " + digits + b" 1)\n"), 5, 10),
+        (shaded([(2, 0), (2, 0)]), 6, 11),
+        (shaded([(2, 0), (1, 1), (2, 1)]), 6, 12),
+        (shaded([(2, 0)]) + b"(shade 1 0)\n", 1, 12),
+        (with_line(8, b"(shade 2 0)\n"), 1, 9),
+        (with_line(7, b"(shade 0 0)\n"), 1, 8),
+        (with_line(5, b"(shade 0 0)\n"), 5, 5),
+        (with_line(4, b"(shade 0 0)\n"), 1, 4),
         # The first refusal from the top counts.
         (with_line(2, b"(cell 7f800000)\n") + b"x\n", 3, 2),
     ]:
@@ -161,13 +266,16 @@ def acceptances():
         with_line(4, b"(band 80000000)\n"),
         with_line(5, b"(corner (c6800000 46800000) 80000000)\n"),
         with_line(8, b"(label 0 (-64 63))\n"),
+        shaded([(2, 1), (0, 0), (1, 0)]),
+        HEAD + CORNER + b"(shade 0 1)\n",
+        HEAD + CORNER + b"(shade 0 1)\n(grow)\n",
     ]:
         yield text[:40], ref.result(text)[:11], "(result 1)\n"
 
 
 def main():
     passed = failed = 0
-    for checks in (worked_examples, refusals, acceptances):
+    for checks in (worked_examples, shades, lent, refusals, acceptances):
         for name, got, expected in checks():
             if got == expected:
                 passed += 1

@@ -9,6 +9,7 @@
 //!
 //!     pass K KIND              K counts from 1
 //!     (grow 1 8 0 0 no)        the pass line of 01's result
+//!     (unmatched COUNT)        behind local's, if any shade stands (02, 1/14)
 //!     attached I J CORNER      in order
 //!     cell I J CORNER          by i, then j
 //!     hole I J
@@ -72,7 +73,8 @@ fn within(value: f32, least: f32, most: f32) -> f32 {
 
 /// A frame, read line by line; the brackets only part the words.
 fn read_frame(text: &str) -> (Given, GrowResult, Vec<Pass>) {
-    let mut given = Given { positions: vec![], pitch: vec![], cell: 0.0, band: 0.0 };
+    let mut given =
+        Given { positions: vec![], pitch: vec![], shades: vec![], cell: 0.0, band: 0.0 };
     let mut sheet = GrowResult::default();
     let mut passes = Vec::new();
     if !text.ends_with('\n') {
@@ -98,6 +100,7 @@ fn read_frame(text: &str) -> (Given, GrowResult, Vec<Pass>) {
                 let part = |k: usize| within(float(words[k]), -16384.0, 16384.0);
                 given.positions.push(Point2::new(part(1), part(2)));
                 given.pitch.push(within(float(words[3]), 0.0, 16384.0));
+                given.shades.push(None);
             }
             ("label", 4) => {
                 let corner: usize = whole(words[1]);
@@ -109,6 +112,14 @@ fn read_frame(text: &str) -> (Given, GrowResult, Vec<Pass>) {
                 let cell_taken = sheet.labelled.insert(cell, corner).is_some();
                 if sheet.by_corner.insert(corner, cell).is_some() || cell_taken {
                     fail(&format!("line {}: {line}", k + 1));
+                }
+            }
+            ("shade", 3) => {
+                let (corner, kind): (usize, u8) = (whole(words[1]), whole(words[2]));
+                let known = given.shades.get_mut(corner);
+                match known {
+                    Some(shade @ None) if kind <= 1 => *shade = Some(kind),
+                    _ => fail(&format!("line {}: {line}", k + 1)),
                 }
             }
             _ => passes.push(read_pass(&words)),
@@ -157,7 +168,8 @@ fn rim(sheet: &GrowResult, rings: i32) -> &'static str {
     }
 }
 
-/// Runs one pass; gives its line and its attached list.
+/// Runs one pass; gives its line, local's with the unmatched line behind it if
+/// any shade stands, and its attached list.
 fn run(given: &Given, sheet: &mut GrowResult, pass: &Pass) -> (String, Vec<(Cell, usize)>) {
     let list = |cells: Vec<Cell>, corners: Vec<usize>| {
         assert_eq!(cells.len(), corners.len());
@@ -183,12 +195,13 @@ fn run(given: &Given, sheet: &mut GrowResult, pass: &Pass) -> (String, Vec<(Cell
         }
         Pass::Local(numbers) => {
             let s = given.local(sheet, numbers);
-            assert_eq!((s.rejected_label, s.rejected_policy), (0, 0));
+            assert_eq!(s.rejected_policy, 0);
+            assert!(given.shaded() || s.rejected_label == 0);
             let residual = match s.h_residual_max_px {
                 Some(r) => format!("{:08x}", r.to_bits()),
                 None => "none".to_string(),
             };
-            let line = format!(
+            let mut line = format!(
                 "(local {} {} {} {} {} {} {})",
                 s.attached,
                 s.rejected_no_candidate,
@@ -198,6 +211,9 @@ fn run(given: &Given, sheet: &mut GrowResult, pass: &Pass) -> (String, Vec<(Cell
                 residual,
                 rim(sheet, numbers.depth.max(1) as i32)
             );
+            if given.shaded() {
+                line.push_str(&format!("\n(unmatched {})", s.rejected_label));
+            }
             (line, list(s.attached_cells, s.attached_indices))
         }
     }

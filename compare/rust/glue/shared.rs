@@ -1,5 +1,9 @@
 //! Glue, ours, in place of `shared/mod.rs`, which is not at hand. The policy
 //! is private to this module, so the three passes are called from here.
+//!
+//! 02, 1/14: "The oracle becomes the positions policy with `required_label_at`
+//! and `label_of` filled in." `ShadedPolicy` is that: all else it leaves to the
+//! source's `PositionsAttachPolicy`.
 
 use nalgebra::Point2;
 
@@ -17,7 +21,7 @@ mod positions_policy;
 use crate::feature::{LocalAxis, OrientedFeature, PointFeature};
 use extension::{extend_via_local_homography, ExtensionStats, LocalExtensionParams};
 use fill::{fill_grid_holes, FillParams, FillStats};
-use grow::{GrowParams, GrowResult};
+use grow::{Admit, FillEdgeCtx, GrowParams, GrowResult, LabelledNeighbour, SquareAttachPolicy};
 use grow_extend::{extend_from_labelled, BfsExtensionStats};
 use positions_policy::{PositionsAttachPolicy, PositionsTolerances};
 
@@ -25,6 +29,8 @@ use positions_policy::{PositionsAttachPolicy, PositionsTolerances};
 pub struct Given {
     pub positions: Vec<Point2<f32>>,
     pub pitch: Vec<f32>,
+    /// Each corner's kind, where it has a shade.
+    pub shades: Vec<Option<u8>>,
     pub cell: f32,
     pub band: f32,
 }
@@ -38,7 +44,72 @@ pub struct LocalNumbers {
     pub depth: u32,
 }
 
+/// The positions policy with the two label questions filled in: where any
+/// shade stands, a cell asks for the kind of its parity, and a corner answers
+/// with its own kind, if it has one.
+struct ShadedPolicy<'a> {
+    positions: PositionsAttachPolicy<'a>,
+    shades: &'a [Option<u8>],
+    any: bool,
+}
+
+impl SquareAttachPolicy for ShadedPolicy<'_> {
+    fn is_eligible(&self, idx: usize) -> bool {
+        self.positions.is_eligible(idx)
+    }
+
+    fn required_label_at(&self, i: i32, j: i32) -> Option<u8> {
+        self.any.then(|| (i + j).rem_euclid(2) as u8)
+    }
+
+    fn label_of(&self, idx: usize) -> Option<u8> {
+        self.shades[idx]
+    }
+
+    fn accept_candidate(
+        &self,
+        idx: usize,
+        at: (i32, i32),
+        prediction: Point2<f32>,
+        neighbours: &[LabelledNeighbour],
+    ) -> Admit {
+        self.positions.accept_candidate(idx, at, prediction, neighbours)
+    }
+
+    fn edge_ok(
+        &self,
+        candidate_idx: usize,
+        neighbour_idx: usize,
+        at_candidate: (i32, i32),
+        at_neighbour: (i32, i32),
+    ) -> bool {
+        self.positions.edge_ok(candidate_idx, neighbour_idx, at_candidate, at_neighbour)
+    }
+
+    fn eligible_for_fill(&self, idx: usize) -> bool {
+        self.positions.eligible_for_fill(idx)
+    }
+
+    fn fill_edge_ok(&self, ctx: FillEdgeCtx<'_>) -> bool {
+        self.positions.fill_edge_ok(ctx)
+    }
+}
+
 impl Given {
+    /// Whether any shade stands.
+    pub fn shaded(&self) -> bool {
+        self.shades.iter().any(Option::is_some)
+    }
+
+    fn policy<'a>(&'a self, features: &'a [OrientedFeature<2>]) -> ShadedPolicy<'a> {
+        let tol = self.tolerances();
+        ShadedPolicy {
+            positions: PositionsAttachPolicy::new(features, &self.positions, &self.pitch, tol),
+            shades: &self.shades,
+            any: self.shaded(),
+        }
+    }
+
     /// The axis cue changes no answer: every corner gets the same two axes.
     fn features(&self) -> Vec<OrientedFeature<2>> {
         let axes = [LocalAxis::new(0.0, None), LocalAxis::new(1.5, None)];
@@ -58,22 +129,19 @@ impl Given {
 
     pub fn grow(&self, sheet: &mut GrowResult, params: &GrowParams) -> BfsExtensionStats {
         let features = self.features();
-        let tol = self.tolerances();
-        let policy = PositionsAttachPolicy::new(&features, &self.positions, &self.pitch, tol);
+        let policy = self.policy(&features);
         extend_from_labelled(&self.positions, sheet, self.cell, params, &policy)
     }
 
     pub fn fill(&self, sheet: &mut GrowResult, params: &FillParams) -> FillStats {
         let features = self.features();
-        let tol = self.tolerances();
-        let policy = PositionsAttachPolicy::new(&features, &self.positions, &self.pitch, tol);
+        let policy = self.policy(&features);
         fill_grid_holes(&self.positions, sheet, self.cell, params, &policy)
     }
 
     pub fn local(&self, sheet: &mut GrowResult, numbers: &LocalNumbers) -> ExtensionStats {
         let features = self.features();
-        let tol = self.tolerances();
-        let policy = PositionsAttachPolicy::new(&features, &self.positions, &self.pitch, tol);
+        let policy = self.policy(&features);
         let mut params = LocalExtensionParams::default();
         params.common.search_rel = numbers.search;
         params.common.ambiguity_factor = numbers.factor;
