@@ -1,4 +1,5 @@
--- The three passes for another language: numbers and lent buffers in; out come 0 or the refusal's number, and in eleven lent words what the pass says. Definitions only.
+-- The three passes for another language: numbers and lent buffers in; out come 0 or the refusal's number, and in eleven lent words what the pass
+-- says. Definitions only.
 use mathlib.Core.Bool.{Bool, true, false}
 use mathlib.Core.List.{List}
 use Prim.Native.Nat.{ℕ}
