@@ -5,3 +5,4 @@ pub mod Pairing
 pub mod Ran
 pub mod Pair
 pub mod Shaded
+pub mod Boundary

@@ -11,7 +11,7 @@ use Rattle.passes.specs.Outcome.{Outcome, refused, done}
 use Rattle.passes.specs.Run.{Call, PassStats, growStats, fillStats, localStats, run}
 use Rattle.passes.specs.declared.LargestResidual.{LargestResidual}
 use Rattle.agreement.specs.Agreement.{Agree, FactorsAbove}
-use Rattle.frame_line.specs.Lines.{PassLine, grow, fill, local}
+use Rattle.frame_line.specs.Lines.{PassLine, grow, fill, local, bareGrow}
 use Rattle.frame.specs.Frame.{Frame, readFrame, accepted}
 use Rattle.frame.specs.ReadFrame.{sheetOf}
 use Rattle.frame_laws.specs.Calls.{frameCorners, callOf, callsOf}
@@ -26,9 +26,9 @@ use Rattle.answer_examples.specs.Pair.{firstText, secondText, localLine,
 abbrev pub refusedLine : PassLine
 refusedLine = local 0x3eb3_3333 0x3f80_0000 (pos 2) 0x3e80_0000 (pos 5)
 
--- 0.35 1.5 2.0, and 0.35 1.5 1
+-- the numbers of bare grow, and 0.35 1.5 1
 abbrev pub growLine : PassLine
-growLine = grow 0x3eb3_3333 0x3fc0_0000 0x4000_0000
+growLine = grow (bareGrow .search) (bareGrow .factor) (bareGrow .boundary)
 
 abbrev pub fillLine : PassLine
 fillLine = fill 0x3eb3_3333 0x3fc0_0000 (pos 1)

@@ -1,4 +1,5 @@
--- Document 01's example, "Frame and result": "This frame" and what it "gives". Definitions only.
+-- Document 01's example, "Frame and result": "This frame" and what it "gives". Its bare grow is that of document 02, 2/14, and gives the same: corner 2
+-- stands exactly where cell (2 0) is expected, and no other corner is without a label. Definitions only.
 use mathlib.Core.Path.{_≡_}
 use mathlib.Core.List.{List, _++_}
 use Prim.Native.Nat.{ℕ}

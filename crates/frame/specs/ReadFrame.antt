@@ -16,7 +16,7 @@ use Rattle.arguments.specs.declared.FillParams.{FillParams}
 use Rattle.arguments.specs.declared.LocalExtensionParams.{LocalExtensionParams}
 use Rattle.arguments.specs.declared.Pass.{Pass}
 use Rattle.arguments.specs.declared.Settings.{Settings}
-use Rattle.frame_line.specs.Lines.{LabelLine, ShadeLine, PassLine, bare-grow, grow, bare-fill, fill, local}
+use Rattle.frame_line.specs.Lines.{LabelLine, ShadeLine, PassLine, bare-grow, grow, bare-fill, fill, local, bareGrow}
 use Rattle.arguments.specs.Front.{over}
 use Rattle.sizes.specs.Sizes.{cornerLimit, placeCount, allPassWords}
 use Rattle.frame.specs.Frame.{Frame, Opening, partsOf, FrameRead, refused-at, accepted, readFrame}
@@ -94,9 +94,9 @@ pub data FullPass : Type 0 where
   full-fill : (search factor rounds : ℕ) → FullPass
   full-local : (search factor rounds residual depth : ℕ) → FullPass
 
--- "Bare `(grow)` means 0.35 1.5 2.0; bare `(fill)` means 0.35 1.5 1"
+-- bare `(grow)` means the numbers of `bareGrow`; "bare `(fill)` means 0.35 1.5 1"
 unfoldable pub fullOf : PassLine → FullPass
-fullOf bare-grow = full-grow 0x3eb3_3333 0x3fc0_0000 0x4000_0000
+fullOf bare-grow = full-grow (bareGrow .search) (bareGrow .factor) (bareGrow .boundary)
 fullOf (grow search factor boundary) = full-grow search factor boundary
 fullOf bare-fill = full-fill 0x3eb3_3333 0x3fc0_0000 1
 fullOf (fill search factor rounds) = full-fill search factor (natAbs rounds)

@@ -8,4 +8,5 @@ pub mod Labels
 pub mod Shades
 pub mod Runs
 pub mod Unshaded
+pub mod BareGrow
 pub mod Examples

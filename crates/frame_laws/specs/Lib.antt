@@ -1,3 +1,4 @@
--- The definitions of what an accepted frame starts, and of its shades. Definitions only.
+-- The definitions of what an accepted frame starts, of its shades and of bare grow. Definitions only.
 pub mod Calls
 pub mod Shades
+pub mod BareGrow

@@ -116,6 +116,16 @@ pub data PassLine : Type 0 where
   fill : (search factor : ℕ) (rounds : ℤ) → PassLine
   local : (search factor : ℕ) (rounds : ℤ) (residual : ℕ) (depth : ℤ) → PassLine
 
+-- the numbers of the line `(grow search factor boundary)`, as their bits
+pub record GrowNumbers : Type 0 where
+  pub search : ℕ
+  pub factor : ℕ
+  pub boundary : ℕ
+
+-- "Bare `(grow)` means 0.35 1.5" of 01, and of 02, 2/14: "Bare `(grow)` now means a boundary multiple of 1.25"
+abbrev pub bareGrow : GrowNumbers
+bareGrow = record { search = 0x3eb3_3333; factor = 0x3fc0_0000; boundary = 0x3fa0_0000 }
+
 unfoldable pub passLineOf : PassKind → List Number → PassLine
 passLineOf PassKind.BareGrow ns = bare-grow
 passLineOf PassKind.Grow ns = grow (bitsAt 0 ns) (bitsAt 1 ns) (bitsAt 2 ns)

@@ -14,6 +14,7 @@ use Rattle.predict.specs.declared.Vector.{Vector}
 use Rattle.arguments.specs.declared.Settings.{Settings}
 use Rattle.arguments.specs.declared.Checked.{Checked}
 use Rattle.frame_line.specs.Table.{kindAt}
+use Rattle.frame_line.specs.Lines.{bareGrow}
 use Rattle.frame_line.specs.Held.{countIn, labelIn, shadeIn}
 use Rattle.frame_line.specs.declared.Kind.{Kind}
 use Rattle.frame_line.specs.declared.OpeningKind.{OpeningKind}
@@ -156,9 +157,9 @@ fillWords v = record { kind = 1; search = getD v 0 0; factor = getD v 1 0; reach
 abbrev pub localWords : List ℕ → PassWords
 localWords v = record { kind = 2; search = getD v 0 0; factor = getD v 1 0; reach = getD v 3 0; rounds = countIn (getD v 2 0); depth = countIn (getD v 4 0) }
 
--- "Bare `(grow)` means 0.35 1.5 2.0; bare `(fill)` means 0.35 1.5 1", an integer 1,000,000 higher
+-- bare `(grow)` means the numbers of `bareGrow`; "bare `(fill)` means 0.35 1.5 1", an integer 1,000,000 higher
 abbrev pub wordsIn : PassKind → List ℕ → PassWords
-wordsIn PassKind.BareGrow v = growWords (0x3eb3_3333 ∷ 0x3fc0_0000 ∷ 0x4000_0000 ∷ 0 ∷ 0 ∷ [])
+wordsIn PassKind.BareGrow v = growWords (bareGrow .search ∷ bareGrow .factor ∷ bareGrow .boundary ∷ 0 ∷ 0 ∷ [])
 wordsIn PassKind.Grow v = growWords v
 wordsIn PassKind.BareFill v = fillWords (0x3eb3_3333 ∷ 0x3fc0_0000 ∷ 1000001 ∷ 0 ∷ 0 ∷ [])
 wordsIn PassKind.Fill v = fillWords v

@@ -219,8 +219,8 @@ fn put_shade(shades: &mut [u8; CORNERS], shade: HeldShade)
     shades[corner] = (shade.kind + 1) as u8;
 }
 
-// The numbers of bare grow, 0.35, 1.5 and 2.0, and of bare fill, 0.35, 1.5 and 1, as they are held.
-const BARE_GROW: [u32; 5] = [0x3eb3_3333, 0x3fc0_0000, 0x4000_0000, 0, 0];
+// The numbers of bare grow, 0.35, 1.5 and 1.25, and of bare fill, 0.35, 1.5 and 1, as they are held.
+const BARE_GROW: [u32; 5] = [0x3eb3_3333, 0x3fc0_0000, 0x3fa0_0000, 0, 0];
 
 const BARE_FILL: [u32; 5] = [0x3eb3_3333, 0x3fc0_0000, 1_000_001, 0, 0];
 
