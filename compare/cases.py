@@ -1,7 +1,7 @@
 #!/usr/bin/env python3
 """Frames that try the reader and the printer: every refusal, the order of the
-checks, exact limits, damage, shades (02, 1/14), and results longer than the
-output buffer.
+checks, exact limits, damage, shades (02, 1/14), bare grow (02, 2/14), and results
+longer than the output buffer.
 
     cases.py               checks reference.py against the refusals written here
     cases.py --out FOLDER  writes each case as NAME.frame and NAME.result
@@ -37,6 +37,33 @@ EXAMPLE = HEAD + CORNERS + LABELS + PASSES
 SHADES = ["(shade 2 0)", "(shade 0 1)"]
 LOCAL = "(local 3eb33333 3fc00000 1 3e800000 1)"
 SHADED = HEAD + CORNERS + LABELS + SHADES + PASSES + [LOCAL]
+
+# By hand: 01's result of its example, and that of the example where corner 2 is no candidate.
+TAKEN = """(result 1)
+(grow 1 8 0 0 no)
+(cell (0 0) 0)
+(cell (1 0) 1)
+(cell (2 0) 2)
+(hole (-1 0))
+(hole (0 -1))
+(hole (0 1))
+(hole (1 -1))
+(hole (1 1))
+(hole (2 -1))
+(hole (2 1))
+(hole (3 0))
+"""
+NOT_TAKEN = """(result 1)
+(grow 0 6 0 0 no)
+(cell (0 0) 0)
+(cell (1 0) 1)
+(hole (-1 0))
+(hole (0 -1))
+(hole (0 1))
+(hole (1 -1))
+(hole (1 1))
+(hole (2 0))
+"""
 
 BUFFER = 4096  # the program's output buffer
 LEAST = 128  # it is written out when fewer bytes are left
@@ -308,35 +335,21 @@ def strange_shades():
     yield "shade-bytes-65536", (text(HEAD + many_corners(1024)) + b"(shade 0 0)\n" * 2500)[:65536], refused(6, 1030)
 
 
-OTHER_KIND = """(result 1)
-(grow 0 6 0 0 no)
-(cell (0 0) 0)
-(cell (1 0) 1)
-(hole (-1 0))
-(hole (0 -1))
-(hole (0 1))
-(hole (1 -1))
-(hole (1 1))
-(hole (2 0))
-"""
-
-
 def whole_shades():
     """Accepted frames with shades; a few results by hand."""
     front = HEAD + CORNERS + LABELS
-    own = reference.result(text(EXAMPLE))
     yield "shades", text(SHADED), None
-    yield "shade-own-kind", text(front + ["(shade 2 0)"] + PASSES), own
-    yield "shade-labels-not-tested", text(front + ["(shade 1 0)", "(shade 0 1)", "(shade 2 0)"] + PASSES), own
-    yield "shade-other-kind", text(front + ["(shade 2 1)"] + PASSES), OTHER_KIND
-    yield "shade-on-label-only", text(front + ["(shade 0 0)"] + PASSES), OTHER_KIND
-    yield "shade-on-label-only-other", text(front + ["(shade 0 1)"] + PASSES), OTHER_KIND
+    yield "shade-own-kind", text(front + ["(shade 2 0)"] + PASSES), TAKEN
+    yield "shade-labels-not-tested", text(front + ["(shade 1 0)", "(shade 0 1)", "(shade 2 0)"] + PASSES), TAKEN
+    yield "shade-other-kind", text(front + ["(shade 2 1)"] + PASSES), NOT_TAKEN
+    yield "shade-on-label-only", text(front + ["(shade 0 0)"] + PASSES), NOT_TAKEN
+    yield "shade-on-label-only-other", text(front + ["(shade 0 1)"] + PASSES), NOT_TAKEN
     yield "shade-no-labels", text(HEAD + CORNERS + ["(shade 1 0)"] + PASSES), "(result 1)\n(grow 0 0 0 0 no)\n"
     yield "shade-no-passes", text(front + SHADES), "(result 1)\n(cell (0 0) 0)\n(cell (1 0) 1)\n"
     local = "(local 0 0 0 0 0 none no)\n(unmatched 0)\n"
     yield "shade-local-few-labels", text(front + SHADES + [LOCAL]), f"(result 1)\n{local}(cell (0 0) 0)\n(cell (1 0) 1)\n"
     yield "shade-local-16", text(front + SHADES + [LOCAL] * 16), f"(result 1)\n{local * 16}(cell (0 0) 0)\n(cell (1 0) 1)\n"
-    yield "shade-falling", text(front + ["(shade 2 0)", "(shade 1 1)", "(shade 0 0)"] + PASSES), own
+    yield "shade-falling", text(front + ["(shade 2 0)", "(shade 1 1)", "(shade 0 0)"] + PASSES), TAKEN
     square = [corner(x, "41a00000") for x in ("41200000", "41a00000", "41f00000")]
     labels = ["(label 3 (0 1))", "(label 4 (1 1))"]
     for shades in ((), ((2, 0),), ((2, 1),), ((5, 1),), ((5, 0), (2, 0)), ((0, 0),), ((2, 0), (5, 1))):
@@ -352,11 +365,37 @@ def whole_shades():
         yield f"shades-cut-{size}", text(SHADED)[:size], None
 
 
+# ---- bare grow
+
+
+def bare_grow():
+    """The example with corner 2 beside (30, 10), where cell (2, 0) is expected, past
+    the labels: search 0.35 in cells of 10 is 3.5 in binary32, so 4.375 with boundary
+    1.25 and 7 with 2.0. All results by hand."""
+    full = "(grow 3eb33333 3fc00000 {})".format
+    for name, y, narrow, wide in (
+        ("there", "41200000", TAKEN, TAKEN),
+        ("by-4.375", "41660000", TAKEN, TAKEN),
+        ("past-4.375", "41660001", NOT_TAKEN, TAKEN),
+        ("by-5", "41700000", NOT_TAKEN, TAKEN),
+        ("by-7", "41880000", NOT_TAKEN, TAKEN),
+        ("past-7", "41880001", NOT_TAKEN, NOT_TAKEN),
+    ):
+        front = HEAD + CORNERS[:2] + [corner("41f00000", y)] + LABELS
+        yield f"grow-bare-{name}", text(front + ["(grow)"]), narrow
+        yield f"grow-written-{name}", text(front + [full("3fa00000")]), narrow
+        yield f"grow-old-{name}", text(front + [full("40000000")]), wide
+    # Each line has its own meaning: the second grow finds the corner, and the hole of the first stays.
+    both = TAKEN.replace("(grow 1 8", "(grow 0 6 0 0 no)\n(grow 1 8").replace("(hole (2 1))\n", "(hole (2 0))\n(hole (2 1))\n")
+    front = HEAD + CORNERS[:2] + [corner("41f00000", "41700000")] + LABELS
+    yield "grow-bare-then-old", text(front + ["(grow)", full("40000000")]), both
+
+
 # ---- whole frames
 
 
 def whole():
-    yield "example", text(EXAMPLE), None
+    yield "example", text(EXAMPLE), TAKEN
     yield "head-only", text(HEAD), None
     yield "head-and-passes", text(HEAD + ["(grow)", "(fill)", "(local 3eb33333 3fc00000 64 3e800000 4)"]), None
     yield "corners-only", text(HEAD + CORNERS), None
@@ -430,7 +469,7 @@ def long_results(seed):
 def cases():
     for family in (whole(), bent(), overfull(), wild(), labels(), damaged(1, 300, 0), random_bytes(1, 60), long_results(1)):
         yield from family
-    for family in (whole_shades(), bent_shades(), misplaced_shades(), strange_shades(), damaged(2, 150, 1)):
+    for family in (whole_shades(), bent_shades(), misplaced_shades(), strange_shades(), damaged(2, 150, 1), bare_grow()):
         yield from family
 
 

@@ -1,6 +1,6 @@
 #!/usr/bin/env python3
-"""An executable model of the specification (01), with request 1/14 of the
-list of requests (02), written from their text.
+"""An executable model of the specification (01), with requests 1/14 and 2/14
+of the list of requests (02), written from their text.
 
     reference.py < FRAME              01's result text, or (refused number line)
     reference.py --passes < FRAME     the sheet after every pass, as text
@@ -704,7 +704,7 @@ def _float(digits):
 _HEAD = ["frame", "cell", "axes", "band"]
 _RANK = {"corner": 0, "label": 1, "shade": 2, "grow": 3, "fill": 3, "local": 3}
 _BARE = {
-    "grow": (rnd(0.35), 1.5, 2.0),
+    "grow": (rnd(0.35), 1.5, 1.25),  # 02, 2/14: a boundary multiple of 1.25
     "fill": (rnd(0.35), 1.5, 1),
 }
 # How each of a pass's numbers is read, its least and its most.

@@ -7,6 +7,7 @@
     run.py FRAME ...                                  frames from files
 
     --shaded SHARE  the share of the frames that have shades (generate.py)
+    --bare-grow     every grow line of the generated frames is made bare
     --ours CMD      our program: a frame on standard input, every pass on
                     standard output, in the form of `reference.py --passes`;
                     without it reference.py itself is our side
@@ -67,6 +68,7 @@ passes are compared as well, and their answers counted, but owe nothing.
 import argparse
 import multiprocessing
 import os
+import re
 import shlex
 import struct
 import subprocess
@@ -530,7 +532,7 @@ def frames_of(options, share):
         yield from moved.frames(options.seed, options.count, options.only, share, options.shaded)
     else:
         for name, data in generate.frames(options.seed, options.count, options.only, share, options.shaded):
-            yield name, data, [], None
+            yield name, re.sub(rb"(?m)^\(grow .*\)$", b"(grow)", data) if options.bare_grow else data, [], None
 
 
 def keep(folder, name, data):
@@ -620,6 +622,7 @@ def arguments():
     parser.add_argument("--only", choices=list(generate.FAMILIES) + list(generate.SHADED_FAMILIES))
     parser.add_argument("--shaded", type=float, default=generate.SHADED)
     parser.add_argument("--moved", action="store_true")
+    parser.add_argument("--bare-grow", action="store_true")
     parser.add_argument("--ours")
     parser.add_argument("--proved", action="store_true")
     parser.add_argument("--order", choices=["rising", "falling", "mixed"], default="rising")

@@ -49,6 +49,8 @@ SLIPS = {
     ),
     "radius widened always": ("if extrapolating(near):", "if True:"),
     "radius widened never": ("if extrapolating(near):", "if False:"),
+    "boundary 2.0 for bare grow": ("1.5, 1.25)", "1.5, 2.0)"),
+    "search 0.5 for bare grow": ("(rnd(0.35), 1.5, 1.25)", "(0.5, 1.5, 1.25)"),
     "extrapolating by cardinal neighbours only": (
         "any(di < 0 for di, _ in near)",
         "any(di < 0 and dj == 0 for di, dj in near)",

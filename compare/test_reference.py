@@ -1,7 +1,7 @@
 #!/usr/bin/env python3
 """Checks of reference.py against what 01 says in so many words: its example,
-M1 to M9, and each refusal with its line; and of shades against 02, 1/14. Ends
-with 'N passed, 0 failed'."""
+M1 to M9, and each refusal with its line; of shades against 02, 1/14, and of bare
+grow against 02, 2/14. Ends with 'N passed, 0 failed'."""
 
 import sys
 
@@ -253,6 +253,16 @@ def refusals():
         yield text[:40], ref.result(text), f"(refused {number} {line})\n"
 
 
+def bare_grow():
+    """02, 2/14; cases.py has what it finds, by hand."""
+    for line, boundary in [
+        (b"(grow)\n", 1.25),
+        (b"(grow 3eb33333 3fc00000 3fa00000)\n", 1.25),
+        (b"(grow 3eb33333 3fc00000 40000000)\n", 2.0),
+    ]:
+        yield line, ref.read(HEAD + line).passes, [("grow", (ref.rnd(0.35), 1.5, boundary))]
+
+
 def acceptances():
     for text in [
         HEAD,
@@ -275,7 +285,7 @@ def acceptances():
 
 def main():
     passed = failed = 0
-    for checks in (worked_examples, shades, lent, refusals, acceptances):
+    for checks in (worked_examples, shades, lent, bare_grow, refusals, acceptances):
         for name, got, expected in checks():
             if got == expected:
                 passed += 1

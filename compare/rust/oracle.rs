@@ -139,8 +139,11 @@ fn read_pass(words: &[&str]) -> Pass {
         n => fail(&format!("out of range: {n}")),
     };
     match (words[0], words.len()) {
-        // Bare passes take the Rust's own defaults.
-        ("grow", 1) => Pass::Grow(GrowParams::default()),
+        // Bare passes take the Rust's own defaults, grow with its boundary set to 1.25 (02, 2/14).
+        ("grow", 1) => {
+            let own = GrowParams::default();
+            Pass::Grow(grow_params(own.attach_search_rel, own.attach_ambiguity_factor, 1.25))
+        }
         ("fill", 1) => Pass::Fill(FillParams::default()),
         ("grow", 4) => Pass::Grow(grow_params(multiple(1), factor(2), multiple(3))),
         ("fill", 4) => {

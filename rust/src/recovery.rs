@@ -50,7 +50,8 @@ pub struct Settings {
     pub edge_length_tol: f32,
 }
 
-/// The numbers of a grow pass. The default is that of a bare `(grow)`.
+/// The numbers of a grow pass. The default is that of a bare `(grow)`, whose boundary is 1.25 since the change request
+/// 2/14; before, it was 2.0, which is the default of the crate `projective-grid`.
 #[derive(Clone, Copy, Debug, PartialEq)]
 pub struct GrowParams {
     /// Search, 0 to 16, in cell sizes.
@@ -63,7 +64,7 @@ pub struct GrowParams {
 
 impl Default for GrowParams {
     fn default() -> GrowParams {
-        GrowParams { attach_search_rel: 0.35, attach_ambiguity_factor: 1.5, boundary_search_factor: 2.0 }
+        GrowParams { attach_search_rel: 0.35, attach_ambiguity_factor: 1.5, boundary_search_factor: 1.25 }
     }
 }
 

@@ -155,6 +155,17 @@ fn passes_are_read_as_written() {
 }
 
 #[test]
+fn bare_grow_and_the_old_one() {
+    let passes = |line: &str| parse(format!("{HEAD}{line}\n")).expect("accepted").passes().to_vec();
+    let grow = |boundary_search_factor| {
+        vec![Pass::Grow(GrowParams { attach_search_rel: 0.35, attach_ambiguity_factor: 1.5, boundary_search_factor })]
+    };
+    assert_eq!(passes("(grow)"), grow(1.25));
+    assert_eq!(passes("(grow 3eb33333 3fc00000 3fa00000)"), grow(1.25));
+    assert_eq!(passes("(grow 3eb33333 3fc00000 40000000)"), grow(2.0));
+}
+
+#[test]
 fn one_by_one_as_the_frame() {
     let passes = "(fill 3eb33333 3fc00000 2)\n(local 3eb33333 3fc00000 1 3f000000 1)\n(grow)\n(local 3eb33333 3fc00000 0 3f000000 0)\n";
     let frame = parse(lattice(passes)).expect("accepted");
