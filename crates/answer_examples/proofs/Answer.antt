@@ -2,16 +2,15 @@
 use mathlib.Core.Path.{_≡_, refl, sym, ap, ap₂, _∙_, subst}
 use mathlib.Core.List.{List, [], _∷_, _++_, map}
 use Prim.Native.Nat.{ℕ}
-use lib.IntN.{natAbs}
 use Rattle.sheet.specs.Corners.{CornerLists}
 use Rattle.sheet.specs.Words.{labelOf, labelOfNumber}
 use Rattle.passes.specs.Outcome.{Outcome}
 use Rattle.passes.specs.Run.{Call, PassStats, run, sheetOf as sheetAfterAll}
 use Rattle.invariants.specs.Calls.{Standing, CallInside}
-use Rattle.frame_line.specs.Lines.{LabelLine}
-use Rattle.frame.specs.Frame.{Frame, partsOf, readFrame, accepted}
-use Rattle.frame.specs.Text.{All}
-use Rattle.frame.specs.ReadFrame.{labelled, sheetOf}
+use Rattle.frame.specs.Frame.{Frame, partsOf, givenOf, readFrame, accepted}
+use Rattle.join.specs.Rule.{Placed, All}
+use Rattle.join.specs.Sheets.{labelled}
+use Rattle.frame.specs.ReadFrame.{sheetOf}
 use Rattle.frame_laws.specs.Calls.{frameCorners, callsOf}
 use Rattle.frame_laws.proofs.Runs.{accepted-runs}
 use Rattle.report_line.specs.Result.{passLines, heading, resultText}
@@ -27,23 +26,23 @@ use Rattle.answer_examples.specs.Answer.{labelledIn, givenIn, asked, fra
 
 -- ---- the given labels
 
-labelled-so : (ls : List LabelLine) (w : List Written) → labelled (sheetWith w) ls ≡ sheetWith (labelledIn w ls)
+labelled-so : (ls : List Placed) (w : List Written) → labelled (sheetWith w) ls ≡ sheetWith (labelledIn w ls)
 unfolding labelled labelledIn
 labelled-so [] w = refl
 labelled-so (l ∷ ls) w =
-    ap (λ (sheet : List ℕ). labelled sheet ls) (attached-so w (l .cell) (natAbs (l .corner))) ∙ labelled-so ls (attachedIn w (l .cell) (natAbs (l .corner)))
+    ap (λ (sheet : List ℕ). labelled sheet ls) (attached-so w (l .cell) (l .corner)) ∙ labelled-so ls (attachedIn w (l .cell) (l .corner))
 
-labelled-rises : (ls : List LabelLine) (w : List Written) → Rise 0 w → Rise 0 (labelledIn w ls)
+labelled-rises : (ls : List Placed) (w : List Written) → Rise 0 w → Rise 0 (labelledIn w ls)
 unfolding labelledIn
 labelled-rises [] w h = h
-labelled-rises (l ∷ ls) w h = labelled-rises ls (attachedIn w (l .cell) (natAbs (l .corner))) (rise-put w _ _ h)
+labelled-rises (l ∷ ls) w h = labelled-rises ls (attachedIn w (l .cell) (l .corner)) (rise-put w _ _ h)
 
 pub given-so : (f : Frame) → sheetOf f ≡ sheetWith (givenIn f)
 unfolding sheetOf sheetWith
-given-so f = labelled-so (partsOf f .labels) []
+given-so f = labelled-so (givenOf (partsOf f)) []
 
 pub given-rises : (f : Frame) → Rise 0 (givenIn f)
-given-rises f = labelled-rises (partsOf f .labels) [] no-more
+given-rises f = labelled-rises (givenOf (partsOf f)) [] no-more
 
 -- ---- the passes
 

@@ -21,7 +21,7 @@ use Rattle.line_form.specs.Integers.{decimalUpTo, decimal, integerText, digitsA
 use Rattle.line_form.specs.Forms.{numberText, printed, pieceOf, fitOf}
 use Rattle.frame_line.specs.Table.{kindAt, rows, rowAt, formAt, turnAt, mayEnd, sortOf, sortAt}
 use Rattle.frame_line.specs.Lines.{bitsAt, wholeAt, passLineOf, lineText, firstFit, readLine}
-use Rattle.frame.specs.Frame.{opened, adding, partsFrom, partsOf, accepted, readFrame, someOf, checkedLine, stepLine, atEnd, readLines}
+use Rattle.frame.specs.Frame.{opened, adding, partsFrom, partsOf, accepted, readFrame, someOf, checkedLine, stepLine, atEnd, readLines, finish, givenOf, joinOf}
 use Rattle.frame.specs.ReadFrame.{xsOf, ysOf, pitchesOf, shaded, shadesOf, settingsOf, fullOf, passOf}
 use Rattle.frame_laws.specs.Calls.{callsOf}
 use Rattle.report_line.specs.Result.{growLine, passLine, passLines}
@@ -41,19 +41,19 @@ use Rattle.answer_examples.specs.Paper.{exampleResult}
 use Rattle.answer_examples.specs.Boundary.{bareText, oldText, bareFrame, oldFrame, bareResult, BoundaryAnswered}
 
 bare-read : readFrame bareText ≡ accepted bareFrame
-unfolding ofBits ofInt le lt eq digits digitValue readDigits endsOf outside decimalUpTo decimal integerText digitsAfter readPositive readInteger unheldWhole numberText printed pieceOf fitOf linesOf rows rowAt kindAt formAt turnAt mayEnd sortOf sortAt lineText bitsAt wholeAt passLineOf firstFit readLine wildBits numberOutside someOutside outsideLine checksInOrder overLimit twiceOf opened adding partsFrom partsOf someOf checkedLine stepLine atEnd readLines readFrame
+unfolding ofBits ofInt le lt eq digits digitValue readDigits endsOf outside decimalUpTo decimal integerText digitsAfter readPositive readInteger unheldWhole numberText printed pieceOf fitOf linesOf rows rowAt kindAt formAt turnAt mayEnd sortOf sortAt lineText bitsAt wholeAt passLineOf firstFit readLine wildBits numberOutside someOutside outsideLine checksInOrder overLimit twiceOf opened adding partsFrom partsOf someOf checkedLine joinOf finish stepLine atEnd readLines readFrame
 bare-read = refl
 
 old-read : readFrame oldText ≡ accepted oldFrame
-unfolding ofBits ofInt le lt eq digits digitValue readDigits endsOf outside decimalUpTo decimal integerText digitsAfter readPositive readInteger unheldWhole numberText printed pieceOf fitOf linesOf rows rowAt kindAt formAt turnAt mayEnd sortOf sortAt lineText bitsAt wholeAt passLineOf firstFit readLine wildBits numberOutside someOutside outsideLine checksInOrder overLimit twiceOf opened adding partsFrom partsOf someOf checkedLine stepLine atEnd readLines readFrame
+unfolding ofBits ofInt le lt eq digits digitValue readDigits endsOf outside decimalUpTo decimal integerText digitsAfter readPositive readInteger unheldWhole numberText printed pieceOf fitOf linesOf rows rowAt kindAt formAt turnAt mayEnd sortOf sortAt lineText bitsAt wholeAt passLineOf firstFit readLine wildBits numberOutside someOutside outsideLine checksInOrder overLimit twiceOf opened adding partsFrom partsOf someOf checkedLine joinOf finish stepLine atEnd readLines readFrame
 old-read = refl
 
 bare-computed : runText (frameRun bareFrame) ≡ bareResult
-unfolding ofBits ofInt toBits add sub mul div neg lt le eq digits isFinite anyBelow shadeOf stands anyShade unitsOf reaches climb rooted onSheet placeOf cellOf labelOfNumber numberOfLabel bitOf labelOf holeOf ambiguousOf wordOf cornerOf seenThrough namesCorner isLabelled names onRim rimAt squaredDistance insert ordered candidatesAt firstTwo chooseUnambiguous lengthOf meanPitch expectedLength inBand edgeOk cardinalOffsets edgeTo followedBy tried verdictOf passes neighbourOffsets putBefore labelledAmong neighboursOf stepAt stepVector weighed withNeighbour sumsFrom noSums sumsOf meanOf predictionFrom predictionOf onSide anyOn hasNeighbour extrapolating choiceBy member radiusOf searchOf decimalUpTo decimal integerText numberText printed xsOf ysOf pitchesOf shaded shadesOf settingsOf fullOf passOf callsOf kindAt bitsAt wholeAt passLineOf opened adding partsFrom partsOf growLine passLine passLines statsOf wordIn told anyIn labelIn putIn put gatheredBy edgesIn resultIn tryIn enqueuedIn enqueuedAtIn seededFromIn growWithIn growAtIn growVisitIn growFromIn growRunIn growAfterIn afterPassIn runIn textIn labelledIn runText
+unfolding ofBits ofInt toBits add sub mul div neg lt le eq digits isFinite anyBelow shadeOf stands anyShade unitsOf reaches climb rooted onSheet placeOf cellOf labelOfNumber numberOfLabel bitOf labelOf holeOf ambiguousOf wordOf cornerOf seenThrough namesCorner isLabelled names onRim rimAt squaredDistance insert ordered candidatesAt firstTwo chooseUnambiguous lengthOf meanPitch expectedLength inBand edgeOk cardinalOffsets edgeTo followedBy tried verdictOf passes neighbourOffsets putBefore labelledAmong neighboursOf stepAt stepVector weighed withNeighbour sumsFrom noSums sumsOf meanOf predictionFrom predictionOf onSide anyOn hasNeighbour extrapolating choiceBy member radiusOf searchOf decimalUpTo decimal integerText numberText printed xsOf ysOf pitchesOf shaded shadesOf settingsOf fullOf passOf callsOf kindAt bitsAt wholeAt passLineOf opened adding partsFrom partsOf growLine passLine passLines statsOf wordIn told anyIn labelIn putIn put gatheredBy edgesIn resultIn tryIn enqueuedIn enqueuedAtIn seededFromIn growWithIn growAtIn growVisitIn growFromIn growRunIn growAfterIn afterPassIn runIn textIn labelledIn givenOf joinOf runText
 bare-computed = refl
 
 old-computed : runText (frameRun oldFrame) ≡ exampleResult
-unfolding ofBits ofInt toBits add sub mul div neg lt le eq digits isFinite anyBelow shadeOf stands anyShade unitsOf reaches climb rooted onSheet placeOf cellOf labelOfNumber numberOfLabel bitOf labelOf holeOf ambiguousOf wordOf cornerOf seenThrough namesCorner isLabelled names onRim rimAt squaredDistance insert ordered candidatesAt firstTwo chooseUnambiguous lengthOf meanPitch expectedLength inBand edgeOk cardinalOffsets edgeTo followedBy tried verdictOf passes neighbourOffsets putBefore labelledAmong neighboursOf stepAt stepVector weighed withNeighbour sumsFrom noSums sumsOf meanOf predictionFrom predictionOf onSide anyOn hasNeighbour extrapolating choiceBy member radiusOf searchOf decimalUpTo decimal integerText numberText printed xsOf ysOf pitchesOf shaded shadesOf settingsOf fullOf passOf callsOf kindAt bitsAt wholeAt passLineOf opened adding partsFrom partsOf growLine passLine passLines statsOf wordIn told anyIn labelIn putIn put gatheredBy edgesIn resultIn tryIn enqueuedIn enqueuedAtIn seededFromIn growWithIn growAtIn growVisitIn growFromIn growRunIn growAfterIn afterPassIn runIn textIn labelledIn runText
+unfolding ofBits ofInt toBits add sub mul div neg lt le eq digits isFinite anyBelow shadeOf stands anyShade unitsOf reaches climb rooted onSheet placeOf cellOf labelOfNumber numberOfLabel bitOf labelOf holeOf ambiguousOf wordOf cornerOf seenThrough namesCorner isLabelled names onRim rimAt squaredDistance insert ordered candidatesAt firstTwo chooseUnambiguous lengthOf meanPitch expectedLength inBand edgeOk cardinalOffsets edgeTo followedBy tried verdictOf passes neighbourOffsets putBefore labelledAmong neighboursOf stepAt stepVector weighed withNeighbour sumsFrom noSums sumsOf meanOf predictionFrom predictionOf onSide anyOn hasNeighbour extrapolating choiceBy member radiusOf searchOf decimalUpTo decimal integerText numberText printed xsOf ysOf pitchesOf shaded shadesOf settingsOf fullOf passOf callsOf kindAt bitsAt wholeAt passLineOf opened adding partsFrom partsOf growLine passLine passLines statsOf wordIn told anyIn labelIn putIn put gatheredBy edgesIn resultIn tryIn enqueuedIn enqueuedAtIn seededFromIn growWithIn growAtIn growVisitIn growFromIn growRunIn growAfterIn afterPassIn runIn textIn labelledIn givenOf joinOf runText
 old-computed = refl
 
 pub boundary-answered : BoundaryAnswered

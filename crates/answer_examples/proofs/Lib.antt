@@ -5,4 +5,5 @@ pub mod Pairing
 pub mod Ran
 pub mod Pair
 pub mod Shaded
+pub mod Patched
 pub mod Boundary

@@ -22,7 +22,7 @@ use Rattle.agreement.specs.Agreement.{no-call, relisted, AboveOne, FactorsAbove
 use Rattle.frame_line.specs.Table.{kindAt}
 use Rattle.frame_line.specs.Lines.{bitsAt, wholeAt, passLineOf}
 use Rattle.frame.specs.Frame.{Frame, opened, adding, partsFrom, partsOf}
-use Rattle.frame.specs.Text.{All}
+use Rattle.join.specs.Rule.{All}
 use Rattle.frame.specs.ReadFrame.{xsOf, shaded, shadesOf, sheetOf, fullOf, passOf}
 use Rattle.binary32.specs.Hex.{digits}
 use Rattle.line_form.specs.Integers.{decimalUpTo, decimal, integerText}

@@ -19,7 +19,7 @@ use Rattle.frame_line.specs.Table.{rows, rowAt, kindAt, formAt, turnAt, mayEnd,
 use Rattle.frame_line.specs.Lines.{bitsAt, wholeAt, passLineOf, firstFit, readLine}
 use Rattle.frame_line.specs.Checks.{wildBits, numberOutside, someOutside, outsideLine}
 use Rattle.frame_check.specs.Checks.{checksInOrder, overLimit, twiceOf}
-use Rattle.frame.specs.Frame.{opened, adding, partsFrom, partsOf, someOf, checkedLine, accepted, stepLine, atEnd, readLines, readFrame}
+use Rattle.frame.specs.Frame.{opened, adding, partsFrom, partsOf, someOf, checkedLine, accepted, stepLine, atEnd, readLines, readFrame, finish, joinOf}
 use Rattle.frame.specs.ReadFrame.{shaded, shadesOf}
 use Rattle.frame_agreement.specs.Reordering.{cornerLine, cornerShade, SameShades, SameButOrder}
 use Rattle.answer_examples.specs.Pair.{firstText, secondText, firstFrame, secondFrame, numbersInSecond, numbersInFirst}
@@ -27,11 +27,11 @@ use Rattle.answer_examples.specs.Pair.{firstText, secondText, firstFrame
 -- ---- the texts are read
 
 pub first-read : readFrame firstText ≡ accepted firstFrame
-unfolding ofBits ofInt le lt eq digitValue readDigits endsOf outside digitsAfter readPositive readInteger pieceOf fitOf linesOf unheldWhole rows rowAt kindAt formAt turnAt mayEnd sortOf sortAt bitsAt wholeAt passLineOf firstFit readLine wildBits numberOutside someOutside outsideLine checksInOrder overLimit twiceOf opened adding partsFrom partsOf someOf checkedLine stepLine atEnd readLines readFrame
+unfolding ofBits ofInt le lt eq digitValue readDigits endsOf outside digitsAfter readPositive readInteger pieceOf fitOf linesOf unheldWhole rows rowAt kindAt formAt turnAt mayEnd sortOf sortAt bitsAt wholeAt passLineOf firstFit readLine wildBits numberOutside someOutside outsideLine checksInOrder overLimit twiceOf opened adding partsFrom partsOf someOf checkedLine joinOf finish stepLine atEnd readLines readFrame
 first-read = refl
 
 pub second-read : readFrame secondText ≡ accepted secondFrame
-unfolding ofBits ofInt le lt eq digitValue readDigits endsOf outside digitsAfter readPositive readInteger pieceOf fitOf linesOf unheldWhole rows rowAt kindAt formAt turnAt mayEnd sortOf sortAt bitsAt wholeAt passLineOf firstFit readLine wildBits numberOutside someOutside outsideLine checksInOrder overLimit twiceOf opened adding partsFrom partsOf someOf checkedLine stepLine atEnd readLines readFrame
+unfolding ofBits ofInt le lt eq digitValue readDigits endsOf outside digitsAfter readPositive readInteger pieceOf fitOf linesOf unheldWhole rows rowAt kindAt formAt turnAt mayEnd sortOf sortAt bitsAt wholeAt passLineOf firstFit readLine wildBits numberOutside someOutside outsideLine checksInOrder overLimit twiceOf opened adding partsFrom partsOf someOf checkedLine joinOf finish stepLine atEnd readLines readFrame
 second-read = refl
 
 -- ---- the pairing
@@ -83,4 +83,4 @@ same-shades =
 
 unfoldable pub same : SameButOrder firstFrame secondFrame
 unfolding kindAt bitsAt wholeAt passLineOf opened adding partsFrom partsOf
-same = record { opening = refl; count = refl; pairs = pairs; same-line = same-lines; labels = refl; shades = same-shades; passes = refl }
+same = record { opening = refl; count = refl; pairs = pairs; same-line = same-lines; labels = refl; patched = refl; second = refl; shades = same-shades; passes = refl }

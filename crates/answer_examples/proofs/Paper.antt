@@ -22,7 +22,7 @@ use Rattle.line_form.specs.Integers.{decimalUpTo, decimal, integerText}
 use Rattle.line_form.specs.Forms.{numberText, printed}
 use Rattle.frame_line.specs.Table.{kindAt}
 use Rattle.frame_line.specs.Lines.{bitsAt, wholeAt, passLineOf}
-use Rattle.frame.specs.Frame.{opened, adding, partsFrom, partsOf, FrameRead, accepted, readFrame}
+use Rattle.frame.specs.Frame.{opened, adding, partsFrom, partsOf, FrameRead, accepted, readFrame, givenOf, joinOf}
 use Rattle.frame.specs.ReadFrame.{xsOf, ysOf, pitchesOf, shaded, shadesOf, settingsOf, fullOf, passOf}
 use Rattle.frame_laws.specs.Calls.{callsOf}
 use Rattle.frame_laws.proofs.Examples.{example, meant, examples-read}
@@ -47,7 +47,7 @@ example-read = ap first examples-read
 
 -- the run and its text, computed
 computed : runText (frameRun meant) ≡ exampleResult
-unfolding ofBits ofInt toBits add sub mul div neg lt le eq digits isFinite anyBelow shadeOf stands anyShade unitsOf reaches climb rooted onSheet placeOf cellOf labelOfNumber numberOfLabel bitOf labelOf holeOf ambiguousOf wordOf cornerOf seenThrough namesCorner isLabelled names onRim rimAt squaredDistance insert ordered candidatesAt firstTwo chooseUnambiguous lengthOf meanPitch expectedLength inBand edgeOk cardinalOffsets edgeTo followedBy tried verdictOf passes neighbourOffsets putBefore labelledAmong neighboursOf stepAt stepVector weighed withNeighbour sumsFrom noSums sumsOf meanOf predictionFrom predictionOf onSide anyOn hasNeighbour extrapolating choiceBy member radiusOf searchOf decimalUpTo decimal integerText numberText printed xsOf ysOf pitchesOf shaded shadesOf settingsOf fullOf passOf callsOf kindAt bitsAt wholeAt passLineOf opened adding partsFrom partsOf growLine passLine passLines statsOf wordIn told anyIn labelIn putIn put gatheredBy edgesIn resultIn tryIn enqueuedIn enqueuedAtIn seededFromIn growWithIn growAtIn growVisitIn growFromIn growRunIn growAfterIn afterPassIn runIn textIn labelledIn runText
+unfolding ofBits ofInt toBits add sub mul div neg lt le eq digits isFinite anyBelow shadeOf stands anyShade unitsOf reaches climb rooted onSheet placeOf cellOf labelOfNumber numberOfLabel bitOf labelOf holeOf ambiguousOf wordOf cornerOf seenThrough namesCorner isLabelled names onRim rimAt squaredDistance insert ordered candidatesAt firstTwo chooseUnambiguous lengthOf meanPitch expectedLength inBand edgeOk cardinalOffsets edgeTo followedBy tried verdictOf passes neighbourOffsets putBefore labelledAmong neighboursOf stepAt stepVector weighed withNeighbour sumsFrom noSums sumsOf meanOf predictionFrom predictionOf onSide anyOn hasNeighbour extrapolating choiceBy member radiusOf searchOf decimalUpTo decimal integerText numberText printed xsOf ysOf pitchesOf shaded shadesOf settingsOf fullOf passOf callsOf kindAt bitsAt wholeAt passLineOf opened adding partsFrom partsOf growLine passLine passLines statsOf wordIn told anyIn labelIn putIn put gatheredBy edgesIn resultIn tryIn enqueuedIn enqueuedAtIn seededFromIn growWithIn growAtIn growVisitIn growFromIn growRunIn growAfterIn afterPassIn runIn textIn labelledIn givenOf joinOf runText
 computed = refl
 
 pub example-answered : ExampleAnswered

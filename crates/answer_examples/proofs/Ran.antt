@@ -34,7 +34,7 @@ use Rattle.passes.specs.declared.LargestResidual.{LargestResidual}
 use Rattle.passes.specs.declared.Unmatched.{Unmatched}
 use Rattle.frame_line.specs.Table.{kindAt}
 use Rattle.frame_line.specs.Lines.{PassLine, bitsAt, wholeAt, passLineOf}
-use Rattle.frame.specs.Frame.{Frame, opened, adding, partsFrom, partsOf}
+use Rattle.frame.specs.Frame.{Frame, opened, adding, partsFrom, partsOf, givenOf, joinOf}
 use Rattle.frame.specs.ReadFrame.{xsOf, ysOf, pitchesOf, shaded, shadesOf, settingsOf, fullOf, passOf}
 use Rattle.frame_laws.specs.Calls.{frameCorners, callOf}
 use Rattle.written_places.specs.Written.{Written, written, wordIn, told, anyIn, labelIn, putIn, put}
@@ -109,7 +109,7 @@ abbrev pub after : Frame → PassLine → List Written → AfterIn PassStats
 after f p w = afterPassIn (frameCorners f) (callOf f p .shades) w (callOf f p .settings) (callOf f p .pass)
 
 pub local-did : after firstFrame localLine (givenIn firstFrame) ≡ localLeft
-unfolding ofBits ofInt toBits add sub mul div neg lt le eq isFinite anyBelow shadeOf stands anyShade unitsOf reaches climb rooted table concatenated every allFinite largest swapped gained cleared eliminated rightSides carried answered mean distance scaleOf normalizationOf forward mapRow moved normalized equation equations backward multiplied undone quotients scaledOf applied onSheet placeOf cellOf labelOfNumber numberOfLabel bitOf labelOf holeOf ambiguousOf wordOf cornerOf seenThrough passing namesCorner isLabelled lowerOf higherOf widened names onRim rimAt squaredDistance insert ordered candidatesAt firstTwo chooseWithFloor lengthOf meanPitch expectedLength inBand edgeOk cardinalOffsets edgeTo followedBy tried verdictOf passes choiceBy cellsOf depthOf rowAmong columnAmong localRegion nearer placed byReach cellPoint picturedAt residualOf residualsOf trusted worst recorded recordedAll localSearch localLimit xsOf ysOf pitchesOf shaded shadesOf settingsOf fullOf passOf kindAt bitsAt wholeAt passLineOf opened adding partsFrom partsOf wordIn told anyIn labelIn putIn put gatheredBy edgesIn resultIn tryIn quickFitWith quickFitFrom quickFit localFitIn localWithIn unmatchedBy localTryIn localAtIn localVisitIn walk oneRound roundsFrom unmatchedIf localAfterIn afterPassIn labelledIn
+unfolding ofBits ofInt toBits add sub mul div neg lt le eq isFinite anyBelow shadeOf stands anyShade unitsOf reaches climb rooted table concatenated every allFinite largest swapped gained cleared eliminated rightSides carried answered mean distance scaleOf normalizationOf forward mapRow moved normalized equation equations backward multiplied undone quotients scaledOf applied onSheet placeOf cellOf labelOfNumber numberOfLabel bitOf labelOf holeOf ambiguousOf wordOf cornerOf seenThrough passing namesCorner isLabelled lowerOf higherOf widened names onRim rimAt squaredDistance insert ordered candidatesAt firstTwo chooseWithFloor lengthOf meanPitch expectedLength inBand edgeOk cardinalOffsets edgeTo followedBy tried verdictOf passes choiceBy cellsOf depthOf rowAmong columnAmong localRegion nearer placed byReach cellPoint picturedAt residualOf residualsOf trusted worst recorded recordedAll localSearch localLimit xsOf ysOf pitchesOf shaded shadesOf settingsOf fullOf passOf kindAt bitsAt wholeAt passLineOf opened adding partsFrom partsOf wordIn told anyIn labelIn putIn put gatheredBy edgesIn resultIn tryIn quickFitWith quickFitFrom quickFit localFitIn localWithIn unmatchedBy localTryIn localAtIn localVisitIn walk oneRound roundsFrom unmatchedIf localAfterIn afterPassIn labelledIn givenOf joinOf
 local-did = refl
 
 pub grow-did : after firstFrame growLine (localLeft .sheet) ≡ growLeft

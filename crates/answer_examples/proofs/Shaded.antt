@@ -49,7 +49,7 @@ use Rattle.frame_line.specs.Table.{kindAt, rows, rowAt, formAt, turnAt, mayEnd,
 use Rattle.frame_line.specs.Lines.{bitsAt, wholeAt, passLineOf, firstFit, readLine}
 use Rattle.frame_line.specs.Checks.{wildBits, numberOutside, someOutside, outsideLine}
 use Rattle.frame_check.specs.Checks.{checksInOrder, overLimit, twiceOf}
-use Rattle.frame.specs.Frame.{opened, adding, partsFrom, partsOf, someOf, checkedLine, accepted, stepLine, atEnd, readLines, readFrame}
+use Rattle.frame.specs.Frame.{opened, adding, partsFrom, partsOf, someOf, checkedLine, accepted, stepLine, atEnd, readLines, readFrame, finish, givenOf, joinOf}
 use Rattle.frame.specs.ReadFrame.{xsOf, ysOf, pitchesOf, shaded, shadesOf, settingsOf, fullOf, passOf, sheetOf}
 use Rattle.frame_laws.specs.Calls.{frameCorners, callsOf}
 use Rattle.frame_agreement.specs.Reordering.{cornerLine, cornerShade, SameShades, SameButOrder}
@@ -75,11 +75,11 @@ use Rattle.answer_examples.proofs.Pair.{local-above, grow-above}
 -- ---- the texts are read
 
 first-read : readFrame shadedText ≡ accepted shadedFrame
-unfolding ofBits ofInt le lt eq digitValue readDigits endsOf outside digitsAfter readPositive readInteger pieceOf fitOf linesOf unheldWhole rows rowAt kindAt formAt turnAt mayEnd sortOf sortAt bitsAt wholeAt passLineOf firstFit readLine wildBits numberOutside someOutside outsideLine checksInOrder overLimit twiceOf opened adding partsFrom partsOf someOf checkedLine stepLine atEnd readLines readFrame
+unfolding ofBits ofInt le lt eq digitValue readDigits endsOf outside digitsAfter readPositive readInteger pieceOf fitOf linesOf unheldWhole rows rowAt kindAt formAt turnAt mayEnd sortOf sortAt bitsAt wholeAt passLineOf firstFit readLine wildBits numberOutside someOutside outsideLine checksInOrder overLimit twiceOf opened adding partsFrom partsOf someOf checkedLine joinOf finish stepLine atEnd readLines readFrame
 first-read = refl
 
 second-read : readFrame relistedText ≡ accepted relistedFrame
-unfolding ofBits ofInt le lt eq digitValue readDigits endsOf outside digitsAfter readPositive readInteger pieceOf fitOf linesOf unheldWhole rows rowAt kindAt formAt turnAt mayEnd sortOf sortAt bitsAt wholeAt passLineOf firstFit readLine wildBits numberOutside someOutside outsideLine checksInOrder overLimit twiceOf opened adding partsFrom partsOf someOf checkedLine stepLine atEnd readLines readFrame
+unfolding ofBits ofInt le lt eq digitValue readDigits endsOf outside digitsAfter readPositive readInteger pieceOf fitOf linesOf unheldWhole rows rowAt kindAt formAt turnAt mayEnd sortOf sortAt bitsAt wholeAt passLineOf firstFit readLine wildBits numberOutside someOutside outsideLine checksInOrder overLimit twiceOf opened adding partsFrom partsOf someOf checkedLine joinOf finish stepLine atEnd readLines readFrame
 second-read = refl
 
 -- ---- the pairing
@@ -111,7 +111,7 @@ same-shades =
 
 unfoldable same : SameButOrder shadedFrame relistedFrame
 unfolding kindAt bitsAt wholeAt passLineOf opened adding partsFrom partsOf
-same = record { opening = refl; count = refl; pairs = pairs; same-line = same-lines; labels = refl; shades = same-shades; passes = refl }
+same = record { opening = refl; count = refl; pairs = pairs; same-line = same-lines; labels = refl; patched = refl; second = refl; shades = same-shades; passes = refl }
 
 -- ---- what each pass leaves, by the places as in `Ran`
 
@@ -160,7 +160,7 @@ growLeft =
     }
 
 local-did : after shadedFrame localLine (givenIn shadedFrame) ≡ localLeft
-unfolding ofBits ofInt toBits add sub mul div neg lt le eq isFinite anyBelow kindTaken isKind takesKind shadeOf stands anyShade shadeAt unitsOf reaches climb rooted table concatenated every allFinite largest swapped gained cleared eliminated rightSides carried answered mean distance scaleOf normalizationOf forward mapRow moved normalized equation equations backward multiplied undone quotients scaledOf applied onSheet placeOf cellOf labelOfNumber numberOfLabel bitOf labelOf holeOf ambiguousOf wordOf cornerOf seenThrough passing namesCorner isLabelled lowerOf higherOf widened names onRim rimAt eligible squaredDistance insert ordered candidatesAt firstTwo chooseWithFloor lengthOf meanPitch expectedLength inBand edgeOk cardinalOffsets edgeTo followedBy tried verdictOf passes choiceBy cellsOf depthOf rowAmong columnAmong localRegion nearer placed byReach cellPoint picturedAt residualOf residualsOf trusted worst recorded recordedAll localSearch localLimit xsOf ysOf pitchesOf shaded shadesOf settingsOf fullOf passOf kindAt bitsAt wholeAt passLineOf opened adding partsFrom partsOf wordIn told anyIn labelIn putIn put gatheredBy edgesIn resultIn tryIn quickFitWith quickFitFrom quickFit localFitIn localWithIn isPassedOver passedOver unmatchedBy localTryIn localAtIn localVisitIn walk oneRound roundsFrom unmatchedIf localAfterIn afterPassIn labelledIn
+unfolding ofBits ofInt toBits add sub mul div neg lt le eq isFinite anyBelow kindTaken isKind takesKind shadeOf stands anyShade shadeAt unitsOf reaches climb rooted table concatenated every allFinite largest swapped gained cleared eliminated rightSides carried answered mean distance scaleOf normalizationOf forward mapRow moved normalized equation equations backward multiplied undone quotients scaledOf applied onSheet placeOf cellOf labelOfNumber numberOfLabel bitOf labelOf holeOf ambiguousOf wordOf cornerOf seenThrough passing namesCorner isLabelled lowerOf higherOf widened names onRim rimAt eligible squaredDistance insert ordered candidatesAt firstTwo chooseWithFloor lengthOf meanPitch expectedLength inBand edgeOk cardinalOffsets edgeTo followedBy tried verdictOf passes choiceBy cellsOf depthOf rowAmong columnAmong localRegion nearer placed byReach cellPoint picturedAt residualOf residualsOf trusted worst recorded recordedAll localSearch localLimit xsOf ysOf pitchesOf shaded shadesOf settingsOf fullOf passOf kindAt bitsAt wholeAt passLineOf opened adding partsFrom partsOf wordIn told anyIn labelIn putIn put gatheredBy edgesIn resultIn tryIn quickFitWith quickFitFrom quickFit localFitIn localWithIn isPassedOver passedOver unmatchedBy localTryIn localAtIn localVisitIn walk oneRound roundsFrom unmatchedIf localAfterIn afterPassIn labelledIn givenOf joinOf
 local-did = refl
 
 grow-did : after shadedFrame growLine (localLeft .sheet) ≡ growLeft

@@ -2,12 +2,11 @@
 -- answer. Definitions only.
 use mathlib.Core.List.{List, [], _∷_, _++_, map}
 use Prim.Native.Nat.{ℕ}
-use lib.IntN.{natAbs}
 use Rattle.sheet.specs.Cells.{cellOf}
 use Rattle.sheet.specs.Words.{labelOf}
 use Rattle.passes.specs.Run.{PassStats}
-use Rattle.frame_line.specs.Lines.{LabelLine}
-use Rattle.frame.specs.Frame.{Frame, partsOf}
+use Rattle.join.specs.Rule.{Placed}
+use Rattle.frame.specs.Frame.{Frame, partsOf, givenOf}
 use Rattle.frame_laws.specs.Calls.{frameCorners, callsOf}
 use Rattle.report_line.specs.Result.{labelLine, passLines, heading}
 use Rattle.frame_answer.specs.Answer.{statsOf}
@@ -17,12 +16,12 @@ use Rattle.written_places.specs.Run.{Asked, runs, RunIn, runIn}
 use Rattle.written_places.specs.Text.{holeSays, ambiguousSays, textIn}
 
 -- the written places with some labels more, and those of the given labels
-unfoldable pub labelledIn : List Written → List LabelLine → List Written
+unfoldable pub labelledIn : List Written → List Placed → List Written
 labelledIn w [] = w
-labelledIn w (l ∷ ls) = labelledIn (attachedIn w (l .cell) (natAbs (l .corner))) ls
+labelledIn w (l ∷ ls) = labelledIn (attachedIn w (l .cell) (l .corner)) ls
 
 abbrev pub givenIn : Frame → List Written
-givenIn f = labelledIn [] (partsOf f .labels)
+givenIn f = labelledIn [] (givenOf (partsOf f))
 
 -- a frame's passes, all of which run
 abbrev pub asked : Frame → List Asked

@@ -121,6 +121,8 @@ module _ (l : Lent) (settings : Settings) (pass : Pass) where
       (not-unknown _ _ (w .3)) (doubled _ (w .4)))
   meant (Checked.Refused Refusal.Malformed) w = absurd w
   meant (Checked.Refused Refusal.OffSheet) w = absurd w
+  meant (Checked.Refused Refusal.NoSharedCorner) w = absurd w
+  meant (Checked.Refused Refusal.PatchesClash) w = absurd w
 
 pub refused-exactly-if : RefusedExactlyIf
 refused-exactly-if l settings pass answer = (λ e. subst (Meaning l settings pass) e (means l settings pass), meant l settings pass answer)

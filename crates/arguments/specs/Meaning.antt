@@ -31,7 +31,8 @@ pub record NamesUnknown (n : ℕ) (sheet : List ℕ) : Type 0 where
   pub holds : labelOf (getD sheet place 0) ≡ Label.Corner corner
   pub unknown : n ≤ corner
 
--- What each number means, beside that none of those tried before it does. 1 and 4 speak of a frame's lines: no call is refused so.
+-- What each number means, beside that none of those tried before it does. 1 and 4 speak of a frame's lines, 8 and 9 of its patches: no call is refused
+-- so.
 abbrev pub RefusedFor : Lent → Settings → Pass → Refusal → Type 0
 -- 7, short: some lent buffer is not as long as needed
 RefusedFor l settings pass Refusal.BufferTooShort = LongEnough l pass → ⊥
@@ -47,6 +48,8 @@ RefusedFor l settings pass Refusal.Duplicate =
     LongEnough l pass × (cornerCount l ≤ cornerLimit) × NumbersInside l settings pass × Known (cornerCount l) (l .sheet) × OnTwoPlaces (l .sheet)
 RefusedFor l settings pass Refusal.Malformed = ⊥
 RefusedFor l settings pass Refusal.OffSheet = ⊥
+RefusedFor l settings pass Refusal.NoSharedCorner = ⊥
+RefusedFor l settings pass Refusal.PatchesClash = ⊥
 
 -- what each answer of the checks means
 abbrev pub Meaning : Lent → Settings → Pass → Checked → Type 0

@@ -1,9 +1,9 @@
 -- A line as the code checks it and adds it is checked and held as the definition says, part by part; nothing is held before the first. Assumes
 -- nothing.
 use mathlib.Core.Path.{_≡_, refl, sym, ap, ap₂, _∙_, subst}
-use mathlib.Core.Bool.{Bool, true, false, _||_, not, or-true, or-false, or-assoc}
+use mathlib.Core.Bool.{Bool, true, false, _||_, not, cond, or-true, or-false, or-assoc, or-comm}
 use mathlib.Core.Logic.{_⊎_, inl, inr}
-use mathlib.Core.List.{List, [], _∷_, _++_, append-assoc, append-nil, map-append}
+use mathlib.Core.List.{List, [], _∷_, _++_, map, append-assoc, append-nil, map-append}
 use Prim.Native.Nat.{ℕ, _≤_, suc, _+_, _*_, _<_}
 use native.Mathlib.Omega.{arith}
 use borrow.Author.Tests.{ne-eqb, eq-eqb, eqb-true, eqb-false, leb-false, ltb-true, ltb-false}
@@ -14,9 +14,18 @@ use lib.Seq.{getD-set-same, getD-set-other, take-suc-set}
 use lib.Ieee.{Float}
 use Rattle.sheet.specs.Cells.{eqZ, OnSheet, placeOf}
 use Rattle.sheet.specs.declared.Cell.{Cell}
-use Rattle.sheet.proofs.Laws.{eqZ-equal, equal-eqZ, place-in, place-one}
-use Rattle.sheet.specs.Words.{numberOfLabel, wordOf, withLabel, wordAt, attached, emptySheet}
-use Rattle.labels.proofs.Below.{both}
+use Rattle.sheet.proofs.Laws.{place-in, cell-place, place-one}
+use Rattle.sheet.specs.Words.{numberOfLabel, wordOf, withLabel as withLabelWord, wordAt, attached, emptySheet}
+use Rattle.labels.specs.Labelled.{anyBelow}
+use Rattle.labels.proofs.Below.{passing-one-more, any-start, any-more, any-ext}
+use Rattle.labels.proofs.Count.{many-ext, many-none}
+use Rattle.arguments.proofs.Chains.{or-false-both}
+use Rattle.join.specs.Rule.{Placed, All}
+use Rattle.join.specs.Join.{sameCell}
+use Rattle.join.specs.Sheets.{labelled}
+use Rattle.join.proofs.Lists.{same-cell, cell-same}
+use Rattle.join.proofs.Sets.{labelled-append}
+use Rattle.join_sheet.proofs.OneMore.{withLast, place-else, place-last, held-none, held-more, second-more, second-none}
 use Rattle.arguments.specs.declared.Checked.{Checked}
 use Rattle.line_form.specs.Held.{heldUpTo}
 use Rattle.frame_line.specs.Lines.{Line, kindOf, Proper, labelLineOf, wholeAt, CornerLine, cornerLineOf, LabelLine, ShadeLine, shadeLineOf, PassLine, passLineOf}
@@ -32,14 +41,17 @@ use Rattle.frame_line.specs.declared.HeldLabel.{HeldLabel}
 use Rattle.frame_line.specs.declared.HeldShade.{HeldShade}
 use Rattle.frame_line.proofs.Shapes.{bits-held, whole-held}
 use Rattle.frame_line.proofs.Words.{tame-count}
-use Rattle.frame_check.specs.Checks.{checksInOrder, overLimit, labelTwice, shadeTwice, twiceOf, checkedHeld, isSet}
+use Rattle.frame_check.specs.Checks.{checksInOrder, overLimit, firstTwice, secondTwice, labelTwice, shadeTwice, twiceOf, hasPlace, checkedHeld, isSet}
 use Rattle.frame_check.proofs.Laws.{checks-alike, AllFine, fine-all}
-use Rattle.sizes.specs.Sizes.{cornerLimit, passLimit, placeCount, allPassWords}
-use Rattle.frame_state.specs.State.{usedCount, withOpening, shadePut, wordsIn, wordsPut, State, addsAs, adds, atStage, nothing-said, arrays, state}
+use Rattle.sizes.specs.Sizes.{cornerLimit, passLimit, placeCount, usedCount, secondCount, allPassWords}
+use Rattle.frame_state.specs.State.{withOpening, labelsAfter, labelAdded, shadePut, wordsIn, wordsPut, State, addsAs, adds, atStage, nothing-said, arrays, state}
 use Rattle.frame_state.specs.declared.PassWords.{PassWords}
-use Rattle.frame.specs.Frame.{outsideIn, overIn, twiceIn, Parts, sameCell, someOf, doubled, shadedBefore, checkedLine, opened, adding, added, no-parts}
-use Rattle.frame.specs.Reading.{cornerTaken, cornerShaded, HoldsLabels, HoldsShades, Holds, HoldsCorners, HoldsPasses, FrameHeld}
-use Rattle.frame.specs.ReadFrame.{floatOf, settingsIn, shaded, labelled, fullOf, wordsOf, allWords}
+use Rattle.frame_state.proofs.Laws.{many-room}
+use Rattle.frame.specs.Frame.{outsideIn, overIn, twiceIn, Parts, someOf, collide, doubled, openLabels, placed, withLabel, shadedBefore, checkedLine, opened, adding, added, no-parts}
+use Rattle.frame.specs.Text.{Sound}
+use Rattle.frame.specs.Reading.{cellTaken, cornerTaken, cornerShaded, HoldsUsed, CheckedLabels, HoldsLabels, HoldsSecond, HoldsShades, Holds, HoldsCorners, HoldsPasses, FrameHeld}
+use Rattle.frame.specs.ReadFrame.{floatOf, settingsIn, shaded, fullOf, wordsOf, allWords}
+use Rattle.frame.proofs.Sets.{same-truth, all-then, apart-more}
 
 pub below-or-not : (a b : ℕ) → (a < b) ⊎ (b ≤ a)
 below-or-not a b = go (ltb a b) refl
@@ -47,19 +59,6 @@ below-or-not a b = go (ltb a b) refl
     go : (t : Bool) → ltb a b ≡ t → (a < b) ⊎ (b ≤ a)
     go true e = inl (ltb-true a b e)
     go false e = inr (ltb-false a b e)
-
-pub same-truth : (a b : Bool) → (a ≡ true → b ≡ true) → (b ≡ true → a ≡ true) → a ≡ b
-same-truth true b f g = sym (f refl)
-same-truth false true f g = g refl
-same-truth false false f g = refl
-
-pub same-cell : (c d : Cell) → sameCell c d ≡ true → c ≡ d
-same-cell c d e =
-    let s = both (eqZ (c .i) (d .i)) (eqZ (c .j) (d .j)) e in
-    λ t. record { i = eqZ-equal (c .i) (d .i) (s .0) t; j = eqZ-equal (c .j) (d .j) (s .1) t }
-
-pub cell-same : (c d : Cell) → c ≡ d → sameCell c d ≡ true
-cell-same c d e = rw (equal-eqZ (c .i) (d .i) (ap (λ (k : Cell). k .i) e), equal-eqZ (c .j) (d .j) (ap (λ (k : Cell). k .j) e))
 
 or-swap : (a b c d : Bool) → ((a || b) || (c || d)) ≡ ((a || c) || (b || d))
 or-swap true b c d = refl
@@ -87,19 +86,28 @@ unfolding twiceOf
 twice-alike (Kind.Opening o) h i = refl
 twice-alike Kind.Corner h i = refl
 twice-alike Kind.Label h i = h refl
+twice-alike Kind.Patch h i = refl
 twice-alike Kind.Shade h i = i refl
 twice-alike (Kind.Pass p) h i = refl
 
 module _ (f : Parts) (s : State) (g : FrameHeld f s) (l : Line) (p : Proper l) where
+  -- whether a label is doubled in the set that is open, t being whether that is the second
+  set-twice : (m : LabelLine) → OnSheet (m .cell) → m .corner ≡ pos (natAbs (m .corner)) → natAbs (m .corner) < cornerLimit → (t : Bool)
+      → labelTwice t (s .held .sheet) (s .held .used) (s .held .second) (s .progress .second) (record { corner = natAbs (m .corner); cell = m .cell })
+      ≡ (cellTaken (cond t (f .second) (f .labels)) (m .cell) || cornerTaken (cond t (f .second) (f .labels)) (m .corner))
+  set-twice m on is small true =
+      ap₂ _||_ (g .second .cells (m .cell) on) (g .second .uses .corners (natAbs (m .corner)) small ∙ ap (cornerTaken (f .second)) (sym is))
+  set-twice m on is small false =
+      ap₂ _||_ (g .labels .cells (m .cell) on) (g .labels .uses .corners (natAbs (m .corner)) small ∙ ap (cornerTaken (f .labels)) (sym is))
+
   twice : outsideLine 4 (s .progress .corners) l ≡ false → outsideLine 5 (s .progress .corners) l ≡ false → kindOf l ≡ Kind.Label
-      → labelTwice (s .held .sheet) (s .held .used) (labelIn (heldUpTo 5 (l .numbers))) ≡ doubled (f .labels) (labelLineOf (l .numbers))
+      → labelTwice (s .progress .patched) (s .held .sheet) (s .held .used) (s .held .second) (s .progress .second) (labelIn (heldUpTo 5 (l .numbers))) ≡ doubled (openLabels f) (labelLineOf (l .numbers))
   twice off known k =
       let h = label-exact (s .progress .corners) l p k (g .corners .xs-held .some) off known in
       let m = labelLineOf (l .numbers) in
-      ap (labelTwice (s .held .sheet) (s .held .used)) (h .held-so)
-      ∙ ap₂ _||_ (g .labels .cells (m .cell) (h .on-sheet))
-      (g .labels .corners (natAbs (m .corner)) (omega (arith, h .given, g .corners .xs-held .some)) ∙ ap (cornerTaken (f .labels)) (sym (h .is-corner)))
-      ∙ sym (some-either (λ k. sameCell (k .cell) (m .cell)) (λ k. eqZ (k .corner) (m .corner)) (f .labels))
+      ap₂ (λ (t : Bool) (x : HeldLabel). labelTwice t (s .held .sheet) (s .held .used) (s .held .second) (s .progress .second) x) (g .patched) (h .held-so)
+      ∙ set-twice m (h .on-sheet) (h .is-corner) (omega (arith, h .given, g .corners .xs-held .some)) (f .patched)
+      ∙ sym (some-either (λ k. sameCell (k .cell) (m .cell)) (λ k. eqZ (k .corner) (m .corner)) (openLabels f))
 
   twice-shaded : outsideLine 5 (s .progress .corners) l ≡ false → kindOf l ≡ Kind.Shade
       → shadeTwice (s .held .shades) (shadeIn (heldUpTo 5 (l .numbers))) ≡ shadedBefore (f .shades) (shadeLineOf (l .numbers))
@@ -110,7 +118,10 @@ module _ (f : Parts) (s : State) (g : FrameHeld f s) (l : Line) (p : Proper l) w
       ∙ g .shades .corners (natAbs (m .corner)) (omega (arith, h .given, g .corners .xs-held .some)) ∙ ap (cornerShaded (f .shades)) (sym (h .is-corner))
 
   -- all checks
-  pub checks-agree : checkedHeld (s .progress .corners) (s .progress .passes) (s .held .shades) (s .held .sheet) (s .held .used) (heldLine l) ≡ checkedLine f l
+  pub checks-agree :
+      checkedHeld (s .progress .corners) (s .progress .passes) (s .progress .patched) (s .held .shades) (s .held .sheet) (s .held .used) (s .held .second)
+      (s .progress .second) (heldLine l)
+      ≡ checkedLine f l
   unfolding checkedHeld checkedLine
   checks-agree =
       checks-alike (λ r. outsideHeld r (s .progress .corners) (heldLine l)) (λ r. outsideLine r (s .progress .corners) l)
@@ -123,10 +134,9 @@ module _ (f : Parts) (s : State) (g : FrameHeld f s) (l : Line) (p : Proper l) w
 -- ---- one more at the end
 
 labelled-more : (sheet : List ℕ) (ls : List LabelLine) (l : LabelLine)
-    → labelled sheet (ls ++ (l ∷ [])) ≡ attached (labelled sheet ls) (l .cell) (natAbs (l .corner))
+    → labelled sheet (map placed (ls ++ (l ∷ []))) ≡ attached (labelled sheet (map placed ls)) (l .cell) (natAbs (l .corner))
 unfolding labelled
-labelled-more sheet [] l = refl
-labelled-more sheet (m ∷ ls) l = labelled-more (attached sheet (m .cell) (natAbs (m .corner))) ls l
+labelled-more sheet ls l = rw map-append (labelled-append (map placed ls) (placed l ∷ []) sheet)
 
 shaded-more : (shades : List ℕ) (ss : List ShadeLine) (s : ShadeLine)
     → shaded shades (ss ++ (s ∷ [])) ≡ set (shaded shades ss) (natAbs (s .corner)) (natAbs (s .kind) + 1)
@@ -186,31 +196,143 @@ place-same c d g h =
     same-truth _ _ (λ e. cell-same c d (place-one c d g h (eqb-true (placeOf c) (placeOf d) e)))
     (λ e. ap (λ (k : Cell). eqb (placeOf c) (placeOf k)) (sym (same-cell c d e)) ∙ eq-eqb (placeOf c) (placeOf c) refl)
 
-word-some : (w k : ℕ) → withLabel w k ≡ 0 → ⊥
+word-some : (w k : ℕ) → withLabelWord w k ≡ 0 → ⊥
 unfolding wordOf numberOfLabel
 word-some w k e = omega arith
 
-label-held : {ls : List LabelLine} {sheet used : List ℕ} → HoldsLabels ls sheet used → (l : LabelLine) (k : ℕ) → OnSheet (l .cell) → l .corner ≡ pos k
-    → k < cornerLimit
-    → HoldsLabels (ls ++ (l ∷ [])) (attached sheet (l .cell) k) (set used k 1)
-unfolding attached
-label-held {ls} {sheet} {used} g l k on is small =
-    let w = withLabel (wordAt sheet (l .cell)) k in
+-- another entry is as it was
+set-else : (entries : List ℕ) (p q w : ℕ) → (q ≡ p → ⊥) → isSet (set entries p w) q ≡ isSet entries q
+set-else entries p q w d = ap (λ (v : ℕ). not (eqb v 0)) (getD-set-other entries p q w 0 d)
+
+-- both a number higher
+shift-eqb : (n p q : ℕ) → eqb (n + p) (n + q) ≡ eqb p q
+shift-eqb n p q =
+    same-truth _ _ (λ e. let d = eqb-true (n + p) (n + q) e in eq-eqb p q (omega arith))
+    (λ e. let d = eqb-true p q e in eq-eqb (n + p) (n + q) (ap (λ (k : ℕ). n + k) d))
+
+-- ---- the corners used
+
+-- one label more uses one corner more
+used-more : {ls : List LabelLine} {n : ℕ} {uses uses' : ℕ → Bool} → HoldsUsed ls n uses → (l : LabelLine) (k : ℕ) → l .corner ≡ pos k → k < cornerLimit
+    → cornerTaken ls (l .corner) ≡ false → ((q : ℕ) → q < cornerLimit → uses' q ≡ (uses q || eqb k q)) → HoldsUsed (ls ++ (l ∷ [])) (n + 1) uses'
+used-more {ls} {n} {uses} {uses'} g l k is small free same =
     record {
-      sheet-is = rw (labelled-more emptySheet ls l, is, ← g .sheet-is);
-      sheet-long = length-set sheet (placeOf (l .cell)) w ∙ g .sheet-long;
-      used-long = length-set used k 1 ∙ g .used-long;
-      cells =
-          λ c h.
-          set-set sheet (placeOf (l .cell)) (placeOf c) w (omega (arith, place-in (l .cell) on, g .sheet-long)) (word-some (wordAt sheet (l .cell)) k)
-          ∙ ap₂ _||_ (g .cells c h) (place-same (l .cell) c on h)
-          ∙ sym (some-more (λ m. sameCell (m .cell) c) ls l);
+      count = simp length-append (omega (arith, g .count));
       corners =
           λ q h.
-          set-set used k q 1 (omega (arith, g .used-long)) (λ e. omega arith)
-          ∙ ap₂ _||_ (g .corners q h) (sym (ap (λ (z : ℤ). eqZ z (pos q)) is))
-          ∙ sym (some-more (λ m. eqZ (m .corner) (pos q)) ls l);
+          same q h ∙ ap₂ _||_ (g .corners q h) (sym (ap (λ (z : ℤ). eqZ z (pos q)) is)) ∙ sym (some-more (λ m. eqZ (m .corner) (pos q)) ls l);
+      many =
+          passing-one-more uses uses' cornerLimit k small (g .corners k small ∙ ap (cornerTaken ls) (sym is) ∙ free)
+          (same k small ∙ ap (λ (t : Bool). uses k || t) (eq-eqb k k refl) ∙ or-true (uses k))
+          (λ q h d. same q h ∙ ap (λ (t : Bool). uses q || t) (ne-eqb k q (λ e. d (sym e))) ∙ or-false (uses q))
+          ∙ ap (λ (m : ℕ). m + 1) (g .many);
     }
+
+used-kept : {ls : List LabelLine} {n : ℕ} {uses uses' : ℕ → Bool} → HoldsUsed ls n uses → ((q : ℕ) → q < cornerLimit → uses' q ≡ uses q)
+    → HoldsUsed ls n uses'
+used-kept g same =
+    record { count = g .count; corners = λ q h. same q h ∙ g .corners q h; many = many-ext _ _ cornerLimit same ∙ g .many }
+
+-- ---- a label of either set
+
+-- a label that is checked: its corner k is below 1,024, it is on the sheet, and the set has neither its cell nor its corner
+record NewLabel (ls : List LabelLine) (l : LabelLine) (k : ℕ) : Type 0 where
+  on : OnSheet (l .cell)
+  is : l .corner ≡ pos k
+  small : k < cornerLimit
+  once : doubled ls l ≡ false
+
+module _ {ls : List LabelLine} {l : LabelLine} {k : ℕ} (w : NewLabel ls l k) where
+  free : cornerTaken ls (l .corner) ≡ false
+  free =
+      or-false-both (cellTaken ls (l .cell)) (cornerTaken ls (l .corner))
+      (sym (some-either (λ m. sameCell (m .cell) (l .cell)) (λ m. eqZ (m .corner) (l .corner)) ls) ∙ w .once) .1
+
+  checked-more : CheckedLabels ls → CheckedLabels (ls ++ (l ∷ []))
+  checked-more c =
+      record {
+        sound = all-then (Sound cornerLimit) ls (l ∷ []) (c .sound) (record { on-sheet = w .on; corner = k; is-corner = w .is; given = w .small }, tt);
+        once = apart-more ls l (c .once) (w .once);
+      }
+
+-- so there is room for it
+more-room : {ls : List LabelLine} {n : ℕ} {uses : ℕ → Bool} → HoldsUsed ls n uses → {l : LabelLine} {k : ℕ} → NewLabel ls l k → n < cornerLimit
+more-room {uses = uses} g {k = k} w =
+    omega (arith, g .many, many-room uses cornerLimit k (w .small) (g .corners k (w .small) ∙ ap (cornerTaken _) (sym (w .is)) ∙ free w))
+
+-- a label of the first set: the second stays
+module _ {ls : List LabelLine} {l : LabelLine} {k : ℕ} (w : NewLabel ls l k) (used : List ℕ) (long : length used ≡ usedCount) where
+  label-held : {n : ℕ} {sheet : List ℕ} → HoldsLabels ls n sheet used → HoldsLabels (ls ++ (l ∷ [])) (n + 1) (attached sheet (l .cell) k) (set used k 1)
+  unfolding attached
+  label-held {sheet = sheet} g =
+      let v = withLabelWord (wordAt sheet (l .cell)) k in
+      record {
+        sheet-is = rw (labelled-more emptySheet ls l, w .is, ← g .sheet-is);
+        sheet-long = length-set sheet (placeOf (l .cell)) v ∙ g .sheet-long;
+        cells =
+            λ c h.
+            set-set sheet (placeOf (l .cell)) (placeOf c) v (omega (arith, place-in (l .cell) (w .on), g .sheet-long)) (word-some (wordAt sheet (l .cell)) k)
+            ∙ ap₂ _||_ (g .cells c h) (place-same (l .cell) c (w .on) h)
+            ∙ sym (some-more (λ m. sameCell (m .cell) c) ls l);
+        uses = used-more (g .uses) l k (w .is) (w .small) (free w) (λ q h. set-set used k q 1 (omega (arith, w .small)) (λ e. omega arith));
+        checked = checked-more w (g .checked);
+      }
+
+  second-kept : {ls' : List LabelLine} {m : ℕ} {second : List ℕ} → HoldsSecond ls' m used second → HoldsSecond ls' m (set used k 1) second
+  second-kept g =
+      record {
+        labels-are = g .labels-are;
+        fits = g .fits;
+        second-long = g .second-long;
+        cells = g .cells;
+        uses = used-kept (g .uses) (λ q h. set-else used k (cornerLimit + q) 1 (λ e. omega (arith, w .small)));
+      }
+
+-- a label of the second set: the first stays
+module _ {ls : List LabelLine} {l : LabelLine} {k : ℕ} (w : NewLabel ls l k) (used : List ℕ) (long : length used ≡ usedCount) where
+  abbrev place : ℕ
+  place = placeOf (l .cell)
+
+  abbrev after : List ℕ
+  after = set used (cornerLimit + k) 1
+
+  place-small : place < placeCount
+  place-small = place-in (l .cell) (w .on)
+
+  second-held : {m : ℕ} {second : List ℕ} → HoldsSecond ls m used second → m < cornerLimit
+      → HoldsSecond (ls ++ (l ∷ [])) (m + 1) after (set (set second m k) (cornerLimit + m) place)
+  second-held {m} {second} g room =
+      record {
+        labels-are =
+            held-more second (g .second-long) m k place room
+            ∙ ap₂ (λ (a b : List Placed). a ++ b) (g .labels-are)
+            (λ t. record { corner = (sym (ap natAbs (w .is))) t; cell = cell-place (l .cell) (w .on) t } ∷ [])
+            ∙ sym (map-append placed ls (l ∷ []));
+        fits = second-more second (g .second-long) m k place room (g .fits) (w .small) place-small;
+        second-long = length-set (set second m k) (cornerLimit + m) place ∙ length-set second m k ∙ g .second-long;
+        cells =
+            λ c h.
+            any-more (hasPlace (withLast second m k place) (placeOf c)) m
+            ∙ or-comm (hasPlace (withLast second m k place) (placeOf c) m) (anyBelow m (hasPlace (withLast second m k place) (placeOf c)))
+            ∙ ap₂ _||_ (any-ext _ _ m (λ i b. ap (λ (v : ℕ). eqb v (placeOf c)) (place-else second (g .second-long) m k place room i b)) ∙ g .cells c h)
+            (ap (λ (v : ℕ). eqb v (placeOf c)) (place-last second (g .second-long) m k place room) ∙ place-same (l .cell) c (w .on) h)
+            ∙ sym (some-more (λ n. sameCell (n .cell) c) ls l);
+        uses =
+            used-more (g .uses) l k (w .is) (w .small) (free w)
+            (λ q h.
+            set-set used (cornerLimit + k) (cornerLimit + q) 1 (omega (arith, long, w .small)) (λ e. omega arith)
+            ∙ ap (λ (t : Bool). isSet used (cornerLimit + q) || t) (shift-eqb cornerLimit k q));
+      }
+
+  label-kept : {ls' : List LabelLine} {n : ℕ} {sheet : List ℕ} → HoldsLabels ls' n sheet used → HoldsLabels ls' n sheet after
+  label-kept g =
+      record {
+        sheet-is = g .sheet-is;
+        sheet-long = g .sheet-long;
+        cells = g .cells;
+        uses = used-kept (g .uses) (λ q h. set-else used (cornerLimit + k) q 1 (λ e. omega arith));
+        checked = g .checked;
+      }
 
 -- ---- shades
 
@@ -288,10 +410,75 @@ module _ (f : Parts) (s : State) (g : FrameHeld f s) (l : Line) (p : Proper l) (
       let depth = ap countIn (c 4 (omega arith) refl) ∙ tame-count 4 (wholeAt 4 (l .numbers)) (omega arith) (tame .1 .1 .1 .1) in
       rw (b 0 (omega arith) refl, b 1 (omega arith) refl, b 3 (omega arith) refl, rounds, depth)
 
+  -- the room for a label of the second set: each label of it uses another corner
+  second-room : {k : ℕ} → NewLabel (f .second) (labelLineOf (l .numbers)) k → s .progress .second < cornerLimit
+  second-room {k} n = more-room (g .second .uses) n
+
+  -- a label is added to the set that is open, t being whether that is the second
+  abbrev partsWith : Bool → Parts
+  partsWith t =
+      let m = labelLineOf (l .numbers) in
+      record {
+        opening = f .opening;
+        corners = f .corners;
+        labels = cond t (f .labels) (f .labels ++ (m ∷ []));
+        patched = f .patched;
+        second = cond t (f .second ++ (m ∷ [])) (f .second);
+        shades = f .shades;
+        passes = f .passes;
+      }
+
+  abbrev stateWith : Bool → HeldLabel → State
+  stateWith t x =
+      let h = s .held in
+      let b = labelAdded t x (labelsAfter (s .progress) (h .sheet) (h .used) (h .second)) in
+      state (b .progress) (arrays (h .xs) (h .ys) (h .pitches) (h .shades) (b .sheet) (b .used) (b .second) (h .passes))
+
+  label-in : (t : Bool) (k : ℕ) → NewLabel (cond t (f .second) (f .labels)) (labelLineOf (l .numbers)) k
+      → FrameHeld (partsWith t) (stateWith t (record { corner = k; cell = labelLineOf (l .numbers) .cell }))
+  label-in true k n =
+      record {
+        settings-are = g .settings-are;
+        corners = g .corners;
+        used-long = length-set (s .held .used) (cornerLimit + k) 1 ∙ g .used-long;
+        labels = label-kept n (s .held .used) (g .used-long) (g .labels);
+        patched = g .patched;
+        second = second-held n (s .held .used) (g .used-long) (g .second) (second-room n);
+        shades = g .shades;
+        passes = g .passes;
+      }
+  label-in false k n =
+      record {
+        settings-are = g .settings-are;
+        corners = g .corners;
+        used-long = length-set (s .held .used) k 1 ∙ g .used-long;
+        labels = label-held n (s .held .used) (g .used-long) (g .labels);
+        patched = g .patched;
+        second = second-kept n (s .held .used) (g .used-long) (g .second);
+        shades = g .shades;
+        passes = g .passes;
+      }
+
+  label-by : {x : HeldLabel} {k : ℕ} → x ≡ record { corner = k; cell = labelLineOf (l .numbers) .cell }
+      → NewLabel (openLabels f) (labelLineOf (l .numbers)) k → FrameHeld (partsWith (f .patched)) (stateWith (s .progress .patched) x)
+  label-by {x} {k} e n =
+      subst (λ (t : Bool). FrameHeld (partsWith (f .patched)) (stateWith t x)) (sym (g .patched))
+      (subst (λ (y : HeldLabel). FrameHeld (partsWith (f .patched)) (stateWith (f .patched) y)) (sym e) (label-in (f .patched) k n))
+
   -- a line of a kind changes its own part
   by-kind : (kind : Kind) → kindOf l ≡ kind → FrameHeld (adding kind (l .numbers) f) (addsAs kind (heldUpTo 5 (l .numbers)) s)
-  unfolding adding addsAs overLimit slotsOf formAt rowAt rows
-  by-kind (Kind.Opening k) e = record { settings-are = settings-added k e; corners = g .corners; labels = g .labels; shades = g .shades; passes = g .passes }
+  unfolding adding addsAs overLimit twiceOf slotsOf formAt rowAt rows
+  by-kind (Kind.Opening k) e =
+      record {
+        settings-are = settings-added k e;
+        corners = g .corners;
+        used-long = g .used-long;
+        labels = g .labels;
+        patched = g .patched;
+        second = g .second;
+        shades = g .shades;
+        passes = g .passes;
+      }
   by-kind Kind.Corner e =
       let b = bits-held l p Kind.Corner e in
       let n = leb-false cornerLimit (length (f .corners)) (room Kind.Corner e) in
@@ -300,7 +487,10 @@ module _ (f : Parts) (s : State) (g : FrameHeld f s) (l : Line) (p : Proper l) (
         corners =
             rw (b 0 (omega arith) refl, b 1 (omega arith) refl, b 2 (omega arith) refl)
             (corner-held (g .corners) (omega (arith, g .corners .count)) (cornerLineOf (l .numbers)));
+        used-long = g .used-long;
         labels = g .labels;
+        patched = g .patched;
+        second = g .second;
         shades = g .shades;
         passes = g .passes;
       }
@@ -308,13 +498,21 @@ module _ (f : Parts) (s : State) (g : FrameHeld f s) (l : Line) (p : Proper l) (
       let few : length (f .corners) ≤ cornerLimit = omega (arith, g .corners .count, g .corners .xs-held .some) in
       let h = label-exact (length (f .corners)) l p e few (w .on) (w .known) in
       let m = labelLineOf (l .numbers) in
+      label-by (h .held-so)
+      (record {
+        on = h .on-sheet;
+        is = h .is-corner;
+        small = omega (arith, h .given, few);
+        once = sym (ap (λ (kind : Kind). twiceIn f kind (l .numbers)) e) ∙ w .once;
+      })
+  by-kind Kind.Patch e =
       record {
         settings-are = g .settings-are;
         corners = g .corners;
-        labels =
-            subst (λ (x : HeldLabel). HoldsLabels (f .labels ++ (m ∷ [])) (attached (s .held .sheet) (x .cell) (x .corner)) (set (s .held .used) (x .corner) 1))
-            (sym (h .held-so))
-            (label-held (g .labels) m (natAbs (m .corner)) (h .on-sheet) (h .is-corner) (omega (arith, h .given, few)));
+        used-long = g .used-long;
+        labels = g .labels;
+        patched = refl;
+        second = g .second;
         shades = g .shades;
         passes = g .passes;
       }
@@ -328,7 +526,10 @@ module _ (f : Parts) (s : State) (g : FrameHeld f s) (l : Line) (p : Proper l) (
       record {
         settings-are = g .settings-are;
         corners = g .corners;
+        used-long = g .used-long;
         labels = g .labels;
+        patched = g .patched;
+        second = g .second;
         shades =
             subst (λ (x : HeldShade). HoldsShades (f .shades ++ (m ∷ [])) (shadePut x (s .held .shades))) so
             (shade-held (g .shades) m (h .is-corner) (omega (arith, h .given, few)));
@@ -339,7 +540,10 @@ module _ (f : Parts) (s : State) (g : FrameHeld f s) (l : Line) (p : Proper l) (
       record {
         settings-are = g .settings-are;
         corners = g .corners;
+        used-long = g .used-long;
         labels = g .labels;
+        patched = g .patched;
+        second = g .second;
         shades = g .shades;
         passes = pass-held (g .passes) (omega (arith, g .passes .count)) (passLineOf k (l .numbers)) (wordsIn k (heldUpTo 5 (l .numbers))) (words-agree k e);
       }
@@ -349,7 +553,17 @@ module _ (f : Parts) (s : State) (g : FrameHeld f s) (l : Line) (p : Proper l) (
 
 -- the stage is not held
 pub restaged : (f : Parts) (s : State) (stage : ℕ) → FrameHeld f s → FrameHeld f (state (atStage (s .progress) stage) (s .held))
-restaged f s stage g = record { settings-are = g .settings-are; corners = g .corners; labels = g .labels; shades = g .shades; passes = g .passes }
+restaged f s stage g =
+    record {
+      settings-are = g .settings-are;
+      corners = g .corners;
+      used-long = g .used-long;
+      labels = g .labels;
+      patched = g .patched;
+      second = g .second;
+      shades = g .shades;
+      passes = g .passes;
+    }
 
 -- ---- before the first line
 
@@ -359,15 +573,30 @@ none-set n k h = ap (λ (v : ℕ). not (eqb v 0)) (getD-replicate n k 0 0 h)
 holds-none : {A : Type 0} (size : ℕ) (a : A) → Holds size 0 (replicate size a) []
 holds-none size a = record { long = length-replicate size a; some = omega arith; are = refl }
 
-no-labels : HoldsLabels [] (replicate placeCount 0) (replicate usedCount 0)
+none-used : (uses : ℕ → Bool) → ((k : ℕ) → k < cornerLimit → uses k ≡ false) → HoldsUsed [] 0 uses
+unfolding someOf
+none-used uses h = record { count = refl; corners = h; many = many-none uses cornerLimit h }
+
+no-labels : HoldsLabels [] 0 (replicate placeCount 0) (replicate usedCount 0)
 unfolding someOf labelled emptySheet
 no-labels =
     record {
       sheet-is = refl;
       sheet-long = length-replicate {A = ℕ} placeCount 0;
-      used-long = length-replicate {A = ℕ} usedCount 0;
       cells = λ c h. none-set placeCount (placeOf c) (place-in c h);
-      corners = λ k h. none-set usedCount k (omega arith);
+      uses = none-used (isSet (replicate usedCount 0)) (λ k h. none-set usedCount k (omega arith));
+      checked = record { sound = tt; once = tt };
+    }
+
+no-second : HoldsSecond [] 0 (replicate usedCount 0) (replicate secondCount 0)
+unfolding someOf
+no-second =
+    record {
+      labels-are = held-none (replicate secondCount 0);
+      fits = second-none (replicate secondCount 0);
+      second-long = length-replicate {A = ℕ} secondCount 0;
+      cells = λ c h. any-start _;
+      uses = none-used (λ k. isSet (replicate usedCount 0) (cornerLimit + k)) (λ k h. none-set usedCount (cornerLimit + k) (omega arith));
     }
 
 no-shades : HoldsShades [] (replicate cornerLimit 0)
@@ -378,14 +607,17 @@ pub nothing-held : (x : Float)
     → FrameHeld no-parts
     (state nothing-said
     (arrays (replicate cornerLimit x) (replicate cornerLimit x) (replicate cornerLimit x)
-    (replicate cornerLimit 0) (replicate placeCount 0) (replicate usedCount 0) (replicate allPassWords 0)))
+    (replicate cornerLimit 0) (replicate placeCount 0) (replicate usedCount 0) (replicate secondCount 0) (replicate allPassWords 0)))
 unfolding allWords
 nothing-held x =
     let front = holds-none cornerLimit x in
     record {
       settings-are = refl;
       corners = record { count = refl; xs-held = front; ys-held = front; pitches-held = front };
+      used-long = length-replicate {A = ℕ} usedCount 0;
       labels = no-labels;
+      patched = refl;
+      second = no-second;
       shades = no-shades;
       passes = record { count = refl; words-held = holds-none allPassWords 0 };
     }

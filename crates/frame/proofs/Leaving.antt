@@ -19,9 +19,9 @@ use Rattle.arguments.proofs.Chains.{or-false-both}
 use Rattle.line_form.specs.Lines.{linesOf}
 use Rattle.frame_line.specs.Lines.{ShadeLine}
 use Rattle.sizes.specs.Sizes.{cornerLimit, placeCount, passSize, allPassWords, byteLimit}
-use Rattle.frame_state.specs.State.{Arrays, state}
+use Rattle.frame_state.specs.State.{Arrays}
 use Rattle.frame_state.specs.declared.Progress.{Progress}
-use Rattle.frame.specs.Reading.{Copies, Holds, FrameHeld, ReadAs, refused-as, held-as, LongEnough, buffers}
+use Rattle.frame.specs.Reading.{Copies, Holds, FrameDone, ReadAs, refused-as, held-as, LongEnough, buffers}
 use Rattle.frame.specs.Frame.{Frame, partsOf, FrameRead, refused-at, accepted, readLines, readFrame}
 use Rattle.frame.specs.ReadFrame.{xsOf, ysOf, pitchesOf, shaded, shadesOf, settingsOf, sheetOf, Buffers, frameOut, tooShort, leaves, readInto, FrameOut, unlessShort}
 use Rattle.frame.specs.declared.FrameAnswer.{FrameAnswer}
@@ -69,7 +69,7 @@ module _ {A : Type 0} {size n : ℕ} {from before to : List A} {i : ℕ} (g : Co
 pub record Accepting (f : FrameRead) (p : Progress) (a : Arrays) : Type 0 where
   pub frame : Frame
   pub is : f ≡ accepted frame
-  pub holds : FrameHeld (partsOf frame) (state p a)
+  pub holds : FrameDone frame p a
 
 pub whole-read : {f : FrameRead} {l : LinesRead} {a : Arrays} → ReadAs f l a → (p : Progress) → l ≡ LinesRead.Whole p → Accepting f p a
 whole-read (refused-as q k) p e = absurd (let z : _≡_ {A = ℕ} 0 1 = cc in omega arith)
@@ -126,9 +126,8 @@ module _ {f : FrameRead} {p : Progress} {a : Arrays} (w : Accepting f p a) where
       }
 
   pub sheet-held : Holds placeCount placeCount (a .sheet) (sheetOf (w .frame))
-  unfolding sheetOf
   sheet-held =
-      let g = w .holds .labels in
+      let g = w .holds in
       record { long = g .sheet-long; some = omega arith; are = take-all placeCount (a .sheet) (omega (arith, g .sheet-long)) ∙ g .sheet-is }
 
   -- an accepted frame is written

@@ -1,13 +1,26 @@
 -- A line as the code takes it leads where the definition says, and so do all lines, turn by turn. Assumes nothing.
-use mathlib.Core.Path.{_≡_, refl, sym, ap, subst, _∙_}
-use mathlib.Core.Bool.{Bool, true, false, cond}
+use mathlib.Core.Path.{_≡_, refl, sym, ap, ap₂, subst, _∙_}
+use mathlib.Core.Bool.{Bool, true, false, not, cond}
 use mathlib.Core.Logic.{⊎-elim}
-use mathlib.Core.List.{List, [], _∷_, _++_}
+use mathlib.Core.List.{List, [], _∷_, _++_, map}
 use Prim.Native.Nat.{ℕ, suc, _+_, _-_, _<_, _≤_}
 use native.Mathlib.Omega.{arith}
 use native.Mathlib.Numerals.{add-one}
-use lib.ListN.{length, take, drop}
+use borrow.Author.Tests.{not-true, not-false}
+use lib.Dec.{eqb}
+use lib.ListN.{length, getD, take, drop}
 use Rattle.refusal.specs.declared.Refusal.{Refusal}
+use Rattle.sheet.specs.Words.{emptySheet}
+use Rattle.sheet.proofs.Words.{empty-length}
+use Rattle.labels.specs.Used.{usedOn}
+use Rattle.labels.proofs.Count.{many-few}
+use Rattle.join.specs.Rule.{Placed}
+use Rattle.join.specs.Join.{Joined, apart, clash, off, union-of, joined}
+use Rattle.join.specs.Sheets.{labelled, HoldsSet}
+use Rattle.join.proofs.Sets.{labelled-length, set-held}
+use Rattle.join_sheet.specs.Held.{heldLabels, outcome, joinOn, concluded}
+use Rattle.join_sheet.specs.declared.Joining.{Joining}
+use Rattle.join_sheet.proofs.Held.{joins-as}
 use Rattle.arguments.specs.declared.Checked.{Checked}
 use Rattle.line_form.specs.Lines.{linesOf, lineLength}
 use Rattle.line_form.proofs.Lines.{end-after, end-inside, lines-from, no-lines}
@@ -18,13 +31,16 @@ use Rattle.frame_line.specs.declared.Turn.{Turn}
 use Rattle.frame_line.specs.declared.HeldLine.{HeldLine}
 use Rattle.frame_line.proofs.Laws.{line-prints-back}
 use Rattle.frame_line.proofs.Checking.{no-row}
-use Rattle.frame_check.specs.Checks.{checkedHeld}
-use Rattle.frame_state.specs.State.{atStage, Arrays, State, state, Addable, adds}
+use Rattle.sizes.specs.Sizes.{cornerLimit, placeCount}
+use Rattle.frame_check.specs.Checks.{isSet, checkedHeld}
+use Rattle.frame_state.specs.State.{atStage, Arrays, arrays, State, state, Addable, adds}
 use Rattle.frame_state.specs.declared.Progress.{Progress}
-use Rattle.frame.specs.Frame.{Frame, Parts, added, partsFrom, no-parts, partsOf, checkedLine, FrameRead, refused-at, accepted, Step, stopped, onward, stepBy, stepWith, stepLine, atEnd, going, readLines}
-use Rattle.frame.specs.Reading.{FrameHeld, Room, Went, went, heldBy, heldStep, ReadAs, refused-as, held-as}
+use Rattle.frame.specs.Frame.{Frame, Parts, added, partsFrom, no-parts, partsOf, checkedLine, placed, firstSet, secondSet, joinIf, joinOf, labelsIn, givenOf, patchLine, FrameRead, refused-at, accepted, Step, stopped, onward, stepBy, stepWith, stepLine, finishBy, finish, atEnd, going, readLines}
+use Rattle.frame.specs.ReadFrame.{sheetOf}
+use Rattle.frame.specs.Reading.{FrameHeld, Room, Went, went, heldBy, heldStep, Finishable, Finished, finished, finishedAs, finishedBy, finishOn, FrameDone, ReadAs, refused-as, held-as}
 use Rattle.frame.specs.declared.Stepped.{Stepped}
 use Rattle.frame.specs.declared.LinesRead.{LinesRead}
+use Rattle.frame.proofs.Sets.{all-holdable, all-once, taken-used}
 use Rattle.frame.proofs.Adding.{below-or-not, checks-agree, line-held, restaged}
 
 -- ---- the parts with one line more
@@ -95,18 +111,104 @@ module _ (p : Progress) (a : Arrays) (found : HeldLine) (turn : Turn) (t : turn 
   step-no e = rw (← t, e)
 
   module _ (to : ℕ) (e : turn ≡ Turn.To to) where
-    module _ (checked : Checked) (c : checked ≡ checkedHeld (p .corners) (p .passes) (a .shades) (a .sheet) (a .used) found) where
+    module _ (checked : Checked) (c : checked ≡ checkedHeld (p .corners) (p .passes) (p .patched) (a .shades) (a .sheet) (a .used) (a .second) (p .second) found) where
       pub step-stopped : (r : Refusal) → checked ≡ Checked.Refused r → went (Stepped.Stopped r) a ≡ heldStep found (state p a)
       unfolding heldStep
       step-stopped r h = rw (← t, e, ← c, h)
 
       pub step-addable : Room p a → checked ≡ Checked.Fine → Addable p a found
-      step-addable g h = record { fine = sym c ∙ h; fits = record { few = g .few; row-fits = step-row (p .stage) (found .row) to turn t e }; long = g .long }
+      step-addable g h = record { fine = sym c ∙ h; fits = record { few = g .few; labels-few = g .second-few; row-fits = step-row (p .stage) (found .row) to turn t e }; long = g .long; counted = g .counted }
 
       pub step-onward : checked ≡ Checked.Fine → (next last : Progress) (b : Arrays) → state next b ≡ adds found (state p a) → last ≡ atStage next to
           → went (Stepped.Onward last) b ≡ heldStep found (state p a)
       unfolding heldStep
       step-onward h next last b d k = rw (← t, e, ← c, h, k) (ap (λ (x : State). went (Stepped.Onward (atStage (x .progress) to)) (x .held)) d)
+
+-- ---- after the last line
+
+-- the code's end, from its parts
+module _ (p : Progress) (sheet : List ℕ) (second : List Placed) where
+  pub finish-one : not (p .patched) ≡ true → finished sheet (LinesRead.Whole p) ≡ finishOn (p .patched) p sheet second
+  finish-one e = rw (not-true (p .patched) e)
+
+  module _ (e : not (p .patched) ≡ false) (after : List ℕ) (r : Joining) (w : outcome after r ≡ joinOn sheet second) where
+    pub finish-as : (a : LinesRead) → a ≡ finishedAs p r → finished after a ≡ finishOn (p .patched) p sheet second
+    finish-as a h =
+        subst (λ (t : Bool). finished after a ≡ finishOn t p sheet second) (sym (not-false (p .patched) e)) (ap (finished after) h ∙ ap (finishedBy p) w)
+
+-- the arrays with another sheet
+abbrev pub onSheetOf : Arrays → List ℕ → Arrays
+onSheetOf a sheet = arrays (a .xs) (a .ys) (a .pitches) (a .shades) sheet (a .used) (a .second) (a .passes)
+
+module _ (f : Frame) (p : Progress) (a : Arrays) (g : FrameHeld (partsOf f) (state p a)) where
+  -- the sheet of the first set
+  first-held : HoldsSet (firstSet (partsOf f)) (a .sheet)
+  first-held =
+      let c = g .labels .checked in
+      let ls = partsOf f .labels in
+      subst (HoldsSet (firstSet (partsOf f))) (sym (g .labels .sheet-is))
+      (set-held (map placed ls) (all-holdable cornerLimit (omega arith) ls (c .sound)) (all-once cornerLimit ls (c .sound) (c .once)))
+
+  not-not : (t u : Bool) → not t ≡ u → t ≡ not u
+  not-not true u e = ap not e
+  not-not false u e = ap not e
+
+  pub finishable : Finishable p (a .sheet) (a .used) (a .second)
+  finishable =
+      record {
+        sets =
+            record {
+              long = omega (arith, g .labels .sheet-long);
+              unused =
+                  record {
+                    free = λ k h.
+                        not-not (eqb (getD (a .used) k 0) 0) (usedOn (a .sheet) k)
+                        (g .labels .uses .corners k h ∙ sym (taken-used cornerLimit (partsOf f .labels) (a .sheet) (g .labels .checked .sound) first-held k));
+                  };
+              second = g .second .fits;
+            };
+        few = g .corners .xs-held .some;
+        labels-few = omega (arith, g .labels .uses .many, many-few (isSet (a .used)) cornerLimit);
+      }
+
+  -- the number of the patch line
+  patch-is : 5 + p .corners + p .labels ≡ patchLine (partsOf f)
+  patch-is = omega (arith, g .corners .count, g .labels .uses .count)
+
+  done : (sheet : List ℕ) → sheet ≡ sheetOf f → length sheet ≡ placeCount → FrameDone f p (onSheetOf a sheet)
+  done sheet e long =
+      record { settings-are = g .settings-are; corners = g .corners; sheet-is = e; sheet-long = long; shades = g .shades; passes = g .passes }
+
+  set-length : (u : List Placed) → length (labelled emptySheet u) ≡ placeCount
+  set-length u = labelled-length u emptySheet ∙ empty-length
+
+  -- by what the join says
+  by-join : (j : Joined) → joinOf (partsOf f) ≡ j → (o : Finished) → o ≡ finishedBy p (concluded (a .sheet) j)
+      → ReadAs (finishBy j f) (o .answer) (onSheetOf a (o .sheet))
+  unfolding concluded sheetOf givenOf
+  by-join apart e o w = rw w (rw (← patch-is) (refused-as Refusal.NoSharedCorner _))
+  by-join clash e o w = rw w (rw (← patch-is) (refused-as Refusal.PatchesClash _))
+  by-join off e o w = rw w (rw (← patch-is) (refused-as Refusal.OffSheet _))
+  by-join (union-of u) e o w = rw w (held-as f p (done (labelled emptySheet u) (ap (λ (j : Joined). labelled emptySheet (labelsIn j)) (sym e)) (set-length u)))
+
+  -- by whether the patch line stands
+  by-patch : (t : Bool) → partsOf f .patched ≡ t → (o : Finished) → o ≡ finishOn t p (a .sheet) (secondSet (partsOf f))
+      → ReadAs (finish f) (o .answer) (onSheetOf a (o .sheet))
+  unfolding finish joinOf sheetOf givenOf
+  by-patch false e o w =
+      let is : joinOf (partsOf f) ≡ union-of (firstSet (partsOf f)) = ap (λ (t : Bool). joinIf t (firstSet (partsOf f)) (secondSet (partsOf f))) e in
+      subst (λ (j : Joined). ReadAs (finishBy j f) (o .answer) (onSheetOf a (o .sheet))) (sym is)
+      (rw w (held-as f p (done (a .sheet) (g .labels .sheet-is ∙ ap (λ (j : Joined). labelled emptySheet (labelsIn j)) (sym is)) (g .labels .sheet-long))))
+  by-patch true e o w =
+      let is : joinOf (partsOf f) ≡ joined (firstSet (partsOf f)) (secondSet (partsOf f)) = ap (λ (t : Bool). joinIf t (firstSet (partsOf f)) (secondSet (partsOf f))) e in
+      subst (λ (j : Joined). ReadAs (finishBy j f) (o .answer) (onSheetOf a (o .sheet))) (sym is)
+      (by-join (joined (firstSet (partsOf f)) (secondSet (partsOf f))) is o (w ∙ ap (finishedBy p) (joins-as first-held (secondSet (partsOf f)))))
+
+  finishes : (r : LinesRead) (sheet : List ℕ) → finished sheet r ≡ finishOn (p .patched) p (a .sheet) (heldLabels (a .second) (p .second))
+      → ReadAs (finish f) r (onSheetOf a sheet)
+  finishes r sheet w =
+      by-patch (partsOf f .patched) refl (finished sheet r)
+      (w ∙ ap₂ (λ (t : Bool) (l : List Placed). finishOn t p (a .sheet) l) (g .patched) (g .second .labels-are))
 
 -- ---- all lines
 
@@ -125,7 +227,14 @@ turning-start text p a e g =
 
 module _ {text : List ℕ} {p : Progress} {n at : ℕ} {a : Arrays} (g : Turning text p n at a) where
   pub turn-room : Room p a
-  turn-room = record { few = g .holds .corners .xs-held .some; long = g .holds .labels .sheet-long }
+  turn-room =
+      let h = g .holds in
+      record {
+        few = h .corners .xs-held .some;
+        second-few = h .second .fits .few;
+        long = h .labels .sheet-long;
+        counted = record { first = h .labels .uses .many; second = h .second .uses .many };
+      }
 
   module _ (h : at < length text) (end : ℕ) (e : end ≡ at + lineLength (drop at text)) where
     -- the lines behind this one
@@ -164,14 +273,15 @@ module _ {text : List ℕ} {p : Progress} {n at : ℕ} {a : Arrays} (g : Turning
 
   -- behind the last line
   module _ (h : length text ≤ at) where
-    at-the-end : (t : Bool) → mayEnd (p .stage) ≡ t → readLines 1 0 [] (linesOf text) ≡ cond t (accepted (g .frame)) (refused-at Refusal.Malformed n)
+    at-the-end : (t : Bool) → mayEnd (p .stage) ≡ t → readLines 1 0 [] (linesOf text) ≡ cond t (finish (g .frame)) (refused-at Refusal.Malformed n)
     unfolding readLines atEnd
     at-the-end t e =
         sym (g .rest) ∙ ap (readLines n (p .stage) (g .frame)) (no-lines text at h)
-        ∙ ap (λ (x : Bool). cond x (accepted (g .frame)) (refused-at Refusal.Malformed n)) e
+        ∙ ap (λ (x : Bool). cond x (finish (g .frame)) (refused-at Refusal.Malformed n)) e
 
     pub end-missing : mayEnd (p .stage) ≡ false → ReadAs (readLines 1 0 [] (linesOf text)) (LinesRead.Refused Refusal.Malformed n) a
     end-missing e = subst (λ (x : FrameRead). ReadAs x (LinesRead.Refused Refusal.Malformed n) a) (sym (at-the-end false e)) (refused-as Refusal.Malformed n)
 
-    pub end-whole : mayEnd (p .stage) ≡ true → ReadAs (readLines 1 0 [] (linesOf text)) (LinesRead.Whole p) a
-    end-whole e = subst (λ (x : FrameRead). ReadAs x (LinesRead.Whole p) a) (sym (at-the-end true e)) (held-as (g .frame) p (g .holds))
+    pub end-finished : mayEnd (p .stage) ≡ true → (r : LinesRead) (sheet : List ℕ)
+        → finished sheet r ≡ finishOn (p .patched) p (a .sheet) (heldLabels (a .second) (p .second)) → ReadAs (readLines 1 0 [] (linesOf text)) r (onSheetOf a sheet)
+    end-finished e r sheet w = subst (λ (x : FrameRead). ReadAs x r (onSheetOf a sheet)) (sym (at-the-end true e)) (finishes (g .frame) p a (g .holds) r sheet w)

@@ -8,7 +8,8 @@ use lib.Dec.{ltb}
 use lib.ListN.{length, set, replicate}
 use lib.Ieee.{Float, binary32, ofBits}
 use Rattle.refusal.specs.declared.Refusal.{Refusal}
-use Rattle.sheet.specs.Words.{emptySheet, attached}
+use Rattle.sheet.specs.Words.{emptySheet}
+use Rattle.join.specs.Sheets.{labelled}
 use Rattle.predict.specs.declared.Grid.{Grid}
 use Rattle.predict.specs.declared.Vector.{Vector}
 use Rattle.arguments.specs.declared.GrowParams.{GrowParams}
@@ -16,10 +17,10 @@ use Rattle.arguments.specs.declared.FillParams.{FillParams}
 use Rattle.arguments.specs.declared.LocalExtensionParams.{LocalExtensionParams}
 use Rattle.arguments.specs.declared.Pass.{Pass}
 use Rattle.arguments.specs.declared.Settings.{Settings}
-use Rattle.frame_line.specs.Lines.{LabelLine, ShadeLine, PassLine, bare-grow, grow, bare-fill, fill, local, bareGrow}
+use Rattle.frame_line.specs.Lines.{ShadeLine, PassLine, bare-grow, grow, bare-fill, fill, local, bareGrow}
 use Rattle.arguments.specs.Front.{over}
 use Rattle.sizes.specs.Sizes.{cornerLimit, placeCount, allPassWords}
-use Rattle.frame.specs.Frame.{Frame, Opening, partsOf, FrameRead, refused-at, accepted, readFrame}
+use Rattle.frame.specs.Frame.{Frame, Opening, partsOf, givenOf, FrameRead, refused-at, accepted, readFrame}
 use Rattle.frame.specs.declared.FrameHead.{FrameHead}
 use Rattle.frame.specs.declared.FrameAnswer.{FrameAnswer}
 
@@ -46,12 +47,8 @@ unfoldable pub shadesOf : Frame → List ℕ
 shadesOf f = shaded (replicate (length (partsOf f .corners)) 0) (partsOf f .shades)
 
 -- the sheet of the given labels: each label's corner at its cell, no marks
-unfoldable pub labelled : List ℕ → List LabelLine → List ℕ
-labelled sheet [] = sheet
-labelled sheet (l ∷ ls) = labelled (attached sheet (l .cell) (natAbs (l .corner))) ls
-
 unfoldable pub sheetOf : Frame → List ℕ
-sheetOf f = labelled emptySheet (partsOf f .labels)
+sheetOf f = labelled emptySheet (givenOf (partsOf f))
 
 abbrev pub settingsIn : Opening → Settings
 settingsIn o =

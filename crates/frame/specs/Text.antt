@@ -8,13 +8,17 @@ use lib.ListN.{length, getD, take}
 use lib.IntN.{pos}
 use Rattle.refusal.specs.declared.Refusal.{Refusal}
 use Rattle.sheet.specs.Cells.{OnSheet}
+use Rattle.sheet.specs.declared.Offset.{Offset}
+use Rattle.join.specs.Rule.{Placed, Shared, Shift, Meaning, All, AllDiffer}
+use Rattle.join.specs.declared.Verdict.{Verdict}
+use Rattle.line_form.specs.Forms.{bytes}
 use Rattle.line_form.specs.Lines.{linesOf}
 use Rattle.frame_line.specs.Table.{turnAt, mayEnd}
 use Rattle.frame_line.specs.Lines.{Line, kindOf, Proper, lineText, LabelLine, ShadeLine, LineRead, ill-formed, line, readLine}
 use Rattle.frame_line.specs.Checks.{outsideLine}
 use Rattle.frame_line.specs.declared.Turn.{Turn}
 use Rattle.sizes.specs.Sizes.{cornerLimit, passLimit, byteLimit}
-use Rattle.frame.specs.Frame.{Frame, partsOf, outsideIn, overIn, twiceIn, onward, stepLine, refused-at, accepted, readFrame}
+use Rattle.frame.specs.Frame.{Frame, partsOf, firstSet, secondSet, outsideIn, overIn, twiceIn, onward, stepLine, refused-at, accepted, readFrame}
 
 -- ---- printed
 
@@ -23,10 +27,6 @@ frameText [] = []
 frameText (l ∷ ls) = lineText l ++ frameText ls
 
 -- ---- within the limits
-
-abbrev pub All : {A : Type 0} → (A → Type 0) → List A → Type 0
-All P [] = Unit {0}
-All P (a ∷ rest) = P a × All P rest
 
 -- "Lines, in order": each in its turn, and a frame may end after the last
 pub data InOrder : ℕ → List Line → Type 0 where
@@ -58,11 +58,6 @@ pub record SoundShade (n : ℕ) (s : ShadeLine) : Type 0 where
   pub is-kind : s .kind ≡ pos kind
   pub small : kind ≤ 1
 
--- each element differs from all behind it
-abbrev pub AllDiffer : {A : Type 0} → (A → A → Type 0) → List A → Type 0
-AllDiffer D [] = Unit {0}
-AllDiffer D (a ∷ rest) = All (D a) rest × AllDiffer D rest
-
 -- no cell and no corner is labelled twice
 abbrev pub Apart : List LabelLine → Type 0
 Apart ls = AllDiffer (λ l m. (l .cell ≡ m .cell → ⊥) × (l .corner ≡ m .corner → ⊥)) ls
@@ -71,8 +66,14 @@ Apart ls = AllDiffer (λ l m. (l .cell ≡ m .cell → ⊥) × (l .corner ≡ m 
 abbrev pub ApartShades : List ShadeLine → Type 0
 ApartShades ss = AllDiffer (λ s t. s .corner ≡ t .corner → ⊥) ss
 
+-- two sets that can be joined: a corner is in both, and a shift onto the sheet gives every shared corner one cell and every cell one corner
+pub record Joinable (first second : List Placed) : Type 0 where
+  pub shared : Shared first second
+  pub shift : Offset
+  pub onto : Shift first second shift
+
 -- a frame that 01 and 02 allow: "At most 65,536 bytes, 1,024 corners, 16 passes", its lines in order, every number in its range, labels on the
--- sheet, labels and shades of given corners, no cell or corner labelled twice, no corner shaded twice
+-- sheet, labels and shades of given corners, no cell or corner labelled twice in either set, no corner shaded twice, two sets that can be joined
 pub record WithinLimits (f : Frame) : Type 0 where
   pub bytes : length (frameText f) ≤ byteLimit
   pub order : InOrder 0 f
@@ -80,7 +81,9 @@ pub record WithinLimits (f : Frame) : Type 0 where
   pub corners : length (partsOf f .corners) ≤ cornerLimit
   pub passes : length (partsOf f .passes) ≤ passLimit
   pub once : Apart (partsOf f .labels)
+  pub second-once : Apart (partsOf f .second)
   pub shaded-once : ApartShades (partsOf f .shades)
+  pub joins : partsOf f .patched ≡ true → Joinable (firstSet (partsOf f)) (secondSet (partsOf f))
 
 -- ---- the laws
 
@@ -93,9 +96,10 @@ pub record FramePrintsBack (text : List ℕ) (f : Frame) : Type 0 where
   pub text-again : text ≡ frameText f
   pub within : WithinLimits f
 
--- the labels of a frame within the limits are on the sheet and of given corners
+-- the labels of a frame within the limits, those of either set, are on the sheet and of given corners
 abbrev pub LabelsSound : Type 0
-LabelsSound = (f : Frame) → WithinLimits f → All (Sound (length (partsOf f .corners))) (partsOf f .labels)
+LabelsSound = (f : Frame) → WithinLimits f
+    → All (Sound (length (partsOf f .corners))) (partsOf f .labels) × All (Sound (length (partsOf f .corners))) (partsOf f .second)
 
 -- its shades are of given corners and their kinds 0 or 1
 abbrev pub ShadesSound : Type 0
@@ -127,13 +131,24 @@ pub data Passed : ℕ → Frame → List (List ℕ) → ℕ → Frame → Type 0
   one-more : {stage stage' stage'' : ℕ} {f f' f'' : Frame} {text : List ℕ} {texts : List (List ℕ)} → stepLine stage f text ≡ onward stage' f' → Passed stage' f' texts stage'' f''
       → Passed stage f (text ∷ texts) stage'' f''
 
+-- "8 if no corner is in both sets, 9 if no shift gives every shared corner one cell and every cell one corner, then 4 if that shift takes a label off
+-- the sheet": what each means is the rule's `Meaning` (crate join)
+pub data Unjoined (first second : List Placed) : Refusal → Type 0 where
+  are-apart : Meaning first second Verdict.Apart → Unjoined first second Refusal.NoSharedCorner
+  do-clash : Meaning first second Verdict.Clash → Unjoined first second Refusal.PatchesClash
+  goes-off : Meaning first second Verdict.Off → Unjoined first second Refusal.OffSheet
+
 -- Why a text is refused at a line: too many bytes, line 0; or the lines before it pass and it fails, that number being the first check that
--- fails on it; or all lines pass, and one of the first four is missing after the last.
+-- fails on it; or all lines pass, and one of the first four is missing after the last; or all lines pass and the text may end there, this line is the
+-- patch line, and the two sets are not joined.
 pub data Refused (text : List ℕ) : Refusal → ℕ → Type 0 where
   too-long : byteLimit < length text → Refused text Refusal.OverLimit 0
   at-line : (n stage : ℕ) (f : Frame) (r : Refusal) → length text ≤ byteLimit → n < length (linesOf text) → Passed 0 [] (take n (linesOf text)) stage f
       → FirstFault stage f (readLine (getD (linesOf text) n [])) r → Refused text r (suc n)
   missing : (stage : ℕ) (f : Frame) → length text ≤ byteLimit → Passed 0 [] (linesOf text) stage f → mayEnd stage ≡ false → Refused text Refusal.Malformed (suc (length (linesOf text)))
+  unjoined : (n stage : ℕ) (f : Frame) (r : Refusal) → length text ≤ byteLimit → Passed 0 [] (linesOf text) stage f → mayEnd stage ≡ true
+      → n < length (linesOf text) → getD (linesOf text) n [] ≡ bytes "(patch)\n" → Unjoined (firstSet (partsOf f)) (secondSet (partsOf f)) r
+      → Refused text r (suc n)
 
 -- each refusal means what the table says
 abbrev pub RefusalsMean : Type 0

@@ -1,5 +1,6 @@
 // A frame read from a text (01, "Frame and result"): lines from the top, each checked in order 1 to 6 and then added to what the lines before
-// it said. Until the whole frame is accepted it is held in arrays of the reader's own, so that a refused one has written nothing.
+// it said; after the last the labels of two patches are joined (02, 3/14). Until the whole frame is accepted it is held in arrays of the
+// reader's own, so that a refused one has written nothing.
 
 ghost use mathlib.Core.Path.{_≡_};
 ghost use mathlib.Core.Bool.{_||_};
@@ -10,17 +11,18 @@ ghost use Rattle.frame_line.specs.Lines.{readLine};
 ghost use Rattle.frame_line.specs.Held.{heldRead};
 ghost use Rattle.line_form.specs.Lines.{linesOf};
 ghost use Rattle.sizes.specs.Sizes.{cornerLimit, placeCount, allPassWords};
+ghost use Rattle.join_sheet.specs.Held.{heldLabels};
 ghost use Rattle.frame_state.specs.State.{nothing-said, arrays, state};
 ghost use Rattle.arguments.specs.Front.{over};
 ghost use Rattle.frame.specs.Frame.{no-parts, readLines};
 ghost use Rattle.frame.specs.ReadFrame.{frameOut, leaves, readInto};
 ghost use Rattle.frame.specs.Said.{frameSaid, frameDue};
-ghost use Rattle.frame.specs.Reading.{FrameHeld, Room, went, heldStep, ReadAs, buffers, Copies, LongEnough};
+ghost use Rattle.frame.specs.Reading.{FrameHeld, Room, went, heldStep, Finishable, finished, finishOn, ReadAs, buffers, Copies, LongEnough};
 use arguments::Checked;
 use arguments::Settings;
 use frame_line::Turn;
 use frame_state::Progress;
-use frame_state::USED;
+use join_sheet::Joining;
 use line_form::text::line_end;
 use refusal::Refusal;
 use sizes::ALL_PASS_WORDS;
@@ -28,6 +30,8 @@ use sizes::BYTES;
 use sizes::CORNERS;
 use sizes::PASS_WORDS;
 use sizes::PLACES;
+use sizes::SECOND;
+use sizes::USED;
 
 // What an accepted frame says besides what is written to the buffers: cell size, axes and band, and how many corners and passes there are.
 pub struct FrameHead {
@@ -63,20 +67,32 @@ fn step_line(
     shades: &mut [u8; CORNERS],
     sheet: &mut [u16; PLACES],
     used: &mut [u8; USED],
+    second: &mut [u16; SECOND],
     passes: &mut [u32; ALL_PASS_WORDS],
     line: &[u8],
 ) -> Stepped
-    requires { ⌜ Room p (arrays (now xs) (now ys) (now pitches) (now shades) (now sheet) (now used) (now passes)) ⌝ }
+    requires { ⌜ Room p (arrays (now xs) (now ys) (now pitches) (now shades) (now sheet) (now used) (now second) (now passes)) ⌝ }
     ensures { λ r. ⌜ went r (arrays (now (xs .exit)) (now (ys .exit)) (now (pitches .exit)) (now (shades .exit)) (now (sheet .exit)) (now (used .exit))
-        (now (passes .exit))) ≡ heldStep (heldRead (readLine (now (line .entry)))) (state p (arrays (now (xs .entry)) (now (ys .entry)) (now (pitches .entry))
-        (now (shades .entry)) (now (sheet .entry)) (now (used .entry)) (now (passes .entry)))) ⌝ }
+        (now (second .exit)) (now (passes .exit))) ≡ heldStep (heldRead (readLine (now (line .entry)))) (state p (arrays (now (xs .entry))
+        (now (ys .entry)) (now (pitches .entry)) (now (shades .entry)) (now (sheet .entry)) (now (used .entry)) (now (second .entry))
+        (now (passes .entry)))) ⌝ }
 {
     let found = frame_line::read_line(line);
     let turn = frame_line::turn_at(p.stage, found.row);
     match turn {
         Turn::No => Stepped::Stopped(Refusal::Malformed),
         Turn::To(stage) => {
-            let checked = frame_check::check_line(p.corners, p.passes, shades, sheet, used, found);
+            let checked = frame_check::check_line(
+                p.corners,
+                p.passes,
+                p.patched,
+                shades,
+                sheet,
+                used,
+                second,
+                p.second,
+                found,
+            );
             match checked {
                 Checked::Refused(refusal) => Stepped::Stopped(refusal),
                 Checked::Fine => {
@@ -88,6 +104,7 @@ fn step_line(
                         shades,
                         sheet,
                         used,
+                        second,
                         passes,
                         found,
                     );
@@ -95,6 +112,27 @@ fn step_line(
                 }
             }
         }
+    }
+}
+
+// After the last line: the second set is joined to the first where the patch line stands. A refusal is reported at the patch line, which stands
+// behind the first four lines, the corners and the labels of the first set.
+fn finish(
+    p: Progress,
+    sheet: &mut [u16; PLACES],
+    used: &[u8; USED],
+    second: &[u16; SECOND],
+) -> LinesRead
+    requires { ⌜ Finishable p (now sheet) (now used) (now second) ⌝ }
+    ensures { λ r. ⌜ finished (now (sheet .exit)) r ≡ finishOn (p .patched) p (now (sheet .entry)) (heldLabels (now (second .entry)) (p .second)) ⌝ }
+{
+    if !p.patched {
+        return LinesRead::Whole(p);
+    }
+    let joining = join_sheet::join_sets(sheet, used, second, p.second);
+    match joining {
+        Joining::Fine => LinesRead::Whole(p),
+        Joining::Refused(refusal) => LinesRead::Refused(refusal, 5 + p.corners + p.labels),
     }
 }
 
@@ -107,12 +145,13 @@ fn read_lines(
     shades: &mut [u8; CORNERS],
     sheet: &mut [u16; PLACES],
     used: &mut [u8; USED],
+    second: &mut [u16; SECOND],
     passes: &mut [u32; ALL_PASS_WORDS],
 ) -> LinesRead
     requires { ⌜ FrameHeld no-parts (state nothing-said
-        (arrays (now xs) (now ys) (now pitches) (now shades) (now sheet) (now used) (now passes))) ⌝ }
+        (arrays (now xs) (now ys) (now pitches) (now shades) (now sheet) (now used) (now second) (now passes))) ⌝ }
     ensures { λ r. ⌜ ReadAs (readLines 1 0 [] (linesOf (now (text .entry)))) r (arrays (now (xs .exit)) (now (ys .exit)) (now (pitches .exit))
-        (now (shades .exit)) (now (sheet .exit)) (now (used .exit)) (now (passes .exit))) ⌝ }
+        (now (shades .exit)) (now (sheet .exit)) (now (used .exit)) (now (second .exit)) (now (passes .exit))) ⌝ }
 {
     let mut p = frame_state::start();
     let mut n = 1usize;
@@ -127,6 +166,7 @@ fn read_lines(
             shades,
             sheet,
             used,
+            second,
             passes,
             &text[at..end],
         );
@@ -142,7 +182,7 @@ fn read_lines(
         }
     }
     if frame_line::may_end(p.stage) {
-        return LinesRead::Whole(p);
+        return finish(p, sheet, used, second);
     }
     LinesRead::Refused(Refusal::Malformed, n)
 }
@@ -246,6 +286,7 @@ fn read_text(
     let mut own_shades = [0u8; CORNERS];
     let mut own_sheet = [0u16; PLACES];
     let mut own_used = [0u8; USED];
+    let mut own_second = [0u16; SECOND];
     let mut own_passes = [0u32; ALL_PASS_WORDS];
     let read = read_lines(
         text,
@@ -255,6 +296,7 @@ fn read_text(
         &mut own_shades,
         &mut own_sheet,
         &mut own_used,
+        &mut own_second,
         &mut own_passes,
     );
     match read {
@@ -277,9 +319,9 @@ fn read_text(
 }
 
 // Reads a frame. An accepted one is written to the buffers: its corners to the front of the first three, their shades to the front of the fourth,
-// a byte each (0 none, 1 kind 0, 2 kind 1), the sheet of its labels to the first 16,384 places of the fifth, and its passes, six words each, to
-// the front of the last; the rest of them stays. A refused one writes nothing, and the answer has the refusal and the line, 0 where it is about
-// no line. `said` is the same answer in 01's number with the line, or values.
+// a byte each (0 none, 1 kind 0, 2 kind 1), the sheet of its given labels, joined where there are two sets, to the first 16,384 places of the
+// fifth, and its passes, six words each, to the front of the last; the rest of them stays. A refused one writes nothing, and the answer has the
+// refusal and the line, 0 where it is about no line. `said` is the same answer in 01's number with the line, or values.
 pub fn read_frame(
     text: &[u8],
     xs: &mut [f32],

@@ -1,11 +1,9 @@
 -- Two accepted frames that differ only in the order of their corner lines are a reordering, so every list of calls from them, relisted for the second,
 -- the frames' own passes among them, runs alike. Assumes nothing.
 use mathlib.Core.Path.{_≡_, refl, sym, ap, _∙_, subst}
-use mathlib.Core.List.{List, [], _∷_, map}
-use Prim.Native.Nat.{ℕ, zero, suc, _<_, _≤_}
-use native.Mathlib.Nat.{not-suc-le-zero}
+use mathlib.Core.List.{List, [], _∷_, map, List·Memᴰ, List·Memᴰ·head, List·Memᴰ·tail}
+use Prim.Native.Nat.{ℕ, _<_, _≤_}
 use native.Mathlib.Omega.{arith}
-use lib.IntN.{natAbs}
 use lib.Ieee.{Float, nan}
 use lib.ListN.{length, getD, length-set, length-map}
 use Rattle.sheet.specs.Words.{emptySheet, attached}
@@ -16,41 +14,40 @@ use Rattle.sheet.proofs.Pairing.{paired-attached, paired-empty}
 use Rattle.arguments.specs.Shades.{PairedShades}
 use Rattle.agreement.specs.Agreement.{Reordered, RelistedCall, Relisted, no-call, relisted}
 use Rattle.agreement.proofs.Run.{agreement}
-use Rattle.frame_line.specs.Lines.{CornerLine, LabelLine, PassLine}
-use Rattle.frame.specs.Frame.{Frame, partsOf}
-use Rattle.frame.specs.Text.{All, Sound, WithinLimits}
-use Rattle.frame.specs.ReadFrame.{floatOf, xsOf, ysOf, pitchesOf, shadesOf, labelled, sheetOf, settingsIn, settingsOf}
+use Rattle.join.specs.Rule.{Placed, All, renamed}
+use Rattle.join.specs.Sheets.{labelled, Holdable}
+use Rattle.frame_line.specs.Lines.{CornerLine, PassLine}
+use Rattle.frame.specs.Frame.{Frame, partsOf, givenOf}
+use Rattle.frame.specs.Text.{WithinLimits}
+use Rattle.frame.specs.ReadFrame.{floatOf, xsOf, ysOf, pitchesOf, shadesOf, sheetOf, settingsIn, settingsOf}
 use Rattle.frame_laws.specs.Calls.{frameCorners, callOf, callsOf}
-use Rattle.frame_laws.proofs.Parts.{labels-sound}
+use Rattle.frame_laws.proofs.Parts.{getD-map, labels-sound}
+use Rattle.frame_laws.proofs.Labels.{given-holdable, given-known}
 use Rattle.frame_laws.proofs.Back.{frame-prints-back}
 use Rattle.frame_laws.proofs.Shades.{shades-long}
 use Rattle.frame_laws.proofs.Runs.{frame-standing}
-use Rattle.frame_agreement.specs.Reordering.{renumbered, SameButOrder, RunAlike, FramesRunAlike}
+use Rattle.frame_agreement.specs.Reordering.{SameButOrder, sameLabels, RunAlike, FramesRunAlike}
 use Rattle.frame_agreement.proofs.Shades.{same-byte}
-
--- an element of a map
-getD-map : {A B : Type 0} (g : A → B) (l : List A) (k : ℕ) (a : A) (b : B) → k < length l → getD (map g l) k b ≡ g (getD l k a)
-getD-map g [] k a b h = absurd (not-suc-le-zero h)
-getD-map g (c ∷ l) zero a b h = refl
-getD-map g (c ∷ l) (suc k) a b h = getD-map g l k a b (omega arith)
+use Rattle.frame_agreement.proofs.Patches.{given-renamed}
 
 -- ---- the sheets of the given labels
 
-attached-length : (sheet : List ℕ) (l : LabelLine) (k : ℕ) → length (attached sheet (l .cell) k) ≡ length sheet
+attached-length : (sheet : List ℕ) (l : Placed) → length (attached sheet (l .cell) (l .corner)) ≡ length sheet
 unfolding attached
-attached-length sheet l k = length-set sheet _ _
+attached-length sheet l = length-set sheet _ _
 
-module _ {n m : ℕ} (s : Shuffle n) (in-m : (k : ℕ) → k < m → k < n) (few : n ≤ 1024) where
-  labelled-paired : (ls : List LabelLine) (sheet sheet' : List ℕ) → 16384 ≤ length sheet → All (Sound m) ls → PairedSheets s sheet sheet' → PairedSheets s (labelled sheet ls) (labelled sheet' (map (renumbered s) ls))
+module _ {n : ℕ} (s : Shuffle n) (few : n ≤ 1024) where
+  labelled-paired : (ls : List Placed) (sheet sheet' : List ℕ) → 16384 ≤ length sheet → All Holdable ls → ((l : Placed) → List·Memᴰ l ls → l .corner < n)
+      → PairedSheets s sheet sheet' → PairedSheets s (labelled sheet ls) (labelled sheet' (map (renamed (s .to)) ls))
   unfolding labelled
-  labelled-paired [] sheet sheet' long sound p = p
-  labelled-paired (l ∷ ls) sheet sheet' long sound p =
-      let k = natAbs (l .corner) in
-      let is : k ≡ sound .0 .corner = ap natAbs (sound .0 .is-corner) in
-      let below : k < n = subst (λ (j : ℕ). j < n) (sym is) (in-m (sound .0 .corner) (sound .0 .given)) in
+  labelled-paired [] sheet sheet' long on known p = p
+  labelled-paired (l ∷ ls) sheet sheet' long on known p =
+      let k = l .corner in
+      let below : k < n = known l (List·Memᴰ·head refl) in
       let there = s .to-in k below in
-      labelled-paired ls (attached sheet (l .cell) k) (attached sheet' (l .cell) (s .to k)) (omega (arith, attached-length sheet l k)) (sound .1)
-      (paired-attached p (l .cell) long (sound .0 .on-sheet) k (omega arith) (omega arith))
+      labelled-paired ls (attached sheet (l .cell) k) (attached sheet' (l .cell) (s .to k)) (omega (arith, attached-length sheet l)) (on .1)
+      (λ m i. known m (List·Memᴰ·tail i))
+      (paired-attached p (l .cell) long (on .0 .on) k (omega arith) (omega arith))
 
 -- ---- the frames
 
@@ -102,9 +99,11 @@ module _ (f f' : Frame) (w : WithinLimits f) (same : SameButOrder f f') where
   sheets-paired : PairedSheets pairs (sheetOf f) (sheetOf f')
   unfolding sheetOf pairs
   sheets-paired =
-      subst (λ (ls : List LabelLine). PairedSheets pairs (labelled emptySheet (partsOf f .labels)) (labelled emptySheet ls)) (sym (same .labels))
-      (labelled-paired pairs (λ k h. omega (arith, same-length)) (omega (arith, same-length, w .corners)) (partsOf f .labels) emptySheet emptySheet (omega (arith, empty-length)) (labels-sound f w)
-      (paired-empty pairs))
+      let sound = labels-sound f w in
+      subst (λ (ls : List Placed). PairedSheets pairs (labelled emptySheet (givenOf (partsOf f))) (labelled emptySheet ls))
+      (sym (given-renamed f f' (sameLabels same) (sound .0) (sound .1)))
+      (labelled-paired pairs (omega (arith, same-length, w .corners)) (givenOf (partsOf f)) emptySheet emptySheet (omega (arith, empty-length)) (given-holdable f w)
+      (λ l m. omega (arith, same-length, given-known f w l m)) (paired-empty pairs))
 
   pub frames-reordered : Reordered (frameCorners f) (frameCorners f') (sheetOf f) (sheetOf f')
   unfolding corners-paired

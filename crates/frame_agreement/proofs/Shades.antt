@@ -10,7 +10,7 @@ use Rattle.arguments.specs.Shades.{shadeOf}
 use Rattle.frame.specs.Frame.{Frame, partsOf}
 use Rattle.frame.specs.ReadFrame.{shadesOf}
 use Rattle.frame_laws.specs.Shades.{ShadedBy, GivenShades}
-use Rattle.frame_laws.proofs.Labels.{all-at}
+use Rattle.join.proofs.Union.{of-all}
 use Rattle.frame_laws.proofs.Runs.{accepted-runs}
 use Rattle.frame_agreement.specs.Reordering.{SameShades, RelistedLines, ShadesByLines}
 
@@ -30,7 +30,7 @@ same-byte b c e = sym (byte-back b) ∙ ap byteOf e ∙ byte-back c
 -- the byte of a corner that a line gives a kind
 line-byte : (f : Frame) → GivenShades f → (n k : ℕ) → ShadedBy (partsOf f .shades) n k → getD (shadesOf f) n 0 ≡ k + 1
 line-byte f g n k by =
-    ap (λ (m : ℕ). getD (shadesOf f) m 0) (sym (ap natAbs (by .corner))) ∙ all-at _ (g .each) (by .listed)
+    ap (λ (m : ℕ). getD (shadesOf f) m 0) (sym (ap natAbs (by .corner))) ∙ of-all _ _ (g .each) _ (by .listed)
     ∙ ap (λ (m : ℕ). m + 1) (ap natAbs (by .kind))
 
 module _ {n : ℕ} (s : Shuffle n) (f f' : Frame) (g : GivenShades f) (g' : GivenShades f') where

@@ -1,21 +1,25 @@
 -- Two frames that differ only in the order of their corner lines (document 01, "Lists of passes, for demand 3"): "The reordering pairs the
 -- corner lines of both frames one to one, each with an equal line; a pair is one physical corner. The labels name paired corners, and the
 -- calls' other arguments and buffer lengths are equal." And document 02, 1/14: "Relisting corners relists their shades, those of a frame's
--- lines and those lent to a call alike: both corners of a pair have the same kind or none." Definitions only.
+-- lines and those lent to a call alike: both corners of a pair have the same kind or none." And 3/14, of two patches: "Corner order still decides
+-- nothing." Definitions only.
 use mathlib.Core.Path.{_≡_}
 use mathlib.Core.List.{List, map}
+use mathlib.Core.Logic.{_↔_}
 use Prim.Native.Nat.{ℕ, _<_}
 use lib.IntN.{pos, natAbs}
 use lib.ListN.{length, getD}
+use Rattle.refusal.specs.declared.Refusal.{Refusal}
 use Rattle.sheet.specs.Shades.{Shade}
 use Rattle.sheet.specs.Pairing.{Shuffle}
 use Rattle.arguments.specs.Shades.{shadeOf}
 use Rattle.passes.specs.Run.{Call, run}
 use Rattle.agreement.specs.Agreement.{Reordered, RelistedCall, Relisted, Agree, FactorsAbove, BothRuns}
 use Rattle.frame_line.specs.Lines.{CornerLine, LabelLine, ShadeLine, PassLine}
-use Rattle.frame.specs.Frame.{Frame, partsOf, readFrame, accepted}
+use Rattle.frame.specs.Frame.{Frame, partsOf, readFrame, refused-at, accepted}
 use Rattle.frame.specs.ReadFrame.{shadesOf, sheetOf}
 use Rattle.frame_laws.specs.Calls.{frameCorners, callOf, callsOf}
+use Rattle.frame_laws.specs.Patches.{AllPass}
 use Rattle.frame_laws.specs.Shades.{ShadedBy}
 
 -- the corner line of a number; zeros where there is none
@@ -34,13 +38,15 @@ SameShades {n} s f f' = (i : ℕ) → i < n → cornerShade f' (s .to i) ≡ cor
 abbrev pub renumbered : {n : ℕ} → Shuffle n → LabelLine → LabelLine
 renumbered s l = record { corner = pos (s .to (natAbs (l .corner))); cell = l .cell }
 
--- the corner lines paired one to one, each with an equal line; the labels renumbered and the shades relisted to match; all else equal
+-- the corner lines paired one to one, each with an equal line; the labels, of both sets, renumbered and the shades relisted to match; all else equal
 pub record SameButOrder (f f' : Frame) : Type 0 where
   pub opening : partsOf f' .opening ≡ partsOf f .opening
   pub count : length (partsOf f' .corners) ≡ length (partsOf f .corners)
   pub pairs : Shuffle (length (partsOf f .corners))
   pub same-line : (i : ℕ) → i < length (partsOf f .corners) → cornerLine f' (pairs .to i) ≡ cornerLine f i
   pub labels : partsOf f' .labels ≡ map (renumbered pairs) (partsOf f .labels)
+  pub patched : partsOf f' .patched ≡ partsOf f .patched
+  pub second : partsOf f' .second ≡ map (renumbered pairs) (partsOf f .second)
   pub shades : SameShades pairs f f'
   pub passes : partsOf f' .passes ≡ partsOf f .passes
 
@@ -80,3 +86,28 @@ pub record RunAlike (f f' : Frame) (same : SameButOrder f f') : Type 0 where
 abbrev pub FramesRunAlike : Type 0
 FramesRunAlike =
     (text text' : List ℕ) (f f' : Frame) → readFrame text ≡ accepted f → readFrame text' ≡ accepted f' → (same : SameButOrder f f') → RunAlike f f' same
+
+-- ---- refused alike
+
+-- as many corners, and the labels of both sets renumbered to match; nothing is asked of all else, so two frames that differ only in the order of their
+-- corner lines are such
+pub record SameLabels (f f' : Frame) : Type 0 where
+  pub count : length (partsOf f' .corners) ≡ length (partsOf f .corners)
+  pub pairs : Shuffle (length (partsOf f .corners))
+  pub first-set : partsOf f' .labels ≡ map (renumbered pairs) (partsOf f .labels)
+  pub patched : partsOf f' .patched ≡ partsOf f .patched
+  pub second-set : partsOf f' .second ≡ map (renumbered pairs) (partsOf f .second)
+
+abbrev pub sameLabels : {f f' : Frame} → SameButOrder f f' → SameLabels f f'
+sameLabels same =
+    record { count = same .count; pairs = same .pairs; first-set = same .labels; patched = same .patched; second-set = same .second }
+
+-- "Corner order still decides nothing": of two texts within the byte limit, all of whose lines pass and which may end there, that differ in the order of
+-- their corner lines, one is refused exactly if the other is, with the same number and line (so with 8, 9 or 4, at the patch line), and one is accepted
+-- exactly if the other is
+pub record EndAlike (text text' : List ℕ) (f f' : Frame) : Type 0 where
+  pub refused-alike : (r : Refusal) (n : ℕ) → readFrame text ≡ refused-at r n ↔ readFrame text' ≡ refused-at r n
+  pub accepted-alike : readFrame text ≡ accepted f ↔ readFrame text' ≡ accepted f'
+
+abbrev pub TextsEndAlike : Type 0
+TextsEndAlike = (text text' : List ℕ) (f f' : Frame) → AllPass text f → AllPass text' f' → SameLabels f f' → EndAlike text text' f f'

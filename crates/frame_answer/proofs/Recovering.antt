@@ -6,22 +6,22 @@ use Prim.Native.Nat.{ℕ, zero, suc, _+_, _*_, _≤_, _<_}
 use native.Mathlib.Omega.{arith}
 use borrow.Author.Tests.{le-ltb}
 use lib.Dec.{ltb}
-use lib.IntN.{natAbs}
-use lib.ListN.{length, take, drop, set, length-set, length-append, length-drop, length-map}
+use lib.ListN.{length, take, drop, set, length-append, length-drop, length-map}
 use lib.Ieee.{Float}
 use Rattle.refusal.specs.declared.Refusal.{Refusal}
 use Rattle.arguments.specs.declared.Settings.{Settings}
-use Rattle.frame.specs.Frame.{Frame, partsOf, FrameRead, refused-at, accepted, readFrame}
+use Rattle.frame.specs.Frame.{Frame, partsOf, givenOf, FrameRead, refused-at, accepted, readFrame}
 use Rattle.frame.specs.Text.{WithinLimits}
-use Rattle.frame.specs.ReadFrame.{floatOf, xsOf, ysOf, pitchesOf, shadesOf, sheetOf, labelled, settingsOf, FullPass, full-grow, full-fill, full-local, fullOf, wordsOf, allWords, Buffers, FrameOut, frameOut, tooShort, leaves, unlessShort, readInto}
-use Rattle.frame_line.specs.Lines.{CornerLine, LabelLine, PassLine}
+use Rattle.frame.specs.ReadFrame.{floatOf, xsOf, ysOf, pitchesOf, shadesOf, sheetOf, settingsOf, FullPass, full-grow, full-fill, full-local, fullOf, wordsOf, allWords, Buffers, FrameOut, frameOut, tooShort, leaves, unlessShort, readInto}
+use Rattle.frame_line.specs.Lines.{CornerLine, PassLine}
 use Rattle.sheet.specs.Corners.{CornerLists, cornerLists}
-use Rattle.sheet.specs.Words.{emptySheet, attached}
+use Rattle.sheet.specs.Words.{emptySheet}
 use Rattle.sizes.specs.Sizes.{allOutcomeWords}
 use Rattle.sheet.proofs.Words.{empty-length}
 use Rattle.frame.specs.declared.FrameHead.{FrameHead}
 use Rattle.frame.specs.declared.FrameAnswer.{FrameAnswer}
 use Rattle.frame_laws.specs.Calls.{frameCorners, callsOf}
+use Rattle.join.proofs.Sets.{labelled-length}
 use Rattle.frame_laws.proofs.Shades.{shades-long}
 use Rattle.frame_laws.proofs.Back.{frame-prints-back}
 use Rattle.arguments.specs.Front.{over}
@@ -67,14 +67,9 @@ words-length (p ∷ ps) = length-append (wordsOf (fullOf p)) (allWords ps) ∙ o
     six (full-local s f r g d) = refl
 
 -- the sheet of the given labels has 16,384 places
-labelled-length : (sheet : List ℕ) (ls : List LabelLine) → length (labelled sheet ls) ≡ length sheet
-unfolding labelled attached
-labelled-length sheet [] = refl
-labelled-length sheet (l ∷ ls) = labelled-length (attached sheet (l .cell) (natAbs (l .corner))) ls ∙ length-set sheet _ _
-
 sheet-length : (f : Frame) → length (sheetOf f) ≡ 16384
 unfolding sheetOf
-sheet-length f = labelled-length emptySheet (partsOf f .labels) ∙ empty-length
+sheet-length f = labelled-length (givenOf (partsOf f)) emptySheet ∙ empty-length
 
 module _ (text : List ℕ) (xs ys pitches : List Float) (shades sheet passes : List ℕ) (room : FrameRoom xs ys pitches shades sheet passes) where
   abbrev lent : Buffers

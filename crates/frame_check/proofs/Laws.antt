@@ -16,7 +16,7 @@ use Rattle.frame_line.specs.declared.Sort.{Sort}
 use Rattle.frame_line.proofs.Shapes.{rowOf, row-of}
 use Rattle.frame_line.proofs.Words.{label-on, corner-known}
 use Rattle.sizes.specs.Sizes.{cornerLimit}
-use Rattle.frame_check.specs.Checks.{checksInOrder, LabelFits, NumbersFine}
+use Rattle.frame_check.specs.Checks.{checksInOrder, LabelFits, SetFits, NumbersFine}
 
 -- what all checks found of a line that is fine
 pub record AllFine (outside : ℕ → Bool) (over twice : Bool) : Type 0 where
@@ -65,15 +65,18 @@ checks-alike f g over twice twice' e t =
 -- ---- a label and a shade
 
 -- the corner of either has an entry
-module _ (n : ℕ) (line : HeldLine) (f : NumbersFine n line) (kind : Kind) (e : kindAt (line .row) ≡ kind) where
+module _ (n m : ℕ) (line : HeldLine) (f : NumbersFine n m line) (kind : Kind) (e : kindAt (line .row) ≡ kind) where
   corner-fits : sortAt (rowOf kind) 0 ≡ Sort.Corner → countIn (getD (line .values) 0 0) < cornerLimit
   corner-fits first = omega (arith, corner-known n line kind (row-of (line .row) kind (f .fits .row-fits) e) first (f .known), f .fits .few)
 
-pub label-fits : (n : ℕ) (line : HeldLine) → NumbersFine n line → kindAt (line .row) ≡ Kind.Label → LabelFits (labelIn (line .values))
+pub label-fits : (n m : ℕ) (line : HeldLine) → NumbersFine n m line → kindAt (line .row) ≡ Kind.Label → LabelFits (labelIn (line .values))
 unfolding sortAt sortOf rowAt rows
-label-fits n line f e =
-    record { on = label-on n line (row-of (line .row) Kind.Label (f .fits .row-fits) e) (f .on); entry = corner-fits n line f Kind.Label e refl }
+label-fits n m line f e =
+    record { on = label-on n line (row-of (line .row) Kind.Label (f .fits .row-fits) e) (f .on); entry = corner-fits n m line f Kind.Label e refl }
 
-pub shade-fits : (n : ℕ) (line : HeldLine) → NumbersFine n line → kindAt (line .row) ≡ Kind.Shade → shadeIn (line .values) .corner < cornerLimit
+pub set-fits : (n m : ℕ) (line : HeldLine) → NumbersFine n m line → kindAt (line .row) ≡ Kind.Label → SetFits m (labelIn (line .values))
+set-fits n m line f e = record { few = f .fits .labels-few; label = label-fits n m line f e }
+
+pub shade-fits : (n m : ℕ) (line : HeldLine) → NumbersFine n m line → kindAt (line .row) ≡ Kind.Shade → shadeIn (line .values) .corner < cornerLimit
 unfolding sortAt sortOf rowAt rows
-shade-fits n line f e = corner-fits n line f Kind.Shade e refl
+shade-fits n m line f e = corner-fits n m line f Kind.Shade e refl

@@ -22,12 +22,14 @@ use Rattle.frame_line.proofs.Laws.{line-reads-back, line-prints-back}
 use Rattle.frame_line.proofs.Words.{counts-alike}
 use Rattle.frame_check.proofs.Laws.{all-fine}
 use Rattle.sizes.specs.Sizes.{byteLimit}
-use Rattle.frame.specs.Frame.{outsideIn, Frame, Parts, added, partsFrom, no-parts, partsOf, checkedLine, Step, onward, stepBy, stepWith, stepLine, FrameRead, refused-at, accepted, atEnd, going, readLines, readFrame}
-use Rattle.frame.specs.Text.{frameText, All, InOrder, ends, next, InRange, FrameReadsBack, FramePrintsBack, Passed, none-yet, one-more}
+use Rattle.frame.specs.Frame.{outsideIn, Frame, Parts, added, partsFrom, no-parts, partsOf, firstSet, secondSet, checkedLine, Step, onward, stepBy, stepWith, stepLine, FrameRead, refused-at, accepted, finish, atEnd, going, readLines, readFrame}
+use Rattle.join.specs.Rule.{All}
+use Rattle.frame.specs.Text.{frameText, InOrder, ends, next, InRange, Joinable, FrameReadsBack, FramePrintsBack, Passed, none-yet, one-more}
 use Rattle.frame.proofs.Adding.{below-or-not, line-fine}
 use Rattle.frame.proofs.Turn.{parts-more}
 use Rattle.frame_laws.proofs.Parts.{all-map, all-given, Limits, limits-after, limits-before, limits-first, no-limits, within-limits, frame-limits}
-use Rattle.frame_laws.proofs.Refusals.{Stepping, stops, goes, stepping, Ending, all-read, one-fails, one-missing, ending}
+use Rattle.frame_laws.proofs.Joining.{joinable-whole}
+use Rattle.frame_laws.proofs.Refusals.{Stepping, stops, goes, stepping, Ending, all-read, one-fails, one-missing, sets-apart, ending}
 
 -- ---- the lines of what is printed
 
@@ -52,31 +54,31 @@ lines-text (l ∷ ls) = ap (λ (t : List ℕ). lineText l ++ t) (lines-text ls)
 
 -- ---- lines that pass, each in its turn
 
-data Passing : ℕ → Parts → List Line → Type 0 where
+pub data Passing : ℕ → Parts → List Line → Type 0 where
   end-here : {stage : ℕ} {p : Parts} → mayEnd stage ≡ true → Passing stage p []
   pass-on : {stage to : ℕ} {p : Parts} {ls : List Line} (l : Line) → Proper l → turnAt stage (l .row) ≡ Turn.To to → checkedLine p l ≡ Checked.Fine
       → Passing to (added p l) ls
       → Passing stage p (l ∷ ls)
 
 passing-read : (n : ℕ) {stage : ℕ} {p : Parts} (f : Frame) → p ≡ partsOf f → {ls : List Line} → Passing stage p ls
-    → readLines n stage f (map lineText ls) ≡ accepted (f ++ ls)
+    → readLines n stage f (map lineText ls) ≡ finish (f ++ ls)
 unfolding readLines atEnd stepLine
-passing-read n f is (end-here e) = rw e (ap accepted (sym (append-nil f)))
+passing-read n f is (end-here e) = rw e (ap finish (sym (append-nil f)))
 passing-read n {stage} f is (pass-on {to = to} {ls = ls} l p t c more) =
     let on : ℕ → Frame → FrameRead = λ stage' g. readLines (suc n) stage' g (map lineText ls) in
     ap (λ (r : LineRead). going n (stepWith stage f r) on) (line-reads-back l p)
     ∙ ap₂ (λ (u : Turn) (w : Checked). going n (stepBy u w (f ++ (l ∷ []))) on) t (ap (λ (q : Parts). checkedLine q l) (sym is) ∙ c)
     ∙ passing-read (suc n) (f ++ (l ∷ [])) (ap (λ (q : Parts). added q l) is ∙ sym (parts-more f l)) more
-    ∙ ap accepted (append-assoc f (l ∷ []) ls)
+    ∙ ap finish (append-assoc f (l ∷ []) ls)
 
 -- what was read of these lines
-record ReadBack (stage : ℕ) (f g : Frame) (texts : List (List ℕ)) : Type 0 where
-  lines : List Line
-  all-are : g ≡ f ++ lines
-  texts-again : texts ≡ map lineText lines
-  passing : Passing stage (partsOf f) lines
+pub record ReadBack (stage : ℕ) (f g : Frame) (texts : List (List ℕ)) : Type 0 where
+  pub lines : List Line
+  pub all-are : g ≡ f ++ lines
+  pub texts-again : texts ≡ map lineText lines
+  pub passing : Passing stage (partsOf f) lines
 
-read-passing : {stage last : ℕ} {f g : Frame} {texts : List (List ℕ)} → Passed stage f texts last g → mayEnd last ≡ true → ReadBack stage f g texts
+pub read-passing : {stage last : ℕ} {f g : Frame} {texts : List (List ℕ)} → Passed stage f texts last g → mayEnd last ≡ true → ReadBack stage f g texts
 read-passing {f = f} none-yet h = record { lines = []; all-are = sym (append-nil f); texts-again = refl; passing = end-here h }
 read-passing {stage} {last} {f} {g} (one-more {stage' = to} {f' = next-frame} {text = text} {texts = texts} e more) h =
     go (stepping stage f text) e (read-passing more h)
@@ -98,11 +100,11 @@ read-passing {stage} {last} {f} {g} (one-more {stage' = to} {f' = next-frame} {t
 
 -- ---- each line's numbers
 
-passing-order : {stage : ℕ} {p : Parts} {ls : List Line} → Passing stage p ls → InOrder stage ls
+pub passing-order : {stage : ℕ} {p : Parts} {ls : List Line} → Passing stage p ls → InOrder stage ls
 passing-order (end-here e) = ends e
 passing-order (pass-on l p t c more) = next l t (passing-order more)
 
-rows-of : {stage : ℕ} {p : Parts} {ls : List Line} → Passing stage p ls → All (λ l. l .row < rowCount) ls
+pub rows-of : {stage : ℕ} {p : Parts} {ls : List Line} → Passing stage p ls → All (λ l. l .row < rowCount) ls
 rows-of (end-here e) = tt
 rows-of (pass-on l p t c more) = (p .few, rows-of more)
 
@@ -113,7 +115,7 @@ unfolding outsideLine
 counted-all s t p l ls e rs o r =
     counts-alike r (length (p .corners)) (length (partsFrom p (l ∷ ls) .corners)) (l .row) (all-given s t p l ls e rs o) 0 (l .numbers)
 
-numbers-of : {stage : ℕ} {p : Parts} {ls : List Line} → Passing stage p ls → All (InRange (length (partsFrom p ls .corners))) ls
+pub numbers-of : {stage : ℕ} {p : Parts} {ls : List Line} → Passing stage p ls → All (InRange (length (partsFrom p ls .corners))) ls
 unfolding partsFrom
 numbers-of (end-here e) = tt
 numbers-of {stage} {p} (pass-on {to = to} {ls = ls} l q t c more) =
@@ -125,7 +127,7 @@ numbers-of {stage} {p} (pass-on {to = to} {ls = ls} l q t c more) =
 
 -- ---- the limits
 
-limits-of : {stage : ℕ} {p : Parts} {ls : List Line} → Passing stage p ls → Limits p → Limits (partsFrom p ls)
+pub limits-of : {stage : ℕ} {p : Parts} {ls : List Line} → Passing stage p ls → Limits p → Limits (partsFrom p ls)
 unfolding partsFrom
 limits-of (end-here e) m = m
 limits-of {stage} {p} (pass-on l proper t c more) m =
@@ -133,14 +135,15 @@ limits-of {stage} {p} (pass-on l proper t c more) m =
 
 -- ---- the laws
 
-prints-back : (text : List ℕ) (f : Frame) → length text ≤ byteLimit → ReadBack 0 [] f (linesOf text) → FramePrintsBack text f
+prints-back : (text : List ℕ) (f : Frame) → length text ≤ byteLimit → ReadBack 0 [] f (linesOf text)
+    → (partsOf f .patched ≡ true → Joinable (firstSet (partsOf f)) (secondSet (partsOf f))) → FramePrintsBack text f
 unfolding partsOf partsFrom
-prints-back text f h r =
+prints-back text f h r j =
     let t : text ≡ frameText f = sym (lines-joined text) ∙ ap joined (r .texts-again) ∙ lines-text (r .lines) ∙ ap frameText (sym (r .all-are)) in
     let passing : Passing 0 no-parts f = subst (Passing 0 no-parts) (sym (r .all-are)) (r .passing) in
     record {
       text-again = t;
-      within = within-limits (subst (λ (x : List ℕ). length x ≤ byteLimit) t h) (passing-order passing) (numbers-of passing) (limits-of passing no-limits);
+      within = within-limits (subst (λ (x : List ℕ). length x ≤ byteLimit) t h) (passing-order passing) (numbers-of passing) (limits-of passing no-limits) j;
     }
 
 pub frame-prints-back : (text : List ℕ) (f : Frame) → readFrame text ≡ accepted f → FramePrintsBack text f
@@ -153,9 +156,10 @@ frame-prints-back text f e =
     none d = absurd (let z : _≡_ {A = ℕ} 0 1 = cc in omega arith)
 
     back : {o : FrameRead} → length text ≤ byteLimit → Ending 1 0 [] (linesOf text) o → o ≡ accepted f → FramePrintsBack text f
-    back h (all-read last g p k) d = let same : f ≡ g = cc in rw same (prints-back text g h (read-passing p k))
+    back h (all-read last g p k j) d = let same : f ≡ g = cc in rw same (prints-back text g h (read-passing p k) j)
     back h (one-fails k m last g r l a p w) d = absurd (let z : _≡_ {A = ℕ} 0 1 = cc in omega arith)
     back h (one-missing m last g a p k) d = absurd (let z : _≡_ {A = ℕ} 0 1 = cc in omega arith)
+    back h (sets-apart m last g r a p k t u) d = absurd (let z : _≡_ {A = ℕ} 0 1 = cc in omega arith)
 
 within-passes : (s : ℕ) (p : Parts) (ls : List Line) → InOrder s ls → All (InRange (length (partsFrom p ls .corners))) ls → Limits (partsFrom p ls)
     → Passing s p ls
@@ -179,4 +183,4 @@ pub frame-reads-back : FrameReadsBack
 unfolding readFrame partsOf partsFrom
 frame-reads-back f w =
     rw (le-ltb byteLimit (length (frameText f)) (w .bytes), lines-printed (length (partsOf f .corners)) f (w .numbers))
-    (passing-read 1 [] refl (within-passes 0 no-parts f (w .order) (w .numbers) (frame-limits w)))
+    (passing-read 1 [] refl (within-passes 0 no-parts f (w .order) (w .numbers) (frame-limits w)) ∙ joinable-whole f (w .joins))

@@ -1,26 +1,20 @@
--- The first check that a line fails, how the reading of a frame ends, that each refusal means what the table says, and that what the table says
--- is refused so. Assumes nothing.
-use mathlib.Core.Path.{_≡_, refl, sym, ap, _∙_, subst}
+-- The first check that a line fails, and how the reading of a frame ends. Assumes nothing.
+use mathlib.Core.Path.{_≡_, refl, subst}
 use mathlib.Core.Bool.{Bool, true, false, cond}
-use mathlib.Core.Logic.{⊎-elim}
-use mathlib.Core.List.{List, [], _∷_, _++_, append-nil}
-use Prim.Native.Nat.{ℕ, suc, _+_, _<_, _≤_}
+use mathlib.Core.List.{List, [], _∷_, _++_}
+use Prim.Native.Nat.{ℕ, suc, _+_, _<_}
 use native.Mathlib.Omega.{arith}
-use borrow.Author.Tests.{lt-ltb, le-ltb}
-use lib.ListN.{length, getD, take, drop}
-use lib.Seq.{length-take-le, split-at}
+use lib.ListN.{length, getD, take}
 use Rattle.refusal.specs.declared.Refusal.{Refusal}
 use Rattle.arguments.specs.Arguments.{refusedIf}
 use Rattle.arguments.specs.declared.Checked.{Checked}
-use Rattle.line_form.specs.Lines.{linesOf}
 use Rattle.frame_line.specs.Table.{turnAt, mayEnd}
 use Rattle.frame_line.specs.Lines.{Line, kindOf, LineRead, ill-formed, line, readLine}
 use Rattle.frame_line.specs.declared.Turn.{Turn}
 use Rattle.frame_check.specs.Checks.{checksInOrder}
-use Rattle.sizes.specs.Sizes.{byteLimit}
-use Rattle.frame.specs.Frame.{outsideIn, overIn, twiceIn, Frame, partsOf, checkedLine, Step, stopped, onward, stepBy, stepWith, stepLine, FrameRead, refused-at, accepted, atEnd, going, readLines, readFrame}
-use Rattle.frame.specs.Text.{FirstCheck, is-first, too-many, is-wild, is-off-sheet, is-unknown, is-doubled, FirstFault, has-no-form, not-its-turn, fails, Passed, none-yet, one-more, Refused, too-long, at-line, missing, RefusalsMean}
-use Rattle.frame.proofs.Adding.{below-or-not}
+use Rattle.frame.specs.Frame.{outsideIn, overIn, twiceIn, Frame, partsOf, firstSet, secondSet, patchLine, checkedLine, Step, stopped, onward, stepBy, stepWith, stepLine, FrameRead, refused-at, accepted, finish, atEnd, going, readLines}
+use Rattle.frame.specs.Text.{FirstCheck, is-first, too-many, is-wild, is-off-sheet, is-unknown, is-doubled, FirstFault, has-no-form, not-its-turn, fails, Joinable, Unjoined, Passed, none-yet, one-more}
+use Rattle.frame_laws.proofs.Joining.{Finishing, is-whole, not-joined, finishing}
 
 -- ---- a line that fails
 
@@ -74,7 +68,7 @@ module _ (stage : ℕ) (f : Frame) where
       go ill-formed r = stops Refusal.Malformed (rw r has-no-form)
       go (line l) r = by l (turnAt stage (l .row)) (checkedLine (partsOf f) l) r refl refl
 
-  fault-stops : (l : LineRead) (r : Refusal) → FirstFault stage f l r → stepWith stage f l ≡ stopped r
+  pub fault-stops : (l : LineRead) (r : Refusal) → FirstFault stage f l r → stepWith stage f l ≡ stopped r
   unfolding checkedLine
   fault-stops l r has-no-form = refl
   fault-stops l r (not-its-turn a) = rw a
@@ -84,29 +78,37 @@ module _ (stage : ℕ) (f : Frame) where
 -- ---- all lines
 
 -- what comes of the lines from number n on: all pass and the frame is whole; or a line fails, the k-th of them; or all pass, and one of the
--- first four is missing
+-- first four is missing; or all pass and may end there, and the two sets are not joined
 pub data Ending (n stage : ℕ) (f : Frame) (texts : List (List ℕ)) : FrameRead → Type 0 where
-  all-read : (last : ℕ) (g : Frame) → Passed stage f texts last g → mayEnd last ≡ true → Ending n stage f texts (accepted g)
+  all-read : (last : ℕ) (g : Frame) → Passed stage f texts last g → mayEnd last ≡ true
+      → (partsOf g .patched ≡ true → Joinable (firstSet (partsOf g)) (secondSet (partsOf g))) → Ending n stage f texts (accepted g)
   one-fails : (k m last : ℕ) (g : Frame) (r : Refusal) → k < length texts → m ≡ n + k → Passed stage f (take k texts) last g
       → FirstFault last g (readLine (getD texts k [])) r
       → Ending n stage f texts (refused-at r m)
   one-missing : (m last : ℕ) (g : Frame) → m ≡ n + length texts → Passed stage f texts last g → mayEnd last ≡ false
       → Ending n stage f texts (refused-at Refusal.Malformed m)
+  sets-apart : (m last : ℕ) (g : Frame) (r : Refusal) → m ≡ patchLine (partsOf g) → Passed stage f texts last g → mayEnd last ≡ true
+      → partsOf g .patched ≡ true → Unjoined (firstSet (partsOf g)) (secondSet (partsOf g)) r → Ending n stage f texts (refused-at r m)
 
 -- one line more in front
 ending-more : (n stage : ℕ) (f : Frame) (text : List ℕ) (texts : List (List ℕ)) (stage' : ℕ) (f' : Frame) → stepLine stage f text ≡ onward stage' f'
     → (o : FrameRead)
     → Ending (suc n) stage' f' texts o → Ending n stage f (text ∷ texts) o
-ending-more n stage f text texts stage' f' e o (all-read last g p h) = all-read last g (one-more e p) h
+ending-more n stage f text texts stage' f' e o (all-read last g p h j) = all-read last g (one-more e p) h j
 ending-more n stage f text texts stage' f' e o (one-fails k m last g r h q p w) = one-fails (suc k) m last g r (omega arith) (omega arith) (one-more e p) w
 ending-more n stage f text texts stage' f' e o (one-missing m last g q p h) = one-missing m last g (omega arith) (one-more e p) h
+ending-more n stage f text texts stage' f' e o (sets-apart m last g r q p h t u) = sets-apart m last g r q (one-more e p) h t u
 
 pub ending : (n stage : ℕ) (f : Frame) (texts : List (List ℕ)) → Ending n stage f texts (readLines n stage f texts)
 unfolding readLines atEnd
 ending n stage f [] = go (mayEnd stage) refl
   where
-    go : (x : Bool) → mayEnd stage ≡ x → Ending n stage f [] (cond x (accepted f) (refused-at Refusal.Malformed n))
-    go true e = all-read stage f none-yet e
+    end : mayEnd stage ≡ true → {o : FrameRead} → Finishing f o → Ending n stage f [] o
+    end e (is-whole j) = all-read stage f none-yet e j
+    end e (not-joined r t u) = sets-apart _ stage f r refl none-yet e t u
+
+    go : (x : Bool) → mayEnd stage ≡ x → Ending n stage f [] (cond x (finish f) (refused-at Refusal.Malformed n))
+    go true e = end e (finishing f)
     go false e = one-missing n stage f (omega arith) none-yet e
 ending n stage f (text ∷ texts) = go (stepping stage f text) refl (λ stage' f'. ending (suc n) stage' f' texts)
   where
@@ -115,60 +117,3 @@ ending n stage f (text ∷ texts) = go (stepping stage f text) refl (λ stage' f
         → Ending n stage f (text ∷ texts) (going n s (λ stage' f'. readLines (suc n) stage' f' texts))
     go (stops r w) e rest = one-fails 0 n stage f r (omega arith) (omega arith) none-yet w
     go (goes l to r p q) e rest = ending-more n stage f text texts to (f ++ (l ∷ [])) e (readLines (suc n) to (f ++ (l ∷ [])) texts) (rest to (f ++ (l ∷ [])))
-
--- ---- the law
-
-pub refusals-mean : RefusalsMean
-unfolding readFrame
-refusals-mean text r n e =
-    ⊎-elim (λ h. bytes h (rw (lt-ltb byteLimit (length text) h) at e)) (λ h. why h (ending 1 0 [] (linesOf text)) (rw (le-ltb byteLimit (length text) h) at e))
-    (below-or-not byteLimit (length text))
-  where
-    bytes : byteLimit < length text → refused-at Refusal.OverLimit 0 ≡ refused-at r n → Refused text r n
-    bytes h q = let same : r ≡ Refusal.OverLimit = cc in let number : n ≡ 0 = cc in rw (same, number) (too-long h)
-
-    why : length text ≤ byteLimit → {o : FrameRead} → Ending 1 0 [] (linesOf text) o → o ≡ refused-at r n → Refused text r n
-    why h (all-read last g p k) q = absurd (let z : _≡_ {A = ℕ} 0 1 = cc in omega arith)
-    why h (one-fails k m last g s l a p w) q =
-        let same : r ≡ s = cc in
-        let number : m ≡ n = cc in
-        let here : n ≡ suc k = omega arith in
-        rw (same, here) (at-line k last g s h l p w)
-    why h (one-missing m last g a p k) q =
-        let same : r ≡ Refusal.Malformed = cc in
-        let number : m ≡ n = cc in
-        let here : n ≡ suc (length (linesOf text)) = omega arith in
-        rw (same, here) (missing last g h p k)
-
--- ---- and what the table says is refused so
-
--- lines that pass are read on
-passed-read : (n : ℕ) {stage : ℕ} {f : Frame} {texts : List (List ℕ)} {last : ℕ} {g : Frame} (rest : List (List ℕ)) → Passed stage f texts last g
-    → readLines n stage f (texts ++ rest) ≡ readLines (n + length texts) last g rest
-unfolding readLines
-passed-read n {stage} {f} rest none-yet = let e : n ≡ n + 0 = omega arith in ap (λ (m : ℕ). readLines m stage f rest) e
-passed-read n {last = last} {g = g} rest (one-more {texts = texts} e p) =
-    let m : suc n + length texts ≡ n + suc (length texts) = omega arith in
-    ap (λ (s : Step). going n s (λ stage' f'. readLines (suc n) stage' f' (texts ++ rest))) e ∙ passed-read (suc n) rest p
-    ∙ ap (λ (k : ℕ). readLines k last g rest) m
-
-short-enough : (text : List ℕ) → length text ≤ byteLimit → readFrame text ≡ readLines 1 0 [] (linesOf text)
-unfolding readFrame
-short-enough text h = rw (le-ltb byteLimit (length text) h)
-
--- so a text is refused with one number at one line, for the one reason that the table gives
-pub refused-so : (text : List ℕ) (r : Refusal) (n : ℕ) → Refused text r n → readFrame text ≡ refused-at r n
-unfolding readFrame readLines atEnd stepLine
-refused-so text r n (too-long h) = rw (lt-ltb byteLimit (length text) h)
-refused-so text r n (at-line k stage f s h l p w) =
-    let texts = linesOf text in
-    let number : 1 + length (take k texts) ≡ suc k = omega (arith, length-take-le k texts (omega arith)) in
-    short-enough text h ∙ ap (readLines 1 0 []) (split-at texts k [] l) ∙ passed-read 1 (getD texts k [] ∷ drop (suc k) texts) p
-    ∙ ap (λ (x : Step). going (1 + length (take k texts)) x (λ to g. readLines (suc (1 + length (take k texts))) to g (drop (suc k) texts)))
-    (fault-stops stage f (readLine (getD texts k [])) s w)
-    ∙ ap (refused-at s) number
-refused-so text r n (missing stage f h p l) =
-    let texts = linesOf text in
-    let number : 1 + length texts ≡ suc (length texts) = omega arith in
-    short-enough text h ∙ ap (readLines 1 0 []) (sym (append-nil texts)) ∙ passed-read 1 [] p
-    ∙ ap (λ (x : Bool). cond x (accepted f) (refused-at Refusal.Malformed (1 + length texts))) l ∙ ap (refused-at Refusal.Malformed) number

@@ -30,7 +30,8 @@ use Rattle.frame_line.proofs.Words.{counted}
 use Rattle.frame_line.proofs.Said.{AxesTame, PassTame, cell-said, axes-said, band-said}
 use Rattle.sizes.specs.Sizes.{cornerLimit}
 use Rattle.frame.specs.Frame.{Frame, Opening, Parts, opened, adding, added, partsFrom, no-parts, partsOf}
-use Rattle.frame.specs.Text.{All, InOrder, ends, next, InRange, WithinLimits}
+use Rattle.join.specs.Rule.{All}
+use Rattle.frame.specs.Text.{InOrder, ends, next, InRange, WithinLimits}
 use Rattle.frame.specs.ReadFrame.{floatOf, xsOf, ysOf, pitchesOf, sheetOf, settingsOf, fullOf, passOf}
 use Rattle.frame.proofs.Adding.{below-or-not}
 use Rattle.frame_laws.specs.Calls.{frameCorners, frameRooms, callOf, callsOf, NoneRefused, Starts, AcceptedRuns}

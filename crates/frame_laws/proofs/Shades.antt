@@ -24,13 +24,14 @@ use Rattle.frame_line.specs.Lines.{kindOf, ShadeLine, wholeAt}
 use Rattle.frame_line.specs.Checks.{wildWhole, numberOutside, someOutside, outsideLine}
 use Rattle.frame_line.specs.declared.Kind.{Kind}
 use Rattle.frame_check.specs.Checks.{checksInOrder, overLimit, twiceOf}
-use Rattle.frame.specs.Frame.{Frame, Parts, adding, added, partsFrom, no-parts, partsOf, someOf, checkedLine}
-use Rattle.frame.specs.Text.{All, SoundShade, ApartShades, WithinLimits}
+use Rattle.frame.specs.Frame.{Frame, Parts, adding, added, partsFrom, no-parts, partsOf, someOf, joinOf, givenOf, checkedLine}
+use Rattle.join.specs.Rule.{All}
+use Rattle.frame.specs.Text.{SoundShade, ApartShades, WithinLimits}
 use Rattle.frame.specs.ReadFrame.{xsOf, ysOf, pitchesOf, shaded, shadesOf, sheetOf, settingsOf}
 use Rattle.frame.proofs.Adding.{below-or-not}
 use Rattle.frame_laws.specs.Shades.{ShadeChecked, ShadedBy, GivenShades, isShade, withoutShades, ShadesApart}
 use Rattle.frame_laws.proofs.Parts.{all-map, shades-sound}
-use Rattle.frame_laws.proofs.Labels.{all-at}
+use Rattle.join.proofs.Union.{of-all}
 
 -- ---- the checks of a shade line
 
@@ -169,7 +170,7 @@ module _ (f : Frame) (w : WithinLimits f) where
       go zero e = omega arith
       go (suc k) e =
           let by = only-shaded n k (omega arith) in
-          let s = all-at (SoundShade count) (shades-sound f w) (by .listed) in
+          let s = of-all (SoundShade count) (partsOf f .shades) (shades-sound f w) (by .shade) (by .listed) in
           let same : s .kind ≡ k = ap natAbs (sym (s .is-kind) ∙ by .kind) in
           omega (arith, s .small)
 
@@ -193,13 +194,23 @@ module _ (f : Frame) (w : WithinLimits f) where
 -- ---- what the shade lines leave alone
 
 abbrev pub unshaded : Parts → Parts
-unshaded p = record { opening = p .opening; corners = p .corners; labels = p .labels; shades = []; passes = p .passes }
+unshaded p =
+    record {
+      opening = p .opening;
+      corners = p .corners;
+      labels = p .labels;
+      patched = p .patched;
+      second = p .second;
+      shades = [];
+      passes = p .passes;
+    }
 
 unshaded-line : (k : Kind) (ns : List Number) (p : Parts) → cond (isShade k) (unshaded p) (adding k ns (unshaded p)) ≡ unshaded (adding k ns p)
 unfolding adding
 unshaded-line (Kind.Opening o) ns p = refl
 unshaded-line Kind.Corner ns p = refl
 unshaded-line Kind.Label ns p = refl
+unshaded-line Kind.Patch ns p = refl
 unshaded-line Kind.Shade ns p = refl
 unshaded-line (Kind.Pass q) ns p = refl
 
@@ -214,7 +225,7 @@ parts-unshaded p (l ∷ ls) = go (isShade (kindOf l)) (unshaded-line (kindOf l) 
     go false e = ap (λ (q : Parts). partsFrom q (withoutShades ls)) e
 
 pub shades-apart : (f : Frame) → ShadesApart f
-unfolding partsOf sheetOf xsOf ysOf pitchesOf settingsOf
+unfolding partsOf sheetOf givenOf joinOf xsOf ysOf pitchesOf settingsOf
 shades-apart f =
     let e = parts-unshaded no-parts f in
     record { sheet = rw e; xs = rw e; ys = rw e; pitches = rw e; settings = rw e; passes = rw e }

@@ -1,7 +1,7 @@
 -- A frame without shade lines is as before document 02; and a frame without its shade lines is itself accepted. Assumes nothing.
 use mathlib.Core.Path.{_≡_, refl, sym, ap, _∙_}
 use mathlib.Core.Bool.{Bool, true, false, cond}
-use mathlib.Core.Logic.{_⊎_, inl, inr, ⊎-elim}
+use mathlib.Core.Logic.{_⊎_, inl, inr}
 use mathlib.Core.List.{List, [], _∷_, _++_}
 use Prim.Native.Nat.{ℕ, _<_, _≤_}
 use native.Mathlib.Omega.{arith}
@@ -15,7 +15,8 @@ use Rattle.frame_line.specs.declared.Turn.{Turn}
 use Rattle.invariants.specs.Unshaded.{NoShade}
 use Rattle.invariants.proofs.Unshaded.{as-before, calls-as-before}
 use Rattle.frame.specs.Frame.{Frame, no-parts, partsOf}
-use Rattle.frame.specs.Text.{frameText, All, InOrder, ends, next, InRange, WithinLimits}
+use Rattle.join.specs.Rule.{All}
+use Rattle.frame.specs.Text.{frameText, InOrder, ends, next, InRange, WithinLimits}
 use Rattle.frame.specs.ReadFrame.{shadesOf}
 use Rattle.frame_laws.specs.Shades.{isShade, withoutShades, AcceptedWithout}
 use Rattle.frame_laws.specs.Calls.{frameCorners, FrameAsBefore}
@@ -43,20 +44,26 @@ goes-to : (t : ℕ) (turn : Turn) → goes t turn ≡ true → turn ≡ Turn.To 
 goes-to t Turn.No e = cc
 goes-to t (Turn.To u) e = ap Turn.To (eqb-true u t e)
 
--- a shade line comes at stage 4, 5 or 6 and leads to 6; where another comes at 6, it leads from 4 and from 5 to the same stage
+-- a shade line comes at stage 4, 5, 6 or 7 and leads to 7; where another comes at 7, it leads from 4, from 5 and from 6 to the same stage
 shadeRule : ℕ → ℕ → ℕ → Bool
 shadeRule s k t =
     cond (isShade (kindAt k))
-    (cond (eqb t 6) (cond (eqb s 4) true (cond (eqb s 5) true (eqb s 6))) false)
-    (cond (eqb s 6) (cond (goes t (turnAt 4 k)) (goes t (turnAt 5 k)) false) true)
+    (cond (eqb t 7) (cond (eqb s 4) true (cond (eqb s 5) true (cond (eqb s 6) true (eqb s 7)))) false)
+    (cond (eqb s 7) (cond (goes t (turnAt 4 k)) (cond (goes t (turnAt 5 k)) (goes t (turnAt 6 k)) false) false) true)
 
 shade-rule : rule shadeRule ≡ true
 unfolding shadeRule kindAt turnAt rowAt rows
 shade-rule = refl
 
--- the stage without the shade lines, and with them: the same, or 6 for the latter while the former is still at corners or labels
+-- a stage before the shades: corners, labels, labels of the second set
+data Before (s' : ℕ) : Type 0 where
+  at-corners : s' ≡ 4 → Before s'
+  at-labels : s' ≡ 5 → Before s'
+  at-second : s' ≡ 6 → Before s'
+
+-- the stage without the shade lines, and with them: the same, or 7 for the latter while the former is still before the shades
 abbrev Behind : ℕ → ℕ → Type 0
-Behind s' s = (s' ≡ s) ⊎ ((s ≡ 6) × ((s' ≡ 4) ⊎ (s' ≡ 5)))
+Behind s' s = (s' ≡ s) ⊎ ((s ≡ 7) × Before s')
 
 module _ (s k t : ℕ) (few : k < rowCount) (e : turnAt s k ≡ Turn.To t) where
   by-rule : shadeRule s k t ≡ true
@@ -65,33 +72,51 @@ module _ (s k t : ℕ) (few : k < rowCount) (e : turnAt s k ≡ Turn.To t) where
   -- a shade line left out
   left-out : (s' : ℕ) → isShade (kindAt k) ≡ true → Behind s' s → Behind s' t
   unfolding shadeRule
-  left-out s' shade b = go b (eqb s 4) refl (eqb s 5) refl (second-true (eqb t 6) _ here)
+  left-out s' shade b = go b (eqb s 4) refl (eqb s 5) refl (eqb s 6) refl (second-true (eqb t 7) _ here)
     where
-      here : cond (eqb t 6) (cond (eqb s 4) true (cond (eqb s 5) true (eqb s 6))) false ≡ true
+      here : cond (eqb t 7) (cond (eqb s 4) true (cond (eqb s 5) true (cond (eqb s 6) true (eqb s 7)))) false ≡ true
       here = rw shade at by-rule
 
-      six : t ≡ 6
-      six = eqb-true t 6 (first-true (eqb t 6) _ here)
+      seven : t ≡ 7
+      seven = eqb-true t 7 (first-true (eqb t 7) _ here)
 
-      go : Behind s' s → (x : Bool) → eqb s 4 ≡ x → (y : Bool) → eqb s 5 ≡ y → cond x true (cond y true (eqb s 6)) ≡ true → Behind s' t
-      go (inr m) x p y q h = inr (six, m .1)
-      go (inl m) true p y q h = inr (six, inl (m ∙ eqb-true s 4 p))
-      go (inl m) false p true q h = inr (six, inr (m ∙ eqb-true s 5 q))
-      go (inl m) false p false q h = inl (m ∙ eqb-true s 6 h ∙ sym six)
+      go : Behind s' s → (x : Bool) → eqb s 4 ≡ x → (y : Bool) → eqb s 5 ≡ y → (z : Bool) → eqb s 6 ≡ z
+          → cond x true (cond y true (cond z true (eqb s 7))) ≡ true → Behind s' t
+      go (inr m) x p y q z r h = inr (seven, m .1)
+      go (inl m) true p y q z r h = inr (seven, at-corners (m ∙ eqb-true s 4 p))
+      go (inl m) false p true q z r h = inr (seven, at-labels (m ∙ eqb-true s 5 q))
+      go (inl m) false p false q true r h = inr (seven, at-second (m ∙ eqb-true s 6 r))
+      go (inl m) false p false q false r h = inl (m ∙ eqb-true s 7 h ∙ sym seven)
 
   -- another line kept
   kept-on : (s' : ℕ) → isShade (kindAt k) ≡ false → Behind s' s → turnAt s' k ≡ Turn.To t
   unfolding shadeRule
   kept-on s' other (inl m) = ap (λ (i : ℕ). turnAt i k) m ∙ e
-  kept-on s' other (inr m) =
-      let here : cond (goes t (turnAt 4 k)) (goes t (turnAt 5 k)) false ≡ true = rw (other, m .0) at by-rule in
-      ⊎-elim (λ q. ap (λ (i : ℕ). turnAt i k) q ∙ goes-to t (turnAt 4 k) (first-true (goes t (turnAt 4 k)) _ here))
-      (λ q. ap (λ (i : ℕ). turnAt i k) q ∙ goes-to t (turnAt 5 k) (second-true (goes t (turnAt 4 k)) _ here)) (m .1)
+  kept-on s' other (inr m) = go (m .1)
+    where
+      here : cond (goes t (turnAt 4 k)) (cond (goes t (turnAt 5 k)) (goes t (turnAt 6 k)) false) false ≡ true
+      here = rw (other, m .0) at by-rule
+
+      later : cond (goes t (turnAt 5 k)) (goes t (turnAt 6 k)) false ≡ true
+      later = second-true (goes t (turnAt 4 k)) _ here
+
+      from : (i : ℕ) → s' ≡ i → goes t (turnAt i k) ≡ true → turnAt s' k ≡ Turn.To t
+      from i q h = ap (λ (j : ℕ). turnAt j k) q ∙ goes-to t (turnAt i k) h
+
+      go : Before s' → turnAt s' k ≡ Turn.To t
+      go (at-corners q) = from 4 q (first-true (goes t (turnAt 4 k)) _ here)
+      go (at-labels q) = from 5 q (first-true (goes t (turnAt 5 k)) _ later)
+      go (at-second q) = from 6 q (second-true (goes t (turnAt 5 k)) _ later)
 
 may-end : (s' s : ℕ) → Behind s' s → mayEnd s ≡ true → mayEnd s' ≡ true
 unfolding mayEnd
 may-end s' s (inl m) e = ap mayEnd m ∙ e
-may-end s' s (inr m) e = ⊎-elim (λ q. ap mayEnd q) (λ q. ap mayEnd q) (m .1)
+may-end s' s (inr m) e = go (m .1)
+  where
+    go : Before s' → mayEnd s' ≡ true
+    go (at-corners q) = ap mayEnd q
+    go (at-labels q) = ap mayEnd q
+    go (at-second q) = ap mayEnd q
 
 order-without : (n s' s : ℕ) (ls : List Line) → All (InRange n) ls → InOrder s ls → Behind s' s → InOrder s' (withoutShades ls)
 unfolding withoutShades
@@ -141,7 +166,9 @@ within-without f w =
       corners = rw e (w .corners);
       passes = rw e (w .passes);
       once = rw e (w .once);
+      second-once = rw e (w .second-once);
       shaded-once = rw e tt;
+      joins = rw e (w .joins);
     }
 
 pub accepted-without : AcceptedWithout

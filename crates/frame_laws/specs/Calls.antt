@@ -1,24 +1,25 @@
 -- What an accepted frame starts (document 01, "Lists of passes, for demand 3"): "It starts from an accepted frame's corners and the sheet of
--- its given labels, those of the label lines"; and "a frame's passes are one such list". Definitions only.
+-- its given labels, those of the label lines"; and "a frame's passes are one such list". Document 02, 3/14: "passes run on the union, which then is the
+-- given labels". Definitions only.
 use mathlib.Core.Path.{_≡_}
-use mathlib.Core.Bool.{false}
+use mathlib.Core.Bool.{true, false}
 use mathlib.Core.List.{List, [], _∷_, List·Memᴰ, map}
 use Prim.Native.Nat.{ℕ, _*_}
-use lib.IntN.{pos, natAbs}
 use Rattle.sheet.specs.Corners.{CornerLists}
 use Rattle.sheet.specs.Words.{labelAt, holeAt, ambiguousAt}
 use Rattle.sheet.specs.declared.Cell.{Cell}
 use Rattle.sheet.specs.declared.Label.{Label}
+use Rattle.sheet.specs.declared.Offset.{Offset}
 use Rattle.passes.specs.Outcome.{Outcome, refused, done}
 use Rattle.passes.specs.Step.{Rooms}
 use Rattle.passes.specs.Run.{Call, PassStats, run, sheetOf as sheetLeft}
 use Rattle.arguments.specs.Shades.{cornersOf}
 use Rattle.invariants.specs.Calls.{Standing, Invariant, CallInside, Accepts}
 use Rattle.invariants.specs.Unshaded.{Unshaded, CallsUnshaded}
-use Rattle.frame_line.specs.Lines.{LabelLine, PassLine}
+use Rattle.frame_line.specs.Lines.{PassLine}
 use Rattle.sizes.specs.Sizes.{cornerLimit}
-use Rattle.frame.specs.Frame.{Frame, partsOf, readFrame, accepted}
-use Rattle.frame.specs.Text.{All}
+use Rattle.frame.specs.Frame.{Frame, partsOf, firstSet, secondSet, givenOf, readFrame, accepted}
+use Rattle.join.specs.Rule.{Placed, Shared, Shift, UnionBy, All}
 use Rattle.frame.specs.ReadFrame.{xsOf, ysOf, pitchesOf, shadesOf, sheetOf, settingsOf, fullOf, passOf}
 use Rattle.frame_laws.specs.Shades.{GivenShades}
 
@@ -28,19 +29,23 @@ frameCorners f = record { xs = xsOf f; ys = ysOf f; pitches = pitchesOf f }
 
 -- ---- the sheet of the given labels
 
--- a label line that names the corner k at the cell c
-pub record NamedBy (ls : List LabelLine) (c : Cell) (k : ℕ) : Type 0 where
-  pub label : LabelLine
-  pub listed : List·Memᴰ label ls
-  pub cell : label .cell ≡ c
-  pub corner : label .corner ≡ pos k
+-- two sets joined: a corner is in both, and by a shift onto the sheet, the only one, "every shared corner has one cell and every cell one corner"; the
+-- union has each label of the first set at its cell, each of the second at its moved cell, nothing else, each corner once and each cell once
+pub record JoinedSets (first second u : List Placed) : Type 0 where
+  pub shared : Shared first second
+  pub shift : Offset
+  pub onto : Shift first second shift
+  pub union : UnionBy first second shift u
 
--- each label line's cell holds its corner, no other cell holds one, and "The frame starts with no marks"
+-- each given label's cell holds its corner, no other cell holds one, and "The frame starts with no marks"; the given labels are those of the label lines,
+-- or, where the patch line stands, the union of both sets
 pub record GivenLabels (f : Frame) : Type 0 where
-  pub each : All (λ l. labelAt (sheetOf f) (l .cell) ≡ Label.Corner (natAbs (l .corner))) (partsOf f .labels)
-  pub only : (c : Cell) (k : ℕ) → labelAt (sheetOf f) c ≡ Label.Corner k → NamedBy (partsOf f .labels) c k
+  pub each : (l : Placed) → List·Memᴰ l (givenOf (partsOf f)) → labelAt (sheetOf f) (l .cell) ≡ Label.Corner (l .corner)
+  pub only : (c : Cell) (k : ℕ) → labelAt (sheetOf f) c ≡ Label.Corner k → List·Memᴰ (record { corner = k; cell = c }) (givenOf (partsOf f))
   pub no-hole : (c : Cell) → holeAt (sheetOf f) c ≡ false
   pub no-ambiguous : (c : Cell) → ambiguousAt (sheetOf f) c ≡ false
+  pub one-set : partsOf f .patched ≡ false → givenOf (partsOf f) ≡ firstSet (partsOf f)
+  pub both-sets : partsOf f .patched ≡ true → JoinedSets (firstSet (partsOf f)) (secondSet (partsOf f)) (givenOf (partsOf f))
 
 -- ---- a frame's passes as calls
 

@@ -17,7 +17,8 @@ use Rattle.line_form.specs.Forms.{whole}
 use Rattle.frame_line.specs.Lines.{Line, kindOf, ShadeLine}
 use Rattle.frame_line.specs.declared.Kind.{Kind}
 use Rattle.frame.specs.Frame.{Frame, Parts, partOf, partsOf, someOf, checkedLine, readFrame, accepted}
-use Rattle.frame.specs.Text.{All, frameText}
+use Rattle.join.specs.Rule.{All}
+use Rattle.frame.specs.Text.{frameText}
 use Rattle.frame.specs.ReadFrame.{xsOf, ysOf, pitchesOf, shadesOf, sheetOf, settingsOf}
 
 -- ---- the checks of a shade line

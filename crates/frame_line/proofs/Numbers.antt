@@ -215,6 +215,7 @@ rowOf (Kind.Pass PassKind.BareFill) = 8
 rowOf (Kind.Pass PassKind.Fill) = 9
 rowOf (Kind.Pass PassKind.Local) = 10
 rowOf Kind.Shade = 11
+rowOf Kind.Patch = 12
 
 pub row-of : (k : ℕ) (kind : Kind) → k < rowCount → kindAt k ≡ kind → k ≡ rowOf kind
 unfolding kindAt

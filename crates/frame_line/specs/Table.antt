@@ -14,30 +14,32 @@ use Rattle.frame_line.specs.declared.Sort.{Sort}
 use Rattle.frame_line.specs.declared.Turn.{Turn}
 
 -- "Lines, in order: frame, cell, axes (of i, then of j), band, corners (position, pitch; numbered from 0), labels (corner, cell), passes"; and of
--- document 02, 1/14: "After the labels a frame may hold lines `(shade n k)`, corner n having kind k, 0 or 1".
+-- document 02, 1/14: "After the labels a frame may hold lines `(shade n k)`, corner n having kind k, 0 or 1", and 3/14: "A line `(patch)` before the
+-- first shade or pass opens a second set of labels .. A second `(patch)` is 1".
 -- A row: for each stage before the line, the stage behind it, or . where the line may not come; a letter for each of its numbers; its form.
--- The stages: 0 to 3 frame, cell, axes, band must come; 4 corners; 5 labels; 6 shades; 7 passes.
+-- The stages: 0 to 3 frame, cell, axes, band must come; 4 corners; 5 labels; 6 labels of the second set; 7 shades; 8 passes.
 unfoldable pub rows : List (List ℕ)
 rows =
-    bytes "1....... ..... (frame 1)\n"
-    ∷ bytes ".2...... c.... (cell %)\n"
-    ∷ bytes "..3..... aaaa. (axes (% %) (% %))\n"
-    ∷ bytes "...4.... b.... (band %)\n"
-    ∷ bytes "....4... xxp.. (corner (% %) %)\n"
-    ∷ bytes "....55.. nii.. (label # (# #))\n"
-    ∷ bytes "....7777 ..... (grow)\n"
-    ∷ bytes "....7777 mfm.. (grow % % %)\n"
-    ∷ bytes "....7777 ..... (fill)\n"
-    ∷ bytes "....7777 mfr.. (fill % % #)\n"
-    ∷ bytes "....7777 mfrmd (local % % # % #)\n"
-    ∷ bytes "....666. nk... (shade # #)\n"
+    bytes "1........ ..... (frame 1)\n"
+    ∷ bytes ".2....... c.... (cell %)\n"
+    ∷ bytes "..3...... aaaa. (axes (% %) (% %))\n"
+    ∷ bytes "...4..... b.... (band %)\n"
+    ∷ bytes "....4.... xxp.. (corner (% %) %)\n"
+    ∷ bytes "....556.. nii.. (label # (# #))\n"
+    ∷ bytes "....88888 ..... (grow)\n"
+    ∷ bytes "....88888 mfm.. (grow % % %)\n"
+    ∷ bytes "....88888 ..... (fill)\n"
+    ∷ bytes "....88888 mfr.. (fill % % #)\n"
+    ∷ bytes "....88888 mfrmd (local % % # % #)\n"
+    ∷ bytes "....7777. nk... (shade # #)\n"
+    ∷ bytes "....66... ..... (patch)\n"
     ∷ []
 
 abbrev pub rowCount : ℕ
-rowCount = 12
+rowCount = 13
 
 abbrev pub stageCount : ℕ
-stageCount = 8
+stageCount = 9
 
 abbrev pub lettersFrom : ℕ
 lettersFrom = stageCount + 1
@@ -63,6 +65,7 @@ kinds =
     ∷ Kind.Pass PassKind.Fill
     ∷ Kind.Pass PassKind.Local
     ∷ Kind.Shade
+    ∷ Kind.Patch
     ∷ []
 
 unfoldable pub kindAt : ℕ → Kind
@@ -84,7 +87,7 @@ turnAt stage k = turnBy (getD (take stageCount (rowAt k)) stage 46)
 
 -- "The first four lines must stand; the others may be none"
 abbrev pub ends : List Bool
-ends = false ∷ false ∷ false ∷ false ∷ true ∷ true ∷ true ∷ true ∷ []
+ends = false ∷ false ∷ false ∷ false ∷ true ∷ true ∷ true ∷ true ∷ true ∷ []
 
 unfoldable pub mayEnd : ℕ → Bool
 mayEnd stage = getD ends stage false

@@ -33,6 +33,7 @@ pub enum Kind {
     Opening(OpeningKind),
     Corner,
     Label,
+    Patch,
     Shade,
     Pass(PassKind),
 }
@@ -74,11 +75,11 @@ pub struct HeldShade {
     pub kind: u32,
 }
 
-// How many stages there are: 0 to 3, frame, cell, axes and band must come; 4 corners; 5 labels; 6 shades; 7 passes.
-const STAGES: usize = 8;
+// How many stages there are: 0 to 3, frame, cell, axes and band must come; 4 corners; 5 labels; 6 labels of a second set; 7 shades; 8 passes.
+const STAGES: usize = 9;
 
 // How many rows there are.
-const ROWS: usize = 12;
+const ROWS: usize = 13;
 
 // How long the front of a row is, and where the letters of its numbers start.
 const FRONT: usize = STAGES + 7;
@@ -88,21 +89,22 @@ const LETTERS: usize = STAGES + 1;
 // The table, in two columns. The front of a row has the stage behind the line for each stage before it (. where it may not come), and a
 // letter for each of its numbers.
 const FRONTS: [u8; ROWS * FRONT] = *b"\
-1....... ..... \
-.2...... c.... \
-..3..... aaaa. \
-...4.... b.... \
-....4... xxp.. \
-....55.. nii.. \
-....7777 ..... \
-....7777 mfm.. \
-....7777 ..... \
-....7777 mfr.. \
-....7777 mfrmd \
-....666. nk... ";
+1........ ..... \
+.2....... c.... \
+..3...... aaaa. \
+...4..... b.... \
+....4.... xxp.. \
+....556.. nii.. \
+....88888 ..... \
+....88888 mfm.. \
+....88888 ..... \
+....88888 mfr.. \
+....88888 mfrmd \
+....7777. nk... \
+....66... ..... ";
 
 // Its form.
-const FORMS: [u8; 150] = *b"\
+const FORMS: [u8; 158] = *b"\
 (frame 1)\n\
 (cell %)\n\
 (axes (% %) (% %))\n\
@@ -114,10 +116,11 @@ const FORMS: [u8; 150] = *b"\
 (fill)\n\
 (fill % % #)\n\
 (local % % # % #)\n\
-(shade # #)\n";
+(shade # #)\n\
+(patch)\n";
 
 // Where each form starts, and the end.
-const STARTS: [usize; ROWS + 1] = [0, 10, 19, 38, 47, 64, 80, 87, 100, 107, 120, 138, 150];
+const STARTS: [usize; ROWS + 1] = [0, 10, 19, 38, 47, 64, 80, 87, 100, 107, 120, 138, 150, 158];
 
 // The kinds of the rows.
 const KINDS: [Kind; ROWS] = [
@@ -133,10 +136,11 @@ const KINDS: [Kind; ROWS] = [
     Kind::Pass(PassKind::Fill),
     Kind::Pass(PassKind::Local),
     Kind::Shade,
+    Kind::Patch,
 ];
 
 // The stages at which a frame may end.
-const ENDS: [bool; STAGES] = [false, false, false, false, true, true, true, true];
+const ENDS: [bool; STAGES] = [false, false, false, false, true, true, true, true, true];
 
 // The kind of a row.
 pub fn kind_of(row: usize) -> Kind

@@ -1,13 +1,14 @@
 -- What a frame's lines have said so far as the code holds it, and one line added to it. Definitions only; crate frame shows that it is what
 -- the definition of a frame says.
 use mathlib.Core.Path.{_≡_}
-use mathlib.Core.Bool.{not}
+use mathlib.Core.Bool.{Bool, true, false, not}
 use mathlib.Core.List.{List, [], _∷_}
 use Prim.Native.Nat.{ℕ, _+_, _*_, _<_, _≤_}
 use lib.Dec.{T}
 use lib.ListN.{length, getD, set}
 use lib.Ieee.{Float, binary32, ofBits, nanBits}
 use Rattle.sizes.specs.Sizes.{placeCount, cornerLimit, passSize}
+use Rattle.sheet.specs.Cells.{placeOf}
 use Rattle.sheet.specs.Words.{attached}
 use Rattle.predict.specs.declared.Grid.{Grid}
 use Rattle.predict.specs.declared.Vector.{Vector}
@@ -22,16 +23,13 @@ use Rattle.frame_line.specs.declared.PassKind.{PassKind}
 use Rattle.frame_line.specs.declared.HeldLabel.{HeldLabel}
 use Rattle.frame_line.specs.declared.HeldLine.{HeldLine}
 use Rattle.frame_line.specs.declared.HeldShade.{HeldShade}
-use Rattle.frame_check.specs.Checks.{checkedHeld, LabelFits, LineFits}
+use Rattle.labels.specs.Count.{howMany}
+use Rattle.frame_check.specs.Checks.{isSet, checkedHeld, LabelFits, LineFits}
 use Rattle.frame_state.specs.declared.Progress.{Progress}
 use Rattle.frame_state.specs.declared.PassWords.{PassWords}
 
 abbrev floatOf : ℕ → Float
 floatOf b = ofBits binary32 b
-
--- an entry for each corner that a label may use
-abbrev pub usedCount : ℕ
-usedCount = cornerLimit
 
 -- ---- numbers that a float holds
 
@@ -44,7 +42,7 @@ pub record TameAxes (v : List ℕ) : Type 0 where
   pub jx : Tame (getD v 2 0)
   pub jy : Tame (getD v 3 0)
 
--- ---- cell size, axes and band, the numbers of corners and passes, and the stage
+-- ---- cell size, axes and band, the numbers of corners, labels and passes, whether the patch line stands, and the stage
 
 -- before the first line
 abbrev pub nothing-said : Progress
@@ -61,12 +59,16 @@ nothing-said =
             «edge_length_tol» = floatOf 0;
           };
       corners = 0;
+      labels = 0;
+      patched = false;
+      second = 0;
       passes = 0;
       stage = 0;
     }
 
 abbrev pub atStage : Progress → ℕ → Progress
-atStage p stage = record { settings = p .settings; corners = p .corners; passes = p .passes; stage = stage }
+atStage p stage =
+    record { settings = p .settings; corners = p .corners; labels = p .labels; patched = p .patched; second = p .second; passes = p .passes; stage = stage }
 
 abbrev pub withCellSize : Settings → ℕ → Settings
 withCellSize s b =
@@ -104,13 +106,68 @@ withOpening OpeningKind.Axes s v = withAxes s v
 withOpening OpeningKind.Band s v = withBand s (getD v 0 0)
 
 abbrev pub withSettings : Progress → Settings → Progress
-withSettings p s = record { settings = s; corners = p .corners; passes = p .passes; stage = p .stage }
+withSettings p s =
+    record { settings = s; corners = p .corners; labels = p .labels; patched = p .patched; second = p .second; passes = p .passes; stage = p .stage }
 
 abbrev pub withCorner : Progress → Progress
-withCorner p = record { settings = p .settings; corners = p .corners + 1; passes = p .passes; stage = p .stage }
+withCorner p =
+    record {
+      settings = p .settings;
+      corners = p .corners + 1;
+      labels = p .labels;
+      patched = p .patched;
+      second = p .second;
+      passes = p .passes;
+      stage = p .stage;
+    }
+
+abbrev pub withLabel : Progress → Progress
+withLabel p =
+    record {
+      settings = p .settings;
+      corners = p .corners;
+      labels = p .labels + 1;
+      patched = p .patched;
+      second = p .second;
+      passes = p .passes;
+      stage = p .stage;
+    }
+
+abbrev pub withPatch : Progress → Progress
+withPatch p =
+    record {
+      settings = p .settings;
+      corners = p .corners;
+      labels = p .labels;
+      patched = true;
+      second = p .second;
+      passes = p .passes;
+      stage = p .stage;
+    }
+
+abbrev pub withSecond : Progress → Progress
+withSecond p =
+    record {
+      settings = p .settings;
+      corners = p .corners;
+      labels = p .labels;
+      patched = p .patched;
+      second = p .second + 1;
+      passes = p .passes;
+      stage = p .stage;
+    }
 
 abbrev pub withPass : Progress → Progress
-withPass p = record { settings = p .settings; corners = p .corners; passes = p .passes + 1; stage = p .stage }
+withPass p =
+    record {
+      settings = p .settings;
+      corners = p .corners;
+      labels = p .labels;
+      patched = p .patched;
+      second = p .second;
+      passes = p .passes + 1;
+      stage = p .stage;
+    }
 
 -- ---- a corner, the n-th
 
@@ -125,7 +182,7 @@ pub record CornerPut (n : ℕ) (v : List ℕ) (xs ys pitches xs' ys' pitches' : 
   pub ys-are : ys' ≡ set ys n (floatOf (getD v 1 0))
   pub pitches-are : pitches' ≡ set pitches n (floatOf (getD v 2 0))
 
--- ---- a label
+-- ---- a label of the first set
 
 pub record LabelRoom (sheet : List ℕ) (l : HeldLabel) : Type 0 where
   pub long : length sheet ≡ placeCount
@@ -134,6 +191,42 @@ pub record LabelRoom (sheet : List ℕ) (l : HeldLabel) : Type 0 where
 pub record LabelPut (l : HeldLabel) (sheet used sheet' used' : List ℕ) : Type 0 where
   pub sheet-is : sheet' ≡ attached sheet (l .cell) (l .corner)
   pub used-is : used' ≡ set used (l .corner) 1
+
+-- ---- a label of the second set, the n-th
+
+pub record SecondRoom (n : ℕ) (l : HeldLabel) : Type 0 where
+  pub room : n < cornerLimit
+  pub fits : LabelFits l
+
+pub record SecondPut (n : ℕ) (l : HeldLabel) (used second used' second' : List ℕ) : Type 0 where
+  pub used-is : used' ≡ set used (cornerLimit + l .corner) 1
+  pub second-is : second' ≡ set (set second n (l .corner)) (cornerLimit + n) (placeOf (l .cell))
+
+-- ---- a label of the set that is open
+
+-- there is room for it in the set that is open
+pub record LabelsRoom (p : Progress) (sheet : List ℕ) (l : HeldLabel) : Type 0 where
+  pub first : p .patched ≡ false → p .labels < cornerLimit
+  pub second : p .patched ≡ true → p .second < cornerLimit
+  pub label : LabelRoom sheet l
+
+-- what a label changes
+pub record Labels : Type 0 where
+  pub progress : Progress
+  pub sheet : List ℕ
+  pub used : List ℕ
+  pub second : List ℕ
+
+abbrev pub labelsAfter : Progress → List ℕ → List ℕ → List ℕ → Labels
+labelsAfter p sheet used second = record { progress = p; sheet = sheet; used = used; second = second }
+
+-- to the second set once the patch line stands, else to the first
+abbrev pub labelAdded : Bool → HeldLabel → Labels → Labels
+labelAdded true l b =
+    let n = b .progress .second in
+    labelsAfter (withSecond (b .progress)) (b .sheet) (set (b .used) (cornerLimit + l .corner) 1)
+    (set (set (b .second) n (l .corner)) (cornerLimit + n) (placeOf (l .cell)))
+labelAdded false l b = labelsAfter (withLabel (b .progress)) (attached (b .sheet) (l .cell) (l .corner)) (set (b .used) (l .corner) 1) (b .second)
 
 -- ---- a shade
 
@@ -180,11 +273,12 @@ pub record Arrays : Type 0 where
   pub shades : List ℕ
   pub sheet : List ℕ
   pub used : List ℕ
+  pub second : List ℕ
   pub passes : List ℕ
 
-abbrev pub arrays : List Float → List Float → List Float → List ℕ → List ℕ → List ℕ → List ℕ → Arrays
-arrays xs ys pitches shades sheet used passes =
-    record { xs = xs; ys = ys; pitches = pitches; shades = shades; sheet = sheet; used = used; passes = passes }
+abbrev pub arrays : List Float → List Float → List Float → List ℕ → List ℕ → List ℕ → List ℕ → List ℕ → Arrays
+arrays xs ys pitches shades sheet used second passes =
+    record { xs = xs; ys = ys; pitches = pitches; shades = shades; sheet = sheet; used = used; second = second; passes = passes }
 
 pub record State : Type 0 where
   pub progress : Progress
@@ -193,11 +287,17 @@ pub record State : Type 0 where
 abbrev pub state : Progress → Arrays → State
 state p a = record { progress = p; held = a }
 
--- a line can be added: it passed its checks, and the corners before it are few enough
+-- the labels of each set are as many as the corners that it uses
+pub record Counted (p : Progress) (used : List ℕ) : Type 0 where
+  pub first : howMany (isSet used) cornerLimit ≡ p .labels
+  pub second : howMany (λ k. isSet used (cornerLimit + k)) cornerLimit ≡ p .second
+
+-- a line can be added: it passed its checks, the corners before it are few enough, and the labels are counted
 pub record Addable (p : Progress) (a : Arrays) (line : HeldLine) : Type 0 where
-  pub fine : checkedHeld (p .corners) (p .passes) (a .shades) (a .sheet) (a .used) line ≡ Checked.Fine
-  pub fits : LineFits (p .corners) line
+  pub fine : checkedHeld (p .corners) (p .passes) (p .patched) (a .shades) (a .sheet) (a .used) (a .second) (p .second) line ≡ Checked.Fine
+  pub fits : LineFits (p .corners) (p .second) line
   pub long : length (a .sheet) ≡ placeCount
+  pub counted : Counted p (a .used)
 
 -- a line of a kind added, with its words
 unfoldable pub addsAs : Kind → List ℕ → State → State
@@ -207,19 +307,19 @@ addsAs Kind.Corner v s =
     let h = s .held in
     state (withCorner (s .progress))
     (arrays (set (h .xs) n (floatOf (getD v 0 0))) (set (h .ys) n (floatOf (getD v 1 0))) (set (h .pitches) n (floatOf (getD v 2 0))) (h .shades) (h .sheet)
-    (h .used) (h .passes))
+    (h .used) (h .second) (h .passes))
 addsAs Kind.Label v s =
     let h = s .held in
-    let l = labelIn v in
-    state (s .progress)
-    (arrays (h .xs) (h .ys) (h .pitches) (h .shades) (attached (h .sheet) (l .cell) (l .corner)) (set (h .used) (l .corner) 1) (h .passes))
+    let b = labelAdded (s .progress .patched) (labelIn v) (labelsAfter (s .progress) (h .sheet) (h .used) (h .second)) in
+    state (b .progress) (arrays (h .xs) (h .ys) (h .pitches) (h .shades) (b .sheet) (b .used) (b .second) (h .passes))
+addsAs Kind.Patch v s = state (withPatch (s .progress)) (s .held)
 addsAs Kind.Shade v s =
     let h = s .held in
-    state (s .progress) (arrays (h .xs) (h .ys) (h .pitches) (shadePut (shadeIn v) (h .shades)) (h .sheet) (h .used) (h .passes))
+    state (s .progress) (arrays (h .xs) (h .ys) (h .pitches) (shadePut (shadeIn v) (h .shades)) (h .sheet) (h .used) (h .second) (h .passes))
 addsAs (Kind.Pass p) v s =
     let h = s .held in
     state (withPass (s .progress))
-    (arrays (h .xs) (h .ys) (h .pitches) (h .shades) (h .sheet) (h .used) (wordsPut (s .progress .passes) (wordsIn p v) (h .passes)))
+    (arrays (h .xs) (h .ys) (h .pitches) (h .shades) (h .sheet) (h .used) (h .second) (wordsPut (s .progress .passes) (wordsIn p v) (h .passes)))
 
 abbrev pub adds : HeldLine → State → State
 adds line s = addsAs (kindAt (line .row)) (line .values) s

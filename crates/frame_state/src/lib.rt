@@ -1,9 +1,10 @@
-// What a frame's lines have said so far, and one line added to it. Corners, shades, labels and passes are held in arrays of the reader's own.
+// What a frame's lines have said so far, and one line added to it. Corners, shades, labels and passes are held in arrays of the reader's own: the labels
+// of the first set as a sheet, those of a second as their corners and places in the order of their lines.
 
 ghost use mathlib.Core.Path.{_≡_};
 ghost use Prim.Native.Nat.{_<_};
 ghost use Rattle.sizes.specs.Sizes.{cornerLimit, passLimit};
-ghost use Rattle.frame_state.specs.State.{Tame, TameAxes, nothing-said, atStage, withCellSize, withAxes, withBand, TameOpening, withOpening, withSettings, withCorner, withPass, CornerFits, CornerPut, LabelRoom, LabelPut, ShadeFits, shadePut, growWords, fillWords, localWords, wordsIn, wordsPut, arrays, state, Addable, adds};
+ghost use Rattle.frame_state.specs.State.{Tame, TameAxes, nothing-said, atStage, withCellSize, withAxes, withBand, TameOpening, withOpening, withSettings, withCorner, withLabel, withPatch, withSecond, withPass, CornerFits, CornerPut, LabelRoom, LabelPut, SecondRoom, SecondPut, LabelsRoom, labelsAfter, labelAdded, ShadeFits, shadePut, growWords, fillWords, localWords, wordsIn, wordsPut, arrays, state, Addable, adds};
 use arguments::Settings;
 use frame_line::HeldLabel;
 use frame_line::HeldLine;
@@ -18,14 +19,17 @@ use sizes::ALL_PASS_WORDS;
 use sizes::CORNERS;
 use sizes::PASS_WORDS;
 use sizes::PLACES;
+use sizes::SECOND;
+use sizes::USED;
 
-// An entry for each corner that a label may use.
-pub const USED: usize = frame_check::USED;
-
-// Cell size, axes and band, how many corners and passes there are, and the stage that the lines have come to.
+// Cell size, axes and band, how many corners, labels of the first set, labels of the second and passes there are, whether the patch line stands, and
+// the stage that the lines have come to.
 pub struct Progress {
     pub settings: Settings,
     pub corners: usize,
+    pub labels: usize,
+    pub patched: bool,
+    pub second: usize,
     pub passes: usize,
     pub stage: usize,
 }
@@ -57,6 +61,9 @@ pub fn start() -> Progress
     Progress {
         settings,
         corners: 0,
+        labels: 0,
+        patched: false,
+        second: 0,
         passes: 0,
         stage: 0,
     }
@@ -70,6 +77,9 @@ pub fn at_stage(p: Progress, stage: usize) -> Progress
     Progress {
         settings,
         corners: p.corners,
+        labels: p.labels,
+        patched: p.patched,
+        second: p.second,
         passes: p.passes,
         stage,
     }
@@ -151,6 +161,9 @@ fn with_settings(p: Progress, settings: Settings) -> Progress
     Progress {
         settings,
         corners: p.corners,
+        labels: p.labels,
+        patched: p.patched,
+        second: p.second,
         passes: p.passes,
         stage: p.stage,
     }
@@ -165,6 +178,59 @@ fn with_corner(p: Progress) -> Progress
     Progress {
         settings,
         corners: p.corners + 1,
+        labels: p.labels,
+        patched: p.patched,
+        second: p.second,
+        passes: p.passes,
+        stage: p.stage,
+    }
+}
+
+// One label of the first set more.
+fn with_label(p: Progress) -> Progress
+    requires { ⌜ p .labels < cornerLimit ⌝ }
+    ensures { λ r. ⌜ r ≡ withLabel p ⌝ }
+{
+    let settings = p.settings;
+    Progress {
+        settings,
+        corners: p.corners,
+        labels: p.labels + 1,
+        patched: p.patched,
+        second: p.second,
+        passes: p.passes,
+        stage: p.stage,
+    }
+}
+
+// The patch line stands.
+fn with_patch(p: Progress) -> Progress
+    ensures { λ r. ⌜ r ≡ withPatch p ⌝ }
+{
+    let settings = p.settings;
+    Progress {
+        settings,
+        corners: p.corners,
+        labels: p.labels,
+        patched: true,
+        second: p.second,
+        passes: p.passes,
+        stage: p.stage,
+    }
+}
+
+// One label of the second set more.
+fn with_second(p: Progress) -> Progress
+    requires { ⌜ p .second < cornerLimit ⌝ }
+    ensures { λ r. ⌜ r ≡ withSecond p ⌝ }
+{
+    let settings = p.settings;
+    Progress {
+        settings,
+        corners: p.corners,
+        labels: p.labels,
+        patched: p.patched,
+        second: p.second + 1,
         passes: p.passes,
         stage: p.stage,
     }
@@ -179,6 +245,9 @@ fn with_pass(p: Progress) -> Progress
     Progress {
         settings,
         corners: p.corners,
+        labels: p.labels,
+        patched: p.patched,
+        second: p.second,
         passes: p.passes + 1,
         stage: p.stage,
     }
@@ -200,7 +269,7 @@ fn put_corner(
     pitches[n] = f32::from_bits(v[2]);
 }
 
-// A label is written: its corner to the sheet, and that the corner is used.
+// A label of the first set is written: its corner to the sheet, and that the corner is used.
 fn put_label(sheet: &mut [u16; PLACES], used: &mut [u8; USED], label: HeldLabel)
     requires { ⌜ LabelRoom (now sheet) label ⌝ }
     ensures { λ _. ⌜ LabelPut label (now (sheet .entry)) (now (used .entry)) (now (sheet .exit)) (now (used .exit)) ⌝ }
@@ -208,6 +277,38 @@ fn put_label(sheet: &mut [u16; PLACES], used: &mut [u8; USED], label: HeldLabel)
     let corner = label.corner;
     sheet::attach(sheet, label.cell, corner);
     used[corner] = 1;
+}
+
+// The label n of the second set is written: its corner and its place, and that the set uses the corner.
+fn put_second(used: &mut [u8; USED], second: &mut [u16; SECOND], n: usize, label: HeldLabel)
+    requires { ⌜ SecondRoom n label ⌝ }
+    ensures { λ _. ⌜ SecondPut n label (now (used .entry)) (now (second .entry)) (now (used .exit)) (now (second .exit)) ⌝ }
+{
+    let corner = label.corner;
+    let place = sheet::place_of(label.cell);
+    second[n] = corner as u16;
+    second[CORNERS + n] = place as u16;
+    used[CORNERS + corner] = 1;
+}
+
+// A label is written to the set that is open: the second once the patch line stands.
+fn add_label(
+    p: Progress,
+    sheet: &mut [u16; PLACES],
+    used: &mut [u8; USED],
+    second: &mut [u16; SECOND],
+    label: HeldLabel,
+) -> Progress
+    requires { ⌜ LabelsRoom p (now sheet) label ⌝ }
+    ensures { λ r. ⌜ labelsAfter r (now (sheet .exit)) (now (used .exit)) (now (second .exit)) ≡ labelAdded (p .patched) label
+        (labelsAfter p (now (sheet .entry)) (now (used .entry)) (now (second .entry))) ⌝ }
+{
+    if p.patched {
+        put_second(used, second, p.second, label);
+        return with_second(p);
+    }
+    put_label(sheet, used, label);
+    with_label(p)
 }
 
 // A shade is written: 1 more than its kind to the entry of its corner.
@@ -299,13 +400,14 @@ pub fn add_line(
     shades: &mut [u8; CORNERS],
     sheet: &mut [u16; PLACES],
     used: &mut [u8; USED],
+    second: &mut [u16; SECOND],
     passes: &mut [u32; ALL_PASS_WORDS],
     line: HeldLine,
 ) -> Progress
-    requires { ⌜ Addable p (arrays (now xs) (now ys) (now pitches) (now shades) (now sheet) (now used) (now passes)) line ⌝ }
+    requires { ⌜ Addable p (arrays (now xs) (now ys) (now pitches) (now shades) (now sheet) (now used) (now second) (now passes)) line ⌝ }
     ensures { λ r. ⌜ state r (arrays (now (xs .exit)) (now (ys .exit)) (now (pitches .exit)) (now (shades .exit)) (now (sheet .exit)) (now (used .exit))
-        (now (passes .exit))) ≡ adds line (state p (arrays (now (xs .entry)) (now (ys .entry)) (now (pitches .entry)) (now (shades .entry))
-        (now (sheet .entry)) (now (used .entry)) (now (passes .entry)))) ⌝ }
+        (now (second .exit)) (now (passes .exit))) ≡ adds line (state p (arrays (now (xs .entry)) (now (ys .entry)) (now (pitches .entry)) (now (shades .entry))
+        (now (sheet .entry)) (now (used .entry)) (now (second .entry)) (now (passes .entry)))) ⌝ }
 {
     let kind = frame_line::kind_of(line.row);
     let v = line.values;
@@ -318,10 +420,8 @@ pub fn add_line(
             put_corner(xs, ys, pitches, p.corners, v);
             with_corner(p)
         }
-        Kind::Label => {
-            put_label(sheet, used, frame_number::label_of(v));
-            p
-        }
+        Kind::Label => add_label(p, sheet, used, second, frame_number::label_of(v)),
+        Kind::Patch => with_patch(p),
         Kind::Shade => {
             put_shade(shades, frame_number::shade_of(v));
             p

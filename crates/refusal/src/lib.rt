@@ -1,8 +1,8 @@
-// The seven reasons for which a frame or a library call may be refused (document 01, the table of refusals).
+// The reasons for which a frame or a library call may be refused: the seven of document 01, the table of refusals, and those of document 02, 3/14.
 ghost use mathlib.Core.Path.{_≡_};
 ghost use Rattle.refusal.specs.Refusal.{numberOf};
 
-// Each case has 01's number and word beside it.
+// Each case has its number beside it, and 01's word; 02 has no word for 8 and 9.
 pub enum Refusal {
     // 1, bent: a line is missing, out of order or ill-formed
     Malformed,
@@ -18,9 +18,13 @@ pub enum Refusal {
     Duplicate,
     // 7, short: a lent buffer is too short (library only)
     BufferTooShort,
+    // 8: no corner is in both sets of labels
+    NoSharedCorner,
+    // 9: no shift gives every shared corner one cell and every cell one corner
+    PatchesClash,
 }
 
-// The number of a refusal, as 01's table has it.
+// The number of a refusal, as 01's table and 02 have it.
 pub fn number(refusal: Refusal) -> u8
     ensures { λ r. ⌜ r ≡ numberOf refusal ⌝ }
 {
@@ -32,5 +36,7 @@ pub fn number(refusal: Refusal) -> u8
         Refusal::UnknownCorner => 5,
         Refusal::Duplicate => 6,
         Refusal::BufferTooShort => 7,
+        Refusal::NoSharedCorner => 8,
+        Refusal::PatchesClash => 9,
     }
 }

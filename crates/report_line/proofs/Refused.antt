@@ -14,7 +14,7 @@ use Rattle.report_line.specs.Result.{count}
 use Rattle.report_line.specs.Refused.{refusedText}
 use Rattle.report_line.proofs.Wide.{printed-wide, count-wide}
 
-pub number-small : (r : Refusal) → numberOf r ≤ 7
+pub number-small : (r : Refusal) → numberOf r ≤ 9
 number-small Refusal.Malformed = omega arith
 number-small Refusal.OverLimit = omega arith
 number-small Refusal.OutOfRange = omega arith
@@ -22,6 +22,8 @@ number-small Refusal.OffSheet = omega arith
 number-small Refusal.UnknownCorner = omega arith
 number-small Refusal.Duplicate = omega arith
 number-small Refusal.BufferTooShort = omega arith
+number-small Refusal.NoSharedCorner = omega arith
+number-small Refusal.PatchesClash = omega arith
 
 refused-form : (r : Refusal) (line a b : ℕ) → unheldWhole a ≡ pos (numberOf r) → unheldWhole b ≡ pos line
     → formText (bytes "(refused # #)\n") (a ∷ b ∷ []) ≡ refusedText r line

@@ -28,3 +28,11 @@ allPassWords = passLimit * passSize
 
 abbrev pub allOutcomeWords : ℕ
 allOutcomeWords = passLimit * outcomeSize
+
+-- entries of the corners that the labels of a frame use: those of the first set, then those of the second
+abbrev pub usedCount : ℕ
+usedCount = 2 * cornerLimit
+
+-- labels of the second set: their corners, then their places
+abbrev pub secondCount : ℕ
+secondCount = 2 * cornerLimit

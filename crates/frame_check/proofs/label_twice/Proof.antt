@@ -1,22 +1,13 @@
--- `frame_check::label_twice` meets its contract. Assumes nothing.
-use Prim.Native.Nat.{_<_}
-use native.Mathlib.Omega.{arith}
+-- `frame_check::label_twice` meets its contract, by the set that is open. Assumes nothing.
 use borrow.Author.Needs.{needs}
-use borrow.Author.Tests.{eq-eqb, ne-eqb}
-use Rattle.sheet.proofs.Laws.{place-in}
 use Rattle.frame_check.proofs.label_twice.Statement.{statement}
 use Rattle.frame_check.proofs.label_twice.Tie as tie
-
-below : (c : tie.After-place-of) → c .place-of .result < 16384
-below c = rw (c .place-of .ensures) (place-in _ (c .before .pre .on))
 
 pub label-twice-spec : {M : Type 1} → statement M
 label-twice-spec =
     tie.close
     (tie.spec
     (λ c κs. search needs)
-    (λ c. record { fits = omega (arith, below c) })
-    below
-    (λ c. rw (← c .before .before .place-of .ensures, ne-eqb _ _ (c .if1 .taken)))
-    (λ c. search needs)
-    (λ c. rw (← c .before .before .before .place-of .ensures, eq-eqb _ _ (c .before .if1 .left))))
+    (λ c. rw (c .before .if1 .taken) (c .second-twice .ensures))
+    (λ c κs. search needs)
+    (λ c. rw (c .before .if1 .left) (c .first-twice .ensures)))

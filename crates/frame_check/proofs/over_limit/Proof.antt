@@ -9,9 +9,10 @@ unfolding overLimit
 over-limit-spec =
     tie.close
     (tie.spec
-    (λ c κs. search needs) (λ c. search needs) (λ c. search needs) (λ c. search needs) (λ c. search needs) (λ c. search needs)
+    (λ c κs. search needs) (λ c. search needs) (λ c. search needs) (λ c. search needs) (λ c. search needs) (λ c. search needs) (λ c. search needs)
     (λ c. rw (← c .before .before .kind-of .ensures, c .enum-told .given .1))
     (λ c. rw (← c .before .before .kind-of .ensures, c .enum-told2 .given .1))
     (λ c. rw (← c .before .before .kind-of .ensures, c .enum-told3 .given .1))
     (λ c. rw (← c .before .before .kind-of .ensures, c .enum-told4 .given .1))
-    (λ c. rw (← c .before .before .kind-of .ensures, c .enum-told5 .given .1)))
+    (λ c. rw (← c .before .before .kind-of .ensures, c .enum-told5 .given .1))
+    (λ c. rw (← c .before .before .kind-of .ensures, c .enum-told6 .given .1)))

@@ -1,6 +1,6 @@
 -- `frame_state::add_line` meets its contract, by the kind. Assumes nothing.
 use mathlib.Core.Path.{sym, _∙_}
-use Rattle.frame_state.proofs.Laws.{opening-fits, corner-fits, label-room, shade-room, pass-fits}
+use Rattle.frame_state.proofs.Laws.{opening-fits, corner-fits, labels-room, shade-room, pass-fits, label-added}
 use Rattle.frame_state.specs.State.{addsAs}
 use borrow.Author.Needs.{needs}
 use Rattle.frame_state.proofs.add_line.Statement.{statement}
@@ -15,11 +15,11 @@ put-corner-requires c κs = corner-fits (c .before .before .before .before .befo
 with-corner-requires : tie.Need-with-corner-requires
 with-corner-requires c κs = corner-fits (c .before .before .before .before .before .before .before .before .pre) (sym (c .before .before .before .before .before .before .before .kind-of .ensures) ∙ c .before .before .before .before .enum-told .given .1) .room
 
-put-label-requires : tie.Need-put-label-requires
-put-label-requires c κs = rw (c .label-of .ensures) (label-room (c .before .before .before .before .before .before .before .pre) (sym (c .before .before .before .before .before .before .kind-of .ensures) ∙ c .before .before .before .enum-told2 .given .1))
+add-label-requires : tie.Need-add-label-requires
+add-label-requires c κs = rw (c .label-of .ensures) (labels-room (c .before .before .before .before .before .before .before .before .pre) (sym (c .before .before .before .before .before .before .before .kind-of .ensures) ∙ c .before .before .before .before .enum-told2 .given .1))
 
 put-shade-requires : tie.Need-put-shade-requires
-put-shade-requires c κs = rw (c .shade-of .ensures) (shade-room (c .before .before .before .before .before .before .pre) (sym (c .before .before .before .before .before .kind-of .ensures) ∙ c .before .before .enum-told3 .given .1))
+put-shade-requires c κs = rw (c .shade-of .ensures) (shade-room (c .before .before .before .before .before .before .pre) (sym (c .before .before .before .before .before .kind-of .ensures) ∙ c .before .before .enum-told4 .given .1))
 
 put-pass-requires : tie.Need-put-pass-requires
 put-pass-requires c κs = pass-fits (c .before .before .before .before .before .before .before .pre) _ (sym (c .before .before .before .before .before .before .kind-of .ensures) ∙ c .before .before .before .kind2 .given .1)
@@ -36,16 +36,19 @@ unfolding addsAs
 returns-2 c = let w = c .before .put-corner .ensures in rw (sym (c .before .before .before .before .before .before .before .before .kind-of .ensures) ∙ c .before .before .before .before .before .enum-told .given .1, c .with-corner .ensures, w .xs-are, w .ys-are, w .pitches-are)
 
 returns-3 : tie.Need-returns-3
-unfolding addsAs
-returns-3 c = let w = c .put-label .ensures in rw (sym (c .before .before .before .before .before .before .before .kind-of .ensures) ∙ c .before .before .before .before .enum-told2 .given .1, w .sheet-is, w .used-is, c .before .label-of .ensures)
+returns-3 c = rw (sym (c .before .before .before .before .before .before .before .before .kind-of .ensures) ∙ c .before .before .before .before .before .enum-told2 .given .1) (label-added _ _ _ _ _ _ _ _ _ _ (c .before .label-of .ensures) (c .add-label .ensures))
 
 returns-4 : tie.Need-returns-4
 unfolding addsAs
-returns-4 c = rw (sym (c .before .before .before .before .before .before .kind-of .ensures) ∙ c .before .before .before .enum-told3 .given .1, c .put-shade .ensures, c .before .shade-of .ensures)
+returns-4 c = rw (sym (c .before .before .before .before .kind-of .ensures) ∙ c .before .enum-told3 .given .1, c .with-patch .ensures)
 
 returns-5 : tie.Need-returns-5
 unfolding addsAs
-returns-5 c = rw (sym (c .before .before .before .before .before .before .before .before .kind-of .ensures) ∙ c .before .before .before .before .before .kind2 .given .1, c .with-pass .ensures, c .before .put-pass .ensures, c .before .before .words-of .ensures)
+returns-5 c = rw (sym (c .before .before .before .before .before .before .kind-of .ensures) ∙ c .before .before .before .enum-told4 .given .1, c .put-shade .ensures, c .before .shade-of .ensures)
+
+returns-6 : tie.Need-returns-6
+unfolding addsAs
+returns-6 c = rw (sym (c .before .before .before .before .before .before .before .before .kind-of .ensures) ∙ c .before .before .before .before .before .kind2 .given .1, c .with-pass .ensures, c .before .put-pass .ensures, c .before .before .words-of .ensures)
 
 pub add-line-spec : {M : Type 1} → statement M
 add-line-spec =
@@ -60,7 +63,9 @@ add-line-spec =
     with-corner-requires
     (λ c. search needs)
     (λ c κs. search needs)
-    put-label-requires
+    add-label-requires
+    (λ c. search needs)
+    (λ c κs. search needs)
     (λ c. search needs)
     (λ c κs. search needs)
     put-shade-requires
@@ -72,4 +77,5 @@ add-line-spec =
     returns-2
     returns-3
     returns-4
-    returns-5)
+    returns-5
+    returns-6)
