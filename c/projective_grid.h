@@ -5,7 +5,8 @@
  *
  * WHAT HOLDS OF EVERY FUNCTION
  *
- * The answer is 0 (done) or the number of a refusal, 1 to 7; the reader's has the line in it too, see there. No
+ * The answer is 0 (done) or the number of a refusal, 1 to 9; the reader's has the line in it too, see there. Later requests
+ * may add numbers (02, 3/14): take any answer but 0 for a refusal. No
  * function asks anything of the values that it is lent: each checks them and refuses what is wrong. A refused call
  * changes no place of any buffer. A call that is done writes what is said here, and leaves every other place of every buffer as it was. No function keeps a pointer, allocates,
  * reads or writes anything else, or runs without end.
@@ -16,7 +17,8 @@
  * - The buffers of one call must not overlap one another.
  * - A start must not be null and must be aligned for its type, even where the length is 0.
  * - No other thread may write to a buffer during a call, or read one that the call may write to.
- * - Stack: a pass needs some 260 KB of it, whichever it is, the others less; a thread of 300 KB is enough for all.
+ * - Stack: a pass needs some 260 KB of it, whichever it is, the reader 68 KB, the writers less; a thread of 300 KB is enough
+ *   for all.
  *
  * A buffer may be longer than needed.
  */
@@ -31,16 +33,19 @@ extern "C" {
 #endif
 
 /* The answers. The refusals have 01's numbers; 01's word for each stands beside it. The passes and the writers try
- * 7, 2, 3, 5, 6 in this order; the reader tries 7, then the number of bytes (2, line 0), then line by line 1 to 6. */
+ * 7, 2, 3, 5, 6 in this order; the reader tries 7, then the number of bytes (2, line 0), then line by line 1 to 6, and where
+ * all lines are fine and the frame has two sets of labels 8, 9 and 4, at the patch line (02, 3/14). */
 enum projective_grid_answer {
     PROJECTIVE_GRID_DONE = 0,
     PROJECTIVE_GRID_MALFORMED = 1,        /* bent: line missing, out of order or ill-formed */
     PROJECTIVE_GRID_OVER_LIMIT = 2,       /* overfull: a limit on bytes, corners or passes passed */
     PROJECTIVE_GRID_OUT_OF_RANGE = 3,     /* wild: number non-finite or out of range; shade byte above 2 */
-    PROJECTIVE_GRID_OFF_SHEET = 4,        /* off sheet: label's cell outside */
+    PROJECTIVE_GRID_OFF_SHEET = 4,        /* off sheet: label's cell outside, at the patch line after the join's shift */
     PROJECTIVE_GRID_UNKNOWN_CORNER = 5,   /* stranger: label's or shade's corner not given */
-    PROJECTIVE_GRID_DUPLICATE = 6,        /* doubled: cell or corner labelled twice, corner shaded twice */
-    PROJECTIVE_GRID_BUFFER_TOO_SHORT = 7  /* short: lent buffer too short */
+    PROJECTIVE_GRID_DUPLICATE = 6,        /* doubled: cell or corner labelled twice in one set, corner shaded twice */
+    PROJECTIVE_GRID_BUFFER_TOO_SHORT = 7, /* short: lent buffer too short */
+    PROJECTIVE_GRID_NO_SHARED_CORNER = 8, /* apart: no corner is in both sets of labels */
+    PROJECTIVE_GRID_PATCHES_CLASH = 9     /* clash: no shift gives every shared corner one cell and every cell one corner */
 };
 
 enum {
@@ -162,9 +167,9 @@ uint32_t projective_grid_extend_via_local_homography(
 
 /* Reads a frame. Needed: 1,024 places each of xs, ys, pitches and shades, 16,384 of sheet, 96 of passes, 6 of settings, 2
  * of out.
- * Done: the corners stand at the front of xs, ys, pitches and shades, the sheet of the given labels in the first 16,384
- * places of sheet, six words for each pass at the front of passes, the six settings at the front of settings, and in out the
- * number of corners and the number of passes.
+ * Done: the corners stand at the front of xs, ys, pitches and shades, the sheet of the given labels (where the frame has two
+ * sets of them, both joined, in the cells of the first) in the first 16,384 places of sheet, six words for each pass at the
+ * front of passes, the six settings at the front of settings, and in out the number of corners and the number of passes.
  * Refused: the answer is the number plus 16 times the line of the frame; the line is 0 where there are too many bytes, and
  * for 7. PROJECTIVE_GRID_NUMBER and PROJECTIVE_GRID_LINE take it apart. */
 #define PROJECTIVE_GRID_NUMBER(answer) ((answer) % 16)

@@ -206,24 +206,33 @@ static void read_refused(struct call *c, const char *bytes, size_t length, uint3
     memcpy(frame, right, sizeof frame);
 }
 
+#define SECOND_CORNER "(corner (41a00000 41200000) 00000000)\n"
+
 static void reader(struct call *c) {
     static char long_text[sizeof frame];
     read_refused(c, "", 0, PROJECTIVE_GRID_MALFORMED, 1);
     read_refused(c, "(frame 1)\n(cell 41200000)\n", 26, PROJECTIVE_GRID_MALFORMED, 3);
     read_refused(c, "(frame 1)\n(cell 7f800000)\n", 26, PROJECTIVE_GRID_OUT_OF_RANGE, 2);
     read_refused(c, long_text, PROJECTIVE_GRID_FRAME_BYTES + 1, PROJECTIVE_GRID_OVER_LIMIT, 0);
-    static const struct { const char *lines; uint32_t number, line; } shaded[] = {
+    static const struct { const char *lines; uint32_t number, line; } behind[] = {
         {"(shade 0 2)\n", PROJECTIVE_GRID_MALFORMED, 6},
         {"(shade 1 2)\n", PROJECTIVE_GRID_MALFORMED, 6},
         {"(shade 1 0)\n", PROJECTIVE_GRID_UNKNOWN_CORNER, 6},
         {"(shade 0 1)\n(shade 0 1)\n", PROJECTIVE_GRID_DUPLICATE, 7},
         {"(grow)\n(shade 0 1)\n", PROJECTIVE_GRID_MALFORMED, 7},
+        /* two sets of labels that are not joined, and a fault behind them */
+        {"(label 0 (0 0))\n(patch)\n(grow)\n", PROJECTIVE_GRID_NO_SHARED_CORNER, 7},
+        {SECOND_CORNER "(label 0 (0 0))\n(label 1 (1 0))\n(patch)\n(label 0 (0 0))\n(label 1 (2 0))\n", PROJECTIVE_GRID_PATCHES_CLASH, 9},
+        {SECOND_CORNER "(label 0 (63 0))\n(patch)\n(label 0 (0 0))\n(label 1 (1 0))\n(grow)\n", PROJECTIVE_GRID_OFF_SHEET, 8},
+        {"(label 0 (0 0))\n(patch)\n(patch)\n", PROJECTIVE_GRID_MALFORMED, 8},
+        {"(label 0 (0 0))\n(patch)\n(label 0 (64 0))\n", PROJECTIVE_GRID_OFF_SHEET, 8},
+        {"(label 0 (0 0))\n(patch)\n(grow)", PROJECTIVE_GRID_MALFORMED, 8},
     };
-    for (size_t k = 0; k < sizeof shaded / sizeof shaded[0]; k++) {
-        char lines[256];
+    for (size_t k = 0; k < sizeof behind / sizeof behind[0]; k++) {
+        char lines[512];
         int length = snprintf(lines, sizeof lines, "(frame 1)\n(cell 41200000)\n(axes (3f800000 00000000) (00000000 3f800000))\n"
-                              "(band 3e800000)\n(corner (41200000 41200000) 00000000)\n%s", shaded[k].lines);
-        read_refused(c, lines, (size_t)length, shaded[k].number, shaded[k].line);
+                              "(band 3e800000)\n(corner (41200000 41200000) 00000000)\n%s", behind[k].lines);
+        read_refused(c, lines, (size_t)length, behind[k].number, behind[k].line);
     }
     lengths(c);
     for (size_t k = 0; k < sizeof shades; k++)

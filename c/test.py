@@ -2,9 +2,10 @@
 """Compares the C example over the proved static library with the proved program.
 
     c/test.py                 builds (c/build), then compares c/out/recover with target/bin/recover byte for byte: the
-                              example frames, the frames of compare/, every text of compare/cases.py, refused ones
-                              included, and generated frames; where c/out/recover cannot read or write, it has to say so
-                              on standard error and end with status 1; then runs c/out/short on accepted frames
+                              example frames, the refused ones too, the frames of compare/, every text of
+                              compare/cases.py, refused ones included, and generated frames; where c/out/recover
+                              cannot read or write, it has to say so on standard error and end with status 1; then
+                              runs c/out/short on accepted frames
     c/test.py --frames N      N generated frames (default 1000), --seed S from another seed
     c/test.py --built         does not build first
 
@@ -60,7 +61,7 @@ class Comparison:
 
 
 def files():
-    for pattern in ("examples/*.frame", "examples/bench/*.frame", "compare/frames/*.frame", "compare/vectors/*.frame"):
+    for pattern in ("examples/*.frame", "examples/refused/*.frame", "examples/bench/*.frame", "compare/frames/*.frame", "compare/vectors/*.frame"):
         yield from sorted(glob.glob(os.path.join(ROOT, pattern)))
 
 

@@ -1,7 +1,7 @@
 #!/usr/bin/env python3
 """Frames that try the reader and the printer: every refusal, the order of the
-checks, exact limits, damage, shades (02, 1/14), bare grow (02, 2/14), and results
-longer than the output buffer.
+checks, exact limits, damage, shades (02, 1/14), bare grow (02, 2/14), two patches
+(02, 3/14), and results longer than the output buffer.
 
     cases.py               checks reference.py against the refusals written here
     cases.py --out FOLDER  writes each case as NAME.frame and NAME.result
@@ -38,6 +38,11 @@ SHADES = ["(shade 2 0)", "(shade 0 1)"]
 LOCAL = "(local 3eb33333 3fc00000 1 3e800000 1)"
 SHADED = HEAD + CORNERS + LABELS + SHADES + PASSES + [LOCAL]
 
+# 01's example with its labels in two sets, the patch line being line 9, and with
+# shades on lines 12 and 13. The join moves the second set by (-5 3).
+SECOND = ["(label 0 (5 -3))", "(label 1 (6 -3))"]
+PATCHED = HEAD + CORNERS + LABELS[:1] + ["(patch)"] + SECOND + SHADES + PASSES + [LOCAL]
+
 # By hand: 01's result of its example, and that of the example where corner 2 is no candidate.
 TAKEN = """(result 1)
 (grow 1 8 0 0 no)
@@ -67,6 +72,7 @@ NOT_TAKEN = """(result 1)
 
 BUFFER = 4096  # the program's output buffer
 LEAST = 128  # it is written out when fewer bytes are left
+MOST_BYTES = 65536  # of a frame
 
 
 def text(lines):
@@ -391,6 +397,228 @@ def bare_grow():
     yield "grow-bare-then-old", text(front + ["(grow)", full("40000000")]), both
 
 
+# ---- two patches: 8, 9 and 4 at the patch line
+
+
+def patched(first, second, rest=(), corners=CORNERS):
+    """A frame with two sets of labels (corner, i, j). With three corners the
+    patch line is line 8 and as many more as the first set has labels."""
+    sets = [[f"(label {n} ({i} {j}))" for n, i, j in labels] for labels in (first, second)]
+    return text(HEAD + list(corners) + sets[0] + ["(patch)"] + sets[1] + list(rest))
+
+
+def given(labels):
+    """The result of a frame without passes: its labels (corner, i, j)."""
+    cells = sorted((i, j, n) for n, i, j in labels)
+    return "(result 1)\n" + "".join(f"(cell ({i} {j}) {n})\n" for i, j, n in cells)
+
+
+ONE, TWO = [(0, 0, 0)], [(0, 0, 0), (1, 1, 0)]
+THREE = TWO + [(2, 2, 0)]
+
+
+def joined_patches():
+    """Two sets that are joined; results by hand, but for the last."""
+    for name, first, second, labels in (
+        ("shift-0", TWO, [(1, 1, 0), (2, 2, 0)], THREE),
+        ("shift-0-same", TWO, TWO, TWO),
+        ("shift-0-falling", TWO, TWO[::-1], TWO),
+        ("shift-i", TWO, [(1, 0, 0), (2, 1, 0)], THREE),
+        ("shift-j", TWO, [(1, 1, 9), (2, 2, 9)], THREE),
+        ("shift-both", TWO, [(2, -3, 12), (1, -4, 12)], THREE),
+        ("second-inside-first", THREE, [(1, 0, 0)], THREE),
+        ("first-inside-second", [(1, 1, 0)], [(0, 7, 7), (1, 8, 7), (2, 9, 7)], THREE),
+        ("three-shared", THREE, [(2, 9, 7), (0, 7, 7), (1, 8, 7)], THREE),
+        ("cell-in-both", ONE, [(0, 5, 5), (1, 0, 0)], [(0, 0, 0), (1, -5, -5)]),
+        ("farthest-up", [(0, 63, 63)], [(0, -64, -64)], [(0, 63, 63)]),
+        ("farthest-down", [(0, -64, -64)], [(0, 63, 63)], [(0, -64, -64)]),
+        ("farthest-mixed", [(0, 63, -64)], [(0, -64, 63)], [(0, 63, -64)]),
+        ("across", [(0, -64, -64), (1, 0, 0)], [(1, 0, 0), (2, 63, 63)], [(0, -64, -64), (1, 0, 0), (2, 63, 63)]),
+    ):
+        yield f"patch-{name}", patched(first, second), given(labels)
+    yield from rim_patches()
+    # The passes run on the union.
+    yield "patch-grow", patched(ONE, [(0, 5, -3), (1, 6, -3)], PASSES), TAKEN
+    yield "patch-grow-second-first", patched([(1, 1, 0)], [(1, 6, -3), (0, 5, -3)], PASSES), TAKEN
+    yield "patch-grow-own-kind", patched(ONE, [(0, 5, -3), (1, 6, -3)], ["(shade 2 0)"] + PASSES), TAKEN
+    # By its cell in the first set's numbers corner 2 is odd.
+    yield "patch-grow-other-kind", patched(ONE, [(0, 6, -3), (1, 7, -3)], ["(shade 2 1)"] + PASSES), NOT_TAKEN
+    yield "patch", text(PATCHED), None
+    for size in range(len(text(PATCHED))):
+        yield f"patch-cut-{size}", text(PATCHED)[:size], None
+
+
+def rim_patches():
+    """Each side of the sheet. In the first set corner 0 stands one step inside
+    the rim, in the second corner 1 stands one step further that way: moved, it is
+    on the rim. With corner 0 on the rim it is off the sheet."""
+    for name, (i, j), (di, dj) in (("high-i", (62, 9), (1, 0)), ("low-i", (-63, 9), (-1, 0)), ("high-j", (9, 62), (0, 1)), ("low-j", (9, -63), (0, -1))):
+        for where, far in (("", 0), ("-from-afar", -60), ("-from-near", 60)):
+            at = (far * di, far * dj)
+            outside, beside = (at[0] + di, at[1] + dj), (at[0] + dj, at[1] + di)
+            yield f"patch-rim-{name}{where}", patched([(0, i, j)], [(0, *at), (1, *outside)]), given([(0, i, j), (1, i + di, j + dj)])
+            yield f"patch-past-{name}{where}", patched([(0, i + di, j + dj)], [(0, *at), (1, *outside)]), refused(4, 9)
+            last = [(1, *beside), (0, *at), (2, *outside)]
+            yield f"patch-past-{name}{where}-last", patched([(0, i + di, j + dj)], last), refused(4, 9)
+
+
+def unjoined_patches():
+    """8, 9 and 4 of the join, and what comes before them."""
+    for name, frame, number, line in (
+        ("both-empty", patched([], []), 8, 8),
+        ("both-empty-passes", patched([], [], PASSES), 8, 8),
+        ("first-empty", patched([], TWO), 8, 8),
+        ("second-empty", patched(TWO, []), 8, 10),
+        ("no-corners", text(HEAD + ["(patch)"]), 8, 5),
+        ("no-corners-passes", text(HEAD + ["(patch)"] + PASSES * 16), 8, 5),
+        ("no-shared", patched(ONE, [(1, 1, 0)]), 8, 9),
+        ("no-shared-same-cells", patched(ONE, [(1, 0, 0)]), 8, 9),
+        ("no-shared-three", patched([(0, 0, 0), (2, 2, 0)], [(1, 1, 0)]), 8, 10),
+        ("no-shared-far", patched([(0, 63, 63)], [(1, -64, -64), (2, 63, 63)]), 8, 9),
+        ("two-shifts", patched(TWO, [(0, 0, 0), (1, 2, 0)]), 9, 10),
+        ("two-shifts-j", patched(TWO, [(0, 0, 0), (1, 1, 1)]), 9, 10),
+        ("two-shifts-exchanged", patched(TWO, [(0, 1, 0), (1, 0, 0)]), 9, 10),
+        ("two-shifts-last", patched(THREE, [(0, 7, 7), (1, 8, 7), (2, 9, 8)]), 9, 11),
+        ("two-shifts-first", patched(THREE, [(0, 7, 8), (1, 8, 7), (2, 9, 7)]), 9, 11),
+        ("two-shifts-mirrored", patched(THREE, [(0, 0, 0), (1, -1, 0), (2, -2, 0)]), 9, 11),
+        ("two-shifts-turned", patched(TWO, [(0, 0, 0), (1, 0, 1)]), 9, 10),
+        ("held", patched(TWO, [(0, 5, 5), (2, 6, 5)]), 9, 10),
+        ("held-shift-0", patched(TWO, [(0, 0, 0), (2, 1, 0)]), 9, 10),
+        ("held-before-shared", patched(TWO, [(2, 6, 5), (0, 5, 5)]), 9, 10),
+        ("held-and-two-shifts", patched(TWO, [(0, 5, 5), (1, 7, 5), (2, 6, 5)]), 9, 10),
+        ("9-before-4-two-shifts", patched([(0, 63, 0), (1, 60, 0)], [(0, 0, 0), (1, 1, 0), (2, 9, 0)]), 9, 10),
+        ("9-before-4-held", patched([(0, 63, 0), (1, 62, 0)], [(0, 0, 0), (2, -1, 0), (3, 1, 0)], corners=many_corners(4)), 9, 11),
+        ("9-before-4-held-last", patched([(0, 63, 0), (1, 62, 0)], [(3, 1, 0), (0, 0, 0), (2, -1, 0)], corners=many_corners(4)), 9, 11),
+        ("9-off-the-sheet", patched([(0, 63, 0), (1, -64, 0)], [(0, -64, 0), (1, 63, 0)]), 9, 10),
+        ("past-farthest-up", patched([(0, 63, 63)], [(0, -64, -64), (1, 63, 63)]), 4, 9),
+        ("past-farthest-down", patched([(0, -64, -64)], [(0, 63, 63), (1, -64, -64)]), 4, 9),
+        ("4-passes", patched([(0, 63, 0)], TWO, SHADES + PASSES + [LOCAL]), 4, 9),
+        ("8-shades-passes", patched(ONE, [(1, 1, 0)], SHADES + PASSES + [LOCAL]), 8, 9),
+        ("9-shades-passes", patched(TWO, [(0, 0, 0), (1, 2, 0)], SHADES + PASSES + [LOCAL]), 9, 10),
+        # 8, 9 or 4, and a fault on a later line: that line's own number.
+        ("8-then-bent", patched(ONE, [], ["(nonsense)"]), 1, 10),
+        ("8-then-empty-line", patched(ONE, [], [""]), 1, 10),
+        ("8-then-no-lf", patched(ONE, []) + b"(grow)", 1, 10),
+        ("8-then-half-line", patched(ONE, [], PASSES) + b"(gro", 1, 11),
+        ("8-then-trailing", patched(ONE, []) + b"x", 1, 10),
+        ("8-then-kind-2", patched(ONE, [], ["(shade 0 2)"]), 1, 10),
+        ("8-then-overfull", patched(ONE, [], PASSES * 17), 2, 26),
+        ("8-then-wild", patched(ONE, [], ["(grow 41800001 3fc00000 40000000)"]), 3, 10),
+        ("8-then-wild-rounds", patched(ONE, [], PASSES + ["(fill 3eb33333 3fc00000 65)"]), 3, 11),
+        ("8-then-off-sheet", patched(ONE, [(1, 1, 0), (2, 64, 0)]), 4, 11),
+        ("8-then-stranger", patched(ONE, [(1, 1, 0), (3, 2, 0)]), 5, 11),
+        ("8-then-stranger-shade", patched(ONE, [], ["(shade 3 0)"]), 5, 10),
+        ("8-then-doubled", patched(ONE, [(1, 1, 0), (2, 1, 0)]), 6, 11),
+        ("8-then-doubled-shade", patched(ONE, [], ["(shade 0 0)", "(shade 0 1)"]), 6, 11),
+        ("9-then-bent", patched(TWO, [(0, 1, 0), (1, 0, 0)], ["(nonsense)"]), 1, 13),
+        ("9-then-half-line", patched(TWO, [(0, 1, 0), (1, 0, 0)], PASSES) + b"(", 1, 14),
+        ("9-then-overfull", patched(TWO, [(0, 1, 0), (1, 0, 0)], PASSES * 17), 2, 29),
+        ("9-then-wild", patched(TWO, [(0, 1, 0), (1, 0, 0)], ["(fill 7fc00000 3fc00000 1)"]), 3, 13),
+        ("9-then-stranger", patched(TWO, [(0, 1, 0), (1, 0, 0), (3, 5, 5)]), 5, 13),
+        ("4-then-half-line", patched([(0, 63, 0)], TWO, PASSES) + b"(grow)", 1, 13),
+        ("4-then-doubled", patched([(0, 63, 0)], TWO, SHADES + ["(shade 2 1)"]), 6, 14),
+    ):
+        yield f"patch-{name}", frame, refused(number, line)
+
+
+def strange_patches():
+    """4, 5 and 6 are each set's own, at the label's line."""
+    for name, frame, number, line in (
+        ("off-sheet-second", patched(ONE, [(0, 64, 0)]), 4, 10),
+        ("off-sheet-second-j", patched(ONE, [(0, 0, -65)]), 4, 10),
+        ("off-sheet-back-on-it", patched(ONE, [(0, 63, 0), (1, 64, 0)]), 4, 11),
+        ("off-sheet-before-stranger", patched(ONE, [(3, 64, 0)]), 4, 10),
+        ("stranger-second", patched(ONE, [(3, 0, 0)]), 5, 10),
+        ("stranger-second-minus", patched(ONE, [(-1, 0, 0)]), 5, 10),
+        ("stranger-in-both", patched([(3, 0, 0)], [(3, 0, 0)]), 5, 8),
+        ("stranger-no-corners", text(HEAD + ["(patch)", "(label 0 (0 0))"]), 5, 6),
+        ("stranger-before-doubled", patched(ONE, [(0, 0, 0), (3, 0, 0)]), 5, 11),
+        ("doubled-corner-second", patched(ONE, [(0, 0, 0), (0, 1, 0)]), 6, 11),
+        ("doubled-cell-second", patched(ONE, [(0, 0, 0), (1, 0, 0)]), 6, 11),
+        ("doubled-both-second", patched(ONE, [(0, 0, 0), (0, 0, 0)]), 6, 11),
+        ("doubled-corner-first", patched([(0, 0, 0), (0, 1, 0)], ONE), 6, 9),
+        ("doubled-cell-first", patched([(0, 0, 0), (1, 0, 0)], ONE), 6, 9),
+        ("doubled-far-second", patched(TWO, [(1, 0, 0), (0, 5, 5), (1, 63, 63)]), 6, 13),
+        ("doubled-before-8", patched(ONE, [(1, 1, 0), (1, 2, 0)]), 6, 11),
+    ):
+        yield f"patch-{name}", frame, refused(number, line)
+
+
+def misplaced_patches():
+    for number in range(1, 5):
+        yield f"patch-in-heading-{number}", put_in(number, "(patch)"), refused(1, number)
+        yield f"patch-for-heading-{number}", changed(number, "(patch)"), refused(1, number)
+    yield "patch-before-corners", put_in(5, "(patch)"), refused(1, 6)
+    yield "patch-among-corners", put_in(6, "(patch)"), refused(1, 7)
+    yield "patch-then-corner", patched(ONE, [], CORNERS[:1]), refused(1, 10)
+    yield "patch-then-wild-corner", patched(ONE, [], [corner(x="7f800000")]), refused(1, 10)
+    yield "patch-corner-behind-second", patched(ONE, ONE, CORNERS[:1]), refused(1, 11)
+    yield "patch-corner-behind-shade", patched(ONE, ONE, ["(shade 0 0)"] + CORNERS[:1]), refused(1, 12)
+    yield "patch-twice", patched(ONE, ONE, ["(patch)"]), refused(1, 11)
+    yield "patch-twice-at-once", patched(ONE, [], ["(patch)"]), refused(1, 10)
+    yield "patch-three-times", patched(ONE, [], ["(patch)", "(patch)"]), refused(1, 10)
+    yield "patch-twice-third-set", patched(ONE, ONE, ["(patch)", "(label 0 (0 0))"]), refused(1, 11)
+    yield "patch-twice-behind-shade", patched(ONE, ONE, SHADES + ["(patch)"]), refused(1, 13)
+    yield "patch-behind-shade", text(HEAD + CORNERS + LABELS + ["(shade 0 0)", "(patch)"] + LABELS), refused(1, 11)
+    yield "patch-behind-shade-no-labels", text(HEAD + CORNERS + ["(shade 0 0)", "(patch)"] + LABELS), refused(1, 9)
+    yield "patch-behind-pass", put_in(11, "(patch)"), refused(1, 11)
+    yield "patch-between-passes", text(EXAMPLE + ["(patch)"] + PASSES), refused(1, 11)
+    yield "patch-label-behind-shade", patched(ONE, ONE, ["(shade 0 0)", "(label 1 (1 0))"]), refused(1, 12)
+    yield "patch-label-behind-pass", patched(ONE, ONE, PASSES + ["(label 1 (1 0))"]), refused(1, 12)
+    yield "patch-bad-label-behind-shade", patched(ONE, ONE, ["(shade 0 0)", "(label 9 (99 0))"]), refused(1, 12)
+    yield "patch-shade-behind-pass", patched(ONE, ONE, PASSES + ["(shade 0 0)"]), refused(1, 12)
+    yield "patch-frame-behind", patched(ONE, ONE, HEAD[:1]), refused(1, 11)
+    yield "patch-1-before-17-passes", patched(ONE, ONE, PASSES * 16 + ["(patch)"]), refused(1, 27)
+    yield "patch-and-17-passes", patched(ONE, ONE, PASSES * 17), refused(2, 27)
+    for name, bad in (
+        ("cr", "(patch)\r"), ("space-behind", "(patch) "), ("space-before", " (patch)"), ("nul", "(patch)\0"), ("space-inside", "(patch )"),
+        ("bracket", "(patch"), ("bracket-more", "(patch))"), ("bracket-before", "((patch)"), ("no-brackets", "patch"), ("number", "(patch 1)"),
+        ("cell", "(patch (0 0))"), ("upper", "(Patch)"), ("plural", "(patches)"), ("short", "(patc)"), ("nothing", "()"), ("high-byte", "(patch\u0101"), ("pass", "(pass)"),
+    ):
+        yield f"patch-bent-{name}", changed(9, bad, PATCHED), refused(1, 9)
+
+
+def short_cells():
+    """Cells whose numbers have few digits, those of fewest first."""
+    cells = [(i, j) for i in range(64) for j in range(64)]
+    return sorted(cells, key=lambda cell: (len(f"{cell[0]}{cell[1]}"), cell))
+
+
+def that_fit(labels, room):
+    """As many labels as have room."""
+    count = 0
+    for n, i, j in labels:
+        room -= len(f"(label {n} ({i} {j}))\n")
+        if room < 0:
+            break
+        count += 1
+    return labels[:count]
+
+
+def large_patches():
+    """As many labels as there can be: 1,024 in one set and some 390 in the other,
+    860 in both. Results by hand."""
+    corners = many_corners(1024)
+    labels = [(n, i, j) for n, (i, j) in enumerate(short_cells()[:1024])]
+    later = [(n, i + 1, j) for n, i, j in labels]
+    some = that_fit(later, MOST_BYTES - len(patched(labels, [], corners=corners)))
+    if not 380 < len(some) < 400 or max(i for _, i, _ in labels) != 48:
+        raise SystemExit(f"cases: {len(some)} labels beside 1,024")
+    amiss = some[:-1] + [(some[-1][0], some[-1][1] + 1, some[-1][2])]
+    yield "patch-1024-and-some", patched(labels, some, corners=corners), given(labels)
+    yield "patch-1024-and-some-9", patched(labels, amiss, corners=corners), refused(9, 2053)
+    yield "patch-some-and-1024", patched(some, labels, corners=corners), given(later)
+    yield "patch-some-and-1024-9", patched(amiss, labels, corners=corners), refused(9, 1029 + len(some))
+    up, past = ([(n, i + far, j) for n, i, j in labels[: len(some) - 50]] for far in (15, 16))
+    yield "patch-some-and-1024-rim", patched(up, labels, corners=corners), given([(n, i + 15, j) for n, i, j in labels])
+    yield "patch-some-and-1024-4", patched(past, labels, corners=corners), refused(4, 1029 + len(past))
+    yield "patch-1024-halves", patched(labels[:512], labels[512:], corners=corners), refused(8, 1541)
+    corners, labels, later = corners[:860], labels[:860], later[:860]
+    yield "patch-860-both", patched(labels, labels, corners=corners), given(labels)
+    yield "patch-860-both-shifted", patched(labels, later[::-1], corners=corners), given(labels)
+    yield "patch-860-both-9", patched(labels, later[:-1] + [(859, 63, 63)], corners=corners), refused(9, 1725)
+
+
 # ---- whole frames
 
 
@@ -406,12 +634,12 @@ def whole():
         yield f"example-cut-{size}", text(EXAMPLE)[:size], None
 
 
-def damaged(seed, count, shaded=generate.SHADED):
+def damaged(seed, count, shaded=generate.SHADED, patched=generate.PATCHED):
     """Good frames with bytes changed, left out, doubled or moved; `shaded` is
-    the share of them with shades."""
+    the share of them with shades, `patched` that of those with a patch line."""
     rng = random.Random(seed)
-    good = [text(EXAMPLE)] * (shaded < 1) + [text(SHADED)] * (shaded > 0)
-    good += [data for _, data in generate.frames(seed, 20, shaded=shaded)]
+    good = [text(EXAMPLE)] * (shaded < 1) + [text(SHADED)] * (shaded > 0) + [text(PATCHED)] * (patched > 0)
+    good += [data for _, data in generate.frames(seed, 20, shaded=shaded, patched=patched)]
     good = [data for data in good if len(data) < 4000]
     for number in range(count):
         data = bytearray(rng.choice(good))
@@ -453,7 +681,7 @@ def left_after_lines(result):
 def long_results(seed):
     """Results longer than the buffer, some with a line that ends where exactly 128 or 127 bytes are left."""
     wanted = {LEAST, LEAST - 1}
-    for number, (_, data) in enumerate(generate.frames(seed, 4000, "dense", shaded=0)):
+    for number, (_, data) in enumerate(generate.frames(seed, 4000, "dense", shaded=0, patched=0)):
         result = reference.result(data)
         if len(result) <= BUFFER:
             continue
@@ -467,9 +695,11 @@ def long_results(seed):
 
 
 def cases():
-    for family in (whole(), bent(), overfull(), wild(), labels(), damaged(1, 300, 0), random_bytes(1, 60), long_results(1)):
+    for family in (whole(), bent(), overfull(), wild(), labels(), damaged(1, 300, 0, 0), random_bytes(1, 60), long_results(1)):
         yield from family
-    for family in (whole_shades(), bent_shades(), misplaced_shades(), strange_shades(), damaged(2, 150, 1), bare_grow()):
+    for family in (whole_shades(), bent_shades(), misplaced_shades(), strange_shades(), damaged(2, 150, 1, 0), bare_grow()):
+        yield from family
+    for family in (joined_patches(), unjoined_patches(), strange_patches(), misplaced_patches(), large_patches(), damaged(3, 150, patched=1)):
         yield from family
 
 

@@ -75,6 +75,7 @@ EXAMPLE_ANSWER = b"""(result 1)
 """  # 01, "Frame and result"
 
 SHADED = cases.text(cases.SHADED)  # the same with shades, and with local
+PATCHED = cases.text(cases.PATCHED)  # that with the labels in two sets
 
 NOT_READ = b"recover: standard input cannot be read\n"
 NOT_WRITTEN = b"recover: standard output cannot be written\n"
@@ -520,11 +521,12 @@ class Faults:
             run(f"a failure after {at} bytes, then the end", EXAMPLE, front + "e z ", failed=True)
             run(f"a failure after {at} bytes, then the rest", EXAMPLE, front + "e ", failed=True)
             run(f"the end after {at} bytes, then the rest", EXAMPLE, front + "z ", ends=at)
-        at = 0
-        for line in SHADED.splitlines(keepends=True):
-            at += len(line)
-            run(f"with shades, a failure after {at} bytes", SHADED, f"{at} e z ", failed=True)
-            run(f"with shades, the end after {at} bytes", SHADED, f"{at} z ", ends=at)
+        for name, data in (("with shades", SHADED), ("with two sets", PATCHED)):
+            at = 0
+            for line in data.splitlines(keepends=True):
+                at += len(line)
+                run(f"{name}, a failure after {at} bytes", data, f"{at} e z ", failed=True)
+                run(f"{name}, the end after {at} bytes", data, f"{at} z ", ends=at)
         for name, data in generate.frames(self.seed, 100):
             plan = "".join(rng.choice(("i ", f"{rng.randrange(1, 200)} ", f"{rng.randrange(1, 5000)} ")) for _ in range(rng.randrange(60)))
             run(f"{name}, short and interrupted reads", data, plan)

@@ -15,6 +15,8 @@ Every text comes from its own seed. Kinds of text:
     lines       a frame with lines swapped, left out, doubled or of another frame
     numbers     a frame with numbers replaced: limits, just past them, not finite
     shades      a frame with shade lines put in, doubled, moved, spoilt
+    patches     a frame with its labels put into two sets, with labels of either
+                changed or left out, with the patch line doubled, moved, spoilt
     cut         a frame that ends early
     long        texts of 65,535 bytes and more
     load        up to 1,024 corners and 16 passes with many rounds
@@ -23,7 +25,7 @@ Every text comes from its own seed. Kinds of text:
 An answer is right if the program ends within the limit with status 0, writes
 nothing to standard error, and writes to standard output either
 
-    one line (refused N L): N from 1 to 6, L from 1 to one more than the text has
+    one line (refused N L): N from 1 to 6, 8 or 9, L from 1 to one more than the text has
     lines, or (refused 2 0) where and only where there are over 65,536 bytes; and
     the refusal is the one that the reader of reference.py gives; or
 
@@ -31,7 +33,7 @@ nothing to standard error, and writes to standard output either
     kind, and an unmatched line behind each local where any shade stands, and
     nowhere else; cells, holes and ambiguous cells, each strictly by i, then j, on the
     sheet; no corner twice, none that was not given, every given label where it
-    was; as many cells as labels and attached corners; rounds within the limits
+    was, those of the second set where the join takes them; as many cells as labels and attached corners; rounds within the limits
     of the pass; marks as many as the grow lines say, if there is one and no
     local clears any, else within what they say; the last pass's rim as the cells say. And the reader of
     reference.py accepts the text.
@@ -80,6 +82,7 @@ WHOLES = [
 ]
 FLOAT = re.compile(rb"\b[0-9a-f]{8}\b")
 WHOLE = re.compile(rb"(?<=[ (])-?[0-9]{1,5}(?=[ )])")
+LABEL = re.compile(rb"\(label (-?[0-9]{1,5}) \((-?[0-9]{1,5}) (-?[0-9]{1,5})\)\)")
 SIZES = [1, 1, 1, 2, 5, 20]
 
 
@@ -178,7 +181,7 @@ class Texts:
     def shades(self, rng):
         lines = self.frame(rng).splitlines()
         corners = sum(line.startswith(b"(corner") for line in lines)
-        behind = [k for k, line in enumerate(lines) if line.startswith((b"(frame", b"(cell", b"(axes", b"(band", b"(corner", b"(label"))]
+        behind = [k for k, line in enumerate(lines) if line.startswith((b"(frame", b"(cell", b"(axes", b"(band", b"(corner", b"(label", b"(patch"))]
         first = max(behind, default=-1) + 1
         for _ in range(rng.choice(SIZES)):
             n = rng.randrange(corners) if corners and rng.random() < 0.8 else rng.choice(WHOLES)
@@ -200,6 +203,39 @@ class Texts:
                 lines.insert(rng.randrange(len(lines) + 1), moved)
             elif way == 9 and rng.random() < 0.3:
                 lines.insert(rng.randrange(len(lines) + 1), line)
+        return b"".join(line + b"\n" for line in lines)
+
+    def patches(self, rng):
+        lines = self.frame(rng).splitlines()
+        for _ in range(rng.choice(SIZES)):
+            labels = [k for k, line in enumerate(lines) if LABEL.fullmatch(line)]
+            patch = [k for k, line in enumerate(lines) if line.startswith(b"(patch")]
+            way = rng.randrange(10)
+            if way < 5 and not patch and labels:  # some of the first set once more, moved
+                shared = rng.sample(labels, rng.randint(1, min(3, len(labels))))
+                di, dj = rng.choice([0, 1, -3, 9]), rng.choice([0, 0, 2, -6])
+                if rng.random() < 0.2:
+                    di, dj = rng.choice([60, -60, 127]), rng.choice([0, -64])
+                behind = [b"(patch)"]
+                for k in shared:
+                    n, i, j = map(int, LABEL.fullmatch(lines[k]).groups())
+                    behind.append(b"(label %d (%d %d))" % (n, i + di, j + dj))
+                at = rng.choice(labels) + 1
+                first, rest = [line for line in lines[at:] if LABEL.fullmatch(line)], [line for line in lines[at:] if not LABEL.fullmatch(line)]
+                lines = lines[:at] + behind + first * rng.randrange(2) + rest
+            elif way < 7 and labels:
+                at = rng.choice(labels)
+                numbers = [int(number) for number in LABEL.fullmatch(lines[at]).groups()]
+                numbers[rng.randrange(3)] += rng.choice([1, -1, 1, -1, 2, -2, 64, -127])
+                lines[at] = b"(label %d (%d %d))" % tuple(numbers)
+            elif way == 7 and labels:
+                del lines[rng.choice(labels)]
+            elif way == 8:
+                line = lines.pop(rng.choice(patch)) if patch and rng.random() < 0.5 else b"(patch)"
+                lines.insert(rng.choice(labels or [4]) if rng.random() < 0.7 else rng.randrange(len(lines) + 1), line)
+            elif patch and rng.random() < 0.5:
+                line, at = lines[patch[0]], rng.randrange(8)
+                lines[patch[0]] = line[:at] + rng.choice([b"", b" ", b")", b"(", b"1", b"\0", b"s"]) + line[at + rng.randrange(2) :]
         return b"".join(line + b"\n" for line in lines)
 
     def cut(self, rng):
@@ -269,6 +305,7 @@ KINDS = {  # (how it is made, how often)
     "lines": (Texts.lines, 15),
     "numbers": (Texts.numbers, 25),
     "shades": (Texts.shades, 10),
+    "patches": (Texts.patches, 10),
     "cut": (Texts.cut, 6),
     "long": (Texts.long, 2),
     "load": (Texts.load, 0.1),
@@ -278,7 +315,7 @@ KINDS = {  # (how it is made, how often)
 
 # ---- Answers --------------------------------------------------------------
 
-REFUSAL = re.compile(r"\(refused ([1-6]) (0|[1-9][0-9]*)\)\n")
+REFUSAL = re.compile(r"\(refused ([1-689]) (0|[1-9][0-9]*)\)\n")
 N, W = r"(0|[1-9][0-9]*)", r"(0|-?[1-9][0-9]*)"
 PASS_LINES = {
     "grow": re.compile(rf"\(grow {N} {N} {N} {N} (yes|no)\)"),
@@ -497,12 +534,12 @@ def keep(folder, name, data):
 
 
 def say(tally, options, began):
-    names = ["results"] + [f"refused {n}" for n in range(1, 7)]
-    rows = [["text"] + names]
+    numbers = [0, 1, 2, 3, 4, 5, 6, 8, 9]
+    rows = [["text", "results"] + [f"refused {n}" for n in numbers[1:]]]
     for kind in KINDS:
-        rows.append([kind] + [tally.answers[kind, n] for n in range(7)])
-    rows.append(["all"] + [sum(row[k] for row in rows[1:]) for k in range(1, 8)])
-    widths = [max(len(str(row[k])) for row in rows) for k in range(8)]
+        rows.append([kind] + [tally.answers[kind, n] for n in numbers])
+    rows.append(["all"] + [sum(row[k] for row in rows[1:]) for k in range(1, len(rows[0]))])
+    widths = [max(len(str(row[k])) for row in rows) for k in range(len(rows[0]))]
     for row in rows:
         print("  " + "  ".join(str(cell).rjust(w) for cell, w in zip(row, widths)))
     count = sum(tally.answers.values())

@@ -4,8 +4,10 @@
     generate.py --seed S --count N --out FOLDER     writes N frames
     generate.py --seed S --count N --only FAMILY    prints them
     --shaded SHARE                                  of the frames have shades
+    --patched SHARE                                 of the frames have a patch line
 
-Every frame is an accepted one. Families, each a function below:
+Every frame is an accepted one, but some of those with a patch line, whose two
+sets are not joined. Families, each a function below:
 
     panel       a panel in perspective: noise, missing and spurious corners, a
                 crept end row, labels as a block, a ring, patches or scattered
@@ -36,9 +38,19 @@ place of a few frames stands one of
     rounds      local with several rounds: corners that one cell passes over and
                 another takes later, and ambiguous cells with such corners in
                 reach, visited again
+
+Some of the frames, again by a draw of their own, have their labels in two sets
+(02, 3/14): split along a line, at random, one set whole; one corner in both, or
+several, or all; the second set with an origin of its own, shifted by nothing, by
+little, or up to the rim of the sheet. Joined, they are the labels of the frame
+without a patch line. Their names say "patched". Some of these are spoilt: no
+corner in both, a label off by one, two exchanged, a corner on a cell that
+another holds, a label that the shift takes off the sheet; most of them are
+refused then.
 """
 
 import argparse
+import copy
 import math
 import os
 import random
@@ -74,6 +86,7 @@ class Draft:
         self.band = 0.25
         self.corners = []  # (x, y, pitch)
         self.labels = []  # (corner, cell)
+        self.second = None  # the labels behind a patch line, in their own cells
         self.shades = []  # (corner, kind)
         self.passes = []  # (kind, numbers or None)
 
@@ -90,6 +103,9 @@ class Draft:
             x, y = clip(x, -16384.0, 16384.0), clip(y, -16384.0, 16384.0)
             lines.append(f"(corner ({h(x)} {h(y)}) {h(clip(pitch, 0.0, 16384.0))})")
         lines += [f"(label {n} ({i} {j}))" for n, (i, j) in self.labels]
+        if self.second is not None:
+            lines.append("(patch)")
+            lines += [f"(label {n} ({i} {j}))" for n, (i, j) in self.second]
         lines += [f"(shade {n} {kind})" for n, kind in self.shades]
         lines += [pass_line(kind, numbers) for kind, numbers in self.passes]
         return ("\n".join(lines) + "\n").encode()
@@ -786,6 +802,134 @@ def rounds(rng):
 SHADED_FAMILIES = {"twins": twins, "rounds": rounds}
 
 
+# ---- Patches --------------------------------------------------------------
+
+
+def in_two(rng, labels):
+    """Which labels stand in the first set and which in the second, at least one
+    of them in both."""
+    way = rng.choice(["line"] * 3 + ["random"] * 3 + ["one shared"] * 2 + ["all in both", "all in one"])
+    if way == "line":  # as a rope would part them: the cells up to it, and those from it on
+        side = rng.randrange(2)
+        at = rng.choice(labels)[1][side]
+        low, high = at - rng.choice([0, 0, 1]), at + rng.choice([0, 0, 1])
+        first = [label for label in labels if label[1][side] <= high]
+        second = [label for label in labels if label[1][side] >= low]
+    elif way == "random":
+        share = rng.choice([0.1, 0.3, 0.7])
+        shared = [rng.random() < share for _ in labels]
+        ours = [rng.random() < 0.5 for _ in labels]
+        first = [label for label, both, own in zip(labels, shared, ours) if both or own]
+        second = [label for label, both, own in zip(labels, shared, ours) if both or not own]
+        meeting = rng.choice(labels)
+        first, second = ([*part, meeting] if meeting not in part else part for part in (first, second))
+    elif way == "one shared":
+        at = rng.randrange(len(labels))
+        first, second = labels[: at + 1], labels[at:]
+    else:
+        part = rng.sample(labels, rng.randint(1, len(labels)) if way == "all in one" else len(labels))
+        first, second = (labels, part) if rng.random() < 0.5 else (part, labels)
+    return list(first), list(second)
+
+
+def a_shift(rng, second):
+    """How far the second set is moved in the join: (i, j), so that in its own
+    cells it stands on the sheet."""
+    shift = []
+    for side in (0, 1):
+        parts = [cell[side] for _, cell in second]
+        least, most = max(parts) - ref.LAST, min(parts) - ref.FIRST
+        near = min(max(rng.randint(-9, 9), least), most)
+        shift.append(rng.choice([0, near, near, least, most, rng.randint(least, most)]))
+    return tuple(shift)
+
+
+def split(rng, draft):
+    """A draft with the same labels in two sets; without labels, or where there
+    is no room for a label more, the draft as it is."""
+    two = copy.copy(draft)
+    if not draft.labels:
+        return two
+    two.labels, second = in_two(rng, draft.labels)
+    shift = a_shift(rng, second)
+    two.second = ref.shifted(second, (-shift[0], -shift[1]))
+    if rng.random() < 0.5:
+        rng.shuffle(two.second)
+    while len(two.text()) > MOST_BYTES:  # fewer in both
+        shared = {n for n, _ in two.labels} & {n for n, _ in two.second}
+        if len(shared) == 1:
+            return copy.copy(draft)
+        gone = set(sorted(shared)[1:50])
+        two.second = [label for label in two.second if label[0] not in gone]
+    return two
+
+
+def spoilt_labels(rng, draft, way):
+    """The second set of a draft, spoilt; as it is where the way is not open."""
+    first, second = dict(draft.labels), dict(draft.second)
+    shared = sorted(set(first) & set(second))
+    if way == "apart" or not shared:
+        return [label for label in draft.second if label[0] not in first]
+    n = rng.choice(shared)
+    cell, (i, j) = first[n], second[n]
+    shift = (cell[0] - i, cell[1] - j)
+    others = [k for k in range(len(draft.corners)) if k not in second]
+    if way == "off by one":
+        di, dj = rng.choice(ref.CARDINAL)
+        new = {n: (i + di, j + dj)}
+    elif way == "exchanged":
+        other = rng.choice(sorted(second))
+        new = {n: second[other], other: second[n]}
+    elif way == "held" and others:  # a cell that another corner holds
+        to = first[rng.choice(sorted(first))]
+        new = {rng.choice(others): (to[0] - shift[0], to[1] - shift[1])}
+    elif way == "off the sheet" and others and shift != (0, 0):
+        side = rng.choice([side for side in (0, 1) if shift[side]])
+        to = [rng.randint(ref.FIRST, ref.LAST), rng.randint(ref.FIRST, ref.LAST)]
+        by = rng.choice([1, 1, abs(shift[side])])
+        to[side] = ref.LAST - shift[side] + by if shift[side] > 0 else ref.FIRST - shift[side] - by
+        new = {rng.choice(others): tuple(to)}
+    else:
+        return draft.second
+    second.update(new)
+    cells = list(second.values())
+    if len(set(cells)) < len(cells) or not all(ref.on_sheet(to) for to in new.values()):
+        return draft.second
+    return list(second.items())
+
+
+def spoil(rng, draft):
+    """A draft in two sets, spoilt in one or two ways; one without labels gets a
+    patch line."""
+    two = copy.copy(draft)
+    two.second = two.second or []
+    ways = ["apart", "off by one", "exchanged", "held", "held", "off the sheet", "off the sheet"]
+    for way in rng.sample(ways, rng.choice([1, 1, 2])):
+        two.second = spoilt_labels(rng, two, way)
+    return two if len(two.text()) <= MOST_BYTES else draft
+
+
+PATCHED = 0.25  # the share of frames with a patch line
+SPOILT = 0.25  # of those the share that is spoilt
+
+
+def patcher(seed, patched):
+    """The draws for a frame's patch, or None where it is to have none."""
+    own = random.Random(f"patch {seed}")
+    return own if own.random() < patched else None
+
+
+def in_patches(own, draft, family):
+    """The draft in two sets, by the draws of `own`, if any, and the family's name
+    then."""
+    if own is None:
+        return draft, family
+    two = split(own, draft)
+    if own.random() < SPOILT:
+        two = spoil(own, two)
+    return two, family if two.second is None else f"patched_{family}"
+
+
 # ---- Deciding values ------------------------------------------------------
 
 
@@ -882,19 +1026,23 @@ def drawn(rng, own, family):
     return shade(own, make(rng)), f"shaded_{family}"
 
 
-def frames(seed, count, only=None, share=(0, 1), shaded=SHADED):
+def frames(seed, count, only=None, share=(0, 1), shaded=SHADED, patched=PATCHED):
     """Yields (name, bytes), each frame from its own seed. A share (K, N) is
-    every Nth frame from number K on. With `shaded` 0 no frame has a shade; the
-    frames without one are the same whatever it is."""
+    every Nth frame from number K on. With `shaded` 0 no frame has a shade, with
+    `patched` 0 none a patch line; the frames without one are the same whatever
+    it is."""
     names = [only] if only else list(FAMILIES)
     weights = [FAMILIES[name][1] if name in FAMILIES else 1 for name in names]
     for k in range(share[0], count, share[1]):
         rng = random.Random(f"{seed} {k}")
         family = rng.choices(names, weights)[0]
         draft, family = drawn(rng, shader(f"{seed} {k}", shaded), family)
+        draft, family = in_patches(patcher(f"{seed} {k}", patched), draft, family)
         data = draft.text()
         try:
             ref.read(data)
+        except ref.NotJoined:
+            pass  # a spoilt one
         except ref.Refused as refused:
             raise SystemExit(f"frame {k} ({family}) of seed {seed}: {refused}")
         yield f"{seed}-{k}-{family}", data
@@ -906,11 +1054,12 @@ def main():
     parser.add_argument("--count", type=int, default=10)
     parser.add_argument("--only", choices=list(FAMILIES) + list(SHADED_FAMILIES))
     parser.add_argument("--shaded", type=float, default=SHADED)
+    parser.add_argument("--patched", type=float, default=PATCHED)
     parser.add_argument("--out")
     options = parser.parse_args()
     if options.out:
         os.makedirs(options.out, exist_ok=True)
-    for name, data in frames(options.seed, options.count, options.only, shaded=options.shaded):
+    for name, data in frames(options.seed, options.count, options.only, shaded=options.shaded, patched=options.patched):
         if options.out:
             with open(os.path.join(options.out, name + ".frame"), "wb") as file:
                 file.write(data)

@@ -18,7 +18,9 @@ such a value, or one or two units in the last place below or above it:
     band        so that 1 - band or 1 + band is an edge's length by the expected
 
 Some frames have shades, as in generate.py: a corner that a cell passes over for
-its kind then stands at the radius too, and local's unmatched count decides.
+its kind then stands at the radius too, and local's unmatched count decides. Some
+have their labels in two sets, as there: they are split, and some spoilt, when all
+numbers are moved, so that those that are joined decide as the whole frame does.
 """
 
 import argparse
@@ -190,11 +192,11 @@ def move(rng, frame):
     return [m for m in moves if m]
 
 
-def frames(seed, count, only=None, share=(0, 1), shaded=generate.SHADED):
+def frames(seed, count, only=None, share=(0, 1), shaded=generate.SHADED, patched=generate.PATCHED):
     """Yields (name, bytes, moves, fits), each frame from its own seed; at least
     one number of each is moved. A move is (parameter, units, kind of pass),
-    fits are those that reference.py has worked out. `share` and `shaded` as in
-    generate.py."""
+    fits are those that reference.py has worked out. `share`, `shaded` and
+    `patched` as in generate.py."""
     names = [only] if only else list(FAMILIES)
     weights = [FAMILIES.get(name, 1) for name in names]
     for k in range(share[0], count, share[1]):
@@ -210,6 +212,7 @@ def frames(seed, count, only=None, share=(0, 1), shaded=generate.SHADED):
             frame = ref.read(draft.text())
             moves = move(rng, frame)
         draft.band, draft.passes = frame.band, frame.passes
+        draft, family = generate.in_patches(generate.patcher(f"moved {seed} {k}", patched), draft, family)
         yield f"{seed}-{k}-{family}", draft.text(), moves, frame.fits
 
 
@@ -219,8 +222,9 @@ def main():
     parser.add_argument("--count", type=int, default=10)
     parser.add_argument("--only", choices=list(FAMILIES) + list(generate.SHADED_FAMILIES))
     parser.add_argument("--shaded", type=float, default=generate.SHADED)
+    parser.add_argument("--patched", type=float, default=generate.PATCHED)
     options = parser.parse_args()
-    for name, data, moves, _ in frames(options.seed, options.count, options.only, shaded=options.shaded):
+    for name, data, moves, _ in frames(options.seed, options.count, options.only, shaded=options.shaded, patched=options.patched):
         print(f"# {name} {moves}\n{data.decode()}")
 
 

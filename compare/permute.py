@@ -2,9 +2,9 @@
 """Shuffles the corners of frames and compares the runs: 01, "Lists of passes,
 for demand 3", tried on our program.
 
-    permute.py [--seed S] [--count N] [--shuffles K] [--model] [--keep FOLDER]
+    permute.py [--seed S] [--count N] [--frames M] [--shuffles K] [--model] [--keep FOLDER]
 
-after `rt check passes_main`. A case is a frame and a list of 0 to 6 calls, each
+after `rt check passes_main recover`. A case is a frame and a list of 0 to 6 calls, each
 with a cell size, axes, a band, shades and buffer lengths of its own; calls that
 are refused stand anywhere. Every call that runs has a factor above 1, down to
 the next float. The corner lines are put into K other orders and the labels
@@ -24,14 +24,24 @@ while the corners turn: how many differ says how many of the cases see the
 shades. Last, for each pass, a smallest pair that differs at factor 1 and agrees
 at the next float.
 
-Ends with status 1 if a compared call differs, if a call that was made to be
-refused is answered otherwise, or if the smallest pairs do not show what they
-are to show.
+Besides, M frames (half of N) with a patch line (02, 3/14: "Corner order still
+decides nothing") are put to the frame program, target/bin/recover, and the same
+frames with their corner lines in K other orders, the labels of both sets and the
+shades renumbered: their results differ only in the corner numbers of the cell
+lines, or both have the same refusal, number and line. Some are not joined. How
+many answers change if the second set is not renumbered is told. With --model the
+first order's answer is also compared with that of reference.py.
+
+Ends with status 1 if a compared call or frame differs, if a call that was made
+to be refused is answered otherwise, or if the smallest pairs do not show what
+they are to show.
 """
 
 import argparse
+import copy
 import os
 import random
+import re
 import struct
 import subprocess
 import sys
@@ -43,6 +53,7 @@ import reference as ref
 import words
 
 PROGRAM = os.path.join(os.path.dirname(os.path.abspath(__file__)), "..", "target", "bin", "passes_main")
+RECOVER = os.path.join(os.path.dirname(os.path.abspath(__file__)), "..", "target", "bin", "recover")
 ABOVE_ONE = generate.beside(1.0, 1)
 
 
@@ -267,13 +278,16 @@ FAMILIES = {
 }
 
 
-def a_case(rng):
+def a_draft(rng):
     family = rng.choices(list(FAMILIES), [weight for _, weight in FAMILIES.values()])[0]
     draft = FAMILIES[family][0](rng)
     if not draft.shades and rng.random() < 0.5:
         draft = generate.shade(rng, draft)
-    if rng.random() < 0.3:
-        draft = doubled(rng, draft)
+    return family, doubled(rng, draft) if rng.random() < 0.3 else draft
+
+
+def a_case(rng):
+    family, draft = a_draft(rng)
     frame = ref.read(draft.text())
     return family, Case(list(zip(frame.x, frame.y, frame.pitch)), frame.labels, some_calls(rng, frame))
 
@@ -477,6 +491,97 @@ class Run:
                 return
 
 
+# ---- Frames with a patch line ---------------------------------------------
+
+
+def a_patched_draft(rng):
+    """A frame with two sets, every factor above 1; or None."""
+    family, draft = a_draft(rng)
+    passes = []
+    for kind, numbers in draft.passes:
+        if numbers is not None and (not ref.rnd(numbers[1]) > 1.0 or rng.random() < 0.5):
+            numbers = (numbers[0], a_factor(rng), *numbers[2:])
+        passes.append((kind, numbers))
+    draft.passes = passes
+    draft = generate.split(rng, draft)
+    if rng.random() < 0.35:
+        draft = generate.spoil(rng, draft)
+    return family, draft if draft.second is not None else None
+
+
+def reordered(draft, order, second=True):
+    """Corner `order[k]` stands on line k; the second set is renumbered or not."""
+    line = {old: new for new, old in enumerate(order)}
+    other = copy.copy(draft)
+    other.corners = [draft.corners[old] for old in order]
+    other.labels = [(line[n], cell) for n, cell in draft.labels]
+    other.shades = [(line[n], kind) for n, kind in draft.shades]
+    if second:
+        other.second = [(line[n], cell) for n, cell in draft.second]
+    return other
+
+
+def recovered(draft):
+    done = subprocess.run([RECOVER], input=draft.text(), stdout=subprocess.PIPE, check=True)
+    return done.stdout.decode()
+
+
+def paired(text, pairing):
+    """A result with each corner replaced by the one that it is paired with."""
+    return re.sub(r"(?m)^(\(cell \(\S+ \S+\)) (\d+)\)$", lambda cell: f"{cell[1]} {pairing[int(cell[2])]})", text)
+
+
+class Frames:
+    """Frames with a patch line, and the same in other orders."""
+
+    def __init__(self, options):
+        self.options = options
+        self.answers = Counter()  # joined, or the refusal's number
+        self.compared = Counter()
+        self.wrong = self.modelled = self.in_place = 0
+
+    def frame(self, name, draft, rng):
+        first = recovered(draft)
+        what = first.strip("()\n").split(" ")[1] if first.startswith("(refused") else "joined"
+        self.answers[what] += 1
+        if self.options.model:
+            self.modelled += 1
+            if first != ref.result(draft.text()):
+                self.differs(name, "differs from reference.py", [draft])
+        for number, order in enumerate(orders(rng, len(draft.corners), self.options.shuffles)):
+            other = reordered(draft, order)
+            if len(other.text()) > generate.MOST_BYTES:
+                continue
+            self.compared[what] += 1
+            if paired(recovered(other), order) != first:
+                self.differs(name, "differs in another order", [draft, other])
+            if number == 0:
+                in_place = recovered(reordered(draft, order, False))
+                self.in_place += paired(in_place, order) != first
+
+    def differs(self, name, why, drafts):
+        self.wrong += 1
+        print(f"{name}: {why}", flush=True)
+        if self.options.keep:
+            os.makedirs(self.options.keep, exist_ok=True)
+            for k, draft in enumerate(drafts):
+                with open(os.path.join(self.options.keep, f"{name}.{k}.frame"), "wb") as file:
+                    file.write(draft.text())
+
+    def run(self):
+        for k in range(self.options.frames):
+            rng = random.Random(f"permute patches {self.options.seed} {k}")
+            family, draft = a_patched_draft(rng)
+            if draft is not None:
+                self.frame(f"{self.options.seed}-{k}-patched_{family}", draft, rng)
+        answers = ", ".join(f"{n} {what if what == 'joined' else 'refused ' + what}" for what, n in sorted(self.answers.items()))
+        compared = ", ".join(f"{n} {what if what == 'joined' else 'refused ' + what}" for what, n in sorted(self.compared.items()))
+        print(f"frames with two sets: {answers}; compared with another order: {sum(self.compared.values())} ({compared}); wrong: {self.wrong}")
+        print(f"with the second set not renumbered while the corners turn: {self.in_place} of {sum(self.answers.values())} frames differ")
+        if self.modelled:
+            print(f"frames compared with reference.py: {self.modelled}")
+
+
 # ---- The condition is needed ----------------------------------------------
 
 
@@ -515,12 +620,16 @@ def main():
     parser = argparse.ArgumentParser(description=__doc__.splitlines()[0])
     parser.add_argument("--seed", type=int, default=1)
     parser.add_argument("--count", type=int, default=1000)
+    parser.add_argument("--frames", type=int)
     parser.add_argument("--shuffles", type=int, default=3)
     parser.add_argument("--model", action="store_true")
     parser.add_argument("--keep")
     options = parser.parse_args()
-    if not os.path.exists(PROGRAM):
-        sys.exit("permute.py: target/bin/passes_main is missing: rt check passes_main builds it")
+    if options.frames is None:
+        options.frames = options.count // 2
+    for path, crate in ((PROGRAM, "passes_main"), (RECOVER, "recover")):
+        if not os.path.exists(path):
+            sys.exit(f"permute.py: target/bin/{crate} is missing: rt check {crate} builds it")
     began = time.time()
     run = Run(options)
     for k in range(options.count):
@@ -529,9 +638,11 @@ def main():
         run.tally.case(family, case)
         run.case(f"{options.seed}-{k}-{family}", case, rng)
     run.tally.print(options.count, options.shuffles)
+    patched = Frames(options)
+    patched.run()
     shown = [needed(kind) for kind in ("grow", "fill", "local")]
     print(f"{time.time() - began:.0f} s")
-    return 1 if run.tally.wrong or not all(shown) else 0
+    return 1 if run.tally.wrong or patched.wrong or not all(shown) else 0
 
 
 if __name__ == "__main__":

@@ -1,5 +1,5 @@
 #!/usr/bin/env python3
-"""An executable model of the specification (01), with requests 1/14 and 2/14
+"""An executable model of the specification (01), with requests 1/14 to 3/14
 of the list of requests (02), written from their text.
 
     reference.py < FRAME              01's result text, or (refused number line)
@@ -634,6 +634,49 @@ def lent_shades(shades, n):
     return {corner: byte - 1 for corner, byte in enumerate(shades[:n]) if byte}
 
 
+# ---- Joining two patches --------------------------------------------------
+
+
+def shifted(labels, shift):
+    return [(corner, (i + shift[0], j + shift[1])) for corner, (i, j) in labels]
+
+
+def union(labels, others):
+    known = set(labels)
+    return labels + [label for label in others if label not in known]
+
+
+def one_each(labels):
+    """Every corner has one cell and every cell one corner."""
+    corners = {corner for corner, _ in labels}
+    cells = {cell for _, cell in labels}
+    return len(corners) == len(labels) and len(cells) == len(labels)
+
+
+def join(first, second):
+    """02, 3/14: the union of two sets of labels (corner, cell), the second one
+    shifted so that every shared corner has one cell and every cell one corner;
+    or the refusal's number: 8 if no corner is in both, 9 if there is no such
+    shift, on the sheet or not, 4 if it takes a label off the sheet. Tried are
+    all shifts that give some shared corner one cell."""
+    asked = {
+        (cell[0] - other[0], cell[1] - other[1])
+        for corner, cell in first
+        for shared, other in second
+        if corner == shared
+    }
+    if not asked:
+        return APART
+    fitting = [shift for shift in asked if one_each(union(first, shifted(second, shift)))]
+    if not fitting:
+        return CLASH
+    (shift,) = fitting  # two shifts would give a shared corner two cells
+    joined = union(first, shifted(second, shift))
+    if not all(on_sheet(cell) for _, cell in joined):
+        return OFF_SHEET
+    return joined
+
+
 # ---- Frame and result -----------------------------------------------------
 
 
@@ -643,7 +686,9 @@ class Frame:
         self.axes = ((0.0, 0.0), (0.0, 0.0))
         self.band = 0.0
         self.x, self.y, self.pitch = [], [], []
-        self.labels = []  # (corner, cell), in the order of their lines
+        self.sets = [[]]  # of labels (corner, cell), in the order of their lines
+        self.patch = None  # the patch line's number; behind it the second set
+        self.labels = []  # the given ones: the first set, or both joined
         self.shades = {}  # kind by corner, of those that have a shade
         self.passes = []  # (kind, numbers)
         self.numbered = []  # (corner, x, y)
@@ -669,7 +714,11 @@ class Refused(Exception):
         self.line = line
 
 
-BENT, OVERFULL, WILD, OFF_SHEET, STRANGER, DOUBLED, SHORT = 1, 2, 3, 4, 5, 6, 7
+class NotJoined(Refused):
+    """Every line is as it should be, but the two sets are not joined."""
+
+
+BENT, OVERFULL, WILD, OFF_SHEET, STRANGER, DOUBLED, SHORT, APART, CLASH = range(1, 10)
 
 _FLOAT = r"([0-9a-f]{8})"
 _WHOLE = r"(0|-?[1-9][0-9]*)"
@@ -682,6 +731,7 @@ _FORMS = {
         "band": r"\(band F\)",
         "corner": r"\(corner \(F F\) F\)",
         "label": r"\(label W \(W W\)\)",
+        "patch": r"\(patch\)",
         "shade": r"\(shade W W\)",
         "grow": r"\(grow(?: F F F)?\)",
         "fill": r"\(fill(?: F F W)?\)",
@@ -702,7 +752,8 @@ def _float(digits):
 
 
 _HEAD = ["frame", "cell", "axes", "band"]
-_RANK = {"corner": 0, "label": 1, "shade": 2, "grow": 3, "fill": 3, "local": 3}
+_RANK = {"corner": 0, "label": 1, "patch": 2, "shade": 4, "grow": 5, "fill": 5, "local": 5}
+_SECOND = 3  # the rank of a label behind the patch line
 _BARE = {
     "grow": (rnd(0.35), 1.5, 1.25),  # 02, 2/14: a boundary multiple of 1.25
     "fill": (rnd(0.35), 1.5, 1),
@@ -719,25 +770,41 @@ _RANGES = {
 
 def read(data):
     """The frame, or raises Refused."""
+    frame = read_lines(data)
+    frame.labels = frame.sets[0]
+    if frame.patch is not None:
+        frame.labels = join(*frame.sets)
+        if frame.labels in (APART, CLASH, OFF_SHEET):
+            raise NotJoined(frame.labels, frame.patch)
+    return frame
+
+
+def read_lines(data):
+    """The frame, its two sets not joined yet, or raises Refused."""
     if len(data) > 65536:
         raise Refused(OVERFULL, 0)
     lines = data.split(b"\n")
     unfinished = lines.pop()  # what stands after the last LF
     frame = Frame()
-    cells, corners = set(), set()
     rank = 0
     for number, line in enumerate(lines, 1):
         if number <= 4:
             _read_head(frame, _HEAD[number - 1], line, number)
             continue
         kind, match = _form_of(line)
-        if kind is None or _RANK[kind] < rank:
+        if kind is None or kind == "patch" and frame.patch is not None:
             raise Refused(BENT, number)
-        rank = _RANK[kind]
+        before = rank
+        rank = _SECOND if kind == "label" and frame.patch is not None else _RANK[kind]
+        if rank < before:
+            raise Refused(BENT, number)
         if kind == "corner":
             _read_corner(frame, match, number)
         elif kind == "label":
-            _read_label(frame, match, number, cells, corners)
+            _read_label(frame, match, number)
+        elif kind == "patch":
+            frame.patch = number
+            frame.sets.append([])
         elif kind == "shade":
             _read_shade(frame, match, number)
         else:
@@ -787,17 +854,16 @@ def _read_corner(frame, match, number):
     frame.pitch.append(pitch)
 
 
-def _read_label(frame, match, number, cells, corners):
+def _read_label(frame, match, number):
+    """02, 3/14: 5 and 6 are tried inside each set alone."""
     corner, i, j = (_whole(group) for group in match.groups())
     if not on_sheet((i, j)):
         raise Refused(OFF_SHEET, number)
     if not 0 <= corner < len(frame.x):
         raise Refused(STRANGER, number)
-    if (i, j) in cells or corner in corners:
+    if any(corner == other or (i, j) == cell for other, cell in frame.sets[-1]):
         raise Refused(DOUBLED, number)
-    cells.add((i, j))
-    corners.add(corner)
-    frame.labels.append((corner, (i, j)))
+    frame.sets[-1].append((corner, (i, j)))
 
 
 def _read_shade(frame, match, number):

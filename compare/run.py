@@ -7,6 +7,7 @@
     run.py FRAME ...                                  frames from files
 
     --shaded SHARE  the share of the frames that have shades (generate.py)
+    --patched SHARE the share of the frames that have a patch line
     --bare-grow     every grow line of the generated frames is made bare
     --ours CMD      our program: a frame on standard input, every pass on
                     standard output, in the form of `reference.py --passes`;
@@ -37,6 +38,11 @@ Each pass is compared whole: pass line, for local the unmatched line if any
 shade stands, attached list in order, cells, marks.
 With --ours or --proved it is also compared with reference.py, started from our
 sheet, on every frame, and there the visited cells of grow too.
+
+Of a frame with a patch line whose two sets are not joined, the refusal is
+compared: ours (with --proved that of recover), reference.py's, and the one that
+the Rust side's own join gives. Where they are joined, the Rust's passes run on
+the union of that join, and those of passes_main on the union of reference.py's.
 
 01 excludes some passes from equality with the Rust. This program finds them
 itself: it runs reference.py's pass from our sheet and watches for
@@ -91,6 +97,7 @@ EXCLUSIONS = ["rim", "equal", "radius", "fit", "residual", "prediction", "panic"
 BEYOND = {"equal", "radius", "fit", "residual", "prediction"}
 LIMIT_OF = {"radius": "radius", "quotient": "factor", "gate": "gate"}
 LIMITS = ["radius", "factor", "1 - band", "1 + band", "gate", "least pitch"]
+JOINS = ["joined", "refused 8", "refused 9", "refused 4"]
 
 
 # ---- Both sides -----------------------------------------------------------
@@ -111,8 +118,13 @@ def call(command, data):
 
 
 def proved(data):
-    """A frame's passes by the proved program."""
-    return call([PROVED], words.words(ref.read(data), {}).encode())
+    """A frame's passes by the proved program; where its two sets are not joined
+    no pass is run, and the answer is the frame program's."""
+    try:
+        frame = ref.read(data)
+    except ref.NotJoined:
+        return call([RECOVER], data)
+    return call([PROVED], words.words(frame, {}).encode())
 
 
 def split_passes(text, count):
@@ -169,12 +181,11 @@ class Side:
             self.views.append(View(order, edge, True))
         self.sheets = os.path.join(folder, "sheets")
 
-    def our_passes(self, data, count):
-        """Our passes, or None where reference.py is our side."""
+    def our_text(self, data):
+        """Our passes or refusal, or None where reference.py is our side."""
         if self.ours is None:
             return None
-        text = self.ours(data) if callable(self.ours) else call(self.ours, data)
-        return split_passes(text, count)
+        return self.ours(data) if callable(self.ours) else call(self.ours, data)
 
     def rust_text(self, view, data, ours, excluded):
         """The Rust's text, set to our sheet after each excluded pass."""
@@ -229,10 +240,12 @@ class Outcome:
         self.model = []  # passes where --ours departs from reference.py
         self.text = ""
         self.result = None  # of recover: (as reference.py's, as the Rust's in each view)
+        self.patched = False  # the frame has two sets, and reference.py joins them
+        self.refusal = None  # where a side refuses: texts (reference.py's, ours, the Rust's)
 
     @property
     def passes(self):
-        return self.views[0]
+        return self.views[0] if self.views else []
 
     def differences(self):
         return [p for passes in self.views for p in passes if not p["equal"] and not p["excluded"]]
@@ -240,18 +253,30 @@ class Outcome:
     def result_differs(self):
         return self.result is not None and (not self.result[0] or "differ" in self.result[1])
 
+    def refusal_differs(self):
+        """From the Rust's."""
+        return self.refusal is not None and self.refusal[1] != self.refusal[2]
+
     def wrong(self):
-        return bool(self.differences() or self.model or self.result_differs())
+        refusals = self.refusal is not None and len(set(self.refusal)) > 1
+        return bool(self.differences() or self.model or self.result_differs() or refusals)
 
 
 def compare(side, data, fits=None):
     """Runs a frame on both sides; each pass of reference.py starts from the
     sheet that ours left. `fits` are what it has worked out for these corners."""
-    frame = ref.read(data)
+    text = side.our_text(data)
+    try:
+        frame = ref.read(data)
+    except ref.NotJoined as refused:
+        return compare_refusal(side, data, f"{refused}\n", text)
+    if text is not None and text.startswith("(refused "):
+        return compare_refusal(side, data, "joined", text)
     frame.fits = fits or {}
     count = len(frame.passes)
-    given = side.our_passes(data, count)
+    given = None if text is None else split_passes(text, count)
     outcome = Outcome()
+    outcome.patched = frame.patch is not None
     ours, met, pass_lines = [], [], []
     sheet = frame.given()
     for number in range(count):
@@ -278,6 +303,13 @@ def compare(side, data, fits=None):
         model = ref.result(data) if outcome.model else ref.result_text(pass_lines, sheet)
         pairs = zip(outcome.views, rust)
         outcome.result = (text == model, [compare_result(text, *pair) for pair in pairs])
+    return outcome
+
+
+def compare_refusal(side, data, model, ours):
+    """Of a frame whose two sets reference.py or ours does not join."""
+    outcome = Outcome()
+    outcome.refusal = (model, model if ours is None else ours, call(side.views[0].oracle, data))
     return outcome
 
 
@@ -398,6 +430,7 @@ class Tally:
         self.results = Counter()  # recover beside reference.py: equal
         self.rust_results = Counter()  # (view, equal, differ, excluded or no pass)
         self.result_exclusions = Counter()  # (view, exclusion): frames
+        self.joined = Counter()  # frames with two sets: joined, or the number, and whether all agree
 
     def update(self, other):
         for name, counter in vars(self).items():
@@ -405,6 +438,11 @@ class Tally:
 
     def add(self, outcome, moves):
         self.moves.update((parameter, units) for parameter, units, _ in moves)
+        if outcome.refusal is not None:
+            number = outcome.refusal[0].strip("()\n").split(" ")[1:2]
+            self.joined[f"refused {number[0]}" if number else "joined", not outcome.wrong()] += 1
+        elif outcome.patched:
+            self.joined["joined", not outcome.wrong()] += 1
         for number in range(len(outcome.near)):
             self.near.update(outcome.near[number])
         for p in outcome.passes:
@@ -440,6 +478,9 @@ class Tally:
         print(f"{sum(self.frames.values())} frames:", end="")
         print(",".join(f" {n} {name}" for name, n in sorted(self.frames.items())))
         print()
+        if self.joined:
+            rows = [[what] + [self.joined[what, e] for e in (True, False)] for what in JOINS]
+            table("frames with two sets of labels", ["reference.py", "equal", "differ"], rows)
         for view in range(len(side.views)):
             self.print_view(view, side.views[view].name)
         if side.ours:
@@ -529,9 +570,9 @@ def frames_of(options, share):
             with open(path, "rb") as file:
                 yield os.path.basename(path), file.read(), [], None
     elif options.moved:
-        yield from moved.frames(options.seed, options.count, options.only, share, options.shaded)
+        yield from moved.frames(options.seed, options.count, options.only, share, options.shaded, options.patched)
     else:
-        for name, data in generate.frames(options.seed, options.count, options.only, share, options.shaded):
+        for name, data in generate.frames(options.seed, options.count, options.only, share, options.shaded, options.patched):
             yield name, re.sub(rb"(?m)^\(grow .*\)$", b"(grow)", data) if options.bare_grow else data, [], None
 
 
@@ -566,7 +607,7 @@ class Run:
         self.tally.add(outcome, moves)
         if outcome.wrong():
             self.different(name, data, outcome)
-        elif self.options.store and not any(p["excluded"] for p in outcome.passes):
+        elif self.options.store and outcome.refusal is None and not any(p["excluded"] for p in outcome.passes):
             keep(self.options.store, name + ".frame", data)
             keep(self.options.store, name + ".passes", outcome.text.encode())
         if self.options.exhibit:
@@ -580,6 +621,8 @@ class Run:
             print(f"{name}: pass {number + 1} differs from reference.py")
         if outcome.result_differs():
             print(f"{name}: the result of recover differs")
+        if outcome.refusal is not None:
+            print(f"{name}: reference.py {outcome.refusal[0]!r}, ours {outcome.refusal[1][:40]!r}, the Rust's {outcome.refusal[2][:40]!r}")
 
         def differs(data):
             outcome = attempt(self.side, data)
@@ -621,6 +664,7 @@ def arguments():
     parser.add_argument("--count", type=int, default=1000)
     parser.add_argument("--only", choices=list(generate.FAMILIES) + list(generate.SHADED_FAMILIES))
     parser.add_argument("--shaded", type=float, default=generate.SHADED)
+    parser.add_argument("--patched", type=float, default=generate.PATCHED)
     parser.add_argument("--moved", action="store_true")
     parser.add_argument("--bare-grow", action="store_true")
     parser.add_argument("--ours")

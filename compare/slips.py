@@ -1,7 +1,7 @@
 #!/usr/bin/env python3
 """Shows that the comparison sees slips: reference.py is changed in one place,
 taken as our side, and compared with the Rust until a pass that 01 compares
-differs.
+differs, or what is refused for two sets that are not joined.
 
     slips.py [--seed S] [--count N] [NAME ...]
 
@@ -280,6 +280,55 @@ SLIPS = {
         "unmatched=unmatched if frame.shades else None",
         "unmatched=unmatched",
     ),
+    "sets without a shared corner joined as they stand": (
+        "        return APART\n",
+        "        asked = {(0, 0)}\n",
+    ),
+    "8 as 9": ("        return APART\n", "        return CLASH\n"),
+    "9 as 8": ("        return CLASH\n", "        return APART\n"),
+    "4 before 9": (
+        "    if not fitting:\n",
+        "    if not all(on_sheet(cell) for shift in asked for _, cell in shifted(second, shift)):\n"
+        "        return OFF_SHEET\n    if not fitting:\n",
+    ),
+    "the shift reversed": (
+        "(cell[0] - other[0], cell[1] - other[1])",
+        "(other[0] - cell[0], other[1] - cell[1])",
+    ),
+    "the shift of i alone": ("(cell[0] - other[0], cell[1] - other[1])", "(cell[0] - other[0], 0)"),
+    "cells not compared": (
+        "return len(corners) == len(labels) and len(cells) == len(labels)",
+        "return len(corners) == len(labels)",
+    ),
+    "one shared corner's shift not tested": (
+        "fitting = [shift for shift in asked if one_each(union(first, shifted(second, shift)))]",
+        "fitting = sorted(asked)[:1]",
+    ),
+    "a label off the sheet let through": (
+        "    if not all(on_sheet(cell) for _, cell in joined):\n        return OFF_SHEET\n",
+        "",
+    ),
+    "the second set's origin kept": (
+        "joined = union(first, shifted(second, shift))",
+        "joined = union(second, shifted(first, (-shift[0], -shift[1])))",
+    ),
+    "the second set not moved": (
+        "joined = union(first, shifted(second, shift))",
+        "joined = list({cell: (corner, cell) for corner, cell in first + second}.values())",
+    ),
+    "the second set left out": ("        return OFF_SHEET\n    return joined\n", "        return OFF_SHEET\n    return first\n"),
+    "only shared corners kept": (
+        "        return OFF_SHEET\n    return joined\n",
+        "        return OFF_SHEET\n    return [label for label in first if label in shifted(second, shift)]\n",
+    ),
+    "5 and 6 tried over both sets": (
+        "for other, cell in frame.sets[-1])",
+        "for labels in frame.sets for other, cell in labels)",
+    ),
+    "refused at the last line": (
+        "raise NotJoined(frame.labels, frame.patch)",
+        "raise NotJoined(frame.labels, data.count(b\"\\n\"))",
+    ),
     "row sums right to left": (
         "        left = rnd(rnd(row[0] * x) + rnd(row[1] * y))\n        return rnd(left + row[2])",
         "        left = rnd(rnd(row[1] * y) + row[2])\n        return rnd(left + rnd(row[0] * x))",
@@ -314,10 +363,11 @@ def main():
         for name, module in modules.items():
             side = run.Side(folder, module.passes_text)
             for tried, (frame, data) in enumerate(frames, 1):
-                wrong = run.compare(side, data).differences()
-                if wrong:
-                    kind = wrong[0]["kind"]
-                    print(f"{name}: seen in a {kind} pass of frame {tried}, {frame}", flush=True)
+                outcome = run.compare(side, data)
+                wrong = outcome.differences()
+                if wrong or outcome.refusal_differs():
+                    where = f"a {wrong[0]['kind']} pass" if wrong else "the answer to two sets"
+                    print(f"{name}: seen in {where} of frame {tried}, {frame}", flush=True)
                     seen += 1
                     break
             else:

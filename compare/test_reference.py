@@ -1,10 +1,13 @@
 #!/usr/bin/env python3
 """Checks of reference.py against what 01 says in so many words: its example,
-M1 to M9, and each refusal with its line; of shades against 02, 1/14, and of bare
-grow against 02, 2/14. Ends with 'N passed, 0 failed'."""
+M1 to M9, and each refusal with its line; of shades against 02, 1/14, of bare
+grow against 02, 2/14, and of two patches against 02, 3/14. Ends with 'N passed,
+0 failed'."""
 
+import random
 import sys
 
+import generate
 import reference as ref
 
 EXAMPLE = b"""(frame 1)
@@ -157,6 +160,156 @@ def lent():
         yield f"{bytes_lent} for {n}", ref.lent_shades(bytes_lent, n), expected
 
 
+def patched(first, second, rest=b"(grow)\n", corners=3):
+    """The example's heading and corners, two sets of labels (corner, i, j), and
+    what follows. With three corners and k labels in the first set the patch line
+    is line 8 + k."""
+    sets = [b"".join(b"(label %d (%d %d))\n" % label for label in labels) for labels in (first, second)]
+    return HEAD + b"".join(LINES[4:7]) + CORNER * (corners - 3) + sets[0] + b"(patch)\n" + sets[1] + rest
+
+
+def said(cells):
+    """The cell lines of a result without a pass."""
+    return "(result 1)\n" + "".join(f"(cell ({i} {j}) {corner})\n" for i, j, corner in cells)
+
+
+def patches():
+    """02, 3/14, by hand: what is joined, and to what."""
+    for name, first, second, expected in [
+        ("shift 0", [(0, 0, 0), (1, 1, 0)], [(1, 1, 0), (2, 2, 0)], [(0, 0, 0), (1, 0, 1), (2, 0, 2)]),
+        ("its own origin", [(0, 0, 0), (1, 1, 0)], [(1, 0, 0), (2, 1, 0)], [(0, 0, 0), (1, 0, 1), (2, 0, 2)]),
+        ("shifted by (-3 7)", [(0, 2, 7)], [(1, 6, 0), (0, 5, 0)], [(2, 7, 0), (3, 7, 1)]),
+        ("the same set twice", [(0, 0, 0), (1, 1, 0)], [(1, 1, 0), (0, 0, 0)], [(0, 0, 0), (1, 0, 1)]),
+        ("the same set, shifted", [(0, 0, 0), (1, 1, 0)], [(1, -4, 9), (0, -5, 9)], [(0, 0, 0), (1, 0, 1)]),
+        ("the second inside the first", [(0, 0, 0), (1, 1, 0), (2, 2, 0)], [(1, 0, 0)], [(0, 0, 0), (1, 0, 1), (2, 0, 2)]),
+        ("the first inside the second", [(1, 5, 5)], [(0, 0, 0), (1, 1, 0), (2, 2, 0)], [(4, 5, 0), (5, 5, 1), (6, 5, 2)]),
+        ("a cell in both, not the same one", [(0, 0, 0)], [(0, 5, 5), (1, 0, 0)], [(-5, -5, 1), (0, 0, 0)]),
+        ("as far as there is", [(0, -64, -64)], [(0, 63, 63)], [(-64, -64, 0)]),
+        ("up to the sheet's last cell", [(0, 62, 0)], [(0, 0, 0), (1, 1, 63)], [(62, 0, 0), (63, 63, 1)]),
+        ("up to the sheet's first cell", [(0, -63, 0)], [(0, 0, 0), (1, -1, -64)], [(-64, -64, 1), (-63, 0, 0)]),
+    ]:
+        yield name, ref.result(patched(first, second, b"")), said(expected)
+    # Passes run on the union: the example's own result, its labels in two sets.
+    yield "grow", ref.result(patched([(0, 0, 0)], [(0, 7, -7), (1, 8, -7)])), RESULT
+    # What a shade line and more passes say comes after.
+    yield "a shade", ref.result(patched([(0, 0, 0)], [(0, 7, -7), (1, 8, -7)], b"(shade 2 0)\n(grow)\n")), RESULT
+
+
+def patch_refusals():
+    """02, 3/14, by hand: 8, 9 and 4 at the patch line, after all else."""
+    one, two = [(0, 0, 0)], [(0, 0, 0), (1, 1, 0)]
+    for name, text, number, line in [
+        ("both empty", patched([], []), 8, 8),
+        ("the first empty", patched([], two), 8, 8),
+        ("the second empty", patched(two, []), 8, 10),
+        ("no corner in both", patched(one, [(1, 1, 0)]), 8, 9),
+        ("no corner in both, cells in both", patched(one, [(1, 0, 0)]), 8, 9),
+        ("no corner at all", HEAD + b"(patch)\n", 8, 5),
+        ("no corner in both, one off the sheet if shifted", patched([(0, 63, 0)], [(1, 0, 0), (2, 1, 0)]), 8, 9),
+        ("two shifts asked for", patched(two, [(0, 0, 0), (1, 2, 0)]), 9, 10),
+        ("two shifts asked for, exchanged", patched(two, [(0, 1, 0), (1, 0, 0)]), 9, 10),
+        ("a cell of another corner", patched(two, [(0, 5, 5), (2, 6, 5)]), 9, 10),
+        ("a cell of another corner, shift 0", patched(two, [(0, 0, 0), (2, 1, 0)]), 9, 10),
+        ("9 and 4: a cell of another corner", patched([(0, 63, 0), (1, 62, 0)], [(0, 0, 0), (2, -1, 0), (3, 1, 0)], b"", 4), 9, 11),
+        ("9 and 4: two shifts asked for", patched([(0, 63, 0), (1, 60, 0)], [(0, 0, 0), (1, 1, 0), (2, 9, 0)]), 9, 10),
+        ("one past the last i", patched([(0, 63, 0)], [(0, 0, 0), (1, 1, 0)]), 4, 9),
+        ("one past the last j", patched([(0, 0, 63)], [(0, 0, 0), (1, 0, 1)]), 4, 9),
+        ("one past the first i", patched([(0, -64, 0)], [(0, 0, 0), (1, -1, 0)]), 4, 9),
+        ("one past the first j", patched([(0, 0, -64)], [(0, 0, 0), (1, 0, -1)]), 4, 9),
+        ("as far past as there is", patched([(0, 63, 63)], [(0, -64, -64), (1, 63, 63)]), 4, 9),
+        # The patch line's number where other lines stand behind it.
+        ("behind it shades and passes", patched(one, [], b"(shade 0 0)\n(grow)\n(fill)\n"), 8, 9),
+        # What any other line says comes first, a missing one too.
+        ("8, and a shade of an unknown corner", patched(one, [], b"(shade 3 0)\n"), 5, 10),
+        ("8, and a second shade", patched(one, [], b"(shade 0 0)\n(shade 0 0)\n"), 6, 11),
+        ("8, and a kind of 2", patched(one, [], b"(shade 0 2)\n"), 1, 10),
+        ("8, and a wild pass", patched(one, [], b"(grow 41800001 3fc00000 40000000)\n"), 3, 10),
+        ("8, and a 17th pass", patched(one, [], b"(grow)\n" * 17), 2, 26),
+        ("8, and a line without its end", patched(one, [], b"(grow)"), 1, 10),
+        ("8, and an empty line", patched(one, [], b"\n"), 1, 10),
+        ("9, and a line without its end", patched(two, [(0, 1, 0), (1, 0, 0)], b"(gro"), 1, 13),
+        ("4, and a second shade", patched([(0, 63, 0)], [(0, 0, 0), (1, 1, 0)], b"(shade 0 0)\n(shade 0 0)\n"), 6, 13),
+        # 4, 5 and 6 of a label are its own line's, in either set.
+        ("4 of a label of the second set", patched(one, [(0, 64, 0)]), 4, 10),
+        ("4 of one that the shift takes back", patched([(0, 0, 0)], [(0, 63, 0), (1, 64, 0)]), 4, 11),
+        ("5 of a label of the second set", patched(one, [(3, 0, 0)]), 5, 10),
+        ("6, a corner twice in the second set", patched(one, [(0, 0, 0), (0, 1, 0)]), 6, 11),
+        ("6, a cell twice in the second set", patched(one, [(0, 0, 0), (1, 0, 0)]), 6, 11),
+        ("6, a corner twice in the first set", patched(one + one, one), 6, 9),
+        # Order, and form.
+        ("a second patch", patched(one, one, b"(patch)\n"), 1, 11),
+        ("a second patch at once", patched(one, [], b"(patch)\n"), 1, 10),
+        ("a patch behind a shade", patched(one, one, b"(shade 0 0)\n(patch)\n"), 1, 12),
+        ("a patch behind a pass", EXAMPLE + b"(patch)\n", 1, 11),
+        ("a first patch behind a shade", with_line(10, b"(shade 0 0)\n(patch)\n"), 1, 11),
+        ("a corner behind it", patched(one, [], CORNER), 1, 10),
+        ("a corner behind its labels", patched(one, one, CORNER), 1, 11),
+        ("a label behind a shade", patched(one, one, b"(shade 0 0)\n(label 1 (1 0))\n"), 1, 12),
+        ("a label behind a pass", patched(one, one, b"(grow)\n(label 1 (1 0))\n"), 1, 12),
+        ("a patch in the heading", with_line(4, b"(patch)\n"), 1, 4),
+        ("before the corners", HEAD + b"(patch)\n" + CORNER, 1, 6),
+        ("with a number", patched(one, one).replace(b"(patch)", b"(patch 1)"), 1, 9),
+        ("with a space", patched(one, one).replace(b"(patch)", b"(patch )"), 1, 9),
+        ("too many bytes", patched(one, [], b"\n" * 65536), 2, 0),
+    ]:
+        yield name, ref.result(text), f"(refused {number} {line})\n"
+
+
+def wanted(first, second):
+    """The rule without a way to find the shift: all shifts are looked at."""
+    shared = [(a, b) for n, a in first for m, b in second if n == m]
+    if not shared:
+        return 8
+    far = range(-127, 128)
+    found = []
+    for di in far:
+        for dj in far:
+            if (shared[0][0][0], shared[0][0][1]) != (shared[0][1][0] + di, shared[0][1][1] + dj):
+                continue  # the first shared corner has two cells
+            moved = {m: (i + di, j + dj) for m, (i, j) in second}
+            corners = all(moved.get(n, cell) == cell for n, cell in first)
+            cells = all(n == m for n, cell in first for m in moved if moved[m] == cell)
+            if corners and cells:
+                found.append({**moved, **dict(first)})
+    if not found:
+        return 9
+    (joined,) = found
+    return joined if all(-64 <= part <= 63 for cell in joined.values() for part in cell) else 4
+
+
+def joins():
+    """The model's join beside the rule, on small sets at random: of few cells,
+    so that cells and corners meet, in the middle, at the rim, and cut off by it."""
+    for k in range(400):
+        rng = random.Random(f"joins {k}")
+        at = [rng.choice([(-64, -64), (60, 60), (-64, 60), (62, 62), (-66, 0), (0, 62), (62, -65), (0, 0)]) for _ in (1, 2)]
+        square = [(i, j) for i in range(4) for j in range(3)]
+        labelled = list(zip(rng.sample(range(9), 6), rng.sample(square, 6)))
+        sets = [rng.sample(labelled, rng.randint(0, 6)) for _ in (1, 2)]
+        if rng.random() < 0.4 and sets[1]:  # a corner elsewhere, or another corner there
+            n, cell = sets[1].pop()
+            corner, other = rng.randrange(9), rng.choice(square)
+            label = (corner, cell) if rng.random() < 0.5 else (n, other)
+            sets[1] = [one for one in sets[1] if one[0] != label[0] and one[1] != label[1]] + [label]
+        first, second = ([label for label in ref.shifted(labels, to) if ref.on_sheet(label[1])] for labels, to in zip(sets, at))
+        joined = ref.join(first, second)
+        if not isinstance(joined, int):
+            yield f"joins {k}, one each", len(dict(joined)), len(joined)
+            joined = dict(joined)
+        yield f"joins {k}", joined, wanted(first, second)
+
+
+def split():
+    """A frame that generate.py has split in two, unspoilt, has the result of the
+    whole one."""
+    for k in range(60):
+        rng = random.Random(f"split {k}")
+        whole = generate.panel(rng)
+        two = generate.split(rng, whole)
+        if two.second is not None:
+            yield f"split {k}", ref.result(two.text()), ref.result(whole.text())
+
+
 def refusals():
     digits = b"9" * 5000
     many = HEAD + CORNER * 1024
@@ -285,7 +438,7 @@ def acceptances():
 
 def main():
     passed = failed = 0
-    for checks in (worked_examples, shades, lent, bare_grow, refusals, acceptances):
+    for checks in (worked_examples, shades, lent, bare_grow, patches, patch_refusals, joins, split, refusals, acceptances):
         for name, got, expected in checks():
             if got == expected:
                 passed += 1

@@ -14,8 +14,9 @@ A corner's shades are one number: two bits for each call, the lowest for the
 first, those of a 17th call again the lowest. They are the byte that is lent: 0
 no shade, 1 kind 0, 2 kind 1; 3 is out of range. A frame lends its own shades to
 every pass.
-A frame that the reader refuses is refused here, with the same line. The program
-reads 131,072 bytes: more is an error here.
+The labels of a frame with a patch line are those of both sets, joined by
+reference.py. A frame that the reader refuses is refused here, with the same
+line. The program reads 131,072 bytes: more is an error here.
 """
 
 import argparse

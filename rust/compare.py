@@ -20,6 +20,7 @@ PROGRAM = os.path.join(os.path.dirname(os.path.abspath(__file__)), "..", "target
 def texts(count):
     by_hand = (cases.whole(), cases.bent(), cases.overfull(), cases.wild(), cases.labels())
     by_hand += (cases.whole_shades(), cases.bent_shades(), cases.misplaced_shades(), cases.strange_shades())
+    by_hand += (cases.joined_patches(), cases.unjoined_patches(), cases.strange_patches(), cases.misplaced_patches(), cases.large_patches())
     spoilt = (cases.damaged(20, count // 2), cases.random_bytes(20, count // 2))
     for family in by_hand + spoilt:
         yield from ((name, data) for name, data, _ in family)

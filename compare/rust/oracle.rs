@@ -5,7 +5,9 @@
 //!            [--fit plain|finite-residuals] [--print passes|result] < FRAME
 //!
 //! The frame is 01's text and has to be an accepted one: anything else ends
-//! the program with a message. Output, pass by pass:
+//! the program with a message, but two sets of labels that are not joined (02,
+//! 3/14), for which it prints `(refused NUMBER LINE)` alone. The join is this
+//! program's own: the source has none. Output, pass by pass:
 //!
 //!     pass K KIND              K counts from 1
 //!     (grow 1 8 0 0 no)        the pass line of 01's result
@@ -26,7 +28,7 @@
 //! habits of the stand-in tree, `--fit` what the fit does with a residual that
 //! is not finite (see kiddo/lib.rs and glue/geometry.rs).
 
-use std::collections::HashMap;
+use std::collections::{HashMap, HashSet};
 use std::io::Read;
 use std::panic::{catch_unwind, AssertUnwindSafe};
 
@@ -71,12 +73,48 @@ fn within(value: f32, least: f32, most: f32) -> f32 {
     value
 }
 
-/// A frame, read line by line; the brackets only part the words.
-fn read_frame(text: &str) -> (Given, GrowResult, Vec<Pass>) {
+/// The labels behind a patch line, in their own cells, and that line's number.
+struct Second {
+    line: usize,
+    labels: Vec<(usize, Cell)>,
+}
+
+/// 02, 3/14: puts the second set on the first one's sheet, moved by what its
+/// first shared corner asks for; or gives the refusal's number.
+fn join(sheet: &mut GrowResult, second: &[(usize, Cell)]) -> Result<(), u32> {
+    let known = &sheet.by_corner;
+    let Some((first, from)) = second.iter().find(|(corner, _)| known.contains_key(corner)) else {
+        return Err(8);
+    };
+    let to = known[first];
+    let moved = |cell: &Cell| (cell.0 + to.0 - from.0, cell.1 + to.1 - from.1);
+    for (corner, cell) in second {
+        let elsewhere = known.get(corner).is_some_and(|&own| own != moved(cell));
+        let held = sheet.labelled.get(&moved(cell)).is_some_and(|other| other != corner);
+        if elsewhere || held {
+            return Err(9);
+        }
+    }
+    let on_sheet = |c: i32| (-64..=63).contains(&c);
+    if second.iter().map(|(_, cell)| moved(cell)).any(|(i, j)| !on_sheet(i) || !on_sheet(j)) {
+        return Err(4);
+    }
+    for (corner, cell) in second {
+        sheet.labelled.insert(moved(cell), *corner);
+        sheet.by_corner.insert(*corner, moved(cell));
+    }
+    Ok(())
+}
+
+/// A frame, read line by line; the brackets only part the words. The sheet is
+/// that of the first set of labels.
+fn read_frame(text: &str) -> (Given, GrowResult, Option<Second>, Vec<Pass>) {
     let mut given =
         Given { positions: vec![], pitch: vec![], shades: vec![], cell: 0.0, band: 0.0 };
     let mut sheet = GrowResult::default();
     let mut passes = Vec::new();
+    let mut second: Option<Second> = None;
+    let mut seen: (HashSet<usize>, HashSet<Cell>) = Default::default();
     if !text.ends_with('\n') {
         fail("the last line has no end");
     }
@@ -109,10 +147,21 @@ fn read_frame(text: &str) -> (Given, GrowResult, Vec<Pass>) {
                 if !on_sheet(cell.0) || !on_sheet(cell.1) || corner >= given.positions.len() {
                     fail(&format!("line {}: {line}", k + 1));
                 }
-                let cell_taken = sheet.labelled.insert(cell, corner).is_some();
-                if sheet.by_corner.insert(corner, cell).is_some() || cell_taken {
+                let (new_corner, new_cell) = (seen.0.insert(corner), seen.1.insert(cell));
+                if !new_corner || !new_cell {
                     fail(&format!("line {}: {line}", k + 1));
                 }
+                match &mut second {
+                    Some(second) => second.labels.push((corner, cell)),
+                    None => {
+                        sheet.labelled.insert(cell, corner);
+                        sheet.by_corner.insert(corner, cell);
+                    }
+                }
+            }
+            ("patch", 1) if second.is_none() => {
+                second = Some(Second { line: k + 1, labels: vec![] });
+                seen = Default::default();
             }
             ("shade", 3) => {
                 let (corner, kind): (usize, u8) = (whole(words[1]), whole(words[2]));
@@ -128,7 +177,7 @@ fn read_frame(text: &str) -> (Given, GrowResult, Vec<Pass>) {
     if text.lines().count() < 4 || given.positions.len() > 1024 || passes.len() > 16 {
         fail("not an accepted frame");
     }
-    (given, sheet, passes)
+    (given, sheet, second, passes)
 }
 
 fn read_pass(words: &[&str]) -> Pass {
@@ -336,7 +385,13 @@ fn main() {
     if let Err(e) = std::io::stdin().read_to_string(&mut text) {
         fail(&format!("standard input: {e}"));
     }
-    let (given, mut sheet, passes) = read_frame(&text);
+    let (given, mut sheet, second, passes) = read_frame(&text);
+    if let Some(second) = second {
+        if let Err(number) = join(&mut sheet, &second.labels) {
+            println!("(refused {number} {})", second.line);
+            return;
+        }
+    }
     std::panic::set_hook(Box::new(|_| {}));
 
     if whole_result {

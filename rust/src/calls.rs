@@ -106,7 +106,7 @@ impl Corners {
 fn done(answer: u32) -> Result<(), Refusal> {
     match answer {
         0 => Ok(()),
-        n => Err(Refusal::from_number(n).expect("the library answers 0 to 7")),
+        n => Err(Refusal::from_number(n).expect("the library answers 0 to 9")),
     }
 }
 

@@ -42,7 +42,7 @@ impl Frame {
         })
     }
 
-    /// Its corners, settings and the sheet of its given labels; no pass has run.
+    /// Its corners, settings and the sheet of its given labels, two sets of them joined; no pass has run.
     pub fn start(&self) -> &Recovery {
         &self.start
     }

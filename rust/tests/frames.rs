@@ -96,6 +96,15 @@ fn each_refusal() {
     expect(format!("{HEAD}{ROW}(shade 3 0)\n"), Refusal::UnknownCorner, 10);
     expect(format!("{HEAD}{ROW}(shade 2 0)\n(shade 2 1)\n"), Refusal::Duplicate, 11);
     expect(format!("{HEAD}{ROW}(shade 2 0)\n(label 2 (2 0))\n"), Refusal::Malformed, 11);
+    expect(format!("{HEAD}{ROW}(patch)\n"), Refusal::NoSharedCorner, 10);
+    expect(format!("{HEAD}{ROW}(patch)\n(label 2 (0 0))\n(grow)\n"), Refusal::NoSharedCorner, 10);
+    expect(format!("{HEAD}{ROW}(patch)\n(label 0 (5 5))\n(label 1 (7 5))\n"), Refusal::PatchesClash, 10);
+    expect(format!("{HEAD}{ROW}(patch)\n(label 0 (5 5))\n(label 2 (6 5))\n"), Refusal::PatchesClash, 10);
+    expect(format!("{HEAD}{ROW}(patch)\n(label 0 (-64 5))\n(label 2 (63 5))\n"), Refusal::OffSheet, 10);
+    expect(format!("{HEAD}{ROW}(patch)\n(label 2 (64 0))\n"), Refusal::OffSheet, 11);
+    expect(format!("{HEAD}{ROW}(patch)\n(label 0 (5 5))\n(label 0 (6 5))\n"), Refusal::Duplicate, 12);
+    expect(format!("{HEAD}{ROW}(patch)\n(patch)\n"), Refusal::Malformed, 11);
+    expect(format!("{HEAD}{ROW}(patch)\n(grow)"), Refusal::Malformed, 11);
 
     let bent = refused(String::new());
     assert_eq!(bent.text(), b"(refused 1 1)\n");
@@ -104,12 +113,29 @@ fn each_refusal() {
 
 #[test]
 fn numbers_and_words() {
-    let words: Vec<_> = (0..9).map(|n| Refusal::from_number(n).map(|r| (r.number(), r.word()))).collect();
-    let table = ["bent", "overfull", "wild", "off sheet", "stranger", "doubled", "short"];
-    assert_eq!((words[0], words[8]), (None, None));
+    let words: Vec<_> = (0..11).map(|n| Refusal::from_number(n).map(|r| (r.number(), r.word()))).collect();
+    let table = ["bent", "overfull", "wild", "off sheet", "stranger", "doubled", "short", "apart", "clash"];
+    assert_eq!((words[0], words[10]), (None, None));
     for (n, word) in (1..).zip(table) {
         assert_eq!(words[n as usize], Some((n, word)));
     }
+}
+
+#[test]
+fn two_sets_of_labels() {
+    // The example with its labels in two sets; corner 0 is in both, and the second is moved by (-5 3).
+    let corners: String = ROW.lines().take(3).map(|line| format!("{line}\n")).collect();
+    let frame = parse(format!("{HEAD}{corners}(label 0 (0 0))\n(patch)\n(label 1 (6 -3))\n(label 0 (5 -3))\n(grow)\n"));
+    let frame = frame.expect("accepted");
+    let given: Vec<(Cell, usize)> = frame.start().sheet().labelled().map(|(c, n)| (c, n.index())).collect();
+    assert_eq!(given, [(cell(0, 0), 0), (cell(1, 0), 1)]);
+    assert_eq!(String::from_utf8(frame.recover().text()).expect("text"), RESULT);
+    // Up to the sheet's last cells, in the first set's numbers.
+    let rim = parse(format!("{HEAD}{corners}(label 0 (62 63))\n(patch)\n(label 0 (-64 -64))\n(label 2 (-63 -64))\n"));
+    assert_eq!(rim.expect("accepted").recover().text(), b"(result 1)\n(cell (62 63) 0)\n(cell (63 63) 2)\n");
+    let apart = parse(format!("{HEAD}{ROW}(patch)\n")).expect_err("refused");
+    assert_eq!(apart.text(), b"(refused 8 10)\n");
+    assert_eq!(apart.to_string(), "line 10: no corner is in both sets of labels");
 }
 
 #[test]
