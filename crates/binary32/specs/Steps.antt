@@ -8,12 +8,6 @@ pub record Asked (n : ℕ) : Type 0 where
   pub least : 2 ^ 46 ≤ n
   pub most : n < 2 ^ 48
 
--- two numbers of 24 digits, or the next one above them
-pub record Digits (low high : ℕ) : Type 0 where
-  pub least : 2 ^ 23 ≤ low
-  pub less : low ≤ high
-  pub most : high ≤ 2 ^ 24
-
 -- low and high enclose the root of n, and have 24 digits
 pub record Enclosed (n low high : ℕ) : Type 0 where
   pub from : square low ≤ n

@@ -3,7 +3,7 @@ ghost use mathlib.Core.Path.{_≡_};
 ghost use Prim.Native.Nat.{_+_, _-_, _*_, _^_, _≤_, _<_};
 ghost use Rattle.binary32.specs.Sqrt.{Answers, RootOf, rooted, sqrtOrNan};
 ghost use Rattle.binary32.specs.Said.{rootSaid, rootDue};
-ghost use Rattle.binary32.specs.Steps.{Normalized, Near, Asked, Digits, Enclosed, WholeRoot};
+ghost use Rattle.binary32.specs.Steps.{Normalized, Near, Asked, Enclosed, WholeRoot};
 use refusal::Refusal;
 
 // The root, or refusal number 3 (01: "any other gets number 3").
@@ -24,46 +24,58 @@ struct Guess {
     high: u64,
 }
 
-// The widest guess: every root of 24 digits lies in it.
-fn widest() -> Guess
-    ensures { λ g. ⌜ (g .low ≡ 2 ^ 23) × (g .high ≡ 2 ^ 24) ⌝ }
-{
-    Guess {
-        low: 0x80_0000,
-        high: 0x100_0000,
-    }
-}
-
-// A guess of two numbers of 24 digits if they enclose the root of n, else the widest.
-fn tested(n: u64, low: u64, high: u64) -> Guess
-    requires { ⌜ Asked n × Digits low high ⌝ }
-    ensures { λ g. ⌜ Enclosed n (g .low) (g .high) ⌝ }
-{
-    if n < low * low {
-        return widest();
-    }
-    if high * high <= n {
-        return widest();
-    }
-    Guess { low, high }
-}
-
-// The first guess at the whole root of n. It may be any that encloses the root: the answers do not depend on it. A line close to the
-// root and two of Newton's steps lead to the root or one or two above it.
+// The first guess at the whole root of n, from the table of whole roots. It may be any that encloses the root: the answers do not depend on it. With
+// k = n / 2^38 and t the table's entry k, which is the whole part of the root of 1,024 k, the root lies from t 2^14 up and below (t + 2) 2^14:
+//
+//     (t 2^14)^2 = t^2 2^28 <= 1,024 k 2^28 = k 2^38 <= n
+//     n < (k + 1) 2^38 = 1,024 (k + 1) 2^28 < (t + 2)^2 2^28 = ((t + 2) 2^14)^2
+//
+// for (t + 1)^2 is above 1,024 k, and (t + 2)^2 is 2 t + 3 more than that, which is above 1,024: k is 256 at least, and so t is 512 at least. Where t is
+// 1,023 the upper end is 2^24 in place of 2^24 + 2^14, since no root of 24 digits reaches it.
 fn first_guess(n: u64) -> Guess
     requires { ⌜ Asked n ⌝ }
     ensures { λ g. ⌜ Enclosed n (g .low) (g .high) ⌝ }
 {
-    let line = n / 0x170_0000 + 0x56_0000;
-    let once = (line + n / line) / 2;
+    let t = root_table::whole_root((n / 0x40_0000_0000) as usize) as u64;
+    if t < 1023 {
+        return Guess {
+            low: t * 0x4000,
+            high: (t + 2) * 0x4000,
+        };
+    }
+    Guess {
+        low: t * 0x4000,
+        high: 0x100_0000,
+    }
+}
+
+// The guess s and s + 1 if these enclose the root of n, else the guess that is given.
+fn tested(n: u64, s: u64, guess: Guess) -> Guess
+    requires { ⌜ Enclosed n (guess .low) (guess .high) × (s < 2 ^ 28) ⌝ }
+    ensures { λ g. ⌜ Enclosed n (g .low) (g .high) ⌝ }
+{
+    if n < s * s {
+        return guess;
+    }
+    if (s + 1) * (s + 1) <= n {
+        return guess;
+    }
+    Guess {
+        low: s,
+        high: s + 1,
+    }
+}
+
+// A guess made narrower. Two of Newton's steps from the middle of the table's guess lead to the whole root, or for 41 of the 2^24 numbers that are asked
+// to the next above it (tools/root_all counts them). Whatever they lead to is tested, so that nothing has to be proved of them.
+fn narrowed(n: u64, guess: Guess) -> Guess
+    requires { ⌜ Enclosed n (guess .low) (guess .high) ⌝ }
+    ensures { λ g. ⌜ Enclosed n (g .low) (g .high) ⌝ }
+{
+    let middle = (guess.low + guess.high) / 2;
+    let once = (middle + n / middle) / 2;
     let twice = (once + n / once) / 2;
-    if twice < 0x80_0003 {
-        return tested(n, 0x80_0000, 0x80_0004);
-    }
-    if twice > 0xff_ffff {
-        return tested(n, 0xff_fffc, 0x100_0000);
-    }
-    tested(n, twice - 3, twice + 1)
+    tested(n, twice, guess)
 }
 
 // The largest s with s * s <= n, by halving what lies between the two numbers of a guess.
@@ -89,7 +101,7 @@ fn nearest_root(n: u64) -> u32
     requires { ⌜ (2 ^ 46 ≤ n) × (n ≤ 2 ^ 48 - 2 ^ 24) ⌝ }
     ensures { λ q. ⌜ Near n q ⌝ }
 {
-    let s = refine(n, first_guess(n));
+    let s = refine(n, narrowed(n, first_guess(n)));
     if n - s * s <= s {
         s as u32
     } else {

@@ -1,70 +1,32 @@
--- `root::first_guess` meets its contract: whatever it is led to is tested. A quotient is at most the number divided. Assumes nothing.
+-- `root::first_guess` meets its contract, by the rule of the table: `proofs/Squares.antt` has both inequalities. Assumes nothing.
 use borrow.Author.Needs.{needs}
-use Prim.Native.Nat.{ℕ, _+_, _/_}
-use native.Mathlib.Omega.{arith}
-use Rattle.binary32.proofs.Squares.{step-small}
+use Rattle.binary32.proofs.Squares.{table-encloses, table-encloses-last}
 use Rattle.binary32.proofs.root.first_guess.Statement.{statement}
 use Rattle.binary32.proofs.root.first_guess.Tie as tie
 
-abbrev line : ℕ → ℕ
-line n = n / 0x170_0000 + 0x56_0000
+whole-root-requires : tie.Need-whole-root-requires
+whole-root-requires c κs = search needs
 
-add-line : tie.Need-add-line
-add-line c = search needs
+cast-t : tie.Need-cast-t
+cast-t c = search needs
 
-div-once : tie.Need-div-once
-div-once c = search needs
+mul-t7 : tie.Need-mul-t7
+mul-t7 c = search needs
 
-add-once : tie.Need-add-once
-add-once c = omega (arith, step-small (c .args .n) (line (c .args .n)) (omega arith) (omega arith))
+add-t8 : tie.Need-add-t8
+add-t8 c = search needs
 
-div-twice : tie.Need-div-twice
-div-twice c = search needs
-
-add-twice : tie.Need-add-twice
-add-twice c =
-    let n = c .args .n in
-    let first = step-small n (line n) (omega arith) (omega arith) in
-    omega (arith, first, step-small n ((line n + n / line n) / 2) (omega arith) (omega (arith, first)))
-
-tested-requires : tie.Need-tested-requires
-tested-requires c κs = search needs
+mul-t9 : tie.Need-mul-t9
+mul-t9 c = search needs
 
 returns : tie.Need-returns
-returns c = search needs
+returns c = table-encloses (c .before .before .args .n) (c .before .whole-root .result) (c .before .before .pre) (c .before .whole-root .ensures .1) (c .if1 .taken)
 
-tested-requires-2 : tie.Need-tested-requires-2
-tested-requires-2 c κs = search needs
+mul-t4 : tie.Need-mul-t4
+mul-t4 c = search needs
 
 returns-2 : tie.Need-returns-2
-returns-2 c = search needs
-
-sub-tested : tie.Need-sub-tested
-sub-tested c = search needs
-
-add-tested : tie.Need-add-tested
-add-tested c = search needs
-
-tested-requires-3 : tie.Need-tested-requires-3
-tested-requires-3 c κs = search needs
-
-returns-3 : tie.Need-returns-3
-returns-3 c = search needs
+returns-2 c = table-encloses-last (c .before .before .args .n) (c .before .whole-root .result) (c .before .before .pre) (c .before .whole-root .ensures .1)
 
 pub first-guess-spec : {M : Type 1} → statement M
-first-guess-spec =
-    tie.close
-    (tie.spec
-    add-line
-    div-once
-    add-once
-    div-twice
-    add-twice
-    tested-requires
-    returns
-    tested-requires-2
-    returns-2
-    sub-tested
-    add-tested
-    tested-requires-3
-    returns-3)
+first-guess-spec = tie.close (tie.spec whole-root-requires cast-t mul-t7 add-t8 mul-t9 returns mul-t4 returns-2)

@@ -7,6 +7,9 @@ use Rattle.binary32.proofs.root.nearest_root.Tie as tie
 first-guess-requires : tie.Need-first-guess-requires
 first-guess-requires c κs = search needs
 
+narrowed-requires : tie.Need-narrowed-requires
+narrowed-requires c κs = search needs
+
 refine-requires : tie.Need-refine-requires
 refine-requires c κs = search needs
 
@@ -26,18 +29,19 @@ add-result : tie.Need-add-result
 add-result c = search needs
 
 returns : tie.Need-returns
-returns c = rounded-down (c .before .before .before .args .n) (c .before .refine .result) (c .before .refine .ensures) (c .if1 .taken)
+returns c = rounded-down (c .before .before .before .before .args .n) (c .before .refine .result) (c .before .refine .ensures) (c .if1 .taken)
 
 returns-2 : tie.Need-returns-2
 returns-2 c =
-    rounded-up (c .before .before .before .args .n) (c .before .refine .result) (c .before .refine .ensures) (c .if1 .left)
-    (c .before .before .before .pre .1)
+    rounded-up (c .before .before .before .before .args .n) (c .before .refine .result) (c .before .refine .ensures) (c .if1 .left)
+    (c .before .before .before .before .pre .1)
 
 pub nearest-root-spec : {M : Type 1} → statement M
 nearest-root-spec =
     tie.close
     (tie.spec
     first-guess-requires
+    narrowed-requires
     refine-requires
     mul-if1
     sub-if1
