@@ -1,8 +1,10 @@
-/* The exported root (crate root_export) of every pattern of 32 bits beside C's sqrtf, and how far Newton's steps lead. Built and run by tools/root_all. */
+/* The exported root (crate root_export) of every pattern of 32 bits beside C's sqrtf, and how far Newton's steps lead; with a number, that many roots and
+   nothing else, for counting. Built and run by tools/root_all. */
 #include <inttypes.h>
 #include <math.h>
 #include <stdint.h>
 #include <stdio.h>
+#include <stdlib.h>
 #include <string.h>
 
 /* the root's bits, or 2^32 times the refusal's number */
@@ -60,7 +62,18 @@ static void steps(void) {
            once_most, twice_most, above);
 }
 
-int main(void) {
+/* that many roots of pseudo-random floats from 0.5 to 32,768 */
+static void take(long count) {
+    uint32_t p = 0x20261117u, sum = 0;
+    for (long i = 0; i < count; i++) {
+        p = p * 1664525u + 1013904223u;
+        sum = sum * 31 + (uint32_t)square_root(of_bits(0x3f000000u + (p >> 8) % 0x08000000u));
+    }
+    printf("%08" PRIx32 "\n", sum);
+}
+
+int main(int argc, char **argv) {
+    if (argc == 2) { take(atol(argv[1])); return 0; }
     int status = answers();
     steps();
     return status;

@@ -4,6 +4,7 @@ use mathlib.Core.Path.{_≡_}
 use native.Mathlib.Nat.{div-lt-iff-lt-mul, mul-add, add-mul, mul-one, one-mul, mul-le-mul, lt-of-not-le, add-sub-cancel, mul-lt-mul-of-pos-right, mul-le-mul-left, lt-of-lt-of-le, lt-of-le-of-lt}
 use native.Mathlib.Omega.{arith}
 use Rattle.root_table.specs.Whole.{WholePart}
+use Rattle.root_table.proofs.Rule.{square-less}
 use Rattle.binary32.specs.Sqrt.{square}
 use Rattle.binary32.specs.Steps.{Near, Asked, Enclosed, WholeRoot}
 
@@ -17,11 +18,11 @@ even-square s = simp (mul-add, add-mul) (omega arith)
 pub square-lt : (a b : ℕ) → a < b → square a < square b
 square-lt a b h = lt-of-le-of-lt (mul-le-mul-left a (omega arith)) (mul-lt-mul-of-pos-right h (omega arith))
 
-pub next-square : (t : ℕ) → square (t + 2) ≡ square (t + 1) + 2 * t + 3
+next-square : (t : ℕ) → square (t + 2) ≡ square (t + 1) + 2 * t + 3
 next-square t = simp (mul-add, add-mul, mul-one, one-mul) (omega arith)
 
-pub scaled : (t : ℕ) → square (t * 0x4000) ≡ square t * 2 ^ 28
-scaled t = omega arith
+scaled-square : (t : ℕ) → square (t * 0x4000) ≡ square t * 2 ^ 28
+scaled-square t = omega arith
 
 -- a number up to 2 ^ 24 has a square up to 2 ^ 48
 pub square-small : (k : ℕ) → k ≤ 2 ^ 24 → square k ≤ 2 ^ 48
@@ -29,28 +30,22 @@ square-small k h = mul-le-mul h h
 
 -- two numbers that enclose a root are apart
 pub enclosed-apart : (n lo hi : ℕ) → Enclosed n lo hi → lo < hi
-enclosed-apart n lo hi e = lt-of-not-le (λ (g : hi ≤ lo). absurd (no (mul-le-mul g g)))
-  where
-    no : square hi ≤ square lo → ⊥
-    no h = omega (arith, e .from, e .to)
+enclosed-apart n lo hi e = square-less lo hi (lt-of-le-of-lt (e .from) (e .to))
 
 -- ---- the table's guess, as the comment at `first_guess` has it: k is n / 2 ^ 38, and t the whole part of the root of 1,024 k
 
 module _ (n t : ℕ) (a : Asked n) (w : WholePart (1024 * (n / 2 ^ 38)) t) where
   -- k is 256 at least, and so t is 512 at least
   t-least : 512 < t + 1
-  t-least = lt-of-not-le (λ (h : t + 1 ≤ 512). absurd (no (mul-le-mul h h)))
-    where
-      no : square (t + 1) ≤ 512 * 512 → ⊥
-      no h = omega (arith, a .least, w .to)
+  t-least = square-less 512 (t + 1) (omega (arith, a .least, w .to))
 
   -- (t 2 ^ 14) ^ 2 = t ^ 2 2 ^ 28 <= 1,024 k 2 ^ 28 = k 2 ^ 38 <= n
   at-most-the-root : square (t * 0x4000) ≤ n
-  at-most-the-root = rw (scaled t) (omega (arith, w .from))
+  at-most-the-root = rw (scaled-square t) (omega (arith, w .from))
 
   -- n < (k + 1) 2 ^ 38 = 1,024 (k + 1) 2 ^ 28 < (t + 2) ^ 2 2 ^ 28 = ((t + 2) 2 ^ 14) ^ 2
   above-the-root : n < square ((t + 2) * 0x4000)
-  above-the-root = rw (scaled (t + 2), next-square t) (omega (arith, t-least, w .to))
+  above-the-root = rw (scaled-square (t + 2), next-square t) (omega (arith, t-least, w .to))
 
   pub table-encloses : t < 1023 → Enclosed n (t * 0x4000) ((t + 2) * 0x4000)
   table-encloses h = record { from = at-most-the-root; to = above-the-root; least = omega (arith, t-least); most = omega arith }
@@ -90,19 +85,12 @@ module _ {n lo hi : ℕ} (e : Enclosed n lo hi) where
 
 -- a number whose square is at most n, and that of the next above n, lies in every guess
 pub enclosed-within : {n lo hi s : ℕ} → Enclosed n lo hi → square s ≤ n → n < square (s + 1) → Enclosed n s (s + 1)
-enclosed-within {n} {lo} {hi} {s} e f t = record { from = f; to = t; least = omega (arith, e .least, low); most = omega (arith, e .most, high) }
-  where
-    low : lo < s + 1
-    low = lt-of-not-le (λ (g : s + 1 ≤ lo). absurd (no (mul-le-mul g g)))
-      where
-        no : square (s + 1) ≤ square lo → ⊥
-        no h = omega (arith, e .from, t)
-
-    high : s < hi
-    high = lt-of-not-le (λ (g : hi ≤ s). absurd (no (mul-le-mul g g)))
-      where
-        no : square hi ≤ square s → ⊥
-        no h = omega (arith, e .to, f)
+enclosed-within {n} {lo} {hi} {s} e f t = record {
+  from = f;
+  to = t;
+  least = omega (arith, e .least, square-less lo (s + 1) (lt-of-le-of-lt (e .from) t));
+  most = omega (arith, e .most, square-less s hi (lt-of-le-of-lt f (e .to)));
+}
 
 -- the last root below 2 ^ 24 that is rounded up is not 2 ^ 24 - 1
 no-carry : (n s : ℕ) → square s + s < n → n ≤ 2 ^ 48 - 2 ^ 24 → s + 1 < 2 ^ 24

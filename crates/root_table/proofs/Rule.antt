@@ -4,7 +4,7 @@ use mathlib.Core.Path.{_≡_, refl, sym, ap, subst, _∙_}
 use mathlib.Core.Bool.{Bool, true, _&&_}
 use mathlib.Core.List.{List, [], _∷_}
 use Prim.Native.Nat.{ℕ, zero, suc, _+_, _*_, _/_, _%_, _≤_, _<_}
-use native.Mathlib.Nat.{add-zero, zero-add, add-suc, suc-add, le-of-suc-le-suc, not-suc-le-zero, lt-of-not-le, mul-le-mul}
+use native.Mathlib.Nat.{add-zero, zero-add, add-suc, suc-add, le-of-suc-le-suc, not-suc-le-zero, lt-of-not-le, lt-of-le-of-lt, mul-le-mul}
 use native.Mathlib.Omega.{arith}
 use lib.Dec.{T, leb, ltb, leb→le, ltb→lt}
 use lib.Ieee.Fits.{and-l, and-r}
@@ -55,15 +55,17 @@ rule k h =
     (subst (λ (m : ℕ). T (isWholePart (1024 * m) (getD roots k 0))) (zero-add k)
     (every-at (λ k x. isWholePart (1024 * k) x) 0 roots passes k (subst (λ (m : ℕ). k < m) (sym entries) h)))
 
+-- the smaller square is the smaller number's
+pub square-less : (a b : ℕ) → a * a < b * b → a < b
+square-less a b h = lt-of-not-le (λ (g : b ≤ a). absurd (no (mul-le-mul g g)))
+  where
+    no : b * b ≤ a * a → ⊥
+    no g = omega arith
+
 -- a number has one whole root: no other s meets the rule
 pub one-whole-part : {n s t : ℕ} → WholePart n s → WholePart n t → s ≡ t
-one-whole-part {n} {s} {t} a b = omega (arith, not-below a b, not-below b a)
-  where
-    not-below : {s t : ℕ} → WholePart n s → WholePart n t → t < s + 1
-    not-below {s} {t} a b = lt-of-not-le (λ (h : s + 1 ≤ t). absurd (no (mul-le-mul h h)))
-      where
-        no : (s + 1) * (s + 1) ≤ t * t → ⊥
-        no g = omega (arith, a .to, b .from)
+one-whole-part {n} {s} {t} a b =
+    omega (arith, square-less s (t + 1) (lt-of-le-of-lt (a .from) (b .to)), square-less t (s + 1) (lt-of-le-of-lt (b .from) (a .to)))
 
 -- ---- the code's rows
 
