@@ -8,7 +8,7 @@ use native.Mathlib.Nat.{add-zero, zero-add, add-suc, suc-add, le-of-suc-le-suc, 
 use native.Mathlib.Omega.{arith}
 use lib.Dec.{T, leb, ltb, leb→le, ltb→lt}
 use lib.Ieee.Fits.{and-l, and-r}
-use lib.ListN.{length, getD, take, drop}
+use lib.ListN.{length, getD, drop}
 use lib.Seq.{getD-take, getD-drop}
 use Rattle.root_table.specs.Whole.{WholePart, isWholePart}
 use Rattle.root_table.specs.Roots.{roots, entry, rowOf}
@@ -29,14 +29,6 @@ every-at f i (x ∷ xs) t (suc k) h =
 
 -- ---- the rule
 
--- the test says what the relation says
-whole : (n s : ℕ) → T (isWholePart n s) → WholePart n s
-unfolding isWholePart
-whole n s t = record {
-  from = leb→le (s * s) n (and-l (leb (s * s) n) (ltb n ((s + 1) * (s + 1))) t);
-  to = ltb→lt n ((s + 1) * (s + 1)) (and-r (leb (s * s) n) (ltb n ((s + 1) * (s + 1))) t);
-}
-
 -- the one test: antt computes it at all entries
 passes : T (everyFrom (λ k x. isWholePart (1024 * k) x) 0 roots)
 unfolding roots isWholePart
@@ -46,6 +38,14 @@ passes = tt
 entries : length roots ≡ 1024
 unfolding roots
 entries = refl
+
+-- the test says what the relation says
+whole : (n s : ℕ) → T (isWholePart n s) → WholePart n s
+unfolding isWholePart
+whole n s t = record {
+  from = leb→le (s * s) n (and-l (leb (s * s) n) (ltb n ((s + 1) * (s + 1))) t);
+  to = ltb→lt n ((s + 1) * (s + 1)) (and-r (leb (s * s) n) (ltb n ((s + 1) * (s + 1))) t);
+}
 
 -- "entry k being the whole part of the root of 1,024 × k, its rule proved for every entry"
 pub rule : (k : ℕ) → k < 1024 → WholePart (1024 * k) (entry k)
