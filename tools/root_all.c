@@ -67,7 +67,7 @@ static void take(long count) {
     uint32_t p = 0x20261117u, sum = 0;
     for (long i = 0; i < count; i++) {
         p = p * 1664525u + 1013904223u;
-        sum = sum * 31 + (uint32_t)square_root(of_bits(0x3f000000u + (p >> 8) % 0x08000000u));
+        sum = sum * 31 + (uint32_t)square_root(of_bits(0x3f000000u + p % 0x08000000u));
     }
     printf("%08" PRIx32 "\n", sum);
 }

@@ -4,9 +4,10 @@ use mathlib.Core.Path.{_≡_}
 use native.Mathlib.Nat.{div-lt-iff-lt-mul, mul-add, add-mul, mul-one, one-mul, mul-le-mul, lt-of-not-le, add-sub-cancel, mul-lt-mul-of-pos-right, mul-le-mul-left, lt-of-lt-of-le, lt-of-le-of-lt}
 use native.Mathlib.Omega.{arith}
 use Rattle.root_table.specs.Whole.{WholePart}
+use Rattle.root_table.specs.Roots.{entry}
 use Rattle.root_table.proofs.Rule.{square-less}
 use Rattle.binary32.specs.Sqrt.{square}
-use Rattle.binary32.specs.Steps.{Near, Asked, Enclosed, WholeRoot}
+use Rattle.binary32.specs.Steps.{Near, Asked, Enclosed, FromTable, WholeRoot}
 
 pub odd-square : (s : ℕ) → square (s + (s + 1)) ≡ 4 * square s + 4 * s + 1
 odd-square s = simp (mul-add, add-mul, mul-one, one-mul) (omega arith)
@@ -53,6 +54,14 @@ module _ (n t : ℕ) (a : Asked n) (w : WholePart (1024 * (n / 2 ^ 38)) t) where
   -- no root that is asked reaches 2 ^ 24
   pub table-encloses-last : Enclosed n (t * 0x4000) (2 ^ 24)
   table-encloses-last = record { from = at-most-the-root; to = a .most; least = omega (arith, t-least); most = omega arith }
+
+-- what `first_guess` answers is the table's guess
+module _ (n t : ℕ) (e : t ≡ entry (n / 2 ^ 38)) where
+  pub from-table : t < 1023 → FromTable n (t * 0x4000) ((t + 2) * 0x4000)
+  from-table h = record { lower = omega (arith, e); upper = omega (arith, e, h) }
+
+  pub from-table-last : 1023 ≤ t → FromTable n (t * 0x4000) (2 ^ 24)
+  from-table-last h = record { lower = omega (arith, e); upper = omega (arith, e, h) }
 
 -- ---- Newton's steps, and the test of what they lead to
 

@@ -1,6 +1,7 @@
 -- What the steps of `sqrt` hand on, for their own contracts. Definitions only.
-use Prim.Native.Nat.{ℕ, _+_, _-_, _*_, _^_, _≤_, _<_}
+use Prim.Native.Nat.{ℕ, _+_, _-_, _*_, _/_, _^_, _≤_, _<_, min}
 use mathlib.Core.Path.{_≡_}
+use Rattle.root_table.specs.Roots.{entry}
 use Rattle.binary32.specs.Sqrt.{square, unitsOf}
 
 -- the root of n is asked: its whole part has 24 digits
@@ -14,6 +15,11 @@ pub record Enclosed (n low high : ℕ) : Type 0 where
   pub to : n < square high
   pub least : 2 ^ 23 ≤ low
   pub most : high ≤ 2 ^ 24
+
+-- the guess that the table gives, t being its entry n / 2 ^ 38 (document 02, 4/14): from t 2 ^ 14 up and below (t + 2) 2 ^ 14, and not past 2 ^ 24
+pub record FromTable (n low high : ℕ) : Type 0 where
+  pub lower : low ≡ entry (n / 2 ^ 38) * 2 ^ 14
+  pub upper : high ≡ min ((entry (n / 2 ^ 38) + 2) * 2 ^ 14) (2 ^ 24)
 
 -- s is the whole part of the root of n, and has 24 digits
 pub record WholeRoot (n s : ℕ) : Type 0 where

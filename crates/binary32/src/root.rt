@@ -3,7 +3,7 @@ ghost use mathlib.Core.Path.{_≡_};
 ghost use Prim.Native.Nat.{_+_, _-_, _*_, _^_, _≤_, _<_};
 ghost use Rattle.binary32.specs.Sqrt.{Answers, RootOf, rooted, sqrtOrNan};
 ghost use Rattle.binary32.specs.Said.{rootSaid, rootDue};
-ghost use Rattle.binary32.specs.Steps.{Normalized, Near, Asked, Enclosed, WholeRoot};
+ghost use Rattle.binary32.specs.Steps.{Normalized, Near, Asked, Enclosed, FromTable, WholeRoot};
 use refusal::Refusal;
 
 // The root, or refusal number 3 (01: "any other gets number 3").
@@ -31,10 +31,11 @@ struct Guess {
 //     n < (k + 1) 2^38 = 1,024 (k + 1) 2^28 < (t + 2)^2 2^28 = ((t + 2) 2^14)^2
 //
 // for (t + 1)^2 is above 1,024 k, and (t + 2)^2 is 2 t + 3 more than that, which is above 1,024: k is 256 at least, and so t is 512 at least. Where t is
-// 1,023 the upper end is 2^24 in place of 2^24 + 2^14, since no root of 24 digits reaches it.
+// 1,023 the upper end is 2^24 in place of 2^24 + 2^14, since no root that is asked reaches 2^24.
 fn first_guess(n: u64) -> Guess
     requires { ⌜ Asked n ⌝ }
-    ensures { λ g. ⌜ Enclosed n (g .low) (g .high) ⌝ }
+    ensures enclosed { λ g. ⌜ Enclosed n (g .low) (g .high) ⌝ }
+    ensures listed { λ g. ⌜ FromTable n (g .low) (g .high) ⌝ }
 {
     let t = root_table::whole_root((n / 0x40_0000_0000) as usize) as u64;
     if t < 1023 {
@@ -67,7 +68,7 @@ fn tested(n: u64, s: u64, guess: Guess) -> Guess
 }
 
 // A guess made narrower. Two of Newton's steps from the middle of the table's guess lead to the whole root, or for 41 of the 2^24 numbers that are asked
-// to the next above it (tools/root_all counts them). Whatever they lead to is tested, so that nothing has to be proved of them.
+// to the next above it (tools/root_all counts them). What they lead to is tested, so that nothing has to be proved of where that is.
 fn narrowed(n: u64, guess: Guess) -> Guess
     requires { ⌜ Enclosed n (guess .low) (guess .high) ⌝ }
     ensures { λ g. ⌜ Enclosed n (g .low) (g .high) ⌝ }

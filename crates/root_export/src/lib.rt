@@ -1,4 +1,4 @@
-// The square root of the crate `binary32` for a program in another language: `tools/root_all` calls it for every pattern without a sign.
+// The square root of the crate `binary32` for a program in another language: `tools/root_all` calls it at every pattern.
 ghost use mathlib.Core.Path.{_≡_};
 ghost use Rattle.binary32.specs.Sqrt.{rooted};
 ghost use Rattle.root_export.specs.RootCall.{rootWord};

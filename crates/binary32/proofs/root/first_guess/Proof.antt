@@ -1,6 +1,6 @@
--- `root::first_guess` meets its contract, by the rule of the table: `proofs/Squares.antt` has both inequalities. Assumes nothing.
+-- `root::first_guess` meets its contract: `proofs/Squares.antt` has both inequalities, from the rule of the table. Assumes nothing.
 use borrow.Author.Needs.{needs}
-use Rattle.binary32.proofs.Squares.{table-encloses, table-encloses-last}
+use Rattle.binary32.proofs.Squares.{table-encloses, table-encloses-last, from-table, from-table-last}
 use Rattle.binary32.proofs.root.first_guess.Statement.{statement}
 use Rattle.binary32.proofs.root.first_guess.Tie as tie
 
@@ -20,13 +20,19 @@ mul-t9 : tie.Need-mul-t9
 mul-t9 c = search needs
 
 returns : tie.Need-returns
-returns c = table-encloses (c .before .before .args .n) (c .before .whole-root .result) (c .before .before .pre) (c .before .whole-root .ensures .1) (c .if1 .taken)
+returns c =
+    let n = c .before .before .args .n in
+    let t = c .before .whole-root in
+    (table-encloses n (t .result) (c .before .before .pre) (t .ensures .1) (c .if1 .taken), from-table n (t .result) (t .ensures .0) (c .if1 .taken))
 
 mul-t4 : tie.Need-mul-t4
 mul-t4 c = search needs
 
 returns-2 : tie.Need-returns-2
-returns-2 c = table-encloses-last (c .before .before .args .n) (c .before .whole-root .result) (c .before .before .pre) (c .before .whole-root .ensures .1)
+returns-2 c =
+    let n = c .before .before .args .n in
+    let t = c .before .whole-root in
+    (table-encloses-last n (t .result) (c .before .before .pre) (t .ensures .1), from-table-last n (t .result) (t .ensures .0) (c .if1 .left))
 
 pub first-guess-spec : {M : Type 1} → statement M
 first-guess-spec = tie.close (tie.spec whole-root-requires cast-t mul-t7 add-t8 mul-t9 returns mul-t4 returns-2)
