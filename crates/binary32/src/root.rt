@@ -24,7 +24,7 @@ struct Guess {
     high: u64,
 }
 
-// The first guess at the whole root of n, from the table of whole roots. It may be any that encloses the root: the answers do not depend on it. With
+// The first guess at the whole root of n: the table's. All that comes after it uses only that it encloses the root, so the answers do not depend on it. With
 // k = n / 2^38 and t the table's entry k, which is the whole part of the root of 1,024 k, the root lies from t 2^14 up and below (t + 2) 2^14:
 //
 //     (t 2^14)^2 = t^2 2^28 <= 1,024 k 2^28 = k 2^38 <= n
