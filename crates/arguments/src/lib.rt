@@ -1,6 +1,8 @@
 // What every library call checks of what it is lent (01, "Frame and result"): refusals 7, 2, 3, 5 and 6, tried in this order,
 // before anything is written.
 
+#![tactic(auto)]
+
 ghost use Rattle.std.specs.Prelude.{◌≡◌, ◌≤◌, ltb, length};
 ghost use Rattle.sizes.specs.Sizes.{place_count};
 ghost use Rattle.sheet.specs.Shades.{shades_in};
@@ -16,7 +18,7 @@ use sheet::{Corner, Label, Position};
 use sizes::{CORNERS, PLACES};
 
 // The numbers of a grow pass: search, factor and boundary in 01's words.
-#[derive(Drop)]
+#[derive(Clone, Copy)]
 pub struct GrowParams {
     pub attach_search_rel: f32,
     pub attach_ambiguity_factor: f32,
@@ -24,7 +26,7 @@ pub struct GrowParams {
 }
 
 // The numbers of a fill pass: search, factor and rounds.
-#[derive(Drop)]
+#[derive(Clone, Copy)]
 pub struct FillParams {
     pub attach_search_rel: f32,
     pub attach_ambiguity_factor: f32,
@@ -32,7 +34,7 @@ pub struct FillParams {
 }
 
 // The numbers of a local pass: search, factor, rounds, residual and depth.
-#[derive(Drop)]
+#[derive(Clone, Copy)]
 pub struct LocalExtensionParams {
     pub search_rel: f32,
     pub ambiguity_factor: f32,
@@ -42,7 +44,7 @@ pub struct LocalExtensionParams {
 }
 
 // A pass and its own numbers.
-#[derive(Drop)]
+#[derive(Clone, Copy)]
 pub enum Pass {
     Grow(GrowParams),
     Fill(FillParams),
@@ -50,7 +52,7 @@ pub enum Pass {
 }
 
 // Cell size and axes, and the band.
-#[derive(Drop)]
+#[derive(Clone, Copy)]
 pub struct Settings {
     pub grid: Grid,
     // 01's band
@@ -58,7 +60,7 @@ pub struct Settings {
 }
 
 // What the check of a call's arguments finds: nothing, or why the call is refused.
-#[derive(Drop)]
+#[derive(Clone, Copy)]
 pub enum Checked {
     Fine,
     Refused(Refusal),

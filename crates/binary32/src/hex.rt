@@ -7,7 +7,7 @@ ghost use Rattle.binary32.specs.Hex.{digit_of, digit_value, hex_text, read_bits,
 use refusal::Refusal;
 
 // What eight digits are read as.
-#[derive(Drop)]
+#[derive(Clone, Copy)]
 pub enum Bits {
     Number(u32),
     // fewer than eight bytes, or one that is no digit
@@ -15,7 +15,7 @@ pub enum Bits {
 }
 
 // A finite float, or the refusal: number 1 where the text is ill-formed, number 3 where it is no finite float's.
-#[derive(Drop)]
+#[derive(Clone, Copy)]
 pub enum FloatRead {
     Float(f32),
     Refused(Refusal),

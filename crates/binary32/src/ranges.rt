@@ -3,7 +3,7 @@ ghost use Rattle.std.specs.Prelude.{◌≡◌};
 ghost use Rattle.binary32.specs.Ranges.{is_finite, ends_of, in_range};
 
 // What a float of a frame or of a call stands for.
-#[derive(Drop)]
+#[derive(Clone, Copy)]
 pub enum Quantity {
     // a corner's x or y
     Position,
@@ -18,7 +18,7 @@ pub enum Quantity {
 }
 
 // The two ends of a range, which belong to it.
-#[derive(Drop)]
+#[derive(Clone, Copy)]
 pub struct Ends {
     pub low: f32,
     pub high: f32,

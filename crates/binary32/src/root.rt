@@ -7,21 +7,21 @@ ghost use Rattle.binary32.specs.Steps.{Normalized, Near, Asked, Enclosed, FromTa
 use refusal::Refusal;
 
 // The root, or refusal number 3 (01: "any other gets number 3").
-#[derive(Drop)]
+#[derive(Clone, Copy)]
 pub enum Rooted {
     Root(f32),
     Refused(Refusal),
 }
 
 // A significand of 24 digits, and the exponent of two that it counts.
-#[derive(Drop)]
+#[derive(Clone, Copy)]
 struct Parts {
     m: u32,
     e: u32,
 }
 
 // Two whole numbers that enclose a root: low is at most the root, and high is above it.
-#[derive(Drop)]
+#[derive(Clone, Copy)]
 struct Guess {
     low: u64,
     high: u64,

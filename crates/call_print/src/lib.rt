@@ -1,4 +1,7 @@
 // What the program `passes_main` prints: what a call answers and leaves. For comparing with other programs: what it prints is not proved.
+
+#![tactic(auto)]
+
 use arguments::Pass;
 use call_text::number_at;
 use libc::STDOUT_FILENO;

@@ -1,4 +1,7 @@
 // What the program `passes_main` reads: the numbers of a list of calls, from lines of eight hexadecimal digits.
+
+#![tactic(auto)]
+
 ghost use Rattle.std.specs.Prelude.{◌≡◌, ◌≤◌, ◌<◌, length};
 ghost use Rattle.sizes.specs.Sizes.{place_count};
 
@@ -195,7 +198,7 @@ pub fn pass_at(text: &[u8], at: usize) -> Pass
 }
 
 // How many places of each buffer a call is lent.
-#[derive(Drop)]
+#[derive(Clone, Copy)]
 pub struct Lengths {
     pub ys: usize,
     pub pitches: usize,
@@ -221,7 +224,7 @@ pub fn lengths_at(text: &[u8], k: usize) -> Lengths
 // ---- lists
 
 // How many corners, labels and calls a list has.
-#[derive(Drop)]
+#[derive(Clone, Copy)]
 pub struct Header {
     pub n: usize,
     pub labels: usize,

@@ -1,5 +1,8 @@
 // Candidates and choice (document 01; 02, 1/14): the unlabelled corners near a prediction that its cell takes, in order of distance and then
 // number, and the two rules by which one of them is chosen. Port of shared/grow/mod.rs and of the quotients of extension/common.rs and fill.rs.
+
+#![tactic(auto)]
+
 ghost use Rattle.std.specs.Prelude.{◌≡◌, ◌+◌, ◌≤◌, ◌<◌};
 ghost use Rattle.sizes.specs.Sizes.{corner_limit};
 ghost use Rattle.binary32.specs.Sqrt.{sqrt_or_nan};
@@ -12,14 +15,14 @@ use sheet::Position;
 use sizes::CORNERS;
 
 // A corner's number, and its distance from the prediction.
-#[derive(Drop)]
+#[derive(Clone, Copy)]
 pub struct Candidate {
     pub number: usize,
     pub distance: f32,
 }
 
 // What a choice needs of the ordered candidates: of two or more, the first and the distance of the second.
-#[derive(Drop)]
+#[derive(Clone, Copy)]
 pub enum Candidates {
     Empty,
     One(Candidate),
@@ -29,7 +32,7 @@ pub enum Candidates {
 // What was found so far, the squared distance of its first candidate, if there is one, and the squared distance that a further one may
 // not exceed: the squared radius while fewer than two are found, and then the squared distance of the second. A corner beyond it comes
 // after both, since of two squares the larger has no smaller root. So no root is taken for it.
-#[derive(Drop)]
+#[derive(Clone, Copy)]
 struct Found {
     candidates: Candidates,
     square: f32,
@@ -37,7 +40,7 @@ struct Found {
 }
 
 // The choice at one cell.
-#[derive(Drop)]
+#[derive(Clone, Copy)]
 pub enum CandidateChoice {
     Nothing,
     Ambiguous,

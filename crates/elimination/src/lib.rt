@@ -1,6 +1,9 @@
 // Eight equations in eight unknowns, solved as 01, "Fit", has it: each column takes the largest pivot at or below the diagonal, the
 // rows below it are cleared, and back substitution runs from the last row to the first. A row holds eight coefficients and, in column
 // 8, the right side. Every operation is total, so the work is done in any case, and whether its answers count is found out at the end.
+
+#![tactic(auto)]
+
 ghost use Rattle.std.specs.Prelude.{◌≡◌, cond, ◌&&◌, ◌-◌, ◌<◌, length};
 ghost use Rattle.std.specs.Float.Ieee.{lt};
 ghost use Rattle.elimination.specs.Rounded.{magnitude};
@@ -8,7 +11,7 @@ ghost use Rattle.elimination.specs.Solve.{largest, swapped, pivoted, gained, cle
 ghost use Rattle.elimination.specs.Shape.{EightByNine};
 
 // The eight answers, which count where `sound`.
-#[derive(Drop)]
+#[derive(Clone, Copy)]
 pub struct Solution {
     pub answers: [f32; 8],
     pub sound: bool,

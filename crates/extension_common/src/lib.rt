@@ -1,5 +1,8 @@
 // What all three passes do at a cell once they have a prediction: gather the candidates, choose, and try the edges (port of
 // shared/extension/common.rs). Whatever this answers, nothing is written.
+
+#![tactic(auto)]
+
 ghost use Rattle.std.specs.Prelude.{◌≡◌};
 ghost use Rattle.sheet.specs.Corners.{corner_in, corners_in};
 ghost use Rattle.extension_common.specs.TryCell.{try_at, Ready, Choosable, Chosen, edges_of, choice_by, result_of};
@@ -10,14 +13,14 @@ use sheet::{Cell, Position};
 use sizes::CORNERS;
 
 // Which rule of choice: grow's, or fill's and local's.
-#[derive(Drop)]
+#[derive(Clone, Copy)]
 pub enum ChoiceRule {
     Unambiguous,
     WithFloor,
 }
 
 // How a cell is searched: the radius, the ambiguity factor, and the rule of choice.
-#[derive(Drop)]
+#[derive(Clone, Copy)]
 pub struct Search {
     pub search_r: f32,
     pub ambiguity_factor: f32,
@@ -25,7 +28,7 @@ pub struct Search {
 }
 
 // What trying a cell finds.
-#[derive(Drop)]
+#[derive(Clone, Copy)]
 pub enum TryCellResult {
     NoCandidates,
     Ambiguous,

@@ -1,6 +1,8 @@
 // Fill (01, "Sheet"; port of shared/fill.rs): rounds over the unlabelled cells of the label box and one strip along each whole
 // side, by i then j, each tried at its prediction. If any shade stands, a cell takes only corners of its kind (02, 1/14).
 
+#![tactic(auto)]
+
 ghost use Rattle.std.specs.Prelude.{◌≡◌, ◌&&◌, length};
 ghost use Rattle.sheet.specs.Corners.{corner_lists, corners_in};
 ghost use Rattle.arguments.specs.Shades.{corners_of};
@@ -23,14 +25,14 @@ use sheet::Cell;
 use sizes::{CORNERS, PLACES};
 
 // How far fill has come: how many places of the attached list are written, and how many rounds were walked.
-#[derive(Drop)]
+#[derive(Clone, Copy)]
 struct FillProgress {
     made: usize,
     rounds: usize,
 }
 
 // What the rounds are given beside their buffers: how many corners there are, the settings, and the numbers of the pass.
-#[derive(Drop)]
+#[derive(Clone, Copy)]
 struct FillSetup {
     count: usize,
     settings: Settings,

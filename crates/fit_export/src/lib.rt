@@ -1,5 +1,8 @@
 // The fit of the crate `homography` for a program in another language, over lent slices of numbers. The Rust that this repository is
 // compared with calls it (compare/rust).
+
+#![tactic(auto)]
+
 ghost use Rattle.std.specs.Prelude.{◌≡◌, ◌≤◌, length};
 ghost use Rattle.fit_export.specs.FitCall.{left, points_of, too_short, entered, exported};
 

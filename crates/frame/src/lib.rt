@@ -2,6 +2,8 @@
 // it said; after the last the labels of two patches are joined (02, 3/14). Until the whole frame is accepted it is held in arrays of the
 // reader's own, so that a refused one has written nothing.
 
+#![tactic(auto)]
+
 ghost use Rattle.std.specs.Prelude.{◌≡◌, ◌||◌, [], ltb, take};
 ghost use Rattle.frame_line.specs.Lines.{read_line};
 ghost use Rattle.frame_line.specs.Held.{held_read};
@@ -24,7 +26,7 @@ use refusal::Refusal;
 use sizes::{ALL_PASS_WORDS, BYTES, CORNERS, PASS_WORDS, PLACES, SECOND, USED};
 
 // What an accepted frame says besides what is written to the buffers: cell size, axes and band, and how many corners and passes there are.
-#[derive(Drop)]
+#[derive(Clone, Copy)]
 pub struct FrameHead {
     pub settings: Settings,
     pub corners: usize,
@@ -32,21 +34,21 @@ pub struct FrameHead {
 }
 
 // An accepted frame, or one refusal with its line.
-#[derive(Drop)]
+#[derive(Clone, Copy)]
 pub enum FrameAnswer {
     Accepted(FrameHead),
     Refused(Refusal, usize),
 }
 
 // What a line leads to: a refusal, or what is said after it.
-#[derive(Drop)]
+#[derive(Clone, Copy)]
 enum Stepped {
     Stopped(Refusal),
     Onward(Progress),
 }
 
 // What all lines lead to: a refusal with its line, or what is said in the end.
-#[derive(Drop)]
+#[derive(Clone, Copy)]
 enum LinesRead {
     Refused(Refusal, usize),
     Whole(Progress),

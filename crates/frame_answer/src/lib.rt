@@ -1,4 +1,7 @@
 // A frame in, a result or one refusal out: a frame read and its passes run, and the text of the answer.
+
+#![tactic(auto)]
+
 ghost use Rattle.std.specs.Prelude.{◌≡◌, ◌<◌, ◌≤◌, length, []};
 ghost use Rattle.frame_answer.specs.Room.{FrameRoom, PassRoom};
 ghost use Rattle.frame_answer.specs.Answer.{Recovers, lent_as, held_lines, held_piece, FewPasses, Printable, CanSay, WrotePiece, Moves};
@@ -11,7 +14,7 @@ use report::PieceAnswer;
 use report_line::line_sizes::SHEET_LINES;
 
 // A refusal with its line, or the number of corners and of passes of a frame whose passes have run.
-#[derive(Drop)]
+#[derive(Clone, Copy)]
 pub enum Recovered {
     Refused(Refusal, usize),
     Done(usize, usize),
@@ -66,7 +69,7 @@ pub fn answer_lines(answer: Recovered) -> usize
 }
 
 // How many bytes a piece has, and which line comes after it.
-#[derive(Drop)]
+#[derive(Clone, Copy)]
 pub struct PieceWritten {
     pub bytes: usize,
     pub next: usize,

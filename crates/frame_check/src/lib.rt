@@ -1,4 +1,7 @@
 // The checks of a frame's line (01, the table of refusals): "each in order 1 to 6". That it is a line's turn is told before (crate frame_line).
+
+#![tactic(auto)]
+
 ghost use Rattle.std.specs.Prelude.{◌≡◌, ◌<◌, ◌≤◌};
 ghost use Rattle.labels.specs.Labelled.{any_below};
 ghost use Rattle.frame_line.specs.Table.{row_count, kind_at};

@@ -1,5 +1,8 @@
 // The lines of a frame (01, "Frame and result"), by one table: a kind of line is a row, with where it may stand, what its numbers are, and its
 // form.
+
+#![tactic(auto)]
+
 ghost use Rattle.std.specs.Prelude.{◌≡◌, ◌<◌};
 ghost use Rattle.line_form.specs.Forms.{second_is};
 ghost use Rattle.frame_line.specs.Table.{row_count, kind_at, letters_at, turn_by, turn_at, may_end};
@@ -11,7 +14,7 @@ use line_form::read::{LineFit, fit_line};
 use sheet::Cell;
 
 // A line of the opening: those that must stand.
-#[derive(Drop)]
+#[derive(Clone, Copy)]
 pub enum OpeningKind {
     Frame,
     CellSize,
@@ -20,7 +23,7 @@ pub enum OpeningKind {
 }
 
 // A pass line: bare, or with its own numbers.
-#[derive(Drop)]
+#[derive(Clone, Copy)]
 pub enum PassKind {
     BareGrow,
     Grow,
@@ -30,7 +33,7 @@ pub enum PassKind {
 }
 
 // A kind of line, by the part of a frame that it belongs to.
-#[derive(Drop)]
+#[derive(Clone, Copy)]
 pub enum Kind {
     Opening(OpeningKind),
     Corner,
@@ -41,7 +44,7 @@ pub enum Kind {
 }
 
 // What a number of a line is.
-#[derive(Drop)]
+#[derive(Clone, Copy)]
 pub enum Sort {
     // the form has no such number
     Nothing,
@@ -54,14 +57,14 @@ pub enum Sort {
 }
 
 // Where a line leads to: it may not come here, or the stage behind it.
-#[derive(Drop)]
+#[derive(Clone, Copy)]
 pub enum Turn {
     No,
     To(usize),
 }
 
 // A line: its row, and its numbers as they are held (crate line_form). A text that has none of the forms has the row ROWS.
-#[derive(Drop)]
+#[derive(Clone, Copy)]
 pub struct HeldLine {
     pub row: usize,
     pub values: [u32; 5],
@@ -69,14 +72,14 @@ pub struct HeldLine {
 
 // A label's corner and cell. A corner's number that is not from 0 to OFFSET is held as OFFSET, and the cell's numbers are cut to
 // that size: no larger ones are given or on the sheet.
-#[derive(Drop)]
+#[derive(Clone, Copy)]
 pub struct HeldLabel {
     pub corner: usize,
     pub cell: Cell,
 }
 
 // A shade's corner and kind, both held as a label's corner is.
-#[derive(Drop)]
+#[derive(Clone, Copy)]
 pub struct HeldShade {
     pub corner: usize,
     pub kind: u32,

@@ -1,4 +1,7 @@
 // The numbers of a frame's line as they are held: the refusals of each by its sort, and what the words of counts, labels and shades say.
+
+#![tactic(auto)]
+
 ghost use Rattle.std.specs.Prelude.{◌≡◌, cond, ◌<◌, ◌≤◌, ◌*◌, min};
 ghost use Rattle.sizes.specs.Sizes.{corner_limit};
 ghost use Rattle.labels.specs.Labelled.{any_below};

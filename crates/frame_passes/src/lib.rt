@@ -1,4 +1,7 @@
 // The passes of a frame: read from their words, run in order on one sheet, and their outcomes noted.
+
+#![tactic(auto)]
+
 ghost use Rattle.std.specs.Prelude.{◌≡◌, ◌<◌, ◌≤◌, length, take};
 ghost use Rattle.std.specs.Float.{binary32};
 ghost use Rattle.std.specs.Float.Ieee.{of_bits};
@@ -57,7 +60,7 @@ fn pass_at(passes: &[u32], k: usize) -> Pass
 // ---- the passes
 
 // A pass, and the frame's cell size, axes and band.
-#[derive(Drop)]
+#[derive(Clone, Copy)]
 struct FrameCall {
     settings: Settings,
     pass: Pass,

@@ -1,6 +1,8 @@
 // What a frame's lines have said so far, and one line added to it. Corners, shades, labels and passes are held in arrays of the reader's own: the labels
 // of the first set as a sheet, those of a second as their corners and places in the order of their lines.
 
+#![tactic(auto)]
+
 ghost use Rattle.std.specs.Prelude.{◌≡◌, ◌<◌};
 ghost use Rattle.sizes.specs.Sizes.{corner_limit, pass_limit};
 ghost use Rattle.frame_state.specs.State.{Tame, TameAxes, nothing_said, at_stage, with_cell_size, with_axes, with_band, TameOpening, with_opening, with_settings, with_corner, with_label, with_patch, with_second, with_pass, CornerFits, CornerPut, LabelRoom, LabelPut, SecondRoom, SecondPut, LabelsRoom, labels_after, label_added, ShadeFits, shade_put, grow_words, fill_words, local_words, words_in, words_put, arrays, state, Addable, adds};
@@ -13,7 +15,7 @@ use sizes::{ALL_PASS_WORDS, CORNERS, PASS_WORDS, PLACES, SECOND, USED};
 
 // Cell size, axes and band, how many corners, labels of the first set, labels of the second and passes there are, whether the patch line stands, and
 // the stage that the lines have come to.
-#[derive(Drop)]
+#[derive(Clone, Copy)]
 pub struct Progress {
     pub settings: Settings,
     pub corners: usize,
@@ -25,7 +27,7 @@ pub struct Progress {
 }
 
 // A pass as six words: kind (0 grow, 1 fill, 2 local), search, factor, boundary or residual, rounds, depth; 0 for what the pass has not.
-#[derive(Drop)]
+#[derive(Clone, Copy)]
 pub struct PassWords {
     pub kind: u32,
     pub search: u32,

@@ -1,5 +1,8 @@
 // The reader and the writers of a result's text for programs in other languages, before they are exported (crate `grid_export`): a number out, and what
 // a call that is done says beside that as floats and words in its last slices.
+
+#![tactic(auto)]
+
 pub mod frame_calls; // frame_calls.rt: the reader
 pub mod text_calls; // text_calls.rt: the result's text
 pub mod words; // words.rt: answers and words

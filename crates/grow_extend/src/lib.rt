@@ -2,6 +2,8 @@
 // and holes and ambiguous cells marked. If any shade stands, a cell takes only corners of its kind (02, 1/14). The Rust's test whether a
 // queued cell is labelled by now is left out: no cell is queued twice, so none is.
 
+#![tactic(auto)]
+
 ghost use Rattle.std.specs.Prelude.{◌≡◌, length};
 ghost use Rattle.sheet.specs.Corners.{corner_lists, corners_in};
 ghost use Rattle.arguments.specs.Shades.{corners_of};
@@ -22,14 +24,14 @@ use sheet::Cell;
 use sizes::{CORNERS, PLACES};
 
 // Where grow stands: how many cells were queued so far, and the counts.
-#[derive(Drop)]
+#[derive(Clone, Copy)]
 pub struct Progress {
     pub tail: usize,
     pub counts: Counts,
 }
 
 // What a run is given beside its buffers: how many corners there are, the settings, and the numbers of the pass.
-#[derive(Drop)]
+#[derive(Clone, Copy)]
 pub struct GrowSetup {
     pub count: usize,
     pub settings: Settings,

@@ -2,6 +2,8 @@
 // enqueue_cardinal_neighbours of shared/grow/mod.rs and of the seeds of shared/grow_extend.rs). The queue is lent and holds places; its
 // first `tail` places are the cells queued so far, and `seen` says which places those are.
 
+#![tactic(auto)]
+
 ghost use Rattle.sheet.specs.Cells.{OnSheet};
 ghost use Rattle.passes.specs.Grow.{enqueued, spread};
 ghost use Rattle.grow_queue.specs.Queue.{so_far, Room, QueueHeld, seeded_at, SeedRoom, seeded, Unqueued};

@@ -1,5 +1,8 @@
 // The fit of 01, made in place of the Rust's `homography_from_4pt`: the matrix that takes four cells to their pictured corners, and
 // how a point maps by it. A matrix is nine entries, row by row. Normalising, solving, undoing, scaling and mapping stand apart.
+
+#![tactic(auto)]
+
 ghost use Rattle.std.specs.Prelude.{◌≡◌, ◌&&◌, ◌<◌};
 ghost use Rattle.binary32.specs.Ranges.{is_finite};
 ghost use Rattle.sheet.specs.Corners.{finite_position};
@@ -11,7 +14,7 @@ ghost use Rattle.homography.specs.Fit.{NoFit, fit_of, quotients, finite_entries,
 use sheet::Position;
 
 // What points are normalised by: their centre, and the scale of their distances from it.
-#[derive(Drop)]
+#[derive(Clone, Copy)]
 pub struct Normalization {
     pub scale: f32,
     pub cx: f32,
@@ -19,7 +22,7 @@ pub struct Normalization {
 }
 
 // Four normalised points, and what they are normalised by. They count where `sound`.
-#[derive(Drop)]
+#[derive(Clone, Copy)]
 pub struct Normalized {
     pub points: [Position; 4],
     pub by: Normalization,
@@ -27,7 +30,7 @@ pub struct Normalized {
 }
 
 // A fit: the nine entries where one is found, and else nine zeros.
-#[derive(Drop)]
+#[derive(Clone, Copy)]
 pub struct Fit {
     pub found: bool,
     pub h: [f32; 9],

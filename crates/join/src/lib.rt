@@ -1,9 +1,12 @@
 // Joining two patches (change request 3/14): what the join of two sets of labels says. The rule, the join as a function and the laws between
 // them are in specs/ and proofs/.
+
+#![tactic(auto)]
+
 use sheet::{Cell, Offset};
 
 // What the test of two sets of labels says.
-#[derive(Drop)]
+#[derive(Clone, Copy)]
 pub enum Verdict {
     // 8: no corner is in both sets
     Apart,
@@ -16,14 +19,14 @@ pub enum Verdict {
 }
 
 // The shift that the first shared label asks for.
-#[derive(Drop)]
+#[derive(Clone, Copy)]
 pub enum Asked {
     Nothing,
     For(Offset),
 }
 
 // Where a set has a corner.
-#[derive(Drop)]
+#[derive(Clone, Copy)]
 pub enum Found {
     Nowhere,
     At(Cell),

@@ -1,6 +1,8 @@
 // Joining two patches (change request 3/14) as code: the first set is a sheet, the second an array of its corners and, behind them, its places, in the
 // order of their lines. The second set is shifted onto the first, and the union is written to the sheet.
 
+#![tactic(auto)]
+
 ghost use Rattle.std.specs.Prelude.{◌≡◌, map, ◌+◌, ◌<◌, ◌≤◌, length, get_or};
 ghost use Rattle.sizes.specs.Sizes.{place_count, corner_limit};
 ghost use Rattle.sheet.specs.Cells.{cell_of, on_sheet, moved, OnSheet, Within};
@@ -17,7 +19,7 @@ use sheet::{Cell, Label, Offset};
 use sizes::{CORNERS, PLACES, SECOND, USED};
 
 // What the join answers.
-#[derive(Drop)]
+#[derive(Clone, Copy)]
 pub enum Joining {
     Fine,
     Refused(Refusal),

@@ -1,6 +1,8 @@
 // All the labels of a sheet at once: how many there are, the box around them, whether they reach the rim, and which corners
 // are used. Only the sheet's first 16,384 places are looked at.
 
+#![tactic(auto)]
+
 ghost use Rattle.std.specs.Prelude.{◌≡◌, ◌≤◌, ◌<◌, length};
 ghost use Rattle.sizes.specs.Sizes.{place_count};
 ghost use Rattle.sheet.specs.Words.{label_of};
@@ -49,7 +51,7 @@ pub fn label_count(sheet: &[u16]) -> usize
 }
 
 // The lowest and highest labelled i and j.
-#[derive(Drop)]
+#[derive(Clone, Copy)]
 pub struct Bounds {
     pub low_i: i32,
     pub high_i: i32,
@@ -58,7 +60,7 @@ pub struct Bounds {
 }
 
 // The label box: empty where no cell is labelled.
-#[derive(Drop)]
+#[derive(Clone, Copy)]
 pub enum LabelBox {
     Empty,
     Around(Bounds),

@@ -1,4 +1,7 @@
 // Lines of text that have a form (01, "Frame and result"): a form is a text in which % stands for a float and # for an integer.
+
+#![tactic(auto)]
+
 pub mod read; // read.rt: a line read by its form
 pub mod text; // text.rt: the lines of a text
 pub mod write; // write.rt: a line written from its form and its numbers

@@ -9,14 +9,14 @@ use super::OFFSET;
 use binary32::hex::{Bits, read_bits};
 
 // Whether a line has a form, and its numbers as they are held: zeros where it has not, and behind its last number.
-#[derive(Drop)]
+#[derive(Clone, Copy)]
 pub struct LineFit {
     pub found: bool,
     pub values: [u32; 5],
 }
 
 // What stands at the front of a text for one byte of a form.
-#[derive(Drop)]
+#[derive(Clone, Copy)]
 pub enum Taken {
     Nothing,
     Byte,
@@ -25,7 +25,7 @@ pub enum Taken {
 }
 
 // The number of some digits, cut to OFFSET, and how many bytes stand behind them.
-#[derive(Drop)]
+#[derive(Clone, Copy)]
 pub struct Digits {
     pub value: u32,
     pub left: usize,

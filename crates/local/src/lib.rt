@@ -2,6 +2,8 @@
 // on labelled rows and columns, and of four corner blocks, by i then j. Each is tried where the fit on its four nearest labels maps it to (crate
 // local_cell). What was worked out of a cell is remembered until a new label may change it (crate remembered).
 
+#![tactic(auto)]
+
 ghost use Rattle.std.specs.Prelude.{◌≡◌, ◌≤◌, length};
 ghost use Rattle.sizes.specs.Sizes.{place_count};
 ghost use Rattle.sheet.specs.Corners.{corner_lists, corners_in};
@@ -23,7 +25,7 @@ use region::Window;
 use sizes::{CORNERS, PLACES};
 
 // How far it has come, and after how many rounds.
-#[derive(Drop)]
+#[derive(Clone, Copy)]
 struct RoundsDone {
     progress: LocalProgress,
     rounds: usize,

@@ -1,6 +1,8 @@
 // One cell of local (01, "Sheet" and "Fit"; port of the loop's body in shared/extension/local.rs): tried by what is known of it from an earlier round,
 // or by the fit on its four nearest labels, where that leads. Crate local has the rounds and the public call.
 
+#![tactic(auto)]
+
 ghost use Rattle.std.specs.Prelude.{◌≡◌, ◌+◌, ◌<◌, ◌≤◌, length};
 ghost use Rattle.sheet.specs.Corners.{corners_in};
 ghost use Rattle.sheet.specs.Cells.{OnSheet};
@@ -24,7 +26,7 @@ use sheet::{Cell, Position};
 use sizes::{CORNERS, PLACES};
 
 // How far the pass has come: the counts, the largest residual recorded, how many cells are labelled, and how many corners were passed over.
-#[derive(Drop)]
+#[derive(Clone, Copy)]
 pub struct LocalProgress {
     pub counts: Counts,
     pub residual: LargestResidual,
@@ -33,7 +35,7 @@ pub struct LocalProgress {
 }
 
 // What a pass is given beside its buffers: how many corners there are, the settings, and the numbers of the pass.
-#[derive(Drop)]
+#[derive(Clone, Copy)]
 pub struct LocalSetup {
     pub count: usize,
     pub settings: Settings,
@@ -41,7 +43,7 @@ pub struct LocalSetup {
 }
 
 // A cell that is to be tried where its fit maps it to: how far its fourth support is, and the prediction.
-#[derive(Drop)]
+#[derive(Clone, Copy)]
 struct Target {
     cell: Cell,
     reach: u32,

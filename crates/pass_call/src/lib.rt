@@ -1,4 +1,7 @@
 // The one place that runs a pass: the public call of the pass that is asked for, and what it answers.
+
+#![tactic(auto)]
+
 ghost use Rattle.std.specs.Prelude.{◌≡◌, length};
 ghost use Rattle.sheet.specs.Corners.{corner_lists};
 ghost use Rattle.passes.specs.Run.{step};

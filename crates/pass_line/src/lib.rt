@@ -1,4 +1,7 @@
 // The lines of a result's passes, each written to the front of a part of the output buffer, as those of the crate `report_line` are.
+
+#![tactic(auto)]
+
 ghost use Rattle.line_form.specs.Written.{Wrote};
 ghost use Rattle.report_line.specs.Result.{grow_line, fill_line, local_line, unmatched_line, local_lines};
 ghost use Rattle.report_line.specs.Written.{GrowAsked, FillAsked, LocalAsked, LocalLineAsked, BareAsked, FullAsked, UnmatchedAsked, bare_local_text, full_local_text};

@@ -1,4 +1,7 @@
 // How many corners gathering passes over for their kind (document 02, 1/14).
+
+#![tactic(auto)]
+
 ghost use Rattle.std.specs.Prelude.{◌≡◌, ◌≤◌, ◌<◌};
 ghost use Rattle.sizes.specs.Sizes.{corner_limit};
 ghost use Rattle.sheet.specs.Shades.{takes_kind, shades_in};

@@ -1,6 +1,9 @@
 // What the three passes answer, the counts with one cell more, and in specs/ what they do: the definitions that their contracts cite and that
 // demand 3 speaks of.
 // The passes themselves are the crates grow_extend, fill and local.
+
+#![tactic(auto)]
+
 ghost use Rattle.std.specs.Prelude.{◌≡◌, ◌<◌};
 ghost use Rattle.passes.specs.Counting.{one_more, visits};
 
@@ -8,7 +11,7 @@ use extension_common::TryCellResult;
 use refusal::Refusal;
 
 // The counts of grow, and of local.
-#[derive(Drop)]
+#[derive(Clone, Copy)]
 pub struct Counts {
     pub attached: usize,
     pub rejected_no_candidate: usize,
@@ -50,14 +53,14 @@ pub fn one_more(found: TryCellResult, n: Counts) -> Counts
 }
 
 // Grow's pass line: attached, no candidate, ambiguous, edge, rim.
-#[derive(Drop)]
+#[derive(Clone, Copy)]
 pub struct GrowStats {
     pub counts: Counts,
     pub rim: bool,
 }
 
 // Fill's pass line: added, rounds, rim.
-#[derive(Drop)]
+#[derive(Clone, Copy)]
 pub struct FillStats {
     pub added: usize,
     pub iterations: usize,
@@ -65,35 +68,35 @@ pub struct FillStats {
 }
 
 // What the public call of grow answers.
-#[derive(Drop)]
+#[derive(Clone, Copy)]
 pub enum GrowAnswer {
     Done(GrowStats),
     Refused(Refusal),
 }
 
 // What the public call of fill answers.
-#[derive(Drop)]
+#[derive(Clone, Copy)]
 pub enum FillAnswer {
     Done(FillStats),
     Refused(Refusal),
 }
 
 // The largest residual that local recorded, or none.
-#[derive(Drop)]
+#[derive(Clone, Copy)]
 pub enum LargestResidual {
     Nothing,
     Residual(f32),
 }
 
 // How many corners local passed over for their kind, each time that it gathered; or that no shade stands, so that none could be.
-#[derive(Drop)]
+#[derive(Clone, Copy)]
 pub enum Unmatched {
     NoShades,
     Count(usize),
 }
 
 // Local's pass line: grow's four counts, rounds, largest residual or none, rim; and the corners passed over.
-#[derive(Drop)]
+#[derive(Clone, Copy)]
 pub struct LocalStats {
     pub counts: Counts,
     pub iterations: usize,
@@ -103,14 +106,14 @@ pub struct LocalStats {
 }
 
 // What the public call of local answers.
-#[derive(Drop)]
+#[derive(Clone, Copy)]
 pub enum LocalAnswer {
     Done(LocalStats),
     Refused(Refusal),
 }
 
 // What a call of any of the three answers.
-#[derive(Drop)]
+#[derive(Clone, Copy)]
 pub enum PassAnswer {
     Grow(GrowStats),
     Fill(FillStats),

@@ -7,6 +7,9 @@
 // pass, and the lengths to lend: ys, pitches, sheet, queue, attached, shades. A list with another kind is not run, nor what follows it.
 //
 // A corner's shades are two bits for each call, the lowest two for the first, and for the 17th again: the byte that is lent for that corner.
+
+#![tactic(auto)]
+
 ghost use Rattle.std.specs.Prelude.{◌≡◌, ◌≤◌, ◌<◌, length};
 
 use call_print::{print_answer, print_call, print_sheet, print_sums, print_word};

@@ -1,5 +1,8 @@
 // Edge (document 01): whether the edges from a candidate to the labelled corners beside its cell have about the length that they
 // should have. Port of shared/positions_policy.rs (edge_ok) and of shared/grow/mod.rs (any_cardinal_edge_ok).
+
+#![tactic(auto)]
+
 ghost use Rattle.std.specs.Prelude.{◌≡◌, ◌<◌};
 ghost use Rattle.sheet.specs.Cells.{OnSheet};
 ghost use Rattle.sizes.specs.Sizes.{corner_limit};
@@ -10,14 +13,14 @@ use sheet::{Cell, Corner, Offset, Position, Seen};
 use sizes::CORNERS;
 
 // The numbers of the edge test. The band of 01 is `edge_length_tol`: the part of the expected length by which a length may differ.
-#[derive(Drop)]
+#[derive(Clone, Copy)]
 pub struct Tolerances {
     pub cell_size: f32,
     pub edge_length_tol: f32,
 }
 
 // What the edges to the cardinal neighbours say: one is accepted; there is one and none is accepted; there is none.
-#[derive(Drop)]
+#[derive(Clone, Copy)]
 pub enum EdgeVerdict {
     Accepted,
     Refused,

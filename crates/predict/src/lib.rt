@@ -1,6 +1,8 @@
 // The prediction of 01: the neighbours of a cell, the step at each, the weighted sums over them, and whether the cell is
 // extrapolated.
 
+#![tactic(auto)]
+
 ghost use Rattle.std.specs.Prelude.{◌≡◌, ℕ, ◌<◌, ◌≤◌, length};
 ghost use Rattle.sizes.specs.Sizes.{place_count};
 ghost use Rattle.sheet.specs.Cells.{Within};
@@ -12,35 +14,35 @@ use sheet::{Cell, Corner, Label, Offset, Position, Seen};
 use sizes::CORNERS;
 
 // A labelled cell beside another, and its corner's position.
-#[derive(Drop)]
+#[derive(Clone, Copy)]
 pub struct Neighbour {
     pub at: Cell,
     pub position: Position,
 }
 
 // The two directions of the grid.
-#[derive(Drop)]
+#[derive(Clone, Copy)]
 pub enum Direction {
     I,
     J,
 }
 
 // A step at a cell: its own pair, or axis times cell size.
-#[derive(Drop)]
+#[derive(Clone, Copy)]
 pub enum LocalStep {
     Own(f32, f32),
     Axis,
 }
 
 // A vector in the picture.
-#[derive(Drop)]
+#[derive(Clone, Copy)]
 pub struct Vector {
     pub x: f32,
     pub y: f32,
 }
 
 // The axes of i and j, and the cell size.
-#[derive(Drop)]
+#[derive(Clone, Copy)]
 pub struct Grid {
     pub axis_i: Vector,
     pub axis_j: Vector,
@@ -48,7 +50,7 @@ pub struct Grid {
 }
 
 // The running weighted sums.
-#[derive(Drop)]
+#[derive(Clone, Copy)]
 pub struct Sums {
     pub x: f32,
     pub y: f32,
@@ -56,14 +58,14 @@ pub struct Sums {
 }
 
 // What is predicted for a cell: nothing where it has no neighbour, else a position.
-#[derive(Drop)]
+#[derive(Clone, Copy)]
 pub enum Prediction {
     NoNeighbour,
     At(Position),
 }
 
 // A side of a cell: -i, +i, -j, +j, or any.
-#[derive(Drop)]
+#[derive(Clone, Copy)]
 pub enum Side {
     MinusI,
     PlusI,

@@ -1,6 +1,8 @@
 // The public face of the library: exactly the calls that a fitter's program makes, and their types. None of them asks anything of its caller: each
 // checks what it is lent, answers a numbered refusal where something is wrong, and then changes nothing. docs/PROMISES.md says what each promises.
 
+#![tactic(auto)]
+
 // the square root (01, "Number")
 pub use binary32::root::{Rooted, sqrt};
 

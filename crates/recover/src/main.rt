@@ -1,5 +1,8 @@
 // The frame program (01, "Frame and result"): reads a frame from standard input and prints its result, or `(refused number line)` alone.
 // What it reads is told by the crate `recover_read`; what it prints is worked out and written by the crate `recover_say`.
+
+#![tactic(auto)]
+
 ghost use Rattle.std.specs.Prelude.{◌≡◌};
 ghost use Rattle.recover_read.specs.Reading.{ReadInto};
 ghost use Rattle.recover.specs.Program.{Replied, input_in, Ran, fault_of};
@@ -9,7 +12,7 @@ use recover_read::Input;
 use recover_say::Said;
 
 // What became of a run: so far the answer was said; or the input could not be read, and nothing was said.
-#[derive(Drop)]
+#[derive(Clone, Copy)]
 enum Outcome {
     Answered(Said),
     NotRead,
@@ -39,7 +42,7 @@ fn run() -> Outcome
 }
 
 // What went wrong in a run, if anything did.
-#[derive(Drop)]
+#[derive(Clone, Copy)]
 enum Fault {
     Nothing,
     Input,

@@ -1,6 +1,9 @@
 // Reads an input into a buffer, until it ends, the buffer is full or a read fails. A failed read is told from the end.
 // Which bytes a read gives, and that it answers -1 where it failed, no contract can say: `read_rest` asks the C library, `libc::read` and errno.
 // Proved is what is made of its answers.
+
+#![tactic(auto)]
+
 ghost use Rattle.std.specs.Prelude.{◌≡◌, ◌<◌, length};
 ghost use Rattle.recover_read.specs.Reading.{got_of, FitsIn, Refilled, read_on, ReadInto};
 
@@ -9,7 +12,7 @@ use libc::EINTR;
 // ---- one read
 
 // What one read gave: so many bytes, at least one; the end of the input; an interruption before any byte came; or a failure.
-#[derive(Drop)]
+#[derive(Clone, Copy)]
 pub enum Got {
     Bytes(usize),
     End,
@@ -46,14 +49,14 @@ fn read_rest(fd: i32, buffer: &mut [u8], at: usize) -> Got
 // ---- all reads
 
 // What became of the input: so many bytes of it stand at the front of the buffer, and it ended there or filled the buffer; or a read failed.
-#[derive(Drop)]
+#[derive(Clone, Copy)]
 pub enum Input {
     Whole(usize),
     Failed,
 }
 
 // Where a reading stands: so many bytes are there, and so many interruptions may still come; or it is over.
-#[derive(Drop)]
+#[derive(Clone, Copy)]
 pub enum Standing {
     Reading(usize, usize),
     Over(Input),

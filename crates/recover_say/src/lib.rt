@@ -3,6 +3,9 @@
 // of `answer`: how many pieces were written, from the first on, and that they are all of the answer where the next line is past the last
 // (`Told`, `Prints`). Not proved is that the one call of `io::write_all` in `put_piece` takes those bytes to standard output and answers true only
 // then: no contract can say what happens outside the program. It is tested (`compare/faults.py`).
+
+#![tactic(auto)]
+
 ghost use Rattle.std.specs.Prelude.{◌≡◌, ◌*◌, ◌<◌, length};
 ghost use Rattle.sizes.specs.Sizes.{place_count, corner_limit, all_pass_words, all_outcome_words};
 ghost use Rattle.frame_answer.specs.Answer.{CanSay, FewPasses};
@@ -67,7 +70,7 @@ fn word_buffer() -> [u32; ALL_OUTCOME_WORDS]
 
 // How far an answer was said: how many pieces were written, the line after them, and how many lines the answer has. All was said where the
 // line after them is not below the number of lines.
-#[derive(Drop)]
+#[derive(Clone, Copy)]
 pub struct Said {
     pub pieces: usize,
     pub next: usize,
@@ -75,7 +78,7 @@ pub struct Said {
 }
 
 // What became of a piece: it was written, and so many are now; or it could not be written.
-#[derive(Drop)]
+#[derive(Clone, Copy)]
 pub enum Put {
     Written(usize),
     Failed,

@@ -3,6 +3,9 @@
 //
 // Before each text stands a line of eight hexadecimal digits in lower case, its length in bytes, at most 65,537. It ends where the input
 // ends; where a length or a text is not as said, or a read fails, it says so on standard error and ends.
+
+#![tactic(auto)]
+
 ghost use Rattle.std.specs.Prelude.{◌≤◌};
 
 use binary32::hex::Bits;

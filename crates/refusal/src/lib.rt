@@ -1,9 +1,12 @@
 // The reasons for which a frame or a library call may be refused: the seven of document 01, the table of refusals, and those of document 02, 3/14.
+
+#![tactic(auto)]
+
 ghost use Rattle.std.specs.Prelude.{◌≡◌};
 ghost use Rattle.refusal.specs.Refusal.{number_of};
 
 // Each case has its number beside it, and 01's word; 02 has no word for 8 and 9.
-#[derive(Drop)]
+#[derive(Clone, Copy)]
 pub enum Refusal {
     // 1, bent: a line is missing, out of order or ill-formed
     Malformed,

@@ -1,6 +1,8 @@
 // Which cells a round of fill or of local has (01, "Sheet"): whether a cell lies inside the label box, or at most some lines past it, by i and by
 // j; and for local the rows and columns that have a label, and a place told by these and by the box.
 
+#![tactic(auto)]
+
 ghost use Rattle.std.specs.Prelude.{◌≡◌, ◌&&◌, ◌+◌, ◌-◌, ◌/◌, ◌%◌, min, ◌<◌, ◌≤◌, take};
 ghost use Rattle.sizes.specs.Sizes.{place_count};
 ghost use Rattle.passes.specs.Fill.{near_i, near_j};
@@ -149,7 +151,7 @@ pub fn is_local_cell(
 }
 
 // The lines of the sheet within which a round walks, as numbers from 0 to 127: from the start up to the end, which is not one of them.
-#[derive(Drop)]
+#[derive(Clone, Copy)]
 pub struct Window {
     pub start_i: usize,
     pub end_i: usize,

@@ -3,6 +3,8 @@
 // than the second candidate. So one word is kept for each place of the sheet, and those near a new label are forgotten. A word is the reach of the
 // fourth support times 8, plus what is known; beside it three floats are kept, where the fit maps the cell to and how far that second candidate is.
 
+#![tactic(auto)]
+
 ghost use Rattle.std.specs.Prelude.{◌≡◌, ◌%◌, ◌≤◌, ◌<◌, length};
 ghost use Rattle.sizes.specs.Sizes.{place_count};
 ghost use Rattle.sheet.specs.Cells.{OnSheet, place_of, cell_of};
@@ -19,7 +21,7 @@ use sizes::PLACES;
 // What is known of a cell: nothing; or how far its fourth support is, and that its visit changes nothing (no fit, or a residual above the gate),
 // that there is no candidate where the fit maps it to, where the fit maps it to, or also that the choice there is ambiguous, and how far the last of
 // the first two candidates is.
-#[derive(Drop)]
+#[derive(Clone, Copy)]
 pub enum Known {
     Nothing,
     Idle(u32),

@@ -141,7 +141,7 @@ fn next_filled(passes: usize, words: &[u32], sheet: &[u16], k: usize) -> usize
 }
 
 // How far a piece goes: how many bytes were written, and which line comes next.
-#[derive(Drop)]
+#[derive(Clone, Copy)]
 pub struct PieceEnd {
     pub at: usize,
     pub next: usize,

@@ -1,4 +1,7 @@
 // The outcomes of passes as words, eleven for each (specs/Outcomes.antt).
+
+#![tactic(auto)]
+
 pub mod like; // like.rt: an outcome whose line is as long, whatever its words are
 pub mod put; // put.rt: outcomes put at their places
 pub mod read; // read.rt: outcomes read

@@ -1,4 +1,7 @@
 // The square root of the crate `binary32` for a program in another language: `tools/root_all` calls it at every pattern.
+
+#![tactic(auto)]
+
 ghost use Rattle.std.specs.Prelude.{◌≡◌};
 ghost use Rattle.binary32.specs.Sqrt.{rooted};
 ghost use Rattle.root_export.specs.RootCall.{root_word};

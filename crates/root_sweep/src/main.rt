@@ -1,12 +1,15 @@
 // Takes the square root of 102,400 pseudo-random patterns, and prints for each 1,024 of them a sum over the answers' bits, where a
 // refusal counts as its number: (block number sum), all in hexadecimal.
+
+#![tactic(auto)]
+
 ghost use Rattle.std.specs.Prelude.{◌≤◌, ◌%◌};
 
 use binary32::root::Rooted;
 use libc::STDOUT_FILENO;
 
 // Where the sweep stands: the next pattern, and the sum over the block so far.
-#[derive(Drop)]
+#[derive(Clone, Copy)]
 struct Sweep {
     pattern: u32,
     sum: u32,

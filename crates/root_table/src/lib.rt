@@ -1,4 +1,7 @@
 // A table of whole roots (02, 4/14), from which the square root takes its first guess.
+
+#![tactic(auto)]
+
 ghost use Rattle.std.specs.Prelude.{◌≡◌, ◌*◌, ◌<◌};
 ghost use Rattle.root_table.specs.Roots.{entry};
 ghost use Rattle.root_table.specs.Whole.{WholePart};

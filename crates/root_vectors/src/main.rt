@@ -1,5 +1,8 @@
 // Reads lines of eight hexadecimal digits, each a float's bits, and prints for each the eight digits of its square root, or
 // (refused number): 1 for a line that is no eight digits, 3 for a float that is not finite or is negative.
+
+#![tactic(auto)]
+
 ghost use Rattle.std.specs.Prelude.{◌≤◌};
 
 use binary32::hex::FloatRead;
@@ -8,7 +11,7 @@ use libc::{STDIN_FILENO, STDOUT_FILENO};
 use refusal::Refusal;
 
 // A line so far: its first nine bytes, and how many bytes it has, where nine stands for nine and more.
-#[derive(Drop)]
+#[derive(Clone, Copy)]
 struct Line {
     bytes: [u8; 9],
     len: usize,
@@ -80,7 +83,7 @@ fn take_bytes(line: Line, part: &[u8]) -> Line
 }
 
 // The line after one more read, and whether anything was read.
-#[derive(Drop)]
+#[derive(Clone, Copy)]
 struct Turn {
     line: Line,
     more: bool,

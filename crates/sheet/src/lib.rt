@@ -1,5 +1,7 @@
 // The sheet of 01: cells and their places, what a place holds, and the corners as they are seen through it.
 
+#![tactic(auto)]
+
 ghost use Rattle.std.specs.Prelude.{◌≡◌, ◌+◌, ◌<◌, ◌≤◌, length, nat_abs};
 ghost use Rattle.sizes.specs.Sizes.{place_count, corner_limit};
 ghost use Rattle.sheet.specs.Cells.{on_sheet, OnSheet, place_of, cell_of, moved, difference_of, magnitude_of, Within, NearSheet};
@@ -11,14 +13,14 @@ ghost use Rattle.sheet.specs.Blank.{all_blank, BlankRun, BlankPlaces, NextWritte
 use sizes::{CORNERS, PLACES};
 
 // A cell of the checkerboard, by its two numbers. On the sheet both are from -64 to 63.
-#[derive(Drop)]
+#[derive(Clone, Copy)]
 pub struct Cell {
     pub i: i32,
     pub j: i32,
 }
 
 // The difference of two cells.
-#[derive(Drop)]
+#[derive(Clone, Copy)]
 pub struct Offset {
     pub di: i32,
     pub dj: i32,
@@ -108,7 +110,7 @@ pub fn magnitude(o: Offset) -> u32
 }
 
 // What a place says of corners: none, or the corner's number.
-#[derive(Drop)]
+#[derive(Clone, Copy)]
 pub enum Label {
     Unlabelled,
     Corner(usize),
@@ -217,21 +219,21 @@ pub fn clear_marks(sheet: &mut [u16], c: Cell)
 }
 
 // A corner's position in the picture.
-#[derive(Drop)]
+#[derive(Clone, Copy)]
 pub struct Position {
     pub x: f32,
     pub y: f32,
 }
 
 // A corner: its position, and its pitch, 01's word for the board's spacing around it in the picture.
-#[derive(Drop)]
+#[derive(Clone, Copy)]
 pub struct Corner {
     pub position: Position,
     pub pitch: f32,
 }
 
 // What is seen at a cell.
-#[derive(Drop)]
+#[derive(Clone, Copy)]
 pub enum Seen {
     Nothing,
     At(Corner),

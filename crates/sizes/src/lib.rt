@@ -1,5 +1,7 @@
 // Sizes of what is lent and of what 01 allows ("Sheet", "Frame and result"); specs/Sizes.antt has the same for the definitions.
 
+#![tactic(auto)]
+
 // Places of a sheet: 128 rows of 128.
 pub const PLACES: usize = 16384;
 

@@ -1,6 +1,8 @@
 // The supports of a cell for local (01, "Sheet" and "Fit"; port of `nearest_labelled_by_grid` of shared/extension/local.rs and of the fit on
 // the supports there): the labelled places, the four nearest to a cell, the fit on these with its residuals, and the largest residual recorded.
 
+#![tactic(auto)]
+
 ghost use Rattle.std.specs.Prelude.{◌≡◌, cond, [], ◌∷◌, ◌+◌, ◌/◌, ◌<◌, ◌≤◌, ltb, leb, length, take};
 ghost use Rattle.std.specs.Float.{binary32};
 ghost use Rattle.std.specs.Float.Ieee.{of_bits, lt};
@@ -17,14 +19,14 @@ use sheet::{Cell, Position, Seen};
 use sizes::{CORNERS, PLACES};
 
 // A labelled place, and how far its cell lies from the cell whose supports are looked for: |di| + |dj|.
-#[derive(Drop)]
+#[derive(Clone, Copy)]
 pub struct Support {
     pub place: usize,
     pub reach: u32,
 }
 
 // Four kept supports, the nearest first.
-#[derive(Drop)]
+#[derive(Clone, Copy)]
 pub struct Supports {
     pub first: Support,
     pub second: Support,
@@ -219,7 +221,7 @@ fn far_behind(place: usize, row: usize, reach: u32) -> bool
 }
 
 // Part of a list: the entries from low on and below high.
-#[derive(Drop)]
+#[derive(Clone, Copy)]
 pub struct Span {
     pub low: usize,
     pub high: usize,
@@ -300,7 +302,7 @@ pub fn nearest_labelled_by_grid(places: &[u16; CORNERS], count: usize, c: Cell) 
 }
 
 // The fit on four supports, with the residual of each: found where there is a fit and all four residuals are finite. Else all is 0.
-#[derive(Drop)]
+#[derive(Clone, Copy)]
 pub struct SupportFit {
     pub found: bool,
     pub h: [f32; 9],

@@ -1,0 +1,10 @@
+-- `arguments::is_outside` meets its contract: it is the range's test turned. Assumes nothing.
+use mathlib.Core.Path.{ap}
+use mathlib.Core.Bool.{not}
+use Rattle.arguments.specs.Arguments.{outside}
+use borrow.Author.Rules.{rules}
+use Rattle.arguments.proofs.is_outside.Goals as goal
+
+pub returns : goal.returns
+unfolding outside
+returns c = ap not c.in_range.ensures

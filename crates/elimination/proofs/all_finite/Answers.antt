@@ -1,0 +1,18 @@
+-- `elimination::all_finite` meets its contract. The loop's invariant: the rows passed are finite. Assumes nothing.
+use Prim.Native.Nat.{◌-◌}
+use borrow.Author.Rules.{rules}
+use Rattle.elimination.specs.Solve.{row, finite_row}
+use Rattle.elimination.proofs.Tables.{Passing, passing_start, passing_more, passing_stop, passing_end}
+use Rattle.elimination.proofs.all_finite.Goals as goal
+
+pub loop-i-init : goal.loop-i-init
+loop-i-init c = passing_start _ _
+
+pub returns-then-not-f : goal.returns-then-not-f
+returns-then-not-f c = passing_stop c.loop-i.invariant c.loop-i-test.true c.row_finite-f.ensures c.if-not-f.true
+
+pub loop-i-preserved : goal.loop-i-preserved
+loop-i-preserved c = passing_more c.loop-i.invariant c.loop-i-test.true c.row_finite-f.ensures c.if-not-f.false
+
+pub returns : goal.returns
+returns c = passing_end c.loop-i.invariant c.loop-i-test.false

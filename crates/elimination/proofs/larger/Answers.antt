@@ -1,0 +1,9 @@
+-- `elimination::larger` meets its contract. Assumes nothing.
+use borrow.Author.Rules.{rules}
+use Rattle.elimination.proofs.larger.Goals as goal
+
+pub returns-then-magnitude : goal.returns-then-magnitude
+returns-then-magnitude c = rw (rw (c.magnitude.ensures, c.magnitude-2.ensures) at c.if-magnitude.true)
+
+pub returns : goal.returns
+returns c = rw (rw (c.magnitude.ensures, c.magnitude-2.ensures) at c.if-magnitude.false)

@@ -1,0 +1,20 @@
+-- `answer_piece` meets its contract. Assumes nothing.
+use Rattle.frame_answer.proofs.Printing.{case-refused, case-done, case-below, case-wrote, case-first}
+use borrow.Author.Rules.{rules}
+use Rattle.frame_answer.proofs.answer_piece.Reads as reads
+use Rattle.frame_answer.proofs.answer_piece.Lts as lts
+use Rattle.frame_answer.proofs.refused_piece.Reads as refused-piece-reads
+use Rattle.frame_answer.proofs.result_piece.Reads as result-piece-reads
+use Rattle.frame_answer.proofs.answer_piece.Goals as goal
+
+pub refused_piece-requires : goal.refused_piece-requires
+refused_piece-requires c = (case-refused c.args.answer c.args.words.now c.args.sheet.now c.requires.0 c.args.from c.requires.1.0 _ _ c.in-Refused.is, c.requires.1.1)
+
+pub result_piece-requires : goal.result_piece-requires
+result_piece-requires c = (case-done c.args.answer c.args.words.now c.args.sheet.now c.requires.0 c.args.from c.requires.1.0 _ _ c.in-Done.is, (case-below c.args.answer c.args.words.now c.args.sheet.now c.requires.0 c.args.from c.requires.1.0 _ _ c.in-Done.is, c.requires.1.1))
+
+pub returns-in-Refused : goal.returns-in-Refused
+returns-in-Refused c = case-first c.args.answer c.args.words.now c.args.sheet.now c.requires.0 c.args.from c.requires.1.0 _ _ c.in-Refused.is _ _ _ _ c.refused_piece.ensures.0 c.refused_piece.ensures.1
+
+pub returns-in-Done : goal.returns-in-Done
+returns-in-Done c = (case-wrote c.args.answer c.args.words.now c.args.sheet.now c.requires.0 c.args.from c.requires.1.0 _ c.in-Done.is _ _ _ _ c.result_piece.ensures.0, c.result_piece.ensures.1)

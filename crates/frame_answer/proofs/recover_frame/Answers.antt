@@ -1,0 +1,28 @@
+-- `recover_frame` meets its contract. Assumes nothing.
+use Rattle.frame_answer.proofs.Recovering.{recovered-not, frame-ready, recovered-done}
+use borrow.Author.Rules.{rules}
+use Rattle.frame_answer.proofs.recover_frame.Goals as goal
+
+pub run_frame-requires : goal.run_frame-requires
+run_frame-requires c =
+    let a = c.args in
+    frame-ready a.text.now a.xs.now a.ys.now a.pitches.now a.shades.now a.sheet.now a.passes.now c.requires.0 _
+    ?UNRESOLVED?r.read-frame.new.1.0 ?UNRESOLVED?r.read-frame.new.1.1.0 ?UNRESOLVED?r.read-frame.new.1.1.1.0 ?UNRESOLVED?r.read-frame.new.1.1.1.1.0
+    ?UNRESOLVED?r.read-frame.new.1.1.1.1.1.0 ?UNRESOLVED?r.read-frame.new.1.1.1.1.1.1.0 ?UNRESOLVED?r.read-frame.ensures.0 _ c.in-Accepted.is a.queue.now a.attached.now a.words.now c.requires.1
+
+pub returns-in-Refused : goal.returns-in-Refused
+returns-in-Refused c =
+    let a = c.args in
+    recovered-not a.text.now a.xs.now a.ys.now a.pitches.now a.shades.now a.sheet.now a.passes.now c.requires.0 _
+    c.read_frame-answer.new.1.0 c.read_frame-answer.new.1.1.0 c.read_frame-answer.new.1.1.1.0 c.read_frame-answer.new.1.1.1.1.0
+    c.read_frame-answer.new.1.1.1.1.1.0 c.read_frame-answer.new.1.1.1.1.1.1.0 c.read_frame-answer.ensures.0 _ _ c.in-Refused.is a.queue.now a.attached.now a.words.now
+
+pub shape_of-xs-in-Accepted : goal.shape_of-xs-in-Accepted
+shape_of-xs-in-Accepted c = c.read_frame-answer.auto.1.0
+
+pub returns-in-Accepted : goal.returns-in-Accepted
+returns-in-Accepted c =
+    let a = c.args in
+    recovered-done a.text.now a.xs.now a.ys.now a.pitches.now a.shades.now a.sheet.now a.passes.now c.requires.0 _
+    ?UNRESOLVED?r.read-frame.new.1.0 ?UNRESOLVED?r.read-frame.new.1.1.0 ?UNRESOLVED?r.read-frame.new.1.1.1.0 ?UNRESOLVED?r.read-frame.new.1.1.1.1.0
+    ?UNRESOLVED?r.read-frame.new.1.1.1.1.1.0 ?UNRESOLVED?r.read-frame.new.1.1.1.1.1.1.0 ?UNRESOLVED?r.read-frame.ensures.0 _ c.in-Accepted.is a.queue.now a.attached.now a.words.now c.requires.1 _ _ c.run_frame.ensures

@@ -1,0 +1,10 @@
+-- `refused_piece` meets its contract. Assumes nothing.
+use Rattle.frame_answer.proofs.Printing.{wrote_refused, moves_refused}
+use mathlib.Core.List.{[]}
+use borrow.Author.Rules.{rules}
+use Rattle.frame_answer.proofs.refused_piece.Reads as reads
+use Rattle.frame_answer.proofs.refused_piece.Lts as lts
+use Rattle.frame_answer.proofs.refused_piece.Goals as goal
+
+pub returns : goal.returns
+returns c = (wrote_refused c.args.refusal c.args.line [] [] _ _ _ _ c.write_refused-bytes.ensures, moves_refused c.args.refusal c.args.line c.write_refused-bytes.ensures c.write_refused-bytes.auto.1.1.0)

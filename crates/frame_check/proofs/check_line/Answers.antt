@@ -1,0 +1,32 @@
+-- `frame_check::check_line` meets its contract, a check after the other. Assumes nothing.
+use mathlib.Core.Path.{◌≡◌, sym, ◌∙◌}
+use mathlib.Core.Bool.{Bool, false}
+use Prim.Native.Nat.{ℕ, ◌<◌}
+use native.Mathlib.Omega.{arith}
+use borrow.Author.Rules.{rules}
+use Rattle.labels.specs.Labelled.{any_below}
+use Rattle.frame_line.specs.Held.{outside_held, is_refusal}
+use Rattle.frame_line.proofs.Checking.{has_is}
+use Rattle.frame_check.specs.Checks.{checks_in_order, checked_held}
+use Rattle.frame_check.proofs.check_line.Goals as goal
+use Rattle.frame_check.proofs.check_line.Goals.{After-refusals_of-found, Else-has_refusal, Else-has_refusal-2, Else-has_refusal-3, Else-has_refusal-4}
+
+-- what is said of a line's numbers
+abbrev Says : ℕ → Bool → tie.After-refusals-of → Type 0
+Says r b s = outside_held r s.before.args.corners s.before.args.line ≡ b
+
+says : (s : After-refusals_of-found) {r : ℕ} {b : Bool} → 0 < r → b ≡ any_below 5 (is_refusal s.refusals_of-found.result r) → Says r b s
+says s h e = sym (has_is _ _ h s.refusals_of-found.ensures e)
+
+no_1 : (c : Else-has_refusal) → Says 1 false (goal.at.Else-has_refusal c).After-refusals_of-found
+no_1 c = says (goal.at.Else-has_refusal c).After-refusals_of-found (omega arith) c.has_refusal.ensures ∙ c.if-has_refusal.false
+
+no_3 : (c : Else-has_refusal-2) → Says 3 false (goal.at.Else-has_refusal-2 c).After-refusals_of-found
+no_3 c = says (goal.at.Else-has_refusal-2 c).After-refusals_of-found (omega arith) c.has_refusal-2.ensures ∙ c.if-has_refusal-2.false
+
+no_4 : (c : Else-has_refusal-3) → Says 4 false (goal.at.Else-has_refusal-3 c).After-refusals_of-found
+no_4 c = says (goal.at.Else-has_refusal-3 c).After-refusals_of-found (omega arith) c.has_refusal-3.ensures ∙ c.if-has_refusal-3.false
+
+no_5 : (c : Else-has_refusal-4) → Says 5 false (goal.at.Else-has_refusal-4 c).After-refusals_of-found
+no_5 c =
+    says (goal.at.Else-has_refusal-4 c).After-refusals_of-found (omega arith) c.has_refusal-4.ensures ∙ c.if-has_refusal-4.false

@@ -1,0 +1,11 @@
+-- `frame_check::first_twice` meets its contract. Assumes nothing.
+use Prim.Native.Nat.{◌<◌}
+use native.Mathlib.Omega.{arith}
+use borrow.Author.Rules.{rules}
+use borrow.Author.Tests.{eq-eqb, ne_eqb}
+use Rattle.sheet.proofs.Laws.{place_in}
+use Rattle.frame_check.proofs.first_twice.Goals as goal
+use Rattle.frame_check.proofs.first_twice.Goals.{After-place_of-place}
+
+below : (c : After-place_of-place) → c.place_of-place.result < 16384
+below c = rw c.place_of-place.ensures (place_in _ c.requires.on)

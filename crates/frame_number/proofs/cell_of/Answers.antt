@@ -1,0 +1,16 @@
+-- `frame_number::cell_of` meets its contract: both numbers less 1,000,000 fit. Assumes nothing.
+use native.Mathlib.Omega.{arith}
+use borrow.Author.Rules.{rules}
+use lib.IntN.{pos}
+use Rattle.sheet.proofs.Laws.{sub-fits, sub_read}
+use Rattle.frame_number.proofs.cell_of.Goals as goal
+
+pub returns : goal.returns
+returns c =
+    let i = c.capped-i in
+    let j = c.capped-j in
+    rw (← i.ensures, ← j.ensures)
+    (λ t. record {
+      i = sub_read (pos i.result) (pos 1000000) (omega (arith, i.ensures)) t;
+      j = sub_read (pos j.result) (pos 1000000) (omega (arith, j.ensures)) t;
+    })

@@ -1,0 +1,7 @@
+-- `frame_calls::enter_counts` meets its contract: two words one after the other. Assumes nothing.
+use Rattle.grid_words.proofs.Entering.{two}
+use borrow.Author.Rules.{rules}
+use Rattle.grid_words.proofs.frame_calls.enter_counts.Goals as goal
+
+pub returns : goal.returns
+returns c = two c.args.out.now _ _ _ _ c.requires.0 c.enter.ensures c.enter-2.ensures

@@ -1,0 +1,10 @@
+-- `frame_calls::run_read` meets its contract: the reader's answer is told. Assumes nothing.
+use Rattle.grid_words.proofs.Frames.{sayable, read_left}
+use borrow.Author.Rules.{rules}
+use Rattle.grid_words.proofs.frame_calls.run_read.Goals as goal
+
+pub tell-requires : goal.tell-requires
+tell-requires c = (c.requires, sayable c.args.text.now _ _ c.read_frame-answer.new.1.0 c.read_frame-answer.new.1.1.0 c.read_frame-answer.new.1.1.1.0 c.read_frame-answer.new.1.1.1.1.0 c.read_frame-answer.new.1.1.1.1.1.0 c.read_frame-answer.new.1.1.1.1.1.1.0 c.read_frame-answer.ensures.0)
+
+pub returns : goal.returns
+returns c = read_left c.args.text.now _ _ c.read_frame-answer.new.1.0 c.read_frame-answer.new.1.1.0 c.read_frame-answer.new.1.1.1.0 c.read_frame-answer.new.1.1.1.1.0 c.read_frame-answer.new.1.1.1.1.1.0 c.read_frame-answer.new.1.1.1.1.1.1.0 c.read_frame-answer.ensures.0 _ c.args.settings.now _ c.args.out.now _ c.tell.ensures

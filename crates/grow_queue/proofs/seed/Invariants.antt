@@ -1,0 +1,12 @@
+-- `grow_queue::seed` meets its contract. The loop's invariant: the neighbours of the labelled cells before the place are queued. The
+-- measure is how many places are left. Assumes nothing.
+use Prim.Native.Nat.{◌-◌}
+use native.Mathlib.Omega.{arith}
+use Rattle.grow_queue.proofs.Laws.{Seeding, seeding-start, seeding-length, seeding-room, seeding-more, seeding_skips, seeding-end}
+use Rattle.grow_queue.proofs.seed.Given as goal
+
+abbrev pub invariant-loop-place : goal.invariant-loop-place
+invariant-loop-place l = Seeding l.sheet l.initial.queue l.queue l.seen l.tail l.place
+
+abbrev pub decreases-loop-place : goal.decreases-loop-place
+decreases-loop-place l = 16384 - l.place

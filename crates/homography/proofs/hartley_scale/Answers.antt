@@ -1,0 +1,14 @@
+-- `homography::hartley_scale` meets its contract. Assumes nothing.
+use mathlib.Core.Path.{ap, sym}
+use lib.Ieee.{Float, binary32, div}
+use Rattle.homography.specs.Normalize.{scale_of}
+use Rattle.homography.proofs.Normalizing.{root_two}
+use Rattle.homography.proofs.hartley_scale.Goals as goal
+
+pub returns-then-mean_dist : goal.returns-then-mean_dist
+unfolding scale_of
+returns-then-mean_dist c = rw c.if-mean_dist.true (ap (λ (r : Float). div binary32 r c.args.mean-dist) (sym root_two))
+
+pub returns : goal.returns
+unfolding scale_of
+returns c = rw c.if-mean_dist.false

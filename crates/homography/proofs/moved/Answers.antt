@@ -1,0 +1,8 @@
+-- `homography::moved` meets its contract. Assumes nothing.
+use Rattle.homography.specs.Normalize.{moved}
+use borrow.Author.Rules.{rules}
+use Rattle.homography.proofs.moved.Goals as goal
+
+pub returns : goal.returns
+unfolding moved
+returns c = rw (c.map_row.ensures, c.map_row-2.ensures)

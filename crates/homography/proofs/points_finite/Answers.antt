@@ -1,0 +1,19 @@
+-- `homography::points_finite` meets its contract. The loop's invariant: the points passed are finite. Assumes nothing.
+use Prim.Native.Nat.{◌-◌}
+use borrow.Author.Rules.{rules}
+use Rattle.sheet.specs.Corners.{finite_position}
+use Rattle.homography.specs.Normalize.{point}
+use Rattle.elimination.proofs.Tables.{Passing, passing_start, passing_more, passing_stop, passing_end}
+use Rattle.homography.proofs.points_finite.Goals as goal
+
+pub loop-i-init : goal.loop-i-init
+loop-i-init c = passing_start _ _
+
+pub returns-then-not-point_finite : goal.returns-then-not-point_finite
+returns-then-not-point_finite c = passing_stop c.loop-i.invariant c.loop-i-test.true c.point_finite.ensures c.if-not-point_finite.true
+
+pub loop-i-preserved : goal.loop-i-preserved
+loop-i-preserved c = passing_more c.loop-i.invariant c.loop-i-test.true c.point_finite.ensures c.if-not-point_finite.false
+
+pub returns : goal.returns
+returns c = passing_end c.loop-i.invariant c.loop-i-test.false

@@ -1,0 +1,6 @@
+-- `homography::product_at` meets its contract. Assumes nothing.
+use borrow.Author.Rules.{rules}
+use Rattle.homography.proofs.product_at.Goals as goal
+
+pub returns : goal.returns
+returns c = c.row_sum.ensures

@@ -1,0 +1,16 @@
+-- `join_sheet::write_new` meets its contract: what is left of the array gives the whole sheet. Assumes nothing.
+use mathlib.Core.Path.{sym, ◌∙◌}
+use Prim.Native.Nat.{◌-◌}
+use native.Mathlib.Omega.{arith}
+use borrow.Author.Rules.{rules}
+use Rattle.join.specs.Sheets.{labelled}
+use Rattle.join_sheet.specs.Held.{held_at, held_labels, new_held}
+use Rattle.join_sheet.proofs.Walk.{Rest, rest-start, rest_more, rest_end, write_more, write_end}
+use Rattle.join_sheet.proofs.write_new.Given as goal
+
+abbrev pub invariant-loop-i : goal.invariant-loop-i
+invariant-loop-i l =
+    Rest l.second l.count l.i (λ l. labelled l.sheet (new_held l.used l l.d)) (labelled l.initial.sheet (new_held l.used (held_labels l.second l.count) l.d))
+
+abbrev pub decreases-loop-i : goal.decreases-loop-i
+decreases-loop-i l = l.count - l.i

@@ -1,0 +1,13 @@
+-- `labels::mark_used` meets its contract: at each place the array is tied to the places passed. Assumes nothing.
+use Prim.Native.Nat.{ℕ, ◌-◌}
+use native.Mathlib.Omega.{arith}
+use borrow.Author.Rules.{rules}
+use lib.ListN.{length-replicate, get_or-replicate}
+use Rattle.labels.proofs.Used.{Marking, marking_start, marking-more, marking_skips, marking-end}
+use Rattle.labels.proofs.mark_used.Given as goal
+
+abbrev pub invariant-loop-place : goal.invariant-loop-place
+invariant-loop-place l = Marking l.sheet l.used l.place
+
+abbrev pub decreases-loop-place : goal.decreases-loop-place
+decreases-loop-place l = 16384 - l.place

@@ -1,0 +1,13 @@
+-- `text::line_end` meets its contract: a search from the position on. Assumes nothing.
+use mathlib.Core.Path.{refl}
+use Prim.Native.Nat.{◌-◌}
+use native.Mathlib.Omega.{arith}
+use lib.ListN.{length}
+use Rattle.line_form.proofs.Lines.{Seeking, seek_found, seek-more, seek-end}
+use Rattle.line_form.proofs.text.line_end.Given as goal
+
+abbrev pub invariant-loop-i : goal.invariant-loop-i
+invariant-loop-i l = Seeking l.text l.at l.i
+
+abbrev pub decreases-loop-i : goal.decreases-loop-i
+decreases-loop-i l = length l.text - l.i

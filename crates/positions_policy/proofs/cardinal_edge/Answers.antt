@@ -1,0 +1,43 @@
+-- `positions_policy::cardinal_edge` meets its contract, by what is seen at the neighbour's cell. Assumes nothing.
+use mathlib.Core.Path.{◌≡◌}
+use Rattle.sheet.specs.Cells.{moved}
+use Rattle.sheet.specs.Corners.{corner_in, seen_of}
+use Rattle.positions_policy.specs.Edge.{cardinal_at}
+use Rattle.positions_policy.proofs.Search.{cardinal_within, seen_beside, edge_none, edge-accepted, edge-refused}
+use borrow.Author.Rules.{rules}
+use Rattle.positions_policy.proofs.cardinal_edge.Goals as goal
+use Rattle.positions_policy.proofs.cardinal_edge.Goals.{After-seen_at-seen}
+
+pub neighbour-beside-requires : goal.neighbour-beside-requires
+neighbour-beside-requires c =
+    (c.requires.1.0, rw c.cardinal_offset.ensures (cardinal_within c.args.k c.requires.1.1))
+
+-- what is seen is what is seen at the k-th cardinal neighbour
+at : (c : After-seen_at-seen)
+    → let a = c.args in
+    c.seen_at-seen.result ≡ seen_of (corner_in a.corners.now) a.sheet.now (moved a.c (cardinal_at a.k))
+at c =
+    let a = c.args in
+    seen_beside (seen_of (corner_in a.corners.now) a.sheet.now) a.c
+    c.seen_at-seen.ensures
+    c.neighbour-beside.ensures
+    c.cardinal_offset.ensures
+
+pub returns-in-Nothing : goal.returns-in-Nothing
+returns-in-Nothing c =
+    let a = c.args in
+    edge_none a.tol a.candidate (at (goal.at.returns-in-Nothing c).After-seen_at-seen) c.in-Nothing.is
+
+pub returns-then-edge_ok : goal.returns-then-edge_ok
+returns-then-edge_ok c =
+    let a = c.args in
+    edge-accepted a.tol a.candidate (at (goal.at.returns-then-edge_ok c).After-seen_at-seen) c.in-At.is
+    c.edge_ok.ensures
+    c.if-edge_ok.true
+
+pub returns-else-edge_ok : goal.returns-else-edge_ok
+returns-else-edge_ok c =
+    let a = c.args in
+    edge-refused a.tol a.candidate (at (goal.at.returns-else-edge_ok c).After-seen_at-seen) c.in-At.is
+    c.edge_ok.ensures
+    c.if-edge_ok.false

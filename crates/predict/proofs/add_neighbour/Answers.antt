@@ -1,0 +1,20 @@
+-- `predict::add_neighbour` meets its contract, from those of what it calls; both cells are near the sheet. Assumes nothing.
+use mathlib.Core.Path.{◌∙◌}
+use borrow.Author.Rules.{rules}
+use Rattle.sheet.proofs.Laws.{on_near, difference_within}
+use Rattle.predict.specs.Predict.{with_neighbour}
+use Rattle.predict.proofs.add_neighbour.Goals as goal
+
+pub difference-requires : goal.difference-requires
+difference-requires c =
+    (on_near _ c.requires.on, on_near _ c.requires.on_too)
+
+pub weigh-requires : goal.weigh-requires
+weigh-requires c =
+    rw c.difference.ensures (difference_within _ _ (on_near _ c.requires.on) (on_near _ c.requires.on_too))
+
+pub returns : goal.returns
+unfolding with_neighbour
+returns c =
+    c.weigh.ensures
+    ∙ rw (c.difference.ensures, c.step_vector-i_step.ensures, c.step_vector-j_step.ensures)

@@ -1,0 +1,6 @@
+-- `predict::step_without_forward` meets its contract, by what is seen backward. Assumes nothing.
+use borrow.Author.Rules.{rules}
+use Rattle.predict.proofs.step_without_forward.Goals as goal
+
+pub returns-in-At : goal.returns-in-At
+returns-in-At c = rw c.in-At.is c.one_sided.ensures

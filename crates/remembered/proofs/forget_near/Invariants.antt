@@ -1,0 +1,11 @@
+-- `remembered::forget_near` meets its contract: at each place the words before it are done. Assumes nothing.
+use Prim.Native.Nat.{◌-◌}
+use native.Mathlib.Omega.{arith}
+use Rattle.remembered.proofs.Words.{Forgetting, forgetting_start, forgetting-more, forgetting_skips, forgetting-end}
+use Rattle.remembered.proofs.forget_near.Given as goal
+
+abbrev pub invariant-loop-place : goal.invariant-loop-place
+invariant-loop-place l = Forgetting l.initial.memory l.predictions l.c l.corner l.memory l.place
+
+abbrev pub decreases-loop-place : goal.decreases-loop-place
+decreases-loop-place l = 16384 - l.place

@@ -1,0 +1,15 @@
+-- `remembered::reach_of` meets its contract: cells of the sheet are near each other. Assumes nothing.
+use mathlib.Core.Path.{sym, subst}
+use borrow.Author.Rules.{rules}
+use Rattle.sheet.specs.Cells.{NearSheet, Within}
+use Rattle.sheet.proofs.Laws.{cell_on_lem, cell_place, on_near, difference_within}
+use Rattle.remembered.proofs.reach_of.Goals as goal
+
+pub difference-o-requires : goal.difference-o-requires
+difference-o-requires c = (on_near _ c.requires.1, subst NearSheet (sym c.cell_of.ensures) (on_near _ (cell_on_lem _ c.requires.0)))
+
+pub magnitude-requires : goal.magnitude-requires
+magnitude-requires c = subst (Within 1000) (sym c.difference-o.ensures) (difference_within _ _ (on_near _ c.requires.1) (subst NearSheet (sym c.cell_of.ensures) (on_near _ (cell_on_lem _ c.requires.0))))
+
+pub returns : goal.returns
+returns c = rw (c.magnitude.ensures, c.difference-o.ensures, c.cell_of.ensures, cell_place _ c.requires.1)

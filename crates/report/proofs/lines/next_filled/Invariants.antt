@@ -1,0 +1,12 @@
+-- `lines::next_filled` meets its contract: all lines passed over are empty. Assumes nothing.
+use Prim.Native.Nat.{◌-◌}
+use native.Mathlib.Omega.{arith}
+use Rattle.report.specs.Asked.{Skipped}
+use Rattle.report.proofs.Blank.{skip-start, skip-lines}
+use Rattle.report.proofs.lines.next_filled.Given as goal
+
+abbrev pub invariant-loop-r : goal.invariant-loop-r
+invariant-loop-r l = Skipped l.passes l.words l.sheet l.k l.r
+
+abbrev pub decreases-loop-r : goal.decreases-loop-r
+decreases-loop-r l = l.last - l.r

@@ -1,0 +1,14 @@
+-- `lines::write_some` meets its contract: the lines up to line k stand at the front, and the rest of the piece starts there. Assumes nothing.
+use mathlib.Core.Path.{refl}
+use Prim.Native.Nat.{◌-◌}
+use native.Mathlib.Omega.{arith}
+use Rattle.report.proofs.Short.{tame_short}
+use Rattle.report.proofs.Writing.{Cutting, cutting-start, cutting-length, cutting-full, cutting-last, cutting-asked, cutting-more}
+use Rattle.report.proofs.Blank.{skipped_at}
+use Rattle.report.proofs.lines.write_some.Given as goal
+
+abbrev pub invariant-loop-k : goal.invariant-loop-k
+invariant-loop-k l = Cutting l.passes l.words l.sheet l.from l.initial.out l.out l.at l.k
+
+abbrev pub decreases-loop-k : goal.decreases-loop-k
+decreases-loop-k l = l.count - l.k

@@ -1,0 +1,7 @@
+-- `line::held` meets its contract. Assumes nothing.
+use Rattle.report_line.proofs.Forms.{held_count}
+use borrow.Author.Rules.{rules}
+use Rattle.report_line.proofs.line.held.Goals as goal
+
+pub returns : goal.returns
+returns c = held_count c.args.n

@@ -1,0 +1,7 @@
+-- `put::fill_words` meets its contract. Assumes nothing.
+use Rattle.report_words.proofs.Putting.{fill-words}
+use borrow.Author.Rules.{rules}
+use Rattle.report_words.proofs.put.fill_words.Goals as goal
+
+pub returns : goal.returns
+returns c = fill-words _ c.args.s c.bit.ensures

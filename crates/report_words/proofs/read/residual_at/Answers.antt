@@ -1,0 +1,15 @@
+-- `read::residual_at` meets its contract, by the word that says whether there is one. Assumes nothing.
+use borrow.Author.Rules.{rules}
+use mathlib.Core.Path.{sym, ◌∙◌}
+use borrow.Author.Tests.{not-true, not-false}
+use Rattle.report_words.proofs.Outcomes.{residual-none, residual-some, residual-plain}
+use Rattle.report_words.proofs.read.residual_at.Goals as goal
+
+pub returns-then-not-yes_at : goal.returns-then-not-yes_at
+returns-then-not-yes_at c = residual-none c.args.words.now c.args.k (sym c.yes_at.ensures ∙ not-true _ c.if-not-yes_at.true)
+
+pub float_from_bits-x : goal.float_from_bits-x
+float_from_bits-x c = residual-plain c.args.words.now c.args.k c.requires.tame (sym c.yes_at.ensures ∙ not-false _ c.if-not-yes_at.false)
+
+pub returns : goal.returns
+returns c = residual-some c.args.words.now c.args.k (sym c.yes_at.ensures ∙ not-false _ c.if-not-yes_at.false)
