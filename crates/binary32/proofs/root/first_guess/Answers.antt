@@ -7,10 +7,10 @@ pub returns-then-t-lt1023 : goal.returns-then-t-lt1023
 returns-then-t-lt1023 c =
     let n = c.args.n in
     let t = c.whole_root-t in
-    (table-encloses n t.result c.requires t.ensures.1 c.if-t-lt1023.true, from-table n t.result t.ensures.0 c.if-t-lt1023.true)
+    record { enclosed = table-encloses n t.result c.requires t.ensures.ruled c.if-t-lt1023.true; listed = from-table n t.result t.ensures.listed c.if-t-lt1023.true }
 
 pub returns : goal.returns
 returns c =
     let n = c.args.n in
     let t = c.whole_root-t in
-    (table-encloses-last n t.result c.requires t.ensures.1, from-table-last n t.result t.ensures.0 c.if-t-lt1023.false)
+    record { enclosed = table-encloses-last n t.result c.requires t.ensures.ruled; listed = from-table-last n t.result t.ensures.listed c.if-t-lt1023.false }
