@@ -2,7 +2,7 @@
 use native.Mathlib.Omega.{arith}
 use borrow.Author.Rules.{rules}
 use lib.IntN.{pos}
-use Rattle.sheet.proofs.Laws.{sub-fits, sub_read}
+use Rattle.sheet.proofs.Laws.{sub_fits, sub_read}
 use Rattle.frame_number.proofs.cell_of.Goals as goal
 
 pub returns : goal.returns

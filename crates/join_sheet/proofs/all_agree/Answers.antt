@@ -7,11 +7,11 @@ use borrow.Author.Rules.{rules}
 use Rattle.join.specs.Rule.{shifted_by}
 use Rattle.join.specs.Join.{every}
 use Rattle.join_sheet.specs.Held.{held_at, held_labels, agrees_on}
-use Rattle.join_sheet.proofs.Walk.{Rest, rest-start, rest_more, rest-stop, rest_end, test-yes, test-no, test_all}
+use Rattle.join_sheet.proofs.Walk.{Rest, rest_start, rest_more, rest_stop, rest_end, test_yes, test_no, test_all}
 use Rattle.join_sheet.proofs.all_agree.Goals as goal
 
 pub loop-i-init : goal.loop-i-init
-loop-i-init c = rest-start _ _ _
+loop-i-init c = rest_start _ _ _
 
 pub moved_cell-requires : goal.moved_cell-requires
 moved_cell-requires c =
@@ -24,15 +24,15 @@ agrees-requires c =
 pub returns-then-not-agrees : goal.returns-then-not-agrees
 returns-then-not-agrees c =
     let l = c.loop-i in
-    rest-stop _ _ _ l.invariant c.loop-i-test.true
-    (test-no (agrees_on c.args.sheet.now) c.args.d (held_at c.args.second.now l.i) _
+    rest_stop _ _ _ l.invariant c.loop-i-test.true
+    (test_no (agrees_on c.args.sheet.now) c.args.d (held_at c.args.second.now l.i) _
     (c.agrees.ensures ∙ rw (c.moved_cell.ensures, c.wide-corner.ensures)) c.if-not-agrees.true)
 
 pub loop-i-preserved : goal.loop-i-preserved
 loop-i-preserved c =
     let l = c.loop-i in
     rest_more _ _ _ l.invariant c.loop-i-test.true
-    (test-yes (agrees_on c.args.sheet.now) c.args.d (held_at c.args.second.now l.i) _
+    (test_yes (agrees_on c.args.sheet.now) c.args.d (held_at c.args.second.now l.i) _
     (c.agrees.ensures ∙ rw (c.moved_cell.ensures, c.wide-corner.ensures)) c.if-not-agrees.false)
 
 pub returns : goal.returns

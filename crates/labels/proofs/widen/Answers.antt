@@ -25,18 +25,18 @@ returns-in-Around c =
     let d = c.args.c in
     let known = c.around-1.given in
     let b = known.0.0 in
-    let i-fits : SFits w32 d.i = search rules in
-    let j-fits : SFits w32 d.j = search rules in
-    let low-i-fits : SFits w32 b.low_i = search rules in
-    let high-i-fits : SFits w32 b.high_i = search rules in
-    let low-j-fits : SFits w32 b.low_j = search rules in
-    let high-j-fits : SFits w32 b.high_j = search rules in
+    let i_fits : SFits w32 d.i = search rules in
+    let j_fits : SFits w32 d.j = search rules in
+    let low_i_fits : SFits w32 b.low_i = search rules in
+    let high_i_fits : SFits w32 b.high_i = search rules in
+    let low_j_fits : SFits w32 b.low_j = search rules in
+    let high_j_fits : SFits w32 b.high_j = search rules in
     let low-i = c.lower in
     let high-i = c.higher in
     let low-j = c.lower-in-Around in
     let high-j = c.higher-in-Around in
     widened_around _ _ _ _ _ _ _ known.1
-    (back low-i.type-inv (rw (to_z-of_z low-i-fits, to_z-of_z i-fits) at low-i.ensures))
-    (back high-i.type-inv (rw (to_z-of_z high-i-fits, to_z-of_z i-fits) at high-i.ensures))
-    (back low-j.type-inv (rw (to_z-of_z low-j-fits, to_z-of_z j-fits) at low-j.ensures))
-    (back high-j.type-inv (rw (to_z-of_z high-j-fits, to_z-of_z j-fits) at high-j.ensures))
+    (back low-i.type-inv (rw (to_z-of_z low_i_fits, to_z-of_z i_fits) at low-i.ensures))
+    (back high-i.type-inv (rw (to_z-of_z high_i_fits, to_z-of_z i_fits) at high-i.ensures))
+    (back low-j.type-inv (rw (to_z-of_z low_j_fits, to_z-of_z j_fits) at low-j.ensures))
+    (back high-j.type-inv (rw (to_z-of_z high_j_fits, to_z-of_z j_fits) at high-j.ensures))

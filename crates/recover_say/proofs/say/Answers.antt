@@ -6,7 +6,7 @@ use lib.ListN.{length, length-take}
 use borrow.Author.Rules.{rules}
 use Rattle.recover_say.specs.Said.{Telling, PutSo}
 use Rattle.recover_say.specs.declared.Put.{Put}
-use Rattle.recover_say.proofs.Telling.{begun, few_lines, text-so, one_more, told_of}
+use Rattle.recover_say.proofs.Telling.{begun, few_lines, text_so, one_more, told_of}
 use Rattle.recover_say.proofs.say.Reads as reads
 use Rattle.recover_say.proofs.say.Lts as lts
 use Rattle.io.proofs.buffer.Reads as buffer-reads
@@ -40,7 +40,7 @@ pub put_piece-put-requires : goal.put_piece-put-requires
 put_piece-put-requires c =
     let l = c.loop-from in
     let p = c.answer_piece-piece in
-    (text-so _ _ _ l.invariant p.ensures.0, omega (arith, l.invariant.behind, c.loop-from-test.true, c.answer_lines-lines.ensures, few_lines c.args.answer c.requires.few_passes))
+    (text_so _ _ _ l.invariant p.ensures.0, omega (arith, l.invariant.behind, c.loop-from-test.true, c.answer_lines-lines.ensures, few_lines c.args.answer c.requires.few_passes))
 
 pub returns-in-Failed : goal.returns-in-Failed
 returns-in-Failed c = told_of _ _ _ c.loop-from.invariant c.answer_lines-lines.ensures
