@@ -1,5 +1,6 @@
 -- `arguments::hold_shades` meets its contract: one shade after the other is put into the array. Assumes nothing.
-use mathlib.Core.Path.{sym, ◌∙◌}
+use mathlib.Core.Bool.{not}
+use mathlib.Core.Path.{sym, ◌∙◌, ap}
 use Prim.Native.Nat.{◌-◌}
 use native.Mathlib.Omega.{arith}
 use borrow.Author.Tests.{not-true, not-false}
@@ -30,10 +31,10 @@ returns-then-not-any_shade c =
     let two = c.requires.0 in
     let g = c.loop-k.invariant in
     let all = c.loop-k-test.false in
-    (shading_corners two g all, shading_none two g all (sym c.any_shade.ensures ∙ not-true _ c.if-not-any_shade.true))
+    (shading_corners two g all, shading_none two g all (sym c.any_shade.ensures ∙ not-true _ (ap not c.if-not-any_shade.true)))
 
 pub returns-else-not-any_shade : goal.returns-else-not-any_shade
 returns-else-not-any_shade c =
     let two = c.requires.0 in
     let g = c.loop-k.invariant in
-    (g.corners, shading_some two g c.loop-k-test.false (sym c.any_shade.ensures ∙ not-false _ c.if-not-any_shade.false))
+    (g.corners, shading_some two g c.loop-k-test.false (sym c.any_shade.ensures ∙ not-false _ (ap not c.if-not-any_shade.false)))

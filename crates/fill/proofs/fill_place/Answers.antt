@@ -1,6 +1,6 @@
 -- `fill::fill_place` meets its contract: by the region's test and by the label that the place has now. Assumes nothing.
 use mathlib.Core.Path.{◌≡◌, sym, ap, ◌∙◌}
-use mathlib.Core.Bool.{true}
+use mathlib.Core.Bool.{true, not}
 use borrow.Author.Rules.{rules}
 use borrow.Author.Tests.{not-true, not-false}
 use Rattle.sheet.specs.Cells.{cell_of}
@@ -14,12 +14,12 @@ use Rattle.fill.proofs.fill_place.Goals.{Else-not-is_fill_cell}
 
 -- the place's cell lies in the region
 inside : (c : Else-not-is_fill_cell) → box_and_strips c.args.around (cell_of c.args.place) ≡ true
-inside c = ap (box_and_strips c.args.around) (sym c.cell_of-c.ensures) ∙ sym c.is_fill_cell.ensures ∙ not-false _ c.if-not-is_fill_cell.false
+inside c = ap (box_and_strips c.args.around) (sym c.cell_of-c.ensures) ∙ sym c.is_fill_cell.ensures ∙ not-false _ (ap not c.if-not-is_fill_cell.false)
 
 pub returns-then-not-is_fill_cell : goal.returns-then-not-is_fill_cell
 returns-then-not-is_fill_cell c =
     untouched c.requires.filling
-    (looked_out _ _ _ _ _ (ap (box_and_strips c.args.around) (sym c.cell_of-c.ensures) ∙ sym c.is_fill_cell.ensures ∙ not-true _ c.if-not-is_fill_cell.true))
+    (looked_out _ _ _ _ _ (ap (box_and_strips c.args.around) (sym c.cell_of-c.ensures) ∙ sym c.is_fill_cell.ensures ∙ not-true _ (ap not c.if-not-is_fill_cell.true)))
 
 pub returns-then-is_labelled : goal.returns-then-is_labelled
 returns-then-is_labelled c = untouched c.requires.filling (looked_labelled _ _ _ _ _ c.requires.below (inside (goal.at.returns-then-is_labelled c).Else-not-is_fill_cell) (sym c.is_labelled.ensures ∙ c.if-is_labelled.true))

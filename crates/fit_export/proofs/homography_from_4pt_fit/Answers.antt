@@ -1,4 +1,6 @@
 -- `fit_export::homography_from_4pt_fit` meets its contract: too short, no fit, a fit. Assumes nothing.
+use mathlib.Core.Bool.{not}
+use mathlib.Core.Path.{ap}
 use native.Mathlib.Omega.{arith}
 use borrow.Author.Rules.{rules}
 use Rattle.fit_export.proofs.Leaving.{long_enough, leaves_short, leaves_none, leaves_fit}
@@ -20,7 +22,7 @@ returns-then-not-fit c =
     let a = c.args in
     leaves_none a.cells-x.now a.cells-y.now a.corners-x.now a.corners-y.now a.out.now c.too_short.ensures c.if-too_short.false
     c.points_of-cells.ensures c.points_of-corners.ensures
-    c.homography_from_4pt-fit.ensures c.if-not-fit.true
+    c.homography_from_4pt-fit.ensures (ap not c.if-not-fit.true)
 
 pub enter-requires : goal.enter-requires
 enter-requires c =
@@ -31,4 +33,4 @@ returns c =
     let a = c.args in
     leaves_fit a.cells-x.now a.cells-y.now a.corners-x.now a.corners-y.now a.out.now c.too_short.ensures c.if-too_short.false
     c.points_of-cells.ensures c.points_of-corners.ensures
-    c.homography_from_4pt-fit.ensures c.if-not-fit.false c.enter.ensures
+    c.homography_from_4pt-fit.ensures (ap not c.if-not-fit.false) c.enter.ensures

@@ -50,3 +50,6 @@ returns-then-may_end c =
 
 pub returns : goal.returns
 returns c = end_missing c.loop-at.invariant c.loop-at-test.false (sym c.may_end.ensures ∙ c.if-may_end.false)
+
+pub start-p-requires : goal.start-p-requires
+start-p-requires c = tt

@@ -14,3 +14,15 @@ loop-i-preserved c = searching_more _ _ _ c.loop-i.invariant c.loop-i-test.true 
 
 pub returns : goal.returns
 returns c = searching_end _ _ _ c.loop-i.invariant c.loop-i-test.false
+
+pub loop-i-init : goal.loop-i-init
+loop-i-init c = searching_start _ _
+
+pub overflow_add-i : goal.overflow_add-i
+overflow_add-i c = omega (arith, c.requires)
+
+pub offset_bounds-second-i : goal.offset_bounds-second-i
+offset_bounds-second-i c = omega (arith, c.requires)
+
+pub bounds-second-i : goal.bounds-second-i
+bounds-second-i c = omega (arith, c.requires)

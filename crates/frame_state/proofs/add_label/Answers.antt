@@ -18,3 +18,6 @@ with_label-requires c = c.requires.first c.if-p.false
 
 pub returns : goal.returns
 returns c = to_first _ _ _ _ _ _ c.if-p.false c.with_label.ensures c.put_label.ensures
+
+pub put_label-requires : goal.put_label-requires
+put_label-requires c = c.requires.label

@@ -1,7 +1,7 @@
 -- `grow_queue::enqueue` meets its contract, by each of its four ways. Assumes nothing.
 use Prim.Native.Nat.{◌<◌}
-use mathlib.Core.Path.{◌≡◌, sym, ◌∙◌, subst}
-use mathlib.Core.Bool.{true}
+use mathlib.Core.Path.{◌≡◌, sym, ◌∙◌, subst, ap}
+use mathlib.Core.Bool.{true, not}
 use lib.Dec.{T}
 use borrow.Author.Tests.{not-true, not-false}
 use native.Mathlib.Omega.{arith}
@@ -13,13 +13,13 @@ use Rattle.grow_queue.proofs.enqueue.Goals.{After-place_of-place, After-shared_s
 
 -- past the first test the cell is on the sheet, and its place is below 16,384
 on : (c : Else-not-on_sheet) → on_sheet c.args.c ≡ true
-on c = sym c.on_sheet.ensures ∙ not-false _ c.if-not-on_sheet.false
+on c = sym c.on_sheet.ensures ∙ not-false _ (ap not c.if-not-on_sheet.false)
 
 below : (c : After-place_of-place) → c.place_of-place.result < 16384
 below c = place_below _ c.requires (on (goal.at.After-place_of-place c).Else-not-on_sheet) c.place_of-place.ensures
 
 pub returns-then-not-on_sheet : goal.returns-then-not-on_sheet
-returns-then-not-on_sheet c = queue_off _ c.requires (sym c.on_sheet.ensures ∙ not-true _ c.if-not-on_sheet.true)
+returns-then-not-on_sheet c = queue_off _ c.requires (sym c.on_sheet.ensures ∙ not-true _ (ap not c.if-not-on_sheet.true))
 
 pub place_of-place-requires : goal.place_of-place-requires
 place_of-place-requires c = subst T (sym (on c)) tt

@@ -1,5 +1,6 @@
 -- `join_sheet::all_agree` meets its contract: what is left of the array decides. Assumes nothing.
-use mathlib.Core.Path.{sym, ◌∙◌}
+use mathlib.Core.Bool.{not}
+use mathlib.Core.Path.{sym, ◌∙◌, ap}
 use mathlib.Core.List.{map}
 use Prim.Native.Nat.{◌-◌}
 use native.Mathlib.Omega.{arith}
@@ -26,14 +27,14 @@ returns-then-not-agrees c =
     let l = c.loop-i in
     rest_stop _ _ _ l.invariant c.loop-i-test.true
     (test_no (agrees_on c.args.sheet.now) c.args.d (held_at c.args.second.now l.i) _
-    (c.agrees.ensures ∙ rw (c.moved_cell.ensures, c.wide-corner.ensures)) c.if-not-agrees.true)
+    (c.agrees.ensures ∙ rw (c.moved_cell.ensures, c.wide-corner.ensures)) (ap not c.if-not-agrees.true))
 
 pub loop-i-preserved : goal.loop-i-preserved
 loop-i-preserved c =
     let l = c.loop-i in
     rest_more _ _ _ l.invariant c.loop-i-test.true
     (test_yes (agrees_on c.args.sheet.now) c.args.d (held_at c.args.second.now l.i) _
-    (c.agrees.ensures ∙ rw (c.moved_cell.ensures, c.wide-corner.ensures)) c.if-not-agrees.false)
+    (c.agrees.ensures ∙ rw (c.moved_cell.ensures, c.wide-corner.ensures)) (ap not c.if-not-agrees.false))
 
 pub returns : goal.returns
 returns c = sym (test_all _) ∙ rest_end _ _ c.loop-i.invariant c.loop-i-test.false

@@ -1,5 +1,6 @@
 -- `join_sheet::all_on` meets its contract: what is left of the array decides. Assumes nothing.
-use mathlib.Core.Path.{sym, ◌∙◌}
+use mathlib.Core.Bool.{not}
+use mathlib.Core.Path.{sym, ◌∙◌, ap}
 use mathlib.Core.List.{map}
 use Prim.Native.Nat.{◌-◌}
 use native.Mathlib.Omega.{arith}
@@ -23,7 +24,7 @@ returns-then-not-on_sheet c =
     let l = c.loop-i in
     rest_stop _ _ _ l.invariant c.loop-i-test.true
     (test_no (λ (m : Placed). on_sheet m.cell) c.args.d (held_at c.args.second.now l.i) _
-    (c.on_sheet.ensures ∙ rw c.moved_cell.ensures) c.if-not-on_sheet.true)
+    (c.on_sheet.ensures ∙ rw c.moved_cell.ensures) (ap not c.if-not-on_sheet.true))
 
 pub overflow_add-i : goal.overflow_add-i
 overflow_add-i c = omega (arith, c.requires.0.few)
@@ -33,7 +34,7 @@ loop-i-preserved c =
     let l = c.loop-i in
     rest_more _ _ _ l.invariant c.loop-i-test.true
     (test_yes (λ (m : Placed). on_sheet m.cell) c.args.d (held_at c.args.second.now l.i) _
-    (c.on_sheet.ensures ∙ rw c.moved_cell.ensures) c.if-not-on_sheet.false)
+    (c.on_sheet.ensures ∙ rw c.moved_cell.ensures) (ap not c.if-not-on_sheet.false))
 
 pub returns : goal.returns
 returns c = sym (test_all _) ∙ rest_end _ _ c.loop-i.invariant c.loop-i-test.false
