@@ -70,9 +70,9 @@ module _ (corner : ℕ → Corner) (sheet : List ℕ) (c : Cell) where
   unfolding is_seen
   not_seen e = sym (ap is_seen (seen_none corner sheet c e))
 
-  pub is_seen : (k : ℕ) → label_at sheet c ≡ Label.Corner k → true ≡ is_seen (seen_of corner sheet c)
+  pub is_seen_holds : (k : ℕ) → label_at sheet c ≡ Label.Corner k → true ≡ is_seen (seen_of corner sheet c)
   unfolding is_seen
-  is_seen k e = sym (ap is_seen (seen_some corner sheet c k e))
+  is_seen_holds k e = sym (ap is_seen (seen_some corner sheet c k e))
 
   -- a cell at which a corner is seen is on the sheet
   pub seen_on : (k : Corner) → seen_of corner sheet c ≡ Seen.At k → OnSheet c

@@ -9,7 +9,7 @@ use Rattle.fit_export.proofs.homography_from_4pt_fit.Goals as goal
 pub returns-then-too_short : goal.returns-then-too_short
 returns-then-too_short c =
     let a = c.args in
-    leaves_short a.cells-x.now a.cells-y.now a.corners-x.now a.corners-y.now a.out.now c.too_short.ensures c.if-too_short.true
+    leaves_short a.cells_x.now a.cells_y.now a.corners_x.now a.corners_y.now a.out.now c.too_short.ensures c.if-too_short.true
 
 pub points_of-cells-requires : goal.points_of-cells-requires
 points_of-cells-requires c = let l = long_enough _ _ _ _ _ c.too_short.ensures c.if-too_short.false in (omega arith, omega arith)
@@ -20,7 +20,7 @@ points_of-corners-requires c = let l = long_enough _ _ _ _ _ c.too_short.ensures
 pub returns-then-not-fit : goal.returns-then-not-fit
 returns-then-not-fit c =
     let a = c.args in
-    leaves_none a.cells-x.now a.cells-y.now a.corners-x.now a.corners-y.now a.out.now c.too_short.ensures c.if-too_short.false
+    leaves_none a.cells_x.now a.cells_y.now a.corners_x.now a.corners_y.now a.out.now c.too_short.ensures c.if-too_short.false
     c.points_of-cells.ensures c.points_of-corners.ensures
     c.homography_from_4pt-fit.ensures (ap not c.if-not-fit.true)
 
@@ -31,6 +31,6 @@ enter-requires c =
 pub returns : goal.returns
 returns c =
     let a = c.args in
-    leaves_fit a.cells-x.now a.cells-y.now a.corners-x.now a.corners-y.now a.out.now c.too_short.ensures c.if-too_short.false
+    leaves_fit a.cells_x.now a.cells_y.now a.corners_x.now a.corners_y.now a.out.now c.too_short.ensures c.if-too_short.false
     c.points_of-cells.ensures c.points_of-corners.ensures
     c.homography_from_4pt-fit.ensures (ap not c.if-not-fit.false) c.enter.ensures

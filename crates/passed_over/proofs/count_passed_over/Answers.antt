@@ -20,7 +20,7 @@ kinds s = takes_kind (shades_in s.args.corners.now) s.args.kind
 
 pub returns-then-not-is_shaded : goal.returns-then-not-is_shaded
 returns-then-not-is_shaded c = let a = c.args in
-    sym (none_passed_over (positions_in a.corners.now) (unmarked a.used.now) (kinds (goal.at.returns-then-not-is_shaded c).Start) a.count a.prediction a.search-r
+    sym (none_passed_over (positions_in a.corners.now) (unmarked a.used.now) (kinds (goal.at.returns-then-not-is_shaded c).Start) a.count a.prediction a.search_r
     (λ k h. takes_every (shades_in a.corners.now) a.kind k (sym c.is_shaded.ensures ∙ not-true _ (ap not c.if-not-is_shaded.true))))
 
 pub returns-then-not-is_finite : goal.returns-then-not-is_finite

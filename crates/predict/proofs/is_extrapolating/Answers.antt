@@ -12,7 +12,7 @@ use Rattle.predict.proofs.is_extrapolating.Goals as goal
 use Rattle.predict.proofs.is_extrapolating.Goals.{Else-not-has_neighbour, Else-not-has_neighbour-2, Else-not-has_neighbour-3, Start}
 
 -- the sides that were passed have a neighbour
-abbrev has : tie.Start → (ℕ → Corner) → Side → Type 0
+abbrev has : Start → (ℕ → Corner) → Side → Type 0
 has s corner side = has_neighbour (seen_of corner s.args.sheet.now) s.args.c side ≡ true
 
 minus_i : (c : Else-not-has_neighbour) (corner : ℕ → Corner) → has (goal.at.Else-not-has_neighbour c).Start corner Side.MinusI
