@@ -59,6 +59,7 @@ by_all l (r ∷ more) g = by_all (recorded l r) more (by_step l r g)
 -- some that are not, and then one that is not
 put_on : (l : LargestResidual) {r : Float} {rs : List Float} → CoveredBy l (r ∷ []) → CoveredBy l rs → CoveredBy l (r ∷ rs)
 put_on (LargestResidual.Residual m) (by (covered_more h covered_none)) (by g) = by (covered_more h g)
+put_on LargestResidual.Nothing {r = r} {rs = rs} x'' _ = elim x'' [ ]
 
 own : (l : LargestResidual) (r : Float) → CoveredBy (recorded l r) (r ∷ [])
 unfolding recorded

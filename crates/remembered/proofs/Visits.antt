@@ -54,6 +54,7 @@ module _ (cs : Corners) (set : Settings) (p : LocalExtensionParams) (c : Cell) (
   by_mapped (fitted h rs) e (within k g a) =
       visit_fitted cs set p c s (fitted h rs) e h rs refl k
       ∙ rw (a, same_state s g)
+  by_mapped none {at = at} e x'' = elim x'' [ ]
 
   -- where no shade stands none is passed over
   none_over : cs.shades.any ≡ false → (at : Position) → local_try cs set p c at s ≡ local_with c (try_at cs s.sheet (tolerances_of set) (local_search set p) c at) s

@@ -34,7 +34,7 @@ loop-place-smaller c = let l = c.next_inside-place-in-loop-place.ensures.start i
 
 pub loop-place-preserved : goal.loop-place-preserved
 loop-place-preserved c = walking_jumps _ _ _ _ _ _ _ _ _ _ _ _ c.label_box-around.ensures c.window_of-window.ensures
-    (walking_more _ _ _ _ _ _ _ _ _ _ _ c.loop-place.invariant _ _ _ _ _ c.loop-place-test.true c.label_box-around.ensures c.fill_place-reached.auto.1.0 c.fill_place-reached.auto.1.1.0 c.fill_place-reached.ensures)
+    (walking_more _ _ _ _ _ _ _ _ _ _ _ c.loop-place.invariant _ _ _ _ _ c.loop-place-test.true c.label_box-around.ensures c.fill_place-reached.auto.sheet c.fill_place-reached.auto.attached c.fill_place-reached.ensures)
     c.next_inside-place-in-loop-place.ensures
 
 pub shape_of-sheet : goal.shape_of-sheet

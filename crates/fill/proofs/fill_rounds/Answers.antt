@@ -16,10 +16,10 @@ pub overflow_add-rounds : goal.overflow_add-rounds
 overflow_add-rounds c = omega (arith, c.loop-rounds-test.true, c.ranges.limit)
 
 pub shape_of-sheet-then-next-made : goal.shape_of-sheet-then-next-made
-shape_of-sheet-then-next-made c = c.fill_round-next.auto.1.0 ∙ c.loop-rounds.invariant.same_sheet
+shape_of-sheet-then-next-made c = c.fill_round-next.auto.sheet ∙ c.loop-rounds.invariant.same_sheet
 
 pub shape_of-attached-then-next-made : goal.shape_of-attached-then-next-made
-shape_of-attached-then-next-made c = c.fill_round-next.auto.1.1.0 ∙ c.loop-rounds.invariant.same_list_holds
+shape_of-attached-then-next-made c = c.fill_round-next.auto.attached ∙ c.loop-rounds.invariant.same_list_holds
 
 pub returns-then-next-made : goal.returns-then-next-made
 returns-then-next-made c = rounding_last _ _ _ _ _ _ _ _ _ _ _ c.loop-rounds.invariant _ _ _ _ c.loop-rounds-test.true c.fill_round-next.ensures c.if-next-made.true
@@ -30,7 +30,7 @@ loop-rounds-smaller c = omega (arith, c.loop-rounds-test.true)
 pub loop-rounds-preserved : goal.loop-rounds-preserved
 loop-rounds-preserved c =
     rounding_more _ _ _ _ _ _ _ _ _ _ _ c.loop-rounds.invariant _ _ _ _ c.loop-rounds-test.true c.fill_round-next.ensures c.if-next-made.false
-    c.fill_round-next.auto.1.0 c.fill_round-next.auto.1.1.0
+    c.fill_round-next.auto.sheet c.fill_round-next.auto.attached
 
 pub shape_of-sheet : goal.shape_of-sheet
 shape_of-sheet c = c.loop-rounds.invariant.same_sheet

@@ -12,7 +12,7 @@ use Rattle.fill.specs.Filling.{state_of, Taking}
 use Rattle.fill.proofs.Visit.{visit_none, visit_found, untouched, taking_room, taking_fits, found_none, found_ambiguous, found_refused, found_corner}
 use borrow.Author.Rules.{rules}
 use Rattle.fill.proofs.try_fill_cell.Goals as goal
-use Rattle.fill.proofs.try_fill_cell.Goals.{After-try_attach_at_cell-found, In-Attached-2}
+use Rattle.fill.proofs.try_fill_cell.Goals.{After-try_attach_at_cell-found, In-Attached}
 
 -- what was found is what the definition finds
 found_is : (c : After-try_attach_at_cell-found) → let a = c.args in c.try_attach_at_cell-found.result ≡ try_at (corners_in a.corners.now a.setup.count) a.sheet.now (tolerances_of a.setup.settings) (fill_search a.setup.settings a.setup.params) a.c c.in-At.at
@@ -35,16 +35,16 @@ pub returns-in_default : goal.returns-in_default
 returns-in_default c = untouched c.requires.filling (visit_none _ _ _ _ _ _ c.predict_from_neighbours-prediction.ensures c.in_default.is)
 
 -- the corner to attach
-attach_this : (c : In-Attached-2) → let a = c.args in Taking a.setup.count a.sheet.now a.attached.now a.used.now a.made a.c c.in-Attached.k
+attach_this : (c : In-Attached) → let a = c.args in Taking a.setup.count a.sheet.now a.attached.now a.used.now a.made a.c c.in-Attached.k
 attach_this c =
     let a = c.args in
     let k = c.in-Attached.k in
-    let w = attachable (corners_in a.corners.now a.setup.count) a.sheet.now (tolerances_of a.setup.settings) (fill_search a.setup.settings a.setup.params) a.c _ k (sym (found_is (goal.at.In-Attached-2 c).After-try_attach_at_cell-found) ∙ c.in-Attached.is) in
+    let w = attachable (corners_in a.corners.now a.setup.count) a.sheet.now (tolerances_of a.setup.settings) (fill_search a.setup.settings a.setup.params) a.c _ k (sym (found_is (goal.at.In-Attached c).After-try_attach_at_cell-found) ∙ c.in-Attached.is) in
     record { trying = c.requires; there = w.given; free = w.free }
 
 pub attach_corner-requires : goal.attach_corner-requires
 attach_corner-requires c =
-    let t = attach_this (goal.at.attach_corner-requires c).In-Attached-2 in
+    let t = attach_this (goal.at.attach_corner-requires c).In-Attached in
     record { sheet_cell = record { long = t.trying.filling.given.long; on = t.trying.on }; entry = taking_fits t; space = taking_room t }
 
 pub returns-in-NoCandidates : goal.returns-in-NoCandidates
@@ -57,4 +57,4 @@ pub returns-in-EdgeRejected : goal.returns-in-EdgeRejected
 returns-in-EdgeRejected c = found_refused _ (visited (goal.at.returns-in-EdgeRejected c).After-try_attach_at_cell-found) c.requires.filling c.in-EdgeRejected.is
 
 pub returns-in-Attached : goal.returns-in-Attached
-returns-in-Attached c = found_corner _ (visited (goal.at.returns-in-Attached c).After-try_attach_at_cell-found) (attach_this (goal.at.returns-in-Attached c).In-Attached-2) c.in-Attached.is c.attach_corner.ensures
+returns-in-Attached c = found_corner _ (visited (goal.at.returns-in-Attached c).After-try_attach_at_cell-found) (attach_this (goal.at.returns-in-Attached c).In-Attached) c.in-Attached.is c.attach_corner.ensures

@@ -5,13 +5,22 @@ use borrow.Author.Rules.{rules}
 use Rattle.frame.proofs.read_frame.Goals as goal
 
 pub returns-then-too_short : goal.returns-then-too_short
-returns-then-too_short c = promised _ _ (call_short _ _ (sym c.too_short.ensures ∙ c.if-too_short.true))
+returns-then-too_short c =
+    let both_clauses =
+      promised _ _ (call_short _ _ (sym c.too_short.ensures ∙ c.if-too_short.true)) in
+    record { passes_after = both_clauses.0; said = both_clauses.1 }
 
 pub returns-then-text-gt-BYTES : goal.returns-then-text-gt-BYTES
-returns-then-text-gt-BYTES c = promised _ _ (call_long _ _ (sym c.too_short.ensures ∙ c.if-too_short.false) c.if-text-gt-BYTES.true)
+returns-then-text-gt-BYTES c =
+    let both_clauses =
+      promised _ _ (call_long _ _ (sym c.too_short.ensures ∙ c.if-too_short.false) c.if-text-gt-BYTES.true) in
+    record { passes_after = both_clauses.0; said = both_clauses.1 }
 
 pub read_text-requires : goal.read_text-requires
 read_text-requires c = long_enough c.args.text.now _ (sym c.too_short.ensures ∙ c.if-too_short.false)
 
 pub returns : goal.returns
-returns c = promised _ _ (c.read_text.ensures ∙ call_read _ _ (sym c.too_short.ensures ∙ c.if-too_short.false) c.if-text-gt-BYTES.false)
+returns c =
+    let both_clauses =
+      promised _ _ (c.read_text.ensures ∙ call_read _ _ (sym c.too_short.ensures ∙ c.if-too_short.false) c.if-text-gt-BYTES.false) in
+    record { passes_after = both_clauses.0; said = both_clauses.1 }

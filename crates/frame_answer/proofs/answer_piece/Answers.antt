@@ -14,7 +14,13 @@ pub result_piece-requires : goal.result_piece-requires
 result_piece-requires c = (case_done c.args.answer c.args.words.now c.args.sheet.now c.requires.can_say c.args.from c.requires.from_bound _ _ c.in-Done.is, (case_below c.args.answer c.args.words.now c.args.sheet.now c.requires.can_say c.args.from c.requires.from_bound _ _ c.in-Done.is, c.requires.line_room_in_bounds))
 
 pub returns-in-Refused : goal.returns-in-Refused
-returns-in-Refused c = case_first c.args.answer c.args.words.now c.args.sheet.now c.requires.can_say c.args.from c.requires.from_bound _ _ c.in-Refused.is _ _ _ _ c.refused_piece.ensures.wrote_piece c.refused_piece.ensures.moves
+returns-in-Refused c =
+    let both_clauses =
+      case_first c.args.answer c.args.words.now c.args.sheet.now c.requires.can_say c.args.from c.requires.from_bound _ _ c.in-Refused.is _ _ _ _ c.refused_piece.ensures.wrote_piece c.refused_piece.ensures.moves in
+    record { wrote_piece = both_clauses.0; moves = both_clauses.1 }
 
 pub returns-in-Done : goal.returns-in-Done
-returns-in-Done c = (case_wrote c.args.answer c.args.words.now c.args.sheet.now c.requires.can_say c.args.from c.requires.from_bound _ c.in-Done.is _ _ _ _ c.result_piece.ensures.wrote_piece, c.result_piece.ensures.moves)
+returns-in-Done c =
+    let both_clauses =
+      (case_wrote c.args.answer c.args.words.now c.args.sheet.now c.requires.can_say c.args.from c.requires.from_bound _ c.in-Done.is _ _ _ _ c.result_piece.ensures.wrote_piece, c.result_piece.ensures.moves) in
+    record { wrote_piece = both_clauses.0; moves = both_clauses.1 }

@@ -14,11 +14,11 @@ pub returns-in-Refused : goal.returns-in-Refused
 returns-in-Refused c =
     let a = c.args in
     recovered_not a.text.now a.xs.now a.ys.now a.pitches.now a.shades.now a.sheet.now a.passes.now c.requires.frame_room _
-    c.read_frame-answer.new.1.0 c.read_frame-answer.new.1.1.0 c.read_frame-answer.new.1.1.1.0 c.read_frame-answer.new.1.1.1.1.0
-    c.read_frame-answer.new.1.1.1.1.1.0 c.read_frame-answer.new.1.1.1.1.1.1.0 c.read_frame-answer.ensures.passes_after _ _ c.in-Refused.is a.queue.now a.attached.now a.words.now
+    c.read_frame-answer.new.xs c.read_frame-answer.new.ys c.read_frame-answer.new.pitches c.read_frame-answer.new.shades
+    c.read_frame-answer.new.sheet c.read_frame-answer.new.passes c.read_frame-answer.ensures.passes_after _ _ c.in-Refused.is a.queue.now a.attached.now a.words.now
 
 pub shape_of-xs-in-Accepted : goal.shape_of-xs-in-Accepted
-shape_of-xs-in-Accepted c = c.read_frame-answer.auto.1.0
+shape_of-xs-in-Accepted c = c.read_frame-answer.auto.xs
 
 pub returns-in-Accepted : goal.returns-in-Accepted
 returns-in-Accepted c =

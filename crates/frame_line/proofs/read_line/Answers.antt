@@ -62,6 +62,12 @@ pub loop-row-preserved : goal.loop-row-preserved
 unfolding rows held_read
 loop-row-preserved c = held_more c.loop-row.invariant c.loop-row-test.true _ (fit (goal.at.loop-row-preserved c).After-fit_line-fit) c.if-fit.false
 
+pub loop-row-preserved-then-not-has_second : goal.loop-row-preserved-then-not-has_second
+unfolding rows held_read
+loop-row-preserved-then-not-has_second c =
+    looking_more c.loop-row.invariant c.loop-row-test.true
+    (second_other c.loop-row.row c.loop-row-test.true _ (sym c.has_second.ensures ∙ not-true _ (ap not c.if-not-has_second.true)))
+
 pub returns : goal.returns
 unfolding rows held_read
 returns c = ap held_read (sym (looking_end c.loop-row.invariant c.loop-row-test.false))

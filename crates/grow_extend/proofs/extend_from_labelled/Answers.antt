@@ -12,9 +12,13 @@ extend-requires c =
 pub returns-in-Refused : goal.returns-in-Refused
 returns-in-Refused c =
     let a = c.args in
-    call_refused (corner_lists a.xs.now a.ys.now a.pitches.now) a.settings a.params a.shades.now a.sheet.now a.queue.now a.attached.now c.check_arguments-checked.ensures c.in-Refused.is
+    let both_clauses =
+      call_refused (corner_lists a.xs.now a.ys.now a.pitches.now) a.settings a.params a.shades.now a.sheet.now a.queue.now a.attached.now c.check_arguments-checked.ensures c.in-Refused.is in
+    record { attached_after = both_clauses.0; said = both_clauses.1 }
 
 pub returns-in-Fine : goal.returns-in-Fine
 returns-in-Fine c =
     let a = c.args in
-    call_done (corner_lists a.xs.now a.ys.now a.pitches.now) a.settings a.params a.shades.now a.sheet.now a.queue.now a.attached.now c.check_arguments-checked.ensures c.in-Fine.is c.extend.ensures
+    let both_clauses =
+      call_done (corner_lists a.xs.now a.ys.now a.pitches.now) a.settings a.params a.shades.now a.sheet.now a.queue.now a.attached.now c.check_arguments-checked.ensures c.in-Fine.is c.extend.ensures in
+    record { attached_after = both_clauses.0; said = both_clauses.1 }

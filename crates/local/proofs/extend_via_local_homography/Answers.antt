@@ -5,10 +5,16 @@ use Rattle.local.proofs.Rounds.{call_refused, call_accepted, call_done}
 use Rattle.local.proofs.extend_via_local_homography.Goals as goal
 
 pub returns-in-Refused : goal.returns-in-Refused
-returns-in-Refused c = call_refused (corner_lists c.args.xs.now c.args.ys.now c.args.pitches.now) c.args.shades.now c.args.sheet.now c.args.attached.now c.args.settings c.args.params _ c.check_arguments-checked.ensures _ c.in-Refused.is
+returns-in-Refused c =
+    let both_clauses =
+      call_refused (corner_lists c.args.xs.now c.args.ys.now c.args.pitches.now) c.args.shades.now c.args.sheet.now c.args.attached.now c.args.settings c.args.params _ c.check_arguments-checked.ensures _ c.in-Refused.is in
+    record { attached_after = both_clauses.0; said = both_clauses.1 }
 
 pub local_accepted-requires : goal.local_accepted-requires
 local_accepted-requires c = call_accepted (corner_lists c.args.xs.now c.args.ys.now c.args.pitches.now) c.args.shades.now c.args.sheet.now c.args.attached.now c.args.settings c.args.params _ c.check_arguments-checked.ensures c.in_default.is
 
 pub returns : goal.returns
-returns c = call_done (corner_lists c.args.xs.now c.args.ys.now c.args.pitches.now) c.args.shades.now c.args.sheet.now c.args.attached.now c.args.settings c.args.params _ c.check_arguments-checked.ensures c.in_default.is _ c.local_accepted.ensures
+returns c =
+    let both_clauses =
+      call_done (corner_lists c.args.xs.now c.args.ys.now c.args.pitches.now) c.args.shades.now c.args.sheet.now c.args.attached.now c.args.settings c.args.params _ c.check_arguments-checked.ensures c.in_default.is _ c.local_accepted.ensures in
+    record { attached_after = both_clauses.0; said = both_clauses.1 }

@@ -45,7 +45,7 @@ pub loop-place-smaller : goal.loop-place-smaller
 loop-place-smaller c = let l = c.next_tried-place-in-loop-place.ensures.start in omega (arith, c.loop-place-test.true)
 
 pub loop-place-preserved : goal.loop-place-preserved
-loop-place-preserved c = let f = region_found c.requires.0.extending c.label_box-around.ensures c.rows_of-rows.ensures c.columns_of-columns.ensures in (walking_skips _ _ _ _ _ _ _ f c.depth_of-depth.ensures _ _ _ _ _ (walking_tried _ _ _ _ _ _ _ f c.depth_of-depth.ensures _ _ _ _ _ c.loop-place.invariant.0 c.loop-place-test.true (c.loop-place.invariant.1.1 c.loop-place-test.true) c.cell_of.ensures c.try_local_cell-next.auto.1.0 c.try_local_cell-next.auto.1.1.0 c.try_local_cell-next.ensures.0) c.next_tried-place-in-loop-place.ensures, (c.try_local_cell-next.ensures.1, c.next_tried-place-in-loop-place.ensures.hit))
+loop-place-preserved c = let f = region_found c.requires.0.extending c.label_box-around.ensures c.rows_of-rows.ensures c.columns_of-columns.ensures in (walking_skips _ _ _ _ _ _ _ f c.depth_of-depth.ensures _ _ _ _ _ (walking_tried _ _ _ _ _ _ _ f c.depth_of-depth.ensures _ _ _ _ _ c.loop-place.invariant.0 c.loop-place-test.true (c.loop-place.invariant.1.1 c.loop-place-test.true) c.cell_of.ensures c.try_local_cell-next.auto.sheet c.try_local_cell-next.auto.attached c.try_local_cell-next.ensures.0) c.next_tried-place-in-loop-place.ensures, (c.try_local_cell-next.ensures.1, c.next_tried-place-in-loop-place.ensures.hit))
 
 pub shape_of-sheet : goal.shape_of-sheet
 shape_of-sheet c = c.loop-place.invariant.0.same_sheet

@@ -18,10 +18,10 @@ pub overflow_add-rounds : goal.overflow_add-rounds
 overflow_add-rounds c = omega (arith, c.loop-rounds-test.true, c.loop-rounds.invariant.0.few)
 
 pub shape_of-sheet-then-next-at : goal.shape_of-sheet-then-next-at
-shape_of-sheet-then-next-at c = c.local_round-next.auto.1.0 ∙ c.loop-rounds.invariant.0.same_sheet
+shape_of-sheet-then-next-at c = c.local_round-next.auto.sheet ∙ c.loop-rounds.invariant.0.same_sheet
 
 pub shape_of-attached-then-next-at : goal.shape_of-attached-then-next-at
-shape_of-attached-then-next-at c = c.local_round-next.auto.1.1.0 ∙ c.loop-rounds.invariant.0.same_list_holds
+shape_of-attached-then-next-at c = c.local_round-next.auto.attached ∙ c.loop-rounds.invariant.0.same_list_holds
 
 pub returns-then-next-at : goal.returns-then-next-at
 returns-then-next-at c = (rounding_last _ _ _ _ _ _ _ _ _ _ _ _ _ c.loop-rounds.invariant.0 _ _ _ _ _ c.loop-rounds-test.true c.local_round-next.ensures.0 c.if-next-at.true, c.local_round-next.ensures.1)
@@ -30,7 +30,7 @@ pub loop-rounds-smaller : goal.loop-rounds-smaller
 loop-rounds-smaller c = omega (arith, c.loop-rounds-test.true)
 
 pub loop-rounds-preserved : goal.loop-rounds-preserved
-loop-rounds-preserved c = (rounding_more _ _ _ _ _ _ _ _ _ _ _ _ _ c.loop-rounds.invariant.0 _ _ _ _ _ c.loop-rounds-test.true c.local_round-next.ensures.0 c.if-next-at.false c.local_round-next.auto.1.0 c.local_round-next.auto.1.1.0, c.local_round-next.ensures.1)
+loop-rounds-preserved c = (rounding_more _ _ _ _ _ _ _ _ _ _ _ _ _ c.loop-rounds.invariant.0 _ _ _ _ _ c.loop-rounds-test.true c.local_round-next.ensures.0 c.if-next-at.false c.local_round-next.auto.sheet c.local_round-next.auto.attached, c.local_round-next.ensures.1)
 
 pub shape_of-sheet : goal.shape_of-sheet
 shape_of-sheet c = c.loop-rounds.invariant.0.same_sheet

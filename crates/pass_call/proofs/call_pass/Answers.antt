@@ -11,27 +11,33 @@ returns-in-Grow c =
     let a = c.args in
     let o = c.extend_from_labelled in
     let l = corner_lists a.xs.now a.ys.now a.pitches.now in
-    both l a.sheet.now (call_of a.settings a.shades.now (length a.queue.now) (length a.attached.now) a.pass)
-    a.queue.now a.attached.now o.new.1.1.1.1.0 o.new.1.1.1.1.1.0 o.new.1.1.1.1.1.1.0 c.of_grow.result
-    (grow_left_lem l a.settings a.shades.now a.sheet.now a.queue.now a.attached.now o.new.1.1.1.1.0 o.new.1.1.1.1.1.1.0
-    a.pass c.of_grow.result _ c.in-Grow.is o.new.1.1.1.1.1.0 _ c.of_grow.ensures o.ensures.0)
+    let both_clauses =
+      both l a.sheet.now (call_of a.settings a.shades.now (length a.queue.now) (length a.attached.now) a.pass)
+    a.queue.now a.attached.now o.new.sheet o.new.queue o.new.attached c.of_grow.result
+    (grow_left_lem l a.settings a.shades.now a.sheet.now a.queue.now a.attached.now o.new.sheet o.new.attached
+    a.pass c.of_grow.result _ c.in-Grow.is o.new.queue _ c.of_grow.ensures o.ensures.attached_after) in
+    record { attached_after = both_clauses.0; small = both_clauses.1 }
 
 pub returns-in-Fill : goal.returns-in-Fill
 returns-in-Fill c =
     let a = c.args in
     let o = c.fill_grid_holes in
     let l = corner_lists a.xs.now a.ys.now a.pitches.now in
-    both l a.sheet.now (call_of a.settings a.shades.now (length a.queue.now) (length a.attached.now) a.pass)
-    a.queue.now a.attached.now o.new.1.1.1.1.0 a.queue.now o.new.1.1.1.1.1.0 c.of_fill.result
-    (fill_left_lem l a.settings a.shades.now a.sheet.now a.queue.now a.attached.now o.new.1.1.1.1.0 o.new.1.1.1.1.1.0
-    a.pass c.of_fill.result _ c.in-Fill.is _ c.of_fill.ensures o.ensures.0)
+    let both_clauses =
+      both l a.sheet.now (call_of a.settings a.shades.now (length a.queue.now) (length a.attached.now) a.pass)
+    a.queue.now a.attached.now o.new.sheet a.queue.now o.new.attached c.of_fill.result
+    (fill_left_lem l a.settings a.shades.now a.sheet.now a.queue.now a.attached.now o.new.sheet o.new.attached
+    a.pass c.of_fill.result _ c.in-Fill.is _ c.of_fill.ensures o.ensures.attached_after) in
+    record { attached_after = both_clauses.0; small = both_clauses.1 }
 
 pub returns-in-Local : goal.returns-in-Local
 returns-in-Local c =
     let a = c.args in
     let o = c.extend_via_local_homography in
     let l = corner_lists a.xs.now a.ys.now a.pitches.now in
-    both l a.sheet.now (call_of a.settings a.shades.now (length a.queue.now) (length a.attached.now) a.pass)
-    a.queue.now a.attached.now o.new.1.1.1.1.0 a.queue.now o.new.1.1.1.1.1.0 c.of_local.result
-    (local_left_lem l a.settings a.shades.now a.sheet.now a.queue.now a.attached.now o.new.1.1.1.1.0 o.new.1.1.1.1.1.0
-    a.pass c.of_local.result _ c.in-Local.is _ c.of_local.ensures o.ensures.0)
+    let both_clauses =
+      both l a.sheet.now (call_of a.settings a.shades.now (length a.queue.now) (length a.attached.now) a.pass)
+    a.queue.now a.attached.now o.new.sheet a.queue.now o.new.attached c.of_local.result
+    (local_left_lem l a.settings a.shades.now a.sheet.now a.queue.now a.attached.now o.new.sheet o.new.attached
+    a.pass c.of_local.result _ c.in-Local.is _ c.of_local.ensures o.ensures.attached_after) in
+    record { attached_after = both_clauses.0; small = both_clauses.1 }

@@ -12,4 +12,4 @@ use Rattle.recover.proofs.run.Goals as goal
 pub returns : goal.returns
 returns c =
     let i = c.read_input-input in
-    ran i.new.1.0 i.result (c.text_buffer-buffer.ensures ∙ sym i.auto.1.0) i.ensures c.reply.ensures
+    ran i.new.buffer i.result (c.text_buffer-buffer.ensures ∙ sym i.auto.buffer) i.ensures c.reply.ensures

@@ -19,14 +19,14 @@ loop-at-init c = (refl, begun _)
 
 pub read_on-standing-requires : goal.read_on-standing-requires
 read_on-standing-requires c =
-    sum_fits c.loop-at.at (length c.read_rest-got.new.1.0) c.read_rest-got.result c.read_rest-got.ensures.fits (omega arith)
+    sum_fits c.loop-at.at (length c.read_rest-got.new.buffer) c.read_rest-got.result c.read_rest-got.ensures.fits (omega arith)
 
 pub returns-in-Over : goal.returns-in-Over
 returns-in-Over c =
     next_of (Standing.Over c.in-Over.input)
     c.loop-at.invariant.1
     c.loop-at-test.true
-    c.read_rest-got.auto.1.0
+    c.read_rest-got.auto.buffer
     c.read_rest-got.ensures
     c.read_on-standing.ensures
     c.in-Over.is
@@ -37,7 +37,7 @@ loop-at-smaller c =
     next_of (Standing.Reading c.in-Reading.bytes c.in-Reading.left)
     c.loop-at.invariant.1
     c.loop-at-test.true
-    c.read_rest-got.auto.1.0
+    c.read_rest-got.auto.buffer
     c.read_rest-got.ensures
     c.read_on-standing.ensures
     c.in-Reading.is
@@ -50,12 +50,12 @@ loop-at-preserved c =
     next_of (Standing.Reading c.in-Reading.bytes c.in-Reading.left)
     c.loop-at.invariant.1
     c.loop-at-test.true
-    c.read_rest-got.auto.1.0
+    c.read_rest-got.auto.buffer
     c.read_rest-got.ensures
     c.read_on-standing.ensures
     c.in-Reading.is
     in
-    (c.read_rest-got.auto.1.0 ∙ c.loop-at.invariant.0, n.0)
+    (c.read_rest-got.auto.buffer ∙ c.loop-at.invariant.0, n.0)
 
 pub returns : goal.returns
 returns c = filled c.loop-at.invariant.1 (omega (arith, c.loop-at-test.false))

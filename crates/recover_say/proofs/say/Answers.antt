@@ -53,7 +53,7 @@ loop-from-preserved c =
     let l = c.loop-from in
     let p = c.answer_piece-piece in
     let more : PutSo l.pieces (Put.Written c.in-Written.more) = rw c.in-Written.is at c.put_piece-put.ensures in
-    one_more _ _ _ l.invariant p.ensures.0 _ _ (omega (arith, c.loop-from-test.true, c.answer_lines-lines.ensures)) p.ensures.1 (l.invariant.whole ∙ sym p.auto.1.1.1.1.0) more
+    one_more _ _ _ l.invariant p.ensures.0 _ _ (omega (arith, c.loop-from-test.true, c.answer_lines-lines.ensures)) p.ensures.1 (l.invariant.whole ∙ sym p.auto.out) more
 
 pub returns : goal.returns
 returns c = told_of _ _ _ c.loop-from.invariant c.answer_lines-lines.ensures

@@ -9,7 +9,13 @@ pub write_all-requires : goal.write_all-requires
 write_all-requires c = text_asked (text_lent c.args.corners c.args.passes c.args.words.now c.args.sheet.now) c.args.out.now (sym c.check_text-checked.ensures ∙ c.in-Fine.is)
 
 pub returns-in-Refused : goal.returns-in-Refused
-returns-in-Refused c = text_refused (text_lent c.args.corners c.args.passes c.args.words.now c.args.sheet.now) c.args.out.now _ (sym c.check_text-checked.ensures ∙ c.in-Refused.is)
+returns-in-Refused c =
+    let both_clauses =
+      text_refused (text_lent c.args.corners c.args.passes c.args.words.now c.args.sheet.now) c.args.out.now _ (sym c.check_text-checked.ensures ∙ c.in-Refused.is) in
+    record { out_after = both_clauses.0; said = both_clauses.1 }
 
 pub returns-in-Fine : goal.returns-in-Fine
-returns-in-Fine c = text_written_lem (text_lent c.args.corners c.args.passes c.args.words.now c.args.sheet.now) c.args.out.now _ _ (sym c.check_text-checked.ensures ∙ c.in-Fine.is) c.write_all.ensures
+returns-in-Fine c =
+    let both_clauses =
+      text_written_lem (text_lent c.args.corners c.args.passes c.args.words.now c.args.sheet.now) c.args.out.now _ _ (sym c.check_text-checked.ensures ∙ c.in-Fine.is) c.write_all.ensures in
+    record { out_after = both_clauses.0; said = both_clauses.1 }

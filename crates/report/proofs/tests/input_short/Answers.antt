@@ -5,7 +5,7 @@ use Rattle.report.proofs.tests.input_short.Goals as goal
 use Rattle.report.proofs.tests.input_short.Goals.{Start}
 
 -- what is lent
-abbrev at : tie.Start → TextLent
+abbrev at : Start → TextLent
 at c = text_lent c.args.corners c.args.passes c.args.words.now c.args.sheet.now
 
 pub returns-then-words-passes : goal.returns-then-words-passes
