@@ -12,7 +12,7 @@ use Rattle.local_cell.proofs.Visit.{gathered_is, found_is, taking, taking_writab
 use Rattle.local_cell.proofs.Memory.{noting, recalls_counted, recalls_attached, recalls_missed, recalls_ambiguous}
 use borrow.Author.Rules.{rules}
 use Rattle.local_cell.proofs.try_candidates_of.Goals as goal
-use Rattle.local_cell.proofs.try_candidates_of.Goals.{After-collect_candidates-arg-1, After-collect_candidates-candidates, After-try_candidates-found, In-Attached-2}
+use Rattle.local_cell.proofs.try_candidates_of.Goals.{After-collect_candidates-arg-1, After-collect_candidates-candidates, After-try_candidates-found, In-Attached}
 
 -- what was gathered is what the definition gathers
 held : (c : After-collect_candidates-candidates) → let a = c.args in c.collect_candidates-candidates.result ≡ gathered (corners_in a.corners.now a.setup.count) a.sheet.now c.search_of-search.result.search_r a.target.cell a.target.prediction
@@ -27,8 +27,8 @@ found : (c : After-try_candidates-found) → let a = c.args in c.try_candidates-
 found c = found_is _ _ _ _ c.search_of-search.ensures c.tolerances_of-tol.ensures (tried_with _ _ _ _ _ _ (held (goal.at.After-try_candidates-found c).After-collect_candidates-candidates) c.try_candidates-found.ensures)
 
 -- the corner to attach
-attach_this : (c : In-Attached-2) → let a = c.args in Taking a.setup.count a.sheet.now a.attached.now a.used.now a.places.now a.at a.target.cell c.in-Attached.k
-attach_this c = taking _ _ _ _ c.requires.0 (found (goal.at.In-Attached-2 c).After-try_candidates-found) c.in-Attached.is
+attach_this : (c : In-Attached) → let a = c.args in Taking a.setup.count a.sheet.now a.attached.now a.used.now a.places.now a.at a.target.cell c.in-Attached.k
+attach_this c = taking _ _ _ _ c.requires.0 (found (goal.at.In-Attached c).After-try_candidates-found) c.in-Attached.is
 
 pub try_candidates-found-requires : goal.try_candidates-found-requires
 try_candidates-found-requires c = choosable _ _ _ _ _ _ c.requires.0.extending.few c.requires.0.extending.given c.requires.0.on (held (goal.at.try_candidates-found-requires c).After-collect_candidates-candidates)
@@ -49,10 +49,10 @@ pub count_cell-requires-in-EdgeRejected : goal.count_cell-requires-in-EdgeReject
 count_cell-requires-in-EdgeRejected c = c.requires.0.countable
 
 pub corner_at-taken-requires : goal.corner_at-taken-requires
-corner_at-taken-requires c = taking_fits (attach_this (goal.at.corner_at-taken-requires c).In-Attached-2)
+corner_at-taken-requires c = taking_fits (attach_this (goal.at.corner_at-taken-requires c).In-Attached)
 
 pub attach_corner-requires : goal.attach_corner-requires
-attach_corner-requires c = (taking_writable (attach_this (goal.at.attach_corner-requires c).In-Attached-2), c.requires.1.0.remembered.size)
+attach_corner-requires c = (taking_writable (attach_this (goal.at.attach_corner-requires c).In-Attached), c.requires.1.0.remembered.size)
 
 pub returns-in-NoCandidates : goal.returns-in-NoCandidates
 returns-in-NoCandidates c = (found_none _ _ (found (goal.at.returns-in-NoCandidates c).After-try_candidates-found) c.requires.0.extending c.count_cell.ensures c.in-NoCandidates.is, recalls_missed c.requires.1.0 _ c.requires.0 c.requires.1.1 (found (goal.at.returns-in-NoCandidates c).After-try_candidates-found) c.in-NoCandidates.is c.count_cell.ensures c.note_if_bare.ensures)
@@ -64,4 +64,4 @@ pub returns-in-EdgeRejected : goal.returns-in-EdgeRejected
 returns-in-EdgeRejected c = (found_refused _ _ (found (goal.at.returns-in-EdgeRejected c).After-try_candidates-found) c.requires.0.extending c.count_cell-in-EdgeRejected.ensures c.in-EdgeRejected.is, recalls_counted c.requires.1.0 c.try_candidates-found.result c.requires.0 c.count_cell-in-EdgeRejected.ensures)
 
 pub returns-in-Attached : goal.returns-in-Attached
-returns-in-Attached c = (found_corner _ _ (found (goal.at.returns-in-Attached c).After-try_candidates-found) (attach_this (goal.at.returns-in-Attached c).In-Attached-2) c.in-Attached.is c.attach_corner.ensures.0, recalls_attached c.requires.1.0 (attach_this (goal.at.returns-in-Attached c).In-Attached-2) c.corner_at-taken.ensures c.attach_corner.ensures.0 c.attach_corner.ensures.1)
+returns-in-Attached c = (found_corner _ _ (found (goal.at.returns-in-Attached c).After-try_candidates-found) (attach_this (goal.at.returns-in-Attached c).In-Attached) c.in-Attached.is c.attach_corner.ensures.0, recalls_attached c.requires.1.0 (attach_this (goal.at.returns-in-Attached c).In-Attached) c.corner_at-taken.ensures c.attach_corner.ensures.0 c.attach_corner.ensures.1)
