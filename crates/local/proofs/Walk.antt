@@ -55,7 +55,7 @@ unfolding local_round local_cells
 walked_round cs set p s = walked_all (local_visit cs set p) (λ t. t.sheet) (round_region p s.sheet) s
 
 -- a visit of a bare cell changes no label elsewhere
-tried_else : {cs : Corners} {tol : Tolerances} {s after : LocalState} (n : ℕ) → n < 16384 → cs.count ≤ 1024 → 16384 ≤ length s.sheet
+tried_else : {cs : Corners} {tol : Tolerances} {s : LocalState} (n : ℕ) {after : LocalState} → n < 16384 → cs.count ≤ 1024 → 16384 ≤ length s.sheet
     → label_at s.sheet (cell_of n) ≡ Label.Unlabelled
     → Tried cs tol (cell_of n) s after → Elsewhere s.sheet after.sheet n
 tried_else n h few long e (passed m l u v) = record { same_length = refl; same_label = λ q k d. refl }

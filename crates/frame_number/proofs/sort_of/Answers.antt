@@ -50,3 +50,12 @@ returns-in-114 c = rw c.in-114.is
 pub returns-in-120 : goal.returns-in-120
 unfolding sort_of
 returns-in-120 c = rw c.in-120.is
+
+pub returns-in_default : goal.returns-in_default
+unfolding sort_of
+returns-in_default c =
+    let r = c.in_default.in_default-own.rest in
+    let s = r.0.0.0.0.0 in
+    rw (ne_eqb _ _ s.0.0.0.0.0.0.1, ne_eqb _ _ s.0.0.0.0.0.1, ne_eqb _ _ s.0.0.0.0.1, ne_eqb _ _ s.0.0.0.1, ne_eqb _ _ s.0.0.1)
+    (rw (ne_eqb _ _ s.0.1, ne_eqb _ _ s.1, ne_eqb _ _ r.0.0.0.0.1, ne_eqb _ _ r.0.0.0.1)
+    (rw (ne_eqb _ _ r.0.0.1, ne_eqb _ _ r.0.1, ne_eqb _ _ r.1)))
