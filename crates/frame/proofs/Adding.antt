@@ -1,7 +1,7 @@
 -- A line as the code checks it and adds it is checked and held as the definition says, part by part; nothing is held before the first. Assumes
 -- nothing.
 use mathlib.Core.Path.{◌≡◌, refl, sym, ap, ap₂, ◌∙◌, subst}
-use mathlib.Core.Bool.{Bool, true, false, ◌||◌, not, cond, or-true, or_false, or_assoc, or_comm}
+use mathlib.Core.Bool.{Bool, true, false, ◌||◌, not, cond, or-true, or-false, or_assoc, or_comm}
 use mathlib.Core.Logic.{◌⊎◌, inl, inr}
 use mathlib.Core.List.{List, [], ◌∷◌, ◌++◌, map, append_assoc, append-nil, map-append}
 use Prim.Native.Nat.{ℕ, ◌≤◌, suc, ◌+◌, ◌*◌, ◌<◌}
@@ -152,7 +152,7 @@ words_more (q ∷ ps) p =
 
 some_more : {A : Type 0} (f : A → Bool) (rest : List A) (a : A) → some_of f (rest ++ (a ∷ [])) ≡ (some_of f rest || f a)
 unfolding some_of
-some_more f [] a = or_false (f a)
+some_more f [] a = or-false (f a)
 some_more f (b ∷ rest) a = ap (λ (t : Bool). f b || t) (some_more f rest a) ∙ sym (or_assoc (f b) (some_of f rest) (f a))
 
 -- an array with one entry written behind those that it holds
@@ -188,7 +188,7 @@ set_set entries p q w h z = go (eqb p q) refl
         ap not
         (ap (λ (k : ℕ). eqb (get_or (set entries p w) k 0) 0) (sym (eqb-true p q e)) ∙ ap (λ (v : ℕ). eqb v 0) (get_or-set_same entries p w 0 h) ∙ ne_eqb w 0 z)
         ∙ sym (or-true (is_set entries q))
-    go false e = ap (λ (v : ℕ). not (eqb v 0)) (get_or-set_other entries p q w 0 (λ d. eqb-false p q e (sym d))) ∙ sym (or_false (is_set entries q))
+    go false e = ap (λ (v : ℕ). not (eqb v 0)) (get_or-set_other entries p q w 0 (λ d. eqb-false p q e (sym d))) ∙ sym (or-false (is_set entries q))
 
 -- cells of the sheet have one place exactly if they are one
 place_same : (c d : Cell) → OnSheet c → OnSheet d → eqb (place_of c) (place_of d) ≡ same_cell c d
@@ -224,7 +224,7 @@ used_more {ls} {n} {uses} {uses'} g l k is small free same =
       many =
           passing_one_more uses uses' corner_limit k small (g.corners k small ∙ ap (corner_taken ls) (sym is) ∙ free)
           (same k small ∙ ap (λ (t : Bool). uses k || t) (eq-eqb k k refl) ∙ or-true (uses k))
-          (λ q h d. same q h ∙ ap (λ (t : Bool). uses q || t) (ne_eqb k q (λ e. d (sym e))) ∙ or_false (uses q))
+          (λ q h d. same q h ∙ ap (λ (t : Bool). uses q || t) (ne_eqb k q (λ e. d (sym e))) ∙ or-false (uses q))
           ∙ ap (λ (m : ℕ). m + 1) g.many;
     }
 

@@ -1,6 +1,6 @@
 -- The shades of a frame: the checks of a shade line, what its lines give each corner, and that they leave all else alone. Assumes nothing.
 use mathlib.Core.Path.{◌≡◌, refl, sym, ap, ap₂, ◌∙◌}
-use mathlib.Core.Bool.{Bool, true, false, not, ◌&&◌, ◌||◌, or_false, cond}
+use mathlib.Core.Bool.{Bool, true, false, not, ◌&&◌, ◌||◌, or-false, cond}
 use mathlib.Core.Logic.{◌⊎◌, inl, inr, ⊎_elim}
 use mathlib.Core.List.Memᴰ
 use mathlib.Core.List.{List, [], ◌∷◌}
@@ -51,7 +51,7 @@ shade_checked p n k =
     ap₂
     (λ (a b : Bool). refused_if a Refusal.Malformed
     (refused_if b Refusal.UnknownCorner (refused_if (some_of (λ s. eq_z s.corner n) p.shades) Refusal.Duplicate Checked.Fine)))
-    (or_false _ ∙ other_kind k) (or_false (not (le_z (pos 0) n && lt_z n (pos (length p.corners)))))
+    (or-false _ ∙ other_kind k) (or-false (not (le_z (pos 0) n && lt_z n (pos (length p.corners)))))
 
 -- ---- the bytes
 

@@ -1,6 +1,6 @@
 -- A line that can be added: what its checks say of it, kind by kind. Assumes nothing.
 use mathlib.Core.Path.{◌≡◌, refl, sym, ap, subst, ◌∙◌}
-use mathlib.Core.Bool.{Bool, true, false, ◌||◌, or-true, or_false}
+use mathlib.Core.Bool.{Bool, true, false, ◌||◌, or-true, or-false}
 use Prim.Native.Nat.{ℕ, ◌+◌, ◌<◌}
 use native.Mathlib.Omega.{arith}
 use borrow.Author.Tests.{leb-false, eq-eqb, ne_eqb}
@@ -39,7 +39,7 @@ use Rattle.frame_state.specs.declared.PassWords.{PassWords}
 pub many_room : (f : ℕ → Bool) (n k : ℕ) → k < n → f k ≡ false → how_many f n < n
 many_room f n k h e =
     let g : ℕ → Bool = λ q. f q || eqb q k in
-    omega (arith, many_few g n, passing_one_more f g n k h e (rw (eq-eqb k k refl) (or-true (f k))) (λ q l d. rw (ne_eqb q k d) (or_false (f q))))
+    omega (arith, many_few g n, passing_one_more f g n k h e (rw (eq-eqb k k refl) (or-true (f k))) (λ q l d. rw (ne_eqb q k d) (or-false (f q))))
 
 module _ {p : Progress} {a : Arrays} {line : HeldLine} (f : Addable p a line) where
   fine :

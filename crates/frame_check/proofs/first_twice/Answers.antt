@@ -13,6 +13,9 @@ below c = rw c.place_of-place.ensures (place_in _ c.requires.on)
 pub offset_bounds-sheet-place : goal.offset_bounds-sheet-place
 offset_bounds-sheet-place c = omega (arith, below c)
 
+pub bounds-sheet-place : goal.bounds-sheet-place
+bounds-sheet-place c = below (goal.at.bounds-sheet-place c).After-place_of-place
+
 pub returns-then-sheet-place-ne0 : goal.returns-then-sheet-place-ne0
 returns-then-sheet-place-ne0 c = rw (← c.place_of-place.ensures, ne_eqb _ _ c.if-sheet-place-ne0.true)
 

@@ -5,41 +5,13 @@ use Rattle.frame_check.specs.Checks.{label_twice, shade_twice, twice_of}
 use Rattle.frame_check.proofs.Laws.{set_fits, shade_fits}
 use Rattle.frame_check.proofs.is_twice.Goals as goal
 
-pub kind_of-kind-requires : goal.kind_of-kind-requires
-unfolding twice_of
-kind_of-kind-requires c = search rules
 
-pub enum_told-1 : goal.enum_told-1
-unfolding twice_of
-enum_told-1 c = search rules
 
-pub enum_told-in-Corner : goal.enum_told-in-Corner
-unfolding twice_of
-enum_told-in-Corner c = search rules
 
-pub enum_told-in-Label : goal.enum_told-in-Label
-unfolding twice_of
-enum_told-in-Label c = search rules
 
-pub label_of-requires : goal.label_of-requires
-unfolding twice_of
-label_of-requires c = search rules
 
-pub enum_told-in-Patch : goal.enum_told-in-Patch
-unfolding twice_of
-enum_told-in-Patch c = search rules
 
-pub enum_told-in-Shade : goal.enum_told-in-Shade
-unfolding twice_of
-enum_told-in-Shade c = search rules
 
-pub shade_of-requires : goal.shade_of-requires
-unfolding twice_of
-shade_of-requires c = search rules
-
-pub enum_told-in-Pass : goal.enum_told-in-Pass
-unfolding twice_of
-enum_told-in-Pass c = search rules
 
 pub returns-in-Opening : goal.returns-in-Opening
 unfolding twice_of
@@ -56,3 +28,24 @@ returns-in-Patch c = rw (← c.kind_of-kind.ensures, c.in-Patch.is)
 pub returns-in-Pass : goal.returns-in-Pass
 unfolding twice_of
 returns-in-Pass c = rw (← c.kind_of-kind.ensures, c.in-Pass.is)
+
+pub label_twice-requires : goal.label_twice-requires
+unfolding twice_of
+label_twice-requires c = rw c.label_of.ensures (set_fits _ _ _ c.requires (sym c.kind_of-kind.ensures ∙ c.in-Label.is))
+
+pub shade_twice-requires : goal.shade_twice-requires
+unfolding twice_of
+shade_twice-requires c = rw c.shade_of.ensures (shade_fits _ _ _ c.requires (sym c.kind_of-kind.ensures ∙ c.in-Shade.is))
+
+pub returns-in-Label : goal.returns-in-Label
+unfolding twice_of
+returns-in-Label c =
+    let a = c.args in
+    rw (← c.kind_of-kind.ensures, c.in-Label.is)
+    (c.label_twice.ensures ∙ ap (label_twice a.patched a.sheet.now a.used.now a.second.now a.labels) c.label_of.ensures)
+
+pub returns-in-Shade : goal.returns-in-Shade
+unfolding twice_of
+returns-in-Shade c =
+    rw (← c.kind_of-kind.ensures, c.in-Shade.is)
+    (c.shade_twice.ensures ∙ ap (shade_twice c.args.shades.now) c.shade_of.ensures)
