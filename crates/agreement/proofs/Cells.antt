@@ -7,7 +7,7 @@ use Rattle.sheet.specs.Words.{label_at}
 use Rattle.sheet.specs.Pairing.{Shuffle, PairedSheets}
 use Rattle.sheet.specs.declared.Cell.{Cell}
 use Rattle.labels.specs.Labelled.{names_corner, is_labelled}
-use Rattle.labels.proofs.Pairing.{paired-labelled}
+use Rattle.labels.proofs.Pairing.{paired_labelled}
 use Rattle.passes.specs.Fill.{cells_of}
 use Rattle.invariants.proofs.Extended.{by_cell}
 
@@ -15,11 +15,11 @@ module _ {n : ℕ} {s : Shuffle n} {sheet sheet' : List ℕ} (paired : PairedShe
   -- a cell is labelled on both or on neither
   pub names_same : (c : Cell) → names_corner (label_at sheet' c) ≡ names_corner (label_at sheet c)
   unfolding is_labelled
-  names_same c = by_cell names_corner sheet sheet' (paired-labelled paired).same_place c
+  names_same c = by_cell names_corner sheet sheet' (paired_labelled paired).same_place c
 
-  pub labelled-same : ◌≡◌ {A = Cell → Bool} (λ c. names_corner (label_at sheet' c)) (λ c. names_corner (label_at sheet c))
-  labelled-same = fun_ext names_same
+  pub labelled_same : ◌≡◌ {A = Cell → Bool} (λ c. names_corner (label_at sheet' c)) (λ c. names_corner (label_at sheet c))
+  labelled_same = fun_ext names_same
 
   -- the unlabelled cells of a region
   pub cells_same : (region region' : Cell → Bool) → region' ≡ region → cells_of region' (λ c. names_corner (label_at sheet' c)) ≡ cells_of region (λ c. names_corner (label_at sheet c))
-  cells_same region region' e = ap₂ cells_of e labelled-same
+  cells_same region region' e = ap₂ cells_of e labelled_same

@@ -14,15 +14,15 @@ use Rattle.sheet.specs.Corners.{CornerLists, corner_of, seen_of, Given}
 use Rattle.sheet.specs.Pairing.{Shuffle, PairedCorners, PairedSheets}
 use Rattle.sheet.specs.declared.Cell.{Cell}
 use Rattle.sheet.proofs.Laws.{cell_on_lem}
-use Rattle.sheet.proofs.Pairing.{paired-attached}
+use Rattle.sheet.proofs.Pairing.{paired_attached}
 use Rattle.labels.specs.Labelled.{label_count}
 use Rattle.labels.specs.Box.{box_of}
-use Rattle.labels.proofs.Pairing.{paired-box, paired-count}
+use Rattle.labels.proofs.Pairing.{paired_box, paired_count}
 use Rattle.candidates.specs.Candidates.{squared_radius}
-use Rattle.candidates.proofs.Radius.{search-radius}
+use Rattle.candidates.proofs.Radius.{search_radius}
 use Rattle.predict.specs.Predict.{prediction_of}
 use Rattle.predict.specs.declared.Prediction.{Prediction}
-use Rattle.predict.proofs.Laws.{prediction-paired}
+use Rattle.predict.proofs.Laws.{prediction_paired}
 use Rattle.arguments.specs.Shades.{corners_of, PairedShades}
 use Rattle.arguments.specs.Accepted.{SettingsInside, FillInside}
 use Rattle.arguments.specs.declared.Settings.{Settings}
@@ -34,14 +34,14 @@ use Rattle.passes.specs.Grow.{tolerances_of}
 use Rattle.passes.specs.Rounds.{rounds_from}
 use Rattle.passes.specs.Fill.{box_and_strips, fill_cells, FillState, fill_search, fill_with, fill_at, fill_visit, fill_pass, fill_from, fill_limit, fill_run}
 use Rattle.passes.specs.History.{begun}
-use Rattle.passes.proofs.Rounds.{Alike, SameRounds, rounds-same}
+use Rattle.passes.proofs.Rounds.{Alike, SameRounds, rounds_same}
 use Rattle.invariants.specs.Kept.{Sound}
 use Rattle.invariants.specs.Calls.{Standing}
 use Rattle.invariants.proofs.Waiting.{waiting_none, first_on}
-use Rattle.invariants.proofs.Fill.{Filling, sound-then, filling-visit, filling-begins}
+use Rattle.invariants.proofs.Fill.{Filling, sound_then, filling_visit, filling_begins}
 use Rattle.invariants.proofs.Run.{standing_sound, sound_standing}
 use Rattle.binary32.specs.Numbers.{one}
-use Rattle.agreement.proofs.Try.{paired_result, try-paired}
+use Rattle.agreement.proofs.Try.{paired_result, try_paired}
 use Rattle.agreement.proofs.Cells.{cells_same}
 
 -- where both runs stand: paired sheets, and the same new cells
@@ -52,7 +52,7 @@ pub record SameFill {n : ℕ} (s : Shuffle n) (a a' : FillState) : Type 0 where
 -- the same cells are listed
 fill_cells_same : {n : ℕ} {s : Shuffle n} {sheet sheet' : List ℕ} → PairedSheets s sheet sheet' → fill_cells sheet' ≡ fill_cells sheet
 unfolding fill_cells
-fill_cells_same {sheet} {sheet'} paired = cells_same paired (box_and_strips (box_of sheet)) (box_and_strips (box_of sheet')) (ap box_and_strips (paired-box paired))
+fill_cells_same {sheet} {sheet'} paired = cells_same paired (box_and_strips (box_of sheet)) (box_and_strips (box_of sheet')) (ap box_and_strips (paired_box paired))
 
 -- ---- one cell
 
@@ -65,7 +65,7 @@ with_same same long c on few TryCellResult.EdgeRejected given = same
 with_same {s = s} same long c on few (TryCellResult.Attached k) given =
     let h = given k refl in
     record {
-      sheet = paired-attached same.sheet c long on k (omega arith) (omega (arith, s.to_in k h));
+      sheet = paired_attached same.sheet c long on k (omega arith) (omega (arith, s.to_in k h));
       made = ap (λ (l : List ℕ). l ++ (place_of c ∷ [])) same.made;
     }
 
@@ -73,26 +73,26 @@ with_same {s = s} same long c on few (TryCellResult.Attached k) given =
 
 module _ (l l' : CornerLists) (corners : PairedCorners l l') (shades shades' : List ℕ) (kinds : PairedShades corners.pairs shades shades')
     (long : length l.xs ≤ length shades) (few : length l.xs ≤ 1024) (set : Settings) (params : FillParams) (inside : SettingsInside set) (numbers : FillInside params) (above : lt one params.attach_ambiguity_factor ≡ true) where
-  finite-radius : T (finite (squared_radius (fill_search set params).search_r))
+  finite_radius : T (finite (squared_radius (fill_search set params).search_r))
   unfolding fill_search
-  finite-radius = search-radius params.attach_search_rel set.grid.cell_size numbers.search inside.cell_size
+  finite_radius = search_radius params.attach_search_rel set.grid.cell_size numbers.search inside.cell_size
 
-  factor-above : lt one (fill_search set params).ambiguity_factor ≡ true
+  factor_above : lt one (fill_search set params).ambiguity_factor ≡ true
   unfolding fill_search
-  factor-above = above
+  factor_above = above
 
   module _ (a a' : FillState) (same : SameFill corners.pairs a a') (given : Given (length l.xs) a.sheet) (c : Cell) (on : OnSheet c) where
     at_same : (at : Prediction) → SameFill corners.pairs (fill_at (corners_of l shades) set params c at a) (fill_at (corners_of l' shades') set params c at a')
     unfolding fill_at
     at_same Prediction.NoNeighbour = same
     at_same (Prediction.At at) =
-        rw (try-paired l l' corners shades shades' kinds long a.sheet a'.sheet same.sheet given (tolerances_of set) (fill_search set params) c at finite-radius factor-above)
+        rw (try_paired l l' corners shades shades' kinds long a.sheet a'.sheet same.sheet given (tolerances_of set) (fill_search set params) c at finite_radius factor_above)
         (with_same same given.long c on few (try_at (corners_of l shades) a.sheet (tolerances_of set) (fill_search set params) c at)
         (λ k h. (attachable (corners_of l shades) a.sheet (tolerances_of set) (fill_search set params) c at k h).given))
 
-    visit-same : SameFill corners.pairs (fill_visit (corners_of l shades) set params c a) (fill_visit (corners_of l' shades') set params c a')
+    visit_same : SameFill corners.pairs (fill_visit (corners_of l shades) set params c a) (fill_visit (corners_of l' shades') set params c a')
     unfolding fill_visit
-    visit-same = rw (prediction-paired corners same.sheet given set.grid c) (at_same (prediction_of (seen_of (corner_of l) a.sheet) set.grid c))
+    visit_same = rw (prediction_paired corners same.sheet given set.grid c) (at_same (prediction_of (seen_of (corner_of l) a.sheet) set.grid c))
 
   module _ (first : List ℕ) (begins : Standing l first) where
     sound : Sound (length l.xs) first
@@ -106,19 +106,19 @@ module _ (l l' : CornerLists) (corners : PairedCorners l l') (shades shades' : L
     alike =
         record {
           cells = λ a a' g. fill_cells_same g.1.sheet;
-          begins = λ a a' g. (filling-begins few sound set params a g.0, g.1);
+          begins = λ a a' g. (filling_begins few sound set params a g.0, g.1);
           keeps = λ p ps a a' g. (
-            filling-visit few sound set params p ps a g.0,
-            visit-same a a' g.1 (sound_standing begins (sound-then few sound g.0)).given (cell_of p) (cell_on_lem p (first_on g.0.waiting)),
+            filling_visit few sound set params p ps a g.0,
+            visit_same a a' g.1 (sound_standing begins (sound_then few sound g.0)).given (cell_of p) (cell_on_lem p (first_on g.0.waiting)),
           );
           made = λ a a' g. ap length g.1.made;
         }
 
     -- the whole run
-    pub fill-same : (first' : List ℕ) → PairedSheets corners.pairs first first'
+    pub fill_same : (first' : List ℕ) → PairedSheets corners.pairs first first'
         → SameRounds (SameFill corners.pairs) (fill_run (corners_of l shades) set params first) (fill_run (corners_of l' shades') set params first')
     unfolding fill_run fill_from
-    fill-same first' paired = rw (paired-count paired) (record { state = both.state.1; rounds = both.rounds })
+    fill_same first' paired = rw (paired_count paired) (record { state = both.state.1; rounds = both.rounds })
       where
         start : FillState
         start = record { sheet = first; made = [] }
@@ -130,6 +130,6 @@ module _ (l l' : CornerLists) (corners : PairedCorners l l') (shades shades' : L
             (rounds_from (fill_pass (corners_of l shades) set params) (fill_limit (label_count first) params.max_iters) (record { state = start; rounds = 0 }))
             (rounds_from (fill_pass (corners_of l' shades') set params) (fill_limit (label_count first) params.max_iters) (record { state = start'; rounds = 0 }))
         both =
-            rounds-same Both alike (fill_limit (label_count first) params.max_iters)
+            rounds_same Both alike (fill_limit (label_count first) params.max_iters)
             (record { state = start; rounds = 0 }) (record { state = start'; rounds = 0 })
             (record { state = (record { history = begun; waiting = waiting_none first }, record { sheet = paired; made = refl }); rounds = refl })

@@ -17,14 +17,14 @@ use Rattle.sheet.specs.Pairing.{Shuffle, PairedCorners, PairedSheets}
 use Rattle.sheet.specs.declared.Cell.{Cell}
 use Rattle.sheet.specs.declared.Offset.{Offset}
 use Rattle.sheet.proofs.Laws.{cell_on_lem}
-use Rattle.sheet.proofs.Pairing.{paired-attached, paired-hole-marked, paired-ambiguous-marked}
+use Rattle.sheet.proofs.Pairing.{paired_attached, paired_hole_marked, paired_ambiguous_marked}
 use Rattle.labels.specs.Labelled.{labelled_places}
-use Rattle.labels.proofs.Pairing.{paired-places}
+use Rattle.labels.proofs.Pairing.{paired_places}
 use Rattle.candidates.specs.Candidates.{squared_radius}
-use Rattle.candidates.proofs.Radius.{search-radius, boundary-radius}
+use Rattle.candidates.proofs.Radius.{search_radius, boundary_radius}
 use Rattle.predict.specs.Predict.{prediction_of, extrapolating}
 use Rattle.predict.specs.declared.Prediction.{Prediction}
-use Rattle.predict.proofs.Laws.{prediction-paired, extrapolating-paired}
+use Rattle.predict.proofs.Laws.{prediction_paired, extrapolating_paired}
 use Rattle.positions_policy.specs.Edge.{cardinal_offsets}
 use Rattle.arguments.specs.Shades.{corners_of, PairedShades}
 use Rattle.arguments.specs.Accepted.{SettingsInside, GrowInside}
@@ -38,36 +38,36 @@ use Rattle.passes.specs.Grow.{tolerances_of, GrowState, member, wanted, enqueued
 use Rattle.invariants.specs.Kept.{Sound}
 use Rattle.invariants.specs.Calls.{Standing}
 use Rattle.invariants.proofs.Waiting.{first_on}
-use Rattle.invariants.proofs.Grow.{Growing, growing_start, turn, sound-now, growing-visit}
+use Rattle.invariants.proofs.Grow.{Growing, growing_start, turn, sound_now, growing_visit}
 use Rattle.invariants.proofs.Run.{standing_sound, sound_standing}
 use Rattle.binary32.specs.Numbers.{one}
-use Rattle.agreement.proofs.Try.{paired_result, try-paired}
+use Rattle.agreement.proofs.Try.{paired_result, try_paired}
 use Rattle.agreement.proofs.Cells.{names_same}
 
 -- ---- the queue
 
 module _ {n : ℕ} {s : Shuffle n} {sheet sheet' : List ℕ} (paired : PairedSheets s sheet sheet') where
-  wanted-same : (queued : List ℕ) (c : Cell) → wanted sheet' queued c ≡ wanted sheet queued c
+  wanted_same : (queued : List ℕ) (c : Cell) → wanted sheet' queued c ≡ wanted sheet queued c
   unfolding wanted
-  wanted-same queued c = ap (λ (t : Bool). on_sheet c && (not t && not (member (place_of c) queued))) (names_same paired c)
+  wanted_same queued c = ap (λ (t : Bool). on_sheet c && (not t && not (member (place_of c) queued))) (names_same paired c)
 
-  enqueued-same : (c : Cell) (queued : List ℕ) → enqueued sheet' c queued ≡ enqueued sheet c queued
+  enqueued_same : (c : Cell) (queued : List ℕ) → enqueued sheet' c queued ≡ enqueued sheet c queued
   unfolding enqueued
-  enqueued-same c queued = ap (λ (t : Bool). cond t (queued ++ (place_of c ∷ [])) queued) (wanted-same queued c)
+  enqueued_same c queued = ap (λ (t : Bool). cond t (queued ++ (place_of c ∷ [])) queued) (wanted_same queued c)
 
-  enqueued-at-same : (c : Cell) (os : List Offset) (queued : List ℕ) → enqueued_at sheet' c os queued ≡ enqueued_at sheet c os queued
+  enqueued_at_same : (c : Cell) (os : List Offset) (queued : List ℕ) → enqueued_at sheet' c os queued ≡ enqueued_at sheet c os queued
   unfolding enqueued_at
-  enqueued-at-same c [] queued = refl
-  enqueued-at-same c (o ∷ os) queued = enqueued-at-same c os (enqueued sheet' (moved c o) queued) ∙ ap (enqueued_at sheet c os) (enqueued-same (moved c o) queued)
+  enqueued_at_same c [] queued = refl
+  enqueued_at_same c (o ∷ os) queued = enqueued_at_same c os (enqueued sheet' (moved c o) queued) ∙ ap (enqueued_at sheet c os) (enqueued_same (moved c o) queued)
 
   spread_same : (c : Cell) (queued : List ℕ) → spread sheet' c queued ≡ spread sheet c queued
   unfolding spread
-  spread_same c queued = enqueued-at-same c cardinal_offsets queued
+  spread_same c queued = enqueued_at_same c cardinal_offsets queued
 
-  seeded-same : (ps queued : List ℕ) → seeded_from sheet' ps queued ≡ seeded_from sheet ps queued
+  seeded_same : (ps queued : List ℕ) → seeded_from sheet' ps queued ≡ seeded_from sheet ps queued
   unfolding seeded_from
-  seeded-same [] queued = refl
-  seeded-same (p ∷ ps) queued = seeded-same ps (spread sheet' (cell_of p) queued) ∙ ap (seeded_from sheet ps) (spread_same (cell_of p) queued)
+  seeded_same [] queued = refl
+  seeded_same (p ∷ ps) queued = seeded_same ps (spread sheet' (cell_of p) queued) ∙ ap (seeded_from sheet ps) (spread_same (cell_of p) queued)
 
 -- ---- where both runs stand
 
@@ -83,7 +83,7 @@ unfolding start_of
 start_same {sheet} {sheet'} paired =
     record {
       sheet = paired;
-      queued = seeded-same paired (labelled_places sheet') [] ∙ ap (λ (ps : List ℕ). seeded_from sheet ps []) (paired-places paired);
+      queued = seeded_same paired (labelled_places sheet') [] ∙ ap (λ (ps : List ℕ). seeded_from sheet ps []) (paired_places paired);
       made = refl;
       counts = refl;
     }
@@ -91,10 +91,10 @@ start_same {sheet} {sheet'} paired =
 -- ---- one cell
 
 module _ {n : ℕ} {s : Shuffle n} {a a' : GrowState} (same : SameGrow s a a') (long : 16384 ≤ length a.sheet) (c : Cell) (on : OnSheet c) where
-  missed-same : SameGrow s (missed c a) (missed c a')
-  missed-same =
+  missed_same : SameGrow s (missed c a) (missed c a')
+  missed_same =
       record {
-        sheet = paired-hole-marked same.sheet c long on;
+        sheet = paired_hole_marked same.sheet c long on;
         queued = same.queued;
         made = same.made;
         counts = ap (one_more TryCellResult.NoCandidates) same.counts;
@@ -102,24 +102,24 @@ module _ {n : ℕ} {s : Shuffle n} {a a' : GrowState} (same : SameGrow s a a') (
 
   with_same : n ≤ 1024 → (r : TryCellResult) → ((k : ℕ) → r ≡ TryCellResult.Attached k → k < n) → SameGrow s (grow_with c r a) (grow_with c (paired_result s.to r) a')
   unfolding grow_with paired_result
-  with_same few TryCellResult.NoCandidates given = missed-same
+  with_same few TryCellResult.NoCandidates given = missed_same
   with_same few TryCellResult.Ambiguous given =
       record {
-        sheet = paired-ambiguous-marked same.sheet c long on;
+        sheet = paired_ambiguous_marked same.sheet c long on;
         queued = same.queued;
         made = same.made;
         counts = ap (one_more TryCellResult.Ambiguous) same.counts;
       }
   with_same few TryCellResult.EdgeRejected given =
       record {
-        sheet = paired-hole-marked same.sheet c long on;
+        sheet = paired_hole_marked same.sheet c long on;
         queued = same.queued;
         made = same.made;
         counts = ap (one_more TryCellResult.EdgeRejected) same.counts;
       }
   with_same few (TryCellResult.Attached k) given =
       let h = given k refl in
-      let now = paired-attached same.sheet c long on k (omega arith) (omega (arith, s.to_in k h)) in
+      let now = paired_attached same.sheet c long on k (omega arith) (omega (arith, s.to_in k h)) in
       record {
         sheet = now;
         queued = spread_same now c a'.queued ∙ ap (spread (attached a.sheet c k) c) same.queued;
@@ -132,42 +132,42 @@ module _ {n : ℕ} {s : Shuffle n} {a a' : GrowState} (same : SameGrow s a a') (
 module _ (l l' : CornerLists) (corners : PairedCorners l l') (shades shades' : List ℕ) (kinds : PairedShades corners.pairs shades shades')
     (long : length l.xs ≤ length shades) (few : length l.xs ≤ 1024) (set : Settings) (params : GrowParams) (inside : SettingsInside set) (numbers : GrowInside params) (above : lt one params.attach_ambiguity_factor ≡ true) where
   -- both radii have a finite square
-  finite-radius : (e : Bool) → T (finite (squared_radius (search_of set params e).search_r))
+  finite_radius : (e : Bool) → T (finite (squared_radius (search_of set params e).search_r))
   unfolding search_of radius_of
-  finite-radius true = boundary-radius params.attach_search_rel set.grid.cell_size numbers.search inside.cell_size params.boundary_search_factor numbers.boundary
-  finite-radius false = search-radius params.attach_search_rel set.grid.cell_size numbers.search inside.cell_size
+  finite_radius true = boundary_radius params.attach_search_rel set.grid.cell_size numbers.search inside.cell_size params.boundary_search_factor numbers.boundary
+  finite_radius false = search_radius params.attach_search_rel set.grid.cell_size numbers.search inside.cell_size
 
-  factor-above : (e : Bool) → lt one (search_of set params e).ambiguity_factor ≡ true
+  factor_above : (e : Bool) → lt one (search_of set params e).ambiguity_factor ≡ true
   unfolding search_of
-  factor-above e = above
+  factor_above e = above
 
   module _ (a a' : GrowState) (same : SameGrow corners.pairs a a') (given : Given (length l.xs) a.sheet) (c : Cell) (on : OnSheet c) where
     at_same : (at : Prediction) → SameGrow corners.pairs (grow_at (corners_of l shades) set params c at a) (grow_at (corners_of l' shades') set params c at a')
     unfolding grow_at
-    at_same Prediction.NoNeighbour = missed-same same given.long c on
+    at_same Prediction.NoNeighbour = missed_same same given.long c on
     at_same (Prediction.At at) =
         let e = extrapolating (seen_of (corner_of l) a.sheet) c in
         let search = search_of set params e in
-        rw (extrapolating-paired corners same.sheet given c, try-paired l l' corners shades shades' kinds long a.sheet a'.sheet same.sheet given (tolerances_of set) search c at (finite-radius e) (factor-above e))
+        rw (extrapolating_paired corners same.sheet given c, try_paired l l' corners shades shades' kinds long a.sheet a'.sheet same.sheet given (tolerances_of set) search c at (finite_radius e) (factor_above e))
         (with_same same given.long c on few (try_at (corners_of l shades) a.sheet (tolerances_of set) search c at)
         (λ k h. (attachable (corners_of l shades) a.sheet (tolerances_of set) search c at k h).given))
 
-    visit-same : SameGrow corners.pairs (grow_visit (corners_of l shades) set params c a) (grow_visit (corners_of l' shades') set params c a')
+    visit_same : SameGrow corners.pairs (grow_visit (corners_of l shades) set params c a) (grow_visit (corners_of l' shades') set params c a')
     unfolding grow_visit
-    visit-same = rw (prediction-paired corners same.sheet given set.grid c) (at_same (prediction_of (seen_of (corner_of l) a.sheet) set.grid c))
+    visit_same = rw (prediction_paired corners same.sheet given set.grid c) (at_same (prediction_of (seen_of (corner_of l) a.sheet) set.grid c))
 
   module _ (first : List ℕ) (begins : Standing l first) where
     -- at most m cells more: in the first run every visited cell lies on the sheet
-    from-same : (m head : ℕ) (a a' : GrowState) → Growing (corners_of l shades) (tolerances_of set) first head a → SameGrow corners.pairs a a'
+    from_same : (m head : ℕ) (a a' : GrowState) → Growing (corners_of l shades) (tolerances_of set) first head a → SameGrow corners.pairs a a'
         → SameGrow corners.pairs (grow_from (corners_of l shades) set params m head a) (grow_from (corners_of l' shades') set params m head a')
     unfolding grow_from
-    from-same zero head a a' g same = same
-    from-same (suc m) head a a' g same =
+    from_same zero head a a' g same = same
+    from_same (suc m) head a a' g same =
         subst
         (λ (q : List ℕ).
         SameGrow corners.pairs (grow_from (corners_of l shades) set params (suc m) head a)
         (cond (ltb head (length q)) (grow_from (corners_of l' shades') set params m (head + 1) (grow_visit (corners_of l' shades') set params (cell_of (get_or q head 0)) a')) a'))
-        (sym same.queued) (go (ltb head (length a.queued)) refl (λ h. from-same m (head + 1) _ _ (growing-visit set params few sound head a g h) (next h)))
+        (sym same.queued) (go (ltb head (length a.queued)) refl (λ h. from_same m (head + 1) _ _ (growing_visit set params few sound head a g h) (next h)))
       where
         cell : Cell
         cell = cell_of (get_or a.queued head 0)
@@ -177,7 +177,7 @@ module _ (l l' : CornerLists) (corners : PairedCorners l l') (shades shades' : L
 
         next : head < length a.queued → SameGrow corners.pairs (grow_visit (corners_of l shades) set params cell a) (grow_visit (corners_of l' shades') set params cell a')
         next h =
-            visit-same a a' same (sound_standing begins (sound-now few sound head a g h)).given cell
+            visit_same a a' same (sound_standing begins (sound_now few sound head a g h)).given cell
             (cell_on_lem (get_or a.queued head 0) (first_on (turn few sound head a g h)))
 
         go : (t : Bool) → ltb head (length a.queued) ≡ t
@@ -190,8 +190,8 @@ module _ (l l' : CornerLists) (corners : PairedCorners l l') (shades shades' : L
         go false e w = same
 
     -- the whole run
-    pub grow-same : (first' : List ℕ) → PairedSheets corners.pairs first first' → SameGrow corners.pairs (grow_run (corners_of l shades) set params first) (grow_run (corners_of l' shades') set params first')
+    pub grow_same : (first' : List ℕ) → PairedSheets corners.pairs first first' → SameGrow corners.pairs (grow_run (corners_of l shades) set params first) (grow_run (corners_of l' shades') set params first')
     unfolding grow_run
-    grow-same first' paired =
+    grow_same first' paired =
         subst (λ (k : ℕ). SameGrow corners.pairs (grow_run (corners_of l shades) set params first) (grow_from (corners_of l' shades') set params (4 * k) 0 (start_of first'))) (sym corners.same_xs)
-        (from-same (4 * length l.xs) 0 (start_of first) (start_of first') (growing_start (corners_of l shades) (tolerances_of set) first) (start_same paired))
+        (from_same (4 * length l.xs) 0 (start_of first) (start_of first') (growing_start (corners_of l shades) (tolerances_of set) first) (start_same paired))

@@ -16,14 +16,14 @@ use Rattle.sheet.specs.Pairing.{Shuffle, PairedCorners, PairedSheets}
 use Rattle.sheet.specs.declared.Cell.{Cell}
 use Rattle.sheet.specs.declared.Position.{Position}
 use Rattle.sheet.proofs.Laws.{cell_on_lem}
-use Rattle.sheet.proofs.Words.{attached-changes}
-use Rattle.sheet.proofs.Pairing.{paired-attached, paired-cleared, seen-paired}
+use Rattle.sheet.proofs.Words.{attached_changes}
+use Rattle.sheet.proofs.Pairing.{paired_attached, paired_cleared, seen_paired}
 use Rattle.labels.specs.Labelled.{labelled_places, label_count}
 use Rattle.labels.specs.Box.{box_of}
-use Rattle.labels.proofs.Pairing.{paired-places, paired-box, paired-count}
+use Rattle.labels.proofs.Pairing.{paired_places, paired_box, paired_count}
 use Rattle.homography.specs.Fit.{applied}
 use Rattle.candidates.specs.Candidates.{squared_radius}
-use Rattle.candidates.proofs.Radius.{search-radius}
+use Rattle.candidates.proofs.Radius.{search_radius}
 use Rattle.arguments.specs.Shades.{corners_of, PairedShades}
 use Rattle.arguments.specs.Accepted.{SettingsInside, LocalInside}
 use Rattle.arguments.specs.declared.Settings.{Settings}
@@ -37,14 +37,14 @@ use Rattle.passes.specs.Grow.{tolerances_of}
 use Rattle.passes.specs.Local.{depth_of, local_region, local_cells, by_reach, supports_of, cell_point, LocalFit, none, fitted, local_fit, LocalState, worst, recorded_all, with_residuals, with_unmatched, local_search, gate_of, local_with, local_try, local_at, local_visit, local_pass, local_from, local_limit, local_run}
 use Rattle.passes.specs.declared.LargestResidual.{LargestResidual}
 use Rattle.passes.specs.History.{begun}
-use Rattle.passes.proofs.Rounds.{Alike, SameRounds, rounds-same}
+use Rattle.passes.proofs.Rounds.{Alike, SameRounds, rounds_same}
 use Rattle.invariants.specs.Kept.{Sound}
 use Rattle.invariants.specs.Calls.{Standing}
 use Rattle.invariants.proofs.Waiting.{waiting_none, first_on}
-use Rattle.invariants.proofs.Local.{Trying, sound-tried, trying-visit, trying-begins}
+use Rattle.invariants.proofs.Local.{Trying, sound_tried, trying_visit, trying_begins}
 use Rattle.invariants.proofs.Run.{standing_sound, sound_standing}
 use Rattle.binary32.specs.Numbers.{one}
-use Rattle.agreement.proofs.Try.{paired_result, unmatched-paired, try-paired}
+use Rattle.agreement.proofs.Try.{paired_result, unmatched_paired, try_paired}
 use Rattle.agreement.proofs.Cells.{cells_same}
 
 -- where both runs stand: paired sheets, and the same new cells, counts, largest residual and corners passed over
@@ -59,16 +59,16 @@ pub record SameLocal {n : ℕ} (s : Shuffle n) (a a' : LocalState) : Type 0 wher
 
 module _ {n : ℕ} {s : Shuffle n} {sheet sheet' : List ℕ} (paired : PairedSheets s sheet sheet') where
   -- the same cells are listed
-  local-cells-same : (depth : ℕ) → local_cells depth sheet' ≡ local_cells depth sheet
+  local_cells_same : (depth : ℕ) → local_cells depth sheet' ≡ local_cells depth sheet
   unfolding local_cells
-  local-cells-same depth =
+  local_cells_same depth =
       cells_same paired (local_region depth (labelled_places sheet) (box_of sheet)) (local_region depth (labelled_places sheet') (box_of sheet'))
-      (ap₂ (local_region depth) (paired-places paired) (paired-box paired))
+      (ap₂ (local_region depth) (paired_places paired) (paired_box paired))
 
   -- each cell has the same supports
-  supports-same : (c : Cell) → supports_of c sheet' ≡ supports_of c sheet
+  supports_same : (c : Cell) → supports_of c sheet' ≡ supports_of c sheet
   unfolding supports_of
-  supports-same c = ap (λ (ps : List ℕ). take 4 (by_reach c ps)) (paired-places paired)
+  supports_same c = ap (λ (ps : List ℕ). take 4 (by_reach c ps)) (paired_places paired)
 
 -- ---- one cell
 
@@ -96,9 +96,9 @@ with_same same long c on few TryCellResult.EdgeRejected given = record { sheet =
 with_same {s = s} {a = a} same long c on few (TryCellResult.Attached k) given =
     let h = given k refl in
     let fits : k < 16383 = omega arith in
-    let now : 16384 ≤ length (attached a.sheet c k) = rw (attached-changes a.sheet c long on k fits).same_length long in
+    let now : 16384 ≤ length (attached a.sheet c k) = rw (attached_changes a.sheet c long on k fits).same_length long in
     record {
-      sheet = paired-cleared (paired-attached same.sheet c long on k fits (omega (arith, s.to_in k h))) c now on;
+      sheet = paired_cleared (paired_attached same.sheet c long on k fits (omega (arith, s.to_in k h))) c now on;
       made = ap (λ (l : List ℕ). l ++ (place_of c ∷ [])) same.made;
       counts = rw same.counts;
       largest = same.largest;
@@ -109,42 +109,42 @@ with_same {s = s} {a = a} same long c on few (TryCellResult.Attached k) given =
 
 module _ (l l' : CornerLists) (corners : PairedCorners l l') (shades shades' : List ℕ) (kinds : PairedShades corners.pairs shades shades')
     (long : length l.xs ≤ length shades) (few : length l.xs ≤ 1024) (set : Settings) (params : LocalExtensionParams) (inside : SettingsInside set) (numbers : LocalInside params) (above : lt one params.ambiguity_factor ≡ true) where
-  finite-radius : T (finite (squared_radius (local_search set params).search_r))
+  finite_radius : T (finite (squared_radius (local_search set params).search_r))
   unfolding local_search
-  finite-radius = search-radius params.search_rel set.grid.cell_size numbers.search inside.cell_size
+  finite_radius = search_radius params.search_rel set.grid.cell_size numbers.search inside.cell_size
 
-  factor-above : lt one (local_search set params).ambiguity_factor ≡ true
+  factor_above : lt one (local_search set params).ambiguity_factor ≡ true
   unfolding local_search
-  factor-above = above
+  factor_above = above
 
   module _ (a a' : LocalState) (same : SameLocal corners.pairs a a') (given : Given (length l.xs) a.sheet) (c : Cell) (on : OnSheet c) where
     -- the same fit, or none: the supports, and what is seen of them, are the same
     fit_same : local_fit (seen_of (corners_of l' shades').corner a'.sheet) (supports_of c a'.sheet) ≡ local_fit (seen_of (corners_of l shades).corner a.sheet) (supports_of c a.sheet)
-    fit_same = ap₂ local_fit (seen-paired corners same.sheet given) (supports-same same.sheet c)
+    fit_same = ap₂ local_fit (seen_paired corners same.sheet given) (supports_same same.sheet c)
 
     -- local gathers at the same prediction
-    try-same : (at : Position) (rs : List Float)
+    try_same : (at : Position) (rs : List Float)
         → SameLocal corners.pairs (local_try (corners_of l shades) set params c at (with_residuals rs a)) (local_try (corners_of l' shades') set params c at (with_residuals rs a'))
     unfolding local_try
-    try-same at rs =
-        rw (try-paired l l' corners shades shades' kinds long a.sheet a'.sheet same.sheet given (tolerances_of set) (local_search set params) c at finite-radius factor-above)
+    try_same at rs =
+        rw (try_paired l l' corners shades shades' kinds long a.sheet a'.sheet same.sheet given (tolerances_of set) (local_search set params) c at finite_radius factor_above)
         (with_same
-        (passed_same (recorded_same same rs) (unmatched-paired l l' corners shades shades' kinds long a.sheet a'.sheet same.sheet given (local_search set params).search_r c at))
+        (passed_same (recorded_same same rs) (unmatched_paired l l' corners shades shades' kinds long a.sheet a'.sheet same.sheet given (local_search set params).search_r c at))
         given.long c on few (try_at (corners_of l shades) a.sheet (tolerances_of set) (local_search set params) c at)
         (λ k e. (attachable (corners_of l shades) a.sheet (tolerances_of set) (local_search set params) c at k e).given))
 
     at_same : (fit : LocalFit) → SameLocal corners.pairs (local_at (corners_of l shades) set params c fit a) (local_at (corners_of l' shades') set params c fit a')
     unfolding local_at
     at_same none = same
-    at_same (fitted h rs) = go (lt (gate_of set params) (worst (of_bits binary32 0) rs)) (try-same (applied h (cell_point c)) rs)
+    at_same (fitted h rs) = go (lt (gate_of set params) (worst (of_bits binary32 0) rs)) (try_same (applied h (cell_point c)) rs)
       where
         go : (t : Bool) {b b' : LocalState} → SameLocal corners.pairs b b' → SameLocal corners.pairs (cond t (with_residuals rs a) b) (cond t (with_residuals rs a') b')
         go true w = recorded_same same rs
         go false w = w
 
-    visit-same : SameLocal corners.pairs (local_visit (corners_of l shades) set params c a) (local_visit (corners_of l' shades') set params c a')
+    visit_same : SameLocal corners.pairs (local_visit (corners_of l shades) set params c a) (local_visit (corners_of l' shades') set params c a')
     unfolding local_visit
-    visit-same =
+    visit_same =
         subst (λ (fit : LocalFit). SameLocal corners.pairs (local_visit (corners_of l shades) set params c a) (local_at (corners_of l' shades') set params c fit a')) (sym fit_same)
         (at_same (local_fit (seen_of (corners_of l shades).corner a.sheet) (supports_of c a.sheet)))
 
@@ -159,11 +159,11 @@ module _ (l l' : CornerLists) (corners : PairedCorners l l') (shades shades' : L
     alike : Alike (local_pass (corners_of l shades) set params) (local_pass (corners_of l' shades') set params) Both
     alike =
         record {
-          cells = λ a a' g. local-cells-same g.1.sheet (depth_of params);
-          begins = λ a a' g. (trying-begins few sound set params a g.0, g.1);
+          cells = λ a a' g. local_cells_same g.1.sheet (depth_of params);
+          begins = λ a a' g. (trying_begins few sound set params a g.0, g.1);
           keeps = λ p ps a a' g. (
-            trying-visit few sound set params p ps a g.0,
-            visit-same a a' g.1 (sound_standing begins (sound-tried few sound g.0)).given (cell_of p) (cell_on_lem p (first_on g.0.waiting)),
+            trying_visit few sound set params p ps a g.0,
+            visit_same a a' g.1 (sound_standing begins (sound_tried few sound g.0)).given (cell_of p) (cell_on_lem p (first_on g.0.waiting)),
           );
           made = λ a a' g. ap length g.1.made;
         }
@@ -172,7 +172,7 @@ module _ (l l' : CornerLists) (corners : PairedCorners l l') (shades shades' : L
     pub local_same : (first' : List ℕ) → PairedSheets corners.pairs first first'
         → SameRounds (SameLocal corners.pairs) (local_run (corners_of l shades) set params first) (local_run (corners_of l' shades') set params first')
     unfolding local_run local_from
-    local_same first' paired = rw (paired-count paired) (record { state = both.state.1; rounds = both.rounds })
+    local_same first' paired = rw (paired_count paired) (record { state = both.state.1; rounds = both.rounds })
       where
         start : LocalState
         start = record { sheet = first; made = []; counts = no_counts; largest = LargestResidual.Nothing; unmatched = 0 }
@@ -184,7 +184,7 @@ module _ (l l' : CornerLists) (corners : PairedCorners l l') (shades shades' : L
             (rounds_from (local_pass (corners_of l shades) set params) (local_limit (label_count first) params.max_iters) (record { state = start; rounds = 0 }))
             (rounds_from (local_pass (corners_of l' shades') set params) (local_limit (label_count first) params.max_iters) (record { state = start'; rounds = 0 }))
         both =
-            rounds-same Both alike (local_limit (label_count first) params.max_iters)
+            rounds_same Both alike (local_limit (label_count first) params.max_iters)
             (record { state = start; rounds = 0 }) (record { state = start'; rounds = 0 })
             (record {
               state = (

@@ -10,8 +10,8 @@ use lib.Ieee.{lt}
 use Rattle.refusal.specs.declared.Refusal.{Refusal}
 use Rattle.sheet.specs.Corners.{CornerLists}
 use Rattle.sheet.specs.Pairing.{Shuffle, PairedCorners, PairedSheets}
-use Rattle.sheet.proofs.Pairing.{given-paired, listed_paired}
-use Rattle.labels.proofs.Pairing.{paired-rim, paired-one}
+use Rattle.sheet.proofs.Pairing.{given_paired, listed_paired}
+use Rattle.labels.proofs.Pairing.{paired_rim, paired_one}
 use Rattle.arguments.specs.Shades.{any_shade, corners_of, PairedShades}
 use Rattle.arguments.specs.Arguments.{checked}
 use Rattle.arguments.specs.Accepted.{SettingsInside, GrowInside, FillInside, LocalInside, PassInside}
@@ -22,7 +22,7 @@ use Rattle.arguments.specs.declared.GrowParams.{GrowParams}
 use Rattle.arguments.specs.declared.FillParams.{FillParams}
 use Rattle.arguments.specs.declared.LocalExtensionParams.{LocalExtensionParams}
 use Rattle.arguments.proofs.Laws.{accepted}
-use Rattle.arguments.proofs.Pairing.{paired-any, checked-alike}
+use Rattle.arguments.proofs.Pairing.{paired_any, checked_alike}
 use Rattle.passes.specs.Outcome.{After, Outcome, refused, done}
 use Rattle.passes.specs.Grow.{grow_after}
 use Rattle.passes.specs.Fill.{fill_after}
@@ -30,12 +30,12 @@ use Rattle.passes.specs.Local.{depth_of, unmatched_if, local_after}
 use Rattle.passes.specs.Step.{Rooms, lent_of, unless, grow_step, fill_step, local_step}
 use Rattle.passes.specs.Run.{Call, PassStats, grow_stats, fill_stats, local_stats, step, sheet_after, run}
 use Rattle.invariants.specs.Calls.{Standing, checked_call, answering, after_pass, after_call, lent_shades}
-use Rattle.invariants.proofs.Run.{step_as_lem, call_accepted, standing-step, invariants}
+use Rattle.invariants.proofs.Run.{step_as_lem, call_accepted, standing_step, invariants}
 use Rattle.invariants.proofs.Unshaded.{byte_nought}
 use Rattle.binary32.specs.Numbers.{one}
 use Rattle.agreement.specs.Agreement.{RelistedCall, Relisted, no_call, relisted, NoneShaded, SameAfter, SameOutcome, both_refused, both_done, Agree, agree_end, agree_call, factor_of, AboveOne, FactorsAbove, was_refused, ran, Agreement, AgreementUnshaded}
-use Rattle.agreement.proofs.Grow.{grow-same}
-use Rattle.agreement.proofs.Fill.{fill-same}
+use Rattle.agreement.proofs.Grow.{grow_same}
+use Rattle.agreement.proofs.Fill.{fill_same}
 use Rattle.agreement.proofs.Local.{local_same}
 
 -- ---- outcomes
@@ -76,53 +76,53 @@ module _ (l l' : CornerLists) (corners : PairedCorners l l') (sheet sheet' : Lis
     (paired : PairedSheets corners.pairs sheet sheet') (begins : Standing l sheet) where
   module _ (shades shades' : List ℕ) (kinds : PairedShades corners.pairs shades shades') where
     -- the same is said of what was passed over: one stands in both or in neither
-    unmatched-same : length l.xs ≤ length shades → {m m' : ℕ} → m' ≡ m → unmatched_if (any_shade shades' (length l'.xs)) m' ≡ unmatched_if (any_shade shades (length l.xs)) m
-    unmatched-same long e =
-        ap₂ unmatched_if (ap (any_shade shades') corners.same_xs ∙ paired-any corners.pairs kinds long) e
+    unmatched_same : length l.xs ≤ length shades → {m m' : ℕ} → m' ≡ m → unmatched_if (any_shade shades' (length l'.xs)) m' ≡ unmatched_if (any_shade shades (length l.xs)) m
+    unmatched_same long e =
+        ap₂ unmatched_if (ap (any_shade shades') corners.same_xs ∙ paired_any corners.pairs kinds long) e
 
     -- refused alike
-    pub checked-same : (set : Settings) (rooms : Rooms) (pass : Pass) → checked (lent_of l' shades' sheet' rooms) set pass ≡ checked (lent_of l shades sheet rooms) set pass
-    checked-same set rooms pass =
-        checked-alike (lent_of l shades sheet rooms) (lent_of l' shades' sheet' rooms) set pass corners kinds paired refl refl (record { known = begins.given.known }) begins.one_cell
+    pub checked_same : (set : Settings) (rooms : Rooms) (pass : Pass) → checked (lent_of l' shades' sheet' rooms) set pass ≡ checked (lent_of l shades sheet rooms) set pass
+    checked_same set rooms pass =
+        checked_alike (lent_of l shades sheet rooms) (lent_of l' shades' sheet' rooms) set pass corners kinds paired refl refl (record { known = begins.given.known }) begins.one_cell
 
     -- what each pass does
     module _ (long : length l.xs ≤ length shades) (few : length l.xs ≤ 1024) (set : Settings) (inside : SettingsInside set) where
-      grow-after-same : (p : GrowParams) → GrowInside p → lt one p.attach_ambiguity_factor ≡ true
+      grow_after_same : (p : GrowParams) → GrowInside p → lt one p.attach_ambiguity_factor ≡ true
           → SameAfter corners.pairs (grow_after (corners_of l shades) set p sheet) (grow_after (corners_of l' shades') set p sheet')
       unfolding grow_after
-      grow-after-same p numbers above =
-          let same = grow-same l l' corners shades shades' kinds long few set p inside numbers above sheet begins sheet' paired in
+      grow_after_same p numbers above =
+          let same = grow_same l l' corners shades shades' kinds long few set p inside numbers above sheet begins sheet' paired in
           record {
-            answer = λ t. record { counts = same.counts t; rim = paired-rim same.sheet 1 t };
+            answer = λ t. record { counts = same.counts t; rim = paired_rim same.sheet 1 t };
             sheet = same.sheet;
             attached = same.made;
             visited = same.queued;
           }
 
-      fill-after-same : (p : FillParams) → FillInside p → lt one p.attach_ambiguity_factor ≡ true
+      fill_after_same : (p : FillParams) → FillInside p → lt one p.attach_ambiguity_factor ≡ true
           → SameAfter corners.pairs (fill_after (corners_of l shades) set p sheet) (fill_after (corners_of l' shades') set p sheet')
       unfolding fill_after
-      fill-after-same p numbers above =
-          let same = fill-same l l' corners shades shades' kinds long few set p inside numbers above sheet begins sheet' paired in
+      fill_after_same p numbers above =
+          let same = fill_same l l' corners shades shades' kinds long few set p inside numbers above sheet begins sheet' paired in
           record {
-            answer = λ t. record { added = length (same.state.made t); iterations = same.rounds t; rim = paired-rim same.state.sheet 1 t };
+            answer = λ t. record { added = length (same.state.made t); iterations = same.rounds t; rim = paired_rim same.state.sheet 1 t };
             sheet = same.state.sheet;
             attached = same.state.made;
             visited = refl;
           }
 
-      local-after-same : (p : LocalExtensionParams) → LocalInside p → lt one p.ambiguity_factor ≡ true
+      local_after_same : (p : LocalExtensionParams) → LocalInside p → lt one p.ambiguity_factor ≡ true
           → SameAfter corners.pairs (local_after (corners_of l shades) set p sheet) (local_after (corners_of l' shades') set p sheet')
       unfolding local_after
-      local-after-same p numbers above =
+      local_after_same p numbers above =
           let same = local_same l l' corners shades shades' kinds long few set p inside numbers above sheet begins sheet' paired in
           record {
             answer = λ t. record {
               counts = same.state.counts t;
               iterations = same.rounds t;
               residual = same.state.largest t;
-              rim = paired-rim same.state.sheet (depth_of p) t;
-              unmatched = unmatched-same long same.state.unmatched t;
+              rim = paired_rim same.state.sheet (depth_of p) t;
+              unmatched = unmatched_same long same.state.unmatched t;
             };
             sheet = same.state.sheet;
             attached = same.state.made;
@@ -130,31 +130,31 @@ module _ (l l' : CornerLists) (corners : PairedCorners l l') (sheet sheet' : Lis
           }
 
       pass_same : (p : Pass) → PassInside p → lt one (factor_of p) ≡ true → SameAfter corners.pairs (after_pass l shades sheet set p) (after_pass l' shades' sheet' set p)
-      pass_same (Pass.Grow p) numbers above = answering_same grow_stats (grow-after-same p numbers above)
-      pass_same (Pass.Fill p) numbers above = answering_same fill_stats (fill-after-same p numbers above)
-      pass_same (Pass.Local p) numbers above = answering_same local_stats (local-after-same p numbers above)
+      pass_same (Pass.Grow p) numbers above = answering_same grow_stats (grow_after_same p numbers above)
+      pass_same (Pass.Fill p) numbers above = answering_same fill_stats (fill_after_same p numbers above)
+      pass_same (Pass.Local p) numbers above = answering_same local_stats (local_after_same p numbers above)
 
     -- the calls of grow, of fill and of local, as their contracts have them
-    pub grow-step-same : (set : Settings) (p : GrowParams) (rooms : Rooms) → lt one p.attach_ambiguity_factor ≡ true
+    pub grow_step_same : (set : Settings) (p : GrowParams) (rooms : Rooms) → lt one p.attach_ambiguity_factor ≡ true
         → SameOutcome corners.pairs (grow_step l shades sheet set p rooms) (grow_step l' shades' sheet' set p rooms)
     unfolding grow_step
-    grow-step-same set p rooms above =
-        unless_same _ _ _ _ (checked-same set rooms (Pass.Grow p))
-        (λ e. let w = accepted (lent_of l shades sheet rooms) set (Pass.Grow p) e in grow-after-same w.shades_long w.few set w.settings_inside p w.pass_inside above)
+    grow_step_same set p rooms above =
+        unless_same _ _ _ _ (checked_same set rooms (Pass.Grow p))
+        (λ e. let w = accepted (lent_of l shades sheet rooms) set (Pass.Grow p) e in grow_after_same w.shades_long w.few set w.settings_inside p w.pass_inside above)
 
-    pub fill-step-same : (set : Settings) (p : FillParams) (rooms : Rooms) → lt one p.attach_ambiguity_factor ≡ true
+    pub fill_step_same : (set : Settings) (p : FillParams) (rooms : Rooms) → lt one p.attach_ambiguity_factor ≡ true
         → SameOutcome corners.pairs (fill_step l shades sheet set p rooms) (fill_step l' shades' sheet' set p rooms)
     unfolding fill_step
-    fill-step-same set p rooms above =
-        unless_same _ _ _ _ (checked-same set rooms (Pass.Fill p))
-        (λ e. let w = accepted (lent_of l shades sheet rooms) set (Pass.Fill p) e in fill-after-same w.shades_long w.few set w.settings_inside p w.pass_inside above)
+    fill_step_same set p rooms above =
+        unless_same _ _ _ _ (checked_same set rooms (Pass.Fill p))
+        (λ e. let w = accepted (lent_of l shades sheet rooms) set (Pass.Fill p) e in fill_after_same w.shades_long w.few set w.settings_inside p w.pass_inside above)
 
-    pub local-step-same : (set : Settings) (p : LocalExtensionParams) (rooms : Rooms) → lt one p.ambiguity_factor ≡ true
+    pub local_step_same : (set : Settings) (p : LocalExtensionParams) (rooms : Rooms) → lt one p.ambiguity_factor ≡ true
         → SameOutcome corners.pairs (local_step l shades sheet set p rooms) (local_step l' shades' sheet' set p rooms)
     unfolding local_step
-    local-step-same set p rooms above =
-        unless_same _ _ _ _ (checked-same set rooms (Pass.Local p))
-        (λ e. let w = accepted (lent_of l shades sheet rooms) set (Pass.Local p) e in local-after-same w.shades_long w.few set w.settings_inside p w.pass_inside above)
+    local_step_same set p rooms above =
+        unless_same _ _ _ _ (checked_same set rooms (Pass.Local p))
+        (λ e. let w = accepted (lent_of l shades sheet rooms) set (Pass.Local p) e in local_after_same w.shades_long w.few set w.settings_inside p w.pass_inside above)
 
   -- any call and the relisted one, if it has a factor above 1 where it runs
   pub step_same : (c c' : Call) → RelistedCall corners.pairs c c' → ((a : After PassStats) → step l sheet c ≡ done a → AboveOne c)
@@ -163,7 +163,7 @@ module _ (l l' : CornerLists) (corners : PairedCorners l l') (sheet sheet' : Lis
       subst (λ (d : Call). SameOutcome corners.pairs (step l sheet c) (step l' sheet' d)) (sym (relisted_is w))
       (subst₂ (SameOutcome corners.pairs) (sym (step_as_lem l sheet c)) (sym (step_as_lem l' sheet' d'))
       (unless_same (checked_call l sheet c) (checked_call l' sheet' d') (after_call l sheet c) (after_call l' sheet' d')
-      (checked-same c.shades c'.shades w.shades c.settings c.rooms c.pass)
+      (checked_same c.shades c'.shades w.shades c.settings c.rooms c.pass)
       (λ e.
       let k = call_accepted l sheet c e in
       let runs : step l sheet c ≡ done (after_call l sheet c) = step_as_lem l sheet c ∙ ap (λ (k : Checked). unless k (after_call l sheet c)) e in
@@ -173,8 +173,8 @@ module _ (l l' : CornerLists) (corners : PairedCorners l l') (sheet sheet' : Lis
       d' = lent_shades c'.shades c
 
   -- the second frame's corners and sheet belong together too
-  pub standing-paired : Standing l' sheet'
-  standing-paired = record { listed = listed_paired corners begins.listed; given = given-paired corners paired begins.given; one_cell = paired-one paired begins.given.known begins.one_cell }
+  pub standing_paired : Standing l' sheet'
+  standing_paired = record { listed = listed_paired corners begins.listed; given = given_paired corners paired begins.given; one_cell = paired_one paired begins.given.known begins.one_cell }
 
 -- ---- a list of calls
 
@@ -187,14 +187,14 @@ run_same l l' corners sheet sheet' paired begins calls calls' (relisted {c} {c'}
     let a = above_split f in
     let same = step_same l l' corners sheet sheet' paired begins c c' w a.0 in
     agree_call paired same
-    (run_same l l' corners (sheet_after sheet (step l sheet c)) (sheet_after sheet' (step l' sheet' c')) (sheets_after paired same) (standing-step l sheet begins c) cs cs' ws a.1)
+    (run_same l l' corners (sheet_after sheet (step l sheet c)) (sheet_after sheet' (step l' sheet' c')) (sheets_after paired same) (standing_step l sheet begins c) cs cs' ws a.1)
 
 -- the claim, whole
 pub agreement : Agreement
 agreement l l' given given' frames calls calls' w =
     record {
       first_run = invariants l given frames.standing calls;
-      second_run = invariants l' given' (standing-paired l l' frames.corners given given' frames.labels frames.standing) calls';
+      second_run = invariants l' given' (standing_paired l l' frames.corners given given' frames.labels frames.standing) calls';
       agree = run_same l l' frames.corners given given' frames.labels frames.standing calls calls' w;
     }
 

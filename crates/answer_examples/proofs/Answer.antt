@@ -18,9 +18,9 @@ use Rattle.frame_answer.specs.Answer.{stats_of, frame_stats, frame_sheet, answer
 use Rattle.written_places.specs.Written.{Written, Rise, no_more, sheet_with, attached_in}
 use Rattle.written_places.specs.Run.{Asked, runs, calls_of as callsAsked, AsAsked, ends, one_runs}
 use Rattle.written_places.specs.Text.{text_in}
-use Rattle.written_places.proofs.Written.{rise_put, attached-so, all_told}
+use Rattle.written_places.proofs.Written.{rise_put, attached_so, all_told}
 use Rattle.written_places.proofs.Run.{Went, went}
-use Rattle.written_places.proofs.Text.{holes-so, ambiguous-so, text-so}
+use Rattle.written_places.proofs.Text.{holes_so, ambiguous_so, text_so}
 use Rattle.result_agreement.specs.Alike.{numbered_anew, cell_line_anew, renumbered_text}
 use Rattle.answer_examples.specs.Answer.{labelled_in, given_in, asked, frame_run, run_text, cell_says_anew, renumbered_in}
 
@@ -30,7 +30,7 @@ labelled_so : (ls : List Placed) (w : List Written) → labelled (sheet_with w) 
 unfolding labelled labelled_in
 labelled_so [] w = refl
 labelled_so (l ∷ ls) w =
-    ap (λ (sheet : List ℕ). labelled sheet ls) (attached-so w l.cell l.corner) ∙ labelled_so ls (attached_in w l.cell l.corner)
+    ap (λ (sheet : List ℕ). labelled sheet ls) (attached_so w l.cell l.corner) ∙ labelled_so ls (attached_in w l.cell l.corner)
 
 labelled_rises : (ls : List Placed) (w : List Written) → Rise 0 w → Rise 0 (labelled_in w ls)
 unfolding labelled_in
@@ -61,44 +61,44 @@ renumbered_so : (to : ℕ → ℕ) (stats : List PassStats) (w : List Written) �
 unfolding renumbered_text renumbered_in cell_line_anew numbered_anew label_of label_of_number
 renumbered_so to stats w h =
     let cells = all_told (cell_says_anew to) (λ p. refl) w h in
-    λ t. heading ++ (pass_lines stats ++ (cells t ++ (holes-so w h t ++ ambiguous-so w h t)))
+    λ t. heading ++ (pass_lines stats ++ (cells t ++ (holes_so w h t ++ ambiguous_so w h t)))
 
 -- ---- an accepted text
 
 module _ (text : List ℕ) (f : Frame) (e : read_frame text ≡ accepted f) where
   -- a list of calls from the frame's corners and given labels
-  pub frame-went : (qs : List Asked) → AsAsked (frame_corners f) qs → Went (frame_corners f) (given_in f) qs
-  frame-went qs g = went (frame_corners f) qs (given_in f) (given_rises f) (subst (Standing (frame_corners f)) (given_so f) (accepted_runs text f e).standing) g
+  pub frame_went : (qs : List Asked) → AsAsked (frame_corners f) qs → Went (frame_corners f) (given_in f) qs
+  frame_went qs g = went (frame_corners f) qs (given_in f) (given_rises f) (subst (Standing (frame_corners f)) (given_so f) (accepted_runs text f e).standing) g
 
   own : Went (frame_corners f) (given_in f) (asked f)
-  own = frame-went (asked f) (all_run (frame_corners f) (calls_of f) (accepted_runs text f e).fit)
+  own = frame_went (asked f) (all_run (frame_corners f) (calls_of f) (accepted_runs text f e).fit)
 
-  pub own-run : run (frame_corners f) (sheet_of f) (calls_of f) ≡ (frame_run f).outcomes
-  own-run = ap₂ (λ (sheet : List ℕ) (cs : List Call). run (frame_corners f) sheet cs) (given_so f) (sym (calls_back (calls_of f))) ∙ own.run_so
+  pub own_run : run (frame_corners f) (sheet_of f) (calls_of f) ≡ (frame_run f).outcomes
+  own_run = ap₂ (λ (sheet : List ℕ) (cs : List Call). run (frame_corners f) sheet cs) (given_so f) (sym (calls_back (calls_of f))) ∙ own.run_so
 
-  own-stats : frame_stats f ≡ stats_of (frame_run f).outcomes
+  own_stats : frame_stats f ≡ stats_of (frame_run f).outcomes
   unfolding frame_stats
-  own-stats = ap stats_of own-run
+  own_stats = ap stats_of own_run
 
-  own-sheet : frame_sheet f ≡ sheet_with (frame_run f).left
+  own_sheet : frame_sheet f ≡ sheet_with (frame_run f).left
   unfolding frame_sheet
-  own-sheet = ap₂ (λ (sheet : List ℕ) (cs : List Call). sheetAfterAll (frame_corners f) sheet cs) (given_so f) (sym (calls_back (calls_of f))) ∙ own.left_so
+  own_sheet = ap₂ (λ (sheet : List ℕ) (cs : List Call). sheetAfterAll (frame_corners f) sheet cs) (given_so f) (sym (calls_back (calls_of f))) ∙ own.left_so
 
-  own-rises : Rise 0 (frame_run f).left
-  own-rises = own.left_rises
+  own_rises : Rise 0 (frame_run f).left
+  own_rises = own.left_rises
 
-  pub answer-so : answer_text text ≡ run_text (frame_run f)
+  pub answer_so : answer_text text ≡ run_text (frame_run f)
   unfolding answer_text answer_of run_text
-  answer-so =
-      ap answer_of e ∙ ap₂ result_text own-stats own-sheet ∙ text-so (frame_run f).left own-rises (stats_of (frame_run f).outcomes)
+  answer_so =
+      ap answer_of e ∙ ap₂ result_text own_stats own_sheet ∙ text_so (frame_run f).left own_rises (stats_of (frame_run f).outcomes)
 
   -- where it is known what the run says and leaves
   module _ (os : List (Outcome PassStats)) (w : List Written) (says : (frame_run f).outcomes ≡ os) (leaves : (frame_run f).left ≡ w) where
-    pub answer-known : answer_text text ≡ text_in (stats_of os) w
+    pub answer_known : answer_text text ≡ text_in (stats_of os) w
     unfolding run_text
-    answer-known = answer-so ∙ ap₂ (λ (ps : List (Outcome PassStats)) (v : List Written). text_in (stats_of ps) v) says leaves
+    answer_known = answer_so ∙ ap₂ (λ (ps : List (Outcome PassStats)) (v : List Written). text_in (stats_of ps) v) says leaves
 
-    pub renumbered-known : (to : ℕ → ℕ) → renumbered_text to (frame_stats f) (frame_sheet f) ≡ renumbered_in to (stats_of os) w
-    renumbered-known to =
-        ap₂ (renumbered_text to) (own-stats ∙ ap stats_of says) (own-sheet ∙ ap sheet_with leaves)
-        ∙ renumbered_so to (stats_of os) w (subst (Rise 0) leaves own-rises)
+    pub renumbered_known : (to : ℕ → ℕ) → renumbered_text to (frame_stats f) (frame_sheet f) ≡ renumbered_in to (stats_of os) w
+    renumbered_known to =
+        ap₂ (renumbered_text to) (own_stats ∙ ap stats_of says) (own_sheet ∙ ap sheet_with leaves)
+        ∙ renumbered_so to (stats_of os) w (subst (Rise 0) leaves own_rises)

@@ -31,7 +31,7 @@ use Rattle.written_places.specs.Passes.{gathered_by, edges_in, result_in, try_in
 use Rattle.written_places.specs.Run.{after_pass_in, run_in}
 use Rattle.written_places.specs.Text.{text_in}
 use Rattle.answer_examples.specs.Answer.{labelled_in, frame_run, run_text}
-use Rattle.answer_examples.proofs.Answer.{answer-so}
+use Rattle.answer_examples.proofs.Answer.{answer_so}
 use Rattle.arguments.specs.Arguments.{outside}
 use Rattle.line_form.specs.Lines.{lines_of}
 use Rattle.line_form.specs.Written.{unheld_whole}
@@ -59,6 +59,6 @@ old_computed = refl
 pub boundary_answered : BoundaryAnswered
 boundary_answered =
     record {
-      bare = answer-so bare_text bare_frame bare_read ∙ bare_computed;
-      old = answer-so old_text old_frame old_read ∙ old_computed;
+      bare = answer_so bare_text bare_frame bare_read ∙ bare_computed;
+      old = answer_so old_text old_frame old_read ∙ old_computed;
     }

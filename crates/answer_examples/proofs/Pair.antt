@@ -41,7 +41,7 @@ use Rattle.result_agreement.proofs.Alike.{frames_answer_alike}
 use Rattle.answer_examples.specs.Answer.{given_in, frame_run, renumbered_in}
 use Rattle.answer_examples.specs.Pair.{first_text, second_text, local_line, first_frame, second_frame, first_result, second_result}
 use Rattle.answer_examples.specs.Claims.{refused_line, grow_line, fill_line, calls_from, calls, told_of, Met, Agreed}
-use Rattle.answer_examples.proofs.Answer.{given_so, frame-went, own-run, answer-known, renumbered-known}
+use Rattle.answer_examples.proofs.Answer.{given_so, frame_went, own_run, answer_known, renumbered_known}
 use Rattle.answer_examples.proofs.Pairing.{first_read, second_read, same}
 use Rattle.answer_examples.proofs.Ran.{local_left, grow_left, fill_left, after, local_did, grow_did, fill_did}
 
@@ -137,13 +137,13 @@ list_run : run (frame_corners first_frame) (sheet_of first_frame) calls
     ≡ done (after_of local_left) ∷ refused Refusal.OutOfRange ∷ done (after_of grow_left) ∷ done (after_of fill_left) ∷ []
 unfolding list callsAsked run_in
 list_run =
-    ap (λ (sheet : List ℕ). run (frame_corners first_frame) sheet calls) (given_so first_frame) ∙ (frame-went first_text first_frame first_read list list_goes).run_so
+    ap (λ (sheet : List ℕ). run (frame_corners first_frame) sheet calls) (given_so first_frame) ∙ (frame_went first_text first_frame first_read list list_goes).run_so
     ∙ (λ t. done (after_of (local_did t)) ∷ refused Refusal.OutOfRange ∷ done (after_of (grow_next t)) ∷ done (after_of (fill_next t)) ∷ [])
 
 own_factors : FactorsAbove (calls_of first_frame) (run (frame_corners first_frame) (sheet_of first_frame) (calls_of first_frame))
 unfolding calls_of full_of kind_at bits_at whole_at pass_line_of opened adding parts_from parts_of
 own_factors =
-    subst (FactorsAbove (calls_of first_frame)) (sym (own-run first_text first_frame first_read ∙ own_outcomes))
+    subst (FactorsAbove (calls_of first_frame)) (sym (own_run first_text first_frame first_read ∙ own_outcomes))
     (ran (local_above first_frame) (ran (grow_above first_frame) (ran (fill_above first_frame) no_more)))
 
 list_factors : FactorsAbove calls (run (frame_corners first_frame) (sheet_of first_frame) calls)
@@ -177,11 +177,11 @@ unfolding same renumbered_in numbered_anew told stats_of pass_lines pass_line lo
 second_text_lem = refl
 
 first_said : answer_text first_text ≡ first_result
-first_said = answer-known first_text first_frame first_read outcomes fill_left.sheet own_outcomes own_left ∙ first_text_lem
+first_said = answer_known first_text first_frame first_read outcomes fill_left.sheet own_outcomes own_left ∙ first_text_lem
 
 second_said : ResultsAlike first_text second_text first_frame second_frame same → answer_text second_text ≡ second_result
 second_said results =
-    results.second_answer ∙ renumbered-known first_text first_frame first_read outcomes fill_left.sheet own_outcomes own_left (numbers same) ∙ second_text_lem
+    results.second_answer ∙ renumbered_known first_text first_frame first_read outcomes fill_left.sheet own_outcomes own_left (numbers same) ∙ second_text_lem
 
 pub agreed : Agreed met
 unfolding met

@@ -34,7 +34,7 @@ use Rattle.written_places.specs.Run.{after_pass_in, run_in}
 use Rattle.written_places.specs.Text.{text_in}
 use Rattle.answer_examples.specs.Answer.{labelled_in, frame_run, run_text}
 use Rattle.answer_examples.specs.Paper.{example_result, ExampleAnswered}
-use Rattle.answer_examples.proofs.Answer.{answer-so}
+use Rattle.answer_examples.proofs.Answer.{answer_so}
 
 -- what the first text of the crate `frame_laws`' table is read as
 first : List FrameRead → FrameRead
@@ -51,4 +51,4 @@ unfolding of_bits of_int to_bits add sub mul div neg lt le eq digits is_finite a
 computed = refl
 
 pub example_answered : ExampleAnswered
-example_answered = answer-so example meant example_read ∙ computed
+example_answered = answer_so example meant example_read ∙ computed

@@ -51,7 +51,7 @@ use Rattle.result_agreement.specs.Alike.{numbered_anew, numbers}
 use Rattle.result_agreement.proofs.Alike.{frames_answer_alike}
 use Rattle.answer_examples.specs.Answer.{labelled_in, given_in, frame_run, renumbered_in}
 use Rattle.answer_examples.specs.Claims.{grow_line}
-use Rattle.answer_examples.proofs.Answer.{own-run, answer-known, renumbered-known}
+use Rattle.answer_examples.proofs.Answer.{own_run, answer_known, renumbered_known}
 use Rattle.answer_examples.proofs.Pairing.{below}
 use Rattle.answer_examples.proofs.Ran.{after}
 use Rattle.answer_examples.proofs.Pair.{grow_above}
@@ -166,7 +166,7 @@ own_left = ap (λ (a : AfterIn PassStats). a.sheet) grow_first
 own_factors : FactorsAbove (calls_of patched_frame) (run (frame_corners patched_frame) (sheet_of patched_frame) (calls_of patched_frame))
 unfolding calls_of full_of kind_at bits_at whole_at pass_line_of opened adding parts_from parts_of
 own_factors =
-    subst (FactorsAbove (calls_of patched_frame)) (sym (own-run patched_text patched_frame first_read ∙ own_outcomes)) (ran (grow_above patched_frame) no_more)
+    subst (FactorsAbove (calls_of patched_frame)) (sym (own_run patched_text patched_frame first_read ∙ own_outcomes)) (ran (grow_above patched_frame) no_more)
 
 -- ---- the claims
 
@@ -190,8 +190,8 @@ patched_agreed =
     record {
       runs = frames_run_alike patched_text turned_text patched_frame turned_frame first_read second_read same;
       results = results;
-      first_answer = answer-known patched_text patched_frame first_read outcomes grow_left.sheet own_outcomes own_left ∙ first_text_lem;
+      first_answer = answer_known patched_text patched_frame first_read outcomes grow_left.sheet own_outcomes own_left ∙ first_text_lem;
       second_answer =
-          results.second_answer ∙ renumbered-known patched_text patched_frame first_read outcomes grow_left.sheet own_outcomes own_left (numbers same)
+          results.second_answer ∙ renumbered_known patched_text patched_frame first_read outcomes grow_left.sheet own_outcomes own_left (numbers same)
           ∙ second_text_lem;
     }

@@ -67,7 +67,7 @@ use Rattle.answer_examples.specs.Answer.{labelled_in, given_in, frame_run, renum
 use Rattle.answer_examples.specs.Pair.{local_line}
 use Rattle.answer_examples.specs.Claims.{grow_line}
 use Rattle.answer_examples.specs.Shaded.{shaded_text, relisted_text, shaded_frame, relisted_frame, numbers_in_relisted, numbers_in_shaded, shaded_result, relisted_result, ShadedMet, ShadedAgreed}
-use Rattle.answer_examples.proofs.Answer.{own-run, answer-known, renumbered-known}
+use Rattle.answer_examples.proofs.Answer.{own_run, answer_known, renumbered_known}
 use Rattle.answer_examples.proofs.Pairing.{below}
 use Rattle.answer_examples.proofs.Ran.{after}
 use Rattle.answer_examples.proofs.Pair.{local_above, grow_above}
@@ -184,7 +184,7 @@ own_left = ap (λ (a : AfterIn PassStats). a.sheet) grow_next
 own_factors : FactorsAbove (calls_of shaded_frame) (run (frame_corners shaded_frame) (sheet_of shaded_frame) (calls_of shaded_frame))
 unfolding calls_of full_of kind_at bits_at whole_at pass_line_of opened adding parts_from parts_of
 own_factors =
-    subst (FactorsAbove (calls_of shaded_frame)) (sym (own-run shaded_text shaded_frame first_read ∙ own_outcomes))
+    subst (FactorsAbove (calls_of shaded_frame)) (sym (own_run shaded_text shaded_frame first_read ∙ own_outcomes))
     (ran (local_above shaded_frame) (ran (grow_above shaded_frame) no_more))
 
 -- ---- the claims
@@ -210,8 +210,8 @@ shaded_agreed =
       lines = (shades_by_lines shaded_text relisted_text shaded_frame relisted_frame first_read second_read 8 pairs).lines_have same_shades;
       runs = frames_run_alike shaded_text relisted_text shaded_frame relisted_frame first_read second_read same;
       results = results;
-      first_answer = answer-known shaded_text shaded_frame first_read outcomes grow_left.sheet own_outcomes own_left ∙ first_text_lem;
+      first_answer = answer_known shaded_text shaded_frame first_read outcomes grow_left.sheet own_outcomes own_left ∙ first_text_lem;
       second_answer =
-          results.second_answer ∙ renumbered-known shaded_text shaded_frame first_read outcomes grow_left.sheet own_outcomes own_left (numbers same)
+          results.second_answer ∙ renumbered_known shaded_text shaded_frame first_read outcomes grow_left.sheet own_outcomes own_left (numbers same)
           ∙ second_text_lem;
     }

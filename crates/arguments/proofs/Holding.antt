@@ -36,12 +36,12 @@ pub record Holding (l : CornerLists) (held : List Float) (k : ℕ) : Type 0 wher
   pub no_kinds : (m : ℕ) → m < 1024 → get_or held (m + 3072) nan ≡ nan
 
 module _ (held : List Float) (k : ℕ) (x y pitch : Float) (h : k < 1024) (size : length held ≡ 4096) where
-  put-size : length (put held k x y pitch) ≡ 4096
-  put-size = length-set (set (set held k x) (k + 1024) y) (k + 2048) pitch ∙ length-set (set held k x) (k + 1024) y ∙ length-set held k x ∙ size
+  put_size : length (put held k x y pitch) ≡ 4096
+  put_size = length-set (set (set held k x) (k + 1024) y) (k + 2048) pitch ∙ length-set (set held k x) (k + 1024) y ∙ length-set held k x ∙ size
 
   -- the corner itself
-  put-here : corner_in (put held k x y pitch) k ≡ record { position = record { x = x; y = y }; pitch = pitch }
-  put-here =
+  put_here : corner_in (put held k x y pitch) k ≡ record { position = record { x = x; y = y }; pitch = pitch }
+  put_here =
       held_corner (put held k x y pitch) k h
       ∙ rw (
         get_or-set_other (set (set held k x) (k + 1024) y) (k + 2048) k pitch nan (λ e. omega arith),
@@ -59,8 +59,8 @@ module _ (held : List Float) (k : ℕ) (x y pitch : Float) (h : k < 1024) (size 
       ∙ get_or-set_other (set held k x) (k + 1024) p y nan b
       ∙ get_or-set_other held k p x nan a
 
-  put-there : (m : ℕ) → m ≢ k → corner_in (put held k x y pitch) m ≡ corner_in held m
-  put-there m d = go (ltb m 1024) refl
+  put_there : (m : ℕ) → m ≢ k → corner_in (put held k x y pitch) m ≡ corner_in held m
+  put_there m d = go (ltb m 1024) refl
     where
       go : (t : Bool) → ltb m 1024 ≡ t → corner_in (put held k x y pitch) m ≡ corner_in held m
       go true e =
@@ -108,13 +108,13 @@ holdable l listed few =
 
 module _ {l : CornerLists} {held : List Float} {k : ℕ} (few : length l.xs ≤ 1024) (g : Holding l held k) where
   -- one more
-  pub holding-more : k < length l.xs → Holding l (put held k (get_or l.xs k nan) (get_or l.ys k nan) (get_or l.pitches k nan)) (k + 1)
-  holding-more h =
+  pub holding_more : k < length l.xs → Holding l (put held k (get_or l.xs k nan) (get_or l.ys k nan) (get_or l.pitches k nan)) (k + 1)
+  holding_more h =
       record {
-        size = put-size held k _ _ _ small g.size;
+        size = put_size held k _ _ _ small g.size;
         within = omega arith;
-        first = λ m a. first-at m a (ℕ_discrete m k);
-        rest = λ m a. put-there held k _ _ _ small g.size m (λ e. omega arith) ∙ g.rest m (omega arith);
+        first = λ m a. first_at m a (ℕ_discrete m k);
+        rest = λ m a. put_there held k _ _ _ small g.size m (λ e. omega arith) ∙ g.rest m (omega arith);
         no_kinds =
             λ m a. kept_at held k _ _ _ small g.size (m + 3072) (λ e. omega arith) (λ e. omega arith) (λ e. omega arith) ∙ g.no_kinds m a;
       }
@@ -122,18 +122,18 @@ module _ {l : CornerLists} {held : List Float} {k : ℕ} (few : length l.xs ≤ 
       small : k < 1024
       small = omega arith
 
-      first-at : (m : ℕ) → m < k + 1 → Dec (m ≡ k) → corner_in (put held k (get_or l.xs k nan) (get_or l.ys k nan) (get_or l.pitches k nan)) m ≡ corner_of l m
-      first-at m a (yes e) = rw e (put-here held k _ _ _ small g.size ∙ sym (listed_corner l k h))
-      first-at m a (no d) = put-there held k _ _ _ small g.size m d ∙ g.first m (omega (arith, d))
+      first_at : (m : ℕ) → m < k + 1 → Dec (m ≡ k) → corner_in (put held k (get_or l.xs k nan) (get_or l.ys k nan) (get_or l.pitches k nan)) m ≡ corner_of l m
+      first_at m a (yes e) = rw e (put_here held k _ _ _ small g.size ∙ sym (listed_corner l k h))
+      first_at m a (no d) = put_there held k _ _ _ small g.size m d ∙ g.first m (omega (arith, d))
 
   -- with the last one the array holds the corners that are lent
-  pub holding-all : length l.xs ≤ k → corner_in held ≡ corner_of l
-  holding-all h = λ t m. at m (ltb m k) refl t
+  pub holding_all : length l.xs ≤ k → corner_in held ≡ corner_of l
+  holding_all h = λ t m. at m (ltb m k) refl t
     where
       at : (m : ℕ) (t : Bool) → ltb m k ≡ t → corner_in held m ≡ corner_of l m
       at m true e = g.first m (ltb-true m k e)
       at m false e = let a = ltb-false m k e in g.rest m a ∙ sym (unlisted l m (omega arith))
 
   -- and no kind yet
-  pub holding-no-kinds : NoKinds held
-  holding-no-kinds = record { size = g.size; none = g.no_kinds }
+  pub holding_no_kinds : NoKinds held
+  holding_no_kinds = record { size = g.size; none = g.no_kinds }

@@ -111,8 +111,8 @@ shading_start shades n held w = record { size = w.size; within = omega arith; fi
 
 module _ {shades : List ℕ} {n : ℕ} {before held : List Float} {k : ℕ} (two : TwoKinds shades n) (g : Shading shades n before held k) where
   -- one more
-  pub shading-more : k < n → {v : Float} → v ≡ entry_of (get_or shades k 0) → Shading shades n before (set held (k + 3072) v) (k + 1)
-  shading-more h {v} e =
+  pub shading_more : k < n → {v : Float} → v ≡ entry_of (get_or shades k 0) → Shading shades n before (set held (k + 3072) v) (k + 1)
+  shading_more h {v} e =
       record {
         size = length-set held (k + 3072) v ∙ g.size;
         within = omega arith;
@@ -156,9 +156,9 @@ module _ {shades : List ℕ} {n : ℕ} {before held : List Float} {k : ℕ} (two
         go false e = ap (λ (x : Float). eq x nought) (g.rest 0 (ltb-false 0 k e) (omega arith)) ∙ nan_not
 
     -- where one stands, that is all
-    pub shading-some : any_shade shades n ≡ true → shades_in held ≡ shades_of shades n
+    pub shading_some : any_shade shades n ≡ true → shades_in held ≡ shades_of shades n
     unfolding any_in
-    shading-some e = λ t. record { any = any t; of = λ m. shade_held_lem m t }
+    shading_some e = λ t. record { any = any t; of = λ m. shade_held_lem m t }
       where
         any : any_in held ≡ any_shade shades n
         any = rw first_entry (sym e)
@@ -168,32 +168,32 @@ module _ {shades : List ℕ} {n : ℕ} {before held : List Float} {k : ℕ} (two
       here : get_or (set held 3072 nought) 3072 nan ≡ nought
       here = get_or-set_same held 3072 nought nan (omega (arith, g.size))
 
-      first-bare : shade_at shades n 0 ≡ bare
+      first_bare : shade_at shades n 0 ≡ bare
       unfolding shade_at any_shade
-      first-bare = go (ltb 0 n) refl
+      first_bare = go (ltb 0 n) refl
         where
           go : (t : Bool) → ltb 0 n ≡ t → cond t (shade_of (get_or shades 0 0)) bare ≡ bare
           go true q = not_standing _ (any_none (λ j. stands (shade_of (get_or shades j 0))) n 0 e (ltb-true 0 n q))
           go false q = refl
 
-      here-bare : shade_in (set held 3072 nought) 0 ≡ bare
+      here_bare : shade_in (set held 3072 nought) 0 ≡ bare
       unfolding shade_in
-      here-bare = ap shade_held here ∙ nought_bare
+      here_bare = ap shade_held here ∙ nought_bare
 
       same_shade : (m : ℕ) → Dec (m ≡ 0) → shade_in (set held 3072 nought) m ≡ shade_in held m
       unfolding shade_in
-      same_shade m (yes d) = rw d (here-bare ∙ sym first-bare ∙ sym (shade_held_lem 0))
+      same_shade m (yes d) = rw d (here_bare ∙ sym first_bare ∙ sym (shade_held_lem 0))
       same_shade m (no d) = ap (λ (x : Float). cond (ltb m 1024) (shade_held x) bare) (get_or-set_other held 3072 (m + 3072) nought nan (λ q. d (omega arith)))
 
-      pub shading-none : shades_in (set held 3072 nought) ≡ shades_of shades n
+      pub shading_none : shades_in (set held 3072 nought) ≡ shades_of shades n
       unfolding any_in
-      shading-none = λ t. record { any = any t; of = λ m. (same_shade m (ℕ_discrete m 0) ∙ shade_held_lem m) t }
+      shading_none = λ t. record { any = any t; of = λ m. (same_shade m (ℕ_discrete m 0) ∙ shade_held_lem m) t }
         where
           any : any_in (set held 3072 nought) ≡ any_shade shades n
           any = rw (here, nought_is) (sym e)
 
-    pub shading-corners : corner_in (set held 3072 nought) ≡ corner_in before
-    shading-corners = (λ t m. corner_kept held 3072 nought m (omega arith) t) ∙ g.corners
+    pub shading_corners : corner_in (set held 3072 nought) ≡ corner_in before
+    shading_corners = (λ t m. corner_kept held 3072 nought m (omega arith) t) ∙ g.corners
 
 -- ---- both
 

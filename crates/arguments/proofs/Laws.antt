@@ -65,9 +65,9 @@ module _ (q : Quantity) (x : Float) where
   unfolding outside
   inside e = not-false (in_range q x) e
 
-  not-outside : in_range q x ≡ true → outside q x ≡ false
+  not_outside : in_range q x ≡ true → outside q x ≡ false
   unfolding outside
-  not-outside e = ap not e
+  not_outside e = ap not e
 
 pub corner_inside : (c : Corner) → corner_outside c ≡ false → CornerInside c
 unfolding corner_outside
@@ -78,7 +78,7 @@ corner_inside c e =
 
 pub corner_not_outside : (c : Corner) → CornerInside c → corner_outside c ≡ false
 unfolding corner_outside
-corner_not_outside c i = or_false _ _ (not-outside _ _ i.x) (or_false _ _ (not-outside _ _ i.y) (not-outside _ _ i.pitch))
+corner_not_outside c i = or_false _ _ (not_outside _ _ i.x) (or_false _ _ (not_outside _ _ i.y) (not_outside _ _ i.pitch))
 
 -- of each corner that is lent, and of its shade
 module _ (l : CornerLists) (shades : List ℕ) where
@@ -88,10 +88,10 @@ module _ (l : CornerLists) (shades : List ℕ) where
       let b = or_false_both (corner_outside (corner_of l k)) _ (any_none (outside_at l shades) (length l.xs) k e h) in
       (corner_inside _ b.0, ltb-false 2 (get_or shades k 0) b.1)
 
-  pub corners-not-outside : ((k : ℕ) → k < length l.xs → CornerInside (corner_of l k)) → ((k : ℕ) → k < length l.xs → get_or shades k 0 ≤ 2)
+  pub corners_not_outside : ((k : ℕ) → k < length l.xs → CornerInside (corner_of l k)) → ((k : ℕ) → k < length l.xs → get_or shades k 0 ≤ 2)
       → some_corner_outside l shades ≡ false
   unfolding some_corner_outside outside_at shade_outside
-  corners-not-outside c s = any_no (outside_at l shades) _ (λ k h. or_false _ _ (corner_not_outside _ (c k h)) (le-ltb 2 (get_or shades k 0) (s k h)))
+  corners_not_outside c s = any_no (outside_at l shades) _ (λ k h. or_false _ _ (corner_not_outside _ (c k h)) (le-ltb 2 (get_or shades k 0) (s k h)))
 
 pub axis_inside : (v : Vector) → axis_outside v ≡ false → AxisInside v
 unfolding axis_outside
@@ -99,7 +99,7 @@ axis_inside v e = let a = or_false_both (outside Quantity.AxisPart v.x) _ e in r
 
 pub axis_not_outside : (v : Vector) → AxisInside v → axis_outside v ≡ false
 unfolding axis_outside
-axis_not_outside v i = or_false _ _ (not-outside _ _ i.x) (not-outside _ _ i.y)
+axis_not_outside v i = or_false _ _ (not_outside _ _ i.x) (not_outside _ _ i.y)
 
 pub settings_inside : (s : Settings) → settings_outside s ≡ false → SettingsInside s
 unfolding settings_outside
@@ -112,8 +112,8 @@ settings_inside s e =
 pub settings_not_outside : (s : Settings) → SettingsInside s → settings_outside s ≡ false
 unfolding settings_outside
 settings_not_outside s i =
-    or_false _ _ (not-outside _ _ i.cell_size)
-    (or_false _ _ (axis_not_outside _ i.axis_i) (or_false _ _ (axis_not_outside _ i.axis_j) (not-outside _ _ i.band)))
+    or_false _ _ (not_outside _ _ i.cell_size)
+    (or_false _ _ (axis_not_outside _ i.axis_i) (or_false _ _ (axis_not_outside _ i.axis_j) (not_outside _ _ i.band)))
 
 pub grow_inside : (p : GrowParams) → grow_outside p ≡ false → GrowInside p
 unfolding grow_outside
@@ -124,7 +124,7 @@ grow_inside p e =
 
 pub grow_not_outside : (p : GrowParams) → GrowInside p → grow_outside p ≡ false
 unfolding grow_outside
-grow_not_outside p i = or_false _ _ (not-outside _ _ i.search) (or_false _ _ (not-outside _ _ i.factor) (not-outside _ _ i.boundary))
+grow_not_outside p i = or_false _ _ (not_outside _ _ i.search) (or_false _ _ (not_outside _ _ i.factor) (not_outside _ _ i.boundary))
 
 pub fill_inside : (p : FillParams) → fill_outside p ≡ false → FillInside p
 unfolding fill_outside
@@ -135,7 +135,7 @@ fill_inside p e =
 
 pub fill_not_outside : (p : FillParams) → FillInside p → fill_outside p ≡ false
 unfolding fill_outside
-fill_not_outside p i = or_false _ _ (not-outside _ _ i.search) (or_false _ _ (not-outside _ _ i.factor) (le-ltb 64 p.max_iters i.rounds))
+fill_not_outside p i = or_false _ _ (not_outside _ _ i.search) (or_false _ _ (not_outside _ _ i.factor) (le-ltb 64 p.max_iters i.rounds))
 
 pub local_inside : (p : LocalExtensionParams) → local_outside p ≡ false → LocalInside p
 unfolding local_outside
@@ -155,10 +155,10 @@ local_inside p e =
 pub local_not_outside : (p : LocalExtensionParams) → LocalInside p → local_outside p ≡ false
 unfolding local_outside
 local_not_outside p i =
-    or_false _ _ (not-outside _ _ i.search)
-    (or_false _ _ (not-outside _ _ i.factor)
+    or_false _ _ (not_outside _ _ i.search)
+    (or_false _ _ (not_outside _ _ i.factor)
     (or_false _ _ (le-ltb 64 p.max_iters i.rounds)
-    (or_false _ _ (not-outside _ _ i.residual) (le-ltb 4 p.extend_depth i.depth))))
+    (or_false _ _ (not_outside _ _ i.residual) (le-ltb 4 p.extend_depth i.depth))))
 
 pub pass_inside : (pass : Pass) → pass_outside pass ≡ false → PassInside pass
 unfolding pass_outside
@@ -218,13 +218,13 @@ doubled sheet w =
 pub one_cell : (sheet : List ℕ) → doubled_corner sheet ≡ false → OneCell sheet
 one_cell sheet e = record { one_place = λ p q k g h l m. go p q k g h l m (ℕ_discrete p q) (dec_lt p q) }
   where
-    not-two : OnTwoPlaces sheet → ⊥
-    not-two w = no_both (doubled_corner sheet) (doubled sheet w) e
+    not_two : OnTwoPlaces sheet → ⊥
+    not_two w = no_both (doubled_corner sheet) (doubled sheet w) e
 
     go : (p q k : ℕ) → p < 16384 → q < 16384 → label_of (get_or sheet p 0) ≡ Label.Corner k → label_of (get_or sheet q 0) ≡ Label.Corner k → Dec (p ≡ q) → Dec (p < q) → p ≡ q
     go p q k g h l m (yes d) f = d
-    go p q k g h l m (no d) (yes f) = absurd (not-two (record { first = p; second = q; corner = k; earlier = f; below = h; first_holds = l; second_holds = m }))
-    go p q k g h l m (no d) (no f) = absurd (not-two (record { first = q; second = p; corner = k; earlier = omega arith; below = g; first_holds = m; second_holds = l }))
+    go p q k g h l m (no d) (yes f) = absurd (not_two (record { first = p; second = q; corner = k; earlier = f; below = h; first_holds = l; second_holds = m }))
+    go p q k g h l m (no d) (no f) = absurd (not_two (record { first = q; second = p; corner = k; earlier = omega arith; below = g; first_holds = m; second_holds = l }))
 
 pub not_doubled : (sheet : List ℕ) → OneCell sheet → doubled_corner sheet ≡ false
 not_doubled sheet o = go (doubled_corner sheet) refl
@@ -267,9 +267,9 @@ module _ (l : Lent) (settings : Settings) (pass : Pass) where
         one_cell = one_cell _ a6.0;
       }
 
-  pub accepted-fine : Accepted l settings pass → checked l settings pass ≡ Checked.Fine
+  pub accepted_fine : Accepted l settings pass → checked l settings pass ≡ Checked.Fine
   unfolding checked over_limit out_of_range
-  accepted-fine w =
+  accepted_fine w =
       still_fine _ _ _
       (not_short l pass
       (record {
@@ -282,6 +282,6 @@ module _ (l : Lent) (settings : Settings) (pass : Pass) where
       }))
       (still_fine _ _ _ (le-ltb _ _ w.few)
       (still_fine _ _ _
-      (or_false _ _ (corners-not-outside l.corners l.shades w.corners_inside w.shades_inside)
+      (or_false _ _ (corners_not_outside l.corners l.shades w.corners_inside w.shades_inside)
       (or_false _ _ (settings_not_outside _ w.settings_inside) (pass_not_outside _ w.pass_inside)))
       (still_fine _ _ _ (not_unknown _ _ (record { known = w.given.known })) (still_fine _ _ _ (not_doubled _ w.one_cell) refl))))

@@ -17,8 +17,8 @@ use Rattle.arguments.specs.declared.Checked.{Checked}
 use Rattle.arguments.specs.declared.Pass.{Pass}
 use Rattle.arguments.specs.declared.Settings.{Settings}
 use Rattle.arguments.proofs.Chains.{or_false, or_false_both}
-use Rattle.arguments.proofs.Laws.{long_enough, not_short, corners_inside, corners-not-outside, settings_inside, settings_not_outside, pass_inside, pass_not_outside, known, not_unknown, on_two_places, doubled, accepted, accepted-fine}
-use Rattle.arguments.proofs.Tests.{refused-7, refused-2, refused-3, refused-5, refused-6, refused_none}
+use Rattle.arguments.proofs.Laws.{long_enough, not_short, corners_inside, corners_not_outside, settings_inside, settings_not_outside, pass_inside, pass_not_outside, known, not_unknown, on_two_places, doubled, accepted, accepted_fine}
+use Rattle.arguments.proofs.Tests.{refused_7, refused_2, refused_3, refused_5, refused_6, refused_none}
 
 -- a test that cannot say no says yes
 yes_else : (b : Bool) → (b ≡ false → ⊥) → b ≡ true
@@ -28,16 +28,16 @@ yes_else false f = absurd (f refl)
 -- ---- each test by its meaning
 
 module _ (l : Lent) (settings : Settings) (pass : Pass) where
-  is-short : (LongEnough l pass → ⊥) → too_short l pass ≡ true
-  is-short f = yes_else (too_short l pass) (λ e. f (long_enough l pass e))
+  is_short : (LongEnough l pass → ⊥) → too_short l pass ≡ true
+  is_short f = yes_else (too_short l pass) (λ e. f (long_enough l pass e))
 
-  is-over : 1024 < corner_count l → over_limit l ≡ true
+  is_over : 1024 < corner_count l → over_limit l ≡ true
   unfolding over_limit
-  is-over h = lt-ltb 1024 (corner_count l) h
+  is_over h = lt-ltb 1024 (corner_count l) h
 
-  not-over : corner_count l ≤ 1024 → over_limit l ≡ false
+  not_over : corner_count l ≤ 1024 → over_limit l ≡ false
   unfolding over_limit
-  not-over h = le-ltb 1024 (corner_count l) h
+  not_over h = le-ltb 1024 (corner_count l) h
 
   over : over_limit l ≡ true → 1024 < corner_count l
   unfolding over_limit
@@ -47,9 +47,9 @@ module _ (l : Lent) (settings : Settings) (pass : Pass) where
   unfolding over_limit
   few e = ltb-false 1024 (corner_count l) e
 
-  numbers-inside : out_of_range l settings pass ≡ false → NumbersInside l settings pass
+  numbers_inside : out_of_range l settings pass ≡ false → NumbersInside l settings pass
   unfolding out_of_range
-  numbers-inside e =
+  numbers_inside e =
       let a = or_false_both (some_corner_outside l.corners l.shades) _ e in
       let b = or_false_both (settings_outside settings) _ a.1 in
       record {
@@ -59,14 +59,14 @@ module _ (l : Lent) (settings : Settings) (pass : Pass) where
         pass_inside = pass_inside pass b.1;
       }
 
-  numbers-not-outside : NumbersInside l settings pass → out_of_range l settings pass ≡ false
+  numbers_not_outside : NumbersInside l settings pass → out_of_range l settings pass ≡ false
   unfolding out_of_range
-  numbers-not-outside w =
-      or_false _ _ (corners-not-outside l.corners l.shades w.corners_inside w.shades_inside)
+  numbers_not_outside w =
+      or_false _ _ (corners_not_outside l.corners l.shades w.corners_inside w.shades_inside)
       (or_false _ _ (settings_not_outside _ w.settings_inside) (pass_not_outside _ w.pass_inside))
 
-  is-outside : (NumbersInside l settings pass → ⊥) → out_of_range l settings pass ≡ true
-  is-outside f = yes_else (out_of_range l settings pass) (λ e. f (numbers-inside e))
+  is_outside : (NumbersInside l settings pass → ⊥) → out_of_range l settings pass ≡ true
+  is_outside f = yes_else (out_of_range l settings pass) (λ e. f (numbers_inside e))
 
 -- some place names a corner from n on
 unknown_corner_lem : (n : ℕ) (label : Label) (P : Type 0) → unknown n label ≡ true → ((k : ℕ) → label ≡ Label.Corner k → n ≤ k → P) → P
@@ -99,25 +99,25 @@ module _ (l : Lent) (settings : Settings) (pass : Pass) where
   means =
       tried (too_short l pass) _ _ (λ e w. no_both (too_short l pass) e (not_short l pass w))
       (λ a7. tried (over_limit l) _ _ (λ e. (long_enough l pass a7, over l settings pass e))
-      (λ a2. tried (out_of_range l settings pass) _ _ (λ e. (long_enough l pass a7, few l settings pass a2, λ w. no_both (out_of_range l settings pass) e (numbers-not-outside l settings pass w)))
-      (λ a3. tried (unknown_corner (corner_count l) l.sheet) _ _ (λ e. (long_enough l pass a7, few l settings pass a2, numbers-inside l settings pass a3, names_unknown _ _ e))
-      (λ a5. tried (doubled_corner l.sheet) _ _ (λ e. (long_enough l pass a7, few l settings pass a2, numbers-inside l settings pass a3, known _ _ a5, on_two_places _ e))
+      (λ a2. tried (out_of_range l settings pass) _ _ (λ e. (long_enough l pass a7, few l settings pass a2, λ w. no_both (out_of_range l settings pass) e (numbers_not_outside l settings pass w)))
+      (λ a3. tried (unknown_corner (corner_count l) l.sheet) _ _ (λ e. (long_enough l pass a7, few l settings pass a2, numbers_inside l settings pass a3, names_unknown _ _ e))
+      (λ a5. tried (doubled_corner l.sheet) _ _ (λ e. (long_enough l pass a7, few l settings pass a2, numbers_inside l settings pass a3, known _ _ a5, on_two_places _ e))
       (λ a6. accepted l settings pass (sym (refused_none l settings pass a7 a2 (sym a3) a5 a6)))))))
 
   -- what holds is answered
   meant : (answer : Checked) → Meaning l settings pass answer → checked l settings pass ≡ answer
-  meant Checked.Fine w = accepted-fine l settings pass w
-  meant (Checked.Refused Refusal.BufferTooShort) w = sym (refused-7 l settings pass (is-short l settings pass w))
-  meant (Checked.Refused Refusal.OverLimit) w = sym (refused-2 l settings pass (not_short l pass w.0) (is-over l settings pass w.1))
+  meant Checked.Fine w = accepted_fine l settings pass w
+  meant (Checked.Refused Refusal.BufferTooShort) w = sym (refused_7 l settings pass (is_short l settings pass w))
+  meant (Checked.Refused Refusal.OverLimit) w = sym (refused_2 l settings pass (not_short l pass w.0) (is_over l settings pass w.1))
   meant (Checked.Refused Refusal.OutOfRange) w =
-      sym (refused-3 l settings pass (not_short l pass w.0) (not-over l settings pass w.1) (sym (is-outside l settings pass w.2)))
+      sym (refused_3 l settings pass (not_short l pass w.0) (not_over l settings pass w.1) (sym (is_outside l settings pass w.2)))
   meant (Checked.Refused Refusal.UnknownCorner) w =
       sym
-      (refused-5 l settings pass (not_short l pass w.0) (not-over l settings pass w.1) (sym (numbers-not-outside l settings pass w.2))
+      (refused_5 l settings pass (not_short l pass w.0) (not_over l settings pass w.1) (sym (numbers_not_outside l settings pass w.2))
       (is_unknown _ _ w.3))
   meant (Checked.Refused Refusal.Duplicate) w =
       sym
-      (refused-6 l settings pass (not_short l pass w.0) (not-over l settings pass w.1) (sym (numbers-not-outside l settings pass w.2))
+      (refused_6 l settings pass (not_short l pass w.0) (not_over l settings pass w.1) (sym (numbers_not_outside l settings pass w.2))
       (not_unknown _ _ w.3) (doubled _ w.4))
   meant (Checked.Refused Refusal.Malformed) w = absurd w
   meant (Checked.Refused Refusal.OffSheet) w = absurd w

@@ -14,12 +14,12 @@ use Rattle.sheet.proofs.Words.{no_corner_lem}
 use Rattle.sheet.proofs.Pairing.{to_one}
 use Rattle.sheet.specs.declared.Label.{Label}
 use Rattle.labels.specs.Used.{OneCell}
-use Rattle.labels.proofs.Count.{any-paired}
+use Rattle.labels.proofs.Count.{any_paired}
 use Rattle.arguments.specs.Arguments.{Lent, corner_count, too_short, over_limit, corner_outside, shade_outside, outside_at, some_corner_outside, out_of_range, checked}
 use Rattle.arguments.specs.Shades.{shade_of, stands, any_shade, shade_at, shades_of, PairedShades}
 use Rattle.arguments.specs.Accepted.{Known}
 use Rattle.arguments.proofs.Laws.{long_enough, not_unknown, not_doubled}
-use Rattle.arguments.proofs.Tests.{refused-7}
+use Rattle.arguments.proofs.Tests.{refused_7}
 use Rattle.arguments.specs.declared.Pass.{Pass}
 use Rattle.arguments.specs.declared.Settings.{Settings}
 
@@ -27,20 +27,20 @@ use Rattle.arguments.specs.declared.Settings.{Settings}
 
 module _ {n : ℕ} (s : Shuffle n) {shades shades' : List ℕ} (paired : PairedShades s shades shades') (long : n ≤ length shades) where
   -- one stands in both or in neither
-  pub paired-any : any_shade shades' n ≡ any_shade shades n
+  pub paired_any : any_shade shades' n ≡ any_shade shades n
   unfolding any_shade
-  paired-any = any-paired s _ _ (λ i h. ap (λ (b : ℕ). stands (shade_of b)) (paired.same_shade long i h))
+  paired_any = any_paired s _ _ (λ i h. ap (λ (b : ℕ). stands (shade_of b)) (paired.same_shade long i h))
 
-  shade-here : (shades : List ℕ) (k : ℕ) → k < n → shade_at shades n k ≡ shade_of (get_or shades k 0)
+  shade_here : (shades : List ℕ) (k : ℕ) → k < n → shade_at shades n k ≡ shade_of (get_or shades k 0)
   unfolding shade_at
-  shade-here shades k h = rw (lt-ltb k n h)
+  shade_here shades k h = rw (lt-ltb k n h)
 
   -- and a cell takes both corners of a pair or neither
-  pub paired-takes : (w i : ℕ) → i < n → takes_kind (shades_of shades' n) w (s.to i) ≡ takes_kind (shades_of shades n) w i
+  pub paired_takes : (w i : ℕ) → i < n → takes_kind (shades_of shades' n) w (s.to i) ≡ takes_kind (shades_of shades n) w i
   unfolding takes_kind
-  paired-takes w i h =
-      ap₂ (λ (any : Bool) (x : Shade). not any || is_kind w x) paired-any
-      (shade-here shades' (s.to i) (s.to_in i h) ∙ ap shade_of (paired.same_shade long i h) ∙ sym (shade-here shades i h))
+  paired_takes w i h =
+      ap₂ (λ (any : Bool) (x : Shade). not any || is_kind w x) paired_any
+      (shade_here shades' (s.to i) (s.to_in i h) ∙ ap shade_of (paired.same_shade long i h) ∙ sym (shade_here shades i h))
 
 -- ---- the sheets
 
@@ -54,11 +54,11 @@ module _ {n : ℕ} (s : Shuffle n) {sheet sheet' : List ℕ} (paired : PairedShe
       go Label.Unlabelled d g = absurd (no_corner_lem k g)
       go (Label.Corner j) d g = f j (w.known p j h d) d (let q : s.to j ≡ k = cc in q)
 
-  pub known-paired : Known n sheet'
-  known-paired = record { known = λ p k h e. named p k (k < n) h e (λ j i d q. rw (← q) (s.to_in j i)) }
+  pub known_paired : Known n sheet'
+  known_paired = record { known = λ p k h e. named p k (k < n) h e (λ j i d q. rw (← q) (s.to_in j i)) }
 
-  pub one-cell-paired : OneCell sheet → OneCell sheet'
-  one-cell-paired o =
+  pub one_cell_paired : OneCell sheet → OneCell sheet'
+  one_cell_paired o =
       record {
         one_place =
             λ p q k g h a b.
@@ -70,35 +70,35 @@ module _ {n : ℕ} (s : Shuffle n) {sheet sheet' : List ℕ} (paired : PairedShe
 
 module _ (l l' : Lent) (settings : Settings) (pass : Pass) (paired : PairedCorners l.corners l'.corners)
     (kinds : PairedShades paired.pairs l.shades l'.shades) where
-  outside-paired : corner_count l ≤ length l.shades → some_corner_outside l'.corners l'.shades ≡ some_corner_outside l.corners l.shades
+  outside_paired : corner_count l ≤ length l.shades → some_corner_outside l'.corners l'.shades ≡ some_corner_outside l.corners l.shades
   unfolding some_corner_outside outside_at
-  outside-paired long =
+  outside_paired long =
       rw paired.same_xs
-      (any-paired paired.pairs (outside_at l.corners l.shades) (outside_at l'.corners l'.shades)
+      (any_paired paired.pairs (outside_at l.corners l.shades) (outside_at l'.corners l'.shades)
       (λ i h. ap₂ (λ (c : Corner) (b : ℕ). corner_outside c || shade_outside b) (paired.same_corner_holds i h) (kinds.same_shade long i h)))
 
   -- equal lengths: too short in both calls or in neither
-  short-paired : length l'.sheet ≡ length l.sheet → l'.queue ≡ l.queue → l'.attached ≡ l.attached → too_short l' pass ≡ too_short l pass
+  short_paired : length l'.sheet ≡ length l.sheet → l'.queue ≡ l.queue → l'.attached ≡ l.attached → too_short l' pass ≡ too_short l pass
   unfolding too_short
-  short-paired s q a = rw (paired.same_xs, paired.same_ys, paired.same_pitches, kinds.same_length, s, q, a) refl
+  short_paired s q a = rw (paired.same_xs, paired.same_ys, paired.same_pitches, kinds.same_length, s, q, a) refl
 
   -- and no sheet names a corner that is not given, or one at two places
-  pub checked-paired : length l'.sheet ≡ length l.sheet → l'.queue ≡ l.queue → l'.attached ≡ l.attached
+  pub checked_paired : length l'.sheet ≡ length l.sheet → l'.queue ≡ l.queue → l'.attached ≡ l.attached
       → Known (corner_count l) l.sheet → OneCell l.sheet → Known (corner_count l') l'.sheet → OneCell l'.sheet
       → checked l' settings pass ≡ checked l settings pass
   unfolding checked over_limit out_of_range
-  checked-paired s q a k o k' o' = go (too_short l pass) refl
+  checked_paired s q a k o k' o' = go (too_short l pass) refl
     where
       short : too_short l' pass ≡ too_short l pass
-      short = short-paired s q a
+      short = short_paired s q a
 
       go : (t : Bool) → too_short l pass ≡ t → checked l' settings pass ≡ checked l settings pass
-      go true e = sym (refused-7 l' settings pass (short ∙ e)) ∙ refused-7 l settings pass e
+      go true e = sym (refused_7 l' settings pass (short ∙ e)) ∙ refused_7 l settings pass e
       go false e =
-          rw (short, not_unknown _ _ k, not_doubled _ o, not_unknown _ _ k', not_doubled _ o', outside-paired (long_enough l pass e).shades_long, paired.same_xs) refl
+          rw (short, not_unknown _ _ k, not_doubled _ o, not_unknown _ _ k', not_doubled _ o', outside_paired (long_enough l pass e).shades_long, paired.same_xs) refl
 
   -- the same where the sheets are paired, and the first names given corners only, each at one place
-  pub checked-alike : PairedSheets paired.pairs l.sheet l'.sheet → l'.queue ≡ l.queue → l'.attached ≡ l.attached
+  pub checked_alike : PairedSheets paired.pairs l.sheet l'.sheet → l'.queue ≡ l.queue → l'.attached ≡ l.attached
       → Known (corner_count l) l.sheet → OneCell l.sheet → checked l' settings pass ≡ checked l settings pass
-  checked-alike sheets q a k o =
-      checked-paired sheets.same_length q a k o (rw paired.same_xs (known-paired paired.pairs sheets k)) (one-cell-paired paired.pairs sheets k o)
+  checked_alike sheets q a k o =
+      checked_paired sheets.same_length q a k o (rw paired.same_xs (known_paired paired.pairs sheets k)) (one_cell_paired paired.pairs sheets k o)

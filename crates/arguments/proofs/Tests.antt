@@ -15,8 +15,8 @@ use Rattle.sheet.proofs.Blank.{skips, blank_label}
 use Rattle.sheet.specs.declared.Label.{Label}
 use Rattle.labels.specs.Labelled.{any_below}
 use Rattle.labels.specs.Used.{names}
-use Rattle.labels.proofs.Below.{any_no, Searching, searching_start, searching-more, searching-hit, searching-end, searching_skips}
-use Rattle.labels.proofs.Used.{Marking, marking_start, marking-more, noted-none, noted-entry}
+use Rattle.labels.proofs.Below.{any_no, Searching, searching_start, searching_more, searching_hit, searching_end, searching_skips}
+use Rattle.labels.proofs.Used.{Marking, marking_start, marking_more, noted_none, noted_entry}
 use Rattle.arguments.specs.Arguments.{Lent, corner_count, queue_needed, too_short, over_limit, out_of_range, unknown, unknown_at, unknown_corner, same_corner, doubled_at, doubled_corner, checked}
 use Rattle.arguments.specs.Asked.{HasEntry, HasEntries, seen_before, Noted, Unseen}
 use Rattle.arguments.specs.declared.GrowParams.{GrowParams}
@@ -39,29 +39,29 @@ fails a b t e f = rw e f
 -- ---- the refusals, tried in 01's order
 
 module _ (l : Lent) (settings : Settings) (pass : Pass) where
-  pub refused-7 : too_short l pass ≡ true → Checked.Refused Refusal.BufferTooShort ≡ checked l settings pass
+  pub refused_7 : too_short l pass ≡ true → Checked.Refused Refusal.BufferTooShort ≡ checked l settings pass
   unfolding checked
-  refused-7 e = refused _ _ _ e
+  refused_7 e = refused _ _ _ e
 
   module _ (a7 : too_short l pass ≡ false) where
-    pub refused-2 : over_limit l ≡ true → Checked.Refused Refusal.OverLimit ≡ checked l settings pass
+    pub refused_2 : over_limit l ≡ true → Checked.Refused Refusal.OverLimit ≡ checked l settings pass
     unfolding checked
-    refused-2 e = passed _ _ _ _ a7 (refused _ _ _ e)
+    refused_2 e = passed _ _ _ _ a7 (refused _ _ _ e)
 
     module _ (a2 : over_limit l ≡ false) where
-      pub refused-3 : true ≡ out_of_range l settings pass → Checked.Refused Refusal.OutOfRange ≡ checked l settings pass
+      pub refused_3 : true ≡ out_of_range l settings pass → Checked.Refused Refusal.OutOfRange ≡ checked l settings pass
       unfolding checked
-      refused-3 e = passed _ _ _ _ a7 (passed _ _ _ _ a2 (refused _ _ _ (sym e)))
+      refused_3 e = passed _ _ _ _ a7 (passed _ _ _ _ a2 (refused _ _ _ (sym e)))
 
       module _ (a3 : false ≡ out_of_range l settings pass) where
-        pub refused-5 : unknown_corner (corner_count l) l.sheet ≡ true → Checked.Refused Refusal.UnknownCorner ≡ checked l settings pass
+        pub refused_5 : unknown_corner (corner_count l) l.sheet ≡ true → Checked.Refused Refusal.UnknownCorner ≡ checked l settings pass
         unfolding checked
-        refused-5 e = passed _ _ _ _ a7 (passed _ _ _ _ a2 (passed _ _ _ _ (sym a3) (refused _ _ _ e)))
+        refused_5 e = passed _ _ _ _ a7 (passed _ _ _ _ a2 (passed _ _ _ _ (sym a3) (refused _ _ _ e)))
 
         module _ (a5 : unknown_corner (corner_count l) l.sheet ≡ false) where
-          pub refused-6 : doubled_corner l.sheet ≡ true → Checked.Refused Refusal.Duplicate ≡ checked l settings pass
+          pub refused_6 : doubled_corner l.sheet ≡ true → Checked.Refused Refusal.Duplicate ≡ checked l settings pass
           unfolding checked
-          refused-6 e = passed _ _ _ _ a7 (passed _ _ _ _ a2 (passed _ _ _ _ (sym a3) (passed _ _ _ _ a5 (refused _ _ _ e))))
+          refused_6 e = passed _ _ _ _ a7 (passed _ _ _ _ a2 (passed _ _ _ _ (sym a3) (passed _ _ _ _ a5 (refused _ _ _ e))))
 
           pub refused_none : doubled_corner l.sheet ≡ false → Checked.Fine ≡ checked l settings pass
           unfolding checked
@@ -79,17 +79,17 @@ quarter queue n = go (ltb queue (4 * n)) refl
 
 -- by the pass
 module _ (queue n : ℕ) (pass : Pass) where
-  pub queue-grow : (p : GrowParams) → pass ≡ Pass.Grow p → ltb (queue / 4) n ≡ ltb queue (queue_needed pass n)
+  pub queue_grow : (p : GrowParams) → pass ≡ Pass.Grow p → ltb (queue / 4) n ≡ ltb queue (queue_needed pass n)
   unfolding queue_needed
-  queue-grow p e = rw e (quarter queue n)
+  queue_grow p e = rw e (quarter queue n)
 
-  pub queue-fill : (p : FillParams) → pass ≡ Pass.Fill p → false ≡ ltb queue (queue_needed pass n)
+  pub queue_fill : (p : FillParams) → pass ≡ Pass.Fill p → false ≡ ltb queue (queue_needed pass n)
   unfolding queue_needed
-  queue-fill p e = rw e (sym (le-ltb queue 0 (omega arith)))
+  queue_fill p e = rw e (sym (le-ltb queue 0 (omega arith)))
 
-  pub queue-local : (p : LocalExtensionParams) → pass ≡ Pass.Local p → false ≡ ltb queue (queue_needed pass n)
+  pub queue_local : (p : LocalExtensionParams) → pass ≡ Pass.Local p → false ≡ ltb queue (queue_needed pass n)
   unfolding queue_needed
-  queue-local p e = rw e (sym (le-ltb queue 0 (omega arith)))
+  queue_local p e = rw e (sym (le-ltb queue 0 (omega arith)))
 
 -- ---- the corners seen
 
@@ -104,13 +104,13 @@ seeing_start sheet seen u =
     record { entries = u.entries; marking = marking_start sheet seen u.size u.none; searching = searching_start (doubled_at sheet) 16384 }
 
 module _ (sheet seen : List ℕ) (p : ℕ) (s : Seeing sheet seen p) (h : p < 16384) where
-  pub has-entry : HasEntry (label_of (get_or sheet p 0))
-  has-entry = record { entry = λ k e. s.entries.known.known p k h e }
+  pub has_entry : HasEntry (label_of (get_or sheet p 0))
+  has_entry = record { entry = λ k e. s.entries.known.known p k h e }
 
   -- a corner was seen before exactly if a place before this one holds it
-  seen-doubled : seen_before seen (label_of (get_or sheet p 0)) ≡ doubled_at sheet p
+  seen_doubled : seen_before seen (label_of (get_or sheet p 0)) ≡ doubled_at sheet p
   unfolding doubled_at bit_of seen_before same_corner
-  seen-doubled = go (label_of (get_or sheet p 0)) has-entry.entry
+  seen_doubled = go (label_of (get_or sheet p 0)) has_entry.entry
     where
       bit : (b : Bool) → not (eqb (bit_of b) 0) ≡ b
       bit true = refl
@@ -121,31 +121,31 @@ module _ (sheet seen : List ℕ) (p : ℕ) (s : Seeing sheet seen p) (h : p < 16
       go (Label.Corner k) m = rw (s.marking.so_far k (m k refl)) (bit (any_below p (λ q. names k (label_of (get_or sheet q 0)))))
 
   module _ (after : List ℕ) (r : Bool) (w : Noted seen (label_of (get_or sheet p 0)) after r) where
-    pub seeing-more : r ≡ false → Seeing sheet after (p + 1)
-    seeing-more e =
+    pub seeing_more : r ≡ false → Seeing sheet after (p + 1)
+    seeing_more e =
         record {
           entries = s.entries;
-          marking = marking-more sheet seen p s.marking after h w.written;
-          searching = searching-more (doubled_at sheet) 16384 p s.searching h (sym seen-doubled ∙ sym w.said ∙ e);
+          marking = marking_more sheet seen p s.marking after h w.written;
+          searching = searching_more (doubled_at sheet) 16384 p s.searching h (sym seen_doubled ∙ sym w.said ∙ e);
         }
 
-    pub seeing-hit : r ≡ true → true ≡ doubled_corner sheet
+    pub seeing_hit : r ≡ true → true ≡ doubled_corner sheet
     unfolding doubled_corner
-    seeing-hit e = searching-hit (doubled_at sheet) 16384 p s.searching h (sym seen-doubled ∙ sym w.said ∙ e)
+    seeing_hit e = searching_hit (doubled_at sheet) 16384 p s.searching h (sym seen_doubled ∙ sym w.said ∙ e)
 
 pub seeing_end : (sheet seen : List ℕ) (p : ℕ) → Seeing sheet seen p → 16384 ≤ p → false ≡ doubled_corner sheet
 unfolding doubled_corner
-seeing_end sheet seen p s h = searching-end (doubled_at sheet) 16384 p s.searching h
+seeing_end sheet seen p s h = searching_end (doubled_at sheet) 16384 p s.searching h
 
 -- a label noted, by its two ways
 module _ (seen : List ℕ) (label : Label) where
-  pub note-none : label ≡ Label.Unlabelled → Noted seen label seen false
+  pub note_none : label ≡ Label.Unlabelled → Noted seen label seen false
   unfolding seen_before
-  note-none e = record { said = rw e; written = noted-none seen label e }
+  note_none e = record { said = rw e; written = noted_none seen label e }
 
-  pub note-corner : (k : ℕ) → label ≡ Label.Corner k → k < 1024 → Noted seen label (set seen k 1) (not (eqb (get_or seen k 0) 0))
+  pub note_corner : (k : ℕ) → label ≡ Label.Corner k → k < 1024 → Noted seen label (set seen k 1) (not (eqb (get_or seen k 0) 0))
   unfolding seen_before
-  note-corner k e h = record { said = rw e; written = noted-entry seen label k e h }
+  note_corner k e h = record { said = rw e; written = noted_entry seen label k e h }
 
 -- ---- places that hold nothing
 
@@ -155,4 +155,4 @@ unfolding unknown_at unknown
 unknown_skips n sheet g w = searching_skips sheet (unknown_at n sheet) (λ q e. ap (unknown n) (blank_label e)) g w
 
 pub seeing_skips : (sheet seen : List ℕ) {p r : ℕ} → Seeing sheet seen p → NextWritten sheet p r → Seeing sheet seen r
-seeing_skips sheet seen g w = skips sheet (Seeing sheet seen) (λ q h e s. seeing-more sheet seen q s h seen false (note-none seen _ (blank_label e)) refl) w g
+seeing_skips sheet seen g w = skips sheet (Seeing sheet seen) (λ q h e s. seeing_more sheet seen q s h seen false (note_none seen _ (blank_label e)) refl) w g

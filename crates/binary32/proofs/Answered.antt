@@ -63,12 +63,16 @@ unfolding Answers
 negative (fin s zero e) a c A v = absurd (no_zero (up e) a c (down e) A (down_pos e) v.1)
 negative (fin true (suc m) e) a c A v = refl
 negative (fin false (suc m) e) a c A v = absurd (untrue (sym v.0))
+negative nan a c A v = elim v [ ]
+negative (inf _) a c A v = elim v [ ]
 
 positive : (x : Float) (r a c : ℕ) → 0 < a → HasValue x false a c → RootOf (to_bits binary32 x) r → Answers x (Root (of_bits binary32 r))
 unfolding Answers
 positive (fin s zero e) r a c A v k = absurd (no_zero (up e) a c (down e) A (down_pos e) v.1)
 positive (fin true (suc m) e) r a c A v k = absurd (untrue v.0)
 positive (fin false (suc m) e) r a c A v k = (r, refl, k)
+positive nan r a c A v k = elim v [ ]
+positive (inf _) r a c A v k = elim v [ ]
 
 -- ---- a pattern from the infinity's up that is not the negative zero's
 

@@ -32,14 +32,14 @@ module _ (g q : ℕ) (l : 0x80_0000 ≤ q) (h : q < 0x100_0000) where
       at_top : suc q ≡ 0x100_0000 → g * 0x80_0000 + q + 1 ≡ g * 0x80_0000 + 0x100_0000
       at_top e = omega arith
 
-      is-top : suc q ≡ 0x100_0000 → 0x100_0000 ≡ q + 1
-      is-top e = omega arith
+      is_top : suc q ≡ 0x100_0000 → 0x100_0000 ≡ q + 1
+      is_top e = omega arith
 
       inside : g * 0x80_0000 + q + 1 ≡ g * 0x80_0000 + (q + 1)
       inside = omega arith
 
       go : (suc q ≡ 0x100_0000) ⊎ (suc q < 0x100_0000) → units_of (g * 0x80_0000 + q + 1) ≡ (q + 1) * 2 ^ g
-      go (inl e) = ap units_of (at_top e) ∙ at_next g ∙ ap (λ (x : ℕ). x * 2 ^ g) (is-top e)
+      go (inl e) = ap units_of (at_top e) ∙ at_next g ∙ ap (λ (x : ℕ). x * 2 ^ g) (is_top e)
       go (inr k) = ap units_of inside ∙ at g (q + 1) (omega arith) (omega arith)
 
   -- the one below, at the same field

@@ -178,8 +178,8 @@ module _ (n : ℕ) (old out : List ℕ) (i : ℕ) (w : Writing n old out i) wher
       let g = w.room in
       rw w.part (simp (length-append, length-take, length-drop, digits_length) (omega arith))
 
-  pub one-more-written : i < 8 → (d : ℕ) → d ≡ digit_of (n / 2 ^ (28 - 4 * i) % 16) → Writing n old (set out i d) (i + 1)
-  one-more-written h d e = record {
+  pub one_more_written : i < 8 → (d : ℕ) → d ≡ digit_of (n / 2 ^ (28 - 4 * i) % 16) → Writing n old (set out i d) (i + 1)
+  one_more_written h d e = record {
     within = omega arith;
     room = w.room;
     part =

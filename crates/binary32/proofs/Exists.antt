@@ -18,7 +18,7 @@ use lib.Ieee.Exact.{HasValue}
 use lib.Ieee.Fits.{nan-fits}
 use Rattle.binary32.specs.Sqrt.{units_of, square, RootOf, Answers, climb, rooted, sqrt_or_nan}
 use Rattle.binary32.specs.Steps.{WholeRoot, Near, Normalized}
-use Rattle.binary32.proofs.Squares.{square_lt, rounded-down, rounded-up}
+use Rattle.binary32.proofs.Squares.{square_lt, rounded_down, rounded_up}
 use Rattle.binary32.proofs.Normalize.{normal, lifted, subnormal}
 use Rattle.binary32.proofs.Assemble.{root, even, odd}
 use Rattle.binary32.proofs.Patterns.{value, beyond}
@@ -39,19 +39,19 @@ whole (suc n) = go (whole n)
         by (no f) = (w.0, omega (arith, w.1), lt_of_not-le f)
 
 module _ (n : ℕ) (l : 2 ^ 46 ≤ n) (h : n ≤ 2 ^ 48 - 2 ^ 24) where
-  whole-root : (s : ℕ) × WholeRoot n s
-  whole-root =
+  whole_root : (s : ℕ) × WholeRoot n s
+  whole_root =
       let w = whole n in
       (w.0, record { from = w.1; to = w.2; low = least w.0 w.2; high = most w.0 w.1 })
     where
       least : (s : ℕ) → n < square (s + 1) → 2 ^ 23 ≤ s
-      least s k = not-less (λ (g : s < 2 ^ 23). no s k (mul-le-mul g g))
+      least s k = not_less (λ (g : s < 2 ^ 23). no s k (mul-le-mul g g))
         where
           no : (s : ℕ) → n < square (s + 1) → suc s * suc s ≤ 2 ^ 23 * 2 ^ 23 → ⊥
           no s k g = omega (arith, subst (λ (x : ℕ). x * x ≤ 2 ^ 23 * 2 ^ 23) (sym (add-one s)) g)
 
-          not-less : (s < 2 ^ 23 → ⊥) → 2 ^ 23 ≤ s
-          not-less f = omega (arith, lt_of_not-le f)
+          not_less : (s < 2 ^ 23 → ⊥) → 2 ^ 23 ≤ s
+          not_less f = omega (arith, lt_of_not-le f)
 
       most : (s : ℕ) → square s ≤ n → s < 2 ^ 24
       most s k = lt_of_not-le (λ (g : 2 ^ 24 ≤ s). no (square s) k (mul-le-mul g g))
@@ -60,11 +60,11 @@ module _ (n : ℕ) (l : 2 ^ 46 ≤ n) (h : n ≤ 2 ^ 48 - 2 ^ 24) where
           no q k g = omega arith
 
   near : (q : ℕ) × Near n q
-  near = go (dec_le (n - square whole-root.0) whole-root.0)
+  near = go (dec_le (n - square whole_root.0) whole_root.0)
     where
-      go : Dec (n - square whole-root.0 ≤ whole-root.0) → (q : ℕ) × Near n q
-      go (yes k) = (whole-root.0, rounded-down n whole-root.0 whole-root.1 k)
-      go (no f) = (whole-root.0 + 1, rounded-up n whole-root.0 whole-root.1 (lt_of_not-le f) h)
+      go : Dec (n - square whole_root.0 ≤ whole_root.0) → (q : ℕ) × Near n q
+      go (yes k) = (whole_root.0, rounded_down n whole_root.0 whole_root.1 k)
+      go (no f) = (whole_root.0 + 1, rounded_up n whole_root.0 whole_root.1 (lt_of_not-le f) h)
 
 -- ---- roots of patterns
 

@@ -37,14 +37,14 @@ lifted a p h =
     let t = leading_top 32 a p (omega arith) in
     let j = t.0 in
     let e : z + suc j ≡ 32 = t.1 in
-    let j-lt : j < 23 = pow_lt_back j 23 (lt_of_le_of_lt t.2 h) in
+    let j_lt : j < 23 = pow_lt_back j 23 (lt_of_le_of_lt t.2 h) in
     record {
       eight = omega arith;
       most = omega arith;
       low =
-          le_trans (le_of_eq (ap (λ (n : ℕ). 2 ^ n) (up z j e j-lt) ∙ pow-add 2 j (z - 8))) (mul-le-mul_right (2 ^ (z - 8)) t.2);
+          le_trans (le_of_eq (ap (λ (n : ℕ). 2 ^ n) (up z j e j_lt) ∙ pow-add 2 j (z - 8))) (mul-le-mul_right (2 ^ (z - 8)) t.2);
       high =
-          lt_of_lt_of_le (mul-lt-mul_of_pos_right t.3 (pow_pos (z - 8))) (le_of_eq (sym (pow-add 2 (suc j) (z - 8)) ∙ ap (λ (n : ℕ). 2 ^ n) (top z j e j-lt)));
+          lt_of_lt_of_le (mul-lt-mul_of_pos_right t.3 (pow_pos (z - 8))) (le_of_eq (sym (pow-add 2 (suc j) (z - 8)) ∙ ap (λ (n : ℕ). 2 ^ n) (top z j e j_lt)));
     }
   where
     up : (z j : ℕ) → z + suc j ≡ 32 → j < 23 → 23 ≡ j + (z - 8)

@@ -22,13 +22,13 @@ midpoints r s h = mul-le-mul between between
     between = add-le-add (mono (r - 1) (s - 1) (omega arith)) (mono r s h)
 
 module _ (b r : ℕ) (k : RootOf b r) where
-  low-reaches : (t : ℕ) → t ≤ r → reaches b t ≡ true
+  low_reaches : (t : ℕ) → t ≤ r → reaches b t ≡ true
   unfolding reaches
-  low-reaches t h = lt-ltb (square (units_of (t - 1) + units_of t)) (4 * (units_of b * 2 ^ 149)) (lt_of_le_of_lt (midpoints t r h) k.above)
+  low_reaches t h = lt-ltb (square (units_of (t - 1) + units_of t)) (4 * (units_of b * 2 ^ 149)) (lt_of_le_of_lt (midpoints t r h) k.above)
 
-  high-fails : (t : ℕ) → r < t → reaches b t ≡ false
+  high_fails : (t : ℕ) → r < t → reaches b t ≡ false
   unfolding reaches
-  high-fails t h =
+  high_fails t h =
       le-ltb (square (units_of (t - 1) + units_of t)) (4 * (units_of b * 2 ^ 149))
       (le_of_lt (lt_of_lt_of_le k.under
       (subst (λ (n : ℕ). square (units_of n + units_of (r + 1)) ≤ square (units_of (t - 1) + units_of t)) same (midpoints (r + 1) t (omega arith)))))
@@ -42,8 +42,8 @@ module _ (b r : ℕ) (k : RootOf b r) where
   climbs (suc j) s l h = go (climbs j) (dec_le (s + 2 ^ j) r)
     where
       go : ((t : ℕ) → t ≤ r → r < t + 2 ^ j → climb b j t ≡ r) → Dec (s + 2 ^ j ≤ r) → climb b j (cond (reaches b (s + 2 ^ j)) (s + 2 ^ j) s) ≡ r
-      go on (yes m) = rw (low-reaches (s + 2 ^ j) m) (on (s + 2 ^ j) m (omega (arith, pow-suc 2 j)))
-      go on (no m) = rw (high-fails (s + 2 ^ j) (omega arith)) (on s l (omega arith))
+      go on (yes m) = rw (low_reaches (s + 2 ^ j) m) (on (s + 2 ^ j) m (omega (arith, pow-suc 2 j)))
+      go on (no m) = rw (high_fails (s + 2 ^ j) (omega arith)) (on s l (omega arith))
 
 pub agrees : (x : Float) (a : Rooted) → Answers x a → a ≡ rooted x
 unfolding Answers rooted

@@ -37,31 +37,31 @@ enclosed_apart n lo hi e = square_less lo hi (lt_of_le_of_lt e.from e.to)
 
 module _ (n t : ℕ) (a : Asked n) (w : WholePart (1024 * (n / 2 ^ 38)) t) where
   -- k is 256 at least, and so t is 512 at least
-  t-least : 512 < t + 1
-  t-least = square_less 512 (t + 1) (omega (arith, a.least, w.to))
+  t_least : 512 < t + 1
+  t_least = square_less 512 (t + 1) (omega (arith, a.least, w.to))
 
   -- (t 2 ^ 14) ^ 2 = t ^ 2 2 ^ 28 <= 1,024 k 2 ^ 28 = k 2 ^ 38 <= n
-  at-most-the-root : square (t * 0x4000) ≤ n
-  at-most-the-root = rw (scaled_square t) (omega (arith, w.from))
+  at_most_the_root : square (t * 0x4000) ≤ n
+  at_most_the_root = rw (scaled_square t) (omega (arith, w.from))
 
   -- n < (k + 1) 2 ^ 38 = 1,024 (k + 1) 2 ^ 28 < (t + 2) ^ 2 2 ^ 28 = ((t + 2) 2 ^ 14) ^ 2
-  above-the-root : n < square ((t + 2) * 0x4000)
-  above-the-root = rw (scaled_square (t + 2), next_square t) (omega (arith, t-least, w.to))
+  above_the_root : n < square ((t + 2) * 0x4000)
+  above_the_root = rw (scaled_square (t + 2), next_square t) (omega (arith, t_least, w.to))
 
-  pub table-encloses : t < 1023 → Enclosed n (t * 0x4000) ((t + 2) * 0x4000)
-  table-encloses h = record { from = at-most-the-root; to = above-the-root; least = omega (arith, t-least); most = omega arith }
+  pub table_encloses : t < 1023 → Enclosed n (t * 0x4000) ((t + 2) * 0x4000)
+  table_encloses h = record { from = at_most_the_root; to = above_the_root; least = omega (arith, t_least); most = omega arith }
 
   -- no root that is asked reaches 2 ^ 24
-  pub table-encloses-last : Enclosed n (t * 0x4000) (2 ^ 24)
-  table-encloses-last = record { from = at-most-the-root; to = a.most; least = omega (arith, t-least); most = omega arith }
+  pub table_encloses_last : Enclosed n (t * 0x4000) (2 ^ 24)
+  table_encloses_last = record { from = at_most_the_root; to = a.most; least = omega (arith, t_least); most = omega arith }
 
 -- what `first_guess` answers is the table's guess
 module _ (n t : ℕ) (e : t ≡ entry (n / 2 ^ 38)) where
-  pub from-table : t < 1023 → FromTable n (t * 0x4000) ((t + 2) * 0x4000)
-  from-table h = record { lower = omega (arith, e); upper = omega (arith, e, h) }
+  pub from_table : t < 1023 → FromTable n (t * 0x4000) ((t + 2) * 0x4000)
+  from_table h = record { lower = omega (arith, e); upper = omega (arith, e, h) }
 
-  pub from-table-last : 1023 ≤ t → FromTable n (t * 0x4000) (2 ^ 24)
-  from-table-last h = record { lower = omega (arith, e); upper = omega (arith, e, h) }
+  pub from_table_last : 1023 ≤ t → FromTable n (t * 0x4000) (2 ^ 24)
+  from_table_last h = record { lower = omega (arith, e); upper = omega (arith, e, h) }
 
 -- ---- Newton's steps, and the test of what they lead to
 
@@ -83,14 +83,14 @@ module _ {n lo hi : ℕ} (e : Enclosed n lo hi) where
   below : n < 2 ^ 48
   below = lt_of_lt_of_le e.to (square_small hi e.most)
 
-  pub middle-small : lo + hi < 2 ^ 25
-  middle-small = omega (arith, enclosed_apart n lo hi e, e.most)
+  pub middle_small : lo + hi < 2 ^ 25
+  middle_small = omega (arith, enclosed_apart n lo hi e, e.most)
 
-  pub once-small : middle + n / middle < 2 ^ 27
-  once-small = step_small n middle below (omega (arith, enclosed_apart n lo hi e, e.least)) (omega (arith, middle-small))
+  pub once_small : middle + n / middle < 2 ^ 27
+  once_small = step_small n middle below (omega (arith, enclosed_apart n lo hi e, e.least)) (omega (arith, middle_small))
 
-  pub twice-small : once + n / once < 2 ^ 27
-  twice-small = step_small n once below (omega (arith, enclosed_apart n lo hi e, e.least)) (omega (arith, once-small))
+  pub twice_small : once + n / once < 2 ^ 27
+  twice_small = step_small n once below (omega (arith, enclosed_apart n lo hi e, e.least)) (omega (arith, once_small))
 
 -- a number whose square is at most n, and that of the next above n, lies in every guess
 pub enclosed_within : {n lo hi s : ℕ} → Enclosed n lo hi → square s ≤ n → n < square (s + 1) → Enclosed n s (s + 1)
@@ -112,16 +112,16 @@ no_carry n s a h = lt_of_not-le (λ (g : 2 ^ 24 ≤ s + 1). large (square s) s (
     large q s a b c d = omega arith
 
 module _ (n s : ℕ) (w : WholeRoot n s) where
-  pub rounded-down : n - square s ≤ s → Near n s
-  rounded-down h = record {
+  pub rounded_down : n - square s ≤ s → Near n s
+  rounded_down h = record {
     low = w.low;
     high = w.high;
     above = lt_of_lt_of_le (square_lt (s - 1 + s) (s + s) (omega arith)) (omega (arith, even_square s));
     under = omega (arith, odd_square s);
   }
 
-  pub rounded-up : s < n - square s → n ≤ 2 ^ 48 - 2 ^ 24 → Near n (s + 1)
-  rounded-up h most = record {
+  pub rounded_up : s < n - square s → n ≤ 2 ^ 48 - 2 ^ 24 → Near n (s + 1)
+  rounded_up h most = record {
     low = omega arith;
     high = no_carry n s (omega arith) most;
     above = rw (add-sub_cancel s 1) (omega (arith, odd_square s));

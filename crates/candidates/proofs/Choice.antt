@@ -19,7 +19,7 @@ use Rattle.candidates.specs.declared.Candidate.{Candidate}
 use Rattle.candidates.specs.declared.CandidateChoice.TheVariants.{Nothing, Ambiguous, Unique}
 use Rattle.candidates.specs.Candidates.{squared_radius, candidates_at, first_two}
 use Rattle.candidates.specs.Choice.{epsilon, by_quotient, choose_unambiguous, raised, choose_with_floor}
-use Rattle.candidates.proofs.Collected.{Sound, sound_no_nan, within, candidates-none, candidates-exactly}
+use Rattle.candidates.proofs.Collected.{Sound, sound_no_nan, within, candidates_none, candidates_exactly}
 
 -- ---- what is chosen is a candidate
 
@@ -62,19 +62,19 @@ module _ (position : ℕ → Position) (may : ℕ → Bool) (n : ℕ) (p : Posit
     where
       go : (t : Bool) → finite_position p ≡ t → Chosen position may n p r k
       go true f =
-          let o = (candidates-exactly position may n p r f).only c m in
+          let o = (candidates_exactly position may n p r f).only c m in
           record {
             there = subst (λ (j : ℕ). j < n) e o.there;
             free = ((and-eq-true_iff (may k) (le (squared_distance (position k) p) (squared_radius r))).0 (rw e at o.is_candidate_holds)).0;
             near = within position may p r k (rw e at o.is_candidate_holds);
           }
-      go false f = absurd (Memᴰ.not-nil (rw (candidates-none position may n p r f) at m))
+      go false f = absurd (Memᴰ.not-nil (rw (candidates_none position may n p r f) at m))
 
-  pub chosen-unambiguous : (factor : Float) (k : ℕ) → choose_unambiguous (first_two (candidates_at position may n p r)) factor ≡ Unique k → Chosen position may n p r k
-  chosen-unambiguous factor k h = member k (unambiguous_first (candidates_at position may n p r) factor k h)
+  pub chosen_unambiguous : (factor : Float) (k : ℕ) → choose_unambiguous (first_two (candidates_at position may n p r)) factor ≡ Unique k → Chosen position may n p r k
+  chosen_unambiguous factor k h = member k (unambiguous_first (candidates_at position may n p r) factor k h)
 
-  pub chosen-with-floor : (factor : Float) (k : ℕ) → choose_with_floor (first_two (candidates_at position may n p r)) factor ≡ Unique k → Chosen position may n p r k
-  chosen-with-floor factor k h = member k (floor_first (candidates_at position may n p r) factor k h)
+  pub chosen_with_floor : (factor : Float) (k : ℕ) → choose_with_floor (first_two (candidates_at position may n p r)) factor ≡ Unique k → Chosen position may n p r k
+  chosen_with_floor factor k h = member k (floor_first (candidates_at position may n p r) factor k h)
 
 -- ---- a tie for the first place
 
@@ -96,24 +96,24 @@ epsilon_nonzero = tt
 
 -- a second distance that is not above the first is ambiguous, for a factor above 1
 module _ (first second factor : Float) (f : Sound first) (s : Sound second) (h : lt first second ≡ false) (above : lt one factor ≡ true) where
-  second-le : le second first ≡ true
-  second-le = not_lt→le second first (sound_no_nan second s) (sound_no_nan first f) h
+  second_le : le second first ≡ true
+  second_le = not_lt→le second first (sound_no_nan second s) (sound_no_nan first f) h
 
-  pub tie-unambiguous : (k : ℕ) → cond (le first epsilon) Ambiguous (by_quotient k first second factor) ≡ Ambiguous
-  tie-unambiguous k = go (le first epsilon) refl
+  pub tie_unambiguous : (k : ℕ) → cond (le first epsilon) Ambiguous (by_quotient k first second factor) ≡ Ambiguous
+  tie_unambiguous k = go (le first epsilon) refl
     where
       go : (t : Bool) → le first epsilon ≡ t → cond t Ambiguous (by_quotient k first second factor) ≡ Ambiguous
       go true e = refl
       go false e =
           let l = not_le→lt first epsilon (sound_no_nan first f) epsilon_no_nan e in
-          rw (div_below binary32 second first factor s.unsigned f.unsigned f.bounded (plain_above epsilon first epsilon_plain l).1 second-le above)
+          rw (div_below binary32 second first factor s.unsigned f.unsigned f.bounded (plain_above epsilon first epsilon_plain l).1 second_le above)
 
-  pub tie-with-floor : (k : ℕ) → by_quotient k (raised first) second factor ≡ Ambiguous
-  tie-with-floor k = go (le epsilon first) refl
+  pub tie_with_floor : (k : ℕ) → by_quotient k (raised first) second factor ≡ Ambiguous
+  tie_with_floor k = go (le epsilon first) refl
     where
       go : (t : Bool) → le epsilon first ≡ t → by_quotient k (cond t first epsilon) second factor ≡ Ambiguous
-      go true e = rw (div_below binary32 second first factor s.unsigned f.unsigned f.bounded (plain_at_least epsilon first epsilon_plain epsilon_nonzero e).1 second-le above)
+      go true e = rw (div_below binary32 second first factor s.unsigned f.unsigned f.bounded (plain_at_least epsilon first epsilon_plain epsilon_nonzero e).1 second_le above)
       go false e =
           let l = not_le→lt epsilon first epsilon_no_nan (sound_no_nan first f) e in
           rw (div_below binary32 second epsilon factor s.unsigned epsilon_plain epsilon_finite epsilon_nonzero
-          (lt→le second epsilon (le_lt_trans second first epsilon second-le l)) above)
+          (lt→le second epsilon (le_lt_trans second first epsilon second_le l)) above)

@@ -48,41 +48,41 @@ module _ (position : ℕ → Position) (may : ℕ → Bool) (p : Position) (r : 
   pub within : (k : ℕ) → is_candidate position may p r k ≡ true → le (squared_distance (position k) p) (squared_radius r) ≡ true
   within k h = ((and-eq-true_iff (may k) (le (squared_distance (position k) p) (squared_radius r))).0 h).1
 
-  square-sound : T (finite (squared_radius r)) → (k : ℕ) → le (squared_distance (position k) p) (squared_radius r) ≡ true → Sound (squared_distance (position k) p)
+  square_sound : T (finite (squared_radius r)) → (k : ℕ) → le (squared_distance (position k) p) (squared_radius r) ≡ true → Sound (squared_distance (position k) p)
   unfolding squared_distance
-  square-sound small k h =
+  square_sound small k h =
       let dx = sub binary32 (position k).x p.x in
       let dy = sub binary32 (position k).y p.y in
       let u : T (plain (add binary32 (mul binary32 dx dx) (mul binary32 dy dy))) = squares_plain binary32 dx dy (le_no_nan _ _ h).0 in
       record { unsigned = u; bounded = finite_under _ _ u small h; held = add-fits binary32 (mul binary32 dx dx) (mul binary32 dy dy) }
 
   -- so its distance is finite and has no sign
-  pub distance-sound : T (finite (squared_radius r)) → (k : ℕ) → is_candidate position may p r k ≡ true → Sound (distance_of position p k)
-  distance-sound small k h = root_sound (squared_distance (position k) p) (square-sound small k (within k h))
+  pub distance_sound : T (finite (squared_radius r)) → (k : ℕ) → is_candidate position may p r k ≡ true → Sound (distance_of position p k)
+  distance_sound small k h = root_sound (squared_distance (position k) p) (square_sound small k (within k h))
 
 -- ---- the list
 
 module _ (position : ℕ → Position) (may : ℕ → Bool) (n : ℕ) (p : Position) (r : Float) where
-  pub candidates-none : finite_position p ≡ false → candidates_at position may n p r ≡ []
+  pub candidates_none : finite_position p ≡ false → candidates_at position may n p r ≡ []
   unfolding candidates_at
-  candidates-none e = rw e
+  candidates_none e = rw e
 
-  pub candidates-are : finite_position p ≡ true → candidates_at position may n p r ≡ ordered (distance_of position p) (is_candidate position may p r) n
+  pub candidates_are : finite_position p ≡ true → candidates_at position may n p r ≡ ordered (distance_of position p) (is_candidate position may p r) n
   unfolding candidates_at
-  candidates-are e = rw e
+  candidates_are e = rw e
 
   -- exactly the candidates, each once
-  pub candidates-exactly : finite_position p ≡ true → Exactly (distance_of position p) (is_candidate position may p r) n (candidates_at position may n p r)
-  candidates-exactly e = rw (candidates-are e) (exactly (distance_of position p) (is_candidate position may p r) n)
+  pub candidates_exactly : finite_position p ≡ true → Exactly (distance_of position p) (is_candidate position may p r) n (candidates_at position may n p r)
+  candidates_exactly e = rw (candidates_are e) (exactly (distance_of position p) (is_candidate position may p r) n)
 
   -- by distance, then corner number
-  pub candidates-sorted : T (finite (squared_radius r)) → Sorted (candidates_at position may n p r)
-  candidates-sorted small = go (finite_position p) refl
+  pub candidates_sorted : T (finite (squared_radius r)) → Sorted (candidates_at position may n p r)
+  candidates_sorted small = go (finite_position p) refl
     where
       go : (t : Bool) → finite_position p ≡ t → Sorted (candidates_at position may n p r)
       go true e =
-          rw (candidates-are e) (sorted (distance_of position p) (is_candidate position may p r) (λ k h. sound_no_nan _ (distance-sound position may p r small k h)) n)
-      go false e = rw (candidates-none e) tt
+          rw (candidates_are e) (sorted (distance_of position p) (is_candidate position may p r) (λ k h. sound_no_nan _ (distance_sound position may p r small k h)) n)
+      go false e = rw (candidates_none e) tt
 
 -- ---- nothing but the corners below n counts
 

@@ -74,18 +74,18 @@ passed_from : (radius d : Float) (c : Candidate) (candidates : Candidates) (squa
     → Square radius d c.distance → le d limit ≡ false → kept candidates c ≡ candidates
 passed_from radius d c Empty square limit l s h = absurd (true≢false (sym s.within ∙ subst (λ (z : Float). le d z ≡ false) l h))
 passed_from radius d c (One a) square limit l s h = absurd (true≢false (sym s.within ∙ subst (λ (z : Float). le d z ≡ false) l.1 h))
-passed_from radius d c (Several a second) square limit l s h = rw (after_first, after-second)
+passed_from radius d c (Several a second) square limit l s h = rw (after_first, after_second)
   where
     above : lt limit d ≡ true
     above = not_le→lt d limit (le_no_nan d radius s.within).0 (plain_no_nan limit l.1.unsigned) h
 
-    after-second : lt c.distance second ≡ false
-    after-second = rw (s.rooted, l.1.rooted) (sqrt_mono limit d l.1.held s.held (lt_asym limit d above))
+    after_second : lt c.distance second ≡ false
+    after_second = rw (s.rooted, l.1.rooted) (sqrt_mono limit d l.1.held s.held (lt_asym limit d above))
 
     after_first : lt c.distance a.distance ≡ false
     after_first =
         not_lt_trans c.distance second a.distance
-        (ap is_nan l.1.rooted ∙ root_under limit d l.1.held l.1.unsigned above) after-second l.2
+        (ap is_nan l.1.rooted ∙ root_under limit d l.1.held l.1.unsigned above) after_second l.2
 
 pub passed_over : (radius : Float) (found : Found) (d : Float) (c : Candidate) → Limited radius found → Square radius d c.distance → le d found.limit ≡ false
     → kept found.candidates c ≡ found.candidates

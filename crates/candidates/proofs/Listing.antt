@@ -119,19 +119,19 @@ unfolding insert Later Sane
 insert_sorted c [] n h s o = ((λ b m. absurd (Memᴰ.not-nil m)), tt)
 insert_sorted c (b ∷ l) n h s o = go (insert_sorted c l n (λ x m. h x (Memᴰ.tail m)) (λ x m. s x (Memᴰ.tail m)) o.1) (before c b) refl
   where
-    b-in : Memᴰ b (b ∷ l)
-    b-in = Memᴰ.head refl
+    b_in : Memᴰ b (b ∷ l)
+    b_in = Memᴰ.head refl
 
     go : Sorted (insert c l) → (t : Bool) → before c b ≡ t → Sorted (cond t (c ∷ b ∷ l) (b ∷ insert c l))
     go rest true e = (
       (λ x m. ⊎_elim
           (λ q. subst (λ (y : Candidate). before c y ≡ true) (sym q) e)
-          (λ q. before_trans c b x n (s b b-in) (s x m) e (o.0 x q)) (Memᴰ.cases_cons m)),
+          (λ q. before_trans c b x n (s b b_in) (s x m) e (o.0 x q)) (Memᴰ.cases_cons m)),
       o,
     )
     go rest false e = (
       (λ x m. ⊎_elim
-          (λ q. subst (λ (y : Candidate). before b y ≡ true) (sym q) (before_as_near b c (sym (before_later b c (h b b-in)) ∙ e) (h b b-in)))
+          (λ q. subst (λ (y : Candidate). before b y ≡ true) (sym q) (before_as_near b c (sym (before_later b c (h b b_in)) ∙ e) (h b b_in)))
           (λ q. o.0 x q) (insert_mem x c l m)),
       rest,
     )

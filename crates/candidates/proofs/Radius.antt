@@ -42,12 +42,12 @@ module _ (search size : Float) (s : in_range Multiple search ≡ true) (c : in_r
   within = mul_within binary32 search size (fin false 1 (pos 4)) (fin false 1 (pos 14)) tt tt tt tt (multiple search s) (cell size c)
 
   -- search times cell size
-  pub search-radius : T (finite (squared_radius (mul binary32 search size)))
-  search-radius = small_radius (mul binary32 search size) (le_trans (unsigned (mul binary32 search size)) (fin false 1 (pos 18)) top within (unfold le in refl))
+  pub search_radius : T (finite (squared_radius (mul binary32 search size)))
+  search_radius = small_radius (mul binary32 search size) (le_trans (unsigned (mul binary32 search size)) (fin false 1 (pos 18)) top within (unfold le in refl))
 
   -- and that times boundary
-  pub boundary-radius : (boundary : Float) → in_range Multiple boundary ≡ true → T (finite (squared_radius (mul binary32 (mul binary32 search size) boundary)))
-  boundary-radius boundary b =
+  pub boundary_radius : (boundary : Float) → in_range Multiple boundary ≡ true → T (finite (squared_radius (mul binary32 (mul binary32 search size) boundary)))
+  boundary_radius boundary b =
       small_radius (mul binary32 (mul binary32 search size) boundary)
       (le_trans (unsigned (mul binary32 (mul binary32 search size) boundary)) (mul binary32 (fin false 1 (pos 18)) (fin false 1 (pos 4))) top
       (mul_within binary32 (mul binary32 search size) boundary (fin false 1 (pos 18)) (fin false 1 (pos 4)) tt tt tt tt within (multiple boundary b))

@@ -154,9 +154,9 @@ module _ (test : ℕ → Bool) (from : ℕ) where
       go true h = omega arith
       go false h = omega arith
 
-  pub count-more : (k : ℕ) {n : ℕ} {m : ℕ} → n ≡ count_from test from k → m ≡ one_if test (from + k) → n + m ≡ count_from test from (k + 1)
+  pub count_more : (k : ℕ) {n : ℕ} {m : ℕ} → n ≡ count_from test from k → m ≡ one_if test (from + k) → n + m ≡ count_from test from (k + 1)
   unfolding count_from
-  count-more k e f = rw add-one (rw (e, f))
+  count_more k e f = rw add-one (rw (e, f))
 
   -- where none is counted, none passes
   pub count_none : (k : ℕ) → count_from test from k ≡ 0 → (i : ℕ) → from ≤ i → i < from + k → test i ≡ false
@@ -171,17 +171,17 @@ module _ (test : ℕ → Bool) (from : ℕ) where
 
 -- one corner, by its squared distance
 module _ (position : ℕ → Position) (p : Position) (limit : Float) (k : ℕ) {d2 : Float} (e : d2 ≡ squared_distance (position k) p) where
-  pub one-near : le d2 limit ≡ true → 1 ≡ one_if (is_near position p limit) k
-  one-near h = rw (← e, h)
+  pub one_near : le d2 limit ≡ true → 1 ≡ one_if (is_near position p limit) k
+  one_near h = rw (← e, h)
 
-  pub one-far : le d2 limit ≡ false → 0 ≡ one_if (is_near position p limit) k
-  one-far h = rw (← e, h)
+  pub one_far : le d2 limit ≡ false → 0 ≡ one_if (is_near position p limit) k
+  one_far h = rw (← e, h)
 
 -- none of them lies within the limit, so none is a candidate
 module _ (position : ℕ → Position) (may : ℕ → Bool) (p : Position) (limit : Float) where
-  pub passing-block : (n from k : ℕ) {count : ℕ} → Passing (is_within position may p limit) n from k → k + 32 ≤ n → count ≡ count_from (is_near position p limit) k 32 → count ≡ 0
+  pub passing_block : (n from k : ℕ) {count : ℕ} → Passing (is_within position may p limit) n from k → k + 32 ≤ n → count ≡ count_from (is_near position p limit) k 32 → count ≡ 0
       → Passing (is_within position may p limit) n from (k + 32)
-  passing-block n from k h room e z = record { on = omega (arith, h.on); within = room; passed = λ i a b. go i a b (leb k i) refl }
+  passing_block n from k h room e z = record { on = omega (arith, h.on); within = room; passed = λ i a b. go i a b (leb k i) refl }
     where
       far : (i : ℕ) → k ≤ i → i < k + 32 → is_within position may p limit i ≡ false
       far i a b = rw (count_none (is_near position p limit) k 32 (sym e ∙ z) i a b) (both (may i))
@@ -206,19 +206,19 @@ pub record Scanned (held : List Float) (may : ℕ → Bool) (n : ℕ) (p : Posit
 -- ---- the whole scan
 
 module _ (held : List Float) (may : ℕ → Bool) (n : ℕ) (p : Position) (r : Float) where
-  pub nowhere-x : is_finite p.x ≡ false → Empty ≡ first_two (candidates_at (positions_in held) may n p r)
+  pub nowhere_x : is_finite p.x ≡ false → Empty ≡ first_two (candidates_at (positions_in held) may n p r)
   unfolding candidates_at first_two
-  nowhere-x e = rw e
+  nowhere_x e = rw e
 
-  pub nowhere-y : is_finite p.x ≡ true → is_finite p.y ≡ false → Empty ≡ first_two (candidates_at (positions_in held) may n p r)
+  pub nowhere_y : is_finite p.x ≡ true → is_finite p.y ≡ false → Empty ≡ first_two (candidates_at (positions_in held) may n p r)
   unfolding candidates_at first_two
-  nowhere-y e f = rw (e, f)
+  nowhere_y e f = rw (e, f)
 
   -- from a corner, before which what was found is right, to the next within the limit
-  scanned-on : (found : Found) (from k : ℕ) → found.candidates ≡ first_two_below held may from p r
+  scanned_on : (found : Found) (from k : ℕ) → found.candidates ≡ first_two_below held may from p r
       → Limited (squared_radius r) found
       → Next (is_within (positions_in held) may p found.limit) n from k → Scanned held may n p r found k
-  scanned-on found from k e l s =
+  scanned_on found from k e l s =
       record {
         within = s.within;
         hit = s.hit;
@@ -241,15 +241,15 @@ module _ (held : List Float) (may : ℕ → Bool) (n : ℕ) (p : Position) (r : 
   abbrev nothing : Float → Found
   nothing square = record { candidates = Empty; square = square; limit = squared_radius r }
 
-  pub scanned-start : (square : Float) (k : ℕ) → Next (is_within (positions_in held) may p (squared_radius r)) n 0 k → Scanned held may n p r (nothing square) k
-  scanned-start square k s = scanned-on (nothing square) 0 k none_yet refl s
+  pub scanned_start : (square : Float) (k : ℕ) → Next (is_within (positions_in held) may p (squared_radius r)) n 0 k → Scanned held may n p r (nothing square) k
+  scanned_start square k s = scanned_on (nothing square) 0 k none_yet refl s
 
   -- one more candidate
-  pub scanned-more : (found more : Found) (k k' : ℕ) → Scanned held may n p r found k → k < n
+  pub scanned_more : (found more : Found) (k k' : ℕ) → Scanned held may n p r found k → k < n
       → more ≡ narrowed found (measured (positions_in held) p k) (squared_distance (positions_in held k) p)
       → Next (is_within (positions_in held) may p more.limit) n (k + 1) k' → Scanned held may n p r more k'
-  scanned-more found more k k' h l e s =
-      scanned-on more (k + 1) k'
+  scanned_more found more k k' h l e s =
+      scanned_on more (k + 1) k'
       (ap (λ (f : Found). f.candidates) e ∙ narrowed_found found c d2 ∙ ap (λ (f : Candidates). kept f c) h.so_far
       ∙ rw add-one (grows (distance_of (positions_in held) p) (is_candidate (positions_in held) may p r) k taken))
       (subst (λ (f : Found). Limited (squared_radius r) f) (sym e)
@@ -273,11 +273,11 @@ module _ (held : List Float) (may : ℕ → Bool) (n : ℕ) (p : Position) (r : 
   whole e f = rw (e, f)
 
   -- no candidate is left that could change the first two
-  pub scanned-all : (found : Found) (k : ℕ) → Scanned held may n p r found k → n ≤ k → is_finite p.x ≡ true → is_finite p.y ≡ true
+  pub scanned_all : (found : Found) (k : ℕ) → Scanned held may n p r found k → n ≤ k → is_finite p.x ≡ true → is_finite p.y ≡ true
       → found.candidates ≡ first_two (candidates_at (positions_in held) may n p r)
-  scanned-all found k h l e f = h.so_far ∙ ap (λ (n : ℕ). first_two_below held may n p r) (omega (arith, h.within)) ∙ whole e f
+  scanned_all found k h l e f = h.so_far ∙ ap (λ (n : ℕ). first_two_below held may n p r) (omega (arith, h.within)) ∙ whole e f
 
   -- there was none at all
   pub nowhere : (k : ℕ) → Next (is_within (positions_in held) may p (squared_radius r)) n 0 k → k ≡ n
       → is_finite p.x ≡ true → is_finite p.y ≡ true → Empty ≡ first_two (candidates_at (positions_in held) may n p r)
-  nowhere k s l e f = scanned-all (nothing (squared_radius r)) k (scanned-start (squared_radius r) k s) (omega arith) e f
+  nowhere k s l e f = scanned_all (nothing (squared_radius r)) k (scanned_start (squared_radius r) k s) (omega arith) e f

@@ -17,7 +17,7 @@ use Rattle.candidates.specs.declared.Candidates.{Candidates}
 use Rattle.candidates.specs.Candidates.{squared_radius, is_candidate, distance_of, before, insert, insert_if, ordered, candidates_at, first_two, last_distance}
 use Rattle.candidates.specs.Listing.{Exactly, Sorted}
 use Rattle.candidates.proofs.Listing.{before_trans, before_not_farther, nth, exactly, sorted}
-use Rattle.candidates.proofs.Collected.{sound_no_nan, distance-sound, candidates-none, candidates-are}
+use Rattle.candidates.proofs.Collected.{sound_no_nan, distance_sound, candidates_none, candidates_are}
 
 -- ---- a list without a corner
 
@@ -26,44 +26,44 @@ without k [] = []
 without k (a ∷ l) = cond (eqb k a.number) (without k l) (a ∷ without k l)
 
 module _ (k : ℕ) where
-  without-mem : (x : Candidate) (l : List Candidate) → Memᴰ x (without k l) → Memᴰ x l
+  without_mem : (x : Candidate) (l : List Candidate) → Memᴰ x (without k l) → Memᴰ x l
   unfolding without
-  without-mem x [] m = m
-  without-mem x (a ∷ l) m = go (without-mem x l) (eqb k a.number) m
+  without_mem x [] m = m
+  without_mem x (a ∷ l) m = go (without_mem x l) (eqb k a.number) m
     where
       go : (Memᴰ x (without k l) → Memᴰ x l) → (t : Bool) → Memᴰ x (cond t (without k l) (a ∷ without k l)) → Memᴰ x (a ∷ l)
       go rest true m = Memᴰ.tail (rest m)
       go rest false m = ⊎_elim (λ e. Memᴰ.head e) (λ q. Memᴰ.tail (rest q)) (Memᴰ.cases_cons m)
 
   -- the corner itself, put in and left out again
-  insert-gone : (c : Candidate) (l : List Candidate) → eqb k c.number ≡ true → without k (insert c l) ≡ without k l
+  insert_gone : (c : Candidate) (l : List Candidate) → eqb k c.number ≡ true → without k (insert c l) ≡ without k l
   unfolding insert without
-  insert-gone c [] e = rw e
-  insert-gone c (b ∷ l) e = go (insert-gone c l e) (before c b)
+  insert_gone c [] e = rw e
+  insert_gone c (b ∷ l) e = go (insert_gone c l e) (before c b)
     where
       go : without k (insert c l) ≡ without k l → (t : Bool) → without k (cond t (c ∷ b ∷ l) (b ∷ insert c l)) ≡ without k (b ∷ l)
       go rest true = rw e
       go rest false = ap (λ (m : List Candidate). cond (eqb k b.number) m (b ∷ m)) rest
 
   -- a candidate that stands before all others
-  insert-front : (c : Candidate) (l : List Candidate) → ((x : Candidate) → Memᴰ x l → before c x ≡ true) → insert c l ≡ c ∷ l
+  insert_front : (c : Candidate) (l : List Candidate) → ((x : Candidate) → Memᴰ x l → before c x ≡ true) → insert c l ≡ c ∷ l
   unfolding insert
-  insert-front c [] h = refl
-  insert-front c (b ∷ l) h = rw (h b (Memᴰ.head refl))
+  insert_front c [] h = refl
+  insert_front c (b ∷ l) h = rw (h b (Memᴰ.head refl))
 
   -- another candidate, put in before or after
-  insert-without : (c : Candidate) (l : List Candidate) → eqb k c.number ≡ false → is_nan c.distance ≡ false → ((x : Candidate) → Memᴰ x l → is_nan x.distance ≡ false) → Sorted l
+  insert_without : (c : Candidate) (l : List Candidate) → eqb k c.number ≡ false → is_nan c.distance ≡ false → ((x : Candidate) → Memᴰ x l → is_nan x.distance ≡ false) → Sorted l
       → insert c (without k l) ≡ without k (insert c l)
   unfolding insert without
-  insert-without c [] e n s o = rw e
-  insert-without c (b ∷ l) e n s o = go (eqb k b.number) refl (before c b) refl (insert-without c l e n (λ x m. s x (Memᴰ.tail m)) o.1)
+  insert_without c [] e n s o = rw e
+  insert_without c (b ∷ l) e n s o = go (eqb k b.number) refl (before c b) refl (insert_without c l e n (λ x m. s x (Memᴰ.tail m)) o.1)
     where
       go : (t : Bool) → eqb k b.number ≡ t → (u : Bool) → before c b ≡ u → insert c (without k l) ≡ without k (insert c l)
           → insert c (cond t (without k l) (b ∷ without k l)) ≡ without k (cond u (c ∷ b ∷ l) (b ∷ insert c l))
       go true f true g w =
           rw (e, f)
-          (insert-front c (without k l)
-          (λ x m. let q = without-mem x l m in before_trans c b x n (s b (Memᴰ.head refl)) (s x (Memᴰ.tail q)) g (o.0 x q)))
+          (insert_front c (without k l)
+          (λ x m. let q = without_mem x l m in before_trans c b x n (s b (Memᴰ.head refl)) (s x (Memᴰ.tail q)) g (o.0 x q)))
       go true f false g w = rw f w
       go false f true g w = rw (e, f, g)
       go false f false g w = rw (f, g) (ap (λ (m : List Candidate). b ∷ m) w)
@@ -72,21 +72,21 @@ module _ (k : ℕ) where
 
 module _ (distance : ℕ → Float) (candidate candidate' : ℕ → Bool) (k : ℕ) (same : (j : ℕ) → candidate' j ≡ (not (eqb k j) && candidate j))
     (sane : (j : ℕ) → candidate j ≡ true → is_nan (distance j) ≡ false) where
-  ordered-without : (n : ℕ) → ordered distance candidate' n ≡ without k (ordered distance candidate n)
+  ordered_without : (n : ℕ) → ordered distance candidate' n ≡ without k (ordered distance candidate n)
   unfolding ordered without
-  ordered-without zero = refl
-  ordered-without (suc n) = go (eqb k n) refl (candidate n) refl (same n) (ordered-without n)
+  ordered_without zero = refl
+  ordered_without (suc n) = go (eqb k n) refl (candidate n) refl (same n) (ordered_without n)
     where
       only : (x : Candidate) → Memᴰ x (ordered distance candidate n) → is_nan x.distance ≡ false
       only x m = let o = (exactly distance candidate n).only x m in ap is_nan o.at_distance ∙ sane x.number o.is_candidate_holds
 
       go : (t : Bool) → eqb k n ≡ t → (u : Bool) → candidate n ≡ u → candidate' n ≡ (not t && u) → ordered distance candidate' n ≡ without k (ordered distance candidate n)
           → insert_if (candidate' n) (nth distance n) (ordered distance candidate' n) ≡ without k (insert_if u (nth distance n) (ordered distance candidate n))
-      go true e true f g w = rw g (w ∙ sym (insert-gone k (nth distance n) (ordered distance candidate n) e))
+      go true e true f g w = rw g (w ∙ sym (insert_gone k (nth distance n) (ordered distance candidate n) e))
       go true e false f g w = rw g w
       go false e true f g w =
           rw (g, w)
-          (insert-without k (nth distance n) (ordered distance candidate n) e (sane n f) only (sorted distance candidate sane n))
+          (insert_without k (nth distance n) (ordered distance candidate n) e (sane n f) only (sorted distance candidate sane n))
       go false e false f g w = rw g w
 
   -- a corner that is farther than the first two is neither of them
@@ -112,28 +112,28 @@ module _ (distance : ℕ → Float) (candidate candidate' : ℕ → Bool) (k : �
           ∙ lt_irrefl b.distance))
       go false e false f = refl
 
-  ordered-stays : (n : ℕ) → lt (last_distance (first_two (ordered distance candidate n))) (distance k) ≡ true → first_two (ordered distance candidate' n) ≡ first_two (ordered distance candidate n)
-  ordered-stays n far =
-      ap first_two (ordered-without n)
+  ordered_stays : (n : ℕ) → lt (last_distance (first_two (ordered distance candidate n))) (distance k) ≡ true → first_two (ordered distance candidate' n) ≡ first_two (ordered distance candidate n)
+  ordered_stays n far =
+      ap first_two (ordered_without n)
       ∙ first_stays n (ordered distance candidate n) (exactly distance candidate n) (sorted distance candidate sane n) far
 
 -- ---- the candidates at a prediction, once a corner is labelled that is farther than the first two
 
 module _ (position : ℕ → Position) (may may' : ℕ → Bool) (n : ℕ) (p : Position) (r : Float) (small : T (finite (squared_radius r)))
     (k : ℕ) (same : (j : ℕ) → may' j ≡ (not (eqb k j) && may j)) where
-  pub first-two-stay : lt (last_distance (first_two (candidates_at position may n p r))) (distance_of position p k) ≡ true
+  pub first_two_stay : lt (last_distance (first_two (candidates_at position may n p r))) (distance_of position p k) ≡ true
       → first_two (candidates_at position may' n p r) ≡ first_two (candidates_at position may n p r)
-  first-two-stay far = go (finite_position p) refl
+  first_two_stay far = go (finite_position p) refl
     where
       and_assoc : (a b c : Bool) → ((a && b) && c) ≡ (a && (b && c))
       and_assoc true b c = refl
       and_assoc false b c = refl
 
       go : (t : Bool) → finite_position p ≡ t → first_two (candidates_at position may' n p r) ≡ first_two (candidates_at position may n p r)
-      go false e = rw (candidates-none position may n p r e, candidates-none position may' n p r e)
+      go false e = rw (candidates_none position may n p r e, candidates_none position may' n p r e)
       go true e =
-          rw (candidates-are position may n p r e, candidates-are position may' n p r e)
-          (ordered-stays (distance_of position p) (is_candidate position may p r) (is_candidate position may' p r) k
+          rw (candidates_are position may n p r e, candidates_are position may' n p r e)
+          (ordered_stays (distance_of position p) (is_candidate position may p r) (is_candidate position may' p r) k
           (λ j. ap (λ (b : Bool). b && le (squared_distance (position j) p) (squared_radius r)) (same j) ∙ and_assoc (not (eqb k j)) (may j) (le (squared_distance (position j) p) (squared_radius r)))
-          (λ j h. sound_no_nan _ (distance-sound position may p r small j h)) n
-          (rw (candidates-are position may n p r e) at far))
+          (λ j h. sound_no_nan _ (distance_sound position may p r small j h)) n
+          (rw (candidates_are position may n p r e) at far))

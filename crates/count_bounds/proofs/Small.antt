@@ -33,15 +33,15 @@ use Rattle.passes.specs.Local.{depth_of, local_cells, supports_of, cell_point, p
 use Rattle.invariants.specs.Calls.{after_pass, after_call, attached_count}
 use Rattle.invariants.proofs.Run.{call_ran}
 use Rattle.count_bounds.specs.Bounds.{FewCounts, FiniteFloat, FiniteResidual, FewUnmatched, Small, small_grow, small_fill, small_local, SmallAnswers}
-use Rattle.count_bounds.proofs.Counts.{total, grow-counts, Turned, local-from, passed_from}
+use Rattle.count_bounds.proofs.Counts.{total, grow_counts, Turned, local_from_lem, passed_from}
 
 -- ---- fill's rounds
 
 module _ (cs : Corners) (set : Settings) (p : FillParams) where
-  fill-from : (m : ℕ) (r : FillRounds) → (fill_from cs set p m r).rounds ≤ r.rounds + m
+  fill_from_lem : (m : ℕ) (r : FillRounds) → (fill_from cs set p m r).rounds ≤ r.rounds + m
   unfolding fill_from
-  fill-from zero r = omega arith
-  fill-from (suc m) r = go (eqb (length next.state.made) (length r.state.made)) (fill-from m next)
+  fill_from_lem zero r = omega arith
+  fill_from_lem (suc m) r = go (eqb (length next.state.made) (length r.state.made)) (fill_from_lem m next)
     where
       next : FillRounds
       next = record { state = fill_round cs set p r.state; rounds = r.rounds + 1 }
@@ -58,16 +58,16 @@ Finites [] = Unit {0}
 Finites (x ∷ xs) = FiniteFloat x × Finites xs
 
 module _ (seen : Cell → Seen) (h : List Float) where
-  residual-fits : (p : ℕ) → T (fits binary32 (residual_of h (cell_point (cell_of p)) (pictured_at seen p)))
+  residual_fits : (p : ℕ) → T (fits binary32 (residual_of h (cell_point (cell_of p)) (pictured_at seen p)))
   unfolding residual_of squared_distance
-  residual-fits p = sqrt_fits _ (add-fits binary32 _ _)
+  residual_fits p = sqrt_fits _ (add-fits binary32 _ _)
 
-  residuals-finite : (ps : List ℕ) → all_finite (residuals_of seen h ps) ≡ true → Finites (residuals_of seen h ps)
+  residuals_finite : (ps : List ℕ) → all_finite (residuals_of seen h ps) ≡ true → Finites (residuals_of seen h ps)
   unfolding all_finite residuals_of
-  residuals-finite [] e = tt
-  residuals-finite (p ∷ ps) e =
+  residuals_finite [] e = tt
+  residuals_finite (p ∷ ps) e =
       let w = both _ _ e in
-      (record { finite = w.0; fit = residual-fits p }, residuals-finite ps w.1)
+      (record { finite = w.0; fit = residual_fits p }, residuals_finite ps w.1)
 
 none_fitted : {h rs : List Float} → none ≡ fitted h rs → ⊥
 none_fitted e = let z : ◌≡◌ {A = ℕ} 0 1 = cc in omega arith
@@ -79,7 +79,7 @@ trusted_finite seen ps NoFit h rs e = absurd (none_fitted e)
 trusted_finite seen ps (Entries g) h rs e = go (all_finite (residuals_of seen g ps)) refl e
   where
     go : (t : Bool) → all_finite (residuals_of seen g ps) ≡ t → cond t (fitted g (residuals_of seen g ps)) none ≡ fitted h rs → Finites rs
-    go true f q = let same : residuals_of seen g ps ≡ rs = cc in subst Finites same (residuals-finite seen g ps f)
+    go true f q = let same : residuals_of seen g ps ≡ rs = cc in subst Finites same (residuals_finite seen g ps f)
     go false f q = absurd (none_fitted q)
 
 recorded_finite : (l : LargestResidual) (x : Float) → FiniteResidual l → FiniteFloat x → FiniteResidual (recorded l x)
@@ -104,39 +104,39 @@ with_largest c TryCellResult.EdgeRejected s = refl
 with_largest c (TryCellResult.Attached k) s = refl
 
 module _ (cs : Corners) (set : Settings) (p : LocalExtensionParams) where
-  finite-at : (c : Cell) (fit : LocalFit) (s : LocalState) → ((h rs : List Float) → fit ≡ fitted h rs → Finites rs) → FiniteResidual s.largest
+  finite_at : (c : Cell) (fit : LocalFit) (s : LocalState) → ((h rs : List Float) → fit ≡ fitted h rs → Finites rs) → FiniteResidual s.largest
       → FiniteResidual (local_at cs set p c fit s).largest
   unfolding local_at local_try
-  finite-at c none s f w = w
-  finite-at c (fitted h rs) s f w = go (lt (gate_of set p) (worst (of_bits binary32 0) rs)) _ (with_largest c _ (with_unmatched _ (with_residuals rs s)))
+  finite_at c none s f w = w
+  finite_at c (fitted h rs) s f w = go (lt (gate_of set p) (worst (of_bits binary32 0) rs)) _ (with_largest c _ (with_unmatched _ (with_residuals rs s)))
     where
       go : (t : Bool) (after : LocalState) → after.largest ≡ recorded_all s.largest rs → FiniteResidual (cond t (with_residuals rs s) after).largest
       go true after e = all_finite_lem s.largest rs w (f h rs refl)
       go false after e = subst FiniteResidual (sym e) (all_finite_lem s.largest rs w (f h rs refl))
 
-  finite-visit : (c : Cell) (s : LocalState) → FiniteResidual s.largest → FiniteResidual (local_visit cs set p c s).largest
+  finite_visit : (c : Cell) (s : LocalState) → FiniteResidual s.largest → FiniteResidual (local_visit cs set p c s).largest
   unfolding local_visit local_fit
-  finite-visit c s w = finite-at c _ s (λ h rs e. trusted_finite _ _ _ h rs e) w
+  finite_visit c s w = finite_at c _ s (λ h rs e. trusted_finite _ _ _ h rs e) w
 
-  finite-all : (ps : List ℕ) (s : LocalState) → FiniteResidual s.largest → FiniteResidual (local_all cs set p ps s).largest
+  finite_all : (ps : List ℕ) (s : LocalState) → FiniteResidual s.largest → FiniteResidual (local_all cs set p ps s).largest
   unfolding local_all
-  finite-all [] s w = w
-  finite-all (q ∷ qs) s w = finite-all qs (local_visit cs set p (cell_of q) s) (finite-visit (cell_of q) s w)
+  finite_all [] s w = w
+  finite_all (q ∷ qs) s w = finite_all qs (local_visit cs set p (cell_of q) s) (finite_visit (cell_of q) s w)
 
-  finite-round : (s : LocalState) → FiniteResidual s.largest → FiniteResidual (local_round cs set p s).largest
+  finite_round : (s : LocalState) → FiniteResidual s.largest → FiniteResidual (local_round cs set p s).largest
   unfolding local_round
-  finite-round s w = finite-all (local_cells (depth_of p) s.sheet) s w
+  finite_round s w = finite_all (local_cells (depth_of p) s.sheet) s w
 
-  finite-from : (m : ℕ) (r : LocalRounds) → FiniteResidual r.state.largest → FiniteResidual (local_from cs set p m r).state.largest
+  finite_from : (m : ℕ) (r : LocalRounds) → FiniteResidual r.state.largest → FiniteResidual (local_from cs set p m r).state.largest
   unfolding local_from
-  finite-from zero r w = w
-  finite-from (suc m) r w = go (eqb (length next.state.made) (length r.state.made)) (finite-from m next (finite-round r.state w))
+  finite_from zero r w = w
+  finite_from (suc m) r w = go (eqb (length next.state.made) (length r.state.made)) (finite_from m next (finite_round r.state w))
     where
       next : LocalRounds
       next = record { state = local_round cs set p r.state; rounds = r.rounds + 1 }
 
       go : (t : Bool) → FiniteResidual (local_from cs set p m next).state.largest → FiniteResidual (cond t next (local_from cs set p m next)).state.largest
-      go true v = finite-round r.state w
+      go true v = finite_round r.state w
       go false v = v
 
 -- ---- each pass
@@ -175,16 +175,16 @@ small l sheet c w = go c.pass w.pass_inside (let r = call_ran l sheet c w in ome
     set = c.settings
 
     go : (p : Pass) → PassInside p → attached_count (after_pass l c.shades sheet set p).answer ≤ 16384 → Small (after_pass l c.shades sheet set p).answer
-    go (Pass.Grow p) i a = small_grow {s = (grow_after cs set p sheet).answer} (few_counts 1048576 (4 * cs.count) _ (grow-counts cs set p sheet) (omega (arith, w.few)))
+    go (Pass.Grow p) i a = small_grow {s = (grow_after cs set p sheet).answer} (few_counts 1048576 (4 * cs.count) _ (grow_counts cs set p sheet) (omega (arith, w.few)))
     go (Pass.Fill p) i a =
         let first : FillRounds = record { state = record { sheet = sheet; made = [] }; rounds = 0 } in
         let m = fill_limit (label_count sheet) p.max_iters in
-        small_fill {s = (fill_after cs set p sheet).answer} (omega (arith, a)) (omega (arith, fill-from cs set p m first, limit_few (label_count sheet) p.max_iters i.rounds))
+        small_fill {s = (fill_after cs set p sheet).answer} (omega (arith, a)) (omega (arith, fill_from_lem cs set p m first, limit_few (label_count sheet) p.max_iters i.rounds))
     go (Pass.Local p) i a =
         let first : LocalRounds = record { state = record { sheet = sheet; made = []; counts = no_counts; largest = LargestResidual.Nothing; unmatched = 0 }; rounds = 0 } in
         let m = local_limit (label_count sheet) p.max_iters in
-        let t = local-from cs set p m first in
+        let t = local_from_lem cs set p m first in
         let k = local_limit_few (label_count sheet) p.max_iters i.rounds in
         small_local {s = (local_after cs set p sheet).answer} (few_counts 1048576 (m * 16384) _ (omega (arith, t.counts)) (omega (arith, k))) (omega (arith, t.rounds, k))
-        (finite-from cs set p m first tt)
+        (finite_from cs set p m first tt)
         (few_unmatched cs.shades.any _ _ (passed_from cs w.few set p m first (omega arith)) (omega (arith, t.counts, k)))

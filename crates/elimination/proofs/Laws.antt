@@ -27,8 +27,8 @@ pub record FirstLargest (g : ℕ → Float) (k n b : ℕ) : Type 0 where
   pub first : (i : ℕ) → k ≤ i → i < b → lt (g i) (g b) ≡ true
 
 module _ (g : ℕ → Float) (k : ℕ) where
-  one-row : FirstLargest g k 0 k
-  one-row = record { from = omega arith; upto = omega arith; unexceeded = λ i a b. let e : i ≡ k = omega arith in rw e (lt_irrefl (g k)); first = λ i a b. absurd (omega arith) }
+  one_row : FirstLargest g k 0 k
+  one_row = record { from = omega arith; upto = omega arith; unexceeded = λ i a b. let e : i ≡ k = omega arith in rw e (lt_irrefl (g k)); first = λ i a b. absurd (omega arith) }
 
   module _ (n b : ℕ) (no_nan : (i : ℕ) → k ≤ i → i ≤ k + suc n → is_nan (g i) ≡ false) (f : FirstLargest g k n b) where
     replaced : lt (g b) (g (k + suc n)) ≡ true → FirstLargest g k (suc n) (k + suc n)
@@ -58,7 +58,7 @@ module _ (g : ℕ → Float) (k : ℕ) where
 
 chosen : (m : Matrix) (k n : ℕ) → ((i : ℕ) → k ≤ i → i ≤ k + n → is_nan (magnitude (entry m i k)) ≡ false) → FirstLargest (λ i. magnitude (entry m i k)) k n (largest m k n)
 unfolding largest
-chosen m k zero h = one-row (λ i. magnitude (entry m i k)) k
+chosen m k zero h = one_row (λ i. magnitude (entry m i k)) k
 chosen m k (suc n) h = one_more (λ i. magnitude (entry m i k)) k n (largest m k n) h (chosen m k n (λ i p q. h i p (omega arith)))
 
 plain : (x : Float) → is_finite x ≡ true → is_nan (magnitude x) ≡ false
@@ -79,18 +79,18 @@ pivot_first m k f h = chosen m k (7 - k) (λ i p q. plain (entry m i k) (f i k (
 
 module _ (m : Matrix) (e : sound_of m ≡ true) where
   -- every given value was finite, and every step's
-  pub sound-values : all_finite (values m) ≡ true
+  pub sound_values : all_finite (values m) ≡ true
   unfolding sound_of
-  sound-values = (both (all_finite (values m)) (all_finite (solve_steps m)) (both (no_zero_pivot m) (all_finite (values m) && all_finite (solve_steps m)) e).1).0
+  sound_values = (both (all_finite (values m)) (all_finite (solve_steps m)) (both (no_zero_pivot m) (all_finite (values m) && all_finite (solve_steps m)) e).1).0
 
-  pub sound-steps : all_finite (solve_steps m) ≡ true
+  pub sound_steps : all_finite (solve_steps m) ≡ true
   unfolding sound_of
-  sound-steps = (both (all_finite (values m)) (all_finite (solve_steps m)) (both (no_zero_pivot m) (all_finite (values m) && all_finite (solve_steps m)) e).1).1
+  sound_steps = (both (all_finite (values m)) (all_finite (solve_steps m)) (both (no_zero_pivot m) (all_finite (values m) && all_finite (solve_steps m)) e).1).1
 
   -- so at each column the pivot is the first of those of largest magnitude
-  pub sound-first : (k : ℕ) → k < 8 → FirstLargest (λ i. magnitude (entry (eliminated k m) i k)) k (7 - k) (largest (eliminated k m) k (7 - k))
+  pub sound_first : (k : ℕ) → k < 8 → FirstLargest (λ i. magnitude (entry (eliminated k m) i k)) k (7 - k) (largest (eliminated k m) k (7 - k))
   unfolding solve_steps elimination_steps
-  sound-first k h =
+  sound_first k h =
       let f : ℕ → List Float = λ k. column_steps (pivoted (eliminated k m) k) k in
-      let s = (apart (concatenated 8 f) (answer_steps 8 (eliminated 8 m)) sound-steps).0 in
-      pivot_first (eliminated k m) k (columns_after k m (omega arith) (matrix_at m (sym (values_finite m) ∙ sound-values)) (gathered_true k f (λ i l. gathered_at 8 f s i (omega arith)))) h
+      let s = (apart (concatenated 8 f) (answer_steps 8 (eliminated 8 m)) sound_steps).0 in
+      pivot_first (eliminated k m) k (columns_after k m (omega arith) (matrix_at m (sym (values_finite m) ∙ sound_values)) (gathered_true k f (λ i l. gathered_at 8 f s i (omega arith)))) h

@@ -16,7 +16,7 @@ use lib.Ieee.{binary32}
 use denote.Laws.{Is}
 use Rattle.elimination.specs.Solve.{Row, Matrix, row, largest, swapped, pivoted, multiplier, gained, cleared, right_sides, carried, answered}
 use Rattle.elimination.specs.Shape.{EightByNine}
-use Rattle.elimination.proofs.Tables.{length-table, getD-table}
+use Rattle.elimination.proofs.Tables.{length_table, get_d_table}
 
 -- ---- what owning an array of arrays tells
 
@@ -34,7 +34,7 @@ owned_shape m vs p = record { rows = p.1.0.1; columns = λ i h. each_long (Float
 
 pub swapped_shape : (m : Matrix) (a b : ℕ) → EightByNine m → a < 8 → b < 8 → EightByNine (swapped m a b)
 unfolding swapped
-swapped_shape m a b e ha hb = record { rows = length-table 8 f; columns = λ i h. ap length (getD-table 8 f i [] h) ∙ e.columns (place i) (within i h) }
+swapped_shape m a b e ha hb = record { rows = length_table 8 f; columns = λ i h. ap length (get_d_table 8 f i [] h) ∙ e.columns (place i) (within i h) }
   where
     place : ℕ → ℕ
     place i = cond (eqb i a) b (cond (eqb i b) a i)
@@ -52,13 +52,13 @@ swapped_shape m a b e ha hb = record { rows = length-table 8 f; columns = λ i h
 
 pub cleared_shape : (m : Matrix) (k : ℕ) → EightByNine m → EightByNine (cleared m k)
 unfolding cleared gained
-cleared_shape m k e = record { rows = length-table 8 f; columns = λ i h. ap length (getD-table 8 f i [] h) ∙ pick (ltb k i) i h }
+cleared_shape m k e = record { rows = length_table 8 f; columns = λ i h. ap length (get_d_table 8 f i [] h) ∙ pick (ltb k i) i h }
   where
     f : ℕ → Row
     f i = cond (ltb k i) (gained (row m i) (row m k) (multiplier m k i) k) (row m i)
 
     pick : (t : Bool) (i : ℕ) → i < 8 → length (cond t (gained (row m i) (row m k) (multiplier m k i) k) (row m i)) ≡ 9
-    pick true i h = length-table 9 _
+    pick true i h = length_table 9 _
     pick false i h = e.columns i h
 
 -- ---- one column, as the code takes it: the pivot's row comes to the diagonal, and then the rows below gain
@@ -75,5 +75,5 @@ column_done {m} {s} {n} {k} {b} e h p es en =
 
 pub answered_long : (n : ℕ) (m : Matrix) → length (answered n m) ≡ 8
 unfolding answered right_sides carried
-answered_long zero m = length-table 8 _
-answered_long (suc n) m = length-table 8 _
+answered_long zero m = length_table 8 _
+answered_long (suc n) m = length_table 8 _

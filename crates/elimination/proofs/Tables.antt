@@ -17,21 +17,21 @@ use Rattle.elimination.specs.Tables.{table, every}
 -- ---- tables
 
 module _ {ℓ} {A : Type ℓ} where
-  pub length-table : (n : ℕ) (f : ℕ → A) → length (table n f) ≡ n
+  pub length_table : (n : ℕ) (f : ℕ → A) → length (table n f) ≡ n
   unfolding table
-  length-table zero f = refl
-  length-table (suc n) f = ap suc (length-table n (λ k. f (suc k)))
+  length_table zero f = refl
+  length_table (suc n) f = ap suc (length_table n (λ k. f (suc k)))
 
-  pub getD-table : (n : ℕ) (f : ℕ → A) (i : ℕ) (d : A) → i < n → get_or (table n f) i d ≡ f i
+  pub get_d_table : (n : ℕ) (f : ℕ → A) (i : ℕ) (d : A) → i < n → get_or (table n f) i d ≡ f i
   unfolding table
-  getD-table zero f i d h = absurd (not-suc-le-zero h)
-  getD-table (suc n) f zero d h = refl
-  getD-table (suc n) f (suc i) d h = getD-table n (λ k. f (suc k)) i d (le_of_suc-le-suc h)
+  get_d_table zero f i d h = absurd (not-suc-le-zero h)
+  get_d_table (suc n) f zero d h = refl
+  get_d_table (suc n) f (suc i) d h = get_d_table n (λ k. f (suc k)) i d (le_of_suc-le-suc h)
 
   -- a list is the table of what stands in it
   pub table_is : (n : ℕ) (f : ℕ → A) (l : List A) (d : A) → length l ≡ n → ((i : ℕ) → i < n → get_or l i d ≡ f i) → l ≡ table n f
   table_is n f l d e h =
-      ext_get_or d l (table n f) (e ∙ sym (length-table n f)) (λ i b. let k : i < n = omega arith in h i k ∙ sym (getD-table n f i d k))
+      ext_get_or d l (table n f) (e ∙ sym (length_table n f)) (λ i b. let k : i < n = omega arith in h i k ∙ sym (get_d_table n f i d k))
 
 -- ---- a loop that fills a list of n, from place s on: the first i are new, the others as they were
 

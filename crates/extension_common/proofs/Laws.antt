@@ -21,7 +21,7 @@ use Rattle.candidates.specs.Candidates.{positions_in, unmarked, eligible, eligib
 use Rattle.candidates.specs.declared.Candidates.{Candidates}
 use Rattle.candidates.specs.declared.CandidateChoice.{CandidateChoice}
 use Rattle.candidates.proofs.Collected.{candidates_agree}
-use Rattle.candidates.proofs.Choice.{Chosen, chosen-unambiguous, chosen-with-floor}
+use Rattle.candidates.proofs.Choice.{Chosen, chosen_unambiguous, chosen_with_floor}
 use Rattle.passed_over.specs.PassedOver.{passed_over}
 use Rattle.passed_over.proofs.Laws.{passed_over_agree, none_passed_over, passed_over_few}
 use Rattle.positions_policy.specs.Edge.{verdict_of, passes}
@@ -34,20 +34,20 @@ use Rattle.extension_common.specs.declared.TryCellResult.{TryCellResult}
 
 module _ (held : List Float) (n : ℕ) (sheet used : List ℕ) (radius : Float) (c : Cell) (p : Position) (few : n ≤ 1024) (tied : Tied sheet used) where
   -- gathered by the array that is tied to the sheet, and passed over
-  pub gathered-tied : {kind : ℕ} → kind ≡ kind_at c
+  pub gathered_tied : {kind : ℕ} → kind ≡ kind_at c
       → first_two (candidates_at (positions_in held) (eligible_in held used kind) n p radius) ≡ gathered (corners_in held n) sheet radius c p
   unfolding gathered eligible
-  gathered-tied e =
+  gathered_tied e =
       rw e
       (ap first_two
       (candidates_agree (positions_in held) (positions_in held) (λ k. unmarked used k && takes (shades_in held) c k) (λ k. unlabelled_on sheet k && takes (shades_in held) c k) n p radius
       (λ k h. refl)
       (λ k h. ap (λ (b : Bool). b && takes (shades_in held) c k) (tied_free tied k (lt_of_lt_of_le h few)))))
 
-  pub unmatched-tied : {kind : ℕ} → kind ≡ kind_at c
+  pub unmatched_tied : {kind : ℕ} → kind ≡ kind_at c
       → passed_over (positions_in held) (unmarked used) (takes_kind (shades_in held) kind) n p radius ≡ unmatched (corners_in held n) sheet radius c p
   unfolding unmatched
-  unmatched-tied e =
+  unmatched_tied e =
       rw e
       (passed_over_agree (positions_in held) (positions_in held) (unmarked used) (unlabelled_on sheet) (takes (shades_in held) c) (takes (shades_in held) c) n p radius
       (λ k h. refl) (λ k h. tied_free tied k (lt_of_lt_of_le h few)) (λ k h. refl))
@@ -64,17 +64,17 @@ eligible_taken unlabelled taken k e = rw e (go (unlabelled k))
 
 module _ (cs : Corners) (none : cs.shades.any ≡ false) (sheet : List ℕ) (radius : Float) (c : Cell) (p : Position) where
   -- the candidates are the unlabelled corners within the radius
-  pub gathered-bare : gathered cs sheet radius c p ≡ first_two (candidates_at (λ k. (cs.corner k).position) (unlabelled_on sheet) cs.count p radius)
+  pub gathered_bare : gathered cs sheet radius c p ≡ first_two (candidates_at (λ k. (cs.corner k).position) (unlabelled_on sheet) cs.count p radius)
   unfolding gathered
-  gathered-bare =
+  gathered_bare =
       ap first_two
       (candidates_agree _ _ (eligible (unlabelled_on sheet) (takes cs.shades c)) (unlabelled_on sheet) cs.count p radius (λ k h. refl)
       (λ k h. eligible_taken (unlabelled_on sheet) (takes cs.shades c) k (takes_every cs.shades (kind_at c) k none)))
 
   -- and none is passed over
-  pub unmatched-bare : unmatched cs sheet radius c p ≡ 0
+  pub unmatched_bare : unmatched cs sheet radius c p ≡ 0
   unfolding unmatched
-  unmatched-bare = none_passed_over _ (unlabelled_on sheet) (takes cs.shades c) cs.count p radius (λ k h. takes_every cs.shades (kind_at c) k none)
+  unmatched_bare = none_passed_over _ (unlabelled_on sheet) (takes cs.shades c) cs.count p radius (λ k h. takes_every cs.shades (kind_at c) k none)
 
 -- at most as many as there are
 pub unmatched_few : (cs : Corners) (sheet : List ℕ) (radius : Float) (c : Cell) (p : Position) → unmatched cs sheet radius c p ≤ cs.count
@@ -87,9 +87,9 @@ pub chosen : (rule : ChoiceRule) (cs : Corners) (sheet : List ℕ) (radius facto
     → Chosen (λ k. (cs.corner k).position) (eligible (unlabelled_on sheet) (takes cs.shades c)) cs.count p radius k
 unfolding choice_by gathered
 chosen ChoiceRule.Unambiguous cs sheet radius factor c p k e =
-    chosen-unambiguous (λ k. (cs.corner k).position) (eligible (unlabelled_on sheet) (takes cs.shades c)) cs.count p radius factor k e
+    chosen_unambiguous (λ k. (cs.corner k).position) (eligible (unlabelled_on sheet) (takes cs.shades c)) cs.count p radius factor k e
 chosen ChoiceRule.WithFloor cs sheet radius factor c p k e =
-    chosen-with-floor (λ k. (cs.corner k).position) (eligible (unlabelled_on sheet) (takes cs.shades c)) cs.count p radius factor k e
+    chosen_with_floor (λ k. (cs.corner k).position) (eligible (unlabelled_on sheet) (takes cs.shades c)) cs.count p radius factor k e
 
 -- what was gathered is a choice among the corners that are held
 pub choosable : (cs : Corners) (sheet : List ℕ) (c : Cell) (search : Search) (p : Position) (candidates : Candidates) → cs.count ≤ 1024 → Given cs.count sheet → OnSheet c
@@ -115,11 +115,11 @@ module _ (corner : ℕ → Corner) (sheet : List ℕ) (tol : Tolerances) (c : Ce
   unfolding edges_of
   edges_are = rw (e, is, at)
 
-  pub edges-refuse : b ≡ false → TryCellResult.EdgeRejected ≡ edges_of corner sheet tol c k
-  edges-refuse f = sym (edges_are ∙ rw f)
+  pub edges_refuse : b ≡ false → TryCellResult.EdgeRejected ≡ edges_of corner sheet tol c k
+  edges_refuse f = sym (edges_are ∙ rw f)
 
-  pub edges-pass : b ≡ true → TryCellResult.Attached k ≡ edges_of corner sheet tol c k
-  edges-pass f = sym (edges_are ∙ rw f)
+  pub edges_pass : b ≡ true → TryCellResult.Attached k ≡ edges_of corner sheet tol c k
+  edges_pass f = sym (edges_are ∙ rw f)
 
 -- what is found, by what was gathered
 pub tried_with : (cs : Corners) (sheet : List ℕ) (tol : Tolerances) (search : Search) (c : Cell) (p : Position) {candidates : Candidates} {r : TryCellResult}

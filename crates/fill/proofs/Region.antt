@@ -14,11 +14,11 @@ use Rattle.region.specs.Windowed.{InWindow, Windowed}
 use Rattle.region.specs.declared.Window.{Window}
 
 module _ (around : LabelBox) (b : Bounds) (c : Cell) (e : around ≡ LabelBox.Around b) where
-  pub along-j : true ≡ (near_i 0 b c && near_j 1 b c) → true ≡ box_and_strips around c
-  along-j f = rw e (holds (near_i 0 b c && near_j 1 b c) (near_i 1 b c && near_j 0 b c) (sym f))
+  pub along_j : true ≡ (near_i 0 b c && near_j 1 b c) → true ≡ box_and_strips around c
+  along_j f = rw e (holds (near_i 0 b c && near_j 1 b c) (near_i 1 b c && near_j 0 b c) (sym f))
 
-  pub along-i : (t : Bool) → false ≡ (near_i 0 b c && near_j 1 b c) → t ≡ (near_i 1 b c && near_j 0 b c) → t ≡ box_and_strips around c
-  along-i t f g = rw e (fails (near_i 0 b c && near_j 1 b c) (near_i 1 b c && near_j 0 b c) t (sym f) g)
+  pub along_i : (t : Bool) → false ≡ (near_i 0 b c && near_j 1 b c) → t ≡ (near_i 1 b c && near_j 0 b c) → t ≡ box_and_strips around c
+  along_i t f g = rw e (fails (near_i 0 b c && near_j 1 b c) (near_i 1 b c && near_j 0 b c) t (sym f) g)
 
 -- a place outside of the window is not in the region
 pub in_window : (around : LabelBox) (w : Window) (p : ℕ) → Windowed 1 around w → p < 16384 → (InWindow w p → ⊥) → box_and_strips around (cell_of p) ≡ false

@@ -13,9 +13,9 @@ use Rattle.sheet.specs.Corners.{Corners, seen_of}
 use Rattle.sheet.specs.declared.Cell.{Cell}
 use Rattle.sheet.specs.declared.Label.{Label}
 use Rattle.sheet.specs.declared.Position.{Position}
-use Rattle.sheet.proofs.Corners.{given-attached}
+use Rattle.sheet.proofs.Corners.{given_attached}
 use Rattle.labels.specs.Labelled.{Attaching}
-use Rattle.labels.proofs.Labelled.{count-attached}
+use Rattle.labels.proofs.Labelled.{count_attached}
 use Rattle.labels.proofs.Used.{tied_attached, one_attached}
 use Rattle.predict.specs.Predict.{prediction_of}
 use Rattle.predict.specs.declared.Prediction.{Prediction}
@@ -28,7 +28,7 @@ use Rattle.extension_common.proofs.Laws.{Attachable, attachable}
 use Rattle.passes.specs.Grow.{tolerances_of}
 use Rattle.passes.specs.Fill.{FillState, fill_search, fill_with, fill_at, fill_visit}
 use Rattle.passes.proofs.Over.{over_own, over_more}
-use Rattle.passes.proofs.Free.{labels_few, labels-fewer}
+use Rattle.passes.proofs.Free.{labels_few, labels_fewer}
 use Rattle.fill.specs.Filling.{state_of, Filling, StateHeld, Left, Taking, Wrote}
 
 -- ---- what a visit does: nothing, or it attaches a corner that may be attached
@@ -65,14 +65,14 @@ attaching few long on bare a = record { long = long; on = on; bare = bare; corne
 -- ---- by the prediction and by what was found
 
 module _ (cs : Corners) (set : Settings) (p : FillParams) (c : Cell) (s : FillState) (q : Prediction) (e : q ≡ prediction_of (seen_of cs.corner s.sheet) set.grid c) where
-  pub visit-none : q ≡ Prediction.NoNeighbour → fill_visit cs set p c s ≡ s
+  pub visit_none : q ≡ Prediction.NoNeighbour → fill_visit cs set p c s ≡ s
   unfolding fill_visit fill_at
-  visit-none f = rw (← e, f)
+  visit_none f = rw (← e, f)
 
   module _ (at : Position) (f : q ≡ Prediction.At at) (r : TryCellResult) (g : r ≡ try_at cs s.sheet (tolerances_of set) (fill_search set p) c at) where
-    pub visit-found : fill_visit cs set p c s ≡ fill_with c r s
+    pub visit_found : fill_visit cs set p c s ≡ fill_with c r s
     unfolding fill_visit fill_at
-    visit-found = rw (← e, f, ← g)
+    visit_found = rw (← e, f, ← g)
 
 -- ---- what the code leaves
 
@@ -96,17 +96,17 @@ module _ {n : ℕ} {sheet list used : List ℕ} {made : ℕ} (f : Filling n shee
   untouched e = rw e (record { holds = stands; filling = f })
 
 module _ {n : ℕ} {sheet list used : List ℕ} {made : ℕ} {c : Cell} {k : ℕ} (t : Taking n sheet list used made c k) where
-  pub taking-fits : k < 1024
-  taking-fits = omega (arith, t.there, t.trying.filling.few)
+  pub taking_fits : k < 1024
+  taking_fits = omega (arith, t.there, t.trying.filling.few)
 
-  pub taking-attaching : Attaching sheet c k
-  taking-attaching = record { long = t.trying.filling.given.long; on = t.trying.on; bare = t.trying.bare; corner_fits = omega (arith, taking-fits) }
+  pub taking_attaching : Attaching sheet c k
+  taking_attaching = record { long = t.trying.filling.given.long; on = t.trying.on; bare = t.trying.bare; corner_fits = omega (arith, taking_fits) }
 
   -- there is a place left in the list
-  pub taking-room : made < length list
-  taking-room =
+  pub taking_room : made < length list
+  taking_room =
       let f = t.trying.filling in
-      omega (arith, f.room, f.list_long, labels-fewer f.given f.one_cell taking-attaching t.there t.free)
+      omega (arith, f.room, f.list_long, labels_fewer f.given f.one_cell taking_attaching t.there t.free)
 
   -- a corner attached
   pub took : {sheet' list' used' : List ℕ} {made' : ℕ} → Wrote sheet list used made c k sheet' list' used' made'
@@ -120,17 +120,17 @@ module _ {n : ℕ} {sheet list used : List ℕ} {made : ℕ} {c : Cell} {k : ℕ
         holds =
             record {
               sheet_is = refl;
-              list_is = ap₂ (λ (l : List ℕ) (m : ℕ). set l m (place_of c)) (sym (over_own list made (made_in f))) (sym taken) ∙ over_more (take made list) list (place_of c) (omega (arith, taken, taking-room));
+              list_is = ap₂ (λ (l : List ℕ) (m : ℕ). set l m (place_of c)) (sym (over_own list made (made_in f))) (sym taken) ∙ over_more (take made list) list (place_of c) (omega (arith, taken, taking_room));
               made_is = omega (arith, taken, length-append (take made list) (place_of c ∷ []));
             };
         filling =
             record {
-              given = given-attached f.given c t.trying.on k t.there (omega (arith, taking-fits));
+              given = given_attached f.given c t.trying.on k t.there (omega (arith, taking_fits));
               few = f.few;
-              one_cell = one_attached taking-attaching t.free f.one_cell;
-              tied = tied_attached taking-attaching taking-fits f.tied;
+              one_cell = one_attached taking_attaching t.free f.one_cell;
+              tied = tied_attached taking_attaching taking_fits f.tied;
               list_long = rw length-set f.list_long;
-              room = omega (arith, f.room, count-attached taking-attaching);
+              room = omega (arith, f.room, count_attached taking_attaching);
             };
       })
 
@@ -142,14 +142,14 @@ module _ {n : ℕ} {sheet list used : List ℕ} {made : ℕ} (c : Cell) {after :
     unfolding fill_with
     found_none g = untouched f (e ∙ rw g)
 
-    pub found-ambiguous : r ≡ TryCellResult.Ambiguous → Left after n list sheet list used made
+    pub found_ambiguous : r ≡ TryCellResult.Ambiguous → Left after n list sheet list used made
     unfolding fill_with
-    found-ambiguous g = untouched f (e ∙ rw g)
+    found_ambiguous g = untouched f (e ∙ rw g)
 
-    pub found-refused : r ≡ TryCellResult.EdgeRejected → Left after n list sheet list used made
+    pub found_refused : r ≡ TryCellResult.EdgeRejected → Left after n list sheet list used made
     unfolding fill_with
-    found-refused g = untouched f (e ∙ rw g)
+    found_refused g = untouched f (e ∙ rw g)
 
-  pub found-corner : {k : ℕ} {sheet' list' used' : List ℕ} {made' : ℕ} → Taking n sheet list used made c k → r ≡ TryCellResult.Attached k
+  pub found_corner : {k : ℕ} {sheet' list' used' : List ℕ} {made' : ℕ} → Taking n sheet list used made c k → r ≡ TryCellResult.Attached k
       → Wrote sheet list used made c k sheet' list' used' made' → Left after n list sheet' list' used' made'
-  found-corner t g w = rw (e, g) (took t w)
+  found_corner t g w = rw (e, g) (took t w)

@@ -12,7 +12,7 @@ use Rattle.sheet.specs.Words.{label_of, label_at}
 use Rattle.sheet.specs.declared.Cell.{Cell}
 use Rattle.sheet.specs.declared.Label.{Label}
 use Rattle.sheet.proofs.Laws.{cell_on_lem, place_cell}
-use Rattle.sheet.proofs.Words.{attached-changes}
+use Rattle.sheet.proofs.Words.{attached_changes}
 use Rattle.labels.specs.Box.{box_of}
 use Rattle.labels.specs.declared.LabelBox.{LabelBox}
 use Rattle.labels.proofs.Labelled.{word_else}
@@ -25,7 +25,7 @@ use Rattle.region.specs.Windowed.{InWindow, Windowed, NextIn}
 use Rattle.region.specs.declared.Window.{Window}
 use Rattle.region.proofs.Jumps.{jumps}
 use Rattle.region.proofs.Places as places
-use Rattle.region.proofs.Places.{Elsewhere, walked_all, walked_start, looked, looked-out, looked-grows, walk-grows}
+use Rattle.region.proofs.Places.{Elsewhere, walked_all, walked_start, looked, looked_out, looked_grows, walk_grows}
 use Rattle.arguments.specs.Front.{over}
 use Rattle.fill.specs.Filling.{state_of, Filling, StateHeld, Left, looked_at}
 use Rattle.fill.proofs.Region.{in_window}
@@ -53,7 +53,7 @@ tried_else n h few long e passed = record { same_length = refl; same_label = λ 
 tried_else {s = s} n h few long e (attaches k w) =
     let t = attaching few long (cell_on_lem n h) e w in
     record {
-      same_length = (attached-changes s.sheet (cell_of n) long (cell_on_lem n h) k t.corner_fits).same_length;
+      same_length = (attached_changes s.sheet (cell_of n) long (cell_on_lem n h) k t.corner_fits).same_length;
       same_label = λ q m d. ap label_of (word_else t q (λ z. d (z ∙ place_cell n h)));
     }
 
@@ -68,7 +68,7 @@ visit_grows cs set p c s = tried_grows (tried cs set p c s)
 
 pub round_grows : (cs : Corners) (set : Settings) (p : FillParams) (s : FillState) → length s.made ≤ length (fill_round cs set p s).made
 unfolding fill_round
-round_grows cs set p s = walk-grows (fill_visit cs set p) (λ t. length t.made) (visit_grows cs set p) (fill_cells s.sheet) s
+round_grows cs set p s = walk_grows (fill_visit cs set p) (λ t. length t.made) (visit_grows cs set p) (fill_cells s.sheet) s
 
 -- ---- what the code has written
 
@@ -110,10 +110,10 @@ module _ (set : Settings) (p : FillParams) (cs : Corners) (sheet₀ list₀ : Li
       }
 
   module _ (sheet list used : List ℕ) (made n : ℕ) (w : Walking set p cs sheet₀ list₀ made₀ sheet list used made n) where
-    pub walking-more : (around : LabelBox) (sheet' list' used' : List ℕ) (made' : ℕ) → n < 16384 → around ≡ box_of sheet₀ → length sheet' ≡ length sheet → length list' ≡ length list
+    pub walking_more : (around : LabelBox) (sheet' list' used' : List ℕ) (made' : ℕ) → n < 16384 → around ≡ box_of sheet₀ → length sheet' ≡ length sheet → length list' ≡ length list
         → Left (looked_at cs set p around n (state_of sheet list made)) cs.count list sheet' list' used' made'
         → Walking set p cs sheet₀ list₀ made₀ sheet' list' used' made' (n + 1)
-    walking-more around sheet' list' used' made' h b e g l =
+    walking_more around sheet' list' used' made' h b e g l =
         record {
           upto = omega arith;
           long = w.long;
@@ -121,7 +121,7 @@ module _ (set : Settings) (p : FillParams) (cs : Corners) (sheet₀ list₀ : Li
           same_list_holds = g ∙ w.same_list_holds;
           left = rw next at (left_then w.left.holds
               (rw (holds_state w.left.holds)
-              (looked-grows (fill_visit cs set p) (λ t. length t.made) (visit_grows cs set p) (λ t. t.sheet) (box_and_strips around (cell_of n)) n (walked_to cs set p s n))) l);
+              (looked_grows (fill_visit cs set p) (λ t. length t.made) (visit_grows cs set p) (λ t. t.sheet) (box_and_strips around (cell_of n)) n (walked_to cs set p s n))) l);
         }
       where
         s : FillState
@@ -133,18 +133,18 @@ module _ (set : Settings) (p : FillParams) (cs : Corners) (sheet₀ list₀ : Li
             ∙ looked (fill_visit cs set p) (λ t. t.sheet) (visit_else cs w.left.filling.few set p)
             (region_of sheet₀) s w.long n h (ap (λ (a : LabelBox). box_and_strips a (cell_of n)) b)
 
-    pub walking-end : 16384 ≤ n → Left (fill_round cs set p (state_of sheet₀ list₀ made₀)) cs.count list₀ sheet list used made
-    walking-end h =
+    pub walking_end : 16384 ≤ n → Left (fill_round cs set p (state_of sheet₀ list₀ made₀)) cs.count list₀ sheet list used made
+    walking_end h =
         let e : n ≡ 16384 = omega (arith, w.upto) in
         rw (← walked_round cs set p (state_of sheet₀ list₀ made₀), ← e) w.left
 
   -- to the next place of the window: no place before it is in the region
-  pub walking-jumps : (sheet list used : List ℕ) (made : ℕ) (around : LabelBox) (window : Window) → around ≡ box_of sheet₀ → Windowed 1 around window → {n r : ℕ}
+  pub walking_jumps : (sheet list used : List ℕ) (made : ℕ) (around : LabelBox) (window : Window) → around ≡ box_of sheet₀ → Windowed 1 around window → {n r : ℕ}
       → Walking set p cs sheet₀ list₀ made₀ sheet list used made n → NextIn window n r → Walking set p cs sheet₀ list₀ made₀ sheet list used made r
-  walking-jumps sheet list used made around window b c w t =
+  walking_jumps sheet list used made around window b c w t =
       jumps window (Walking set p cs sheet₀ list₀ made₀ sheet list used made)
-      (λ q h out v. walking-more sheet list used made q v around sheet list used made h b refl refl
+      (λ q h out v. walking_more sheet list used made q v around sheet list used made h b refl refl
       (untouched v.left.filling
-      (looked-out (fill_visit cs set p) (λ t. t.sheet) (box_and_strips around (cell_of q)) q (state_of sheet list made)
+      (looked_out (fill_visit cs set p) (λ t. t.sheet) (box_and_strips around (cell_of q)) q (state_of sheet list made)
       (in_window around window q c h out))))
       t w

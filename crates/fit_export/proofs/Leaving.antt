@@ -52,9 +52,9 @@ long_enough a b c d places e f =
 -- ---- the answer, t being whether the lengths are too short
 
 module _ (cx cy px py out : List Float) {t : Bool} (et : t ≡ too_short (length cx) (length cy) (length px) (length py) (length out)) where
-  pub leaves-short : t ≡ true → left 0 out ≡ exported cx cy px py out
+  pub leaves_short : t ≡ true → left 0 out ≡ exported cx cy px py out
   unfolding exported
-  leaves-short e = rw (← et, e)
+  leaves_short e = rw (← et, e)
 
   module _ (e : t ≡ false) {cells corners : List Position} {fit : Fit} (ec : cells ≡ points_of cx cy) (ep : corners ≡ points_of px py) (ef : fit ≡ fit_of (homography_of cells corners)) where
     answer : fit ≡ fit_of (homography_of (points_of cx cy) (points_of px py))
@@ -67,6 +67,6 @@ module _ (cx cy px py out : List Float) {t : Bool} (et : t ≡ too_short (length
     unfolding exported fit_leaves
     leaves_none n = rw (← et, e, not_found (homography_of (points_of cx cy) (points_of px py)) (sym found ∙ not-true fit.found n))
 
-    pub leaves-fit : {now : List Float} → not fit.found ≡ false → now ≡ entered fit.h out → left 1 now ≡ exported cx cy px py out
+    pub leaves_fit : {now : List Float} → not fit.found ≡ false → now ≡ entered fit.h out → left 1 now ≡ exported cx cy px py out
     unfolding exported fit_leaves
-    leaves-fit {now} n w = rw (← et, e, found_entries (homography_of (points_of cx cy) (points_of px py)) (sym found ∙ not-false fit.found n)) (ap (left 1) (w ∙ rw answer))
+    leaves_fit {now} n w = rw (← et, e, found_entries (homography_of (points_of cx cy) (points_of px py)) (sym found ∙ not-false fit.found n)) (ap (left 1) (w ∙ rw answer))

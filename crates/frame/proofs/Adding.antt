@@ -25,7 +25,7 @@ use Rattle.join.specs.Join.{same_cell}
 use Rattle.join.specs.Sheets.{labelled}
 use Rattle.join.proofs.Lists.{same_cell_lem, cell_same}
 use Rattle.join.proofs.Sets.{labelled_append}
-use Rattle.join_sheet.proofs.OneMore.{with_last, place-else, place-last, held_none, held_more, second_more, second_none}
+use Rattle.join_sheet.proofs.OneMore.{with_last, place_else, place_last, held_none, held_more, second_more, second_none}
 use Rattle.arguments.specs.declared.Checked.{Checked}
 use Rattle.line_form.specs.Held.{held_up_to}
 use Rattle.frame_line.specs.Lines.{Line, kind_of, Proper, label_line_of, whole_at, CornerLine, corner_line_of, LabelLine, ShadeLine, shade_line_of, PassLine, pass_line_of}
@@ -33,13 +33,13 @@ use Rattle.frame_line.specs.Checks.{outside_line}
 use Rattle.frame_line.specs.Held.{count_in, held_line, label_in, shade_in, outside_held}
 use Rattle.frame_line.specs.declared.Kind.{Kind}
 use Rattle.frame_line.proofs.Numbers.{outside_held_lem, slots_of}
-use Rattle.frame_line.proofs.Said.{label_exact, shade_corner, shade_kind, pass-said}
+use Rattle.frame_line.proofs.Said.{label_exact, shade_corner, shade_kind, pass_said}
 use Rattle.frame_line.specs.Table.{rows, row_at, form_at}
 use Rattle.frame_line.specs.declared.OpeningKind.{OpeningKind}
 use Rattle.frame_line.specs.declared.PassKind.{PassKind}
 use Rattle.frame_line.specs.declared.HeldLabel.{HeldLabel}
 use Rattle.frame_line.specs.declared.HeldShade.{HeldShade}
-use Rattle.frame_line.proofs.Shapes.{bits-held, whole-held}
+use Rattle.frame_line.proofs.Shapes.{bits_held, whole_held}
 use Rattle.frame_line.proofs.Words.{tame_count}
 use Rattle.frame_check.specs.Checks.{checks_in_order, over_limit, first_twice, second_twice, label_twice, shade_twice, twice_of, has_place, checked_held, is_set}
 use Rattle.frame_check.proofs.Laws.{checks_alike, AllFine, fine_all}
@@ -109,25 +109,25 @@ module _ (f : Parts) (s : State) (g : FrameHeld f s) (l : Line) (p : Proper l) w
       ∙ set_twice m h.on_sheet_holds h.is_corner_holds (omega (arith, h.given, g.corners.xs_held.some)) f.patched
       ∙ sym (some_either (λ k. same_cell k.cell m.cell) (λ k. eq_z k.corner m.corner) (open_labels f))
 
-  twice-shaded : outside_line 5 s.progress.corners l ≡ false → kind_of l ≡ Kind.Shade
+  twice_shaded : outside_line 5 s.progress.corners l ≡ false → kind_of l ≡ Kind.Shade
       → shade_twice s.held.shades (shade_in (held_up_to 5 l.numbers)) ≡ shaded_before f.shades (shade_line_of l.numbers)
-  twice-shaded known k =
+  twice_shaded known k =
       let h = shade_corner s.progress.corners l p k g.corners.xs_held.some known in
       let m = shade_line_of l.numbers in
       ap (is_set s.held.shades) h.held_so
       ∙ g.shades.corners (nat_abs m.corner) (omega (arith, h.given, g.corners.xs_held.some)) ∙ ap (corner_shaded f.shades) (sym h.is_corner_holds)
 
   -- all checks
-  pub checks-agree :
+  pub checks_agree :
       checked_held s.progress.corners s.progress.passes s.progress.patched s.held.shades s.held.sheet s.held.used s.held.second
       s.progress.second (held_line l)
       ≡ checked_line f l
   unfolding checked_held checked_line
-  checks-agree =
+  checks_agree =
       checks_alike (λ r. outside_held r s.progress.corners (held_line l)) (λ r. outside_line r s.progress.corners l)
       (over_limit s.progress.corners s.progress.passes (kind_of l)) _ _
       (λ r. outside_held_lem r s.progress.corners l g.corners.xs_held.some p)
-      (λ off known. twice_alike (kind_of l) (twice off known) (twice-shaded known))
+      (λ off known. twice_alike (kind_of l) (twice off known) (twice_shaded known))
       ∙ ap₂ (λ (i j : ℕ). checks_in_order (λ r. outside_line r i l) (over_limit i j (kind_of l)) (twice_in f (kind_of l) l.numbers)) g.corners.count
       g.passes.count
 
@@ -248,8 +248,8 @@ module _ {ls : List LabelLine} {l : LabelLine} {k : ℕ} (w : NewLabel ls l k) w
       (or_false_both (cell_taken ls l.cell) (corner_taken ls l.corner)
       (sym (some_either (λ m. same_cell m.cell l.cell) (λ m. eq_z m.corner l.corner) ls) ∙ w.once)).1
 
-  checked-more : CheckedLabels ls → CheckedLabels (ls ++ (l ∷ []))
-  checked-more c =
+  checked_more : CheckedLabels ls → CheckedLabels (ls ++ (l ∷ []))
+  checked_more c =
       record {
         sound = all_then (Sound corner_limit) ls (l ∷ []) c.sound (record { on_sheet_holds = w.on; corner = k; is_corner_holds = w.is; given = w.small }, tt);
         once = apart_more ls l c.once w.once;
@@ -262,9 +262,9 @@ more_room {uses = uses} g {k = k} w =
 
 -- a label of the first set: the second stays
 module _ {ls : List LabelLine} {l : LabelLine} {k : ℕ} (w : NewLabel ls l k) (used : List ℕ) (long : length used ≡ used_count) where
-  label-held : {n : ℕ} {sheet : List ℕ} → HoldsLabels ls n sheet used → HoldsLabels (ls ++ (l ∷ [])) (n + 1) (attached sheet l.cell k) (set used k 1)
+  label_held : {n : ℕ} {sheet : List ℕ} → HoldsLabels ls n sheet used → HoldsLabels (ls ++ (l ∷ [])) (n + 1) (attached sheet l.cell k) (set used k 1)
   unfolding attached
-  label-held {sheet = sheet} g =
+  label_held {sheet = sheet} g =
       let v = withLabelWord (word_at sheet l.cell) k in
       record {
         sheet_is = rw (labelled_more empty_sheet ls l, w.is, ← g.sheet_is);
@@ -275,11 +275,11 @@ module _ {ls : List LabelLine} {l : LabelLine} {k : ℕ} (w : NewLabel ls l k) (
             ∙ ap₂ ◌||◌ (g.cells c h) (place_same l.cell c w.on h)
             ∙ sym (some_more (λ m. same_cell m.cell c) ls l);
         uses = used_more g.uses l k w.is w.small (free w) (λ q h. set_set used k q 1 (omega (arith, w.small)) (λ e. omega arith));
-        checked = checked-more w g.checked;
+        checked = checked_more w g.checked;
       }
 
-  second-kept : {ls' : List LabelLine} {m : ℕ} {second : List ℕ} → HoldsSecond ls' m used second → HoldsSecond ls' m (set used k 1) second
-  second-kept g =
+  second_kept : {ls' : List LabelLine} {m : ℕ} {second : List ℕ} → HoldsSecond ls' m used second → HoldsSecond ls' m (set used k 1) second
+  second_kept g =
       record {
         labels_are = g.labels_are;
         fits = g.fits;
@@ -296,26 +296,26 @@ module _ {ls : List LabelLine} {l : LabelLine} {k : ℕ} (w : NewLabel ls l k) (
   abbrev after : List ℕ
   after = set used (corner_limit + k) 1
 
-  place-small : place < place_count
-  place-small = place_in l.cell w.on
+  place_small : place < place_count
+  place_small = place_in l.cell w.on
 
-  second-held : {m : ℕ} {second : List ℕ} → HoldsSecond ls m used second → m < corner_limit
+  second_held : {m : ℕ} {second : List ℕ} → HoldsSecond ls m used second → m < corner_limit
       → HoldsSecond (ls ++ (l ∷ [])) (m + 1) after (set (set second m k) (corner_limit + m) place)
-  second-held {m} {second} g room =
+  second_held {m} {second} g room =
       record {
         labels_are =
             held_more second g.second_long m k place room
             ∙ ap₂ (λ (a b : List Placed). a ++ b) g.labels_are
             (λ t. record { corner = (sym (ap nat_abs w.is)) t; cell = cell_place l.cell w.on t } ∷ [])
             ∙ sym (map-append placed ls (l ∷ []));
-        fits = second_more second g.second_long m k place room g.fits w.small place-small;
+        fits = second_more second g.second_long m k place room g.fits w.small place_small;
         second_long = length-set (set second m k) (corner_limit + m) place ∙ length-set second m k ∙ g.second_long;
         cells =
             λ c h.
             any_more (has_place (with_last second m k place) (place_of c)) m
             ∙ or_comm (has_place (with_last second m k place) (place_of c) m) (any_below m (has_place (with_last second m k place) (place_of c)))
-            ∙ ap₂ ◌||◌ (any_ext _ _ m (λ i b. ap (λ (v : ℕ). eqb v (place_of c)) (place-else second g.second_long m k place room i b)) ∙ g.cells c h)
-            (ap (λ (v : ℕ). eqb v (place_of c)) (place-last second g.second_long m k place room) ∙ place_same l.cell c w.on h)
+            ∙ ap₂ ◌||◌ (any_ext _ _ m (λ i b. ap (λ (v : ℕ). eqb v (place_of c)) (place_else second g.second_long m k place room i b)) ∙ g.cells c h)
+            (ap (λ (v : ℕ). eqb v (place_of c)) (place_last second g.second_long m k place room) ∙ place_same l.cell c w.on h)
             ∙ sym (some_more (λ n. same_cell n.cell c) ls l);
         uses =
             used_more g.uses l k w.is w.small (free w)
@@ -378,45 +378,45 @@ module _ (f : Parts) (s : State) (g : FrameHeld f s) (l : Line) (p : Proper l) (
   room : (kind : Kind) → kind_of l ≡ kind → over_in f kind ≡ false
   room kind e = sym (ap (over_in f) e) ∙ w.room
 
-  settings-added : (k : OpeningKind) → kind_of l ≡ Kind.Opening k
+  settings_added : (k : OpeningKind) → kind_of l ≡ Kind.Opening k
       → with_opening k s.progress.settings (held_up_to 5 l.numbers) ≡ settings_in (opened k l.numbers f.opening)
   unfolding opened slots_of form_at row_at rows
-  settings-added OpeningKind.Frame e = g.settings_are
-  settings-added OpeningKind.CellSize e = rw (bits-held l p (Kind.Opening OpeningKind.CellSize) e 0 (omega arith) refl, g.settings_are)
-  settings-added OpeningKind.Axes e =
-      let b = bits-held l p (Kind.Opening OpeningKind.Axes) e in
+  settings_added OpeningKind.Frame e = g.settings_are
+  settings_added OpeningKind.CellSize e = rw (bits_held l p (Kind.Opening OpeningKind.CellSize) e 0 (omega arith) refl, g.settings_are)
+  settings_added OpeningKind.Axes e =
+      let b = bits_held l p (Kind.Opening OpeningKind.Axes) e in
       rw (b 0 (omega arith) refl, b 1 (omega arith) refl, b 2 (omega arith) refl, b 3 (omega arith) refl, g.settings_are)
-  settings-added OpeningKind.Band e = rw (bits-held l p (Kind.Opening OpeningKind.Band) e 0 (omega arith) refl, g.settings_are)
+  settings_added OpeningKind.Band e = rw (bits_held l p (Kind.Opening OpeningKind.Band) e 0 (omega arith) refl, g.settings_are)
 
   -- the words of a pass whose numbers are in range
-  words-agree : (k : PassKind) → kind_of l ≡ Kind.Pass k → listed (words_in k (held_up_to 5 l.numbers)) ≡ words_of (full_of (pass_line_of k l.numbers))
+  words_agree : (k : PassKind) → kind_of l ≡ Kind.Pass k → listed (words_in k (held_up_to 5 l.numbers)) ≡ words_of (full_of (pass_line_of k l.numbers))
   unfolding pass_line_of full_of words_of slots_of form_at row_at rows
-  words-agree PassKind.BareGrow e = refl
-  words-agree PassKind.Grow e =
-      let b = bits-held l p (Kind.Pass PassKind.Grow) e in
+  words_agree PassKind.BareGrow e = refl
+  words_agree PassKind.Grow e =
+      let b = bits_held l p (Kind.Pass PassKind.Grow) e in
       rw (b 0 (omega arith) refl, b 1 (omega arith) refl, b 2 (omega arith) refl)
-  words-agree PassKind.BareFill e = refl
-  words-agree PassKind.Fill e =
-      let b = bits-held l p (Kind.Pass PassKind.Fill) e in
-      let tame = pass-said (length f.corners) l p w.ranges PassKind.Fill e in
-      let c = whole-held l p (Kind.Pass PassKind.Fill) e in
+  words_agree PassKind.BareFill e = refl
+  words_agree PassKind.Fill e =
+      let b = bits_held l p (Kind.Pass PassKind.Fill) e in
+      let tame = pass_said (length f.corners) l p w.ranges PassKind.Fill e in
+      let c = whole_held l p (Kind.Pass PassKind.Fill) e in
       let rounds = ap count_in (c 2 (omega arith) refl) ∙ tame_count 64 (whole_at 2 l.numbers) (omega arith) tame.1.1 in
       rw (b 0 (omega arith) refl, b 1 (omega arith) refl, rounds)
-  words-agree PassKind.Local e =
-      let b = bits-held l p (Kind.Pass PassKind.Local) e in
-      let c = whole-held l p (Kind.Pass PassKind.Local) e in
-      let tame = pass-said (length f.corners) l p w.ranges PassKind.Local e in
+  words_agree PassKind.Local e =
+      let b = bits_held l p (Kind.Pass PassKind.Local) e in
+      let c = whole_held l p (Kind.Pass PassKind.Local) e in
+      let tame = pass_said (length f.corners) l p w.ranges PassKind.Local e in
       let rounds = ap count_in (c 2 (omega arith) refl) ∙ tame_count 64 (whole_at 2 l.numbers) (omega arith) tame.1.1.0 in
       let depth = ap count_in (c 4 (omega arith) refl) ∙ tame_count 4 (whole_at 4 l.numbers) (omega arith) tame.1.1.1.1 in
       rw (b 0 (omega arith) refl, b 1 (omega arith) refl, b 3 (omega arith) refl, rounds, depth)
 
   -- the room for a label of the second set: each label of it uses another corner
-  second-room : {k : ℕ} → NewLabel f.second (label_line_of l.numbers) k → s.progress.second < corner_limit
-  second-room {k} n = more_room g.second.uses n
+  second_room : {k : ℕ} → NewLabel f.second (label_line_of l.numbers) k → s.progress.second < corner_limit
+  second_room {k} n = more_room g.second.uses n
 
   -- a label is added to the set that is open, t being whether that is the second
-  abbrev partsWith : Bool → Parts
-  partsWith t =
+  abbrev parts_with : Bool → Parts
+  parts_with t =
       let m = label_line_of l.numbers in
       record {
         opening = f.opening;
@@ -428,49 +428,49 @@ module _ (f : Parts) (s : State) (g : FrameHeld f s) (l : Line) (p : Proper l) (
         passes = f.passes;
       }
 
-  abbrev stateWith : Bool → HeldLabel → State
-  stateWith t x =
+  abbrev state_with : Bool → HeldLabel → State
+  state_with t x =
       let h = s.held in
       let b = label_added t x (labels_after s.progress h.sheet h.used h.second) in
       state b.progress (arrays h.xs h.ys h.pitches h.shades b.sheet b.used b.second h.passes)
 
-  label-in : (t : Bool) (k : ℕ) → NewLabel (cond t f.second f.labels) (label_line_of l.numbers) k
-      → FrameHeld (partsWith t) (stateWith t (record { corner = k; cell = (label_line_of l.numbers).cell }))
-  label-in true k n =
+  label_in_lem : (t : Bool) (k : ℕ) → NewLabel (cond t f.second f.labels) (label_line_of l.numbers) k
+      → FrameHeld (parts_with t) (state_with t (record { corner = k; cell = (label_line_of l.numbers).cell }))
+  label_in_lem true k n =
       record {
         settings_are = g.settings_are;
         corners = g.corners;
         used_long = length-set s.held.used (corner_limit + k) 1 ∙ g.used_long;
         labels = label_kept n s.held.used g.used_long g.labels;
         patched = g.patched;
-        second = second-held n s.held.used g.used_long g.second (second-room n);
+        second = second_held n s.held.used g.used_long g.second (second_room n);
         shades = g.shades;
         passes = g.passes;
       }
-  label-in false k n =
+  label_in_lem false k n =
       record {
         settings_are = g.settings_are;
         corners = g.corners;
         used_long = length-set s.held.used k 1 ∙ g.used_long;
-        labels = label-held n s.held.used g.used_long g.labels;
+        labels = label_held n s.held.used g.used_long g.labels;
         patched = g.patched;
-        second = second-kept n s.held.used g.used_long g.second;
+        second = second_kept n s.held.used g.used_long g.second;
         shades = g.shades;
         passes = g.passes;
       }
 
-  label-by : {x : HeldLabel} {k : ℕ} → x ≡ record { corner = k; cell = (label_line_of l.numbers).cell }
-      → NewLabel (open_labels f) (label_line_of l.numbers) k → FrameHeld (partsWith f.patched) (stateWith s.progress.patched x)
-  label-by {x} {k} e n =
-      subst (λ (t : Bool). FrameHeld (partsWith f.patched) (stateWith t x)) (sym g.patched)
-      (subst (λ (y : HeldLabel). FrameHeld (partsWith f.patched) (stateWith f.patched y)) (sym e) (label-in f.patched k n))
+  label_by : {x : HeldLabel} {k : ℕ} → x ≡ record { corner = k; cell = (label_line_of l.numbers).cell }
+      → NewLabel (open_labels f) (label_line_of l.numbers) k → FrameHeld (parts_with f.patched) (state_with s.progress.patched x)
+  label_by {x} {k} e n =
+      subst (λ (t : Bool). FrameHeld (parts_with f.patched) (state_with t x)) (sym g.patched)
+      (subst (λ (y : HeldLabel). FrameHeld (parts_with f.patched) (state_with f.patched y)) (sym e) (label_in_lem f.patched k n))
 
   -- a line of a kind changes its own part
   by_kind : (kind : Kind) → kind_of l ≡ kind → FrameHeld (adding kind l.numbers f) (adds_as kind (held_up_to 5 l.numbers) s)
   unfolding adding adds_as over_limit twice_of slots_of form_at row_at rows
   by_kind (Kind.Opening k) e =
       record {
-        settings_are = settings-added k e;
+        settings_are = settings_added k e;
         corners = g.corners;
         used_long = g.used_long;
         labels = g.labels;
@@ -480,7 +480,7 @@ module _ (f : Parts) (s : State) (g : FrameHeld f s) (l : Line) (p : Proper l) (
         passes = g.passes;
       }
   by_kind Kind.Corner e =
-      let b = bits-held l p Kind.Corner e in
+      let b = bits_held l p Kind.Corner e in
       let n = leb-false corner_limit (length f.corners) (room Kind.Corner e) in
       record {
         settings_are = g.settings_are;
@@ -498,7 +498,7 @@ module _ (f : Parts) (s : State) (g : FrameHeld f s) (l : Line) (p : Proper l) (
       let few : length f.corners ≤ corner_limit = omega (arith, g.corners.count, g.corners.xs_held.some) in
       let h = label_exact (length f.corners) l p e few w.on w.known in
       let m = label_line_of l.numbers in
-      label-by h.held_so
+      label_by h.held_so
       (record {
         on = h.on_sheet_holds;
         is = h.is_corner_holds;
@@ -545,11 +545,11 @@ module _ (f : Parts) (s : State) (g : FrameHeld f s) (l : Line) (p : Proper l) (
         patched = g.patched;
         second = g.second;
         shades = g.shades;
-        passes = pass_held g.passes (omega (arith, g.passes.count)) (pass_line_of k l.numbers) (words_in k (held_up_to 5 l.numbers)) (words-agree k e);
+        passes = pass_held g.passes (omega (arith, g.passes.count)) (pass_line_of k l.numbers) (words_in k (held_up_to 5 l.numbers)) (words_agree k e);
       }
 
-  pub line-held : FrameHeld (added f l) (adds (held_line l) s)
-  line-held = by_kind (kind_of l) refl
+  pub line_held : FrameHeld (added f l) (adds (held_line l) s)
+  line_held = by_kind (kind_of l) refl
 
 -- the stage is not held
 pub restaged : (f : Parts) (s : State) (stage : ℕ) → FrameHeld f s → FrameHeld f (state (at_stage s.progress stage) s.held)

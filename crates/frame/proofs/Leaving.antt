@@ -40,10 +40,10 @@ copying_start size n from before c = record { copies = c; some = omega arith; lo
 
 module _ {A : Type 0} {size n : ℕ} {from before to : List A} {i : ℕ} (g : Copying size n from before to i) where
   -- one entry more
-  pub copying-more : (z : A) → i < n → Copying size n from before (set to i (get_or from i z)) (i + 1)
-  copying-more z h =
-      let in-from : i < length from = omega (arith, g.copies.some, g.copies.whole) in
-      let in-before : i < length before = omega (arith, g.copies.some, g.copies.room) in
+  pub copying_more : (z : A) → i < n → Copying size n from before (set to i (get_or from i z)) (i + 1)
+  copying_more z h =
+      let in_from : i < length from = omega (arith, g.copies.some, g.copies.whole) in
+      let in_before : i < length before = omega (arith, g.copies.some, g.copies.room) in
       let front : length (take i from) ≡ i = length-take-le i from (omega arith) in
       record {
         copies = g.copies;
@@ -51,10 +51,10 @@ module _ {A : Type 0} {size n : ℕ} {from before to : List A} {i : ℕ} (g : Co
         long = length-set to i (get_or from i z) ∙ g.long;
         so_far =
             rw add-one
-            (ap (λ (l : List A). set l i (get_or from i z)) (g.so_far ∙ ap (λ (l : List A). take i from ++ l) (drop-cons before i z in-before))
+            (ap (λ (l : List A). set l i (get_or from i z)) (g.so_far ∙ ap (λ (l : List A). take i from ++ l) (drop-cons before i z in_before))
             ∙ set_at (take i from) (get_or before i z) (drop (suc i) before) (get_or from i z) i front
             ∙ sym (append_snoc (take i from) (get_or from i z) (drop (suc i) before))
-            ∙ ap (λ (l : List A). l ++ drop (suc i) before) (sym (take-suc from i z in-from)));
+            ∙ ap (λ (l : List A). l ++ drop (suc i) before) (sym (take-suc from i z in_from)));
       }
 
   pub copied : n ≤ i → to ≡ over (take n from) before
@@ -110,9 +110,9 @@ take_shaded n shades (s ∷ ss) =
     ∙ ap (λ (l : List ℕ). shaded l ss) (take_set n shades (nat_abs s.corner) (nat_abs s.kind + 1))
 
 module _ {f : FrameRead} {p : Progress} {a : Arrays} (w : Accepting f p a) where
-  pub shades-held : Holds corner_limit p.corners a.shades (shades_of w.frame)
+  pub shades_held : Holds corner_limit p.corners a.shades (shades_of w.frame)
   unfolding shades_of
-  shades-held =
+  shades_held =
       let g = w.holds.shades in
       let n = w.holds.corners in
       let ss = (parts_of w.frame).shades in
@@ -125,13 +125,13 @@ module _ {f : FrameRead} {p : Progress} {a : Arrays} (w : Accepting f p a) where
             ∙ ap (λ (k : ℕ). shaded (replicate k 0) ss) n.count;
       }
 
-  pub sheet-held : Holds place_count place_count a.sheet (sheet_of w.frame)
-  sheet-held =
+  pub sheet_held : Holds place_count place_count a.sheet (sheet_of w.frame)
+  sheet_held =
       let g = w.holds in
       record { long = g.sheet_long; some = omega arith; are = take_all place_count a.sheet (omega (arith, g.sheet_long)) ∙ g.sheet_is }
 
   -- an accepted frame is written
-  pub text-accepted : (b : Buffers) (xs ys pitches : List Float) (shades sheet passes : List ℕ) → xs ≡ over (take p.corners a.xs) b.xs
+  pub text_accepted : (b : Buffers) (xs ys pitches : List Float) (shades sheet passes : List ℕ) → xs ≡ over (take p.corners a.xs) b.xs
       → ys ≡ over (take p.corners a.ys) b.ys
       → pitches ≡ over (take p.corners a.pitches) b.pitches → shades ≡ over (take p.corners a.shades) b.shades
       → sheet ≡ over (take place_count a.sheet) b.sheet
@@ -139,11 +139,11 @@ module _ {f : FrameRead} {p : Progress} {a : Arrays} (w : Accepting f p a) where
       → frame_out (FrameAnswer.Accepted (record { settings = p.settings; corners = p.corners; passes = p.passes })) xs ys pitches shades sheet passes
       ≡ leaves f b
   unfolding settings_of xs_of ys_of pitches_of
-  text-accepted b xs ys pitches shades sheet passes x y z d s q =
+  text_accepted b xs ys pitches shades sheet passes x y z d s q =
       let h = w.holds in
       let c = h.corners in
       rw (w.is, h.settings_are, c.count, h.passes.count)
-      (rw (left c.xs_held _ _ x, left c.ys_held _ _ y, left c.pitches_held _ _ z, left shades-held _ _ d, left sheet-held _ _ s)
+      (rw (left c.xs_held _ _ x, left c.ys_held _ _ y, left c.pitches_held _ _ z, left shades_held _ _ d, left sheet_held _ _ s)
       (rw (left h.passes.words_held _ _ q)))
 
 -- ---- the call
@@ -165,17 +165,17 @@ module _ (text : List ℕ) (b : Buffers) where
         passes_long = ltb-false (length b.passes) all_pass_words l.1;
       }
 
-  pub call-short : too_short b ≡ true → leaves (refused_at Refusal.BufferTooShort 0) b ≡ read_into text b
+  pub call_short : too_short b ≡ true → leaves (refused_at Refusal.BufferTooShort 0) b ≡ read_into text b
   unfolding read_into
-  call-short e = rw e
+  call_short e = rw e
 
   pub call_long : too_short b ≡ false → byte_limit < length text → leaves (refused_at Refusal.OverLimit 0) b ≡ read_into text b
   unfolding read_into read_frame
   call_long e h = rw (e, lt-ltb byte_limit (length text) h)
 
-  pub call-read : too_short b ≡ false → length text ≤ byte_limit → leaves (read_lines 1 0 [] (lines_of text)) b ≡ read_into text b
+  pub call_read : too_short b ≡ false → length text ≤ byte_limit → leaves (read_lines 1 0 [] (lines_of text)) b ≡ read_into text b
   unfolding read_into read_frame
-  call-read e h = rw (e, le-ltb byte_limit (length text) h)
+  call_read e h = rw (e, le-ltb byte_limit (length text) h)
 
 read_said : (r : FrameRead) (b : Buffers) → frame_said (leaves r b).answer ≡ read_due r
 unfolding settings_of head_values frame_said line_values read_due

@@ -15,13 +15,13 @@ use Rattle.sheet.proofs.Words.{label_on}
 use Rattle.labels.specs.Used.{used_on}
 use Rattle.labels.proofs.Below.{no_both}
 use Rattle.labels.proofs.Labelled.{label_of_place}
-use Rattle.labels.proofs.Used.{used-yes, used-there}
+use Rattle.labels.proofs.Used.{used_yes, used_there}
 use Rattle.arguments.proofs.Chains.{or_false, or_false_both}
 use Rattle.join.specs.Rule.{Placed, All, AllDiffer, Differ, Once}
 use Rattle.join.specs.Join.{same_cell}
 use Rattle.join.specs.Sheets.{Holdable, HoldsSet}
 use Rattle.join.proofs.Lists.{same_cell_lem, cell_same}
-use Rattle.join.proofs.Union.{of-all}
+use Rattle.join.proofs.Union.{of_all}
 use Rattle.sizes.specs.Sizes.{corner_limit}
 use Rattle.frame_line.specs.Lines.{LabelLine}
 use Rattle.frame.specs.Frame.{collide, some_of, placed}
@@ -50,19 +50,19 @@ all_before P (b ∷ l) a p = let r = all_before P l a p.1 in ((p.0, r.0), r.1)
 -- ---- what is not doubled, by a test that tells what differs
 
 module _ {A : Type 0} (D : A → A → Type 0) (eq : A → A → Bool) (to : (a b : A) → eq a b ≡ false → D a b) (from : (a b : A) → D a b → eq a b ≡ false) where
-  pub differ-more : (l : List A) (a : A) → AllDiffer D l → some_of (λ b. eq b a) l ≡ false → AllDiffer D (l ++ (a ∷ []))
+  pub differ_more : (l : List A) (a : A) → AllDiffer D l → some_of (λ b. eq b a) l ≡ false → AllDiffer D (l ++ (a ∷ []))
   unfolding some_of
-  differ-more [] a d e = (tt, tt)
-  differ-more (b ∷ l) a d e =
+  differ_more [] a d e = (tt, tt)
+  differ_more (b ∷ l) a d e =
       let n = or_false_both (eq b a) (some_of (λ c. eq c a) l) e in
-      (all_then (D b) l (a ∷ []) d.0 (to b a n.0, tt), differ-more l a d.1 n.1)
+      (all_then (D b) l (a ∷ []) d.0 (to b a n.0, tt), differ_more l a d.1 n.1)
 
-  pub differ-before : (l : List A) (a : A) → AllDiffer D (l ++ (a ∷ [])) → AllDiffer D l × (some_of (λ b. eq b a) l ≡ false)
+  pub differ_before : (l : List A) (a : A) → AllDiffer D (l ++ (a ∷ [])) → AllDiffer D l × (some_of (λ b. eq b a) l ≡ false)
   unfolding some_of
-  differ-before [] a d = (tt, refl)
-  differ-before (b ∷ l) a d =
+  differ_before [] a d = (tt, refl)
+  differ_before (b ∷ l) a d =
       let e = all_before (D b) l a d.0 in
-      let r = differ-before l a d.1 in
+      let r = differ_before l a d.1 in
       ((e.0, r.0), or_false (eq b a) (some_of (λ c. eq c a) l) (from b a e.1) r.1)
 
 -- two label lines with other cells and other corners
@@ -79,33 +79,33 @@ no_collision m l d =
     (not_so (eq_z m.corner l.corner) (λ e. d.1 (eq_z_equal m.corner l.corner e)))
 
 pub apart_more : (ls : List LabelLine) (l : LabelLine) → Apart ls → some_of (λ m. collide m l) ls ≡ false → Apart (ls ++ (l ∷ []))
-apart_more ls l = differ-more OtherLabel collide other_label no_collision ls l
+apart_more ls l = differ_more OtherLabel collide other_label no_collision ls l
 
 pub apart_before : (ls : List LabelLine) (l : LabelLine) → Apart (ls ++ (l ∷ [])) → Apart ls × (some_of (λ m. collide m l) ls ≡ false)
-apart_before ls l = differ-before OtherLabel collide other_label no_collision ls l
+apart_before ls l = differ_before OtherLabel collide other_label no_collision ls l
 
 -- ---- labels that are checked, as the join has them
 
 module _ (n : ℕ) where
   -- its corner is a whole number
-  pub whole-corner : (l : LabelLine) → Sound n l → l.corner ≡ pos (nat_abs l.corner)
-  whole-corner l s = s.is_corner_holds ∙ ap pos (sym (ap nat_abs s.is_corner_holds))
+  pub whole_corner : (l : LabelLine) → Sound n l → l.corner ≡ pos (nat_abs l.corner)
+  whole_corner l s = s.is_corner_holds ∙ ap pos (sym (ap nat_abs s.is_corner_holds))
 
-  pub all-holdable : n ≤ corner_limit → (ls : List LabelLine) → All (Sound n) ls → All Holdable (map placed ls)
-  all-holdable few [] s = tt
-  all-holdable few (l ∷ ls) s =
-      (record { on = s.0.on_sheet_holds; small = omega (arith, few, ap nat_abs s.0.is_corner_holds, s.0.given) }, all-holdable few ls s.1)
+  pub all_holdable : n ≤ corner_limit → (ls : List LabelLine) → All (Sound n) ls → All Holdable (map placed ls)
+  all_holdable few [] s = tt
+  all_holdable few (l ∷ ls) s =
+      (record { on = s.0.on_sheet_holds; small = omega (arith, few, ap nat_abs s.0.is_corner_holds, s.0.given) }, all_holdable few ls s.1)
 
-  differ-placed : (l : LabelLine) → Sound n l → (ls : List LabelLine) → All (Sound n) ls → All (OtherLabel l) ls → All (Differ (placed l)) (map placed ls)
-  differ-placed l s [] t d = tt
-  differ-placed l s (m ∷ ls) t d = (
-    record { cells = d.0.0; corners = λ e. d.0.1 (whole-corner l s ∙ ap pos e ∙ sym (whole-corner m t.0)) },
-    differ-placed l s ls t.1 d.1,
+  differ_placed : (l : LabelLine) → Sound n l → (ls : List LabelLine) → All (Sound n) ls → All (OtherLabel l) ls → All (Differ (placed l)) (map placed ls)
+  differ_placed l s [] t d = tt
+  differ_placed l s (m ∷ ls) t d = (
+    record { cells = d.0.0; corners = λ e. d.0.1 (whole_corner l s ∙ ap pos e ∙ sym (whole_corner m t.0)) },
+    differ_placed l s ls t.1 d.1,
   )
 
   pub all_once : (ls : List LabelLine) → All (Sound n) ls → Apart ls → Once (map placed ls)
   all_once [] s a = tt
-  all_once (l ∷ ls) s a = (differ-placed l s.0 ls s.1 a.0, all_once ls s.1 a.1)
+  all_once (l ∷ ls) s a = (differ_placed l s.0 ls s.1 a.0, all_once ls s.1 a.1)
 
 -- ---- the corners that their sheet uses
 
@@ -133,18 +133,18 @@ pub taken_used : (n : ℕ) (ls : List LabelLine) (sheet : List ℕ) → All (Sou
 taken_used n ls sheet s h k =
     same_truth _ _
     (λ e.
-    let u = used-yes sheet k e in
+    let u = used_yes sheet k e in
     let m = h.only (cell_of u.place) k (label_of_place sheet u.place u.below ∙ u.holds) in
     let o = Memᴰ.of_map placed ls m in
     let l = o.0 in
     let same : nat_abs l.corner ≡ k = ap (λ (x : Placed). x.corner) o.2 in
-    in_some (λ x. eq_z x.corner (pos k)) ls l o.1 (equal_eq_z l.corner (pos k) (whole-corner n l (of-all (Sound n) ls s l o.1) ∙ ap pos same)))
+    in_some (λ x. eq_z x.corner (pos k)) ls l o.1 (equal_eq_z l.corner (pos k) (whole_corner n l (of_all (Sound n) ls s l o.1) ∙ ap pos same)))
     (λ e.
     let o = some_in (λ x. eq_z x.corner (pos k)) ls e in
     let l = o.0 in
     let same : nat_abs l.corner ≡ k = ap nat_abs (eq_z_equal l.corner (pos k) o.2) in
-    let on = (of-all (Sound n) ls s l o.1).on_sheet_holds in
-    used-there sheet k
+    let on = (of_all (Sound n) ls s l o.1).on_sheet_holds in
+    used_there sheet k
     (record {
       place = place_of l.cell;
       below = place_in l.cell on;

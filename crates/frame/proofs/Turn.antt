@@ -13,17 +13,17 @@ use Rattle.refusal.specs.declared.Refusal.{Refusal}
 use Rattle.sheet.specs.Words.{empty_sheet}
 use Rattle.sheet.proofs.Words.{empty_length}
 use Rattle.labels.specs.Used.{used_on}
-use Rattle.labels.proofs.Count.{many-few}
+use Rattle.labels.proofs.Count.{many_few}
 use Rattle.join.specs.Rule.{Placed}
 use Rattle.join.specs.Join.{Joined, apart, clash, off, union_of, joined}
 use Rattle.join.specs.Sheets.{labelled, HoldsSet}
-use Rattle.join.proofs.Sets.{labelled_length, set-held}
+use Rattle.join.proofs.Sets.{labelled_length, set_held}
 use Rattle.join_sheet.specs.Held.{held_labels, outcome, join_on, concluded}
 use Rattle.join_sheet.specs.declared.Joining.{Joining}
-use Rattle.join_sheet.proofs.Held.{joins-as}
+use Rattle.join_sheet.proofs.Held.{joins_as}
 use Rattle.arguments.specs.declared.Checked.{Checked}
 use Rattle.line_form.specs.Lines.{lines_of, line_length}
-use Rattle.line_form.proofs.Lines.{end_after, end-inside, lines_from, no_lines}
+use Rattle.line_form.proofs.Lines.{end_after, end_inside, lines_from, no_lines}
 use Rattle.frame_line.specs.Table.{row_count, turn_at, may_end}
 use Rattle.frame_line.specs.Lines.{Line, LineRead, ill_formed, line, read_line}
 use Rattle.frame_line.specs.Held.{held_line, held_read}
@@ -40,8 +40,8 @@ use Rattle.frame.specs.ReadFrame.{sheet_of}
 use Rattle.frame.specs.Reading.{FrameHeld, Room, Went, went, held_by, held_step, Finishable, Finished, finished, finished_as, finished_by, finish_on, FrameDone, ReadAs, refused_as, held_as}
 use Rattle.frame.specs.declared.Stepped.{Stepped}
 use Rattle.frame.specs.declared.LinesRead.{LinesRead}
-use Rattle.frame.proofs.Sets.{all-holdable, all_once, taken_used}
-use Rattle.frame.proofs.Adding.{below_or_not, checks-agree, line-held, restaged}
+use Rattle.frame.proofs.Sets.{all_holdable, all_once, taken_used}
+use Rattle.frame.proofs.Adding.{below_or_not, checks_agree, line_held, restaged}
 
 -- ---- the parts with one line more
 
@@ -73,30 +73,30 @@ module _ (f : Frame) (s : State) (g : FrameHeld (parts_of f) s) (text : List ℕ
   abbrev Agreed : LineRead → Type 0
   Agreed r = LedAs (step_with s.progress.stage f r) (held_step (held_read r) s)
 
-  line-agrees : (l : Line) → read_line text ≡ line l → Agreed (line l)
+  line_agrees : (l : Line) → read_line text ≡ line l → Agreed (line l)
   unfolding held_step held_read
-  line-agrees l e =
+  line_agrees l e =
       subst
       (λ (c : Checked).
       LedAs (step_by (turn_at s.progress.stage l.row) (checked_line (parts_of f) l) (f ++ (l ∷ [])))
       (held_by (turn_at s.progress.stage l.row) c (adds (held_line l) s) s.held))
-      (sym (checks-agree (parts_of f) s g l (line_prints_back text l e).proper))
+      (sym (checks_agree (parts_of f) s g l (line_prints_back text l e).proper))
       (go (turn_at s.progress.stage l.row) (checked_line (parts_of f) l) refl)
     where
       go : (u : Turn) (c : Checked) → checked_line (parts_of f) l ≡ c → LedAs (step_by u c (f ++ (l ∷ []))) (held_by u c (adds (held_line l) s) s.held)
       go Turn.No c h = refl
       go (Turn.To to) (Checked.Refused r) h = refl
       go (Turn.To to) Checked.Fine h =
-          let held = line-held (parts_of f) s g l (line_prints_back text l e).proper h in
+          let held = line_held (parts_of f) s g l (line_prints_back text l e).proper h in
           record { frame = f ++ (l ∷ []); step_is = refl; holds = rw parts_more (restaged (added (parts_of f) l) (adds (held_line l) s) to held) }
 
-  steps-agree : LedAs (step_line s.progress.stage f text) (held_step (held_read (read_line text)) s)
+  steps_agree : LedAs (step_line s.progress.stage f text) (held_step (held_read (read_line text)) s)
   unfolding step_line held_step held_read
-  steps-agree = go (read_line text) refl
+  steps_agree = go (read_line text) refl
     where
       go : (r : LineRead) → read_line text ≡ r → Agreed r
       go ill_formed e = rw (← no_row s.progress.stage row_count (omega arith)) refl
-      go (line l) e = line-agrees l e
+      go (line l) e = line_agrees l e
 
 -- ---- the code's step, from its parts
 
@@ -106,34 +106,34 @@ step_row stage row to turn t e =
     ⊎_elim (λ h. h) (λ h. let n = no_row stage row h in absurd (let z : ◌≡◌ {A = ℕ} 0 1 = cc in omega arith)) (below_or_not row row_count)
 
 module _ (p : Progress) (a : Arrays) (found : HeldLine) (turn : Turn) (t : turn ≡ turn_at p.stage found.row) where
-  pub step-no : turn ≡ Turn.No → went (Stepped.Stopped Refusal.Malformed) a ≡ held_step found (state p a)
+  pub step_no : turn ≡ Turn.No → went (Stepped.Stopped Refusal.Malformed) a ≡ held_step found (state p a)
   unfolding held_step
-  step-no e = rw (← t, e)
+  step_no e = rw (← t, e)
 
   module _ (to : ℕ) (e : turn ≡ Turn.To to) where
     module _ (checked : Checked) (c : checked ≡ checked_held p.corners p.passes p.patched a.shades a.sheet a.used a.second p.second found) where
-      pub step-stopped : (r : Refusal) → checked ≡ Checked.Refused r → went (Stepped.Stopped r) a ≡ held_step found (state p a)
+      pub step_stopped : (r : Refusal) → checked ≡ Checked.Refused r → went (Stepped.Stopped r) a ≡ held_step found (state p a)
       unfolding held_step
-      step-stopped r h = rw (← t, e, ← c, h)
+      step_stopped r h = rw (← t, e, ← c, h)
 
-      pub step-addable : Room p a → checked ≡ Checked.Fine → Addable p a found
-      step-addable g h = record { fine = sym c ∙ h; fits = record { few = g.few; labels_few = g.second_few; row_fits = step_row p.stage found.row to turn t e }; long = g.long; counted = g.counted }
+      pub step_addable : Room p a → checked ≡ Checked.Fine → Addable p a found
+      step_addable g h = record { fine = sym c ∙ h; fits = record { few = g.few; labels_few = g.second_few; row_fits = step_row p.stage found.row to turn t e }; long = g.long; counted = g.counted }
 
-      pub step-onward : checked ≡ Checked.Fine → (next last : Progress) (b : Arrays) → state next b ≡ adds found (state p a) → last ≡ at_stage next to
+      pub step_onward : checked ≡ Checked.Fine → (next last : Progress) (b : Arrays) → state next b ≡ adds found (state p a) → last ≡ at_stage next to
           → went (Stepped.Onward last) b ≡ held_step found (state p a)
       unfolding held_step
-      step-onward h next last b d k = rw (← t, e, ← c, h, k) (ap (λ (x : State). went (Stepped.Onward (at_stage x.progress to)) x.held) d)
+      step_onward h next last b d k = rw (← t, e, ← c, h, k) (ap (λ (x : State). went (Stepped.Onward (at_stage x.progress to)) x.held) d)
 
 -- ---- after the last line
 
 -- the code's end, from its parts
 module _ (p : Progress) (sheet : List ℕ) (second : List Placed) where
-  pub finish-one : not p.patched ≡ true → finished sheet (LinesRead.Whole p) ≡ finish_on p.patched p sheet second
-  finish-one e = rw (not-true p.patched e)
+  pub finish_one : not p.patched ≡ true → finished sheet (LinesRead.Whole p) ≡ finish_on p.patched p sheet second
+  finish_one e = rw (not-true p.patched e)
 
   module _ (e : not p.patched ≡ false) (after : List ℕ) (r : Joining) (w : outcome after r ≡ join_on sheet second) where
-    pub finish-as : (a : LinesRead) → a ≡ finished_as p r → finished after a ≡ finish_on p.patched p sheet second
-    finish-as a h =
+    pub finish_as : (a : LinesRead) → a ≡ finished_as p r → finished after a ≡ finish_on p.patched p sheet second
+    finish_as a h =
         subst (λ (t : Bool). finished after a ≡ finish_on t p sheet second) (sym (not-false p.patched e)) (ap (finished after) h ∙ ap (finished_by p) w)
 
 -- the arrays with another sheet
@@ -142,16 +142,16 @@ on_sheet_of a sheet = arrays a.xs a.ys a.pitches a.shades sheet a.used a.second 
 
 module _ (f : Frame) (p : Progress) (a : Arrays) (g : FrameHeld (parts_of f) (state p a)) where
   -- the sheet of the first set
-  first-held : HoldsSet (first_set (parts_of f)) a.sheet
-  first-held =
+  first_held : HoldsSet (first_set (parts_of f)) a.sheet
+  first_held =
       let c = g.labels.checked in
       let ls = (parts_of f).labels in
       subst (HoldsSet (first_set (parts_of f))) (sym g.labels.sheet_is)
-      (set-held (map placed ls) (all-holdable corner_limit (omega arith) ls c.sound) (all_once corner_limit ls c.sound c.once))
+      (set_held (map placed ls) (all_holdable corner_limit (omega arith) ls c.sound) (all_once corner_limit ls c.sound c.once))
 
-  not-not : (t u : Bool) → not t ≡ u → t ≡ not u
-  not-not true u e = ap not e
-  not-not false u e = ap not e
+  not_not : (t u : Bool) → not t ≡ u → t ≡ not u
+  not_not true u e = ap not e
+  not_not false u e = ap not e
 
   pub finishable : Finishable p a.sheet a.used a.second
   finishable =
@@ -162,52 +162,52 @@ module _ (f : Frame) (p : Progress) (a : Arrays) (g : FrameHeld (parts_of f) (st
               unused =
                   record {
                     free = λ k h.
-                        not-not (eqb (get_or a.used k 0) 0) (used_on a.sheet k)
-                        (g.labels.uses.corners k h ∙ sym (taken_used corner_limit (parts_of f).labels a.sheet g.labels.checked.sound first-held k));
+                        not_not (eqb (get_or a.used k 0) 0) (used_on a.sheet k)
+                        (g.labels.uses.corners k h ∙ sym (taken_used corner_limit (parts_of f).labels a.sheet g.labels.checked.sound first_held k));
                   };
               second = g.second.fits;
             };
         few = g.corners.xs_held.some;
-        labels_few = omega (arith, g.labels.uses.many, many-few (is_set a.used) corner_limit);
+        labels_few = omega (arith, g.labels.uses.many, many_few (is_set a.used) corner_limit);
       }
 
   -- the number of the patch line
-  patch-is : 5 + p.corners + p.labels ≡ patch_line (parts_of f)
-  patch-is = omega (arith, g.corners.count, g.labels.uses.count)
+  patch_is : 5 + p.corners + p.labels ≡ patch_line (parts_of f)
+  patch_is = omega (arith, g.corners.count, g.labels.uses.count)
 
   done : (sheet : List ℕ) → sheet ≡ sheet_of f → length sheet ≡ place_count → FrameDone f p (on_sheet_of a sheet)
   done sheet e long =
       record { settings_are = g.settings_are; corners = g.corners; sheet_is = e; sheet_long = long; shades = g.shades; passes = g.passes }
 
-  set-length : (u : List Placed) → length (labelled empty_sheet u) ≡ place_count
-  set-length u = labelled_length u empty_sheet ∙ empty_length
+  set_length : (u : List Placed) → length (labelled empty_sheet u) ≡ place_count
+  set_length u = labelled_length u empty_sheet ∙ empty_length
 
   -- by what the join says
-  by-join : (j : Joined) → join_of (parts_of f) ≡ j → (o : Finished) → o ≡ finished_by p (concluded a.sheet j)
+  by_join : (j : Joined) → join_of (parts_of f) ≡ j → (o : Finished) → o ≡ finished_by p (concluded a.sheet j)
       → ReadAs (finish_by j f) o.answer (on_sheet_of a o.sheet)
   unfolding concluded sheet_of given_of
-  by-join apart e o w = rw w (rw (← patch-is) (refused_as Refusal.NoSharedCorner _))
-  by-join clash e o w = rw w (rw (← patch-is) (refused_as Refusal.PatchesClash _))
-  by-join off e o w = rw w (rw (← patch-is) (refused_as Refusal.OffSheet _))
-  by-join (union_of u) e o w = rw w (held_as f p (done (labelled empty_sheet u) (ap (λ (j : Joined). labelled empty_sheet (labels_in j)) (sym e)) (set-length u)))
+  by_join apart e o w = rw w (rw (← patch_is) (refused_as Refusal.NoSharedCorner _))
+  by_join clash e o w = rw w (rw (← patch_is) (refused_as Refusal.PatchesClash _))
+  by_join off e o w = rw w (rw (← patch_is) (refused_as Refusal.OffSheet _))
+  by_join (union_of u) e o w = rw w (held_as f p (done (labelled empty_sheet u) (ap (λ (j : Joined). labelled empty_sheet (labels_in j)) (sym e)) (set_length u)))
 
   -- by whether the patch line stands
-  by-patch : (t : Bool) → (parts_of f).patched ≡ t → (o : Finished) → o ≡ finish_on t p a.sheet (second_set (parts_of f))
+  by_patch : (t : Bool) → (parts_of f).patched ≡ t → (o : Finished) → o ≡ finish_on t p a.sheet (second_set (parts_of f))
       → ReadAs (finish f) o.answer (on_sheet_of a o.sheet)
   unfolding finish join_of sheet_of given_of
-  by-patch false e o w =
+  by_patch false e o w =
       let is : join_of (parts_of f) ≡ union_of (first_set (parts_of f)) = ap (λ (t : Bool). join_if t (first_set (parts_of f)) (second_set (parts_of f))) e in
       subst (λ (j : Joined). ReadAs (finish_by j f) o.answer (on_sheet_of a o.sheet)) (sym is)
       (rw w (held_as f p (done a.sheet (g.labels.sheet_is ∙ ap (λ (j : Joined). labelled empty_sheet (labels_in j)) (sym is)) g.labels.sheet_long)))
-  by-patch true e o w =
+  by_patch true e o w =
       let is : join_of (parts_of f) ≡ joined (first_set (parts_of f)) (second_set (parts_of f)) = ap (λ (t : Bool). join_if t (first_set (parts_of f)) (second_set (parts_of f))) e in
       subst (λ (j : Joined). ReadAs (finish_by j f) o.answer (on_sheet_of a o.sheet)) (sym is)
-      (by-join (joined (first_set (parts_of f)) (second_set (parts_of f))) is o (w ∙ ap (finished_by p) (joins-as first-held (second_set (parts_of f)))))
+      (by_join (joined (first_set (parts_of f)) (second_set (parts_of f))) is o (w ∙ ap (finished_by p) (joins_as first_held (second_set (parts_of f)))))
 
   finishes : (r : LinesRead) (sheet : List ℕ) → finished sheet r ≡ finish_on p.patched p a.sheet (held_labels a.second p.second)
       → ReadAs (finish f) r (on_sheet_of a sheet)
   finishes r sheet w =
-      by-patch (parts_of f).patched refl (finished sheet r)
+      by_patch (parts_of f).patched refl (finished sheet r)
       (w ∙ ap₂ (λ (t : Bool) (l : List Placed). finish_on t p a.sheet l) g.patched g.second.labels_are)
 
 -- ---- all lines
@@ -226,8 +226,8 @@ turning_start text p a e g =
     record { inside = omega arith; lines = omega arith; frame = []; holds = g; rest = ap (λ (k : ℕ). read_lines 1 k [] (lines_of text)) e }
 
 module _ {text : List ℕ} {p : Progress} {n at : ℕ} {a : Arrays} (g : Turning text p n at a) where
-  pub turn-room : Room p a
-  turn-room =
+  pub turn_room : Room p a
+  turn_room =
       let h = g.holds in
       record {
         few = h.corners.xs_held.some;
@@ -249,7 +249,7 @@ module _ {text : List ℕ} {p : Progress} {n at : ℕ} {a : Arrays} (g : Turning
       stepped : SteppedAs (step_line p.stage g.frame (take (end - at) (drop at text))) r b
       stepped =
           subst (LedAs (step_line p.stage g.frame (take (end - at) (drop at text)))) (sym w)
-          (steps-agree g.frame (state p a) g.holds (take (end - at) (drop at text)))
+          (steps_agree g.frame (state p a) g.holds (take (end - at) (drop at text)))
 
       led : (x : Stepped) → r ≡ x → SteppedAs (step_line p.stage g.frame (take (end - at) (drop at text))) x b
       led x d = subst (λ (y : Stepped). SteppedAs (step_line p.stage g.frame (take (end - at) (drop at text))) y b) d stepped
@@ -259,12 +259,12 @@ module _ {text : List ℕ} {p : Progress} {n at : ℕ} {a : Arrays} (g : Turning
       turn_stopped q d =
           subst (λ (x : FrameRead). ReadAs x (LinesRead.Refused q n) b) (sym (one_line ∙ ap behind (led (Stepped.Stopped q) d)) ∙ g.rest) (refused_as q n)
 
-      pub turn-onward : (next : Progress) → r ≡ Stepped.Onward next → Turning text next (n + 1) end b
+      pub turn_onward : (next : Progress) → r ≡ Stepped.Onward next → Turning text next (n + 1) end b
       unfolding behind
-      turn-onward next d =
+      turn_onward next d =
           let on = led (Stepped.Onward next) d in
           record {
-            inside = end-inside text at end h e;
+            inside = end_inside text at end h e;
             lines = omega (arith, g.lines, end_after text at end h e);
             frame = on.frame;
             holds = on.holds;
@@ -273,15 +273,15 @@ module _ {text : List ℕ} {p : Progress} {n at : ℕ} {a : Arrays} (g : Turning
 
   -- behind the last line
   module _ (h : length text ≤ at) where
-    at-the-end : (t : Bool) → may_end p.stage ≡ t → read_lines 1 0 [] (lines_of text) ≡ cond t (finish g.frame) (refused_at Refusal.Malformed n)
+    at_the_end : (t : Bool) → may_end p.stage ≡ t → read_lines 1 0 [] (lines_of text) ≡ cond t (finish g.frame) (refused_at Refusal.Malformed n)
     unfolding read_lines at_end
-    at-the-end t e =
+    at_the_end t e =
         sym g.rest ∙ ap (read_lines n p.stage g.frame) (no_lines text at h)
         ∙ ap (λ (x : Bool). cond x (finish g.frame) (refused_at Refusal.Malformed n)) e
 
-    pub end-missing : may_end p.stage ≡ false → ReadAs (read_lines 1 0 [] (lines_of text)) (LinesRead.Refused Refusal.Malformed n) a
-    end-missing e = subst (λ (x : FrameRead). ReadAs x (LinesRead.Refused Refusal.Malformed n) a) (sym (at-the-end false e)) (refused_as Refusal.Malformed n)
+    pub end_missing : may_end p.stage ≡ false → ReadAs (read_lines 1 0 [] (lines_of text)) (LinesRead.Refused Refusal.Malformed n) a
+    end_missing e = subst (λ (x : FrameRead). ReadAs x (LinesRead.Refused Refusal.Malformed n) a) (sym (at_the_end false e)) (refused_as Refusal.Malformed n)
 
-    pub end-finished : may_end p.stage ≡ true → (r : LinesRead) (sheet : List ℕ)
+    pub end_finished : may_end p.stage ≡ true → (r : LinesRead) (sheet : List ℕ)
         → finished sheet r ≡ finish_on p.patched p a.sheet (held_labels a.second p.second) → ReadAs (read_lines 1 0 [] (lines_of text)) r (on_sheet_of a sheet)
-    end-finished e r sheet w = subst (λ (x : FrameRead). ReadAs x r (on_sheet_of a sheet)) (sym (at-the-end true e)) (finishes g.frame p a g.holds r sheet w)
+    end_finished e r sheet w = subst (λ (x : FrameRead). ReadAs x r (on_sheet_of a sheet)) (sym (at_the_end true e)) (finishes g.frame p a g.holds r sheet w)

@@ -17,7 +17,7 @@ use Rattle.frame_line.specs.Lines.{LabelLine}
 use Rattle.frame.specs.Frame.{Frame, parts_of, placed, first_set, second_set, join_if, join_of, labels_in, given_of, patch_line, FrameRead, refused_at, accepted, finish_by, finish, read_frame}
 use Rattle.frame.specs.Text.{Sound}
 use Rattle.frame_laws.specs.Patches.{AllPass}
-use Rattle.frame_laws.proofs.Patches.{whole_text, passed-sound}
+use Rattle.frame_laws.proofs.Patches.{whole_text, passed_sound}
 use Rattle.frame_laws.proofs.Labels.{sound_known}
 use Rattle.frame_agreement.specs.Reordering.{renumbered, SameLabels, EndAlike, TextsEndAlike}
 
@@ -35,42 +35,42 @@ module _ (f f' : Frame) (same : SameLabels f f') where
   abbrev to : ℕ → ℕ
   to = same.pairs.to
 
-  first-renamed : first_set (parts_of f') ≡ map (renamed to) (first_set (parts_of f))
-  first-renamed = ap (map placed) same.first_set_holds ∙ set_renamed same.pairs (parts_of f).labels
+  first_renamed : first_set (parts_of f') ≡ map (renamed to) (first_set (parts_of f))
+  first_renamed = ap (map placed) same.first_set_holds ∙ set_renamed same.pairs (parts_of f).labels
 
-  second-renamed : second_set (parts_of f') ≡ map (renamed to) (second_set (parts_of f))
-  second-renamed = ap (map placed) same.second_set_holds ∙ set_renamed same.pairs (parts_of f).second
+  second_renamed : second_set (parts_of f') ≡ map (renamed to) (second_set (parts_of f))
+  second_renamed = ap (map placed) same.second_set_holds ∙ set_renamed same.pairs (parts_of f).second
 
   module _ (first-sound : All (Sound count) (parts_of f).labels) (second-sound : All (Sound count) (parts_of f).second) where
-    join-if-renamed : (t : Bool)
+    join_if_renamed : (t : Bool)
         → join_if t (map (renamed to) (first_set (parts_of f))) (map (renamed to) (second_set (parts_of f))) ≡ join_renamed to (join_if t (first_set (parts_of f)) (second_set (parts_of f)))
     unfolding join_renamed
-    join-if-renamed false = refl
-    join-if-renamed true =
+    join_if_renamed false = refl
+    join_if_renamed true =
         joined_renamed to (first_set (parts_of f)) (second_set (parts_of f))
         (λ a b m n e. to_one same.pairs a.corner b.corner (sound_known count (parts_of f).labels first-sound a m)
         (sound_known count (parts_of f).second second-sound b n) e)
 
-    pub join-renamed : join_of (parts_of f') ≡ join_renamed to (join_of (parts_of f))
+    pub join_renamed_lem : join_of (parts_of f') ≡ join_renamed to (join_of (parts_of f))
     unfolding join_of
-    join-renamed =
-        (λ t. join_if (same.patched t) (first-renamed t) (second-renamed t)) ∙ join-if-renamed (parts_of f).patched
+    join_renamed_lem =
+        (λ t. join_if (same.patched t) (first_renamed t) (second_renamed t)) ∙ join_if_renamed (parts_of f).patched
 
-    labels-renamed : (j : Joined) → labels_in (join_renamed to j) ≡ map (renamed to) (labels_in j)
+    labels_renamed : (j : Joined) → labels_in (join_renamed to j) ≡ map (renamed to) (labels_in j)
     unfolding join_renamed
-    labels-renamed apart = refl
-    labels-renamed clash = refl
-    labels-renamed off = refl
-    labels-renamed (union_of u) = refl
+    labels_renamed apart = refl
+    labels_renamed clash = refl
+    labels_renamed off = refl
+    labels_renamed (union_of u) = refl
 
-    pub given-renamed : given_of (parts_of f') ≡ map (renamed to) (given_of (parts_of f))
+    pub given_renamed : given_of (parts_of f') ≡ map (renamed to) (given_of (parts_of f))
     unfolding given_of
-    given-renamed = ap labels_in join-renamed ∙ labels-renamed (join_of (parts_of f))
+    given_renamed = ap labels_in join_renamed_lem ∙ labels_renamed (join_of (parts_of f))
 
     -- ---- refused alike
 
-    patch-alike : patch_line (parts_of f') ≡ patch_line (parts_of f)
-    patch-alike = omega (arith, same.count, ap length same.first_set_holds, length-map (parts_of f).labels (renumbered same.pairs))
+    patch_alike : patch_line (parts_of f') ≡ patch_line (parts_of f)
+    patch_alike = omega (arith, same.count, ap length same.first_set_holds, length-map (parts_of f).labels (renumbered same.pairs))
 
     -- two ends: the same refusal, or both accepted
     record EndsAs (a b : FrameRead) : Type 0 where
@@ -79,7 +79,7 @@ module _ (f f' : Frame) (same : SameLabels f f') where
 
     both_refused : (r : Refusal) → EndsAs (refused_at r (patch_line (parts_of f))) (refused_at r (patch_line (parts_of f')))
     both_refused r =
-        let e : refused_at r (patch_line (parts_of f')) ≡ refused_at r (patch_line (parts_of f)) = ap (refused_at r) patch-alike in
+        let e : refused_at r (patch_line (parts_of f')) ≡ refused_at r (patch_line (parts_of f)) = ap (refused_at r) patch_alike in
         record {
           refused = λ q n. (λ h. e ∙ h, λ h. sym e ∙ h);
           whole = (λ h. absurd (let z : ◌≡◌ {A = ℕ} 0 1 = cc in omega arith), λ h. absurd (let z : ◌≡◌ {A = ℕ} 0 1 = cc in omega arith));
@@ -96,14 +96,14 @@ module _ (f f' : Frame) (same : SameLabels f f') where
           whole = (λ h. refl, λ h. refl);
         }
 
-    finish-alike : EndsAs (finish f) (finish f')
+    finish_alike : EndsAs (finish f) (finish f')
     unfolding finish
-    finish-alike = subst (λ (j : Joined). EndsAs (finish_by (join_of (parts_of f)) f) (finish_by j f')) (sym join-renamed) (ends_as (join_of (parts_of f)))
+    finish_alike = subst (λ (j : Joined). EndsAs (finish_by (join_of (parts_of f)) f) (finish_by j f')) (sym join_renamed_lem) (ends_as (join_of (parts_of f)))
 
 pub texts_end_alike : TextsEndAlike
 texts_end_alike text text' f f' a a' same =
-    let s = passed-sound text a.passed a.ends in
-    let w = finish-alike f f' same s.0 s.1 in
+    let s = passed_sound text a.passed a.ends in
+    let w = finish_alike f f' same s.0 s.1 in
     let e = whole_text text a.bytes a.passed a.ends in
     let e' = whole_text text' a'.bytes a'.passed a'.ends in
     record {

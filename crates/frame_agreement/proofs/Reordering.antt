@@ -10,7 +10,7 @@ use Rattle.sheet.specs.Words.{empty_sheet, attached}
 use Rattle.sheet.proofs.Corners.{listed_corner}
 use Rattle.sheet.specs.Pairing.{Shuffle, PairedCorners, PairedSheets}
 use Rattle.sheet.proofs.Words.{empty_length}
-use Rattle.sheet.proofs.Pairing.{paired-attached, paired_empty}
+use Rattle.sheet.proofs.Pairing.{paired_attached, paired_empty}
 use Rattle.arguments.specs.Shades.{PairedShades}
 use Rattle.agreement.specs.Agreement.{Reordered, RelistedCall, Relisted, no_call, relisted}
 use Rattle.agreement.proofs.Run.{agreement}
@@ -22,13 +22,13 @@ use Rattle.frame.specs.Text.{WithinLimits}
 use Rattle.frame.specs.ReadFrame.{float_of, xs_of, ys_of, pitches_of, shades_of, sheet_of, settings_in, settings_of}
 use Rattle.frame_laws.specs.Calls.{frame_corners, call_of, calls_of}
 use Rattle.frame_laws.proofs.Parts.{get_d_map, labels_sound}
-use Rattle.frame_laws.proofs.Labels.{given-holdable, given-known}
+use Rattle.frame_laws.proofs.Labels.{given_holdable, given_known}
 use Rattle.frame_laws.proofs.Back.{frame_prints_back}
 use Rattle.frame_laws.proofs.Shades.{shades_long}
-use Rattle.frame_laws.proofs.Runs.{frame-standing}
+use Rattle.frame_laws.proofs.Runs.{frame_standing}
 use Rattle.frame_agreement.specs.Reordering.{SameButOrder, same_labels, RunAlike, FramesRunAlike}
 use Rattle.frame_agreement.proofs.Shades.{same_byte}
-use Rattle.frame_agreement.proofs.Patches.{given-renamed}
+use Rattle.frame_agreement.proofs.Patches.{given_renamed}
 
 -- ---- the sheets of the given labels
 
@@ -37,17 +37,17 @@ unfolding attached
 attached_length sheet l = length-set sheet _ _
 
 module _ {n : ℕ} (s : Shuffle n) (few : n ≤ 1024) where
-  labelled-paired : (ls : List Placed) (sheet sheet' : List ℕ) → 16384 ≤ length sheet → All Holdable ls → ((l : Placed) → Memᴰ l ls → l.corner < n)
+  labelled_paired : (ls : List Placed) (sheet sheet' : List ℕ) → 16384 ≤ length sheet → All Holdable ls → ((l : Placed) → Memᴰ l ls → l.corner < n)
       → PairedSheets s sheet sheet' → PairedSheets s (labelled sheet ls) (labelled sheet' (map (renamed s.to) ls))
   unfolding labelled
-  labelled-paired [] sheet sheet' long on known p = p
-  labelled-paired (l ∷ ls) sheet sheet' long on known p =
+  labelled_paired [] sheet sheet' long on known p = p
+  labelled_paired (l ∷ ls) sheet sheet' long on known p =
       let k = l.corner in
       let below : k < n = known l (Memᴰ.head refl) in
       let there = s.to_in k below in
-      labelled-paired ls (attached sheet l.cell k) (attached sheet' l.cell (s.to k)) (omega (arith, attached_length sheet l)) on.1
+      labelled_paired ls (attached sheet l.cell k) (attached sheet' l.cell (s.to k)) (omega (arith, attached_length sheet l)) on.1
       (λ m i. known m (Memᴰ.tail i))
-      (paired-attached p l.cell long on.0.on k (omega arith) (omega arith))
+      (paired_attached p l.cell long on.0.on k (omega arith) (omega arith))
 
 -- ---- the frames
 
@@ -80,9 +80,9 @@ module _ (f f' : Frame) (w : WithinLimits f) (same : SameButOrder f f') where
   as_long : (g : CornerLine → Float) → length (map g (parts_of f').corners) ≡ length (map g (parts_of f).corners)
   as_long g = length-map (parts_of f').corners g ∙ same.count ∙ sym (length-map (parts_of f).corners g)
 
-  corners-paired : PairedCorners (frame_corners f) (frame_corners f')
+  corners_paired : PairedCorners (frame_corners f) (frame_corners f')
   unfolding xs_of ys_of pitches_of pairs
-  corners-paired =
+  corners_paired =
       record {
         same_xs = as_long (λ c. float_of c.x);
         same_ys = as_long (λ c. float_of c.y);
@@ -96,60 +96,60 @@ module _ (f f' : Frame) (w : WithinLimits f) (same : SameButOrder f f') where
             ∙ sym (listed_corner (frame_corners f) i h);
       }
 
-  sheets-paired : PairedSheets pairs (sheet_of f) (sheet_of f')
+  sheets_paired : PairedSheets pairs (sheet_of f) (sheet_of f')
   unfolding sheet_of pairs
-  sheets-paired =
+  sheets_paired =
       let sound = labels_sound f w in
       subst (λ (ls : List Placed). PairedSheets pairs (labelled empty_sheet (given_of (parts_of f))) (labelled empty_sheet ls))
-      (sym (given-renamed f f' (same_labels same) sound.0 sound.1))
-      (labelled-paired pairs (omega (arith, same_length, w.corners)) (given_of (parts_of f)) empty_sheet empty_sheet (omega (arith, empty_length)) (given-holdable f w)
-      (λ l m. omega (arith, same_length, given-known f w l m)) (paired_empty pairs))
+      (sym (given_renamed f f' (same_labels same) sound.0 sound.1))
+      (labelled_paired pairs (omega (arith, same_length, w.corners)) (given_of (parts_of f)) empty_sheet empty_sheet (omega (arith, empty_length)) (given_holdable f w)
+      (λ l m. omega (arith, same_length, given_known f w l m)) (paired_empty pairs))
 
-  pub frames-reordered : Reordered (frame_corners f) (frame_corners f') (sheet_of f) (sheet_of f')
-  unfolding corners-paired
-  frames-reordered = record { corners = corners-paired; labels = sheets-paired; standing = frame-standing f w }
+  pub frames_reordered : Reordered (frame_corners f) (frame_corners f') (sheet_of f) (sheet_of f')
+  unfolding corners_paired
+  frames_reordered = record { corners = corners_paired; labels = sheets_paired; standing = frame_standing f w }
 
   -- ---- the frames' own passes
 
-  settings-same : settings_of f' ≡ settings_of f
+  settings_same : settings_of f' ≡ settings_of f
   unfolding settings_of
-  settings-same = ap settings_in same.opening
+  settings_same = ap settings_in same.opening
 
-  shades-paired : PairedShades pairs (shades_of f) (shades_of f')
+  shades_paired : PairedShades pairs (shades_of f) (shades_of f')
   unfolding pairs
-  shades-paired =
+  shades_paired =
       record {
         same_length = shades_long f' ∙ same.count ∙ sym (shades_long f);
         same_shade = λ long i h. same_byte _ _ (same.shades i (omega (arith, same_length)));
       }
 
-  call-relisted : (p : PassLine) → RelistedCall pairs (call_of f p) (call_of f' p)
-  call-relisted p = record { same_pass = refl; same_settings = settings-same; same_rooms = refl; shades = shades-paired }
+  call_relisted : (p : PassLine) → RelistedCall pairs (call_of f p) (call_of f' p)
+  call_relisted p = record { same_pass = refl; same_settings = settings_same; same_rooms = refl; shades = shades_paired }
 
-  calls-relisted : Relisted pairs (calls_of f) (calls_of f')
+  calls_relisted : Relisted pairs (calls_of f) (calls_of f')
   unfolding calls_of
-  calls-relisted =
+  calls_relisted =
       subst (λ (ps : List PassLine). Relisted pairs (map (call_of f) (parts_of f).passes) (map (call_of f') ps)) (sym same.passes) (each (parts_of f).passes)
     where
       each : (ps : List PassLine) → Relisted pairs (map (call_of f) ps) (map (call_of f') ps)
       each [] = no_call
-      each (p ∷ ps) = relisted (call-relisted p) (each ps)
+      each (p ∷ ps) = relisted (call_relisted p) (each ps)
 
   -- ---- the claim
 
-  pub limits-alike : RunAlike f f' same
-  unfolding frames-reordered corners-paired pairs
-  limits-alike =
-      let holds = agreement (frame_corners f) (frame_corners f') (sheet_of f) (sheet_of f') frames-reordered in
+  pub limits_alike : RunAlike f f' same
+  unfolding frames_reordered corners_paired pairs
+  limits_alike =
+      let holds = agreement (frame_corners f) (frame_corners f') (sheet_of f) (sheet_of f') frames_reordered in
       record {
-        reordered = frames-reordered;
+        reordered = frames_reordered;
         paired_to = λ k. refl;
         paired_from = λ k. refl;
         any_list = holds;
-        relisted_call = call-relisted;
-        relisted_calls = calls-relisted;
-        own_list = (holds (calls_of f) (calls_of f') calls-relisted).agree;
+        relisted_call = call_relisted;
+        relisted_calls = calls_relisted;
+        own_list = (holds (calls_of f) (calls_of f') calls_relisted).agree;
       }
 
 pub frames_run_alike : FramesRunAlike
-frames_run_alike text text' f f' e e' same = limits-alike f f' (frame_prints_back text f e).within same
+frames_run_alike text text' f f' e e' same = limits_alike f f' (frame_prints_back text f e).within same

@@ -10,7 +10,7 @@ use Rattle.arguments.specs.Shades.{shade_of}
 use Rattle.frame.specs.Frame.{Frame, parts_of}
 use Rattle.frame.specs.ReadFrame.{shades_of}
 use Rattle.frame_laws.specs.Shades.{ShadedBy, GivenShades}
-use Rattle.join.proofs.Union.{of-all}
+use Rattle.join.proofs.Union.{of_all}
 use Rattle.frame_laws.proofs.Runs.{accepted_runs}
 use Rattle.frame_agreement.specs.Reordering.{SameShades, RelistedLines, ShadesByLines}
 
@@ -30,7 +30,7 @@ same_byte b c e = sym (byte_back b) ∙ ap byte_of e ∙ byte_back c
 -- the byte of a corner that a line gives a kind
 line_byte : (f : Frame) → GivenShades f → (n k : ℕ) → ShadedBy (parts_of f).shades n k → get_or (shades_of f) n 0 ≡ k + 1
 line_byte f g n k by =
-    ap (λ (m : ℕ). get_or (shades_of f) m 0) (sym (ap nat_abs by.corner)) ∙ of-all _ _ g.each _ by.listed
+    ap (λ (m : ℕ). get_or (shades_of f) m 0) (sym (ap nat_abs by.corner)) ∙ of_all _ _ g.each _ by.listed
     ∙ ap (λ (m : ℕ). m + 1) (ap nat_abs by.kind)
 
 module _ {n : ℕ} (s : Shuffle n) (f f' : Frame) (g : GivenShades f) (g' : GivenShades f') where

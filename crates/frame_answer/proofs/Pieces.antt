@@ -11,7 +11,7 @@ use Rattle.refusal.specs.declared.Refusal.{Refusal}
 use Rattle.passes.specs.Run.{PassStats}
 use Rattle.frame.specs.Frame.{Frame, FrameRead, refused_at, accepted, read_frame}
 use Rattle.report_line.specs.Result.{lines_from, result_line, line_count, result_from, result_piece}
-use Rattle.report.proofs.Laws.{from-the-start, piece-joins, piece-moves}
+use Rattle.report.proofs.Laws.{from_the_start, piece_joins, piece_moves}
 use Rattle.report_line.specs.Refused.{refused_text}
 use Rattle.frame_answer.specs.Answer.{frame_stats, frame_sheet, answer_of, answer_text, answer_lines, answer_piece, go_on, pieces_from, joined, pieces, PiecesJoin}
 
@@ -25,10 +25,10 @@ nothing_left stats sheet k h = ap (lines_from (result_line stats sheet) k) none
 
 -- the pieces of a result from line k on: each goes on by a line at least, so as many as there are lines are enough
 module _ (f : Frame) (room : ℕ) (big : 128 ≤ room) where
-  from-line : (n k : ℕ) → line_count (length (frame_stats f)) ≤ k + n → joined (pieces_from (accepted f) room n k) ≡ result_from (frame_stats f) (frame_sheet f) k
+  from_line : (n k : ℕ) → line_count (length (frame_stats f)) ≤ k + n → joined (pieces_from (accepted f) room n k) ≡ result_from (frame_stats f) (frame_sheet f) k
   unfolding pieces_from joined answer_piece answer_lines
-  from-line zero k h = sym (nothing_left (frame_stats f) (frame_sheet f) k (omega (arith, h)))
-  from-line (suc n) k h = go (ltb k (line_count (length (frame_stats f)))) refl (λ next m. from-line n next m)
+  from_line zero k h = sym (nothing_left (frame_stats f) (frame_sheet f) k (omega (arith, h)))
+  from_line (suc n) k h = go (ltb k (line_count (length (frame_stats f)))) refl (λ next m. from_line n next m)
     where
       go : (t : Bool) → ltb k (line_count (length (frame_stats f))) ≡ t
           → ((next : ℕ) → line_count (length (frame_stats f)) ≤ next + n → joined (pieces_from (accepted f) room n next) ≡ result_from (frame_stats f) (frame_sheet f) next)
@@ -36,9 +36,9 @@ module _ (f : Frame) (room : ℕ) (big : 128 ≤ room) where
           ≡ result_from (frame_stats f) (frame_sheet f) k
       go true e w =
           let next = (result_piece (frame_stats f) (frame_sheet f) k room).next in
-          let on : k < next = piece-moves (frame_stats f) (frame_sheet f) k room (ltb-true k _ e) big in
+          let on : k < next = piece_moves (frame_stats f) (frame_sheet f) k room (ltb-true k _ e) big in
           ap (λ (r : List ℕ). (result_piece (frame_stats f) (frame_sheet f) k room).text ++ r) (w next (omega (arith, on, h)))
-          ∙ piece-joins (frame_stats f) (frame_sheet f) k room (result_piece (frame_stats f) (frame_sheet f) k room) refl
+          ∙ piece_joins (frame_stats f) (frame_sheet f) k room (result_piece (frame_stats f) (frame_sheet f) k room) refl
       go false e w = sym (nothing_left (frame_stats f) (frame_sheet f) k (ltb-false k _ e))
 
 one_piece : (r : Refusal) (line room : ℕ) → joined (pieces_from (refused_at r line) room 1 0) ≡ refused_text r line
@@ -51,4 +51,4 @@ pieces_join text room big = go (read_frame text)
   where
     go : (a : FrameRead) → joined (pieces_from a room (answer_lines a) 0) ≡ answer_of a
     go (refused_at r line) = one_piece r line room
-    go (accepted f) = from-line f room big (line_count (length (frame_stats f))) 0 (omega arith) ∙ from-the-start (frame_stats f) (frame_sheet f)
+    go (accepted f) = from_line f room big (line_count (length (frame_stats f))) 0 (omega arith) ∙ from_the_start (frame_stats f) (frame_sheet f)

@@ -16,7 +16,7 @@ use Rattle.report_line.specs.Result.{Piece, result_piece, line_count}
 use Rattle.report.specs.WriteResult.{TextLent, text_lent, input_short, over_limit, wild, checked_piece, piece_in, PieceOut, piece_out, piece_leaves, writes_piece}
 use Rattle.report_words.specs.Outcomes.{stats_in, wild_outcome}
 use Rattle.report.specs.declared.PieceAnswer.{PieceAnswer}
-use Rattle.report.proofs.Laws.{piece-moves}
+use Rattle.report.proofs.Laws.{piece_moves}
 use Rattle.report_words.proofs.Outcomes.{stats_length}
 use Rattle.arguments.specs.Front.{over}
 use Rattle.report_line.specs.Refused.{refused_text}
@@ -48,10 +48,10 @@ module _ (corners passes : ℕ) (words sheet : List ℕ) (p : Printable corners 
   leaves = ap (λ (k : Checked). piece_leaves k (piece_in (text_lent corners passes words sheet) from (length out)) out) fine
 
   module _ (answer : PieceAnswer) (out' : List ℕ) (e : piece_out answer out' ≡ writes_piece (text_lent corners passes words sheet) from out) where
-    pub wrote-piece : (n next : ℕ) → answer ≡ PieceAnswer.Written n next
+    pub wrote_piece : (n next : ℕ) → answer ≡ PieceAnswer.Written n next
         → WrotePiece (held_piece (Recovered.Done corners passes) words sheet from (length out)) out out' (record { bytes = n; next = next })
     unfolding held_piece
-    wrote-piece n next t =
+    wrote_piece n next t =
         let w = e ∙ leaves in
         let a : answer ≡ PieceAnswer.Written (length held.text) held.next = ap (λ (o : PieceOut). o.answer) w in
         let counts : n ≡ length held.text = cc in
@@ -83,7 +83,7 @@ moves_result corners passes words sheet old new from r below room w e =
     record {
       in_room = room_for w.wrote e;
       later =
-          let m = piece-moves (stats_in passes words) sheet from (length old) (rw (stats_length words 0 passes) below) room in
+          let m = piece_moves (stats_in passes words) sheet from (length old) (rw (stats_length words 0 passes) below) room in
           omega (arith, m, w.next_so);
     }
 
@@ -96,28 +96,28 @@ refused_at_0 r line words sheet (suc k) room h = absurd (omega arith)
 
 -- what is known of an answer by its case
 module _ (a : Recovered) (words sheet : List ℕ) (can : CanSay a words sheet) (from : ℕ) (below : from < held_lines a) where
-  pub case-refused : (r : Refusal) (line : ℕ) → a ≡ Recovered.Refused r line → line ≤ 10000000
+  pub case_refused : (r : Refusal) (line : ℕ) → a ≡ Recovered.Refused r line → line ≤ 10000000
   unfolding CanSay
-  case-refused r line e = subst (λ (b : Recovered). CanSay b words sheet) e can
+  case_refused r line e = subst (λ (b : Recovered). CanSay b words sheet) e can
 
-  pub case-done : (corners passes : ℕ) → a ≡ Recovered.Done corners passes → Printable corners passes words sheet
+  pub case_done : (corners passes : ℕ) → a ≡ Recovered.Done corners passes → Printable corners passes words sheet
   unfolding CanSay
-  case-done corners passes e = subst (λ (b : Recovered). CanSay b words sheet) e can
+  case_done corners passes e = subst (λ (b : Recovered). CanSay b words sheet) e can
 
-  pub case-below : (corners passes : ℕ) → a ≡ Recovered.Done corners passes → from < line_count passes
+  pub case_below : (corners passes : ℕ) → a ≡ Recovered.Done corners passes → from < line_count passes
   unfolding held_lines
-  case-below corners passes e = subst (λ (b : Recovered). from < held_lines b) e below
+  case_below corners passes e = subst (λ (b : Recovered). from < held_lines b) e below
 
-  pub case-wrote : (b : Recovered) → a ≡ b → (old new : List ℕ) (r : PieceWritten) (room : ℕ) → WrotePiece (held_piece b words sheet from room) old new r → WrotePiece (held_piece a words sheet from room) old new r
-  case-wrote b e old new r room w = subst (λ (c : Recovered). WrotePiece (held_piece c words sheet from room) old new r) (sym e) w
+  pub case_wrote : (b : Recovered) → a ≡ b → (old new : List ℕ) (r : PieceWritten) (room : ℕ) → WrotePiece (held_piece b words sheet from room) old new r → WrotePiece (held_piece a words sheet from room) old new r
+  case_wrote b e old new r room w = subst (λ (c : Recovered). WrotePiece (held_piece c words sheet from room) old new r) (sym e) w
 
-  pub case-first : (r : Refusal) (line : ℕ) → a ≡ Recovered.Refused r line → (old new : List ℕ) (p : PieceWritten) (room : ℕ)
+  pub case_first : (r : Refusal) (line : ℕ) → a ≡ Recovered.Refused r line → (old new : List ℕ) (p : PieceWritten) (room : ℕ)
       → WrotePiece (held_piece (Recovered.Refused r line) [] [] 0 room) old new p → Moves 0 room p
       → WrotePiece (held_piece a words sheet from room) old new p × Moves from room p
   unfolding held_lines
-  case-first r line e old new p room w m =
+  case_first r line e old new p room w m =
       let h : from < 1 = subst (λ (b : Recovered). from < held_lines b) e below in
       let k : from ≡ 0 = omega (arith, h) in (
-        case-wrote (Recovered.Refused r line) e old new p room (subst (λ (q : Piece). WrotePiece q old new p) (refused_at_0 r line words sheet from room h) w),
+        case_wrote (Recovered.Refused r line) e old new p room (subst (λ (q : Piece). WrotePiece q old new p) (refused_at_0 r line words sheet from room h) w),
         rw k m,
       )

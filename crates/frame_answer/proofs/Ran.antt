@@ -26,7 +26,7 @@ use Rattle.passes.specs.Outcome.{After, Outcome, refused, done}
 use Rattle.passes.specs.Step.{unless}
 use Rattle.passes.specs.Run.{Call, PassStats, grow_stats, fill_stats, local_stats, step, sheet_after, run, sheet_of as sheetAfterAll}
 use Rattle.invariants.specs.Calls.{Standing, checked_call, after_call}
-use Rattle.invariants.proofs.Run.{step_as_lem, call_accepted, standing-after}
+use Rattle.invariants.proofs.Run.{step_as_lem, call_accepted, standing_after_lem}
 use Rattle.frame_line.specs.Lines.{PassLine}
 use Rattle.frame.specs.Frame.{Frame, parts_of, read_frame, accepted}
 use Rattle.frame.specs.Text.{WithinLimits}
@@ -81,16 +81,16 @@ left_by_list l [] k s = s
 left_by_list l (c ∷ cs) k s = left_by_list l cs (suc k) (left_by l c k s)
 
 module _ (f : Frame) (rest : List ℕ) where
-  call-read : (before after : List ℕ) (k : ℕ) (p : PassLine) → length before ≡ 6 * k → call_at (settings_of f) (shades_of f) 4096 1024 (before ++ (words_of (full_of p) ++ after)) k ≡ frameCall f p
-  call-read before after k p e = ap (call_of (settings_of f) (shades_of f) 4096 1024) (pass_read before after k (full_of p) e)
+  call_read : (before after : List ℕ) (k : ℕ) (p : PassLine) → length before ≡ 6 * k → call_at (settings_of f) (shades_of f) 4096 1024 (before ++ (words_of (full_of p) ++ after)) k ≡ frameCall f p
+  call_read before after k p e = ap (call_of (settings_of f) (shades_of f) 4096 1024) (pass_read before after k (full_of p) e)
 
   -- the passes that are read from their words are those of the frame
-  by-list : (before words : List ℕ) (ps : List PassLine) (k : ℕ) (s : Left) → length before ≡ 6 * k → words ≡ before ++ (all_words ps ++ rest)
+  by_list : (before words : List ℕ) (ps : List PassLine) (k : ℕ) (s : Left) → length before ≡ 6 * k → words ≡ before ++ (all_words ps ++ rest)
       → left_by_all (frame_corners f) (call_at (settings_of f) (shades_of f) 4096 1024 words) (length ps) k s ≡ left_by_list (frame_corners f) (map (frameCall f) ps) k s
   unfolding left_by_all left_by_list all_words
-  by-list before words [] k s e w = refl
-  by-list before words (p ∷ ps) k s e w =
-      by-list (before ++ words_of (full_of p)) words ps (suc k) _ longer again
+  by_list before words [] k s e w = refl
+  by_list before words (p ∷ ps) k s e w =
+      by_list (before ++ words_of (full_of p)) words ps (suc k) _ longer again
       ∙ ap (λ (c : Call). left_by_list (frame_corners f) (map (frameCall f) ps) (suc k) (left_by (frame_corners f) c k s)) now
     where
       split : (words_of (full_of p) ++ all_words ps) ++ rest ≡ words_of (full_of p) ++ (all_words ps ++ rest)
@@ -106,7 +106,7 @@ module _ (f : Frame) (rest : List ℕ) where
       longer = let six = six_words (full_of p) in rw length-append (omega (arith, e, six))
 
       now : call_at (settings_of f) (shades_of f) 4096 1024 words k ≡ frameCall f p
-      now = ap (λ (r : List ℕ). call_at (settings_of f) (shades_of f) 4096 1024 r k) so ∙ call-read before (all_words ps ++ rest) k p e
+      now = ap (λ (r : List ℕ). call_at (settings_of f) (shades_of f) 4096 1024 r k) so ∙ call_read before (all_words ps ++ rest) k p e
 
 -- ---- the words of an outcome
 
@@ -142,13 +142,13 @@ few_shades Unmatched.NoShades h = (omega arith, (omega arith, λ e. refl))
 few_shades (Unmatched.Count n) h = (omega arith, (h, λ e. absurd (omega arith)))
 
 module _ (words : List ℕ) (k : ℕ) where
-  tame-counts : (c : Counts) (rounds : ℕ) (kind : ℕ) (b : Bool) → FewCounts 1048576 c → rounds ≤ 64 → kind ≤ 2
+  tame_counts : (c : Counts) (rounds : ℕ) (kind : ℕ) (b : Bool) → FewCounts 1048576 c → rounds ≤ 64 → kind ≤ 2
       → word_at words k 0 ≡ kind → word_at words k 1 ≡ c.attached → word_at words k 2 ≡ c.rejected_no_candidate
       → word_at words k 3 ≡ c.rejected_ambiguous → word_at words k 4 ≡ c.rejected_edge → word_at words k 5 ≡ rounds
       → word_at words k 6 ≤ 1 → (word_at words k 6 ≡ 1 → is_finite (of_bits binary32 (word_at words k 7)) ≡ true) → word_at words k 8 ≡ bit_of b
       → (u : Unmatched) → FewUnmatched 1073741824 u → word_at words k 9 ≡ shade_flag u → word_at words k 10 ≡ unmatched_word u → (shade_flag u ≡ 1 → kind ≡ 2)
       → Tame words k
-  tame-counts c rounds kind b w r q e0 e1 e2 e3 e4 e5 l6 f7 e8 u v e9 e10 local =
+  tame_counts c rounds kind b w r q e0 e1 e2 e3 e4 e5 l6 f7 e8 u v e9 e10 local =
       record {
         kind = omega (arith, e0, q);
         attached = omega (arith, e1, w.attached);
@@ -171,47 +171,47 @@ local_words s x u =
     ∷ residual_words x (bit_of s.rim ∷ unmatched_words u)
 
 module _ (before after : List ℕ) (k : ℕ) (long : length before ≡ 11 * k) where
-  local-tame : (s : LocalStats) (x : LargestResidual) (u : Unmatched) → FewCounts 1048576 s.counts → s.iterations ≤ 64 → FiniteResidual x → FewUnmatched 1073741824 u
+  local_tame : (s : LocalStats) (x : LargestResidual) (u : Unmatched) → FewCounts 1048576 s.counts → s.iterations ≤ 64 → FiniteResidual x → FewUnmatched 1073741824 u
       → Tame (before ++ (local_words s x u ++ after)) k
-  local-tame s x u w r q v = by x u q v
+  local_tame s x u w r q v = by x u q v
     where
       at : (x : LargestResidual) (u : Unmatched) (m : ℕ) → word_at (before ++ (local_words s x u ++ after)) k m ≡ get_or (local_words s x u ++ after) m 0
       at x u m = behind before (local_words s x u ++ after) (11 * k) m long
 
       by : (x : LargestResidual) (u : Unmatched) → FiniteResidual x → FewUnmatched 1073741824 u → Tame (before ++ (local_words s x u ++ after)) k
       by LargestResidual.Nothing Unmatched.NoShades q v =
-          tame-counts _ k s.counts s.iterations 2 s.rim w r (omega arith) (at LargestResidual.Nothing Unmatched.NoShades 0) (at LargestResidual.Nothing Unmatched.NoShades 1) (at LargestResidual.Nothing Unmatched.NoShades 2) (at LargestResidual.Nothing Unmatched.NoShades 3) (at LargestResidual.Nothing Unmatched.NoShades 4) (at LargestResidual.Nothing Unmatched.NoShades 5)
+          tame_counts _ k s.counts s.iterations 2 s.rim w r (omega arith) (at LargestResidual.Nothing Unmatched.NoShades 0) (at LargestResidual.Nothing Unmatched.NoShades 1) (at LargestResidual.Nothing Unmatched.NoShades 2) (at LargestResidual.Nothing Unmatched.NoShades 3) (at LargestResidual.Nothing Unmatched.NoShades 4) (at LargestResidual.Nothing Unmatched.NoShades 5)
           (omega (arith, at LargestResidual.Nothing Unmatched.NoShades 6)) (λ h. absurd (omega (arith, h, at LargestResidual.Nothing Unmatched.NoShades 6))) (at LargestResidual.Nothing Unmatched.NoShades 8)
           Unmatched.NoShades v (at LargestResidual.Nothing Unmatched.NoShades 9) (at LargestResidual.Nothing Unmatched.NoShades 10) (λ e. refl)
       by LargestResidual.Nothing (Unmatched.Count n) q v =
-          tame-counts _ k s.counts s.iterations 2 s.rim w r (omega arith) (at LargestResidual.Nothing (Unmatched.Count n) 0) (at LargestResidual.Nothing (Unmatched.Count n) 1) (at LargestResidual.Nothing (Unmatched.Count n) 2) (at LargestResidual.Nothing (Unmatched.Count n) 3) (at LargestResidual.Nothing (Unmatched.Count n) 4) (at LargestResidual.Nothing (Unmatched.Count n) 5)
+          tame_counts _ k s.counts s.iterations 2 s.rim w r (omega arith) (at LargestResidual.Nothing (Unmatched.Count n) 0) (at LargestResidual.Nothing (Unmatched.Count n) 1) (at LargestResidual.Nothing (Unmatched.Count n) 2) (at LargestResidual.Nothing (Unmatched.Count n) 3) (at LargestResidual.Nothing (Unmatched.Count n) 4) (at LargestResidual.Nothing (Unmatched.Count n) 5)
           (omega (arith, at LargestResidual.Nothing (Unmatched.Count n) 6)) (λ h. absurd (omega (arith, h, at LargestResidual.Nothing (Unmatched.Count n) 6))) (at LargestResidual.Nothing (Unmatched.Count n) 8)
           (Unmatched.Count n) v (at LargestResidual.Nothing (Unmatched.Count n) 9) (at LargestResidual.Nothing (Unmatched.Count n) 10) (λ e. refl)
       by (LargestResidual.Residual x) Unmatched.NoShades q v =
-          tame-counts _ k s.counts s.iterations 2 s.rim w r (omega arith) (at (LargestResidual.Residual x) Unmatched.NoShades 0) (at (LargestResidual.Residual x) Unmatched.NoShades 1) (at (LargestResidual.Residual x) Unmatched.NoShades 2) (at (LargestResidual.Residual x) Unmatched.NoShades 3) (at (LargestResidual.Residual x) Unmatched.NoShades 4) (at (LargestResidual.Residual x) Unmatched.NoShades 5)
+          tame_counts _ k s.counts s.iterations 2 s.rim w r (omega arith) (at (LargestResidual.Residual x) Unmatched.NoShades 0) (at (LargestResidual.Residual x) Unmatched.NoShades 1) (at (LargestResidual.Residual x) Unmatched.NoShades 2) (at (LargestResidual.Residual x) Unmatched.NoShades 3) (at (LargestResidual.Residual x) Unmatched.NoShades 4) (at (LargestResidual.Residual x) Unmatched.NoShades 5)
           (omega (arith, at (LargestResidual.Residual x) Unmatched.NoShades 6)) (λ h. rw (at (LargestResidual.Residual x) Unmatched.NoShades 7, of_bits-to_bits binary32 x q.fit) q.finite) (at (LargestResidual.Residual x) Unmatched.NoShades 8)
           Unmatched.NoShades v (at (LargestResidual.Residual x) Unmatched.NoShades 9) (at (LargestResidual.Residual x) Unmatched.NoShades 10) (λ e. refl)
       by (LargestResidual.Residual x) (Unmatched.Count n) q v =
-          tame-counts _ k s.counts s.iterations 2 s.rim w r (omega arith) (at (LargestResidual.Residual x) (Unmatched.Count n) 0) (at (LargestResidual.Residual x) (Unmatched.Count n) 1) (at (LargestResidual.Residual x) (Unmatched.Count n) 2) (at (LargestResidual.Residual x) (Unmatched.Count n) 3) (at (LargestResidual.Residual x) (Unmatched.Count n) 4) (at (LargestResidual.Residual x) (Unmatched.Count n) 5)
+          tame_counts _ k s.counts s.iterations 2 s.rim w r (omega arith) (at (LargestResidual.Residual x) (Unmatched.Count n) 0) (at (LargestResidual.Residual x) (Unmatched.Count n) 1) (at (LargestResidual.Residual x) (Unmatched.Count n) 2) (at (LargestResidual.Residual x) (Unmatched.Count n) 3) (at (LargestResidual.Residual x) (Unmatched.Count n) 4) (at (LargestResidual.Residual x) (Unmatched.Count n) 5)
           (omega (arith, at (LargestResidual.Residual x) (Unmatched.Count n) 6)) (λ h. rw (at (LargestResidual.Residual x) (Unmatched.Count n) 7, of_bits-to_bits binary32 x q.fit) q.finite) (at (LargestResidual.Residual x) (Unmatched.Count n) 8)
           (Unmatched.Count n) v (at (LargestResidual.Residual x) (Unmatched.Count n) 9) (at (LargestResidual.Residual x) (Unmatched.Count n) 10) (λ e. refl)
 
-  outcome-tame : (s : PassStats) → Small s → Tame (before ++ (outcome_words s ++ after)) k
+  outcome_tame : (s : PassStats) → Small s → Tame (before ++ (outcome_words s ++ after)) k
   unfolding outcome_words
-  outcome-tame (grow_stats s) (small_grow w) =
-      tame-counts _ k s.counts 0 0 s.rim w (omega arith) (omega arith) (at 0) (at 1) (at 2) (at 3) (at 4) (at 5) (omega (arith, at 6)) (λ h. absurd (omega (arith, h, at 6))) (at 8)
+  outcome_tame (grow_stats s) (small_grow w) =
+      tame_counts _ k s.counts 0 0 s.rim w (omega arith) (omega arith) (at 0) (at 1) (at 2) (at 3) (at 4) (at 5) (omega (arith, at 6)) (λ h. absurd (omega (arith, h, at 6))) (at 8)
       Unmatched.NoShades tt (at 9) (at 10) (λ e. absurd (omega arith))
     where
       at : (m : ℕ) → word_at (before ++ (outcome_words (grow_stats s) ++ after)) k m ≡ get_or (outcome_words (grow_stats s) ++ after) m 0
       at m = behind before (outcome_words (grow_stats s) ++ after) (11 * k) m long
-  outcome-tame (fill_stats s) (small_fill w r) =
-      tame-counts _ k (record { attached = s.added; rejected_no_candidate = 0; rejected_ambiguous = 0; rejected_edge = 0 }) s.iterations 1 s.rim
+  outcome_tame (fill_stats s) (small_fill w r) =
+      tame_counts _ k (record { attached = s.added; rejected_no_candidate = 0; rejected_ambiguous = 0; rejected_edge = 0 }) s.iterations 1 s.rim
       (record { attached = w; no_candidate = omega arith; ambiguous = omega arith; edge = omega arith }) r (omega arith) (at 0) (at 1) (at 2) (at 3) (at 4) (at 5) (omega (arith, at 6)) (λ h. absurd (omega (arith, h, at 6))) (at 8)
       Unmatched.NoShades tt (at 9) (at 10) (λ e. absurd (omega arith))
     where
       at : (m : ℕ) → word_at (before ++ (outcome_words (fill_stats s) ++ after)) k m ≡ get_or (outcome_words (fill_stats s) ++ after) m 0
       at m = behind before (outcome_words (fill_stats s) ++ after) (11 * k) m long
-  outcome-tame (local_stats s) (small_local w r q u) = local-tame s s.residual s.unmatched w r q u
+  outcome_tame (local_stats s) (small_local w r q u) = local_tame s s.residual s.unmatched w r q u
 
 eleven_words : (s : PassStats) → length (outcome_words s) ≡ 11
 unfolding outcome_words
@@ -244,12 +244,12 @@ module _ (words : List ℕ) (k : ℕ) (s : PassStats) (room : 11 * k + 11 ≤ le
   front : length (take (11 * k) words) ≡ 11 * k
   front = length-take-le (11 * k) words (omega (arith, room))
 
-  put-length : length (with_outcome words k s) ≡ length words
-  put-length = let eleven = eleven_words s in rw (length-append, length-append, length-drop, front, eleven) (omega (arith, room))
+  put_length : length (with_outcome words k s) ≡ length words
+  put_length = let eleven = eleven_words s in rw (length-append, length-append, length-drop, front, eleven) (omega (arith, room))
 
   -- what is put is tame, and what stands before it is left
-  put-tame : Small s → ((i : ℕ) → i < k → wild_outcome words i ≡ false) → (i : ℕ) → i < suc k → wild_outcome (with_outcome words k s) i ≡ false
-  put-tame w t i h = go (dec_lt i k)
+  put_tame : Small s → ((i : ℕ) → i < k → wild_outcome words i ≡ false) → (i : ℕ) → i < suc k → wild_outcome (with_outcome words k s) i ≡ false
+  put_tame w t i h = go (dec_lt i k)
     where
       word : (m : ℕ) → i < k → m < 11 → word_at (with_outcome words k s) i m ≡ word_at words i m
       word m l b =
@@ -261,7 +261,7 @@ module _ (words : List ℕ) (k : ℕ) (s : PassStats) (room : 11 * k + 11 ≤ le
 
       go : Dec (i < k) → wild_outcome (with_outcome words k s) i ≡ false
       go (yes l) = same l ∙ t i l
-      go (no n) = let e : i ≡ k = omega (arith, h, n) in rw e (not_wild _ k (outcome-tame (take (11 * k) words) (drop (11 * k + 11) words) k front s w))
+      go (no n) = let e : i ≡ k = omega (arith, h, n) in rw e (not_wild _ k (outcome_tame (take (11 * k) words) (drop (11 * k + 11) words) k front s w))
 
 -- ---- what a list of calls leaves
 
@@ -290,7 +290,7 @@ one_more k n words sheet s stats end room w a =
     let e : k + suc n ≡ suc k + n = omega arith in
     record {
       sheet_so = a.sheet_so;
-      words_long = a.words_long ∙ put-length words k s room;
+      words_long = a.words_long ∙ put_length words k s room;
       stats_so =
           ap (λ (m : ℕ). stats_in m end.words) e ∙ a.stats_so
           ∙ ap (λ (l : List PassStats). l ++ stats) (put_last words k s (record { there = room }) (is_float s w))
@@ -323,7 +323,7 @@ said l (c ∷ cs) k sheet words none room t = go (step l sheet c) (answered l sh
     go o (answers_not r) q w = absurd q
     go o (answers a m) q w =
         one_more k (length cs) words (sheetAfterAll l a.sheet cs) a.answer (stats_of (run l a.sheet cs)) _ here m
-        (w a.sheet (with_outcome words k a.answer) q (omega (arith, room, put-length words k a.answer here)) (put-tame words k a.answer here m t))
+        (w a.sheet (with_outcome words k a.answer) q (omega (arith, room, put_length words k a.answer here)) (put_tame words k a.answer here m t))
 
 -- ---- the law
 
@@ -336,23 +336,23 @@ module _ (f : Frame) (w : WithinLimits f) (stands : Standing (frame_corners f) (
   unfolding xs_of
   as_many = length-map (parts_of f).corners (λ c. float_of c.x)
 
-  as-many-calls : length (calls_of f) ≡ length (parts_of f).passes
+  as_many_calls : length (calls_of f) ≡ length (parts_of f).passes
   unfolding calls_of
-  as-many-calls = length-map (parts_of f).passes (frameCall f)
+  as_many_calls = length-map (parts_of f).passes (frameCall f)
 
-  as-list : (passes₀ words₀ : List ℕ) → ran_of f passes₀ words₀ ≡ left_by_list (frame_corners f) (calls_of f) 0 (left (sheet_of f) words₀)
+  as_list : (passes₀ words₀ : List ℕ) → ran_of f passes₀ words₀ ≡ left_by_list (frame_corners f) (calls_of f) 0 (left (sheet_of f) words₀)
   unfolding calls_of
-  as-list passes₀ words₀ = by-list f (drop (length (all_words (parts_of f).passes)) passes₀) [] _ (parts_of f).passes 0 (left (sheet_of f) words₀) refl refl
+  as_list passes₀ words₀ = by_list f (drop (length (all_words (parts_of f).passes)) passes₀) [] _ (parts_of f).passes 0 (left (sheet_of f) words₀) refl refl
 
-  last-stands : Standing (frame_corners f) (frame_sheet f)
+  last_stands : Standing (frame_corners f) (frame_sheet f)
   unfolding frame_sheet
-  last-stands = standing-after (frame_corners f) (sheet_of f) stands (calls_of f)
+  last_stands = standing_after_lem (frame_corners f) (sheet_of f) stands (calls_of f)
 
-  record-so : (words₀ : List ℕ) → 176 ≤ length words₀ → (end : Left) → Said 0 (length (calls_of f)) words₀ (frame_sheet f) (frame_stats f) end
+  record_so : (words₀ : List ℕ) → 176 ≤ length words₀ → (end : Left) → Said 0 (length (calls_of f)) words₀ (frame_sheet f) (frame_stats f) end
       → Recorded f (length (parts_of f).corners) (length (parts_of f).passes) end.sheet end.words
   unfolding stats_from
-  record-so words₀ long end a =
-      let n = as-many-calls in
+  record_so words₀ long end a =
+      let n = as_many_calls in
       let so : end.sheet ≡ frame_sheet f = a.sheet_so in
       let count : 0 + length (calls_of f) ≡ length (parts_of f).passes = omega (arith, n) in
       record {
@@ -361,22 +361,22 @@ module _ (f : Frame) (w : WithinLimits f) (stands : Standing (frame_corners f) (
         few_corners = w.corners;
         few_passes = w.passes;
         words_long = omega (arith, w.passes, long, a.words_long);
-        sheet_long = rw so last-stands.given.long;
+        sheet_long = rw so last_stands.given.long;
         sheet_so = so;
         stats_so = ap (λ (m : ℕ). stats_in m end.words) (sym count) ∙ a.stats_so;
         tame = λ k h. a.tame k (omega (arith, h, count));
-        known = rw so (not_unknown _ _ (record { known = λ p k h e. let b = last-stands.given.known p k h e in omega (arith, b, as_many) }));
-        once = rw so (not_doubled _ last-stands.one_cell);
+        known = rw so (not_unknown _ _ (record { known = λ p k h e. let b = last_stands.given.known p k h e in omega (arith, b, as_many) }));
+        once = rw so (not_doubled _ last_stands.one_cell);
       }
 
-  ran-so : (passes₀ words₀ : List ℕ) → 176 ≤ length words₀ → Recorded f (length (parts_of f).corners) (length (parts_of f).passes) (ran_of f passes₀ words₀).sheet (ran_of f passes₀ words₀).words
+  ran_so : (passes₀ words₀ : List ℕ) → 176 ≤ length words₀ → Recorded f (length (parts_of f).corners) (length (parts_of f).passes) (ran_of f passes₀ words₀).sheet (ran_of f passes₀ words₀).words
   unfolding frame_sheet frame_stats
-  ran-so passes₀ words₀ long =
-      subst (λ (e : Left). Recorded f (length (parts_of f).corners) (length (parts_of f).passes) e.sheet e.words) (sym (as-list passes₀ words₀))
-      (record-so words₀ long _ (said (frame_corners f) (calls_of f) 0 (sheet_of f) words₀ runs (omega (arith, as-many-calls, w.passes, long)) (λ i h. absurd (not-suc-le-zero h))))
+  ran_so passes₀ words₀ long =
+      subst (λ (e : Left). Recorded f (length (parts_of f).corners) (length (parts_of f).passes) e.sheet e.words) (sym (as_list passes₀ words₀))
+      (record_so words₀ long _ (said (frame_corners f) (calls_of f) 0 (sheet_of f) words₀ runs (omega (arith, as_many_calls, w.passes, long)) (λ i h. absurd (not-suc-le-zero h))))
 
 pub recorded : (text : List ℕ) (f : Frame) → read_frame text ≡ accepted f → (passes₀ words₀ : List ℕ) → 96 ≤ length passes₀ → 176 ≤ length words₀
     → Recorded f (length (parts_of f).corners) (length (parts_of f).passes) (ran_of f passes₀ words₀).sheet (ran_of f passes₀ words₀).words
 recorded text f e passes₀ words₀ six nine =
     let s = accepted_runs text f e in
-    ran-so f (frame_prints_back text f e).within s.standing s.runs passes₀ words₀ nine
+    ran_so f (frame_prints_back text f e).within s.standing s.runs passes₀ words₀ nine

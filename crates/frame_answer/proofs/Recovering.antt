@@ -38,11 +38,11 @@ drop_all (a ∷ l) = drop_all l
 -- a list read again from the front of a buffer
 take_over : {A : Type 0} (written buffer : List A) → take (length written) (over written buffer) ≡ written
 take_over [] buffer = refl
-take_over (w ∷ written) buffer = ap (λ (l : List _). w ∷ l) (take-front written (drop (suc (length written)) buffer))
+take_over (w ∷ written) buffer = ap (λ (l : List _). w ∷ l) (take_front written (drop (suc (length written)) buffer))
   where
-    take-front : {A : Type 0} (a b : List A) → take (length a) (a ++ b) ≡ a
-    take-front [] b = refl
-    take-front (x ∷ a) b = ap (λ (l : List _). x ∷ l) (take-front a b)
+    take_front : {A : Type 0} (a b : List A) → take (length a) (a ++ b) ≡ a
+    take_front [] b = refl
+    take_front (x ∷ a) b = ap (λ (l : List _). x ∷ l) (take_front a b)
 
 over_long : {A : Type 0} (written buffer : List A) → length written ≤ length buffer → length (over written buffer) ≡ length buffer
 over_long written buffer h = simp (length-append, length-drop) (omega (arith, h))
@@ -92,8 +92,8 @@ module _ (text : List ℕ) (xs ys pitches : List Float) (shades sheet passes : L
 
   module _ (answer : FrameAnswer) (xs' ys' pitches' : List Float) (shades' sheet' passes' : List ℕ)
       (e : frame_out answer xs' ys' pitches' shades' sheet' passes' ≡ read_into text lent) where
-    read-refused : (r : Refusal) (n : ℕ) → answer ≡ FrameAnswer.Refused r n → read_frame text ≡ refused_at r n
-    read-refused r n t = go (read_frame text) (e ∙ into)
+    read_refused : (r : Refusal) (n : ℕ) → answer ≡ FrameAnswer.Refused r n → read_frame text ≡ refused_at r n
+    read_refused r n t = go (read_frame text) (e ∙ into)
       where
         go : (a : FrameRead) → frame_out answer xs' ys' pitches' shades' sheet' passes' ≡ leaves a lent → a ≡ refused_at r n
         go (refused_at r' n') w = let s : answer ≡ FrameAnswer.Refused r' n' = ap (λ (o : FrameOut). o.answer) w in cc
@@ -102,28 +102,28 @@ module _ (text : List ℕ) (xs ys pitches : List Float) (shades sheet passes : L
             let z : ◌≡◌ {A = ℕ} 0 1 = cc in omega arith)
 
     -- so a refused frame leaves all as it was
-    pub recovered-not : (r : Refusal) (n : ℕ) → answer ≡ FrameAnswer.Refused r n → (queue places words : List ℕ) → Recovers text (lent_as xs ys pitches shades sheet passes queue places words)
+    pub recovered_not : (r : Refusal) (n : ℕ) → answer ≡ FrameAnswer.Refused r n → (queue places words : List ℕ) → Recovers text (lent_as xs ys pitches shades sheet passes queue places words)
         (lent_as xs' ys' pitches' shades' sheet' passes' queue places words) (Recovered.Refused r n)
-    recovered-not r n t queue places words =
-        let q = read-refused r n t in
+    recovered_not r n t queue places words =
+        let q = read_refused r n t in
         let w : frame_out answer xs' ys' pitches' shades' sheet' passes' ≡ leaves (refused_at r n) lent = e ∙ into ∙ ap (λ (a : FrameRead). leaves a lent) q in
         recovers_not r n q (ap (λ (o : FrameOut). record { frame = o.buffers; queue = queue; attached = places; words = words }) w)
 
     -- what an accepted frame leaves
     pub record Read (head : FrameHead) : Type 0 where
       pub frame : Frame
-      pub is-accepted : read_frame text ≡ accepted frame
+      pub is_accepted : read_frame text ≡ accepted frame
       pub within : WithinLimits frame
-      pub head-so : head ≡ record { settings = settings_of frame; corners = length (parts_of frame).corners; passes = length (parts_of frame).passes }
-      pub xs-so : xs' ≡ over (xs_of frame) xs
-      pub ys-so : ys' ≡ over (ys_of frame) ys
-      pub pitches-so : pitches' ≡ over (pitches_of frame) pitches
-      pub shades-so : shades' ≡ over (shades_of frame) shades
+      pub head_so : head ≡ record { settings = settings_of frame; corners = length (parts_of frame).corners; passes = length (parts_of frame).passes }
+      pub xs_so : xs' ≡ over (xs_of frame) xs
+      pub ys_so : ys' ≡ over (ys_of frame) ys
+      pub pitches_so : pitches' ≡ over (pitches_of frame) pitches
+      pub shades_so : shades' ≡ over (shades_of frame) shades
       pub sheet_so : sheet' ≡ over (sheet_of frame) sheet
-      pub passes-so : passes' ≡ over (all_words (parts_of frame).passes) passes
+      pub passes_so : passes' ≡ over (all_words (parts_of frame).passes) passes
 
-    read-accepted : (head : FrameHead) → answer ≡ FrameAnswer.Accepted head → Read head
-    read-accepted head t = go (read_frame text) refl (e ∙ into)
+    read_accepted : (head : FrameHead) → answer ≡ FrameAnswer.Accepted head → Read head
+    read_accepted head t = go (read_frame text) refl (e ∙ into)
       where
         go : (a : FrameRead) → read_frame text ≡ a → frame_out answer xs' ys' pitches' shades' sheet' passes' ≡ leaves a lent → Read head
         go (refused_at r n) q w =
@@ -132,34 +132,34 @@ module _ (text : List ℕ) (xs ys pitches : List Float) (shades sheet passes : L
             let s : answer ≡ FrameAnswer.Accepted (record { settings = settings_of f; corners = length (parts_of f).corners; passes = length (parts_of f).passes }) = ap (λ (o : FrameOut). o.answer) w in
             record {
               frame = f;
-              is-accepted = q;
+              is_accepted = q;
               within = (frame_prints_back text f q).within;
-              head-so = cc;
-              xs-so = ap (λ (o : FrameOut). o.buffers.xs) w;
-              ys-so = ap (λ (o : FrameOut). o.buffers.ys) w;
-              pitches-so = ap (λ (o : FrameOut). o.buffers.pitches) w;
-              shades-so = ap (λ (o : FrameOut). o.buffers.shades) w;
+              head_so = cc;
+              xs_so = ap (λ (o : FrameOut). o.buffers.xs) w;
+              ys_so = ap (λ (o : FrameOut). o.buffers.ys) w;
+              pitches_so = ap (λ (o : FrameOut). o.buffers.pitches) w;
+              shades_so = ap (λ (o : FrameOut). o.buffers.shades) w;
               sheet_so = ap (λ (o : FrameOut). o.buffers.sheet) w;
-              passes-so = ap (λ (o : FrameOut). o.buffers.passes) w;
+              passes_so = ap (λ (o : FrameOut). o.buffers.passes) w;
             }
 
     -- what running the passes of the accepted frame asks
-    passes-ready : (head : FrameHead) → Read head → PassWords head.passes passes'
-    passes-ready head w =
-        let lengths : length passes' ≡ length passes = ap length w.passes-so ∙ over_long (all_words (parts_of w.frame).passes) passes (omega (arith, words_length (parts_of w.frame).passes, w.within.passes, room.passes_long)) in
-        let count : head.passes ≡ length (parts_of w.frame).passes = ap (λ (h : FrameHead). h.passes) w.head-so in
+    passes_ready : (head : FrameHead) → Read head → PassWords head.passes passes'
+    passes_ready head w =
+        let lengths : length passes' ≡ length passes = ap length w.passes_so ∙ over_long (all_words (parts_of w.frame).passes) passes (omega (arith, words_length (parts_of w.frame).passes, w.within.passes, room.passes_long)) in
+        let count : head.passes ≡ length (parts_of w.frame).passes = ap (λ (h : FrameHead). h.passes) w.head_so in
         record { few = omega (arith, count, w.within.passes); long = omega (arith, lengths, room.passes_long) }
 
-    corners-ready : (head : FrameHead) → Read head → AtFront head.corners xs' ys' pitches' shades'
+    corners_ready : (head : FrameHead) → Read head → AtFront head.corners xs' ys' pitches' shades'
     unfolding xs_of ys_of pitches_of
-    corners-ready head w =
+    corners_ready head w =
         let f = w.frame in
         let few = w.within.corners in
-        let count : head.corners ≡ length (parts_of f).corners = ap (λ (h : FrameHead). h.corners) w.head-so in
-        let a : length xs' ≡ length xs = ap length w.xs-so ∙ over_long (xs_of f) xs (omega (arith, length-map (parts_of f).corners (λ (c : CornerLine). float_of c.x), few, room.xs_long)) in
-        let b : length ys' ≡ length ys = ap length w.ys-so ∙ over_long (ys_of f) ys (omega (arith, length-map (parts_of f).corners (λ (c : CornerLine). float_of c.y), few, room.ys_long)) in
-        let d : length pitches' ≡ length pitches = ap length w.pitches-so ∙ over_long (pitches_of f) pitches (omega (arith, length-map (parts_of f).corners (λ (c : CornerLine). float_of c.pitch), few, room.pitches_long)) in
-        let e : length shades' ≡ length shades = ap length w.shades-so ∙ over_long (shades_of f) shades (omega (arith, shades_long f, few, room.shades_long)) in
+        let count : head.corners ≡ length (parts_of f).corners = ap (λ (h : FrameHead). h.corners) w.head_so in
+        let a : length xs' ≡ length xs = ap length w.xs_so ∙ over_long (xs_of f) xs (omega (arith, length-map (parts_of f).corners (λ (c : CornerLine). float_of c.x), few, room.xs_long)) in
+        let b : length ys' ≡ length ys = ap length w.ys_so ∙ over_long (ys_of f) ys (omega (arith, length-map (parts_of f).corners (λ (c : CornerLine). float_of c.y), few, room.ys_long)) in
+        let d : length pitches' ≡ length pitches = ap length w.pitches_so ∙ over_long (pitches_of f) pitches (omega (arith, length-map (parts_of f).corners (λ (c : CornerLine). float_of c.pitch), few, room.pitches_long)) in
+        let e : length shades' ≡ length shades = ap length w.shades_so ∙ over_long (shades_of f) shades (omega (arith, shades_long f, few, room.shades_long)) in
         record {
           in_xs = omega (arith, count, a, few, room.xs_long);
           in_ys = omega (arith, count, b, few, room.ys_long);
@@ -167,23 +167,23 @@ module _ (text : List ℕ) (xs ys pitches : List Float) (shades sheet passes : L
           in_shades = omega (arith, count, e, few, room.shades_long);
         }
 
-    corners-read : (head : FrameHead) (w : Read head) → corner_lists (take head.corners xs') (take head.corners ys') (take head.corners pitches') ≡ frame_corners w.frame
+    corners_read : (head : FrameHead) (w : Read head) → corner_lists (take head.corners xs') (take head.corners ys') (take head.corners pitches') ≡ frame_corners w.frame
     unfolding xs_of ys_of pitches_of
-    corners-read head w =
+    corners_read head w =
         let f = w.frame in
-        let count : head.corners ≡ length (parts_of f).corners = ap (λ (h : FrameHead). h.corners) w.head-so in
-        rw (w.xs-so, w.ys-so, w.pitches-so, count)
+        let count : head.corners ≡ length (parts_of f).corners = ap (λ (h : FrameHead). h.corners) w.head_so in
+        rw (w.xs_so, w.ys_so, w.pitches_so, count)
         (λ t.
         corner_lists (front (λ (c : CornerLine). float_of c.x) (parts_of f).corners xs t) (front (λ (c : CornerLine). float_of c.y) (parts_of f).corners ys t)
         (front (λ (c : CornerLine). float_of c.pitch) (parts_of f).corners pitches t))
 
-    shades-read : (head : FrameHead) (w : Read head) → take head.corners shades' ≡ shades_of w.frame
-    shades-read head w =
-        let count : head.corners ≡ length (parts_of w.frame).corners = ap (λ (h : FrameHead). h.corners) w.head-so in
-        rw (w.shades-so, count, sym (shades_long w.frame)) (take_over (shades_of w.frame) shades)
+    shades_read : (head : FrameHead) (w : Read head) → take head.corners shades' ≡ shades_of w.frame
+    shades_read head w =
+        let count : head.corners ≡ length (parts_of w.frame).corners = ap (λ (h : FrameHead). h.corners) w.head_so in
+        rw (w.shades_so, count, sym (shades_long w.frame)) (take_over (shades_of w.frame) shades)
 
-    sheet-read : (head : FrameHead) (w : Read head) → sheet' ≡ sheet_of w.frame
-    sheet-read head w = w.sheet_so ∙ over_whole (sheet_of w.frame) sheet (sheet_length w.frame ∙ sym room.sheet_whole)
+    sheet_read : (head : FrameHead) (w : Read head) → sheet' ≡ sheet_of w.frame
+    sheet_read head w = w.sheet_so ∙ over_whole (sheet_of w.frame) sheet (sheet_length w.frame ∙ sym room.sheet_whole)
 
     -- equal arguments lead to equal ends
     same : (words : List ℕ) {l l' : CornerLists} {set set' : Settings} {k k' : List ℕ} {q q' a a' : ℕ} {ps ps' : List ℕ} {m m' : ℕ} {s s' : List ℕ}
@@ -196,36 +196,36 @@ module _ (text : List ℕ) (xs ys pitches : List Float) (shades sheet passes : L
         → left after.frame.sheet after.words ≡ left_by_all (corner_lists (take head.corners xs') (take head.corners ys') (take head.corners pitches')) (call_at head.settings (take head.corners shades') (length queue) (length places) passes') head.passes 0 (left sheet' words)
         → Recovers text before after (Recovered.Done head.corners head.passes)
     recovered head w queue places words r before after g =
-        recovers f head.corners head.passes w.is-accepted
-        (subst (λ (n : ℕ). Recorded f n head.passes after.frame.sheet after.words) (sym corners-so)
+        recovers f head.corners head.passes w.is_accepted
+        (subst (λ (n : ℕ). Recorded f n head.passes after.frame.sheet after.words) (sym corners_so)
         (subst (λ (m : ℕ). Recorded f (length (parts_of f).corners) m after.frame.sheet after.words) (sym passes_count)
         (subst (λ (s : Left). Recorded f (length (parts_of f).corners) (length (parts_of f).passes) s.sheet s.words) (sym so)
-        (recorded text f w.is-accepted passes words room.passes_long r.words_long))))
+        (recorded text f w.is_accepted passes words room.passes_long r.words_long))))
       where
         f : Frame
         f = w.frame
 
-        corners-so : head.corners ≡ length (parts_of f).corners
-        corners-so = ap (λ (h : FrameHead). h.corners) w.head-so
+        corners_so : head.corners ≡ length (parts_of f).corners
+        corners_so = ap (λ (h : FrameHead). h.corners) w.head_so
 
         passes_count : head.passes ≡ length (parts_of f).passes
-        passes_count = ap (λ (h : FrameHead). h.passes) w.head-so
+        passes_count = ap (λ (h : FrameHead). h.passes) w.head_so
 
-        settings-so : head.settings ≡ settings_of f
-        settings-so = ap (λ (h : FrameHead). h.settings) w.head-so
+        settings_so : head.settings ≡ settings_of f
+        settings_so = ap (λ (h : FrameHead). h.settings) w.head_so
 
         so : left after.frame.sheet after.words ≡ left_by_all (frame_corners f) (call_at (settings_of f) (shades_of f) 4096 1024 (over (all_words (parts_of f).passes) passes)) (length (parts_of f).passes) 0 (left (sheet_of f) words)
         so =
             g
-            ∙ same words (corners-read head w) settings-so (shades-read head w) r.queue_whole r.attached_whole w.passes-so passes_count (sheet-read head w)
+            ∙ same words (corners_read head w) settings_so (shades_read head w) r.queue_whole r.attached_whole w.passes_so passes_count (sheet_read head w)
 
     -- the same, from what the reader answers
     module _ (head : FrameHead) (t : answer ≡ FrameAnswer.Accepted head) where
-      pub frame-ready : (queue places words : List ℕ) → PassRoom queue places words
+      pub frame_ready : (queue places words : List ℕ) → PassRoom queue places words
           → PassWords head.passes passes' × (AtFront head.corners xs' ys' pitches' shades' × (all_outcome_words ≤ length words))
-      frame-ready queue places words r = let w = read-accepted head t in (passes-ready head w, (corners-ready head w, r.words_long))
+      frame_ready queue places words r = let w = read_accepted head t in (passes_ready head w, (corners_ready head w, r.words_long))
 
-      pub recovered-done : (queue places words : List ℕ) → PassRoom queue places words → (before after : Lent)
+      pub recovered_done : (queue places words : List ℕ) → PassRoom queue places words → (before after : Lent)
           → left after.frame.sheet after.words ≡ left_by_all (corner_lists (take head.corners xs') (take head.corners ys') (take head.corners pitches')) (call_at head.settings (take head.corners shades') (length queue) (length places) passes') head.passes 0 (left sheet' words)
           → Recovers text before after (Recovered.Done head.corners head.passes)
-      recovered-done queue places words r before after g = recovered head (read-accepted head t) queue places words r before after g
+      recovered_done queue places words r before after g = recovered head (read_accepted head t) queue places words r before after g

@@ -14,7 +14,7 @@ use Rattle.frame_line.specs.declared.Kind.{Kind}
 use Rattle.frame_line.specs.declared.HeldLine.{HeldLine}
 use Rattle.frame_line.specs.declared.Sort.{Sort}
 use Rattle.frame_line.proofs.Shapes.{row_of, row_of_lem}
-use Rattle.frame_line.proofs.Words.{label_on, corner-known}
+use Rattle.frame_line.proofs.Words.{label_on, corner_known}
 use Rattle.sizes.specs.Sizes.{corner_limit}
 use Rattle.frame_check.specs.Checks.{checks_in_order, LabelFits, SetFits, NumbersFine}
 
@@ -67,7 +67,7 @@ checks_alike f g over twice twice' e t =
 -- the corner of either has an entry
 module _ (n m : ℕ) (line : HeldLine) (f : NumbersFine n m line) (kind : Kind) (e : kind_at line.row ≡ kind) where
   corner_fits : sort_at (row_of kind) 0 ≡ Sort.Corner → count_in (get_or line.values 0 0) < corner_limit
-  corner_fits first = omega (arith, corner-known n line kind (row_of_lem line.row kind f.fits.row_fits e) first f.known, f.fits.few)
+  corner_fits first = omega (arith, corner_known n line kind (row_of_lem line.row kind f.fits.row_fits e) first f.known, f.fits.few)
 
 pub label_fits : (n m : ℕ) (line : HeldLine) → NumbersFine n m line → kind_at line.row ≡ Kind.Label → LabelFits (label_in line.values)
 unfolding sort_at sort_of row_at rows

@@ -28,7 +28,7 @@ use Rattle.frame.specs.Text.{frame_text, InOrder, ends, next, InRange, Joinable,
 use Rattle.frame.proofs.Adding.{below_or_not, line_fine}
 use Rattle.frame.proofs.Turn.{parts_more}
 use Rattle.frame_laws.proofs.Parts.{all_map, all_given, Limits, limits_after, limits_before, limits_first, no_limits, within_limits, frame_limits}
-use Rattle.frame_laws.proofs.Joining.{joinable-whole}
+use Rattle.frame_laws.proofs.Joining.{joinable_whole}
 use Rattle.frame_laws.proofs.Refusals.{Stepping, stops, goes, stepping, Ending, all_read, one_fails, one_missing, sets_apart, ending}
 
 -- ---- the lines of what is printed
@@ -183,4 +183,4 @@ pub frame_reads_back : FrameReadsBack
 unfolding read_frame parts_of parts_from
 frame_reads_back f w =
     rw (le-ltb byte_limit (length (frame_text f)) w.bytes, lines_printed (length (parts_of f).corners) f w.numbers)
-    (passing_read 1 [] refl (within_passes 0 no_parts f w.order w.numbers (frame_limits w)) ∙ joinable-whole f w.joins)
+    (passing_read 1 [] refl (within_passes 0 no_parts f w.order w.numbers (frame_limits w)) ∙ joinable_whole f w.joins)

@@ -8,7 +8,7 @@ use native.Mathlib.Omega.{arith}
 use Rattle.refusal.specs.declared.Refusal.{Refusal}
 use Rattle.join.specs.Rule.{Placed}
 use Rattle.join.specs.Join.{Joined, apart, clash, off, union_of, union, joined, JoinMeaning}
-use Rattle.join.proofs.Join.{joined-so, so-joined}
+use Rattle.join.proofs.Join.{joined_so, so_joined}
 use Rattle.frame.specs.Frame.{Frame, parts_of, first_set, second_set, join_if, join_of, labels_in, given_of, patch_line, FrameRead, refused_at, accepted, finish_by, finish}
 use Rattle.frame.specs.Text.{Joinable, Unjoined, are_apart, do_clash, goes_off}
 
@@ -29,54 +29,54 @@ module _ (f : Frame) where
   unfolding join_of
   both_sets_holds e = ap (λ (t : Bool). join_if t first second) e
 
-  pub one-given : (parts_of f).patched ≡ false → given_of (parts_of f) ≡ first
+  pub one_given : (parts_of f).patched ≡ false → given_of (parts_of f) ≡ first
   unfolding given_of
-  one-given e = ap labels_in (one_set e)
+  one_given e = ap labels_in (one_set e)
 
   -- two sets that can be joined are: by their shift
   pub joins : (parts_of f).patched ≡ true → (j : Joinable first second) → join_of (parts_of f) ≡ union_of (union first second j.shift)
   joins e j =
       both_sets_holds e
-      ∙ so-joined first second (union_of (union first second j.shift)) (record { shared = j.shared; shift = j.shift; onto = j.onto; is_union = refl })
+      ∙ so_joined first second (union_of (union first second j.shift)) (record { shared = j.shared; shift = j.shift; onto = j.onto; is_union = refl })
 
   -- the given labels of an accepted frame with a patch line are the union
-  pub both-given : (e : (parts_of f).patched ≡ true) → Joinable first second → joined first second ≡ union_of (given_of (parts_of f))
+  pub both_given : (e : (parts_of f).patched ≡ true) → Joinable first second → joined first second ≡ union_of (given_of (parts_of f))
   unfolding given_of
-  both-given e j = sym (both_sets_holds e) ∙ joins e j ∙ sym (ap (λ (x : Joined). union_of (labels_in x)) (joins e j))
+  both_given e j = sym (both_sets_holds e) ∙ joins e j ∙ sym (ap (λ (x : Joined). union_of (labels_in x)) (joins e j))
 
   -- ---- how the reading ends
 
   pub data Finishing : FrameRead → Type 0 where
     is_whole : ((parts_of f).patched ≡ true → Joinable first second) → Finishing (accepted f)
-    not-joined : (r : Refusal) → (parts_of f).patched ≡ true → Unjoined first second r → Finishing (refused_at r (patch_line (parts_of f)))
+    not_joined : (r : Refusal) → (parts_of f).patched ≡ true → Unjoined first second r → Finishing (refused_at r (patch_line (parts_of f)))
 
-  by-meaning : (parts_of f).patched ≡ true → (j : Joined) → JoinMeaning first second j → Finishing (finish_by j f)
-  by-meaning e apart m = not-joined Refusal.NoSharedCorner e (are_apart m)
-  by-meaning e clash m = not-joined Refusal.PatchesClash e (do_clash m)
-  by-meaning e off m = not-joined Refusal.OffSheet e (goes_off m)
-  by-meaning e (union_of u) m = is_whole (λ q. record { shared = m.shared; shift = m.shift; onto = m.onto })
+  by_meaning : (parts_of f).patched ≡ true → (j : Joined) → JoinMeaning first second j → Finishing (finish_by j f)
+  by_meaning e apart m = not_joined Refusal.NoSharedCorner e (are_apart m)
+  by_meaning e clash m = not_joined Refusal.PatchesClash e (do_clash m)
+  by_meaning e off m = not_joined Refusal.OffSheet e (goes_off m)
+  by_meaning e (union_of u) m = is_whole (λ q. record { shared = m.shared; shift = m.shift; onto = m.onto })
 
   pub finishing : Finishing (finish f)
   unfolding finish
   finishing = go (parts_of f).patched refl
     where
       go : (t : Bool) → (parts_of f).patched ≡ t → Finishing (finish_by (join_of (parts_of f)) f)
-      go true e = subst (λ (j : Joined). Finishing (finish_by j f)) (sym (both_sets_holds e)) (by-meaning e (joined first second) (joined-so first second))
+      go true e = subst (λ (j : Joined). Finishing (finish_by j f)) (sym (both_sets_holds e)) (by_meaning e (joined first second) (joined_so first second))
       go false e =
           subst (λ (j : Joined). Finishing (finish_by j f)) (sym (one_set e)) (is_whole (λ q. absurd (true≢false (sym q ∙ e))))
 
   -- ---- and conversely
 
-  pub joinable-whole : ((parts_of f).patched ≡ true → Joinable first second) → finish f ≡ accepted f
+  pub joinable_whole : ((parts_of f).patched ≡ true → Joinable first second) → finish f ≡ accepted f
   unfolding finish
-  joinable-whole h = go (parts_of f).patched refl
+  joinable_whole h = go (parts_of f).patched refl
     where
       go : (t : Bool) → (parts_of f).patched ≡ t → finish_by (join_of (parts_of f)) f ≡ accepted f
       go true e = ap (λ (j : Joined). finish_by j f) (joins e (h e))
       go false e = ap (λ (j : Joined). finish_by j f) (one_set e)
 
-  pub unjoined-refused : (parts_of f).patched ≡ true → (r : Refusal) → Unjoined first second r → finish f ≡ refused_at r (patch_line (parts_of f))
+  pub unjoined_refused : (parts_of f).patched ≡ true → (r : Refusal) → Unjoined first second r → finish f ≡ refused_at r (patch_line (parts_of f))
   unfolding finish
-  unjoined-refused e r (are_apart m) = ap (λ (j : Joined). finish_by j f) (both_sets_holds e ∙ so-joined first second apart m)
-  unjoined-refused e r (do_clash m) = ap (λ (j : Joined). finish_by j f) (both_sets_holds e ∙ so-joined first second clash m)
-  unjoined-refused e r (goes_off m) = ap (λ (j : Joined). finish_by j f) (both_sets_holds e ∙ so-joined first second off m)
+  unjoined_refused e r (are_apart m) = ap (λ (j : Joined). finish_by j f) (both_sets_holds e ∙ so_joined first second apart m)
+  unjoined_refused e r (do_clash m) = ap (λ (j : Joined). finish_by j f) (both_sets_holds e ∙ so_joined first second clash m)
+  unjoined_refused e r (goes_off m) = ap (λ (j : Joined). finish_by j f) (both_sets_holds e ∙ so_joined first second off m)

@@ -87,23 +87,23 @@ module _ (s k t : ℕ) (few : k < row_count) (e : turn_at s k ≡ Turn.To t) whe
       let a = rw (lt-ltb s 4 h) at (ruled opening_rule opening_rule_lem s k t few e) in
       (eqb-true k s (first_true (eqb k s) (eqb t (suc s)) a), eqb-true t (suc s) (second_true (eqb k s) (eqb t (suc s)) a))
 
-  pub later-opens : 4 ≤ s → (4 ≤ t) × (opens (kind_at k) ≡ false)
+  pub later_opens : 4 ≤ s → (4 ≤ t) × (opens (kind_at k) ≡ false)
   unfolding opening_rule
-  later-opens h =
+  later_opens h =
       let a = rw (le-ltb s 4 h) at (ruled opening_rule opening_rule_lem s k t few e) in
       (ltb-true 3 t (first_true (ltb 3 t) _ a), not-true (opens (kind_at k)) (second_true (ltb 3 t) (not (opens (kind_at k))) a))
 
-  later-corner : cond (ltb 4 s) true (asks k) ≡ true → (4 < t) × (is_corner (kind_at k) ≡ false)
+  later_corner : cond (ltb 4 s) true (asks k) ≡ true → (4 < t) × (is_corner (kind_at k) ≡ false)
   unfolding corner_no_more
-  later-corner h =
+  later_corner h =
       let a = rw h at (ruled corner_no_more corner_no_more_lem s k t few e) in
       (ltb-true 4 t (first_true (ltb 4 t) _ a), not-true (is_corner (kind_at k)) (second_true (ltb 4 t) (not (is_corner (kind_at k))) a))
 
-  pub past-corners : 4 < s → (4 < t) × (is_corner (kind_at k) ≡ false)
-  past-corners h = later-corner (rw (lt-ltb 4 s h))
+  pub past_corners : 4 < s → (4 < t) × (is_corner (kind_at k) ≡ false)
+  past_corners h = later_corner (rw (lt-ltb 4 s h))
 
-  pub asked-corner : (m : ℕ) → sort_at k m ≡ Sort.Corner → (4 < t) × (is_corner (kind_at k) ≡ false)
-  asked-corner m c = later-corner (go (ltb 4 s))
+  pub asked_corner : (m : ℕ) → sort_at k m ≡ Sort.Corner → (4 < t) × (is_corner (kind_at k) ≡ false)
+  asked_corner m c = later_corner (go (ltb 4 s))
     where
       go : (x : Bool) → cond x true (asks k) ≡ true
       go true = refl

@@ -20,14 +20,14 @@ use Rattle.frame_line.specs.declared.Kind.{Kind}
 use Rattle.frame_line.specs.declared.PassKind.{PassKind}
 use Rattle.frame_line.specs.declared.Sort.{Sort}
 use Rattle.frame_line.specs.declared.Turn.{Turn}
-use Rattle.frame_line.proofs.Said.{CornerTame, PassTame, corner-said, label_exact, shade_corner, shade_kind, pass-said}
+use Rattle.frame_line.proofs.Said.{CornerTame, PassTame, corner_said, label_exact, shade_corner, shade_kind, pass_said}
 use Rattle.frame_check.specs.Checks.{over_limit, twice_of}
 use Rattle.sizes.specs.Sizes.{corner_limit, pass_limit, byte_limit}
 use Rattle.frame.specs.Frame.{Parts, adding, added, parts_from, over_in, twice_in, Frame, no_parts, parts_of, collide, some_of, first_set, second_set}
 use Rattle.join.specs.Rule.{All}
 use Rattle.frame.specs.Text.{InOrder, ends, next, frame_text, InRange, Sound, SoundShade, Apart, ApartShades, Joinable, WithinLimits, LabelsSound, ShadesSound}
-use Rattle.frame.proofs.Sets.{not_so, all_then, differ-more, differ-before, apart_more, apart_before}
-use Rattle.frame_laws.proofs.Order.{opens, is_corner, past-corners, asked-corner}
+use Rattle.frame.proofs.Sets.{not_so, all_then, differ_more, differ_before, apart_more, apart_before}
+use Rattle.frame_laws.proofs.Order.{opens, is_corner, past_corners, asked_corner}
 
 -- ---- what holds of all elements of a list
 
@@ -73,15 +73,15 @@ module _ (P : CornerLine → Type 0) (Q : LabelLine → Type 0) (S : ShadeLine �
       let m = label_line_of ns in
       record {
         corners = a.corners;
-        labels = in-set p.patched p.labels (p.labels ++ (m ∷ [])) a.labels (all_then Q p.labels (m ∷ []) a.labels (s.label refl, tt));
-        second = in-set p.patched (p.second ++ (m ∷ [])) p.second (all_then Q p.second (m ∷ []) a.second (s.label refl, tt)) a.second;
+        labels = in_set p.patched p.labels (p.labels ++ (m ∷ [])) a.labels (all_then Q p.labels (m ∷ []) a.labels (s.label refl, tt));
+        second = in_set p.patched (p.second ++ (m ∷ [])) p.second (all_then Q p.second (m ∷ []) a.second (s.label refl, tt)) a.second;
         shades = a.shades;
         passes = a.passes;
       }
     where
-      in-set : (t : Bool) (ls ms : List LabelLine) → All Q ls → All Q ms → All Q (cond t ls ms)
-      in-set true ls ms x y = x
-      in-set false ls ms x y = y
+      in_set : (t : Bool) (ls ms : List LabelLine) → All Q ls → All Q ms → All Q (cond t ls ms)
+      in_set true ls ms x y = x
+      in_set false ls ms x y = y
   said Kind.Patch ns p s a = record { corners = a.corners; labels = a.labels; second = a.second; shades = a.shades; passes = a.passes }
   said Kind.Shade ns p s a =
       record {
@@ -122,7 +122,7 @@ pub corners_kept : (s : ℕ) (p : Parts) (ls : List Line) → 4 < s → All (λ 
 unfolding parts_from
 corners_kept s p ls h r (ends e) = refl
 corners_kept s p ls h r (next {to = t} {ls = rest} l e o) =
-    let n = past-corners s l.row t r.0 e h in
+    let n = past_corners s l.row t r.0 e h in
     corners_kept t (added p l) rest n.0 r.1 o ∙ (kept (kind_of l) l.numbers p).1 n.1
 
 -- a line that asks for a corner comes after all corners
@@ -130,7 +130,7 @@ pub all_given : (s t : ℕ) (p : Parts) (l : Line) (ls : List Line) → turn_at 
     → (m : ℕ) → sort_at l.row m ≡ Sort.Corner → length p.corners ≡ length (parts_from p (l ∷ ls)).corners
 unfolding parts_from
 all_given s t p l ls e r o m c =
-    let n = asked-corner s l.row t r.0 e m c in
+    let n = asked_corner s l.row t r.0 e m c in
     ap length (sym (corners_kept t (added p l) ls n.0 r.1 o ∙ (kept (kind_of l) l.numbers p).1 n.1))
 
 -- ---- what is not doubled
@@ -212,7 +212,7 @@ limits_after Kind.Shade ns p f m =
       passes = m.passes;
       once = m.once;
       second_once = m.second_once;
-      shaded_once = differ-more DifferShade same_corner differ_shade other_corner p.shades (shade_line_of ns) m.shaded_once f.once;
+      shaded_once = differ_more DifferShade same_corner differ_shade other_corner p.shades (shade_line_of ns) m.shaded_once f.once;
     }
 limits_after (Kind.Pass q) ns p f m =
     record { corners = m.corners; passes = one_longer pass_limit p.passes _ f.room; once = m.once; second_once = m.second_once; shaded_once = m.shaded_once }
@@ -242,7 +242,7 @@ limits_before Kind.Patch ns p m = (
   record { room = refl; once = refl },
 )
 limits_before Kind.Shade ns p m =
-    let a = differ-before DifferShade same_corner differ_shade other_corner p.shades (shade_line_of ns) m.shaded_once in
+    let a = differ_before DifferShade same_corner differ_shade other_corner p.shades (shade_line_of ns) m.shaded_once in
     (record { corners = m.corners; passes = m.passes; once = m.once; second_once = m.second_once; shaded_once = a.0 }, record { room = refl; once = a.1 })
 limits_before (Kind.Pass q) ns p m =
     let h = shorter pass_limit p.passes _ m.passes in (
@@ -289,7 +289,7 @@ lines_tame f few numbers =
     parts_all CornerTame (Sound n) (SoundShade n) PassTame no_parts f
     (all_map
     (λ l r. record {
-      corner = λ e. corner-said n l r.proper r.ranges e;
+      corner = λ e. corner_said n l r.proper r.ranges e;
       label = λ e.
           let h = label_exact n l r.proper e few r.on_sheet_holds r.known in
           record { on_sheet_holds = h.on_sheet_holds; corner = nat_abs (label_line_of l.numbers).corner; is_corner_holds = h.is_corner_holds; given = h.given };
@@ -305,7 +305,7 @@ lines_tame f few numbers =
             is_kind_holds = k.is_kind_holds;
             small = k.small;
           };
-      pass = λ q e. pass-said n l r.proper r.ranges q e;
+      pass = λ q e. pass_said n l r.proper r.ranges q e;
     }) f numbers)
     (record { corners = tt; labels = tt; second = tt; shades = tt; passes = tt })
 

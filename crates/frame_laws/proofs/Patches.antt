@@ -31,7 +31,7 @@ use Rattle.frame.proofs.Adding.{below_or_not}
 use Rattle.frame_laws.specs.Patches.{AllPass, PatchOf, PatchStands, IsRefused, PatchesRefusedIf}
 use Rattle.frame_laws.proofs.Order.{rule, ruled}
 use Rattle.frame_laws.proofs.Parts.{get_d_map, corners_kept, no_limits, lines_tame}
-use Rattle.frame_laws.proofs.Joining.{Finishing, is_whole, not-joined, finishing, joinable-whole}
+use Rattle.frame_laws.proofs.Joining.{Finishing, is_whole, not_joined, finishing, joinable_whole}
 use Rattle.frame_laws.proofs.Back.{Passing, end_here, pass_on, ReadBack, read_passing, passing_order, rows_of, numbers_of, limits_of}
 
 -- ---- a text whose lines all pass
@@ -97,27 +97,27 @@ unfolding patch_rule kind_at turn_at row_at rows
 patch_rule_lem = refl
 
 module _ (s k t : ℕ) (few : k < row_count) (e : turn_at s k ≡ Turn.To t) where
-  by-rule : patch_rule s k t ≡ true
-  by-rule = ruled patch_rule patch_rule_lem s k t few e
+  by_rule : patch_rule s k t ≡ true
+  by_rule = ruled patch_rule patch_rule_lem s k t few e
 
   past : 5 < s → (5 < t) × (is_patch (kind_at k) ≡ false)
   unfolding patch_rule
   past h =
-      let a = rw (lt-ltb 5 s h) at by-rule in
+      let a = rw (lt-ltb 5 s h) at by_rule in
       (ltb-true 5 t (first_true (ltb 5 t) _ a), not-true (is_patch (kind_at k)) (second_true (ltb 5 t) (not (is_patch (kind_at k))) a))
 
   leaves : s < 6 → is_late (kind_at k) ≡ true → (3 < s) × (5 < t)
   unfolding patch_rule
   leaves h l =
       let below : s ≤ 5 = omega arith in
-      let a = rw (le-ltb 5 s below, l) at by-rule in
+      let a = rw (le-ltb 5 s below, l) at by_rule in
       (ltb-true 3 s (first_true (ltb 3 s) _ a), ltb-true 5 t (second_true (ltb 3 s) (ltb 5 t) a))
 
   stays : s < 6 → is_late (kind_at k) ≡ false → (t < 6) × (4 - s + counts (kind_at k) ≡ 4 - t + 1)
   unfolding patch_rule
   stays h l =
       let below : s ≤ 5 = omega arith in
-      let a = rw (le-ltb 5 s below, l) at by-rule in
+      let a = rw (le-ltb 5 s below, l) at by_rule in
       (ltb-true t 6 (first_true (ltb t 6) _ a), eqb-true _ (4 - t + 1) (second_true (ltb t 6) _ a))
 
 abbrev blank : Line
@@ -260,9 +260,9 @@ module _ (text : List ℕ) {stage : ℕ} {f : Frame} (passed : Passed 0 [] (line
   passing = subst (Passing 0 no_parts) (sym back.all_are) back.passing
 
   -- the labels of both sets are of given corners
-  pub passed-sound : All (Sound (length (parts_of f).corners)) (parts_of f).labels × All (Sound (length (parts_of f).corners)) (parts_of f).second
+  pub passed_sound : All (Sound (length (parts_of f).corners)) (parts_of f).labels × All (Sound (length (parts_of f).corners)) (parts_of f).second
   unfolding parts_of
-  passed-sound =
+  passed_sound =
       let t = lines_tame f (limits_of passing no_limits).corners (numbers_of passing) in (t.labels, t.second)
 
   texts : lines_of text ≡ map line_text f
@@ -279,9 +279,9 @@ module _ (text : List ℕ) {stage : ℕ} {f : Frame} (passed : Passed 0 [] (line
   number_of k h at = omega (arith, position 0 no_parts f (omega arith) refl (rows_of passing) (passing_order passing) k h at)
 
   -- "reported at the patch line": it stands where the number says
-  pub patch-of : (parts_of f).patched ≡ true → PatchOf text f
+  pub patch_of : (parts_of f).patched ≡ true → PatchOf text f
   unfolding parts_of
-  patch-of t =
+  patch_of t =
       let s = some_patch no_parts f refl t in
       record {
         index = s.0;
@@ -291,16 +291,16 @@ module _ (text : List ℕ) {stage : ℕ} {f : Frame} (passed : Passed 0 [] (line
       }
 
   -- and nowhere else
-  pub patch-at : {n : ℕ} → n < length (lines_of text) → get_or (lines_of text) n [] ≡ bytes "(patch)\n"
+  pub patch_at : {n : ℕ} → n < length (lines_of text) → get_or (lines_of text) n [] ≡ bytes "(patch)\n"
       → ((parts_of f).patched ≡ true) × (suc n ≡ patch_line (parts_of f))
   unfolding parts_of
-  patch-at {n} i reads =
+  patch_at {n} i reads =
       let h : n < length f = omega (arith, as_many) in
       let at = text_patch (get_or f n blank) (proper_at f (proper_of passing) n h) (sym (text_at n h) ∙ reads) in
       (patch_stands no_parts f n h at, number_of n h at)
 
 pub patch_stands_there : PatchStands
-patch_stands_there text f a t = patch-of text a.passed a.ends t
+patch_stands_there text f a t = patch_of text a.passed a.ends t
 
 -- ---- "refused exactly if no such shift onto the sheet exists"
 
@@ -311,8 +311,8 @@ patches_refused_if text f a t shared = (refused_none, λ none. subst IsRefused (
     ends = whole_text text a.bytes a.passed a.ends
 
     refused_none : IsRefused (read_frame text) → NoShift (first_set (parts_of f)) (second_set (parts_of f))
-    refused_none r d s = subst IsRefused (ends ∙ joinable-whole f (λ q. record { shared = shared; shift = d; onto = s })) r
+    refused_none r d s = subst IsRefused (ends ∙ joinable_whole f (λ q. record { shared = shared; shift = d; onto = s })) r
 
     none_refused : NoShift (first_set (parts_of f)) (second_set (parts_of f)) → {o : FrameRead} → Finishing f o → IsRefused o
     none_refused none (is_whole j) = none (j t).shift (j t).onto
-    none_refused none (not-joined r p u) = tt
+    none_refused none (not_joined r p u) = tt

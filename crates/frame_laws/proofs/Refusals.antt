@@ -14,7 +14,7 @@ use Rattle.frame_line.specs.declared.Turn.{Turn}
 use Rattle.frame_check.specs.Checks.{checks_in_order}
 use Rattle.frame.specs.Frame.{outside_in, over_in, twice_in, Frame, parts_of, first_set, second_set, patch_line, checked_line, Step, stopped, onward, step_by, step_with, step_line, FrameRead, refused_at, accepted, finish, at_end, going, read_lines}
 use Rattle.frame.specs.Text.{FirstCheck, is_first, too_many, is_wild, is_off_sheet, is_unknown, is_doubled, FirstFault, has_no_form, not_its_turn, fails, Joinable, Unjoined, Passed, none_yet, one_more}
-use Rattle.frame_laws.proofs.Joining.{Finishing, is_whole, not-joined, finishing}
+use Rattle.frame_laws.proofs.Joining.{Finishing, is_whole, not_joined, finishing}
 
 -- ---- a line that fails
 
@@ -68,11 +68,11 @@ module _ (stage : ℕ) (f : Frame) where
       go ill_formed r = stops Refusal.Malformed (rw r has_no_form)
       go (line l) r = by l (turn_at stage l.row) (checked_line (parts_of f) l) r refl refl
 
-  pub fault-stops : (l : LineRead) (r : Refusal) → FirstFault stage f l r → step_with stage f l ≡ stopped r
+  pub fault_stops : (l : LineRead) (r : Refusal) → FirstFault stage f l r → step_with stage f l ≡ stopped r
   unfolding checked_line
-  fault-stops l r has_no_form = refl
-  fault-stops l r (not_its_turn a) = rw a
-  fault-stops l r (fails {l = m} a b) =
+  fault_stops l r has_no_form = refl
+  fault_stops l r (not_its_turn a) = rw a
+  fault_stops l r (fails {l = m} a b) =
       rw (a, check_first (outside_in (parts_of f) m) (over_in (parts_of f) (kind_of m)) (twice_in (parts_of f) (kind_of m) m.numbers) r b)
 
 -- ---- all lines
@@ -105,7 +105,7 @@ ending n stage f [] = go (may_end stage) refl
   where
     end : may_end stage ≡ true → {o : FrameRead} → Finishing f o → Ending n stage f [] o
     end e (is_whole j) = all_read stage f none_yet e j
-    end e (not-joined r t u) = sets_apart _ stage f r refl none_yet e t u
+    end e (not_joined r t u) = sets_apart _ stage f r refl none_yet e t u
 
     go : (x : Bool) → may_end stage ≡ x → Ending n stage f [] (cond x (finish f) (refused_at Refusal.Malformed n))
     go true e = end e (finishing f)

@@ -16,9 +16,9 @@ use Rattle.sizes.specs.Sizes.{byte_limit}
 use Rattle.frame.specs.Frame.{Step, step_line, FrameRead, refused_at, accepted, finish, at_end, going, read_lines, read_frame}
 use Rattle.frame.specs.Text.{Refused, too_long, at_line, missing, unjoined, RefusalsMean}
 use Rattle.frame.proofs.Adding.{below_or_not}
-use Rattle.frame_laws.proofs.Joining.{unjoined-refused}
-use Rattle.frame_laws.proofs.Refusals.{fault-stops, Ending, all_read, one_fails, one_missing, sets_apart, ending}
-use Rattle.frame_laws.proofs.Patches.{passed_read, short_enough, whole_text, patch-of, patch-at}
+use Rattle.frame_laws.proofs.Joining.{unjoined_refused}
+use Rattle.frame_laws.proofs.Refusals.{fault_stops, Ending, all_read, one_fails, one_missing, sets_apart, ending}
+use Rattle.frame_laws.proofs.Patches.{passed_read, short_enough, whole_text, patch_of, patch_at}
 
 -- ---- the law
 
@@ -46,7 +46,7 @@ refusals_mean text r n e =
     why h (sets_apart m last g s a p k t u) q =
         let same : r ≡ s = cc in
         let number : m ≡ n = cc in
-        let w = patch-of text p k t in
+        let w = patch_of text p k t in
         let here : n ≡ suc w.index = omega (arith, w.number) in
         rw (same, here) (unjoined w.index last g s h p k w.inside w.reads u)
 
@@ -61,7 +61,7 @@ refused_so text r n (at_line k stage f s h l p w) =
     let number : 1 + length (take k texts) ≡ suc k = omega (arith, length-take-le k texts (omega arith)) in
     short_enough text h ∙ ap (read_lines 1 0 []) (split_at texts k [] l) ∙ passed_read 1 (get_or texts k [] ∷ drop (suc k) texts) p
     ∙ ap (λ (x : Step). going (1 + length (take k texts)) x (λ to g. read_lines (suc (1 + length (take k texts))) to g (drop (suc k) texts)))
-    (fault-stops stage f (read_line (get_or texts k [])) s w)
+    (fault_stops stage f (read_line (get_or texts k [])) s w)
     ∙ ap (refused_at s) number
 refused_so text r n (missing stage f h p l) =
     let texts = lines_of text in
@@ -70,8 +70,8 @@ refused_so text r n (missing stage f h p l) =
     ∙ ap (λ (x : Bool). cond x (finish f) (refused_at Refusal.Malformed (1 + length texts))) l ∙ ap (refused_at Refusal.Malformed) number
 refused_so text r n (unjoined k stage f s h p l i reads u) =
     let texts = lines_of text in
-    let w = patch-at text p l i reads in
-    whole_text text h p l ∙ unjoined-refused f w.0 s u ∙ ap (refused_at s) (sym w.1)
+    let w = patch_at text p l i reads in
+    whole_text text h p l ∙ unjoined_refused f w.0 s u ∙ ap (refused_at s) (sym w.1)
 
 -- ---- which lines can be refused
 

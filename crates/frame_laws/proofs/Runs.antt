@@ -21,13 +21,13 @@ use Rattle.arguments.specs.Accepted.{CornerInside, SettingsInside, PassInside}
 use Rattle.passes.specs.Outcome.{Outcome}
 use Rattle.passes.specs.Run.{Call, PassStats, step, sheet_after, run}
 use Rattle.invariants.specs.Calls.{Standing, CallInside}
-use Rattle.invariants.proofs.Run.{standing-step, fit-accepts, never_refused, invariants}
+use Rattle.invariants.proofs.Run.{standing_step, fit_accepts, never_refused, invariants}
 use Rattle.frame_line.specs.Table.{kind_at, turn_at}
 use Rattle.frame_line.specs.Lines.{Line, kind_of, PassLine, bare_grow_holds, grow, bare_fill, fill, local}
 use Rattle.frame_line.specs.Checks.{wild_bits, wild_whole}
 use Rattle.frame_line.specs.declared.Turn.{Turn}
 use Rattle.frame_line.proofs.Words.{counted}
-use Rattle.frame_line.proofs.Said.{AxesTame, PassTame, cell-said, axes-said, band-said}
+use Rattle.frame_line.proofs.Said.{AxesTame, PassTame, cell_said, axes_said, band_said}
 use Rattle.sizes.specs.Sizes.{corner_limit}
 use Rattle.frame.specs.Frame.{Frame, Opening, Parts, opened, adding, added, parts_from, no_parts, parts_of}
 use Rattle.join.specs.Rule.{All}
@@ -35,11 +35,11 @@ use Rattle.frame.specs.Text.{InOrder, ends, next, InRange, WithinLimits}
 use Rattle.frame.specs.ReadFrame.{float_of, xs_of, ys_of, pitches_of, sheet_of, settings_of, full_of, pass_of}
 use Rattle.frame.proofs.Adding.{below_or_not}
 use Rattle.frame_laws.specs.Calls.{frame_corners, frame_rooms, call_of, calls_of, NoneRefused, Starts, AcceptedRuns}
-use Rattle.frame_laws.proofs.Order.{comes, later-opens, ends_late}
+use Rattle.frame_laws.proofs.Order.{comes, later_opens, ends_late}
 use Rattle.frame_laws.proofs.Parts.{all_map, kept, parts_tame}
 use Rattle.frame_laws.proofs.Back.{frame_prints_back}
-use Rattle.frame_laws.proofs.Shades.{shades_long, shades_inside, given-shades}
-use Rattle.frame_laws.proofs.Labels.{given-labels, sheet_long, corner-known, one_cell}
+use Rattle.frame_laws.proofs.Shades.{shades_long, shades_inside, given_shades}
+use Rattle.frame_laws.proofs.Labels.{given_labels, sheet_long, corner_known, one_cell}
 
 -- ---- numbers in range
 
@@ -75,29 +75,29 @@ module _ (n : ℕ) (l : Line) (r : InRange n l) (p : Parts) where
   unfolding adding opened kind_at
   said_at zero h e t = none_yet 1 _ (omega arith)
   said_at (suc zero) h e t =
-      rw e (record { cell = λ k. cell-said n l r.proper r.ranges (ap kind_at e); axes = λ k. absurd (omega arith); band = λ k. absurd (omega arith) })
+      rw e (record { cell = λ k. cell_said n l r.proper r.ranges (ap kind_at e); axes = λ k. absurd (omega arith); band = λ k. absurd (omega arith) })
   said_at (suc (suc zero)) h e t =
-      rw e (record { cell = λ k. t.cell (omega arith); axes = λ k. axes-said n l r.proper r.ranges (ap kind_at e); band = λ k. absurd (omega arith) })
+      rw e (record { cell = λ k. t.cell (omega arith); axes = λ k. axes_said n l r.proper r.ranges (ap kind_at e); band = λ k. absurd (omega arith) })
   said_at (suc (suc (suc zero))) h e t =
-      rw e (record { cell = λ k. t.cell (omega arith); axes = λ k. t.axes (omega arith); band = λ k. band-said n l r.proper r.ranges (ap kind_at e) })
+      rw e (record { cell = λ k. t.cell (omega arith); axes = λ k. t.axes (omega arith); band = λ k. band_said n l r.proper r.ranges (ap kind_at e) })
   said_at (suc (suc (suc (suc s)))) h e t = absurd (omega arith)
 
-  said-on : (s to : ℕ) → turn_at s l.row ≡ Turn.To to → OpeningTame s p.opening → OpeningTame to (added p l).opening
-  said-on s to e t = ⊎_elim early late (below_or_not s 4)
+  said_on : (s to : ℕ) → turn_at s l.row ≡ Turn.To to → OpeningTame s p.opening → OpeningTame to (added p l).opening
+  said_on s to e t = ⊎_elim early late (below_or_not s 4)
     where
       early : s < 4 → OpeningTame to (added p l).opening
       early h = let c = comes s l.row to r.proper.few e h in rw c.1 (said_at s h c.0 t)
 
       late : 4 ≤ s → OpeningTame to (added p l).opening
       late h =
-          let same = (kept (kind_of l) l.numbers p).0 (later-opens s l.row to r.proper.few e h).1 in
+          let same = (kept (kind_of l) l.numbers p).0 (later_opens s l.row to r.proper.few e h).1 in
           rw same (record { cell = λ k. t.cell (omega arith); axes = λ k. t.axes (omega arith); band = λ k. t.band (omega arith) })
 
 all_said : (n s : ℕ) (p : Parts) (ls : List Line) → All (InRange n) ls → InOrder s ls → OpeningTame s p.opening → OpeningTame 4 (parts_from p ls).opening
 unfolding parts_from
 all_said n s p ls r (ends e) t =
     let h = ends_late s e in record { cell = λ k. t.cell (omega arith); axes = λ k. t.axes (omega arith); band = λ k. t.band (omega arith) }
-all_said n s p ls r (next {to = to} {ls = rest} l e o) t = all_said n to (added p l) rest r.1 o (said-on n l r.0 p s to e t)
+all_said n s p ls r (next {to = to} {ls = rest} l e o) t = all_said n to (added p l) rest r.1 o (said_on n l r.0 p s to e t)
 
 pub same_length : (f : Frame) → length (xs_of f) ≡ length (parts_of f).corners
 unfolding xs_of
@@ -159,8 +159,8 @@ module _ (f : Frame) (w : WithinLimits f) where
   few : length (xs_of f) ≤ corner_limit
   few = omega (arith, same_length f, w.corners)
 
-  pass-fit : (p : PassLine) → PassTame p → CallInside (frame_corners f) (call_of f p)
-  pass-fit p t =
+  pass_fit : (p : PassLine) → PassTame p → CallInside (frame_corners f) (call_of f p)
+  pass_fit p t =
       let c = called (pass_of (full_of p)) (length (xs_of f)) few (pass_inside p t) in
       record {
         few = few;
@@ -173,26 +173,26 @@ module _ (f : Frame) (w : WithinLimits f) where
         pass_inside = c.0;
       }
 
-  passes-fit : (ps : List PassLine) → All PassTame ps → All (CallInside (frame_corners f)) (map (call_of f) ps)
-  passes-fit [] t = tt
-  passes-fit (p ∷ ps) t = (pass-fit p t.0, passes-fit ps t.1)
+  passes_fit : (ps : List PassLine) → All PassTame ps → All (CallInside (frame_corners f)) (map (call_of f) ps)
+  passes_fit [] t = tt
+  passes_fit (p ∷ ps) t = (pass_fit p t.0, passes_fit ps t.1)
 
-  calls-fit : All (CallInside (frame_corners f)) (calls_of f)
+  calls_fit : All (CallInside (frame_corners f)) (calls_of f)
   unfolding calls_of
-  calls-fit = passes-fit (parts_of f).passes (parts_tame f w).passes
+  calls_fit = passes_fit (parts_of f).passes (parts_tame f w).passes
 
   -- ---- the corners and the given labels
 
-  pub frame-standing : Standing (frame_corners f) (sheet_of f)
+  pub frame_standing : Standing (frame_corners f) (sheet_of f)
   unfolding xs_of ys_of pitches_of
-  frame-standing =
+  frame_standing =
       record {
         listed =
             record {
               ys_long = omega (arith, same_length f, length-map (parts_of f).corners (λ c. float_of c.y));
               pitches_long = omega (arith, same_length f, length-map (parts_of f).corners (λ c. float_of c.pitch));
             };
-        given = record { long = sheet_long f w; known = λ p k h e. omega (arith, same_length f, corner-known f w p k h e) };
+        given = record { long = sheet_long f w; known = λ p k h e. omega (arith, same_length f, corner_known f w p k h e) };
         one_cell = one_cell f w;
       }
 
@@ -202,22 +202,22 @@ none_refused : (l : CornerLists) (sheet : List ℕ) → Standing l sheet → (cs
 unfolding run
 none_refused l sheet s [] g = tt
 none_refused l sheet s (c ∷ cs) g =
-    let rest = none_refused l (sheet_after sheet (step l sheet c)) (standing-step l sheet s c) cs g.1 in
-    subst (λ (o : Outcome PassStats). NoneRefused (o ∷ run l (sheet_after sheet (step l sheet c)) cs)) (sym (fit-accepts l sheet c s g.0).done_so) rest
+    let rest = none_refused l (sheet_after sheet (step l sheet c)) (standing_step l sheet s c) cs g.1 in
+    subst (λ (o : Outcome PassStats). NoneRefused (o ∷ run l (sheet_after sheet (step l sheet c)) cs)) (sym (fit_accepts l sheet c s g.0).done_so) rest
 
 -- ---- the law
 
 pub limits_start : (f : Frame) → WithinLimits f → Starts f
 limits_start f w =
-    let s = frame-standing f w in
+    let s = frame_standing f w in
     record {
-      given = given-labels f w;
-      shades = given-shades f w;
+      given = given_labels f w;
+      shades = given_shades f w;
       standing = s;
       invariant = invariants (frame_corners f) (sheet_of f) s;
-      fit = calls-fit f w;
-      accepts = λ cs. all_map (λ c g. never_refused (frame_corners f) (sheet_of f) s cs c g) (calls_of f) (calls-fit f w);
-      runs = none_refused (frame_corners f) (sheet_of f) s (calls_of f) (calls-fit f w);
+      fit = calls_fit f w;
+      accepts = λ cs. all_map (λ c g. never_refused (frame_corners f) (sheet_of f) s cs c g) (calls_of f) (calls_fit f w);
+      runs = none_refused (frame_corners f) (sheet_of f) s (calls_of f) (calls_fit f w);
     }
 
 pub accepted_runs : AcceptedRuns

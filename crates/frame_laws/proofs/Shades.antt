@@ -32,7 +32,7 @@ use Rattle.frame.specs.ReadFrame.{xs_of, ys_of, pitches_of, shaded, shades_of, s
 use Rattle.frame.proofs.Adding.{below_or_not}
 use Rattle.frame_laws.specs.Shades.{ShadeChecked, ShadedBy, GivenShades, is_shade, without_shades, ShadesApart}
 use Rattle.frame_laws.proofs.Parts.{all_map, shades_sound}
-use Rattle.join.proofs.Union.{of-all}
+use Rattle.join.proofs.Union.{of_all}
 
 -- ---- the checks of a shade line
 
@@ -75,27 +75,27 @@ module _ (c : ℕ) where
   apart_from [] g z n is d = tt
   apart_from (s ∷ ss) g z n is d = (other_corner s g.0 z n is d.0, apart_from ss g.1 z n is d.1)
 
-  each-given : (ss : List ShadeLine) (shades : List ℕ) → length shades ≡ c → All (SoundShade c) ss → ApartShades ss
+  each_given : (ss : List ShadeLine) (shades : List ℕ) → length shades ≡ c → All (SoundShade c) ss → ApartShades ss
       → All (λ s. get_or (shaded shades ss) (nat_abs s.corner) 0 ≡ nat_abs s.kind + 1) ss
   unfolding shaded
-  each-given [] shades long g a = tt
-  each-given (s ∷ ss) shades long g a =
+  each_given [] shades long g a = tt
+  each_given (s ∷ ss) shades long g a =
       let n = nat_abs s.corner in
       let v = nat_abs s.kind + 1 in
       let is : s.corner ≡ pos n = g.0.is_corner_holds ∙ ap pos (sym (ap nat_abs g.0.is_corner_holds)) in
       let here : n < length shades = omega (arith, long, ap nat_abs g.0.is_corner_holds, g.0.given) in (
         others_keep ss (set shades n v) n (apart_from ss g.1 s.corner n is a.0) ∙ get_or-set_same shades n v 0 here,
-        each-given ss (set shades n v) (length-set shades n v ∙ long) g.1 a.1,
+        each_given ss (set shades n v) (length-set shades n v ∙ long) g.1 a.1,
       )
 
-  only-given : (ss : List ShadeLine) (shades : List ℕ) → length shades ≡ c → All (SoundShade c) ss → (n k : ℕ) → get_or (shaded shades ss) n 0 ≡ k + 1
+  only_given : (ss : List ShadeLine) (shades : List ℕ) → length shades ≡ c → All (SoundShade c) ss → (n k : ℕ) → get_or (shaded shades ss) n 0 ≡ k + 1
       → ShadedBy ss n k ⊎ (get_or shades n 0 ≡ k + 1)
   unfolding shaded
-  only-given [] shades long g n k e = inr e
-  only-given (s ∷ ss) shades long g n k e =
+  only_given [] shades long g n k e = inr e
+  only_given (s ∷ ss) shades long g n k e =
       let m = nat_abs s.corner in
       let v = nat_abs s.kind + 1 in
-      ⊎_elim (λ h. inl (later h)) (go m v refl refl (eqb m n) refl) (only-given ss (set shades m v) (length-set shades m v ∙ long) g.1 n k e)
+      ⊎_elim (λ h. inl (later h)) (go m v refl refl (eqb m n) refl) (only_given ss (set shades m v) (length-set shades m v ∙ long) g.1 n k e)
     where
       later : ShadedBy ss n k → ShadedBy (s ∷ ss) n k
       later h = record { shade = h.shade; listed = Memᴰ.tail h.listed; corner = h.corner; kind = h.kind }
@@ -105,14 +105,14 @@ module _ (c : ℕ) where
       go m v a b true d h =
           let same : m ≡ n = eqb-true m n d in
           let here : m < length shades = omega (arith, long, a, ap nat_abs g.0.is_corner_holds, g.0.given) in
-          let v-is : v ≡ k + 1 = sym (get_or-set_same shades m v 0 here) ∙ ap (λ (i : ℕ). get_or (set shades m v) i 0) same ∙ h in
-          let kind-is : nat_abs s.kind ≡ k = omega (arith, b, v-is) in
+          let v_is : v ≡ k + 1 = sym (get_or-set_same shades m v 0 here) ∙ ap (λ (i : ℕ). get_or (set shades m v) i 0) same ∙ h in
+          let kind_is : nat_abs s.kind ≡ k = omega (arith, b, v_is) in
           inl
           (record {
             shade = s;
             listed = Memᴰ.head refl;
             corner = g.0.is_corner_holds ∙ ap pos (sym (ap nat_abs g.0.is_corner_holds) ∙ a ∙ same);
-            kind = g.0.is_kind_holds ∙ ap pos (sym (ap nat_abs g.0.is_kind_holds) ∙ kind-is);
+            kind = g.0.is_kind_holds ∙ ap pos (sym (ap nat_abs g.0.is_kind_holds) ∙ kind_is);
           })
       go m v a b false d h = inr (sym (get_or-set_other shades m n v 0 (λ q. eqb-false m n d (sym q))) ∙ h)
 
@@ -157,11 +157,11 @@ module _ (f : Frame) (w : WithinLimits f) where
   abbrev count : ℕ
   count = length (parts_of f).corners
 
-  only-shaded : (n k : ℕ) → get_or (shades_of f) n 0 ≡ k + 1 → ShadedBy (parts_of f).shades n k
+  only_shaded : (n k : ℕ) → get_or (shades_of f) n 0 ≡ k + 1 → ShadedBy (parts_of f).shades n k
   unfolding shades_of
-  only-shaded n k e =
+  only_shaded n k e =
       ⊎_elim (λ h. h) (λ h. absurd (omega (arith, none_given count n)))
-      (only-given count (parts_of f).shades (replicate count 0) (length-replicate {A = ℕ} count 0) (shades_sound f w) n k e)
+      (only_given count (parts_of f).shades (replicate count 0) (length-replicate {A = ℕ} count 0) (shades_sound f w) n k e)
 
   -- no byte is above 2
   pub shades_inside : (n : ℕ) → get_or (shades_of f) n 0 ≤ 2
@@ -170,21 +170,21 @@ module _ (f : Frame) (w : WithinLimits f) where
       go : (b : ℕ) → get_or (shades_of f) n 0 ≡ b → b ≤ 2
       go zero e = omega arith
       go (suc k) e =
-          let by = only-shaded n k (omega arith) in
-          let s = of-all (SoundShade count) (parts_of f).shades (shades_sound f w) by.shade by.listed in
+          let by = only_shaded n k (omega arith) in
+          let s = of_all (SoundShade count) (parts_of f).shades (shades_sound f w) by.shade by.listed in
           let same : s.kind ≡ k = ap nat_abs (sym s.is_kind_holds ∙ by.kind) in
           omega (arith, s.small)
 
-  pub given-shades : GivenShades f
+  pub given_shades : GivenShades f
   unfolding shades_of
-  given-shades =
+  given_shades =
       let ss = (parts_of f).shades in
-      let lines = each-given count ss (replicate count 0) (length-replicate {A = ℕ} count 0) (shades_sound f w) w.shaded_once in
+      let lines = each_given count ss (replicate count 0) (length-replicate {A = ℕ} count 0) (shades_sound f w) w.shaded_once in
       record {
         long = shades_long f;
         inside = shades_inside;
         each = lines;
-        only = only-shaded;
+        only = only_shaded;
         bare = λ n d.
             others_keep ss (replicate count 0) n (apart_from count ss (shades_sound f w) (pos n) n refl (all_map (λ s h e. h (sym e)) ss d))
             ∙ none_given count n;

@@ -66,8 +66,8 @@ abbrev Behind : ℕ → ℕ → Type 0
 Behind s' s = (s' ≡ s) ⊎ ((s ≡ 7) × Before s')
 
 module _ (s k t : ℕ) (few : k < row_count) (e : turn_at s k ≡ Turn.To t) where
-  by-rule : shade_rule s k t ≡ true
-  by-rule = ruled shade_rule shade_rule_lem s k t few e
+  by_rule : shade_rule s k t ≡ true
+  by_rule = ruled shade_rule shade_rule_lem s k t few e
 
   -- a shade line left out
   left_out : (s' : ℕ) → is_shade (kind_at k) ≡ true → Behind s' s → Behind s' t
@@ -75,7 +75,7 @@ module _ (s k t : ℕ) (few : k < row_count) (e : turn_at s k ≡ Turn.To t) whe
   left_out s' shade b = go b (eqb s 4) refl (eqb s 5) refl (eqb s 6) refl (second_true (eqb t 7) _ here)
     where
       here : cond (eqb t 7) (cond (eqb s 4) true (cond (eqb s 5) true (cond (eqb s 6) true (eqb s 7)))) false ≡ true
-      here = rw shade at by-rule
+      here = rw shade at by_rule
 
       seven : t ≡ 7
       seven = eqb-true t 7 (first_true (eqb t 7) _ here)
@@ -95,7 +95,7 @@ module _ (s k t : ℕ) (few : k < row_count) (e : turn_at s k ≡ Turn.To t) whe
   kept_on s' other (inr m) = go m.1
     where
       here : cond (goes t (turn_at 4 k)) (cond (goes t (turn_at 5 k)) (goes t (turn_at 6 k)) false) false ≡ true
-      here = rw (other, m.0) at by-rule
+      here = rw (other, m.0) at by_rule
 
       later : cond (goes t (turn_at 5 k)) (goes t (turn_at 6 k)) false ≡ true
       later = second_true (goes t (turn_at 4 k)) _ here

@@ -16,7 +16,7 @@ use Rattle.line_form.proofs.Told.{told_misfits}
 use Rattle.frame_line.specs.Table.{rows, row_count, row_at, form_at}
 use Rattle.frame_line.specs.Lines.{Line, line_text, LineRead, ill_formed, line, or_else, first_fit, read_line, LineReadsBack, LinePrintsBack}
 use Rattle.frame_line.specs.Held.{held_read}
-use Rattle.frame_line.proofs.Rows.{rows_long, apart-at, told_at}
+use Rattle.frame_line.proofs.Rows.{rows_long, apart_at, told_at}
 
 -- ---- the rows in order: those from the one reached on give what all rows give
 
@@ -29,9 +29,9 @@ unfolding read_line
 looking_start text = record { upto = omega arith; rest = refl }
 
 module _ {text : List ℕ} {k : ℕ} (g : Looking text k) where
-  pub looking-end : row_count ≤ k → read_line text ≡ ill_formed
+  pub looking_end : row_count ≤ k → read_line text ≡ ill_formed
   unfolding rows first_fit
-  looking-end h = sym g.rest ∙ ap (λ (n : ℕ). first_fit n (drop n rows) text) (let e : k ≡ row_count = omega arith in e)
+  looking_end h = sym g.rest ∙ ap (λ (n : ℕ). first_fit n (drop n rows) text) (let e : k ≡ row_count = omega arith in e)
 
   module _ (h : k < row_count) where
     -- the row reached, tried
@@ -39,53 +39,53 @@ module _ {text : List ℕ} {k : ℕ} (g : Looking text k) where
     unfolding first_fit form_at row_at
     turn = sym g.rest ∙ ap (λ (rs : List (List ℕ)). first_fit k rs text) (drop-cons rows k [] (subst (λ (n : ℕ). k < n) (sym rows_long) h))
 
-    pub looking-hit : {ns : List Number} → fit_of (form_at k) text ≡ fitted ns → read_line text ≡ line (record { row = k; numbers = ns })
-    looking-hit e = rw e at turn
+    pub looking_hit : {ns : List Number} → fit_of (form_at k) text ≡ fitted ns → read_line text ≡ line (record { row = k; numbers = ns })
+    looking_hit e = rw e at turn
 
-    pub looking-more : fit_of (form_at k) text ≡ misfit → Looking text (k + 1)
-    looking-more e = record { upto = omega arith; rest = rw add-one (sym (rw e at turn)) }
+    pub looking_more : fit_of (form_at k) text ≡ misfit → Looking text (k + 1)
+    looking_more e = record { upto = omega arith; rest = rw add-one (sym (rw e at turn)) }
 
     module _ (f : LineFit) (is : f ≡ held_fit (fit_of (form_at k) text)) where
-      pub held-hit : f.found ≡ true → record { row = k; values = f.values } ≡ held_read (read_line text)
+      pub held_hit : f.found ≡ true → record { row = k; values = f.values } ≡ held_read (read_line text)
       unfolding held_fit held_read
-      held-hit t = go (fit_of (form_at k) text) refl
+      held_hit t = go (fit_of (form_at k) text) refl
         where
           go : (it : Fitted) → fit_of (form_at k) text ≡ it → record { row = k; values = f.values } ≡ held_read (read_line text)
           go misfit p = absurd (true≢false (sym t ∙ ap (λ (x : LineFit). x.found) (is ∙ ap held_fit p)))
-          go (fitted ns) p = rw (is ∙ ap held_fit p, looking-hit p)
+          go (fitted ns) p = rw (is ∙ ap held_fit p, looking_hit p)
 
       pub held_more : f.found ≡ false → Looking text (k + 1)
       unfolding held_fit
       held_more t = go (fit_of (form_at k) text) refl
         where
           go : (it : Fitted) → fit_of (form_at k) text ≡ it → Looking text (k + 1)
-          go misfit p = looking-more p
+          go misfit p = looking_more p
           go (fitted ns) p = absurd (true≢false (sym (ap (λ (x : LineFit). x.found) (is ∙ ap held_fit p)) ∙ t))
 
 -- ---- the laws
 
 pub line_reads_back : LineReadsBack
 unfolding line_text
-line_reads_back l p = looking-hit (reached l.row (omega arith)) p.few (reads_back (form_at l.row) l.numbers (apart-at l.row p.few) p.suits)
+line_reads_back l p = looking_hit (reached l.row (omega arith)) p.few (reads_back (form_at l.row) l.numbers (apart_at l.row p.few) p.suits)
   where
     reached : (i : ℕ) → i ≤ l.row → Looking (line_text l) i
     reached zero h = looking_start (line_text l)
     reached (suc i) h =
         rw add-one at
-        (looking-more (reached i (omega arith)) (omega (arith, p.few)) (told_misfits (form_at i) (form_at l.row) _ (told_at l.row p.few i h)))
+        (looking_more (reached i (omega arith)) (omega (arith, p.few)) (told_misfits (form_at i) (form_at l.row) _ (told_at l.row p.few i h)))
 
 pub line_prints_back : (text : List ℕ) (l : Line) → read_line text ≡ line l → LinePrintsBack text l
 unfolding line_text
 line_prints_back text l e = from row_count 0 refl (looking_start text)
   where
     from : (n k : ℕ) → k + n ≡ row_count → Looking text k → LinePrintsBack text l
-    from zero k s g = absurd (let i = looking-end g (omega arith) in let z : ◌≡◌ {A = ℕ} 0 1 = cc in omega arith)
+    from zero k s g = absurd (let i = looking_end g (omega arith) in let z : ◌≡◌ {A = ℕ} 0 1 = cc in omega arith)
     from (suc n) k s g = go (fit_of (form_at k) text) refl (λ t. from n (k + 1) (omega arith) t)
       where
         go : (f : Fitted) → fit_of (form_at k) text ≡ f → (Looking text (k + 1) → LinePrintsBack text l) → LinePrintsBack text l
-        go misfit p later = later (looking-more g (omega arith) p)
+        go misfit p later = later (looking_more g (omega arith) p)
         go (fitted ns) p later =
-            let i = looking-hit g (omega arith) p in
+            let i = looking_hit g (omega arith) p in
             let same : record { row = k; numbers = ns } ≡ l = cc in
             let b = prints_back (form_at k) text ns p in
             subst (LinePrintsBack text) same (record { text_again = b.line_again; proper = record { few = omega arith; suits = b.suits } })

@@ -112,9 +112,9 @@ module _ (r n : ℕ) (few : eqb r 5 ≡ true → n ≤ 1024) where
       go false f = refl
 
   -- byte 46, the dot, stands for no number
-  nothing-word : (k m w : ℕ) → eqb (get_or (letters_at k) m 46) 46 ≡ true → outside_word r n (sort_at k m) w ≡ false
+  nothing_word : (k m w : ℕ) → eqb (get_or (letters_at k) m 46) 46 ≡ true → outside_word r n (sort_at k m) w ≡ false
   unfolding outside_word sort_at sort_of
-  nothing-word k m w e = rw (eqb-true (get_or (letters_at k) m 46) 46 e) (and-false (eqb r 0))
+  nothing_word k m w e = rw (eqb-true (get_or (letters_at k) m 46) 46 e) (and-false (eqb r 0))
 
 -- ---- the letters of a row and the slots of its form
 
@@ -163,26 +163,26 @@ any_first (suc n) f =
 
 module _ (r n : ℕ) (few : eqb r 5 ≡ true → n ≤ 1024) (k : ℕ) where
   -- the numbers of row k from m on
-  abbrev wordTest : ℕ → List ℕ → ℕ → Bool
-  wordTest m ws i = outside_word r n (sort_at k (m + i)) (get_or ws i 0)
+  abbrev word_test : ℕ → List ℕ → ℕ → Bool
+  word_test m ws i = outside_word r n (sort_at k (m + i)) (get_or ws i 0)
 
   -- one number and its word more
-  step : (m j w : ℕ) (ws : List ℕ) {t u : Bool} → outside_word r n (sort_at k m) w ≡ t → any_below j (wordTest (suc m) ws) ≡ u
-      → any_below (suc j) (wordTest m (w ∷ ws)) ≡ (t || u)
+  step : (m j w : ℕ) (ws : List ℕ) {t u : Bool} → outside_word r n (sort_at k m) w ≡ t → any_below j (word_test (suc m) ws) ≡ u
+      → any_below (suc j) (word_test m (w ∷ ws)) ≡ (t || u)
   step m j w ws e f =
-      any_first j (wordTest m (w ∷ ws))
+      any_first j (word_test m (w ∷ ws))
       ∙ ap₂ ◌||◌ (ap (λ (a : ℕ). outside_word r n (sort_at k a) w) (add-zero m) ∙ e)
       ((λ t. any_below j (λ i. outside_word r n (sort_at k ((add-suc m i ∙ sym (suc-add m i)) t)) (get_or ws i 0))) ∙ f)
 
   words_are : (m j : ℕ) {bs : List Bool} {ns : List Number} → OfSlots bs ns → agrees k m j bs ≡ true
-      → any_below j (wordTest m (held_up_to j ns)) ≡ some_outside r n k m ns
+      → any_below j (word_test m (held_up_to j ns)) ≡ some_outside r n k m ns
   unfolding agrees some_outside held_up_to held any_below
   words_are m zero no_number e = refl
   words_are m zero (float_first b o) e = no_sort e
   words_are m zero (whole_first z o) e = no_sort e
   words_are m (suc j) no_number e =
       let t = both (eqb (get_or (letters_at k) m 46) 46) (agrees k (suc m) j []) e in
-      step m j 0 (held_up_to j []) (nothing-word r n few k m 0 t.0) (words_are (suc m) j no_number t.1)
+      step m j 0 (held_up_to j []) (nothing_word r n few k m 0 t.0) (words_are (suc m) j no_number t.1)
   words_are m (suc j) (float_first {bs} {ns} b o) e =
       let t = both (suits_slot true (sort_at k m)) (agrees k (suc m) j bs) e in
       step m j b (held_up_to j ns) (float_word r n few (sort_at k m) b t.0) (words_are (suc m) j o t.1)
@@ -234,12 +234,12 @@ word_at (suc n) zero (whole_first z o) h = refl
 word_at (suc n) (suc m) (whole_first z o) h = word_at n m o (omega arith)
 
 module _ (l : Line) (p : Proper l) (kind : Kind) (e : kind_of l ≡ kind) where
-  kind-slots : OfSlots (slots_of (form_at (row_of kind))) l.numbers
-  kind-slots = subst (λ (k : ℕ). OfSlots (slots_of (form_at k)) l.numbers) (row_of_lem l.row kind p.few e) (of_slots p.suits)
+  kind_slots : OfSlots (slots_of (form_at (row_of kind))) l.numbers
+  kind_slots = subst (λ (k : ℕ). OfSlots (slots_of (form_at k)) l.numbers) (row_of_lem l.row kind p.few e) (of_slots p.suits)
 
-  pub bits-held : (m : ℕ) → m < 5 → get_or (slots_of (form_at (row_of kind))) m true ≡ true → get_or (held_up_to 5 l.numbers) m 0 ≡ bits_at m l.numbers
-  bits-held m h s = rw s at (word_at 5 m kind-slots h)
+  pub bits_held : (m : ℕ) → m < 5 → get_or (slots_of (form_at (row_of kind))) m true ≡ true → get_or (held_up_to 5 l.numbers) m 0 ≡ bits_at m l.numbers
+  bits_held m h s = rw s at (word_at 5 m kind_slots h)
 
-  pub whole-held : (m : ℕ) → m < 5 → get_or (slots_of (form_at (row_of kind))) m true ≡ false
+  pub whole_held : (m : ℕ) → m < 5 → get_or (slots_of (form_at (row_of kind))) m true ≡ false
       → get_or (held_up_to 5 l.numbers) m 0 ≡ held_whole (whole_at m l.numbers)
-  whole-held m h s = rw s at (word_at 5 m kind-slots h)
+  whole_held m h s = rw s at (word_at 5 m kind_slots h)

@@ -48,14 +48,14 @@ module _ (k : ℕ) (h : k < row_count) where
   unfolding rows
   inside = leb-true (start (k + 1)) (length forms) (at (λ j. leb (start (j + 1)) (length forms)) refl)
 
-  pub form-is : take (start (k + 1) - start k) (drop (start k) forms) ≡ form_at k
+  pub form_is : take (start (k + 1) - start k) (drop (start k) forms) ≡ form_at k
   unfolding form_at row_at rows
-  form-is = same_list_holds _ (form_at k) (at (λ j. same_list (take (start (j + 1) - start j) (drop (start j) forms)) (form_at j)) refl)
+  form_is = same_list_holds _ (form_at k) (at (λ j. same_list (take (start (j + 1) - start j) (drop (start j) forms)) (form_at j)) refl)
 
   -- a line whose second byte is not that of the form
-  pub second-other : (line : List ℕ) → second_is (get_or forms (start k + 1) 0) line ≡ false → fit_of (form_at k) line ≡ misfit
+  pub second_other : (line : List ℕ) → second_is (get_or forms (start k + 1) 0) line ≡ false → fit_of (form_at k) line ≡ misfit
   unfolding form_at row_at rows
-  second-other line e =
+  second_other line e =
       rw (same_list_holds (form_at k) (starts k) (at (λ j. same_list (form_at j) (starts j)) refl))
       (second_misfits _ _ _ line refl (not-true _ (at (λ j. not (is_slot (get_or forms (start j + 1) 0))) refl)) e)
     where
@@ -63,9 +63,9 @@ module _ (k : ℕ) (h : k < row_count) where
       starts : ℕ → List ℕ
       starts j = 40 ∷ get_or forms (start j + 1) 0 ∷ drop 2 (form_at j)
 
-  pub letters-are : letters_in k ≡ letters_at k
+  pub letters_are : letters_in k ≡ letters_at k
   unfolding row_at rows
-  letters-are = same_list_holds (letters_in k) (letters_at k) (at (λ j. same_list (letters_in j) (letters_at j)) refl)
+  letters_are = same_list_holds (letters_in k) (letters_at k) (at (λ j. same_list (letters_in j) (letters_at j)) refl)
 
   pub stage_is : (s : ℕ) → s < stage_count → get_or fronts (k * form_from + s) 0 ≡ get_or (take stage_count (row_at k)) s 46
   unfolding row_at rows
@@ -77,9 +77,9 @@ module _ (k : ℕ) (h : k < row_count) where
   -- ---- the rows
 
   -- after each # of a form stands a byte that ends an integer
-  pub apart-at : apart (form_at k) ≡ true
+  pub apart_at : apart (form_at k) ≡ true
   unfolding form_at row_at rows apart
-  apart-at = at (λ j. apart (form_at j)) refl
+  apart_at = at (λ j. apart (form_at j)) refl
 
   -- no form is taken for one behind it
   pub told_at : (j : ℕ) → j < k → told (form_at j) (form_at k) ≡ true

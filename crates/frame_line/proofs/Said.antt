@@ -29,7 +29,7 @@ use Rattle.frame_line.specs.declared.Sort.{Sort}
 use Rattle.frame_line.specs.declared.HeldLine.{HeldLine}
 use Rattle.frame_line.specs.declared.HeldLabel.{HeldLabel}
 use Rattle.frame_line.proofs.Numbers.{slots_of, ranged, beyond_is, outside_is, outside_held_lem}
-use Rattle.frame_line.proofs.Numbers.{row_of, row_of_lem, bits-held, whole-held}
+use Rattle.frame_line.proofs.Numbers.{row_of, row_of_lem, bits_held, whole_held}
 
 -- ---- integers that are held as they are
 
@@ -81,42 +81,42 @@ Between low high w = (low ≤ w) × (w ≤ high)
 
 module _ (n : ℕ) (line : HeldLine) where
   -- a word whose refusal is not said
-  pub fine-word : (r m : ℕ) (s : Sort) → outside_held r n line ≡ false → m < 5 → sort_at line.row m ≡ s → outside_word r n s (word_of line m) ≡ false
+  pub fine_word : (r m : ℕ) (s : Sort) → outside_held r n line ≡ false → m < 5 → sort_at line.row m ≡ s → outside_word r n s (word_of line m) ≡ false
   unfolding outside_held
-  fine-word r m s e h is = sym (ap (λ (x : Sort). outside_word r n x (word_of line m)) is) ∙ any_none (outside_at r n line) 5 m e h
+  fine_word r m s e h is = sym (ap (λ (x : Sort). outside_word r n x (word_of line m)) is) ∙ any_none (outside_at r n line) 5 m e h
 
-  pub word-tame : outside_held 3 n line ≡ false → (m : ℕ) → m < 5 → (q : Quantity) → sort_at line.row m ≡ Sort.Float q → wild_bits q (word_of line m) ≡ false
+  pub word_tame : outside_held 3 n line ≡ false → (m : ℕ) → m < 5 → (q : Quantity) → sort_at line.row m ≡ Sort.Float q → wild_bits q (word_of line m) ≡ false
   unfolding outside_word
-  word-tame e m h q s = fine-word 3 m (Sort.Float q) e h s
+  word_tame e m h q s = fine_word 3 m (Sort.Float q) e h s
 
   between : (r m low high : ℕ) (s : Sort) → m < 5 → sort_at line.row m ≡ s → outside_held r n line ≡ false
       → (outside_word r n s (word_of line m) ≡ false → beyond low high (word_of line m) ≡ false) → Between low high (word_of line m)
   between r m low high s h is e so =
       let w = word_of line m in
-      let t = or_false_both (ltb w low) (ltb high w) (so (fine-word r m s e h is)) in
+      let t = or_false_both (ltb w low) (ltb high w) (so (fine_word r m s e h is)) in
       (ltb-false w low t.0, ltb-false high w t.1)
 
   -- a line of a kind whose first number is a corner's
   module _ (kind : Kind) (row_is : line.row ≡ row_of kind) (first : sort_at (row_of kind) 0 ≡ Sort.Corner) where
-    corner-word : outside_held 5 n line ≡ false → Between 1000000 (999999 + n) (word_of line 0)
+    corner_word : outside_held 5 n line ≡ false → Between 1000000 (999999 + n) (word_of line 0)
     unfolding outside_word
-    corner-word e = between 5 0 1000000 (999999 + n) Sort.Corner (omega arith) (ap (λ (k : ℕ). sort_at k 0) row_is ∙ first) e (λ f. f)
+    corner_word e = between 5 0 1000000 (999999 + n) Sort.Corner (omega arith) (ap (λ (k : ℕ). sort_at k 0) row_is ∙ first) e (λ f. f)
 
-    pub corner-known : outside_held 5 n line ≡ false → count_in (word_of line 0) < n
-    corner-known e = let b = corner-word e in rw (le-ltb (word_of line 0) 1000000 b.0) (omega arith)
+    pub corner_known : outside_held 5 n line ≡ false → count_in (word_of line 0) < n
+    corner_known e = let b = corner_word e in rw (le-ltb (word_of line 0) 1000000 b.0) (omega arith)
 
   module _ (row_is : line.row ≡ row_of Kind.Label) where
-    side-word : (m : ℕ) → m < 5 → sort_at 5 m ≡ Sort.Whole 4 999936 1000063 → outside_held 4 n line ≡ false → Between 999936 1000063 (word_of line m)
+    side_word : (m : ℕ) → m < 5 → sort_at 5 m ≡ Sort.Whole 4 999936 1000063 → outside_held 4 n line ≡ false → Between 999936 1000063 (word_of line m)
     unfolding outside_word
-    side-word m h is e = between 4 m 999936 1000063 _ h (ap (λ (k : ℕ). sort_at k m) row_is ∙ is) e (λ f. f)
+    side_word m h is e = between 4 m 999936 1000063 _ h (ap (λ (k : ℕ). sort_at k m) row_is ∙ is) e (λ f. f)
 
     pub label_on : outside_held 4 n line ≡ false → OnSheet (label_in line.values).cell
     unfolding on_sheet sort_at sort_of row_at rows
-    label_on e = subst T (sym (ap₂ ◌&&◌ (side_on _ (side-word 1 (omega arith) refl e)) (side_on _ (side-word 2 (omega arith) refl e)))) tt
+    label_on e = subst T (sym (ap₂ ◌&&◌ (side_on _ (side_word 1 (omega arith) refl e)) (side_on _ (side_word 2 (omega arith) refl e)))) tt
 
-  pub kind-known : line.row ≡ row_of Kind.Shade → outside_held 1 n line ≡ false → (shade_in line.values).kind ≤ 1
+  pub kind_known : line.row ≡ row_of Kind.Shade → outside_held 1 n line ≡ false → (shade_in line.values).kind ≤ 1
   unfolding outside_word sort_at sort_of row_at rows
-  kind-known row_is e =
+  kind_known row_is e =
       let b = between 1 1 1000000 1000001 (Sort.Whole 1 1000000 1000001) (omega arith) (ap (λ (k : ℕ). sort_at k 1) row_is) e (λ f. f) in
       rw (le-ltb (word_of line 1) 1000000 b.0) (omega arith)
 
@@ -162,63 +162,63 @@ PassTame (local s f r g d) = Tame Quantity.Multiple s × (Tame Quantity.Factor f
 module _
     (n : ℕ) (l : Line) (p : Proper l) (r : ℕ) (not-5 : eqb r 5 ≡ false) (fine : outside_line r n l ≡ false) (kind : Kind) (e : kind_of l ≡ kind) (m : ℕ)
     (h : m < 5) where
-  held-fine : outside_held r n (held_line l) ≡ false
-  held-fine = outside_is r n l (λ f. absurd (true≢false (sym f ∙ not-5))) p ∙ fine
+  held_fine : outside_held r n (held_line l) ≡ false
+  held_fine = outside_is r n l (λ f. absurd (true≢false (sym f ∙ not-5))) p ∙ fine
 
-  sort-is : {s : Sort} → sort_at (row_of kind) m ≡ s → sort_at l.row m ≡ s
-  sort-is is = ap (λ (k : ℕ). sort_at k m) (row_of_lem l.row kind p.few e) ∙ is
+  sort_is : {s : Sort} → sort_at (row_of kind) m ≡ s → sort_at l.row m ≡ s
+  sort_is is = ap (λ (k : ℕ). sort_at k m) (row_of_lem l.row kind p.few e) ∙ is
 
   count_at : (high : ℕ) → ranged 1000000 high ≡ true → sort_at (row_of kind) m ≡ Sort.Whole r 1000000 high
       → get_or (slots_of (form_at (row_of kind))) m true ≡ false → wild_whole (pos 0) (unheld_whole high) (whole_at m l.numbers) ≡ false
   unfolding outside_word unheld_whole
   count_at high g s slot =
-      sym (beyond_is 1000000 high (whole_at m l.numbers) g) ∙ sym (ap (beyond 1000000 high) (whole-held l p kind e m h slot))
-      ∙ (rw (eq-eqb r r refl) at (fine-word n (held_line l) r m (Sort.Whole r 1000000 high) held-fine h (sort-is s)))
+      sym (beyond_is 1000000 high (whole_at m l.numbers) g) ∙ sym (ap (beyond 1000000 high) (whole_held l p kind e m h slot))
+      ∙ (rw (eq-eqb r r refl) at (fine_word n (held_line l) r m (Sort.Whole r 1000000 high) held_fine h (sort_is s)))
 
 module _ (n : ℕ) (l : Line) (p : Proper l) (fine : outside_line 3 n l ≡ false) where
   module _ (kind : Kind) (e : kind_of l ≡ kind) (m : ℕ) (h : m < 5) where
     tame : (q : Quantity) → sort_at (row_of kind) m ≡ Sort.Float q → get_or (slots_of (form_at (row_of kind))) m true ≡ true → Tame q (bits_at m l.numbers)
     tame q s slot =
-        sym (ap (wild_bits q) (bits-held l p kind e m h slot))
-        ∙ word-tame n (held_line l) (held-fine n l p 3 refl fine kind e m h) m h q (sort-is n l p 3 refl fine kind e m h s)
+        sym (ap (wild_bits q) (bits_held l p kind e m h slot))
+        ∙ word_tame n (held_line l) (held_fine n l p 3 refl fine kind e m h) m h q (sort_is n l p 3 refl fine kind e m h s)
 
     count : (high : ℕ) → ranged 1000000 high ≡ true → sort_at (row_of kind) m ≡ Sort.Whole 3 1000000 high → get_or (slots_of (form_at (row_of kind))) m true ≡ false
         → wild_whole (pos 0) (unheld_whole high) (whole_at m l.numbers) ≡ false
     count = count_at n l p 3 refl fine kind e m h
 
-  pub cell-said : kind_of l ≡ Kind.Opening OpeningKind.CellSize → Tame Quantity.CellSize (bits_at 0 l.numbers)
+  pub cell_said : kind_of l ≡ Kind.Opening OpeningKind.CellSize → Tame Quantity.CellSize (bits_at 0 l.numbers)
   unfolding sort_at sort_of slots_of form_at row_at rows
-  cell-said e = tame (Kind.Opening OpeningKind.CellSize) e 0 (omega arith) Quantity.CellSize refl refl
+  cell_said e = tame (Kind.Opening OpeningKind.CellSize) e 0 (omega arith) Quantity.CellSize refl refl
 
-  pub axes-said : kind_of l ≡ Kind.Opening OpeningKind.Axes → AxesTame (axes_line_of l.numbers)
+  pub axes_said : kind_of l ≡ Kind.Opening OpeningKind.Axes → AxesTame (axes_line_of l.numbers)
   unfolding sort_at sort_of slots_of form_at row_at rows
-  axes-said e =
+  axes_said e =
       let t = tame (Kind.Opening OpeningKind.Axes) e in
       let q = Quantity.AxisPart in
       (t 0 (omega arith) q refl refl, (t 1 (omega arith) q refl refl, (t 2 (omega arith) q refl refl, t 3 (omega arith) q refl refl)))
 
-  pub band-said : kind_of l ≡ Kind.Opening OpeningKind.Band → Tame Quantity.Band (bits_at 0 l.numbers)
+  pub band_said : kind_of l ≡ Kind.Opening OpeningKind.Band → Tame Quantity.Band (bits_at 0 l.numbers)
   unfolding sort_at sort_of slots_of form_at row_at rows
-  band-said e = tame (Kind.Opening OpeningKind.Band) e 0 (omega arith) Quantity.Band refl refl
+  band_said e = tame (Kind.Opening OpeningKind.Band) e 0 (omega arith) Quantity.Band refl refl
 
-  pub corner-said : kind_of l ≡ Kind.Corner → CornerTame (corner_line_of l.numbers)
+  pub corner_said : kind_of l ≡ Kind.Corner → CornerTame (corner_line_of l.numbers)
   unfolding sort_at sort_of slots_of form_at row_at rows
-  corner-said e =
+  corner_said e =
       let t = tame Kind.Corner e in
       (t 0 (omega arith) Quantity.Position refl refl, (t 1 (omega arith) Quantity.Position refl refl, t 2 (omega arith) Quantity.Pitch refl refl))
 
-  pub pass-said : (k : PassKind) → kind_of l ≡ Kind.Pass k → PassTame (pass_line_of k l.numbers)
+  pub pass_said : (k : PassKind) → kind_of l ≡ Kind.Pass k → PassTame (pass_line_of k l.numbers)
   unfolding sort_at sort_of slots_of form_at row_at rows pass_line_of unheld_whole
-  pass-said PassKind.BareGrow e = tt
-  pass-said PassKind.Grow e =
+  pass_said PassKind.BareGrow e = tt
+  pass_said PassKind.Grow e =
       let t = tame (Kind.Pass PassKind.Grow) e in
       (t 0 (omega arith) Quantity.Multiple refl refl, (t 1 (omega arith) Quantity.Factor refl refl, t 2 (omega arith) Quantity.Multiple refl refl))
-  pass-said PassKind.BareFill e = tt
-  pass-said PassKind.Fill e =
+  pass_said PassKind.BareFill e = tt
+  pass_said PassKind.Fill e =
       let t = tame (Kind.Pass PassKind.Fill) e in
       let c = count (Kind.Pass PassKind.Fill) e in
       (t 0 (omega arith) Quantity.Multiple refl refl, (t 1 (omega arith) Quantity.Factor refl refl, c 2 (omega arith) 1000064 refl refl refl))
-  pass-said PassKind.Local e =
+  pass_said PassKind.Local e =
       let t = tame (Kind.Pass PassKind.Local) e in
       let c = count (Kind.Pass PassKind.Local) e in (
         t 0 (omega arith) Quantity.Multiple refl refl,
@@ -246,13 +246,13 @@ corner_exact n l p kind e first slot few known =
     let z = whole_at 0 l.numbers in
     let row_is = row_of_lem l.row kind p.few e in
     let fine = outside_held_lem 5 n l few p ∙ known in
-    let held = whole-held l p kind e 0 (omega arith) slot in
-    let b = corner-word n (held_line l) kind row_is first fine in
+    let held = whole_held l p kind e 0 (omega arith) slot in
+    let b = corner_word n (held_line l) kind row_is first fine in
     let is = count_exact z (omega (arith, held, b.0)) (omega (arith, held, b.1)) in
     let so : count_in (get_or (held_up_to 5 l.numbers) 0 0) ≡ nat_abs z = ap count_in held ∙ sym (ap nat_abs is) in
     record {
       is_corner_holds = is ∙ ap pos (sym (ap nat_abs is));
-      given = subst (λ (k : ℕ). k < n) so (corner-known n (held_line l) kind row_is first fine);
+      given = subst (λ (k : ℕ). k < n) so (corner_known n (held_line l) kind row_is first fine);
       held_so = so;
     }
 
@@ -272,8 +272,8 @@ label_exact n l p e few off known =
     let row_is = row_of_lem l.row Kind.Label p.few e in
     let fine = outside_held_lem 4 n l few p ∙ off in
     let c = corner_exact n l p Kind.Label e refl refl few known in
-    let held = whole-held l p Kind.Label e in
-    let b = side-word n (held_line l) row_is in
+    let held = whole_held l p Kind.Label e in
+    let b = side_word n (held_line l) row_is in
     let i = b 1 (omega arith) refl fine in
     let j = b 2 (omega arith) refl fine in
     let signed : ℕ → ℤ = λ w. pos (min 2000000 w) -ℤ pos 1000000 in
@@ -313,5 +313,5 @@ shade_kind n l p e first =
     record {
       is_kind_holds = c.is ∙ ap pos (sym (ap nat_abs c.is));
       small = subst (λ (k : ℕ). k ≤ 1) (sym (ap nat_abs c.is)) c.small;
-      held_so = ap count_in (whole-held l p Kind.Shade e 1 (omega arith) refl) ∙ tame_count 1 z (omega arith) tame;
+      held_so = ap count_in (whole_held l p Kind.Shade e 1 (omega arith) refl) ∙ tame_count 1 z (omega arith) tame;
     }

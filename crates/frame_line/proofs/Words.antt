@@ -1,2 +1,2 @@
 -- What the words of a line say, as other crates cite it.
-pub use Rattle.frame_line.proofs.Said.{Count, counted, tame_count, word-tame, label_on, corner-known, kind-known, counts_alike}
+pub use Rattle.frame_line.proofs.Said.{Count, counted, tame_count, word_tame, label_on, corner_known, kind_known, counts_alike}

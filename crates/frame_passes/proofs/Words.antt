@@ -33,17 +33,17 @@ nan_pattern b h = is_nan_lem (of_bits binary32 b) (sym (nan_bits_is binary32 b) 
 -- ---- a pass of its words
 
 module _ (ws : List ℕ) (k : ℕ) (search factor : Float) (s : search ≡ of_bits binary32 (pass_word ws k 1)) (f : factor ≡ of_bits binary32 (pass_word ws k 2)) where
-  pub as-grow : (boundary : Float) → boundary ≡ of_bits binary32 (pass_word ws k 3) → get_or ws (6 * k) 0 ≡ 0
+  pub as_grow : (boundary : Float) → boundary ≡ of_bits binary32 (pass_word ws k 3) → get_or ws (6 * k) 0 ≡ 0
       → Pass.Grow (record { attach_search_rel = search; attach_ambiguity_factor = factor; boundary_search_factor = boundary }) ≡ pass_at ws k
   unfolding pass_at
-  as-grow boundary b e = rw (s, f, b, add-zero (6 * k), eq-eqb (get_or ws (6 * k) 0) 0 e) refl
+  as_grow boundary b e = rw (s, f, b, add-zero (6 * k), eq-eqb (get_or ws (6 * k) 0) 0 e) refl
 
-  pub as-fill : (get_or ws (6 * k) 0 ≡ 0 → ⊥) → get_or ws (6 * k) 0 ≡ 1
+  pub as_fill : (get_or ws (6 * k) 0 ≡ 0 → ⊥) → get_or ws (6 * k) 0 ≡ 1
       → Pass.Fill (record { attach_search_rel = search; attach_ambiguity_factor = factor; max_iters = pass_word ws k 4 }) ≡ pass_at ws k
   unfolding pass_at
-  as-fill n e = rw (s, f, add-zero (6 * k), ne_eqb (get_or ws (6 * k) 0) 0 n, eq-eqb (get_or ws (6 * k) 0) 1 e) refl
+  as_fill n e = rw (s, f, add-zero (6 * k), ne_eqb (get_or ws (6 * k) 0) 0 n, eq-eqb (get_or ws (6 * k) 0) 1 e) refl
 
-  pub as-local : (residual : Float) → residual ≡ of_bits binary32 (pass_word ws k 3) → (get_or ws (6 * k) 0 ≡ 0 → ⊥) → (get_or ws (6 * k) 0 ≡ 1 → ⊥)
+  pub as_local : (residual : Float) → residual ≡ of_bits binary32 (pass_word ws k 3) → (get_or ws (6 * k) 0 ≡ 0 → ⊥) → (get_or ws (6 * k) 0 ≡ 1 → ⊥)
       → Pass.Local (record { search_rel = search; ambiguity_factor = factor; max_iters = pass_word ws k 4; max_residual_rel = residual; extend_depth = pass_word ws k 5 }) ≡ pass_at ws k
   unfolding pass_at
-  as-local residual r n m = rw (s, f, r, add-zero (6 * k), ne_eqb (get_or ws (6 * k) 0) 0 n, ne_eqb (get_or ws (6 * k) 0) 1 m) refl
+  as_local residual r n m = rw (s, f, r, add-zero (6 * k), ne_eqb (get_or ws (6 * k) 0) 0 n, ne_eqb (get_or ws (6 * k) 0) 1 m) refl

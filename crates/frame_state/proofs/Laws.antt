@@ -15,7 +15,7 @@ use Rattle.binary32.proofs.Answered.{pattern}
 use Rattle.labels.specs.Labelled.{any_below}
 use Rattle.labels.specs.Count.{how_many}
 use Rattle.labels.proofs.Below.{passing_one_more}
-use Rattle.labels.proofs.Count.{many-few}
+use Rattle.labels.proofs.Count.{many_few}
 use Rattle.arguments.proofs.Chains.{or_false_both}
 use Rattle.frame_line.specs.Table.{rows, row_at, kind_at, sort_of, sort_at}
 use Rattle.frame_line.specs.Held.{label_in, shade_in, outside_held}
@@ -27,7 +27,7 @@ use Rattle.frame_line.specs.declared.HeldLabel.{HeldLabel}
 use Rattle.frame_line.specs.declared.HeldLine.{HeldLine}
 use Rattle.frame_line.proofs.Shapes.{row_of, row_of_lem}
 use Rattle.frame_line.proofs.Checking.{tame_finite}
-use Rattle.frame_line.proofs.Words.{word-tame, kind-known}
+use Rattle.frame_line.proofs.Words.{word_tame, kind_known}
 use Rattle.frame_check.specs.Checks.{is_set, has_place, over_limit, label_twice, twice_of, twice_as, twice_held, checked_held, NumbersFine}
 use Rattle.frame_check.proofs.Laws.{AllFine, fine_all, label_fits, shade_fits}
 use Rattle.sizes.specs.Sizes.{corner_limit, pass_limit}
@@ -39,7 +39,7 @@ use Rattle.frame_state.specs.declared.PassWords.{PassWords}
 pub many_room : (f : ℕ → Bool) (n k : ℕ) → k < n → f k ≡ false → how_many f n < n
 many_room f n k h e =
     let g : ℕ → Bool = λ q. f q || eqb q k in
-    omega (arith, many-few g n, passing_one_more f g n k h e (rw (eq-eqb k k refl) (or-true (f k))) (λ q l d. rw (ne_eqb q k d) (or_false (f q))))
+    omega (arith, many_few g n, passing_one_more f g n k h e (rw (eq-eqb k k refl) (or-true (f k))) (λ q l d. rw (ne_eqb q k d) (or_false (f q))))
 
 module _ {p : Progress} {a : Arrays} {line : HeldLine} (f : Addable p a line) where
   fine :
@@ -49,44 +49,44 @@ module _ {p : Progress} {a : Arrays} {line : HeldLine} (f : Addable p a line) wh
   fine = fine_all (λ r. outside_held r p.corners line) _ _ f.fine
 
   -- a float of a line is no NaN
-  tame-at : (kind : Kind) → kind_at line.row ≡ kind → (m : ℕ) (q : Quantity) → m < 5 → sort_at (row_of kind) m ≡ Sort.Float q → Tame (get_or line.values m 0)
-  tame-at kind e m q h s =
+  tame_at : (kind : Kind) → kind_at line.row ≡ kind → (m : ℕ) (q : Quantity) → m < 5 → sort_at (row_of kind) m ≡ Sort.Float q → Tame (get_or line.values m 0)
+  tame_at kind e m q h s =
       let is = ap (λ (k : ℕ). sort_at k m) (row_of_lem line.row kind f.fits.row_fits e) ∙ s in
-      let t = tame_finite q (get_or line.values m 0) (word-tame p.corners line fine.ranges m h q is) in
+      let t = tame_finite q (get_or line.values m 0) (word_tame p.corners line fine.ranges m h q is) in
       record { no_nan = pattern (get_or line.values m 0) (omega arith) }
 
-  pub opening-fits : (o : OpeningKind) → kind_at line.row ≡ Kind.Opening o → TameOpening o line.values
+  pub opening_fits : (o : OpeningKind) → kind_at line.row ≡ Kind.Opening o → TameOpening o line.values
   unfolding sort_at sort_of row_at rows
-  opening-fits OpeningKind.Frame e = tt
-  opening-fits OpeningKind.CellSize e = tame-at (Kind.Opening OpeningKind.CellSize) e 0 Quantity.CellSize (omega arith) refl
-  opening-fits OpeningKind.Axes e =
-      let t = tame-at (Kind.Opening OpeningKind.Axes) e in
+  opening_fits OpeningKind.Frame e = tt
+  opening_fits OpeningKind.CellSize e = tame_at (Kind.Opening OpeningKind.CellSize) e 0 Quantity.CellSize (omega arith) refl
+  opening_fits OpeningKind.Axes e =
+      let t = tame_at (Kind.Opening OpeningKind.Axes) e in
       record {
         ix = t 0 Quantity.AxisPart (omega arith) refl;
         iy = t 1 Quantity.AxisPart (omega arith) refl;
         jx = t 2 Quantity.AxisPart (omega arith) refl;
         jy = t 3 Quantity.AxisPart (omega arith) refl;
       }
-  opening-fits OpeningKind.Band e = tame-at (Kind.Opening OpeningKind.Band) e 0 Quantity.Band (omega arith) refl
+  opening_fits OpeningKind.Band e = tame_at (Kind.Opening OpeningKind.Band) e 0 Quantity.Band (omega arith) refl
 
   pub corner_fits : kind_at line.row ≡ Kind.Corner → CornerFits p.corners line.values
   unfolding over_limit sort_at sort_of row_at rows
   corner_fits e =
       record {
         room = leb-false corner_limit p.corners (sym (ap (over_limit p.corners p.passes) e) ∙ fine.room);
-        x = tame-at Kind.Corner e 0 Quantity.Position (omega arith) refl;
-        y = tame-at Kind.Corner e 1 Quantity.Position (omega arith) refl;
-        pitch = tame-at Kind.Corner e 2 Quantity.Pitch (omega arith) refl;
+        x = tame_at Kind.Corner e 0 Quantity.Position (omega arith) refl;
+        y = tame_at Kind.Corner e 1 Quantity.Position (omega arith) refl;
+        pitch = tame_at Kind.Corner e 2 Quantity.Pitch (omega arith) refl;
       }
 
-  numbers-fine : NumbersFine p.corners p.second line
-  numbers-fine = record { fits = f.fits; on = fine.on; known = fine.known }
+  numbers_fine : NumbersFine p.corners p.second line
+  numbers_fine = record { fits = f.fits; on = fine.on; known = fine.known }
 
   -- a label that is not doubled finds room in its set, since each label of it uses another corner
-  pub labels-room : kind_at line.row ≡ Kind.Label → LabelsRoom p a.sheet (label_in line.values)
+  pub labels_room : kind_at line.row ≡ Kind.Label → LabelsRoom p a.sheet (label_in line.values)
   unfolding twice_of
-  labels-room e =
-      let fits = label_fits p.corners p.second line numbers-fine e in
+  labels_room e =
+      let fits = label_fits p.corners p.second line numbers_fine e in
       let k = (label_in line.values).corner in
       let once : label_twice p.patched a.sheet a.used a.second p.second (label_in line.values) ≡ false =
       sym (ap (twice_as p.patched a.shades a.sheet a.used a.second p.second line) e) ∙ fine.once in
@@ -100,11 +100,11 @@ module _ {p : Progress} {a : Arrays} {line : HeldLine} (f : Addable p a line) wh
         label = record { long = f.long; fits = fits };
       }
 
-  pub shade-room : kind_at line.row ≡ Kind.Shade → ShadeFits (shade_in line.values)
-  shade-room e =
+  pub shade_room : kind_at line.row ≡ Kind.Shade → ShadeFits (shade_in line.values)
+  shade_room e =
       record {
-        entry = shade_fits p.corners p.second line numbers-fine e;
-        small = kind-known p.corners line (row_of_lem line.row Kind.Shade f.fits.row_fits e) fine.first;
+        entry = shade_fits p.corners p.second line numbers_fine e;
+        small = kind_known p.corners line (row_of_lem line.row Kind.Shade f.fits.row_fits e) fine.first;
       }
 
   pub pass_fits : (k : PassKind) → kind_at line.row ≡ Kind.Pass k → p.passes < pass_limit
@@ -114,15 +114,15 @@ module _ {p : Progress} {a : Arrays} {line : HeldLine} (f : Addable p a line) wh
 -- ---- a label of the set that is open
 
 module _ (p r : Progress) (l : HeldLabel) (sheet used second : List ℕ) where
-  pub to-second : p.patched ≡ true → r ≡ with_second p → {used' second' : List ℕ} → SecondPut p.second l used second used' second'
+  pub to_second : p.patched ≡ true → r ≡ with_second p → {used' second' : List ℕ} → SecondPut p.second l used second used' second'
       → labels_after r sheet used' second' ≡ label_added p.patched l (labels_after p sheet used second)
-  to-second e f {used'} {second'} w =
+  to_second e f {used'} {second'} w =
       subst (λ (t : Bool). labels_after r sheet used' second' ≡ label_added t l (labels_after p sheet used second)) (sym e)
       (λ t. labels_after (f t) sheet (w.used_is t) (w.second_is t))
 
-  pub to-first : p.patched ≡ false → r ≡ with_label p → {sheet' used' : List ℕ} → LabelPut l sheet used sheet' used'
+  pub to_first : p.patched ≡ false → r ≡ with_label p → {sheet' used' : List ℕ} → LabelPut l sheet used sheet' used'
       → labels_after r sheet' used' second ≡ label_added p.patched l (labels_after p sheet used second)
-  to-first e f {sheet'} {used'} w =
+  to_first e f {sheet'} {used'} w =
       subst (λ (t : Bool). labels_after r sheet' used' second ≡ label_added t l (labels_after p sheet used second)) (sym e)
       (λ t. labels_after (f t) (w.sheet_is t) (w.used_is t) second)
 

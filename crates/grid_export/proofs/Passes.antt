@@ -42,9 +42,9 @@ module _ (l : CornerLists) (shades : List ℕ) (set : Settings) (p : Pass) (shee
   unfolding pass_exported
   pass_short h = rw (lt-ltb (length out) outcome_size h) refl
 
-  pub pass-room : outcome_size ≤ length out → pass_told (step l sheet (call_of set shades (length queue) (length attached) p)) sheet queue attached out ≡ pass_exported l shades set p sheet queue attached out
+  pub pass_room : outcome_size ≤ length out → pass_told (step l sheet (call_of set shades (length queue) (length attached) p)) sheet queue attached out ≡ pass_exported l shades set p sheet queue attached out
   unfolding pass_exported
-  pass-room h = rw (le-ltb (length out) outcome_size h) refl
+  pass_room h = rw (le-ltb (length out) outcome_size h) refl
 
 -- what is as long as nothing is nothing
 nothing : (queue : List ℕ) → length queue ≡ 0 → queue ≡ []

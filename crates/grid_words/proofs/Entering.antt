@@ -19,14 +19,14 @@ module _ {A : Type 0} where
   pub at_1 : (l : List A) (a : A) → 6 ≤ length l → 1 < length (set l 0 a)
   at_1 l a h = omega (arith, length-set l 0 a)
 
-  pub at-2 : (l : List A) (a b : A) → 6 ≤ length l → 2 < length (set (set l 0 a) 1 b)
-  at-2 l a b h = omega (arith, length-set l 0 a, length-set (set l 0 a) 1 b)
+  pub at_2 : (l : List A) (a b : A) → 6 ≤ length l → 2 < length (set (set l 0 a) 1 b)
+  at_2 l a b h = omega (arith, length-set l 0 a, length-set (set l 0 a) 1 b)
 
-  pub at-3 : (l : List A) (a b c : A) → 6 ≤ length l → 3 < length (set (set (set l 0 a) 1 b) 2 c)
-  at-3 l a b c h = omega (arith, length-set l 0 a, length-set (set l 0 a) 1 b, length-set (set (set l 0 a) 1 b) 2 c)
+  pub at_3 : (l : List A) (a b c : A) → 6 ≤ length l → 3 < length (set (set (set l 0 a) 1 b) 2 c)
+  at_3 l a b c h = omega (arith, length-set l 0 a, length-set (set l 0 a) 1 b, length-set (set (set l 0 a) 1 b) 2 c)
 
-  pub at-4 : (l : List A) (a b c d : A) → 6 ≤ length l → 4 < length (set (set (set (set l 0 a) 1 b) 2 c) 3 d)
-  at-4 l a b c d h =
+  pub at_4 : (l : List A) (a b c d : A) → 6 ≤ length l → 4 < length (set (set (set (set l 0 a) 1 b) 2 c) 3 d)
+  at_4 l a b c d h =
       omega (arith, length-set l 0 a, length-set (set l 0 a) 1 b, length-set (set (set l 0 a) 1 b) 2 c, length-set (set (set (set l 0 a) 1 b) 2 c) 3 d)
 
   pub at_5 : (l : List A) (a b c d e : A) → 6 ≤ length l → 5 < length (set (set (set (set (set l 0 a) 1 b) 2 c) 3 d) 4 e)

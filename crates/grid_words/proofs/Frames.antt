@@ -21,12 +21,12 @@ use Rattle.arguments.proofs.Chains.{or_false_both}
 -- ---- an answer by its case
 
 module _ (answer : FrameAnswer) (settings : List Float) (out out' : List ℕ) where
-  pub tell-refused : (r : Refusal) (line n : ℕ) → answer ≡ FrameAnswer.Refused r line → n ≡ refused_answer r line → told n settings out ≡ frame_told answer settings out
-  tell-refused r line n t e = rw (t, e) refl
+  pub tell_refused : (r : Refusal) (line n : ℕ) → answer ≡ FrameAnswer.Refused r line → n ≡ refused_answer r line → told n settings out ≡ frame_told answer settings out
+  tell_refused r line n t e = rw (t, e) refl
 
-  pub tell-accepted : (h : FrameHead) (settings' : List Float) → answer ≡ FrameAnswer.Accepted h → settings' ≡ settings_entered h.settings settings
+  pub tell_accepted : (h : FrameHead) (settings' : List Float) → answer ≡ FrameAnswer.Accepted h → settings' ≡ settings_entered h.settings settings
       → out' ≡ counts_entered h.corners h.passes out → told 0 settings' out' ≡ frame_told answer settings out
-  tell-accepted h settings' t e w = rw (t, e, w) refl
+  tell_accepted h settings' t e w = rw (t, e, w) refl
 
 pub line_sayable : (answer : FrameAnswer) (r : Refusal) (line : ℕ) → Sayable answer → answer ≡ FrameAnswer.Refused r line → line ≤ 10000000
 line_sayable answer r line s t = subst (λ (a : FrameAnswer). Sayable a) t s
@@ -37,9 +37,9 @@ counts_sayable answer h s t = subst (λ (a : FrameAnswer). Sayable a) t s
 -- ---- the reader
 
 module _ (text : List ℕ) (b : Buffers) where
-  read-sayable : Sayable (read_into text b).answer
+  read_sayable : Sayable (read_into text b).answer
   unfolding read_into
-  read-sayable = go (too_short b)
+  read_sayable = go (too_short b)
     where
       by_read : (a : FrameRead) → read_frame text ≡ a → Sayable (leaves a b).answer
       by_read (refused_at r n) q = omega (arith, refused_line_lem text r n q)
@@ -53,7 +53,7 @@ module _ (text : List ℕ) (b : Buffers) where
 
   module _ (answer : FrameAnswer) (xs ys pitches : List Float) (shades sheet passes : List ℕ) (e : frame_out answer xs ys pitches shades sheet passes ≡ read_into text b) where
     pub sayable : Sayable answer
-    sayable = subst (λ (a : FrameAnswer). Sayable a) (sym (ap (λ (o : FrameOut). o.answer) e)) read-sayable
+    sayable = subst (λ (a : FrameAnswer). Sayable a) (sym (ap (λ (o : FrameOut). o.answer) e)) read_sayable
 
     pub read_left : (n : ℕ) (settings settings' : List Float) (out out' : List ℕ) → told n settings' out' ≡ frame_told answer settings out
         → frame_left n xs ys pitches shades sheet passes settings' out' ≡ frame_read (read_into text b) settings out
@@ -64,8 +64,8 @@ module _ (text : List ℕ) (b : Buffers) where
 -- ---- room for the head
 
 module _ (settings : List Float) (out : List ℕ) (t : Bool) (e : t ≡ (ltb (length settings) 6 || ltb (length out) 2)) where
-  pub head-room : t ≡ false → HeadRoom settings out
-  head-room f =
+  pub head_room : t ≡ false → HeadRoom settings out
+  head_room f =
       let p = or_false_both (ltb (length settings) 6) (ltb (length out) 2) (sym e ∙ f) in
       record { floats = ltb-false (length settings) 6 p.0; words = ltb-false (length out) 2 p.1 }
 
@@ -77,6 +77,6 @@ module _ (settings : List Float) (out : List ℕ) (t : Bool) (e : t ≡ (ltb (le
     unfolding frame_exported head_short
     read_short f = sym (ap (λ (s : Bool). frame_unless s text lent settings out) (sym e ∙ f))
 
-    pub read-room : t ≡ false → frame_read (read_into text lent) settings out ≡ frame_exported text lent settings out
+    pub read_room : t ≡ false → frame_read (read_into text lent) settings out ≡ frame_exported text lent settings out
     unfolding frame_exported head_short
-    read-room f = sym (ap (λ (s : Bool). frame_unless s text lent settings out) (sym e ∙ f))
+    read_room f = sym (ap (λ (s : Bool). frame_unless s text lent settings out) (sym e ∙ f))

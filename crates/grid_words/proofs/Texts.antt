@@ -18,7 +18,7 @@ use Rattle.report_words.specs.Outcomes.{stats_in}
 use Rattle.report.specs.declared.TextAnswer.{TextAnswer}
 use Rattle.report.specs.declared.PieceAnswer.{PieceAnswer}
 use Rattle.report.proofs.Joining.{no_lines, one_line_more}
-use Rattle.report.proofs.Laws.{from-the-start, piece-joins, piece-stops, line_short}
+use Rattle.report.proofs.Laws.{from_the_start, piece_joins, piece_stops, line_short}
 use Rattle.report_words.proofs.Outcomes.{stats_length}
 use Rattle.grid_words.specs.Frames.{Word}
 use Rattle.grid_words.specs.Texts.{TextLeft, text_left, text_told, text_written, text_unless, text_exported, piece_told, piece_written, piece_unless, piece_exported}
@@ -47,92 +47,92 @@ module _ (l : TextLent) (few : Few l) where
   abbrev stats : List PassStats
   stats = stats_in l.passes l.words
 
-  from-length : (k : ℕ) → length (result_from stats l.sheet k) ≤ 127 * (line_count (length stats) - k)
+  from_length : (k : ℕ) → length (result_from stats l.sheet k) ≤ 127 * (line_count (length stats) - k)
   unfolding result_from
-  from-length k =
+  from_length k =
       lines_length (result_line stats l.sheet) k (line_count (length stats) - k)
       (λ i a b. line_short l few.tame i (omega (arith, a, b, stats_length l.words 0 l.passes)))
 
-  text-few : length (text_of l) < 4294967296
-  text-few =
-      omega (arith, ap length (from-the-start stats l.sheet), from-length 0, stats_length l.words 0 l.passes, few.passes)
+  text_few : length (text_of l) < 4294967296
+  text_few =
+      omega (arith, ap length (from_the_start stats l.sheet), from_length 0, stats_length l.words 0 l.passes, few.passes)
 
-  piece-few : (from room : ℕ) → from ≤ line_count l.passes → Word (length (piece_in l from room).text) × Word (piece_in l from room).next
-  piece-few from room h =
+  piece_few : (from room : ℕ) → from ≤ line_count l.passes → Word (length (piece_in l from room).text) × Word (piece_in l from room).next
+  piece_few from room h =
       let p = piece_in l from room in
       let many = stats_length l.words 0 l.passes in
-      let joins = ap length (piece-joins stats l.sheet from room p refl) in
-      let stops = piece-stops stats l.sheet from room (omega (arith, h, many)) in (
-        omega (arith, joins, length-append p.text (result_from stats l.sheet p.next), from-length from, many, few.passes),
+      let joins = ap length (piece_joins stats l.sheet from room p refl) in
+      let stops = piece_stops stats l.sheet from room (omega (arith, h, many)) in (
+        omega (arith, joins, length-append p.text (result_from stats l.sheet p.next), from_length from, many, few.passes),
         omega (arith, stops, many, few.passes),
       )
 
 -- ---- the whole text
 
 module _ (l : TextLent) (text out : List ℕ) where
-  text-cleared : checked_text l (length text) ≡ Checked.Fine → Few l
+  text_cleared : checked_text l (length text) ≡ Checked.Fine → Few l
   unfolding checked_text checked_rest
-  text-cleared e =
+  text_cleared e =
       let seven = not_refused (input_short l || ltb (length text) (length (text_of l))) _ _ e in
       let limits = not_refused (over_limit l) _ _ seven.1 in
       record { passes = few_passes l limits.0; tame = (not_refused (wild l) _ _ limits.1).0 }
 
-  pub text-short : length out < 1 → text_left 7 text out ≡ text_exported l text out
+  pub text_short : length out < 1 → text_left 7 text out ≡ text_exported l text out
   unfolding text_exported
-  text-short h = rw (lt-ltb (length out) 1 h) refl
+  text_short h = rw (lt-ltb (length out) 1 h) refl
 
-  pub text-room : 1 ≤ length out → text_written (writes_text l text) out ≡ text_exported l text out
+  pub text_room : 1 ≤ length out → text_written (writes_text l text) out ≡ text_exported l text out
   unfolding text_exported
-  text-room h = rw (le-ltb (length out) 1 h) refl
+  text_room h = rw (le-ltb (length out) 1 h) refl
 
   module _ (text' : List ℕ) (answer : TextAnswer) (e : text_out answer text' ≡ writes_text l text) where
-    pub text-word : (n : ℕ) → answer ≡ TextAnswer.Written n → Word n
+    pub text_word : (n : ℕ) → answer ≡ TextAnswer.Written n → Word n
     unfolding writes_text
-    text-word n t = go (checked_text l (length text)) refl e
+    text_word n t = go (checked_text l (length text)) refl e
       where
         go : (k : Checked) → checked_text l (length text) ≡ k → text_out answer text' ≡ text_leaves k l text → Word n
         go Checked.Fine f w =
             let answers : answer ≡ TextAnswer.Written (length (text_of l)) = ap (λ (o : TextOut). o.answer) w in
             let same : n ≡ length (text_of l) = cc in
-            omega (arith, same, text-few l (text-cleared f))
+            omega (arith, same, text_few l (text_cleared f))
         go (Checked.Refused r) f w =
             let answers : answer ≡ TextAnswer.Refused r = ap (λ (o : TextOut). o.answer) w in
             absurd (let z : ◌≡◌ {A = ℕ} 0 1 = cc in omega arith)
 
     -- an answer, and what its case leaves
-    as-told : (a : TextAnswer) → answer ≡ a → text_told a text' out ≡ text_written (writes_text l text) out
-    as-told a t = ap (λ (b : TextAnswer). text_told b text' out) (sym t) ∙ ap (λ (o : TextOut). text_told o.answer o.out out) e
+    as_told : (a : TextAnswer) → answer ≡ a → text_told a text' out ≡ text_written (writes_text l text) out
+    as_told a t = ap (λ (b : TextAnswer). text_told b text' out) (sym t) ∙ ap (λ (o : TextOut). text_told o.answer o.out out) e
 
     pub text_refused : (r : Refusal) (n : ℕ) → answer ≡ TextAnswer.Refused r → n ≡ number_of r → text_left n text' out ≡ text_written (writes_text l text) out
-    text_refused r n t f = rw f (as-told (TextAnswer.Refused r) t)
+    text_refused r n t f = rw f (as_told (TextAnswer.Refused r) t)
 
-    pub text-done : (n : ℕ) (out' : List ℕ) → answer ≡ TextAnswer.Written n → 1 ≤ length out → out' ≡ set out 0 n → text_left 0 text' out' ≡ text_written (writes_text l text) out
-    text-done n out' t h w = rw (w ∙ one out n h) (as-told (TextAnswer.Written n) t)
+    pub text_done : (n : ℕ) (out' : List ℕ) → answer ≡ TextAnswer.Written n → 1 ≤ length out → out' ≡ set out 0 n → text_left 0 text' out' ≡ text_written (writes_text l text) out
+    text_done n out' t h w = rw (w ∙ one out n h) (as_told (TextAnswer.Written n) t)
 
 -- ---- a piece
 
 module _ (l : TextLent) (from : ℕ) (text out : List ℕ) where
-  piece-cleared : checked_piece l from (length text) ≡ Checked.Fine → Few l × (from ≤ line_count l.passes)
+  piece_cleared : checked_piece l from (length text) ≡ Checked.Fine → Few l × (from ≤ line_count l.passes)
   unfolding checked_piece
-  piece-cleared e =
+  piece_cleared e =
       let seven = not_refused (input_short l || ltb (length text) 128) _ _ e in
       let limits = not_refused (over_limit l) _ _ seven.1 in
       let three = not_refused (wild l || ltb (line_count l.passes) from) _ _ limits.1 in
       let range = or_false_both (wild l) _ three.0 in
       (record { passes = few_passes l limits.0; tame = range.0 }, ltb-false (line_count l.passes) from range.1)
 
-  pub piece-short : length out < 2 → text_left 7 text out ≡ piece_exported l from text out
+  pub piece_short : length out < 2 → text_left 7 text out ≡ piece_exported l from text out
   unfolding piece_exported
-  piece-short h = rw (lt-ltb (length out) 2 h) refl
+  piece_short h = rw (lt-ltb (length out) 2 h) refl
 
-  pub piece-room : 2 ≤ length out → piece_written (writes_piece l from text) out ≡ piece_exported l from text out
+  pub piece_room : 2 ≤ length out → piece_written (writes_piece l from text) out ≡ piece_exported l from text out
   unfolding piece_exported
-  piece-room h = rw (le-ltb (length out) 2 h) refl
+  piece_room h = rw (le-ltb (length out) 2 h) refl
 
   module _ (text' : List ℕ) (answer : PieceAnswer) (e : piece_out answer text' ≡ writes_piece l from text) where
-    pub piece-words : (n next : ℕ) → answer ≡ PieceAnswer.Written n next → Word n × Word next
+    pub piece_words : (n next : ℕ) → answer ≡ PieceAnswer.Written n next → Word n × Word next
     unfolding writes_piece
-    piece-words n next t = go (checked_piece l from (length text)) refl e
+    piece_words n next t = go (checked_piece l from (length text)) refl e
       where
         go : (k : Checked) → checked_piece l from (length text) ≡ k → piece_out answer text' ≡ piece_leaves k (piece_in l from (length text)) text → Word n × Word next
         go Checked.Fine f w =
@@ -140,19 +140,19 @@ module _ (l : TextLent) (from : ℕ) (text out : List ℕ) where
             let answers : answer ≡ PieceAnswer.Written (length p.text) p.next = ap (λ (o : PieceOut). o.answer) w in
             let bytes : n ≡ length p.text = cc in
             let nexts : next ≡ p.next = cc in
-            let clear = piece-cleared f in
-            let few = piece-few l clear.0 from (length text) clear.1 in
+            let clear = piece_cleared f in
+            let few = piece_few l clear.0 from (length text) clear.1 in
             (omega (arith, bytes, few.0), omega (arith, nexts, few.1))
         go (Checked.Refused r) f w =
             let answers : answer ≡ PieceAnswer.Refused r = ap (λ (o : PieceOut). o.answer) w in
             absurd (let z : ◌≡◌ {A = ℕ} 0 1 = cc in omega arith)
 
-    as-cut : (a : PieceAnswer) → answer ≡ a → piece_told a text' out ≡ piece_written (writes_piece l from text) out
-    as-cut a t = ap (λ (b : PieceAnswer). piece_told b text' out) (sym t) ∙ ap (λ (o : PieceOut). piece_told o.answer o.out out) e
+    as_cut : (a : PieceAnswer) → answer ≡ a → piece_told a text' out ≡ piece_written (writes_piece l from text) out
+    as_cut a t = ap (λ (b : PieceAnswer). piece_told b text' out) (sym t) ∙ ap (λ (o : PieceOut). piece_told o.answer o.out out) e
 
-    pub piece-refused : (r : Refusal) (n : ℕ) → answer ≡ PieceAnswer.Refused r → n ≡ number_of r → text_left n text' out ≡ piece_written (writes_piece l from text) out
-    piece-refused r n t f = rw f (as-cut (PieceAnswer.Refused r) t)
+    pub piece_refused : (r : Refusal) (n : ℕ) → answer ≡ PieceAnswer.Refused r → n ≡ number_of r → text_left n text' out ≡ piece_written (writes_piece l from text) out
+    piece_refused r n t f = rw f (as_cut (PieceAnswer.Refused r) t)
 
-    pub piece-done : (n next : ℕ) (out' out'' : List ℕ) → answer ≡ PieceAnswer.Written n next → 2 ≤ length out → out' ≡ set out 0 n → out'' ≡ set out' 1 next
+    pub piece_done : (n next : ℕ) (out' out'' : List ℕ) → answer ≡ PieceAnswer.Written n next → 2 ≤ length out → out' ≡ set out 0 n → out'' ≡ set out' 1 next
         → text_left 0 text' out'' ≡ piece_written (writes_piece l from text) out
-    piece-done n next out' out'' t h w v = rw (two out out' out'' n next h w v) (as-cut (PieceAnswer.Written n next) t)
+    piece_done n next out' out'' t h w v = rw (two out out' out'' n next h w v) (as_cut (PieceAnswer.Written n next) t)

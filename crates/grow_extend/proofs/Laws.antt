@@ -18,7 +18,7 @@ use Rattle.sheet.specs.declared.Position.{Position}
 use Rattle.labels.specs.Labelled.{labelled_places, label_count}
 use Rattle.labels.specs.Rim.{rim}
 use Rattle.labels.specs.Used.{used_on, Tied}
-use Rattle.labels.proofs.Used.{tied-hole, tied-ambiguous, tied_attached}
+use Rattle.labels.proofs.Used.{tied_hole, tied_ambiguous, tied_attached}
 use Rattle.predict.specs.Predict.{prediction_of, extrapolating}
 use Rattle.predict.specs.declared.Prediction.{Prediction}
 use Rattle.arguments.specs.Shades.{corners_of}
@@ -42,7 +42,7 @@ use Rattle.passes.specs.declared.GrowAnswer.{GrowAnswer}
 use Rattle.passes.proofs.Over.{over_length, over_at, over_read, over_own, over_put, over_over}
 use Rattle.passes.proofs.Queue.{more_length, spread_longer, seeded_longer}
 use Rattle.passes.proofs.Said.{grow_said_lem}
-use Rattle.passes.proofs.Enough.{Belongs, belongs_accepted, Going, Free, found-free, next_of, next-on, room-left, slot-left, queue-few, made_few, start_going, visit-going, from-ended, from_next, labels_few}
+use Rattle.passes.proofs.Enough.{Belongs, belongs_accepted, Going, Free, found_free, next_of, next_on, room_left, slot_left, queue_few, made_few, start_going, visit_going, from_ended, from_next, labels_few}
 use Rattle.grow_queue.specs.Queue.{Flagged, Room, QueueHeld, Unqueued, seeded}
 use Rattle.grow_queue.proofs.Laws.{holds_read, holds_length}
 use Rattle.arguments.specs.Front.{over}
@@ -66,7 +66,7 @@ found_spare cs set p sheet c k e = go (prediction_of (seen_of cs.corner sheet) s
   where
     go : (at : Prediction) → found_from cs set p sheet c at ≡ TryCellResult.Attached k → Free cs sheet k
     go Prediction.NoNeighbour e = absurd (let z : ◌≡◌ {A = ℕ} 0 1 = cc in omega arith)
-    go (Prediction.At at) e = found-free cs set p sheet c at (extrapolating (seen_of cs.corner sheet) c) k e
+    go (Prediction.At at) e = found_free cs set p sheet c at (extrapolating (seen_of cs.corner sheet) c) k e
 
 -- what is found, by the prediction
 module _ (cs : Corners) (set : Settings) (p : GrowParams) (sheet : List ℕ) (c : Cell) {at : Prediction} (is : at ≡ prediction_of (seen_of cs.corner sheet) set.grid c) where
@@ -74,10 +74,10 @@ module _ (cs : Corners) (set : Settings) (p : GrowParams) (sheet : List ℕ) (c 
   unfolding found_at found_from
   found_none e = rw (← is, e)
 
-  pub found-at : {q : Position} → at ≡ Prediction.At q → {outer : Bool} → outer ≡ extrapolating (seen_of cs.corner sheet) c → {search : Search} → search ≡ search_of set p outer
+  pub found_at_lem : {q : Position} → at ≡ Prediction.At q → {outer : Bool} → outer ≡ extrapolating (seen_of cs.corner sheet) c → {search : Search} → search ≡ search_of set p outer
       → {r : TryCellResult} → r ≡ try_at cs sheet (tolerances_of set) search c q → r ≡ found_at cs set p sheet c
   unfolding found_at found_from
-  found-at e o s h = h ∙ rw (← is, e, s, o)
+  found_at_lem e o s h = h ∙ rw (← is, e, s, o)
 
 -- ---- a cell settled
 
@@ -96,20 +96,20 @@ module _ {sheet queue attached used seen : List ℕ} {c : Cell} {found : TryCell
       }
 
   module _ {counts : Counts} {after : List ℕ} where
-    pub settled-none : found ≡ TryCellResult.NoCandidates → after ≡ hole_marked sheet c → counts ≡ one_more found at.counts
+    pub settled_none : found ≡ TryCellResult.NoCandidates → after ≡ hole_marked sheet c → counts ≡ one_more found at.counts
         → Leaves queue attached after queue attached used seen (record { tail = at.tail; counts = counts }) (grow_with c found (state_of sheet queue attached at))
     unfolding grow_with
-    settled-none e m n = rw (n, m, e) (marked (hole_marked sheet c) _ (tied-hole sheet c w.long w.on w.used_tied))
+    settled_none e m n = rw (n, m, e) (marked (hole_marked sheet c) _ (tied_hole sheet c w.long w.on w.used_tied))
 
-    pub settled-ambiguous : found ≡ TryCellResult.Ambiguous → after ≡ ambiguous_marked sheet c → counts ≡ one_more found at.counts
+    pub settled_ambiguous : found ≡ TryCellResult.Ambiguous → after ≡ ambiguous_marked sheet c → counts ≡ one_more found at.counts
         → Leaves queue attached after queue attached used seen (record { tail = at.tail; counts = counts }) (grow_with c found (state_of sheet queue attached at))
     unfolding grow_with
-    settled-ambiguous e m n = rw (n, m, e) (marked (ambiguous_marked sheet c) _ (tied-ambiguous sheet c w.long w.on w.used_tied))
+    settled_ambiguous e m n = rw (n, m, e) (marked (ambiguous_marked sheet c) _ (tied_ambiguous sheet c w.long w.on w.used_tied))
 
-    pub settled-edge : found ≡ TryCellResult.EdgeRejected → after ≡ hole_marked sheet c → counts ≡ one_more found at.counts
+    pub settled_edge : found ≡ TryCellResult.EdgeRejected → after ≡ hole_marked sheet c → counts ≡ one_more found at.counts
         → Leaves queue attached after queue attached used seen (record { tail = at.tail; counts = counts }) (grow_with c found (state_of sheet queue attached at))
     unfolding grow_with
-    settled-edge e m n = rw (n, m, e) (marked (hole_marked sheet c) _ (tied-hole sheet c w.long w.on w.used_tied))
+    settled_edge e m n = rw (n, m, e) (marked (hole_marked sheet c) _ (tied_hole sheet c w.long w.on w.used_tied))
 
 -- a cell that is visited, and what was found there
 pub visit_settled : (cs : Corners) (set : Settings) (p : GrowParams) (sheet queue news : List ℕ) (c : Cell) (at : Progress) (found : TryCellResult) → found ≡ found_at cs set p sheet c
@@ -151,11 +151,11 @@ module _ {sheet queue news used seen : List ℕ} {c : Cell} {k : ℕ} {at : Prog
   unfolding attached
   attached_room e = record { long = rw (e, length-set) w.attaching.long; room = w.spare.queue_room; flagged = w.seen_flagged }
 
-  pub settled-attached : {after queue' seen' : List ℕ} {place tail : ℕ} {counts : Counts} → after ≡ attached sheet c k → place ≡ place_of c
+  pub settled_attached : {after queue' seen' : List ℕ} {place tail : ℕ} {counts : Counts} → after ≡ attached sheet c k → place ≡ place_of c
       → QueueHeld queue queue' seen' tail (spread after c (take at.tail queue)) → counts ≡ one_more (TryCellResult.Attached k) at.counts
       → Leaves queue news after queue' (set news at.counts.attached place) (set used k 1) seen' (record { tail = tail; counts = counts }) (grow_with c (TryCellResult.Attached k) (state_of sheet queue news at))
   unfolding grow_with
-  settled-attached {queue' = queue'} {seen' = seen'} {tail = tail} m p h n =
+  settled_attached {queue' = queue'} {seen' = seen'} {tail = tail} m p h n =
       let g : QueueHeld queue queue' seen' tail (spread (attached sheet c k) c (take at.tail queue)) = rw m at h in
       rw (m, p, n)
       (record {
@@ -237,39 +237,39 @@ pub record Running (cs : Corners) (set : Settings) (p : GrowParams) (sheet queue
   pub rest : grow_from cs set p (4 * cs.count - head) head state ≡ grow_run cs set p sheet
 
 module _ (cs : Corners) {sheet queue news used seen : List ℕ} {tail : ℕ} (w : Startable cs.count sheet queue news used seen tail) where
-  start-fit : Belongs cs sheet
-  start-fit = record { long = w.given.long; few = w.few; known = w.given.known; one_cell = w.one_cell }
+  start_fit : Belongs cs sheet
+  start_fit = record { long = w.given.long; few = w.few; known = w.given.known; one_cell = w.one_cell }
 
-  start-in : tail ≤ length queue
+  start_in : tail ≤ length queue
   unfolding label_count start_of
-  start-in = omega (arith, w.count, queue-few (start_going cs sheet start-fit), w.queue_long)
+  start_in = omega (arith, w.count, queue_few (start_going cs sheet start_fit), w.queue_long)
 
-  pub running-start : (set : Settings) (p : GrowParams) → Running cs set p sheet queue news sheet queue news used seen (record { tail = tail; counts = no_counts }) 0
+  pub running_start : (set : Settings) (p : GrowParams) → Running cs set p sheet queue news sheet queue news used seen (record { tail = tail; counts = no_counts }) 0
   unfolding start_of grow_run
-  running-start set p =
+  running_start set p =
       record {
         state = start_of sheet;
         leaves =
             record {
               sheet_is = refl;
-              queue_is = sym (over_own queue tail start-in) ∙ ap (λ (l : List ℕ). over l queue) w.queued;
+              queue_is = sym (over_own queue tail start_in) ∙ ap (λ (l : List ℕ). over l queue) w.queued;
               attached_is = refl;
               tail_is = w.count;
               counts_are = refl;
               used_tied = w.used_tied;
               seen_flagged = w.seen_flagged;
             };
-        going = start_going cs sheet start-fit;
+        going = start_going cs sheet start_fit;
         sheet_same = refl;
         rest = let e : 4 * cs.count - 0 ≡ 4 * cs.count = omega arith in ap (λ (m : ℕ). grow_from cs set p m 0 (start_of sheet)) e;
       }
 
   module _ {set : Settings} {p : GrowParams} {sheet' queue' news' used' seen' : List ℕ} {at : Progress} {head : ℕ} (r : Running cs set p sheet queue news sheet' queue' news' used' seen' at head) where
-    pub running-queue : length queue' ≡ length queue
-    running-queue = rw r.leaves.queue_is (over_length r.state.queued queue (omega (arith, queue-few r.going, w.queue_long)))
+    pub running_queue : length queue' ≡ length queue
+    running_queue = rw r.leaves.queue_is (over_length r.state.queued queue (omega (arith, queue_few r.going, w.queue_long)))
 
-    pub running-news : length news' ≡ length news
-    running-news = rw r.leaves.attached_is (over_length r.state.made news (omega (arith, made_few r.going, w.attached_long)))
+    pub running_news : length news' ≡ length news
+    running_news = rw r.leaves.attached_is (over_length r.state.made news (omega (arith, made_few r.going, w.attached_long)))
 
     read : state_of sheet' queue' news' at ≡ r.state
     read = state_read r.leaves r.going.made_counted
@@ -282,14 +282,14 @@ module _ (cs : Corners) {sheet queue news used seen : List ℕ} {tail : ℕ} (w 
       pub next_place : get_or queue' head 0 ≡ get_or r.state.queued head 0
       next_place = ap (λ (q : List ℕ). get_or q head 0) r.leaves.queue_is ∙ over_at r.state.queued queue head here
 
-      pub place-below : get_or queue' head 0 < 16384
-      place-below = rw next_place (r.going.lined.places head here)
+      pub place_below : get_or queue' head 0 < 16384
+      place_below = rw next_place (r.going.lined.places head here)
 
       pub head_few : head < 4096
-      head_few = omega (arith, here, queue-few r.going, w.few)
+      head_few = omega (arith, here, queue_few r.going, w.few)
 
       pub head_in : head < length queue'
-      head_in = omega (arith, running-queue, here, queue-few r.going, w.queue_long)
+      head_in = omega (arith, running_queue, here, queue_few r.going, w.queue_long)
 
       small : SmallCounts at.counts
       small =
@@ -298,8 +298,8 @@ module _ (cs : Corners) {sheet queue news used seen : List ℕ} {tail : ℕ} (w 
           rw r.leaves.counts_are
           (record { attached_small = omega arith; no_candidate_small = omega arith; ambiguous_small = omega arith; edge_small = omega arith })
 
-      pub running-visitable : {c : Cell} → c ≡ cell_of (get_or queue' head 0) → Visitable cs.count sheet' queue' news' used' seen' c at
-      running-visitable {c} e =
+      pub running_visitable : {c : Cell} → c ≡ cell_of (get_or queue' head 0) → Visitable cs.count sheet' queue' news' used' seen' c at
+      running_visitable {c} e =
           let g = r.going in
           let l = r.leaves in
           let d : c ≡ next_of r.state head = e ∙ ap cell_of next_place in
@@ -307,10 +307,10 @@ module _ (cs : Corners) {sheet queue news used seen : List ℕ} {tail : ℕ} (w 
           record {
             given = given;
             few = w.few;
-            on = rw d (next-on g here);
+            on = rw d (next_on g here);
             bare = rw (d, l.sheet_is) (g.lined.waiting head (omega arith) here);
-            queue_in = omega (arith, l.tail_is, queue-few g, running-queue, w.queue_long);
-            attached_in_holds = rw l.counts_are (omega (arith, g.made_counted, made_few g, running-news, w.attached_long));
+            queue_in = omega (arith, l.tail_is, queue_few g, running_queue, w.queue_long);
+            attached_in_holds = rw l.counts_are (omega (arith, g.made_counted, made_few g, running_news, w.attached_long));
             small = small;
             used_tied = rw l.sheet_is l.used_tied;
             seen_flagged = rw (ap (λ (s : GrowState). s.queued) read) l.seen_flagged;
@@ -321,8 +321,8 @@ module _ (cs : Corners) {sheet queue news used seen : List ℕ} {tail : ℕ} (w 
           spare k h f =
               let free : Free cs r.state.sheet k = record { given = h; free = f } in
               record {
-                queue_room = omega (arith, r.leaves.tail_is, room-left r.going here k free, running-queue, w.queue_long);
-                attached_room = rw r.leaves.counts_are (omega (arith, r.going.made_counted, slot-left r.going here k free, running-news, w.attached_long));
+                queue_room = omega (arith, r.leaves.tail_is, room_left r.going here k free, running_queue, w.queue_long);
+                attached_room = rw r.leaves.counts_are (omega (arith, r.going.made_counted, slot_left r.going here k free, running_news, w.attached_long));
               }
 
       pub running_more : {c : Cell} → c ≡ cell_of (get_or queue' head 0) → {sheet₂ queue₂ news₂ used₂ seen₂ : List ℕ} {at₂ : Progress}
@@ -332,11 +332,11 @@ module _ (cs : Corners) {sheet queue news used seen : List ℕ} {tail : ℕ} (w 
           let next = grow_visit cs set p (next_of r.state head) r.state in
           let l : Leaves queue' news' sheet₂ queue₂ news₂ used₂ seen₂ at₂ next = rw (d, read) at m in
           let grown = visit_grown cs set p (next_of r.state head) r.state in
-          let fuel : 4 * cs.count - head ≡ suc (4 * cs.count - (head + 1)) = omega (arith, here, queue-few r.going) in
+          let fuel : 4 * cs.count - head ≡ suc (4 * cs.count - (head + 1)) = omega (arith, here, queue_few r.going) in
           record {
             state = next;
             leaves = leaves_then r.leaves l grown;
-            going = visit-going cs set p head r.state r.going here;
+            going = visit_going cs set p head r.state r.going here;
             sheet_same = ap length l.sheet_is ∙ grown.sheet_same ∙ sym (ap length r.leaves.sheet_is) ∙ r.sheet_same;
             rest =
                 sym (from_next cs set p (4 * cs.count - (head + 1)) head r.state here)
@@ -344,9 +344,9 @@ module _ (cs : Corners) {sheet queue news used seen : List ℕ} {tail : ℕ} (w 
                 ∙ r.rest;
           }
 
-    pub running-end : at.tail ≤ head → Leaves queue news sheet' queue' news' used' seen' at (grow_run cs set p sheet)
-    running-end h =
-        let e = sym (from-ended cs set p (4 * cs.count - head) head r.state (omega (arith, r.leaves.tail_is))) ∙ r.rest in
+    pub running_end : at.tail ≤ head → Leaves queue news sheet' queue' news' used' seen' at (grow_run cs set p sheet)
+    running_end h =
+        let e = sym (from_ended cs set p (4 * cs.count - head) head r.state (omega (arith, r.leaves.tail_is))) ∙ r.rest in
         subst (λ (s : GrowState). Leaves queue news sheet' queue' news' used' seen' at s) e r.leaves
 
 -- ---- the call
@@ -359,22 +359,22 @@ run_lent set p sheet {queue} {news} {sheet'} {queue'} {news'} {used'} {seen'} {a
 
 module _ (corners : CornerLists) (set : Settings) (p : GrowParams) (shades sheet queue news : List ℕ) where
   module _ (a : Accepted (lent_of corners shades sheet (rooms (length queue) (length news))) set (Pass.Grow p)) where
-    seeds-few : 4 * label_count sheet ≤ length queue
+    seeds_few : 4 * label_count sheet ≤ length queue
     unfolding queue_needed
-    seeds-few = omega (arith, a.queue_long, labels_few (belongs_accepted a))
+    seeds_few = omega (arith, a.queue_long, labels_few (belongs_accepted a))
 
     -- the queue has room for the seeds
-    pub call-unqueued : {seen : List ℕ} → Flagged [] seen → Unqueued sheet queue seen
-    call-unqueued f = record { long = a.given.long; room = seeds-few; flagged = f }
+    pub call_unqueued : {seen : List ℕ} → Flagged [] seen → Unqueued sheet queue seen
+    call_unqueued f = record { long = a.given.long; room = seeds_few; flagged = f }
 
     module _ {queue' seen' : List ℕ} {tail : ℕ} (h : QueueHeld queue queue' seen' tail (seeded sheet)) where
       same : length queue' ≡ length queue
       unfolding label_count
-      same = holds_length h (omega (arith, (seeded_longer sheet (labelled_places sheet) []).few, seeds-few))
+      same = holds_length h (omega (arith, (seeded_longer sheet (labelled_places sheet) []).few, seeds_few))
 
-      pub call-startable : {used : List ℕ} → Tied sheet used → Startable (length corners.xs) sheet queue' news used seen' tail
+      pub call_startable : {used : List ℕ} → Tied sheet used → Startable (length corners.xs) sheet queue' news used seen' tail
       unfolding queue_needed
-      call-startable t =
+      call_startable t =
           record {
             given = a.given;
             few = a.few;
@@ -395,10 +395,10 @@ module _ (corners : CornerLists) (set : Settings) (p : GrowParams) (shades sheet
           rw (l.sheet_is, s) a.given.long
 
       -- the pass done
-      pub call-left : {sheet₂ queue₂ news₂ used₂ seen₂ : List ℕ} {end : Progress} {reached : Bool} → Leaves queue' news sheet₂ queue₂ news₂ used₂ seen₂ end (grow_run (corners_of corners shades) set p sheet) → reached ≡ rim 1 sheet₂
+      pub call_left : {sheet₂ queue₂ news₂ used₂ seen₂ : List ℕ} {end : Progress} {reached : Bool} → Leaves queue' news sheet₂ queue₂ news₂ used₂ seen₂ end (grow_run (corners_of corners shades) set p sheet) → reached ≡ rim 1 sheet₂
           → grow_out (GrowAnswer.Done (record { counts = end.counts; rim = reached })) sheet₂ queue₂ news₂ ≡ grow_leaves (done (grow_after (corners_of corners shades) set p sheet)) sheet queue news
       unfolding grow_after grow_run start_of
-      call-left l e =
+      call_left l e =
           let longer = (from_grown (corners_of corners shades) set p (4 * length corners.xs) 0 (start_of sheet)).queued_more in
           let q = l.queue_is ∙ ap (over (grow_run (corners_of corners shades) set p sheet).queued) h.written ∙ over_over (seeded sheet) (grow_run (corners_of corners shades) set p sheet).queued queue longer in
           rw (e, l.counts_are, l.sheet_is, q, l.attached_is)
@@ -414,22 +414,22 @@ module _ (corners : CornerLists) (set : Settings) (p : GrowParams) (shades sheet
 
   -- by what the check of the arguments finds
   module _ {found : Checked} (is : found ≡ checked (lent_of corners shades sheet (rooms (length queue) (length news))) set (Pass.Grow p)) where
-    leaves-refused : {r : Refusal} → found ≡ Checked.Refused r
+    leaves_refused : {r : Refusal} → found ≡ Checked.Refused r
         → grow_out (GrowAnswer.Refused r) sheet queue news ≡ grow_leaves (grow_step corners shades sheet set p (rooms (length queue) (length news))) sheet queue news
     unfolding grow_step
-    leaves-refused e = rw (← is, e)
+    leaves_refused e = rw (← is, e)
 
-    pub call-refused : {r : Refusal} → found ≡ Checked.Refused r → Promised (grow_out (GrowAnswer.Refused r) sheet queue news)
-    call-refused e = promised (leaves-refused e)
+    pub call_refused : {r : Refusal} → found ≡ Checked.Refused r → Promised (grow_out (GrowAnswer.Refused r) sheet queue news)
+    call_refused e = promised (leaves_refused e)
 
     pub call_accepted : found ≡ Checked.Fine → Accepted (lent_of corners shades sheet (rooms (length queue) (length news))) set (Pass.Grow p)
     call_accepted e = accepted _ _ _ (sym is ∙ e)
 
-    leaves-done : found ≡ Checked.Fine → {out : GrowOut} → out ≡ grow_leaves (done (grow_after (corners_of corners shades) set p sheet)) sheet queue news
+    leaves_done : found ≡ Checked.Fine → {out : GrowOut} → out ≡ grow_leaves (done (grow_after (corners_of corners shades) set p sheet)) sheet queue news
         → out ≡ grow_leaves (grow_step corners shades sheet set p (rooms (length queue) (length news))) sheet queue news
     unfolding grow_step
-    leaves-done e h = rw (← is, e) h
+    leaves_done e h = rw (← is, e) h
 
-    pub call-done : found ≡ Checked.Fine → {r : GrowAnswer} {s q n : List ℕ} → grow_out r s q n ≡ grow_leaves (done (grow_after (corners_of corners shades) set p sheet)) sheet queue news
+    pub call_done : found ≡ Checked.Fine → {r : GrowAnswer} {s q n : List ℕ} → grow_out r s q n ≡ grow_leaves (done (grow_after (corners_of corners shades) set p sheet)) sheet queue news
         → Promised (grow_out r s q n)
-    call-done e h = promised (leaves-done e h)
+    call_done e h = promised (leaves_done e h)

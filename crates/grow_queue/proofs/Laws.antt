@@ -81,42 +81,42 @@ module _ {sheet queue seen : List ℕ} {tail : ℕ} (c : Cell) (w : Room 1 sheet
   kept : enqueued sheet c (so_far queue tail) ≡ so_far queue tail → QueueHeld queue queue seen tail (enqueued sheet c (so_far queue tail))
   kept e = rw e (holds_own queue seen tail upto w.flagged)
 
-  pub queue-off : on_sheet c ≡ false → QueueHeld queue queue seen tail (enqueued sheet c (so_far queue tail))
+  pub queue_off : on_sheet c ≡ false → QueueHeld queue queue seen tail (enqueued sheet c (so_far queue tail))
   unfolding enqueued wanted
-  queue-off e = kept (rw e)
+  queue_off e = kept (rw e)
 
   module _ (on : on_sheet c ≡ true) {p : ℕ} (is : p ≡ place_of c) where
     here : OnSheet c
     here = subst T (sym on) tt
 
-    pub place-below : p < 16384
-    place-below = rw is (place_in c here)
+    pub place_below : p < 16384
+    place_below = rw is (place_in c here)
 
     label : names_corner (label_at sheet c) ≡ is_labelled (get_or sheet p 0)
     unfolding is_labelled
     label = rw is (ap names_corner (label_on sheet c here))
 
-    pub queue-labelled : is_labelled (get_or sheet p 0) ≡ true → QueueHeld queue queue seen tail (enqueued sheet c (so_far queue tail))
+    pub queue_labelled : is_labelled (get_or sheet p 0) ≡ true → QueueHeld queue queue seen tail (enqueued sheet c (so_far queue tail))
     unfolding enqueued wanted
-    queue-labelled e = kept (rw (on, label, e))
+    queue_labelled e = kept (rw (on, label, e))
 
     module _ (bare : is_labelled (get_or sheet p 0) ≡ false) where
-      pub queue-seen : (get_or seen p 0 ≡ 0 → ⊥) → QueueHeld queue queue seen tail (enqueued sheet c (so_far queue tail))
+      pub queue_seen : (get_or seen p 0 ≡ 0 → ⊥) → QueueHeld queue queue seen tail (enqueued sheet c (so_far queue tail))
       unfolding enqueued wanted
-      queue-seen h =
-          let m : member p (so_far queue tail) ≡ true = bit_yes _ (λ z. h (w.flagged.at p place-below ∙ z)) in
+      queue_seen h =
+          let m : member p (so_far queue tail) ≡ true = bit_yes _ (λ z. h (w.flagged.at p place_below ∙ z)) in
           kept (rw (on, label, bare, ← is, m))
 
-      pub queue-new : get_or seen p 0 ≡ 0 → QueueHeld queue (set queue tail p) (set seen p 1) (tail + 1) (enqueued sheet c (so_far queue tail))
+      pub queue_new : get_or seen p 0 ≡ 0 → QueueHeld queue (set queue tail p) (set seen p 1) (tail + 1) (enqueued sheet c (so_far queue tail))
       unfolding enqueued wanted
-      queue-new h =
-          let m : member p (so_far queue tail) ≡ false = bit_no _ (sym (w.flagged.at p place-below) ∙ h) in
+      queue_new h =
+          let m : member p (so_far queue tail) ≡ false = bit_no _ (sym (w.flagged.at p place_below) ∙ h) in
           let l : length (so_far queue tail) ≡ tail = length-take-le tail queue upto in
           rw (on, label, bare, ← is, m)
           (record {
             written = over_put queue tail p (omega (arith, w.room));
             count = omega (arith, length-append (so_far queue tail) (p ∷ []));
-            flagged = flagged_more w.flagged p place-below;
+            flagged = flagged_more w.flagged p place_below;
           })
 
 -- ---- the four neighbours
@@ -135,26 +135,26 @@ pub record Spreading (sheet : List ℕ) (c : Cell) (queue : List ℕ) (tail : �
   pub rest : enqueued_at sheet c (drop k cardinal_offsets) queued ≡ spread sheet c (so_far queue tail)
 
 module _ {sheet : List ℕ} (c : Cell) {queue seen : List ℕ} {tail : ℕ} (w : Room 4 sheet queue seen tail) where
-  pub spreading-start : Spreading sheet c queue tail queue seen tail 0
+  pub spreading_start : Spreading sheet c queue tail queue seen tail 0
   unfolding spread
-  spreading-start =
+  spreading_start =
       record { upto = omega arith; queued = so_far queue tail; holds = holds_own queue seen tail (omega (arith, w.room)) w.flagged; more = omega arith; few = omega arith; rest = refl }
 
   module _ {after flags : List ℕ} {end k : ℕ} (s : Spreading sheet c queue tail after flags end k) where
-    pub spreading-length : length after ≡ length queue
-    spreading-length = holds_length s.holds (omega (arith, s.holds.count, s.few, s.upto, w.room))
+    pub spreading_length : length after ≡ length queue
+    spreading_length = holds_length s.holds (omega (arith, s.holds.count, s.few, s.upto, w.room))
 
-    pub spreading-room : k < 4 → Room 1 sheet after flags end
-    spreading-room h =
+    pub spreading_room : k < 4 → Room 1 sheet after flags end
+    spreading_room h =
         record {
           long = w.long;
-          room = omega (arith, spreading-length, s.few, w.room);
+          room = omega (arith, spreading_length, s.few, w.room);
           flagged = rw (holds_read s.holds) s.holds.flagged;
         }
 
-    pub spreading-more : k < 4 → {d : Cell} {after' flags' : List ℕ} {end' : ℕ} → d ≡ moved c (cardinal_at k) → QueueHeld after after' flags' end' (enqueued sheet d (so_far after end)) → Spreading sheet c queue tail after' flags' end' (k + 1)
+    pub spreading_more : k < 4 → {d : Cell} {after' flags' : List ℕ} {end' : ℕ} → d ≡ moved c (cardinal_at k) → QueueHeld after after' flags' end' (enqueued sheet d (so_far after end)) → Spreading sheet c queue tail after' flags' end' (k + 1)
     unfolding enqueued_at
-    spreading-more h {after' = after'} {flags' = flags'} {end' = end'} e m =
+    spreading_more h {after' = after'} {flags' = flags'} {end' = end'} e m =
         let next = enqueued sheet (moved c (cardinal_at k)) s.queued in
         let a : QueueHeld after after' flags' end' next = rw (e, holds_read s.holds) at m in
         let l = enqueued_longer sheet (moved c (cardinal_at k)) s.queued in
@@ -164,15 +164,15 @@ module _ {sheet : List ℕ} (c : Cell) {queue seen : List ℕ} {tail : ℕ} (w :
           holds = holds_then s.holds a l.more;
           more = omega (arith, s.more, s.holds.count, a.count, l.more);
           few = omega (arith, s.few, s.holds.count, a.count, l.few);
-          rest = sym (ap (λ (os : List Offset). enqueued_at sheet c os s.queued) (next-offsets h)) ∙ s.rest;
+          rest = sym (ap (λ (os : List Offset). enqueued_at sheet c os s.queued) (next_offsets h)) ∙ s.rest;
         }
       where
-        next-offsets : k < 4 → drop k cardinal_offsets ≡ cardinal_at k ∷ drop (k + 1) cardinal_offsets
-        next-offsets h = drop-cons cardinal_offsets k (record { di = pos 0; dj = pos 0 }) (four k h) ∙ ap (λ (n : ℕ). cardinal_at k ∷ drop n cardinal_offsets) (sym (add-one k))
+        next_offsets : k < 4 → drop k cardinal_offsets ≡ cardinal_at k ∷ drop (k + 1) cardinal_offsets
+        next_offsets h = drop-cons cardinal_offsets k (record { di = pos 0; dj = pos 0 }) (four k h) ∙ ap (λ (n : ℕ). cardinal_at k ∷ drop n cardinal_offsets) (sym (add-one k))
 
-    pub spreading-end : 4 ≤ k → QueueHeld queue after flags end (spread sheet c (so_far queue tail))
+    pub spreading_end : 4 ≤ k → QueueHeld queue after flags end (spread sheet c (so_far queue tail))
     unfolding cardinal_offsets enqueued_at
-    spreading-end h =
+    spreading_end h =
         let e : k ≡ 4 = omega (arith, s.upto) in
         let r : s.queued ≡ spread sheet c (so_far queue tail) = rw e at s.rest in
         subst (λ (l : List ℕ). QueueHeld queue after flags end l) r s.holds
@@ -219,61 +219,61 @@ pub record Seeding (sheet queue after seen : List ℕ) (tail p : ℕ) : Type 0 w
   pub holds : QueueHeld queue after seen tail (seeded_from sheet (labelled_below sheet p) [])
 
 module _ {sheet queue seen : List ℕ} (w : Unqueued sheet queue seen) where
-  pub seeding-start : Seeding sheet queue queue seen 0 0
+  pub seeding_start : Seeding sheet queue queue seen 0 0
   unfolding seeded_from
-  seeding-start = record { upto = omega arith; holds = rw (passing_none (λ q. is_labelled (get_or sheet q 0))) (record { written = refl; count = refl; flagged = w.flagged }) }
+  seeding_start = record { upto = omega arith; holds = rw (passing_none (λ q. is_labelled (get_or sheet q 0))) (record { written = refl; count = refl; flagged = w.flagged }) }
 
   module _ {after flags : List ℕ} {tail p : ℕ} (s : Seeding sheet queue after flags tail p) where
     -- at most four cells a labelled one
     few : length (seeded_below sheet p) ≤ 4 * length (labelled_below sheet p)
     few = omega (arith, (seeded_longer sheet (labelled_below sheet p) []).few)
 
-    few-here : length (seeded_below sheet p) ≤ length queue
+    few_here : length (seeded_below sheet p) ≤ length queue
     unfolding label_count labelled_places
-    few-here = omega (arith, few, w.room, passing_up (λ q. is_labelled (get_or sheet q 0)) p 16384 s.upto)
+    few_here = omega (arith, few, w.room, passing_up (λ q. is_labelled (get_or sheet q 0)) p 16384 s.upto)
 
-    pub seeding-length : length after ≡ length queue
-    seeding-length = holds_length s.holds few-here
+    pub seeding_length : length after ≡ length queue
+    seeding_length = holds_length s.holds few_here
 
     -- and four more for this one, if it is labelled
-    few-next : p < 16384 → is_labelled (get_or sheet p 0) ≡ true → length (seeded_below sheet p) + 4 ≤ length queue
+    few_next : p < 16384 → is_labelled (get_or sheet p 0) ≡ true → length (seeded_below sheet p) + 4 ≤ length queue
     unfolding label_count labelled_places
-    few-next h e =
+    few_next h e =
         let a = passing_up (λ q. is_labelled (get_or sheet q 0)) (p + 1) 16384 (omega arith) in
         let b = ap length (passing_hit (λ q. is_labelled (get_or sheet q 0)) p e) in
         omega (arith, few, w.room, a, b, length-append (labelled_below sheet p) (p ∷ []))
 
-    pub seeding-room : p < 16384 → SeedRoom sheet after flags tail p
-    seeding-room h =
+    pub seeding_room : p < 16384 → SeedRoom sheet after flags tail p
+    seeding_room h =
         record {
           long = w.long;
           place = h;
-          upto = omega (arith, seeding-length, s.holds.count, few-here);
-          room = λ e. omega (arith, seeding-length, s.holds.count, few-next h e);
+          upto = omega (arith, seeding_length, s.holds.count, few_here);
+          room = λ e. omega (arith, seeding_length, s.holds.count, few_next h e);
           flagged = rw (holds_read s.holds) s.holds.flagged;
         }
 
-    pub seeding-more : p < 16384 → {after' flags' : List ℕ} {tail' : ℕ} → QueueHeld after after' flags' tail' (seeded_at sheet p (so_far after tail)) → Seeding sheet queue after' flags' tail' (p + 1)
-    seeding-more h {after'} {flags'} {tail'} m =
+    pub seeding_more : p < 16384 → {after' flags' : List ℕ} {tail' : ℕ} → QueueHeld after after' flags' tail' (seeded_at sheet p (so_far after tail)) → Seeding sheet queue after' flags' tail' (p + 1)
+    seeding_more h {after'} {flags'} {tail'} m =
         let a : QueueHeld after after' flags' tail' (seeded_below sheet (p + 1)) = rw (holds_read s.holds, seeded_step sheet p) at m in
         record { upto = omega arith; holds = holds_then s.holds a (seeded_rises sheet p) }
 
-    pub seeding-end : 16384 ≤ p → QueueHeld queue after flags tail (seeded sheet)
+    pub seeding_end : 16384 ≤ p → QueueHeld queue after flags tail (seeded sheet)
     unfolding labelled_places
-    seeding-end h = let e : p ≡ 16384 = omega (arith, s.upto) in rw (← e) s.holds
+    seeding_end h = let e : p ≡ 16384 = omega (arith, s.upto) in rw (← e) s.holds
 
 -- one place, by both ways
 module _ (sheet queue : List ℕ) (tail p : ℕ) where
-  pub seed-labelled : is_labelled (get_or sheet p 0) ≡ true → {c : Cell} {after flags : List ℕ} {end : ℕ} → c ≡ cell_of p → QueueHeld queue after flags end (spread sheet c (so_far queue tail)) → QueueHeld queue after flags end (seeded_at sheet p (so_far queue tail))
+  pub seed_labelled : is_labelled (get_or sheet p 0) ≡ true → {c : Cell} {after flags : List ℕ} {end : ℕ} → c ≡ cell_of p → QueueHeld queue after flags end (spread sheet c (so_far queue tail)) → QueueHeld queue after flags end (seeded_at sheet p (so_far queue tail))
   unfolding seeded_at
-  seed-labelled e is h = rw e (rw is at h)
+  seed_labelled e is h = rw e (rw is at h)
 
-  pub seed-bare : {seen : List ℕ} → SeedRoom sheet queue seen tail p → is_labelled (get_or sheet p 0) ≡ false → QueueHeld queue queue seen tail (seeded_at sheet p (so_far queue tail))
+  pub seed_bare : {seen : List ℕ} → SeedRoom sheet queue seen tail p → is_labelled (get_or sheet p 0) ≡ false → QueueHeld queue queue seen tail (seeded_at sheet p (so_far queue tail))
   unfolding seeded_at
-  seed-bare {seen} w e = rw e (holds_own queue seen tail w.upto w.flagged)
+  seed_bare {seen} w e = rw e (holds_own queue seen tail w.upto w.flagged)
 
 -- ---- places that hold nothing
 
 pub seeding_skips : {sheet queue seen : List ℕ} → Unqueued sheet queue seen → {after flags : List ℕ} {tail p r : ℕ} → Seeding sheet queue after flags tail p → NextWritten sheet p r → Seeding sheet queue after flags tail r
 seeding_skips {sheet} {queue} {seen} w {after} {flags} {tail} s n =
-    skips sheet (λ p. Seeding sheet queue after flags tail p) (λ p h e g. seeding-more w g h (seed-bare sheet after tail p (seeding-room w g h) (blank_unlabelled e))) n s
+    skips sheet (λ p. Seeding sheet queue after flags tail p) (λ p h e g. seeding_more w g h (seed_bare sheet after tail p (seeding_room w g h) (blank_unlabelled e))) n s

@@ -10,7 +10,7 @@ use Rattle.binary32.specs.Ranges.{is_finite, all_finite}
 use Rattle.elimination.specs.Rounded.{◌⊘◌}
 use Rattle.elimination.specs.Tables.{table}
 use Rattle.elimination.specs.Solve.{Matrix, values, no_zero_pivot, solve_steps, answers_of, sound_of, solved}
-use Rattle.elimination.proofs.Tables.{getD-table, both, same, every_at, every_same}
+use Rattle.elimination.proofs.Tables.{get_d_table, both, same, every_at, every_same}
 use Rattle.elimination.proofs.Finite.{div_finite, joined, apart, table_finite}
 use Rattle.sheet.specs.declared.Position.{Position}
 use Rattle.elimination.specs.declared.Solution.{Solution}
@@ -20,16 +20,16 @@ use Rattle.homography.specs.Normalize.{normalization_of, normalized, normal_step
 use Rattle.homography.specs.Equations.{equations, equation_steps}
 use Rattle.homography.specs.Undo.{undone, undo_steps}
 use Rattle.homography.specs.Fit.{NoFit, Entries, fit_of, last_of, small, quotients, finite_entries, scaled_of, equations_of, unscaled, fit_steps, fits, homography_of}
-use Rattle.homography.proofs.Normalizing.{normal-up}
-use Rattle.homography.proofs.Equating.{products-finite, equations-finite}
-use Rattle.homography.proofs.Undoing.{FiniteNine, undo-before}
+use Rattle.homography.proofs.Normalizing.{normal_up}
+use Rattle.homography.proofs.Equating.{products_finite, equations_finite}
+use Rattle.homography.proofs.Undoing.{FiniteNine, undo_before}
 
 -- ---- scaling
 
 pub quotients_finite : (h : List Float) → finite_entries (quotients h) ≡ all_finite (quotients h)
 unfolding quotients
 quotients_finite h =
-    every_same 9 (λ n. is_finite (get_or (table 9 q) n nan)) (λ n. is_finite (q n)) (λ n l. ap is_finite (getD-table 9 q n nan l)) ∙ sym (table_finite 9 q)
+    every_same 9 (λ n. is_finite (get_or (table 9 q) n nan)) (λ n. is_finite (q n)) (λ n l. ap is_finite (get_d_table 9 q n nan l)) ∙ sym (table_finite 9 q)
   where
     q : ℕ → Float
     q n = get_or h n nan ⊘ last_of h
@@ -79,9 +79,9 @@ module _ (cells corners : List Position) where
   abbrev a4 : List Float
   a4 = a3 ++ undo_steps (answers_of e) (normalization_of cells) (normalization_of corners)
 
-  pub fits-down : fits cells corners ≡ true → (reached && passed) ≡ true
+  pub fits_down : fits cells corners ≡ true → (reached && passed) ≡ true
   unfolding fit_steps sound_of unscaled
-  fits-down w =
+  fits_down w =
       let p = both (no_zero_pivot e) (not (small h) && all_finite (fit_steps cells corners)) w in
       let q = both (not (small h)) (all_finite (fit_steps cells corners)) p.1 in
       let s5 = apart a4 (quotients h) q.1 in
@@ -89,31 +89,31 @@ module _ (cells corners : List Position) where
       let s3 = apart a2 (solve_steps e) s4.0 in
       let s2 = apart a1 (equation_steps (normalized cells) (normalized corners)) s3.0 in
       let s1 = apart (normal_steps cells) (normal_steps corners) s2.0 in
-      let v = equations-finite (normalized cells) (normalized corners) (normal-up cells s1.0).1 (normal-up corners s1.1).1 s2.1 in
+      let v = equations_finite (normalized cells) (normalized corners) (normal_up cells s1.0).1 (normal_up corners s1.1).1 s2.1 in
       rw (s1.0, s1.1, p.0, v, s3.1, q.0, s5.1)
 
-  fits-up : (reached && passed) ≡ true → fits cells corners ≡ true
+  fits_up : (reached && passed) ≡ true → fits cells corners ≡ true
   unfolding fit_steps sound_of unscaled
-  fits-up w =
+  fits_up w =
       let p = both reached passed w in
       let q = both (not (small h)) (all_finite (quotients h)) p.1 in
       let n = both (all_finite (normal_steps cells)) (all_finite (normal_steps corners) && sound_of e) p.0 in
       let m = both (all_finite (normal_steps corners)) (sound_of e) n.1 in
       let z = both (no_zero_pivot e) (all_finite (values e) && all_finite (solve_steps e)) m.1 in
       let v = both (all_finite (values e)) (all_finite (solve_steps e)) z.1 in
-      let u = undo-before (answers_of e) (normalization_of cells) (normalization_of corners) (divided_finite h q.1) in
+      let u = undo_before (answers_of e) (normalization_of cells) (normalization_of corners) (divided_finite h q.1) in
       let all =
       joined a4 (quotients h)
       (joined a3 (undo_steps (answers_of e) (normalization_of cells) (normalization_of corners))
       (joined a2 (solve_steps e)
-      (joined a1 (equation_steps (normalized cells) (normalized corners)) (joined (normal_steps cells) (normal_steps corners) n.0 m.0) (products-finite (normalized cells) (normalized corners) v.0))
+      (joined a1 (equation_steps (normalized cells) (normalized corners)) (joined (normal_steps cells) (normal_steps corners) n.0 m.0) (products_finite (normalized cells) (normalized corners) v.0))
       v.1) u) q.1 in
       rw (z.0, q.0, all)
 
   -- the fit is that of the scaling, where both normalisations and the solution are sound
-  pub homography-is : homography_of cells corners ≡ cond reached (scaled_of h) NoFit
+  pub homography_is : homography_of cells corners ≡ cond reached (scaled_of h) NoFit
   unfolding homography_of scaled_of
-  homography-is = rw (same (fits cells corners) (reached && passed) fits-down fits-up) (go reached)
+  homography_is = rw (same (fits cells corners) (reached && passed) fits_down fits_up) (go reached)
     where
       go : (t : Bool) → cond (t && passed) (Entries (quotients h)) NoFit ≡ cond t (cond passed (Entries (quotients h)) NoFit) NoFit
       go true = refl
@@ -122,32 +122,32 @@ module _ (cells corners : List Position) where
 -- ---- as the code leaves it: s and t the normalisations, m the equations, a their solution, k the matrix undone, r the answer
 
 module _ (cells corners : List Position) {s : Normalized} (es : s ≡ normalized_of cells) where
-  sound-s : s.sound ≡ all_finite (normal_steps cells)
-  sound-s = ap (λ (n : Normalized). n.sound) es
+  sound_s : s.sound ≡ all_finite (normal_steps cells)
+  sound_s = ap (λ (n : Normalized). n.sound) es
 
-  pub fit-first : {r : Fit} → r ≡ fit_of NoFit → not s.sound ≡ true → r ≡ fit_of (homography_of cells corners)
-  fit-first e n = e ∙ rw (homography-is cells corners, ← sound-s, not-true s.sound n)
+  pub fit_first : {r : Fit} → r ≡ fit_of NoFit → not s.sound ≡ true → r ≡ fit_of (homography_of cells corners)
+  fit_first e n = e ∙ rw (homography_is cells corners, ← sound_s, not-true s.sound n)
 
   module _ {t : Normalized} (n : not s.sound ≡ false) (et : t ≡ normalized_of corners) where
-    sound-t : t.sound ≡ all_finite (normal_steps corners)
-    sound-t = ap (λ (n : Normalized). n.sound) et
+    sound_t : t.sound ≡ all_finite (normal_steps corners)
+    sound_t = ap (λ (n : Normalized). n.sound) et
 
-    pub fit-second : {r : Fit} → r ≡ fit_of NoFit → not t.sound ≡ true → r ≡ fit_of (homography_of cells corners)
-    fit-second e o = e ∙ rw (homography-is cells corners, ← sound-s, not-false s.sound n, ← sound-t, not-true t.sound o)
+    pub fit_second : {r : Fit} → r ≡ fit_of NoFit → not t.sound ≡ true → r ≡ fit_of (homography_of cells corners)
+    fit_second e o = e ∙ rw (homography_is cells corners, ← sound_s, not-false s.sound n, ← sound_t, not-true t.sound o)
 
     module _ {m : Matrix} {a : Solution} (o : not t.sound ≡ false) (em : m ≡ equations s.points t.points) (ea : a ≡ solved m) where
       solution : a ≡ solved (equations_of cells corners)
       solution = ea ∙ ap solved (em ∙ rw (es, et))
 
-      sound-a : a.sound ≡ sound_of (equations_of cells corners)
-      sound-a = ap (λ (x : Solution). x.sound) solution
+      sound_a : a.sound ≡ sound_of (equations_of cells corners)
+      sound_a = ap (λ (x : Solution). x.sound) solution
 
-      pub fit-third : {r : Fit} → r ≡ fit_of NoFit → not a.sound ≡ true → r ≡ fit_of (homography_of cells corners)
-      fit-third e l = e ∙ rw (homography-is cells corners, ← sound-s, not-false s.sound n, ← sound-t, not-false t.sound o, ← sound-a, not-true a.sound l)
+      pub fit_third : {r : Fit} → r ≡ fit_of NoFit → not a.sound ≡ true → r ≡ fit_of (homography_of cells corners)
+      fit_third e l = e ∙ rw (homography_is cells corners, ← sound_s, not-false s.sound n, ← sound_t, not-false t.sound o, ← sound_a, not-true a.sound l)
 
-      pub fit-last : {k : List Float} {r : Fit} → not a.sound ≡ false → k ≡ undone a.answers s.by t.by → r ≡ fit_of (scaled_of k) → r ≡ fit_of (homography_of cells corners)
-      fit-last {k} l ek e =
-          e ∙ rw (homography-is cells corners, ← sound-s, not-false s.sound n, ← sound-t, not-false t.sound o, ← sound-a, not-false a.sound l)
+      pub fit_last : {k : List Float} {r : Fit} → not a.sound ≡ false → k ≡ undone a.answers s.by t.by → r ≡ fit_of (scaled_of k) → r ≡ fit_of (homography_of cells corners)
+      fit_last {k} l ek e =
+          e ∙ rw (homography_is cells corners, ← sound_s, not-false s.sound n, ← sound_t, not-false t.sound o, ← sound_a, not-false a.sound l)
           (ap (λ (x : List Float). fit_of (scaled_of x)) (ek ∙ whole))
         where
           whole : undone a.answers s.by t.by ≡ unscaled cells corners

@@ -10,7 +10,7 @@ use Rattle.binary32.specs.Ranges.{is_finite, all_finite}
 use Rattle.binary32.specs.Sqrt.{units_of, reaches, climb, rooted, sqrt_or_nan}
 use Rattle.elimination.specs.Rounded.{◌⊕◌, ◌⊖◌, ◌⊗◌, ◌⊘◌}
 use Rattle.elimination.specs.Tables.{table, concatenated}
-use Rattle.elimination.proofs.Tables.{getD-table, both, same, every_true, every_at}
+use Rattle.elimination.proofs.Tables.{get_d_table, both, same, every_true, every_at}
 use Rattle.elimination.proofs.Finite.{add_finite, mul_finite, div_finite, one_finite, none_finite, parts_finite, joined, apart, gathered_at, gathered_true}
 use Rattle.sheet.specs.declared.Position.{Position}
 use Rattle.binary32.specs.Numbers.{nought, one}
@@ -47,16 +47,16 @@ module _ (a b c d : Float) where
     p1 : (is_finite (nought ⊕ a) ≡ true) × (is_finite b ≡ true)
     p1 = add_finite binary32 (nought ⊕ a) b p2.0
 
-    pub mean-four : Four
-    mean-four = record { first = (add_finite binary32 nought a p1.0).1; second = p1.1; third = p2.1; fourth = p3.1 }
+    pub mean_four : Four
+    mean_four = record { first = (add_finite binary32 nought a p1.0).1; second = p1.1; third = p2.1; fourth = p3.1 }
 
-    pub mean-steps : all_finite (mean_steps a b c d) ≡ true
+    pub mean_steps_lem : all_finite (mean_steps a b c d) ≡ true
     unfolding mean_steps
-    mean-steps = one_finite _ _ p1.0 (one_finite _ _ p2.0 (one_finite _ _ p3.0 (one_finite _ _ whole (one_finite _ _ e none_finite))))
+    mean_steps_lem = one_finite _ _ p1.0 (one_finite _ _ p2.0 (one_finite _ _ p3.0 (one_finite _ _ whole (one_finite _ _ e none_finite))))
 
-  pub mean-last : all_finite (mean_steps a b c d) ≡ true → is_finite (mean a b c d) ≡ true
+  pub mean_last : all_finite (mean_steps a b c d) ≡ true → is_finite (mean a b c d) ≡ true
   unfolding mean_steps
-  mean-last e = (parts_finite _ _ (parts_finite _ _ (parts_finite _ _ (parts_finite _ _ (parts_finite _ _ e).1).1).1).1).0
+  mean_last e = (parts_finite _ _ (parts_finite _ _ (parts_finite _ _ (parts_finite _ _ (parts_finite _ _ e).1).1).1).1).0
 
 -- ---- a distance
 
@@ -105,16 +105,16 @@ module _ (a b c x y z : Float) where
     inner : (is_finite (a ⊗ x) ≡ true) × (is_finite (b ⊗ y) ≡ true)
     inner = add_finite binary32 (a ⊗ x) (b ⊗ y) outer.0
 
-    pub row-factors : Factors a b c x y z
-    row-factors =
+    pub row_factors : Factors a b c x y z
+    row_factors =
         let p = mul_finite binary32 a x inner.0 in
         let q = mul_finite binary32 b y inner.1 in
         let r = mul_finite binary32 c z outer.1 in
         record { fa = p.0; fb = q.0; fc = r.0; fx = p.1; fy = q.1; fz = r.1 }
 
-    pub row-steps : all_finite (row_steps a b c x y z) ≡ true
+    pub row_steps_lem : all_finite (row_steps a b c x y z) ≡ true
     unfolding row_steps
-    row-steps = one_finite _ _ inner.0 (one_finite _ _ inner.1 (one_finite _ _ outer.0 (one_finite _ _ outer.1 (one_finite _ _ e none_finite))))
+    row_steps_lem = one_finite _ _ inner.0 (one_finite _ _ inner.1 (one_finite _ _ outer.0 (one_finite _ _ outer.1 (one_finite _ _ e none_finite))))
 
   pub row_last : all_finite (row_steps a b c x y z) ≡ true → is_finite (row_sum a b c x y z) ≡ true
   unfolding row_steps
@@ -129,58 +129,58 @@ module _ (ps : List Position) where
   abbrev t : List Float
   t = forward by
 
-  at-point : (i : ℕ) → i < 4 → point (normalized ps) i ≡ moved t (point ps i)
+  at_point : (i : ℕ) → i < 4 → point (normalized ps) i ≡ moved t (point ps i)
   unfolding normalized
-  at-point i h = getD-table 4 (λ i. moved t (point ps i)) i (record { x = nan; y = nan }) h
+  at_point i h = get_d_table 4 (λ i. moved t (point ps i)) i (record { x = nan; y = nan }) h
 
   module _ (d : is_finite (mean_distance ps) ≡ true) (f : finite_points (normalized ps) ≡ true) where
     at_row : (i : ℕ) → i < 4 → (is_finite (map_row t 0 (point ps i)) ≡ true) × (is_finite (map_row t 1 (point ps i)) ≡ true)
     unfolding moved
-    at_row i h = both _ _ (sym (ap finite_position (at-point i h)) ∙ every_at 4 (λ i. finite_position (point (normalized ps) i)) f i h)
+    at_row i h = both _ _ (sym (ap finite_position (at_point i h)) ∙ every_at 4 (λ i. finite_position (point (normalized ps) i)) f i h)
 
-    steps-at : (i : ℕ) → i < 4 → all_finite (map_steps t 0 (point ps i) ++ map_steps t 1 (point ps i)) ≡ true
+    steps_at : (i : ℕ) → i < 4 → all_finite (map_steps t 0 (point ps i) ++ map_steps t 1 (point ps i)) ≡ true
     unfolding map_row map_steps
-    steps-at i h = joined (map_steps t 0 (point ps i)) (map_steps t 1 (point ps i)) (row-steps _ _ _ _ _ _ (at_row i h).0) (row-steps _ _ _ _ _ _ (at_row i h).1)
+    steps_at i h = joined (map_steps t 0 (point ps i)) (map_steps t 1 (point ps i)) (row_steps_lem _ _ _ _ _ _ (at_row i h).0) (row_steps_lem _ _ _ _ _ _ (at_row i h).1)
 
     row0 : Factors by.scale nought (neg by.scale ⊗ by.cx) (point ps 0).x (point ps 0).y one
     unfolding map_row forward
-    row0 = row-factors _ _ _ _ _ _ (at_row 0 (omega arith)).0
+    row0 = row_factors _ _ _ _ _ _ (at_row 0 (omega arith)).0
 
     row1 : Factors nought by.scale (neg by.scale ⊗ by.cy) (point ps 0).x (point ps 0).y one
     unfolding map_row forward
-    row1 = row-factors _ _ _ _ _ _ (at_row 0 (omega arith)).1
+    row1 = row_factors _ _ _ _ _ _ (at_row 0 (omega arith)).1
 
-    x-finite : is_finite (centre_x ps) ≡ true
+    x_finite : is_finite (centre_x ps) ≡ true
     unfolding normalization_of
-    x-finite = (mul_finite binary32 (neg by.scale) by.cx row0.fc).1
+    x_finite = (mul_finite binary32 (neg by.scale) by.cx row0.fc).1
 
-    y-finite : is_finite (centre_y ps) ≡ true
+    y_finite : is_finite (centre_y ps) ≡ true
     unfolding normalization_of
-    y-finite = (mul_finite binary32 (neg by.scale) by.cy row1.fc).1
+    y_finite = (mul_finite binary32 (neg by.scale) by.cy row1.fc).1
 
-    scale-finite : is_finite (scale_of (mean_distance ps)) ≡ true
+    scale_finite : is_finite (scale_of (mean_distance ps)) ≡ true
     unfolding normalization_of
-    scale-finite = row0.fa
+    scale_finite = row0.fa
 
     distances : Four (distance_at ps 0) (distance_at ps 1) (distance_at ps 2) (distance_at ps 3)
-    distances = mean-four _ _ _ _ d
+    distances = mean_four _ _ _ _ d
 
-    distance-at : (i : ℕ) → i < 4 → is_finite (distance_at ps i) ≡ true
-    distance-at zero h = distances.first
-    distance-at (suc zero) h = distances.second
-    distance-at (suc (suc zero)) h = distances.third
-    distance-at (suc (suc (suc zero))) h = distances.fourth
-    distance-at (suc (suc (suc (suc i)))) h = absurd (omega arith)
+    distance_at_lem : (i : ℕ) → i < 4 → is_finite (distance_at ps i) ≡ true
+    distance_at_lem zero h = distances.first
+    distance_at_lem (suc zero) h = distances.second
+    distance_at_lem (suc (suc zero)) h = distances.third
+    distance_at_lem (suc (suc (suc zero))) h = distances.fourth
+    distance_at_lem (suc (suc (suc (suc i)))) h = absurd (omega arith)
 
-    normal-down : all_finite (normal_steps ps) ≡ true
+    normal_down : all_finite (normal_steps ps) ≡ true
     unfolding normal_steps forward_steps
-    normal-down =
+    normal_down =
         joined (centre_steps ps ++ spread_steps ps ++ matrix_steps ps) (points_steps ps)
         (joined (centre_steps ps ++ spread_steps ps) (matrix_steps ps)
-        (joined (centre_steps ps) (spread_steps ps) (joined _ _ (mean-steps _ _ _ _ x-finite) (mean-steps _ _ _ _ y-finite))
-        (joined _ _ (gathered_true 4 (λ i. distance_steps (centre_x ps) (centre_y ps) (point ps i)) (λ i h. distance_steps_lem (centre_x ps) (centre_y ps) (point ps i) (distance-at i h))) (mean-steps _ _ _ _ d)))
-        (joined _ _ (scale_steps_lem (mean_distance ps) scale-finite) (one_finite _ _ row0.fc (one_finite _ _ row1.fc none_finite))))
-        (gathered_true 4 (λ i. moved_steps t (point ps i)) steps-at)
+        (joined (centre_steps ps) (spread_steps ps) (joined _ _ (mean_steps_lem _ _ _ _ x_finite) (mean_steps_lem _ _ _ _ y_finite))
+        (joined _ _ (gathered_true 4 (λ i. distance_steps (centre_x ps) (centre_y ps) (point ps i)) (λ i h. distance_steps_lem (centre_x ps) (centre_y ps) (point ps i) (distance_at_lem i h))) (mean_steps_lem _ _ _ _ d)))
+        (joined _ _ (scale_steps_lem (mean_distance ps) scale_finite) (one_finite _ _ row0.fc (one_finite _ _ row1.fc none_finite))))
+        (gathered_true 4 (λ i. moved_steps t (point ps i)) steps_at)
 
   module _ (e : all_finite (normal_steps ps) ≡ true) where
     parts : (all_finite (centre_steps ps ++ spread_steps ps ++ matrix_steps ps) ≡ true) × (all_finite (points_steps ps) ≡ true)
@@ -190,24 +190,24 @@ module _ (ps : List Position) where
     spread : all_finite (spread_steps ps) ≡ true
     spread = (apart (centre_steps ps) (spread_steps ps) (apart (centre_steps ps ++ spread_steps ps) (matrix_steps ps) parts.0).0).1
 
-    point-up : (i : ℕ) → i < 4 → finite_position (point (normalized ps) i) ≡ true
+    point_up : (i : ℕ) → i < 4 → finite_position (point (normalized ps) i) ≡ true
     unfolding moved map_row map_steps
-    point-up i h =
+    point_up i h =
         let w = apart (map_steps t 0 (point ps i)) (map_steps t 1 (point ps i)) (gathered_at 4 (λ i. moved_steps t (point ps i)) parts.1 i h) in
-        ap finite_position (at-point i h) ∙ ap₂ (λ (s t : Bool). s && t) (row_last _ _ _ _ _ _ w.0) (row_last _ _ _ _ _ _ w.1)
+        ap finite_position (at_point i h) ∙ ap₂ (λ (s t : Bool). s && t) (row_last _ _ _ _ _ _ w.0) (row_last _ _ _ _ _ _ w.1)
 
     -- the mean distance and the points are finite where every step is
-    pub normal-up : (is_finite (mean_distance ps) ≡ true) × (finite_points (normalized ps) ≡ true)
-    normal-up = (
-      mean-last _ _ _ _ (apart (concatenated 4 (λ i. distance_steps (centre_x ps) (centre_y ps) (point ps i))) (of_four mean_steps (distance_at ps)) spread).1,
-      every_true 4 (λ i. finite_position (point (normalized ps) i)) point-up,
+    pub normal_up : (is_finite (mean_distance ps) ≡ true) × (finite_points (normalized ps) ≡ true)
+    normal_up = (
+      mean_last _ _ _ _ (apart (concatenated 4 (λ i. distance_steps (centre_x ps) (centre_y ps) (point ps i))) (of_four mean_steps (distance_at ps)) spread).1,
+      every_true 4 (λ i. finite_position (point (normalized ps) i)) point_up,
     )
 
-  pub normal-finite : (is_finite (mean_distance ps) && finite_points (normalized ps)) ≡ all_finite (normal_steps ps)
-  normal-finite =
+  pub normal_finite : (is_finite (mean_distance ps) && finite_points (normalized ps)) ≡ all_finite (normal_steps ps)
+  normal_finite =
       same (is_finite (mean_distance ps) && finite_points (normalized ps)) (all_finite (normal_steps ps))
-      (λ e. let w = both (is_finite (mean_distance ps)) (finite_points (normalized ps)) e in normal-down w.0 w.1)
-      (λ e. let w = normal-up e in ap₂ (λ (s t : Bool). s && t) w.0 w.1)
+      (λ e. let w = both (is_finite (mean_distance ps)) (finite_points (normalized ps)) e in normal_down w.0 w.1)
+      (λ e. let w = normal_up e in ap₂ (λ (s t : Bool). s && t) w.0 w.1)
 
 -- ---- as the code has it: the centre, four distances and their mean d, the scale s, the matrix m, and four points
 
@@ -217,19 +217,19 @@ module _ (ps : List Position) {cx cy d0 d1 d2 d3 d s : Float} {m : List Float} {
     (ed : d ≡ mean d0 d1 d2 d3) (es : s ≡ scale_of d) (em : m ≡ forward (record { scale = s; cx = cx; cy = cy }))
     (p0 : q0 ≡ moved m (point ps 0)) (p1 : q1 ≡ moved m (point ps 1)) (p2 : q2 ≡ moved m (point ps 2)) (p3 : q3 ≡ moved m (point ps 3))
     (eok : ok ≡ (is_finite d && finite_points (q0 ∷ q1 ∷ q2 ∷ q3 ∷ []))) where
-  mean-is : d ≡ mean_distance ps
-  mean-is = ed ∙ rw (e0, e1, e2, e3, ex, ey)
+  mean_is : d ≡ mean_distance ps
+  mean_is = ed ∙ rw (e0, e1, e2, e3, ex, ey)
 
-  by-is : record { scale = s; cx = cx; cy = cy } ≡ normalization_of ps
+  by_is : record { scale = s; cx = cx; cy = cy } ≡ normalization_of ps
   unfolding normalization_of
-  by-is = let e = es ∙ ap scale_of mean-is in λ i. record { scale = e i; cx = ex i; cy = ey i }
+  by_is = let e = es ∙ ap scale_of mean_is in λ i. record { scale = e i; cx = ex i; cy = ey i }
 
-  points-are : q0 ∷ q1 ∷ q2 ∷ q3 ∷ [] ≡ normalized ps
+  points_are : q0 ∷ q1 ∷ q2 ∷ q3 ∷ [] ≡ normalized ps
   unfolding normalized table
-  points-are = rw (p0, p1, p2, p3, em, by-is)
+  points_are = rw (p0, p1, p2, p3, em, by_is)
 
-  ok-is : ok ≡ all_finite (normal_steps ps)
-  ok-is = eok ∙ rw (mean-is, points-are) (normal-finite ps)
+  ok_is : ok ≡ all_finite (normal_steps ps)
+  ok_is = eok ∙ rw (mean_is, points_are) (normal_finite ps)
 
-  pub normalized-is : record { points = q0 ∷ q1 ∷ q2 ∷ q3 ∷ []; by = record { scale = s; cx = cx; cy = cy }; sound = ok } ≡ normalized_of ps
-  normalized-is = λ i. record { points = points-are i; by = by-is i; sound = ok-is i }
+  pub normalized_is : record { points = q0 ∷ q1 ∷ q2 ∷ q3 ∷ []; by = record { scale = s; cx = cx; cy = cy }; sound = ok } ≡ normalized_of ps
+  normalized_is = λ i. record { points = points_are i; by = by_is i; sound = ok_is i }

@@ -8,13 +8,13 @@ use lib.ListN.{length, get_or}
 use lib.Ieee.{Float, nan}
 use Rattle.binary32.specs.Ranges.{is_finite, all_finite}
 use Rattle.elimination.specs.Tables.{table}
-use Rattle.elimination.proofs.Tables.{getD-table, table_is}
+use Rattle.elimination.proofs.Tables.{get_d_table, table_is}
 use Rattle.elimination.proofs.Finite.{one_finite, none_finite, joined, gathered_true}
 use Rattle.binary32.specs.Numbers.{one}
 use Rattle.homography.specs.declared.Normalization.{Normalization}
 use Rattle.homography.specs.Normalize.{row_sum, row_steps, forward}
 use Rattle.homography.specs.Undo.{backward, backward_steps, crossed, multiplied, multiplied_steps, answers_and_one, half_undone, undone, undo_steps}
-use Rattle.homography.proofs.Normalizing.{Factors, row-factors, row-steps}
+use Rattle.homography.proofs.Normalizing.{Factors, row_factors, row_steps_lem}
 
 -- the eight answers and a 1, as the code has them
 pub eight_and_one : (xs : List Float) → length xs ≡ 8 → get_or xs 0 nan ∷ get_or xs 1 nan ∷ get_or xs 2 nan ∷ get_or xs 3 nan ∷ get_or xs 4 nan ∷ get_or xs 5 nan ∷ get_or xs 6 nan ∷ get_or xs 7 nan ∷ one ∷ [] ≡ answers_and_one xs
@@ -28,21 +28,21 @@ FiniteNine h = (n : ℕ) → n < 9 → is_finite (get_or h n nan) ≡ true
 -- ---- a product of two matrices
 
 module _ (a b : List Float) where
-  product-entry : (n : ℕ) → n < 9 → get_or (multiplied a b) n nan ≡ crossed row_sum a b n
+  product_entry : (n : ℕ) → n < 9 → get_or (multiplied a b) n nan ≡ crossed row_sum a b n
   unfolding multiplied
-  product-entry n h = getD-table 9 (crossed row_sum a b) n nan h
+  product_entry n h = get_d_table 9 (crossed row_sum a b) n nan h
 
   module _ (f : FiniteNine (multiplied a b)) where
-    entry-finite : (n : ℕ) → n < 9 → is_finite (crossed row_sum a b n) ≡ true
-    entry-finite n h = sym (ap is_finite (product-entry n h)) ∙ f n h
+    entry_finite : (n : ℕ) → n < 9 → is_finite (crossed row_sum a b n) ≡ true
+    entry_finite n h = sym (ap is_finite (product_entry n h)) ∙ f n h
 
-    product-steps : all_finite (multiplied_steps a b) ≡ true
+    product_steps : all_finite (multiplied_steps a b) ≡ true
     unfolding multiplied_steps
-    product-steps = gathered_true 9 (crossed row_steps a b) (λ n h. row-steps _ _ _ _ _ _ (entry-finite n h))
+    product_steps = gathered_true 9 (crossed row_steps a b) (λ n h. row_steps_lem _ _ _ _ _ _ (entry_finite n h))
 
     -- the first matrix is finite too: entry n stands in the sum of entry n
-    product-first : FiniteNine a
-    product-first n h = go (n % 3) refl (row-factors _ _ _ _ _ _ (entry-finite n h))
+    product_first : FiniteNine a
+    product_first n h = go (n % 3) refl (row_factors _ _ _ _ _ _ (entry_finite n h))
       where
         i : ℕ
         i = 3 * (n / 3)
@@ -56,12 +56,12 @@ module _ (a b : List Float) where
 -- ---- both products
 
 module _ (xs : List Float) (s t : Normalization) where
-  pub undo-before : FiniteNine (undone xs s t) → all_finite (undo_steps xs s t) ≡ true
+  pub undo_before : FiniteNine (undone xs s t) → all_finite (undo_steps xs s t) ≡ true
   unfolding undone undo_steps
-  undo-before f =
-      let half = product-first (half_undone xs t) (forward s) f in
-      let inverse = product-first (backward t) (answers_and_one xs) half in
+  undo_before f =
+      let half = product_first (half_undone xs t) (forward s) f in
+      let inverse = product_first (backward t) (answers_and_one xs) half in
       joined (backward_steps t ++ multiplied_steps (backward t) (answers_and_one xs)) (multiplied_steps (half_undone xs t) (forward s))
       (joined (backward_steps t) (multiplied_steps (backward t) (answers_and_one xs)) (one_finite _ _ (unfold backward in inverse 0 (omega arith)) none_finite)
-      (product-steps (backward t) (answers_and_one xs) half))
-      (product-steps (half_undone xs t) (forward s) f)
+      (product_steps (backward t) (answers_and_one xs) half))
+      (product_steps (half_undone xs t) (forward s) f)

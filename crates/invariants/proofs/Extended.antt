@@ -15,9 +15,9 @@ use Rattle.sheet.specs.Words.{label_of, word_at, label_at, hole_at, ambiguous_at
 use Rattle.sheet.specs.declared.Cell.{Cell}
 use Rattle.sheet.specs.declared.Label.{Label}
 use Rattle.sheet.proofs.Laws.{place_in, cell_on_lem, place_cell}
-use Rattle.sheet.proofs.Words.{no_corner_lem, Changed, attached-changes, label-here, label-else}
+use Rattle.sheet.proofs.Words.{no_corner_lem, Changed, attached_changes, label_here, label_else}
 use Rattle.labels.specs.Labelled.{LabelledCell, Attaching, SameLabels}
-use Rattle.labels.proofs.Labelled.{labels_places, same_count, label_after, word_else, labelled-new, labelled-still, labelled-cases, count-attached}
+use Rattle.labels.proofs.Labelled.{labels_places, same_count, label_after, word_else, labelled_new, labelled_still, labelled_cases, count_attached}
 use Rattle.labels.proofs.Used.{one_same, one_attached}
 use Rattle.positions_policy.specs.declared.Tolerances.{Tolerances}
 use Rattle.arguments.specs.Accepted.{Known}
@@ -62,8 +62,8 @@ not_bare l e = no_corner_lem l.corner (sym e ∙ l.holds)
 
 module _ {n : ℕ} {first : List ℕ} (s : Sound n first) where
   -- marks change no label
-  pub extended-marked : {last : List ℕ} → length last ≡ length first → SameLabels first last → Extended n first [] last
-  extended-marked {last} e same =
+  pub extended_marked : {last : List ℕ} → length last ≡ length first → SameLabels first last → Extended n first [] last
+  extended_marked {last} e same =
       record {
         same_length = e;
         sound = record { long = rw e s.long; known = known_same same s.known; one_cell = one_same same s.one_cell };
@@ -85,48 +85,48 @@ module _ {cs : Corners} {first : List ℕ} (s : Sound cs.count first) where
     attaching = record { long = s.long; on = cell_on_lem p a.on; bare = a.bare; corner_fits = omega (arith, a.given) }
 
     changed : Changed first (attached first (cell_of p) k) (cell_of p) (record { label = Label.Corner k; hole = hole_at first (cell_of p); ambiguous = ambiguous_at first (cell_of p) })
-    changed = attached-changes first (cell_of p) s.long (cell_on_lem p a.on) k attaching.corner_fits
+    changed = attached_changes first (cell_of p) s.long (cell_on_lem p a.on) k attaching.corner_fits
 
-    pub attached-label : label_at (attached first (cell_of p) k) (cell_of p) ≡ Label.Corner k
-    attached-label = label-here changed (cell_on_lem p a.on)
+    pub attached_label : label_at (attached first (cell_of p) k) (cell_of p) ≡ Label.Corner k
+    attached_label = label_here changed (cell_on_lem p a.on)
 
-    new-label : label_of (get_or (attached first (cell_of p) k) p 0) ≡ Label.Corner k
-    new-label = ap (λ (q : ℕ). label_of (get_or (attached first (cell_of p) k) q 0)) (sym (place_cell p a.on)) ∙ label_after attaching
+    new_label : label_of (get_or (attached first (cell_of p) k) p 0) ≡ Label.Corner k
+    new_label = ap (λ (q : ℕ). label_of (get_or (attached first (cell_of p) k) q 0)) (sym (place_cell p a.on)) ∙ label_after attaching
 
     other_word : (q : ℕ) → (q ≡ p → ⊥) → get_or (attached first (cell_of p) k) q 0 ≡ get_or first q 0
     other_word q d = word_else attaching q (λ e. d (e ∙ place_cell p a.on))
 
-    known-attached : Known cs.count (attached first (cell_of p) k)
-    known-attached = record { known = λ q j h e. go q j h e (ℕ_discrete q p) }
+    known_attached : Known cs.count (attached first (cell_of p) k)
+    known_attached = record { known = λ q j h e. go q j h e (ℕ_discrete q p) }
       where
         go : (q j : ℕ) → q < 16384 → label_of (get_or (attached first (cell_of p) k) q 0) ≡ Label.Corner j → Dec (q ≡ p) → j < cs.count
         go q j h e (yes d) =
-            let f : Label.Corner k ≡ Label.Corner j = sym new-label ∙ ap (λ (r : ℕ). label_of (get_or (attached first (cell_of p) k) r 0)) (sym d) ∙ e in
+            let f : Label.Corner k ≡ Label.Corner j = sym new_label ∙ ap (λ (r : ℕ). label_of (get_or (attached first (cell_of p) k) r 0)) (sym d) ∙ e in
             let g : k ≡ j = cc in
             omega (arith, a.given)
         go q j h e (no d) = s.known.known q j h (ap label_of (sym (other_word q d)) ∙ e)
 
-    kept-attached : Kept first (attached first (cell_of p) k)
-    kept-attached = record { kept = λ c j e. label-else changed (cell_on_lem p a.on) c (ne c j e) ∙ e }
+    kept_attached : Kept first (attached first (cell_of p) k)
+    kept_attached = record { kept = λ c j e. label_else changed (cell_on_lem p a.on) c (ne c j e) ∙ e }
       where
         ne : (c : Cell) (j : ℕ) → label_at first c ≡ Label.Corner j → c ≡ cell_of p → ⊥
         ne c j e d = no_corner_lem j (sym a.bare ∙ ap (label_at first) (sym d) ∙ e)
 
     -- one more label
-    pub extended-attached : Extended cs.count first (p ∷ []) (attached first (cell_of p) k)
-    extended-attached =
+    pub extended_attached : Extended cs.count first (p ∷ []) (attached first (cell_of p) k)
+    extended_attached =
         record {
           same_length = changed.same_length;
-          sound = record { long = rw changed.same_length s.long; known = known-attached; one_cell = one_attached attaching a.free s.one_cell };
-          kept = kept-attached;
+          sound = record { long = rw changed.same_length s.long; known = known_attached; one_cell = one_attached attaching a.free s.one_cell };
+          kept = kept_attached;
           labelled = λ q h. (
-            λ l. ⊎_elim (λ e. inr (Memᴰ.head (sym (place_cell q h) ∙ ap place_of e ∙ place_cell p a.on))) inl (labelled-cases attaching (cell_of q) l),
-            λ d. ⊎_elim (labelled-still attaching (cell_of q)) (λ m. let e : q ≡ p = Memᴰ.eq_of_singleton m in rw e (labelled-new attaching)) d,
+            λ l. ⊎_elim (λ e. inr (Memᴰ.head (sym (place_cell q h) ∙ ap place_of e ∙ place_cell p a.on))) inl (labelled_cases attaching (cell_of q) l),
+            λ d. ⊎_elim (labelled_still attaching (cell_of q)) (λ m. let e : q ≡ p = Memᴰ.eq_of_singleton m in rw e (labelled_new attaching)) d,
           );
           on = λ q m. let e : q ≡ p = Memᴰ.eq_of_singleton m in rw e a.on;
           bare = λ q m. let e : q ≡ p = Memᴰ.eq_of_singleton m in rw e a.bare;
           once = (Memᴰ.not-nil, tt);
-          count = count-attached attaching;
+          count = count_attached attaching;
         }
 
 -- ---- one after the other
@@ -144,12 +144,12 @@ extended_then {n} {first} {made} {mid} {more} {last} e f =
             (λ m. ⊎_elim (λ a. (f.labelled p h).1 (inl ((e.labelled p h).1 (inr a)))) (λ b. (f.labelled p h).1 (inr b)) (Memᴰ.append_cases made m)) d,
       );
       on = λ p m. ⊎_elim (e.on p) (f.on p) (Memᴰ.append_cases made m);
-      bare = λ p m. ⊎_elim (e.bare p) (λ b. bare-before p (f.on p b) (f.bare p b) (label_at first (cell_of p)) refl) (Memᴰ.append_cases made m);
+      bare = λ p m. ⊎_elim (e.bare p) (λ b. bare_before p (f.on p b) (f.bare p b) (label_at first (cell_of p)) refl) (Memᴰ.append_cases made m);
       once = once_append made more e.once f.once (λ p a b. not_bare ((e.labelled p (e.on p a)).1 (inr a)) (f.bare p b));
       count = f.count ∙ omega (arith, e.count, length-append made more);
     }
   where
     -- a cell that is unlabelled later was so before
-    bare-before : (p : ℕ) → p < 16384 → label_at mid (cell_of p) ≡ Label.Unlabelled → (l : Label) → label_at first (cell_of p) ≡ l → l ≡ Label.Unlabelled
-    bare-before p h b Label.Unlabelled q = refl
-    bare-before p h b (Label.Corner k) q = absurd (no_corner_lem k (sym b ∙ e.kept.kept (cell_of p) k q))
+    bare_before : (p : ℕ) → p < 16384 → label_at mid (cell_of p) ≡ Label.Unlabelled → (l : Label) → label_at first (cell_of p) ≡ l → l ≡ Label.Unlabelled
+    bare_before p h b Label.Unlabelled q = refl
+    bare_before p h b (Label.Corner k) q = absurd (no_corner_lem k (sym b ∙ e.kept.kept (cell_of p) k q))

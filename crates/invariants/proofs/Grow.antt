@@ -18,10 +18,10 @@ use Rattle.sheet.specs.declared.Cell.{Cell}
 use Rattle.sheet.specs.declared.Label.{Label}
 use Rattle.sheet.specs.declared.Offset.{Offset}
 use Rattle.sheet.proofs.Laws.{place_in, cell_on_lem, place_cell, cell_place}
-use Rattle.sheet.proofs.Words.{hole-changes, ambiguous-changes}
+use Rattle.sheet.proofs.Words.{hole_changes, ambiguous_changes}
 use Rattle.labels.specs.Labelled.{names_corner, labelled_places, SameLabels}
 use Rattle.labels.proofs.Below.{no_both, both}
-use Rattle.labels.proofs.Labelled.{hole-keeps, ambiguous-keeps}
+use Rattle.labels.proofs.Labelled.{hole_keeps, ambiguous_keeps}
 use Rattle.predict.specs.Predict.{prediction_of}
 use Rattle.predict.specs.declared.Prediction.{Prediction}
 use Rattle.positions_policy.specs.Edge.{cardinal_offsets}
@@ -32,8 +32,8 @@ use Rattle.extension_common.specs.declared.TryCellResult.{TryCellResult}
 use Rattle.passes.specs.Grow.{tolerances_of, GrowState, member, wanted, enqueued, enqueued_at, spread, seeded_from, start_of, missed, grow_with, grow_at, grow_visit, grow_from, grow_run}
 use Rattle.passes.specs.History.{Attaches, History, begun, marked, attaches}
 use Rattle.invariants.specs.Kept.{Sound}
-use Rattle.invariants.proofs.History.{history-extended}
-use Rattle.invariants.proofs.Waiting.{Waiting, waiting_none, unnamed, waiting_more, first_on, waiting-marked, waiting-attached, found-attaches}
+use Rattle.invariants.proofs.History.{history_extended}
+use Rattle.invariants.proofs.Waiting.{Waiting, waiting_none, unnamed, waiting_more, first_on, waiting_marked, waiting_attached, found_attaches}
 
 -- ---- the queue
 
@@ -74,9 +74,9 @@ is_wanted sheet queued c e =
     }
 
 module _ (sheet : List ℕ) (head : ℕ) where
-  enqueued-waits : (c : Cell) (queued : List ℕ) → Queue sheet head queued → Queue sheet head (enqueued sheet c queued)
+  enqueued_waits : (c : Cell) (queued : List ℕ) → Queue sheet head queued → Queue sheet head (enqueued sheet c queued)
   unfolding enqueued
-  enqueued-waits c queued q = go (wanted sheet queued c) refl
+  enqueued_waits c queued q = go (wanted sheet queued c) refl
     where
       go : (t : Bool) → wanted sheet queued c ≡ t → Queue sheet head (cond t (queued ++ (place_of c ∷ [])) queued)
       go false e = q
@@ -89,19 +89,19 @@ module _ (sheet : List ℕ) (head : ℕ) where
                 (waiting_more q.waiting (place_in c w.on) (rw (cell_place c w.on) w.bare) (λ m. w.fresh (drop_in head (place_of c) queued m)));
           }
 
-  enqueued-at-waits : (c : Cell) (os : List Offset) (queued : List ℕ) → Queue sheet head queued → Queue sheet head (enqueued_at sheet c os queued)
+  enqueued_at_waits : (c : Cell) (os : List Offset) (queued : List ℕ) → Queue sheet head queued → Queue sheet head (enqueued_at sheet c os queued)
   unfolding enqueued_at
-  enqueued-at-waits c [] queued q = q
-  enqueued-at-waits c (o ∷ os) queued q = enqueued-at-waits c os (enqueued sheet (moved c o) queued) (enqueued-waits (moved c o) queued q)
+  enqueued_at_waits c [] queued q = q
+  enqueued_at_waits c (o ∷ os) queued q = enqueued_at_waits c os (enqueued sheet (moved c o) queued) (enqueued_waits (moved c o) queued q)
 
-  spread-waits : (c : Cell) (queued : List ℕ) → Queue sheet head queued → Queue sheet head (spread sheet c queued)
+  spread_waits : (c : Cell) (queued : List ℕ) → Queue sheet head queued → Queue sheet head (spread sheet c queued)
   unfolding spread
-  spread-waits c queued q = enqueued-at-waits c cardinal_offsets queued q
+  spread_waits c queued q = enqueued_at_waits c cardinal_offsets queued q
 
-  seeded-waits : (ps queued : List ℕ) → Queue sheet head queued → Queue sheet head (seeded_from sheet ps queued)
+  seeded_waits : (ps queued : List ℕ) → Queue sheet head queued → Queue sheet head (seeded_from sheet ps queued)
   unfolding seeded_from
-  seeded-waits [] queued q = q
-  seeded-waits (p ∷ ps) queued q = seeded-waits ps (spread sheet (cell_of p) queued) (spread-waits (cell_of p) queued q)
+  seeded_waits [] queued q = q
+  seeded_waits (p ∷ ps) queued q = seeded_waits ps (spread sheet (cell_of p) queued) (spread_waits (cell_of p) queued q)
 
 -- ---- a run under way
 
@@ -122,7 +122,7 @@ growing_start cs tol first =
     record {
       history = begun;
       counted = refl;
-      queue = seeded-waits first 0 (labelled_places first) [] (record { upto = omega arith; waiting = waiting_none first });
+      queue = seeded_waits first 0 (labelled_places first) [] (record { upto = omega arith; waiting = waiting_none first });
     }
 
 module _ {cs : Corners} {tol : Tolerances} {first : List ℕ} (few : cs.count ≤ 1024) (begins : Sound cs.count first) (head : ℕ) (s : GrowState)
@@ -131,65 +131,65 @@ module _ {cs : Corners} {tol : Tolerances} {first : List ℕ} (few : cs.count �
   pub turn : Waiting s.sheet (get_or s.queued head 0 ∷ drop (head + 1) s.queued)
   turn = rw add-one (rw (drop-cons s.queued head 0 inside) at g.queue.waiting)
 
-  pub sound-now : Sound cs.count s.sheet
-  sound-now = (history-extended few begins g.history).sound
+  pub sound_now : Sound cs.count s.sheet
+  sound_now = (history_extended few begins g.history).sound
 
   -- marks were changed, and one more is visited
-  growing-marked : (after : GrowState) → after.queued ≡ s.queued → after.made ≡ s.made → after.counts.attached ≡ s.counts.attached
+  growing_marked : (after : GrowState) → after.queued ≡ s.queued → after.made ≡ s.made → after.counts.attached ≡ s.counts.attached
       → length after.sheet ≡ length s.sheet → SameLabels s.sheet after.sheet → Growing cs tol first (head + 1) after
-  growing-marked after q m c e same =
+  growing_marked after q m c e same =
       record {
         history = rw m (marked g.history e same);
         counted = rw (m, c) g.counted;
-        queue = record { upto = rw q (omega arith); waiting = rw q (waiting-marked turn same) };
+        queue = record { upto = rw q (omega arith); waiting = rw q (waiting_marked turn same) };
       }
 
-  growing-missed : Growing cs tol first (head + 1) (missed (cell_of (get_or s.queued head 0)) s)
-  growing-missed =
+  growing_missed : Growing cs tol first (head + 1) (missed (cell_of (get_or s.queued head 0)) s)
+  growing_missed =
       let c = cell_of (get_or s.queued head 0) in
       let on = cell_on_lem _ (first_on turn) in
-      growing-marked (missed c s) refl refl refl (hole-changes s.sheet c sound-now.long on).same_length (hole-keeps s.sheet c sound-now.long on)
+      growing_marked (missed c s) refl refl refl (hole_changes s.sheet c sound_now.long on).same_length (hole_keeps s.sheet c sound_now.long on)
 
   -- what is found at the cell
-  growing-with : (r : TryCellResult) → ((k : ℕ) → r ≡ TryCellResult.Attached k → Attaches cs tol s.sheet (get_or s.queued head 0) k)
+  growing_with : (r : TryCellResult) → ((k : ℕ) → r ≡ TryCellResult.Attached k → Attaches cs tol s.sheet (get_or s.queued head 0) k)
       → Growing cs tol first (head + 1) (grow_with (cell_of (get_or s.queued head 0)) r s)
   unfolding grow_with
-  growing-with TryCellResult.NoCandidates may = growing-missed
-  growing-with TryCellResult.Ambiguous may =
+  growing_with TryCellResult.NoCandidates may = growing_missed
+  growing_with TryCellResult.Ambiguous may =
       let c = cell_of (get_or s.queued head 0) in
       let on = cell_on_lem _ (first_on turn) in
-      growing-marked _ refl refl refl (ambiguous-changes s.sheet c sound-now.long on).same_length (ambiguous-keeps s.sheet c sound-now.long on)
-  growing-with TryCellResult.EdgeRejected may =
+      growing_marked _ refl refl refl (ambiguous_changes s.sheet c sound_now.long on).same_length (ambiguous_keeps s.sheet c sound_now.long on)
+  growing_with TryCellResult.EdgeRejected may =
       let c = cell_of (get_or s.queued head 0) in
       let on = cell_on_lem _ (first_on turn) in
-      growing-marked _ refl refl refl (hole-changes s.sheet c sound-now.long on).same_length (hole-keeps s.sheet c sound-now.long on)
-  growing-with (TryCellResult.Attached k) may =
+      growing_marked _ refl refl refl (hole_changes s.sheet c sound_now.long on).same_length (hole_keeps s.sheet c sound_now.long on)
+  growing_with (TryCellResult.Attached k) may =
       let p = get_or s.queued head 0 in
       let a = may k refl in
       record {
         history = rw (place_cell p (first_on turn)) (attaches p k g.history a);
         counted = omega (arith, g.counted, length-append s.made (place_of (cell_of p) ∷ []));
         queue =
-            spread-waits (attached s.sheet (cell_of p) k) (head + 1) (cell_of p) s.queued
-            (record { upto = omega arith; waiting = waiting-attached turn sound-now few a });
+            spread_waits (attached s.sheet (cell_of p) k) (head + 1) (cell_of p) s.queued
+            (record { upto = omega arith; waiting = waiting_attached turn sound_now few a });
       }
 
 module _ {cs : Corners} {first : List ℕ} (set : Settings) (params : GrowParams) (few : cs.count ≤ 1024) (begins : Sound cs.count first) where
-  pub growing-visit : (head : ℕ) (s : GrowState) → Growing cs (tolerances_of set) first head s → head < length s.queued
+  pub growing_visit : (head : ℕ) (s : GrowState) → Growing cs (tolerances_of set) first head s → head < length s.queued
       → Growing cs (tolerances_of set) first (head + 1) (grow_visit cs set params (cell_of (get_or s.queued head 0)) s)
   unfolding grow_visit grow_at
-  growing-visit head s g h = go (prediction_of (seen_of cs.corner s.sheet) set.grid (cell_of (get_or s.queued head 0)))
+  growing_visit head s g h = go (prediction_of (seen_of cs.corner s.sheet) set.grid (cell_of (get_or s.queued head 0)))
     where
       go : (at : Prediction) → Growing cs (tolerances_of set) first (head + 1) (grow_at cs set params (cell_of (get_or s.queued head 0)) at s)
-      go Prediction.NoNeighbour = growing-missed few begins head s g h
-      go (Prediction.At at) = growing-with few begins head s g h _ (λ k e. found-attaches (turn few begins head s g h) cs (tolerances_of set) _ at k e)
+      go Prediction.NoNeighbour = growing_missed few begins head s g h
+      go (Prediction.At at) = growing_with few begins head s g h _ (λ k e. found_attaches (turn few begins head s g h) cs (tolerances_of set) _ at k e)
 
   -- at most m cells more
-  grown-from : (m head : ℕ) (s : GrowState) → Growing cs (tolerances_of set) first head s → Grown cs (tolerances_of set) first (grow_from cs set params m head s)
+  grown_from : (m head : ℕ) (s : GrowState) → Growing cs (tolerances_of set) first head s → Grown cs (tolerances_of set) first (grow_from cs set params m head s)
   unfolding grow_from
-  grown-from zero head s g = record { history = g.history; counted = g.counted }
-  grown-from (suc m) head s g =
-      go (ltb head (length s.queued)) refl (λ h. grown-from m (head + 1) (grow_visit cs set params (cell_of (get_or s.queued head 0)) s) (growing-visit head s g h))
+  grown_from zero head s g = record { history = g.history; counted = g.counted }
+  grown_from (suc m) head s g =
+      go (ltb head (length s.queued)) refl (λ h. grown_from m (head + 1) (grow_visit cs set params (cell_of (get_or s.queued head 0)) s) (growing_visit head s g h))
     where
       go : (t : Bool) → ltb head (length s.queued) ≡ t
           → (head < length s.queued → Grown cs (tolerances_of set) first (grow_from cs set params m (head + 1) (grow_visit cs set params (cell_of (get_or s.queued head 0)) s)))
@@ -198,6 +198,6 @@ module _ {cs : Corners} {first : List ℕ} (set : Settings) (params : GrowParams
       go false e w = record { history = g.history; counted = g.counted }
 
   -- the whole run
-  pub grow-history : Grown cs (tolerances_of set) first (grow_run cs set params first)
+  pub grow_history : Grown cs (tolerances_of set) first (grow_run cs set params first)
   unfolding grow_run
-  grow-history = grown-from (4 * cs.count) 0 (start_of first) (growing_start cs (tolerances_of set) first)
+  grow_history = grown_from (4 * cs.count) 0 (start_of first) (growing_start cs (tolerances_of set) first)

@@ -31,7 +31,7 @@ use Rattle.passes.specs.Grow.{tolerances_of, GrowState, wanted, enqueued, enqueu
 use Rattle.passes.specs.Changes.{is_attached, is_no_candidate, is_ambiguous, is_edge_refusal, SameMarks, MarksSet, GrowVisit}
 use Rattle.passes.specs.declared.Counts.{Counts}
 use Rattle.passes.proofs.Changes.{same_marks, marks_then, visits}
-use Rattle.passes.proofs.Enough.{Belongs, Going, next_of, next-on, queue-few, start_going, visit-going, from-ended, from_next}
+use Rattle.passes.proofs.Enough.{Belongs, Going, next_of, next_on, queue_few, start_going, visit_going, from_ended, from_next}
 use Rattle.invariants.specs.Marks.{MarksStand, how_many, attached_among, CountsOf, GrowMarks}
 use Rattle.invariants.proofs.Marks.{stand_same, stand_then, stand_set, set_after, set_before, cell_dec, found_fits}
 
@@ -49,14 +49,14 @@ begins_then : {l m n : List ℕ} → Begins l m → Begins m n → Begins l n
 begins_then {l} a b = record { more = a.more ++ b.more; is = b.is ∙ ap (λ (x : List ℕ). x ++ b.more) a.is ∙ append_assoc l a.more b.more }
 
 module _ {l m : List ℕ} (b : Begins l m) where
-  begins-long : length l ≤ length m
-  begins-long = rw (b.is, length-append) (omega arith)
+  begins_long : length l ≤ length m
+  begins_long = rw (b.is, length-append) (omega arith)
 
-  begins-at : (n : ℕ) → n < length l → get_or m n 0 ≡ get_or l n 0
-  begins-at n h = rw b.is (get_or-append l b.more 0 n h)
+  begins_at : (n : ℕ) → n < length l → get_or m n 0 ≡ get_or l n 0
+  begins_at n h = rw b.is (get_or-append l b.more 0 n h)
 
-  begins-take : (n : ℕ) → n ≤ length l → take n m ≡ take n l
-  begins-take n h = rw b.is (take-append-le n l b.more h)
+  begins_take : (n : ℕ) → n ≤ length l → take n m ≡ take n l
+  begins_take n h = rw b.is (take-append-le n l b.more h)
 
 -- one finding more
 many_more : (f : TryCellResult → Bool) (rs : List TryCellResult) (r : TryCellResult) → how_many f (rs ++ (r ∷ [])) ≡ how_many f rs + bit_of (f r)
@@ -149,8 +149,8 @@ module _ {cs : Corners} {first : List ℕ} {head : ℕ} {s : GrowState} (g : Goi
       (sym (place_cell _ (g.lined.places n (omega arith))) ∙ ap place_of e ∙ place_cell _ (g.lined.places head left))
 
   -- it was unlabelled from the first
-  next-bare : label_at first (next_of s head) ≡ Label.Unlabelled
-  next-bare = go (label_at first (next_of s head)) refl
+  next_bare : label_at first (next_of s head) ≡ Label.Unlabelled
+  next_bare = go (label_at first (next_of s head)) refl
     where
       go : (l : Label) → label_at first (next_of s head) ≡ l → l ≡ Label.Unlabelled
       go Label.Unlabelled e = refl
@@ -159,50 +159,50 @@ module _ {cs : Corners} {first : List ℕ} {head : ℕ} {s : GrowState} (g : Goi
   -- what is found there, and the state after the visit
   module _ (r : TryCellResult) (after : GrowState) (visit : GrowVisit r (next_of s head) s after) (begins : Begins s.queued after.queued) where
     older : (n : ℕ) → n < length s.queued → cell_of (get_or after.queued n 0) ≡ cell_of (get_or s.queued n 0)
-    older n h = ap cell_of (begins-at begins n h)
+    older n h = ap cell_of (begins_at begins n h)
 
     -- every other cell is as it was
     other : (c : Cell) → (c ≡ next_of s head → ⊥) → SameMarks s.sheet after.sheet c
     other c ne = (visit.labels.others c ne).marks
 
-    earlier-found : (n : ℕ) → n < head → get_or (w.found ++ (r ∷ [])) n TryCellResult.NoCandidates ≡ get_or w.found n TryCellResult.NoCandidates
-    earlier-found n h = get_or-append w.found (r ∷ []) TryCellResult.NoCandidates n (omega (arith, w.each))
+    earlier_found : (n : ℕ) → n < head → get_or (w.found ++ (r ∷ [])) n TryCellResult.NoCandidates ≡ get_or w.found n TryCellResult.NoCandidates
+    earlier_found n h = get_or-append w.found (r ∷ []) TryCellResult.NoCandidates n (omega (arith, w.each))
 
-    this-found : get_or (w.found ++ (r ∷ [])) head TryCellResult.NoCandidates ≡ r
-    this-found = rw (← w.each) (get_or-append_seam w.found r [] TryCellResult.NoCandidates)
+    this_found : get_or (w.found ++ (r ∷ [])) head TryCellResult.NoCandidates ≡ r
+    this_found = rw (← w.each) (get_or-append_seam w.found r [] TryCellResult.NoCandidates)
 
-    kept-with : (c : Cell) (k : ℕ) → label_at first c ≡ Label.Corner k → Dec (c ≡ next_of s head) → label_at after.sheet c ≡ Label.Corner k
-    kept-with c k e (yes d) = absurd (no_corner_lem k (sym next-bare ∙ ap (label_at first) (sym d) ∙ e))
-    kept-with c k e (no ne) = (visit.labels.others c ne).label ∙ w.kept c k e
+    kept_with : (c : Cell) (k : ℕ) → label_at first c ≡ Label.Corner k → Dec (c ≡ next_of s head) → label_at after.sheet c ≡ Label.Corner k
+    kept_with c k e (yes d) = absurd (no_corner_lem k (sym next_bare ∙ ap (label_at first) (sym d) ∙ e))
+    kept_with c k e (no ne) = (visit.labels.others c ne).label ∙ w.kept c k e
 
-    bare-with : (n : ℕ) → n < head + 1 → Dec (n ≡ head) → label_at first (cell_of (get_or after.queued n 0)) ≡ Label.Unlabelled
-    bare-with n h (yes d) = ap (label_at first) (older n (omega arith) ∙ ap (λ (i : ℕ). cell_of (get_or s.queued i 0)) d) ∙ next-bare
-    bare-with n h (no d) = ap (label_at first) (older n (omega arith)) ∙ w.bare n (omega arith)
+    bare_with : (n : ℕ) → n < head + 1 → Dec (n ≡ head) → label_at first (cell_of (get_or after.queued n 0)) ≡ Label.Unlabelled
+    bare_with n h (yes d) = ap (label_at first) (older n (omega arith) ∙ ap (λ (i : ℕ). cell_of (get_or s.queued i 0)) d) ∙ next_bare
+    bare_with n h (no d) = ap (label_at first) (older n (omega arith)) ∙ w.bare n (omega arith)
 
-    marked-with : (n : ℕ) → n < head + 1 → Dec (n ≡ head) → MarksSet (get_or (w.found ++ (r ∷ [])) n TryCellResult.NoCandidates) first after.sheet (cell_of (get_or after.queued n 0))
-    marked-with n h (yes d) = rw (older n (omega arith), d, this-found) (set_after (w.others (next_of s head) apart) visit.marks)
-    marked-with n h (no d) = rw (older n (omega arith), earlier-found n (omega arith)) (set_before (w.marked n (omega arith)) (other _ (apart n (omega arith))))
+    marked_with : (n : ℕ) → n < head + 1 → Dec (n ≡ head) → MarksSet (get_or (w.found ++ (r ∷ [])) n TryCellResult.NoCandidates) first after.sheet (cell_of (get_or after.queued n 0))
+    marked_with n h (yes d) = rw (older n (omega arith), d, this_found) (set_after (w.others (next_of s head) apart) visit.marks)
+    marked_with n h (no d) = rw (older n (omega arith), earlier_found n (omega arith)) (set_before (w.marked n (omega arith)) (other _ (apart n (omega arith))))
 
-    others-with : (c : Cell) → ((n : ℕ) → n < head + 1 → cell_of (get_or after.queued n 0) ≡ c → ⊥) → SameMarks first after.sheet c
-    others-with c ne =
+    others_with : (c : Cell) → ((n : ℕ) → n < head + 1 → cell_of (get_or after.queued n 0) ≡ c → ⊥) → SameMarks first after.sheet c
+    others_with c ne =
         marks_then (w.others c (λ n h e. ne n (omega arith) (older n (omega arith) ∙ e)))
         (other c (λ e. ne head (omega arith) (older head left ∙ sym e)))
 
-    stand-with : (c : Cell) → Dec (c ≡ next_of s head) → MarksStand first after.sheet c
-    stand-with c (yes d) = rw d (stand_then (w.stand (next_of s head)) (stand_set visit.marks))
-    stand-with c (no ne) = stand_then (w.stand c) (stand_same (other c ne))
+    stand_with : (c : Cell) → Dec (c ≡ next_of s head) → MarksStand first after.sheet c
+    stand_with c (yes d) = rw d (stand_then (w.stand (next_of s head)) (stand_set visit.marks))
+    stand_with c (no ne) = stand_then (w.stand c) (stand_same (other c ne))
 
-    finding-more : Finding first (head + 1) after
-    finding-more =
+    finding_more : Finding first (head + 1) after
+    finding_more =
         record {
           found = w.found ++ (r ∷ []);
           each = omega (arith, w.each, length-append w.found (r ∷ []));
-          kept = λ c k e. kept-with c k e (cell_dec c (next_of s head));
-          bare = λ n h. bare-with n h (ℕ_discrete n head);
-          marked = λ n h. marked-with n h (ℕ_discrete n head);
-          others = others-with;
-          stand = λ c. stand-with c (cell_dec c (next_of s head));
-          attached = attached-with;
+          kept = λ c k e. kept_with c k e (cell_dec c (next_of s head));
+          bare = λ n h. bare_with n h (ℕ_discrete n head);
+          marked = λ n h. marked_with n h (ℕ_discrete n head);
+          others = others_with;
+          stand = λ c. stand_with c (cell_dec c (next_of s head));
+          attached = attached_with;
           counted = record {
             attached = visit.counted.attached ∙ omega (arith, w.counted.attached, many_more is_attached w.found r);
             no_candidate = visit.counted.no_candidate ∙ omega (arith, w.counted.no_candidate, many_more is_no_candidate w.found r);
@@ -211,10 +211,10 @@ module _ {cs : Corners} {first : List ℕ} {head : ℕ} {s : GrowState} (g : Goi
           };
         }
       where
-        attached-with : attached_among (take (head + 1) after.queued) (w.found ++ (r ∷ [])) ≡ after.made
-        attached-with =
+        attached_with : attached_among (take (head + 1) after.queued) (w.found ++ (r ∷ [])) ≡ after.made
+        attached_with =
             let taken : take (head + 1) after.queued ≡ take head s.queued ++ (get_or s.queued head 0 ∷ []) =
-            begins-take begins (head + 1) (omega arith) ∙ ap (λ (n : ℕ). take n s.queued) (add-one head) ∙ take-suc s.queued head 0 left in
+            begins_take begins (head + 1) (omega arith) ∙ ap (λ (n : ℕ). take n s.queued) (add-one head) ∙ take-suc s.queued head 0 left in
             let long : length w.found ≡ length (take head s.queued) = w.each ∙ sym (length-take-le head s.queued (omega arith)) in
             ap (λ (l : List ℕ). attached_among l (w.found ++ (r ∷ []))) taken
             ∙ among_more (take head s.queued) w.found (get_or s.queued head 0) r long
@@ -225,44 +225,44 @@ module _ {cs : Corners} {first : List ℕ} {head : ℕ} {s : GrowState} (g : Goi
 -- ---- the whole run
 
 module _ (cs : Corners) (set : Settings) (params : GrowParams) {first : List ℕ} where
-  finding-with : {head : ℕ} {s : GrowState} → Going cs head s → Finding first head s → head < length s.queued → (r : TryCellResult)
+  finding_with : {head : ℕ} {s : GrowState} → Going cs head s → Finding first head s → head < length s.queued → (r : TryCellResult)
       → ((k : ℕ) → r ≡ TryCellResult.Attached k → k < 16383) → Finding first (head + 1) (grow_with (next_of s head) r s)
-  finding-with {head} {s} g w left r fits =
-      finding-more g w left r (grow_with (next_of s head) r s)
-      (visits.grow (next_of s head) r s (record { cell = record { long = g.fit.long; on = next-on g left }; corner_fits = fits }))
+  finding_with {head} {s} g w left r fits =
+      finding_more g w left r (grow_with (next_of s head) r s)
+      (visits.grow (next_of s head) r s (record { cell = record { long = g.fit.long; on = next_on g left }; corner_fits = fits }))
       (with_begins (next_of s head) r s)
 
-  finding-visit : {head : ℕ} {s : GrowState} → Going cs head s → Finding first head s → head < length s.queued → Finding first (head + 1) (grow_visit cs set params (next_of s head) s)
+  finding_visit : {head : ℕ} {s : GrowState} → Going cs head s → Finding first head s → head < length s.queued → Finding first (head + 1) (grow_visit cs set params (next_of s head) s)
   unfolding grow_visit grow_at grow_with
-  finding-visit {head} {s} g w left = go (prediction_of (seen_of cs.corner s.sheet) set.grid (next_of s head))
+  finding_visit {head} {s} g w left = go (prediction_of (seen_of cs.corner s.sheet) set.grid (next_of s head))
     where
       go : (at : Prediction) → Finding first (head + 1) (grow_at cs set params (next_of s head) at s)
-      go Prediction.NoNeighbour = finding-with g w left TryCellResult.NoCandidates (λ k e. absurd (let z : ◌≡◌ {A = ℕ} 0 1 = cc in omega arith))
+      go Prediction.NoNeighbour = finding_with g w left TryCellResult.NoCandidates (λ k e. absurd (let z : ◌≡◌ {A = ℕ} 0 1 = cc in omega arith))
       go (Prediction.At at) =
           let search = search_of set params (extrapolating (seen_of cs.corner s.sheet) (next_of s head)) in
-          finding-with g w left (try_at cs s.sheet (tolerances_of set) search (next_of s head) at) (found_fits cs g.fit.few s.sheet (tolerances_of set) search (next_of s head) at)
+          finding_with g w left (try_at cs s.sheet (tolerances_of set) search (next_of s head) at) (found_fits cs g.fit.few s.sheet (tolerances_of set) search (next_of s head) at)
 
   -- all queued cells were visited
-  finding-ended : {head : ℕ} {s : GrowState} → Going cs head s → Finding first head s → length s.queued ≤ head → Finding first (length s.queued) s
-  finding-ended {head} {s} g w h = let e : head ≡ length s.queued = omega (arith, g.lined.upto) in rw (← e) w
+  finding_ended : {head : ℕ} {s : GrowState} → Going cs head s → Finding first head s → length s.queued ≤ head → Finding first (length s.queued) s
+  finding_ended {head} {s} g w h = let e : head ≡ length s.queued = omega (arith, g.lined.upto) in rw (← e) w
 
-  finding-from : (m head : ℕ) (s : GrowState) → Going cs head s → Finding first head s → 4 * cs.count ≤ head + m
+  finding_from : (m head : ℕ) (s : GrowState) → Going cs head s → Finding first head s → 4 * cs.count ≤ head + m
       → Finding first (length (grow_from cs set params m head s).queued) (grow_from cs set params m head s)
-  finding-from zero head s g w h = rw (from-ended cs set params zero head s (omega (arith, queue-few g))) (finding-ended g w (omega (arith, queue-few g)))
-  finding-from (suc m) head s g w h =
-      go (λ left. finding-from m (head + 1) (grow_visit cs set params (next_of s head) s) (visit-going cs set params head s g left) (finding-visit g w left) (omega arith))
+  finding_from zero head s g w h = rw (from_ended cs set params zero head s (omega (arith, queue_few g))) (finding_ended g w (omega (arith, queue_few g)))
+  finding_from (suc m) head s g w h =
+      go (λ left. finding_from m (head + 1) (grow_visit cs set params (next_of s head) s) (visit_going cs set params head s g left) (finding_visit g w left) (omega arith))
       (dec_lt head (length s.queued))
     where
       go : (head < length s.queued → Finding first (length (grow_from cs set params m (head + 1) (grow_visit cs set params (next_of s head) s)).queued) (grow_from cs set params m (head + 1) (grow_visit cs set params (next_of s head) s)))
           → Dec (head < length s.queued) → Finding first (length (grow_from cs set params (suc m) head s).queued) (grow_from cs set params (suc m) head s)
       go f (yes left) = rw (from_next cs set params m head s left) (f left)
-      go f (no d) = rw (from-ended cs set params (suc m) head s (omega arith)) (finding-ended g w (omega arith))
+      go f (no d) = rw (from_ended cs set params (suc m) head s (omega arith)) (finding_ended g w (omega arith))
 
 -- grow and the marks, for a sheet that belongs to the corners
 pub grow_marks : (cs : Corners) (set : Settings) (params : GrowParams) (first : List ℕ) → Belongs cs first
     → GrowMarks first (grow_run cs set params first).queued (grow_run cs set params first).made (grow_run cs set params first).counts (grow_run cs set params first).sheet
 unfolding grow_run
-grow_marks cs set params first f = ended _ (finding-from cs set params (4 * cs.count) 0 (start_of first) (start_going cs first f) (finding_start first) (omega arith))
+grow_marks cs set params first f = ended _ (finding_from cs set params (4 * cs.count) 0 (start_of first) (start_going cs first f) (finding_start first) (omega arith))
   where
     ended : (s : GrowState) → Finding first (length s.queued) s → GrowMarks first s.queued s.made s.counts s.sheet
     ended s w =

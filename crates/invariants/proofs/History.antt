@@ -16,7 +16,7 @@ use Rattle.positions_policy.specs.declared.Tolerances.{Tolerances}
 use Rattle.arguments.specs.Shades.{corners_of}
 use Rattle.passes.specs.History.{History, begun, marked, attaches}
 use Rattle.invariants.specs.Kept.{Sound, Kept, Extended, Attachment, AttachedAt, Histories, before, pass, AttachedInTurn}
-use Rattle.invariants.proofs.Extended.{extended-marked, extended-attached, extended_then, attached-label}
+use Rattle.invariants.proofs.Extended.{extended_marked, extended_attached, extended_then, attached_label}
 
 -- ---- a corner attached
 
@@ -33,12 +33,12 @@ from_earlier x w = record { corner = w.corner; labels = extended_then x w.labels
 -- ---- a history
 
 module _ {cs : Corners} {tol : Tolerances} {first : List ℕ} (few : cs.count ≤ 1024) (s : Sound cs.count first) where
-  pub history-extended : {made last : List ℕ} → History cs tol first made last → Extended cs.count first made last
-  history-extended begun = extended-marked s refl (record { same_label = λ p h. refl })
-  history-extended (marked {made} {last} {last'} h e same) =
-      let x = history-extended h in
-      subst (λ (l : List ℕ). Extended cs.count first l last') (append-nil made) (extended_then x (extended-marked x.sound e same))
-  history-extended (attaches p k h a) = let x = history-extended h in extended_then x (extended-attached x.sound few a)
+  pub history_extended : {made last : List ℕ} → History cs tol first made last → Extended cs.count first made last
+  history_extended begun = extended_marked s refl (record { same_label = λ p h. refl })
+  history_extended (marked {made} {last} {last'} h e same) =
+      let x = history_extended h in
+      subst (λ (l : List ℕ). Extended cs.count first l last') (append-nil made) (extended_then x (extended_marked x.sound e same))
+  history_extended (attaches p k h a) = let x = history_extended h in extended_then x (extended_attached x.sound few a)
 
   -- the n-th new cell stays as it was when more follows
   later : {made last : List ℕ} (more : List ℕ) {after : List ℕ} (n : ℕ) → n < length made → Kept last after → AttachedAt cs tol first made last n → AttachedAt cs tol first (made ++ more) after n
@@ -50,18 +50,18 @@ module _ {cs : Corners} {tol : Tolerances} {first : List ℕ} (few : cs.count �
       }
 
   -- each new corner had an accepted edge to a labelled cardinal neighbour, or no such neighbour, when it was attached
-  pub attached-at : {made last : List ℕ} → History cs tol first made last → (n : ℕ) → n < length made → AttachedAt cs tol first made last n
-  attached-at begun n h = absurd (not-suc-le-zero h)
-  attached-at (marked {made} {last} {last'} h e same) n l =
-      let x = history-extended h in
-      subst (λ (m : List ℕ). AttachedAt cs tol first m last' n) (append-nil made) (later [] n l (extended-marked x.sound e same).kept (attached-at h n l))
-  attached-at (attaches {made} {last} p k h a) n l = go (λ m. attached-at h n m) (dec_lt n (length made))
+  pub attached_at : {made last : List ℕ} → History cs tol first made last → (n : ℕ) → n < length made → AttachedAt cs tol first made last n
+  attached_at begun n h = absurd (not-suc-le-zero h)
+  attached_at (marked {made} {last} {last'} h e same) n l =
+      let x = history_extended h in
+      subst (λ (m : List ℕ). AttachedAt cs tol first m last' n) (append-nil made) (later [] n l (extended_marked x.sound e same).kept (attached_at h n l))
+  attached_at (attaches {made} {last} p k h a) n l = go (λ m. attached_at h n m) (dec_lt n (length made))
     where
       x : Extended cs.count first made last
-      x = history-extended h
+      x = history_extended h
 
       go : (n < length made → AttachedAt cs tol first made last n) → Dec (n < length made) → AttachedAt cs tol first (made ++ (p ∷ [])) (attached last (cell_of p) k) n
-      go w (yes d) = later (p ∷ []) n d (extended-attached x.sound few a).kept (w d)
+      go w (yes d) = later (p ∷ []) n d (extended_attached x.sound few a).kept (w d)
       go w (no d) =
           let e : n ≡ length made = omega (arith, length-append made (p ∷ [])) in
           record {
@@ -69,7 +69,7 @@ module _ {cs : Corners} {tol : Tolerances} {first : List ℕ} (few : cs.count �
             reached = rw (e, take-append_seam made (p ∷ [])) h;
             attachment =
                 rw (e, take-append_seam made (p ∷ []), get_or-append_seam made p [] 0)
-                (record { corner = k; labels = x; attaches = a; holds = attached-label x.sound few a });
+                (record { corner = k; labels = x; attaches = a; holds = attached_label x.sound few a });
           }
 
 -- two histories with the same tolerances join
@@ -81,17 +81,17 @@ history_then {made} h (attaches {made = more} p k g a) = rw (sym (append_assoc m
 -- ---- several passes
 
 module _ {l : CornerLists} {first : List ℕ} (few : length l.xs ≤ 1024) (s : Sound (length l.xs) first) where
-  pub histories-extended : {made last : List ℕ} → Histories l first made last → Extended (length l.xs) first made last
-  histories-extended before = extended-marked s refl (record { same_label = λ p h. refl })
-  histories-extended (pass shades tol hs h) = let x = histories-extended hs in extended_then x (history-extended few x.sound h)
+  pub histories_extended : {made last : List ℕ} → Histories l first made last → Extended (length l.xs) first made last
+  histories_extended before = extended_marked s refl (record { same_label = λ p h. refl })
+  histories_extended (pass shades tol hs h) = let x = histories_extended hs in extended_then x (history_extended few x.sound h)
 
   -- each of all new corners had an accepted edge to a labelled cardinal neighbour, or no such neighbour, when it was attached
-  pub attached-in-turn : {made last : List ℕ} → Histories l first made last → (n : ℕ) → n < length made → AttachedInTurn l first made last n
-  attached-in-turn before n below = absurd (not-suc-le-zero below)
-  attached-in-turn (pass {made} {last} {more} {after} shades tol hs h) n below = go (λ m. attached-in-turn hs n m) (dec_lt n (length made))
+  pub attached_in_turn : {made last : List ℕ} → Histories l first made last → (n : ℕ) → n < length made → AttachedInTurn l first made last n
+  attached_in_turn before n below = absurd (not-suc-le-zero below)
+  attached_in_turn (pass {made} {last} {more} {after} shades tol hs h) n below = go (λ m. attached_in_turn hs n m) (dec_lt n (length made))
     where
       x : Extended (length l.xs) first made last
-      x = histories-extended hs
+      x = histories_extended hs
 
       -- one of an earlier pass, or the m-th of this one
       earlier : n < length made → AttachedInTurn l first made last n → AttachedInTurn l first (made ++ more) after n
@@ -101,7 +101,7 @@ module _ {l : CornerLists} {first : List ℕ} (few : length l.xs ≤ 1024) (s : 
             tol = w.tol;
             sheet = w.sheet;
             reached = rw (take-append-le n made more (omega arith)) w.reached;
-            attachment = rw (take-append-le n made more (omega arith), get_or-append made more 0 n d) (still_holds (history-extended few x.sound h).kept w.attachment);
+            attachment = rw (take-append-le n made more (omega arith), get_or-append made more 0 n d) (still_holds (history_extended few x.sound h).kept w.attachment);
           }
 
       here : (m : ℕ) → n ≡ length made + m → AttachedAt (corners_of l shades) tol last more after m → AttachedInTurn l first (made ++ more) after n
@@ -117,7 +117,7 @@ module _ {l : CornerLists} {first : List ℕ} (few : length l.xs ≤ 1024) (s : 
       go : (n < length made → AttachedInTurn l first made last n) → Dec (n < length made) → AttachedInTurn l first (made ++ more) after n
       go w (yes d) = earlier d (w d)
       go w (no d) =
-          here (n - length made) (omega arith) (attached-at few x.sound h (n - length made) (omega (arith, length-append made more)))
+          here (n - length made) (omega arith) (attached_at few x.sound h (n - length made) (omega (arith, length-append made more)))
 
 -- passes after passes
 pub histories_then : {l : CornerLists} {first made mid more last : List ℕ} → Histories l first made mid → Histories l mid more last → Histories l first (made ++ more) last

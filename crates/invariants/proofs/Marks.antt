@@ -35,7 +35,7 @@ use Rattle.passes.specs.Local.{depth_of, supports_of, LocalFit, none, fitted, lo
 use Rattle.passes.specs.Changes.{sets_hole, sets_ambiguous, SameMarks, NoMarks, MarksSet, FillVisit, LocalVisit}
 use Rattle.passes.specs.declared.LargestResidual.{LargestResidual}
 use Rattle.passes.proofs.Changes.{same_marks, marks_then, visits}
-use Rattle.passes.proofs.Rounds.{rounds-keep}
+use Rattle.passes.proofs.Rounds.{rounds_keep}
 use Rattle.invariants.specs.Marks.{MarksStand, FillMarks, LocalMarks}
 use Rattle.invariants.proofs.Fill.{cells_listed}
 use Rattle.invariants.proofs.Local.{local_cells_listed}
@@ -105,7 +105,7 @@ rounds_on : {S : Type 0} (w : RoundPass S) (P : S → Type 0) → ((s : S) (q : 
     → ((q : ℕ) → q < 16384 → (s : S) → P s → P (w.visit (cell_of q) s))
     → (m : ℕ) (r : Rounds S) → P r.state → P (rounds_from w m r).state
 rounds_on {S} w P on keeps m r h =
-    (rounds-keep w Kept (λ s g. (on s, g.1)) (λ q qs s g. (λ p i. g.0 p (Memᴰ.tail i), keeps q (g.0 q (Memᴰ.head refl)) s g.1))
+    (rounds_keep w Kept (λ s g. (on s, g.1)) (λ q qs s g. (λ p i. g.0 p (Memᴰ.tail i), keeps q (g.0 q (Memᴰ.head refl)) s g.1))
     m r (λ p i. absurd (Memᴰ.not-nil i), h)).1
   where
     Kept : List ℕ → S → Type 0
@@ -119,8 +119,8 @@ record FillKeeps (first : List ℕ) (s : FillState) : Type 0 where
   same : FillMarks first s.sheet
 
 module _ (cs : Corners) (few : cs.count ≤ 1024) (first : List ℕ) (set : Settings) (params : FillParams) where
-  fill-with : (q : ℕ) → q < 16384 → (r : TryCellResult) (s : FillState) → ((k : ℕ) → r ≡ TryCellResult.Attached k → k < 16383) → FillKeeps first s → FillKeeps first (fill_with (cell_of q) r s)
-  fill-with q h r s fits w =
+  fill_with_lem : (q : ℕ) → q < 16384 → (r : TryCellResult) (s : FillState) → ((k : ℕ) → r ≡ TryCellResult.Attached k → k < 16383) → FillKeeps first s → FillKeeps first (fill_with (cell_of q) r s)
+  fill_with_lem q h r s fits w =
       let v = visits.fill (cell_of q) r s (record { cell = record { long = w.long; on = cell_on_lem q h }; corner_fits = fits }) in
       record { long = rw v.labels.same_length w.long; same = λ d. marks_then (w.same d) (go v d (cell_dec d (cell_of q))) }
     where
@@ -134,11 +134,11 @@ module _ (cs : Corners) (few : cs.count ≤ 1024) (first : List ℕ) (set : Sett
     where
       go : (at : Prediction) → FillKeeps first (fill_at cs set params (cell_of q) at s)
       go Prediction.NoNeighbour = w
-      go (Prediction.At at) = fill-with q h _ s (λ k e. found_fits cs few s.sheet _ _ (cell_of q) at k e) w
+      go (Prediction.At at) = fill_with_lem q h _ s (λ k e. found_fits cs few s.sheet _ _ (cell_of q) at k e) w
 
-  pub fill-marks : 16384 ≤ length first → FillMarks first (fill_run cs set params first).state.sheet
+  pub fill_marks : 16384 ≤ length first → FillMarks first (fill_run cs set params first).state.sheet
   unfolding fill_run fill_from
-  fill-marks long =
+  fill_marks long =
       (rounds_on (fill_pass cs set params) (FillKeeps first) (λ s. (cells_listed s.sheet).on) fill_visit_lem (fill_limit (label_count first) params.max_iters)
       (record { state = record { sheet = first; made = [] }; rounds = 0 }) (record { long = long; same = same_marks first })).same
 
@@ -178,8 +178,8 @@ record LocalKeeps (first : List ℕ) (s : LocalState) : Type 0 where
   marks : LocalMarks first s.made s.sheet
 
 module _ (cs : Corners) (few : cs.count ≤ 1024) (first : List ℕ) (set : Settings) (params : LocalExtensionParams) where
-  local-with : (q : ℕ) → q < 16384 → (r : TryCellResult) (s after : LocalState) → LocalVisit r (cell_of q) s after → LocalKeeps first s → LocalKeeps first after
-  local-with q h r s after v w = record { long = rw v.labels.same_length w.long; marks = go r v }
+  local_with_lem : (q : ℕ) → q < 16384 → (r : TryCellResult) (s after : LocalState) → LocalVisit r (cell_of q) s after → LocalKeeps first s → LocalKeeps first after
+  local_with_lem q h r s after v w = record { long = rw v.labels.same_length w.long; marks = go r v }
     where
       kept : (r : TryCellResult) → LocalVisit r (cell_of q) s after → SameMarks s.sheet after.sheet (cell_of q) → after.made ≡ s.made → LocalMarks first after.made after.sheet
       kept r v here e = rw e (local_kept (λ d. every d (cell_dec d (cell_of q))) w.marks)
@@ -207,7 +207,7 @@ module _ (cs : Corners) (few : cs.count ≤ 1024) (first : List ℕ) (set : Sett
       tried : (rs : List Float) (m : ℕ) (r : TryCellResult) → ((k : ℕ) → r ≡ TryCellResult.Attached k → k < 16383)
           → LocalKeeps first (local_with (cell_of q) r (with_unmatched m (with_residuals rs s)))
       tried rs m r fits =
-          local-with q h r (with_unmatched m (with_residuals rs s)) _
+          local_with_lem q h r (with_unmatched m (with_residuals rs s)) _
           (visits.local (cell_of q) r (with_unmatched m (with_residuals rs s)) (record { cell = record { long = w.long; on = cell_on_lem q h }; corner_fits = fits }))
           (record { long = w.long; marks = w.marks })
 
@@ -215,9 +215,9 @@ module _ (cs : Corners) (few : cs.count ≤ 1024) (first : List ℕ) (set : Sett
       go none = w
       go (fitted h rs) = gate (lt (gate_of set params) (worst (of_bits binary32 0) rs)) rs _ (tried rs _ _ (λ k e. found_fits cs few s.sheet _ _ (cell_of q) _ k e))
 
-  pub local-marks : 16384 ≤ length first → LocalMarks first (local_run cs set params first).state.made (local_run cs set params first).state.sheet
+  pub local_marks : 16384 ≤ length first → LocalMarks first (local_run cs set params first).state.made (local_run cs set params first).state.sheet
   unfolding local_run local_from
-  local-marks long =
+  local_marks long =
       (rounds_on (local_pass cs set params) (LocalKeeps first) (λ s. (local_cells_listed (depth_of params) s.sheet).on) local_visit_lem
       (local_limit (label_count first) params.max_iters)
       (record { state = record { sheet = first; made = []; counts = no_counts; largest = LargestResidual.Nothing; unmatched = 0 }; rounds = 0 })

@@ -23,7 +23,7 @@ use Rattle.arguments.specs.Arguments.{checked}
 use Rattle.arguments.specs.Accepted.{Accepted}
 use Rattle.arguments.specs.declared.Checked.{Checked}
 use Rattle.arguments.specs.declared.Settings.{Settings}
-use Rattle.arguments.proofs.Laws.{accepted, accepted-fine}
+use Rattle.arguments.proofs.Laws.{accepted, accepted_fine}
 use Rattle.arguments.specs.declared.Pass.{Pass}
 use Rattle.passes.specs.Outcome.{After, Outcome, refused, done}
 use Rattle.passes.specs.Grow.{tolerances_of, grow_after}
@@ -37,13 +37,13 @@ use Rattle.passes.proofs.Changes.{same_marks}
 use Rattle.invariants.specs.Kept.{Sound, Kept, Extended, AttachedAt, Histories, before, pass, AttachedInTurn}
 use Rattle.invariants.specs.Calls.{Standing, checked_call, answering, after_pass, after_call, attached_count, OfItsKind, Ran, Goes, ended, refuses, runs, attached_in, Invariants, CallInside, Accepts, NeverRefused}
 use Rattle.invariants.specs.Marks.{MarksStand, NotIn, PassMarks, cleared_by, cleared_in, visited_in, MarksOver}
-use Rattle.invariants.proofs.Extended.{still_labelled, extended-marked, extended_then}
-use Rattle.invariants.proofs.History.{history-extended, attached-at, histories_then, attached-in-turn}
+use Rattle.invariants.proofs.Extended.{still_labelled, extended_marked, extended_then}
+use Rattle.invariants.proofs.History.{history_extended, attached_at, histories_then, attached_in_turn}
 use Rattle.invariants.proofs.Shading.{taken_kind}
-use Rattle.invariants.proofs.Grow.{grow-history}
-use Rattle.invariants.proofs.Fill.{fill-history}
-use Rattle.invariants.proofs.Local.{local-history}
-use Rattle.invariants.proofs.Marks.{stand_same, stood_same, stand_then, none_same, stood_none, fill-marks, local-marks}
+use Rattle.invariants.proofs.Grow.{grow_history}
+use Rattle.invariants.proofs.Fill.{fill_history}
+use Rattle.invariants.proofs.Local.{local_history}
+use Rattle.invariants.proofs.Marks.{stand_same, stood_same, stand_then, none_same, stood_none, fill_marks, local_marks}
 use Rattle.invariants.proofs.GrowMarks.{grow_marks, grow_bare}
 
 -- ---- one call
@@ -72,24 +72,24 @@ sound_standing s a =
 
 -- what each pass does to the labels, and that it counts its new cells
 module _ (l : CornerLists) (shades sheet : List ℕ) (set : Settings) (few : length l.xs ≤ 1024) (s : Sound (length l.xs) sheet) where
-  pass-history : (p : Pass) → History (corners_of l shades) (tolerances_of set) sheet (after_pass l shades sheet set p).attached (after_pass l shades sheet set p).sheet
+  pass_history : (p : Pass) → History (corners_of l shades) (tolerances_of set) sheet (after_pass l shades sheet set p).attached (after_pass l shades sheet set p).sheet
   unfolding grow_after fill_after local_after
-  pass-history (Pass.Grow p) = (grow-history set p few s).history
-  pass-history (Pass.Fill p) = fill-history few s set p
-  pass-history (Pass.Local p) = (local-history few s set p).history
+  pass_history (Pass.Grow p) = (grow_history set p few s).history
+  pass_history (Pass.Fill p) = fill_history few s set p
+  pass_history (Pass.Local p) = (local_history few s set p).history
 
-  pass-counted : (p : Pass) → attached_count (after_pass l shades sheet set p).answer ≡ length (after_pass l shades sheet set p).attached
+  pass_counted : (p : Pass) → attached_count (after_pass l shades sheet set p).answer ≡ length (after_pass l shades sheet set p).attached
   unfolding grow_after fill_after local_after
-  pass-counted (Pass.Grow p) = (grow-history set p few s).counted
-  pass-counted (Pass.Fill p) = refl
-  pass-counted (Pass.Local p) = (local-history few s set p).counted
+  pass_counted (Pass.Grow p) = (grow_history set p few s).counted
+  pass_counted (Pass.Fill p) = refl
+  pass_counted (Pass.Local p) = (local_history few s set p).counted
 
   -- what each pass does to the marks
-  pass-marks : (p : Pass) → PassMarks p sheet (after_pass l shades sheet set p)
+  pass_marks : (p : Pass) → PassMarks p sheet (after_pass l shades sheet set p)
   unfolding grow_after fill_after local_after
-  pass-marks (Pass.Grow p) = grow_marks (corners_of l shades) set p sheet (record { long = s.long; few = few; known = s.known.known; one_cell = s.one_cell })
-  pass-marks (Pass.Fill p) = fill-marks (corners_of l shades) few sheet set p s.long
-  pass-marks (Pass.Local p) = local-marks (corners_of l shades) few sheet set p s.long
+  pass_marks (Pass.Grow p) = grow_marks (corners_of l shades) set p sheet (record { long = s.long; few = few; known = s.known.known; one_cell = s.one_cell })
+  pass_marks (Pass.Fill p) = fill_marks (corners_of l shades) few sheet set p s.long
+  pass_marks (Pass.Local p) = local_marks (corners_of l shades) few sheet set p s.long
 
 -- a call that is not refused
 pub call_accepted : (l : CornerLists) (sheet : List ℕ) (c : Call) → checked_call l sheet c ≡ Checked.Fine → Accepted (lent_of l c.shades sheet c.rooms) c.settings c.pass
@@ -110,14 +110,14 @@ of_its_kind l c sheet a n w =
 pub call_ran : (l : CornerLists) (sheet : List ℕ) (c : Call) → Accepted (lent_of l c.shades sheet c.rooms) c.settings c.pass → Ran l c sheet (after_call l sheet c)
 call_ran l sheet c w =
     let s = standing_sound {l = l} (record { listed = w.listed; given = w.given; one_cell = w.one_cell }) in
-    let h = pass-history l c.shades sheet c.settings w.few s c.pass in
+    let h = pass_history l c.shades sheet c.settings w.few s c.pass in
     record {
       history = h;
-      extended = history-extended w.few s h;
-      each = attached-at w.few s h;
-      kinds = λ n below. of_its_kind l c sheet _ n (attached-at w.few s h n below);
-      counted = pass-counted l c.shades sheet c.settings w.few s c.pass;
-      marks = pass-marks l c.shades sheet c.settings w.few s c.pass;
+      extended = history_extended w.few s h;
+      each = attached_at w.few s h;
+      kinds = λ n below. of_its_kind l c sheet _ n (attached_at w.few s h n below);
+      counted = pass_counted l c.shades sheet c.settings w.few s c.pass;
+      marks = pass_marks l c.shades sheet c.settings w.few s c.pass;
     }
 
 -- a call's outcome: refused, or it was accepted and ran
@@ -136,8 +136,8 @@ outcomes l sheet c = subst (Outcomes l sheet c) (sym (step_as_lem l sheet c)) (g
 
 module _ {l : CornerLists} {c : Call} {sheet : List ℕ} {a : After PassStats} (r : Ran l c sheet a) where
   -- marks that the call did not clear stand
-  call-stand : (d : Cell) → NotIn (cleared_by c.pass a) d → MarksStand sheet a.sheet d
-  call-stand d n = go c.pass r.marks n
+  call_stand : (d : Cell) → NotIn (cleared_by c.pass a) d → MarksStand sheet a.sheet d
+  call_stand d n = go c.pass r.marks n
     where
       go : (p : Pass) → PassMarks p sheet a → NotIn (cleared_by p a) d → MarksStand sheet a.sheet d
       go (Pass.Grow p) m n = m.stand d
@@ -145,8 +145,8 @@ module _ {l : CornerLists} {c : Call} {sheet : List ℕ} {a : After PassStats} (
       go (Pass.Local p) m n = stand_same (m.others d n)
 
   -- marks are new at visited cells only
-  call-new : (d : Cell) → NotIn a.visited d → MarksStand a.sheet sheet d
-  call-new d n = go c.pass r.marks
+  call_new : (d : Cell) → NotIn a.visited d → MarksStand a.sheet sheet d
+  call_new d n = go c.pass r.marks
     where
       go : (p : Pass) → PassMarks p sheet a → MarksStand a.sheet sheet d
       go (Pass.Grow p) m = stood_same (m.others d n)
@@ -154,8 +154,8 @@ module _ {l : CornerLists} {c : Call} {sheet : List ℕ} {a : After PassStats} (
       go (Pass.Local p) m = m.none_new d
 
   -- a cell whose marks were cleared has none, and is labelled
-  call-cleared : (p : ℕ) → Memᴰ p (cleared_by c.pass a) → LabelledCell a.sheet (cell_of p) × NoMarks a.sheet (cell_of p)
-  call-cleared p m = go c.pass r.marks m
+  call_cleared : (p : ℕ) → Memᴰ p (cleared_by c.pass a) → LabelledCell a.sheet (cell_of p) × NoMarks a.sheet (cell_of p)
+  call_cleared p m = go c.pass r.marks m
     where
       go : (q : Pass) → PassMarks q sheet a → Memᴰ p (cleared_by q a) → LabelledCell a.sheet (cell_of p) × NoMarks a.sheet (cell_of p)
       go (Pass.Grow q) w m = absurd (Memᴰ.not-nil m)
@@ -163,8 +163,8 @@ module _ {l : CornerLists} {c : Call} {sheet : List ℕ} {a : After PassStats} (
       go (Pass.Local q) w m = ((r.extended.labelled p (r.extended.on p m)).1 (inr m), w.cleared p m)
 
   -- a labelled cell without marks gets none
-  call-unmarked : (d : Cell) → LabelledCell sheet d → NoMarks sheet d → NoMarks a.sheet d
-  call-unmarked d b n = go c.pass r.marks
+  call_unmarked : (d : Cell) → LabelledCell sheet d → NoMarks sheet d → NoMarks a.sheet d
+  call_unmarked d b n = go c.pass r.marks
     where
       apart : (ps : List ℕ) → ((p : ℕ) → Memᴰ p ps → label_at sheet (cell_of p) ≡ Label.Unlabelled) → NotIn ps d
       apart ps bare p m e = no_corner_lem b.corner (sym (bare p m) ∙ ap (label_at sheet) e ∙ b.holds)
@@ -192,23 +192,23 @@ goes l given sheet s k (c ∷ cs) = go (step l sheet c) (outcomes l sheet c) (λ
 
 module _ (l : CornerLists) where
   -- the corners and the sheet belong together after a call, and after any list of calls
-  pub standing-step : (sheet : List ℕ) → Standing l sheet → (c : Call) → Standing l (sheet_after sheet (step l sheet c))
-  standing-step sheet s c = go (step l sheet c) (outcomes l sheet c)
+  pub standing_step : (sheet : List ℕ) → Standing l sheet → (c : Call) → Standing l (sheet_after sheet (step l sheet c))
+  standing_step sheet s c = go (step l sheet c) (outcomes l sheet c)
     where
       go : (o : Outcome PassStats) → Outcomes l sheet c o → Standing l (sheet_after sheet o)
       go o (was_refused r) = s
       go o (ran a b d) = sound_standing s d.extended.sound
 
-  pub standing-after : (sheet : List ℕ) → Standing l sheet → (cs : List Call) → Standing l (sheet_of l sheet cs)
+  pub standing_after_lem : (sheet : List ℕ) → Standing l sheet → (cs : List Call) → Standing l (sheet_of l sheet cs)
   unfolding sheet_of
-  standing-after sheet s [] = s
-  standing-after sheet s (c ∷ cs) = standing-after (sheet_after sheet (step l sheet c)) (standing-step sheet s c) cs
+  standing_after_lem sheet s [] = s
+  standing_after_lem sheet s (c ∷ cs) = standing_after_lem (sheet_after sheet (step l sheet c)) (standing_step sheet s c) cs
 
   -- all that happened to the labels, from the given ones on
-  pub run-histories : (sheet : List ℕ) (cs : List Call) → Histories l sheet (attached_in (run l sheet cs)) (sheet_of l sheet cs)
+  pub run_histories : (sheet : List ℕ) (cs : List Call) → Histories l sheet (attached_in (run l sheet cs)) (sheet_of l sheet cs)
   unfolding run sheet_of attached_in
-  run-histories sheet [] = before
-  run-histories sheet (c ∷ cs) = go (step l sheet c) (outcomes l sheet c) (λ after. run-histories after cs)
+  run_histories sheet [] = before
+  run_histories sheet (c ∷ cs) = go (step l sheet c) (outcomes l sheet c) (λ after. run_histories after cs)
     where
       go : (o : Outcome PassStats) → Outcomes l sheet c o → ((after : List ℕ) → Histories l after (attached_in (run l after cs)) (sheet_of l after cs))
           → Histories l sheet (attached_in (o ∷ run l (sheet_after sheet o) cs)) (sheet_of l (sheet_after sheet o) cs)
@@ -216,10 +216,10 @@ module _ (l : CornerLists) where
       go o (ran a b d) w = histories_then (pass c.shades (tolerances_of c.settings) before d.history) (w a.sheet)
 
   -- the labelled cells after a list of calls are the given ones and all new ones
-  pub run-extended : (sheet : List ℕ) → Standing l sheet → (cs : List Call) → Extended (length l.xs) sheet (attached_in (run l sheet cs)) (sheet_of l sheet cs)
+  pub run_extended : (sheet : List ℕ) → Standing l sheet → (cs : List Call) → Extended (length l.xs) sheet (attached_in (run l sheet cs)) (sheet_of l sheet cs)
   unfolding run sheet_of attached_in
-  run-extended sheet s [] = extended-marked (standing_sound s) refl (record { same_label = λ p h. refl })
-  run-extended sheet s (c ∷ cs) = go (step l sheet c) (outcomes l sheet c) (λ after t. run-extended after t cs)
+  run_extended sheet s [] = extended_marked (standing_sound s) refl (record { same_label = λ p h. refl })
+  run_extended sheet s (c ∷ cs) = go (step l sheet c) (outcomes l sheet c) (λ after t. run_extended after t cs)
     where
       go : (o : Outcome PassStats) → Outcomes l sheet c o
           → ((after : List ℕ) → Standing l after → Extended (length l.xs) after (attached_in (run l after cs)) (sheet_of l after cs))
@@ -239,72 +239,72 @@ module _ (l : CornerLists) where
       go o (ran a b d) w k = b.few
 
   -- each new corner had an accepted edge to a labelled cardinal neighbour, or no such neighbour, when it was attached
-  pub run-attached : (sheet : List ℕ) → Standing l sheet → (cs : List Call) (n : ℕ) → n < length (attached_in (run l sheet cs))
+  pub run_attached : (sheet : List ℕ) → Standing l sheet → (cs : List Call) (n : ℕ) → n < length (attached_in (run l sheet cs))
       → AttachedInTurn l sheet (attached_in (run l sheet cs)) (sheet_of l sheet cs) n
-  run-attached sheet s cs n h = attached-in-turn (few_corners sheet cs n h) (standing_sound s) (run-histories sheet cs) n h
+  run_attached sheet s cs n h = attached_in_turn (few_corners sheet cs n h) (standing_sound s) (run_histories sheet cs) n h
 
   -- ---- marks
 
   -- over a list of calls a labelled cell without marks gets none
-  run-unmarked : (sheet : List ℕ) (cs : List Call) (d : Cell) → LabelledCell sheet d → NoMarks sheet d → NoMarks (sheet_of l sheet cs) d
+  run_unmarked : (sheet : List ℕ) (cs : List Call) (d : Cell) → LabelledCell sheet d → NoMarks sheet d → NoMarks (sheet_of l sheet cs) d
   unfolding sheet_of
-  run-unmarked sheet [] d b n = n
-  run-unmarked sheet (c ∷ cs) d b n = go (step l sheet c) (outcomes l sheet c) (λ after. run-unmarked after cs d)
+  run_unmarked sheet [] d b n = n
+  run_unmarked sheet (c ∷ cs) d b n = go (step l sheet c) (outcomes l sheet c) (λ after. run_unmarked after cs d)
     where
       go : (o : Outcome PassStats) → Outcomes l sheet c o → ((after : List ℕ) → LabelledCell after d → NoMarks after d → NoMarks (sheet_of l after cs) d)
           → NoMarks (sheet_of l (sheet_after sheet o) cs) d
       go o (was_refused r) w = w sheet b n
-      go o (ran a x r) w = w a.sheet (still_labelled r.extended.kept d b) (call-unmarked r d b n)
+      go o (ran a x r) w = w a.sheet (still_labelled r.extended.kept d b) (call_unmarked r d b n)
 
   -- a mark that is new stands at a visited cell
-  run-new : (sheet : List ℕ) (cs : List Call) (d : Cell) → NotIn (visited_in (run l sheet cs)) d → MarksStand (sheet_of l sheet cs) sheet d
+  run_new : (sheet : List ℕ) (cs : List Call) (d : Cell) → NotIn (visited_in (run l sheet cs)) d → MarksStand (sheet_of l sheet cs) sheet d
   unfolding run sheet_of visited_in
-  run-new sheet [] d n = stand_same (same_marks sheet d)
-  run-new sheet (c ∷ cs) d n = go (step l sheet c) (outcomes l sheet c) (λ after. run-new after cs d) n
+  run_new sheet [] d n = stand_same (same_marks sheet d)
+  run_new sheet (c ∷ cs) d n = go (step l sheet c) (outcomes l sheet c) (λ after. run_new after cs d) n
     where
       go : (o : Outcome PassStats) → Outcomes l sheet c o → ((after : List ℕ) → NotIn (visited_in (run l after cs)) d → MarksStand (sheet_of l after cs) after d)
           → NotIn (visited_in (o ∷ run l (sheet_after sheet o) cs)) d → MarksStand (sheet_of l (sheet_after sheet o) cs) sheet d
       go o (was_refused r) w n = w sheet n
-      go o (ran a x r) w n = stand_then (w a.sheet (λ p m e. n p (Memᴰ.append_right a.visited m) e)) (call-new r d (λ p m e. n p (Memᴰ.append_left _ m) e))
+      go o (ran a x r) w n = stand_then (w a.sheet (λ p m e. n p (Memᴰ.append_right a.visited m) e)) (call_new r d (λ p m e. n p (Memᴰ.append_left _ m) e))
 
   -- a mark that no call cleared stands
-  run-stand : (sheet : List ℕ) (cs : List Call) (d : Cell) → NotIn (cleared_in cs (run l sheet cs)) d → MarksStand sheet (sheet_of l sheet cs) d
+  run_stand : (sheet : List ℕ) (cs : List Call) (d : Cell) → NotIn (cleared_in cs (run l sheet cs)) d → MarksStand sheet (sheet_of l sheet cs) d
   unfolding run sheet_of cleared_in
-  run-stand sheet [] d n = stand_same (same_marks sheet d)
-  run-stand sheet (c ∷ cs) d n = go (step l sheet c) (outcomes l sheet c) (λ after. run-stand after cs d) n
+  run_stand sheet [] d n = stand_same (same_marks sheet d)
+  run_stand sheet (c ∷ cs) d n = go (step l sheet c) (outcomes l sheet c) (λ after. run_stand after cs d) n
     where
       go : (o : Outcome PassStats) → Outcomes l sheet c o → ((after : List ℕ) → NotIn (cleared_in cs (run l after cs)) d → MarksStand after (sheet_of l after cs) d)
           → NotIn (cleared_in (c ∷ cs) (o ∷ run l (sheet_after sheet o) cs)) d → MarksStand sheet (sheet_of l (sheet_after sheet o) cs) d
       go o (was_refused r) w n = w sheet n
       go o (ran a x r) w n =
-          stand_then (call-stand r d (λ p m e. n p (Memᴰ.append_left _ m) e)) (w a.sheet (λ p m e. n p (Memᴰ.append_right (cleared_by c.pass a) m) e))
+          stand_then (call_stand r d (λ p m e. n p (Memᴰ.append_left _ m) e)) (w a.sheet (λ p m e. n p (Memᴰ.append_right (cleared_by c.pass a) m) e))
 
   -- marks that a call cleared are gone
-  run-cleared : (sheet : List ℕ) (cs : List Call) (p : ℕ) → Memᴰ p (cleared_in cs (run l sheet cs)) → NoMarks (sheet_of l sheet cs) (cell_of p)
+  run_cleared : (sheet : List ℕ) (cs : List Call) (p : ℕ) → Memᴰ p (cleared_in cs (run l sheet cs)) → NoMarks (sheet_of l sheet cs) (cell_of p)
   unfolding run sheet_of cleared_in
-  run-cleared sheet [] p m = absurd (Memᴰ.not-nil m)
-  run-cleared sheet (c ∷ cs) p m = go (step l sheet c) (outcomes l sheet c) (λ after. run-cleared after cs p) m
+  run_cleared sheet [] p m = absurd (Memᴰ.not-nil m)
+  run_cleared sheet (c ∷ cs) p m = go (step l sheet c) (outcomes l sheet c) (λ after. run_cleared after cs p) m
     where
       go : (o : Outcome PassStats) → Outcomes l sheet c o → ((after : List ℕ) → Memᴰ p (cleared_in cs (run l after cs)) → NoMarks (sheet_of l after cs) (cell_of p))
           → Memᴰ p (cleared_in (c ∷ cs) (o ∷ run l (sheet_after sheet o) cs)) → NoMarks (sheet_of l (sheet_after sheet o) cs) (cell_of p)
       go o (was_refused r) w m = w sheet m
       go o (ran a x r) w m =
-          ⊎_elim (λ b. let k = call-cleared r p b in run-unmarked a.sheet cs (cell_of p) k.0 k.1) (w a.sheet)
+          ⊎_elim (λ b. let k = call_cleared r p b in run_unmarked a.sheet cs (cell_of p) k.0 k.1) (w a.sheet)
           (Memᴰ.append_cases (cleared_by c.pass a) m)
 
-  pub run-marks : (sheet : List ℕ) (cs : List Call) → MarksOver sheet cs (run l sheet cs) (sheet_of l sheet cs)
-  run-marks sheet cs =
+  pub run_marks : (sheet : List ℕ) (cs : List Call) → MarksOver sheet cs (run l sheet cs) (sheet_of l sheet cs)
+  run_marks sheet cs =
       record {
-        stand = run-stand sheet cs;
-        new_visited = run-new sheet cs;
-        from_none = λ none d n. stood_none (run-new sheet cs d n) (none d);
-        cleared = run-cleared sheet cs;
+        stand = run_stand sheet cs;
+        new_visited = run_new sheet cs;
+        from_none = λ none d n. stood_none (run_new sheet cs d n) (none d);
+        cleared = run_cleared sheet cs;
       }
 
   -- ---- no refusal in mid-list
 
-  pub fit-accepts : (sheet : List ℕ) (c : Call) → Standing l sheet → CallInside l c → Accepts l sheet c
-  fit-accepts sheet c s f = record { done_so = step_as_lem l sheet c ∙ ap (λ (k : Checked). unless k (after_call l sheet c)) (accepted-fine (lent_of l c.shades sheet c.rooms) c.settings c.pass right) }
+  pub fit_accepts : (sheet : List ℕ) (c : Call) → Standing l sheet → CallInside l c → Accepts l sheet c
+  fit_accepts sheet c s f = record { done_so = step_as_lem l sheet c ∙ ap (λ (k : Checked). unless k (after_call l sheet c)) (accepted_fine (lent_of l c.shades sheet c.rooms) c.settings c.pass right) }
     where
       right : Accepted (lent_of l c.shades sheet c.rooms) c.settings c.pass
       right =
@@ -325,13 +325,13 @@ module _ (l : CornerLists) where
 -- ---- the claims
 
 pub never_refused : NeverRefused
-never_refused l sheet s cs c f = fit-accepts l (sheet_of l sheet cs) c (standing-after l sheet s cs) f
+never_refused l sheet s cs c f = fit_accepts l (sheet_of l sheet cs) c (standing_after_lem l sheet s cs) f
 
 pub invariants : Invariants
 invariants l given s cs =
     record {
       each_call = goes l given given s (record { kept = λ c k e. e }) cs;
-      whole = run-extended l given s cs;
-      each_corner = run-attached l given s cs;
-      marks = run-marks l given cs;
+      whole = run_extended l given s cs;
+      each_corner = run_attached l given s cs;
+      marks = run_marks l given cs;
     }

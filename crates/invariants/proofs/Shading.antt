@@ -32,16 +32,16 @@ taken_kind shades n c k h any t =
 
 module _ (l : CornerLists) {shades shades' : List ℕ} (s : ShadesInside l shades) (t : ShadesInside l shades') where
   -- none is too short
-  long-alike : ltb (length shades') (length l.xs) ≡ ltb (length shades) (length l.xs)
-  long-alike = le-ltb _ _ t.long ∙ sym (le-ltb _ _ s.long)
+  long_alike : ltb (length shades') (length l.xs) ≡ ltb (length shades) (length l.xs)
+  long_alike = le-ltb _ _ t.long ∙ sym (le-ltb _ _ s.long)
 
   -- and no byte is out of range
-  inside-alike : some_corner_outside l shades' ≡ some_corner_outside l shades
+  inside_alike : some_corner_outside l shades' ≡ some_corner_outside l shades
   unfolding some_corner_outside outside_at shade_outside
-  inside-alike =
+  inside_alike =
       any_ext (outside_at l shades') (outside_at l shades) (length l.xs)
       (λ k h. ap (λ (b : Bool). corner_outside (corner_of l k) || b) (le-ltb 2 _ (t.inside k h) ∙ sym (le-ltb 2 _ (s.inside k h))))
 
 pub kinds_not_tested : KindsNotTested
 unfolding checked too_short over_limit out_of_range
-kinds_not_tested l sheet c shades s t = rw (long-alike l s t, inside-alike l s t) refl
+kinds_not_tested l sheet c shades s t = rw (long_alike l s t, inside_alike l s t) refl

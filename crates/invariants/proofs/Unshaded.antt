@@ -22,7 +22,7 @@ use Rattle.arguments.specs.declared.Settings.{Settings}
 use Rattle.arguments.specs.declared.LocalExtensionParams.{LocalExtensionParams}
 use Rattle.extension_common.specs.TryCell.{choice_by, result_of, try_at}
 use Rattle.extension_common.specs.declared.TryCellResult.{TryCellResult}
-use Rattle.extension_common.proofs.Laws.{gathered-bare, unmatched-bare}
+use Rattle.extension_common.proofs.Laws.{gathered_bare, unmatched_bare}
 use Rattle.passes.specs.Outcome.{After}
 use Rattle.passes.specs.Counting.{no_counts}
 use Rattle.passes.specs.Grow.{grow_after}
@@ -31,7 +31,7 @@ use Rattle.passes.specs.Local.{supports_of, LocalFit, none, fitted, local_fit, L
 use Rattle.passes.specs.Step.{unless}
 use Rattle.passes.specs.Run.{PassStats, grow_stats, fill_stats, local_stats}
 use Rattle.passes.specs.declared.LargestResidual.{LargestResidual}
-use Rattle.passes.proofs.Rounds.{rounds-keep}
+use Rattle.passes.proofs.Rounds.{rounds_keep}
 use Rattle.invariants.specs.Calls.{answering, after_pass, lent_shades, ShadesInside}
 use Rattle.invariants.specs.Unshaded.{try_any, AsBefore, unshaded, NoShade, CallsAsBefore}
 use Rattle.invariants.proofs.Shading.{kinds_not_tested}
@@ -48,25 +48,25 @@ with_unmatched_lem c TryCellResult.EdgeRejected s = refl
 with_unmatched_lem c (TryCellResult.Attached k) s = refl
 
 module _ (cs : Corners) (absent : cs.shades.any ≡ false) (set : Settings) (p : LocalExtensionParams) where
-  at-unmatched : (c : Cell) (fit : LocalFit) (s : LocalState) → (local_at cs set p c fit s).unmatched ≡ s.unmatched
+  at_unmatched : (c : Cell) (fit : LocalFit) (s : LocalState) → (local_at cs set p c fit s).unmatched ≡ s.unmatched
   unfolding local_at local_try
-  at-unmatched c none s = refl
-  at-unmatched c (fitted h rs) s =
+  at_unmatched c none s = refl
+  at_unmatched c (fitted h rs) s =
       go (lt (gate_of set p) (worst (of_bits binary32 0) rs)) _
-      (with_unmatched_lem c _ _ ∙ ap (λ (m : ℕ). s.unmatched + m) (unmatched-bare cs absent s.sheet _ c _) ∙ omega arith)
+      (with_unmatched_lem c _ _ ∙ ap (λ (m : ℕ). s.unmatched + m) (unmatched_bare cs absent s.sheet _ c _) ∙ omega arith)
     where
       go : (t : Bool) (after : LocalState) → after.unmatched ≡ s.unmatched → (cond t (with_residuals rs s) after).unmatched ≡ s.unmatched
       go true after e = refl
       go false after e = e
 
-  visit-unmatched : (c : Cell) (s : LocalState) → (local_visit cs set p c s).unmatched ≡ s.unmatched
+  visit_unmatched : (c : Cell) (s : LocalState) → (local_visit cs set p c s).unmatched ≡ s.unmatched
   unfolding local_visit
-  visit-unmatched c s = at-unmatched c (local_fit (seen_of cs.corner s.sheet) (supports_of c s.sheet)) s
+  visit_unmatched c s = at_unmatched c (local_fit (seen_of cs.corner s.sheet) (supports_of c s.sheet)) s
 
-  run-unmatched : (sheet : List ℕ) → (local_run cs set p sheet).state.unmatched ≡ 0
+  run_unmatched : (sheet : List ℕ) → (local_run cs set p sheet).state.unmatched ≡ 0
   unfolding local_run local_from
-  run-unmatched sheet =
-      rounds-keep (local_pass cs set p) (λ qs s. s.unmatched ≡ 0) (λ s e. e) (λ q qs s e. visit-unmatched _ s ∙ e)
+  run_unmatched sheet =
+      rounds_keep (local_pass cs set p) (λ qs s. s.unmatched ≡ 0) (λ s e. e) (λ q qs s e. visit_unmatched _ s ∙ e)
       (local_limit (label_count sheet) p.max_iters)
       (record { state = record { sheet = sheet; made = []; counts = no_counts; largest = LargestResidual.Nothing; unmatched = 0 }; rounds = 0 }) refl
 
@@ -76,9 +76,9 @@ as_before cs absent =
     record {
       tried = λ sheet tol search c at.
           ap (λ (g : Candidates). result_of cs.corner sheet tol c (choice_by search.rule g search.ambiguity_factor))
-          (gathered-bare cs absent sheet search.search_r c at);
-      visited = visit-unmatched cs absent;
-      run = run-unmatched cs absent;
+          (gathered_bare cs absent sheet search.search_r c at);
+      visited = visit_unmatched cs absent;
+      run = run_unmatched cs absent;
       answered = λ set p sheet. ap (λ (b : Bool). unmatched_if b (local_run cs set p sheet).state.unmatched) absent;
     }
 
@@ -95,16 +95,16 @@ unfolding any_shade
 byte_nought shades n e k h = no_shade _ (any_none _ n k e h)
 
 module _ {l : CornerLists} {shades : List ℕ} (w : NoShade l shades) where
-  all-bare : (k : ℕ) → shade_at shades (length l.xs) k ≡ bare
+  all_bare : (k : ℕ) → shade_at shades (length l.xs) k ≡ bare
   unfolding shade_at shade_of
-  all-bare k = go (ltb k (length l.xs)) refl
+  all_bare k = go (ltb k (length l.xs)) refl
     where
       go : (t : Bool) → ltb k (length l.xs) ≡ t → cond t (shade_of (get_or shades k 0)) bare ≡ bare
       go true e = ap shade_of (byte_nought shades (length l.xs) w.none k (ltb-true k (length l.xs) e))
       go false e = refl
 
-  pub corners-unshaded : corners_of l shades ≡ unshaded l
-  corners-unshaded = λ t. record { count = length l.xs; corner = corner_of l; shades = record { any = w.none t; of = fun_ext all-bare t } }
+  pub corners_unshaded : corners_of l shades ≡ unshaded l
+  corners_unshaded = λ t. record { count = length l.xs; corner = corner_of l; shades = record { any = w.none t; of = fun_ext all_bare t } }
 
   shades_inside : ShadesInside l shades
   shades_inside = record { long = w.long; inside = λ k h. omega (arith, byte_nought shades (length l.xs) w.none k h) }
@@ -117,10 +117,10 @@ pass_alike l shades shades' sheet set e (Pass.Local p) = ap (λ (cs : Corners). 
 pub calls_as_before : CallsAsBefore
 calls_as_before l shades w =
     record {
-      corners = corners-unshaded w;
+      corners = corners_unshaded w;
       calls = λ sheet c v.
           step_as_lem l sheet (lent_shades shades c)
           ∙ ap₂ (λ (k : Checked) (a : After PassStats). unless k a) (kinds_not_tested l sheet c shades (shades_inside v) (shades_inside w))
-          (pass_alike l c.shades shades sheet c.settings (corners-unshaded w ∙ sym (corners-unshaded v)) c.pass)
+          (pass_alike l c.shades shades sheet c.settings (corners_unshaded w ∙ sym (corners_unshaded v)) c.pass)
           ∙ sym (step_as_lem l sheet c);
     }

@@ -14,11 +14,11 @@ use Rattle.sheet.specs.declared.Cell.{Cell}
 use Rattle.sheet.specs.declared.Label.{Label}
 use Rattle.sheet.specs.declared.Position.{Position}
 use Rattle.sheet.proofs.Laws.{cell_on_lem, place_cell}
-use Rattle.sheet.proofs.Words.{attached-changes, label-else}
+use Rattle.sheet.proofs.Words.{attached_changes, label_else}
 use Rattle.labels.specs.Labelled.{passing, names_corner, SameLabels}
 use Rattle.labels.proofs.Below.{no_both, both, passing_in}
 use Rattle.positions_policy.specs.declared.Tolerances.{Tolerances}
-use Rattle.positions_policy.proofs.Laws.{passes-exactly}
+use Rattle.positions_policy.proofs.Laws.{passes_exactly}
 use Rattle.extension_common.specs.TryCell.{try_at}
 use Rattle.extension_common.specs.declared.Search.{Search}
 use Rattle.extension_common.specs.declared.TryCellResult.{TryCellResult}
@@ -85,24 +85,24 @@ module _ {sheet ps : List ℕ} {p : ℕ} (w : Waiting sheet (p ∷ ps)) where
   pub first_on : p < 16384
   first_on = w.on p (Memᴰ.head refl)
 
-  pub first-bare : label_at sheet (cell_of p) ≡ Label.Unlabelled
-  first-bare = w.bare p (Memᴰ.head refl)
+  pub first_bare : label_at sheet (cell_of p) ≡ Label.Unlabelled
+  first_bare = w.bare p (Memᴰ.head refl)
 
   -- the others, without it
-  pub others-wait : Waiting sheet ps
-  others-wait = record { on = λ q m. w.on q (Memᴰ.tail m); bare = λ q m. w.bare q (Memᴰ.tail m); once = w.once.1 }
+  pub others_wait : Waiting sheet ps
+  others_wait = record { on = λ q m. w.on q (Memᴰ.tail m); bare = λ q m. w.bare q (Memᴰ.tail m); once = w.once.1 }
 
   -- they wait still where no label was changed
-  pub waiting-marked : {after : List ℕ} → SameLabels sheet after → Waiting after ps
-  waiting-marked same = waiting_same others-wait same
+  pub waiting_marked : {after : List ℕ} → SameLabels sheet after → Waiting after ps
+  waiting_marked same = waiting_same others_wait same
 
   -- and where a corner was attached to the first
-  pub waiting-attached : {cs : Corners} {tol : Tolerances} {k : ℕ} → Sound cs.count sheet → cs.count ≤ 1024 → Attaches cs tol sheet p k → Waiting (attached sheet (cell_of p) k) ps
-  waiting-attached {k = k} s few a =
+  pub waiting_attached : {cs : Corners} {tol : Tolerances} {k : ℕ} → Sound cs.count sheet → cs.count ≤ 1024 → Attaches cs tol sheet p k → Waiting (attached sheet (cell_of p) k) ps
+  waiting_attached {k = k} s few a =
       record {
         on = λ q m. w.on q (Memᴰ.tail m);
         bare = λ q m.
-            label-else (attached-changes sheet (cell_of p) s.long (cell_on_lem p first_on) k (attaching s few a).corner_fits) (cell_on_lem p first_on) (cell_of q) (apart q m)
+            label_else (attached_changes sheet (cell_of p) s.long (cell_on_lem p first_on) k (attaching s few a).corner_fits) (cell_on_lem p first_on) (cell_of q) (apart q m)
             ∙ w.bare q (Memᴰ.tail m);
         once = w.once.1;
       }
@@ -113,14 +113,14 @@ module _ {sheet ps : List ℕ} {p : ℕ} (w : Waiting sheet (p ∷ ps)) where
           w.once.0 (rw d at m)
 
   -- a corner that trying the first finds may be attached there
-  pub found-attaches : (cs : Corners) (tol : Tolerances) (search : Search) (at : Position) (k : ℕ) → try_at cs sheet tol search (cell_of p) at ≡ TryCellResult.Attached k → Attaches cs tol sheet p k
-  found-attaches cs tol search at k e =
+  pub found_attaches : (cs : Corners) (tol : Tolerances) (search : Search) (at : Position) (k : ℕ) → try_at cs sheet tol search (cell_of p) at ≡ TryCellResult.Attached k → Attaches cs tol sheet p k
+  found_attaches cs tol search at k e =
       let a = attachable cs sheet tol search (cell_of p) at k e in
       record {
         on = first_on;
-        bare = first-bare;
+        bare = first_bare;
         given = a.given;
         free = a.free;
         taken = a.taken;
-        edge = (passes-exactly (seen_of cs.corner sheet) tol (cell_of p) (cs.corner k)).0 a.edges;
+        edge = (passes_exactly (seen_of cs.corner sheet) tol (cell_of p) (cs.corner k)).0 a.edges;
       }

@@ -16,15 +16,15 @@ both_yes : (a b : Bool) → a ≡ true → b ≡ true → (a && b) ≡ true
 both_yes a b p q = rw (p, q)
 
 module _ {A : Type 0} (f : A → Bool) where
-  pub every-yes : (l : List A) → every f l ≡ true → (a : A) → Memᴰ a l → f a ≡ true
+  pub every_yes : (l : List A) → every f l ≡ true → (a : A) → Memᴰ a l → f a ≡ true
   unfolding every
-  every-yes [] e a m = absurd (Memᴰ.not-nil m)
-  every-yes (b ∷ l) e a m = let h = both (f b) (every f l) e in ⊎_elim (λ d. ap f d ∙ h.0) (every-yes l h.1 a) (Memᴰ.cases_cons m)
+  every_yes [] e a m = absurd (Memᴰ.not-nil m)
+  every_yes (b ∷ l) e a m = let h = both (f b) (every f l) e in ⊎_elim (λ d. ap f d ∙ h.0) (every_yes l h.1 a) (Memᴰ.cases_cons m)
 
-  pub every-all : (l : List A) → ((a : A) → Memᴰ a l → f a ≡ true) → every f l ≡ true
+  pub every_all : (l : List A) → ((a : A) → Memᴰ a l → f a ≡ true) → every f l ≡ true
   unfolding every
-  every-all [] h = refl
-  every-all (b ∷ l) h = both_yes (f b) (every f l) (h b (Memᴰ.head refl)) (every-all l (λ a m. h a (Memᴰ.tail m)))
+  every_all [] h = refl
+  every_all (b ∷ l) h = both_yes (f b) (every f l) (h b (Memᴰ.head refl)) (every_all l (λ a m. h a (Memᴰ.tail m)))
 
   -- what is kept
   pub kept_in : (l : List A) (a : A) → Memᴰ a (kept f l) → Memᴰ a l × (f a ≡ true)

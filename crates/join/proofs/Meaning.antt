@@ -18,7 +18,7 @@ use Rattle.join.specs.Join.{every, cell_in, asks, asked, same_cell, agree, agree
 use Rattle.join.specs.declared.Verdict.{Verdict}
 use Rattle.join.specs.declared.Found.{Found}
 use Rattle.join.specs.declared.Asked.{Asked}
-use Rattle.join.proofs.Lists.{every-yes, every-all, same_cell_lem, cell_same, difference_moved}
+use Rattle.join.proofs.Lists.{every_yes, every_all, same_cell_lem, cell_same, difference_moved}
 
 -- ---- two labels that agree
 
@@ -56,28 +56,28 @@ module _ (first second : List Placed) (d : Offset) where
     where
       pair : (a b : Placed) → Memᴰ a first → Memᴰ b second → agree a (shifted_by d b) ≡ true
       pair a b m n =
-          every-yes (λ c. agree c (shifted_by d b)) first
-          (every-yes (agrees_in first) (map (shifted_by d) second) e (shifted_by d b) (Memᴰ.map (shifted_by d) n)) a m
+          every_yes (λ c. agree c (shifted_by d b)) first
+          (every_yes (agrees_in first) (map (shifted_by d) second) e (shifted_by d b) (Memᴰ.map (shifted_by d) n)) a m
 
-  fits-test : Fits first second d → every (agrees_in first) (map (shifted_by d) second) ≡ true
+  fits_test : Fits first second d → every (agrees_in first) (map (shifted_by d) second) ≡ true
   unfolding agrees_in
-  fits-test f = every-all (agrees_in first) (map (shifted_by d) second) (λ l m. moved_one l (Memᴰ.of_map (shifted_by d) second m))
+  fits_test f = every_all (agrees_in first) (map (shifted_by d) second) (λ l m. moved_one l (Memᴰ.of_map (shifted_by d) second m))
     where
       moved_one : (l : Placed) → (b : Placed) × Memᴰ b second × (shifted_by d b ≡ l) → agrees_in first l ≡ true
       moved_one l s =
-          every-all (λ a. agree a l) first
+          every_all (λ a. agree a l) first
           (λ a m.
           subst (λ (x : Placed). agree a x ≡ true) s.2
           (agrees a (shifted_by d s.0) (f.one_cell a s.0 m s.1) (f.one_corner a s.0 m s.1)))
 
-  test-onto : every (λ l. on_sheet l.cell) (map (shifted_by d) second) ≡ true → OntoSheet second d
-  test-onto e =
+  test_onto : every (λ l. on_sheet l.cell) (map (shifted_by d) second) ≡ true → OntoSheet second d
+  test_onto e =
       record {
-        on = λ b m. subst T (sym (every-yes (λ l. on_sheet l.cell) (map (shifted_by d) second) e (shifted_by d b) (Memᴰ.map (shifted_by d) m))) tt;
+        on = λ b m. subst T (sym (every_yes (λ l. on_sheet l.cell) (map (shifted_by d) second) e (shifted_by d b) (Memᴰ.map (shifted_by d) m))) tt;
       }
 
-  onto-test : OntoSheet second d → every (λ l. on_sheet l.cell) (map (shifted_by d) second) ≡ true
-  onto-test o = every-all (λ l. on_sheet l.cell) (map (shifted_by d) second) (λ l m. one l (Memᴰ.of_map (shifted_by d) second m))
+  onto_test : OntoSheet second d → every (λ l. on_sheet l.cell) (map (shifted_by d) second) ≡ true
+  onto_test o = every_all (λ l. on_sheet l.cell) (map (shifted_by d) second) (λ l m. one l (Memᴰ.of_map (shifted_by d) second m))
     where
       one : (l : Placed) → (b : Placed) × Memᴰ b second × (shifted_by d b ≡ l) → on_sheet l.cell ≡ true
       one l s = subst (λ (x : Placed). on_sheet x.cell ≡ true) s.2 (yes (on_sheet (moved s.0.cell d)) (o.on s.0 s.1))
@@ -119,10 +119,10 @@ record Asks (first second : List Placed) (d : Offset) : Type 0 where
   its_shift : d ≡ difference_of shared.here.cell shared.there.cell
 
 module _ (first : List Placed) where
-  asked-for : (second : List Placed) (d : Offset) → asked (cell_in first) second ≡ Asked.For d → Asks first second d
+  asked_for : (second : List Placed) (d : Offset) → asked (cell_in first) second ≡ Asked.For d → Asks first second d
   unfolding asked asks
-  asked-for [] d e = absurd (let z : ◌≡◌ {A = ℕ} 0 1 = cc in omega arith)
-  asked-for (b ∷ bs) d e = go (asked-for bs d) (cell_in first b.corner) refl e
+  asked_for [] d e = absurd (let z : ◌≡◌ {A = ℕ} 0 1 = cc in omega arith)
+  asked_for (b ∷ bs) d e = go (asked_for bs d) (cell_in first b.corner) refl e
     where
       later : Shared first bs → Shared first (b ∷ bs)
       later s =
@@ -140,10 +140,10 @@ module _ (first : List Placed) where
             its_shift = sym q ∙ ap (λ (x : Cell). difference_of x b.cell) (sym r.its_cell);
           }
 
-  asked-none : (second : List Placed) → asked (cell_in first) second ≡ Asked.Nothing → Shared first second → ⊥
+  asked_none : (second : List Placed) → asked (cell_in first) second ≡ Asked.Nothing → Shared first second → ⊥
   unfolding asked asks
-  asked-none [] e s = Memᴰ.not-nil s.in_second
-  asked-none (b ∷ bs) e s = go (asked-none bs) (cell_in first b.corner) refl e (Memᴰ.cases_cons s.in_second)
+  asked_none [] e s = Memᴰ.not-nil s.in_second
+  asked_none (b ∷ bs) e s = go (asked_none bs) (cell_in first b.corner) refl e (Memᴰ.cases_cons s.in_second)
     where
       go : (asked (cell_in first) bs ≡ Asked.Nothing → Shared first bs → ⊥) → (f : Found) → cell_in first b.corner ≡ f
           → asks f b.cell (asked (cell_in first) bs) ≡ Asked.Nothing → (s.there ≡ b) ⊎ Memᴰ s.there bs → ⊥
@@ -178,19 +178,19 @@ verdict_means first second = go (asked (cell_in first) second) refl
   where
     test : (d : Offset) → Asks first second d → (t u : Bool) → fit first second d ≡ t → onto second d ≡ u
         → Meaning first second (cond t (cond u (Verdict.By d) Verdict.Off) Verdict.Clash)
-    test d a true true p q = (a.shared, record { fits = test_fits first second d p; onto = test-onto first second d q })
+    test d a true true p q = (a.shared, record { fits = test_fits first second d p; onto = test_onto first second d q })
     test d a true false p q = (
       a.shared,
-      record { shift = d; fits = test_fits first second d p; leaves = λ o. no_both (onto second d) (onto-test first second d o) q },
+      record { shift = d; fits = test_fits first second d p; leaves = λ o. no_both (onto second d) (onto_test first second d o) q },
     )
     test d a false u p q = (
       a.shared,
-      λ e f. no_both (fit first second d) (fits-test first second d (subst (Fits first second) (sym (asks_fit a.shared e f) ∙ sym a.its_shift) f)) p,
+      λ e f. no_both (fit first second d) (fits_test first second d (subst (Fits first second) (sym (asks_fit a.shared e f) ∙ sym a.its_shift) f)) p,
     )
 
     go : (r : Asked) → asked (cell_in first) second ≡ r → Meaning first second (told (agrees_in first) second r)
-    go Asked.Nothing e = asked-none first second e
-    go (Asked.For d) e = test d (asked-for first second d e) (fit first second d) (onto second d) refl refl
+    go Asked.Nothing e = asked_none first second e
+    go (Asked.For d) e = test d (asked_for first second d e) (fit first second d) (onto second d) refl refl
 
 -- the only shift does not go onto the sheet and off it
 on_and_off : {first second : List Placed} → Shared first second → FitsOff first second → (d : Offset) → Shift first second d → ⊥

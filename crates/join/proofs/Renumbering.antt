@@ -18,16 +18,16 @@ use Rattle.join.proofs.Meaning.{verdict_means, exactly}
 
 module _ (ren : ℕ → ℕ) (first second first' second' : List Placed) (r : Renumbered ren first second first' second') where
   -- of two labels of the new sets, by their originals
-  by-pair : (P : Placed → Placed → Type 0) → ((a b : Placed) → Memᴰ a first → Memᴰ b second → P (renamed ren a) (renamed ren b))
+  by_pair : (P : Placed → Placed → Type 0) → ((a b : Placed) → Memᴰ a first → Memᴰ b second → P (renamed ren a) (renamed ren b))
       → (a b : Placed) → Memᴰ a first' → Memᴰ b second' → P a b
-  by-pair P h a b m n =
+  by_pair P h a b m n =
       let x = r.first_from a m in
       let y = r.second_from b n in
       subst (λ (z : Placed). P z b) x.counterpart
       (subst (P (renamed ren x.label)) y.counterpart (h x.label y.label x.listed y.listed))
 
-  shared-to : Shared first second → Shared first' second'
-  shared-to s =
+  shared_to : Shared first second → Shared first' second'
+  shared_to s =
       record {
         here = renamed ren s.here;
         there = renamed ren s.there;
@@ -36,48 +36,48 @@ module _ (ren : ℕ → ℕ) (first second first' second' : List Placed) (r : Re
         same_corner_holds = ap ren s.same_corner_holds;
       }
 
-  shared-from : Shared first' second' → Shared first second
-  shared-from s =
-      by-pair (λ a b. a.corner ≡ b.corner → Shared first second)
+  shared_from : Shared first' second' → Shared first second
+  shared_from s =
+      by_pair (λ a b. a.corner ≡ b.corner → Shared first second)
       (λ a b m n e. record { here = a; there = b; in_first = m; in_second = n; same_corner_holds = r.one_to_one a b m n e })
       s.here s.there s.in_first s.in_second s.same_corner_holds
 
-  fits-to : (d : Offset) → Fits first second d → Fits first' second' d
-  fits-to d f =
+  fits_to : (d : Offset) → Fits first second d → Fits first' second' d
+  fits_to d f =
       record {
-        one_cell = by-pair (λ a b. a.corner ≡ b.corner → a.cell ≡ moved b.cell d)
+        one_cell = by_pair (λ a b. a.corner ≡ b.corner → a.cell ≡ moved b.cell d)
             (λ a b m n e. f.one_cell a b m n (r.one_to_one a b m n e));
-        one_corner = by-pair (λ a b. a.cell ≡ moved b.cell d → a.corner ≡ b.corner) (λ a b m n e. ap ren (f.one_corner a b m n e));
+        one_corner = by_pair (λ a b. a.cell ≡ moved b.cell d → a.corner ≡ b.corner) (λ a b m n e. ap ren (f.one_corner a b m n e));
       }
 
-  fits-from : (d : Offset) → Fits first' second' d → Fits first second d
-  fits-from d f =
+  fits_from : (d : Offset) → Fits first' second' d → Fits first second d
+  fits_from d f =
       record {
         one_cell = λ a b m n e. f.one_cell (renamed ren a) (renamed ren b) (r.first_to a m) (r.second_to b n) (ap ren e);
         one_corner = λ a b m n e. r.one_to_one a b m n (f.one_corner (renamed ren a) (renamed ren b) (r.first_to a m) (r.second_to b n) e);
       }
 
-  onto-to : (d : Offset) → OntoSheet second d → OntoSheet second' d
-  onto-to d o =
+  onto_to : (d : Offset) → OntoSheet second d → OntoSheet second' d
+  onto_to d o =
       record {
         on = λ b n. let y = r.second_from b n in subst (λ (z : Placed). OnSheet (moved z.cell d)) y.counterpart (o.on y.label y.listed);
       }
 
-  onto-from : (d : Offset) → OntoSheet second' d → OntoSheet second d
-  onto-from d o = record { on = λ b n. o.on (renamed ren b) (r.second_to b n) }
+  onto_from : (d : Offset) → OntoSheet second' d → OntoSheet second d
+  onto_from d o = record { on = λ b n. o.on (renamed ren b) (r.second_to b n) }
 
-  meaning-to : (v : Verdict) → Meaning first second v → Meaning first' second' v
-  meaning-to Verdict.Apart m = λ s. m (shared-from s)
-  meaning-to Verdict.Clash m = (shared-to m.0, λ d f. m.1 d (fits-from d f))
-  meaning-to Verdict.Off m = (
-    shared-to m.0,
-    record { shift = m.1.shift; fits = fits-to m.1.shift m.1.fits; leaves = λ o. m.1.leaves (onto-from m.1.shift o) },
+  meaning_to : (v : Verdict) → Meaning first second v → Meaning first' second' v
+  meaning_to Verdict.Apart m = λ s. m (shared_from s)
+  meaning_to Verdict.Clash m = (shared_to m.0, λ d f. m.1 d (fits_from d f))
+  meaning_to Verdict.Off m = (
+    shared_to m.0,
+    record { shift = m.1.shift; fits = fits_to m.1.shift m.1.fits; leaves = λ o. m.1.leaves (onto_from m.1.shift o) },
   )
-  meaning-to (Verdict.By d) m = (shared-to m.0, record { fits = fits-to d m.1.fits; onto = onto-to d m.1.onto })
+  meaning_to (Verdict.By d) m = (shared_to m.0, record { fits = fits_to d m.1.fits; onto = onto_to d m.1.onto })
 
   -- the verdict is the same: 8, 9, 4, and the shift
-  pub same-verdict : verdict first' second' ≡ verdict first second
-  same-verdict = exactly first' second' (verdict first second) (meaning-to (verdict first second) (verdict_means first second))
+  pub same_verdict : verdict first' second' ≡ verdict first second
+  same_verdict = exactly first' second' (verdict first second) (meaning_to (verdict first second) (verdict_means first second))
 
 -- ---- lists kept and mapped
 
@@ -106,11 +106,11 @@ module _ (ren : ℕ → ℕ) where
       go true e = eq-eqb (ren j) (ren k) (ap ren (eqb-true j k e))
       go false e = ne_eqb (ren j) (ren k) (λ f. eqb-false j k e (h f))
 
-  found-same : (l : List Placed) (k : ℕ) → ((a : Placed) → Memᴰ a l → ren a.corner ≡ ren k → a.corner ≡ k)
+  found_same : (l : List Placed) (k : ℕ) → ((a : Placed) → Memᴰ a l → ren a.corner ≡ ren k → a.corner ≡ k)
       → cell_in (map (renamed ren) l) (ren k) ≡ cell_in l k
   unfolding cell_in
-  found-same [] k h = refl
-  found-same (a ∷ l) k h = rw (same_test a.corner k (h a (Memᴰ.head refl)), found-same l k (λ b m. h b (Memᴰ.tail m))) refl
+  found_same [] k h = refl
+  found_same (a ∷ l) k h = rw (same_test a.corner k (h a (Memᴰ.head refl)), found_same l k (λ b m. h b (Memᴰ.tail m))) refl
 
   module _
       (first second : List Placed)
@@ -126,9 +126,9 @@ module _ (ren : ℕ → ℕ) where
             one_to_one = one;
           }
 
-      union-renamed : (d : Offset) → union (map (renamed ren) first) (map (renamed ren) second) d ≡ map (renamed ren) (union first second d)
+      union_renamed : (d : Offset) → union (map (renamed ren) first) (map (renamed ren) second) d ≡ map (renamed ren) (union first second d)
       unfolding union new_by
-      union-renamed d =
+      union_renamed d =
           ap (λ (l : List Placed). map (renamed ren) first ++ l)
           (ap (kept (new_to (map (renamed ren) first))) (map-map (shifted_by d) (renamed ren) second ∙ sym (map-map (renamed ren) (shifted_by d) second))
           ∙ kept_map (renamed ren) (new_to (map (renamed ren) first)) (new_to first) (map (shifted_by d) second)
@@ -139,19 +139,19 @@ module _ (ren : ℕ → ℕ) where
               → cell_in (map (renamed ren) first) (ren l.corner) ≡ cell_in first l.corner
           same l s =
               subst (λ (x : Placed). cell_in (map (renamed ren) first) (ren x.corner) ≡ cell_in first x.corner) s.2
-              (found-same first s.0.corner (λ a m. one a s.0 m s.1))
+              (found_same first s.0.corner (λ a m. one a s.0 m s.1))
 
-      join-renamed : joined (map (renamed ren) first) (map (renamed ren) second) ≡ join_renamed ren (joined first second)
+      join_renamed_lem : joined (map (renamed ren) first) (map (renamed ren) second) ≡ join_renamed ren (joined first second)
       unfolding joined join_renamed joined_by
-      join-renamed =
-          ap (joined_by (map (renamed ren) first) (map (renamed ren) second)) (same-verdict ren first second _ _ mapped) ∙ go (verdict first second)
+      join_renamed_lem =
+          ap (joined_by (map (renamed ren) first) (map (renamed ren) second)) (same_verdict ren first second _ _ mapped) ∙ go (verdict first second)
         where
           go : (v : Verdict) → joined_by (map (renamed ren) first) (map (renamed ren) second) v ≡ join_renamed ren (joined_by first second v)
           go Verdict.Apart = refl
           go Verdict.Clash = refl
           go Verdict.Off = refl
-          go (Verdict.By d) = ap Joined.union_of (union-renamed d)
+          go (Verdict.By d) = ap Joined.union_of (union_renamed d)
 
 -- "Corner order still decides nothing."
 pub joined_renamed : CornerOrderAlike
-joined_renamed ren first second one = join-renamed ren first second one
+joined_renamed ren first second one = join_renamed_lem ren first second one

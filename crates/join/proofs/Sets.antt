@@ -12,11 +12,11 @@ use Rattle.sizes.specs.Sizes.{place_count}
 use Rattle.sheet.specs.Words.{label_at, hole_at, ambiguous_at, attached, empty_sheet}
 use Rattle.sheet.specs.declared.Cell.{Cell}
 use Rattle.sheet.specs.declared.Label.{Label}
-use Rattle.sheet.proofs.Words.{Changed, attached-changes, label-here, hole-here, ambiguous-here, label-else, hole-else, ambiguous-else, no_corner_lem, empty_length, empty_label, empty_hole, empty_ambiguous}
+use Rattle.sheet.proofs.Words.{Changed, attached_changes, label_here, hole_here, ambiguous_here, label_else, hole_else, ambiguous_else, no_corner_lem, empty_length, empty_label, empty_hole, empty_ambiguous}
 use Rattle.join.specs.Rule.{Placed, All, Differ, Once}
 use Rattle.join.specs.Sheets.{labelled, Holdable, HoldsSet}
 use Rattle.join.proofs.Lists.{by_cell}
-use Rattle.join.proofs.Union.{of-all}
+use Rattle.join.proofs.Union.{of_all}
 
 -- ---- the sheet's length, and labels in two parts
 
@@ -39,28 +39,28 @@ module _ (sheet : List ℕ) (long : place_count ≤ length sheet) (l : Placed) (
   changed :
       Changed sheet (put sheet l) l.cell
       (record { label = Label.Corner l.corner; hole = hole_at sheet l.cell; ambiguous = ambiguous_at sheet l.cell })
-  changed = attached-changes sheet l.cell long s.on l.corner (omega arith)
+  changed = attached_changes sheet l.cell long s.on l.corner (omega arith)
 
-  still-long : place_count ≤ length (put sheet l)
-  still-long = omega (arith, changed.same_length)
+  still_long : place_count ≤ length (put sheet l)
+  still_long = omega (arith, changed.same_length)
 
   here : label_at (put sheet l) l.cell ≡ Label.Corner l.corner
-  here = label-here changed s.on
+  here = label_here changed s.on
 
-  label-cases : (c : Cell) (k : ℕ) → label_at (put sheet l) c ≡ Label.Corner k → (record { corner = k; cell = c } ≡ l) ⊎ (label_at sheet c ≡ Label.Corner k)
-  label-cases c k e =
+  label_cases : (c : Cell) (k : ℕ) → label_at (put sheet l) c ≡ Label.Corner k → (record { corner = k; cell = c } ≡ l) ⊎ (label_at sheet c ≡ Label.Corner k)
+  label_cases c k e =
       by_cell c l.cell
-      (λ p. inl (λ t. record { corner = corner-one k l.corner (sym e ∙ ap (label_at (put sheet l)) p ∙ here) t; cell = p t }))
-      (λ p. inr (sym (label-else changed s.on c p) ∙ e))
+      (λ p. inl (λ t. record { corner = corner_one k l.corner (sym e ∙ ap (label_at (put sheet l)) p ∙ here) t; cell = p t }))
+      (λ p. inr (sym (label_else changed s.on c p) ∙ e))
     where
-      corner-one : (j k : ℕ) → Label.Corner j ≡ Label.Corner k → j ≡ k
-      corner-one j k h = cc
+      corner_one : (j k : ℕ) → Label.Corner j ≡ Label.Corner k → j ≡ k
+      corner_one j k h = cc
 
-  hole-kept : (c : Cell) → hole_at (put sheet l) c ≡ hole_at sheet c
-  hole-kept c = by_cell c l.cell (λ p. rw p (hole-here changed s.on)) (hole-else changed s.on c)
+  hole_kept : (c : Cell) → hole_at (put sheet l) c ≡ hole_at sheet c
+  hole_kept c = by_cell c l.cell (λ p. rw p (hole_here changed s.on)) (hole_else changed s.on c)
 
-  ambiguous-kept : (c : Cell) → ambiguous_at (put sheet l) c ≡ ambiguous_at sheet c
-  ambiguous-kept c = by_cell c l.cell (λ p. rw p (ambiguous-here changed s.on)) (ambiguous-else changed s.on c)
+  ambiguous_kept : (c : Cell) → ambiguous_at (put sheet l) c ≡ ambiguous_at sheet c
+  ambiguous_kept c = by_cell c l.cell (λ p. rw p (ambiguous_here changed s.on)) (ambiguous_else changed s.on c)
 
 -- ---- all labels
 
@@ -69,17 +69,17 @@ others_keep : (ls : List Placed) (sheet : List ℕ) → place_count ≤ length s
 unfolding labelled
 others_keep [] sheet long s c d = refl
 others_keep (l ∷ ls) sheet long s c d =
-    others_keep ls (put sheet l) (still-long sheet long l s.0) s.1 c (λ m n. d m (Memᴰ.tail n))
-    ∙ label-else (changed sheet long l s.0) s.0.on c (d l (Memᴰ.head refl))
+    others_keep ls (put sheet l) (still_long sheet long l s.0) s.1 c (λ m n. d m (Memᴰ.tail n))
+    ∙ label_else (changed sheet long l s.0) s.0.on c (d l (Memᴰ.head refl))
 
 each_held : (ls : List Placed) (sheet : List ℕ) → place_count ≤ length sheet → All Holdable ls → Once ls
     → (a : Placed) → Memᴰ a ls → label_at (labelled sheet ls) a.cell ≡ Label.Corner a.corner
 unfolding labelled
 each_held [] sheet long s o a m = absurd (Memᴰ.not-nil m)
 each_held (l ∷ ls) sheet long s o a m =
-    let after = still-long sheet long l s.0 in
+    let after = still_long sheet long l s.0 in
     ⊎_elim
-    (λ e. rw e (others_keep ls (put sheet l) after s.1 l.cell (λ n p. (of-all (Differ l) ls o.0 n p).cells) ∙ here sheet long l s.0))
+    (λ e. rw e (others_keep ls (put sheet l) after s.1 l.cell (λ n p. (of_all (Differ l) ls o.0 n p).cells) ∙ here sheet long l s.0))
     (each_held ls (put sheet l) after s.1 o.1 a)
     (Memᴰ.cases_cons m)
 
@@ -88,20 +88,20 @@ only_named : (ls : List Placed) (sheet : List ℕ) → place_count ≤ length sh
 unfolding labelled
 only_named [] sheet long s c k e = inr e
 only_named (l ∷ ls) sheet long s c k e =
-    ⊎_elim (λ m. inl (Memᴰ.tail m)) (λ h. ⊎_elim (λ p. inl (Memᴰ.head p)) inr (label-cases sheet long l s.0 c k h))
-    (only_named ls (put sheet l) (still-long sheet long l s.0) s.1 c k e)
+    ⊎_elim (λ m. inl (Memᴰ.tail m)) (λ h. ⊎_elim (λ p. inl (Memᴰ.head p)) inr (label_cases sheet long l s.0 c k h))
+    (only_named ls (put sheet l) (still_long sheet long l s.0) s.1 c k e)
 
 holes_kept : (ls : List Placed) (sheet : List ℕ) → place_count ≤ length sheet → All Holdable ls → (c : Cell) → hole_at (labelled sheet ls) c ≡ hole_at sheet c
 unfolding labelled
 holes_kept [] sheet long s c = refl
-holes_kept (l ∷ ls) sheet long s c = holes_kept ls (put sheet l) (still-long sheet long l s.0) s.1 c ∙ hole-kept sheet long l s.0 c
+holes_kept (l ∷ ls) sheet long s c = holes_kept ls (put sheet l) (still_long sheet long l s.0) s.1 c ∙ hole_kept sheet long l s.0 c
 
 ambiguous_all_kept : (ls : List Placed) (sheet : List ℕ) → place_count ≤ length sheet → All Holdable ls → (c : Cell)
     → ambiguous_at (labelled sheet ls) c ≡ ambiguous_at sheet c
 unfolding labelled
 ambiguous_all_kept [] sheet long s c = refl
 ambiguous_all_kept (l ∷ ls) sheet long s c =
-    ambiguous_all_kept ls (put sheet l) (still-long sheet long l s.0) s.1 c ∙ ambiguous-kept sheet long l s.0 c
+    ambiguous_all_kept ls (put sheet l) (still_long sheet long l s.0) s.1 c ∙ ambiguous_kept sheet long l s.0 c
 
 -- ---- the sheet of a set
 
@@ -112,15 +112,15 @@ pub set_long : (ls : List Placed) → place_count ≤ length (labelled empty_she
 set_long ls = omega (arith, empty_length, labelled_length ls empty_sheet)
 
 module _ (ls : List Placed) (s : All Holdable ls) where
-  pub set-no-hole : (c : Cell) → hole_at (labelled empty_sheet ls) c ≡ false
-  set-no-hole c = holes_kept ls empty_sheet empty_long s c ∙ empty_hole c
+  pub set_no_hole : (c : Cell) → hole_at (labelled empty_sheet ls) c ≡ false
+  set_no_hole c = holes_kept ls empty_sheet empty_long s c ∙ empty_hole c
 
-  pub set-no-ambiguous : (c : Cell) → ambiguous_at (labelled empty_sheet ls) c ≡ false
-  set-no-ambiguous c = ambiguous_all_kept ls empty_sheet empty_long s c ∙ empty_ambiguous c
+  pub set_no_ambiguous : (c : Cell) → ambiguous_at (labelled empty_sheet ls) c ≡ false
+  set_no_ambiguous c = ambiguous_all_kept ls empty_sheet empty_long s c ∙ empty_ambiguous c
 
   -- every set that has each corner and each cell once, on the sheet, is held by its sheet; so is the union
-  pub set-held : Once ls → HoldsSet ls (labelled empty_sheet ls)
-  set-held o =
+  pub set_held : Once ls → HoldsSet ls (labelled empty_sheet ls)
+  set_held o =
       record {
         is_sheet = refl;
         each = each_held ls empty_sheet empty_long s o;
@@ -135,6 +135,6 @@ once_one (x ∷ l) s a b m n e = go (once_one l s.1 a b) (Memᴰ.cases_cons m) (
   where
     go : (Memᴰ a l → Memᴰ b l → a.corner ≡ b.corner → a ≡ b) → (a ≡ x) ⊎ Memᴰ a l → (b ≡ x) ⊎ Memᴰ b l → a ≡ b
     go w (inl p) (inl q) = p ∙ sym q
-    go w (inl p) (inr q) = absurd ((of-all (Differ x) l s.0 b q).corners (ap (λ (y : Placed). y.corner) (sym p) ∙ e))
-    go w (inr p) (inl q) = absurd ((of-all (Differ x) l s.0 a p).corners (ap (λ (y : Placed). y.corner) (sym q) ∙ sym e))
+    go w (inl p) (inr q) = absurd ((of_all (Differ x) l s.0 b q).corners (ap (λ (y : Placed). y.corner) (sym p) ∙ e))
+    go w (inr p) (inl q) = absurd ((of_all (Differ x) l s.0 a p).corners (ap (λ (y : Placed). y.corner) (sym q) ∙ sym e))
     go w (inr p) (inr q) = w p q e

@@ -22,16 +22,16 @@ module _ {A : Type 0} (P : A → Type 0) where
   all_of [] h = tt
   all_of (b ∷ l) h = (h b (Memᴰ.head refl), all_of l (λ a m. h a (Memᴰ.tail m)))
 
-  pub of-all : (l : List A) → All P l → (a : A) → Memᴰ a l → P a
-  of-all [] s a m = absurd (Memᴰ.not-nil m)
-  of-all (b ∷ l) s a m = ⊎_elim (λ d. subst P (sym d) s.0) (of-all l s.1 a) (Memᴰ.cases_cons m)
+  pub of_all : (l : List A) → All P l → (a : A) → Memᴰ a l → P a
+  of_all [] s a m = absurd (Memᴰ.not-nil m)
+  of_all (b ∷ l) s a m = ⊎_elim (λ d. subst P (sym d) s.0) (of_all l s.1 a) (Memᴰ.cases_cons m)
 
 -- ---- each corner once and each cell once
 
 once_append : (l m : List Placed) → Once l → Once m → ((a b : Placed) → Memᴰ a l → Memᴰ b m → Differ a b) → Once (l ++ m)
 once_append [] m s t h = t
 once_append (a ∷ l) m s t h = (
-  all_of (Differ a) (l ++ m) (λ b n. ⊎_elim (of-all (Differ a) l s.0 b) (h a b (Memᴰ.head refl)) (Memᴰ.append_cases l n)),
+  all_of (Differ a) (l ++ m) (λ b n. ⊎_elim (of_all (Differ a) l s.0 b) (h a b (Memᴰ.head refl)) (Memᴰ.append_cases l n)),
   once_append l m s.1 t (λ b c p q. h b c (Memᴰ.tail p) q),
 )
 
@@ -41,7 +41,7 @@ once_kept f [] s = tt
 once_kept f (a ∷ l) s = go (f a) (once_kept f l s.1)
   where
     go : (t : Bool) → Once (kept f l) → Once (cond t (a ∷ kept f l) (kept f l))
-    go true w = (all_of (Differ a) (kept f l) (λ b m. of-all (Differ a) l s.0 b (kept_in f l b m).0), w)
+    go true w = (all_of (Differ a) (kept f l) (λ b m. of_all (Differ a) l s.0 b (kept_in f l b m).0), w)
     go false w = w
 
 once_moved : (d : Offset) (l : List Placed) → Once l → Once (map (shifted_by d) l)
@@ -59,9 +59,9 @@ module _ (first second : List Placed) (d : Offset) (f : Fits first second d) whe
   new : Placed → Bool
   new l = not (is_found (cell_in first l.corner))
 
-  is-new : (l : Placed) → cell_in first l.corner ≡ Found.Nowhere → new l ≡ true
+  is_new : (l : Placed) → cell_in first l.corner ≡ Found.Nowhere → new l ≡ true
   unfolding new is_found
-  is-new l e = rw e
+  is_new l e = rw e
 
   new_is : (l : Placed) → new l ≡ true → cell_in first l.corner ≡ Found.Nowhere
   unfolding new is_found
@@ -71,29 +71,29 @@ module _ (first second : List Placed) (d : Offset) (f : Fits first second d) whe
       go Found.Nowhere h = refl
       go (Found.At c) h = absurd (no_both false h refl)
 
-  second-there : (b : Placed) → Memᴰ b second → Memᴰ (shifted_by d b) (union first second d)
+  second_there : (b : Placed) → Memᴰ b second → Memᴰ (shifted_by d b) (union first second d)
   unfolding union new_by new
-  second-there b m = go (cell_in first b.corner) refl
+  second_there b m = go (cell_in first b.corner) refl
     where
       go : (x : Found) → cell_in first b.corner ≡ x → Memᴰ (shifted_by d b) (first ++ kept new (map (shifted_by d) second))
       go Found.Nowhere e =
-          Memᴰ.append_right first (in_kept new (map (shifted_by d) second) (shifted_by d b) (Memᴰ.map (shifted_by d) m) (is-new (shifted_by d b) e))
+          Memᴰ.append_right first (in_kept new (map (shifted_by d) second) (shifted_by d b) (Memᴰ.map (shifted_by d) m) (is_new (shifted_by d b) e))
       go (Found.At c) e =
           let r = cell_found first b.corner c e in
           let p : r.label.cell ≡ moved b.cell d = f.one_cell r.label b r.listed m r.its_corner in
           Memᴰ.append_left _ (Memᴰ.cast (λ t. record { corner = sym r.its_corner t; cell = sym p t }) r.listed)
 
-  only-these : (l : Placed) → Memᴰ l (union first second d) → OneOf first second d l
+  only_these : (l : Placed) → Memᴰ l (union first second d) → OneOf first second d l
   unfolding union new_by new
-  only-these l m = ⊎_elim of_first moved-there (Memᴰ.append_cases first m)
+  only_these l m = ⊎_elim of_first moved_there (Memᴰ.append_cases first m)
     where
-      moved-there : Memᴰ l (kept new (map (shifted_by d) second)) → OneOf first second d l
-      moved-there q =
+      moved_there : Memᴰ l (kept new (map (shifted_by d) second)) → OneOf first second d l
+      moved_there q =
           let r = Memᴰ.of_map (shifted_by d) second (kept_in new (map (shifted_by d) second) l q).0 in of_second r.0 r.1 (sym r.2)
 
-  once-each : Once first → Once second → Once (union first second d)
+  once_each : Once first → Once second → Once (union first second d)
   unfolding union new_by new
-  once-each s t = once_append first _ s (once_kept new (map (shifted_by d) second) (once_moved d second t)) differ
+  once_each s t = once_append first _ s (once_kept new (map (shifted_by d) second) (once_moved d second t)) differ
     where
       differ : (a b : Placed) → Memᴰ a first → Memᴰ b (kept new (map (shifted_by d) second)) → Differ a b
       differ a b p q =
@@ -106,18 +106,18 @@ module _ (first second : List Placed) (d : Offset) (f : Fits first second d) whe
             corners = other;
           }
 
-  union-each : Once first → Once second → UnionBy first second d (union first second d)
+  union_each : Once first → Once second → UnionBy first second d (union first second d)
   unfolding union
-  union-each s t = record { has_first = λ a m. Memᴰ.append_left _ m; has_second = second-there; no_other = only-these; once = once-each s t }
+  union_each s t = record { has_first = λ a m. Memᴰ.append_left _ m; has_second = second_there; no_other = only_these; once = once_each s t }
 
   -- a sheet can hold the union if it can hold both sets and the shift goes onto it
-  pub union-holdable : OntoSheet second d → All Holdable first → All Holdable second → All Holdable (union first second d)
-  union-holdable o s t = all_of Holdable (union first second d) (λ l m. go l (only-these l m))
+  pub union_holdable : OntoSheet second d → All Holdable first → All Holdable second → All Holdable (union first second d)
+  union_holdable o s t = all_of Holdable (union first second d) (λ l m. go l (only_these l m))
     where
       go : (l : Placed) → OneOf first second d l → Holdable l
-      go l (of_first p) = of-all Holdable first s l p
-      go l (of_second b n e) = subst Holdable (sym e) (record { on = o.on b n; small = (of-all Holdable second t b n).small })
+      go l (of_first p) = of_all Holdable first s l p
+      go l (of_second b n e) = subst Holdable (sym e) (record { on = o.on b n; small = (of_all Holdable second t b n).small })
 
 -- "so that every shared corner has one cell and every cell one corner, and passes run on the union"
 pub union_is : UnionOfBoth
-union_is first second d f = union-each first second d f
+union_is first second d f = union_each first second d f

@@ -20,7 +20,7 @@ use Rattle.labels.specs.Labelled.{any_below}
 use Rattle.labels.specs.Used.{used_on}
 use Rattle.labels.proofs.Below.{no_both, any_no}
 use Rattle.labels.proofs.Labelled.{label_of_place}
-use Rattle.labels.proofs.Used.{names_it, it_names, used-yes, used-there}
+use Rattle.labels.proofs.Used.{names_it, it_names, used_yes, used_there}
 use Rattle.join.specs.Rule.{Placed}
 use Rattle.join.specs.Join.{every, cell_in, agree, agrees_in, verdict_by, verdict, is_found, new_by, union, joined_by, joined}
 use Rattle.join.specs.Sheets.{labelled, HoldsSet}
@@ -28,7 +28,7 @@ use Rattle.join_sheet.specs.Held.{or_at, found_below, holds_at, cell_on, agrees_
 use Rattle.join.specs.declared.Verdict.{Verdict}
 use Rattle.join.specs.declared.Found.{Found}
 use Rattle.join_sheet.specs.declared.Joining.{Joining}
-use Rattle.join.proofs.Lists.{every-yes, every-all}
+use Rattle.join.proofs.Lists.{every_yes, every_all}
 use Rattle.join.proofs.Meaning.{agree_cells, agree_corners, agrees, cell_found, not_found}
 use Rattle.join.proofs.Sets.{labelled_append, once_one}
 
@@ -94,19 +94,19 @@ cell_found_on sheet k c e = found_on (holds_at sheet k) place_count (omega arith
 -- ---- a set and its sheet
 
 module _ {first : List Placed} {sheet : List ℕ} (h : HoldsSet first sheet) where
-  cells-one : (a b : Placed) → Memᴰ a first → Memᴰ b first → a.corner ≡ b.corner → a.cell ≡ b.cell
-  cells-one a b m n e = ap (λ (x : Placed). x.cell) (once_one first h.once a b m n e)
+  cells_one : (a b : Placed) → Memᴰ a first → Memᴰ b first → a.corner ≡ b.corner → a.cell ≡ b.cell
+  cells_one a b m n e = ap (λ (x : Placed). x.cell) (once_one first h.once a b m n e)
 
-  on-first : (a : Placed) → Memᴰ a first → OnSheet a.cell
-  on-first a m = labelled_on_lem sheet a.cell a.corner (h.each a m)
+  on_first : (a : Placed) → Memᴰ a first → OnSheet a.cell
+  on_first a m = labelled_on_lem sheet a.cell a.corner (h.each a m)
 
-  holds-first : (a : Placed) → Memᴰ a first → label_of (get_or sheet (place_of a.cell) 0) ≡ Label.Corner a.corner
-  holds-first a m = sym (label_on sheet a.cell (on-first a m)) ∙ h.each a m
+  holds_first : (a : Placed) → Memᴰ a first → label_of (get_or sheet (place_of a.cell) 0) ≡ Label.Corner a.corner
+  holds_first a m = sym (label_on sheet a.cell (on_first a m)) ∙ h.each a m
 
-  used-first : (a : Placed) → Memᴰ a first → (k : ℕ) → a.corner ≡ k → used_on sheet k ≡ true
-  used-first a m k e =
-      let on = on-first a m in
-      used-there sheet k (record { place = place_of a.cell; below = place_in a.cell on; holds = holds-first a m ∙ ap Label.Corner e })
+  used_first : (a : Placed) → Memᴰ a first → (k : ℕ) → a.corner ≡ k → used_on sheet k ≡ true
+  used_first a m k e =
+      let on = on_first a m in
+      used_there sheet k (record { place = place_of a.cell; below = place_in a.cell on; holds = holds_first a m ∙ ap Label.Corner e })
 
   -- where the sheet has a corner is where the set has it
   cell_same : (k : ℕ) → cell_on sheet k ≡ cell_in first k
@@ -124,33 +124,33 @@ module _ {first : List Placed} {sheet : List ℕ} (h : HoldsSet first sheet) whe
       go Found.Nowhere e = none_found (holds_at sheet k) place_count (any_no (holds_at sheet k) place_count (λ q l. none e q l (holds_at sheet k q) refl))
       go (Found.At c) e =
           let r = cell_found first k c e in
-          let on = on-first r.label r.listed in
+          let on = on_first r.label r.listed in
           let p = place_of r.label.cell in
           only_found (holds_at sheet k) place_count p (place_in r.label.cell on)
-          (names_it k (label_of (get_or sheet p 0)) (holds-first r.label r.listed ∙ ap Label.Corner r.its_corner))
-          (λ q l m. sym (place_cell q l) ∙ ap place_of (cells-one _ r.label (there q l m) r.listed (sym r.its_corner)))
+          (names_it k (label_of (get_or sheet p 0)) (holds_first r.label r.listed ∙ ap Label.Corner r.its_corner))
+          (λ q l m. sym (place_cell q l) ∙ ap place_of (cells_one _ r.label (there q l m) r.listed (sym r.its_corner)))
           ∙ ap Found.At (cell_place r.label.cell on ∙ r.its_cell)
 
   -- a label agrees with the sheet exactly if it agrees with the set
-  agrees-same : (l : Placed) → agrees_on sheet l ≡ agrees_in first l
+  agrees_same : (l : Placed) → agrees_on sheet l ≡ agrees_in first l
   unfolding agrees_on agrees_with agrees_in
-  agrees-same l = go (label_at sheet l.cell) (used_on sheet l.corner) refl refl
+  agrees_same l = go (label_at sheet l.cell) (used_on sheet l.corner) refl refl
     where
-      not-all : ((every (λ a. agree a l) first ≡ true) → ⊥) → (t : Bool) → every (λ a. agree a l) first ≡ t → false ≡ t
-      not-all n true e = absurd (n e)
-      not-all n false e = refl
+      not_all : ((every (λ a. agree a l) first ≡ true) → ⊥) → (t : Bool) → every (λ a. agree a l) first ≡ t → false ≡ t
+      not_all n true e = absurd (n e)
+      not_all n false e = refl
 
       corner : (j : ℕ) → label_at sheet l.cell ≡ Label.Corner j → (t : Bool) → eqb j l.corner ≡ t → t ≡ every (λ a. agree a l) first
       corner j e true d =
           let here : label_at sheet l.cell ≡ Label.Corner l.corner = e ∙ ap Label.Corner (eqb-true j l.corner d) in
-          sym (every-all (λ a. agree a l) first (λ a m. agrees a l
-          (λ q. cells-one a l m (h.only l.cell l.corner here) q)
+          sym (every_all (λ a. agree a l) first (λ a m. agrees a l
+          (λ q. cells_one a l m (h.only l.cell l.corner here) q)
           (λ q. let z : Label.Corner a.corner ≡ Label.Corner l.corner = sym (h.each a m) ∙ ap (label_at sheet) q ∙ here in cc)))
       corner j e false d =
-          not-all
+          not_all
           (λ y.
           eqb-false j l.corner d
-          (agree_corners (record { corner = j; cell = l.cell }) l (every-yes (λ a. agree a l) first y _ (h.only l.cell j e)) refl)) _ refl
+          (agree_corners (record { corner = j; cell = l.cell }) l (every_yes (λ a. agree a l) first y _ (h.only l.cell j e)) refl)) _ refl
 
       bare : label_at sheet l.cell ≡ Label.Unlabelled → (a : Placed) → Memᴰ a first → a.cell ≡ l.cell → ⊥
       bare e a m q = no_corner_lem a.corner (sym e ∙ ap (label_at sheet) (sym q) ∙ h.each a m)
@@ -158,20 +158,20 @@ module _ {first : List Placed} {sheet : List ℕ} (h : HoldsSet first sheet) whe
       go : (x : Label) (u : Bool) → label_at sheet l.cell ≡ x → used_on sheet l.corner ≡ u → agrees_with x u l.corner ≡ every (λ a. agree a l) first
       go (Label.Corner j) u e d = corner j e (eqb j l.corner) refl
       go Label.Unlabelled true e d =
-          let s = used-yes sheet l.corner d in
+          let s = used_yes sheet l.corner d in
           let m = h.only (cell_of s.place) l.corner (label_of_place sheet s.place s.below ∙ s.holds) in
-          not-all
-          (λ y. bare e _ m (agree_cells (record { corner = l.corner; cell = cell_of s.place }) l (every-yes (λ a. agree a l) first y _ m) refl)) _ refl
+          not_all
+          (λ y. bare e _ m (agree_cells (record { corner = l.corner; cell = cell_of s.place }) l (every_yes (λ a. agree a l) first y _ m) refl)) _ refl
       go Label.Unlabelled false e d =
-          sym (every-all (λ a. agree a l) first (λ a m. agrees a l
-          (λ q. absurd (no_both (used_on sheet l.corner) (used-first a m l.corner q) d))
+          sym (every_all (λ a. agree a l) first (λ a m. agrees a l
+          (λ q. absurd (no_both (used_on sheet l.corner) (used_first a m l.corner q) d))
           (λ q. absurd (bare e a m q))))
 
   -- the join on the sheet is the join of the lists
-  pub joins-as : (second : List Placed) → join_on sheet second ≡ concluded sheet (joined first second)
+  pub joins_as : (second : List Placed) → join_on sheet second ≡ concluded sheet (joined first second)
   unfolding join_on verdict_on joined verdict concluded outcome_of joined_by union
-  joins-as second =
-      ap (outcome_of sheet second) (λ t. verdict_by (λ k. cell_same k t) (λ l. agrees-same l t) second)
+  joins_as second =
+      ap (outcome_of sheet second) (λ t. verdict_by (λ k. cell_same k t) (λ l. agrees_same l t) second)
       ∙ go (verdict_by (cell_in first) (agrees_in first) second)
     where
       written : (d : Offset) → labelled sheet (new_by (cell_on sheet) second d) ≡ labelled empty_sheet (first ++ new_by (cell_in first) second d)

@@ -37,20 +37,20 @@ abbrev pub with_last : List ℕ → ℕ → ℕ → ℕ → List ℕ
 with_last second n k p = set (set second n k) (corner_limit + n) p
 
 module _ (second : List ℕ) (size : length second ≡ second_count) (n k p : ℕ) (few : n < corner_limit) where
-  corner-else : (j : ℕ) → j < n → get_or (with_last second n k p) j 0 ≡ get_or second j 0
-  corner-else j h =
+  corner_else : (j : ℕ) → j < n → get_or (with_last second n k p) j 0 ≡ get_or second j 0
+  corner_else j h =
       get_or-set_other (set second n k) (corner_limit + n) j p 0 (λ e. omega arith) ∙ get_or-set_other second n j k 0 (λ e. omega arith)
 
-  pub place-else : (j : ℕ) → j < n → get_or (with_last second n k p) (corner_limit + j) 0 ≡ get_or second (corner_limit + j) 0
-  place-else j h =
+  pub place_else : (j : ℕ) → j < n → get_or (with_last second n k p) (corner_limit + j) 0 ≡ get_or second (corner_limit + j) 0
+  place_else j h =
       get_or-set_other (set second n k) (corner_limit + n) (corner_limit + j) p 0 (λ e. omega arith)
       ∙ get_or-set_other second n (corner_limit + j) k 0 (λ e. omega arith)
 
-  corner-last : get_or (with_last second n k p) n 0 ≡ k
-  corner-last = get_or-set_other (set second n k) (corner_limit + n) n p 0 (λ e. omega arith) ∙ get_or-set_same second n k 0 (omega arith)
+  corner_last : get_or (with_last second n k p) n 0 ≡ k
+  corner_last = get_or-set_other (set second n k) (corner_limit + n) n p 0 (λ e. omega arith) ∙ get_or-set_same second n k 0 (omega arith)
 
-  pub place-last : get_or (with_last second n k p) (corner_limit + n) 0 ≡ p
-  place-last = get_or-set_same (set second n k) (corner_limit + n) p 0 (omega (arith, length-set second n k))
+  pub place_last : get_or (with_last second n k p) (corner_limit + n) 0 ≡ p
+  place_last = get_or-set_same (set second n k) (corner_limit + n) p 0 (omega (arith, length-set second n k))
 
   pub held_more : held_labels (with_last second n k p) (n + 1) ≡ held_labels second n ++ (record { corner = k; cell = cell_of p } ∷ [])
   held_more =
@@ -58,17 +58,17 @@ module _ (second : List ℕ) (size : length second ≡ second_count) (n k p : �
       ∙ (λ t. held_same (with_last second n k p) second n 0 (λ j h. else j (omega arith)) t ++ (last t ∷ []))
     where
       else : (j : ℕ) → j < n → held_at (with_last second n k p) j ≡ held_at second j
-      else j h = λ t. record { corner = corner-else j h t; cell = cell_of (place-else j h t) }
+      else j h = λ t. record { corner = corner_else j h t; cell = cell_of (place_else j h t) }
 
       last : held_at (with_last second n k p) (0 + n) ≡ record { corner = k; cell = cell_of p }
-      last = ap (held_at (with_last second n k p)) (omega arith) ∙ (λ t. record { corner = corner-last t; cell = cell_of (place-last t) })
+      last = ap (held_at (with_last second n k p)) (omega arith) ∙ (λ t. record { corner = corner_last t; cell = cell_of (place_last t) })
 
   pub second_more : HeldSecond second n → k < corner_limit → p < place_count → HeldSecond (with_last second n k p) (n + 1)
   second_more s a b =
       record {
         few = omega arith;
-        corner_small = λ j h. by_last j h (λ d. rw d (omega (arith, corner-last))) (λ l. omega (arith, corner-else j l, s.corner_small j l));
-        place_on = λ j h. by_last j h (λ d. rw d (omega (arith, place-last))) (λ l. omega (arith, place-else j l, s.place_on j l));
+        corner_small = λ j h. by_last j h (λ d. rw d (omega (arith, corner_last))) (λ l. omega (arith, corner_else j l, s.corner_small j l));
+        place_on = λ j h. by_last j h (λ d. rw d (omega (arith, place_last))) (λ l. omega (arith, place_else j l, s.place_on j l));
       }
     where
       by_last : {A : Type 0} (j : ℕ) → j < n + 1 → (j ≡ n → A) → (j < n → A) → A

@@ -21,7 +21,7 @@ use Rattle.sheet.specs.declared.Label.{Label}
 use Rattle.sheet.proofs.Laws.{cell_on_lem, line_i, line_j, abs_sub}
 use Rattle.sheet.proofs.Blank.{blank_label}
 use Rattle.labels.specs.Used.{names}
-use Rattle.labels.proofs.Below.{no_both, Searching, searching-end, searching_skips}
+use Rattle.labels.proofs.Below.{no_both, Searching, searching_end, searching_skips}
 use Rattle.refusal.specs.declared.Refusal.{Refusal}
 use Rattle.join.specs.Rule.{Placed, shifted_by}
 use Rattle.join.specs.Join.{every, kept, asks, asked, tested, told, is_found, new_by}
@@ -31,7 +31,7 @@ use Rattle.join.specs.declared.Verdict.{Verdict}
 use Rattle.join.specs.declared.Found.{Found}
 use Rattle.join.specs.declared.Asked.{Asked}
 use Rattle.join_sheet.specs.declared.Joining.{Joining}
-use Rattle.join.proofs.Lists.{every-yes}
+use Rattle.join.proofs.Lists.{every_yes}
 use Rattle.join_sheet.proofs.Held.{none_found, first_found, found_used, cell_found_on}
 
 -- ---- a walk over the array: what is left of it gives the total
@@ -45,17 +45,17 @@ unfolding held_from
 one_more second count i h = let e : count - i ≡ suc (count - suc i) = omega arith in ap (held_from second i) e
 
 module _ {A : Type 0} (second : List ℕ) (count : ℕ) where
-  pub rest-start : (f : List Placed → A) → Rest second count 0 f (f (held_labels second count))
-  rest-start f = record { upto = omega arith; rest = ap (λ (n : ℕ). f (held_from second 0 n)) (omega arith) }
+  pub rest_start : (f : List Placed → A) → Rest second count 0 f (f (held_labels second count))
+  rest_start f = record { upto = omega arith; rest = ap (λ (n : ℕ). f (held_from second 0 n)) (omega arith) }
 
   pub rest_more : {i : ℕ} {f : List Placed → A} {total : A} (g : List Placed → A) → Rest second count i f total → i < count
       → ((l : List Placed) → f (held_at second i ∷ l) ≡ g l) → Rest second count (i + 1) g total
   rest_more {i} {f} g r h e =
       record { upto = omega arith; rest = rw add-one (sym (e _) ∙ ap f (sym (one_more second count i h)) ∙ r.rest) }
 
-  pub rest-stop : {i : ℕ} {f : List Placed → A} {total : A} (x : A) → Rest second count i f total → i < count
+  pub rest_stop : {i : ℕ} {f : List Placed → A} {total : A} (x : A) → Rest second count i f total → i < count
       → ((l : List Placed) → f (held_at second i ∷ l) ≡ x) → x ≡ total
-  rest-stop {i} {f} x r h e = sym (e _) ∙ ap f (sym (one_more second count i h)) ∙ r.rest
+  rest_stop {i} {f} x r h e = sym (e _) ∙ ap f (sym (one_more second count i h)) ∙ r.rest
 
   pub rest_end : {i : ℕ} {f : List Placed → A} {total : A} → Rest second count i f total → count ≤ i → f [] ≡ total
   unfolding held_from
@@ -63,13 +63,13 @@ module _ {A : Type 0} (second : List ℕ) (count : ℕ) where
 
 -- a test of every label, moved
 module _ (t : Placed → Bool) (d : Offset) (b : Placed) where
-  pub test-yes : (r : Bool) → r ≡ t (shifted_by d b) → not r ≡ false → (l : List Placed) → every t (map (shifted_by d) (b ∷ l)) ≡ every t (map (shifted_by d) l)
+  pub test_yes : (r : Bool) → r ≡ t (shifted_by d b) → not r ≡ false → (l : List Placed) → every t (map (shifted_by d) (b ∷ l)) ≡ every t (map (shifted_by d) l)
   unfolding every
-  test-yes r e n l = rw (sym e ∙ not-false r n)
+  test_yes r e n l = rw (sym e ∙ not-false r n)
 
-  pub test-no : (r : Bool) → r ≡ t (shifted_by d b) → not r ≡ true → (l : List Placed) → every t (map (shifted_by d) (b ∷ l)) ≡ false
+  pub test_no : (r : Bool) → r ≡ t (shifted_by d b) → not r ≡ true → (l : List Placed) → every t (map (shifted_by d) (b ∷ l)) ≡ false
   unfolding every
-  test-no r e n l = rw (sym e ∙ not-true r n)
+  test_no r e n l = rw (sym e ∙ not-true r n)
 
 pub test_all : (t : Placed → Bool) → every t [] ≡ true
 unfolding every
@@ -78,28 +78,28 @@ test_all t = refl
 -- ---- where the sheet has a corner
 
 module _ (sheet : List ℕ) (k : ℕ) where
-  blank-holds : (p : ℕ) → get_or sheet p 0 ≡ 0 → holds_at sheet k p ≡ false
+  blank_holds : (p : ℕ) → get_or sheet p 0 ≡ 0 → holds_at sheet k p ≡ false
   unfolding names
-  blank-holds p e = ap (names k) (blank_label e)
+  blank_holds p e = ap (names k) (blank_label e)
 
-  pub holds-skips : {p r : ℕ} → Searching (holds_at sheet k) place_count p → NextWritten sheet p r → Searching (holds_at sheet k) place_count r
-  holds-skips s w = searching_skips sheet (holds_at sheet k) blank-holds s w
+  pub holds_skips : {p r : ℕ} → Searching (holds_at sheet k) place_count p → NextWritten sheet p r → Searching (holds_at sheet k) place_count r
+  holds_skips s w = searching_skips sheet (holds_at sheet k) blank_holds s w
 
-  pub holds-hit : (p : ℕ) → Searching (holds_at sheet k) place_count p → p < place_count → holds_at sheet k p ≡ true → Found.At (cell_of p) ≡ cell_on sheet k
+  pub holds_hit : (p : ℕ) → Searching (holds_at sheet k) place_count p → p < place_count → holds_at sheet k p ≡ true → Found.At (cell_of p) ≡ cell_on sheet k
   unfolding cell_on
-  holds-hit p s h e = sym (first_found (holds_at sheet k) place_count p h s.so_far e)
+  holds_hit p s h e = sym (first_found (holds_at sheet k) place_count p h s.so_far e)
 
   pub holds_none : (p : ℕ) → Searching (holds_at sheet k) place_count p → place_count ≤ p → Found.Nowhere ≡ cell_on sheet k
   unfolding cell_on
-  holds_none p s h = sym (none_found (holds_at sheet k) place_count (sym (searching-end (holds_at sheet k) place_count p s h)))
+  holds_none p s h = sym (none_found (holds_at sheet k) place_count (sym (searching_end (holds_at sheet k) place_count p s h)))
 
   -- by the array
   pub entry_found : (used : List ℕ) → Unused sheet used → k < corner_limit → eqb (get_or used k 0) 0 ≡ not (is_found (cell_on sheet k))
   entry_found used t h = t.free k h ∙ ap not (sym (found_used sheet k))
 
-  pub entry-nowhere : (used : List ℕ) → Unused sheet used → k < corner_limit → get_or used k 0 ≡ 0 → cell_on sheet k ≡ Found.Nowhere
+  pub entry_nowhere : (used : List ℕ) → Unused sheet used → k < corner_limit → get_or used k 0 ≡ 0 → cell_on sheet k ≡ Found.Nowhere
   unfolding is_found
-  entry-nowhere used t h e = go (cell_on sheet k) (sym (eq-eqb (get_or used k 0) 0 e) ∙ entry_found used t h)
+  entry_nowhere used t h e = go (cell_on sheet k) (sym (eq-eqb (get_or used k 0) 0 e) ∙ entry_found used t h)
     where
       go : (x : Found) → true ≡ not (is_found x) → x ≡ Found.Nowhere
       go Found.Nowhere p = refl
@@ -116,9 +116,9 @@ unfolding asks
 asks_for x c a d e f = rw (e, f)
 
 module _ (find : ℕ → Found) (b : Placed) where
-  pub asked-on : (r : Asked) → r ≡ asks (find b.corner) b.cell Asked.Nothing → r ≡ Asked.Nothing → (l : List Placed) → asked find (b ∷ l) ≡ asked find l
+  pub asked_on : (r : Asked) → r ≡ asks (find b.corner) b.cell Asked.Nothing → r ≡ Asked.Nothing → (l : List Placed) → asked find (b ∷ l) ≡ asked find l
   unfolding asked asks
-  asked-on r e n l = go (find b.corner) (sym e ∙ n)
+  asked_on r e n l = go (find b.corner) (sym e ∙ n)
     where
       go : (x : Found) → asks x b.cell Asked.Nothing ≡ Asked.Nothing → asks x b.cell (asked find l) ≡ asked find l
       go Found.Nowhere h = refl
@@ -147,11 +147,11 @@ within a c h k =
     record { di_small = omega (arith, abs_sub a.i c.i); dj_small = omega (arith, abs_sub a.j c.j) }
 
 module _ (sheet second : List ℕ) where
-  held-within : (n i : ℕ) → ((j : ℕ) → i ≤ j → j < i + n → get_or second (corner_limit + j) 0 < place_count)
+  held_within : (n i : ℕ) → ((j : ℕ) → i ≤ j → j < i + n → get_or second (corner_limit + j) 0 < place_count)
       → (d : Offset) → asked (cell_on sheet) (held_from second i n) ≡ Asked.For d → Within 128 d
   unfolding held_from asked asks
-  held-within zero i on d e = absurd (let z : ◌≡◌ {A = ℕ} 0 1 = cc in omega arith)
-  held-within (suc n) i on d e = go (held-within n (suc i) (λ j p q. on j (omega arith) (omega arith)) d) (cell_on sheet (get_or second i 0)) refl e
+  held_within zero i on d e = absurd (let z : ◌≡◌ {A = ℕ} 0 1 = cc in omega arith)
+  held_within (suc n) i on d e = go (held_within n (suc i) (λ j p q. on j (omega arith) (omega arith)) d) (cell_on sheet (get_or second i 0)) refl e
     where
       go : (asked (cell_on sheet) (held_from second (suc i) n) ≡ Asked.For d → Within 128 d) → (x : Found) → cell_on sheet (get_or second i 0) ≡ x
           → asks x (cell_of (get_or second (corner_limit + i) 0)) (asked (cell_on sheet) (held_from second (suc i) n)) ≡ Asked.For d → Within 128 d
@@ -162,19 +162,19 @@ module _ (sheet second : List ℕ) where
           (within a (cell_of (get_or second (corner_limit + i) 0)) (cell_found_on sheet (get_or second i 0) a p)
           (cell_on_lem (get_or second (corner_limit + i) 0) (on i (omega arith) (omega arith))))
 
-  pub asked-within : (count : ℕ) → HeldSecond second count → (d : Offset) → asked (cell_on sheet) (held_labels second count) ≡ Asked.For d → Within 128 d
-  asked-within count s d e = held-within count 0 (λ j p q. s.place_on j (omega arith)) d e
+  pub asked_within : (count : ℕ) → HeldSecond second count → (d : Offset) → asked (cell_on sheet) (held_labels second count) ≡ Asked.For d → Within 128 d
+  asked_within count s d e = held_within count 0 (λ j p q. s.place_on j (omega arith)) d e
 
 -- ---- a label that agrees
 
 module _ (sheet used : List ℕ) (t : Unused sheet used) (k : ℕ) (h : k < corner_limit) (c : Cell) (x : Label) (e : x ≡ label_at sheet c) where
-  pub agrees-bare : x ≡ Label.Unlabelled → eqb (get_or used k 0) 0 ≡ agrees_on sheet (record { corner = k; cell = c })
+  pub agrees_bare : x ≡ Label.Unlabelled → eqb (get_or used k 0) 0 ≡ agrees_on sheet (record { corner = k; cell = c })
   unfolding agrees_on agrees_with
-  agrees-bare f = t.free k h ∙ rw (sym e ∙ f)
+  agrees_bare f = t.free k h ∙ rw (sym e ∙ f)
 
-  pub agrees-corner : (j : ℕ) → x ≡ Label.Corner j → eqb j k ≡ agrees_on sheet (record { corner = k; cell = c })
+  pub agrees_corner : (j : ℕ) → x ≡ Label.Corner j → eqb j k ≡ agrees_on sheet (record { corner = k; cell = c })
   unfolding agrees_on agrees_with
-  agrees-corner j f = rw (sym e ∙ f)
+  agrees_corner j f = rw (sym e ∙ f)
 
 -- ---- a word that names a corner
 
@@ -189,30 +189,30 @@ names_one k j x l e f = rw (sym e ∙ f)
 -- ---- the verdict
 
 module _ (t : Placed → Bool) (second : List Placed) (d : Offset) where
-  pub tested-clash : (r : Bool) → r ≡ every t (map (shifted_by d) second) → not r ≡ true → Verdict.Clash ≡ tested t second d
+  pub tested_clash : (r : Bool) → r ≡ every t (map (shifted_by d) second) → not r ≡ true → Verdict.Clash ≡ tested t second d
   unfolding tested
-  tested-clash r e n = rw (sym e ∙ not-true r n)
+  tested_clash r e n = rw (sym e ∙ not-true r n)
 
   module _
       (r : Bool) (e : r ≡ every t (map (shifted_by d) second)) (y : not r ≡ false)
       (s : Bool) (f : s ≡ every (λ l. on_sheet l.cell) (map (shifted_by d) second))
     where
-      pub tested-off : not s ≡ true → Verdict.Off ≡ tested t second d
+      pub tested_off : not s ≡ true → Verdict.Off ≡ tested t second d
       unfolding tested
-      tested-off n = rw (sym e ∙ not-false r y, sym f ∙ not-true s n)
+      tested_off n = rw (sym e ∙ not-false r y, sym f ∙ not-true s n)
 
-      pub tested-by : not s ≡ false → Verdict.By d ≡ tested t second d
+      pub tested_by : not s ≡ false → Verdict.By d ≡ tested t second d
       unfolding tested
-      tested-by n = rw (sym e ∙ not-false r y, sym f ∙ not-false s n)
+      tested_by n = rw (sym e ∙ not-false r y, sym f ∙ not-false s n)
 
 module _ (sheet : List ℕ) (second : List Placed) (r : Asked) (e : r ≡ asked (cell_on sheet) second) where
-  pub verdict-apart : r ≡ Asked.Nothing → Verdict.Apart ≡ verdict_on sheet second
+  pub verdict_apart : r ≡ Asked.Nothing → Verdict.Apart ≡ verdict_on sheet second
   unfolding verdict_on told
-  verdict-apart f = rw (sym e ∙ f)
+  verdict_apart f = rw (sym e ∙ f)
 
-  pub verdict-tested : (d : Offset) (v : Verdict) → r ≡ Asked.For d → v ≡ tested (agrees_on sheet) second d → v ≡ verdict_on sheet second
+  pub verdict_tested : (d : Offset) (v : Verdict) → r ≡ Asked.For d → v ≡ tested (agrees_on sheet) second d → v ≡ verdict_on sheet second
   unfolding verdict_on told
-  verdict-tested d v f g = rw (sym e ∙ f) g
+  verdict_tested d v f g = rw (sym e ∙ f) g
 
 -- ---- what is attached
 
@@ -263,9 +263,9 @@ kept_held second d p q (suc n) i h =
 
 module _ (sheet used second : List ℕ) (count : ℕ) (s : HeldSets sheet used second count) where
   -- what the array says is new is what the sheet says is new
-  new-same : (d : Offset) → new_held used (held_labels second count) d ≡ new_by (cell_on sheet) (held_labels second count) d
+  new_same : (d : Offset) → new_held used (held_labels second count) d ≡ new_by (cell_on sheet) (held_labels second count) d
   unfolding new_by
-  new-same d =
+  new_same d =
       kept_held second d (λ k. eqb (get_or used k 0) 0) (λ k. not (is_found (cell_on sheet k))) count 0
       (λ j a b. entry_found sheet (get_or second j 0) used s.unused (s.second.corner_small j (omega arith)))
 
@@ -274,24 +274,24 @@ module _ (sheet used second : List ℕ) (count : ℕ) (s : HeldSets sheet used s
     unfolding join_on outcome_of
     join_apart f = rw (sym e ∙ f)
 
-    pub join-clash : v ≡ Verdict.Clash → outcome sheet (Joining.Refused Refusal.PatchesClash) ≡ join_on sheet (held_labels second count)
+    pub join_clash : v ≡ Verdict.Clash → outcome sheet (Joining.Refused Refusal.PatchesClash) ≡ join_on sheet (held_labels second count)
     unfolding join_on outcome_of
-    join-clash f = rw (sym e ∙ f)
+    join_clash f = rw (sym e ∙ f)
 
-    pub join-off : v ≡ Verdict.Off → outcome sheet (Joining.Refused Refusal.OffSheet) ≡ join_on sheet (held_labels second count)
+    pub join_off : v ≡ Verdict.Off → outcome sheet (Joining.Refused Refusal.OffSheet) ≡ join_on sheet (held_labels second count)
     unfolding join_on outcome_of
-    join-off f = rw (sym e ∙ f)
+    join_off f = rw (sym e ∙ f)
 
     module _ (d : Offset) (f : v ≡ Verdict.By d) where
       pub join_by : (after : List ℕ) → after ≡ labelled sheet (new_held used (held_labels second count) d)
           → outcome after Joining.Fine ≡ join_on sheet (held_labels second count)
       unfolding join_on outcome_of
-      join_by after g = rw (sym e ∙ f, g, new-same d) refl
+      join_by after g = rw (sym e ∙ f, g, new_same d) refl
 
       -- the shift was asked for, and tested
-      pub join-write : WriteAsked second count d
+      pub join_write : WriteAsked second count d
       unfolding verdict_on told tested
-      join-write = go (asked (cell_on sheet) held) refl (sym e ∙ f)
+      join_write = go (asked (cell_on sheet) held) refl (sym e ∙ f)
         where
           held : List Placed
           held = held_labels second count
@@ -307,8 +307,8 @@ module _ (sheet used second : List ℕ) (count : ℕ) (s : HeldSets sheet used s
               subst (WriteAsked second count) h
               (record {
                 second = s.second;
-                within = asked-within sheet second count s.second a p;
-                on = λ i l. subst T (sym (every-yes (λ l. on_sheet l.cell) (map (shifted_by a) held) t _ (Memᴰ.map (shifted_by a) (listed i l)))) tt;
+                within = asked_within sheet second count s.second a p;
+                on = λ i l. subst T (sym (every_yes (λ l. on_sheet l.cell) (map (shifted_by a) held) t _ (Memᴰ.map (shifted_by a) (listed i l)))) tt;
               })
             where
               listed : (i : ℕ) → i < count → Memᴰ (held_at second i) held

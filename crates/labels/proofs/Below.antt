@@ -99,8 +99,8 @@ passing_one_more f g (suc n) p h a b same = go (ℕ_discrete p n) (λ l. passing
 -- ---- they rise
 
 module _ (l : List ℕ) (n : ℕ) (below : (a : ℕ) → a < length l → get_or l a 0 < n) where
-  snoc-below : (a : ℕ) → a < length (l ++ (n ∷ [])) → get_or (l ++ (n ∷ [])) a 0 < suc n
-  snoc-below a h = go (ℕ_discrete a (length l))
+  snoc_below : (a : ℕ) → a < length (l ++ (n ∷ [])) → get_or (l ++ (n ∷ [])) a 0 < suc n
+  snoc_below a h = go (ℕ_discrete a (length l))
     where
       go : Dec (a ≡ length l) → get_or (l ++ (n ∷ [])) a 0 < suc n
       go (yes d) = rw (d, get_or-append_seam l n [] 0) (omega arith)
@@ -108,8 +108,8 @@ module _ (l : List ℕ) (n : ℕ) (below : (a : ℕ) → a < length l → get_or
           let k : a < length l = omega (arith, length-append l (n ∷ [])) in
           rw (get_or-append l (n ∷ []) 0 a k) (omega (arith, below a k))
 
-  snoc-rises : Rising l → Rising (l ++ (n ∷ []))
-  snoc-rises r = record { rises = λ a b h k. go a b h k (ℕ_discrete b (length l)) }
+  snoc_rises : Rising l → Rising (l ++ (n ∷ []))
+  snoc_rises r = record { rises = λ a b h k. go a b h k (ℕ_discrete b (length l)) }
     where
       go : (a b : ℕ) → a < b → b < length (l ++ (n ∷ [])) → Dec (b ≡ length l) → get_or (l ++ (n ∷ [])) a 0 < get_or (l ++ (n ∷ [])) b 0
       go a b h k (yes d) =
@@ -127,7 +127,7 @@ passing_below f zero a h = absurd (not-suc-le-zero h)
 passing_below f (suc n) a h = go (f n) (passing_below f n) h
   where
     go : (t : Bool) → ((b : ℕ) → b < length (passing f n) → get_or (passing f n) b 0 < n) → a < length (passing f n ++ cond t (n ∷ []) []) → get_or (passing f n ++ cond t (n ∷ []) []) a 0 < suc n
-    go true w k = snoc-below (passing f n) n w a k
+    go true w k = snoc_below (passing f n) n w a k
     go false w k = rw append-nil (let r = w a (rw append-nil at k) in omega arith)
 
 pub passing_rises : (f : ℕ → Bool) (n : ℕ) → Rising (passing f n)
@@ -136,7 +136,7 @@ passing_rises f zero = record { rises = λ a b h k. absurd (not-suc-le-zero k) }
 passing_rises f (suc n) = go (f n) (passing_rises f n)
   where
     go : (t : Bool) → Rising (passing f n) → Rising (passing f n ++ cond t (n ∷ []) [])
-    go true w = snoc-rises (passing f n) n (passing_below f n) w
+    go true w = snoc_rises (passing f n) n (passing_below f n) w
     go false w = rw append-nil w
 
 -- ---- whether one passes
@@ -202,15 +202,15 @@ pub searching_start : (f : ℕ → Bool) (n : ℕ) → Searching f n 0
 searching_start f n = record { upto = omega arith; so_far = any_start f }
 
 module _ (f : ℕ → Bool) (n i : ℕ) (s : Searching f n i) where
-  pub searching-more : i < n → f i ≡ false → Searching f n (i + 1)
-  searching-more h e = record { upto = omega arith; so_far = any_more f i ∙ rw e s.so_far }
+  pub searching_more : i < n → f i ≡ false → Searching f n (i + 1)
+  searching_more h e = record { upto = omega arith; so_far = any_more f i ∙ rw e s.so_far }
 
-  pub searching-hit : i < n → f i ≡ true → true ≡ any_below n f
-  searching-hit h e = sym (any_hit f n i h e)
+  pub searching_hit : i < n → f i ≡ true → true ≡ any_below n f
+  searching_hit h e = sym (any_hit f n i h e)
 
-  pub searching-end : n ≤ i → false ≡ any_below n f
-  searching-end h = let q : n ≡ i = omega arith in rw q (sym s.so_far)
+  pub searching_end : n ≤ i → false ≡ any_below n f
+  searching_end h = let q : n ≡ i = omega arith in rw q (sym s.so_far)
 
 -- a search over the places of a sheet for what a place that holds nothing never is
 pub searching_skips : (sheet : List ℕ) (f : ℕ → Bool) → ((p : ℕ) → get_or sheet p 0 ≡ 0 → f p ≡ false) → {p r : ℕ} → Searching f 16384 p → NextWritten sheet p r → Searching f 16384 r
-searching_skips sheet f none g w = skips sheet (Searching f 16384) (λ q h e s. searching-more f 16384 q s h (none q e)) w g
+searching_skips sheet f none g w = skips sheet (Searching f 16384) (λ q h e s. searching_more f 16384 q s h (none q e)) w g

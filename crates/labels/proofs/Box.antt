@@ -21,7 +21,7 @@ use Rattle.labels.specs.Labelled.{is_labelled, LabelledCell, labelled_below, lab
 use Rattle.labels.specs.Box.{Inside, Taken, IsBoxOf, IsBox, lower_of, higher_of, widened, box_around, box_of, box_with}
 use Rattle.labels.proofs.Signed.{le_z_true, le_z_false, ≤ℤ-trans, ≤ℤ-antisym}
 use Rattle.labels.proofs.Below.{passing_none, passing_hit, passing_miss}
-use Rattle.labels.proofs.Labelled.{SamePlaces, same_places, cell-listed, listed_cell, labelled-cell-on, labelled-new, labelled-still, labelled-cases, empty_unlabelled, blank_unlabelled}
+use Rattle.labels.proofs.Labelled.{SamePlaces, same_places, cell_listed, listed_cell, labelled_cell_on, labelled_new, labelled_still, labelled_cases, empty_unlabelled, blank_unlabelled}
 use Rattle.labels.specs.declared.Bounds.{Bounds}
 use Rattle.labels.specs.declared.LabelBox.{LabelBox}
 
@@ -208,7 +208,7 @@ box_is sheet =
     forth c (inr a) = subst (LabelledCell sheet) (sym a.its_cell) (listed_cell sheet a.place a.listed)
 
     back : (c : Cell) → LabelledCell sheet c → ⊥ ⊎ Among (labelled_places sheet) c
-    back c l = inr (record { place = place_of c; listed = cell-listed sheet c l; its_cell = sym (cell_place c (labelled-cell-on sheet c l)) })
+    back c l = inr (record { place = place_of c; listed = cell_listed sheet c l; its_cell = sym (cell_place c (labelled_cell_on sheet c l)) })
 
 -- and no other box is
 pub box_found : (sheet : List ℕ) (box : LabelBox) → IsBox sheet box → box_of sheet ≡ box
@@ -226,12 +226,12 @@ same_box sheet after s = ap box_around (same_places sheet after s)
 pub box_attached : {sheet : List ℕ} {c : Cell} {k : ℕ} → Attaching sheet c k → box_of (attached sheet c k) ≡ widened (box_of sheet) c
 box_attached {sheet} {c} {k} a =
     box_found (attached sheet c k) (widened (box_of sheet) c)
-    (box_respects (λ d. (d ≡ c) ⊎ LabelledCell sheet d) (LabelledCell (attached sheet c k)) forth (labelled-cases a) (widened (box_of sheet) c)
+    (box_respects (λ d. (d ≡ c) ⊎ LabelledCell sheet d) (LabelledCell (attached sheet c k)) forth (labelled_cases a) (widened (box_of sheet) c)
     (box_widens (LabelledCell sheet) (box_of sheet) c (box_is sheet)))
   where
     forth : (d : Cell) → (d ≡ c) ⊎ LabelledCell sheet d → LabelledCell (attached sheet c k) d
-    forth d (inl e) = subst (LabelledCell (attached sheet c k)) (sym e) (labelled-new a)
-    forth d (inr l) = labelled-still a d l
+    forth d (inl e) = subst (LabelledCell (attached sheet c k)) (sym e) (labelled_new a)
+    forth d (inr l) = labelled_still a d l
 
 pub box_empty : box_of empty_sheet ≡ LabelBox.Empty
 box_empty = box_found empty_sheet LabelBox.Empty empty_unlabelled
@@ -258,7 +258,7 @@ box_framed sheet b h =
     }
   where
     ranged : (line : Cell → ℤ) → ((c : Cell) → OnSheet c → T (in_range (line c))) → {z : ℤ} → Taken (LabelledCell sheet) line z → T (in_range z)
-    ranged line f t = subst (λ (x : ℤ). T (in_range x)) t.there (f t.cell (labelled-cell-on sheet t.cell t.among))
+    ranged line f t = subst (λ (x : ℤ). T (in_range x)) t.there (f t.cell (labelled_cell_on sheet t.cell t.among))
 
 pub box_of_framed : (sheet : List ℕ) (b : Bounds) → box_of sheet ≡ LabelBox.Around b → Framed b
 box_of_framed sheet b e = box_framed sheet b (subst (IsBox sheet) e (box_is sheet))
@@ -274,9 +274,9 @@ pub boxing_start : (sheet : List ℕ) → Boxing sheet LabelBox.Empty 0
 boxing_start sheet = record { upto = omega arith; so_far = sym (ap box_around (passing_none (λ q. is_labelled (get_or sheet q 0)))) }
 
 module _ (sheet : List ℕ) (box : LabelBox) (p : ℕ) (g : Boxing sheet box p) where
-  pub boxing-more : (next : LabelBox) → p < 16384 → next ≡ box_with box (get_or sheet p 0) p → Boxing sheet next (p + 1)
+  pub boxing_more : (next : LabelBox) → p < 16384 → next ≡ box_with box (get_or sheet p 0) p → Boxing sheet next (p + 1)
   unfolding box_with
-  boxing-more next h e = record { upto = omega arith; so_far = e ∙ go (is_labelled (get_or sheet p 0)) refl }
+  boxing_more next h e = record { upto = omega arith; so_far = e ∙ go (is_labelled (get_or sheet p 0)) refl }
     where
       go : (t : Bool) → is_labelled (get_or sheet p 0) ≡ t → cond t (widened box (cell_of p)) box ≡ box_around (labelled_below sheet (p + 1))
       go true q =
@@ -285,13 +285,13 @@ module _ (sheet : List ℕ) (box : LabelBox) (p : ℕ) (g : Boxing sheet box p) 
           ∙ ap box_around (sym (passing_hit (λ q. is_labelled (get_or sheet q 0)) p q))
       go false q = g.so_far ∙ ap box_around (sym (passing_miss (λ q. is_labelled (get_or sheet q 0)) p q))
 
-  boxing-blank : p < 16384 → get_or sheet p 0 ≡ 0 → Boxing sheet box (p + 1)
+  boxing_blank : p < 16384 → get_or sheet p 0 ≡ 0 → Boxing sheet box (p + 1)
   unfolding box_with
-  boxing-blank h e = boxing-more box h (rw (blank_unlabelled e))
+  boxing_blank h e = boxing_more box h (rw (blank_unlabelled e))
 
-  pub boxing-end : 16384 ≤ p → box ≡ box_of sheet
+  pub boxing_end : 16384 ≤ p → box ≡ box_of sheet
   unfolding box_of labelled_places
-  boxing-end h = let e : p ≡ 16384 = omega (arith, g.upto) in g.so_far ∙ ap (λ (q : ℕ). box_around (labelled_below sheet q)) e
+  boxing_end h = let e : p ≡ 16384 = omega (arith, g.upto) in g.so_far ∙ ap (λ (q : ℕ). box_around (labelled_below sheet q)) e
 
 pub boxing_skips : (sheet : List ℕ) (box : LabelBox) (p : ℕ) → Boxing sheet box p → {r : ℕ} → NextWritten sheet p r → Boxing sheet box r
-boxing_skips sheet box p g w = skips sheet (Boxing sheet box) (λ q h e s. boxing-blank sheet box q s h e) w g
+boxing_skips sheet box p g w = skips sheet (Boxing sheet box) (λ q h e s. boxing_blank sheet box q s h e) w g

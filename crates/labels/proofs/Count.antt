@@ -17,8 +17,8 @@ use Rattle.labels.specs.Count.{how_many}
 -- ---- one number more
 
 module _ (f : ℕ → Bool) where
-  pub many-start : how_many f 0 ≡ 0
-  many-start = rw (passing_none f)
+  pub many_start : how_many f 0 ≡ 0
+  many_start = rw (passing_none f)
 
   pub many_more : (n : ℕ) → how_many f (n + 1) ≡ how_many f n + cond (f n) 1 0
   many_more n = go (f n) refl
@@ -27,15 +27,15 @@ module _ (f : ℕ → Bool) where
       go true e = rw (passing_hit f n e, length-append) (omega arith)
       go false e = rw (passing_miss f n e) (omega arith)
 
-  pub many-few : (n : ℕ) → how_many f n ≤ n
-  many-few = passing_few f
+  pub many_few : (n : ℕ) → how_many f n ≤ n
+  many_few = passing_few f
 
 pub many_ext : (f g : ℕ → Bool) (n : ℕ) → ((k : ℕ) → k < n → f k ≡ g k) → how_many f n ≡ how_many g n
 many_ext f g n h = rw (passing_ext f g n h)
 
 -- none passes
 pub many_none : (f : ℕ → Bool) (n : ℕ) → ((k : ℕ) → k < n → f k ≡ false) → how_many f n ≡ 0
-many_none f zero h = many-start f
+many_none f zero h = many_start f
 many_none f (suc n) h = let e : how_many f (suc n) ≡ how_many f n = rw (add-one n) at (ap length (passing_miss f n (h n (omega arith)))) in
     e ∙ many_none f n (λ k l. h k (omega arith))
 
@@ -46,17 +46,17 @@ pub record Tallying (f : ℕ → Bool) (n m i : ℕ) : Type 0 where
   pub so_far : m ≡ how_many f i
 
 pub tallying_start : (f : ℕ → Bool) (n : ℕ) → Tallying f n 0 0
-tallying_start f n = record { upto = omega arith; so_far = sym (many-start f) }
+tallying_start f n = record { upto = omega arith; so_far = sym (many_start f) }
 
 module _ {f : ℕ → Bool} {n m i : ℕ} (t : Tallying f n m i) where
-  pub tallying-more : {one : ℕ} → i < n → one ≡ cond (f i) 1 0 → Tallying f n (m + one) (i + 1)
-  tallying-more h e = record { upto = omega arith; so_far = ap₂ ◌+◌ t.so_far e ∙ sym (many_more f i) }
+  pub tallying_more : {one : ℕ} → i < n → one ≡ cond (f i) 1 0 → Tallying f n (m + one) (i + 1)
+  tallying_more h e = record { upto = omega arith; so_far = ap₂ ◌+◌ t.so_far e ∙ sym (many_more f i) }
 
-  pub tallying-few : m ≤ i
-  tallying-few = omega (arith, t.so_far, many-few f i)
+  pub tallying_few : m ≤ i
+  tallying_few = omega (arith, t.so_far, many_few f i)
 
-  pub tallying-end : n ≤ i → m ≡ how_many f n
-  tallying-end h = let e : i ≡ n = omega (arith, t.upto) in t.so_far ∙ ap (how_many f) e
+  pub tallying_end : n ≤ i → m ≡ how_many f n
+  tallying_end h = let e : i ≡ n = omega (arith, t.upto) in t.so_far ∙ ap (how_many f) e
 
 -- ---- one to one
 
@@ -86,7 +86,7 @@ but_not g p = rw (eq-eqb p p refl) (go (g p))
 
 -- then they are not more
 pub many_into : (f g : ℕ → Bool) (m n : ℕ) (to : ℕ → ℕ) → Into f g m n to → how_many f m ≤ how_many g n
-many_into f g zero n to h = omega (arith, many-start f)
+many_into f g zero n to h = omega (arith, many_start f)
 many_into f g (suc m) n to h = go (f m) refl (λ g' p. many_into f g' m n to (record { lands = λ i l. h.lands i (omega arith); passes = p; apart = λ i j k l. h.apart i j (omega arith) (omega arith) }))
   where
     go : (t : Bool) → f m ≡ t → ((g' : ℕ → Bool) → ((i : ℕ) → i < m → f i ≡ true → g' (to i) ≡ true) → how_many f m ≤ how_many g' n) → how_many f (suc m) ≤ how_many g n
@@ -104,16 +104,16 @@ module _ {n : ℕ} (s : Shuffle n) (f g : ℕ → Bool) (same : (i : ℕ) → i 
   back j h = sym (same (s.from j) (s.from_in j h)) ∙ ap g (s.to_from j h)
 
   -- as many pass
-  pub many-paired : how_many g n ≡ how_many f n
-  many-paired = omega (
+  pub many_paired : how_many g n ≡ how_many f n
+  many_paired = omega (
     arith,
     many_into f g n n s.to (record { lands = λ i h e. s.to_in i h; passes = λ i h e. same i h ∙ e; apart = to_one s }),
     many_into g f n n s.from (record { lands = λ j h e. s.from_in j h; passes = λ j h e. back j h ∙ e; apart = λ i j g h e. sym (s.to_from i g) ∙ ap s.to e ∙ s.to_from j h }),
   )
 
   -- and one passes in both or in neither
-  pub any-paired : any_below n g ≡ any_below n f
-  any-paired = go (any_below n f) refl
+  pub any_paired : any_below n g ≡ any_below n f
+  any_paired = go (any_below n f) refl
     where
       go : (t : Bool) → any_below n f ≡ t → any_below n g ≡ t
       go true e = let p = any_yes f n e in any_hit g n (s.to p.number) (s.to_in _ p.below) (same _ p.below ∙ p.passes)

@@ -14,7 +14,7 @@ use Rattle.sheet.specs.Words.{Content, label_of_number, label_of, word_at, label
 use Rattle.sheet.proofs.Laws.{place_in, cell_on_lem, place_cell, place_one, place_rises}
 use Rattle.sheet.specs.Blank.{NextWritten}
 use Rattle.sheet.proofs.Blank.{skips, blank_label}
-use Rattle.sheet.proofs.Words.{label_on, labelled_on_lem, no_corner_lem, Changed, attached-changes, hole-changes, ambiguous-changes, cleared-changes, label-here, label-else, empty_word}
+use Rattle.sheet.proofs.Words.{label_on, labelled_on_lem, no_corner_lem, Changed, attached_changes, hole_changes, ambiguous_changes, cleared_changes, label_here, label_else, empty_word}
 use Rattle.sheet.specs.declared.Cell.{Cell}
 use Rattle.sheet.specs.declared.Label.{Label}
 use Rattle.labels.specs.Labelled.{Rising, names_corner, is_labelled, LabelledCell, labelled_below, labelled_places, label_count, counted, Attaching, SameLabels}
@@ -94,14 +94,14 @@ cell_labelled sheet p h e =
     record { corner = n.corner; holds = label_of_place sheet p h ∙ n.named }
 
 module _ (sheet : List ℕ) (c : Cell) (l : LabelledCell sheet c) where
-  pub labelled-cell-on : OnSheet c
-  labelled-cell-on = labelled_on_lem sheet c l.corner l.holds
+  pub labelled_cell_on : OnSheet c
+  labelled_cell_on = labelled_on_lem sheet c l.corner l.holds
 
-  pub labelled-word : is_labelled (word_at sheet c) ≡ true
-  labelled-word = corner_labelled (word_at sheet c) l.corner (sym (label_on sheet c labelled-cell-on) ∙ l.holds)
+  pub labelled_word : is_labelled (word_at sheet c) ≡ true
+  labelled_word = corner_labelled (word_at sheet c) l.corner (sym (label_on sheet c labelled_cell_on) ∙ l.holds)
 
-  pub cell-listed : Memᴰ (place_of c) (labelled_places sheet)
-  cell-listed = place_listed sheet (place_of c) (place_in c labelled-cell-on) labelled-word
+  pub cell_listed : Memᴰ (place_of c) (labelled_places sheet)
+  cell_listed = place_listed sheet (place_of c) (place_in c labelled_cell_on) labelled_word
 
 pub listed_cell : (sheet : List ℕ) (p : ℕ) → Memᴰ p (labelled_places sheet) → LabelledCell sheet (cell_of p)
 listed_cell sheet p m = let h = listed_place sheet p m in cell_labelled sheet p h.0 h.1
@@ -134,23 +134,23 @@ changed_labels {sheet} {after} {c} ch on e = record { same_label = λ p h. go p 
     go p (no d) = ap label_of (ch.other_word p d)
 
 module _ (sheet : List ℕ) (c : Cell) (long : 16384 ≤ length sheet) (on : OnSheet c) where
-  pub hole-keeps : SameLabels sheet (hole_marked sheet c)
-  hole-keeps = changed_labels (hole-changes sheet c long on) on refl
+  pub hole_keeps : SameLabels sheet (hole_marked sheet c)
+  hole_keeps = changed_labels (hole_changes sheet c long on) on refl
 
-  pub ambiguous-keeps : SameLabels sheet (ambiguous_marked sheet c)
-  ambiguous-keeps = changed_labels (ambiguous-changes sheet c long on) on refl
+  pub ambiguous_keeps : SameLabels sheet (ambiguous_marked sheet c)
+  ambiguous_keeps = changed_labels (ambiguous_changes sheet c long on) on refl
 
-  pub cleared-keeps : SameLabels sheet (marks_cleared sheet c)
-  cleared-keeps = changed_labels (cleared-changes sheet c long on) on refl
+  pub cleared_keeps : SameLabels sheet (marks_cleared sheet c)
+  cleared_keeps = changed_labels (cleared_changes sheet c long on) on refl
 
 -- ---- a corner attached at an unlabelled cell
 
 module _ {sheet : List ℕ} {c : Cell} {k : ℕ} (a : Attaching sheet c k) where
   changes : Changed sheet (attached sheet c k) c (record { label = Label.Corner k; hole = hole_at sheet c; ambiguous = ambiguous_at sheet c })
-  changes = attached-changes sheet c a.long a.on k a.corner_fits
+  changes = attached_changes sheet c a.long a.on k a.corner_fits
 
-  pub label-before : label_of (get_or sheet (place_of c) 0) ≡ Label.Unlabelled
-  label-before = sym (label_on sheet c a.on) ∙ a.bare
+  pub label_before : label_of (get_or sheet (place_of c) 0) ≡ Label.Unlabelled
+  label_before = sym (label_on sheet c a.on) ∙ a.bare
 
   pub label_after : label_of (get_or (attached sheet c k) (place_of c) 0) ≡ Label.Corner k
   label_after = changes.label_word
@@ -159,34 +159,34 @@ module _ {sheet : List ℕ} {c : Cell} {k : ℕ} (a : Attaching sheet c k) where
   word_else = changes.other_word
 
   -- the labelled cells are those before it and the new one
-  pub labelled-new : LabelledCell (attached sheet c k) c
-  labelled-new = record { corner = k; holds = label-here changes a.on }
+  pub labelled_new : LabelledCell (attached sheet c k) c
+  labelled_new = record { corner = k; holds = label_here changes a.on }
 
-  pub labelled-still : (d : Cell) → LabelledCell sheet d → LabelledCell (attached sheet c k) d
-  labelled-still d l = record { corner = l.corner; holds = label-else changes a.on d ne ∙ l.holds }
+  pub labelled_still : (d : Cell) → LabelledCell sheet d → LabelledCell (attached sheet c k) d
+  labelled_still d l = record { corner = l.corner; holds = label_else changes a.on d ne ∙ l.holds }
     where
       ne : d ≡ c → ⊥
       ne e = no_corner_lem l.corner (sym a.bare ∙ ap (label_at sheet) (sym e) ∙ l.holds)
 
-  pub labelled-cases : (d : Cell) → LabelledCell (attached sheet c k) d → (d ≡ c) ⊎ LabelledCell sheet d
-  labelled-cases d l = go (ℕ_discrete (place_of d) (place_of c))
+  pub labelled_cases : (d : Cell) → LabelledCell (attached sheet c k) d → (d ≡ c) ⊎ LabelledCell sheet d
+  labelled_cases d l = go (ℕ_discrete (place_of d) (place_of c))
     where
       go : Dec (place_of d ≡ place_of c) → (d ≡ c) ⊎ LabelledCell sheet d
-      go (yes e) = inl (place_one d c (labelled-cell-on (attached sheet c k) d l) a.on e)
-      go (no e) = inr (record { corner = l.corner; holds = sym (label-else changes a.on d (λ q. e (ap place_of q))) ∙ l.holds })
+      go (yes e) = inl (place_one d c (labelled_cell_on (attached sheet c k) d l) a.on e)
+      go (no e) = inr (record { corner = l.corner; holds = sym (label_else changes a.on d (λ q. e (ap place_of q))) ∙ l.holds })
 
   -- one label more
-  pub count-attached : label_count (attached sheet c k) ≡ label_count sheet + 1
+  pub count_attached : label_count (attached sheet c k) ≡ label_count sheet + 1
   unfolding label_count labelled_places
-  count-attached =
+  count_attached =
       passing_one_more (λ p. is_labelled (get_or sheet p 0)) (λ p. is_labelled (get_or (attached sheet c k) p 0)) 16384 (place_of c) (place_in c a.on)
-      (none_unlabelled _ label-before) (corner_labelled _ k label_after) (λ q h e. ap is_labelled (word_else q e))
+      (none_unlabelled _ label_before) (corner_labelled _ k label_after) (λ q h e. ap is_labelled (word_else q e))
 
 -- ---- the empty sheet
 
 pub empty_unlabelled : (c : Cell) → LabelledCell empty_sheet c → ⊥
 unfolding is_labelled names_corner label_of label_of_number
-empty_unlabelled c l = no_both true refl (sym (labelled-word empty_sheet c l) ∙ ap is_labelled (empty_word (place_of c)))
+empty_unlabelled c l = no_both true refl (sym (labelled_word empty_sheet c l) ∙ ap is_labelled (empty_word (place_of c)))
 
 -- ---- the count, a place at a time
 
@@ -199,8 +199,8 @@ pub counting_start : (sheet : List ℕ) → Counting sheet 0 0
 counting_start sheet = record { upto = omega arith; so_far = sym (ap length (passing_none (λ q. is_labelled (get_or sheet q 0)))) }
 
 module _ (sheet : List ℕ) (n p : ℕ) (g : Counting sheet n p) where
-  pub counting-few : p < 16384 → n < 16384
-  counting-few h = let e = passing_few (λ q. is_labelled (get_or sheet q 0)) p in omega (arith, g.so_far)
+  pub counting_few : p < 16384 → n < 16384
+  counting_few h = let e = passing_few (λ q. is_labelled (get_or sheet q 0)) p in omega (arith, g.so_far)
 
   pub counting_more : (m : ℕ) → p < 16384 → m ≡ counted n (get_or sheet p 0) → Counting sheet m (p + 1)
   unfolding counted
@@ -210,13 +210,13 @@ module _ (sheet : List ℕ) (n p : ℕ) (g : Counting sheet n p) where
       go true q = rw (passing_hit (λ q. is_labelled (get_or sheet q 0)) p q, length-append) (omega (arith, g.so_far))
       go false q = rw (passing_miss (λ q. is_labelled (get_or sheet q 0)) p q) g.so_far
 
-  counting-blank : p < 16384 → get_or sheet p 0 ≡ 0 → Counting sheet n (p + 1)
+  counting_blank : p < 16384 → get_or sheet p 0 ≡ 0 → Counting sheet n (p + 1)
   unfolding counted
-  counting-blank h e = counting_more n h (rw (blank_unlabelled e))
+  counting_blank h e = counting_more n h (rw (blank_unlabelled e))
 
-  pub counting-end : 16384 ≤ p → n ≡ label_count sheet
+  pub counting_end : 16384 ≤ p → n ≡ label_count sheet
   unfolding label_count labelled_places
-  counting-end h = let e : p ≡ 16384 = omega (arith, g.upto) in g.so_far ∙ ap (λ (q : ℕ). length (labelled_below sheet q)) e
+  counting_end h = let e : p ≡ 16384 = omega (arith, g.upto) in g.so_far ∙ ap (λ (q : ℕ). length (labelled_below sheet q)) e
 
 pub counting_skips : (sheet : List ℕ) (n p : ℕ) → Counting sheet n p → {r : ℕ} → NextWritten sheet p r → Counting sheet n r
-counting_skips sheet n p g w = skips sheet (Counting sheet n) (λ q h e s. counting-blank sheet n q s h e) w g
+counting_skips sheet n p g w = skips sheet (Counting sheet n) (λ q h e s. counting_blank sheet n q s h e) w g

@@ -24,10 +24,10 @@ use Rattle.labels.proofs.Rim.{same_rim}
 -- ---- labels
 
 module _ {n : ℕ} (s : Shuffle n) where
-  names-paired : (l : Label) → names_corner (paired_label s l) ≡ names_corner l
+  names_paired : (l : Label) → names_corner (paired_label s l) ≡ names_corner l
   unfolding names_corner paired_label
-  names-paired Label.Unlabelled = refl
-  names-paired (Label.Corner k) = refl
+  names_paired Label.Unlabelled = refl
+  names_paired (Label.Corner k) = refl
 
   same_test : (j k : ℕ) → j < n → k < n → eqb (s.to j) (s.to k) ≡ eqb j k
   same_test j k g h = go (eqb j k) refl
@@ -37,55 +37,55 @@ module _ {n : ℕ} (s : Shuffle n) where
       go false e = ne_eqb (s.to j) (s.to k) (λ f. eqb-false j k e (to_one s j k g h f))
 
   -- a label names a corner exactly if its pair names the paired one
-  names-pair : (l : Label) (k : ℕ) → ((j : ℕ) → l ≡ Label.Corner j → j < n) → k < n → names (s.to k) (paired_label s l) ≡ names k l
+  names_pair : (l : Label) (k : ℕ) → ((j : ℕ) → l ≡ Label.Corner j → j < n) → k < n → names (s.to k) (paired_label s l) ≡ names k l
   unfolding names paired_label
-  names-pair Label.Unlabelled k known h = refl
-  names-pair (Label.Corner j) k known h = same_test j k (known j refl) h
+  names_pair Label.Unlabelled k known h = refl
+  names_pair (Label.Corner j) k known h = same_test j k (known j refl) h
 
   -- the corner whose pair a label names
   record Unpaired (l : Label) (k : ℕ) : Type 0 where
     corner : ℕ
     named : l ≡ Label.Corner corner
-    its-pair : s.to corner ≡ k
+    its_pair : s.to corner ≡ k
 
   unpaired : (l : Label) (k : ℕ) → paired_label s l ≡ Label.Corner k → Unpaired l k
   unfolding paired_label
   unpaired Label.Unlabelled k e = absurd (no_corner_lem k e)
-  unpaired (Label.Corner j) k e = record { corner = j; named = refl; its-pair = cc }
+  unpaired (Label.Corner j) k e = record { corner = j; named = refl; its_pair = cc }
 
 -- ---- sheets
 
 module _ {n : ℕ} {s : Shuffle n} {sheet sheet' : List ℕ} (paired : PairedSheets s sheet sheet') where
-  pub paired-labelled : SamePlaces sheet sheet'
+  pub paired_labelled : SamePlaces sheet sheet'
   unfolding is_labelled
-  paired-labelled = record { same_place = λ p h. ap names_corner (paired.labels p h) ∙ names-paired s (label_of (get_or sheet p 0)) }
+  paired_labelled = record { same_place = λ p h. ap names_corner (paired.labels p h) ∙ names_paired s (label_of (get_or sheet p 0)) }
 
-  pub paired-places : labelled_places sheet' ≡ labelled_places sheet
-  paired-places = same_places sheet sheet' paired-labelled
+  pub paired_places : labelled_places sheet' ≡ labelled_places sheet
+  paired_places = same_places sheet sheet' paired_labelled
 
-  pub paired-count : label_count sheet' ≡ label_count sheet
-  paired-count = same_count sheet sheet' paired-labelled
+  pub paired_count : label_count sheet' ≡ label_count sheet
+  paired_count = same_count sheet sheet' paired_labelled
 
-  pub paired-box : box_of sheet' ≡ box_of sheet
-  paired-box = same_box sheet sheet' paired-labelled
+  pub paired_box : box_of sheet' ≡ box_of sheet
+  paired_box = same_box sheet sheet' paired_labelled
 
-  pub paired-rim : (depth : ℕ) → rim depth sheet' ≡ rim depth sheet
-  paired-rim depth = same_rim depth sheet sheet' paired-labelled
+  pub paired_rim : (depth : ℕ) → rim depth sheet' ≡ rim depth sheet
+  paired_rim depth = same_rim depth sheet sheet' paired_labelled
 
   -- where the first sheet names no corner from n on
   module _ (known : (p k : ℕ) → p < 16384 → label_of (get_or sheet p 0) ≡ Label.Corner k → k < n) where
-    pub paired-used : (k : ℕ) → k < n → used_on sheet' (s.to k) ≡ used_on sheet k
+    pub paired_used : (k : ℕ) → k < n → used_on sheet' (s.to k) ≡ used_on sheet k
     unfolding used_on
-    paired-used k h =
+    paired_used k h =
         any_ext (λ p. names (s.to k) (label_of (get_or sheet' p 0))) (λ p. names k (label_of (get_or sheet p 0))) 16384
-        (λ p l. ap (names (s.to k)) (paired.labels p l) ∙ names-pair s (label_of (get_or sheet p 0)) k (λ j. known p j l) h)
+        (λ p l. ap (names (s.to k)) (paired.labels p l) ∙ names_pair s (label_of (get_or sheet p 0)) k (λ j. known p j l) h)
 
-    pub paired-one : OneCell sheet → OneCell sheet'
-    paired-one o =
+    pub paired_one : OneCell sheet → OneCell sheet'
+    paired_one o =
         record {
           one_place = λ p q k g h a b.
               let x = unpaired s (label_of (get_or sheet p 0)) k (sym (paired.labels p g) ∙ a) in
               let y = unpaired s (label_of (get_or sheet q 0)) k (sym (paired.labels q h) ∙ b) in
-              let e = to_one s x.corner y.corner (known p x.corner g x.named) (known q y.corner h y.named) (x.its-pair ∙ sym y.its-pair) in
+              let e = to_one s x.corner y.corner (known p x.corner g x.named) (known q y.corner h y.named) (x.its_pair ∙ sym y.its_pair) in
               o.one_place p q x.corner g h x.named (y.named ∙ ap Label.Corner (sym e));
         }

@@ -20,7 +20,7 @@ use Rattle.sheet.specs.declared.Cell.{Cell}
 use Rattle.labels.specs.Labelled.{is_labelled, LabelledCell, Attaching}
 use Rattle.labels.specs.Rim.{on_rim, RimReached, rim_at, rim}
 use Rattle.labels.proofs.Below.{no_both, both, any_hit, any_yes, any_ext, Searching, searching_skips}
-use Rattle.labels.proofs.Labelled.{SamePlaces, cell_labelled, labelled-cell-on, labelled-word, labelled-new, labelled-still, labelled-cases, empty_unlabelled, blank_unlabelled}
+use Rattle.labels.proofs.Labelled.{SamePlaces, cell_labelled, labelled_cell_on, labelled_word, labelled_new, labelled_still, labelled_cases, empty_unlabelled, blank_unlabelled}
 
 -- ---- the rule
 
@@ -35,9 +35,9 @@ rim_yes depth sheet e =
 pub rim_there : (depth : ℕ) (sheet : List ℕ) → RimReached depth sheet → rim depth sheet ≡ true
 unfolding rim rim_at
 rim_there depth sheet r =
-    let on = labelled-cell-on sheet r.cell r.labelled in
+    let on = labelled_cell_on sheet r.cell r.labelled in
     any_hit (λ q. is_labelled (get_or sheet q 0) && on_rim depth (cell_of q)) 16384 (place_of r.cell) (place_in r.cell on)
-    (rw (labelled-word sheet r.cell r.labelled, cell_place r.cell on) r.in_rings)
+    (rw (labelled_word sheet r.cell r.labelled, cell_place r.cell on) r.in_rings)
 
 -- no exactly if none does
 pub rim_no : (depth : ℕ) (sheet : List ℕ) → (RimReached depth sheet → ⊥) → rim depth sheet ≡ false
@@ -65,11 +65,11 @@ rim_attached {sheet} {c} {k} depth a = go (on_rim depth c) refl (rim depth sheet
     one d r e f (inr l) = no_both (rim depth sheet) (rim_there depth sheet (record { cell = d; labelled = l; in_rings = r })) f
 
     go : (t : Bool) → on_rim depth c ≡ t → (u : Bool) → rim depth sheet ≡ u → rim depth (attached sheet c k) ≡ (t || u)
-    go true e u f = rim_there depth (attached sheet c k) (record { cell = c; labelled = labelled-new a; in_rings = e })
+    go true e u f = rim_there depth (attached sheet c k) (record { cell = c; labelled = labelled_new a; in_rings = e })
     go false e true f =
         let r = rim_yes depth sheet f in
-        rim_there depth (attached sheet c k) (record { cell = r.cell; labelled = labelled-still a r.cell r.labelled; in_rings = r.in_rings })
-    go false e false f = rim_no depth (attached sheet c k) (λ r. one r.cell r.in_rings e f (labelled-cases a r.cell r.labelled))
+        rim_there depth (attached sheet c k) (record { cell = r.cell; labelled = labelled_still a r.cell r.labelled; in_rings = r.in_rings })
+    go false e false f = rim_no depth (attached sheet c k) (λ r. one r.cell r.in_rings e f (labelled_cases a r.cell r.labelled))
 
 pub rim_empty : (depth : ℕ) → rim depth empty_sheet ≡ false
 rim_empty depth = rim_no depth empty_sheet (λ r. empty_unlabelled r.cell r.labelled)
@@ -88,23 +88,23 @@ high_fits d h = fits (pos 63 -ℤ pos d) (omega (arith, abs_sub (pos 63) (pos d)
 -- ---- a cell, by the four comparisons
 
 module _ (depth : ℕ) (c : Cell) where
-  pub rim-low-i : lt_z c.i (pos depth -ℤ pos 64) ≡ true → true ≡ on_rim depth c
+  pub rim_low_i : lt_z c.i (pos depth -ℤ pos 64) ≡ true → true ≡ on_rim depth c
   unfolding on_rim
-  rim-low-i e = rw e
+  rim_low_i e = rw e
 
   module _ (not_low_i : lt_z c.i (pos depth -ℤ pos 64) ≡ false) where
-    pub rim-high-i : lt_z (pos 63 -ℤ pos depth) c.i ≡ true → true ≡ on_rim depth c
+    pub rim_high_i : lt_z (pos 63 -ℤ pos depth) c.i ≡ true → true ≡ on_rim depth c
     unfolding on_rim
-    rim-high-i e = rw (not_low_i, e)
+    rim_high_i e = rw (not_low_i, e)
 
     module _ (not_high_i : lt_z (pos 63 -ℤ pos depth) c.i ≡ false) where
-      pub rim-low-j : lt_z c.j (pos depth -ℤ pos 64) ≡ true → true ≡ on_rim depth c
+      pub rim_low_j : lt_z c.j (pos depth -ℤ pos 64) ≡ true → true ≡ on_rim depth c
       unfolding on_rim
-      rim-low-j e = rw (not_low_i, not_high_i, e)
+      rim_low_j e = rw (not_low_i, not_high_i, e)
 
-      pub rim-high-j : lt_z c.j (pos depth -ℤ pos 64) ≡ false → lt_z (pos 63 -ℤ pos depth) c.j ≡ on_rim depth c
+      pub rim_high_j : lt_z c.j (pos depth -ℤ pos 64) ≡ false → lt_z (pos 63 -ℤ pos depth) c.j ≡ on_rim depth c
       unfolding on_rim
-      rim-high-j e = rw (not_low_i, not_high_i, e)
+      rim_high_j e = rw (not_low_i, not_high_i, e)
 
 -- ---- places that hold nothing
 

@@ -23,7 +23,7 @@ use Rattle.sheet.specs.declared.Label.{Label}
 use Rattle.labels.specs.Labelled.{passing, any_below, is_labelled, labelled_places, label_count, Attaching, SameLabels}
 use Rattle.labels.specs.Used.{names, used_on, UsedAt, Tied, noted, OneCell}
 use Rattle.labels.proofs.Below.{no_both, passing_ext, passing_one_more, both, Passes, any_hit, any_yes, any_none, any_no, any_ext, any_start, any_more}
-use Rattle.labels.proofs.Labelled.{labelled_names, hole-keeps, ambiguous-keeps, cleared-keeps, label-before, label_after, word_else}
+use Rattle.labels.proofs.Labelled.{labelled_names, hole_keeps, ambiguous_keeps, cleared_keeps, label_before, label_after, word_else}
 
 -- ---- a label that names a corner
 
@@ -42,18 +42,18 @@ one_corner j k e = cc
 -- ---- the rule: a corner is used exactly if a place, or a cell, holds it
 
 module _ (sheet : List ℕ) (k : ℕ) where
-  pub used-yes : used_on sheet k ≡ true → UsedAt sheet k
+  pub used_yes : used_on sheet k ≡ true → UsedAt sheet k
   unfolding used_on
-  used-yes e =
+  used_yes e =
       let p = any_yes (λ q. names k (label_of (get_or sheet q 0))) 16384 e in
       record { place = p.number; below = p.below; holds = it_names k (label_of (get_or sheet p.number 0)) p.passes }
 
-  pub used-there : UsedAt sheet k → used_on sheet k ≡ true
+  pub used_there : UsedAt sheet k → used_on sheet k ≡ true
   unfolding used_on
-  used-there u = any_hit (λ q. names k (label_of (get_or sheet q 0))) 16384 u.place u.below (names_it k (label_of (get_or sheet u.place 0)) u.holds)
+  used_there u = any_hit (λ q. names k (label_of (get_or sheet q 0))) 16384 u.place u.below (names_it k (label_of (get_or sheet u.place 0)) u.holds)
 
   pub unused : used_on sheet k ≡ false → UsedAt sheet k → ⊥
-  unused e u = no_both (used_on sheet k) (used-there u) e
+  unused e u = no_both (used_on sheet k) (used_there u) e
 
 -- ---- changed sheets
 
@@ -73,7 +73,7 @@ used_attached {sheet} {c} {k} a j = go (ℕ_discrete k j) (used_on sheet j) refl
     still u = record { place = u.place; below = u.below; holds = ap label_of (word_else a u.place ne) ∙ u.holds }
       where
         ne : u.place ≡ place_of c → ⊥
-        ne e = no_corner_lem j (sym (label-before a) ∙ ap (λ (p : ℕ). label_of (get_or sheet p 0)) (sym e) ∙ u.holds)
+        ne e = no_corner_lem j (sym (label_before a) ∙ ap (λ (p : ℕ). label_of (get_or sheet p 0)) (sym e) ∙ u.holds)
 
     before : (k ≡ j → ⊥) → (u : UsedAt after j) → Dec (u.place ≡ place_of c) → UsedAt sheet j
     before d u (yes e) = absurd (d (one_corner k j (sym (label_after a) ∙ ap (λ (p : ℕ). label_of (get_or after p 0)) (sym e) ∙ u.holds)))
@@ -81,13 +81,13 @@ used_attached {sheet} {c} {k} a j = go (ℕ_discrete k j) (used_on sheet j) refl
 
     none : (k ≡ j → ⊥) → used_on sheet j ≡ false → (t : Bool) → used_on after j ≡ t → t ≡ false
     none d e false f = refl
-    none d e true f = absurd (unused sheet j e (let u = used-yes after j f in before d u (ℕ_discrete u.place (place_of c))))
+    none d e true f = absurd (unused sheet j e (let u = used_yes after j f in before d u (ℕ_discrete u.place (place_of c))))
 
     go : Dec (k ≡ j) → (t : Bool) → used_on sheet j ≡ t → used_on after j ≡ (eqb k j || t)
     go (yes d) t e =
         rw (eq-eqb k j d)
-        (used-there after j (record { place = place_of c; below = place_in c a.on; holds = label_after a ∙ ap Label.Corner d }))
-    go (no d) true e = rw (ne_eqb k j d) (used-there after j (still (used-yes sheet j e)))
+        (used_there after j (record { place = place_of c; below = place_in c a.on; holds = label_after a ∙ ap Label.Corner d }))
+    go (no d) true e = rw (ne_eqb k j d) (used_there after j (still (used_yes sheet j e)))
     go (no d) false e = rw (ne_eqb k j d) (none d e (used_on after j) refl)
 
 pub used_empty : (k : ℕ) → used_on empty_sheet k ≡ false
@@ -144,17 +144,17 @@ one_attached {sheet} {c} {k} a free o = record { one_place = λ p q j g h x y. g
 -- ---- the marks
 
 module _ (sheet : List ℕ) (c : Cell) (long : 16384 ≤ length sheet) (on : OnSheet c) where
-  pub tied-hole : {used : List ℕ} → Tied sheet used → Tied (hole_marked sheet c) used
-  tied-hole t = tied_same (hole-keeps sheet c long on) t
+  pub tied_hole : {used : List ℕ} → Tied sheet used → Tied (hole_marked sheet c) used
+  tied_hole t = tied_same (hole_keeps sheet c long on) t
 
-  pub tied-ambiguous : {used : List ℕ} → Tied sheet used → Tied (ambiguous_marked sheet c) used
-  tied-ambiguous t = tied_same (ambiguous-keeps sheet c long on) t
+  pub tied_ambiguous : {used : List ℕ} → Tied sheet used → Tied (ambiguous_marked sheet c) used
+  tied_ambiguous t = tied_same (ambiguous_keeps sheet c long on) t
 
-  pub tied-cleared : {used : List ℕ} → Tied sheet used → Tied (marks_cleared sheet c) used
-  tied-cleared t = tied_same (cleared-keeps sheet c long on) t
+  pub tied_cleared : {used : List ℕ} → Tied sheet used → Tied (marks_cleared sheet c) used
+  tied_cleared t = tied_same (cleared_keeps sheet c long on) t
 
-  pub one-cleared : OneCell sheet → OneCell (marks_cleared sheet c)
-  one-cleared o = one_same (cleared-keeps sheet c long on) o
+  pub one_cleared : OneCell sheet → OneCell (marks_cleared sheet c)
+  one_cleared o = one_same (cleared_keeps sheet c long on) o
 
 -- ---- at most as many labels as corners
 
@@ -245,18 +245,18 @@ count_bounded sheet n known o = few_values n 16384 (λ p. is_labelled (get_or sh
 
 -- what is noted, by the label
 module _ (used : List ℕ) (l : Label) where
-  pub noted-none : l ≡ Label.Unlabelled → used ≡ noted used l
+  pub noted_none : l ≡ Label.Unlabelled → used ≡ noted used l
   unfolding noted
-  noted-none e = rw e
+  noted_none e = rw e
 
   module _ (k : ℕ) (e : l ≡ Label.Corner k) where
-    pub noted-entry : k < 1024 → set used k 1 ≡ noted used l
+    pub noted_entry : k < 1024 → set used k 1 ≡ noted used l
     unfolding noted
-    noted-entry h = rw (e, lt-ltb k 1024 h)
+    noted_entry h = rw (e, lt-ltb k 1024 h)
 
-    pub noted-over : 1024 ≤ k → used ≡ noted used l
+    pub noted_over : 1024 ≤ k → used ≡ noted used l
     unfolding noted
-    noted-over h = rw (e, le-ltb k 1024 h)
+    noted_over h = rw (e, le-ltb k 1024 h)
 
 -- the array is tied to the first p places
 pub record Marking (sheet used : List ℕ) (p : ℕ) : Type 0 where
@@ -269,22 +269,22 @@ unfolding bit_of
 marking_start sheet used l h = record { upto = omega arith; size = l; so_far = λ k m. h k m ∙ ap bit_of (sym (any_start (λ q. names k (label_of (get_or sheet q 0))))) }
 
 module _ (sheet used : List ℕ) (p : ℕ) (g : Marking sheet used p) where
-  pub marking-more : (after : List ℕ) → p < 16384 → after ≡ noted used (label_of (get_or sheet p 0)) → Marking sheet after (p + 1)
+  pub marking_more : (after : List ℕ) → p < 16384 → after ≡ noted used (label_of (get_or sheet p 0)) → Marking sheet after (p + 1)
   unfolding noted names bit_of
-  marking-more after h e =
+  marking_more after h e =
       record {
         upto = omega arith;
         size = ap length e ∙ len (label_of (get_or sheet p 0));
         so_far = λ j l. ap (λ (u : List ℕ). get_or u j 0) e ∙ rw (any_more (λ q. names j (label_of (get_or sheet q 0))) p) (go j l (label_of (get_or sheet p 0)));
       }
     where
-      len-at : (t : Bool) (k : ℕ) → length (cond t (set used k 1) used) ≡ 1024
-      len-at true k = length-set used k 1 ∙ g.size
-      len-at false k = g.size
+      len_at : (t : Bool) (k : ℕ) → length (cond t (set used k 1) used) ≡ 1024
+      len_at true k = length-set used k 1 ∙ g.size
+      len_at false k = g.size
 
       len : (l : Label) → length (noted used l) ≡ 1024
       len Label.Unlabelled = g.size
-      len (Label.Corner k) = len-at (ltb k 1024) k
+      len (Label.Corner k) = len_at (ltb k 1024) k
 
       rest : ℕ → Bool
       rest j = any_below p (λ q. names j (label_of (get_or sheet q 0)))
@@ -299,12 +299,12 @@ module _ (sheet used : List ℕ) (p : ℕ) (g : Marking sheet used p) where
       go j m Label.Unlabelled = g.so_far j m
       go j m (Label.Corner k) = at j k m (ltb k 1024) refl (ℕ_discrete k j)
 
-  pub marking-blank : p < 16384 → get_or sheet p 0 ≡ 0 → Marking sheet used (p + 1)
-  marking-blank h e = marking-more used h (noted-none used (label_of (get_or sheet p 0)) (blank_label e))
+  pub marking_blank : p < 16384 → get_or sheet p 0 ≡ 0 → Marking sheet used (p + 1)
+  marking_blank h e = marking_more used h (noted_none used (label_of (get_or sheet p 0)) (blank_label e))
 
-  pub marking-end : 16384 ≤ p → Tied sheet used
+  pub marking_end : 16384 ≤ p → Tied sheet used
   unfolding used_on
-  marking-end h = let e : p ≡ 16384 = omega (arith, g.upto) in record { size = g.size; at = λ k l. rw (← e) (g.so_far k l) }
+  marking_end h = let e : p ≡ 16384 = omega (arith, g.upto) in record { size = g.size; at = λ k l. rw (← e) (g.so_far k l) }
 
 pub marking_skips : (sheet used : List ℕ) (p : ℕ) → Marking sheet used p → {r : ℕ} → NextWritten sheet p r → Marking sheet used r
-marking_skips sheet used p g w = skips sheet (Marking sheet used) (λ q h e s. marking-blank sheet used q s h e) w g
+marking_skips sheet used p g w = skips sheet (Marking sheet used) (λ q h e s. marking_blank sheet used q s h e) w g

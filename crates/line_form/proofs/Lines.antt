@@ -46,8 +46,8 @@ module _ (text : List ℕ) (at end : ℕ) (h : at < length text) (e : end ≡ at
   pub end_after : at < end
   end_after = omega (arith, (line_within (drop at text)).1 some)
 
-  pub end-inside : end ≤ length text
-  end-inside = omega (arith, (line_within (drop at text)).0, length-drop at text)
+  pub end_inside : end ≤ length text
+  end_inside = omega (arith, (line_within (drop at text)).0, length-drop at text)
 
   pub lines_from : lines_of (drop at text) ≡ take (end - at) (drop at text) ∷ lines_of (drop end text)
   lines_from =
@@ -76,11 +76,11 @@ module _ {text : List ℕ} {at i : ℕ} (g : Seeking text at i) where
     pub seek_found : get_or text i 0 ≡ 10 → i + 1 ≡ at + line_length (drop at text)
     seek_found e = let k : line_length (drop i text) ≡ 1 = here ∙ ap (λ (t : Bool). cond t 1 (suc (line_length (drop (suc i) text)))) (eq-eqb (get_or text i 0) 10 e) in omega (arith, g.same)
 
-    pub seek-more : (get_or text i 0 ≡ 10 → ⊥) → Seeking text at (i + 1)
-    seek-more f =
+    pub seek_more : (get_or text i 0 ≡ 10 → ⊥) → Seeking text at (i + 1)
+    seek_more f =
         let k : line_length (drop i text) ≡ suc (line_length (drop (suc i) text)) = here ∙ ap (λ (t : Bool). cond t 1 (suc (line_length (drop (suc i) text)))) (ne_eqb (get_or text i 0) 10 f) in
         record { inside = omega arith; same = rw add-one (omega (arith, g.same)) }
 
-  pub seek-end : length text ≤ i → i ≡ at + line_length (drop at text)
+  pub seek_end : length text ≤ i → i ≡ at + line_length (drop at text)
   unfolding line_length
-  seek-end h = let k : line_length (drop i text) ≡ 0 = ap line_length (drop_of_length-le text h) in omega (arith, g.same)
+  seek_end h = let k : line_length (drop i text) ≡ 0 = ap line_length (drop_of_length-le text h) in omega (arith, g.same)

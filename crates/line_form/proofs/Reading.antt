@@ -89,16 +89,16 @@ unfolding held_digits
 held_front v n text h e = let a : min 1000000 v ≡ v = omega arith in rw (a, e)
 
 module _ (text : List ℕ) (v i : ℕ) (g : Counting text v i) where
-  pub one-counted : i < length text → is_digit (get_or text i 0) ≡ true → (w : ℕ) → w ≡ min 1000000 (v * 10 + (get_or text i 0 - 48)) → Counting text w (i + 1)
-  one-counted h e w k =
+  pub one_counted : i < length text → is_digit (get_or text i 0) ≡ true → (w : ℕ) → w ≡ min 1000000 (v * 10 + (get_or text i 0 - 48)) → Counting text w (i + 1)
+  one_counted h e w k =
       record {
         within = omega arith;
         small = omega arith;
         rest = alike w (v * 10 + (get_or text i 0 - 48)) (drop (i + 1) text) (omega arith) ∙ ap held_digits (digit_turn text v i h e) ∙ g.rest;
       }
 
-  pub counted-to : i < length text → is_digit (get_or text i 0) ≡ false → record { value = v; left = length text - i } ≡ held_digits (digits_after 0 text)
-  counted-to h e = held_front v (length text - i) (drop i text) g.small (sym (length-drop i text)) ∙ ap held_digits (digit_stop text v i h e) ∙ g.rest
+  pub counted_to : i < length text → is_digit (get_or text i 0) ≡ false → record { value = v; left = length text - i } ≡ held_digits (digits_after 0 text)
+  counted_to h e = held_front v (length text - i) (drop i text) g.small (sym (length-drop i text)) ∙ ap held_digits (digit_stop text v i h e) ∙ g.rest
 
   pub counted_all : length text ≤ i → record { value = v; left = 0 } ≡ held_digits (digits_after 0 text)
   counted_all h = held_front v 0 [] g.small refl ∙ ap held_digits (digit_end text v i h) ∙ g.rest
@@ -227,17 +227,17 @@ byte_other c (b ∷ text) h k = rw (ne_eqb b c k)
 -- ---- one byte of a form
 
 module _ (c : ℕ) (text : List ℕ) where
-  pub of-float : c ≡ 37 → piece_of c text ≡ bits_piece (read_bits text) (drop 8 text)
+  pub of_float : c ≡ 37 → piece_of c text ≡ bits_piece (read_bits text) (drop 8 text)
   unfolding piece_of
-  of-float h = rw (eq-eqb c 37 h)
+  of_float h = rw (eq-eqb c 37 h)
 
-  pub of-whole : (c ≡ 37 → ⊥) → c ≡ 35 → piece_of c text ≡ whole_piece (read_integer text)
+  pub of_whole : (c ≡ 37 → ⊥) → c ≡ 35 → piece_of c text ≡ whole_piece (read_integer text)
   unfolding piece_of
-  of-whole h k = rw (ne_eqb c 37 h, eq-eqb c 35 k)
+  of_whole h k = rw (ne_eqb c 37 h, eq-eqb c 35 k)
 
-  pub of-byte : (c ≡ 37 → ⊥) → (c ≡ 35 → ⊥) → piece_of c text ≡ byte_piece c text
+  pub of_byte : (c ≡ 37 → ⊥) → (c ≡ 35 → ⊥) → piece_of c text ≡ byte_piece c text
   unfolding piece_of
-  of-byte h k = rw (ne_eqb c 37 h, ne_eqb c 35 k)
+  of_byte h k = rw (ne_eqb c 37 h, ne_eqb c 35 k)
 
   of_part : (n : ℕ) (r : Taken) → r ≡ held_piece (piece_of c (take (length text - n) (drop n text))) → r ≡ held_piece (piece_of c (drop n text))
   of_part n r e = e ∙ ap (λ (s : List ℕ). held_piece (piece_of c s)) (part text n)
@@ -393,24 +393,24 @@ module _ (form line vs : List ℕ) (i at k : ℕ) (g : Fitting form line vs i at
       here : List ℕ
       here = (byte_held (piece_of (get_or form i 0) (drop at line)) (of_part (get_or form i 0) line at Byte e)).0
 
-      is-here : piece_of (get_or form i 0) (drop at line) ≡ same here
+      is_here : piece_of (get_or form i 0) (drop at line) ≡ same here
       unfolding here
-      is-here = (byte_held (piece_of (get_or form i 0) (drop at line)) (of_part (get_or form i 0) line at Byte e)).1
+      is_here = (byte_held (piece_of (get_or form i 0) (drop at line)) (of_part (get_or form i 0) line at Byte e)).1
 
       one : OneByte (drop at line) here
-      one = same_told (get_or form i 0) (drop at line) here is-here
+      one = same_told (get_or form i 0) (drop at line) here is_here
 
-      pub byte-room : at < length line
-      byte-room = omega (arith, one.some, length-drop at line)
+      pub byte_room : at < length line
+      byte_room = omega (arith, one.some, length-drop at line)
 
-      pub byte-passed : Fitting form line vs (i + 1) (at + 1) k
-      byte-passed =
+      pub byte_passed : Fitting form line vs (i + 1) (at + 1) k
+      byte_passed =
           let q : fit_of (drop i form) (drop at line) ≡ fit_of (drop (i + 1) form) (drop (at + 1) line) =
-          form_turn form (drop at line) i h ∙ ap (λ (p : Piece). then p (λ t. fit_of (drop (i + 1) form) t)) is-here
+          form_turn form (drop at line) i h ∙ ap (λ (p : Piece). then p (λ t. fit_of (drop (i + 1) form) t)) is_here
           ∙ ap (fit_of (drop (i + 1) form)) (sym one.behind ∙ drop-drop 1 at line) in
           record {
             within = omega arith;
-            inside = omega (arith, byte-room);
+            inside = omega (arith, byte_room);
             few = omega (arith, g.few);
             rest = ap (onward vs k) (sym q) ∙ g.rest;
           }
@@ -425,8 +425,8 @@ module _ (form line vs : List ℕ) (i at k : ℕ) (g : Fitting form line vs i at
       lengths : length line - at ≡ length (number_text found.n) + left
       lengths = sym (length-drop at line) ∙ ap length told ∙ length-append (number_text found.n) found.text ∙ ap (λ (m : ℕ). length (number_text found.n) + m) (sym found.behind)
 
-      pub number-room : left ≤ length line
-      number-room = omega (arith, lengths)
+      pub number_room : left ≤ length line
+      number_room = omega (arith, lengths)
 
       behind : drop (length line - left) line ≡ found.text
       behind =

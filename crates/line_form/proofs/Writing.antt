@@ -47,11 +47,11 @@ module _ (n m count : ℕ) (g : Counted n m count) where
   pub count_room : count ≤ 20
   count_room = omega (arith, g.sum, some_length m, decimal_length 19 n (omega (arith, g.small)))
 
-  pub one-more-digit : 10 ≤ m → Counted n (m / 10) (count + 1)
-  one-more-digit h = record { small = g.small; sum = omega (arith, g.sum, more_length m h) }
+  pub one_more_digit : 10 ≤ m → Counted n (m / 10) (count + 1)
+  one_more_digit h = record { small = g.small; sum = omega (arith, g.sum, more_length m h) }
 
-  pub all-counted : m < 10 → DigitCount n count
-  all-counted h = record { is = omega (arith, g.sum, one_length m h); few = count_room }
+  pub all_counted : m < 10 → DigitCount n count
+  all_counted h = record { is = omega (arith, g.sum, one_length m h); few = count_room }
 
 -- ---- the digits, the last first
 
@@ -98,8 +98,8 @@ none_placed n count old h e =
     }
 
 module _ (n : ℕ) (old out : List ℕ) (m i : ℕ) (g : Placing n old out m i) where
-  pub place-room : 0 < i → i - 1 < length out
-  place-room h = omega (arith, g.room, g.sized, g.within)
+  pub place_room : 0 < i → i - 1 < length out
+  place_room h = omega (arith, g.room, g.sized, g.within)
 
   pub one_placed : 0 < i → (d : ℕ) → d ≡ 48 + m % 10 → Placing n old (set out (i - 1) d) (m / 10) (i - 1)
   unfolding last_digits
@@ -111,7 +111,7 @@ module _ (n : ℕ) (old out : List ℕ) (m i : ℕ) (g : Placing n old out m i) 
         sized = length-set out j d ∙ g.sized;
         within = omega (arith, g.within);
         rest =
-            ap (λ (t : List ℕ). last_digits j (m / 10) ++ t) (drop_set out j d (place-room h) ∙ ap (λ (a : ℕ). a ∷ drop (suc j) out) e)
+            ap (λ (t : List ℕ). last_digits j (m / 10) ++ t) (drop_set out j d (place_room h) ∙ ap (λ (a : ℕ). a ∷ drop (suc j) out) e)
             ∙ sym (append_assoc (last_digits j (m / 10)) ((48 + m % 10) ∷ []) (drop (suc j) out))
             ∙ ap (λ (k : ℕ). last_digits k m ++ drop k out) (sym s)
             ∙ g.rest;
@@ -140,26 +140,26 @@ above_text w h = rw (le-ltb w 1000000 h)
 -- ---- one byte of a form
 
 module _ (c : ℕ) where
-  pub takes-float : c ≡ 37 → ◌≡◌ {A = ℕ} 1 (cond (is_slot c) 1 0)
-  takes-float h = rw (eq-eqb c 37 h)
+  pub takes_float : c ≡ 37 → ◌≡◌ {A = ℕ} 1 (cond (is_slot c) 1 0)
+  takes_float h = rw (eq-eqb c 37 h)
 
-  pub takes-integer : (c ≡ 37 → ⊥) → c ≡ 35 → ◌≡◌ {A = ℕ} 1 (cond (is_slot c) 1 0)
-  takes-integer h k = rw (ne_eqb c 37 h, eq-eqb c 35 k)
+  pub takes_integer : (c ≡ 37 → ⊥) → c ≡ 35 → ◌≡◌ {A = ℕ} 1 (cond (is_slot c) 1 0)
+  takes_integer h k = rw (ne_eqb c 37 h, eq-eqb c 35 k)
 
   pub takes_none : (c ≡ 37 → ⊥) → (c ≡ 35 → ⊥) → ◌≡◌ {A = ℕ} 0 (cond (is_slot c) 1 0)
   takes_none h k = rw (ne_eqb c 37 h, ne_eqb c 35 k)
 
-  float-text : (w : ℕ) → c ≡ 37 → piece_text c w ≡ hex_text w
+  float_text : (w : ℕ) → c ≡ 37 → piece_text c w ≡ hex_text w
   unfolding piece_text unheld_number number_text
-  float-text w h = rw (eq-eqb c 37 h)
+  float_text w h = rw (eq-eqb c 37 h)
 
   whole_text : (w : ℕ) → (c ≡ 37 → ⊥) → c ≡ 35 → piece_text c w ≡ integer_text (unheld_whole w)
   unfolding piece_text unheld_number number_text
   whole_text w h k = rw (ne_eqb c 37 h, eq-eqb c 35 k)
 
-  byte-text : (w : ℕ) → (c ≡ 37 → ⊥) → (c ≡ 35 → ⊥) → piece_text c w ≡ c ∷ []
+  byte_text : (w : ℕ) → (c ≡ 37 → ⊥) → (c ≡ 35 → ⊥) → piece_text c w ≡ c ∷ []
   unfolding piece_text
-  byte-text w h k = rw (ne_eqb c 37 h, ne_eqb c 35 k)
+  byte_text w h k = rw (ne_eqb c 37 h, ne_eqb c 35 k)
 
 -- ---- a part of a buffer
 
@@ -177,15 +177,15 @@ wrote_length text old new n w h = ap length w.part ∙ simp (length-append, leng
 
 module _ (w : ℕ) (old : List ℕ) (room : length (integer_text (unheld_whole w)) ≤ length old) where
   module _ (h : w < 1000000) where
-    pub minus-room : length (decimal (1000000 - w)) + 1 ≤ length old
-    minus-room = omega (arith, room, ap length (below_text w h))
+    pub minus_room : length (decimal (1000000 - w)) + 1 ≤ length old
+    minus_room = omega (arith, room, ap length (below_text w h))
 
-    pub minus-part : length (decimal (1000000 - w)) ≤ length (take (length (set old 0 45) - 1) (drop 1 (set old 0 45)))
-    minus-part = rw (part (set old 0 45) 1, length-drop 1 (set old 0 45), length-set old 0 45) (omega (arith, minus-room))
+    pub minus_part : length (decimal (1000000 - w)) ≤ length (take (length (set old 0 45) - 1) (drop 1 (set old 0 45)))
+    minus_part = rw (part (set old 0 45) 1, length-drop 1 (set old 0 45), length-set old 0 45) (omega (arith, minus_room))
 
-    pub minus-written : (new : List ℕ) (n : ℕ) → Wrote (decimal (1000000 - w)) (take (length (set old 0 45) - 1) (drop 1 (set old 0 45))) new n
+    pub minus_written : (new : List ℕ) (n : ℕ) → Wrote (decimal (1000000 - w)) (take (length (set old 0 45) - 1) (drop 1 (set old 0 45))) new n
         → Wrote (integer_text (unheld_whole w)) old (put_mid 1 (length (set old 0 45) - 1) (set old 0 45) new) (n + 1)
-    minus-written new n r = go old minus-room r
+    minus_written new n r = go old minus_room r
       where
         go : (old : List ℕ) → length (decimal (1000000 - w)) + 1 ≤ length old → Wrote (decimal (1000000 - w)) (take (length (set old 0 45) - 1) (drop 1 (set old 0 45))) new n
             → Wrote (integer_text (unheld_whole w)) old (put_mid 1 (length (set old 0 45) - 1) (set old 0 45) new) (n + 1)
@@ -200,34 +200,34 @@ module _ (w : ℕ) (old : List ℕ) (room : length (integer_text (unheld_whole w
             }
 
   module _ (h : 1000000 ≤ w) where
-    pub plus-room : length (decimal (w - 1000000)) ≤ length old
-    plus-room = omega (arith, room, ap length (above_text w h))
+    pub plus_room : length (decimal (w - 1000000)) ≤ length old
+    plus_room = omega (arith, room, ap length (above_text w h))
 
-    pub plus-written : (new : List ℕ) (n : ℕ) → Wrote (decimal (w - 1000000)) old new n → Wrote (integer_text (unheld_whole w)) old new n
-    plus-written new n r = rw (above_text w h) r
+    pub plus_written : (new : List ℕ) (n : ℕ) → Wrote (decimal (w - 1000000)) old new n → Wrote (integer_text (unheld_whole w)) old new n
+    plus_written new n r = rw (above_text w h) r
 
 -- ---- one byte of a form written
 
 module _ (c w : ℕ) (old : List ℕ) (room : length (piece_text c w) ≤ length old) where
   pub float_fits : c ≡ 37 → 8 ≤ length old
-  float_fits h = omega (arith, room, ap length (float-text c w h), digits_length 8 w)
+  float_fits h = omega (arith, room, ap length (float_text c w h), digits_length 8 w)
 
-  pub float-written : c ≡ 37 → (new : List ℕ) → new ≡ hex_text w ++ drop 8 old → Wrote (piece_text c w) old new 8
-  float-written h new e =
-      rw (float-text c w h) (record { count = sym (digits_length 8 w); part = e ∙ ap (λ (k : ℕ). hex_text w ++ drop k old) (sym (digits_length 8 w)) })
+  pub float_written : c ≡ 37 → (new : List ℕ) → new ≡ hex_text w ++ drop 8 old → Wrote (piece_text c w) old new 8
+  float_written h new e =
+      rw (float_text c w h) (record { count = sym (digits_length 8 w); part = e ∙ ap (λ (k : ℕ). hex_text w ++ drop k old) (sym (digits_length 8 w)) })
 
   module _ (f : c ≡ 37 → ⊥) where
     pub whole_fits : c ≡ 35 → length (integer_text (unheld_whole w)) ≤ length old
     whole_fits h = omega (arith, room, ap length (whole_text c w f h))
 
-    pub whole-written : c ≡ 35 → (new : List ℕ) (n : ℕ) → Wrote (integer_text (unheld_whole w)) old new n → Wrote (piece_text c w) old new n
-    whole-written h new n r = rw (whole_text c w f h) r
+    pub whole_written : c ≡ 35 → (new : List ℕ) (n : ℕ) → Wrote (integer_text (unheld_whole w)) old new n → Wrote (piece_text c w) old new n
+    whole_written h new n r = rw (whole_text c w f h) r
 
     pub byte_fits : (c ≡ 35 → ⊥) → 0 < length old
-    byte_fits h = omega (arith, room, ap length (byte-text c w f h))
+    byte_fits h = omega (arith, room, ap length (byte_text c w f h))
 
-    pub byte-written : (c ≡ 35 → ⊥) → Wrote (piece_text c w) old (set old 0 c) 1
-    byte-written h = rw (byte-text c w f h) (go old (byte_fits h))
+    pub byte_written : (c ≡ 35 → ⊥) → Wrote (piece_text c w) old (set old 0 c) 1
+    byte_written h = rw (byte_text c w f h) (go old (byte_fits h))
       where
         go : (old : List ℕ) → 0 < length old → Wrote (c ∷ []) old (set old 0 c) 1
         go [] l = absurd (not-suc-le-zero l)
@@ -284,20 +284,20 @@ module _ (form ws old out : List ℕ) (i at k : ℕ) (g : Filling form ws old ou
         first : (k : ℕ) (ws : List ℕ) → w ≡ get_or ws k 0 → get_or (drop k ws) 0 0 ≡ w
         first k ws e = get_or-drop k ws 0 0 ∙ ap (λ (j : ℕ). get_or ws j 0) (add-zero k) ∙ sym e
 
-    pub piece-room : at + length piece ≤ length out
-    piece-room =
+    pub piece_room : at + length piece ≤ length out
+    piece_room =
         omega
         (arith, g.room, g.sized, g.inside, ap length g.done, length-append (take at out) (form_text (drop i form) (drop k ws)), length-take at out, ap length split, length-append piece later)
 
     pub word_room : (m : ℕ) → m ≡ cond (is_slot (get_or form i 0)) 1 0 → k + m ≤ length form
     word_room m e = omega (arith, g.few, one_word (is_slot (get_or form i 0)) m e)
 
-    pub piece-part : length piece ≤ length (take (length out - at) (drop at out))
-    piece-part = rw (part out at, length-drop at out) (omega (arith, piece-room))
+    pub piece_part : length piece ≤ length (take (length out - at) (drop at out))
+    piece_part = rw (part out at, length-drop at out) (omega (arith, piece_room))
 
-    pub piece-written : (new : List ℕ) (n m : ℕ) → Wrote piece (take (length out - at) (drop at out)) new n → m ≡ cond (is_slot (get_or form i 0)) 1 0
+    pub piece_written_lem : (new : List ℕ) (n m : ℕ) → Wrote piece (take (length out - at) (drop at out)) new n → m ≡ cond (is_slot (get_or form i 0)) 1 0
         → Filling form ws old (put_mid at (length out - at) out new) (i + 1) (at + n) (k + m)
-    piece-written new n m r e =
+    piece_written_lem new n m r e =
         let behind = drop (length piece) (drop at out) in
         let ahead = take at out ++ piece in
         let whole : put_mid at (length out - at) out new ≡ ahead ++ behind =
@@ -307,13 +307,13 @@ module _ (form ws old out : List ℕ) (i at k : ℕ) (g : Filling form ws old ou
         let front : length ahead ≡ at + n = length-append (take at out) piece ∙ ap₂ (λ (a b : ℕ). a + b) (length-take-le at out g.inside) (sym r.count) in
         let size : length (ahead ++ behind) ≡ length out =
         length-append ahead behind ∙ ap₂ (λ (a b : ℕ). a + b) front (length-drop (length piece) (drop at out) ∙ ap (λ (b : ℕ). b - length piece) (length-drop at out))
-        ∙ left (length out) at n (length piece) r.count piece-room in
+        ∙ left (length out) at n (length piece) r.count piece_room in
         record {
           room = g.room;
           sized = ap length whole ∙ size ∙ g.sized;
           within = omega arith;
           few = omega (arith, g.few, one_word (is_slot (get_or form i 0)) m e);
-          inside = omega (arith, ap length whole, size, r.count, piece-room);
+          inside = omega (arith, ap length whole, size, r.count, piece_room);
           done =
               ap₂ (λ (a : List ℕ) (j : ℕ). a ++ form_text (drop (i + 1) form) (drop (k + j) ws)) (ap (take (at + n)) whole ∙ take_at ahead behind (at + n) front) e
               ∙ append_assoc (take at out) piece later
@@ -327,8 +327,8 @@ module _ (form ws old out : List ℕ) (i at k : ℕ) (g : Filling form ws old ou
         left : (size at n p : ℕ) → n ≡ p → at + p ≤ size → at + n + (size - at - p) ≡ size
         left size at n p e l = omega arith
 
-  pub all-written : length form ≤ i → Wrote (form_text form ws) old out at
-  all-written h =
+  pub all_written : length form ≤ i → Wrote (form_text form ws) old out at
+  all_written h =
       let text : take at out ≡ form_text form ws =
       sym (append-nil (take at out)) ∙ ap (λ (s : List ℕ). take at out ++ s) (nothing (drop k ws) ∙ ap (λ (s : List ℕ). form_text s (drop k ws)) (sym (drop_of_length-le form h))) ∙ g.done in
       let count : at ≡ length (form_text form ws) = sym (length-take-le at out g.inside) ∙ ap length text in

@@ -6,15 +6,15 @@ use Rattle.arguments.specs.declared.LocalExtensionParams.{LocalExtensionParams}
 use Rattle.passes.specs.Local.{depth_of}
 
 module _ (p : LocalExtensionParams) where
-  pub depth-none : p.extend_depth ≡ 0 → 1 ≡ depth_of p
+  pub depth_none : p.extend_depth ≡ 0 → 1 ≡ depth_of p
   unfolding depth_of
-  depth-none e = rw e
+  depth_none e = rw e
 
-  pub depth-some : (p.extend_depth ≡ 0 → ⊥) → p.extend_depth ≡ depth_of p
+  pub depth_some : (p.extend_depth ≡ 0 → ⊥) → p.extend_depth ≡ depth_of p
   unfolding depth_of
-  depth-some e = omega arith
+  depth_some e = omega arith
 
   -- of an accepted call it is small
-  pub depth-in : p.extend_depth ≤ 4 → depth_of p ≤ 64
+  pub depth_in : p.extend_depth ≤ 4 → depth_of p ≤ 64
   unfolding depth_of
-  depth-in h = omega arith
+  depth_in h = omega arith

@@ -23,7 +23,7 @@ use Rattle.arguments.specs.declared.Settings.{Settings}
 use Rattle.arguments.specs.declared.LocalExtensionParams.{LocalExtensionParams}
 use Rattle.arguments.proofs.Laws.{accepted}
 use Rattle.candidates.specs.Candidates.{squared_radius}
-use Rattle.candidates.proofs.Radius.{search-radius}
+use Rattle.candidates.proofs.Radius.{search_radius}
 use Rattle.passes.specs.Counting.{visits}
 use Rattle.passes.specs.Outcome.{done}
 use Rattle.passes.specs.Local.{depth_of, local_search, LocalState, LocalRounds, local_pass, local_round, local_from, local_limit, local_run, local_after}
@@ -32,15 +32,15 @@ use Rattle.passes.specs.Said.{local_values, local_said, outcome_due}
 use Rattle.passes.specs.declared.LocalStats.{LocalStats}
 use Rattle.passes.specs.declared.LocalAnswer.{LocalAnswer}
 use Rattle.passes.proofs.Free.{labels_few}
-use Rattle.passes.proofs.Rounds.{Remaining, remaining-all, remaining-none, remaining-last, remaining-more}
+use Rattle.passes.proofs.Rounds.{Remaining, remaining_all, remaining_none, remaining_last, remaining_more}
 use Rattle.passes.proofs.Said.{local_said_lem}
 use Rattle.supports.specs.Nearest.{Gatherable, Gathered}
 use Rattle.local_cell.specs.Extending.{state_of, Left}
 use Rattle.local_cell.specs.declared.LocalProgress.{LocalProgress}
-use Rattle.local_cell.proofs.Visit.{gathered-front, gathered-size, stands, left_as}
+use Rattle.local_cell.proofs.Visit.{gathered_front, gathered_size, stands, left_as}
 use Rattle.local.specs.Rounds.{RoundAsked, no_progress, start_of, RoundsAsked, RoundsLeft, stats_of}
 use Rattle.local.specs.declared.RoundsDone.{RoundsDone}
-use Rattle.local.proofs.Walk.{holds_state, left_then, round_grows, round-counted}
+use Rattle.local.proofs.Walk.{holds_state, left_then, round_grows, round_counted}
 
 -- ---- the loop over the rounds
 
@@ -59,12 +59,12 @@ pub record Rounding (set : Settings) (p : LocalExtensionParams) (limit : ℕ) (c
   pub left : Left (state_of sheet list at) cs.count list₀ sheet list used places at
 
 module _ (set : Settings) (p : LocalExtensionParams) (limit : ℕ) (cs : Corners) (sheet₀ list₀ : List ℕ) (labels₀ : ℕ) where
-  pub rounding-start : (used places : List ℕ) {at : LocalProgress} → limit ≡ p.max_iters → at ≡ no_progress labels₀ → RoundsAsked cs.count sheet₀ list₀ used places labels₀ p
+  pub rounding_start : (used places : List ℕ) {at : LocalProgress} → limit ≡ p.max_iters → at ≡ no_progress labels₀ → RoundsAsked cs.count sheet₀ list₀ used places labels₀ p
       → Rounding set p limit cs sheet₀ list₀ labels₀ sheet₀ list₀ used places at 0
-  rounding-start used places e g f =
+  rounding_start used places e g f =
       rw g
       (record {
-        remaining = remaining-all (local_pass cs set p) limit (state_of sheet₀ list₀ (no_progress labels₀));
+        remaining = remaining_all (local_pass cs set p) limit (state_of sheet₀ list₀ (no_progress labels₀));
         few = omega (arith, f.rounds_few);
         shallow = f.shallow;
         same_sheet = refl;
@@ -74,14 +74,14 @@ module _ (set : Settings) (p : LocalExtensionParams) (limit : ℕ) (cs : Corners
       })
 
   module _ (sheet list used places : List ℕ) (at : LocalProgress) (rounds : ℕ) (g : Rounding set p limit cs sheet₀ list₀ labels₀ sheet list used places at rounds) where
-    pub rounding-asked : rounds < limit → RoundAsked cs.count sheet list used places at p
-    rounding-asked h = record { extending = g.left.extending; shallow = g.shallow; countable = omega (arith, g.counted, g.few) }
+    pub rounding_asked : rounds < limit → RoundAsked cs.count sheet list used places at p
+    rounding_asked h = record { extending = g.left.extending; shallow = g.shallow; countable = omega (arith, g.counted, g.few) }
 
-    pub rounding-end : limit ≤ rounds
+    pub rounding_end : limit ≤ rounds
         → RoundsLeft (local_from cs set p limit (start_of sheet₀ list₀ labels₀)) cs.count list₀ sheet list used places (record { progress = at; rounds = rounds })
     unfolding local_from
-    rounding-end h =
-        rounds_left_as (remaining-none (local_pass cs set p) limit (state_of sheet₀ list₀ (no_progress labels₀)) g.remaining h)
+    rounding_end h =
+        rounds_left_as (remaining_none (local_pass cs set p) limit (state_of sheet₀ list₀ (no_progress labels₀)) g.remaining h)
         (record { left = g.left; rounds_are = refl })
 
     module _ (sheet' list' used' places' : List ℕ) (next : LocalProgress) (h : rounds < limit)
@@ -90,30 +90,30 @@ module _ (set : Settings) (p : LocalExtensionParams) (limit : ℕ) (cs : Corners
       whole : Left (local_round cs set p (state_of sheet list at)) cs.count list₀ sheet' list' used' places' next
       whole = left_then g.left.holds (round_grows cs set p (state_of sheet list at)) l
 
-      pub rounding-last : next.counts.attached ≡ at.counts.attached
+      pub rounding_last : next.counts.attached ≡ at.counts.attached
           → RoundsLeft (local_from cs set p limit (start_of sheet₀ list₀ labels₀)) cs.count list₀ sheet' list' used' places' (record { progress = next; rounds = rounds + 1 })
       unfolding local_from
-      rounding-last e =
-          rounds_left_as (remaining-last (local_pass cs set p) limit (state_of sheet₀ list₀ (no_progress labels₀))
+      rounding_last e =
+          rounds_left_as (remaining_last (local_pass cs set p) limit (state_of sheet₀ list₀ (no_progress labels₀))
           g.remaining h (sym l.holds.made_is ∙ e ∙ g.left.holds.made_is))
           (record { left = whole; rounds_are = refl })
 
-      pub rounding-more : (next.counts.attached ≡ at.counts.attached → ⊥) → length sheet' ≡ length sheet → length list' ≡ length list
+      pub rounding_more : (next.counts.attached ≡ at.counts.attached → ⊥) → length sheet' ≡ length sheet → length list' ≡ length list
           → Rounding set p limit cs sheet₀ list₀ labels₀ sheet' list' used' places' next (rounds + 1)
       unfolding local_round
-      rounding-more e a b =
+      rounding_more e a b =
           record {
             remaining =
                 subst (λ (s : LocalState). Remaining (local_pass cs set p) limit (state_of sheet₀ list₀ (no_progress labels₀))
                 s (rounds + 1))
                 (sym (holds_state l.holds))
-                (remaining-more (local_pass cs set p) limit (state_of sheet₀ list₀ (no_progress labels₀))
+                (remaining_more (local_pass cs set p) limit (state_of sheet₀ list₀ (no_progress labels₀))
                 g.remaining h (λ d. e (l.holds.made_is ∙ d ∙ sym g.left.holds.made_is)));
             few = g.few;
             shallow = g.shallow;
             same_sheet = a ∙ g.same_sheet;
             same_list_holds = b ∙ g.same_list_holds;
-            counted = omega (arith, g.counted, ap visits l.holds.counts_are, round-counted cs set p (state_of sheet list at));
+            counted = omega (arith, g.counted, ap visits l.holds.counts_are, round_counted cs set p (state_of sheet list at));
             left = left_as (holds_state l.holds) whole;
           }
 
@@ -122,17 +122,17 @@ module _ (set : Settings) (p : LocalExtensionParams) (limit : ℕ) (cs : Corners
 module _ (corners : CornerLists) (shades sheet list : List ℕ) (set : Settings) (p : LocalExtensionParams) where
   -- arguments that are not refused
   module _ (a : Accepted (lent_of corners shades sheet (rooms 0 (length list))) set (Pass.Local p)) where
-    pub accepted-gatherable : {places : List ℕ} → length places ≡ 1024 → Gatherable sheet places
-    accepted-gatherable n = record { long = a.given.long; few = omega (arith, labels_few a.given a.one_cell, a.few); size = n }
+    pub accepted_gatherable : {places : List ℕ} → length places ≡ 1024 → Gatherable sheet places
+    accepted_gatherable n = record { long = a.given.long; few = omega (arith, labels_few a.given a.one_cell, a.few); size = n }
 
     -- the squared radius is finite
-    pub accepted-radius : T (finite (squared_radius (local_search set p).search_r))
+    pub accepted_radius : T (finite (squared_radius (local_search set p).search_r))
     unfolding local_search
-    accepted-radius = search-radius p.search_rel set.grid.cell_size a.pass_inside.search a.settings_inside.cell_size
+    accepted_radius = search_radius p.search_rel set.grid.cell_size a.pass_inside.search a.settings_inside.cell_size
 
-    pub accepted-asked : {used places before : List ℕ} {labels : ℕ} → length before ≡ 1024 → Gathered sheet before places labels → 4 ≤ labels → Tied sheet used
+    pub accepted_asked : {used places before : List ℕ} {labels : ℕ} → length before ≡ 1024 → Gathered sheet before places labels → 4 ≤ labels → Tied sheet used
         → RoundsAsked (length corners.xs) sheet list used places labels p
-    accepted-asked n w h t =
+    accepted_asked n w h t =
         record {
           extending =
               record {
@@ -144,8 +144,8 @@ module _ (corners : CornerLists) (shades sheet list : List ℕ) (set : Settings)
                 room = omega arith;
                 four = omega (arith, w.count_is);
                 labels_are = w.count_is;
-                places_are = gathered-front w;
-                size = gathered-size n (omega (arith, labels_few a.given a.one_cell, a.few)) w;
+                places_are = gathered_front w;
+                size = gathered_size n (omega (arith, labels_few a.given a.one_cell, a.few)) w;
               };
           shallow = a.pass_inside.depth;
           rounds_few = a.pass_inside.rounds;
@@ -155,17 +155,17 @@ module _ (corners : CornerLists) (shades sheet list : List ℕ) (set : Settings)
   module _ {labels depth : ℕ} {edge shaded : Bool} {stats : LocalStats} (counted : labels ≡ label_count sheet) (deep : depth ≡ depth_of p)
       (any : shaded ≡ any_shade shades (length corners.xs)) where
     -- under four labels
-    pub pass-few : {at : LocalProgress} → labels < 4 → at ≡ no_progress labels → edge ≡ rim depth sheet → stats ≡ stats_of (record { progress = at; rounds = 0 }) edge shaded
+    pub pass_few : {at : LocalProgress} → labels < 4 → at ≡ no_progress labels → edge ≡ rim depth sheet → stats ≡ stats_of (record { progress = at; rounds = 0 }) edge shaded
         → local_out (LocalAnswer.Done stats) sheet list ≡ local_leaves (done (local_after (corners_of corners shades) set p sheet)) sheet list
     unfolding local_after local_run local_limit local_from
-    pass-few h g f e = rw (← counted, lt-ltb labels 4 h, e, g, f, deep, any)
+    pass_few h g f e = rw (← counted, lt-ltb labels 4 h, e, g, f, deep, any)
 
     -- all rounds done
-    pub pass-done : (cs : Corners) → cs ≡ corners_of corners shades → {sheet' list' used' places' : List ℕ} {answer : RoundsDone} → 4 ≤ labels
+    pub pass_done : (cs : Corners) → cs ≡ corners_of corners shades → {sheet' list' used' places' : List ℕ} {answer : RoundsDone} → 4 ≤ labels
         → RoundsLeft (local_from cs set p p.max_iters (start_of sheet list labels)) cs.count list sheet' list' used' places' answer → edge ≡ rim depth sheet'
         → stats ≡ stats_of answer edge shaded → local_out (LocalAnswer.Done stats) sheet' list' ≡ local_leaves (done (local_after (corners_of corners shades) set p sheet)) sheet list
     unfolding local_after local_run local_limit
-    pass-done cs held h l f e =
+    pass_done cs held h l f e =
         rw (
           ← held,
           ← counted,
@@ -195,22 +195,22 @@ module _ (corners : CornerLists) (shades sheet list : List ℕ) (set : Settings)
 
   -- its check refuses it, or lets it pass
   module _ (check : Checked) (is : check ≡ checked (lent_of corners shades sheet (rooms 0 (length list))) set (Pass.Local p)) where
-    leaves-refused : (r : Refusal) → check ≡ Checked.Refused r
+    leaves_refused : (r : Refusal) → check ≡ Checked.Refused r
         → local_out (LocalAnswer.Refused r) sheet list
         ≡ local_leaves (local_step corners shades sheet set p (rooms 0 (length list))) sheet list
     unfolding local_step
-    leaves-refused r e = rw (← is, e)
+    leaves_refused r e = rw (← is, e)
 
-    pub call-refused : (r : Refusal) → check ≡ Checked.Refused r → Promised (local_out (LocalAnswer.Refused r) sheet list)
-    call-refused r e = promised (leaves-refused r e)
+    pub call_refused : (r : Refusal) → check ≡ Checked.Refused r → Promised (local_out (LocalAnswer.Refused r) sheet list)
+    call_refused r e = promised (leaves_refused r e)
 
     module _ (e : check ≡ Checked.Fine) where
       pub call_accepted : Accepted (lent_of corners shades sheet (rooms 0 (length list))) set (Pass.Local p)
       call_accepted = accepted (lent_of corners shades sheet (rooms 0 (length list))) set (Pass.Local p) (sym is ∙ e)
 
-      leaves-done : (out : LocalOut) → out ≡ local_leaves (done (local_after (corners_of corners shades) set p sheet)) sheet list → out ≡ local_leaves (local_step corners shades sheet set p (rooms 0 (length list))) sheet list
+      leaves_done : (out : LocalOut) → out ≡ local_leaves (done (local_after (corners_of corners shades) set p sheet)) sheet list → out ≡ local_leaves (local_step corners shades sheet set p (rooms 0 (length list))) sheet list
       unfolding local_step
-      leaves-done out h = rw (← is, e) h
+      leaves_done out h = rw (← is, e) h
 
-      pub call-done : (out : LocalOut) → out ≡ local_leaves (done (local_after (corners_of corners shades) set p sheet)) sheet list → Promised out
-      call-done out h = promised (leaves-done out h)
+      pub call_done : (out : LocalOut) → out ≡ local_leaves (done (local_after (corners_of corners shades) set p sheet)) sheet list → Promised out
+      call_done out h = promised (leaves_done out h)

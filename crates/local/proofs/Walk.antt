@@ -31,14 +31,14 @@ use Rattle.region.proofs.Told.{region_is}
 use Rattle.region.proofs.Jumps.{told_far}
 use Rattle.region.proofs.Near.{box_small}
 use Rattle.region.proofs.Places as places
-use Rattle.region.proofs.Places.{Elsewhere, walked_all, walked_start, walked-most, looked, looked-out, looked-labelled, looked-bare, looked-grows, looked-most, walk-grows}
-use Rattle.remembered.proofs.Attach.{clear-same, clear-else}
+use Rattle.region.proofs.Places.{Elsewhere, walked_all, walked_start, walked_most, looked, looked_out, looked_labelled, looked_bare, looked_grows, looked_most, walk_grows}
+use Rattle.remembered.proofs.Attach.{clear_same, clear_else}
 use Rattle.arguments.specs.Front.{over}
 use Rattle.local_cell.specs.Extending.{state_of, Extending, Trying, Holds, Left}
 use Rattle.local_cell.specs.declared.LocalProgress.{LocalProgress}
-use Rattle.local_cell.proofs.Visit.{Tried, passed, attaches, tried, tried_grows, tried-counted, attaching, untouched, left_as, labels_in, listed_below}
+use Rattle.local_cell.proofs.Visit.{Tried, passed, attaches, tried, tried_grows, tried_counted, attaching, untouched, left_as, labels_in, listed_below}
 use Rattle.local.specs.Rounds.{tried_at, Tellable, NextTried, looked_at}
-use Rattle.local.proofs.Depth.{depth-in}
+use Rattle.local.proofs.Depth.{depth_in}
 
 -- ---- a round
 
@@ -61,7 +61,7 @@ tried_else : {cs : Corners} {tol : Tolerances} {s after : LocalState} (n : ℕ) 
 tried_else n h few long e (passed m l u v) = record { same_length = refl; same_label = λ q k d. refl }
 tried_else n h few long e (attaches m l u k v w) =
     let t = attaching few long (cell_on_lem n h) e w in
-    record { same_length = clear-same t; same_label = λ q i d. clear-else t q i (λ z. d (z ∙ place_cell n h)) }
+    record { same_length = clear_same t; same_label = λ q i d. clear_else t q i (λ z. d (z ∙ place_cell n h)) }
 
 pub visit_else : (cs : Corners) → cs.count ≤ 1024 → (set : Settings) (p : LocalExtensionParams) (n : ℕ) → n < 16384 → (s : LocalState)
     → 16384 ≤ length s.sheet
@@ -75,15 +75,15 @@ module _ (cs : Corners) (set : Settings) (p : LocalExtensionParams) where
 
   pub round_grows : (s : LocalState) → length s.made ≤ length (local_round cs set p s).made
   unfolding local_round
-  round_grows s = walk-grows (local_visit cs set p) (λ t. length t.made) visit_grows (local_cells (depth_of p) s.sheet) s
+  round_grows s = walk_grows (local_visit cs set p) (λ t. length t.made) visit_grows (local_cells (depth_of p) s.sheet) s
 
   -- a visit counts at most one cell, and a round at most one for each place
-  pub visit-counted : (c : Cell) (s : LocalState) → visits (local_visit cs set p c s).counts ≤ visits s.counts + 1
-  visit-counted c s = tried-counted (tried cs set p c s)
+  pub visit_counted : (c : Cell) (s : LocalState) → visits (local_visit cs set p c s).counts ≤ visits s.counts + 1
+  visit_counted c s = tried_counted (tried cs set p c s)
 
-  pub round-counted : (s : LocalState) → visits (local_round cs set p s).counts ≤ visits s.counts + 16384
-  round-counted s = rw (← walked_round cs set p s)
-      (walked-most (local_visit cs set p) (λ t. t.sheet) (λ t. visits t.counts) visit-counted (round_region p s.sheet) s 16384)
+  pub round_counted : (s : LocalState) → visits (local_round cs set p s).counts ≤ visits s.counts + 16384
+  round_counted s = rw (← walked_round cs set p s)
+      (walked_most (local_visit cs set p) (λ t. t.sheet) (λ t. visits t.counts) visit_counted (round_region p s.sheet) s 16384)
 
 -- ---- the region of a round, from the labelled places that are listed
 
@@ -91,9 +91,9 @@ module _ {n : ℕ} {sheet list used places : List ℕ} {made labels : ℕ} (f : 
   pub listed : Listed places labels
   listed = record { few = labels_in f; size = f.size; below = listed_below f }
 
-  pub region-found : {around : LabelBox} {rows columns : List ℕ} → around ≡ box_of sheet → Lines (λ p. p % 128) (take labels places) rows → Lines (λ p. p / 128) (take labels places) columns
+  pub region_found : {around : LabelBox} {rows columns : List ℕ} → around ≡ box_of sheet → Lines (λ p. p % 128) (take labels places) rows → Lines (λ p. p / 128) (take labels places) columns
       → RegionFound sheet (region_of around rows columns)
-  region-found a r c = record { around_is = a; rows_are = rw f.places_are at r; columns_are = rw f.places_are at c }
+  region_found a r c = record { around_is = a; rows_are = rw f.places_are at r; columns_are = rw f.places_are at c }
 
 -- no place outside of the window is in the region
 pub tellable : {d : ℕ} (p : LocalExtensionParams) {sheet₀ sheet : List ℕ} {region : Region} {window : Window} → d ≡ depth_of p → p.extend_depth ≤ 4 → RegionFound sheet₀ region
@@ -101,7 +101,7 @@ pub tellable : {d : ℕ} (p : LocalExtensionParams) {sheet₀ sheet : List ℕ} 
 tellable {d} p {sheet₀} {sheet} {region} {window} e shallow f c long =
     record {
       long = long;
-      shallow = rw e (depth-in p shallow);
+      shallow = rw e (depth_in p shallow);
       small = rw f.around_is (box_small sheet₀);
       fits = c.fits;
       far = λ q h out. told_far d sheet₀ region window q f c h out;
@@ -117,14 +117,14 @@ pub record Seeking (sought : ℕ → Bool) (from n : ℕ) : Type 0 where
 
 module _ {d : ℕ} {region : Region} {window : Window} {sheet : List ℕ} (w : Tellable d region window sheet) where
   -- a place outside of the window is not tried
-  out-not : (p : ℕ) → p < 16384 → (InWindow window p → ⊥) → tried_at d region sheet p ≡ false
-  out-not p h out = rw (w.far p h out)
+  out_not : (p : ℕ) → p < 16384 → (InWindow window p → ⊥) → tried_at d region sheet p ≡ false
+  out_not p h out = rw (w.far p h out)
 
-  pub seeking-start : {from n : ℕ} → NextIn window from n → Seeking (tried_at d region sheet) from n
-  seeking-start {from} {n} t = record { start = t.start; upto = t.upto; passed = λ p a b. out-not p (let u = t.upto in omega arith) (t.out p a b) }
+  pub seeking_start : {from n : ℕ} → NextIn window from n → Seeking (tried_at d region sheet) from n
+  seeking_start {from} {n} t = record { start = t.start; upto = t.upto; passed = λ p a b. out_not p (let u = t.upto in omega arith) (t.out p a b) }
 
-  pub seeking-more : {from n m : ℕ} → Seeking (tried_at d region sheet) from n → tried_at d region sheet n ≡ false → NextIn window (n + 1) m → Seeking (tried_at d region sheet) from m
-  seeking-more {from} {n} {m} s e t =
+  pub seeking_more : {from n m : ℕ} → Seeking (tried_at d region sheet) from n → tried_at d region sheet n ≡ false → NextIn window (n + 1) m → Seeking (tried_at d region sheet) from m
+  seeking_more {from} {n} {m} s e t =
       record {
         start = let a = s.start in let b = t.start in omega arith;
         upto = t.upto;
@@ -134,7 +134,7 @@ module _ {d : ℕ} {region : Region} {window : Window} {sheet : List ℕ} (w : T
       by : (p : ℕ) → from ≤ p → p < m → Dec (p < n) → Dec (p ≡ n) → tried_at d region sheet p ≡ false
       by p a b (yes c) x = s.passed p a c
       by p a b (no c) (yes f) = rw f e
-      by p a b (no c) (no f) = out-not p (let u = t.upto in omega arith) (t.out p (omega (arith, c, f)) b)
+      by p a b (no c) (no f) = out_not p (let u = t.upto in omega arith) (t.out p (omega (arith, c, f)) b)
 
 pub seeking_hit : {sought : ℕ → Bool} {from n : ℕ} → Seeking sought from n → sought n ≡ true → NextTried sought from n
 seeking_hit s e = record { start = s.start; upto = s.upto; passed = s.passed; hit = λ h. e }
@@ -209,10 +209,10 @@ module _ (set : Settings) (p : LocalExtensionParams) (cs : Corners) (sheet₀ li
       }
 
   module _ (sheet list used places : List ℕ) (at : LocalProgress) (n : ℕ) (w : Walking set p cs sheet₀ list₀ at₀ sheet list used places at n) where
-    pub walking-more : (region : Region) (sheet' list' used' places' : List ℕ) (at' : LocalProgress) → n < 16384 → RegionFound sheet₀ region → length sheet' ≡ length sheet → length list' ≡ length list
+    pub walking_more : (region : Region) (sheet' list' used' places' : List ℕ) (at' : LocalProgress) → n < 16384 → RegionFound sheet₀ region → length sheet' ≡ length sheet → length list' ≡ length list
         → Left (looked_at cs set p region n (state_of sheet list at)) cs.count list sheet' list' used' places' at'
         → Walking set p cs sheet₀ list₀ at₀ sheet' list' used' places' at' (n + 1)
-    walking-more region sheet' list' used' places' at' h f e g l =
+    walking_more region sheet' list' used' places' at' h f e g l =
         record {
           upto = omega arith;
           long = w.long;
@@ -223,14 +223,14 @@ module _ (set : Settings) (p : LocalExtensionParams) (cs : Corners) (sheet₀ li
                 arith,
                 w.counted,
                 ap visits l.holds.counts_are,
-                looked-most (local_visit cs set p) (λ t. t.sheet) (λ t. visits t.counts)
-                    (visit-counted cs set p) (region_at (depth_of p) region n) n (state_of sheet list at),
+                looked_most (local_visit cs set p) (λ t. t.sheet) (λ t. visits t.counts)
+                    (visit_counted cs set p) (region_at (depth_of p) region n) n (state_of sheet list at),
               );
           left =
               rw next at
               (left_then w.left.holds
               (rw (holds_state w.left.holds)
-              (looked-grows (local_visit cs set p) (λ t. length t.made) (visit_grows cs set p)
+              (looked_grows (local_visit cs set p) (λ t. length t.made) (visit_grows cs set p)
               (λ t. t.sheet) (region_at (depth_of p) region n) n (walked_to cs set p s n)))
               l);
         }
@@ -244,18 +244,18 @@ module _ (set : Settings) (p : LocalExtensionParams) (cs : Corners) (sheet₀ li
             ∙ looked (local_visit cs set p) (λ t. t.sheet) (visit_else cs w.left.extending.few set p) (round_region p sheet₀) s w.long n h
             (region_is (depth_of p) sheet₀ region n h f)
 
-    pub walking-end : 16384 ≤ n → Left (local_round cs set p (state_of sheet₀ list₀ at₀)) cs.count list₀ sheet list used places at
-    walking-end h =
+    pub walking_end : 16384 ≤ n → Left (local_round cs set p (state_of sheet₀ list₀ at₀)) cs.count list₀ sheet list used places at
+    walking_end h =
         let e : n ≡ 16384 = omega (arith, w.upto) in
         rw (← walked_round cs set p (state_of sheet₀ list₀ at₀), ← e) w.left
 
   module _ (region : Region) (f : RegionFound sheet₀ region) {d : ℕ} (deep : d ≡ depth_of p) (sheet list used places : List ℕ) (at : LocalProgress) where
     -- to the next place that is tried: those before it change nothing
-    pub walking-skips : {n r : ℕ} → Walking set p cs sheet₀ list₀ at₀ sheet list used places at n → NextTried (tried_at d region sheet) n r
+    pub walking_skips : {n r : ℕ} → Walking set p cs sheet₀ list₀ at₀ sheet list used places at n → NextTried (tried_at d region sheet) n r
         → Walking set p cs sheet₀ list₀ at₀ sheet list used places at r
-    walking-skips w t =
+    walking_skips w t =
         carried (Walking set p cs sheet₀ list₀ at₀ sheet list used places at) (λ q. tried_at d region sheet q ≡ false)
-        (λ q h e v. walking-more sheet list used places at q v region sheet list used places at h f refl refl (untouched v.left.extending (same q h (rw deep at e))))
+        (λ q h e v. walking_more sheet list used places at q v region sheet list used places at h f refl refl (untouched v.left.extending (same q h (rw deep at e))))
         t.start t.upto t.passed w
       where
         same : (q : ℕ) → q < 16384 → tried_at (depth_of p) region sheet q ≡ false → looked_at cs set p region q (state_of sheet list at) ≡ state_of sheet list at
@@ -263,17 +263,17 @@ module _ (set : Settings) (p : LocalExtensionParams) (cs : Corners) (sheet₀ li
           where
             go : (inside labelled : Bool) → region_at (depth_of p) region q ≡ inside → is_labelled (get_or sheet q 0) ≡ labelled → (inside && not labelled) ≡ false
                 → looked_at cs set p region q (state_of sheet list at) ≡ state_of sheet list at
-            go true true i l z = looked-labelled (local_visit cs set p) (λ t. t.sheet) (region_at (depth_of p) region q) q (state_of sheet list at) h i l
+            go true true i l z = looked_labelled (local_visit cs set p) (λ t. t.sheet) (region_at (depth_of p) region q) q (state_of sheet list at) h i l
             go true false i l z = absurd (true≢false z)
-            go false labelled i l z = looked-out (local_visit cs set p) (λ t. t.sheet) (region_at (depth_of p) region q) q (state_of sheet list at) i
+            go false labelled i l z = looked_out (local_visit cs set p) (λ t. t.sheet) (region_at (depth_of p) region q) q (state_of sheet list at) i
 
     -- a place that is tried: its cell is bare, and its visit is what the round does there
     module _ {n : ℕ} (w : Walking set p cs sheet₀ list₀ at₀ sheet list used places at n) (h : n < 16384) (t : tried_at d region sheet n ≡ true) {c : Cell} (is : c ≡ cell_of n) where
       parts : (region_at d region n ≡ true) × (is_labelled (get_or sheet n 0) ≡ false)
       parts = tried_parts (region_at d region n) (is_labelled (get_or sheet n 0)) t
 
-      pub tried-trying : visits at₀.counts ≤ 4294950912 → Trying cs.count sheet list used places at c
-      tried-trying m =
+      pub tried_trying : visits at₀.counts ≤ 4294950912 → Trying cs.count sheet list used places at c
+      tried_trying m =
           rw is
           (record {
             extending = w.left.extending;
@@ -282,8 +282,8 @@ module _ (set : Settings) (p : LocalExtensionParams) (cs : Corners) (sheet₀ li
             countable = omega (arith, w.counted, m);
           })
 
-      pub walking-tried : {sheet' list' used' places' : List ℕ} {at' : LocalProgress} → length sheet' ≡ length sheet → length list' ≡ length list
+      pub walking_tried : {sheet' list' used' places' : List ℕ} {at' : LocalProgress} → length sheet' ≡ length sheet → length list' ≡ length list
           → Left (local_visit cs set p c (state_of sheet list at)) cs.count list sheet' list' used' places' at' → Walking set p cs sheet₀ list₀ at₀ sheet' list' used' places' at' (n + 1)
-      walking-tried e g l =
-          walking-more sheet list used places at n w region _ _ _ _ _ h f e g
-          (left_as (looked-bare (local_visit cs set p) (λ t. t.sheet) (region_at (depth_of p) region n) n (state_of sheet list at) h (rw deep at parts).0 c is parts.1) l)
+      walking_tried e g l =
+          walking_more sheet list used places at n w region _ _ _ _ _ h f e g
+          (left_as (looked_bare (local_visit cs set p) (λ t. t.sheet) (region_at (depth_of p) region n) n (state_of sheet list at) h (rw deep at parts).0 c is parts.1) l)

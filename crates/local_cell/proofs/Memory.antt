@@ -29,18 +29,18 @@ use Rattle.supports.specs.Fitted.{support_fit_of}
 use Rattle.supports.specs.declared.Supports.{Supports}
 use Rattle.supports.specs.declared.SupportFit.{SupportFit}
 use Rattle.supports.proofs.Fitted.{fit_none, fit_some}
-use Rattle.supports.proofs.Nearest.{Reached, ReachesSmall, nearest-places, nearest-reached, nearest-small}
+use Rattle.supports.proofs.Nearest.{Reached, ReachesSmall, nearest_places, nearest_reached, nearest_small}
 use Rattle.remembered.specs.Remembered.{fit_at, KnownAt, Remembered, Notable, Noting, Noted, Forgotten, entry_of}
 use Rattle.remembered.specs.declared.Known.{Known}
-use Rattle.remembered.proofs.Words.{predicted-below}
+use Rattle.remembered.proofs.Words.{predicted_below}
 use Rattle.remembered.proofs.Notes.{recalled, noted}
 use Rattle.remembered.proofs.Larger.{larger}
-use Rattle.remembered.proofs.Visits.{visit-none, visit-gated, visit-fitted, visit-idle, visit-no-candidates, visit-ambiguous, visit-predicted}
-use Rattle.remembered.proofs.Made.{made_none, made-above, made-within, made_no_candidates, made_ambiguous}
+use Rattle.remembered.proofs.Visits.{visit_none, visit_gated, visit_fitted, visit_idle, visit_no_candidates, visit_ambiguous, visit_predicted}
+use Rattle.remembered.proofs.Made.{made_none, made_above, made_within, made_no_candidates, made_ambiguous}
 use Rattle.remembered.proofs.Attach.{attach_remembered}
 use Rattle.local_cell.specs.Extending.{cell_counted, residuals_recorded, unmatched_counted, state_of, Left, Recalls, Trying, Foretold, Taking, Wrote, NotedIfBare}
 use Rattle.local_cell.specs.declared.LocalProgress.{LocalProgress}
-use Rattle.local_cell.proofs.Visit.{nearby, supports-are, untouched, taking-attaching, left_as, try_counts, counted_left, visits_more, with_counts, with_unmatched_lem}
+use Rattle.local_cell.proofs.Visit.{nearby, supports_are, untouched, taking_attaching, left_as, try_counts, counted_left, visits_more, with_counts, with_unmatched_lem}
 
 -- an entry can be noted
 module _ {set : Settings} {p : LocalExtensionParams} {cs : Corners} {sheet list used places memory : List ℕ} {predictions : List Float} {at : LocalProgress} {c : Cell}
@@ -51,7 +51,7 @@ module _ {set : Settings} {p : LocalExtensionParams} {cs : Corners} {sheet list 
 -- how far a support is can be noted
 pub reaches_small : {n : ℕ} {sheet list used places : List ℕ} {at : LocalProgress} {c : Cell} {near : Supports} → Trying n sheet list used places at c
     → kept_of near ≡ nearest_among c (take at.labels places) → ReachesSmall near
-reaches_small {c = c} t e = nearest-small (nearby t.extending c t.on) e
+reaches_small {c = c} t e = nearest_small (nearby t.extending c t.on) e
 
 -- ---- a cell of which nothing is known
 
@@ -60,20 +60,20 @@ module _ (set : Settings) (p : LocalExtensionParams) {cs : Corners} {sheet list 
     (nearest : kept_of near ≡ nearest_among c (take at.labels places)) {fit : SupportFit}
     (is : fit ≡ support_fit_of (local_fit (seen_of cs.corner sheet) (places_of near))) where
   supports : places_of near ≡ supports_of c sheet
-  supports = supports-are t.extending c near (nearest-places (nearby t.extending c t.on) nearest)
+  supports = supports_are t.extending c near (nearest_places (nearby t.extending c t.on) nearest)
 
   far : Reached c near
-  far = nearest-reached (nearby t.extending c t.on) nearest
+  far = nearest_reached (nearby t.extending c t.on) nearest
 
   of : local_fit (seen_of cs.corner sheet) (places_of near) ≡ fit_at cs sheet c
   of = ap (local_fit (seen_of cs.corner sheet)) supports
 
   -- there is no fit
-  pub unknown-none : {memory' : List ℕ} {predictions' : List Float} → not fit.found ≡ true → Noted memory predictions c (Known.Idle near.fourth.reach) memory' predictions'
+  pub unknown_none : {memory' : List ℕ} {predictions' : List Float} → not fit.found ≡ true → Noted memory predictions c (Known.Idle near.fourth.reach) memory' predictions'
       → Left (local_visit cs set p c (state_of sheet list at)) cs.count list sheet list used places at × Recalls set p cs sheet memory' predictions' at
-  unknown-none e n =
+  unknown_none e n =
       let g = fit_none _ is (not-true fit.found e) in (
-        untouched t.extending (visit-none cs set p c (state_of sheet list at) _ of g),
+        untouched t.extending (visit_none cs set p c (state_of sheet list at) _ of g),
         record { remembered = noted r.remembered t.on (made_none cs set p at.residual sheet c near supports far (sym of ∙ g)) n; unmatched_few = r.unmatched_few },
       )
 
@@ -82,46 +82,46 @@ module _ (set : Settings) (p : LocalExtensionParams) {cs : Corners} {sheet list 
     has = fit_some _ is (not-false fit.found found)
 
     -- a residual is above the gate
-    pub unknown-above : {next : LocalProgress} {memory' : List ℕ} {predictions' : List Float} → next ≡ residuals_recorded at fit.residuals → lt gate most ≡ true
+    pub unknown_above : {next : LocalProgress} {memory' : List ℕ} {predictions' : List Float} → next ≡ residuals_recorded at fit.residuals → lt gate most ≡ true
         → Noted memory predictions c (Known.Idle near.fourth.reach) memory' predictions'
         → Left (local_visit cs set p c (state_of sheet list at)) cs.count list sheet list used places next × Recalls set p cs sheet memory' predictions' next
-    unknown-above f e n =
+    unknown_above f e n =
         let k = sym (ap₂ lt gated largest) ∙ e in
         rw f (
-          untouched t.extending (visit-gated cs set p c (state_of sheet list at) _ of _ _ has k),
+          untouched t.extending (visit_gated cs set p c (state_of sheet list at) _ of _ _ has k),
           record {
             remembered =
                 noted (larger fit.residuals r.remembered) t.on
-                (made-above cs set p at.residual sheet c near supports far fit.h fit.residuals (sym of ∙ has) k) n;
+                (made_above cs set p at.residual sheet c near supports far fit.h fit.residuals (sym of ∙ has) k) n;
             unmatched_few = r.unmatched_few;
           },
         )
 
     -- all are within
-    module _ (e : lt gate most ≡ false) {point prediction : Position} (at-point : point ≡ cell_point c) (maps : prediction ≡ applied fit.h point) where
+    module _ (e : lt gate most ≡ false) {point prediction : Position} (at_point : point ≡ cell_point c) (maps : prediction ≡ applied fit.h point) where
       within : lt (gate_of set p) (worst (of_bits binary32 0) fit.residuals) ≡ false
       within = sym (ap₂ lt gated largest) ∙ e
 
       mapped : prediction ≡ applied fit.h (cell_point c)
-      mapped = maps ∙ ap (applied fit.h) at-point
+      mapped = maps ∙ ap (applied fit.h) at_point
 
-      pub unknown-known : KnownAt cs set p (residuals_recorded at fit.residuals).residual sheet c (Known.Predicted near.fourth.reach prediction)
-      unknown-known = rw mapped (made-within cs set p at.residual sheet c near supports far fit.h fit.residuals (sym of ∙ has) within)
+      pub unknown_known : KnownAt cs set p (residuals_recorded at fit.residuals).residual sheet c (Known.Predicted near.fourth.reach prediction)
+      unknown_known = rw mapped (made_within cs set p at.residual sheet c near supports far fit.h fit.residuals (sym of ∙ has) within)
 
       module _ {next : LocalProgress} (f : next ≡ residuals_recorded at fit.residuals) where
-        pub unknown-asked : {memory' : List ℕ} {predictions' : List Float} → Noted memory predictions c (Known.Predicted near.fourth.reach prediction) memory' predictions'
+        pub unknown_asked : {memory' : List ℕ} {predictions' : List Float} → Noted memory predictions c (Known.Predicted near.fourth.reach prediction) memory' predictions'
             → Trying cs.count sheet list used places next c × (Recalls set p cs sheet memory' predictions' next × Foretold set p cs sheet next c near.fourth.reach prediction)
-        unknown-asked n =
+        unknown_asked n =
             rw f (
               record { extending = t.extending; on = t.on; bare = t.bare; countable = t.countable },
               (
-                record { remembered = noted (larger fit.residuals r.remembered) t.on unknown-known n; unmatched_few = r.unmatched_few },
-                record { known = unknown-known; small = (reaches_small t nearest).fourth_small },
+                record { remembered = noted (larger fit.residuals r.remembered) t.on unknown_known n; unmatched_few = r.unmatched_few },
+                record { known = unknown_known; small = (reaches_small t nearest).fourth_small },
               ),
             )
 
-        pub unknown-visit : local_visit cs set p c (state_of sheet list at) ≡ local_try cs set p c prediction (state_of sheet list next)
-        unknown-visit = rw (f, mapped) (visit-fitted cs set p c (state_of sheet list at) _ of _ _ has within)
+        pub unknown_visit : local_visit cs set p c (state_of sheet list at) ≡ local_try cs set p c prediction (state_of sheet list next)
+        unknown_visit = rw (f, mapped) (visit_fitted cs set p c (state_of sheet list at) _ of _ _ has within)
 
 -- ---- where the fit maps a cell to
 
@@ -132,25 +132,25 @@ module _ {set : Settings} {p : LocalExtensionParams} {cs : Corners} {sheet memor
 
   module _ {list used places : List ℕ} {c : Cell} where
     -- one cell more is counted
-    pub recalls-counted : (found : TryCellResult) {at' : LocalProgress} → Trying cs.count sheet list used places at c → at' ≡ cell_counted at found
+    pub recalls_counted : (found : TryCellResult) {at' : LocalProgress} → Trying cs.count sheet list used places at c → at' ≡ cell_counted at found
         → Recalls set p cs sheet memory predictions at'
-    recalls-counted found t e = rw e (record { remembered = r.remembered; unmatched_few = more found })
+    recalls_counted found t e = rw e (record { remembered = r.remembered; unmatched_few = more found })
 
     -- a corner attached
-    pub recalls-attached : {k : ℕ} {taken : Corner} {sheet' list' used' places' memory' : List ℕ} {at' : LocalProgress} → Taking cs.count sheet list used places at c k
+    pub recalls_attached : {k : ℕ} {taken : Corner} {sheet' list' used' places' memory' : List ℕ} {at' : LocalProgress} → Taking cs.count sheet list used places at c k
         → taken ≡ cs.corner k → Wrote sheet list used places at c k sheet' list' used' places' at' → Forgotten memory predictions c taken.position memory'
         → Recalls set p cs sheet' memory' predictions at'
-    recalls-attached {k} t e w f =
+    recalls_attached {k} t e w f =
         record {
-          remembered = rw (w.sheet_is, w.largest_is) (attach_remembered (taking-attaching t) t.trying.extending.four r.remembered (rw e at f));
+          remembered = rw (w.sheet_is, w.largest_is) (attach_remembered (taking_attaching t) t.trying.extending.four r.remembered (rw e at f));
           unmatched_few = rw (w.unmatched_is, w.counts_are) (more (TryCellResult.Attached k));
         }
 
     -- noted where no shade stands
-    noted-if : (found : TryCellResult) {known : Known} {at' : LocalProgress} {memory' : List ℕ} {predictions' : List Float} → Trying cs.count sheet list used places at c
+    noted_if : (found : TryCellResult) {known : Known} {at' : LocalProgress} {memory' : List ℕ} {predictions' : List Float} → Trying cs.count sheet list used places at c
         → (cs.shades.any ≡ false → KnownAt cs set p at.residual sheet c known) → at' ≡ cell_counted at found
         → NotedIfBare cs.shades.any memory predictions c known memory' predictions' → Recalls set p cs sheet memory' predictions' at'
-    noted-if found {memory' = memory'} {predictions' = predictions'} t k e n =
+    noted_if found {memory' = memory'} {predictions' = predictions'} t k e n =
         rw e (record { remembered = go cs.shades.any refl; unmatched_few = more found })
       where
         go : (b : Bool) → cs.shades.any ≡ b → Remembered cs set p at.residual sheet memory' predictions'
@@ -158,19 +158,19 @@ module _ {set : Settings} {p : LocalExtensionParams} {cs : Corners} {sheet memor
         go false s = noted r.remembered t.on (k s) (n.bare s)
 
     -- no candidate
-    pub recalls-missed : {reach : ℕ} {prediction : Position} {at' : LocalProgress} (found : TryCellResult) {memory' : List ℕ} {predictions' : List Float}
+    pub recalls_missed : {reach : ℕ} {prediction : Position} {at' : LocalProgress} (found : TryCellResult) {memory' : List ℕ} {predictions' : List Float}
         → Trying cs.count sheet list used places at c → Foretold set p cs sheet at c reach prediction
         → found ≡ try_at cs sheet (tolerances_of set) (local_search set p) c prediction → found ≡ TryCellResult.NoCandidates → at' ≡ cell_counted at found
         → NotedIfBare cs.shades.any memory predictions c (Known.NoCandidates reach) memory' predictions' → Recalls set p cs sheet memory' predictions' at'
-    recalls-missed found t k d g e n = noted-if found t (λ s. made_no_candidates k.known (sym d ∙ g) s) e n
+    recalls_missed found t k d g e n = noted_if found t (λ s. made_no_candidates k.known (sym d ∙ g) s) e n
 
     -- an ambiguous choice
-    pub recalls-ambiguous : {reach : ℕ} {prediction : Position} {at' : LocalProgress} {candidates : Candidates} {limit : Float} (found : TryCellResult) {memory' : List ℕ} {predictions' : List Float}
+    pub recalls_ambiguous : {reach : ℕ} {prediction : Position} {at' : LocalProgress} {candidates : Candidates} {limit : Float} (found : TryCellResult) {memory' : List ℕ} {predictions' : List Float}
         → Trying cs.count sheet list used places at c → Foretold set p cs sheet at c reach prediction
         → candidates ≡ gathered cs sheet (local_search set p).search_r c prediction → limit ≡ last_distance candidates
         → found ≡ try_at cs sheet (tolerances_of set) (local_search set p) c prediction → found ≡ TryCellResult.Ambiguous → at' ≡ cell_counted at found
         → NotedIfBare cs.shades.any memory predictions c (Known.Ambiguous reach prediction limit) memory' predictions' → Recalls set p cs sheet memory' predictions' at'
-    recalls-ambiguous found t k i h d g e n = noted-if found t (λ s. made_ambiguous k.known (sym d ∙ g) (h ∙ ap last_distance i) s) e n
+    recalls_ambiguous found t k i h d g e n = noted_if found t (λ s. made_ambiguous k.known (sym d ∙ g) (h ∙ ap last_distance i) s) e n
 
 -- ---- what is passed over there
 
@@ -179,31 +179,31 @@ module _ (set : Settings) (p : LocalExtensionParams) (cs : Corners) {sheet list 
     {sheet' list' used' places' memory' : List ℕ} {predictions' : List Float} {next : LocalProgress}
     (l : Left (local_with c (try_at cs sheet (tolerances_of set) (local_search set p) c prediction) (state_of sheet list at)) cs.count list sheet' list' used' places' next)
     (m : Recalls set p cs sheet' memory' predictions' next) {passed : ℕ} (is : passed ≡ unmatched cs sheet (local_search set p).search_r c prediction) where
-  one-visit : visits next.counts ≡ visits at.counts + 1
-  one-visit =
+  one_visit : visits next.counts ≡ visits at.counts + 1
+  one_visit =
       ap visits (l.holds.counts_are ∙ with_counts c (try_at cs sheet (tolerances_of set) (local_search set p) c prediction) (state_of sheet list at))
       ∙ visits_more (try_at cs sheet (tolerances_of set) (local_search set p) c prediction) at.counts
 
-  same-unmatched : next.unmatched ≡ at.unmatched
-  same-unmatched = l.holds.unmatched_is ∙ with_unmatched_lem c (try_at cs sheet (tolerances_of set) (local_search set p) c prediction) (state_of sheet list at)
+  same_unmatched : next.unmatched ≡ at.unmatched
+  same_unmatched = l.holds.unmatched_is ∙ with_unmatched_lem c (try_at cs sheet (tolerances_of set) (local_search set p) c prediction) (state_of sheet list at)
 
-  passed-few : passed ≤ 1024
-  passed-few = omega (arith, is, unmatched_few cs sheet (local_search set p).search_r c prediction, t.extending.few)
+  passed_few : passed ≤ 1024
+  passed_few = omega (arith, is, unmatched_few cs sheet (local_search set p).search_r c prediction, t.extending.few)
 
-  all-few : next.unmatched + passed ≤ 1024 * visits next.counts
-  all-few = omega (arith, one-visit, same-unmatched, passed-few, r.unmatched_few)
+  all_few : next.unmatched + passed ≤ 1024 * visits next.counts
+  all_few = omega (arith, one_visit, same_unmatched, passed_few, r.unmatched_few)
 
   -- it can be counted
-  pub passed-fits : next.unmatched + passed < 9007199254740992
-  passed-fits = omega (arith, all-few, one-visit, t.countable)
+  pub passed_fits : next.unmatched + passed < 9007199254740992
+  passed_fits = omega (arith, all_few, one_visit, t.countable)
 
   -- and with it the cell is visited
-  pub passed-left : {next' : LocalProgress} → next' ≡ unmatched_counted next passed
+  pub passed_left : {next' : LocalProgress} → next' ≡ unmatched_counted next passed
       → Left (local_try cs set p c prediction (state_of sheet list at)) cs.count list sheet' list' used' places' next' × Recalls set p cs sheet' memory' predictions' next'
-  passed-left e = (
+  passed_left e = (
     left_as (try_counts cs set p c prediction (state_of sheet list at) ∙ ap (λ (n : ℕ). with_unmatched n (local_with c (try_at cs sheet (tolerances_of set) (local_search set p) c prediction) (state_of sheet list at))) (sym is))
         (counted_left passed e l),
-    rw e (record { remembered = m.remembered; unmatched_few = all-few }),
+    rw e (record { remembered = m.remembered; unmatched_few = all_few }),
   )
 
 -- ---- by what is known of a cell
@@ -213,20 +213,20 @@ module _ {set : Settings} {p : LocalExtensionParams} {cs : Corners} {sheet list 
   says : {k : Known} → known ≡ k → KnownAt cs set p at.residual sheet c k
   says {k} e = rw e at (recalled r.remembered t.on is)
 
-  pub known-idle : {reach : ℕ} → known ≡ Known.Idle reach → local_visit cs set p c (state_of sheet list at) ≡ state_of sheet list at
-  known-idle e = visit-idle cs set p c (state_of sheet list at) (says e)
+  pub known_idle : {reach : ℕ} → known ≡ Known.Idle reach → local_visit cs set p c (state_of sheet list at) ≡ state_of sheet list at
+  known_idle e = visit_idle cs set p c (state_of sheet list at) (says e)
 
-  pub known-no-candidates : {reach : ℕ} → known ≡ Known.NoCandidates reach
+  pub known_no_candidates : {reach : ℕ} → known ≡ Known.NoCandidates reach
       → local_visit cs set p c (state_of sheet list at) ≡ local_with c TryCellResult.NoCandidates (state_of sheet list at)
-  known-no-candidates e = visit-no-candidates cs set p c (state_of sheet list at) (says e)
+  known_no_candidates e = visit_no_candidates cs set p c (state_of sheet list at) (says e)
 
-  pub known-ambiguous : {reach : ℕ} {prediction : Position} {limit : Float} → known ≡ Known.Ambiguous reach prediction limit
+  pub known_ambiguous : {reach : ℕ} {prediction : Position} {limit : Float} → known ≡ Known.Ambiguous reach prediction limit
       → local_visit cs set p c (state_of sheet list at) ≡ local_with c TryCellResult.Ambiguous (state_of sheet list at)
-  known-ambiguous e = visit-ambiguous cs set p c (state_of sheet list at) (says e)
+  known_ambiguous e = visit_ambiguous cs set p c (state_of sheet list at) (says e)
 
   module _ {reach : ℕ} {prediction : Position} (e : known ≡ Known.Predicted reach prediction) where
-    pub known-predicted : local_visit cs set p c (state_of sheet list at) ≡ local_try cs set p c prediction (state_of sheet list at)
-    known-predicted = visit-predicted cs set p c (state_of sheet list at) (says e)
+    pub known_predicted : local_visit cs set p c (state_of sheet list at) ≡ local_try cs set p c prediction (state_of sheet list at)
+    known_predicted = visit_predicted cs set p c (state_of sheet list at) (says e)
 
-    pub known-foretold : Notable known → Foretold set p cs sheet at c reach prediction
-    known-foretold h = record { known = says e; small = predicted-below e h }
+    pub known_foretold : Notable known → Foretold set p cs sheet at c reach prediction
+    known_foretold h = record { known = says e; small = predicted_below e h }

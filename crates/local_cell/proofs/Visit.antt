@@ -15,12 +15,12 @@ use Rattle.sheet.specs.Corners.{Corners, corners_in, Given, seen_of}
 use Rattle.sheet.specs.declared.Cell.{Cell}
 use Rattle.sheet.specs.declared.Label.{Label}
 use Rattle.sheet.specs.declared.Position.{Position}
-use Rattle.sheet.proofs.Corners.{given-attached, given-cleared}
-use Rattle.sheet.proofs.Words.{attached-changes, cleared-changes}
+use Rattle.sheet.proofs.Corners.{given_attached, given_cleared}
+use Rattle.sheet.proofs.Words.{attached_changes, cleared_changes}
 use Rattle.labels.specs.Labelled.{labelled_places, label_count, Attaching}
 use Rattle.labels.specs.Used.{used_on, Tied, OneCell}
-use Rattle.labels.proofs.Labelled.{places_rise, places_in_lem, count-attached, labels_places, same_count}
-use Rattle.labels.proofs.Used.{tied_attached, tied-cleared, one_attached, one-cleared}
+use Rattle.labels.proofs.Labelled.{places_rise, places_in_lem, count_attached, labels_places, same_count}
+use Rattle.labels.proofs.Used.{tied_attached, tied_cleared, one_attached, one_cleared}
 use Rattle.positions_policy.specs.declared.Tolerances.{Tolerances}
 use Rattle.arguments.specs.declared.Settings.{Settings}
 use Rattle.arguments.specs.declared.LocalExtensionParams.{LocalExtensionParams}
@@ -30,7 +30,7 @@ use Rattle.passed_over.specs.PassedOver.{passed_over}
 use Rattle.extension_common.specs.TryCell.{gathered, unmatched, try_at}
 use Rattle.extension_common.specs.declared.Search.{Search}
 use Rattle.extension_common.specs.declared.TryCellResult.{TryCellResult}
-use Rattle.extension_common.proofs.Laws.{gathered-tied, unmatched-tied, Attachable, attachable}
+use Rattle.extension_common.proofs.Laws.{gathered_tied, unmatched_tied, Attachable, attachable}
 use Rattle.homography.specs.Fit.{applied}
 use Rattle.passes.specs.Counting.{one_more, visits}
 use Rattle.passes.specs.Grow.{tolerances_of}
@@ -38,10 +38,10 @@ use Rattle.passes.specs.Local.{LocalState, supports_of, by_reach, cell_point, Lo
 use Rattle.passes.specs.declared.Counts.{Counts}
 use Rattle.passes.specs.declared.LargestResidual.{LargestResidual}
 use Rattle.passes.proofs.Over.{over_own, over_more, over_read, over_length}
-use Rattle.passes.proofs.Free.{labels_few, labels-fewer}
+use Rattle.passes.proofs.Free.{labels_few, labels_fewer}
 use Rattle.supports.specs.Nearest.{Nearby, Gatherable, Gathered, places_of}
 use Rattle.supports.specs.declared.Supports.{Supports}
-use Rattle.remembered.proofs.Attach.{clear-long, clear-labels}
+use Rattle.remembered.proofs.Attach.{clear_long, clear_labels}
 use Rattle.local_cell.specs.Extending.{cell_counted, unmatched_counted, state_of, Extending, Holds, Left, Trying, Taking, attached_clear, Writable, Wrote}
 use Rattle.local_cell.specs.declared.LocalProgress.{LocalProgress}
 
@@ -81,9 +81,9 @@ module _ {cs : Corners} {tol : Tolerances} {c : Cell} {s : LocalState} where
   tried_grows (passed n l u h) = omega arith
   tried_grows (attaches n l u k h a) = omega (arith, length-append s.made (place_of c ∷ []))
 
-  pub tried-counted : {after : LocalState} → Tried cs tol c s after → visits after.counts ≤ visits s.counts + 1
-  tried-counted (passed n l u h) = h
-  tried-counted (attaches n l u k h a) = h
+  pub tried_counted : {after : LocalState} → Tried cs tol c s after → visits after.counts ≤ visits s.counts + 1
+  tried_counted (passed n l u h) = h
+  tried_counted (attaches n l u k h a) = h
 
 -- a corner to be attached, as the laws of labels have it
 pub attaching : {cs : Corners} {sheet : List ℕ} {tol : Tolerances} {c : Cell} {k : ℕ} → cs.count ≤ 1024 → 16384 ≤ length sheet → OnSheet c
@@ -93,40 +93,40 @@ attaching few long on bare a = record { long = long; on = on; bare = bare; corne
 -- the sheet after it, but for the cell's marks, is that with the corner attached
 module _ {sheet : List ℕ} {c : Cell} {k : ℕ} (a : Attaching sheet c k) where
   long' : 16384 ≤ length (attached sheet c k)
-  long' = rw (clear-long a) a.long
+  long' = rw (clear_long a) a.long
 
-  pub clear-count : label_count (attached_clear sheet c k) ≡ label_count sheet + 1
-  clear-count = same_count (attached sheet c k) (attached_clear sheet c k) (labels_places (clear-labels a)) ∙ count-attached a
+  pub clear_count : label_count (attached_clear sheet c k) ≡ label_count sheet + 1
+  clear_count = same_count (attached sheet c k) (attached_clear sheet c k) (labels_places (clear_labels a)) ∙ count_attached a
 
   module _ {n : ℕ} (given : Given n sheet) (there : k < n) where
-    pub clear-given : Given n (attached_clear sheet c k)
-    clear-given = given-cleared (given-attached given c a.on k there a.corner_fits) c a.on
+    pub clear_given : Given n (attached_clear sheet c k)
+    clear_given = given_cleared (given_attached given c a.on k there a.corner_fits) c a.on
 
-  pub clear-one : used_on sheet k ≡ false → OneCell sheet → OneCell (attached_clear sheet c k)
-  clear-one free o = one-cleared (attached sheet c k) c long' a.on (one_attached a free o)
+  pub clear_one : used_on sheet k ≡ false → OneCell sheet → OneCell (attached_clear sheet c k)
+  clear_one free o = one_cleared (attached sheet c k) c long' a.on (one_attached a free o)
 
-  pub clear-tied : {used : List ℕ} → k < 1024 → Tied sheet used → Tied (attached_clear sheet c k) (set used k 1)
-  clear-tied h t = tied-cleared (attached sheet c k) c long' a.on (tied_attached a h t)
+  pub clear_tied : {used : List ℕ} → k < 1024 → Tied sheet used → Tied (attached_clear sheet c k) (set used k 1)
+  clear_tied h t = tied_cleared (attached sheet c k) c long' a.on (tied_attached a h t)
 
 -- the labelled places listed anew
 module _ {sheet places places' : List ℕ} {labels : ℕ} where
-  pub gathered-front : Gathered sheet places places' labels → take labels places' ≡ labelled_places sheet
+  pub gathered_front : Gathered sheet places places' labels → take labels places' ≡ labelled_places sheet
   unfolding label_count
-  gathered-front g = rw (g.count_is, g.places_are) (over_read (labelled_places sheet) places)
+  gathered_front g = rw (g.count_is, g.places_are) (over_read (labelled_places sheet) places)
 
-  pub gathered-size : length places ≡ 1024 → label_count sheet ≤ 1024 → Gathered sheet places places' labels → length places' ≡ 1024
+  pub gathered_size : length places ≡ 1024 → label_count sheet ≤ 1024 → Gathered sheet places places' labels → length places' ≡ 1024
   unfolding label_count
-  gathered-size n h g = rw g.places_are (over_length (labelled_places sheet) places (omega arith) ∙ n)
+  gathered_size n h g = rw g.places_are (over_length (labelled_places sheet) places (omega arith) ∙ n)
 
 -- the stores of an attaching
 module _ (sheet : List ℕ) (c : Cell) (k : ℕ) {first second : List ℕ} (e : first ≡ attached sheet c k) (g : second ≡ marks_cleared first c) where
-  both-changes : second ≡ attached_clear sheet c k
-  both-changes = g ∙ ap (λ (l : List ℕ). marks_cleared l c) e
+  both_changes : second ≡ attached_clear sheet c k
+  both_changes = g ∙ ap (λ (l : List ℕ). marks_cleared l c) e
 
   pub gatherable : {list places : List ℕ} {at : LocalProgress} → Writable sheet list places at c k → Gatherable second places
   gatherable w =
-      let long : 16384 ≤ length (attached sheet c k) = rw (attached-changes sheet c w.sheet_cell.long w.sheet_cell.on k (omega (arith, w.entry))).same_length w.sheet_cell.long in
-      rw both-changes (record { long = rw (cleared-changes (attached sheet c k) c long w.sheet_cell.on).same_length long; few = w.few; size = w.size })
+      let long : 16384 ≤ length (attached sheet c k) = rw (attached_changes sheet c w.sheet_cell.long w.sheet_cell.on k (omega (arith, w.entry))).same_length w.sheet_cell.long in
+      rw both_changes (record { long = rw (cleared_changes (attached sheet c k) c long w.sheet_cell.on).same_length long; few = w.few; size = w.size })
 
   pub wrote : (list used places : List ℕ) (at : LocalProgress) {place labels : ℕ} {places' : List ℕ} {n : Counts} → place ≡ place_of c → Gathered second places places' labels
       → n ≡ one_more (TryCellResult.Attached k) at.counts
@@ -134,10 +134,10 @@ module _ (sheet : List ℕ) (c : Cell) (k : ℕ) {first second : List ℕ} (e : 
       (record { counts = n; residual = at.residual; labels = labels; unmatched = at.unmatched })
   wrote list used places at p w e =
       record {
-        sheet_is = both-changes;
+        sheet_is = both_changes;
         list_is = ap (set list at.counts.attached) p;
         used_is = refl;
-        places_are = rw both-changes at w;
+        places_are = rw both_changes at w;
         counts_are = e;
         largest_is = refl;
         unmatched_is = refl;
@@ -153,12 +153,12 @@ module _ {n : ℕ} {sheet list used places : List ℕ} {made labels : ℕ} (f : 
   listed_at : (a : ℕ) → a < labels → get_or places a 0 ≡ get_or (labelled_places sheet) a 0
   listed_at a h = sym (get_or-take labels places a 0 h) ∙ ap (λ (l : List ℕ). get_or l a 0) f.places_are
 
-  listed-long : labels ≡ length (labelled_places sheet)
+  listed_long : labels ≡ length (labelled_places sheet)
   unfolding label_count
-  listed-long = f.labels_are
+  listed_long = f.labels_are
 
   pub listed_below : (a : ℕ) → a < labels → get_or places a 0 < 16384
-  listed_below a h = rw (listed_at a h) (places_in_lem sheet a (omega (arith, listed-long)))
+  listed_below a h = rw (listed_at a h) (places_in_lem sheet a (omega (arith, listed_long)))
 
   pub nearby : (c : Cell) → OnSheet c → Nearby places labels c
   nearby c on =
@@ -166,14 +166,14 @@ module _ {n : ℕ} {sheet list used places : List ℕ} {made labels : ℕ} (f : 
         four = omega (arith, f.labels_are, f.four);
         few = labels_in;
         size = f.size;
-        rising = λ a b l h. rw (listed_at a (omega arith), listed_at b h) ((places_rise sheet).rises a b l (omega (arith, listed-long)));
+        rising = λ a b l h. rw (listed_at a (omega arith), listed_at b h) ((places_rise sheet).rises a b l (omega (arith, listed_long)));
         below = listed_below;
         on = on;
       }
 
-  pub supports-are : (c : Cell) (s : Supports) → places_of s ≡ take 4 (by_reach c (take labels places)) → places_of s ≡ supports_of c sheet
+  pub supports_are : (c : Cell) (s : Supports) → places_of s ≡ take 4 (by_reach c (take labels places)) → places_of s ≡ supports_of c sheet
   unfolding supports_of
-  supports-are c s e = e ∙ rw f.places_are
+  supports_are c s e = e ∙ rw f.places_are
 
 -- ---- what the code leaves
 
@@ -206,36 +206,36 @@ module _ {n : ℕ} {sheet list used places : List ℕ} {at : LocalProgress} (f :
   untouched e = rw e (record { holds = stands; extending = f })
 
 module _ {n : ℕ} {sheet list used places : List ℕ} {at : LocalProgress} {c : Cell} {k : ℕ} (t : Taking n sheet list used places at c k) where
-  pub taking-fits : k < 1024
-  taking-fits = omega (arith, t.there, t.trying.extending.few)
+  pub taking_fits : k < 1024
+  taking_fits = omega (arith, t.there, t.trying.extending.few)
 
-  pub taking-attaching : Attaching sheet c k
-  taking-attaching = record { long = t.trying.extending.given.long; on = t.trying.on; bare = t.trying.bare; corner_fits = omega (arith, taking-fits) }
+  pub taking_attaching : Attaching sheet c k
+  taking_attaching = record { long = t.trying.extending.given.long; on = t.trying.on; bare = t.trying.bare; corner_fits = omega (arith, taking_fits) }
 
   given' : Given n (attached_clear sheet c k)
-  given' = clear-given taking-attaching t.trying.extending.given t.there
+  given' = clear_given taking_attaching t.trying.extending.given t.there
 
   one' : OneCell (attached_clear sheet c k)
-  one' = clear-one taking-attaching t.free t.trying.extending.one_cell
+  one' = clear_one taking_attaching t.free t.trying.extending.one_cell
 
   -- the new labels are few
-  pub taking-few : label_count (attached_clear sheet c k) ≤ 1024
-  taking-few = omega (arith, labels_few given' one', t.trying.extending.few)
+  pub taking_few : label_count (attached_clear sheet c k) ≤ 1024
+  taking_few = omega (arith, labels_few given' one', t.trying.extending.few)
 
   -- there is a place left in the list
-  pub taking-room : at.counts.attached < length list
-  taking-room =
+  pub taking_room : at.counts.attached < length list
+  taking_room =
       let f = t.trying.extending in
-      omega (arith, f.room, f.list_long, labels-fewer f.given f.one_cell taking-attaching t.there t.free)
+      omega (arith, f.room, f.list_long, labels_fewer f.given f.one_cell taking_attaching t.there t.free)
 
-  pub taking-writable : Writable sheet list places at c k
-  taking-writable =
+  pub taking_writable : Writable sheet list places at c k
+  taking_writable =
       record {
         sheet_cell = record { long = t.trying.extending.given.long; on = t.trying.on };
-        entry = taking-fits;
-        space = taking-room;
+        entry = taking_fits;
+        space = taking_room;
         countable = t.trying.countable;
-        few = taking-few;
+        few = taking_few;
         size = t.trying.extending.size;
       }
 
@@ -252,7 +252,7 @@ module _ {n : ℕ} {sheet list used places : List ℕ} {at : LocalProgress} {c :
         holds =
             record {
               sheet_is = refl;
-              list_is = ap₂ (λ (l : List ℕ) (x : ℕ). set l x (place_of c)) (sym (over_own list at.counts.attached (made_in f))) (sym taken) ∙ over_more (take at.counts.attached list) list (place_of c) (omega (arith, taken, taking-room));
+              list_is = ap₂ (λ (l : List ℕ) (x : ℕ). set l x (place_of c)) (sym (over_own list at.counts.attached (made_in f))) (sym taken) ∙ over_more (take at.counts.attached list) list (place_of c) (omega (arith, taken, taking_room));
               made_is = omega (arith, m, taken, length-append (take at.counts.attached list) (place_of c ∷ []));
               counts_are = w.counts_are;
               largest_is = w.largest_is;
@@ -263,13 +263,13 @@ module _ {n : ℕ} {sheet list used places : List ℕ} {at : LocalProgress} {c :
               given = given';
               few = f.few;
               one_cell = one';
-              tied = clear-tied taking-attaching taking-fits f.tied;
+              tied = clear_tied taking_attaching taking_fits f.tied;
               list_long = rw length-set f.list_long;
-              room = omega (arith, m, f.room, clear-count taking-attaching);
-              four = omega (arith, f.four, clear-count taking-attaching);
+              room = omega (arith, m, f.room, clear_count taking_attaching);
+              four = omega (arith, f.four, clear_count taking_attaching);
               labels_are = w.places_are.count_is;
-              places_are = gathered-front w.places_are;
-              size = gathered-size f.size taking-few w.places_are;
+              places_are = gathered_front w.places_are;
+              size = gathered_size f.size taking_few w.places_are;
             };
       })
 
@@ -285,14 +285,14 @@ pub gathered_is : (held : List Float) {n : ℕ} {sheet list used places : List �
     → Trying n sheet list used places at c → {kind : ℕ} → kind ≡ kind_at c
     → candidates ≡ first_two (candidates_at (positions_in held) (eligible_in held used kind) n prediction radius)
     → candidates ≡ gathered (corners_in held n) sheet radius c prediction
-gathered_is held {n} {sheet} {used = used} {c = c} radius prediction t k e = e ∙ gathered-tied held n sheet used radius c prediction t.extending.few t.extending.tied k
+gathered_is held {n} {sheet} {used = used} {c = c} radius prediction t k e = e ∙ gathered_tied held n sheet used radius c prediction t.extending.few t.extending.tied k
 
 -- and passed over
 pub unmatched_is : (held : List Float) {n : ℕ} {sheet list used places : List ℕ} {at : LocalProgress} {c : Cell} {passed : ℕ} (radius : Float) (prediction : Position)
     → Trying n sheet list used places at c → passed ≡ passed_over (positions_in held) (unmarked used) (takes (shades_in held) c) n prediction radius
     → passed ≡ unmatched (corners_in held n) sheet radius c prediction
 unmatched_is held {n} {sheet} {used = used} {c = c} radius prediction t e =
-    e ∙ unmatched-tied held n sheet used radius c prediction t.extending.few t.extending.tied refl
+    e ∙ unmatched_tied held n sheet used radius c prediction t.extending.few t.extending.tied refl
 
 -- a corner that was found is to be attached
 pub taking : (cs : Corners) {sheet list used places : List ℕ} {at : LocalProgress} {c : Cell} {k : ℕ} {r : TryCellResult} (tol : Tolerances) (search : Search) (prediction : Position)
@@ -309,17 +309,17 @@ module _ {n : ℕ} {sheet list used places : List ℕ} (at : LocalProgress) (c :
     unfolding local_with
     found_none g = rw (is, ← d, g) (untouched f refl)
 
-    pub found-ambiguous : r ≡ TryCellResult.Ambiguous → Left (local_with c q (state_of sheet list at)) n list sheet list used places at'
+    pub found_ambiguous : r ≡ TryCellResult.Ambiguous → Left (local_with c q (state_of sheet list at)) n list sheet list used places at'
     unfolding local_with
-    found-ambiguous g = rw (is, ← d, g) (untouched f refl)
+    found_ambiguous g = rw (is, ← d, g) (untouched f refl)
 
-    pub found-refused : r ≡ TryCellResult.EdgeRejected → Left (local_with c q (state_of sheet list at)) n list sheet list used places at'
+    pub found_refused : r ≡ TryCellResult.EdgeRejected → Left (local_with c q (state_of sheet list at)) n list sheet list used places at'
     unfolding local_with
-    found-refused g = rw (is, ← d, g) (untouched f refl)
+    found_refused g = rw (is, ← d, g) (untouched f refl)
 
-  pub found-corner : {k : ℕ} {sheet' list' used' places' : List ℕ} {at' : LocalProgress} → Taking n sheet list used places at c k → r ≡ TryCellResult.Attached k
+  pub found_corner : {k : ℕ} {sheet' list' used' places' : List ℕ} {at' : LocalProgress} → Taking n sheet list used places at c k → r ≡ TryCellResult.Attached k
       → Wrote sheet list used places at c k sheet' list' used' places' at' → Left (local_with c q (state_of sheet list at)) n list sheet' list' used' places' at'
-  found-corner t g w = rw (← d, g) (took t w)
+  found_corner t g w = rw (← d, g) (took t w)
 
 -- ---- the corners passed over
 

@@ -42,11 +42,11 @@ no_queue l shades sheet queue attached set p none = rw (none (length l.xs), le-l
 -- ---- what it leaves
 
 module _ (l : CornerLists) (set : Settings) (shades sheet queue attached sheet' attached' : List ℕ) (pass : Pass) (r : PassAnswer) where
-  pub grow-left : (p : GrowParams) → pass ≡ Pass.Grow p → (queue' : List ℕ) (answer : GrowAnswer) → r ≡ grow_answered answer
+  pub grow_left_lem : (p : GrowParams) → pass ≡ Pass.Grow p → (queue' : List ℕ) (answer : GrowAnswer) → r ≡ grow_answered answer
       → grow_out answer sheet' queue' attached' ≡ grow_leaves (grow_step l shades sheet set p (rooms (length queue) (length attached))) sheet queue attached
       → pass_out r sheet' queue' attached' ≡ pass_leaves (step l sheet (call_of set shades (length queue) (length attached) pass)) sheet queue attached
   unfolding step
-  grow-left p t queue' answer q e = rw (t, q) (go (grow_step l shades sheet set p (rooms (length queue) (length attached))) e)
+  grow_left_lem p t queue' answer q e = rw (t, q) (go (grow_step l shades sheet set p (rooms (length queue) (length attached))) e)
     where
       told : GrowOut → PassOut
       told o = pass_out (grow_answered o.answer) o.sheet o.queue o.attached
@@ -67,11 +67,11 @@ local_visits_none l set p shades sheet = refl
 
 -- so how long a queue is changes nothing, and it stays as it was
 module _ (l : CornerLists) (set : Settings) (shades sheet queue attached sheet' attached' : List ℕ) (pass : Pass) (r : PassAnswer) where
-  pub fill-left : (p : FillParams) → pass ≡ Pass.Fill p → (answer : FillAnswer) → r ≡ fill_answered answer
+  pub fill_left_lem : (p : FillParams) → pass ≡ Pass.Fill p → (answer : FillAnswer) → r ≡ fill_answered answer
       → fill_out answer sheet' attached' ≡ fill_leaves (fill_step l shades sheet set p (rooms 0 (length attached))) sheet attached
       → pass_out r sheet' queue attached' ≡ pass_leaves (step l sheet (call_of set shades (length queue) (length attached) pass)) sheet queue attached
   unfolding step fill_step queue_needed
-  fill-left p t answer q e =
+  fill_left_lem p t answer q e =
       rw (t, q, no_queue l shades sheet (length queue) (length attached) set (Pass.Fill p) (λ n. refl)) (go (checked (lent_of l shades sheet (rooms 0 (length attached))) set (Pass.Fill p)) e)
     where
       told : FillOut → PassOut
@@ -83,11 +83,11 @@ module _ (l : CornerLists) (set : Settings) (shades sheet queue attached sheet' 
       go (Checked.Refused s) w = ap told w
       go Checked.Fine w = rw (fill_visits_none l set p shades sheet) (ap told w)
 
-  pub local-left : (p : LocalExtensionParams) → pass ≡ Pass.Local p → (answer : LocalAnswer) → r ≡ local_answered answer
+  pub local_left_lem : (p : LocalExtensionParams) → pass ≡ Pass.Local p → (answer : LocalAnswer) → r ≡ local_answered answer
       → local_out answer sheet' attached' ≡ local_leaves (local_step l shades sheet set p (rooms 0 (length attached))) sheet attached
       → pass_out r sheet' queue attached' ≡ pass_leaves (step l sheet (call_of set shades (length queue) (length attached) pass)) sheet queue attached
   unfolding step local_step queue_needed
-  local-left p t answer q e =
+  local_left_lem p t answer q e =
       rw (t, q, no_queue l shades sheet (length queue) (length attached) set (Pass.Local p) (λ n. refl)) (go (checked (lent_of l shades sheet (rooms 0 (length attached))) set (Pass.Local p)) e)
     where
       told : LocalOut → PassOut

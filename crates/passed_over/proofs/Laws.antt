@@ -9,7 +9,7 @@ use Rattle.sheet.specs.Corners.{squared_distance, finite_position}
 use Rattle.sheet.specs.Pairing.{Shuffle}
 use Rattle.sheet.specs.declared.Position.{Position}
 use Rattle.labels.specs.Count.{how_many}
-use Rattle.labels.proofs.Count.{many_ext, many_none, many-few, many-paired}
+use Rattle.labels.proofs.Count.{many_ext, many_none, many_few, many_paired}
 use Rattle.candidates.specs.Candidates.{squared_radius}
 use Rattle.candidates.specs.Steps.{one_if}
 use Rattle.passed_over.specs.PassedOver.{is_passed_over, passed_over}
@@ -39,25 +39,25 @@ none_passed_over position unlabelled taken n p r h = ap (λ (m : ℕ). cond (fin
 
 module _ (position : ℕ → Position) (unlabelled taken : ℕ → Bool) (p : Position) where
   module _ (limit : Float) (k : ℕ) where
-    pub one-labelled : unlabelled k ≡ false → 0 ≡ one_if (is_passed_over position unlabelled taken p limit) k
+    pub one_labelled : unlabelled k ≡ false → 0 ≡ one_if (is_passed_over position unlabelled taken p limit) k
     unfolding is_passed_over
-    one-labelled e = rw e
+    one_labelled e = rw e
 
-    pub one-taken : taken k ≡ true → 0 ≡ one_if (is_passed_over position unlabelled taken p limit) k
+    pub one_taken : taken k ≡ true → 0 ≡ one_if (is_passed_over position unlabelled taken p limit) k
     unfolding is_passed_over
-    one-taken f = rw f (go (unlabelled k))
+    one_taken f = rw f (go (unlabelled k))
       where
         go : (t : Bool) → ◌≡◌ {A = ℕ} 0 (cond (t && false) 1 0)
         go true = refl
         go false = refl
 
-    pub one-near : unlabelled k ≡ true → taken k ≡ false → le (squared_distance (position k) p) limit ≡ true → 1 ≡ one_if (is_passed_over position unlabelled taken p limit) k
+    pub one_near : unlabelled k ≡ true → taken k ≡ false → le (squared_distance (position k) p) limit ≡ true → 1 ≡ one_if (is_passed_over position unlabelled taken p limit) k
     unfolding is_passed_over
-    one-near e f h = rw (e, f, h)
+    one_near e f h = rw (e, f, h)
 
-    pub one-far : le (squared_distance (position k) p) limit ≡ false → 0 ≡ one_if (is_passed_over position unlabelled taken p limit) k
+    pub one_far : le (squared_distance (position k) p) limit ≡ false → 0 ≡ one_if (is_passed_over position unlabelled taken p limit) k
     unfolding is_passed_over
-    one-far h = rw h (go (unlabelled k) (not (taken k)))
+    one_far h = rw h (go (unlabelled k) (not (taken k)))
       where
         go : (t u : Bool) → ◌≡◌ {A = ℕ} 0 (cond (t && (u && false)) 1 0)
         go true true = refl
@@ -66,17 +66,17 @@ module _ (position : ℕ → Position) (unlabelled taken : ℕ → Bool) (p : Po
 
   -- of n corners
   module _ (n : ℕ) (r : Float) where
-    pub over-nowhere-x : is_finite p.x ≡ false → 0 ≡ passed_over position unlabelled taken n p r
+    pub over_nowhere_x : is_finite p.x ≡ false → 0 ≡ passed_over position unlabelled taken n p r
     unfolding passed_over
-    over-nowhere-x e = rw e
+    over_nowhere_x e = rw e
 
-    pub over-nowhere-y : is_finite p.x ≡ true → is_finite p.y ≡ false → 0 ≡ passed_over position unlabelled taken n p r
+    pub over_nowhere_y : is_finite p.x ≡ true → is_finite p.y ≡ false → 0 ≡ passed_over position unlabelled taken n p r
     unfolding passed_over
-    over-nowhere-y e f = rw (e, f)
+    over_nowhere_y e f = rw (e, f)
 
-    pub over-somewhere : is_finite p.x ≡ true → is_finite p.y ≡ true → how_many (is_passed_over position unlabelled taken p (squared_radius r)) n ≡ passed_over position unlabelled taken n p r
+    pub over_somewhere : is_finite p.x ≡ true → is_finite p.y ≡ true → how_many (is_passed_over position unlabelled taken p (squared_radius r)) n ≡ passed_over position unlabelled taken n p r
     unfolding passed_over
-    over-somewhere e f = rw (e, f)
+    over_somewhere e f = rw (e, f)
 
 -- ---- two frames with the same corners in another order, of which both or neither are taken
 
@@ -84,10 +84,10 @@ module _ {n : ℕ} (s : Shuffle n) (position position' : ℕ → Position) (unla
     (same_place : (i : ℕ) → i < n → position' (s.to i) ≡ position i) (same_label : (i : ℕ) → i < n → unlabelled' (s.to i) ≡ unlabelled i)
     (same_kind : (i : ℕ) → i < n → taken' (s.to i) ≡ taken i) where
   -- as many are passed over
-  pub paired-passed-over : (p : Position) (r : Float) → passed_over position' unlabelled' taken' n p r ≡ passed_over position unlabelled taken n p r
+  pub paired_passed_over : (p : Position) (r : Float) → passed_over position' unlabelled' taken' n p r ≡ passed_over position unlabelled taken n p r
   unfolding passed_over is_passed_over
-  paired-passed-over p r =
-      ap (λ (m : ℕ). cond (finite_position p) m 0) (many-paired s _ _ (λ i h. rw (same_label i h, same_kind i h, same_place i h)))
+  paired_passed_over p r =
+      ap (λ (m : ℕ). cond (finite_position p) m 0) (many_paired s _ _ (λ i h. rw (same_label i h, same_kind i h, same_place i h)))
 
 -- ---- at most all
 
@@ -96,5 +96,5 @@ unfolding passed_over
 passed_over_few position unlabelled taken n p r = go (finite_position p)
   where
     go : (t : Bool) → cond t (how_many (is_passed_over position unlabelled taken p (squared_radius r)) n) 0 ≤ n
-    go true = many-few _ n
+    go true = many_few _ n
     go false = omega arith

@@ -9,7 +9,7 @@ use Rattle.sheet.specs.Cells.{OnSheet}
 use Rattle.sheet.specs.Words.{bit_of, Content, label_at, hole_at, ambiguous_at, attached, hole_marked, ambiguous_marked, marks_cleared, SheetCell}
 use Rattle.sheet.specs.declared.Cell.{Cell}
 use Rattle.sheet.specs.declared.Label.{Label}
-use Rattle.sheet.proofs.Words.{Changed, attached-changes, hole-changes, ambiguous-changes, cleared-changes, label-here, hole-here, ambiguous-here, label-else, hole-else, ambiguous-else}
+use Rattle.sheet.proofs.Words.{Changed, attached_changes, hole_changes, ambiguous_changes, cleared_changes, label_here, hole_here, ambiguous_here, label_else, hole_else, ambiguous_else}
 use Rattle.extension_common.specs.declared.TryCellResult.{TryCellResult}
 use Rattle.passes.specs.Grow.{GrowState, grow_with}
 use Rattle.passes.specs.Fill.{FillState, fill_with}
@@ -34,33 +34,33 @@ cell_then a b = record { label = b.label ∙ a.label; marks = marks_then a.marks
 module _ {before after : List ℕ} {c : Cell} {content : Content} (ch : Changed before after c content) (on : OnSheet c) where
   -- every other cell is as it was
   others_same : (d : Cell) → (d ≡ c → ⊥) → SameCell before after d
-  others_same d ne = record { label = label-else ch on d ne; marks = record { hole = hole-else ch on d ne; ambiguous = ambiguous-else ch on d ne } }
+  others_same d ne = record { label = label_else ch on d ne; marks = record { hole = hole_else ch on d ne; ambiguous = ambiguous_else ch on d ne } }
 
-  labels-with : (r : TryCellResult) → content.label ≡ label_with r (label_at before c) → Labels r before after c
-  labels-with r e = record { same_length = ch.same_length; label = label-here ch on ∙ e; others = others_same }
+  labels_with : (r : TryCellResult) → content.label ≡ label_with r (label_at before c) → Labels r before after c
+  labels_with r e = record { same_length = ch.same_length; label = label_here ch on ∙ e; others = others_same }
 
 -- ---- the three changes of a visit
 
 module _ {sheet : List ℕ} {c : Cell} (w : SheetCell sheet c) where
-  hole-so : Changed sheet (hole_marked sheet c) c (record { label = label_at sheet c; hole = true; ambiguous = ambiguous_at sheet c })
-  hole-so = hole-changes sheet c w.long w.on
+  hole_so : Changed sheet (hole_marked sheet c) c (record { label = label_at sheet c; hole = true; ambiguous = ambiguous_at sheet c })
+  hole_so = hole_changes sheet c w.long w.on
 
-  ambiguous-so : Changed sheet (ambiguous_marked sheet c) c (record { label = label_at sheet c; hole = hole_at sheet c; ambiguous = true })
-  ambiguous-so = ambiguous-changes sheet c w.long w.on
+  ambiguous_so : Changed sheet (ambiguous_marked sheet c) c (record { label = label_at sheet c; hole = hole_at sheet c; ambiguous = true })
+  ambiguous_so = ambiguous_changes sheet c w.long w.on
 
   module _ (k : ℕ) (fits : k < 16383) where
-    attached-so : Changed sheet (attached sheet c k) c (record { label = Label.Corner k; hole = hole_at sheet c; ambiguous = ambiguous_at sheet c })
-    attached-so = attached-changes sheet c w.long w.on k fits
+    attached_so : Changed sheet (attached sheet c k) c (record { label = Label.Corner k; hole = hole_at sheet c; ambiguous = ambiguous_at sheet c })
+    attached_so = attached_changes sheet c w.long w.on k fits
 
-    cleared-so : Changed (attached sheet c k) (marks_cleared (attached sheet c k) c) c (record { label = label_at (attached sheet c k) c; hole = false; ambiguous = false })
-    cleared-so = cleared-changes (attached sheet c k) c (rw attached-so.same_length w.long) w.on
+    cleared_so : Changed (attached sheet c k) (marks_cleared (attached sheet c k) c) c (record { label = label_at (attached sheet c k) c; hole = false; ambiguous = false })
+    cleared_so = cleared_changes (attached sheet c k) c (rw attached_so.same_length w.long) w.on
 
-    cleared-labels : Labels (TryCellResult.Attached k) sheet (marks_cleared (attached sheet c k) c) c
-    cleared-labels =
+    cleared_labels : Labels (TryCellResult.Attached k) sheet (marks_cleared (attached sheet c k) c) c
+    cleared_labels =
         record {
-          same_length = cleared-so.same_length ∙ attached-so.same_length;
-          label = label-here cleared-so w.on ∙ label-here attached-so w.on;
-          others = λ d ne. cell_then (others_same attached-so w.on d ne) (others_same cleared-so w.on d ne);
+          same_length = cleared_so.same_length ∙ attached_so.same_length;
+          label = label_here cleared_so w.on ∙ label_here attached_so w.on;
+          others = λ d ne. cell_then (others_same attached_so w.on d ne) (others_same cleared_so w.on d ne);
         }
 
 -- nothing was changed
@@ -72,34 +72,34 @@ untouched r sheet c e = record { same_length = refl; label = e; others = λ d ne
 grow_visit_lem : (c : Cell) (r : TryCellResult) (s : GrowState) → Tried s.sheet c r → GrowVisit r c s (grow_with c r s)
 unfolding grow_with bit_of
 grow_visit_lem c TryCellResult.NoCandidates s w =
-    let ch = hole-so w.cell in
+    let ch = hole_so w.cell in
     record {
-      marks = record { hole = hole-here ch w.cell.on; ambiguous = ambiguous-here ch w.cell.on };
-      labels = labels-with ch w.cell.on TryCellResult.NoCandidates refl;
+      marks = record { hole = hole_here ch w.cell.on; ambiguous = ambiguous_here ch w.cell.on };
+      labels = labels_with ch w.cell.on TryCellResult.NoCandidates refl;
       made = refl;
       counted = record { attached = omega arith; no_candidate = omega arith; ambiguous = omega arith; edge = omega arith };
     }
 grow_visit_lem c TryCellResult.Ambiguous s w =
-    let ch = ambiguous-so w.cell in
+    let ch = ambiguous_so w.cell in
     record {
-      marks = record { hole = hole-here ch w.cell.on; ambiguous = ambiguous-here ch w.cell.on };
-      labels = labels-with ch w.cell.on TryCellResult.Ambiguous refl;
+      marks = record { hole = hole_here ch w.cell.on; ambiguous = ambiguous_here ch w.cell.on };
+      labels = labels_with ch w.cell.on TryCellResult.Ambiguous refl;
       made = refl;
       counted = record { attached = omega arith; no_candidate = omega arith; ambiguous = omega arith; edge = omega arith };
     }
 grow_visit_lem c TryCellResult.EdgeRejected s w =
-    let ch = hole-so w.cell in
+    let ch = hole_so w.cell in
     record {
-      marks = record { hole = hole-here ch w.cell.on; ambiguous = ambiguous-here ch w.cell.on };
-      labels = labels-with ch w.cell.on TryCellResult.EdgeRejected refl;
+      marks = record { hole = hole_here ch w.cell.on; ambiguous = ambiguous_here ch w.cell.on };
+      labels = labels_with ch w.cell.on TryCellResult.EdgeRejected refl;
       made = refl;
       counted = record { attached = omega arith; no_candidate = omega arith; ambiguous = omega arith; edge = omega arith };
     }
 grow_visit_lem c (TryCellResult.Attached k) s w =
-    let ch = attached-so w.cell k (w.corner_fits k refl) in
+    let ch = attached_so w.cell k (w.corner_fits k refl) in
     record {
-      marks = record { hole = hole-here ch w.cell.on; ambiguous = ambiguous-here ch w.cell.on };
-      labels = labels-with ch w.cell.on (TryCellResult.Attached k) refl;
+      marks = record { hole = hole_here ch w.cell.on; ambiguous = ambiguous_here ch w.cell.on };
+      labels = labels_with ch w.cell.on (TryCellResult.Attached k) refl;
       made = refl;
       counted = record { attached = omega arith; no_candidate = omega arith; ambiguous = omega arith; edge = omega arith };
     }
@@ -110,10 +110,10 @@ fill_visit_lem c TryCellResult.NoCandidates s w = record { marks = same_marks s.
 fill_visit_lem c TryCellResult.Ambiguous s w = record { marks = same_marks s.sheet c; labels = untouched TryCellResult.Ambiguous s.sheet c refl; made = refl }
 fill_visit_lem c TryCellResult.EdgeRejected s w = record { marks = same_marks s.sheet c; labels = untouched TryCellResult.EdgeRejected s.sheet c refl; made = refl }
 fill_visit_lem c (TryCellResult.Attached k) s w =
-    let ch = attached-so w.cell k (w.corner_fits k refl) in
+    let ch = attached_so w.cell k (w.corner_fits k refl) in
     record {
-      marks = record { hole = hole-here ch w.cell.on; ambiguous = ambiguous-here ch w.cell.on };
-      labels = labels-with ch w.cell.on (TryCellResult.Attached k) refl;
+      marks = record { hole = hole_here ch w.cell.on; ambiguous = ambiguous_here ch w.cell.on };
+      labels = labels_with ch w.cell.on (TryCellResult.Attached k) refl;
       made = refl;
     }
 
@@ -142,10 +142,10 @@ local_visit_lem c TryCellResult.EdgeRejected s w =
     }
 local_visit_lem c (TryCellResult.Attached k) s w =
     let fits = w.corner_fits k refl in
-    let ch = cleared-so w.cell k fits in
+    let ch = cleared_so w.cell k fits in
     record {
-      marks = record { hole = hole-here ch w.cell.on; ambiguous = ambiguous-here ch w.cell.on };
-      labels = cleared-labels w.cell k fits;
+      marks = record { hole = hole_here ch w.cell.on; ambiguous = ambiguous_here ch w.cell.on };
+      labels = cleared_labels w.cell k fits;
       made = refl;
       counted = record { attached = omega arith; no_candidate = omega arith; ambiguous = omega arith; edge = omega arith };
     }

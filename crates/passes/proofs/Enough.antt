@@ -18,10 +18,10 @@ use Rattle.sheet.specs.declared.Cell.{Cell}
 use Rattle.sheet.specs.declared.Label.{Label}
 use Rattle.sheet.specs.declared.Position.{Position}
 use Rattle.sheet.proofs.Laws.{cell_on_lem}
-use Rattle.sheet.proofs.Words.{attached-changes, hole-changes, ambiguous-changes}
+use Rattle.sheet.proofs.Words.{attached_changes, hole_changes, ambiguous_changes}
 use Rattle.labels.specs.Labelled.{labelled_places, label_count, Attaching, SameLabels}
 use Rattle.labels.specs.Used.{used_on, OneCell}
-use Rattle.labels.proofs.Labelled.{labels_places, same_count, hole-keeps, ambiguous-keeps, count-attached, label_after, word_else}
+use Rattle.labels.proofs.Labelled.{labels_places, same_count, hole_keeps, ambiguous_keeps, count_attached, label_after, word_else}
 use Rattle.labels.proofs.Used.{one_same, one_attached, count_bounded}
 use Rattle.predict.specs.Predict.{prediction_of, extrapolating}
 use Rattle.predict.specs.declared.Prediction.{Prediction}
@@ -37,7 +37,7 @@ use Rattle.extension_common.proofs.Laws.{attachable}
 use Rattle.passes.specs.Grow.{GrowState, start_of, tolerances_of, search_of, grow_with, grow_at, grow_visit, grow_from, grow_run}
 use Rattle.passes.specs.Enough.{tally, Enough, NothingCutOff}
 use Rattle.passes.specs.declared.Counts.{Counts}
-use Rattle.passes.proofs.Queue.{more_length, spread_longer, seeded_longer, Lined, lined_none, lined-same, lined-attached, spread_lined, seeded_lined}
+use Rattle.passes.proofs.Queue.{more_length, spread_longer, seeded_longer, Lined, lined_none, lined_same, lined_attached, spread_lined, seeded_lined}
 
 -- ---- a sheet that belongs to the corners
 
@@ -58,15 +58,15 @@ module _ {cs : Corners} {sheet : List ℕ} (f : Belongs cs sheet) where
   labels_few = count_bounded sheet cs.count f.known f.one_cell
 
   -- marks change nothing of it
-  pub belongs-same : (after : List ℕ) → length after ≡ length sheet → SameLabels sheet after → Belongs cs after
-  belongs-same after e s =
+  pub belongs_same : (after : List ℕ) → length after ≡ length sheet → SameLabels sheet after → Belongs cs after
+  belongs_same after e s =
       record { long = rw e f.long; few = f.few; known = λ p k h l. f.known p k h (sym (s.same_label p h) ∙ l); one_cell = one_same s f.one_cell }
 
   -- nor does a given corner that no cell holds, attached to an unlabelled cell
-  pub belongs-attached : {c : Cell} {k : ℕ} → Attaching sheet c k → k < cs.count → used_on sheet k ≡ false → Belongs cs (attached sheet c k)
-  belongs-attached {c} {k} a given free =
+  pub belongs_attached : {c : Cell} {k : ℕ} → Attaching sheet c k → k < cs.count → used_on sheet k ≡ false → Belongs cs (attached sheet c k)
+  belongs_attached {c} {k} a given free =
       record {
-        long = rw (attached-changes sheet c a.long a.on k a.corner_fits).same_length f.long;
+        long = rw (attached_changes sheet c a.long a.on k a.corner_fits).same_length f.long;
         few = f.few;
         known = λ p j h l. go p j h l (ℕ_discrete p (place_of c));
         one_cell = one_attached a free f.one_cell;
@@ -105,8 +105,8 @@ start_going cs sheet f =
 
 module _ {cs : Corners} {head : ℕ} {s : GrowState} (g : Going cs head s) where
   -- four places a corner
-  pub queue-few : length s.queued ≤ 4 * cs.count
-  queue-few = omega (arith, g.room, labels_few g.fit)
+  pub queue_few : length s.queued ≤ 4 * cs.count
+  queue_few = omega (arith, g.room, labels_few g.fit)
 
   pub made_few : length s.made ≤ cs.count
   made_few = omega (arith, g.slots, labels_few g.fit)
@@ -127,86 +127,86 @@ pub record Free (cs : Corners) (sheet : List ℕ) (k : ℕ) : Type 0 where
   pub free : used_on sheet k ≡ false
 
 module _ {cs : Corners} {head : ℕ} {s : GrowState} (g : Going cs head s) (left : head < length s.queued) where
-  pub next-on : OnSheet (next_of s head)
-  next-on = cell_on_lem _ (g.lined.places head left)
+  pub next_on : OnSheet (next_of s head)
+  next_on = cell_on_lem _ (g.lined.places head left)
 
   -- it can take a corner
-  pub next-attaching : (k : ℕ) → k < cs.count → Attaching s.sheet (next_of s head) k
-  next-attaching k h = record { long = g.fit.long; on = next-on; bare = g.lined.waiting head (omega arith) left; corner_fits = omega (arith, g.fit.few) }
+  pub next_attaching : (k : ℕ) → k < cs.count → Attaching s.sheet (next_of s head) k
+  next_attaching k h = record { long = g.fit.long; on = next_on; bare = g.lined.waiting head (omega arith) left; corner_fits = omega (arith, g.fit.few) }
 
   -- the attached list has a place left for it
-  pub slot-left : (k : ℕ) → Free cs s.sheet k → length s.made < cs.count
-  slot-left k f =
-      let a = next-attaching k f.given in
-      omega (arith, g.slots, count-attached a, labels_few (belongs-attached g.fit a f.given f.free))
+  pub slot_left : (k : ℕ) → Free cs s.sheet k → length s.made < cs.count
+  slot_left k f =
+      let a = next_attaching k f.given in
+      omega (arith, g.slots, count_attached a, labels_few (belongs_attached g.fit a f.given f.free))
 
   -- and the queue four
-  pub room-left : (k : ℕ) → Free cs s.sheet k → length s.queued + 4 ≤ 4 * cs.count
-  room-left k f =
-      let a = next-attaching k f.given in
-      omega (arith, g.room, count-attached a, labels_few (belongs-attached g.fit a f.given f.free))
+  pub room_left : (k : ℕ) → Free cs s.sheet k → length s.queued + 4 ≤ 4 * cs.count
+  room_left k f =
+      let a = next_attaching k f.given in
+      omega (arith, g.room, count_attached a, labels_few (belongs_attached g.fit a f.given f.free))
 
-  marked-going : (after : List ℕ) (counts : Counts) → length after ≡ length s.sheet → SameLabels s.sheet after → counts.attached ≡ s.counts.attached → tally counts ≡ tally s.counts + 1
+  marked_going : (after : List ℕ) (counts : Counts) → length after ≡ length s.sheet → SameLabels s.sheet after → counts.attached ≡ s.counts.attached → tally counts ≡ tally s.counts + 1
       → Going cs (head + 1) (marked_as s after counts)
-  marked-going after counts e m same more =
+  marked_going after counts e m same more =
       record {
-        fit = belongs-same g.fit after e m;
-        lined = lined-same s.sheet head s.queued g.lined left after m;
+        fit = belongs_same g.fit after e m;
+        lined = lined_same s.sheet head s.queued g.lined left after m;
         room = omega (arith, g.room, same_count s.sheet after (labels_places m));
         slots = omega (arith, g.slots, same_count s.sheet after (labels_places m));
         made_counted = same ∙ g.made_counted;
         tallied = omega (arith, more, g.tallied);
       }
 
-  hole-going : (counts : Counts) → counts.attached ≡ s.counts.attached → tally counts ≡ tally s.counts + 1 → Going cs (head + 1) (marked_as s (hole_marked s.sheet (next_of s head)) counts)
-  hole-going counts =
-      marked-going (hole_marked s.sheet (next_of s head)) counts (hole-changes s.sheet (next_of s head) g.fit.long next-on).same_length
-      (hole-keeps s.sheet (next_of s head) g.fit.long next-on)
+  hole_going : (counts : Counts) → counts.attached ≡ s.counts.attached → tally counts ≡ tally s.counts + 1 → Going cs (head + 1) (marked_as s (hole_marked s.sheet (next_of s head)) counts)
+  hole_going counts =
+      marked_going (hole_marked s.sheet (next_of s head)) counts (hole_changes s.sheet (next_of s head) g.fit.long next_on).same_length
+      (hole_keeps s.sheet (next_of s head) g.fit.long next_on)
 
-  ambiguous-going : (counts : Counts) → counts.attached ≡ s.counts.attached → tally counts ≡ tally s.counts + 1 → Going cs (head + 1) (marked_as s (ambiguous_marked s.sheet (next_of s head)) counts)
-  ambiguous-going counts =
-      marked-going (ambiguous_marked s.sheet (next_of s head)) counts (ambiguous-changes s.sheet (next_of s head) g.fit.long next-on).same_length
-      (ambiguous-keeps s.sheet (next_of s head) g.fit.long next-on)
+  ambiguous_going : (counts : Counts) → counts.attached ≡ s.counts.attached → tally counts ≡ tally s.counts + 1 → Going cs (head + 1) (marked_as s (ambiguous_marked s.sheet (next_of s head)) counts)
+  ambiguous_going counts =
+      marked_going (ambiguous_marked s.sheet (next_of s head)) counts (ambiguous_changes s.sheet (next_of s head) g.fit.long next_on).same_length
+      (ambiguous_keeps s.sheet (next_of s head) g.fit.long next_on)
 
   -- by what is found there
-  pub with-going : (r : TryCellResult) → ((k : ℕ) → r ≡ TryCellResult.Attached k → Free cs s.sheet k) → Going cs (head + 1) (grow_with (next_of s head) r s)
+  pub with_going : (r : TryCellResult) → ((k : ℕ) → r ≡ TryCellResult.Attached k → Free cs s.sheet k) → Going cs (head + 1) (grow_with (next_of s head) r s)
   unfolding grow_with
-  with-going TryCellResult.NoCandidates f = hole-going _ refl (omega arith)
-  with-going TryCellResult.Ambiguous f = ambiguous-going _ refl (omega arith)
-  with-going TryCellResult.EdgeRejected f = hole-going _ refl (omega arith)
-  with-going (TryCellResult.Attached k) f =
+  with_going TryCellResult.NoCandidates f = hole_going _ refl (omega arith)
+  with_going TryCellResult.Ambiguous f = ambiguous_going _ refl (omega arith)
+  with_going TryCellResult.EdgeRejected f = hole_going _ refl (omega arith)
+  with_going (TryCellResult.Attached k) f =
       let h = f k refl in
-      let a = next-attaching k h.given in
+      let a = next_attaching k h.given in
       let after = attached s.sheet (next_of s head) k in
       record {
-        fit = belongs-attached g.fit a h.given h.free;
-        lined = spread_lined after (head + 1) (next_of s head) s.queued (lined-attached s.sheet head s.queued g.lined left k a);
-        room = omega (arith, g.room, count-attached a, (spread_longer after (next_of s head) s.queued).few);
-        slots = omega (arith, g.slots, count-attached a, more_length s.made (place_of (next_of s head)));
+        fit = belongs_attached g.fit a h.given h.free;
+        lined = spread_lined after (head + 1) (next_of s head) s.queued (lined_attached s.sheet head s.queued g.lined left k a);
+        room = omega (arith, g.room, count_attached a, (spread_longer after (next_of s head) s.queued).few);
+        slots = omega (arith, g.slots, count_attached a, more_length s.made (place_of (next_of s head)));
         made_counted = omega (arith, g.made_counted, more_length s.made (place_of (next_of s head)));
         tallied = omega (arith, g.tallied);
       }
 
 module _ (cs : Corners) (set : Settings) (p : GrowParams) where
   -- a corner that trying a cell found is given and held by no cell
-  pub found-free : (sheet : List ℕ) (c : Cell) (at : Position) (e : Bool) (k : ℕ) → try_at cs sheet (tolerances_of set) (search_of set p e) c at ≡ TryCellResult.Attached k → Free cs sheet k
-  found-free sheet c at e k h = let a = attachable cs sheet (tolerances_of set) (search_of set p e) c at k h in record { given = a.given; free = a.free }
+  pub found_free : (sheet : List ℕ) (c : Cell) (at : Position) (e : Bool) (k : ℕ) → try_at cs sheet (tolerances_of set) (search_of set p e) c at ≡ TryCellResult.Attached k → Free cs sheet k
+  found_free sheet c at e k h = let a = attachable cs sheet (tolerances_of set) (search_of set p e) c at k h in record { given = a.given; free = a.free }
 
-  pub visit-going : (head : ℕ) (s : GrowState) → Going cs head s → head < length s.queued → Going cs (head + 1) (grow_visit cs set p (next_of s head) s)
+  pub visit_going : (head : ℕ) (s : GrowState) → Going cs head s → head < length s.queued → Going cs (head + 1) (grow_visit cs set p (next_of s head) s)
   unfolding grow_visit grow_at
-  visit-going head s g left = go (prediction_of (seen_of cs.corner s.sheet) set.grid (next_of s head))
+  visit_going head s g left = go (prediction_of (seen_of cs.corner s.sheet) set.grid (next_of s head))
     where
       go : (at : Prediction) → Going cs (head + 1) (grow_at cs set p (next_of s head) at s)
-      go Prediction.NoNeighbour = hole-going g left _ refl (omega arith)
-      go (Prediction.At at) = with-going g left _ (found-free s.sheet (next_of s head) at (extrapolating (seen_of cs.corner s.sheet) (next_of s head)))
+      go Prediction.NoNeighbour = hole_going g left _ refl (omega arith)
+      go (Prediction.At at) = with_going g left _ (found_free s.sheet (next_of s head) at (extrapolating (seen_of cs.corner s.sheet) (next_of s head)))
 
   -- ---- the run
 
   -- nothing is left to visit
-  pub from-ended : (m head : ℕ) (s : GrowState) → length s.queued ≤ head → grow_from cs set p m head s ≡ s
+  pub from_ended : (m head : ℕ) (s : GrowState) → length s.queued ≤ head → grow_from cs set p m head s ≡ s
   unfolding grow_from
-  from-ended zero head s h = refl
-  from-ended (suc m) head s h = rw (le-ltb head (length s.queued) h)
+  from_ended zero head s h = refl
+  from_ended (suc m) head s h = rw (le-ltb head (length s.queued) h)
 
   -- one cell more
   pub from_next : (m head : ℕ) (s : GrowState) → head < length s.queued → grow_from cs set p (suc m) head s ≡ grow_from cs set p m (head + 1) (grow_visit cs set p (next_of s head) s)
@@ -214,13 +214,13 @@ module _ (cs : Corners) (set : Settings) (p : GrowParams) where
   from_next m head s h = rw (lt-ltb head (length s.queued) h)
 
   -- a run with fuel for four cells a corner visits the whole queue
-  pub from-going : (m head : ℕ) (s : GrowState) → Going cs head s → 4 * cs.count ≤ head + m → Going cs (length (grow_from cs set p m head s).queued) (grow_from cs set p m head s)
+  pub from_going : (m head : ℕ) (s : GrowState) → Going cs head s → 4 * cs.count ≤ head + m → Going cs (length (grow_from cs set p m head s).queued) (grow_from cs set p m head s)
   unfolding grow_from
-  from-going zero head s g h = ended head s g (omega (arith, queue-few g))
+  from_going zero head s g h = ended head s g (omega (arith, queue_few g))
     where
       ended : (head : ℕ) (s : GrowState) → Going cs head s → length s.queued ≤ head → Going cs (length s.queued) s
       ended head s g h = let e : head ≡ length s.queued = omega (arith, g.lined.upto) in rw (← e) g
-  from-going (suc m) head s g h = go (ltb head (length s.queued)) refl (λ l. from-going m (head + 1) (grow_visit cs set p (next_of s head) s) (visit-going head s g l) (omega arith))
+  from_going (suc m) head s g h = go (ltb head (length s.queued)) refl (λ l. from_going m (head + 1) (grow_visit cs set p (next_of s head) s) (visit_going head s g l) (omega arith))
     where
       next : GrowState
       next = grow_from cs set p m (head + 1) (grow_visit cs set p (next_of s head) s)
@@ -234,11 +234,11 @@ module _ (cs : Corners) (set : Settings) (p : GrowParams) where
   unfolding grow_from
   from_more zero j head s g h =
       let e : 0 + j ≡ j = omega arith in
-      ap (λ (n : ℕ). grow_from cs set p n head s) e ∙ from-ended j head s (omega (arith, queue-few g))
+      ap (λ (n : ℕ). grow_from cs set p n head s) e ∙ from_ended j head s (omega (arith, queue_few g))
   from_more (suc m) j head s g h =
       let e : suc m + j ≡ suc (m + j) = omega arith in
       ap (λ (n : ℕ). grow_from cs set p n head s) e
-      ∙ go (ltb head (length s.queued)) refl (λ l. from_more m j (head + 1) (grow_visit cs set p (next_of s head) s) (visit-going head s g l) (omega arith))
+      ∙ go (ltb head (length s.queued)) refl (λ l. from_more m j (head + 1) (grow_visit cs set p (next_of s head) s) (visit_going head s g l) (omega arith))
     where
       go : (t : Bool) → ltb head (length s.queued) ≡ t → (head < length s.queued → grow_from cs set p (m + j) (head + 1) (grow_visit cs set p (next_of s head) s) ≡ grow_from cs set p m (head + 1) (grow_visit cs set p (next_of s head) s))
           → cond t (grow_from cs set p (m + j) (head + 1) (grow_visit cs set p (next_of s head) s)) s ≡ cond t (grow_from cs set p m (head + 1) (grow_visit cs set p (next_of s head) s)) s
@@ -252,10 +252,10 @@ pub enough : (cs : Corners) (set : Settings) (p : GrowParams) (sheet : List ℕ)
 unfolding grow_run
 enough cs set p sheet f =
     let g = start_going cs sheet f in
-    let w = from-going cs set p (4 * cs.count) 0 (start_of sheet) g (omega arith) in
+    let w = from_going cs set p (4 * cs.count) 0 (start_of sheet) g (omega arith) in
     record {
       same = λ m. from_more cs set p (4 * cs.count) m 0 (start_of sheet) g (omega arith);
-      all_visited = record { each_counted = w.tallied; few = queue-few w; on = w.lined.places; once = w.lined.distinct; made_few = made_few w };
+      all_visited = record { each_counted = w.tallied; few = queue_few w; on = w.lined.places; once = w.lined.distinct; made_few = made_few w };
     }
 
 -- so for every call that the checks let pass

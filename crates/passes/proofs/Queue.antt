@@ -54,11 +54,11 @@ not_member p (x ∷ l) e i h d = go (eqb p x) refl e (not_member p l) i h d
 
 -- the last is the new one, and those before it are as they were
 module _ (l : List ℕ) (p : ℕ) where
-  pub last-at : get_or (l ++ (p ∷ [])) (length l) 0 ≡ p
-  last-at = get_or-append_seam l p [] 0
+  pub last_at : get_or (l ++ (p ∷ [])) (length l) 0 ≡ p
+  last_at = get_or-append_seam l p [] 0
 
-  pub older-at : (i : ℕ) → i < length l → get_or (l ++ (p ∷ [])) i 0 ≡ get_or l i 0
-  older-at i h = get_or-append l (p ∷ []) 0 i h
+  pub older_at : (i : ℕ) → i < length l → get_or (l ++ (p ∷ [])) i 0 ≡ get_or l i 0
+  older_at i h = get_or-append l (p ∷ []) 0 i h
 
   pub more_length : length (l ++ (p ∷ [])) ≡ length l + 1
   more_length = length-append l (p ∷ [])
@@ -119,8 +119,8 @@ lined_none sheet =
 
 -- a place more that was not there, of an unlabelled cell
 module _ (sheet : List ℕ) (head : ℕ) (queued : List ℕ) (l : Lined sheet head queued) where
-  pub lined-more : (p : ℕ) → p < 16384 → label_at sheet (cell_of p) ≡ Label.Unlabelled → member p queued ≡ false → Lined sheet head (queued ++ (p ∷ []))
-  lined-more p on bare new =
+  pub lined_more : (p : ℕ) → p < 16384 → label_at sheet (cell_of p) ≡ Label.Unlabelled → member p queued ≡ false → Lined sheet head (queued ++ (p ∷ []))
+  lined_more p on bare new =
       record {
         upto = omega (arith, l.upto, more_length queued p);
         places = λ i h. at i (ℕ_discrete i (length queued)) h (λ x. x < 16384) on (l.places i);
@@ -129,19 +129,19 @@ module _ (sheet : List ℕ) (head : ℕ) (queued : List ℕ) (l : Lined sheet he
       }
     where
       at : (i : ℕ) → Dec (i ≡ length queued) → i < length (queued ++ (p ∷ [])) → (P : ℕ → Type 0) → P p → (i < length queued → P (get_or queued i 0)) → P (get_or (queued ++ (p ∷ [])) i 0)
-      at i (yes d) h P x y = rw (d, last-at queued p) x
+      at i (yes d) h P x y = rw (d, last_at queued p) x
       at i (no d) h P x y =
           let k : i < length queued = omega (arith, more_length queued p) in
-          rw (older-at queued p i k) (y k)
+          rw (older_at queued p i k) (y k)
 
       apart : (i j : ℕ) → i < j → j < length (queued ++ (p ∷ [])) → Dec (j ≡ length queued) → get_or (queued ++ (p ∷ [])) i 0 ≡ get_or (queued ++ (p ∷ [])) j 0 → ⊥
       apart i j h k (yes d) e =
           let m : i < length queued = omega arith in
-          not_member p queued new i m (sym (older-at queued p i m) ∙ e ∙ rw (d, last-at queued p))
+          not_member p queued new i m (sym (older_at queued p i m) ∙ e ∙ rw (d, last_at queued p))
       apart i j h k (no d) e =
           let n : j < length queued = omega (arith, more_length queued p) in
           let m : i < length queued = omega arith in
-          l.distinct i j h n (sym (older-at queued p i m) ∙ e ∙ older-at queued p j n)
+          l.distinct i j h n (sym (older_at queued p i m) ∙ e ∙ older_at queued p j n)
 
 unlabelled : (l : Label) → names_corner l ≡ false → l ≡ Label.Unlabelled
 unfolding names_corner
@@ -169,7 +169,7 @@ enqueued_lined sheet head c queued l = go (wanted sheet queued c) refl
     go true e =
         let w = is_wanted sheet queued c e in
         let on = subst T (sym w.on) tt in
-        lined-more sheet head queued l (place_of c) (place_in c on) (rw (cell_place c on) w.bare) w.new
+        lined_more sheet head queued l (place_of c) (place_in c on) (rw (cell_place c on) w.bare) w.new
     go false e = l
 
 pub at_lined : (sheet : List ℕ) (head : ℕ) (c : Cell) (os : List Offset) (queued : List ℕ) → Lined sheet head queued → Lined sheet head (enqueued_at sheet c os queued)
@@ -190,8 +190,8 @@ seeded_lined sheet head (p ∷ ps) queued l = seeded_lined sheet head ps (spread
 
 module _ (sheet : List ℕ) (head : ℕ) (queued : List ℕ) (l : Lined sheet head queued) (left : head < length queued) where
   -- its labels stay
-  pub lined-same : (after : List ℕ) → SameLabels sheet after → Lined after (head + 1) queued
-  lined-same after s =
+  pub lined_same : (after : List ℕ) → SameLabels sheet after → Lined after (head + 1) queued
+  lined_same after s =
       record {
         upto = omega arith;
         places = l.places;
@@ -200,8 +200,8 @@ module _ (sheet : List ℕ) (head : ℕ) (queued : List ℕ) (l : Lined sheet he
       }
 
   -- a corner is attached to it
-  pub lined-attached : (k : ℕ) → Attaching sheet (cell_of (get_or queued head 0)) k → Lined (attached sheet (cell_of (get_or queued head 0)) k) (head + 1) queued
-  lined-attached k a = record { upto = omega arith; places = l.places; distinct = l.distinct; waiting = λ i g h. wait i g h }
+  pub lined_attached : (k : ℕ) → Attaching sheet (cell_of (get_or queued head 0)) k → Lined (attached sheet (cell_of (get_or queued head 0)) k) (head + 1) queued
+  lined_attached k a = record { upto = omega arith; places = l.places; distinct = l.distinct; waiting = λ i g h. wait i g h }
     where
       wait : (i : ℕ) → head + 1 ≤ i → i < length queued → label_at (attached sheet (cell_of (get_or queued head 0)) k) (cell_of (get_or queued i 0)) ≡ Label.Unlabelled
       wait i g h =

@@ -26,11 +26,11 @@ module _ {S : Type 0} (visit : Cell → S → S) where
   walk_more (r ∷ qs) q s = walk_more qs q (visit (cell_of r) s)
 
   -- what each visit keeps, of the cells that are still to come and of where the pass stands
-  pub walk-keeps : (P : List ℕ → S → Type 0) → ((q : ℕ) (qs : List ℕ) (s : S) → P (q ∷ qs) s → P qs (visit (cell_of q) s))
+  pub walk_keeps : (P : List ℕ → S → Type 0) → ((q : ℕ) (qs : List ℕ) (s : S) → P (q ∷ qs) s → P qs (visit (cell_of q) s))
       → (qs : List ℕ) (s : S) → P qs s → P [] (walk visit qs s)
   unfolding walk
-  walk-keeps P keeps [] s h = h
-  walk-keeps P keeps (q ∷ qs) s h = walk-keeps P keeps qs (visit (cell_of q) s) (keeps q qs s h)
+  walk_keeps P keeps [] s h = h
+  walk_keeps P keeps (q ∷ qs) s h = walk_keeps P keeps qs (visit (cell_of q) s) (keeps q qs s h)
 
 -- ---- rounds
 
@@ -50,13 +50,13 @@ module _ {S : Type 0} (w : RoundPass S) where
   pub round_keeps : (P : List ℕ → S → Type 0) → ((q : ℕ) (qs : List ℕ) (s : S) → P (q ∷ qs) s → P qs (w.visit (cell_of q) s))
       → (s : S) → P (w.cells s) s → P [] (one_round w s)
   unfolding one_round
-  round_keeps P keeps s h = walk-keeps w.visit P keeps (w.cells s) s h
+  round_keeps P keeps s h = walk_keeps w.visit P keeps (w.cells s) s h
 
   -- what holds between two rounds
-  pub rounds-keep : (P : List ℕ → S → Type 0) → ((s : S) → P [] s → P (w.cells s) s)
+  pub rounds_keep : (P : List ℕ → S → Type 0) → ((s : S) → P [] s → P (w.cells s) s)
       → ((q : ℕ) (qs : List ℕ) (s : S) → P (q ∷ qs) s → P qs (w.visit (cell_of q) s))
       → (m : ℕ) (r : Rounds S) → P [] r.state → P [] (rounds_from w m r).state
-  rounds-keep P begins keeps m r h = each_keeps (P []) (λ s g. round_keeps P keeps s (begins s g)) m r h
+  rounds_keep P begins keeps m r h = each_keeps (P []) (λ s g. round_keeps P keeps s (begins s g)) m r h
 
 -- ---- two passes that go alike
 
@@ -83,13 +83,13 @@ module _ {S S' : Type 0} {w : RoundPass S} {w' : RoundPass S'} (P : List ℕ →
   round_same s s' h =
       subst (λ (qs : List ℕ). P [] (one_round w s) (walk w'.visit qs s')) (sym (a.cells s s' h)) (walk_same (w.cells s) s s' (a.begins s s' h))
 
-  pub rounds-same : (m : ℕ) (r : Rounds S) (r' : Rounds S') → SameRounds (P []) r r' → SameRounds (P []) (rounds_from w m r) (rounds_from w' m r')
+  pub rounds_same : (m : ℕ) (r : Rounds S) (r' : Rounds S') → SameRounds (P []) r r' → SameRounds (P []) (rounds_from w m r) (rounds_from w' m r')
   unfolding rounds_from
-  rounds-same zero r r' h = h
-  rounds-same (suc m) r r' h =
+  rounds_same zero r r' h = h
+  rounds_same (suc m) r r' h =
       subst (λ (t : Bool). SameRounds (P []) (rounds_from w (suc m) r) (cond t (next_round w' r') (rounds_from w' m (next_round w' r'))))
       (sym (ap₂ (λ (x y : ℕ). eqb x y) (a.made _ _ after.state) (a.made _ _ h.state)))
-      (go (eqb (length (w.made (one_round w r.state))) (length (w.made r.state))) (rounds-same m (next_round w r) (next_round w' r') after))
+      (go (eqb (length (w.made (one_round w r.state))) (length (w.made r.state))) (rounds_same m (next_round w r) (next_round w' r') after))
     where
       after : SameRounds (P []) (next_round w r) (next_round w' r')
       after = record { state = round_same r.state r'.state h.state; rounds = ap (λ (n : ℕ). n + 1) h.rounds }
@@ -108,34 +108,34 @@ pub record Remaining {S : Type 0} (w : RoundPass S) (limit : ℕ) (first s : S) 
 
 module _ {S : Type 0} (w : RoundPass S) (limit : ℕ) (first : S) where
   -- all rounds from the start
-  abbrev pub allRounds : Rounds S
-  allRounds = rounds_from w limit (record { state = first; rounds = 0 })
+  abbrev pub all_rounds : Rounds S
+  all_rounds = rounds_from w limit (record { state = first; rounds = 0 })
 
-  pub remaining-all : Remaining w limit first first 0
-  remaining-all = record { upto = omega arith; rest = ap (λ (m : ℕ). rounds_from w m (record { state = first; rounds = 0 })) (whole limit) }
+  pub remaining_all : Remaining w limit first first 0
+  remaining_all = record { upto = omega arith; rest = ap (λ (m : ℕ). rounds_from w m (record { state = first; rounds = 0 })) (whole limit) }
     where
       whole : (m : ℕ) → m - 0 ≡ m
       whole m = omega arith
 
   module _ {s : S} {rounds : ℕ} (g : Remaining w limit first s rounds) where
-    pub remaining-none : limit ≤ rounds → allRounds ≡ record { state = s; rounds = rounds }
+    pub remaining_none : limit ≤ rounds → all_rounds ≡ record { state = s; rounds = rounds }
     unfolding rounds_from
-    remaining-none h =
+    remaining_none h =
         let e : limit - rounds ≡ 0 = omega arith in
         sym g.rest ∙ ap (λ (m : ℕ). rounds_from w m (record { state = s; rounds = rounds })) e
 
     module _ (h : rounds < limit) where
       -- one round more, and those behind it
-      turn : rounds_from w (suc (limit - (rounds + 1))) (record { state = s; rounds = rounds }) ≡ allRounds
+      turn : rounds_from w (suc (limit - (rounds + 1))) (record { state = s; rounds = rounds }) ≡ all_rounds
       turn =
           let e : suc (limit - (rounds + 1)) ≡ limit - rounds = omega arith in
           ap (λ (m : ℕ). rounds_from w m (record { state = s; rounds = rounds })) e ∙ g.rest
 
       -- a round attaching nothing is the last
-      pub remaining-last : length (w.made (one_round w s)) ≡ length (w.made s) → allRounds ≡ record { state = one_round w s; rounds = rounds + 1 }
+      pub remaining_last : length (w.made (one_round w s)) ≡ length (w.made s) → all_rounds ≡ record { state = one_round w s; rounds = rounds + 1 }
       unfolding rounds_from
-      remaining-last e = sym turn ∙ rw (eq-eqb _ _ e)
+      remaining_last e = sym turn ∙ rw (eq-eqb _ _ e)
 
-      pub remaining-more : (length (w.made (one_round w s)) ≡ length (w.made s) → ⊥) → Remaining w limit first (one_round w s) (rounds + 1)
+      pub remaining_more : (length (w.made (one_round w s)) ≡ length (w.made s) → ⊥) → Remaining w limit first (one_round w s) (rounds + 1)
       unfolding rounds_from
-      remaining-more e = record { upto = omega arith; rest = sym (rw (ne_eqb _ _ e)) ∙ turn }
+      remaining_more e = record { upto = omega arith; rest = sym (rw (ne_eqb _ _ e)) ∙ turn }

@@ -13,13 +13,13 @@ use lib.Ieee.{Float}
 use Rattle.sheet.specs.Cells.{moved}
 use Rattle.sheet.specs.Corners.{CornerLists, corner_of, seen_of, Given}
 use Rattle.sheet.specs.Pairing.{PairedCorners, PairedSheets}
-use Rattle.sheet.proofs.Pairing.{seen-paired}
+use Rattle.sheet.proofs.Pairing.{seen_paired}
 use Rattle.sheet.specs.declared.Cell.{Cell}
 use Rattle.sheet.specs.declared.Offset.{Offset}
 use Rattle.sheet.specs.declared.Corner.{Corner}
 use Rattle.sheet.specs.declared.Seen.{Seen}
 use Rattle.positions_policy.specs.Edge.{cardinal_offsets, edge_ok, edge_to, edge_at, followed_by, tried, verdict_of, passes, AcceptedEdge, NoNeighbour}
-use Rattle.positions_policy.proofs.Search.{edge_none, edge-accepted}
+use Rattle.positions_policy.proofs.Search.{edge_none, edge_accepted}
 use Rattle.positions_policy.specs.declared.Tolerances.{Tolerances}
 use Rattle.positions_policy.specs.declared.EdgeVerdict.{EdgeVerdict}
 use Rattle.positions_policy.specs.declared.EdgeVerdict.TheVariants.{Accepted, Refused, NonePresent}
@@ -76,28 +76,28 @@ record Some (edge : Offset → EdgeVerdict) (os : List Offset) : Type 0 where
   accepted : edge offset ≡ Accepted
 
 module _ (edge : Offset → EdgeVerdict) where
-  tried-some : (os : List Offset) → tried edge os ≡ Accepted → Some edge os
+  tried_some : (os : List Offset) → tried edge os ≡ Accepted → Some edge os
   unfolding tried
-  tried-some [] e = absurd (none_accepted e)
-  tried-some (o ∷ os) e =
+  tried_some [] e = absurd (none_accepted e)
+  tried_some (o ∷ os) e =
       ⊎_elim
       (λ f. record { offset = o; there = Memᴰ.head refl; accepted = f })
-      (λ f. let s = tried-some os f in record { offset = s.offset; there = Memᴰ.tail s.there; accepted = s.accepted })
+      (λ f. let s = tried_some os f in record { offset = s.offset; there = Memᴰ.tail s.there; accepted = s.accepted })
       (accepted_one (edge o) (tried edge os) e)
 
-  some-tried : (os : List Offset) (o : Offset) → Memᴰ o os → edge o ≡ Accepted → tried edge os ≡ Accepted
+  some_tried : (os : List Offset) (o : Offset) → Memᴰ o os → edge o ≡ Accepted → tried edge os ≡ Accepted
   unfolding tried
-  some-tried [] o m e = absurd (Memᴰ.not-nil m)
-  some-tried (p ∷ os) o m e =
+  some_tried [] o m e = absurd (Memᴰ.not-nil m)
+  some_tried (p ∷ os) o m e =
       one_accepted (edge p) (tried edge os)
-      (⊎_elim (λ f. inl (ap edge (sym f) ∙ e)) (λ n. inr (some-tried os o n e)) (Memᴰ.cases_cons m))
+      (⊎_elim (λ f. inl (ap edge (sym f) ∙ e)) (λ n. inr (some_tried os o n e)) (Memᴰ.cases_cons m))
 
-  tried-none : (os : List Offset) → tried edge os ≡ NonePresent → (o : Offset) → Memᴰ o os → edge o ≡ NonePresent
+  tried_none : (os : List Offset) → tried edge os ≡ NonePresent → (o : Offset) → Memᴰ o os → edge o ≡ NonePresent
   unfolding tried
-  tried-none [] e o m = absurd (Memᴰ.not-nil m)
-  tried-none (p ∷ os) e o m =
+  tried_none [] e o m = absurd (Memᴰ.not-nil m)
+  tried_none (p ∷ os) e o m =
       let both = none_both (edge p) (tried edge os) e in
-      ⊎_elim (λ f. ap edge f ∙ both.0) (λ n. tried-none os both.1 o n) (Memᴰ.cases_cons m)
+      ⊎_elim (λ f. ap edge f ∙ both.0) (λ n. tried_none os both.1 o n) (Memᴰ.cases_cons m)
 
   none_tried : (os : List Offset) → ((o : Offset) → Memᴰ o os → edge o ≡ NonePresent) → tried edge os ≡ NonePresent
   unfolding tried
@@ -114,10 +114,10 @@ module _ (tol : Tolerances) (candidate : Corner) where
     labelled : s ≡ Seen.At neighbour
     accepted : edge_ok candidate neighbour tol.cell_size tol.edge_length_tol ≡ true
 
-  accepted-beside : (s : Seen) → edge_to tol candidate s ≡ Accepted → Beside s
+  accepted_beside : (s : Seen) → edge_to tol candidate s ≡ Accepted → Beside s
   unfolding edge_to
-  accepted-beside Seen.Nothing e = absurd (none_accepted e)
-  accepted-beside (Seen.At neighbour) e = go (edge_ok candidate neighbour tol.cell_size tol.edge_length_tol) refl
+  accepted_beside Seen.Nothing e = absurd (none_accepted e)
+  accepted_beside (Seen.At neighbour) e = go (edge_ok candidate neighbour tol.cell_size tol.edge_length_tol) refl
     where
       go : (b : Bool) → edge_ok candidate neighbour tol.cell_size tol.edge_length_tol ≡ b → Beside (Seen.At neighbour)
       go true f = record { neighbour = neighbour; labelled = refl; accepted = f }
@@ -134,50 +134,50 @@ module _ (tol : Tolerances) (candidate : Corner) where
 
 module _ (seen : Cell → Seen) (tol : Tolerances) (c : Cell) (candidate : Corner) where
   -- accepted exactly if some labelled cardinal neighbour has an accepted edge
-  pub accepted-exactly : verdict_of seen tol c candidate ≡ Accepted ↔ AcceptedEdge seen tol c candidate
+  pub accepted_exactly : verdict_of seen tol c candidate ≡ Accepted ↔ AcceptedEdge seen tol c candidate
   unfolding verdict_of
-  accepted-exactly = (
+  accepted_exactly = (
     λ e.
-        let s = tried-some (edge_at seen tol c candidate) cardinal_offsets e in
-        let b = accepted-beside tol candidate (seen (moved c s.offset)) s.accepted in
+        let s = tried_some (edge_at seen tol c candidate) cardinal_offsets e in
+        let b = accepted_beside tol candidate (seen (moved c s.offset)) s.accepted in
         record { offset = s.offset; cardinal = s.there; neighbour = b.neighbour; labelled = b.labelled; accepted = b.accepted },
     λ a.
-        some-tried (edge_at seen tol c candidate) cardinal_offsets a.offset a.cardinal
-        (sym (edge-accepted tol candidate refl a.labelled refl a.accepted)),
+        some_tried (edge_at seen tol c candidate) cardinal_offsets a.offset a.cardinal
+        (sym (edge_accepted tol candidate refl a.labelled refl a.accepted)),
   )
 
   -- none present exactly if no cardinal neighbour is labelled
-  pub none-exactly : verdict_of seen tol c candidate ≡ NonePresent ↔ NoNeighbour seen c
+  pub none_exactly : verdict_of seen tol c candidate ≡ NonePresent ↔ NoNeighbour seen c
   unfolding verdict_of
-  none-exactly = (
-    λ e o m. none_beside tol candidate (seen (moved c o)) (tried-none (edge_at seen tol c candidate) cardinal_offsets e o m),
+  none_exactly = (
+    λ e o m. none_beside tol candidate (seen (moved c o)) (tried_none (edge_at seen tol c candidate) cardinal_offsets e o m),
     λ h. none_tried (edge_at seen tol c candidate) cardinal_offsets (λ o m. sym (edge_none tol candidate refl (h o m))),
   )
 
   -- refused exactly if neither: some cardinal neighbour is labelled, and none has an accepted edge
-  pub refused-exactly : verdict_of seen tol c candidate ≡ Refused ↔ ((AcceptedEdge seen tol c candidate → ⊥) × (NoNeighbour seen c → ⊥))
-  refused-exactly = (
-    λ e. (λ a. refused_accepted (sym e ∙ accepted-exactly.1 a), λ h. refused_none (sym e ∙ none-exactly.1 h)),
+  pub refused_exactly : verdict_of seen tol c candidate ≡ Refused ↔ ((AcceptedEdge seen tol c candidate → ⊥) × (NoNeighbour seen c → ⊥))
+  refused_exactly = (
+    λ e. (λ a. refused_accepted (sym e ∙ accepted_exactly.1 a), λ h. refused_none (sym e ∙ none_exactly.1 h)),
     λ n. left (verdict_of seen tol c candidate) refl n,
   )
     where
       left : (v : EdgeVerdict) → verdict_of seen tol c candidate ≡ v → (AcceptedEdge seen tol c candidate → ⊥) × (NoNeighbour seen c → ⊥) → v ≡ Refused
-      left Accepted f n = absurd (n.0 (accepted-exactly.0 f))
+      left Accepted f n = absurd (n.0 (accepted_exactly.0 f))
       left Refused f n = refl
-      left NonePresent f n = absurd (n.1 (none-exactly.0 f))
+      left NonePresent f n = absurd (n.1 (none_exactly.0 f))
 
   -- a candidate passes exactly if it has an accepted edge, or no cardinal neighbour is labelled
-  pub passes-exactly : passes (verdict_of seen tol c candidate) ≡ true ↔ (AcceptedEdge seen tol c candidate ⊎ NoNeighbour seen c)
+  pub passes_exactly : passes (verdict_of seen tol c candidate) ≡ true ↔ (AcceptedEdge seen tol c candidate ⊎ NoNeighbour seen c)
   unfolding passes
-  passes-exactly = (
+  passes_exactly = (
     λ e. into (verdict_of seen tol c candidate) refl e,
-    λ s. ⊎_elim (λ a. ap passes (accepted-exactly.1 a)) (λ h. ap passes (none-exactly.1 h)) s,
+    λ s. ⊎_elim (λ a. ap passes (accepted_exactly.1 a)) (λ h. ap passes (none_exactly.1 h)) s,
   )
     where
       into : (v : EdgeVerdict) → verdict_of seen tol c candidate ≡ v → passes v ≡ true → AcceptedEdge seen tol c candidate ⊎ NoNeighbour seen c
-      into Accepted f e = inl (accepted-exactly.0 f)
+      into Accepted f e = inl (accepted_exactly.0 f)
       into Refused f e = absurd (true≢false (sym e))
-      into NonePresent f e = inr (none-exactly.0 f)
+      into NonePresent f e = inr (none_exactly.0 f)
 
 -- ---- the same seen
 
@@ -190,4 +190,4 @@ pub verdict_paired : {l l' : CornerLists} {sheet sheet' : List ℕ} (corners : P
     → PairedSheets corners.pairs sheet sheet' → Given (length l.xs) sheet → (tol : Tolerances) (c : Cell) (k : ℕ) → k < length l.xs
     → verdict_of (seen_of (corner_of l') sheet') tol c (corner_of l' (corners.pairs.to k))
     ≡ verdict_of (seen_of (corner_of l) sheet) tol c (corner_of l k)
-verdict_paired corners paired given tol c k h = verdict_same tol c (seen-paired corners paired given) (corners.same_corner_holds k h)
+verdict_paired corners paired given tol c k h = verdict_same tol c (seen_paired corners paired given) (corners.same_corner_holds k h)

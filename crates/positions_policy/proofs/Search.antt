@@ -43,13 +43,13 @@ module _ (tol : Tolerances) (candidate : Corner) {r s : Seen} (is : r ≡ s) whe
   edge_none e = rw (sym is, e)
 
   module _ {neighbour : Corner} {ok : Bool} (at : r ≡ Seen.At neighbour) (tested : ok ≡ edge_ok candidate neighbour tol.cell_size tol.edge_length_tol) where
-    pub edge-accepted : ok ≡ true → Accepted ≡ edge_to tol candidate s
+    pub edge_accepted : ok ≡ true → Accepted ≡ edge_to tol candidate s
     unfolding edge_to
-    edge-accepted e = rw (sym is, at, sym tested, e)
+    edge_accepted e = rw (sym is, at, sym tested, e)
 
-    pub edge-refused : ok ≡ false → Refused ≡ edge_to tol candidate s
+    pub edge_refused : ok ≡ false → Refused ≡ edge_to tol candidate s
     unfolding edge_to
-    edge-refused e = rw (sym is, at, sym tested, e)
+    edge_refused e = rw (sym is, at, sym tested, e)
 
 -- ---- the search
 

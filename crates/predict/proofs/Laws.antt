@@ -17,7 +17,7 @@ use Rattle.sheet.specs.Corners.{CornerLists, corner_of, seen_of, Given}
 use Rattle.sheet.specs.Pairing.{PairedCorners, PairedSheets}
 use Rattle.sheet.proofs.Words.{labelled_on_lem}
 use Rattle.sheet.proofs.Corners.{seen_none, seen_some}
-use Rattle.sheet.proofs.Pairing.{seen-paired}
+use Rattle.sheet.proofs.Pairing.{seen_paired}
 use Rattle.sheet.specs.declared.Cell.{Cell}
 use Rattle.sheet.specs.declared.Offset.{Offset}
 use Rattle.sheet.specs.declared.Label.{Label}
@@ -70,13 +70,13 @@ module _ (corner : ℕ → Corner) (sheet : List ℕ) (c : Cell) where
   unfolding is_seen
   not_seen e = sym (ap is_seen (seen_none corner sheet c e))
 
-  pub is_seen : (k : ℕ) → label_at sheet c ≡ Label.Corner k → true ≡ is_seen (seen_of corner sheet c)
+  pub is_seen_holds : (k : ℕ) → label_at sheet c ≡ Label.Corner k → true ≡ is_seen (seen_of corner sheet c)
   unfolding is_seen
-  is_seen k e = sym (ap is_seen (seen_some corner sheet c k e))
+  is_seen_holds k e = sym (ap is_seen (seen_some corner sheet c k e))
 
   -- a cell at which a corner is seen is on the sheet
-  pub seen-on : (k : Corner) → seen_of corner sheet c ≡ Seen.At k → OnSheet c
-  seen-on k e = go (label_at sheet c) refl
+  pub seen_on : (k : Corner) → seen_of corner sheet c ≡ Seen.At k → OnSheet c
+  seen_on k e = go (label_at sheet c) refl
     where
       go : (l : Label) → label_at sheet c ≡ l → OnSheet c
       go Label.Unlabelled f = let z : ◌≡◌ {A = ℕ} 0 1 = cc (seen_none corner sheet c f) in absurd (omega arith)
@@ -99,47 +99,47 @@ module _ (seen : Cell → Seen) (c : Cell) where
   next_of os o k h = ap (labelled_among seen c) (drop-cons os k o h)
 
   -- they are that cell, if it is labelled, and those from the next on
-  square-next : (k : ℕ) → k < 8 → neighbours_from seen c k ≡ put_before (square_cell c k) (seen (square_cell c k)) (neighbours_from seen c (k + 1))
-  square-next k h = rw add-one (next_of neighbour_offsets (offset (pos 0) (pos 0)) k (omega (arith, offsets_eight)))
+  square_next : (k : ℕ) → k < 8 → neighbours_from seen c k ≡ put_before (square_cell c k) (seen (square_cell c k)) (neighbours_from seen c (k + 1))
+  square_next k h = rw add-one (next_of neighbour_offsets (offset (pos 0) (pos 0)) k (omega (arith, offsets_eight)))
 
   -- past the last there is none
-  square-end : (k : ℕ) → k ≤ 8 → 8 ≤ k → neighbours_from seen c k ≡ []
+  square_end : (k : ℕ) → k ≤ 8 → 8 ≤ k → neighbours_from seen c k ≡ []
   unfolding labelled_among neighbour_offsets
-  square-end k h l = let e : k ≡ 8 = omega arith in rw e
+  square_end k h l = let e : k ≡ 8 = omega arith in rw e
 
   -- the sums
   module _ (grid : Grid) where
-    sums-before : (s : Sums) (at : Cell) (v : Seen) (rest : List Neighbour) → sums_from seen grid c s (put_before at v rest) ≡ sums_from seen grid c (with_seen seen grid c s at v) rest
+    sums_before : (s : Sums) (at : Cell) (v : Seen) (rest : List Neighbour) → sums_from seen grid c s (put_before at v rest) ≡ sums_from seen grid c (with_seen seen grid c s at v) rest
     unfolding sums_from put_before with_seen
-    sums-before s at Seen.Nothing rest = refl
-    sums-before s at (Seen.At corner) rest = refl
+    sums_before s at Seen.Nothing rest = refl
+    sums_before s at (Seen.At corner) rest = refl
 
     pub sums_next : (s : Sums) (k : ℕ) → k < 8 → sums_from seen grid c s (neighbours_from seen c k) ≡ sums_from seen grid c (with_cell seen grid c s (square_cell c k)) (neighbours_from seen c (k + 1))
-    sums_next s k h = ap (sums_from seen grid c s) (square-next k h) ∙ sums-before s (square_cell c k) (seen (square_cell c k)) (neighbours_from seen c (k + 1))
+    sums_next s k h = ap (sums_from seen grid c s) (square_next k h) ∙ sums_before s (square_cell c k) (seen (square_cell c k)) (neighbours_from seen c (k + 1))
 
-    pub sums-end : (s : Sums) (k : ℕ) → k ≤ 8 → 8 ≤ k → sums_from seen grid c s (neighbours_from seen c k) ≡ s
+    pub sums_end : (s : Sums) (k : ℕ) → k ≤ 8 → 8 ≤ k → sums_from seen grid c s (neighbours_from seen c k) ≡ s
     unfolding sums_from
-    sums-end s k h l = ap (sums_from seen grid c s) (square-end k h l)
+    sums_end s k h l = ap (sums_from seen grid c s) (square_end k h l)
 
   -- a neighbour on a side
   module _ (side : Side) where
-    any-before : (at : Cell) (v : Seen) (rest : List Neighbour) → any_on side c (put_before at v rest) ≡ ((is_seen v && on_side side c at) || any_on side c rest)
+    any_before : (at : Cell) (v : Seen) (rest : List Neighbour) → any_on side c (put_before at v rest) ≡ ((is_seen v && on_side side c at) || any_on side c rest)
     unfolding any_on put_before is_seen
-    any-before at Seen.Nothing rest = refl
-    any-before at (Seen.At corner) rest = refl
+    any_before at Seen.Nothing rest = refl
+    any_before at (Seen.At corner) rest = refl
 
     any_next : (k : ℕ) → k < 8 → any_on side c (neighbours_from seen c k) ≡ (labelled_on seen c side (square_cell c k) || any_on side c (neighbours_from seen c (k + 1)))
-    any_next k h = ap (any_on side c) (square-next k h) ∙ any-before (square_cell c k) (seen (square_cell c k)) (neighbours_from seen c (k + 1))
+    any_next k h = ap (any_on side c) (square_next k h) ∙ any_before (square_cell c k) (seen (square_cell c k)) (neighbours_from seen c (k + 1))
 
     pub any_here : (k : ℕ) → k < 8 → labelled_on seen c side (square_cell c k) ≡ true → any_on side c (neighbours_from seen c k) ≡ true
     any_here k h e = rw (any_next k h, e)
 
-    pub any-later : (k : ℕ) → k < 8 → labelled_on seen c side (square_cell c k) ≡ false → any_on side c (neighbours_from seen c k) ≡ any_on side c (neighbours_from seen c (k + 1))
-    any-later k h e = rw (any_next k h, e)
+    pub any_later : (k : ℕ) → k < 8 → labelled_on seen c side (square_cell c k) ≡ false → any_on side c (neighbours_from seen c k) ≡ any_on side c (neighbours_from seen c (k + 1))
+    any_later k h e = rw (any_next k h, e)
 
-    pub any-end : (k : ℕ) → k ≤ 8 → 8 ≤ k → any_on side c (neighbours_from seen c k) ≡ false
+    pub any_end : (k : ℕ) → k ≤ 8 → 8 ≤ k → any_on side c (neighbours_from seen c k) ≡ false
     unfolding any_on
-    any-end k h l = ap (any_on side c) (square-end k h l)
+    any_end k h l = ap (any_on side c) (square_end k h l)
 
   -- ---- no neighbour, or a prediction
 
@@ -154,13 +154,13 @@ module _ (seen : Cell → Seen) (c : Cell) where
   from_some (n ∷ ns) s e = refl
 
   module _ (grid : Grid) where
-    pub predicted-none : has_neighbour seen c Side.Any ≡ false → prediction_of seen grid c ≡ Prediction.NoNeighbour
+    pub predicted_none : has_neighbour seen c Side.Any ≡ false → prediction_of seen grid c ≡ Prediction.NoNeighbour
     unfolding has_neighbour prediction_of
-    predicted-none e = from_none (neighbours_of seen c) (sums_of seen grid c) e
+    predicted_none e = from_none (neighbours_of seen c) (sums_of seen grid c) e
 
-    pub predicted-some : has_neighbour seen c Side.Any ≡ true → prediction_of seen grid c ≡ Prediction.At (mean_of (sums_of seen grid c))
+    pub predicted_some : has_neighbour seen c Side.Any ≡ true → prediction_of seen grid c ≡ Prediction.At (mean_of (sums_of seen grid c))
     unfolding has_neighbour prediction_of
-    predicted-some e = from_some (neighbours_of seen c) (sums_of seen grid c) e
+    predicted_some e = from_some (neighbours_of seen c) (sums_of seen grid c) e
 
 -- ---- what is seen settles all
 
@@ -168,18 +168,18 @@ module _ {seen seen' : Cell → Seen} (same : seen' ≡ seen) where
   pub step_same : (n : Neighbour) (d : Direction) → step_at seen' n d ≡ step_at seen n d
   step_same n d = ap (λ (s : Cell → Seen). step_at s n d) same
 
-  pub prediction-same : (grid : Grid) (c : Cell) → prediction_of seen' grid c ≡ prediction_of seen grid c
-  prediction-same grid c = ap (λ (s : Cell → Seen). prediction_of s grid c) same
+  pub prediction_same : (grid : Grid) (c : Cell) → prediction_of seen' grid c ≡ prediction_of seen grid c
+  prediction_same grid c = ap (λ (s : Cell → Seen). prediction_of s grid c) same
 
-  pub extrapolating-same : (c : Cell) → extrapolating seen' c ≡ extrapolating seen c
-  extrapolating-same c = ap (λ (s : Cell → Seen). extrapolating s c) same
+  pub extrapolating_same : (c : Cell) → extrapolating seen' c ≡ extrapolating seen c
+  extrapolating_same c = ap (λ (s : Cell → Seen). extrapolating s c) same
 
 -- ---- two frames with paired corners and sheets
 
 module _ {l l' : CornerLists} {sheet sheet' : List ℕ}
     (corners : PairedCorners l l') (paired : PairedSheets corners.pairs sheet sheet') (given : Given (length l.xs) sheet) where
-  pub prediction-paired : (grid : Grid) (c : Cell) → prediction_of (seen_of (corner_of l') sheet') grid c ≡ prediction_of (seen_of (corner_of l) sheet) grid c
-  prediction-paired = prediction-same (seen-paired corners paired given)
+  pub prediction_paired : (grid : Grid) (c : Cell) → prediction_of (seen_of (corner_of l') sheet') grid c ≡ prediction_of (seen_of (corner_of l) sheet) grid c
+  prediction_paired = prediction_same (seen_paired corners paired given)
 
-  pub extrapolating-paired : (c : Cell) → extrapolating (seen_of (corner_of l') sheet') c ≡ extrapolating (seen_of (corner_of l) sheet) c
-  extrapolating-paired = extrapolating-same (seen-paired corners paired given)
+  pub extrapolating_paired : (c : Cell) → extrapolating (seen_of (corner_of l') sheet') c ≡ extrapolating (seen_of (corner_of l) sheet) c
+  extrapolating_paired = extrapolating_same (seen_paired corners paired given)

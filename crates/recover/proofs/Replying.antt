@@ -17,8 +17,8 @@ module _ (buffer : List ℕ) {input : Input} where
   pub whole_read : {n : ℕ} {said : Said} → input ≡ Input.Whole n → Told (take n buffer) said → Replied (input_in buffer input) input (Outcome.Answered said)
   whole_read {n} {said} e t = subst (λ (i : Input). Replied (input_in buffer i) i (Outcome.Answered said)) (sym e) t
 
-  pub not-read : input ≡ Input.Failed → Replied (input_in buffer input) input Outcome.NotRead
-  not-read e = subst (λ (i : Input). Replied (input_in buffer i) i Outcome.NotRead) (sym e) tt
+  pub not_read : input ≡ Input.Failed → Replied (input_in buffer input) input Outcome.NotRead
+  not_read e = subst (λ (i : Input). Replied (input_in buffer i) i Outcome.NotRead) (sym e) tt
 
 -- the input in the buffer is the bytes that the reads gave
 pub ran : (buffer : List ℕ) (input : Input) {outcome : Outcome} → 65537 ≡ length buffer → ReadInto buffer input → Replied (input_in buffer input) input outcome → Ran outcome

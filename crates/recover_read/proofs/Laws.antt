@@ -127,9 +127,9 @@ module _ {old new : List ℕ} {at : ℕ} where
   unfolding standing_after
   stands_after s got w = rw (s.stands, gave new at got w.fits) refl
 
-  front-after : {tries : ℕ} (s : SoFar old at tries) (got : Got) → Refilled old new at got → bytes_of (read_of new at got ∷ s.reads) ≡ take at new ++ bytes_in (read_of new at got)
+  front_after : {tries : ℕ} (s : SoFar old at tries) (got : Got) → Refilled old new at got → bytes_of (read_of new at got ∷ s.reads) ≡ take at new ++ bytes_in (read_of new at got)
   unfolding bytes_of
-  front-after s got w = ap (λ (b : List ℕ). b ++ bytes_in (read_of new at got)) (sym (w.front ∙ s.front))
+  front_after s got w = ap (λ (b : List ℕ). b ++ bytes_in (read_of new at got)) (sym (w.front ∙ s.front))
 
   next : (tries : ℕ) (got : Got) → SoFar old at tries → at < length old → length new ≡ length old → Refilled old new at got → Next new ((length old - at) + tries) (read_on at tries got)
   unfolding read_on
@@ -139,7 +139,7 @@ module _ {old new : List ℕ} {at : ℕ} where
           reads = read_of new at got ∷ s.reads;
           in_room = w.fits.1;
           stands = stands_after s got w;
-          front = take-add at n new ∙ sym (front-after s got w);
+          front = take-add at n new ∙ sym (front_after s got w);
         },
         omega (arith, same, w.fits.0, w.fits.1),
       )
@@ -147,7 +147,7 @@ module _ {old new : List ℕ} {at : ℕ} where
       record {
         reads = ended ∷ s.reads;
         answers = rw (stands_after s Got.End w) (over _);
-        front = (omega (arith, s.in_room, same), sym (front-after s Got.End w ∙ append-nil (take at new)));
+        front = (omega (arith, s.in_room, same), sym (front_after s Got.End w ∙ append-nil (take at new)));
       }
   next zero Got.Interrupted s h same w = record { reads = interrupted ∷ s.reads; answers = rw (stands_after s Got.Interrupted w) (over _); front = tt }
   next (suc tries) Got.Interrupted s h same w = (
@@ -155,7 +155,7 @@ module _ {old new : List ℕ} {at : ℕ} where
       reads = interrupted ∷ s.reads;
       in_room = omega (arith, s.in_room, same);
       stands = stands_after s Got.Interrupted w;
-      front = sym (front-after s Got.Interrupted w ∙ append-nil (take at new));
+      front = sym (front_after s Got.Interrupted w ∙ append-nil (take at new));
     },
     omega (arith, same),
   )

@@ -36,15 +36,15 @@ put_so n false = tt
 module _ (answer : Recovered) (words sheet : List ℕ) {out old new : List ℕ} {n from : ℕ} {piece : PieceWritten} (t : Telling answer words sheet out n from)
     (w : WrotePiece (held_piece answer words sheet from (length out)) old new piece) where
   -- the piece from the line that was reached, into the whole buffer
-  this-piece : held_piece answer words sheet from (length out) ≡ held_from answer words sheet (line_after (held_from answer words sheet) n)
-  this-piece = ap (held_piece answer words sheet from) (sym t.whole) ∙ ap (held_from answer words sheet) t.reached
+  this_piece : held_piece answer words sheet from (length out) ≡ held_from answer words sheet (line_after (held_from answer words sheet) n)
+  this_piece = ap (held_piece answer words sheet from) (sym t.whole) ∙ ap (held_from answer words sheet) t.reached
 
   -- what stands at the front of the buffer is its text
-  pub text-so : PieceText answer words sheet n (take piece.bytes new)
-  text-so =
+  pub text_so : PieceText answer words sheet n (take piece.bytes new)
+  text_so =
       ap (take piece.bytes) w.wrote.part
       ∙ take_at (held_piece answer words sheet from (length out)).text _ piece.bytes (sym w.wrote.count)
-      ∙ ap (λ (p : Piece). p.text) this-piece
+      ∙ ap (λ (p : Piece). p.text) this_piece
 
   pub one_more : (room more : ℕ) → from < held_lines answer → Moves from room piece → 4096 ≡ length new → more ≡ n + 1 → Telling answer words sheet new more piece.next
   unfolding line_after
@@ -52,7 +52,7 @@ module _ (answer : Recovered) (words sheet : List ℕ) {out old new : List ℕ} 
       rw one
       (record {
         whole = e;
-        reached = w.next_so ∙ ap (λ (p : Piece). p.next) this-piece ∙ rw add-one refl;
+        reached = w.next_so ∙ ap (λ (p : Piece). p.next) this_piece ∙ rw add-one refl;
         behind = omega (arith, m.later, t.behind);
         few = omega (arith, t.behind, h);
         started = below_more (λ k. line_after (held_from answer words sheet) k < held_lines answer) n t.started (rw (← t.reached) h);

@@ -23,7 +23,7 @@ use Rattle.passes.specs.Local.{row_among, column_among, past_i, past_j, local_re
 use Rattle.region.specs.Region.{Region, RegionFound, region_at}
 use Rattle.region.specs.Windowed.{BoundsOn, BoxOn, InWindow, Windowed, NextIn}
 use Rattle.region.specs.declared.Window.{Window}
-use Rattle.region.proofs.Lines.{line-from, line-to}
+use Rattle.region.proofs.Lines.{line_from, line_to}
 use Rattle.region.proofs.Told.{region_is}
 
 -- ---- the label box is of cells of the sheet
@@ -47,7 +47,7 @@ record Between (low high n q : ℕ) : Type 0 where
   to : q ≤ high + n
 
 between : (a b : ℤ) (n q : ℕ) → T (in_range a) → T (in_range b) → from_to (a -ℤ pos n) (b +ℤ pos n) (sub_ℕ q 64) ≡ true → Between (line_of a) (line_of b) n q
-between a b n q g h e = let t = both _ _ e in record { from = line-from a g n q t.0; to = line-to b h n q t.1 }
+between a b n q g h e = let t = both _ _ e in record { from = line_from a g n q t.0; to = line_to b h n q t.1 }
 
 -- the window's start and end by a line
 starts : (line past n q start : ℕ) → start ≡ line - past → n ≤ past → line ≤ q + n → start ≤ q
@@ -66,15 +66,15 @@ unfolding place_of
 lines_of c p on e = let i = (line_i c on).below in let j = (line_j c on).below in record { by_i = omega arith; by_j = omega arith }
 
 module _ (past : ℕ) (around : LabelBox) (w : Window) where
-  pub window-none : around ≡ LabelBox.Empty → w.end_i ≡ 0 → w.start_i ≡ 0 → w.start_j ≡ 0 → Windowed past around w
-  window-none e f g h = record { fits = record { start_i_in = omega arith; end_i_in = omega arith; start_j_in = omega arith }; covers = λ b d. absurd (let z : ◌≡◌ {A = ℕ} 0 1 = cc in omega arith) }
+  pub window_none : around ≡ LabelBox.Empty → w.end_i ≡ 0 → w.start_i ≡ 0 → w.start_j ≡ 0 → Windowed past around w
+  window_none e f g h = record { fits = record { start_i_in = omega arith; end_i_in = omega arith; start_j_in = omega arith }; covers = λ b d. absurd (let z : ◌≡◌ {A = ℕ} 0 1 = cc in omega arith) }
 
   -- its lines, by the places of the box's low and high ends
-  pub window-around : (b : Bounds) (low high : ℕ) → around ≡ LabelBox.Around b → BoundsOn b → low ≡ place_of (record { i = b.low_i; j = b.low_j }) → high ≡ place_of (record { i = b.high_i; j = b.high_j })
+  pub window_around : (b : Bounds) (low high : ℕ) → around ≡ LabelBox.Around b → BoundsOn b → low ≡ place_of (record { i = b.low_i; j = b.low_j }) → high ≡ place_of (record { i = b.high_i; j = b.high_j })
       → w.start_i ≡ low / 128 - past → w.end_i ≡ min 128 (high / 128 + past + 1) → w.start_j ≡ low % 128 - past → w.end_j ≡ min 128 (high % 128 + past + 1)
       → Windowed past around w
   unfolding cell_of
-  window-around b low high e on l h si ei sj ej =
+  window_around b low high e on l h si ei sj ej =
       record {
         fits = record { start_i_in = small w.start_i (line_of b.low_i) si' (line_i lowest on.low_on).below; end_i_in = omega arith; start_j_in = small w.start_j (line_of b.low_j) sj' (line_j lowest on.low_on).below };
         covers = λ c g m n p y z k u v.
@@ -144,10 +144,10 @@ module _ (b : Bounds) (z : ℤ) where
       go true f r = let i = h p (Memᴰ.head refl) in rw (eq_z_equal (cell_of p).j z f) at (spans _ _ _ i.from_low_j i.to_high_j)
       go false f r = r (rw f at e)
 
-  column-inside : (ps : List ℕ) → ((p : ℕ) → Memᴰ p ps → Inside b (cell_of p)) → column_among ps z ≡ true → from_to (b.low_i -ℤ pos 0) (b.high_i +ℤ pos 0) z ≡ true
+  column_inside : (ps : List ℕ) → ((p : ℕ) → Memᴰ p ps → Inside b (cell_of p)) → column_among ps z ≡ true → from_to (b.low_i -ℤ pos 0) (b.high_i +ℤ pos 0) z ≡ true
   unfolding column_among
-  column-inside [] h e = absurd (no_both false e refl)
-  column-inside (p ∷ ps) h e = go (eq_z (cell_of p).i z) refl (column-inside ps (λ q m. h q (Memᴰ.tail m)))
+  column_inside [] h e = absurd (no_both false e refl)
+  column_inside (p ∷ ps) h e = go (eq_z (cell_of p).i z) refl (column_inside ps (λ q m. h q (Memᴰ.tail m)))
     where
       go : (t : Bool) → eq_z (cell_of p).i z ≡ t → (column_among ps z ≡ true → from_to (b.low_i -ℤ pos 0) (b.high_i +ℤ pos 0) z ≡ true) → from_to (b.low_i -ℤ pos 0) (b.high_i +ℤ pos 0) z ≡ true
       go true f r = let i = h p (Memᴰ.head refl) in rw (eq_z_equal (cell_of p).i z f) at (spans _ _ _ i.from_low_i i.to_high_i)
@@ -172,6 +172,6 @@ told_far depth sheet region w p f c h out = region_is depth sheet region p h f �
         rw (
           not_both (near_i 0 b (cell_of p)) (near_j 0 b (cell_of p)) (λ s t. at 0 0 (omega arith) (omega arith) s t),
           not_both (past_i depth b (cell_of p)) (row_among (labelled_places sheet) (cell_of p).j) (λ s t. at depth 0 (omega arith) (omega arith) (both _ _ s).0 (row_inside b (cell_of p).j _ inside t)),
-          not_both (past_j depth b (cell_of p)) (column_among (labelled_places sheet) (cell_of p).i) (λ s t. at 0 depth (omega arith) (omega arith) (column-inside b (cell_of p).i _ inside t) (both _ _ s).0),
+          not_both (past_j depth b (cell_of p)) (column_among (labelled_places sheet) (cell_of p).i) (λ s t. at 0 depth (omega arith) (omega arith) (column_inside b (cell_of p).i _ inside t) (both _ _ s).0),
           not_both (past_i depth b (cell_of p)) (past_j depth b (cell_of p)) (λ s t. at depth depth (omega arith) (omega arith) (both _ _ s).0 (both _ _ t).0),
         )

@@ -65,14 +65,14 @@ sub_more m k n = go (ltb m k) refl
 -- ---- a line and a bound
 
 module _ (z : ℤ) (on : T (in_range z)) (n q : ℕ) where
-  pub line-from : le_z (z -ℤ pos n) (sub_ℕ q 64) ≡ true → line_of z ≤ q + n
-  line-from e =
+  pub line_from : le_z (z -ℤ pos n) (sub_ℕ q 64) ≡ true → line_of z ≤ q + n
+  line_from e =
       let at : z -ℤ pos n ≡ sub_ℕ (line_of z) (64 + n) = ap (λ (y : ℤ). y -ℤ pos n) (sym (lined z on).back) ∙ sub_less (line_of z) 64 n in
       let h = sub_order (line_of z) (64 + n) q 64 (rw at at e) in
       omega arith
 
-  pub line-to : le_z (sub_ℕ q 64) (z +ℤ pos n) ≡ true → q ≤ line_of z + n
-  line-to e =
+  pub line_to : le_z (sub_ℕ q 64) (z +ℤ pos n) ≡ true → q ≤ line_of z + n
+  line_to e =
       let at : z +ℤ pos n ≡ sub_ℕ (line_of z + n) 64 = ap (λ (y : ℤ). y +ℤ pos n) (sym (lined z on).back) ∙ sub_more (line_of z) 64 n in
       let h = sub_order q 64 (line_of z + n) 64 (rw at at e) in
       omega arith

@@ -17,17 +17,17 @@ use Rattle.region.specs.Small.{SmallBox}
 -- ---- the ends
 
 module _ (z : ℤ) (n : ℕ) (small : nat_abs z ≤ 64) (few : n ≤ 64) where
-  pub less-fits : SFits w32 (z -ℤ pos n)
-  less-fits = fits (z -ℤ pos n) (omega (arith, abs_sub z (pos n)))
+  pub less_fits : SFits w32 (z -ℤ pos n)
+  less_fits = fits (z -ℤ pos n) (omega (arith, abs_sub z (pos n)))
 
-  pub more-fits : SFits w32 (z +ℤ pos n)
-  more-fits = fits (z +ℤ pos n) (omega (arith, abs_add z (pos n)))
+  pub more_fits : SFits w32 (z +ℤ pos n)
+  more_fits = fits (z +ℤ pos n) (omega (arith, abs_add z (pos n)))
 
 -- ---- from one end to the other
 
 module _ (a b z : ℤ) where
-  pub from-below : lt_z z a ≡ true → false ≡ from_to a b z
-  from-below e = rw (flip z a, e)
+  pub from_below : lt_z z a ≡ true → false ≡ from_to a b z
+  from_below e = rw (flip z a, e)
 
   pub from_on : lt_z z a ≡ false → le_z z b ≡ from_to a b z
   from_on e = rw (flip z a, e)
@@ -49,8 +49,8 @@ box_small sheet =
 
 -- ---- two tests, one after the other
 module _ (a b : Bool) where
-  pub first-fails : a ≡ false → false ≡ (a && b)
-  first-fails e = rw e
+  pub first_fails : a ≡ false → false ≡ (a && b)
+  first_fails e = rw e
 
-  pub second-says : (t : Bool) → a ≡ true → t ≡ b → t ≡ (a && b)
-  second-says t e f = rw e f
+  pub second_says : (t : Bool) → a ≡ true → t ≡ b → t ≡ (a && b)
+  second_says t e f = rw e f

@@ -16,7 +16,7 @@ use Rattle.labels.proofs.Below.{no_both, both, passing_none, passing_hit, passin
 use Rattle.labels.proofs.Labelled.{label_of_place}
 use Rattle.passes.specs.Rounds.{walk}
 use Rattle.passes.specs.Fill.{cells_of}
-use Rattle.passes.proofs.Rounds.{walk_none, walk_more, walk-keeps}
+use Rattle.passes.proofs.Rounds.{walk_none, walk_more, walk_keeps}
 use Rattle.region.specs.Places.{place_visited}
 
 -- ---- the places that a round walks
@@ -49,11 +49,11 @@ module _ {S : Type 0} (visit : Cell → S → S) (sheet : S → List ℕ) (regio
   pub walked_start : walked_to visit sheet region s 0 ≡ s
   walked_start = ap (λ (l : List ℕ). walk visit l s) (passing_none (walked region (sheet s))) ∙ walk_none visit s
 
-  pub walked-hit : (n : ℕ) → walked region (sheet s) n ≡ true → walked_to visit sheet region s (n + 1) ≡ visit (cell_of n) (walked_to visit sheet region s n)
-  walked-hit n e = ap (λ (l : List ℕ). walk visit l s) (passing_hit (walked region (sheet s)) n e) ∙ walk_more visit (passing (walked region (sheet s)) n) n s
+  pub walked_hit : (n : ℕ) → walked region (sheet s) n ≡ true → walked_to visit sheet region s (n + 1) ≡ visit (cell_of n) (walked_to visit sheet region s n)
+  walked_hit n e = ap (λ (l : List ℕ). walk visit l s) (passing_hit (walked region (sheet s)) n e) ∙ walk_more visit (passing (walked region (sheet s)) n) n s
 
-  pub walked-miss : (n : ℕ) → walked region (sheet s) n ≡ false → walked_to visit sheet region s (n + 1) ≡ walked_to visit sheet region s n
-  walked-miss n e = ap (λ (l : List ℕ). walk visit l s) (passing_miss (walked region (sheet s)) n e)
+  pub walked_miss : (n : ℕ) → walked region (sheet s) n ≡ false → walked_to visit sheet region s (n + 1) ≡ walked_to visit sheet region s n
+  walked_miss n e = ap (λ (l : List ℕ). walk visit l s) (passing_miss (walked region (sheet s)) n e)
 
 -- ---- what stays during a round
 
@@ -68,24 +68,24 @@ pub record Elsewhere (before after : List ℕ) (n : ℕ) : Type 0 where
   pub same_label : (q : ℕ) → q < 16384 → (q ≡ n → ⊥) → label_of (get_or after q 0) ≡ label_of (get_or before q 0)
 
 module _ (region : Cell → Bool) (before : List ℕ) (n : ℕ) (h : n < 16384) where
-  ahead-passed : {after : List ℕ} → Ahead before after n → Ahead before after (n + 1)
-  ahead-passed a = record { same_length = a.same_length; same_label = λ q k. a.same_label q (omega arith) }
+  ahead_passed : {after : List ℕ} → Ahead before after n → Ahead before after (n + 1)
+  ahead_passed a = record { same_length = a.same_length; same_label = λ q k. a.same_label q (omega arith) }
 
-  ahead-visited : {mid after : List ℕ} → Ahead before mid n → Elsewhere mid after n → Ahead before after (n + 1)
-  ahead-visited a v =
+  ahead_visited : {mid after : List ℕ} → Ahead before mid n → Elsewhere mid after n → Ahead before after (n + 1)
+  ahead_visited a v =
       record {
         same_length = v.same_length ∙ a.same_length;
         same_label = λ q m l. v.same_label q l (λ e. let d : q ≡ n = e in omega arith) ∙ a.same_label q (omega arith) l;
       }
 
   -- a place not yet reached is bare if it was
-  ahead-bare : {after : List ℕ} → Ahead before after n → walked region before n ≡ true → label_at after (cell_of n) ≡ Label.Unlabelled
-  ahead-bare {after} a e = label_of_place after n h ∙ a.same_label n (omega arith) h ∙ walked_bare region before n h e
+  ahead_bare : {after : List ℕ} → Ahead before after n → walked region before n ≡ true → label_at after (cell_of n) ≡ Label.Unlabelled
+  ahead_bare {after} a e = label_of_place after n h ∙ a.same_label n (omega arith) h ∙ walked_bare region before n h e
 
   -- its present label says what its label at the round's start says
-  ahead-present : {after : List ℕ} → Ahead before after n → (region (cell_of n) && not (names_corner (label_at after (cell_of n)))) ≡ walked region before n
+  ahead_present : {after : List ℕ} → Ahead before after n → (region (cell_of n) && not (names_corner (label_at after (cell_of n)))) ≡ walked region before n
   unfolding walked
-  ahead-present {after} a =
+  ahead_present {after} a =
       ap (λ (l : Label). region (cell_of n) && not (names_corner l))
       (label_of_place after n h ∙ a.same_label n (omega arith) h ∙ sym (label_of_place before n h))
 
@@ -101,10 +101,10 @@ module _ {S : Type 0} (visit : Cell → S → S) (sheet : S → List ℕ)
     where
       go : (t : Bool) → walked region (sheet s) n ≡ t → Ahead (sheet s) (sheet (walked_to visit sheet region s (n + 1))) (n + 1)
       go true e =
-          rw (walked-hit visit sheet region s n e)
-          (ahead-visited region (sheet s) n h a
-          (elsewhere n h (walked_to visit sheet region s n) (rw a.same_length long) (ahead-bare region (sheet s) n h a e)))
-      go false e = rw (walked-miss visit sheet region s n e) (ahead-passed region (sheet s) n h a)
+          rw (walked_hit visit sheet region s n e)
+          (ahead_visited region (sheet s) n h a
+          (elsewhere n h (walked_to visit sheet region s n) (rw a.same_length long) (ahead_bare region (sheet s) n h a e)))
+      go false e = rw (walked_miss visit sheet region s n e) (ahead_passed region (sheet s) n h a)
 
   ahead : (n : ℕ) → n ≤ 16384 → Ahead (sheet s) (sheet (walked_to visit sheet region s n)) n
   ahead zero h = rw (walked_start visit sheet region s) (record { same_length = refl; same_label = λ q k l. refl })
@@ -115,40 +115,40 @@ module _ {S : Type 0} (visit : Cell → S → S) (sheet : S → List ℕ)
   pub looked : (n : ℕ) → n < 16384 → {inside : Bool} → inside ≡ region (cell_of n)
       → place_visited visit sheet inside n (walked_to visit sheet region s n) ≡ walked_to visit sheet region s (n + 1)
   unfolding place_visited
-  looked n h f = rw (f, ahead-present region (sheet s) n h (ahead n (omega arith))) (go (walked region (sheet s) n) refl)
+  looked n h f = rw (f, ahead_present region (sheet s) n h (ahead n (omega arith))) (go (walked region (sheet s) n) refl)
     where
       now : S
       now = walked_to visit sheet region s n
 
       go : (t : Bool) → walked region (sheet s) n ≡ t → cond t (visit (cell_of n) now) now ≡ walked_to visit sheet region s (n + 1)
-      go true e = sym (walked-hit visit sheet region s n e)
-      go false e = sym (walked-miss visit sheet region s n e)
+      go true e = sym (walked_hit visit sheet region s n e)
+      go false e = sym (walked_miss visit sheet region s n e)
 
 -- ---- a place looked at, test by test
 
 module _ {S : Type 0} (visit : Cell → S → S) (sheet : S → List ℕ) (inside : Bool) (n : ℕ) (s : S) where
-  pub looked-out : inside ≡ false → place_visited visit sheet inside n s ≡ s
+  pub looked_out : inside ≡ false → place_visited visit sheet inside n s ≡ s
   unfolding place_visited
-  looked-out e = rw e
+  looked_out e = rw e
 
   module _ (h : n < 16384) (within : inside ≡ true) where
-    pub looked-labelled : is_labelled (get_or (sheet s) n 0) ≡ true → place_visited visit sheet inside n s ≡ s
+    pub looked_labelled : is_labelled (get_or (sheet s) n 0) ≡ true → place_visited visit sheet inside n s ≡ s
     unfolding place_visited is_labelled
-    looked-labelled e = rw (within, label_of_place (sheet s) n h, e)
+    looked_labelled e = rw (within, label_of_place (sheet s) n h, e)
 
-    pub looked-bare : (c : Cell) → c ≡ cell_of n → is_labelled (get_or (sheet s) n 0) ≡ false → place_visited visit sheet inside n s ≡ visit c s
+    pub looked_bare : (c : Cell) → c ≡ cell_of n → is_labelled (get_or (sheet s) n 0) ≡ false → place_visited visit sheet inside n s ≡ visit c s
     unfolding place_visited is_labelled
-    looked-bare c f e = rw (f, within, label_of_place (sheet s) n h, e)
+    looked_bare c f e = rw (f, within, label_of_place (sheet s) n h, e)
 
 -- ---- what only grows with a visit: of a number that no visit lessens
 
 module _ {S : Type 0} (visit : Cell → S → S) (f : S → ℕ) (grows : (c : Cell) (s : S) → f s ≤ f (visit c s)) where
-  pub walk-grows : (qs : List ℕ) (s : S) → f s ≤ f (walk visit qs s)
-  walk-grows qs s = walk-keeps visit (λ rest t. f s ≤ f t) (λ q rest t h. omega (arith, grows (cell_of q) t)) qs s (omega arith)
+  pub walk_grows : (qs : List ℕ) (s : S) → f s ≤ f (walk visit qs s)
+  walk_grows qs s = walk_keeps visit (λ rest t. f s ≤ f t) (λ q rest t h. omega (arith, grows (cell_of q) t)) qs s (omega arith)
 
-  pub looked-grows : (sheet : S → List ℕ) (inside : Bool) (n : ℕ) (s : S) → f s ≤ f (place_visited visit sheet inside n s)
+  pub looked_grows : (sheet : S → List ℕ) (inside : Bool) (n : ℕ) (s : S) → f s ≤ f (place_visited visit sheet inside n s)
   unfolding place_visited
-  looked-grows sheet inside n s = go (inside && not (names_corner (label_at (sheet s) (cell_of n))))
+  looked_grows sheet inside n s = go (inside && not (names_corner (label_at (sheet s) (cell_of n))))
     where
       go : (t : Bool) → f s ≤ f (cond t (visit (cell_of n) s) s)
       go true = grows (cell_of n) s
@@ -156,18 +156,18 @@ module _ {S : Type 0} (visit : Cell → S → S) (f : S → ℕ) (grows : (c : C
 
 -- of a number to which a visit adds at most one
 module _ {S : Type 0} (visit : Cell → S → S) (sheet : S → List ℕ) (f : S → ℕ) (most : (c : Cell) (s : S) → f (visit c s) ≤ f s + 1) where
-  pub walked-most : (region : Cell → Bool) (s : S) (n : ℕ) → f (walked_to visit sheet region s n) ≤ f s + n
-  walked-most region s zero = rw (walked_start visit sheet region s) (omega arith)
-  walked-most region s (suc n) = rw (← add-one n) (go (walked region (sheet s) n) refl (walked-most region s n))
+  pub walked_most : (region : Cell → Bool) (s : S) (n : ℕ) → f (walked_to visit sheet region s n) ≤ f s + n
+  walked_most region s zero = rw (walked_start visit sheet region s) (omega arith)
+  walked_most region s (suc n) = rw (← add-one n) (go (walked region (sheet s) n) refl (walked_most region s n))
     where
       go : (t : Bool) → walked region (sheet s) n ≡ t → f (walked_to visit sheet region s n) ≤ f s + n
           → f (walked_to visit sheet region s (n + 1)) ≤ f s + (n + 1)
-      go true e w = rw (walked-hit visit sheet region s n e) (omega (arith, most (cell_of n) (walked_to visit sheet region s n)))
-      go false e w = rw (walked-miss visit sheet region s n e) (omega arith)
+      go true e w = rw (walked_hit visit sheet region s n e) (omega (arith, most (cell_of n) (walked_to visit sheet region s n)))
+      go false e w = rw (walked_miss visit sheet region s n e) (omega arith)
 
-  pub looked-most : (inside : Bool) (n : ℕ) (s : S) → f (place_visited visit sheet inside n s) ≤ f s + 1
+  pub looked_most : (inside : Bool) (n : ℕ) (s : S) → f (place_visited visit sheet inside n s) ≤ f s + 1
   unfolding place_visited
-  looked-most inside n s = go (inside && not (names_corner (label_at (sheet s) (cell_of n))))
+  looked_most inside n s = go (inside && not (names_corner (label_at (sheet s) (cell_of n))))
     where
       go : (t : Bool) → f (cond t (visit (cell_of n) s) s) ≤ f s + 1
       go true = most (cell_of n) s

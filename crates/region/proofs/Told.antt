@@ -43,9 +43,9 @@ module _ (line : ℕ → ℕ) where
   unfolding on_line bit_of
   lines_none marks l h = record { size = l; at = h }
 
-  lines-last : (ps marks : List ℕ) (p : ℕ) → line p < 128 → Lines line ps marks → Lines line (ps ++ (p ∷ [])) (set marks (line p) 1)
+  lines_last : (ps marks : List ℕ) (p : ℕ) → line p < 128 → Lines line ps marks → Lines line (ps ++ (p ∷ [])) (set marks (line p) 1)
   unfolding bit_of
-  lines-last ps marks p h l =
+  lines_last ps marks p h l =
       record { size = length-set marks (line p) 1 ∙ l.size; at = λ r k. rw (on_line_last line r p ps) (go r k (ℕ_discrete (line p) r)) }
     where
       hit : (t : Bool) → 1 ≡ bit_of (t || true)
@@ -66,57 +66,57 @@ pub record Lining (line : ℕ → ℕ) (places : List ℕ) (count : ℕ) (marks 
   pub lines : Lines line (take k places) marks
 
 module _ (line : ℕ → ℕ) (places : List ℕ) (count : ℕ) where
-  pub lining-start : (marks : List ℕ) → length marks ≡ 128 → ((r : ℕ) → r < 128 → get_or marks r 0 ≡ 0) → Lining line places count marks 0
-  lining-start marks l h = record { upto = omega arith; lines = lines_none line marks l h }
+  pub lining_start : (marks : List ℕ) → length marks ≡ 128 → ((r : ℕ) → r < 128 → get_or marks r 0 ≡ 0) → Lining line places count marks 0
+  lining_start marks l h = record { upto = omega arith; lines = lines_none line marks l h }
 
   module _ (asked : Listed places count) (marks : List ℕ) (k : ℕ) (g : Lining line places count marks k) where
-    pub lining-more : (p : ℕ) → k < count → p ≡ get_or places k 0 → line p < 128 → Lining line places count (set marks (line p) 1) (k + 1)
-    lining-more p h e l =
+    pub lining_more : (p : ℕ) → k < count → p ≡ get_or places k 0 → line p < 128 → Lining line places count (set marks (line p) 1) (k + 1)
+    lining_more p h e l =
         let there : k < length places = omega (arith, asked.size, asked.few) in
         let one : take (k + 1) places ≡ take k places ++ (p ∷ []) = rw (add-one, e) (take-suc places k 0 there) in
-        record { upto = omega arith; lines = rw one (lines-last line (take k places) marks p l g.lines) }
+        record { upto = omega arith; lines = rw one (lines_last line (take k places) marks p l g.lines) }
 
-    pub lining-end : count ≤ k → Lines line (take count places) marks
-    lining-end h = let e : k ≡ count = omega (arith, g.upto) in rw (← e) g.lines
+    pub lining_end : count ≤ k → Lines line (take count places) marks
+    lining_end h = let e : k ≡ count = omega (arith, g.upto) in rw (← e) g.lines
 
 -- ---- the region
 
 -- a place told, by its tests in order
 module _ (depth : ℕ) (region : Region) (p : ℕ) where
-  pub told-empty : region.around ≡ LabelBox.Empty → false ≡ region_at depth region p
+  pub told_empty : region.around ≡ LabelBox.Empty → false ≡ region_at depth region p
   unfolding region_around
-  told-empty e = rw e
+  told_empty e = rw e
 
   module _ (b : Bounds) (e : region.around ≡ LabelBox.Around b) (c : Cell) (at : c ≡ cell_of p) where
-    pub told-inside : (near_i 0 b c && near_j 0 b c) ≡ true → true ≡ region_at depth region p
+    pub told_inside : (near_i 0 b c && near_j 0 b c) ≡ true → true ≡ region_at depth region p
     unfolding region_around
-    told-inside f = rw (← at, e, f)
+    told_inside f = rw (← at, e, f)
 
     module _ (out : (near_i 0 b c && near_j 0 b c) ≡ false) where
-      pub told-row : past_i depth b c ≡ true → marked region.rows (p % 128) ≡ true → true ≡ region_at depth region p
+      pub told_row : past_i depth b c ≡ true → marked region.rows (p % 128) ≡ true → true ≡ region_at depth region p
       unfolding region_around
-      told-row f g = rw (← at, e, out, f, g)
+      told_row f g = rw (← at, e, out, f, g)
 
-      pub told-corner : past_i depth b c ≡ true → marked region.rows (p % 128) ≡ false → past_j depth b c ≡ region_at depth region p
+      pub told_corner : past_i depth b c ≡ true → marked region.rows (p % 128) ≡ false → past_j depth b c ≡ region_at depth region p
       unfolding region_around
-      told-corner f g = rw (← at, e, out, f, g) (go (past_j depth b c) (marked region.columns (p / 128)))
+      told_corner f g = rw (← at, e, out, f, g) (go (past_j depth b c) (marked region.columns (p / 128)))
         where
           go : (t u : Bool) → t ≡ ((t && u) || t)
           go true true = refl
           go true false = refl
           go false u = refl
 
-      pub told-column : past_i depth b c ≡ false → past_j depth b c ≡ true → marked region.columns (p / 128) ≡ region_at depth region p
+      pub told_column : past_i depth b c ≡ false → past_j depth b c ≡ true → marked region.columns (p / 128) ≡ region_at depth region p
       unfolding region_around
-      told-column f g = rw (← at, e, out, f, g) (go (marked region.columns (p / 128)))
+      told_column f g = rw (← at, e, out, f, g) (go (marked region.columns (p / 128)))
         where
           go : (t : Bool) → t ≡ (t || false)
           go true = refl
           go false = refl
 
-      pub told-out : past_i depth b c ≡ false → past_j depth b c ≡ false → false ≡ region_at depth region p
+      pub told_out : past_i depth b c ≡ false → past_j depth b c ≡ false → false ≡ region_at depth region p
       unfolding region_around
-      told-out f g = rw (← at, e, out, f, g)
+      told_out f g = rw (← at, e, out, f, g)
 
 -- the lines of places are those of their cells
 row_line : (p q : ℕ) → p < 16384 → q < 16384 → eq_z (cell_of p).j (cell_of q).j ≡ eqb (p % 128) (q % 128)
@@ -132,15 +132,15 @@ record AllBelow (ps : List ℕ) : Type 0 where
   below : (a : ℕ) → a < length ps → get_or ps a 0 < 16384
 
 module _ (q : ℕ) (h : q < 16384) where
-  rows-among : (ps : List ℕ) → AllBelow ps → row_among ps (cell_of q).j ≡ on_line (λ p. p % 128) (q % 128) ps
+  rows_among : (ps : List ℕ) → AllBelow ps → row_among ps (cell_of q).j ≡ on_line (λ p. p % 128) (q % 128) ps
   unfolding row_among on_line
-  rows-among [] b = refl
-  rows-among (p ∷ ps) b = ap₂ ◌||◌ (row_line p q (b.below 0 (omega arith)) h) (rows-among ps (record { below = λ a l. b.below (suc a) (omega arith) }))
+  rows_among [] b = refl
+  rows_among (p ∷ ps) b = ap₂ ◌||◌ (row_line p q (b.below 0 (omega arith)) h) (rows_among ps (record { below = λ a l. b.below (suc a) (omega arith) }))
 
-  columns-among : (ps : List ℕ) → AllBelow ps → column_among ps (cell_of q).i ≡ on_line (λ p. p / 128) (q / 128) ps
+  columns_among : (ps : List ℕ) → AllBelow ps → column_among ps (cell_of q).i ≡ on_line (λ p. p / 128) (q / 128) ps
   unfolding column_among on_line
-  columns-among [] b = refl
-  columns-among (p ∷ ps) b = ap₂ ◌||◌ (column_line p q (b.below 0 (omega arith)) h) (columns-among ps (record { below = λ a l. b.below (suc a) (omega arith) }))
+  columns_among [] b = refl
+  columns_among (p ∷ ps) b = ap₂ ◌||◌ (column_line p q (b.below 0 (omega arith)) h) (columns_among ps (record { below = λ a l. b.below (suc a) (omega arith) }))
 
 marked_bit : (n : ℕ) (t : Bool) → n ≡ bit_of t → eqb n 1 ≡ t
 unfolding bit_of
@@ -157,10 +157,10 @@ region_is depth sheet region q h f = rw f.around_is (go (box_of sheet))
     below = record { below = places_in_lem sheet }
 
     row : marked region.rows (q % 128) ≡ row_among (labelled_places sheet) (cell_of q).j
-    row = marked_bit _ _ (f.rows_are.at (q % 128) (omega arith)) ∙ sym (rows-among q h (labelled_places sheet) below)
+    row = marked_bit _ _ (f.rows_are.at (q % 128) (omega arith)) ∙ sym (rows_among q h (labelled_places sheet) below)
 
     column : marked region.columns (q / 128) ≡ column_among (labelled_places sheet) (cell_of q).i
-    column = marked_bit _ _ (f.columns_are.at (q / 128) (omega arith)) ∙ sym (columns-among q h (labelled_places sheet) below)
+    column = marked_bit _ _ (f.columns_are.at (q / 128) (omega arith)) ∙ sym (columns_among q h (labelled_places sheet) below)
 
     go : (around : LabelBox) → region_around depth region.rows region.columns around q (cell_of q) ≡ local_region depth (labelled_places sheet) around (cell_of q)
     go LabelBox.Empty = refl

@@ -27,9 +27,9 @@ module _ (seen seen' : Cell → Seen) where
   residuals h [] alike_none = refl
   residuals h (p ∷ ps) (alike_more e s) = ap₂ (λ (x : Position) (rs : List Float). residual_of h (cell_point (cell_of p)) x ∷ rs) e (residuals h ps s)
 
-  pub fit-alike : (ps : List ℕ) → Alike seen seen' ps → local_fit seen' ps ≡ local_fit seen ps
+  pub fit_alike : (ps : List ℕ) → Alike seen seen' ps → local_fit seen' ps ≡ local_fit seen ps
   unfolding local_fit trusted
-  fit-alike ps s =
+  fit_alike ps s =
       ap (λ (m : List Position). trusted seen' ps (homography_of (map (λ p. cell_point (cell_of p)) ps) m)) (pictures ps s)
       ∙ go (homography_of (map (λ p. cell_point (cell_of p)) ps) (map (pictured_at seen) ps))
     where

@@ -81,20 +81,20 @@ covered_same (LargestResidual.Residual m) (by (covered_more h g)) = rw h (covere
 -- ---- what is known stays known
 
 module _ {set : Settings} {p : LocalExtensionParams} {l : LargestResidual} (rs : List Float) where
-  idle-all : {f : LocalFit} → IdleFit set p l f → IdleFit set p (recorded_all l rs) f
-  idle-all no_fit = no_fit
-  idle-all (above h g) = above h (by_all l rs g)
+  idle_all : {f : LocalFit} → IdleFit set p l f → IdleFit set p (recorded_all l rs) f
+  idle_all no_fit = no_fit
+  idle_all (above h g) = above h (by_all l rs g)
 
-  mapped-all : {c : Cell} {f : LocalFit} {at : Position} → Mapped set p l c f at → Mapped set p (recorded_all l rs) c f at
-  mapped-all (within h g e) = within h (by_all l rs g) e
+  mapped_all : {c : Cell} {f : LocalFit} {at : Position} → Mapped set p l c f at → Mapped set p (recorded_all l rs) c f at
+  mapped_all (within h g e) = within h (by_all l rs g) e
 
 module _ {cs : Corners} {set : Settings} {p : LocalExtensionParams} {l : LargestResidual} {sheet : List ℕ} (rs : List Float) where
-  pub known-all : {c : Cell} {known : Known} → KnownAt cs set p l sheet c known → KnownAt cs set p (recorded_all l rs) sheet c known
-  known-all nothing = nothing
-  known-all (idle n f) = idle n (idle-all rs f)
-  known-all (no_candidates n m) = no_candidates n (record { at = m.at; mapped = mapped-all rs m.mapped; missed = m.missed; none_over = m.none_over })
-  known-all (predicted n m) = predicted n (mapped-all rs m)
-  known-all (ambiguous n u) = ambiguous n (record { mapped = mapped-all rs u.mapped; undecided = u.undecided; last = u.last; no_shades = u.no_shades })
+  pub known_all : {c : Cell} {known : Known} → KnownAt cs set p l sheet c known → KnownAt cs set p (recorded_all l rs) sheet c known
+  known_all nothing = nothing
+  known_all (idle n f) = idle n (idle_all rs f)
+  known_all (no_candidates n m) = no_candidates n (record { at = m.at; mapped = mapped_all rs m.mapped; missed = m.missed; none_over = m.none_over })
+  known_all (predicted n m) = predicted n (mapped_all rs m)
+  known_all (ambiguous n u) = ambiguous n (record { mapped = mapped_all rs u.mapped; undecided = u.undecided; last = u.last; no_shades = u.no_shades })
 
   pub larger : {memory : List ℕ} {predictions : List Float} → Remembered cs set p l sheet memory predictions → Remembered cs set p (recorded_all l rs) sheet memory predictions
-  larger m = record { size = m.size; room = m.room; at = λ a h. known-all (m.at a h); bounded = m.bounded }
+  larger m = record { size = m.size; room = m.room; at = λ a h. known_all (m.at a h); bounded = m.bounded }

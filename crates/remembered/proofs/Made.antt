@@ -30,13 +30,13 @@ module _ (cs : Corners) (set : Settings) (p : LocalExtensionParams) (l : Largest
   pub made_none : fit_at cs sheet c ≡ none → KnownAt cs set p l sheet c (Known.Idle near.fourth.reach)
   made_none e = idle reached (subst (IdleFit set p l) (sym e) no_fit)
 
-  pub made-above : (h rs : List Float) → fit_at cs sheet c ≡ fitted h rs → lt (gate_of set p) (worst (of_bits binary32 0) rs) ≡ true
+  pub made_above : (h rs : List Float) → fit_at cs sheet c ≡ fitted h rs → lt (gate_of set p) (worst (of_bits binary32 0) rs) ≡ true
       → KnownAt cs set p (recorded_all l rs) sheet c (Known.Idle near.fourth.reach)
-  made-above h rs e k = idle reached (subst (IdleFit set p (recorded_all l rs)) (sym e) (above k (covers l rs)))
+  made_above h rs e k = idle reached (subst (IdleFit set p (recorded_all l rs)) (sym e) (above k (covers l rs)))
 
-  pub made-within : (h rs : List Float) → fit_at cs sheet c ≡ fitted h rs → lt (gate_of set p) (worst (of_bits binary32 0) rs) ≡ false
+  pub made_within : (h rs : List Float) → fit_at cs sheet c ≡ fitted h rs → lt (gate_of set p) (worst (of_bits binary32 0) rs) ≡ false
       → KnownAt cs set p (recorded_all l rs) sheet c (Known.Predicted near.fourth.reach (applied h (cell_point c)))
-  made-within h rs e k =
+  made_within h rs e k =
       predicted reached (subst (λ (f : LocalFit). Mapped set p (recorded_all l rs) c f (applied h (cell_point c))) (sym e) (within k (covers l rs) refl))
 
 -- no candidate at the prediction, and no shade stands

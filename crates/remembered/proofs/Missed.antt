@@ -20,7 +20,7 @@ use Rattle.candidates.specs.Choice.{epsilon, raised, by_quotient, choose_unambig
 use Rattle.candidates.specs.declared.Candidate.{Candidate}
 use Rattle.candidates.specs.declared.Candidates.{Candidates}
 use Rattle.candidates.specs.declared.CandidateChoice.{CandidateChoice}
-use Rattle.candidates.proofs.Without.{first-two-stay}
+use Rattle.candidates.proofs.Without.{first_two_stay}
 use Rattle.positions_policy.specs.Edge.{verdict_of, passes}
 use Rattle.positions_policy.specs.declared.Tolerances.{Tolerances}
 use Rattle.extension_common.specs.TryCell.{unlabelled_on, gathered, choice_by, edges_of, result_of, try_at}
@@ -58,9 +58,9 @@ ordered_fewer distance candidate candidate' (suc n) sub e =
     go false f false g e w = w e
 
 module _ (position : ℕ → Position) (may may' : ℕ → Bool) (n : ℕ) (prediction : Position) (radius : Float) (sub : (k : ℕ) → k < n → may' k ≡ true → may k ≡ true) where
-  candidates-fewer : candidates_at position may n prediction radius ≡ [] → candidates_at position may' n prediction radius ≡ []
+  candidates_fewer : candidates_at position may n prediction radius ≡ [] → candidates_at position may' n prediction radius ≡ []
   unfolding candidates_at
-  candidates-fewer e = go (finite_position prediction) e
+  candidates_fewer e = go (finite_position prediction) e
     where
       one : (k : ℕ) → k < n → (a b t : Bool) → may' k ≡ a → may k ≡ b → (a && t) ≡ true → (b && t) ≡ true
       one k h true true t f g m = m
@@ -83,8 +83,8 @@ first_none (a ∷ []) e = absurd (zero_one cc)
 first_none (a ∷ (b ∷ l)) e = absurd (zero_one cc)
 
 module _ (t : Bool) (k : ℕ) where
-  no-quotient : cond t CandidateChoice.Ambiguous (CandidateChoice.Unique k) ≡ CandidateChoice.Nothing → ⊥
-  no-quotient e = go t e
+  no_quotient : cond t CandidateChoice.Ambiguous (CandidateChoice.Unique k) ≡ CandidateChoice.Nothing → ⊥
+  no_quotient e = go t e
     where
       go : (t : Bool) → cond t CandidateChoice.Ambiguous (CandidateChoice.Unique k) ≡ CandidateChoice.Nothing → ⊥
       go true e = zero_one cc
@@ -98,10 +98,10 @@ choice_none ChoiceRule.Unambiguous (Candidates.Several a second) factor e = absu
   where
     go : (t : Bool) → cond t CandidateChoice.Ambiguous (by_quotient a.number a.distance second factor) ≡ CandidateChoice.Nothing → ⊥
     go true e = zero_one cc
-    go false e = no-quotient (lt (div binary32 second a.distance) factor) a.number e
+    go false e = no_quotient (lt (div binary32 second a.distance) factor) a.number e
 choice_none ChoiceRule.WithFloor Candidates.Empty factor e = refl
 choice_none ChoiceRule.WithFloor (Candidates.One a) factor e = absurd (zero_one cc)
-choice_none ChoiceRule.WithFloor (Candidates.Several a second) factor e = absurd (no-quotient (lt (div binary32 second (raised a.distance)) factor) a.number e)
+choice_none ChoiceRule.WithFloor (Candidates.Several a second) factor e = absurd (no_quotient (lt (div binary32 second (raised a.distance)) factor) a.number e)
 
 none_choice : (rule : ChoiceRule) (factor : Float) → choice_by rule Candidates.Empty factor ≡ CandidateChoice.Nothing
 unfolding choice_by choose_unambiguous choose_with_floor
@@ -141,13 +141,13 @@ module _ (cs : Corners) (sheet sheet' : List ℕ) (sub : (k : ℕ) → unlabelle
   unfolding gathered first_two
   gathered_none radius c prediction e =
       ap first_two
-      (candidates-fewer (λ k. (cs.corner k).position) _ (eligible (unlabelled_on sheet') (takes cs.shades c)) cs.count prediction radius
+      (candidates_fewer (λ k. (cs.corner k).position) _ (eligible (unlabelled_on sheet') (takes cs.shades c)) cs.count prediction radius
       (λ k h. eligible_fewer (unlabelled_on sheet) (unlabelled_on sheet') (takes cs.shades c) k (sub k)) (first_none _ e))
 
-  pub still-missed : (tol : Tolerances) (search : Search) (c : Cell) (at : Position) → try_at cs sheet tol search c at ≡ TryCellResult.NoCandidates
+  pub still_missed : (tol : Tolerances) (search : Search) (c : Cell) (at : Position) → try_at cs sheet tol search c at ≡ TryCellResult.NoCandidates
       → try_at cs sheet' tol search c at ≡ TryCellResult.NoCandidates
   unfolding try_at result_of
-  still-missed tol search c at e =
+  still_missed tol search c at e =
       rw (
         gathered_none search.search_r c at (choice_none search.rule _ search.ambiguity_factor (result_none cs.corner sheet tol c _ e)),
         none_choice search.rule search.ambiguity_factor,
@@ -169,13 +169,13 @@ result_ambiguous corner sheet tol c (CandidateChoice.Unique k) e = absurd (go (p
 -- a sheet on which one more corner is labelled
 module _ (cs : Corners) (sheet sheet' : List ℕ) (k : ℕ) (same : (j : ℕ) → unlabelled_on sheet' j ≡ (not (eqb k j) && unlabelled_on sheet j)) where
   module _ (radius : Float) (small : T (finite (squared_radius radius))) (c : Cell) (at : Position) (far : lt (last_distance (gathered cs sheet radius c at)) (sqrt_or_nan (squared_distance (cs.corner k).position at)) ≡ true) where
-    pub gathered-stays : gathered cs sheet' radius c at ≡ gathered cs sheet radius c at
+    pub gathered_stays : gathered cs sheet' radius c at ≡ gathered cs sheet radius c at
     unfolding gathered
-    gathered-stays =
-        first-two-stay (λ j. (cs.corner j).position) (eligible (unlabelled_on sheet) (takes cs.shades c)) (eligible (unlabelled_on sheet') (takes cs.shades c)) cs.count at radius small k
+    gathered_stays =
+        first_two_stay (λ j. (cs.corner j).position) (eligible (unlabelled_on sheet) (takes cs.shades c)) (eligible (unlabelled_on sheet') (takes cs.shades c)) cs.count at radius small k
         (λ j. eligible_without (unlabelled_on sheet) (unlabelled_on sheet') (takes cs.shades c) k j (same j)) far
 
-  pub still-ambiguous : (tol : Tolerances) (search : Search) (c : Cell) (at : Position) → gathered cs sheet' search.search_r c at ≡ gathered cs sheet search.search_r c at
+  pub still_ambiguous : (tol : Tolerances) (search : Search) (c : Cell) (at : Position) → gathered cs sheet' search.search_r c at ≡ gathered cs sheet search.search_r c at
       → try_at cs sheet tol search c at ≡ TryCellResult.Ambiguous → try_at cs sheet' tol search c at ≡ TryCellResult.Ambiguous
   unfolding try_at result_of
-  still-ambiguous tol search c at g e = rw (g, result_ambiguous cs.corner sheet tol c (choice_by search.rule (gathered cs sheet search.search_r c at) search.ambiguity_factor) e)
+  still_ambiguous tol search c at g e = rw (g, result_ambiguous cs.corner sheet tol c (choice_by search.rule (gathered cs sheet search.search_r c at) search.ambiguity_factor) e)

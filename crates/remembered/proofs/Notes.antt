@@ -20,7 +20,7 @@ use Rattle.passes.specs.Local.{local_search}
 use Rattle.passes.specs.declared.LargestResidual.{LargestResidual}
 use Rattle.remembered.specs.Remembered.{KnownAt, nothing, known_of, kind_of, reach_in, Notable, prediction_at, limit_at, entry_of, Remembered, Noted}
 use Rattle.remembered.specs.declared.Known.{Known}
-use Rattle.remembered.proofs.Words.{known-nothing}
+use Rattle.remembered.proofs.Words.{known_nothing}
 
 -- nothing is known yet
 pub started : (cs : Corners) (set : Settings) (p : LocalExtensionParams) (l : LargestResidual) (sheet : List ℕ) {predictions : List Float} → length predictions ≡ 49152
@@ -31,7 +31,7 @@ started cs set p l sheet {predictions} n small =
       room = n;
       at = λ a h.
           subst (KnownAt cs set p l sheet (cell_of a))
-          (known-nothing 0 (prediction_at predictions a) (limit_at predictions a) (omega arith)
+          (known_nothing 0 (prediction_at predictions a) (limit_at predictions a) (omega arith)
           ∙ ap (λ (w : ℕ). known_of w (prediction_at predictions a) (limit_at predictions a)) (sym (get_or-replicate {A = ℕ} 16384 a 0 0 h))) nothing;
       bounded = small;
     }
@@ -55,21 +55,21 @@ module _ {cs : Corners} {set : Settings} {p : LocalExtensionParams} {l : Largest
 -- ---- reaches that a word holds
 
 module _ {r : ℕ} (h : r < 8192) where
-  pub notable-idle : Notable (Known.Idle r)
+  pub notable_idle : Notable (Known.Idle r)
   unfolding reach_in
-  notable-idle = h
+  notable_idle = h
 
-  pub notable-no-candidates : Notable (Known.NoCandidates r)
+  pub notable_no_candidates : Notable (Known.NoCandidates r)
   unfolding reach_in
-  notable-no-candidates = h
+  notable_no_candidates = h
 
-  pub notable-predicted : (at : Position) → Notable (Known.Predicted r at)
+  pub notable_predicted : (at : Position) → Notable (Known.Predicted r at)
   unfolding reach_in
-  notable-predicted at = h
+  notable_predicted at = h
 
-  pub notable-ambiguous : (at : Position) (limit : Float) → Notable (Known.Ambiguous r at limit)
+  pub notable_ambiguous : (at : Position) (limit : Float) → Notable (Known.Ambiguous r at limit)
   unfolding reach_in
-  notable-ambiguous at limit = h
+  notable_ambiguous at limit = h
 
 -- what a word said can be noted again
 pub known_notable : (w : ℕ) (at : Position) (limit : Float) {known : Known} → w < 65536 → known ≡ known_of w at limit → Notable known

@@ -12,7 +12,7 @@ use Rattle.sheet.specs.declared.Cell.{Cell}
 use Rattle.labels.specs.Labelled.{passing}
 use Rattle.labels.proofs.Below.{passing_ext}
 use Rattle.passes.specs.Local.{reach_of, nearer, placed, by_reach}
-use Rattle.passes.proofs.Nearest.{rank_less, rank-least, byReach-length}
+use Rattle.passes.proofs.Nearest.{rank_less, rank_least, by_reach_length}
 use Rattle.supports.proofs.Nearest.{AllBelow, Under, none, one, under_placed}
 use Rattle.remembered.specs.Remembered.{Near, near_more}
 
@@ -23,22 +23,22 @@ module _ (c : Cell) (p q : ℕ) (hp : p < 16384) (hq : q < 16384) (d : p ≡ q �
   apart true false e f = refl
   apart false true e f = refl
   apart true true e f = absurd (omega (arith, rank_less c p q hp hq e, rank_less c q p hq hp f))
-  apart false false e f = absurd (d (omega (arith, rank-least c p q hp hq e, rank-least c q p hq hp f)))
+  apart false false e f = absurd (d (omega (arith, rank_least c p q hp hq e, rank_least c q p hq hp f)))
 
-  pub placed-apart : (l : List ℕ) → Under 16384 l → placed c p (placed c q l) ≡ placed c q (placed c p l)
+  pub placed_apart : (l : List ℕ) → Under 16384 l → placed c p (placed c q l) ≡ placed c q (placed c p l)
   unfolding placed
-  placed-apart [] none = apart (nearer c p q) (nearer c q p) refl refl
-  placed-apart (r ∷ rs) (one h u) = go (nearer c p r) refl (nearer c q r) refl (nearer c p q) refl (nearer c q p) refl (placed-apart rs u)
+  placed_apart [] none = apart (nearer c p q) (nearer c q p) refl refl
+  placed_apart (r ∷ rs) (one h u) = go (nearer c p r) refl (nearer c q r) refl (nearer c p q) refl (nearer c q p) refl (placed_apart rs u)
     where
       go : (s : Bool) → nearer c p r ≡ s → (t : Bool) → nearer c q r ≡ t → (v : Bool) → nearer c p q ≡ v → (w : Bool) → nearer c q p ≡ w
           → placed c p (placed c q rs) ≡ placed c q (placed c p rs) → placed c p (placed c q (r ∷ rs)) ≡ placed c q (placed c p (r ∷ rs))
       go true e true f true g true k i = absurd (omega (arith, rank_less c p q hp hq g, rank_less c q p hq hp k))
       go true e true f true g false k i = simp (e, f, g, k)
       go true e true f false g true k i = simp (e, f, g, k)
-      go true e true f false g false k i = absurd (d (omega (arith, rank-least c p q hp hq g, rank-least c q p hq hp k)))
-      go true e false f v g true k i = absurd (omega (arith, rank_less c p r hp h e, rank-least c q r hq h f, rank_less c q p hq hp k))
+      go true e true f false g false k i = absurd (d (omega (arith, rank_least c p q hp hq g, rank_least c q p hq hp k)))
+      go true e false f v g true k i = absurd (omega (arith, rank_less c p r hp h e, rank_least c q r hq h f, rank_less c q p hq hp k))
       go true e false f v g false k i = simp (e, f, k)
-      go false e true f true g w k i = absurd (omega (arith, rank-least c p r hp h e, rank_less c q r hq h f, rank_less c p q hp hq g))
+      go false e true f true g w k i = absurd (omega (arith, rank_least c p r hp h e, rank_less c q r hq h f, rank_less c p q hp hq g))
       go false e true f false g w k i = simp (e, f, g)
       go false e false f v g w k i = simp (e, f) (ap (λ (l : List ℕ). r ∷ l) i)
 
@@ -47,7 +47,7 @@ placed_swap c p q hp hq l u = go (ℕ_discrete p q)
   where
     go : Dec (p ≡ q) → placed c p (placed c q l) ≡ placed c q (placed c p l)
     go (yes d) = rw d refl
-    go (no d) = placed-apart c p q hp hq d l u
+    go (no d) = placed_apart c p q hp hq d l u
 
 -- ---- a list with one number put in somewhere
 
@@ -110,4 +110,4 @@ take_placed c q r (suc n) (p ∷ ps) far m (near_more h near) =
 pub nearest_stay : (c : Cell) (q r n : ℕ) {l l' : List ℕ} → q < 16384 → Inserted q l l' → Under 16384 l → n ≤ length l → Near c r (take n (by_reach c l)) → r < reach_of c q
     → take n (by_reach c l') ≡ take n (by_reach c l)
 nearest_stay c q r n {l} h i u m near far =
-    ap (take n) (sorted_inserted c q h i u) ∙ take_placed c q r n (by_reach c l) far (omega (arith, byReach-length c l)) near
+    ap (take n) (sorted_inserted c q h i u) ∙ take_placed c q r n (by_reach c l) far (omega (arith, by_reach_length c l)) near

@@ -13,7 +13,7 @@ use Rattle.arguments.specs.declared.Settings.{Settings}
 use Rattle.arguments.specs.declared.LocalExtensionParams.{LocalExtensionParams}
 use Rattle.extension_common.specs.TryCell.{try_at}
 use Rattle.extension_common.specs.declared.TryCellResult.{TryCellResult}
-use Rattle.extension_common.proofs.Laws.{unmatched-bare}
+use Rattle.extension_common.proofs.Laws.{unmatched_bare}
 use Rattle.passes.specs.Grow.{tolerances_of}
 use Rattle.passes.specs.Local.{LocalState, supports_of, cell_point, LocalFit, none, fitted, local_fit, worst, with_residuals, with_unmatched, local_search, gate_of, local_with, local_try, local_at, local_visit}
 use Rattle.passes.specs.declared.LargestResidual.{LargestResidual}
@@ -24,19 +24,19 @@ use Rattle.remembered.proofs.Larger.{covered_same}
 -- ---- by the fit and the gate
 
 module _ (cs : Corners) (set : Settings) (p : LocalExtensionParams) (c : Cell) (s : LocalState) (f : LocalFit) (e : f ≡ local_fit (seen_of cs.corner s.sheet) (supports_of c s.sheet)) where
-  pub visit-none : f ≡ none → local_visit cs set p c s ≡ s
+  pub visit_none : f ≡ none → local_visit cs set p c s ≡ s
   unfolding local_visit local_at
-  visit-none g = rw (← e, g)
+  visit_none g = rw (← e, g)
 
   module _ (h rs : List Float) (g : f ≡ fitted h rs) where
-    pub visit-gated : lt (gate_of set p) (worst (of_bits binary32 0) rs) ≡ true → local_visit cs set p c s ≡ with_residuals rs s
+    pub visit_gated : lt (gate_of set p) (worst (of_bits binary32 0) rs) ≡ true → local_visit cs set p c s ≡ with_residuals rs s
     unfolding local_visit local_at
-    visit-gated k = rw (← e, g, k)
+    visit_gated k = rw (← e, g, k)
 
-    pub visit-fitted : lt (gate_of set p) (worst (of_bits binary32 0) rs) ≡ false
+    pub visit_fitted : lt (gate_of set p) (worst (of_bits binary32 0) rs) ≡ false
         → local_visit cs set p c s ≡ local_try cs set p c (applied h (cell_point c)) (with_residuals rs s)
     unfolding local_visit local_at
-    visit-fitted k = rw (← e, g, k)
+    visit_fitted k = rw (← e, g, k)
 
 -- ---- by what is known
 
@@ -45,32 +45,32 @@ same_state : (s : LocalState) {rs : List Float} → CoveredBy s.largest rs → w
 same_state s g = ap (λ (l : LargestResidual). record { sheet = s.sheet; made = s.made; counts = s.counts; largest = l; unmatched = s.unmatched }) (covered_same s.largest g)
 
 module _ (cs : Corners) (set : Settings) (p : LocalExtensionParams) (c : Cell) (s : LocalState) where
-  by-idle : (f : LocalFit) → f ≡ fit_at cs s.sheet c → IdleFit set p s.largest f → local_visit cs set p c s ≡ s
-  by-idle none e no_fit = visit-none cs set p c s none e refl
-  by-idle (fitted h rs) e (above k g) = visit-gated cs set p c s (fitted h rs) e h rs refl k ∙ same_state s g
+  by_idle : (f : LocalFit) → f ≡ fit_at cs s.sheet c → IdleFit set p s.largest f → local_visit cs set p c s ≡ s
+  by_idle none e no_fit = visit_none cs set p c s none e refl
+  by_idle (fitted h rs) e (above k g) = visit_gated cs set p c s (fitted h rs) e h rs refl k ∙ same_state s g
 
-  by-mapped : (f : LocalFit) {at : Position} → f ≡ fit_at cs s.sheet c → Mapped set p s.largest c f at
+  by_mapped : (f : LocalFit) {at : Position} → f ≡ fit_at cs s.sheet c → Mapped set p s.largest c f at
       → local_visit cs set p c s ≡ local_try cs set p c at s
-  by-mapped (fitted h rs) e (within k g a) =
-      visit-fitted cs set p c s (fitted h rs) e h rs refl k
+  by_mapped (fitted h rs) e (within k g a) =
+      visit_fitted cs set p c s (fitted h rs) e h rs refl k
       ∙ rw (a, same_state s g)
 
   -- where no shade stands none is passed over
   none_over : cs.shades.any ≡ false → (at : Position) → local_try cs set p c at s ≡ local_with c (try_at cs s.sheet (tolerances_of set) (local_search set p) c at) s
   unfolding local_try
   none_over e at =
-      ap (λ (n : ℕ). local_with c (try_at cs s.sheet (tolerances_of set) (local_search set p) c at) (with_unmatched n s)) (unmatched-bare cs e s.sheet (local_search set p).search_r c at)
+      ap (λ (n : ℕ). local_with c (try_at cs s.sheet (tolerances_of set) (local_search set p) c at) (with_unmatched n s)) (unmatched_bare cs e s.sheet (local_search set p).search_r c at)
       ∙ ap (λ (n : ℕ). local_with c (try_at cs s.sheet (tolerances_of set) (local_search set p) c at) (record { sheet = s.sheet; made = s.made; counts = s.counts; largest = s.largest; unmatched = n })) (omega arith)
 
-  pub visit-idle : {r : ℕ} → KnownAt cs set p s.largest s.sheet c (Known.Idle r) → local_visit cs set p c s ≡ s
-  visit-idle (idle n f) = by-idle (fit_at cs s.sheet c) refl f
+  pub visit_idle : {r : ℕ} → KnownAt cs set p s.largest s.sheet c (Known.Idle r) → local_visit cs set p c s ≡ s
+  visit_idle (idle n f) = by_idle (fit_at cs s.sheet c) refl f
 
-  pub visit-predicted : {r : ℕ} {at : Position} → KnownAt cs set p s.largest s.sheet c (Known.Predicted r at)
+  pub visit_predicted : {r : ℕ} {at : Position} → KnownAt cs set p s.largest s.sheet c (Known.Predicted r at)
       → local_visit cs set p c s ≡ local_try cs set p c at s
-  visit-predicted (predicted n m) = by-mapped (fit_at cs s.sheet c) refl m
+  visit_predicted (predicted n m) = by_mapped (fit_at cs s.sheet c) refl m
 
-  pub visit-no-candidates : {r : ℕ} → KnownAt cs set p s.largest s.sheet c (Known.NoCandidates r) → local_visit cs set p c s ≡ local_with c TryCellResult.NoCandidates s
-  visit-no-candidates (no_candidates n m) = by-mapped (fit_at cs s.sheet c) refl m.mapped ∙ none_over m.none_over m.at ∙ ap (λ (r : TryCellResult). local_with c r s) m.missed
+  pub visit_no_candidates : {r : ℕ} → KnownAt cs set p s.largest s.sheet c (Known.NoCandidates r) → local_visit cs set p c s ≡ local_with c TryCellResult.NoCandidates s
+  visit_no_candidates (no_candidates n m) = by_mapped (fit_at cs s.sheet c) refl m.mapped ∙ none_over m.none_over m.at ∙ ap (λ (r : TryCellResult). local_with c r s) m.missed
 
-  pub visit-ambiguous : {r : ℕ} {at : Position} {limit : Float} → KnownAt cs set p s.largest s.sheet c (Known.Ambiguous r at limit) → local_visit cs set p c s ≡ local_with c TryCellResult.Ambiguous s
-  visit-ambiguous (ambiguous n u) = by-mapped (fit_at cs s.sheet c) refl u.mapped ∙ none_over u.no_shades _ ∙ ap (λ (r : TryCellResult). local_with c r s) u.undecided
+  pub visit_ambiguous : {r : ℕ} {at : Position} {limit : Float} → KnownAt cs set p s.largest s.sheet c (Known.Ambiguous r at limit) → local_visit cs set p c s ≡ local_with c TryCellResult.Ambiguous s
+  visit_ambiguous (ambiguous n u) = by_mapped (fit_at cs s.sheet c) refl u.mapped ∙ none_over u.no_shades _ ∙ ap (λ (r : TryCellResult). local_with c r s) u.undecided

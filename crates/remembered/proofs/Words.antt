@@ -34,28 +34,28 @@ kind_four (suc (suc (suc zero))) r at limit h = absurd (omega arith)
 kind_four (suc (suc (suc (suc k)))) r at limit h = refl
 
 module _ (w : ℕ) (at : Position) (limit : Float) where
-  pub known-nothing : w % 8 ≡ 0 → Known.Nothing ≡ known_of w at limit
+  pub known_nothing : w % 8 ≡ 0 → Known.Nothing ≡ known_of w at limit
   unfolding known_of kind_of
-  known-nothing e = rw e
+  known_nothing e = rw e
 
-  pub known-idle : w % 8 ≡ 1 → Known.Idle (w / 8) ≡ known_of w at limit
+  pub known_idle : w % 8 ≡ 1 → Known.Idle (w / 8) ≡ known_of w at limit
   unfolding known_of kind_of
-  known-idle e = rw e
+  known_idle e = rw e
 
-  pub known-no-candidates : w % 8 ≡ 2 → Known.NoCandidates (w / 8) ≡ known_of w at limit
+  pub known_no_candidates : w % 8 ≡ 2 → Known.NoCandidates (w / 8) ≡ known_of w at limit
   unfolding known_of kind_of
-  known-no-candidates e = rw e
+  known_no_candidates e = rw e
 
-  pub known-predicted : w % 8 ≡ 3 → Known.Predicted (w / 8) at ≡ known_of w at limit
+  pub known_predicted : w % 8 ≡ 3 → Known.Predicted (w / 8) at ≡ known_of w at limit
   unfolding known_of kind_of
-  known-predicted e = rw e
+  known_predicted e = rw e
 
-  pub known-ambiguous : 4 ≤ w % 8 → Known.Ambiguous (w / 8) at limit ≡ known_of w at limit
+  pub known_ambiguous : 4 ≤ w % 8 → Known.Ambiguous (w / 8) at limit ≡ known_of w at limit
   unfolding known_of
-  known-ambiguous h = kind_four (w % 8) (w / 8) at limit h
+  known_ambiguous h = kind_four (w % 8) (w / 8) at limit h
 
-  pub known-last : (w % 8 ≡ 0 → ⊥) → (w % 8 ≡ 1 → ⊥) → (w % 8 ≡ 2 → ⊥) → (w % 8 ≡ 3 → ⊥) → Known.Ambiguous (w / 8) at limit ≡ known_of w at limit
-  known-last a b c d = known-ambiguous (omega arith)
+  pub known_last : (w % 8 ≡ 0 → ⊥) → (w % 8 ≡ 1 → ⊥) → (w % 8 ≡ 2 → ⊥) → (w % 8 ≡ 3 → ⊥) → Known.Ambiguous (w / 8) at limit ≡ known_of w at limit
+  known_last a b c d = known_ambiguous (omega arith)
 
 -- at a place
 pub entry_is : (memory : List ℕ) (predictions : List Float) {place q : ℕ} {at : Position} {limit : Float} {known : Known} → place ≡ q
@@ -66,98 +66,98 @@ entry_is memory predictions e f g h = h ∙ rw (f, g, e)
 
 -- by what is known
 module _ {known : Known} where
-  pub nothing-word : known ≡ Known.Nothing → 0 ≡ known_word known
+  pub nothing_word : known ≡ Known.Nothing → 0 ≡ known_word known
   unfolding known_word
-  nothing-word e = rw e
+  nothing_word e = rw e
 
-  pub nothing-prediction : known ≡ Known.Nothing → no_prediction ≡ prediction_in known
+  pub nothing_prediction : known ≡ Known.Nothing → no_prediction ≡ prediction_in known
   unfolding prediction_in
-  nothing-prediction e = rw e
+  nothing_prediction e = rw e
 
-  pub nothing-limit : known ≡ Known.Nothing → of_bits binary32 0 ≡ limit_in known
+  pub nothing_limit : known ≡ Known.Nothing → of_bits binary32 0 ≡ limit_in known
   unfolding limit_in
-  nothing-limit e = rw e
+  nothing_limit e = rw e
 
   module _ {r : ℕ} where
-    pub idle-below : known ≡ Known.Idle r → Notable known → r < 8192
+    pub idle_below : known ≡ Known.Idle r → Notable known → r < 8192
     unfolding reach_in
-    idle-below e h = rw e at h
+    idle_below e h = rw e at h
 
-    pub idle-word : known ≡ Known.Idle r → r * 8 + 1 ≡ known_word known
+    pub idle_word : known ≡ Known.Idle r → r * 8 + 1 ≡ known_word known
     unfolding known_word
-    idle-word e = rw e
+    idle_word e = rw e
 
-    pub idle-prediction : known ≡ Known.Idle r → no_prediction ≡ prediction_in known
+    pub idle_prediction : known ≡ Known.Idle r → no_prediction ≡ prediction_in known
     unfolding prediction_in
-    idle-prediction e = rw e
+    idle_prediction e = rw e
 
-    pub idle-limit : known ≡ Known.Idle r → of_bits binary32 0 ≡ limit_in known
+    pub idle_limit : known ≡ Known.Idle r → of_bits binary32 0 ≡ limit_in known
     unfolding limit_in
-    idle-limit e = rw e
+    idle_limit e = rw e
 
-    pub no-candidates-below : known ≡ Known.NoCandidates r → Notable known → r < 8192
+    pub no_candidates_below : known ≡ Known.NoCandidates r → Notable known → r < 8192
     unfolding reach_in
-    no-candidates-below e h = rw e at h
+    no_candidates_below e h = rw e at h
 
-    pub no-candidates-word : known ≡ Known.NoCandidates r → r * 8 + 2 ≡ known_word known
+    pub no_candidates_word : known ≡ Known.NoCandidates r → r * 8 + 2 ≡ known_word known
     unfolding known_word
-    no-candidates-word e = rw e
+    no_candidates_word e = rw e
 
-    pub no-candidates-prediction : known ≡ Known.NoCandidates r → no_prediction ≡ prediction_in known
+    pub no_candidates_prediction : known ≡ Known.NoCandidates r → no_prediction ≡ prediction_in known
     unfolding prediction_in
-    no-candidates-prediction e = rw e
+    no_candidates_prediction e = rw e
 
-    pub no-candidates-limit : known ≡ Known.NoCandidates r → of_bits binary32 0 ≡ limit_in known
+    pub no_candidates_limit : known ≡ Known.NoCandidates r → of_bits binary32 0 ≡ limit_in known
     unfolding limit_in
-    no-candidates-limit e = rw e
+    no_candidates_limit e = rw e
 
     module _ {at : Position} where
-      pub predicted-below : known ≡ Known.Predicted r at → Notable known → r < 8192
+      pub predicted_below : known ≡ Known.Predicted r at → Notable known → r < 8192
       unfolding reach_in
-      predicted-below e h = rw e at h
+      predicted_below e h = rw e at h
 
-      pub predicted-word : known ≡ Known.Predicted r at → r * 8 + 3 ≡ known_word known
+      pub predicted_word : known ≡ Known.Predicted r at → r * 8 + 3 ≡ known_word known
       unfolding known_word
-      predicted-word e = rw e
+      predicted_word e = rw e
 
-      pub predicted-prediction : known ≡ Known.Predicted r at → at ≡ prediction_in known
+      pub predicted_prediction : known ≡ Known.Predicted r at → at ≡ prediction_in known
       unfolding prediction_in
-      predicted-prediction e = rw e
+      predicted_prediction e = rw e
 
-      pub predicted-limit : known ≡ Known.Predicted r at → of_bits binary32 0 ≡ limit_in known
+      pub predicted_limit : known ≡ Known.Predicted r at → of_bits binary32 0 ≡ limit_in known
       unfolding limit_in
-      predicted-limit e = rw e
+      predicted_limit e = rw e
 
       module _ {limit : Float} where
-        pub ambiguous-below : known ≡ Known.Ambiguous r at limit → Notable known → r < 8192
+        pub ambiguous_below : known ≡ Known.Ambiguous r at limit → Notable known → r < 8192
         unfolding reach_in
-        ambiguous-below e h = rw e at h
+        ambiguous_below e h = rw e at h
 
         pub ambiguous_word : known ≡ Known.Ambiguous r at limit → r * 8 + 4 ≡ known_word known
         unfolding known_word
         ambiguous_word e = rw e
 
-        pub ambiguous-prediction : known ≡ Known.Ambiguous r at limit → at ≡ prediction_in known
+        pub ambiguous_prediction : known ≡ Known.Ambiguous r at limit → at ≡ prediction_in known
         unfolding prediction_in
-        ambiguous-prediction e = rw e
+        ambiguous_prediction e = rw e
 
-        pub ambiguous-limit : known ≡ Known.Ambiguous r at limit → limit ≡ limit_in known
+        pub ambiguous_limit : known ≡ Known.Ambiguous r at limit → limit ≡ limit_in known
         unfolding limit_in
-        ambiguous-limit e = rw e
+        ambiguous_limit e = rw e
 
 -- what was written is read
 pub word_back : (known : Known) → known_of (known_word known) (prediction_in known) (limit_in known) ≡ known
 unfolding known_word prediction_in limit_in
-word_back Known.Nothing = sym (known-nothing 0 _ _ (omega arith))
+word_back Known.Nothing = sym (known_nothing 0 _ _ (omega arith))
 word_back (Known.Idle r) =
-    let e : (r * 8 + 1) / 8 ≡ r = omega arith in sym (known-idle (r * 8 + 1) _ _ (omega arith)) ∙ ap Known.Idle e
+    let e : (r * 8 + 1) / 8 ≡ r = omega arith in sym (known_idle (r * 8 + 1) _ _ (omega arith)) ∙ ap Known.Idle e
 word_back (Known.NoCandidates r) =
-    let e : (r * 8 + 2) / 8 ≡ r = omega arith in sym (known-no-candidates (r * 8 + 2) _ _ (omega arith)) ∙ ap Known.NoCandidates e
+    let e : (r * 8 + 2) / 8 ≡ r = omega arith in sym (known_no_candidates (r * 8 + 2) _ _ (omega arith)) ∙ ap Known.NoCandidates e
 word_back (Known.Predicted r at) =
-    let e : (r * 8 + 3) / 8 ≡ r = omega arith in sym (known-predicted (r * 8 + 3) at _ (omega arith)) ∙ ap (λ (n : ℕ). Known.Predicted n at) e
+    let e : (r * 8 + 3) / 8 ≡ r = omega arith in sym (known_predicted (r * 8 + 3) at _ (omega arith)) ∙ ap (λ (n : ℕ). Known.Predicted n at) e
 word_back (Known.Ambiguous r at limit) =
     let e : (r * 8 + 4) / 8 ≡ r = omega arith in
-    sym (known-ambiguous (r * 8 + 4) at limit (omega arith)) ∙ ap (λ (n : ℕ). Known.Ambiguous n at limit) e
+    sym (known_ambiguous (r * 8 + 4) at limit (omega arith)) ∙ ap (λ (n : ℕ). Known.Ambiguous n at limit) e
 
 -- ---- a word, a prediction and a limit put in their places
 
@@ -166,21 +166,21 @@ module _ (l : List Float) (i : ℕ) (x y z : Float) where
   abbrev pub three : List Float
   three = set (set (set l i x) (i + 1) y) (i + 2) z
 
-  three-long : length three ≡ length l
-  three-long = length-set (set (set l i x) (i + 1) y) (i + 2) z ∙ length-set (set l i x) (i + 1) y ∙ length-set l i x
+  three_long : length three ≡ length l
+  three_long = length-set (set (set l i x) (i + 1) y) (i + 2) z ∙ length-set (set l i x) (i + 1) y ∙ length-set l i x
 
-  three-else : (b : ℕ) → (b ≡ i → ⊥) → (b ≡ i + 1 → ⊥) → (b ≡ i + 2 → ⊥) → get_or three b nan ≡ get_or l b nan
-  three-else b f g h =
+  three_else : (b : ℕ) → (b ≡ i → ⊥) → (b ≡ i + 1 → ⊥) → (b ≡ i + 2 → ⊥) → get_or three b nan ≡ get_or l b nan
+  three_else b f g h =
       get_or-set_other (set (set l i x) (i + 1) y) (i + 2) b z nan h ∙ get_or-set_other (set l i x) (i + 1) b y nan g ∙ get_or-set_other l i b x nan f
 
   module _ (room : i + 2 < length l) where
-    three-first : get_or three i nan ≡ x
-    three-first =
+    three_first : get_or three i nan ≡ x
+    three_first =
         get_or-set_other (set (set l i x) (i + 1) y) (i + 2) i z nan (λ e. omega arith) ∙ get_or-set_other (set l i x) (i + 1) i y nan (λ e. omega arith)
         ∙ get_or-set_same l i x nan (omega arith)
 
-    three-second : get_or three (i + 1) nan ≡ y
-    three-second =
+    three_second : get_or three (i + 1) nan ≡ y
+    three_second =
         get_or-set_other (set (set l i x) (i + 1) y) (i + 2) (i + 1) z nan (λ e. omega arith) ∙ get_or-set_same (set l i x) (i + 1) y nan (omega (arith, length-set l i x))
 
     three_third : get_or three (i + 2) nan ≡ z
@@ -193,36 +193,36 @@ module _ (memory : List ℕ) (predictions : List Float) (c : Cell) (known : Know
       rw (e, f, g, h)
       (record {
         size = length-set memory (place_of c) (known_word known);
-        room = three-long predictions (place_of c * 3) _ _ _;
+        room = three_long predictions (place_of c * 3) _ _ _;
         here =
-            ap₂ (λ (k : Position → Float → Known) (l : Float). k (record { x = x'; y = y' }) l) (ap known_of (get_or-set_same memory (place_of c) (known_word known) 0 (omega (arith, m, in-sheet)))) refl
+            ap₂ (λ (k : Position → Float → Known) (l : Float). k (record { x = x'; y = y' }) l) (ap known_of (get_or-set_same memory (place_of c) (known_word known) 0 (omega (arith, m, in_sheet)))) refl
             ∙ ap₂ (λ (p : Position) (l : Float). known_of (known_word known) p l)
-            (ap₂ (λ (x y : Float). record { x = x; y = y }) (three-first predictions (place_of c * 3) _ _ _ wide) (three-second predictions (place_of c * 3) _ _ _ wide))
+            (ap₂ (λ (x y : Float). record { x = x; y = y }) (three_first predictions (place_of c * 3) _ _ _ wide) (three_second predictions (place_of c * 3) _ _ _ wide))
             (three_third predictions (place_of c * 3) _ _ _ wide)
             ∙ word_back known;
         else = λ a d.
-            ap₂ (λ (w : ℕ) (q : Position). known_of w q (get_or put-there (a * 3 + 2) nan)) (get_or-set_other memory (place_of c) a (known_word known) 0 d)
+            ap₂ (λ (w : ℕ) (q : Position). known_of w q (get_or put_there (a * 3 + 2) nan)) (get_or-set_other memory (place_of c) a (known_word known) 0 d)
             (ap₂ (λ (x y : Float). record { x = x; y = y }) (other a d (a * 3) (λ z. omega arith) (λ z. omega arith) (λ z. omega arith)) (other a d (a * 3 + 1) (λ z. omega arith) (λ z. omega arith) (λ z. omega arith)))
             ∙ ap (known_of (get_or memory a 0) (prediction_at predictions a)) (other a d (a * 3 + 2) (λ z. omega arith) (λ z. omega arith) (λ z. omega arith));
       })
     where
-      in-sheet : place_of c < 16384
-      in-sheet = place_in c on
+      in_sheet : place_of c < 16384
+      in_sheet = place_in c on
 
       wide : place_of c * 3 + 2 < length predictions
-      wide = omega (arith, n, in-sheet)
+      wide = omega (arith, n, in_sheet)
 
-      put-there : List Float
-      put-there = three predictions (place_of c * 3) (prediction_in known).x (prediction_in known).y (limit_in known)
+      put_there : List Float
+      put_there = three predictions (place_of c * 3) (prediction_in known).x (prediction_in known).y (limit_in known)
 
       x' : Float
-      x' = get_or put-there (place_of c * 3) nan
+      x' = get_or put_there (place_of c * 3) nan
 
       y' : Float
-      y' = get_or put-there (place_of c * 3 + 1) nan
+      y' = get_or put_there (place_of c * 3 + 1) nan
 
-      other : (a : ℕ) → (a ≡ place_of c → ⊥) → (b : ℕ) → (b ≡ place_of c * 3 → ⊥) → (b ≡ place_of c * 3 + 1 → ⊥) → (b ≡ place_of c * 3 + 2 → ⊥) → get_or put-there b nan ≡ get_or predictions b nan
-      other a d b f g h = three-else predictions (place_of c * 3) (prediction_in known).x (prediction_in known).y (limit_in known) b f g h
+      other : (a : ℕ) → (a ≡ place_of c → ⊥) → (b : ℕ) → (b ≡ place_of c * 3 → ⊥) → (b ≡ place_of c * 3 + 1 → ⊥) → (b ≡ place_of c * 3 + 2 → ⊥) → get_or put_there b nan ≡ get_or predictions b nan
+      other a d b f g h = three_else predictions (place_of c * 3) (prediction_in known).x (prediction_in known).y (limit_in known) b f g h
 
 -- ---- words forgotten
 
@@ -236,13 +236,13 @@ module _ (c : Cell) (q w : ℕ) {r : ℕ} (e : r ≡ reach_of c q) where
   keeps h = rw (lt-leb (reach_of c q) (w / 8) (omega arith))
 
 module _ (far : Bool) (w : ℕ) where
-  pub certain-stays : w % 8 < 4 → w ≡ doubted_word far w
+  pub certain_stays : w % 8 < 4 → w ≡ doubted_word far w
   unfolding doubted_word
-  certain-stays h = rw (lt-leb 4 (w % 8) (omega arith))
+  certain_stays h = rw (lt-leb 4 (w % 8) (omega arith))
 
-  pub far-stays : far ≡ true → w ≡ doubted_word far w
+  pub far_stays : far ≡ true → w ≡ doubted_word far w
   unfolding doubted_word
-  far-stays e = rw e (go (leb 4 (w % 8)))
+  far_stays e = rw e (go (leb 4 (w % 8)))
     where
       go : (t : Bool) → w ≡ cond (t && false) (w / 8 * 8 + 3) w
       go true = refl
@@ -255,7 +255,7 @@ module _ (far : Bool) (w : ℕ) where
 -- where nothing is known, nothing is left
 nothing_left : (far : Bool) (c : Cell) (q : ℕ) {w : ℕ} → w ≡ 0 → 0 ≡ doubted_word far (forgotten_word c q w)
 unfolding forgotten_word
-nothing_left far c q e = rw e (certain-stays far 0 (omega arith) ∙ go (leb (reach_of c q) 0))
+nothing_left far c q e = rw e (certain_stays far 0 (omega arith) ∙ go (leb (reach_of c q) 0))
   where
     go : (t : Bool) → doubted_word far 0 ≡ doubted_word far (cond t 0 0)
     go true = refl
@@ -277,9 +277,9 @@ pub forgetting_start : (before : List ℕ) (predictions : List Float) (c : Cell)
 forgetting_start before predictions c corner = record { upto = omega arith; size = refl; done = λ a h. absurd (omega arith); rest = λ a h. refl }
 
 module _ (before : List ℕ) (predictions : List Float) (c : Cell) (corner : Position) (memory : List ℕ) (p : ℕ) (g : Forgetting before predictions c corner memory p) where
-  pub forgetting-more : {word : ℕ} → length before ≡ 16384 → p < 16384
+  pub forgetting_more : {word : ℕ} → length before ≡ 16384 → p < 16384
       → word ≡ left_word (cell_of p) (place_of c) corner (prediction_at predictions p) (limit_at predictions p) (get_or memory p 0) → Forgetting before predictions c corner (set memory p word) (p + 1)
-  forgetting-more {word} n h k =
+  forgetting_more {word} n h k =
       record {
         upto = omega arith;
         size = length-set memory p word ∙ g.size;
@@ -294,17 +294,17 @@ module _ (before : List ℕ) (predictions : List Float) (c : Cell) (corner : Pos
       go a l (no d) = get_or-set_other memory p a word 0 d ∙ g.done a (omega arith)
 
   -- of this place nothing is known
-  forgetting-none : p < 16384 → get_or memory p 0 ≡ 0 → Forgetting before predictions c corner memory (p + 1)
-  forgetting-none h e = record { upto = omega arith; size = g.size; done = λ a l. go a l (ℕ_discrete a p); rest = λ a l. g.rest a (omega arith) }
+  forgetting_none : p < 16384 → get_or memory p 0 ≡ 0 → Forgetting before predictions c corner memory (p + 1)
+  forgetting_none h e = record { upto = omega arith; size = g.size; done = λ a l. go a l (ℕ_discrete a p); rest = λ a l. g.rest a (omega arith) }
     where
       go : (a : ℕ) → a < p + 1 → Dec (a ≡ p) → get_or memory a 0 ≡ left_word (cell_of a) (place_of c) corner (prediction_at predictions a) (limit_at predictions a) (get_or before a 0)
       go a l (yes d) = rw d (e ∙ nothing_left _ (cell_of p) (place_of c) (sym (g.rest p (omega arith)) ∙ e))
       go a l (no d) = g.done a (omega arith)
 
-  pub forgetting-end : 16384 ≤ p → Forgotten before predictions c corner memory
-  forgetting-end h = record { size = g.size; at = λ a l. g.done a (omega arith) }
+  pub forgetting_end : 16384 ≤ p → Forgotten before predictions c corner memory
+  forgetting_end h = record { size = g.size; at = λ a l. g.done a (omega arith) }
 
 pub forgetting_skips : (before : List ℕ) (predictions : List Float) (c : Cell) (corner : Position) (memory : List ℕ) {p r : ℕ} → Forgetting before predictions c corner memory p
     → NextWritten memory p r → Forgetting before predictions c corner memory r
 forgetting_skips before predictions c corner memory g w =
-    skips memory (Forgetting before predictions c corner memory) (λ q h e s. forgetting-none before predictions c corner memory q s h e) w g
+    skips memory (Forgetting before predictions c corner memory) (λ q h e s. forgetting_none before predictions c corner memory q s h e) w g

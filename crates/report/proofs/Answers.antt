@@ -19,25 +19,25 @@ use Rattle.report.specs.Asked.{Sound, text_from, piece_from, AllAsked, SomeAsked
 use Rattle.report.specs.declared.TextAnswer.{TextAnswer}
 use Rattle.report.specs.declared.PieceAnswer.{PieceAnswer}
 use Rattle.report.specs.declared.lines.PieceEnd.{PieceEnd}
-use Rattle.report.proofs.Laws.{from-the-start}
+use Rattle.report.proofs.Laws.{from_the_start}
 use Rattle.report.proofs.Short.{all_tame}
-use Rattle.report.proofs.Checking.{all-lent}
-use Rattle.report.proofs.Said.{text-promised, piece-promised}
+use Rattle.report.proofs.Checking.{all_lent}
+use Rattle.report.proofs.Said.{text_promised, piece_promised}
 
 module _ (l : TextLent) where
   sound : input_short l ≡ false → wild l ≡ false → Sound l.passes l.words l.sheet
-  sound a b = record { all = all-lent l a; tame = all_tame l b }
+  sound a b = record { all = all_lent l a; tame = all_tame l b }
 
   same_text : text_from l.passes l.words l.sheet 0 ≡ text_of l
   unfolding text_from
-  same_text = from-the-start (stats_in l.passes l.words) l.sheet
+  same_text = from_the_start (stats_in l.passes l.words) l.sheet
 
   -- ---- the whole text
 
   module _ (out : List ℕ) where
-    pub text-asked : checked_text l (length out) ≡ Checked.Fine → AllAsked l.passes l.words l.sheet out
+    pub text_asked : checked_text l (length out) ≡ Checked.Fine → AllAsked l.passes l.words l.sheet out
     unfolding checked_text checked_rest
-    text-asked e =
+    text_asked e =
         let seven = not_refused (input_short l || ltb (length out) (length (text_of l))) _ _ e in
         let short = or_false_both (input_short l) _ seven.0 in
         let two = not_refused (over_limit l) _ _ seven.1 in
@@ -50,22 +50,22 @@ module _ (l : TextLent) where
 
     pub text_refused : (r : Refusal) → checked_text l (length out) ≡ Checked.Refused r → TextPromised (text_out (TextAnswer.Refused r) out)
     unfolding writes_text
-    text_refused r e = text-promised l out (sym (ap (λ (c : Checked). text_leaves c l out) e))
+    text_refused r e = text_promised l out (sym (ap (λ (c : Checked). text_leaves c l out) e))
 
-    pub text-written : (n : ℕ) (new : List ℕ) → checked_text l (length out) ≡ Checked.Fine → Wrote (text_from l.passes l.words l.sheet 0) out new n
+    pub text_written_lem : (n : ℕ) (new : List ℕ) → checked_text l (length out) ≡ Checked.Fine → Wrote (text_from l.passes l.words l.sheet 0) out new n
         → TextPromised (text_out (TextAnswer.Written n) new)
     unfolding writes_text
-    text-written n new e w =
-        text-promised l out
+    text_written_lem n new e w =
+        text_promised l out
         (ap₂ (λ (m : ℕ) (b : List ℕ). text_out (TextAnswer.Written m) b) (w.count ∙ ap length same_text) (w.part ∙ ap (λ (t : List ℕ). over t out) same_text)
         ∙ sym (ap (λ (c : Checked). text_leaves c l out) e))
 
   -- ---- a piece
 
   module _ (from : ℕ) (out : List ℕ) where
-    pub piece-asked : checked_piece l from (length out) ≡ Checked.Fine → SomeAsked l.passes l.words l.sheet from
+    pub piece_asked : checked_piece l from (length out) ≡ Checked.Fine → SomeAsked l.passes l.words l.sheet from
     unfolding checked_piece
-    piece-asked e =
+    piece_asked e =
         let seven = not_refused (input_short l || ltb (length out) 128) _ _ e in
         let short = or_false_both (input_short l) _ seven.0 in
         let two = not_refused (over_limit l) _ _ seven.1 in
@@ -77,15 +77,15 @@ module _ (l : TextLent) where
     abbrev PiecePromised : PieceOut → Type 0
     PiecePromised t = (t ≡ writes_piece l from out) × (piece_said t.answer ≡ piece_due l from out)
 
-    pub piece-refused : (r : Refusal) → checked_piece l from (length out) ≡ Checked.Refused r → PiecePromised (piece_out (PieceAnswer.Refused r) out)
+    pub piece_refused : (r : Refusal) → checked_piece l from (length out) ≡ Checked.Refused r → PiecePromised (piece_out (PieceAnswer.Refused r) out)
     unfolding writes_piece
-    piece-refused r e = piece-promised l from out (sym (ap (λ (c : Checked). piece_leaves c (piece_in l from (length out)) out) e))
+    piece_refused r e = piece_promised l from out (sym (ap (λ (c : Checked). piece_leaves c (piece_in l from (length out)) out) e))
 
-    pub piece-written : (r : PieceEnd) (new : List ℕ) → checked_piece l from (length out) ≡ Checked.Fine
+    pub piece_written_lem : (r : PieceEnd) (new : List ℕ) → checked_piece l from (length out) ≡ Checked.Fine
         → WrotePiece (piece_from l.passes l.words l.sheet from (length out)) out new r → PiecePromised (piece_out (PieceAnswer.Written r.at r.next) new)
     unfolding writes_piece piece_from
-    piece-written r new e w =
-        piece-promised l from out
+    piece_written_lem r new e w =
+        piece_promised l from out
         (leaves r.at r.next (piece_in l from (length out)) w.wrote w.next
         ∙ sym (ap (λ (c : Checked). piece_leaves c (piece_in l from (length out)) out) e))
       where

@@ -11,11 +11,11 @@ use lib.ListN.{length, get_or}
 use Rattle.sheet.specs.Words.{hole_of, ambiguous_of}
 use Rattle.sheet.specs.Cells.{cell_of}
 use Rattle.sheet.specs.Blank.{BlankPlaces}
-use Rattle.sheet.proofs.Blank.{blank_label, blank-place}
+use Rattle.sheet.proofs.Blank.{blank_label, blank_place}
 use Rattle.report_line.specs.Result.{label_line, cell_line, hole_line, ambiguous_line, sheet_line, line_count, joined}
 use Rattle.report.specs.Asked.{blank_at, BlankLines, SomeAsked, Skipped, line_at, piece_from}
-use Rattle.report.proofs.Numbered.{sheet-line}
-use Rattle.report.proofs.Writing.{Cutting, cutting-length, piece-more}
+use Rattle.report.proofs.Numbered.{sheet_line_lem}
+use Rattle.report.proofs.Writing.{Cutting, cutting_length, piece_more}
 
 -- ---- a place that holds nothing
 
@@ -54,7 +54,7 @@ blank_line passes words sheet k h e = go (leb k passes) refl e
     go true a b = absurd (let z : ◌≡◌ {A = ℕ} 0 1 = cc in omega arith)
     go false a b =
         let l = leb-false k passes a in
-        sym (sheet-line passes words sheet k (k - 1) (λ z. omega arith) refl (omega arith))
+        sym (sheet_line_lem passes words sheet k (k - 1) (λ z. omega arith) refl (omega arith))
         ∙ blank_sheet sheet (k - 1 - passes) (omega arith) (eqb-true _ 0 b)
 
 -- a line of a place, by what the place holds
@@ -76,20 +76,20 @@ lines_of passes sheet k n h s = record { blank = one }
     one a p q =
         let u = s.upto in
         let d : (a - 1 - passes) % 16384 ≡ (k - 1 - passes) % 16384 + (a - k) = omega arith in
-        sym (blank_late passes sheet a (omega arith)) ∙ eq-eqb (get_or sheet ((a - 1 - passes) % 16384) 0) 0 (rw d (blank-place sheet ((k - 1 - passes) % 16384) n s.blank (a - k) (omega arith)))
+        sym (blank_late passes sheet a (omega arith)) ∙ eq-eqb (get_or sheet ((a - 1 - passes) % 16384) 0) 0 (rw d (blank_place sheet ((k - 1 - passes) % 16384) n s.blank (a - k) (omega arith)))
 
 -- ---- a piece without them
 
 module _ (passes : ℕ) (words sheet : List ℕ) where
-  one-skipped : (k room : ℕ) → k < line_count passes → 128 ≤ room → line_at passes words sheet k ≡ [] → piece_from passes words sheet k room ≡ piece_from passes words sheet (suc k) room
-  one-skipped k room h r e = piece-more passes words sheet k room h r ∙ rw e (ap (piece_from passes words sheet (suc k)) (omega arith))
+  one_skipped : (k room : ℕ) → k < line_count passes → 128 ≤ room → line_at passes words sheet k ≡ [] → piece_from passes words sheet k room ≡ piece_from passes words sheet (suc k) room
+  one_skipped k room h r e = piece_more passes words sheet k room h r ∙ rw e (ap (piece_from passes words sheet (suc k)) (omega arith))
 
-  all-skipped : (n k room : ℕ) → k + n < line_count passes → 128 ≤ room → ((a : ℕ) → k ≤ a → a < k + n → line_at passes words sheet a ≡ [])
+  all_skipped : (n k room : ℕ) → k + n < line_count passes → 128 ≤ room → ((a : ℕ) → k ≤ a → a < k + n → line_at passes words sheet a ≡ [])
       → piece_from passes words sheet k room ≡ piece_from passes words sheet (k + n) room
-  all-skipped zero k room h r e = ap (λ (j : ℕ). piece_from passes words sheet j room) (omega arith)
-  all-skipped (suc n) k room h r e =
-      one-skipped k room (omega arith) r (e k (omega arith) (omega arith))
-      ∙ all-skipped n (suc k) room (omega arith) r (λ a p q. e a (omega arith) (omega arith))
+  all_skipped zero k room h r e = ap (λ (j : ℕ). piece_from passes words sheet j room) (omega arith)
+  all_skipped (suc n) k room h r e =
+      one_skipped k room (omega arith) r (e k (omega arith) (omega arith))
+      ∙ all_skipped n (suc k) room (omega arith) r (λ a p q. e a (omega arith) (omega arith))
       ∙ ap (λ (j : ℕ). piece_from passes words sheet j room) (omega arith)
 
   skipped : (from : ℕ) (old new : List ℕ) (at k r : ℕ) → Cutting passes words sheet from old new at k → 128 ≤ length old - at → Skipped passes words sheet k r
@@ -104,23 +104,23 @@ module _ (passes : ℕ) (words sheet : List ℕ) where
         size = f.size;
         fits = f.fits;
         is = f.is;
-        rest = f.rest ∙ ap (joined f.done) (all-skipped (r - k) k (length old - at) (omega arith) wide (λ a p q. s.empty a p (omega arith)) ∙ rw e refl);
+        rest = f.rest ∙ ap (joined f.done) (all_skipped (r - k) k (length old - at) (omega arith) wide (λ a p q. s.empty a p (omega arith)) ∙ rw e refl);
       }
 
   pub skipped_at : (from : ℕ) (old : List ℕ) → SomeAsked passes words sheet from → (new : List ℕ) (at k : ℕ) → Cutting passes words sheet from old new at k → 128 ≤ length new - at
       → {r : ℕ} → Skipped passes words sheet k r → Cutting passes words sheet from old new at r
-  skipped_at from old a new at k f wide s = skipped from old new at k _ f (rw (← cutting-length passes words sheet from old a new at k f) wide) s
+  skipped_at from old a new at k f wide s = skipped from old new at k _ f (rw (← cutting_length passes words sheet from old a new at k f) wide) s
 
   -- ---- the walk over them
 
-  pub skip-start : (k : ℕ) → k < line_count passes → Skipped passes words sheet k k
-  skip-start k h = record { from = omega arith; below = h; empty = λ a p q. absurd-of a p q }
+  pub skip_start : (k : ℕ) → k < line_count passes → Skipped passes words sheet k k
+  skip_start k h = record { from = omega arith; below = h; empty = λ a p q. absurd_of a p q }
     where
-      absurd-of : (a : ℕ) → k ≤ a → a < k → line_at passes words sheet a ≡ []
-      absurd-of a p q = absurd (omega arith)
+      absurd_of : (a : ℕ) → k ≤ a → a < k → line_at passes words sheet a ≡ []
+      absurd_of a p q = absurd (omega arith)
 
-  pub skip-lines : (k r n m : ℕ) → Skipped passes words sheet k r → BlankLines passes sheet r n → r ≤ m → m ≤ r + n → m < line_count passes → Skipped passes words sheet k m
-  skip-lines k r n m s b h u below =
+  pub skip_lines : (k r n m : ℕ) → Skipped passes words sheet k r → BlankLines passes sheet r n → r ≤ m → m ≤ r + n → m < line_count passes → Skipped passes words sheet k m
+  skip_lines k r n m s b h u below =
       let l = s.from in
       record { from = omega arith; below = below; empty = λ a p q. go a p q (dec_lt a r) }
     where

@@ -16,7 +16,7 @@ use Rattle.report.specs.WriteResult.{TextLent, text_of, input_short, over_limit,
 use Rattle.report_words.specs.Outcomes.{stats_in}
 use Rattle.sizes.specs.Sizes.{outcome_size}
 use Rattle.report.specs.Asked.{AllLent, text_from, CornersAsked, corners_checked}
-use Rattle.report.proofs.Laws.{from-the-start}
+use Rattle.report.proofs.Laws.{from_the_start}
 
 -- ---- 7: eleven words an outcome, by a division that cannot overflow
 
@@ -31,88 +31,88 @@ shorter n passes = go (ltb n (outcome_size * passes)) refl
 
 module _ (l : TextLent) where
   -- 7, by its two tests
-  pub words-short : length l.words / outcome_size < l.passes → true ≡ input_short l
+  pub words_short : length l.words / outcome_size < l.passes → true ≡ input_short l
   unfolding input_short
-  words-short h = holds _ _ (sym (shorter (length l.words) l.passes) ∙ lt-ltb _ _ h)
+  words_short h = holds _ _ (sym (shorter (length l.words) l.passes) ∙ lt-ltb _ _ h)
 
   pub sheet_short : l.passes ≤ length l.words / outcome_size → ltb (length l.sheet) 16384 ≡ input_short l
   unfolding input_short
   sheet_short h = fails _ _ _ (sym (shorter (length l.words) l.passes) ∙ le-ltb _ _ h) refl
 
-  pub all-lent : input_short l ≡ false → AllLent l.passes l.words l.sheet
+  pub all_lent : input_short l ≡ false → AllLent l.passes l.words l.sheet
   unfolding input_short
-  all-lent e =
+  all_lent e =
       let r = or_false_both (ltb (length l.words) (outcome_size * l.passes)) _ e in
       record { words_long = ltb-false _ _ r.0; sheet_long = ltb-false _ _ r.1 }
 
-  pub corners-few : over_limit l ≡ false → l.corners ≤ 1024
+  pub corners_few : over_limit l ≡ false → l.corners ≤ 1024
   unfolding over_limit
-  corners-few e = ltb-false _ _ (or_false_both (ltb 16 l.passes) _ e).1
+  corners_few e = ltb-false _ _ (or_false_both (ltb 16 l.passes) _ e).1
 
-  pub corners-asked : input_short l ≡ false → over_limit l ≡ false → CornersAsked l.corners l.sheet
-  corners-asked e f = record { few = corners-few f; long = (all-lent e).sheet_long }
+  pub corners_asked : input_short l ≡ false → over_limit l ≡ false → CornersAsked l.corners l.sheet
+  corners_asked e f = record { few = corners_few f; long = (all_lent e).sheet_long }
 
   -- the whole text
   module _ (room : ℕ) where
     same_text : ltb room (length (text_from l.passes l.words l.sheet 0)) ≡ ltb room (length (text_of l))
     unfolding text_from
-    same_text = ap (λ (t : List ℕ). ltb room (length t)) (from-the-start (stats_in l.passes l.words) l.sheet)
+    same_text = ap (λ (t : List ℕ). ltb room (length t)) (from_the_start (stats_in l.passes l.words) l.sheet)
 
-    pub text-7 : input_short l ≡ true → Checked.Refused Refusal.BufferTooShort ≡ checked_text l room
+    pub text_7 : input_short l ≡ true → Checked.Refused Refusal.BufferTooShort ≡ checked_text l room
     unfolding checked_text
-    text-7 e = refused _ _ _ (sym (holds _ _ e))
+    text_7 e = refused _ _ _ (sym (holds _ _ e))
 
     module _ (a : input_short l ≡ false) where
-      pub text-7-too : ltb room (length (text_from l.passes l.words l.sheet 0)) ≡ true → Checked.Refused Refusal.BufferTooShort ≡ checked_text l room
+      pub text_7_too : ltb room (length (text_from l.passes l.words l.sheet 0)) ≡ true → Checked.Refused Refusal.BufferTooShort ≡ checked_text l room
       unfolding checked_text
-      text-7-too e = refused _ _ _ (sym (fails _ _ _ a (sym (sym same_text ∙ e))))
+      text_7_too e = refused _ _ _ (sym (fails _ _ _ a (sym (sym same_text ∙ e))))
 
       module _ (b : ltb room (length (text_from l.passes l.words l.sheet 0)) ≡ false) where
         long : (input_short l || ltb room (length (text_of l))) ≡ false
         long = or_false _ _ a (sym same_text ∙ b)
 
-        pub text-2 : over_limit l ≡ true → Checked.Refused Refusal.OverLimit ≡ checked_text l room
+        pub text_2 : over_limit l ≡ true → Checked.Refused Refusal.OverLimit ≡ checked_text l room
         unfolding checked_text checked_rest
-        text-2 e = passed _ _ _ _ long (refused _ _ _ e)
+        text_2 e = passed _ _ _ _ long (refused _ _ _ e)
 
         module _ (c : over_limit l ≡ false) where
-          pub text-3 : wild l ≡ true → Checked.Refused Refusal.OutOfRange ≡ checked_text l room
+          pub text_3 : wild l ≡ true → Checked.Refused Refusal.OutOfRange ≡ checked_text l room
           unfolding checked_text checked_rest
-          text-3 e = passed _ _ _ _ long (passed _ _ _ _ c (refused _ _ _ e))
+          text_3 e = passed _ _ _ _ long (passed _ _ _ _ c (refused _ _ _ e))
 
-          pub text-rest : wild l ≡ false → corners_checked l.corners l.sheet ≡ checked_text l room
+          pub text_rest : wild l ≡ false → corners_checked l.corners l.sheet ≡ checked_text l room
           unfolding checked_text checked_rest
-          text-rest e = passed _ _ _ _ long (passed _ _ _ _ c (passed _ _ _ _ e refl))
+          text_rest e = passed _ _ _ _ long (passed _ _ _ _ c (passed _ _ _ _ e refl))
 
   -- a piece
   module _ (from room : ℕ) where
-    pub piece-7 : input_short l ≡ true → Checked.Refused Refusal.BufferTooShort ≡ checked_piece l from room
+    pub piece_7 : input_short l ≡ true → Checked.Refused Refusal.BufferTooShort ≡ checked_piece l from room
     unfolding checked_piece
-    piece-7 e = refused _ _ _ (sym (holds _ _ e))
+    piece_7 e = refused _ _ _ (sym (holds _ _ e))
 
     module _ (a : input_short l ≡ false) where
-      pub piece-7-too : room < 128 → Checked.Refused Refusal.BufferTooShort ≡ checked_piece l from room
+      pub piece_7_too : room < 128 → Checked.Refused Refusal.BufferTooShort ≡ checked_piece l from room
       unfolding checked_piece
-      piece-7-too h = refused _ _ _ (sym (fails _ _ _ a (sym (lt-ltb _ _ h))))
+      piece_7_too h = refused _ _ _ (sym (fails _ _ _ a (sym (lt-ltb _ _ h))))
 
       module _ (b : 128 ≤ room) where
         wide : (input_short l || ltb room 128) ≡ false
         wide = or_false _ _ a (le-ltb _ _ b)
 
-        pub piece-2 : over_limit l ≡ true → Checked.Refused Refusal.OverLimit ≡ checked_piece l from room
+        pub piece_2 : over_limit l ≡ true → Checked.Refused Refusal.OverLimit ≡ checked_piece l from room
         unfolding checked_piece
-        piece-2 e = passed _ _ _ _ wide (refused _ _ _ e)
+        piece_2 e = passed _ _ _ _ wide (refused _ _ _ e)
 
         module _ (c : over_limit l ≡ false) where
-          pub piece-3 : wild l ≡ true → Checked.Refused Refusal.OutOfRange ≡ checked_piece l from room
+          pub piece_3 : wild l ≡ true → Checked.Refused Refusal.OutOfRange ≡ checked_piece l from room
           unfolding checked_piece
-          piece-3 e = passed _ _ _ _ wide (passed _ _ _ _ c (refused _ _ _ (sym (holds _ _ e))))
+          piece_3 e = passed _ _ _ _ wide (passed _ _ _ _ c (refused _ _ _ (sym (holds _ _ e))))
 
           module _ (d : wild l ≡ false) where
-            pub piece-3-too : line_count l.passes < from → Checked.Refused Refusal.OutOfRange ≡ checked_piece l from room
+            pub piece_3_too : line_count l.passes < from → Checked.Refused Refusal.OutOfRange ≡ checked_piece l from room
             unfolding checked_piece
-            piece-3-too h = passed _ _ _ _ wide (passed _ _ _ _ c (refused _ _ _ (sym (fails _ _ _ d (sym (lt-ltb _ _ h))))))
+            piece_3_too h = passed _ _ _ _ wide (passed _ _ _ _ c (refused _ _ _ (sym (fails _ _ _ d (sym (lt-ltb _ _ h))))))
 
-            pub piece-rest : from ≤ line_count l.passes → corners_checked l.corners l.sheet ≡ checked_piece l from room
+            pub piece_rest : from ≤ line_count l.passes → corners_checked l.corners l.sheet ≡ checked_piece l from room
             unfolding checked_piece
-            piece-rest h = passed _ _ _ _ wide (passed _ _ _ _ c (passed _ _ _ _ (or_false _ _ d (le-ltb _ _ h)) refl))
+            piece_rest h = passed _ _ _ _ wide (passed _ _ _ _ c (passed _ _ _ _ (or_false _ _ d (le-ltb _ _ h)) refl))

@@ -52,27 +52,27 @@ module _ (stats : List PassStats) (sheet : List ℕ) where
   unfolding result_line
   behind n = lines_same (result_line stats sheet) (after_heading stats sheet) 1 0 n (λ a b l m e. let d : a ≡ suc b = omega arith in rw d)
 
-  pass-part : lines_from (after_heading stats sheet) 0 (length stats) ≡ pass_lines stats
-  pass-part = lines_same (after_heading stats sheet) (pass_line_at stats) 0 0 (length stats) (λ a b l m e. same a b (omega arith) (omega arith)) ∙ pass_lines_lem stats
+  pass_part : lines_from (after_heading stats sheet) 0 (length stats) ≡ pass_lines stats
+  pass_part = lines_same (after_heading stats sheet) (pass_line_at stats) 0 0 (length stats) (λ a b l m e. same a b (omega arith) (omega arith)) ∙ pass_lines_lem stats
     where
       same : (a b : ℕ) → a ≡ b → a < length stats → after_heading stats sheet a ≡ pass_line_at stats b
       same a b e l = ap (λ (t : Bool). cond t (pass_line_at stats a) (sheet_line sheet (a - length stats))) (lt-ltb a (length stats) l) ∙ ap (pass_line_at stats) e
 
-  sheet-part : (n : ℕ) → lines_from (after_heading stats sheet) (length stats) n ≡ lines_from (sheet_line sheet) 0 n
-  sheet-part n = lines_same (after_heading stats sheet) (sheet_line sheet) (length stats) 0 n (λ a b l m e. same a b (omega arith) l)
+  sheet_part : (n : ℕ) → lines_from (after_heading stats sheet) (length stats) n ≡ lines_from (sheet_line sheet) 0 n
+  sheet_part n = lines_same (after_heading stats sheet) (sheet_line sheet) (length stats) 0 n (λ a b l m e. same a b (omega arith) l)
     where
       same : (a b : ℕ) → a - length stats ≡ b → length stats ≤ a → after_heading stats sheet a ≡ sheet_line sheet b
       same a b e l = ap (λ (t : Bool). cond t (pass_line_at stats a) (sheet_line sheet (a - length stats))) (le-ltb a (length stats) l) ∙ ap (sheet_line sheet) e
 
-  pub from-the-start : result_from stats sheet 0 ≡ result_text stats sheet
+  pub from_the_start : result_from stats sheet 0 ≡ result_text stats sheet
   unfolding result_from result_text result_line
-  from-the-start =
+  from_the_start =
       ap (lines_from (result_line stats sheet) 0) whole
       ∙ one_line_more (result_line stats sheet) 0 (length stats + 49152)
       ∙ ap (λ (l : List ℕ). heading ++ l)
       (behind (length stats + 49152)
       ∙ lines_split (after_heading stats sheet) 0 (length stats) 49152
-      ∙ ap₂ ◌++◌ pass-part (ap (λ (k : ℕ). lines_from (after_heading stats sheet) k 49152) none ∙ sheet-part 49152 ∙ sheet_lines_lem sheet))
+      ∙ ap₂ ◌++◌ pass_part (ap (λ (k : ℕ). lines_from (after_heading stats sheet) k 49152) none ∙ sheet_part 49152 ∙ sheet_lines_lem sheet))
     where
       whole : line_count (length stats) - 0 ≡ line_count (length stats)
       whole = omega arith
@@ -91,22 +91,22 @@ module _ (stats : List PassStats) (sheet : List ℕ) where
     of = cut (result_line stats sheet) (line_count (length stats) - k) k room
 
     -- a piece and the text from its next line on are the text from its first line on
-    pub piece-joins : (p : Piece) → p ≡ result_piece stats sheet k room → p.text ++ result_from stats sheet p.next ≡ result_from stats sheet k
+    pub piece_joins : (p : Piece) → p ≡ result_piece stats sheet k room → p.text ++ result_from stats sheet p.next ≡ result_from stats sheet k
     unfolding result_from
-    piece-joins p e = rw (e, ← left (result_piece stats sheet k room).next of.from) of.joins
+    piece_joins p e = rw (e, ← left (result_piece stats sheet k room).next of.from) of.joins
 
     -- it is some lines long, if there is room for any line, and goes no further than the last
-    pub piece-moves : k < line_count (length stats) → 128 ≤ room → k < (result_piece stats sheet k room).next
+    pub piece_moves : k < line_count (length stats) → 128 ≤ room → k < (result_piece stats sheet k room).next
     unfolding result_piece
-    piece-moves h r = moves (result_line stats sheet) (line_count (length stats) - k) k room (omega arith) r
+    piece_moves h r = moves (result_line stats sheet) (line_count (length stats) - k) k room (omega arith) r
 
-    pub piece-stops : k ≤ line_count (length stats) → (result_piece stats sheet k room).next ≤ line_count (length stats)
-    piece-stops h = let high = of.upto in omega arith
+    pub piece_stops : k ≤ line_count (length stats) → (result_piece stats sheet k room).next ≤ line_count (length stats)
+    piece_stops h = let high = of.upto in omega arith
 
     -- and no longer than the room, if no line is longer than 127 bytes
-    pub piece-fits : ((i : ℕ) → i < line_count (length stats) → length (result_line stats sheet i) ≤ 127) → length (result_piece stats sheet k room).text ≤ room
+    pub piece_fits : ((i : ℕ) → i < line_count (length stats) → length (result_line stats sheet i) ≤ 127) → length (result_piece stats sheet k room).text ≤ room
     unfolding result_piece
-    piece-fits short = fits (result_line stats sheet) (line_count (length stats) - k) k room (λ i a b. short i (omega arith))
+    piece_fits short = fits (result_line stats sheet) (line_count (length stats) - k) k room (λ i a b. short i (omega arith))
 
 -- ---- what is lent
 

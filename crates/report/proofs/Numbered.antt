@@ -12,7 +12,7 @@ use Rattle.passes.specs.declared.FillStats.{FillStats}
 use Rattle.passes.specs.declared.LocalStats.{LocalStats}
 use Rattle.report_line.specs.Result.{grow_line, fill_line, local_lines, pass_line, pass_line_at, sheet_line, lines_from, result_line, line_count, result_from}
 use Rattle.report_line.specs.Like.{GrowLike, FillLike, LocalLike}
-use Rattle.report_line.proofs.Like.{grow-like, fill_like, local-like}
+use Rattle.report_line.proofs.Like.{grow_like, fill_like, local_like}
 use Rattle.line_form.specs.Written.{Wrote}
 use Rattle.report_words.specs.Outcomes.{word_at, stats_at, stats_in}
 use Rattle.report_words.specs.Asked.{grow_at, fill_at, local_at}
@@ -23,30 +23,30 @@ use Rattle.report_words.proofs.Outcomes.{stats_length, pass_line_at_lem}
 -- ---- pass lines, by the outcome's kind
 
 module _ (words : List ℕ) (k kind : ℕ) (e : kind ≡ word_at words k 0) where
-  pub grow-kind : kind ≡ 0 → grow_line (grow_at words k) ≡ pass_line (stats_at words k)
+  pub grow_kind : kind ≡ 0 → grow_line (grow_at words k) ≡ pass_line (stats_at words k)
   unfolding pass_line stats_at
-  grow-kind h = rw (eq-eqb (word_at words k 0) 0 (sym e ∙ h))
+  grow_kind h = rw (eq-eqb (word_at words k 0) 0 (sym e ∙ h))
 
-  pub fill-kind : kind ≡ 1 → fill_line (fill_at words k) ≡ pass_line (stats_at words k)
+  pub fill_kind : kind ≡ 1 → fill_line (fill_at words k) ≡ pass_line (stats_at words k)
   unfolding pass_line stats_at
-  fill-kind h = rw (ne_eqb (word_at words k 0) 0 (λ z. omega arith), eq-eqb (word_at words k 0) 1 (sym e ∙ h))
+  fill_kind h = rw (ne_eqb (word_at words k 0) 0 (λ z. omega arith), eq-eqb (word_at words k 0) 1 (sym e ∙ h))
 
-  pub local-kind : (kind ≡ 0 → ⊥) → (kind ≡ 1 → ⊥) → local_lines (local_at words k) ≡ pass_line (stats_at words k)
+  pub local_kind : (kind ≡ 0 → ⊥) → (kind ≡ 1 → ⊥) → local_lines (local_at words k) ≡ pass_line (stats_at words k)
   unfolding pass_line stats_at
-  local-kind a b = rw (ne_eqb (word_at words k 0) 0 (λ z. a (e ∙ z)), ne_eqb (word_at words k 0) 1 (λ z. b (e ∙ z)))
+  local_kind a b = rw (ne_eqb (word_at words k 0) 0 (λ z. a (e ∙ z)), ne_eqb (word_at words k 0) 1 (λ z. b (e ∙ z)))
 
 -- ---- an outcome whose line is as long, by the kind
 
 module _ (words : List ℕ) (k kind : ℕ) (e : kind ≡ word_at words k 0) where
-  pub grow-counted : (r : GrowStats) (n : ℕ) (old new : List ℕ) → GrowLike (grow_at words k) r → kind ≡ 0 → Wrote (grow_line r) old new n → n ≡ length (pass_line (stats_at words k))
-  grow-counted r n old new l h w = w.count ∙ grow-like (grow_at words k) r l ∙ ap (λ (t : List ℕ). length t) (grow-kind words k kind e h)
+  pub grow_counted : (r : GrowStats) (n : ℕ) (old new : List ℕ) → GrowLike (grow_at words k) r → kind ≡ 0 → Wrote (grow_line r) old new n → n ≡ length (pass_line (stats_at words k))
+  grow_counted r n old new l h w = w.count ∙ grow_like (grow_at words k) r l ∙ ap (λ (t : List ℕ). length t) (grow_kind words k kind e h)
 
-  pub fill-counted : (r : FillStats) (n : ℕ) (old new : List ℕ) → FillLike (fill_at words k) r → kind ≡ 1 → Wrote (fill_line r) old new n → n ≡ length (pass_line (stats_at words k))
-  fill-counted r n old new l h w = w.count ∙ fill_like (fill_at words k) r l ∙ ap (λ (t : List ℕ). length t) (fill-kind words k kind e h)
+  pub fill_counted : (r : FillStats) (n : ℕ) (old new : List ℕ) → FillLike (fill_at words k) r → kind ≡ 1 → Wrote (fill_line r) old new n → n ≡ length (pass_line (stats_at words k))
+  fill_counted r n old new l h w = w.count ∙ fill_like (fill_at words k) r l ∙ ap (λ (t : List ℕ). length t) (fill_kind words k kind e h)
 
   pub local_counted : (r : LocalStats) (n : ℕ) (old new : List ℕ) → LocalLike (local_at words k) r → (kind ≡ 0 → ⊥) → (kind ≡ 1 → ⊥) → Wrote (local_lines r) old new n
       → n ≡ length (pass_line (stats_at words k))
-  local_counted r n old new l h i w = w.count ∙ local-like (local_at words k) r l ∙ ap (λ (t : List ℕ). length t) (local-kind words k kind e h i)
+  local_counted r n old new l h i w = w.count ∙ local_like (local_at words k) r l ∙ ap (λ (t : List ℕ). length t) (local_kind words k kind e h i)
 
 -- ---- lines by their numbers
 
@@ -66,31 +66,31 @@ module _ (passes : ℕ) (words sheet : List ℕ) where
       ∙ sym (after j)
       ∙ ap (line_at passes words sheet) (sym (one_less k j h e))
 
-  pub sheet-line : (k j : ℕ) → (k ≡ 0 → ⊥) → j ≡ k - 1 → passes ≤ j → sheet_line sheet (j - passes) ≡ line_at passes words sheet k
-  sheet-line k j h e l =
+  pub sheet_line_lem : (k j : ℕ) → (k ≡ 0 → ⊥) → j ≡ k - 1 → passes ≤ j → sheet_line sheet (j - passes) ≡ line_at passes words sheet k
+  sheet_line_lem k j h e l =
       sym (ap (λ (t : Bool). cond t (pass_line_at (stats_in passes words) j) (sheet_line sheet (j - passes))) (le-ltb j passes l))
       ∙ sym (after j)
       ∙ ap (line_at passes words sheet) (sym (one_less k j h e))
 
   -- ---- the text line by line
 
-  as-lines : (k : ℕ) → text_from passes words sheet k ≡ lines_from (line_at passes words sheet) k (line_count passes - k)
+  as_lines : (k : ℕ) → text_from passes words sheet k ≡ lines_from (line_at passes words sheet) k (line_count passes - k)
   unfolding text_from result_from line_at
-  as-lines k = ap (λ (n : ℕ). lines_from (result_line (stats_in passes words) sheet) k (line_count n - k)) (stats_length words 0 passes)
+  as_lines k = ap (λ (n : ℕ). lines_from (result_line (stats_in passes words) sheet) k (line_count n - k)) (stats_length words 0 passes)
 
-  pub text-more : (k : ℕ) → k < line_count passes → text_from passes words sheet k ≡ line_at passes words sheet k ++ text_from passes words sheet (suc k)
-  text-more k h =
+  pub text_more : (k : ℕ) → k < line_count passes → text_from passes words sheet k ≡ line_at passes words sheet k ++ text_from passes words sheet (suc k)
+  text_more k h =
       let n = line_count passes - suc k in
       let e : line_count passes - k ≡ suc n = omega arith in
-      as-lines k
+      as_lines k
       ∙ ap (lines_from (line_at passes words sheet) k) e
       ∙ one_line_more (line_at passes words sheet) k n
-      ∙ ap (λ (l : List ℕ). line_at passes words sheet k ++ l) (sym (as-lines (suc k)))
+      ∙ ap (λ (l : List ℕ). line_at passes words sheet k ++ l) (sym (as_lines (suc k)))
 
-  pub text-ends : (k : ℕ) → line_count passes ≤ k → text_from passes words sheet k ≡ []
-  text-ends k h =
+  pub text_ends : (k : ℕ) → line_count passes ≤ k → text_from passes words sheet k ≡ []
+  text_ends k h =
       let e : line_count passes - k ≡ 0 = omega arith in
-      as-lines k ∙ ap (lines_from (line_at passes words sheet) k) e ∙ no_lines (line_at passes words sheet) k
+      as_lines k ∙ ap (lines_from (line_at passes words sheet) k) e ∙ no_lines (line_at passes words sheet) k
 
 -- ---- the length of the text against a room
 
@@ -105,10 +105,10 @@ measuring_start passes words sheet room = record { upto = omega arith; same = re
 module _ (passes : ℕ) (words sheet : List ℕ) (room left k : ℕ) (m : Measuring passes words sheet room left k) where
   module _ (n : ℕ) (h : k < line_count passes) (e : n ≡ length (line_at passes words sheet k)) where
     longer : length (text_from passes words sheet k) ≡ n + length (text_from passes words sheet (suc k))
-    longer = ap length (text-more passes words sheet k h) ∙ length-append (line_at passes words sheet k) _ ∙ ap (λ (a : ℕ). a + length (text_from passes words sheet (suc k))) (sym e)
+    longer = ap length (text_more passes words sheet k h) ∙ length-append (line_at passes words sheet k) _ ∙ ap (λ (a : ℕ). a + length (text_from passes words sheet (suc k))) (sym e)
 
-    pub measuring-more : n ≤ left → Measuring passes words sheet room (left - n) (k + 1)
-    measuring-more l =
+    pub measuring_more : n ≤ left → Measuring passes words sheet room (left - n) (k + 1)
+    measuring_more l =
         let d : k + 1 ≡ suc k = omega arith in
         record { upto = omega arith; same = rw d (go (ltb left (n + length (text_from passes words sheet (suc k)))) refl ∙ ap (ltb left) (sym longer) ∙ m.same) }
       where
@@ -116,8 +116,8 @@ module _ (passes : ℕ) (words sheet : List ℕ) (room left k : ℕ) (m : Measur
         go true q = let b = ltb-true left _ q in lt-ltb (left - n) (length (text_from passes words sheet (suc k))) (omega arith) ∙ sym q
         go false q = let b = ltb-false left _ q in le-ltb (left - n) (length (text_from passes words sheet (suc k))) (omega arith) ∙ sym q
 
-    pub measuring-short : left < n → true ≡ ltb room (length (text_from passes words sheet 0))
-    measuring-short l = let q = longer in sym (lt-ltb left (length (text_from passes words sheet k)) (omega arith)) ∙ m.same
+    pub measuring_short : left < n → true ≡ ltb room (length (text_from passes words sheet 0))
+    measuring_short l = let q = longer in sym (lt-ltb left (length (text_from passes words sheet k)) (omega arith)) ∙ m.same
 
-  pub measuring-end : line_count passes ≤ k → false ≡ ltb room (length (text_from passes words sheet 0))
-  measuring-end h = sym (le-ltb left (length (text_from passes words sheet k)) (rw (text-ends passes words sheet k h) (omega arith))) ∙ m.same
+  pub measuring_end : line_count passes ≤ k → false ≡ ltb room (length (text_from passes words sheet 0))
+  measuring_end h = sym (le-ltb left (length (text_from passes words sheet k)) (rw (text_ends passes words sheet k h) (omega arith))) ∙ m.same

@@ -13,31 +13,31 @@ module _ (l : TextLent) where
   -- ---- the whole text
 
   module _ (out : List ℕ) where
-    text-leaves : (c : Checked) → text_said (text_leaves c l out).answer ≡ checked_due c (whole (length (text_of l)) ∷ [])
+    text_leaves_lem : (c : Checked) → text_said (text_leaves c l out).answer ≡ checked_due c (whole (length (text_of l)) ∷ [])
     unfolding text_said checked_due
-    text-leaves (Checked.Refused r) = refl
-    text-leaves Checked.Fine = refl
+    text_leaves_lem (Checked.Refused r) = refl
+    text_leaves_lem Checked.Fine = refl
 
-    text-said : (t : TextOut) → t ≡ writes_text l out → text_said t.answer ≡ text_due l out
+    text_said_lem : (t : TextOut) → t ≡ writes_text l out → text_said t.answer ≡ text_due l out
     unfolding writes_text text_due
-    text-said t e = ap (λ (w : TextOut). text_said w.answer) e ∙ text-leaves (checked_text l (length out))
+    text_said_lem t e = ap (λ (w : TextOut). text_said w.answer) e ∙ text_leaves_lem (checked_text l (length out))
 
     -- both promises of `write_result` at once
-    pub text-promised : {t : TextOut} → t ≡ writes_text l out → (t ≡ writes_text l out) × (text_said t.answer ≡ text_due l out)
-    text-promised e = (e, text-said _ e)
+    pub text_promised : {t : TextOut} → t ≡ writes_text l out → (t ≡ writes_text l out) × (text_said t.answer ≡ text_due l out)
+    text_promised e = (e, text_said_lem _ e)
 
   -- ---- a piece
 
   module _ (from : ℕ) (out : List ℕ) where
-    piece-leaves : (c : Checked) (p : Piece) → piece_said (piece_leaves c p out).answer ≡ checked_due c (piece_values p)
+    piece_leaves_lem : (c : Checked) (p : Piece) → piece_said (piece_leaves c p out).answer ≡ checked_due c (piece_values p)
     unfolding piece_said checked_due
-    piece-leaves (Checked.Refused r) p = refl
-    piece-leaves Checked.Fine p = refl
+    piece_leaves_lem (Checked.Refused r) p = refl
+    piece_leaves_lem Checked.Fine p = refl
 
-    piece-said : (t : PieceOut) → t ≡ writes_piece l from out → piece_said t.answer ≡ piece_due l from out
+    piece_said_lem : (t : PieceOut) → t ≡ writes_piece l from out → piece_said t.answer ≡ piece_due l from out
     unfolding writes_piece piece_due
-    piece-said t e = ap (λ (w : PieceOut). piece_said w.answer) e ∙ piece-leaves (checked_piece l from (length out)) (piece_in l from (length out))
+    piece_said_lem t e = ap (λ (w : PieceOut). piece_said w.answer) e ∙ piece_leaves_lem (checked_piece l from (length out)) (piece_in l from (length out))
 
     -- both promises of `write_result_piece` at once
-    pub piece-promised : {t : PieceOut} → t ≡ writes_piece l from out → (t ≡ writes_piece l from out) × (piece_said t.answer ≡ piece_due l from out)
-    piece-promised e = (e, piece-said _ e)
+    pub piece_promised : {t : PieceOut} → t ≡ writes_piece l from out → (t ≡ writes_piece l from out) × (piece_said t.answer ≡ piece_due l from out)
+    piece_promised e = (e, piece_said_lem _ e)

@@ -20,7 +20,7 @@ use Rattle.report_words.specs.Outcomes.{word_at, counts_at, stats_at, stats_in}
 use Rattle.report_words.specs.Asked.{grow_at, fill_at, local_at, Tame}
 use Rattle.report.specs.Asked.{PassAsked, LineAsked, AllAsked, SomeAsked, WrotePiece, line_at, text_from, piece_from}
 use Rattle.report.specs.declared.lines.PieceEnd.{PieceEnd}
-use Rattle.report.proofs.Numbered.{grow-kind, fill-kind, local-kind, pass_line_holds, sheet-line, text-more, text-ends}
+use Rattle.report.proofs.Numbered.{grow_kind, fill_kind, local_kind, pass_line_holds, sheet_line_lem, text_more, text_ends}
 use Rattle.report_words.proofs.Outcomes.{stats_length, residual_finite, unmatched_few}
 
 -- ---- pass lines, by the outcome's kind
@@ -31,32 +31,32 @@ few words k t =
 
 module _ (words : List ℕ) (k kind : ℕ) (e : kind ≡ word_at words k 0) where
   module _ (s : GrowStats) (q : s ≡ grow_at words k) (h : kind ≡ 0) where
-    pub grow-line : grow_line s ≡ pass_line (stats_at words k)
-    grow-line = ap grow_line q ∙ grow-kind words k kind e h
+    pub grow_line_lem : grow_line s ≡ pass_line (stats_at words k)
+    grow_line_lem = ap grow_line q ∙ grow_kind words k kind e h
 
-    pub grow-asked : (out : List ℕ) → PassAsked words k out → GrowAsked s out
-    grow-asked out a = record { few = rw q (few words k a.outcome.tame); room = same_room _ _ out grow-line a.room }
+    pub grow_asked : (out : List ℕ) → PassAsked words k out → GrowAsked s out
+    grow_asked out a = record { few = rw q (few words k a.outcome.tame); room = same_room _ _ out grow_line_lem a.room }
 
   module _ (s : FillStats) (q : s ≡ fill_at words k) (h : kind ≡ 1) where
-    pub fill-line : fill_line s ≡ pass_line (stats_at words k)
-    fill-line = ap fill_line q ∙ fill-kind words k kind e h
+    pub fill_line_lem : fill_line s ≡ pass_line (stats_at words k)
+    fill_line_lem = ap fill_line q ∙ fill_kind words k kind e h
 
-    pub fill-asked : (out : List ℕ) → PassAsked words k out → FillAsked s out
-    fill-asked out a =
-        record { few = rw q (omega (arith, a.outcome.tame.attached)); rounds = rw q (omega (arith, a.outcome.tame.rounds)); room = same_room _ _ out fill-line a.room }
+    pub fill_asked : (out : List ℕ) → PassAsked words k out → FillAsked s out
+    fill_asked out a =
+        record { few = rw q (omega (arith, a.outcome.tame.attached)); rounds = rw q (omega (arith, a.outcome.tame.rounds)); room = same_room _ _ out fill_line_lem a.room }
 
   module _ (s : LocalStats) (q : s ≡ local_at words k) (h : kind ≡ 0 → ⊥) (i : kind ≡ 1 → ⊥) where
-    pub local-line : local_lines s ≡ pass_line (stats_at words k)
-    local-line = ap local_lines q ∙ local-kind words k kind e h i
+    pub local_line_lem : local_lines s ≡ pass_line (stats_at words k)
+    local_line_lem = ap local_lines q ∙ local_kind words k kind e h i
 
-    pub local-asked : (out : List ℕ) → PassAsked words k out → LocalAsked s out
-    local-asked out a =
+    pub local_asked : (out : List ℕ) → PassAsked words k out → LocalAsked s out
+    local_asked out a =
         record {
           few = rw q (few words k a.outcome.tame);
           rounds = rw q (omega (arith, a.outcome.tame.rounds));
           finite = λ x d. residual_finite words k a.outcome.tame x (ap (λ (t : LocalStats). t.residual) (sym q) ∙ d);
           unmatched = λ n d. omega (arith, unmatched_few words k a.outcome.tame n (ap (λ (t : LocalStats). t.unmatched) (sym q) ∙ d));
-          room = same_room _ _ out local-line a.room;
+          room = same_room _ _ out local_line_lem a.room;
         }
 
 -- ---- the whole text
@@ -76,25 +76,25 @@ module _ (passes : ℕ) (words sheet old new : List ℕ) (at k : ℕ) (a : AllAs
   whole_length : at + length (text_from passes words sheet k) ≡ length (text_from passes words sheet 0)
   whole_length = let s = f.size in let l = ap length f.whole in let m = length-append f.done (text_from passes words sheet k) in omega arith
 
-  pub filling-fits : at ≤ length old
-  filling-fits = let r = a.room in let w = whole_length in omega arith
+  pub filling_fits : at ≤ length old
+  filling_fits = let r = a.room in let w = whole_length in omega arith
 
-  pub filling-length : length new ≡ length old
-  filling-length = front_length f.done old new at f.size filling-fits f.is
+  pub filling_length : length new ≡ length old
+  filling_length = front_length f.done old new at f.size filling_fits f.is
 
   module _ (h : k < line_count passes) where
-    pub line-fits : at + length (line_at passes words sheet k) ≤ length old
-    line-fits =
+    pub line_fits : at + length (line_at passes words sheet k) ≤ length old
+    line_fits =
         let r = a.room in
         let w = whole_length in
-        let l = ap length (text-more passes words sheet k h) in
+        let l = ap length (text_more passes words sheet k h) in
         let m = length-append (line_at passes words sheet k) (text_from passes words sheet (suc k)) in
         omega arith
 
-    pub filling-asked : LineAsked passes words sheet k (take (length new - at) (drop at new))
-    filling-asked =
-        let l = line-fits in
-        let n = filling-length in
+    pub filling_asked : LineAsked passes words sheet k (take (length new - at) (drop at new))
+    filling_asked =
+        let l = line_fits in
+        let n = filling_length in
         let d = length-drop at new in
         rw (part new at) (record { sound = a.sound; below = h; room = omega arith })
 
@@ -108,24 +108,24 @@ module _ (passes : ℕ) (words sheet old new : List ℕ) (at k : ℕ) (a : AllAs
           upto = omega arith;
           done = f.done ++ line_at passes words sheet k;
           size = length-append f.done (line_at passes words sheet k) ∙ omega arith;
-          is = one_more f.done old new at f.size filling-fits f.is (line_at passes words sheet k) rest n w;
+          is = one_more f.done old new at f.size filling_fits f.is (line_at passes words sheet k) rest n w;
           whole =
               rw d (append_assoc f.done (line_at passes words sheet k) (text_from passes words sheet (suc k))
-              ∙ ap (λ (l : List ℕ). f.done ++ l) (sym (text-more passes words sheet k h))
+              ∙ ap (λ (l : List ℕ). f.done ++ l) (sym (text_more passes words sheet k h))
               ∙ f.whole);
         }
 
   pub filling_end : line_count passes ≤ k → Wrote (text_from passes words sheet 0) old new at
   filling_end h =
-      let e : f.done ≡ text_from passes words sheet 0 = sym (append-nil f.done) ∙ ap (λ (l : List ℕ). f.done ++ l) (sym (text-ends passes words sheet k h)) ∙ f.whole in
+      let e : f.done ≡ text_from passes words sheet 0 = sym (append-nil f.done) ∙ ap (λ (l : List ℕ). f.done ++ l) (sym (text_ends passes words sheet k h)) ∙ f.whole in
       rw (← e) (record { count = sym f.size; part = f.is })
 
 -- ---- a piece
 
 module _ (passes : ℕ) (words sheet : List ℕ) where
-  as-pieces : (k room : ℕ) → piece_from passes words sheet k room ≡ piece_of (line_at passes words sheet) (line_count passes - k) k room
+  as_pieces : (k room : ℕ) → piece_from passes words sheet k room ≡ piece_of (line_at passes words sheet) (line_count passes - k) k room
   unfolding piece_from result_piece line_at
-  as-pieces k room = ap (λ (n : ℕ). piece_of (result_line (stats_in passes words) sheet) (line_count n - k) k room) (stats_length words 0 passes)
+  as_pieces k room = ap (λ (n : ℕ). piece_of (result_line (stats_in passes words) sheet) (line_count n - k) k room) (stats_length words 0 passes)
 
   step : (line : ℕ → List ℕ) (n m k room : ℕ) → m ≡ suc n → 128 ≤ room → piece_of line m k room ≡ joined (line k) (piece_of line n (suc k) (room - length (line k)))
   unfolding piece_of
@@ -140,18 +140,18 @@ module _ (passes : ℕ) (words sheet : List ℕ) where
   unfolding piece_of
   none line n k room e = rw e
 
-  pub piece-more : (k room : ℕ) → k < line_count passes → 128 ≤ room
+  pub piece_more : (k room : ℕ) → k < line_count passes → 128 ≤ room
       → piece_from passes words sheet k room ≡ joined (line_at passes words sheet k) (piece_from passes words sheet (suc k) (room - length (line_at passes words sheet k)))
-  piece-more k room h r =
-      as-pieces k room
+  piece_more k room h r =
+      as_pieces k room
       ∙ step (line_at passes words sheet) (line_count passes - suc k) (line_count passes - k) k room (omega arith) r
-      ∙ ap (joined (line_at passes words sheet k)) (sym (as-pieces (suc k) (room - length (line_at passes words sheet k))))
+      ∙ ap (joined (line_at passes words sheet k)) (sym (as_pieces (suc k) (room - length (line_at passes words sheet k))))
 
-  pub piece-full : (k room : ℕ) → room < 128 → piece_from passes words sheet k room ≡ ending k
-  piece-full k room h = as-pieces k room ∙ full (line_at passes words sheet) (line_count passes - k) k room h
+  pub piece_full : (k room : ℕ) → room < 128 → piece_from passes words sheet k room ≡ ending k
+  piece_full k room h = as_pieces k room ∙ full (line_at passes words sheet) (line_count passes - k) k room h
 
-  pub piece-ends : (k room : ℕ) → line_count passes ≤ k → piece_from passes words sheet k room ≡ ending k
-  piece-ends k room h = as-pieces k room ∙ none (line_at passes words sheet) (line_count passes - k) k room (omega arith)
+  pub piece_ends : (k room : ℕ) → line_count passes ≤ k → piece_from passes words sheet k room ≡ ending k
+  piece_ends k room h = as_pieces k room ∙ none (line_at passes words sheet) (line_count passes - k) k room (omega arith)
 
 -- so far: the lines from the first of the piece up to line k, in order, and after them what was there; the rest of the piece starts at line k
 pub record Cutting (passes : ℕ) (words sheet : List ℕ) (from : ℕ) (old new : List ℕ) (at k : ℕ) : Type 0 where
@@ -163,39 +163,39 @@ pub record Cutting (passes : ℕ) (words sheet : List ℕ) (from : ℕ) (old new
   pub rest : piece_from passes words sheet from (length old) ≡ joined done (piece_from passes words sheet k (length old - at))
 
 module _ (passes : ℕ) (words sheet : List ℕ) (from : ℕ) (old : List ℕ) (a : SomeAsked passes words sheet from) where
-  pub cutting-start : Cutting passes words sheet from old old 0 from
-  cutting-start =
+  pub cutting_start : Cutting passes words sheet from old old 0 from
+  cutting_start =
       let e : length old - 0 ≡ length old = omega arith in
       record { upto = a.upto; done = []; size = refl; fits = omega arith; is = refl; rest = rw e }
 
   module _ (new : List ℕ) (at k : ℕ) (f : Cutting passes words sheet from old new at k) where
-    pub cutting-length : length new ≡ length old
-    cutting-length = front_length f.done old new at f.size f.fits f.is
+    pub cutting_length : length new ≡ length old
+    cutting_length = front_length f.done old new at f.size f.fits f.is
 
     -- it ends here
-    cutting-end : piece_from passes words sheet k (length old - at) ≡ ending k → (r : PieceEnd) → r.at ≡ at → r.next ≡ k
+    cutting_end : piece_from passes words sheet k (length old - at) ≡ ending k → (r : PieceEnd) → r.at ≡ at → r.next ≡ k
         → WrotePiece (piece_from passes words sheet from (length old)) old new r
-    cutting-end e r p q =
+    cutting_end e r p q =
         rw (f.rest ∙ ap (joined f.done) e)
         (record { wrote = rw (append-nil f.done) (record { count = p ∙ sym f.size; part = f.is }); next = q })
 
-    pub cutting-full : length new - at < 128 → (r : PieceEnd) → r.at ≡ at → r.next ≡ k → WrotePiece (piece_from passes words sheet from (length old)) old new r
-    cutting-full h r p q = let n = cutting-length in cutting-end (piece-full passes words sheet k (length old - at) (omega arith)) r p q
+    pub cutting_full : length new - at < 128 → (r : PieceEnd) → r.at ≡ at → r.next ≡ k → WrotePiece (piece_from passes words sheet from (length old)) old new r
+    cutting_full h r p q = let n = cutting_length in cutting_end (piece_full passes words sheet k (length old - at) (omega arith)) r p q
 
-    pub cutting-last : line_count passes ≤ k → (r : PieceEnd) → r.at ≡ at → r.next ≡ k → WrotePiece (piece_from passes words sheet from (length old)) old new r
-    cutting-last h r p q = cutting-end (piece-ends passes words sheet k (length old - at) h) r p q
+    pub cutting_last : line_count passes ≤ k → (r : PieceEnd) → r.at ≡ at → r.next ≡ k → WrotePiece (piece_from passes words sheet from (length old)) old new r
+    cutting_last h r p q = cutting_end (piece_ends passes words sheet k (length old - at) h) r p q
 
     module _ (h : k < line_count passes) (wide : 128 ≤ length new - at) (short : length (line_at passes words sheet k) ≤ 127) where
-      pub cutting-asked : LineAsked passes words sheet k (take (length new - at) (drop at new))
-      cutting-asked = let d = length-drop at new in rw (part new at) (record { sound = a.sound; below = h; room = omega arith })
+      pub cutting_asked : LineAsked passes words sheet k (take (length new - at) (drop at new))
+      cutting_asked = let d = length-drop at new in rw (part new at) (record { sound = a.sound; below = h; room = omega arith })
 
-      pub cutting-more : (rest : List ℕ) (n : ℕ) → Wrote (line_at passes words sheet k) (take (length new - at) (drop at new)) rest n
+      pub cutting_more : (rest : List ℕ) (n : ℕ) → Wrote (line_at passes words sheet k) (take (length new - at) (drop at new)) rest n
           → Cutting passes words sheet from old (put_mid at (length new - at) new rest) (at + n) (k + 1)
-      cutting-more rest n w =
+      cutting_more rest n w =
           let d : k + 1 ≡ suc k = omega arith in
           let s = f.size in
           let c = w.count in
-          let g = cutting-length in
+          let g = cutting_length in
           let m : length old - (at + n) ≡ length old - at - length (line_at passes words sheet k) = omega arith in
           record {
             upto = omega arith;
@@ -205,7 +205,7 @@ module _ (passes : ℕ) (words sheet : List ℕ) (from : ℕ) (old : List ℕ) (
             is = one_more f.done old new at f.size f.fits f.is (line_at passes words sheet k) rest n w;
             rest =
                 rw (d, m) (f.rest
-                ∙ ap (joined f.done) (piece-more passes words sheet k (length old - at) h (omega arith))
+                ∙ ap (joined f.done) (piece_more passes words sheet k (length old - at) h (omega arith))
                 ∙ again f.done (line_at passes words sheet k) (piece_from passes words sheet (suc k) (length old - at - length (line_at passes words sheet k))));
           }
         where
@@ -215,23 +215,23 @@ module _ (passes : ℕ) (words sheet : List ℕ) (from : ℕ) (old : List ℕ) (
 -- ---- a line by its number
 
 module _ (passes : ℕ) (words sheet : List ℕ) (k : ℕ) where
-  pub heading-is : k ≡ 0 → heading ≡ line_at passes words sheet k
+  pub heading_is : k ≡ 0 → heading ≡ line_at passes words sheet k
   unfolding line_at result_line
-  heading-is e = rw e
+  heading_is e = rw e
 
   module _ (out : List ℕ) (a : LineAsked passes words sheet k out) where
-    pub pass-asked : (j : ℕ) → j ≡ k - 1 → (k ≡ 0 → ⊥) → j < passes → PassAsked words j out
-    pass-asked j e h l =
+    pub pass_asked : (j : ℕ) → j ≡ k - 1 → (k ≡ 0 → ⊥) → j < passes → PassAsked words j out
+    pass_asked j e h l =
         let w = a.sound.all.words_long in
         record {
           outcome = record { has = record { there = omega arith }; tame = a.sound.tame j l };
           room = same_room _ _ out (pass_line_holds passes words sheet k j h e l) a.room;
         }
 
-    pub sheet-asked : (j : ℕ) → j ≡ k - 1 → (k ≡ 0 → ⊥) → passes ≤ j → SheetAsked sheet (j - passes) (sheet_line sheet (j - passes)) out
-    sheet-asked j e h l =
+    pub sheet_asked : (j : ℕ) → j ≡ k - 1 → (k ≡ 0 → ⊥) → passes ≤ j → SheetAsked sheet (j - passes) (sheet_line sheet (j - passes)) out
+    sheet_asked j e h l =
         let b = a.below in
         record {
           on = record { there = a.sound.all.sheet_long; below = omega arith };
-          room = same_room _ _ out (sheet-line passes words sheet k j h e l) a.room;
+          room = same_room _ _ out (sheet_line_lem passes words sheet k j h e l) a.room;
         }

@@ -37,21 +37,21 @@ module _ (done old new : List ℕ) (at : ℕ) (size : length done ≡ at) (fits 
 
 -- two texts with room for both
 module _ (first second old mid : List ℕ) (a : ℕ) (room : length (first ++ second) ≤ length old) (w : Wrote first old mid a) where
-  pub first-room : length first ≤ length old
-  first-room = omega (arith, room, length-append first second)
+  pub first_room : length first ≤ length old
+  first_room = omega (arith, room, length-append first second)
 
   at_most : a ≤ length old
-  at_most = omega (arith, w.count, first-room)
+  at_most = omega (arith, w.count, first_room)
 
-  pub mid-length : length mid ≡ length old
-  mid-length = front_length first old mid a (sym w.count) at_most w.part
+  pub mid_length : length mid ≡ length old
+  mid_length = front_length first old mid a (sym w.count) at_most w.part
 
-  pub second-room : length second ≤ length (take (length mid - a) (drop a mid))
-  second-room = rw (part mid a) (omega (arith, room, length-append first second, w.count, mid-length, length-drop a mid))
+  pub second_room : length second ≤ length (take (length mid - a) (drop a mid))
+  second_room = rw (part mid a) (omega (arith, room, length-append first second, w.count, mid_length, length-drop a mid))
 
-  pub wrote-behind : (rest : List ℕ) (n : ℕ) → Wrote second (take (length mid - a) (drop a mid)) rest n
+  pub wrote_behind : (rest : List ℕ) (n : ℕ) → Wrote second (take (length mid - a) (drop a mid)) rest n
       → Wrote (first ++ second) old (put_mid a (length mid - a) mid rest) (a + n)
-  wrote-behind rest n v =
+  wrote_behind rest n v =
       record {
         count = omega (arith, w.count, v.count, length-append first second);
         part = one_more first old mid a (sym w.count) at_most w.part second rest n v;
@@ -65,8 +65,8 @@ module _ (u : Unmatched) where
   no_line e = ap unmatched_line e
 
   module _ (n : ℕ) (e : u ≡ Unmatched.Count n) where
-    pub count-line : unmatched_line (Unmatched.Count n) ≡ unmatched_line u
-    count-line = ap unmatched_line (sym e)
+    pub count_line : unmatched_line (Unmatched.Count n) ≡ unmatched_line u
+    count_line = ap unmatched_line (sym e)
 
     pub count_held : (out : List ℕ) → UnmatchedAsked u out → n ≤ largest_held
     count_held out a = a.held n e
@@ -76,19 +76,19 @@ module _ (s : LocalStats) (out : List ℕ) (a : LocalAsked s out) where
   unfolding local_lines
   both = a.room
 
-  pub line-asked : LocalLineAsked s out
-  line-asked =
+  pub line_asked : LocalLineAsked s out
+  line_asked =
       record { few = a.few; rounds = a.rounds; finite = a.finite; room = omega (arith, both, length-append (local_line s) (unmatched_line s.unmatched)) }
 
   module _ (mid : List ℕ) (n : ℕ) (w : Wrote (local_line s) out mid n) where
     pub line_within : n ≤ length mid
     line_within =
-        omega (arith, w.count, line-asked.room, mid-length (local_line s) (unmatched_line s.unmatched) out mid n both w)
+        omega (arith, w.count, line_asked.room, mid_length (local_line s) (unmatched_line s.unmatched) out mid n both w)
 
-    pub unmatched-asked : UnmatchedAsked s.unmatched (take (length mid - n) (drop n mid))
-    unmatched-asked = record { held = a.unmatched; room = second-room (local_line s) (unmatched_line s.unmatched) out mid n both w }
+    pub unmatched_asked : UnmatchedAsked s.unmatched (take (length mid - n) (drop n mid))
+    unmatched_asked = record { held = a.unmatched; room = second_room (local_line s) (unmatched_line s.unmatched) out mid n both w }
 
-    pub local-wrote : (rest : List ℕ) (m : ℕ) → Wrote (unmatched_line s.unmatched) (take (length mid - n) (drop n mid)) rest m
+    pub local_wrote : (rest : List ℕ) (m : ℕ) → Wrote (unmatched_line s.unmatched) (take (length mid - n) (drop n mid)) rest m
         → Wrote (local_lines s) out (put_mid n (length mid - n) mid rest) (n + m)
     unfolding local_lines
-    local-wrote rest m v = wrote-behind (local_line s) (unmatched_line s.unmatched) out mid n both w rest m v
+    local_wrote rest m v = wrote_behind (local_line s) (unmatched_line s.unmatched) out mid n both w rest m v

@@ -65,33 +65,33 @@ module _ (n : Counts) (a b c d : ℕ)
 module _ (s : GrowStats) (a b c d : ℕ)
     (ea : unheld_whole a ≡ pos s.counts.attached) (eb : unheld_whole b ≡ pos s.counts.rejected_no_candidate)
     (ec : unheld_whole c ≡ pos s.counts.rejected_ambiguous) (ed : unheld_whole d ≡ pos s.counts.rejected_edge) where
-  grow-rim : (t : Bool) → s.rim ≡ t → printed (grow_form t) (four_counts s.counts []) ≡ grow_line s
+  grow_rim : (t : Bool) → s.rim ≡ t → printed (grow_form t) (four_counts s.counts []) ≡ grow_line s
   unfolding grow_line
-  grow-rim t e = ap (λ (r : Bool). printed (grow_form r) (four_counts s.counts [])) (sym e)
+  grow_rim t e = ap (λ (r : Bool). printed (grow_form r) (four_counts s.counts [])) (sym e)
 
-  pub grow-yes : s.rim ≡ true → form_text (bytes "(grow # # # # yes)\n") (a ∷ b ∷ c ∷ d ∷ []) ≡ grow_line s
+  pub grow_yes : s.rim ≡ true → form_text (bytes "(grow # # # # yes)\n") (a ∷ b ∷ c ∷ d ∷ []) ≡ grow_line s
   unfolding form_text unheld unheld_number
-  grow-yes e = ap (printed (grow_form true)) (four s.counts a b c d ea eb ec ed [] [] refl) ∙ grow-rim true e
+  grow_yes e = ap (printed (grow_form true)) (four s.counts a b c d ea eb ec ed [] [] refl) ∙ grow_rim true e
 
-  pub grow-no : s.rim ≡ false → form_text (bytes "(grow # # # # no)\n") (a ∷ b ∷ c ∷ d ∷ []) ≡ grow_line s
+  pub grow_no : s.rim ≡ false → form_text (bytes "(grow # # # # no)\n") (a ∷ b ∷ c ∷ d ∷ []) ≡ grow_line s
   unfolding form_text unheld unheld_number
-  grow-no e = ap (printed (grow_form false)) (four s.counts a b c d ea eb ec ed [] [] refl) ∙ grow-rim false e
+  grow_no e = ap (printed (grow_form false)) (four s.counts a b c d ea eb ec ed [] [] refl) ∙ grow_rim false e
 
 module _ (s : FillStats) (a b : ℕ) (ea : unheld_whole a ≡ pos s.added) (eb : unheld_whole b ≡ pos s.iterations) where
   two : whole (unheld_whole a) ∷ whole (unheld_whole b) ∷ [] ≡ count s.added ∷ count s.iterations ∷ []
   two = rw (ea, eb)
 
-  fill-rim : (t : Bool) → s.rim ≡ t → printed (fill_form t) (count s.added ∷ count s.iterations ∷ []) ≡ fill_line s
+  fill_rim : (t : Bool) → s.rim ≡ t → printed (fill_form t) (count s.added ∷ count s.iterations ∷ []) ≡ fill_line s
   unfolding fill_line
-  fill-rim t e = ap (λ (r : Bool). printed (fill_form r) (count s.added ∷ count s.iterations ∷ [])) (sym e)
+  fill_rim t e = ap (λ (r : Bool). printed (fill_form r) (count s.added ∷ count s.iterations ∷ [])) (sym e)
 
-  pub fill-yes : s.rim ≡ true → form_text (bytes "(fill # # yes)\n") (a ∷ b ∷ []) ≡ fill_line s
+  pub fill_yes : s.rim ≡ true → form_text (bytes "(fill # # yes)\n") (a ∷ b ∷ []) ≡ fill_line s
   unfolding form_text unheld unheld_number
-  fill-yes e = ap (printed (fill_form true)) two ∙ fill-rim true e
+  fill_yes e = ap (printed (fill_form true)) two ∙ fill_rim true e
 
-  pub fill-no : s.rim ≡ false → form_text (bytes "(fill # # no)\n") (a ∷ b ∷ []) ≡ fill_line s
+  pub fill_no : s.rim ≡ false → form_text (bytes "(fill # # no)\n") (a ∷ b ∷ []) ≡ fill_line s
   unfolding form_text unheld unheld_number
-  fill-no e = ap (printed (fill_form false)) two ∙ fill-rim false e
+  fill_no e = ap (printed (fill_form false)) two ∙ fill_rim false e
 
 module _ (s : LocalStats) (a b c d f : ℕ)
     (ea : unheld_whole a ≡ pos s.counts.attached) (eb : unheld_whole b ≡ pos s.counts.rejected_no_candidate)
@@ -100,28 +100,28 @@ module _ (s : LocalStats) (a b c d f : ℕ)
   five : (rest : List Number) → whole (unheld_whole a) ∷ whole (unheld_whole b) ∷ whole (unheld_whole c) ∷ whole (unheld_whole d) ∷ whole (unheld_whole f) ∷ rest ≡ four_counts s.counts (count s.iterations ∷ rest)
   five rest = four s.counts a b c d ea eb ec ed (whole (unheld_whole f) ∷ rest) (count s.iterations ∷ rest) (rw ef)
 
-  bare-rim : (t : Bool) → s.rim ≡ t → printed (bare_local_form t) (four_counts s.counts (count s.iterations ∷ [])) ≡ bare_local_text s
-  bare-rim t e = ap (λ (r : Bool). printed (bare_local_form r) (four_counts s.counts (count s.iterations ∷ []))) (sym e)
+  bare_rim : (t : Bool) → s.rim ≡ t → printed (bare_local_form t) (four_counts s.counts (count s.iterations ∷ [])) ≡ bare_local_text s
+  bare_rim t e = ap (λ (r : Bool). printed (bare_local_form r) (four_counts s.counts (count s.iterations ∷ []))) (sym e)
 
-  pub bare-yes : s.rim ≡ true → form_text (bytes "(local # # # # # none yes)\n") (a ∷ b ∷ c ∷ d ∷ f ∷ []) ≡ bare_local_text s
+  pub bare_yes : s.rim ≡ true → form_text (bytes "(local # # # # # none yes)\n") (a ∷ b ∷ c ∷ d ∷ f ∷ []) ≡ bare_local_text s
   unfolding form_text unheld unheld_number
-  bare-yes e = ap (printed (bare_local_form true)) (five []) ∙ bare-rim true e
+  bare_yes e = ap (printed (bare_local_form true)) (five []) ∙ bare_rim true e
 
-  pub bare-no : s.rim ≡ false → form_text (bytes "(local # # # # # none no)\n") (a ∷ b ∷ c ∷ d ∷ f ∷ []) ≡ bare_local_text s
+  pub bare_no : s.rim ≡ false → form_text (bytes "(local # # # # # none no)\n") (a ∷ b ∷ c ∷ d ∷ f ∷ []) ≡ bare_local_text s
   unfolding form_text unheld unheld_number
-  bare-no e = ap (printed (bare_local_form false)) (five []) ∙ bare-rim false e
+  bare_no e = ap (printed (bare_local_form false)) (five []) ∙ bare_rim false e
 
   module _ (x : Float) where
-    full-rim : (t : Bool) → s.rim ≡ t → printed (local_form t) (four_counts s.counts (count s.iterations ∷ bits (to_bits binary32 x) ∷ [])) ≡ full_local_text s x
-    full-rim t e = ap (λ (r : Bool). printed (local_form r) (four_counts s.counts (count s.iterations ∷ bits (to_bits binary32 x) ∷ []))) (sym e)
+    full_rim : (t : Bool) → s.rim ≡ t → printed (local_form t) (four_counts s.counts (count s.iterations ∷ bits (to_bits binary32 x) ∷ [])) ≡ full_local_text s x
+    full_rim t e = ap (λ (r : Bool). printed (local_form r) (four_counts s.counts (count s.iterations ∷ bits (to_bits binary32 x) ∷ []))) (sym e)
 
-    pub full-yes : s.rim ≡ true → form_text (bytes "(local # # # # # % yes)\n") (a ∷ b ∷ c ∷ d ∷ f ∷ to_bits binary32 x ∷ []) ≡ full_local_text s x
+    pub full_yes : s.rim ≡ true → form_text (bytes "(local # # # # # % yes)\n") (a ∷ b ∷ c ∷ d ∷ f ∷ to_bits binary32 x ∷ []) ≡ full_local_text s x
     unfolding form_text unheld unheld_number
-    full-yes e = ap (printed (local_form true)) (five (bits (to_bits binary32 x) ∷ [])) ∙ full-rim true e
+    full_yes e = ap (printed (local_form true)) (five (bits (to_bits binary32 x) ∷ [])) ∙ full_rim true e
 
-    pub full-no : s.rim ≡ false → form_text (bytes "(local # # # # # % no)\n") (a ∷ b ∷ c ∷ d ∷ f ∷ to_bits binary32 x ∷ []) ≡ full_local_text s x
+    pub full_no : s.rim ≡ false → form_text (bytes "(local # # # # # % no)\n") (a ∷ b ∷ c ∷ d ∷ f ∷ to_bits binary32 x ∷ []) ≡ full_local_text s x
     unfolding form_text unheld unheld_number
-    full-no e = ap (printed (local_form false)) (five (bits (to_bits binary32 x) ∷ [])) ∙ full-rim false e
+    full_no e = ap (printed (local_form false)) (five (bits (to_bits binary32 x) ∷ [])) ∙ full_rim false e
 
 pub unmatched_form : (n a : ℕ) → unheld_whole a ≡ pos n → form_text (bytes "(unmatched #)\n") (a ∷ []) ≡ unmatched_line (Unmatched.Count n)
 unfolding form_text unheld unheld_number unmatched_line
@@ -130,20 +130,20 @@ unmatched_form n a e = rw e refl
 -- ---- the sheet's lines
 
 module _ (c : Cell) (a b : ℕ) (ea : unheld_whole a ≡ c.i) (eb : unheld_whole b ≡ c.j) where
-  cell-two : (rest more : List Number) → rest ≡ more → whole (unheld_whole a) ∷ whole (unheld_whole b) ∷ rest ≡ cell_numbers c more
-  cell-two rest more e = rw (ea, eb, e)
+  cell_two : (rest more : List Number) → rest ≡ more → whole (unheld_whole a) ∷ whole (unheld_whole b) ∷ rest ≡ cell_numbers c more
+  cell_two rest more e = rw (ea, eb, e)
 
-  pub cell-form : (k d : ℕ) → unheld_whole d ≡ pos k → form_text (bytes "(cell (# #) #)\n") (a ∷ b ∷ d ∷ []) ≡ cell_text c k
+  pub cell_form : (k d : ℕ) → unheld_whole d ≡ pos k → form_text (bytes "(cell (# #) #)\n") (a ∷ b ∷ d ∷ []) ≡ cell_text c k
   unfolding form_text unheld unheld_number
-  cell-form k d ed = ap (printed (bytes "(cell (# #) #)\n")) (cell-two (whole (unheld_whole d) ∷ []) (count k ∷ []) (rw ed))
+  cell_form k d ed = ap (printed (bytes "(cell (# #) #)\n")) (cell_two (whole (unheld_whole d) ∷ []) (count k ∷ []) (rw ed))
 
-  pub hole-form : form_text (bytes "(hole (# #))\n") (a ∷ b ∷ []) ≡ hole_text c
+  pub hole_form : form_text (bytes "(hole (# #))\n") (a ∷ b ∷ []) ≡ hole_text c
   unfolding form_text unheld unheld_number
-  hole-form = ap (printed (bytes "(hole (# #))\n")) (cell-two [] [] refl)
+  hole_form = ap (printed (bytes "(hole (# #))\n")) (cell_two [] [] refl)
 
-  pub ambiguous-form : form_text (bytes "(ambiguous (# #))\n") (a ∷ b ∷ []) ≡ ambiguous_text c
+  pub ambiguous_form : form_text (bytes "(ambiguous (# #))\n") (a ∷ b ∷ []) ≡ ambiguous_text c
   unfolding form_text unheld unheld_number
-  ambiguous-form = ap (printed (bytes "(ambiguous (# #))\n")) (cell-two [] [] refl)
+  ambiguous_form = ap (printed (bytes "(ambiguous (# #))\n")) (cell_two [] [] refl)
 
 pub heading_form : (words : List ℕ) → form_text (bytes "(result 1)\n") words ≡ heading
 unfolding form_text unheld printed
@@ -152,17 +152,17 @@ heading_form words = refl
 -- ---- a line of the sheet by its number
 
 module _ (sheet : List ℕ) (k : ℕ) where
-  pub among-cells : k < 16384 → cell_line sheet k ≡ sheet_line sheet k
+  pub among_cells : k < 16384 → cell_line sheet k ≡ sheet_line sheet k
   unfolding sheet_line
-  among-cells h = rw (lt-ltb k 16384 h)
+  among_cells h = rw (lt-ltb k 16384 h)
 
-  pub among-holes : 16384 ≤ k → k < 32768 → hole_line sheet (k - 16384) ≡ sheet_line sheet k
+  pub among_holes : 16384 ≤ k → k < 32768 → hole_line sheet (k - 16384) ≡ sheet_line sheet k
   unfolding sheet_line
-  among-holes h l = rw (le-ltb k 16384 h, lt-ltb k 32768 l)
+  among_holes h l = rw (le-ltb k 16384 h, lt-ltb k 32768 l)
 
-  pub among-ambiguous : 32768 ≤ k → ambiguous_line sheet (k - 32768) ≡ sheet_line sheet k
+  pub among_ambiguous : 32768 ≤ k → ambiguous_line sheet (k - 32768) ≡ sheet_line sheet k
   unfolding sheet_line
-  among-ambiguous h = rw (le-ltb k 16384 (omega arith), le-ltb k 32768 h)
+  among_ambiguous h = rw (le-ltb k 16384 (omega arith), le-ltb k 32768 h)
 
 -- ---- what is asked and left, by another name of the line
 
@@ -185,41 +185,41 @@ no_nan (fin s m e) h = tt
 
 module _ (c : Cell) (on : OnSheet c) where
   -- i and j arrive as they are
-  same-i : to_z w32 (of_z w32 c.i) ≡ c.i
-  same-i = let l = (line_i c on).small in read_back c.i (omega arith)
+  same_i : to_z w32 (of_z w32 c.i) ≡ c.i
+  same_i = let l = (line_i c on).small in read_back c.i (omega arith)
 
-  same-j : to_z w32 (of_z w32 c.j) ≡ c.j
-  same-j = let l = (line_j c on).small in read_back c.j (omega arith)
+  same_j : to_z w32 (of_z w32 c.j) ≡ c.j
+  same_j = let l = (line_j c on).small in read_back c.j (omega arith)
 
   pub small_i : nat_abs (to_z w32 (of_z w32 c.i)) ≤ 64
-  small_i = rw same-i (line_i c on).small
+  small_i = rw same_i (line_i c on).small
 
   pub small_j : nat_abs (to_z w32 (of_z w32 c.j)) ≤ 64
-  small_j = rw same-j (line_j c on).small
+  small_j = rw same_j (line_j c on).small
 
-  pub held-i : (r : ℕ) → unheld_whole r ≡ to_z w32 (of_z w32 c.i) → unheld_whole r ≡ c.i
-  held-i r e = e ∙ same-i
+  pub held_i : (r : ℕ) → unheld_whole r ≡ to_z w32 (of_z w32 c.i) → unheld_whole r ≡ c.i
+  held_i r e = e ∙ same_i
 
-  pub held-j : (r : ℕ) → unheld_whole r ≡ to_z w32 (of_z w32 c.j) → unheld_whole r ≡ c.j
-  held-j r e = e ∙ same-j
+  pub held_j : (r : ℕ) → unheld_whole r ≡ to_z w32 (of_z w32 c.j) → unheld_whole r ≡ c.j
+  held_j r e = e ∙ same_j
 
 -- ---- a local line by its residual
 
 module _ (s : LocalStats) (out : List ℕ) where
-  pub bare-line : s.residual ≡ LargestResidual.Nothing → bare_local_text s ≡ local_line s
+  pub bare_line : s.residual ≡ LargestResidual.Nothing → bare_local_text s ≡ local_line s
   unfolding local_line
-  bare-line e = ap (λ (x : LargestResidual). local_line_with x s) (sym e)
+  bare_line e = ap (λ (x : LargestResidual). local_line_with x s) (sym e)
 
-  pub bare-asked : LocalLineAsked s out → s.residual ≡ LargestResidual.Nothing → BareAsked s out
-  bare-asked a e = record { few = a.few; rounds = a.rounds; room = same_room _ _ out (bare-line e) a.room }
+  pub bare_asked : LocalLineAsked s out → s.residual ≡ LargestResidual.Nothing → BareAsked s out
+  bare_asked a e = record { few = a.few; rounds = a.rounds; room = same_room _ _ out (bare_line e) a.room }
 
   module _ (x : Float) where
-    pub full-line : s.residual ≡ LargestResidual.Residual x → full_local_text s x ≡ local_line s
+    pub full_line : s.residual ≡ LargestResidual.Residual x → full_local_text s x ≡ local_line s
     unfolding local_line
-    full-line e = ap (λ (y : LargestResidual). local_line_with y s) (sym e)
+    full_line e = ap (λ (y : LargestResidual). local_line_with y s) (sym e)
 
-    pub full-asked : LocalLineAsked s out → s.residual ≡ LargestResidual.Residual x → FullAsked s x out
-    full-asked a e = record { few = a.few; rounds = a.rounds; finite = a.finite x e; room = same_room _ _ out (full-line e) a.room }
+    pub full_asked : LocalLineAsked s out → s.residual ≡ LargestResidual.Residual x → FullAsked s x out
+    full_asked a e = record { few = a.few; rounds = a.rounds; finite = a.finite x e; room = same_room _ _ out (full_line e) a.room }
 
 -- ---- the line of a place, by what the place holds
 
@@ -232,33 +232,33 @@ module _ (sheet : List ℕ) (place : ℕ) where
   unfolding hole_line
   no_hole e = rw e
 
-  pub not-ambiguous : ambiguous_of (get_or sheet place 0) ≡ false → ambiguous_line sheet place ≡ []
+  pub not_ambiguous : ambiguous_of (get_or sheet place 0) ≡ false → ambiguous_line sheet place ≡ []
   unfolding ambiguous_line
-  not-ambiguous e = rw e
+  not_ambiguous e = rw e
 
   module _ (c : Cell) (here : c ≡ cell_of place) where
-    pub cell-is : (k : ℕ) → label_of (get_or sheet place 0) ≡ Label.Corner k → cell_text c k ≡ cell_line sheet place
+    pub cell_is : (k : ℕ) → label_of (get_or sheet place 0) ≡ Label.Corner k → cell_text c k ≡ cell_line sheet place
     unfolding cell_line
-    cell-is k e = ap (λ (d : Cell). label_line d (Label.Corner k)) here ∙ ap (label_line (cell_of place)) (sym e)
+    cell_is k e = ap (λ (d : Cell). label_line d (Label.Corner k)) here ∙ ap (label_line (cell_of place)) (sym e)
 
-    pub hole-is : hole_of (get_or sheet place 0) ≡ true → hole_text c ≡ hole_line sheet place
+    pub hole_is : hole_of (get_or sheet place 0) ≡ true → hole_text c ≡ hole_line sheet place
     unfolding hole_line
-    hole-is e = ap hole_text here ∙ ap (λ (t : Bool). cond t (hole_text (cell_of place)) []) (sym e)
+    hole_is e = ap hole_text here ∙ ap (λ (t : Bool). cond t (hole_text (cell_of place)) []) (sym e)
 
-    pub ambiguous-is : ambiguous_of (get_or sheet place 0) ≡ true → ambiguous_text c ≡ ambiguous_line sheet place
+    pub ambiguous_is : ambiguous_of (get_or sheet place 0) ≡ true → ambiguous_text c ≡ ambiguous_line sheet place
     unfolding ambiguous_line
-    ambiguous-is e = ap ambiguous_text here ∙ ap (λ (t : Bool). cond t (ambiguous_text (cell_of place)) []) (sym e)
+    ambiguous_is e = ap ambiguous_text here ∙ ap (λ (t : Bool). cond t (ambiguous_text (cell_of place)) []) (sym e)
 
     on_sheet_holds : place < 16384 → OnSheet c
     on_sheet_holds h = rw here (cell_on_lem place h)
 
     module _ (out : List ℕ) where
-      pub corner-asked : (k : ℕ) → label_of (get_or sheet place 0) ≡ Label.Corner k → PlaceAsked sheet place (cell_line sheet place) out → CornerAsked c k out
-      corner-asked k e a =
-          record { on = on_sheet_holds a.on.below; small = corner_small (get_or sheet place 0) k e; room = same_room _ _ out (cell-is k e) a.room }
+      pub corner_asked : (k : ℕ) → label_of (get_or sheet place 0) ≡ Label.Corner k → PlaceAsked sheet place (cell_line sheet place) out → CornerAsked c k out
+      corner_asked k e a =
+          record { on = on_sheet_holds a.on.below; small = corner_small (get_or sheet place 0) k e; room = same_room _ _ out (cell_is k e) a.room }
 
-      pub cell-asked : (line text : List ℕ) → text ≡ line → PlaceAsked sheet place line out → CellAsked c text out
-      cell-asked line text e a = record { on = on_sheet_holds a.on.below; room = same_room text line out e a.room }
+      pub cell_asked : (line text : List ℕ) → text ≡ line → PlaceAsked sheet place line out → CellAsked c text out
+      cell_asked line text e a = record { on = on_sheet_holds a.on.below; room = same_room text line out e a.room }
 
 pub place_asked : (sheet : List ℕ) (k place : ℕ) (line text out : List ℕ) → place < 16384 → text ≡ line → LineAsked sheet k line out → PlaceAsked sheet place text out
 place_asked sheet k place line text out h e a =

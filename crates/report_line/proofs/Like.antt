@@ -87,12 +87,12 @@ few : {c r : Counts} → CountsLike c r → Few r
 few l = record { attached = l.attached.held; no_candidate = l.no_candidate.held; ambiguous = l.ambiguous.held; edge = l.edge.held }
 
 module _ (s r : GrowStats) (l : GrowLike s r) where
-  pub grow-like : length (grow_line r) ≡ length (grow_line s)
+  pub grow_like : length (grow_line r) ≡ length (grow_line s)
   unfolding grow_line
-  grow-like = rw l.rim (same_printed (grow_form s.rim) (four_counts r.counts []) (four_counts s.counts []) (like_four s.counts r.counts [] [] l.counts tt))
+  grow_like = rw l.rim (same_printed (grow_form s.rim) (four_counts r.counts []) (four_counts s.counts []) (like_four s.counts r.counts [] [] l.counts tt))
 
-  pub grow-like-asked : (out : List ℕ) → 128 ≤ length out → GrowAsked r out
-  grow-like-asked out h = record { few = few l.counts; room = omega (arith, grow_short r (few l.counts), h) }
+  pub grow_like_asked : (out : List ℕ) → 128 ≤ length out → GrowAsked r out
+  grow_like_asked out h = record { few = few l.counts; room = omega (arith, grow_short r (few l.counts), h) }
 
 module _ (s r : FillStats) (l : FillLike s r) where
   pub fill_like : length (fill_line r) ≡ length (fill_line s)
@@ -100,14 +100,14 @@ module _ (s r : FillStats) (l : FillLike s r) where
   fill_like =
       rw l.rim (same_printed (fill_form s.rim) (count r.added ∷ count r.iterations ∷ []) (count s.added ∷ count s.iterations ∷ []) (like_count l.added, (like_count l.rounds, tt)))
 
-  pub fill-like-asked : (out : List ℕ) → 128 ≤ length out → FillAsked r out
-  fill-like-asked out h =
+  pub fill_like_asked : (out : List ℕ) → 128 ≤ length out → FillAsked r out
+  fill_like_asked out h =
       record { few = l.added.held; rounds = l.rounds.held; room = omega (arith, fill_short r l.added.held l.rounds.held, h) }
 
 module _ (s r : LocalStats) (l : LocalLike s r) where
-  line-like : length (local_line r) ≡ length (local_line s)
+  line_like : length (local_line r) ≡ length (local_line s)
   unfolding local_line
-  line-like = go s.residual r.residual l.residual
+  line_like = go s.residual r.residual l.residual
     where
       five : (ns ms : List Number) → SameLengths ms ns → SameLengths (four_counts r.counts (count r.iterations ∷ ms)) (four_counts s.counts (count s.iterations ∷ ns))
       five ns ms h = like_four s.counts r.counts (count s.iterations ∷ ns) (count r.iterations ∷ ms) l.counts (like_count l.rounds, h)
@@ -119,33 +119,33 @@ module _ (s r : LocalStats) (l : LocalLike s r) where
       go (LargestResidual.Residual x) (LargestResidual.Residual y) h =
           rw l.rim (same_printed (local_form s.rim) _ _ (five (bits (to_bits binary32 x) ∷ []) (bits (to_bits binary32 y) ∷ []) (like_bits (to_bits binary32 y) (to_bits binary32 x), tt)))
 
-  unmatched-like : (a b : Unmatched) → UnmatchedLike a b → length (unmatched_line b) ≡ length (unmatched_line a)
+  unmatched_like : (a b : Unmatched) → UnmatchedLike a b → length (unmatched_line b) ≡ length (unmatched_line a)
   unfolding unmatched_line
-  unmatched-like Unmatched.NoShades Unmatched.NoShades h = refl
-  unmatched-like Unmatched.NoShades (Unmatched.Count m) h = absurd h
-  unmatched-like (Unmatched.Count n) Unmatched.NoShades h = absurd h
-  unmatched-like (Unmatched.Count n) (Unmatched.Count m) h = same_printed (bytes "(unmatched #)\n") (count m ∷ []) (count n ∷ []) (like_count h, tt)
+  unmatched_like Unmatched.NoShades Unmatched.NoShades h = refl
+  unmatched_like Unmatched.NoShades (Unmatched.Count m) h = absurd h
+  unmatched_like (Unmatched.Count n) Unmatched.NoShades h = absurd h
+  unmatched_like (Unmatched.Count n) (Unmatched.Count m) h = same_printed (bytes "(unmatched #)\n") (count m ∷ []) (count n ∷ []) (like_count h, tt)
 
-  pub local-like : length (local_lines r) ≡ length (local_lines s)
+  pub local_like : length (local_lines r) ≡ length (local_lines s)
   unfolding local_lines
-  local-like =
+  local_like =
       length-append (local_line r) (unmatched_line r.unmatched)
-      ∙ omega (arith, length-append (local_line s) (unmatched_line s.unmatched), line-like, unmatched-like s.unmatched r.unmatched l.unmatched)
+      ∙ omega (arith, length-append (local_line s) (unmatched_line s.unmatched), line_like, unmatched_like s.unmatched r.unmatched l.unmatched)
 
-  unmatched-held : (a b : Unmatched) → UnmatchedLike a b → (n : ℕ) → b ≡ Unmatched.Count n → n ≤ largest_held
-  unmatched-held Unmatched.NoShades Unmatched.NoShades h n e = let z : ◌≡◌ {A = ℕ} 0 1 = cc in absurd (omega arith)
-  unmatched-held Unmatched.NoShades (Unmatched.Count m) h n e = absurd h
-  unmatched-held (Unmatched.Count a) Unmatched.NoShades h n e = absurd h
-  unmatched-held (Unmatched.Count a) (Unmatched.Count m) h n e = let same : m ≡ n = cc in rw (← same) h.held
+  unmatched_held : (a b : Unmatched) → UnmatchedLike a b → (n : ℕ) → b ≡ Unmatched.Count n → n ≤ largest_held
+  unmatched_held Unmatched.NoShades Unmatched.NoShades h n e = let z : ◌≡◌ {A = ℕ} 0 1 = cc in absurd (omega arith)
+  unmatched_held Unmatched.NoShades (Unmatched.Count m) h n e = absurd h
+  unmatched_held (Unmatched.Count a) Unmatched.NoShades h n e = absurd h
+  unmatched_held (Unmatched.Count a) (Unmatched.Count m) h n e = let same : m ≡ n = cc in rw (← same) h.held
 
-  pub local-like-asked : (out : List ℕ) → 128 ≤ length out → LocalAsked r out
-  local-like-asked out h =
+  pub local_like_asked : (out : List ℕ) → 128 ≤ length out → LocalAsked r out
+  local_like_asked out h =
       record {
         few = few l.counts;
         rounds = l.rounds.held;
         finite = λ x e. go s.residual r.residual l.residual x e;
-        unmatched = unmatched-held s.unmatched r.unmatched l.unmatched;
-        room = omega (arith, local_short r (few l.counts) l.rounds.held (unmatched-held s.unmatched r.unmatched l.unmatched), h);
+        unmatched = unmatched_held s.unmatched r.unmatched l.unmatched;
+        room = omega (arith, local_short r (few l.counts) l.rounds.held (unmatched_held s.unmatched r.unmatched l.unmatched), h);
       }
     where
       go : (a b : LargestResidual) → ResidualLike a b → (x : Float) → b ≡ LargestResidual.Residual x → is_finite x ≡ true

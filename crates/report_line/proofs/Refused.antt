@@ -39,8 +39,8 @@ refused_short r line h =
 -- ---- what its writer asks and leaves
 
 module _ (r : Refusal) (line a b : ℕ) (e : unheld_whole a ≡ pos (number_of r)) (f : unheld_whole b ≡ pos line) where
-  pub refused-room : (out : List ℕ) → line ≤ 10000000 → 128 ≤ length out → length (form_text (bytes "(refused # #)\n") (a ∷ b ∷ [])) ≤ length out
-  refused-room out h k = omega (arith, ap length (refused_form r line a b e f), refused_short r line h, k)
+  pub refused_room : (out : List ℕ) → line ≤ 10000000 → 128 ≤ length out → length (form_text (bytes "(refused # #)\n") (a ∷ b ∷ [])) ≤ length out
+  refused_room out h k = omega (arith, ap length (refused_form r line a b e f), refused_short r line h, k)
 
-  pub refused-wrote : (old new : List ℕ) (n : ℕ) → Wrote (form_text (bytes "(refused # #)\n") (a ∷ b ∷ [])) old new n → Wrote (refused_text r line) old new n
-  refused-wrote old new n w = subst (λ (t : List ℕ). Wrote t old new n) (refused_form r line a b e f) w
+  pub refused_wrote : (old new : List ℕ) (n : ℕ) → Wrote (form_text (bytes "(refused # #)\n") (a ∷ b ∷ [])) old new n → Wrote (refused_text r line) old new n
+  refused_wrote old new n w = subst (λ (t : List ℕ). Wrote t old new n) (refused_form r line a b e f) w

@@ -60,17 +60,17 @@ local_line_short s h r = go s.residual s.rim
     full : Float → List Number
     full x = four_counts s.counts (count s.iterations ∷ bits (to_bits binary32 x) ∷ [])
 
-    bare-wide : Wide bare
-    bare-wide = four_wide s.counts (count s.iterations ∷ []) h (count_wide _ r, tt)
+    bare_wide : Wide bare
+    bare_wide = four_wide s.counts (count s.iterations ∷ []) h (count_wide _ r, tt)
 
-    full-wide : (x : Float) → Wide (full x)
-    full-wide x = four_wide s.counts (count s.iterations ∷ bits (to_bits binary32 x) ∷ []) h (count_wide _ r, (bits_wide (to_bits binary32 x), tt))
+    full_wide : (x : Float) → Wide (full x)
+    full_wide x = four_wide s.counts (count s.iterations ∷ bits (to_bits binary32 x) ∷ []) h (count_wide _ r, (bits_wide (to_bits binary32 x), tt))
 
     go : (x : LargestResidual) (t : Bool) → length (local_line_with x (record { counts = s.counts; iterations = s.iterations; residual = x; rim = t; unmatched = s.unmatched })) ≤ 78
-    go LargestResidual.Nothing true = let l : _ ≤ 27 + 9 * 5 = printed_wide (bare_local_form true) bare bare-wide in omega arith
-    go LargestResidual.Nothing false = let l : _ ≤ 26 + 9 * 5 = printed_wide (bare_local_form false) bare bare-wide in omega arith
-    go (LargestResidual.Residual x) true = let l : _ ≤ 24 + 9 * 6 = printed_wide (local_form true) (full x) (full-wide x) in omega arith
-    go (LargestResidual.Residual x) false = let l : _ ≤ 23 + 9 * 6 = printed_wide (local_form false) (full x) (full-wide x) in omega arith
+    go LargestResidual.Nothing true = let l : _ ≤ 27 + 9 * 5 = printed_wide (bare_local_form true) bare bare_wide in omega arith
+    go LargestResidual.Nothing false = let l : _ ≤ 26 + 9 * 5 = printed_wide (bare_local_form false) bare bare_wide in omega arith
+    go (LargestResidual.Residual x) true = let l : _ ≤ 24 + 9 * 6 = printed_wide (local_form true) (full x) (full_wide x) in omega arith
+    go (LargestResidual.Residual x) false = let l : _ ≤ 23 + 9 * 6 = printed_wide (local_form false) (full x) (full_wide x) in omega arith
 
 unmatched_short : (u : Unmatched) → ((n : ℕ) → u ≡ Unmatched.Count n → n ≤ largest_held) → length (unmatched_line u) ≤ 23
 unfolding unmatched_line slots
@@ -95,30 +95,30 @@ corner_small w k e = go (w % 16384) (omega arith) e
     go (suc n) l d = let z : n ≡ k = cc in omega arith
 
 module _ (c : Cell) (on : OnSheet c) where
-  pub label-short : (l : Label) → ((k : ℕ) → l ≡ Label.Corner k → k < 16384) → length (label_line c l) ≤ 127
+  pub label_short : (l : Label) → ((k : ℕ) → l ≡ Label.Corner k → k < 16384) → length (label_line c l) ≤ 127
   unfolding slots
-  label-short Label.Unlabelled h = omega arith
-  label-short (Label.Corner k) h =
+  label_short Label.Unlabelled h = omega arith
+  label_short (Label.Corner k) h =
       let small = h k refl in
       let i = (line_i c on).small in
       let j = (line_j c on).small in
       let l : _ ≤ 15 + 7 * 3 = printed_length (bytes "(cell (# #) #)\n") (cell_numbers c (count k ∷ [])) (omega arith, (omega arith, (omega arith, tt))) in omega arith
 
-  pub hole-short : (t : Bool) → length (cond t (printed (bytes "(hole (# #))\n") (cell_numbers c [])) []) ≤ 127
+  pub hole_short : (t : Bool) → length (cond t (printed (bytes "(hole (# #))\n") (cell_numbers c [])) []) ≤ 127
   unfolding slots
-  hole-short true =
+  hole_short true =
       let i = (line_i c on).small in
       let j = (line_j c on).small in
       let l : _ ≤ 13 + 7 * 2 = printed_length (bytes "(hole (# #))\n") (cell_numbers c []) (omega arith, (omega arith, tt)) in omega arith
-  hole-short false = omega arith
+  hole_short false = omega arith
 
-  pub ambiguous-short : (t : Bool) → length (cond t (printed (bytes "(ambiguous (# #))\n") (cell_numbers c [])) []) ≤ 127
+  pub ambiguous_short : (t : Bool) → length (cond t (printed (bytes "(ambiguous (# #))\n") (cell_numbers c [])) []) ≤ 127
   unfolding slots
-  ambiguous-short true =
+  ambiguous_short true =
       let i = (line_i c on).small in
       let j = (line_j c on).small in
       let l : _ ≤ 18 + 7 * 2 = printed_length (bytes "(ambiguous (# #))\n") (cell_numbers c []) (omega arith, (omega arith, tt)) in omega arith
-  ambiguous-short false = omega arith
+  ambiguous_short false = omega arith
 
 pub sheet_short : (sheet : List ℕ) (k : ℕ) → k < 49152 → length (sheet_line sheet k) ≤ 127
 unfolding sheet_line cell_line hole_line ambiguous_line
@@ -126,6 +126,6 @@ sheet_short sheet k h = go (ltb k 16384) (ltb k 32768) refl refl
   where
     go : (a b : Bool) → ltb k 16384 ≡ a → ltb k 32768 ≡ b
         → length (cond a (cell_line sheet k) (cond b (hole_line sheet (k - 16384)) (ambiguous_line sheet (k - 32768)))) ≤ 127
-    go true b p q = label-short (cell_of k) (cell_on_lem k (ltb-true k 16384 p)) (label_of (get_or sheet k 0)) (corner_small (get_or sheet k 0))
-    go false true p q = let l = ltb-true k 32768 q in hole-short (cell_of (k - 16384)) (cell_on_lem (k - 16384) (omega arith)) (hole_of (get_or sheet (k - 16384) 0))
-    go false false p q = ambiguous-short (cell_of (k - 32768)) (cell_on_lem (k - 32768) (omega arith)) (ambiguous_of (get_or sheet (k - 32768) 0))
+    go true b p q = label_short (cell_of k) (cell_on_lem k (ltb-true k 16384 p)) (label_of (get_or sheet k 0)) (corner_small (get_or sheet k 0))
+    go false true p q = let l = ltb-true k 32768 q in hole_short (cell_of (k - 16384)) (cell_on_lem (k - 16384) (omega arith)) (hole_of (get_or sheet (k - 16384) 0))
+    go false false p q = ambiguous_short (cell_of (k - 32768)) (cell_on_lem (k - 32768) (omega arith)) (ambiguous_of (get_or sheet (k - 32768) 0))

@@ -22,8 +22,8 @@ module _ (a r w : ℕ) (e : r ≡ w) where
   pub not_above : r ≤ a → ltb a w ≡ false
   not_above h = le-ltb a w (omega arith)
 
-  pub as-above : ltb a r ≡ ltb a w
-  as-above = ap (ltb a) e
+  pub as_above : ltb a r ≡ ltb a w
+  as_above = ap (ltb a) e
 
 -- ---- a residual
 
@@ -35,37 +35,37 @@ not_finite b = go (dec_le 0x7f80_0000 (b % 0x8000_0000))
     go (no f) = lt-leb 0x7f80_0000 (b % 0x8000_0000) (omega arith) ∙ sym (ap not (finite_bits b (omega arith)))
 
 module _ (words : List ℕ) (k flag : ℕ) (e : flag ≡ word_at words k 6) where
-  pub flag-wild : 1 < flag → true ≡ wild_residual words k
+  pub flag_wild : 1 < flag → true ≡ wild_residual words k
   unfolding wild_residual
-  flag-wild h = holds _ _ (above 1 flag _ e h)
+  flag_wild h = holds _ _ (above 1 flag _ e h)
 
-  pub flag-none : flag ≡ 0 → false ≡ wild_residual words k
+  pub flag_none : flag ≡ 0 → false ≡ wild_residual words k
   unfolding wild_residual
-  flag-none h = fails _ _ _ (not_above 1 flag _ e (omega arith)) (rw (ne_eqb (word_at words k 6) 1 (λ z. omega arith)))
+  flag_none h = fails _ _ _ (not_above 1 flag _ e (omega arith)) (rw (ne_eqb (word_at words k 6) 1 (λ z. omega arith)))
 
-  pub flag-some : flag ≤ 1 → (flag ≡ 0 → ⊥) → leb 0x7f80_0000 (word_at words k 7 % 0x8000_0000) ≡ wild_residual words k
+  pub flag_some : flag ≤ 1 → (flag ≡ 0 → ⊥) → leb 0x7f80_0000 (word_at words k 7 % 0x8000_0000) ≡ wild_residual words k
   unfolding wild_residual
-  flag-some h d =
+  flag_some h d =
       fails _ _ _ (not_above 1 flag _ e h) (rw (eq-eqb (word_at words k 6) 1 (omega arith)) (not_finite (word_at words k 7)))
 
 -- ---- unmatched
 
 module _ (words : List ℕ) (k flag : ℕ) (e : flag ≡ word_at words k 9) where
-  pub shade-wild : 1 < flag → true ≡ wild_unmatched words k
+  pub shade_wild : 1 < flag → true ≡ wild_unmatched words k
   unfolding wild_unmatched
-  shade-wild h = holds _ _ (above 1 flag _ e h)
+  shade_wild h = holds _ _ (above 1 flag _ e h)
 
-  pub shade-none : flag ≡ 0 → (n : ℕ) → n ≡ word_at words k 10 → not (eqb n 0) ≡ wild_unmatched words k
+  pub shade_none : flag ≡ 0 → (n : ℕ) → n ≡ word_at words k 10 → not (eqb n 0) ≡ wild_unmatched words k
   unfolding wild_unmatched
-  shade-none h n u = fails _ _ _ (not_above 1 flag _ e (omega arith)) (rw (eq-eqb (word_at words k 9) 0 (omega arith), u) refl)
+  shade_none h n u = fails _ _ _ (not_above 1 flag _ e (omega arith)) (rw (eq-eqb (word_at words k 9) 0 (omega arith), u) refl)
 
   module _ (h : flag ≤ 1) (d : flag ≡ 0 → ⊥) (kind : ℕ) (g : kind ≡ word_at words k 0) where
     some : (t : Bool) → t ≡ (not (eqb (word_at words k 0) 2) || ltb largest_unmatched (word_at words k 10)) → t ≡ wild_unmatched words k
     unfolding wild_unmatched
     some t q = fails _ _ _ (not_above 1 flag _ e h) (rw (ne_eqb (word_at words k 9) 0 (λ z. d (e ∙ z))) q)
 
-    pub shade-other : (kind ≡ 2 → ⊥) → true ≡ wild_unmatched words k
-    shade-other f = some true (holds _ _ (ap not (ne_eqb (word_at words k 0) 2 (λ z. f (g ∙ z)))))
+    pub shade_other : (kind ≡ 2 → ⊥) → true ≡ wild_unmatched words k
+    shade_other f = some true (holds _ _ (ap not (ne_eqb (word_at words k 0) 2 (λ z. f (g ∙ z)))))
 
-    pub shade-local : kind ≡ 2 → (n : ℕ) → n ≡ word_at words k 10 → ltb largest_unmatched n ≡ wild_unmatched words k
-    shade-local f n u = some (ltb largest_unmatched n) (fails _ _ _ (ap not (eq-eqb (word_at words k 0) 2 (sym g ∙ f))) (ap (ltb largest_unmatched) u))
+    pub shade_local : kind ≡ 2 → (n : ℕ) → n ≡ word_at words k 10 → ltb largest_unmatched n ≡ wild_unmatched words k
+    shade_local f n u = some (ltb largest_unmatched n) (fails _ _ _ (ap not (eq-eqb (word_at words k 0) 2 (sym g ∙ f))) (ap (ltb largest_unmatched) u))

@@ -43,14 +43,14 @@ module _ (shades unmatched kind : ℕ)
   none_passed : shades ≡ 0 → unmatched ≡ 0
   none_passed h = eqb-true unmatched 0 (not-false (eqb unmatched 0) (rw (eq-eqb shades 0 h) at e))
 
-  some-passed : shades ≡ 1 → (not (eqb kind 2) ≡ false) × (ltb largest_unmatched unmatched ≡ false)
-  some-passed h = or_false_both (not (eqb kind 2)) (ltb largest_unmatched unmatched) (rw (ne_eqb shades 0 (λ z. omega arith)) at e)
+  some_passed : shades ≡ 1 → (not (eqb kind 2) ≡ false) × (ltb largest_unmatched unmatched ≡ false)
+  some_passed h = or_false_both (not (eqb kind 2)) (ltb largest_unmatched unmatched) (rw (ne_eqb shades 0 (λ z. omega arith)) at e)
 
   few_passed : shades ≡ 1 → unmatched ≤ largest_unmatched
-  few_passed h = at_most _ _ (some-passed h).1
+  few_passed h = at_most _ _ (some_passed h).1
 
-  by-local : shades ≡ 1 → kind ≡ 2
-  by-local h = eqb-true kind 2 (not-false (eqb kind 2) (some-passed h).0)
+  by_local : shades ≡ 1 → kind ≡ 2
+  by_local h = eqb-true kind 2 (not-false (eqb kind 2) (some_passed h).0)
 
 pub tame : (words : List ℕ) (k : ℕ) → wild_outcome words k ≡ false → Tame words k
 unfolding wild_outcome wild_counts wild_residual wild_unmatched
@@ -78,7 +78,7 @@ tame words k e =
       shades = at_most _ _ shades.0;
       unmatched = few_passed (word_at words k 9) (word_at words k 10) (word_at words k 0) shades.1;
       unshaded = none_passed (word_at words k 9) (word_at words k 10) (word_at words k 0) shades.1;
-      local_alone = by-local (word_at words k 9) (word_at words k 10) (word_at words k 0) shades.1;
+      local_alone = by_local (word_at words k 9) (word_at words k 10) (word_at words k 0) shades.1;
     }
 
 -- ---- the outcomes from a number on
@@ -119,13 +119,13 @@ module _ (words : List ℕ) (k : ℕ) where
   unfolding stats_at
   local_said_lem s e0 e1 e2 e3 e4 e5 er e8 eu = rw (e0, er, eu, e1, e2, e3, e4, e5, e8, bit_read s.rim)
 
-  residual-said : (x : LargestResidual) → FloatOrNone x → word_at words k 6 ≡ flag_of x → word_at words k 7 ≡ bits_of x → residual_at words k ≡ x
-  residual-said LargestResidual.Nothing f e6 e7 = rw e6
-  residual-said (LargestResidual.Residual x) f e6 e7 = rw (e6, e7, of_bits-to_bits binary32 x f)
+  residual_said : (x : LargestResidual) → FloatOrNone x → word_at words k 6 ≡ flag_of x → word_at words k 7 ≡ bits_of x → residual_at words k ≡ x
+  residual_said LargestResidual.Nothing f e6 e7 = rw e6
+  residual_said (LargestResidual.Residual x) f e6 e7 = rw (e6, e7, of_bits-to_bits binary32 x f)
 
-  unmatched-said : (u : Unmatched) → word_at words k 9 ≡ shade_flag u → word_at words k 10 ≡ unmatched_word u → unmatched_at words k ≡ u
-  unmatched-said Unmatched.NoShades e9 e10 = rw e9
-  unmatched-said (Unmatched.Count n) e9 e10 = rw (e9, e10)
+  unmatched_said : (u : Unmatched) → word_at words k 9 ≡ shade_flag u → word_at words k 10 ≡ unmatched_word u → unmatched_at words k ≡ u
+  unmatched_said Unmatched.NoShades e9 e10 = rw e9
+  unmatched_said (Unmatched.Count n) e9 e10 = rw (e9, e10)
 
 -- what stands at an outcome's place
 there : (before after : List ℕ) (k m : ℕ) → length before ≡ outcome_size * k → word_at (before ++ after) k m ≡ get_or after m 0
@@ -159,7 +159,7 @@ decode_encode before after k (fill_stats s) e f = fill_said_lem _ k s (at 0) (at
     at : (m : ℕ) → word_at (before ++ (outcome_words (fill_stats s) ++ after)) k m ≡ get_or (outcome_words (fill_stats s) ++ after) m 0
     at m = there before (outcome_words (fill_stats s) ++ after) k m e
 decode_encode before after k (local_stats s) e f =
-    local_said_lem _ k s (at 0) (at 1) (at 2) (at 3) (at 4) (at 5) (residual-said words k s.residual f (at 6) (at 7)) (at 8) (unmatched-said words k s.unmatched (at 9) (at 10))
+    local_said_lem _ k s (at 0) (at 1) (at 2) (at 3) (at 4) (at 5) (residual_said words k s.residual f (at 6) (at 7)) (at 8) (unmatched_said words k s.unmatched (at 9) (at 10))
   where
     words : List ℕ
     words = before ++ (outcome_words (local_stats s) ++ after)
@@ -183,15 +183,15 @@ finite_pattern b h = go (dec_le 0x7f80_0000 (b % 0x8000_0000))
     go (no f) = omega arith
 
 module _ (words : List ℕ) (k : ℕ) where
-  pub residual-none : yes_at words k 6 ≡ false → LargestResidual.Nothing ≡ residual_at words k
-  residual-none e = rw e
+  pub residual_none : yes_at words k 6 ≡ false → LargestResidual.Nothing ≡ residual_at words k
+  residual_none e = rw e
 
-  pub residual-some : yes_at words k 6 ≡ true → LargestResidual.Residual (of_bits binary32 (word_at words k 7)) ≡ residual_at words k
-  residual-some e = rw e
+  pub residual_some : yes_at words k 6 ≡ true → LargestResidual.Residual (of_bits binary32 (word_at words k 7)) ≡ residual_at words k
+  residual_some e = rw e
 
   -- a residual that passes the check is no NaN
-  pub residual-plain : Tame words k → yes_at words k 6 ≡ true → T (not (nan_bits binary32 (word_at words k 7)))
-  residual-plain w e =
+  pub residual_plain : Tame words k → yes_at words k 6 ≡ true → T (not (nan_bits binary32 (word_at words k 7)))
+  residual_plain w e =
       let one : word_at words k 6 ≡ 1 = flagged (word_at words k 6) w.flag e in
       let low = finite_pattern (word_at words k 7) (w.finite one) in
       pattern (word_at words k 7) (omega arith)
@@ -227,17 +227,17 @@ like_some words k x f e = rw e f
 -- ---- a count for a count, and none for none
 
 module _ (words : List ℕ) (k : ℕ) where
-  pub unmatched-none : yes_at words k 9 ≡ false → Unmatched.NoShades ≡ unmatched_at words k
-  unmatched-none e = rw e
+  pub unmatched_none : yes_at words k 9 ≡ false → Unmatched.NoShades ≡ unmatched_at words k
+  unmatched_none e = rw e
 
-  pub unmatched-some : yes_at words k 9 ≡ true → (n : ℕ) → n ≡ word_at words k 10 → Unmatched.Count n ≡ unmatched_at words k
-  unmatched-some e n h = rw (e, h)
+  pub unmatched_some : yes_at words k 9 ≡ true → (n : ℕ) → n ≡ word_at words k 10 → Unmatched.Count n ≡ unmatched_at words k
+  unmatched_some e n h = rw (e, h)
 
-  pub unmatched-like-none : yes_at words k 9 ≡ false → UnmatchedLike (unmatched_at words k) Unmatched.NoShades
-  unmatched-like-none e = rw e tt
+  pub unmatched_like_none : yes_at words k 9 ≡ false → UnmatchedLike (unmatched_at words k) Unmatched.NoShades
+  unmatched_like_none e = rw e tt
 
-  pub unmatched-like-some : yes_at words k 9 ≡ true → (n : ℕ) → Like (word_at words k 10) n → UnmatchedLike (unmatched_at words k) (Unmatched.Count n)
-  unmatched-like-some e n l = rw e l
+  pub unmatched_like_some : yes_at words k 9 ≡ true → (n : ℕ) → Like (word_at words k 10) n → UnmatchedLike (unmatched_at words k) (Unmatched.Count n)
+  unmatched_like_some e n l = rw e l
 
 -- unmatched of an outcome that passes the check
 pub unmatched_few : (words : List ℕ) (k : ℕ) → Tame words k → (n : ℕ) → unmatched_at words k ≡ Unmatched.Count n → n ≤ largest_unmatched

@@ -26,15 +26,15 @@ pub record Putting (old : List ℕ) (k : ℕ) (eleven new : List ℕ) (m : ℕ) 
   pub is : new ≡ paste old (outcome_size * k) eleven m
 
 module _ (old : List ℕ) (k : ℕ) (eleven : List ℕ) where
-  pub putting-start : HasOutcome old k → length eleven ≡ outcome_size → Putting old k eleven old 0
-  putting-start h f = record { room = h.there; full = f; upto = omega arith; is = paste-zero old (outcome_size * k) eleven }
+  pub putting_start : HasOutcome old k → length eleven ≡ outcome_size → Putting old k eleven old 0
+  putting_start h f = record { room = h.there; full = f; upto = omega arith; is = paste-zero old (outcome_size * k) eleven }
 
   module _ (new : List ℕ) (m : ℕ) (p : Putting old k eleven new m) where
-    pub putting-length : length new ≡ length old
-    putting-length = let r = p.room in let f = p.full in let u = p.upto in ap length p.is ∙ length-paste old (outcome_size * k) eleven m (omega arith) (omega arith)
+    pub putting_length : length new ≡ length old
+    putting_length = let r = p.room in let f = p.full in let u = p.upto in ap length p.is ∙ length-paste old (outcome_size * k) eleven m (omega arith) (omega arith)
 
-    pub putting-more : m < outcome_size → Putting old k eleven (set new (outcome_size * k + m) (get_or eleven m 0)) (m + 1)
-    putting-more h =
+    pub putting_more : m < outcome_size → Putting old k eleven (set new (outcome_size * k + m) (get_or eleven m 0)) (m + 1)
+    putting_more h =
         let r = p.room in
         let f = p.full in
         record {
@@ -44,8 +44,8 @@ module _ (old : List ℕ) (k : ℕ) (eleven : List ℕ) where
           is = rw (add-one m) (ap (λ (l : List ℕ). set l (outcome_size * k + m) (get_or eleven m 0)) p.is ∙ paste-suc old (outcome_size * k) eleven m 0 (omega arith) (omega arith));
         }
 
-    pub putting-end : outcome_size ≤ m → new ≡ put old k eleven
-    putting-end h =
+    pub putting_end : outcome_size ≤ m → new ≡ put old k eleven
+    putting_end h =
         let f = p.full in
         let u = p.upto in
         let e : m ≡ outcome_size = omega arith in
@@ -54,32 +54,32 @@ module _ (old : List ℕ) (k : ℕ) (eleven : List ℕ) where
 -- ---- the eleven words of each kind of outcome
 
 module _ (b : ℕ) where
-  pub grow-words : (s : GrowStats) → b ≡ bit_of s.rim
+  pub grow_words_lem : (s : GrowStats) → b ≡ bit_of s.rim
       → 0 ∷ s.counts.attached ∷ s.counts.rejected_no_candidate ∷ s.counts.rejected_ambiguous ∷ s.counts.rejected_edge ∷ 0 ∷ 0 ∷ 0 ∷ b ∷ 0 ∷ 0 ∷ [] ≡ outcome_words (grow_stats s)
   unfolding outcome_words
-  grow-words s e = rw e refl
+  grow_words_lem s e = rw e refl
 
-  pub fill-words : (s : FillStats) → b ≡ bit_of s.rim → 1 ∷ s.added ∷ 0 ∷ 0 ∷ 0 ∷ s.iterations ∷ 0 ∷ 0 ∷ b ∷ 0 ∷ 0 ∷ [] ≡ outcome_words (fill_stats s)
+  pub fill_words_lem : (s : FillStats) → b ≡ bit_of s.rim → 1 ∷ s.added ∷ 0 ∷ 0 ∷ 0 ∷ s.iterations ∷ 0 ∷ 0 ∷ b ∷ 0 ∷ 0 ∷ [] ≡ outcome_words (fill_stats s)
   unfolding outcome_words
-  fill-words s e = rw e refl
+  fill_words_lem s e = rw e refl
 
-  pub local-words : (s : LocalStats) (f p h n : ℕ) → f ≡ flag_of s.residual → p ≡ bits_of s.residual → b ≡ bit_of s.rim
+  pub local_words_lem : (s : LocalStats) (f p h n : ℕ) → f ≡ flag_of s.residual → p ≡ bits_of s.residual → b ≡ bit_of s.rim
       → h ≡ shade_flag s.unmatched → n ≡ unmatched_word s.unmatched
       → 2 ∷ s.counts.attached ∷ s.counts.rejected_no_candidate ∷ s.counts.rejected_ambiguous ∷ s.counts.rejected_edge ∷ s.iterations
       ∷ f ∷ p ∷ b ∷ h ∷ n ∷ []
       ≡ outcome_words (local_stats s)
-  local-words s f p h n d q e u v = rw (d, q, e, u, v) (sym (local_listed s))
+  local_words_lem s f p h n d q e u v = rw (d, q, e, u, v) (sym (local_listed s))
 
 pub count_fits : (u : Unmatched) → UnmatchedFits u → (n : ℕ) → u ≡ Unmatched.Count n → FitsWord n
 count_fits u f n e = subst UnmatchedFits e f
 
 -- what a pass answers, by its case
 module _ (answer : PassAnswer) (f : AnswerFits answer) where
-  pub grow-fits : (s : GrowStats) → answer ≡ PassAnswer.Grow s → CountsFit s.counts
-  grow-fits s e = subst AnswerFits e f
+  pub grow_fits : (s : GrowStats) → answer ≡ PassAnswer.Grow s → CountsFit s.counts
+  grow_fits s e = subst AnswerFits e f
 
-  pub fill-fits : (s : FillStats) → answer ≡ PassAnswer.Fill s → FillFits s
-  fill-fits s e = subst AnswerFits e f
+  pub fill_fits : (s : FillStats) → answer ≡ PassAnswer.Fill s → FillFits s
+  fill_fits s e = subst AnswerFits e f
 
   pub local_fits : (s : LocalStats) → answer ≡ PassAnswer.Local s → LocalFits s
   local_fits s e = subst AnswerFits e f
@@ -107,12 +107,12 @@ last_stats words k (suc n) j e = ap (λ (l : List PassStats). stats_at words k �
 
 module _ (words : List ℕ) (k : ℕ) (s : PassStats) (h : HasOutcome words k) where
   -- at its place the outcome is read again, if its residual is a value of binary32 or none
-  pub put-read : IsFloat s → stats_at (with_outcome words k s) k ≡ s
-  put-read f = let r = h.there in decode_encode (take (outcome_size * k) words) (drop (outcome_size * k + outcome_size) words) k s (length-take-le (outcome_size * k) words (omega arith)) f
+  pub put_read : IsFloat s → stats_at (with_outcome words k s) k ≡ s
+  put_read f = let r = h.there in decode_encode (take (outcome_size * k) words) (drop (outcome_size * k + outcome_size) words) k s (length-take-le (outcome_size * k) words (omega arith)) f
 
   -- and at the places before what was read there
-  pub put-before : (j : ℕ) → j < k → stats_at (with_outcome words k s) j ≡ stats_at words j
-  put-before j l = same_words (with_outcome words k s) words j (λ m b. word m b)
+  pub put_before_lem : (j : ℕ) → j < k → stats_at (with_outcome words k s) j ≡ stats_at words j
+  put_before_lem j l = same_words (with_outcome words k s) words j (λ m b. word m b)
     where
       word : (m : ℕ) → m < outcome_size → word_at (with_outcome words k s) j m ≡ word_at words j m
       word m b =
@@ -125,4 +125,4 @@ module _ (words : List ℕ) (k : ℕ) (s : PassStats) (h : HasOutcome words k) w
   pub put_last : IsFloat s → stats_in (suc k) (with_outcome words k s) ≡ stats_in k words ++ (s ∷ [])
   put_last f =
       last_stats (with_outcome words k s) 0 k k (omega arith)
-      ∙ ap₂ (λ (l : List PassStats) (t : PassStats). l ++ (t ∷ [])) (same_stats (with_outcome words k s) words 0 k (λ j l m. put-before j (omega arith))) (put-read f)
+      ∙ ap₂ (λ (l : List PassStats) (t : PassStats). l ++ (t ∷ [])) (same_stats (with_outcome words k s) words 0 k (λ j l m. put_before_lem j (omega arith))) (put_read f)

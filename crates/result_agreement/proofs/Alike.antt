@@ -29,12 +29,12 @@ agree_stats (agree_call p (both_refused r) rest) = agree_stats rest
 agree_stats (agree_call p (both_done same) rest) = λ t. same.answer t ∷ agree_stats rest t
 
 module _ {n : ℕ} (s : Shuffle n) (l l' : CornerLists) where
-  agree-sheets : (calls calls' : List Call) (sheet sheet' : List ℕ) → Agree s sheet sheet' (run l sheet calls) (run l' sheet' calls')
+  agree_sheets : (calls calls' : List Call) (sheet sheet' : List ℕ) → Agree s sheet sheet' (run l sheet calls) (run l' sheet' calls')
       → PairedSheets s (sheetAfterAll l sheet calls) (sheetAfterAll l' sheet' calls')
   unfolding run sheetAfterAll
-  agree-sheets [] [] sheet sheet' (agree_end p) = p
-  agree-sheets (c ∷ cs) (c' ∷ cs') sheet sheet' (agree_call p o rest) =
-      agree-sheets cs cs' (sheet_after sheet (step l sheet c)) (sheet_after sheet' (step l' sheet' c')) rest
+  agree_sheets [] [] sheet sheet' (agree_end p) = p
+  agree_sheets (c ∷ cs) (c' ∷ cs') sheet sheet' (agree_call p o rest) =
+      agree_sheets cs cs' (sheet_after sheet (step l sheet c)) (sheet_after sheet' (step l' sheet' c')) rest
 
 -- ---- labels
 
@@ -71,27 +71,27 @@ kept_numbers stats sheet =
 -- ---- two sheets
 
 module _ {n : ℕ} (s : Shuffle n) (to : ℕ → ℕ) (e : (k : ℕ) → s.to k ≡ to k) (sheet sheet' : List ℕ) (both : PairedSheets s sheet sheet') where
-  labels-anew : (p : ℕ) → p < 16384 → label_of (get_or sheet' p 0) ≡ numbered_anew to (label_of (get_or sheet p 0))
-  labels-anew p h = both.labels p h ∙ paired_anew s to e (label_of (get_or sheet p 0))
+  labels_anew : (p : ℕ) → p < 16384 → label_of (get_or sheet' p 0) ≡ numbered_anew to (label_of (get_or sheet p 0))
+  labels_anew p h = both.labels p h ∙ paired_anew s to e (label_of (get_or sheet p 0))
 
-  cells-anew : (p : ℕ) → p < 16384 → cell_line sheet' p ≡ cell_line_anew to sheet p
+  cells_anew : (p : ℕ) → p < 16384 → cell_line sheet' p ≡ cell_line_anew to sheet p
   unfolding cell_line cell_line_anew
-  cells-anew p h = ap (label_line (cell_of p)) (labels-anew p h)
+  cells_anew p h = ap (label_line (cell_of p)) (labels_anew p h)
 
-  holes-same : (p : ℕ) → p < 16384 → hole_line sheet' p ≡ hole_line sheet p
+  holes_same : (p : ℕ) → p < 16384 → hole_line sheet' p ≡ hole_line sheet p
   unfolding hole_line
-  holes-same p h = rw (both.holes p h) refl
+  holes_same p h = rw (both.holes p h) refl
 
-  ambiguous-same : (p : ℕ) → p < 16384 → ambiguous_line sheet' p ≡ ambiguous_line sheet p
+  ambiguous_same : (p : ℕ) → p < 16384 → ambiguous_line sheet' p ≡ ambiguous_line sheet p
   unfolding ambiguous_line
-  ambiguous-same p h = rw (both.ambiguous p h) refl
+  ambiguous_same p h = rw (both.ambiguous p h) refl
 
-  text-anew : (stats : List PassStats) → result_text stats sheet' ≡ renumbered_text to stats sheet
+  text_anew : (stats : List PassStats) → result_text stats sheet' ≡ renumbered_text to stats sheet
   unfolding result_text renumbered_text
-  text-anew stats =
-      let cells = same_places (cell_line_anew to sheet) (cell_line sheet') cells-anew in
-      let holes = same_places (hole_line sheet) (hole_line sheet') holes-same in
-      let unclear = same_places (ambiguous_line sheet) (ambiguous_line sheet') ambiguous-same in
+  text_anew stats =
+      let cells = same_places (cell_line_anew to sheet) (cell_line sheet') cells_anew in
+      let holes = same_places (hole_line sheet) (hole_line sheet') holes_same in
+      let unclear = same_places (ambiguous_line sheet) (ambiguous_line sheet') ambiguous_same in
       λ t. heading ++ (pass_lines stats ++ (cells t ++ (holes t ++ unclear t)))
 
 -- ---- the claim
@@ -108,16 +108,16 @@ frames_answer_alike text text' f f' e e' same above =
     let agree = alike.own_list above in
     let stats : frame_stats f' ≡ frame_stats f = agree_stats agree in
     let both : PairedSheets s (frame_sheet f) (frame_sheet f') =
-    agree-sheets s (frame_corners f) (frame_corners f') (calls_of f) (calls_of f') (sheet_of f) (sheet_of f') agree in
+    agree_sheets s (frame_corners f) (frame_corners f') (calls_of f) (calls_of f') (sheet_of f) (sheet_of f') agree in
     let to = numbers same in
     let so = alike.paired_to in
     record {
       stats = stats;
-      labels = labels-anew s to so (frame_sheet f) (frame_sheet f') both;
-      holes = holes-same s to so (frame_sheet f) (frame_sheet f') both;
-      ambiguous = ambiguous-same s to so (frame_sheet f) (frame_sheet f') both;
+      labels = labels_anew s to so (frame_sheet f) (frame_sheet f') both;
+      holes = holes_same s to so (frame_sheet f) (frame_sheet f') both;
+      ambiguous = ambiguous_same s to so (frame_sheet f) (frame_sheet f') both;
       first_answer = answer_of_lem text f e;
       second_answer =
           answer_of_lem text' f' e' ∙ ap (λ (ss : List PassStats). result_text ss (frame_sheet f')) stats
-          ∙ text-anew s to so (frame_sheet f) (frame_sheet f') both (frame_stats f);
+          ∙ text_anew s to so (frame_sheet f) (frame_sheet f') both (frame_stats f);
     }

@@ -85,7 +85,7 @@ in_row k =
 
 -- what `whole_root` promises, of what stands in the row
 pub answered : (k : ℕ) (a : List ℕ) → k < 1024 → a ≡ row_of (k / 4) → (get_or a (k % 4) 0 ≡ entry k) × WholePart (1024 * k) (get_or a (k % 4) 0)
-answered k a h e = (is-entry, subst (WholePart (1024 * k)) (sym is-entry) (rule k h))
+answered k a h e = (is_entry, subst (WholePart (1024 * k)) (sym is_entry) (rule k h))
   where
-    is-entry : get_or a (k % 4) 0 ≡ entry k
-    is-entry = ap (λ (l : List ℕ). get_or l (k % 4) 0) e ∙ in_row k
+    is_entry : get_or a (k % 4) 0 ≡ entry k
+    is_entry = ap (λ (l : List ℕ). get_or l (k % 4) 0) e ∙ in_row k

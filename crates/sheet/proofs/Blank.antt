@@ -42,36 +42,36 @@ both true b e = (refl, e)
 both false b e = absurd (let z : ◌≡◌ {A = ℕ} 0 1 = cc in omega arith)
 
 module _ (sheet : List ℕ) (at : ℕ) where
-  pub none-blank : true ≡ all_blank sheet at 0
+  pub none_blank : true ≡ all_blank sheet at 0
   unfolding all_blank
-  none-blank = refl
+  none_blank = refl
 
   -- one more word is joined
-  pub joined-more : (i all : ℕ) → eqb all 0 ≡ all_blank sheet at i → eqb (bit_or all (get_or sheet (at + i) 0)) 0 ≡ all_blank sheet at (i + 1)
+  pub joined_more : (i all : ℕ) → eqb all 0 ≡ all_blank sheet at i → eqb (bit_or all (get_or sheet (at + i) 0)) 0 ≡ all_blank sheet at (i + 1)
   unfolding all_blank
-  joined-more i all e = or_blank all (get_or sheet (at + i) 0) ∙ rw (e, add-one)
+  joined_more i all e = or_blank all (get_or sheet (at + i) 0) ∙ rw (e, add-one)
 
   -- one more place holds nothing
-  pub blank-more : (n : ℕ) → all_blank sheet at n ≡ true → get_or sheet (at + n) 0 ≡ 0 → all_blank sheet at (n + 1) ≡ true
+  pub blank_more : (n : ℕ) → all_blank sheet at n ≡ true → get_or sheet (at + n) 0 ≡ 0 → all_blank sheet at (n + 1) ≡ true
   unfolding all_blank
-  blank-more n s e = rw (add-one, s, e)
+  blank_more n s e = rw (add-one, s, e)
 
   -- each of them holds nothing
-  pub blank-place : (n : ℕ) → all_blank sheet at n ≡ true → (i : ℕ) → i < n → get_or sheet (at + i) 0 ≡ 0
+  pub blank_place : (n : ℕ) → all_blank sheet at n ≡ true → (i : ℕ) → i < n → get_or sheet (at + i) 0 ≡ 0
   unfolding all_blank
-  blank-place zero e i h = absurd (omega arith)
-  blank-place (suc n) e i h = let b = both (all_blank sheet at n) _ e in go (blank-place n b.0 i) (eqb-true _ 0 b.1) (dec_lt i n)
+  blank_place zero e i h = absurd (omega arith)
+  blank_place (suc n) e i h = let b = both (all_blank sheet at n) _ e in go (blank_place n b.0 i) (eqb-true _ 0 b.1) (dec_lt i n)
     where
       go : (i < n → get_or sheet (at + i) 0 ≡ 0) → get_or sheet (at + n) 0 ≡ 0 → Dec (i < n) → get_or sheet (at + i) 0 ≡ 0
       go f l (yes y) = f y
       go f l (no m) = let d : i ≡ n = omega (arith, m) in rw d l
 
   -- a row, or 16 places of it; or a run of places up to the next 16
-  pub blank-block : (n : ℕ) → 0 < n → n ≤ 128 - at % 128 → all_blank sheet at n ≡ true → BlankPlaces sheet at n
-  blank-block n some u e = record { upto = u; blank = e; some = λ z. some }
+  pub blank_block : (n : ℕ) → 0 < n → n ≤ 128 - at % 128 → all_blank sheet at n ≡ true → BlankPlaces sheet at n
+  blank_block n some u e = record { upto = u; blank = e; some = λ z. some }
 
-  pub blank-rest : (n : ℕ) → BlankRun sheet at (16 - at % 16) n → BlankPlaces sheet at n
-  blank-rest n b =
+  pub blank_rest : (n : ℕ) → BlankRun sheet at (16 - at % 16) n → BlankPlaces sheet at n
+  blank_rest n b =
       let u = b.upto in
       record { upto = omega arith; blank = b.blank; some = λ e. go e (dec_lt 0 n) }
     where
@@ -86,8 +86,8 @@ module _ (sheet : List ℕ) (from : ℕ) where
   passed_start h = record { start = omega arith; upto = h; blank = λ p a b. absurd (omega arith) }
 
   -- a run of places more, as far as the row goes
-  pub passed-more : (r n : ℕ) → Passed sheet from r → r < 16384 → BlankPlaces sheet r n → Passed sheet from (r + n)
-  passed-more r n s h b =
+  pub passed_more : (r n : ℕ) → Passed sheet from r → r < 16384 → BlankPlaces sheet r n → Passed sheet from (r + n)
+  passed_more r n s h b =
       let u = b.upto in
       let l = s.start in
       record { start = omega arith; upto = omega arith; blank = λ p x y. go p x y (dec_lt p r) }
@@ -96,27 +96,27 @@ module _ (sheet : List ℕ) (from : ℕ) where
       go p x y (yes m) = s.blank p x m
       go p x y (no m) =
           let d : r + (p - r) ≡ p = omega (arith, m) in
-          sym (ap (λ (q : ℕ). get_or sheet q 0) d) ∙ blank-place sheet r n b.blank (p - r) (omega (arith, m))
+          sym (ap (λ (q : ℕ). get_or sheet q 0) d) ∙ blank_place sheet r n b.blank (p - r) (omega (arith, m))
 
-  pub passed-end : (r : ℕ) → Passed sheet from r → 16384 ≤ r → NextWritten sheet from r
-  passed-end r s h = record { passed = s; written = λ a b. omega arith }
+  pub passed_end : (r : ℕ) → Passed sheet from r → 16384 ≤ r → NextWritten sheet from r
+  passed_end r s h = record { passed = s; written = λ a b. omega arith }
 
-  pub passed-hit : (r : ℕ) → Passed sheet from r → (get_or sheet r 0 ≡ 0 → ⊥) → NextWritten sheet from r
-  passed-hit r s e = record { passed = s; written = λ h z. e z }
+  pub passed_hit : (r : ℕ) → Passed sheet from r → (get_or sheet r 0 ≡ 0 → ⊥) → NextWritten sheet from r
+  passed_hit r s e = record { passed = s; written = λ h z. e z }
 
 -- ---- a walk over the sheet
 
 -- what no place of some kind changes is as it was behind places of that kind
 module _ (P Q : ℕ → Type 0) (step : (p : ℕ) → p < 16384 → Q p → P p → P (p + 1)) where
-  over-some : (from n : ℕ) → from + n ≤ 16384 → ((p : ℕ) → from ≤ p → p < from + n → Q p) → P from → P (from + n)
-  over-some from zero h b s = let d : from ≡ from + 0 = omega arith in subst P d s
-  over-some from (suc n) h b s =
+  over_some : (from n : ℕ) → from + n ≤ 16384 → ((p : ℕ) → from ≤ p → p < from + n → Q p) → P from → P (from + n)
+  over_some from zero h b s = let d : from ≡ from + 0 = omega arith in subst P d s
+  over_some from (suc n) h b s =
       let d : from + n + 1 ≡ from + suc n = omega arith in
       subst P d
-      (step (from + n) (omega arith) (b (from + n) (omega arith) (omega arith)) (over-some from n (omega arith) (λ p x y. b p x (omega arith)) s))
+      (step (from + n) (omega arith) (b (from + n) (omega arith) (omega arith)) (over_some from n (omega arith) (λ p x y. b p x (omega arith)) s))
 
   pub carried : {from r : ℕ} → from ≤ r → r ≤ 16384 → ((p : ℕ) → from ≤ p → p < r → Q p) → P from → P r
-  carried {from} {r} l u b s = let d : from + (r - from) ≡ r = omega arith in subst P d (over-some from (r - from) (omega arith) (λ p x y. b p x (omega arith)) s)
+  carried {from} {r} l u b s = let d : from + (r - from) ≡ r = omega arith in subst P d (over_some from (r - from) (omega arith) (λ p x y. b p x (omega arith)) s)
 
 -- so of places that hold nothing, up to the next place that holds something
 pub skips : (sheet : List ℕ) (P : ℕ → Type 0) → ((p : ℕ) → p < 16384 → get_or sheet p 0 ≡ 0 → P p → P (p + 1)) → {from r : ℕ} → NextWritten sheet from r → P from → P r

@@ -12,7 +12,7 @@ use Rattle.sheet.specs.Cells.{OnSheet, place_of}
 use Rattle.sheet.specs.Words.{Content, label_of, label_at, attached, marks_cleared}
 use Rattle.sheet.specs.Corners.{CornerLists, corner_of, corner_in, seen_through, seen_of, Given}
 use Rattle.sheet.proofs.Laws.{place_in}
-use Rattle.sheet.proofs.Words.{label_on, labelled_on_lem, Changed, attached-changes, cleared-changes}
+use Rattle.sheet.proofs.Words.{label_on, labelled_on_lem, Changed, attached_changes, cleared_changes}
 use Rattle.sheet.specs.declared.Cell.{Cell}
 use Rattle.sheet.specs.declared.Label.{Label}
 use Rattle.sheet.specs.declared.Corner.{Corner}
@@ -41,14 +41,14 @@ held_corner held k h = rw (lt-ltb k 1024 h) refl
 
 module _ {n : ℕ} {sheet : List ℕ} (given : Given n sheet) where
   -- a cell's corner is given
-  pub label-known : (c : Cell) (k : ℕ) → label_at sheet c ≡ Label.Corner k → k < n
-  label-known c k e =
+  pub label_known : (c : Cell) (k : ℕ) → label_at sheet c ≡ Label.Corner k → k < n
+  label_known c k e =
       let on = labelled_on_lem sheet c k e in
       given.known (place_of c) k (place_in c on) (sym (label_on sheet c on) ∙ e)
 
   -- a change at a cell to a corner that is given, or to none
-  pub given-changed : {after : List ℕ} {c : Cell} {content : Content} → Changed sheet after c content → ((k : ℕ) → content.label ≡ Label.Corner k → k < n) → Given n after
-  given-changed {after} {c} {content} ch h =
+  pub given_changed : {after : List ℕ} {c : Cell} {content : Content} → Changed sheet after c content → ((k : ℕ) → content.label ≡ Label.Corner k → k < n) → Given n after
+  given_changed {after} {c} {content} ch h =
       record {
         long = rw ch.same_length given.long;
         known = λ p k l e. go p k l e (ℕ_discrete p (place_of c));
@@ -59,11 +59,11 @@ module _ {n : ℕ} {sheet : List ℕ} (given : Given n sheet) where
       go p k l e (no f) = given.known p k l (ap label_of (sym (ch.other_word p f)) ∙ e)
 
   module _ (c : Cell) (on : OnSheet c) where
-    pub given-attached : (k : ℕ) → k < n → k < 16383 → Given n (attached sheet c k)
-    given-attached k l h = given-changed (attached-changes sheet c given.long on k h) (λ m e. let f : k ≡ m = cc in omega arith)
+    pub given_attached : (k : ℕ) → k < n → k < 16383 → Given n (attached sheet c k)
+    given_attached k l h = given_changed (attached_changes sheet c given.long on k h) (λ m e. let f : k ≡ m = cc in omega arith)
 
-    pub given-cleared : Given n (marks_cleared sheet c)
-    given-cleared = given-changed (cleared-changes sheet c given.long on) (label-known c)
+    pub given_cleared : Given n (marks_cleared sheet c)
+    given_cleared = given_changed (cleared_changes sheet c given.long on) (label_known c)
 
 -- with more corners
 pub given_more : {n m : ℕ} {sheet : List ℕ} → n ≤ m → Given n sheet → Given m sheet

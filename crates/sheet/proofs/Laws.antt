@@ -55,23 +55,23 @@ read_back z h = to_z-of_z (fits z h)
 
 -- a sum and a difference of two numbers that are small enough fit, and are read back
 module _ (x y : ℤ) (small : nat_abs x + nat_abs y < 2147483648) where
-  x-back : to_z w32 (of_z w32 x) ≡ x
-  x-back = read_back x (omega arith)
+  x_back : to_z w32 (of_z w32 x) ≡ x
+  x_back = read_back x (omega arith)
 
-  y-back : to_z w32 (of_z w32 y) ≡ y
-  y-back = read_back y (omega arith)
+  y_back : to_z w32 (of_z w32 y) ≡ y
+  y_back = read_back y (omega arith)
 
   pub sum_fits : SFits w32 (to_z w32 (of_z w32 x) +ℤ to_z w32 (of_z w32 y))
-  sum_fits = rw (x-back, y-back) (fits (x +ℤ y) (omega (arith, abs_add x y)))
+  sum_fits = rw (x_back, y_back) (fits (x +ℤ y) (omega (arith, abs_add x y)))
 
-  pub sum-read : to_z w32 (of_z w32 (to_z w32 (of_z w32 x) +ℤ to_z w32 (of_z w32 y))) ≡ x +ℤ y
-  sum-read = to_z-of_z sum_fits ∙ ap₂ ◌+ℤ◌ x-back y-back
+  pub sum_read : to_z w32 (of_z w32 (to_z w32 (of_z w32 x) +ℤ to_z w32 (of_z w32 y))) ≡ x +ℤ y
+  sum_read = to_z-of_z sum_fits ∙ ap₂ ◌+ℤ◌ x_back y_back
 
-  pub sub-fits : SFits w32 (to_z w32 (of_z w32 x) -ℤ to_z w32 (of_z w32 y))
-  sub-fits = rw (x-back, y-back) (fits (x -ℤ y) (omega (arith, abs_sub x y)))
+  pub sub_fits : SFits w32 (to_z w32 (of_z w32 x) -ℤ to_z w32 (of_z w32 y))
+  sub_fits = rw (x_back, y_back) (fits (x -ℤ y) (omega (arith, abs_sub x y)))
 
   pub sub_read : to_z w32 (of_z w32 (to_z w32 (of_z w32 x) -ℤ to_z w32 (of_z w32 y))) ≡ x -ℤ y
-  sub_read = to_z-of_z sub-fits ∙ ap₂ ◌-ℤ◌ x-back y-back
+  sub_read = to_z-of_z sub_fits ∙ ap₂ ◌-ℤ◌ x_back y_back
 
 -- ---- a coordinate in range, as a number from 0 to 127, and back
 
@@ -119,7 +119,7 @@ unlined r h = go (ltb r 64) refl
 
 -- z + 64, as the machine has it
 pub line_read : (z : ℤ) → Line z → to_z w32 (of_z w32 (to_z w32 (of_z w32 z) +ℤ pos 64)) ≡ pos (line_of z)
-line_read z s = sum-read z (pos 64) (omega arith) ∙ s.up
+line_read z s = sum_read z (pos 64) (omega arith) ∙ s.up
 
 -- ---- cells on the sheet
 

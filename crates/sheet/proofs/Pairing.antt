@@ -12,8 +12,8 @@ use Rattle.sheet.specs.Words.{Content, label_of_number, label_of, hole_of, ambig
 use Rattle.sheet.specs.Corners.{CornerLists, corner_of, seen_through, seen_of, AllListed, Given}
 use Rattle.sheet.specs.Pairing.{Shuffle, paired_label, PairedCorners, PairedSheets}
 use Rattle.sheet.proofs.Laws.{place_in}
-use Rattle.sheet.proofs.Words.{Changed, attached-changes, hole-changes, ambiguous-changes, cleared-changes, no_corner_lem, empty_word}
-use Rattle.sheet.proofs.Corners.{label-known}
+use Rattle.sheet.proofs.Words.{Changed, attached_changes, hole_changes, ambiguous_changes, cleared_changes, no_corner_lem, empty_word}
+use Rattle.sheet.proofs.Corners.{label_known}
 use Rattle.sheet.specs.declared.Cell.{Cell}
 use Rattle.sheet.specs.declared.Label.{Label}
 use Rattle.sheet.specs.declared.Seen.{Seen}
@@ -46,34 +46,34 @@ module _ {n : ℕ} {s : Shuffle n} {sheet sheet' : List ℕ} (paired : PairedShe
       go true e = by_place (place_of c) (place_in c (subst T (sym e) tt))
       go false e = none
 
-  pub paired-label : (c : Cell) → label_at sheet' c ≡ paired_label s (label_at sheet c)
+  pub paired_label_lem : (c : Cell) → label_at sheet' c ≡ paired_label s (label_at sheet c)
   unfolding label_at paired_label
-  paired-label = by_cell label_of Label.Unlabelled (paired_label s) refl paired.labels
+  paired_label_lem = by_cell label_of Label.Unlabelled (paired_label s) refl paired.labels
 
-  pub paired-hole : (c : Cell) → hole_at sheet' c ≡ hole_at sheet c
+  pub paired_hole : (c : Cell) → hole_at sheet' c ≡ hole_at sheet c
   unfolding hole_at
-  paired-hole = by_cell hole_of false (λ b. b) refl paired.holes
+  paired_hole = by_cell hole_of false (λ b. b) refl paired.holes
 
-  pub paired-ambiguous : (c : Cell) → ambiguous_at sheet' c ≡ ambiguous_at sheet c
+  pub paired_ambiguous : (c : Cell) → ambiguous_at sheet' c ≡ ambiguous_at sheet c
   unfolding ambiguous_at
-  paired-ambiguous = by_cell ambiguous_of false (λ b. b) refl paired.ambiguous
+  paired_ambiguous = by_cell ambiguous_of false (λ b. b) refl paired.ambiguous
 
   -- a cell of the first holds a corner exactly if that cell of the second holds the pair
-  pub pair-there : (c : Cell) (k : ℕ) → label_at sheet c ≡ Label.Corner k → label_at sheet' c ≡ Label.Corner (s.to k)
+  pub pair_there : (c : Cell) (k : ℕ) → label_at sheet c ≡ Label.Corner k → label_at sheet' c ≡ Label.Corner (s.to k)
   unfolding paired_label
-  pair-there c k e = paired-label c ∙ ap (paired_label s) e
+  pair_there c k e = paired_label_lem c ∙ ap (paired_label s) e
 
-  pub pair-here : (c : Cell) (k : ℕ) → ((j : ℕ) → label_at sheet c ≡ Label.Corner j → j < n) → k < n → label_at sheet' c ≡ Label.Corner (s.to k) → label_at sheet c ≡ Label.Corner k
-  pair-here c k known h e =
-      named s (label_at sheet c) (s.to k) _ (sym (paired-label c) ∙ e)
+  pub pair_here : (c : Cell) (k : ℕ) → ((j : ℕ) → label_at sheet c ≡ Label.Corner j → j < n) → k < n → label_at sheet' c ≡ Label.Corner (s.to k) → label_at sheet c ≡ Label.Corner k
+  pair_here c k known h e =
+      named s (label_at sheet c) (s.to k) _ (sym (paired_label_lem c) ∙ e)
       (λ j f g. f ∙ ap Label.Corner (to_one s j k (known j f) h g))
 
   -- ---- the changes
 
   -- a change of both sheets at one cell to paired labels and equal marks
-  pub paired-changed : {after after' : List ℕ} {c : Cell} {content content' : Content} → Changed sheet after c content → Changed sheet' after' c content'
+  pub paired_changed : {after after' : List ℕ} {c : Cell} {content content' : Content} → Changed sheet after c content → Changed sheet' after' c content'
       → content'.label ≡ paired_label s content.label → content'.hole ≡ content.hole → content'.ambiguous ≡ content.ambiguous → PairedSheets s after after'
-  paired-changed {after} {after'} {c} ch ch' l h a =
+  paired_changed {after} {after'} {c} ch ch' l h a =
       record {
         same_length = ch'.same_length ∙ paired.same_length ∙ sym ch.same_length;
         labels = λ p m. at p label_of (paired_label s) (ch'.label_word ∙ l ∙ ap (paired_label s) (sym ch.label_word)) (paired.labels p m) (ℕ_discrete p (place_of c));
@@ -90,19 +90,19 @@ module _ {n : ℕ} {s : Shuffle n} {sheet sheet' : List ℕ} (paired : PairedShe
     long' : 16384 ≤ length sheet'
     long' = rw paired.same_length long
 
-    pub paired-attached : (k : ℕ) → k < 16383 → s.to k < 16383 → PairedSheets s (attached sheet c k) (attached sheet' c (s.to k))
+    pub paired_attached : (k : ℕ) → k < 16383 → s.to k < 16383 → PairedSheets s (attached sheet c k) (attached sheet' c (s.to k))
     unfolding paired_label
-    paired-attached k h h' =
-        paired-changed (attached-changes sheet c long on k h) (attached-changes sheet' c long' on (s.to k) h') refl (paired-hole c) (paired-ambiguous c)
+    paired_attached k h h' =
+        paired_changed (attached_changes sheet c long on k h) (attached_changes sheet' c long' on (s.to k) h') refl (paired_hole c) (paired_ambiguous c)
 
-    pub paired-hole-marked : PairedSheets s (hole_marked sheet c) (hole_marked sheet' c)
-    paired-hole-marked = paired-changed (hole-changes sheet c long on) (hole-changes sheet' c long' on) (paired-label c) refl (paired-ambiguous c)
+    pub paired_hole_marked : PairedSheets s (hole_marked sheet c) (hole_marked sheet' c)
+    paired_hole_marked = paired_changed (hole_changes sheet c long on) (hole_changes sheet' c long' on) (paired_label_lem c) refl (paired_ambiguous c)
 
-    pub paired-ambiguous-marked : PairedSheets s (ambiguous_marked sheet c) (ambiguous_marked sheet' c)
-    paired-ambiguous-marked = paired-changed (ambiguous-changes sheet c long on) (ambiguous-changes sheet' c long' on) (paired-label c) (paired-hole c) refl
+    pub paired_ambiguous_marked : PairedSheets s (ambiguous_marked sheet c) (ambiguous_marked sheet' c)
+    paired_ambiguous_marked = paired_changed (ambiguous_changes sheet c long on) (ambiguous_changes sheet' c long' on) (paired_label_lem c) (paired_hole c) refl
 
-    pub paired-cleared : PairedSheets s (marks_cleared sheet c) (marks_cleared sheet' c)
-    paired-cleared = paired-changed (cleared-changes sheet c long on) (cleared-changes sheet' c long' on) (paired-label c) refl refl
+    pub paired_cleared : PairedSheets s (marks_cleared sheet c) (marks_cleared sheet' c)
+    paired_cleared = paired_changed (cleared_changes sheet c long on) (cleared_changes sheet' c long' on) (paired_label_lem c) refl refl
 
 -- two empty sheets
 pub paired_empty : {n : ℕ} (s : Shuffle n) → PairedSheets s empty_sheet empty_sheet
@@ -119,15 +119,15 @@ module _ {l l' : CornerLists} {sheet sheet' : List ℕ}
   through (Label.Corner k) h = ap Seen.At (corners.same_corner_holds k (h k refl))
 
   -- the same is seen through both sheets, at every cell
-  pub seen-paired : seen_of (corner_of l') sheet' ≡ seen_of (corner_of l) sheet
+  pub seen_paired : seen_of (corner_of l') sheet' ≡ seen_of (corner_of l) sheet
   unfolding seen_of
-  seen-paired =
+  seen_paired =
       λ t c.
-      (ap (seen_through (corner_of l')) (paired-label paired c) ∙ through (label_at sheet c) (label-known given c)) t
+      (ap (seen_through (corner_of l')) (paired_label_lem paired c) ∙ through (label_at sheet c) (label_known given c)) t
 
   -- the second frame's corners and sheet belong together too
-  pub given-paired : Given (length l'.xs) sheet'
-  given-paired =
+  pub given_paired : Given (length l'.xs) sheet'
+  given_paired =
       record {
         long = rw paired.same_length given.long;
         known =

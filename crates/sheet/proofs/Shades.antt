@@ -53,17 +53,17 @@ unfolding shade_in
 held_shade held k h = rw (lt-ltb k 1024 h) refl
 
 module _ (held : List Float) (w k : ℕ) (h : k < 1024) (any : any_in held ≡ true) where
-  by-entry : takes_kind (shades_in held) w k ≡ is_kind w (shade_held (get_or held (k + 3072) nan))
-  by-entry = takes_own (shades_in held) w k any ∙ ap (is_kind w) (held_shade held k h)
+  by_entry : takes_kind (shades_in held) w k ≡ is_kind w (shade_held (get_or held (k + 3072) nan))
+  by_entry = takes_own (shades_in held) w k any ∙ ap (is_kind w) (held_shade held k h)
 
   pub takes_one : eq (get_or held (k + 3072) nan) one ≡ true → takes_kind (shades_in held) w k ≡ eqb w 0
   unfolding is_kind shade_held
-  takes_one e = by-entry ∙ rw e refl
+  takes_one e = by_entry ∙ rw e refl
 
   pub takes_two : eq (get_or held (k + 3072) nan) one ≡ false → eq (get_or held (k + 3072) nan) two ≡ true → takes_kind (shades_in held) w k ≡ eqb w 1
   unfolding is_kind shade_held
-  takes_two e f = by-entry ∙ rw (e, f) refl
+  takes_two e f = by_entry ∙ rw (e, f) refl
 
   pub takes_none : eq (get_or held (k + 3072) nan) one ≡ false → eq (get_or held (k + 3072) nan) two ≡ false → takes_kind (shades_in held) w k ≡ false
   unfolding is_kind shade_held
-  takes_none e f = by-entry ∙ rw (e, f) refl
+  takes_none e f = by_entry ∙ rw (e, f) refl

@@ -72,24 +72,24 @@ module _ (c : Content) (holds : number_of_label c.label < 16384) where
       let e : (number_of_label c.label + bit_of c.hole * 16384 + bit_of c.ambiguous * 32768) % 16384 ≡ number_of_label c.label = omega arith in
       ap label_of_number e ∙ label_back c.label
 
-  pub hole-read : hole_of (word_of c) ≡ c.hole
+  pub hole_read : hole_of (word_of c) ≡ c.hole
   unfolding word_of hole_of
-  hole-read =
+  hole_read =
       let a = bit_in c.hole in
       let b = bit_in c.ambiguous in
       let e : (number_of_label c.label + bit_of c.hole * 16384 + bit_of c.ambiguous * 32768) / 16384 % 2 ≡ bit_of c.hole = omega arith in
       ap (λ (n : ℕ). eqb n 1) e ∙ bit_read c.hole
 
-  pub ambiguous-read : ambiguous_of (word_of c) ≡ c.ambiguous
+  pub ambiguous_read : ambiguous_of (word_of c) ≡ c.ambiguous
   unfolding word_of ambiguous_of
-  ambiguous-read =
+  ambiguous_read =
       let a = bit_in c.hole in
       let b = bit_in c.ambiguous in
       let e : (number_of_label c.label + bit_of c.hole * 16384 + bit_of c.ambiguous * 32768) / 32768 ≡ bit_of c.ambiguous = omega arith in
       ap (λ (n : ℕ). eqb n 1) e ∙ bit_read c.ambiguous
 
-  pub content-back : content_of (word_of c) ≡ c
-  content-back = λ t. record { label = label_read t; hole = hole-read t; ambiguous = ambiguous-read t }
+  pub content_back : content_of (word_of c) ≡ c
+  content_back = λ t. record { label = label_read t; hole = hole_read t; ambiguous = ambiguous_read t }
 
   -- and it is a word
   pub word_in : word_of c < 65536
@@ -99,21 +99,21 @@ module _ (c : Content) (holds : number_of_label c.label < 16384) where
 -- ---- the four changed words, as sums
 
 module _ (w : ℕ) (small : w < 65536) where
-  pub label-sum : (k : ℕ) → w / 16384 * 16384 + k + 1 ≡ with_label w k
+  pub label_sum : (k : ℕ) → w / 16384 * 16384 + k + 1 ≡ with_label w k
   unfolding word_of number_of_label hole_of ambiguous_of
-  label-sum k = rw (bit_back (w / 16384 % 2) (omega arith), bit_back (w / 32768) (omega arith)) (omega arith)
+  label_sum k = rw (bit_back (w / 16384 % 2) (omega arith), bit_back (w / 32768) (omega arith)) (omega arith)
 
-  pub hole-sum : w / 32768 * 32768 + 16384 + w % 16384 ≡ with_hole w
+  pub hole_sum : w / 32768 * 32768 + 16384 + w % 16384 ≡ with_hole w
   unfolding word_of label_of ambiguous_of bit_of
-  hole-sum = rw (number_back, bit_back (w / 32768) (omega arith)) (omega arith)
+  hole_sum = rw (number_back, bit_back (w / 32768) (omega arith)) (omega arith)
 
-  pub ambiguous-sum : 32768 + w % 32768 ≡ with_ambiguous w
+  pub ambiguous_sum : 32768 + w % 32768 ≡ with_ambiguous w
   unfolding word_of label_of hole_of bit_of
-  ambiguous-sum = rw (number_back, bit_back (w / 16384 % 2) (omega arith)) (omega arith)
+  ambiguous_sum = rw (number_back, bit_back (w / 16384 % 2) (omega arith)) (omega arith)
 
-  pub plain-sum : w % 16384 ≡ without_marks w
+  pub plain_sum : w % 16384 ≡ without_marks w
   unfolding word_of label_of bit_of
-  plain-sum = rw number_back (omega arith)
+  plain_sum = rw number_back (omega arith)
 
 -- the label of a word by its low bits
 pub label_none : (w : ℕ) → w % 16384 ≡ 0 → Label.Unlabelled ≡ label_of w
@@ -172,38 +172,38 @@ module _ (sheet : List ℕ) (c : Cell) (long : 16384 ≤ length sheet) (on : OnS
       record {
         same_length = length-set sheet (place_of c) (word_of content);
         label_word = ap label_of e ∙ label_read content holds;
-        hole_word = ap hole_of e ∙ hole-read content holds;
-        ambiguous_word = ap ambiguous_of e ∙ ambiguous-read content holds;
+        hole_word = ap hole_of e ∙ hole_read content holds;
+        ambiguous_word = ap ambiguous_of e ∙ ambiguous_read content holds;
         other_word = λ p. get_or-set_other sheet (place_of c) p (word_of content) 0;
       }
 
   -- the four changes
-  pub attached-changes : (k : ℕ) → k < 16383 → Changed sheet (attached sheet c k) c (record { label = Label.Corner k; hole = hole_at sheet c; ambiguous = ambiguous_at sheet c })
+  pub attached_changes : (k : ℕ) → k < 16383 → Changed sheet (attached sheet c k) c (record { label = Label.Corner k; hole = hole_at sheet c; ambiguous = ambiguous_at sheet c })
   unfolding attached
-  attached-changes k h = rw (hole_on sheet c on, ambiguous_on sheet c on) (stored _ (corner_holds k h))
+  attached_changes k h = rw (hole_on sheet c on, ambiguous_on sheet c on) (stored _ (corner_holds k h))
 
-  pub hole-changes : Changed sheet (hole_marked sheet c) c (record { label = label_at sheet c; hole = true; ambiguous = ambiguous_at sheet c })
+  pub hole_changes : Changed sheet (hole_marked sheet c) c (record { label = label_at sheet c; hole = true; ambiguous = ambiguous_at sheet c })
   unfolding hole_marked
-  hole-changes = rw (label_on sheet c on, ambiguous_on sheet c on) (stored _ (label_holds (word_at sheet c)))
+  hole_changes = rw (label_on sheet c on, ambiguous_on sheet c on) (stored _ (label_holds (word_at sheet c)))
 
-  pub ambiguous-changes : Changed sheet (ambiguous_marked sheet c) c (record { label = label_at sheet c; hole = hole_at sheet c; ambiguous = true })
+  pub ambiguous_changes : Changed sheet (ambiguous_marked sheet c) c (record { label = label_at sheet c; hole = hole_at sheet c; ambiguous = true })
   unfolding ambiguous_marked
-  ambiguous-changes = rw (label_on sheet c on, hole_on sheet c on) (stored _ (label_holds (word_at sheet c)))
+  ambiguous_changes = rw (label_on sheet c on, hole_on sheet c on) (stored _ (label_holds (word_at sheet c)))
 
-  pub cleared-changes : Changed sheet (marks_cleared sheet c) c (record { label = label_at sheet c; hole = false; ambiguous = false })
+  pub cleared_changes : Changed sheet (marks_cleared sheet c) c (record { label = label_at sheet c; hole = false; ambiguous = false })
   unfolding marks_cleared
-  cleared-changes = rw (label_on sheet c on) (stored _ (label_holds (word_at sheet c)))
+  cleared_changes = rw (label_on sheet c on) (stored _ (label_holds (word_at sheet c)))
 
 -- what is read after a change, at its cell and at any other, on the sheet or off it
 module _ {before after : List ℕ} {c : Cell} {content : Content} (ch : Changed before after c content) (on : OnSheet c) where
-  pub label-here : label_at after c ≡ content.label
-  label-here = label_on after c on ∙ ch.label_word
+  pub label_here : label_at after c ≡ content.label
+  label_here = label_on after c on ∙ ch.label_word
 
-  pub hole-here : hole_at after c ≡ content.hole
-  hole-here = hole_on after c on ∙ ch.hole_word
+  pub hole_here : hole_at after c ≡ content.hole
+  hole_here = hole_on after c on ∙ ch.hole_word
 
-  pub ambiguous-here : ambiguous_at after c ≡ content.ambiguous
-  ambiguous-here = ambiguous_on after c on ∙ ch.ambiguous_word
+  pub ambiguous_here : ambiguous_at after c ≡ content.ambiguous
+  ambiguous_here = ambiguous_on after c on ∙ ch.ambiguous_word
 
   elsewhere : {A : Type 0} (f : ℕ → A) (off : A) (d : Cell) → (d ≡ c → ⊥) → cond (on_sheet d) (f (word_at after d)) off ≡ cond (on_sheet d) (f (word_at before d)) off
   elsewhere f off d ne = go (on_sheet d) refl
@@ -212,17 +212,17 @@ module _ {before after : List ℕ} {c : Cell} {content : Content} (ch : Changed 
       go true e = ap f (ch.other_word (place_of d) (λ k. ne (place_one d c (subst T (sym e) tt) on k)))
       go false e = refl
 
-  pub label-else : (d : Cell) → (d ≡ c → ⊥) → label_at after d ≡ label_at before d
+  pub label_else : (d : Cell) → (d ≡ c → ⊥) → label_at after d ≡ label_at before d
   unfolding label_at
-  label-else = elsewhere label_of Label.Unlabelled
+  label_else = elsewhere label_of Label.Unlabelled
 
-  pub hole-else : (d : Cell) → (d ≡ c → ⊥) → hole_at after d ≡ hole_at before d
+  pub hole_else : (d : Cell) → (d ≡ c → ⊥) → hole_at after d ≡ hole_at before d
   unfolding hole_at
-  hole-else = elsewhere hole_of false
+  hole_else = elsewhere hole_of false
 
-  pub ambiguous-else : (d : Cell) → (d ≡ c → ⊥) → ambiguous_at after d ≡ ambiguous_at before d
+  pub ambiguous_else : (d : Cell) → (d ≡ c → ⊥) → ambiguous_at after d ≡ ambiguous_at before d
   unfolding ambiguous_at
-  ambiguous-else = elsewhere ambiguous_of false
+  ambiguous_else = elsewhere ambiguous_of false
 
 -- ---- the empty sheet
 

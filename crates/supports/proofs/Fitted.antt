@@ -45,32 +45,32 @@ point_is c on = rw (read_back c.i (omega (arith, (line_i c on).small)), read_bac
 -- ---- the pictured corner
 
 module _ (seen : Cell → Seen) (p : ℕ) {c : Cell} {r : Seen} (at : c ≡ cell_of p) (is : r ≡ seen c) where
-  pub pictured-none : r ≡ Seen.Nothing → (record { x = div binary32 (of_bits binary32 0) (of_bits binary32 0); y = div binary32 (of_bits binary32 0) (of_bits binary32 0) }) ≡ pictured_at seen p
+  pub pictured_none : r ≡ Seen.Nothing → (record { x = div binary32 (of_bits binary32 0) (of_bits binary32 0); y = div binary32 (of_bits binary32 0) (of_bits binary32 0) }) ≡ pictured_at seen p
   unfolding pictured_at of_bits div
-  pictured-none e = rw (← at, ← is, e)
+  pictured_none e = rw (← at, ← is, e)
 
-  pub pictured-corner : {corner : Corner} → r ≡ Seen.At corner → corner.position ≡ pictured_at seen p
+  pub pictured_corner : {corner : Corner} → r ≡ Seen.At corner → corner.position ≡ pictured_at seen p
   unfolding pictured_at
-  pictured-corner e = rw (← at, ← is, e)
+  pictured_corner e = rw (← at, ← is, e)
 
 -- ---- finite residuals
 
 module _ (a b c d : Float) where
-  pub finite-first : is_finite a ≡ false → false ≡ all_finite (a ∷ b ∷ c ∷ d ∷ [])
+  pub finite_first : is_finite a ≡ false → false ≡ all_finite (a ∷ b ∷ c ∷ d ∷ [])
   unfolding all_finite
-  finite-first e = rw e
+  finite_first e = rw e
 
-  pub finite-second : is_finite a ≡ true → is_finite b ≡ false → false ≡ all_finite (a ∷ b ∷ c ∷ d ∷ [])
+  pub finite_second : is_finite a ≡ true → is_finite b ≡ false → false ≡ all_finite (a ∷ b ∷ c ∷ d ∷ [])
   unfolding all_finite
-  finite-second e f = rw (e, f)
+  finite_second e f = rw (e, f)
 
-  pub finite-third : is_finite a ≡ true → is_finite b ≡ true → is_finite c ≡ false → false ≡ all_finite (a ∷ b ∷ c ∷ d ∷ [])
+  pub finite_third : is_finite a ≡ true → is_finite b ≡ true → is_finite c ≡ false → false ≡ all_finite (a ∷ b ∷ c ∷ d ∷ [])
   unfolding all_finite
-  finite-third e f g = rw (e, f, g)
+  finite_third e f g = rw (e, f, g)
 
-  pub finite-fourth : is_finite a ≡ true → is_finite b ≡ true → is_finite c ≡ true → is_finite d ≡ all_finite (a ∷ b ∷ c ∷ d ∷ [])
+  pub finite_fourth : is_finite a ≡ true → is_finite b ≡ true → is_finite c ≡ true → is_finite d ≡ all_finite (a ∷ b ∷ c ∷ d ∷ [])
   unfolding all_finite
-  finite-fourth e f g = rw (e, f, g) (last (is_finite d))
+  finite_fourth e f g = rw (e, f, g) (last (is_finite d))
     where
       last : (t : Bool) → t ≡ (t && true)
       last true = refl
@@ -103,27 +103,27 @@ module _ (cells corners : List Position) (fit : Fit) (e : fit ≡ fit_of (homogr
     of : four_residuals fit.h cells corners ≡ a ∷ b ∷ c ∷ d ∷ []
     of = rw (ea, eb, ec, ed)
 
-    pub points-wild : (r : SupportFit) → r ≡ support_fit_of none → not t ≡ true → r ≡ support_fit_of (points_fit cells corners)
+    pub points_wild : (r : SupportFit) → r ≡ support_fit_of none → not t ≡ true → r ≡ support_fit_of (points_fit cells corners)
     unfolding points_fit trusted_points
-    points-wild r f g = f ∙ rw (answer, of, ← said, not-true t g)
+    points_wild r f g = f ∙ rw (answer, of, ← said, not-true t g)
 
-    pub points-fitted : not t ≡ false → (record { found = true; h = fit.h; residuals = a ∷ b ∷ c ∷ d ∷ [] }) ≡ support_fit_of (points_fit cells corners)
+    pub points_fitted : not t ≡ false → (record { found = true; h = fit.h; residuals = a ∷ b ∷ c ∷ d ∷ [] }) ≡ support_fit_of (points_fit cells corners)
     unfolding points_fit trusted_points support_fit_of
-    points-fitted g = rw (answer, of, ← said, not-false t g)
+    points_fitted g = rw (answer, of, ← said, not-false t g)
 
 -- on the places of the supports
 module _ (seen : Cell → Seen) (s : Supports) where
-  cellPoints : List Position
-  cellPoints = map (λ p. cell_point (cell_of p)) (places_of s)
+  cell_points : List Position
+  cell_points = map (λ p. cell_point (cell_of p)) (places_of s)
 
   pictures : List Position
   pictures = map (pictured_at seen) (places_of s)
 
-  same-fit : points_fit cellPoints pictures ≡ local_fit seen (places_of s)
-  unfolding points_fit local_fit residuals_of trusted_points trusted cellPoints pictures
-  same-fit = go (homography_of cellPoints pictures)
+  same_fit : points_fit cell_points pictures ≡ local_fit seen (places_of s)
+  unfolding points_fit local_fit residuals_of trusted_points trusted cell_points pictures
+  same_fit = go (homography_of cell_points pictures)
     where
-      go : (a : Answer) → trusted_points cellPoints pictures a ≡ trusted seen (places_of s) a
+      go : (a : Answer) → trusted_points cell_points pictures a ≡ trusted seen (places_of s) a
       go NoFit = refl
       go (Entries h) = refl
 
@@ -131,8 +131,8 @@ module _ (seen : Cell → Seen) (s : Supports) where
       → c ≡ cell_point (cell_of s.third.place) → d ≡ cell_point (cell_of s.fourth.place) → k ≡ pictured_at seen s.first.place → l ≡ pictured_at seen s.second.place
       → m ≡ pictured_at seen s.third.place → n ≡ pictured_at seen s.fourth.place → r ≡ support_fit_of (points_fit (a ∷ b ∷ c ∷ d ∷ []) (k ∷ l ∷ m ∷ n ∷ []))
       → r ≡ support_fit_of (local_fit seen (places_of s))
-  unfolding cellPoints pictures
-  fit_is r a b c d k l m n ea eb ec ed ek el em en e = e ∙ rw (ea, eb, ec, ed, ek, el, em, en) (ap support_fit_of same-fit)
+  unfolding cell_points pictures
+  fit_is r a b c d k l m n ea eb ec ed ek el em en e = e ∙ rw (ea, eb, ec, ed, ek, el, em, en) (ap support_fit_of same_fit)
 
 -- ---- what the struct says of the fit
 

@@ -52,20 +52,20 @@ module _ (sheet before places : List ℕ) (count p : ℕ) (asked : Gatherable sh
         go : (d : ℕ) → p + 1 + d ≡ 16384 → length (labelled_below sheet (p + 1)) ≤ length (labelled_below sheet 16384)
         go d e = rw (sym e) (passing_grows (λ q. is_labelled (get_or sheet q 0)) (p + 1) d)
 
-    pub listing-room : is_labelled (get_or sheet p 0) ≡ true → count < 1024
-    listing-room e =
+    pub listing_room : is_labelled (get_or sheet p 0) ≡ true → count < 1024
+    listing_room e =
         let more = below_all in
         let one = ap length (passing_hit (λ q. is_labelled (get_or sheet q 0)) p e) ∙ length-append (labelled_below sheet p) (p ∷ []) in
         omega (arith, asked.few, g.count_is, more, one)
 
-    pub listing-more : (places' : List ℕ) (count' : ℕ) → MoreListed places count (get_or sheet p 0) p places' count' → Listing sheet before places' count' (p + 1)
+    pub listing_more : (places' : List ℕ) (count' : ℕ) → MoreListed places count (get_or sheet p 0) p places' count' → Listing sheet before places' count' (p + 1)
     unfolding counted
-    listing-more places' count' w = go (is_labelled (get_or sheet p 0)) refl
+    listing_more places' count' w = go (is_labelled (get_or sheet p 0)) refl
       where
         go : (t : Bool) → is_labelled (get_or sheet p 0) ≡ t → Listing sheet before places' count' (p + 1)
         go true e =
             let hit = passing_hit (λ q. is_labelled (get_or sheet q 0)) p e in
-            let room = listing-room e in
+            let room = listing_room e in
             let old = g.count_is in
             let size = asked.size in
             record {
@@ -83,11 +83,11 @@ module _ (sheet before places : List ℕ) (count p : ℕ) (asked : Gatherable sh
               places_are = w.places_are ∙ rw (e, miss) g.places_are;
             }
 
-  pub listing-end : 16384 ≤ p → Gathered sheet before places count
+  pub listing_end : 16384 ≤ p → Gathered sheet before places count
   unfolding label_count labelled_places
-  listing-end h = let e : p ≡ 16384 = omega (arith, g.upto) in record { count_is = rw (← e) g.count_is; places_are = rw (← e) g.places_are }
+  listing_end h = let e : p ≡ 16384 = omega (arith, g.upto) in record { count_is = rw (← e) g.count_is; places_are = rw (← e) g.places_are }
 
 -- places that hold nothing
 pub listing_skips : (sheet before places : List ℕ) (count : ℕ) → Gatherable sheet before → {p r : ℕ} → Listing sheet before places count p → NextWritten sheet p r → Listing sheet before places count r
 listing_skips sheet before places count asked g w =
-    skips sheet (Listing sheet before places count) (λ p h e s. listing-more sheet before places count p asked s h places count (listed_same places count _ p (blank_unlabelled e))) w g
+    skips sheet (Listing sheet before places count) (λ p h e s. listing_more sheet before places count p asked s h places count (listed_same places count _ p (blank_unlabelled e))) w g

@@ -17,7 +17,7 @@ use Rattle.labels.specs.Labelled.{Rising}
 use Rattle.labels.proofs.Below.{no_both}
 use Rattle.passes.specs.Local.{reach_of, nearer, placed, by_reach}
 use Rattle.passes.specs.Nearest.{NearestFirst, by_reach_holds}
-use Rattle.passes.proofs.Nearest.{nearer-so, so-nearer, nearer_reach, earlier_places, byReach-length, byReach-first, take-first, rising_apart}
+use Rattle.passes.proofs.Nearest.{nearer_so, so_nearer, nearer_reach, earlier_places, by_reach_length, by_reach_first, take_first, rising_apart}
 use Rattle.supports.specs.Nearest.{support_at, kept_of, places_of, nearest_among, ahead, InOrder, MoreKept, Nearby, filled_up, Keeping}
 use Rattle.supports.specs.Fitted.{Pictured}
 use Rattle.supports.specs.declared.Support.{Support}
@@ -32,9 +32,9 @@ last c p (q ∷ qs) = cond (ltb (reach_of c p) (reach_of c q)) (p ∷ q ∷ qs) 
 
 module _ (c : Cell) (q p : ℕ) (before : earlier (cell_of q) (cell_of p) ≡ true) where
   -- an earlier place is nearer if the later one is not strictly nearer
-  pub nearer-earlier : nearer c q p ≡ not (ltb (reach_of c p) (reach_of c q))
+  pub nearer_earlier : nearer c q p ≡ not (ltb (reach_of c p) (reach_of c q))
   unfolding nearer
-  nearer-earlier = rw before (go (ltb (reach_of c q) (reach_of c p)) refl (eqb (reach_of c q) (reach_of c p)) refl)
+  nearer_earlier = rw before (go (ltb (reach_of c q) (reach_of c p)) refl (eqb (reach_of c q) (reach_of c p)) refl)
     where
       go : (t : Bool) → ltb (reach_of c q) (reach_of c p) ≡ t → (u : Bool) → eqb (reach_of c q) (reach_of c p) ≡ u → (t || (u && true)) ≡ not (ltb (reach_of c p) (reach_of c q))
       go true e u f = let h = ltb-true (reach_of c q) (reach_of c p) e in rw (le-ltb (reach_of c p) (reach_of c q) (omega arith))
@@ -44,28 +44,28 @@ module _ (c : Cell) (q p : ℕ) (before : earlier (cell_of q) (cell_of p) ≡ tr
           rw (lt-ltb (reach_of c p) (reach_of c q) (omega (arith, eqb-false (reach_of c q) (reach_of c p) f)))
 
   -- it is the same which of the two is put in first
-  pub last-after : (l : List ℕ) → placed c q (last c p l) ≡ last c p (placed c q l)
+  pub last_after : (l : List ℕ) → placed c q (last c p l) ≡ last c p (placed c q l)
   unfolding placed last
-  last-after [] = rw nearer-earlier (go (ltb (reach_of c p) (reach_of c q)))
+  last_after [] = rw nearer_earlier (go (ltb (reach_of c p) (reach_of c q)))
     where
       go : (t : Bool) → cond (not t) (q ∷ p ∷ []) (p ∷ q ∷ []) ≡ cond t (p ∷ q ∷ []) (q ∷ p ∷ [])
       go true = refl
       go false = refl
-  last-after (r ∷ rs) = go (ltb (reach_of c p) (reach_of c r)) refl (nearer c q r) refl (ltb (reach_of c p) (reach_of c q)) refl (last-after rs)
+  last_after (r ∷ rs) = go (ltb (reach_of c p) (reach_of c r)) refl (nearer c q r) refl (ltb (reach_of c p) (reach_of c q)) refl (last_after rs)
     where
       go : (t : Bool) → ltb (reach_of c p) (reach_of c r) ≡ t → (u : Bool) → nearer c q r ≡ u → (v : Bool) → ltb (reach_of c p) (reach_of c q) ≡ v
           → placed c q (last c p rs) ≡ last c p (placed c q rs) → placed c q (last c p (r ∷ rs)) ≡ last c p (placed c q (r ∷ rs))
-      go true e true f true g w = simp (e, f, nearer-earlier, g)
-      go true e true f false g w = simp (e, f, nearer-earlier, g)
-      go true e false f true g w = simp (e, f, nearer-earlier, g)
+      go true e true f true g w = simp (e, f, nearer_earlier, g)
+      go true e true f false g w = simp (e, f, nearer_earlier, g)
+      go true e false f true g w = simp (e, f, nearer_earlier, g)
       go true e false f false g w =
           let h = ltb-true (reach_of c p) (reach_of c r) e in
           let k = ltb-false (reach_of c p) (reach_of c q) g in
-          absurd (no_both (nearer c q r) (so-nearer c q r (by_reach_holds (omega arith))) f)
+          absurd (no_both (nearer c q r) (so_nearer c q r (by_reach_holds (omega arith))) f)
       go false e true f true g w =
           let h = ltb-false (reach_of c p) (reach_of c r) e in
           let k = ltb-true (reach_of c p) (reach_of c q) g in
-          absurd (omega (arith, nearer_reach (nearer-so c q r f)))
+          absurd (omega (arith, nearer_reach (nearer_so c q r f)))
       go false e true f false g w = simp (e, f, g)
       go false e false f v g w = simp (e, f) (ap (λ (l : List ℕ). r ∷ l) w)
 
@@ -82,7 +82,7 @@ unfolding by_reach placed last
 by_reach_last c p h [] b = refl
 by_reach_last c p h (q ∷ qs) b =
     ap (placed c q) (by_reach_last c p h qs (record { below = λ a l. b.below (suc a) (omega arith) }))
-    ∙ last-after c q p (earlier_cells q p (b.below 0 (omega arith)) h) (by_reach c qs)
+    ∙ last_after c q p (earlier_cells q p (b.below 0 (omega arith)) h) (by_reach c qs)
 
 -- ---- the first four of five
 
@@ -103,9 +103,9 @@ ahead_take (suc n) new (s ∷ ss) = go (ltb new.reach s.reach) (ahead_take n new
 
 -- one more support, by where it goes
 module _ (s : Supports) (new : Support) (o : InOrder s) where
-  pub kept-none : s.fourth.reach ≤ new.reach → MoreKept s new s
+  pub kept_none : s.fourth.reach ≤ new.reach → MoreKept s new s
   unfolding ahead
-  kept-none h =
+  kept_none h =
       record {
         kept_are =
             rw (
@@ -118,9 +118,9 @@ module _ (s : Supports) (new : Support) (o : InOrder s) where
       }
 
   module _ (near : new.reach < s.fourth.reach) where
-    pub kept-first : new.reach < s.first.reach → MoreKept s new (record { first = new; second = s.first; third = s.second; fourth = s.third })
+    pub kept_first : new.reach < s.first.reach → MoreKept s new (record { first = new; second = s.first; third = s.second; fourth = s.third })
     unfolding ahead
-    kept-first h =
+    kept_first h =
         record {
           kept_are = rw (lt-ltb new.reach s.first.reach h);
           in_order = record { first_second = omega arith; second_third = o.first_second; third_fourth = o.second_third };
@@ -136,17 +136,17 @@ module _ (s : Supports) (new : Support) (o : InOrder s) where
           }
 
       module _ (not-second : s.second.reach ≤ new.reach) where
-        pub kept-third : new.reach < s.third.reach → MoreKept s new (record { first = s.first; second = s.second; third = new; fourth = s.third })
+        pub kept_third : new.reach < s.third.reach → MoreKept s new (record { first = s.first; second = s.second; third = new; fourth = s.third })
         unfolding ahead
-        kept-third h =
+        kept_third h =
             record {
               kept_are = rw (le-ltb new.reach s.first.reach not_first, le-ltb new.reach s.second.reach not-second, lt-ltb new.reach s.third.reach h);
               in_order = record { first_second = o.first_second; second_third = not-second; third_fourth = omega arith };
             }
 
-        pub kept-fourth : s.third.reach ≤ new.reach → MoreKept s new (record { first = s.first; second = s.second; third = s.third; fourth = new })
+        pub kept_fourth : s.third.reach ≤ new.reach → MoreKept s new (record { first = s.first; second = s.second; third = s.third; fourth = new })
         unfolding ahead
-        kept-fourth h =
+        kept_fourth h =
             record {
               kept_are =
                   rw (
@@ -179,8 +179,8 @@ reach_small c p on h =
     omega (arith, abs_sub (cell_of p).i c.i, abs_sub (cell_of p).j c.j)
 
 module _ (places : List ℕ) (count : ℕ) (c : Cell) (asked : Nearby places count c) (kept : Supports) (k : ℕ) (g : Keeping places count c kept k) where
-  pub keeping-more : (new : Support) (next : Supports) → k < count → new ≡ support_at c (get_or places k 0) → MoreKept kept new next → Keeping places count c next (k + 1)
-  keeping-more new next h e w =
+  pub keeping_more : (new : Support) (next : Supports) → k < count → new ≡ support_at c (get_or places k 0) → MoreKept kept new next → Keeping places count c next (k + 1)
+  keeping_more new next h e w =
       let p = get_or places k 0 in
       let there : k < length places = omega (arith, asked.size, asked.few) in
       let one : take (k + 1) places ≡ take k places ++ (p ∷ []) = rw add-one (take-suc places k 0 there) in
@@ -196,11 +196,11 @@ module _ (places : List ℕ) (count : ℕ) (c : Cell) (asked : Nearby places cou
       }
 
   -- all places looked at
-  pub keeping-end : count ≤ k → kept_of kept ≡ nearest_among c (take count places)
-  keeping-end h =
+  pub keeping_end : count ≤ k → kept_of kept ≡ nearest_among c (take count places)
+  keeping_end h =
       let e : k ≡ count = omega (arith, g.upto) in
       let n = length-take-le count places (omega (arith, asked.size, asked.few)) in
-      g.kept_are ∙ rw e (front 4 (by_reach c (take count places)) (omega (arith, byReach-length c (take count places), n, asked.four)))
+      g.kept_are ∙ rw e (front 4 (by_reach c (take count places)) (omega (arith, by_reach_length c (take count places), n, asked.four)))
     where
       front : (n : ℕ) (l : List ℕ) → n ≤ length l → take n (filled_up c l) ≡ map (support_at c) (take n l)
       front zero l m = refl
@@ -295,23 +295,23 @@ module _ {places : List ℕ} {count : ℕ} {c : Cell} {s : Supports} (asked : Ne
   under : Under 16384 (take 4 (by_reach c (take count places)))
   under = under_take 16384 4 (by_reach c (take count places)) (under_by_reach 16384 c (take count places) on_sheet_holds)
 
-  pub nearest-places : places_of s ≡ take 4 (by_reach c (take count places))
-  nearest-places = ap (map (λ (s : Support). s.place)) e ∙ back (take 4 (by_reach c (take count places)))
+  pub nearest_places : places_of s ≡ take 4 (by_reach c (take count places))
+  nearest_places = ap (map (λ (s : Support). s.place)) e ∙ back (take 4 (by_reach c (take count places)))
     where
       back : (l : List ℕ) → map (λ (s : Support). s.place) (map (support_at c) l) ≡ l
       back [] = refl
       back (p ∷ ps) = ap (λ (m : List ℕ). p ∷ m) (back ps)
 
-  pub nearest-pictured : Pictured s
-  nearest-pictured = under_four s (rw nearest-places under)
+  pub nearest_pictured : Pictured s
+  nearest_pictured = under_four s (rw nearest_places under)
 
   both : Reached c s × ReachesSmall s
   both =
       reached c s (take 4 (by_reach c (take count places))) e
-      (take-first c 4 (by_reach c (take count places)) (byReach-first c (take count places) (rising_apart (take count places) rises on_sheet_holds.below))) asked.on under
+      (take_first c 4 (by_reach c (take count places)) (by_reach_first c (take count places) (rising_apart (take count places) rises on_sheet_holds.below))) asked.on under
 
-  pub nearest-reached : Reached c s
-  nearest-reached = both.0
+  pub nearest_reached : Reached c s
+  nearest_reached = both.0
 
-  pub nearest-small : ReachesSmall s
-  nearest-small = both.1
+  pub nearest_small : ReachesSmall s
+  nearest_small = both.1

@@ -17,7 +17,7 @@ use Rattle.passes.specs.Local.{reach_of, nearer, placed, by_reach}
 use Rattle.supports.specs.Nearest.{support_at, nothing_kept, kept_of, ahead_of_ties, InOrder, EarlierKept, Nearby, filled_up, Keeping}
 use Rattle.supports.specs.declared.Support.{Support}
 use Rattle.supports.specs.declared.Supports.{Supports}
-use Rattle.supports.proofs.Nearest.{earlier_cells, nearer-earlier, reach_small, kept-none, keeping-more}
+use Rattle.supports.proofs.Nearest.{earlier_cells, nearer_earlier, reach_small, kept_none, keeping_more}
 
 -- ---- a place is at least as far as its line
 
@@ -45,8 +45,8 @@ module _ (c : Cell) (on : OnSheet c) (p : ℕ) (h : p < 16384) where
       omega (arith, here, line_of_place c on, lines_apart c.i (cell_of p).i, abs_turned (cell_of p).i c.i)
 
   -- and one behind it
-  pub line-behind : p / 128 ≤ place_of c / 128 + reach_of c p
-  line-behind = omega (arith, here, line_of_place c on, lines_apart (cell_of p).i c.i)
+  pub line_behind : p / 128 ≤ place_of c / 128 + reach_of c p
+  line_behind = omega (arith, here, line_of_place c on, lines_apart (cell_of p).i c.i)
 
 -- ---- the first four of five, the new one ahead of ties
 
@@ -65,9 +65,9 @@ ties_take (suc n) new (s ∷ ss) = go (leb new.reach s.reach) (ties_take n new s
     go false w = ap (λ (l : List Support). s ∷ l) w
 
 module _ (s : Supports) (new : Support) (o : InOrder s) where
-  pub earlier-none : s.fourth.reach < new.reach → EarlierKept s new s
+  pub earlier_none : s.fourth.reach < new.reach → EarlierKept s new s
   unfolding ahead_of_ties
-  earlier-none h =
+  earlier_none h =
       record {
         kept_are =
             rw (
@@ -80,35 +80,35 @@ module _ (s : Supports) (new : Support) (o : InOrder s) where
       }
 
   module _ (near : new.reach ≤ s.fourth.reach) where
-    pub earlier-first : new.reach ≤ s.first.reach → EarlierKept s new (record { first = new; second = s.first; third = s.second; fourth = s.third })
+    pub earlier_first : new.reach ≤ s.first.reach → EarlierKept s new (record { first = new; second = s.first; third = s.second; fourth = s.third })
     unfolding ahead_of_ties
-    earlier-first h =
+    earlier_first h =
         record {
           kept_are = rw (le-leb new.reach s.first.reach h);
           in_order = record { first_second = h; second_third = o.first_second; third_fourth = o.second_third };
         }
 
     module _ (not_first : s.first.reach < new.reach) where
-      pub earlier-second : new.reach ≤ s.second.reach → EarlierKept s new (record { first = s.first; second = new; third = s.second; fourth = s.third })
+      pub earlier_second : new.reach ≤ s.second.reach → EarlierKept s new (record { first = s.first; second = new; third = s.second; fourth = s.third })
       unfolding ahead_of_ties
-      earlier-second h =
+      earlier_second h =
           record {
             kept_are = rw (lt-leb new.reach s.first.reach not_first, le-leb new.reach s.second.reach h);
             in_order = record { first_second = omega arith; second_third = h; third_fourth = o.second_third };
           }
 
       module _ (not-second : s.second.reach < new.reach) where
-        pub earlier-third : new.reach ≤ s.third.reach → EarlierKept s new (record { first = s.first; second = s.second; third = new; fourth = s.third })
+        pub earlier_third : new.reach ≤ s.third.reach → EarlierKept s new (record { first = s.first; second = s.second; third = new; fourth = s.third })
         unfolding ahead_of_ties
-        earlier-third h =
+        earlier_third h =
             record {
               kept_are = rw (lt-leb new.reach s.first.reach not_first, lt-leb new.reach s.second.reach not-second, le-leb new.reach s.third.reach h);
               in_order = record { first_second = o.first_second; second_third = omega arith; third_fourth = h };
             }
 
-        pub earlier-fourth : s.third.reach < new.reach → EarlierKept s new (record { first = s.first; second = s.second; third = s.third; fourth = new })
+        pub earlier_fourth : s.third.reach < new.reach → EarlierKept s new (record { first = s.first; second = s.second; third = s.third; fourth = new })
         unfolding ahead_of_ties
-        earlier-fourth h =
+        earlier_fourth h =
             record {
               kept_are =
                   rw (
@@ -151,7 +151,7 @@ not_below a b = go (ltb b a) refl
 ties_filled : (c : Cell) (p : ℕ) → reach_of c p < 1000 → (l : List ℕ) → Behind p l → ahead_of_ties (support_at c p) (filled_up c l) ≡ filled_up c (placed c p l)
 unfolding ahead_of_ties placed
 ties_filled c p h [] none = rw (le-leb (reach_of c p) 1000 (omega arith))
-ties_filled c p h (q ∷ qs) (one k m u) = rw (nearer-earlier c p q (earlier_cells p q k m) ∙ not_below (reach_of c p) (reach_of c q)) (go (leb (reach_of c p) (reach_of c q)) (ties_filled c p h qs u))
+ties_filled c p h (q ∷ qs) (one k m u) = rw (nearer_earlier c p q (earlier_cells p q k m) ∙ not_below (reach_of c p) (reach_of c q)) (go (leb (reach_of c p) (reach_of c q)) (ties_filled c p h qs u))
   where
     go : (t : Bool) → ahead_of_ties (support_at c p) (filled_up c qs) ≡ filled_up c (placed c p qs) → cond t (support_at c p ∷ support_at c q ∷ filled_up c qs) (support_at c q ∷ ahead_of_ties (support_at c p) (filled_up c qs)) ≡ filled_up c (cond t (p ∷ q ∷ qs) (q ∷ placed c p qs))
     go true w = refl
@@ -223,10 +223,10 @@ module _ (places : List ℕ) (count from : ℕ) (c : Cell) (asked : Nearby place
         in_order = w.in_order;
       }
 
-  pub backing-more : (kept : Supports) (k : ℕ) (new : Support) (next : Supports) → 0 < k → Backing places from c kept k → new ≡ support_at c (get_or places (k - 1) 0) → EarlierKept kept new next
+  pub backing_more : (kept : Supports) (k : ℕ) (new : Support) (next : Supports) → 0 < k → Backing places from c kept k → new ≡ support_at c (get_or places (k - 1) 0) → EarlierKept kept new next
       → Backing places from c next (k - 1)
-  backing-more kept zero new next h g e w = absurd (omega arith)
-  backing-more kept (suc j) new next h g e w =
+  backing_more kept zero new next h g e w = absurd (omega arith)
+  backing_more kept (suc j) new next h g e w =
       subst (Backing places from c next) (sym one_less)
       (back_one kept next j g (subst (λ (s : Support). EarlierKept kept s next) (e ∙ ap (λ (a : ℕ). support_at c (get_or places a 0)) one_less) w))
     where
@@ -234,10 +234,10 @@ module _ (places : List ℕ) (count from : ℕ) (c : Cell) (asked : Nearby place
       one_less = omega arith
 
   -- the rest are all too far
-  skip-back : (kept : Supports) (k : ℕ) → Backing places from c kept k → ((a : ℕ) → a < k → kept.fourth.reach < reach_of c (get_or places a 0)) → Backing places from c kept 0
-  skip-back kept zero g far = g
-  skip-back kept (suc j) g far =
-      skip-back kept j (back_one kept kept j g (earlier-none kept (support_at c (get_or places j 0)) g.in_order (far j (omega arith)))) (λ a h. far a (omega arith))
+  skip_back : (kept : Supports) (k : ℕ) → Backing places from c kept k → ((a : ℕ) → a < k → kept.fourth.reach < reach_of c (get_or places a 0)) → Backing places from c kept 0
+  skip_back kept zero g far = g
+  skip_back kept (suc j) g far =
+      skip_back kept j (back_one kept kept j g (earlier_none kept (support_at c (get_or places j 0)) g.in_order (far j (omega arith)))) (λ a h. far a (omega arith))
 
   whole : (kept : Supports) → Backing places from c kept 0 → Keeping places count c kept from
   whole kept g =
@@ -252,11 +252,11 @@ module _ (places : List ℕ) (count from : ℕ) (c : Cell) (asked : Nearby place
       all : from - 0 ≡ from
       all = omega arith
 
-  pub backing-stop : (kept : Supports) (k place row : ℕ) → 0 < k → Backing places from c kept k → place ≡ get_or places (k - 1) 0 → row ≡ place_of c / 128
+  pub backing_stop : (kept : Supports) (k place row : ℕ) → 0 < k → Backing places from c kept k → place ≡ get_or places (k - 1) 0 → row ≡ place_of c / 128
       → ltb (place / 128 + kept.fourth.reach) row ≡ true → Keeping places count c kept from
-  backing-stop kept k place row h g e f t =
+  backing_stop kept k place row h g e f t =
       whole kept
-      (skip-back kept k g
+      (skip_back kept k g
       (λ a l.
       let below : a < count = omega (arith, g.upto) in
       omega (arith, e, f, ltb-true (place / 128 + kept.fourth.reach) row t, line_before c asked.on (get_or places a 0) (asked.below a below), before_last a l)))
@@ -270,25 +270,25 @@ module _ (places : List ℕ) (count from : ℕ) (c : Cell) (asked : Nearby place
               let s : a ≡ k - 1 = omega (arith, ltb-false a (k - 1) e) in
               subst (λ (b : ℕ). get_or places a 0 ≤ get_or places b 0) s (omega arith)
 
-  pub backing-end : (kept : Supports) (k : ℕ) → k ≤ 0 → Backing places from c kept k → Keeping places count c kept from
-  backing-end kept k h g = whole kept (subst (Backing places from c kept) (omega arith) g)
+  pub backing_end : (kept : Supports) (k : ℕ) → k ≤ 0 → Backing places from c kept k → Keeping places count c kept from
+  backing_end kept k h g = whole kept (subst (Backing places from c kept) (omega arith) g)
 
 -- ---- the walk on: the rest are all too far
 
 module _ (places : List ℕ) (count : ℕ) (c : Cell) (asked : Nearby places count c) (kept : Supports) where
-  skip-on : (n k : ℕ) → k + n ≡ count → Keeping places count c kept k → ((a : ℕ) → k ≤ a → a < count → kept.fourth.reach ≤ reach_of c (get_or places a 0)) → Keeping places count c kept count
-  skip-on zero k e g far = subst (Keeping places count c kept) (omega arith) g
-  skip-on (suc n) k e g far =
-      skip-on n (k + 1) (omega arith)
-      (keeping-more places count c asked kept k g (support_at c (get_or places k 0)) kept (omega arith) refl (kept-none kept (support_at c (get_or places k 0)) g.in_order (far k (omega arith) (omega arith))))
+  skip_on : (n k : ℕ) → k + n ≡ count → Keeping places count c kept k → ((a : ℕ) → k ≤ a → a < count → kept.fourth.reach ≤ reach_of c (get_or places a 0)) → Keeping places count c kept count
+  skip_on zero k e g far = subst (Keeping places count c kept) (omega arith) g
+  skip_on (suc n) k e g far =
+      skip_on n (k + 1) (omega arith)
+      (keeping_more places count c asked kept k g (support_at c (get_or places k 0)) kept (omega arith) refl (kept_none kept (support_at c (get_or places k 0)) g.in_order (far k (omega arith) (omega arith))))
       (λ a l h. far a (omega arith) h)
 
-  pub keeping-stop : (k place row : ℕ) → k < count → Keeping places count c kept k → place ≡ get_or places k 0 → row ≡ place_of c / 128
+  pub keeping_stop : (k place row : ℕ) → k < count → Keeping places count c kept k → place ≡ get_or places k 0 → row ≡ place_of c / 128
       → leb (row + kept.fourth.reach) (place / 128) ≡ true → Keeping places count c kept count
-  keeping-stop k place row h g e f t =
-      skip-on (count - k) k (omega arith) g
+  keeping_stop k place row h g e f t =
+      skip_on (count - k) k (omega arith) g
       (λ a l m.
-      omega (arith, e, f, leb-true (row + kept.fourth.reach) (place / 128) t, line-behind c asked.on (get_or places a 0) (asked.below a m), after_first a l m))
+      omega (arith, e, f, leb-true (row + kept.fourth.reach) (place / 128) t, line_behind c asked.on (get_or places a 0) (asked.below a m), after_first a l m))
     where
       after_first : (a : ℕ) → k ≤ a → a < count → get_or places k 0 ≤ get_or places a 0
       after_first a l m = go (ltb k a) refl

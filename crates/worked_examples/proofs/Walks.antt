@@ -4,7 +4,7 @@ use mathlib.Core.List.{List, [], ◌∷◌}
 use Prim.Native.Nat.{ℕ, ◌+◌}
 use Rattle.sheet.specs.declared.Cell.{Cell}
 use Rattle.written_places.specs.Written.{Written, Rise, no_more, sheet_with, attached_in}
-use Rattle.written_places.proofs.Written.{rise_put, attached-so}
+use Rattle.written_places.proofs.Written.{rise_put, attached_so}
 use Rattle.worked_examples.specs.Table.{with_labels, labelled}
 
 -- the written places with the corners k, k + 1 and so on attached to some cells
@@ -15,7 +15,7 @@ with_labels_in w k (c ∷ cs) = with_labels_in (attached_in w c k) (k + 1) cs
 with_labels_so : (cells : List Cell) (w : List Written) (k : ℕ) → with_labels (sheet_with w) k cells ≡ sheet_with (with_labels_in w k cells)
 unfolding with_labels with_labels_in
 with_labels_so [] w k = refl
-with_labels_so (c ∷ cs) w k = ap (λ (sheet : List ℕ). with_labels sheet (k + 1) cs) (attached-so w c k) ∙ with_labels_so cs (attached_in w c k) (k + 1)
+with_labels_so (c ∷ cs) w k = ap (λ (sheet : List ℕ). with_labels sheet (k + 1) cs) (attached_so w c k) ∙ with_labels_so cs (attached_in w c k) (k + 1)
 
 with_labels_rise : (cells : List Cell) (w : List Written) (k : ℕ) → Rise 0 w → Rise 0 (with_labels_in w k cells)
 unfolding with_labels_in

@@ -9,28 +9,28 @@ use Rattle.arguments.specs.declared.Pass.{Pass}
 use Rattle.passes.specs.Outcome.{done}
 use Rattle.passes.specs.Run.{Call, grow_stats, fill_stats, local_stats, step, sheet_after, run, sheet_of}
 use Rattle.invariants.specs.Calls.{Standing, CallInside, answering, after_pass}
-use Rattle.invariants.proofs.Run.{standing-step, fit-accepts}
+use Rattle.invariants.proofs.Run.{standing_step, fit_accepts}
 use Rattle.written_places.specs.Written.{Written, Rise, sheet_with}
 use Rattle.written_places.specs.Passes.{after_of}
 use Rattle.written_places.specs.Run.{after_pass_in, Asked, runs, refuses, calls_of, AsAsked, ends, one_runs, one_refused, run_in}
-use Rattle.written_places.proofs.Passes.{grow-so, grow-rises, fill-so, fill-rises, local-so, local-rises}
+use Rattle.written_places.proofs.Passes.{grow_so, grow_rises, fill_so, fill_rises, local_so, local_rises}
 
 module _ (l : CornerLists) (shades : List ℕ) (w : List Written) (h : Rise 0 w) (set : Settings) where
-  after-so : (p : Pass) → after_pass l shades (sheet_with w) set p ≡ after_of (after_pass_in l shades w set p)
+  after_so : (p : Pass) → after_pass l shades (sheet_with w) set p ≡ after_of (after_pass_in l shades w set p)
   unfolding after_pass_in
-  after-so (Pass.Grow p) = ap (answering grow_stats) (grow-so (corners_of l shades) set p w h)
-  after-so (Pass.Fill p) = ap (answering fill_stats) (fill-so (corners_of l shades) set p w h)
-  after-so (Pass.Local p) = ap (answering local_stats) (local-so (corners_of l shades) set p w h)
+  after_so (Pass.Grow p) = ap (answering grow_stats) (grow_so (corners_of l shades) set p w h)
+  after_so (Pass.Fill p) = ap (answering fill_stats) (fill_so (corners_of l shades) set p w h)
+  after_so (Pass.Local p) = ap (answering local_stats) (local_so (corners_of l shades) set p w h)
 
-  after-rises : (p : Pass) → Rise 0 (after_pass_in l shades w set p).sheet
+  after_rises : (p : Pass) → Rise 0 (after_pass_in l shades w set p).sheet
   unfolding after_pass_in
-  after-rises (Pass.Grow p) = grow-rises (corners_of l shades) set p w h
-  after-rises (Pass.Fill p) = fill-rises (corners_of l shades) set p w h
-  after-rises (Pass.Local p) = local-rises (corners_of l shades) set p w h
+  after_rises (Pass.Grow p) = grow_rises (corners_of l shades) set p w h
+  after_rises (Pass.Fill p) = fill_rises (corners_of l shades) set p w h
+  after_rises (Pass.Local p) = local_rises (corners_of l shades) set p w h
 
 -- one call that runs
 step_so : (l : CornerLists) (w : List Written) → Rise 0 w → (c : Call) → Standing l (sheet_with w) → CallInside l c → step l (sheet_with w) c ≡ done (after_of (after_pass_in l c.shades w c.settings c.pass))
-step_so l w h c s f = (fit-accepts l (sheet_with w) c s f).done_so ∙ ap done (after-so l c.shades w h c.settings c.pass)
+step_so l w h c s f = (fit_accepts l (sheet_with w) c s f).done_so ∙ ap done (after_so l c.shades w h c.settings c.pass)
 
 -- what holds of a list of calls
 pub record Went (l : CornerLists) (w : List Written) (qs : List Asked) : Type 0 where
@@ -45,7 +45,7 @@ went l (runs c ∷ qs) w h s (one_runs f g) =
     let a = after_pass_in l c.shades w c.settings c.pass in
     let e = step_so l w h c s f in
     let next : sheet_after (sheet_with w) (step l (sheet_with w) c) ≡ sheet_with a.sheet = ap (sheet_after (sheet_with w)) e in
-    let rest = went l qs a.sheet (after-rises l c.shades w h c.settings c.pass) (subst (Standing l) next (standing-step l (sheet_with w) s c)) g in
+    let rest = went l qs a.sheet (after_rises l c.shades w h c.settings c.pass) (subst (Standing l) next (standing_step l (sheet_with w) s c)) g in
     let all = ap (λ (sheet : List ℕ). run l sheet (calls_of qs)) next ∙ rest.run_so in
     record {
       run_so = λ t. e t ∷ all t;

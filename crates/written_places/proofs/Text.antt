@@ -9,18 +9,18 @@ use Rattle.written_places.specs.Text.{cell_says, hole_says, ambiguous_says, text
 use Rattle.written_places.proofs.Written.{all_told}
 
 module _ (w : List Written) (r : Rise 0 w) where
-  pub cells-so : all_places (cell_line (sheet_with w)) ≡ told cell_says w
+  pub cells_so : all_places (cell_line (sheet_with w)) ≡ told cell_says w
   unfolding cell_line label_of label_of_number
-  cells-so = all_told cell_says (λ p. refl) w r
+  cells_so = all_told cell_says (λ p. refl) w r
 
-  pub holes-so : all_places (hole_line (sheet_with w)) ≡ told hole_says w
+  pub holes_so : all_places (hole_line (sheet_with w)) ≡ told hole_says w
   unfolding hole_line hole_of
-  holes-so = all_told hole_says (λ p. refl) w r
+  holes_so = all_told hole_says (λ p. refl) w r
 
-  pub ambiguous-so : all_places (ambiguous_line (sheet_with w)) ≡ told ambiguous_says w
+  pub ambiguous_so : all_places (ambiguous_line (sheet_with w)) ≡ told ambiguous_says w
   unfolding ambiguous_line ambiguous_of
-  ambiguous-so = all_told ambiguous_says (λ p. refl) w r
+  ambiguous_so = all_told ambiguous_says (λ p. refl) w r
 
-  pub text-so : (stats : List PassStats) → result_text stats (sheet_with w) ≡ text_in stats w
+  pub text_so : (stats : List PassStats) → result_text stats (sheet_with w) ≡ text_in stats w
   unfolding result_text text_in
-  text-so stats = λ t. heading ++ (pass_lines stats ++ (cells-so t ++ (holes-so t ++ ambiguous-so t)))
+  text_so stats = λ t. heading ++ (pass_lines stats ++ (cells_so t ++ (holes_so t ++ ambiguous_so t)))

@@ -96,39 +96,39 @@ change_so f w p = go (ltb p 16384) refl
         set_out (sheet_with w) p (f (get_or (sheet_with w) p 0)) past ∙ sym (set_out (sheet_with w) p (f (word_in w p)) past) ∙ put_so w p (f (word_in w p))
 
 module _ (w : List Written) (c : Cell) where
-  pub attached-so : (k : ℕ) → attached (sheet_with w) c k ≡ sheet_with (attached_in w c k)
+  pub attached_so : (k : ℕ) → attached (sheet_with w) c k ≡ sheet_with (attached_in w c k)
   unfolding attached
-  attached-so k = change_so (λ v. with_label v k) w (place_of c)
+  attached_so k = change_so (λ v. with_label v k) w (place_of c)
 
-  pub hole-so : hole_marked (sheet_with w) c ≡ sheet_with (hole_in w c)
+  pub hole_so : hole_marked (sheet_with w) c ≡ sheet_with (hole_in w c)
   unfolding hole_marked
-  hole-so = change_so with_hole w (place_of c)
+  hole_so = change_so with_hole w (place_of c)
 
-  pub ambiguous-so : ambiguous_marked (sheet_with w) c ≡ sheet_with (ambiguous_in w c)
+  pub ambiguous_so : ambiguous_marked (sheet_with w) c ≡ sheet_with (ambiguous_in w c)
   unfolding ambiguous_marked
-  ambiguous-so = change_so with_ambiguous w (place_of c)
+  ambiguous_so = change_so with_ambiguous w (place_of c)
 
-  pub cleared-so : marks_cleared (sheet_with w) c ≡ sheet_with (cleared_in w c)
+  pub cleared_so : marks_cleared (sheet_with w) c ≡ sheet_with (cleared_in w c)
   unfolding marks_cleared
-  cleared-so = change_so without_marks w (place_of c)
+  cleared_so = change_so without_marks w (place_of c)
 
 -- ---- the label at a cell
 
 module _ (w : List Written) where
-  pub label-so : (c : Cell) → label_at (sheet_with w) c ≡ label_in w c
+  pub label_so : (c : Cell) → label_at (sheet_with w) c ≡ label_in w c
   unfolding label_at label_in
-  label-so c = go (on_sheet c) refl
+  label_so c = go (on_sheet c) refl
     where
       go : (t : Bool) → on_sheet c ≡ t → cond t (label_of (get_or (sheet_with w) (place_of c) 0)) Label.Unlabelled ≡ cond t (label_of (word_in w (place_of c))) Label.Unlabelled
       go true e = ap label_of (word_so w (place_of c) (place_in c (subst T (sym e) tt)))
       go false e = refl
 
-  pub seen-so : (corner : ℕ → Corner) → seen_of corner (sheet_with w) ≡ seen_in corner w
+  pub seen_so : (corner : ℕ → Corner) → seen_of corner (sheet_with w) ≡ seen_in corner w
   unfolding seen_of
-  seen-so corner = fun_ext (λ c. ap (seen_through corner) (label-so c))
+  seen_so corner = fun_ext (λ c. ap (seen_through corner) (label_so c))
 
   pub labelled_so : ◌≡◌ {A = Cell → Bool} (λ c. names_corner (label_at (sheet_with w) c)) (labelled_in w)
-  labelled_so = fun_ext (λ c. ap names_corner (label-so c))
+  labelled_so = fun_ext (λ c. ap names_corner (label_so c))
 
 -- ---- what all places say
 
@@ -157,16 +157,16 @@ word_before (e ∷ es) p (then l h r) b = word_past e es p (λ d. omega arith) �
 
 -- where only written places say something, all places say what these do
 module _ (line : ℕ → ℕ → List ℕ) (blank : (p : ℕ) → line p 0 ≡ []) where
-  lines-told : {k : ℕ} (w : List Written) (n : ℕ) → k + n ≡ 16384 → Rise k w → lines_from (λ p. line p (word_in w p)) k n ≡ told line w
+  lines_told : {k : ℕ} (w : List Written) (n : ℕ) → k + n ≡ 16384 → Rise k w → lines_from (λ p. line p (word_in w p)) k n ≡ told line w
   unfolding lines_from told
-  lines-told [] zero s no_more = refl
-  lines-told {k} [] (suc n) s no_more =
+  lines_told [] zero s no_more = refl
+  lines_told {k} [] (suc n) s no_more =
       let head : line k (word_in [] k) ≡ [] = ap (line k) (word_none k) ∙ blank k in
-      let rest = lines-told {k = suc k} [] n (omega arith) no_more in
+      let rest = lines_told {k = suc k} [] n (omega arith) no_more in
       λ t. head t ++ rest t
-  lines-told (e ∷ es) zero s (then l h r) = absurd (omega arith)
-  lines-told {k} (e ∷ es) (suc n) s (then l h r) =
-      go (ℕ_discrete k e.place) (λ d. lines-told {k = suc k} (e ∷ es) n (omega arith) (then (omega (arith, d)) h r)) (λ x. lines-told {k = suc k} es n (omega arith) x)
+  lines_told (e ∷ es) zero s (then l h r) = absurd (omega arith)
+  lines_told {k} (e ∷ es) (suc n) s (then l h r) =
+      go (ℕ_discrete k e.place) (λ d. lines_told {k = suc k} (e ∷ es) n (omega arith) (then (omega (arith, d)) h r)) (λ x. lines_told {k = suc k} es n (omega arith) x)
     where
       go : Dec (k ≡ e.place) → ((k ≡ e.place → ⊥) → lines_from (λ p. line p (word_in (e ∷ es) p)) (suc k) n ≡ told line (e ∷ es))
           → (Rise (suc k) es → lines_from (λ p. line p (word_in es p)) (suc k) n ≡ told line es)
@@ -184,7 +184,7 @@ module _ (line : ℕ → ℕ → List ℕ) (blank : (p : ℕ) → line p 0 ≡ [
   -- on the sheet
   pub all_told : (w : List Written) → Rise 0 w → lines_from (λ p. line p (get_or (sheet_with w) p 0)) 0 16384 ≡ told line w
   all_told w r =
-      lines_ext (λ p. line p (get_or (sheet_with w) p 0)) (λ p. line p (word_in w p)) 0 16384 (λ p l h. ap (line p) (word_so w p h)) ∙ lines-told w 16384 refl r
+      lines_ext (λ p. line p (get_or (sheet_with w) p 0)) (λ p. line p (word_in w p)) 0 16384 (λ p l h. ap (line p) (word_so w p h)) ∙ lines_told w 16384 refl r
 
 -- the numbers that pass are such lines
 passing_suc : (f : ℕ → Bool) (k : ℕ) → passing f (suc k) ≡ passing f k ++ cond (f k) (k ∷ []) []
@@ -199,17 +199,17 @@ passing_lines f k (suc n) =
     ∙ append_assoc (passing f k) (cond (f k) (k ∷ []) []) (lines_from (λ p. cond (f p) (p ∷ []) []) (suc k) n)
 
 module _ (w : List Written) (r : Rise 0 w) where
-  pub places-so : labelled_places (sheet_with w) ≡ places_in w
+  pub places_so : labelled_places (sheet_with w) ≡ places_in w
   unfolding labelled_places passing is_labelled names_corner label_of label_of_number
-  places-so = passing_lines (λ p. is_labelled (get_or (sheet_with w) p 0)) 0 16384 ∙ all_told place_if (λ p. refl) w r
+  places_so = passing_lines (λ p. is_labelled (get_or (sheet_with w) p 0)) 0 16384 ∙ all_told place_if (λ p. refl) w r
 
-  pub box-so : box_of (sheet_with w) ≡ box_around (places_in w)
+  pub box_so : box_of (sheet_with w) ≡ box_around (places_in w)
   unfolding box_of
-  box-so = ap box_around places-so
+  box_so = ap box_around places_so
 
-  pub count-so : label_count (sheet_with w) ≡ length (places_in w)
+  pub count_so : label_count (sheet_with w) ≡ length (places_in w)
   unfolding label_count
-  count-so = ap length places-so
+  count_so = ap length places_so
 
 -- ---- whether a place passes
 
@@ -244,18 +244,18 @@ module _ (test : ℕ → ℕ → Bool) (blank : (p : ℕ) → test p 0 ≡ false
       go false q b f (yes d) = ap (test p) (word_at e es p d) ∙ ap (λ (i : ℕ). test i e.word) d ∙ q
       go false q b f (no d) = ap (test p) (word_past e es p d) ∙ f b
 
-  pub any-so : (w : List Written) → Rise 0 w → any_below 16384 (λ p. test p (get_or (sheet_with w) p 0)) ≡ any_in test w
-  any-so w r = any_ext (λ p. test p (get_or (sheet_with w) p 0)) (λ p. test p (word_in w p)) 16384 (λ p h. ap (test p) (word_so w p h)) ∙ go (any_in test w) refl
+  pub any_so : (w : List Written) → Rise 0 w → any_below 16384 (λ p. test p (get_or (sheet_with w) p 0)) ≡ any_in test w
+  any_so w r = any_ext (λ p. test p (get_or (sheet_with w) p 0)) (λ p. test p (word_in w p)) 16384 (λ p h. ap (test p) (word_so w p h)) ∙ go (any_in test w) refl
     where
       go : (t : Bool) → any_in test w ≡ t → any_below 16384 (λ p. test p (word_in w p)) ≡ t
       go true e = let x = hit w r e in any_hit (λ p. test p (word_in w p)) 16384 x.place x.below x.passes
       go false e = any_no (λ p. test p (word_in w p)) 16384 (λ p h. miss w e p)
 
 module _ (w : List Written) (r : Rise 0 w) where
-  pub used-so : (k : ℕ) → used_on (sheet_with w) k ≡ used_in w k
+  pub used_so : (k : ℕ) → used_on (sheet_with w) k ≡ used_in w k
   unfolding used_on names label_of label_of_number
-  used-so k = any-so (λ p v. names k (label_of v)) (λ p. refl) w r
+  used_so k = any_so (λ p v. names k (label_of v)) (λ p. refl) w r
 
-  pub rim-so : (depth : ℕ) → rim depth (sheet_with w) ≡ rim_in depth w
+  pub rim_so : (depth : ℕ) → rim depth (sheet_with w) ≡ rim_in depth w
   unfolding rim rim_at is_labelled names_corner label_of label_of_number
-  rim-so depth = any-so (λ p v. rim_at depth v p) (λ p. refl) w r
+  rim_so depth = any_so (λ p v. rim_at depth v p) (λ p. refl) w r

@@ -2,7 +2,7 @@
 use mathlib.Core.Path.{◌≡◌}
 use Prim.Native.Nat.{◌-◌}
 use native.Mathlib.Omega.{arith}
-use Rattle.labels.proofs.Below.{Searching, searching_start, searching-more, searching-hit, searching-end}
+use Rattle.labels.proofs.Below.{Searching, searching_start, searching_more, searching_hit, searching_end}
 use lib.ListN.{get_or}
 use Rattle.arguments.specs.Shades.{shade_of, stands, any_shade}
 use Rattle.arguments.proofs.HoldingShades.{byte_stands, byte_bare}
@@ -16,11 +16,11 @@ bounds-shades-k c = omega (arith, c.requires)
 
 pub returns-then-shades-k-ne0 : goal.returns-then-shades-k-ne0
 unfolding any_shade
-returns-then-shades-k-ne0 c = searching-hit _ _ _ c.loop-k.invariant c.loop-k-test.true (byte_stands _ c.if-shades-k-ne0.true)
+returns-then-shades-k-ne0 c = searching_hit _ _ _ c.loop-k.invariant c.loop-k-test.true (byte_stands _ c.if-shades-k-ne0.true)
 
 pub loop-k-preserved : goal.loop-k-preserved
-loop-k-preserved c = searching-more _ _ _ c.loop-k.invariant c.loop-k-test.true (byte_bare _ c.if-shades-k-ne0.false)
+loop-k-preserved c = searching_more _ _ _ c.loop-k.invariant c.loop-k-test.true (byte_bare _ c.if-shades-k-ne0.false)
 
 pub returns : goal.returns
 unfolding any_shade
-returns c = searching-end _ _ _ c.loop-k.invariant c.loop-k-test.false
+returns c = searching_end _ _ _ c.loop-k.invariant c.loop-k-test.false

@@ -2,7 +2,7 @@
 use mathlib.Core.Path.{◌≡◌}
 use Prim.Native.Nat.{◌-◌}
 use native.Mathlib.Omega.{arith}
-use Rattle.labels.proofs.Below.{Searching, searching_start, searching-more, searching-hit, searching-end}
+use Rattle.labels.proofs.Below.{Searching, searching_start, searching_more, searching_hit, searching_end}
 use lib.ListN.{get_or}
 use Rattle.arguments.specs.Shades.{shade_of, stands, any_shade}
 use Rattle.arguments.proofs.HoldingShades.{byte_stands, byte_bare}

@@ -7,7 +7,7 @@ use Rattle.sheet.specs.Corners.{corner_lists}
 use Rattle.arguments.specs.Arguments.{Lent, lent, corner_count, too_short, over_limit, some_corner_outside, settings_outside, out_of_range, unknown_corner}
 use Rattle.arguments.specs.Accepted.{LongEnough}
 use Rattle.arguments.proofs.Laws.{long_enough, known, known_more}
-use Rattle.arguments.proofs.Tests.{holds, fails, refused-7, refused-2, refused-3, refused-5, refused-6, refused_none}
+use Rattle.arguments.proofs.Tests.{holds, fails, refused_7, refused_2, refused_3, refused_5, refused_6, refused_none}
 use Rattle.arguments.proofs.check_arguments.Goals as goal
 use Rattle.arguments.proofs.check_arguments.Goals.{Else-pass_outside, Else-settings_outside, Else-some_corner_outside, Else-too_short, Else-unknown_corner, Else-xs-gt-CORNERS, Start}
 
@@ -40,11 +40,11 @@ long : (c : Else-too_short) → LongEnough (at (goal.at.Else-too_short c).Start)
 long c = long_enough _ _ (passed_7 c)
 
 pub returns-then-too_short : goal.returns-then-too_short
-returns-then-too_short c = refused-7 _ _ _ (sym c.too_short.ensures ∙ c.if-too_short.true)
+returns-then-too_short c = refused_7 _ _ _ (sym c.too_short.ensures ∙ c.if-too_short.true)
 
 pub returns-then-xs-gt-CORNERS : goal.returns-then-xs-gt-CORNERS
 unfolding over_limit
-returns-then-xs-gt-CORNERS c = refused-2 _ _ _ (passed_7 (goal.at.returns-then-xs-gt-CORNERS c).Else-too_short) (lt-ltb _ _ c.if-xs-gt-CORNERS.true)
+returns-then-xs-gt-CORNERS c = refused_2 _ _ _ (passed_7 (goal.at.returns-then-xs-gt-CORNERS c).Else-too_short) (lt-ltb _ _ c.if-xs-gt-CORNERS.true)
 
 pub some_corner_outside-requires : goal.some_corner_outside-requires
 some_corner_outside-requires c =
@@ -53,32 +53,32 @@ some_corner_outside-requires c =
 
 pub returns-then-some_corner_outside : goal.returns-then-some_corner_outside
 unfolding out_of_range
-returns-then-some_corner_outside c = refused-3 _ _ _ (passed_7 (goal.at.returns-then-some_corner_outside c).Else-too_short) (passed_2 (goal.at.returns-then-some_corner_outside c).Else-xs-gt-CORNERS) (holds _ _ (sym c.some_corner_outside.ensures ∙ c.if-some_corner_outside.true))
+returns-then-some_corner_outside c = refused_3 _ _ _ (passed_7 (goal.at.returns-then-some_corner_outside c).Else-too_short) (passed_2 (goal.at.returns-then-some_corner_outside c).Else-xs-gt-CORNERS) (holds _ _ (sym c.some_corner_outside.ensures ∙ c.if-some_corner_outside.true))
 
 pub returns-then-settings_outside : goal.returns-then-settings_outside
 unfolding out_of_range
 returns-then-settings_outside c =
-    refused-3 _ _ _ (passed_7 (goal.at.returns-then-settings_outside c).Else-too_short) (passed_2 (goal.at.returns-then-settings_outside c).Else-xs-gt-CORNERS)
+    refused_3 _ _ _ (passed_7 (goal.at.returns-then-settings_outside c).Else-too_short) (passed_2 (goal.at.returns-then-settings_outside c).Else-xs-gt-CORNERS)
     (fails _ _ _ (corners_passed (goal.at.returns-then-settings_outside c).Else-some_corner_outside) (holds _ _ (sym c.settings_outside.ensures ∙ c.if-settings_outside.true)))
 
 pub returns-then-pass_outside : goal.returns-then-pass_outside
 unfolding out_of_range
 returns-then-pass_outside c =
-    refused-3 _ _ _ (passed_7 (goal.at.returns-then-pass_outside c).Else-too_short) (passed_2 (goal.at.returns-then-pass_outside c).Else-xs-gt-CORNERS)
+    refused_3 _ _ _ (passed_7 (goal.at.returns-then-pass_outside c).Else-too_short) (passed_2 (goal.at.returns-then-pass_outside c).Else-xs-gt-CORNERS)
     (fails _ _ _ (corners_passed (goal.at.returns-then-pass_outside c).Else-some_corner_outside) (fails _ _ _ (settings_passed (goal.at.returns-then-pass_outside c).Else-settings_outside) (sym c.if-pass_outside.true ∙ c.pass_outside.ensures)))
 
 pub unknown_corner-requires : goal.unknown_corner-requires
 unknown_corner-requires c = (long (goal.at.unknown_corner-requires c).Else-too_short).sheet_long
 
 pub returns-then-unknown_corner : goal.returns-then-unknown_corner
-returns-then-unknown_corner c = refused-5 _ _ _ (passed_7 (goal.at.returns-then-unknown_corner c).Else-too_short) (passed_2 (goal.at.returns-then-unknown_corner c).Else-xs-gt-CORNERS) (passed_3 (goal.at.returns-then-unknown_corner c).Else-pass_outside) (sym c.unknown_corner.ensures ∙ c.if-unknown_corner.true)
+returns-then-unknown_corner c = refused_5 _ _ _ (passed_7 (goal.at.returns-then-unknown_corner c).Else-too_short) (passed_2 (goal.at.returns-then-unknown_corner c).Else-xs-gt-CORNERS) (passed_3 (goal.at.returns-then-unknown_corner c).Else-pass_outside) (sym c.unknown_corner.ensures ∙ c.if-unknown_corner.true)
 
 pub doubled_corner-requires : goal.doubled_corner-requires
 doubled_corner-requires c =
     record { long = (long (goal.at.doubled_corner-requires c).Else-too_short).sheet_long; known = known_more _ _ _ c.if-xs-gt-CORNERS.false (known _ _ (passed_5 c)) }
 
 pub returns-then-doubled_corner : goal.returns-then-doubled_corner
-returns-then-doubled_corner c = refused-6 _ _ _ (passed_7 (goal.at.returns-then-doubled_corner c).Else-too_short) (passed_2 (goal.at.returns-then-doubled_corner c).Else-xs-gt-CORNERS) (passed_3 (goal.at.returns-then-doubled_corner c).Else-pass_outside) (passed_5 (goal.at.returns-then-doubled_corner c).Else-unknown_corner) (sym c.doubled_corner.ensures ∙ c.if-doubled_corner.true)
+returns-then-doubled_corner c = refused_6 _ _ _ (passed_7 (goal.at.returns-then-doubled_corner c).Else-too_short) (passed_2 (goal.at.returns-then-doubled_corner c).Else-xs-gt-CORNERS) (passed_3 (goal.at.returns-then-doubled_corner c).Else-pass_outside) (passed_5 (goal.at.returns-then-doubled_corner c).Else-unknown_corner) (sym c.doubled_corner.ensures ∙ c.if-doubled_corner.true)
 
 pub returns : goal.returns
 returns c = refused_none _ _ _ (passed_7 (goal.at.returns c).Else-too_short) (passed_2 (goal.at.returns c).Else-xs-gt-CORNERS) (passed_3 (goal.at.returns c).Else-pass_outside) (passed_5 (goal.at.returns c).Else-unknown_corner) (sym c.doubled_corner.ensures ∙ c.if-doubled_corner.false)

@@ -3,7 +3,7 @@ use Prim.Native.Nat.{◌-◌}
 use native.Mathlib.Omega.{arith}
 use lib.ListN.{length}
 use Rattle.sheet.specs.Corners.{corner_lists}
-use Rattle.arguments.proofs.Holding.{Holding, holding_start, holding-more, holding-all, holding-no-kinds}
+use Rattle.arguments.proofs.Holding.{Holding, holding_start, holding_more, holding_all, holding_no_kinds}
 use Rattle.arguments.proofs.hold_positions.Goals as goal
 
 pub loop-k-init : goal.loop-k-init
@@ -49,9 +49,9 @@ pub bounds-held-k-in-loop-k-2 : goal.bounds-held-k-in-loop-k-2
 bounds-held-k-in-loop-k-2 c = omega (arith, c.requires.few)
 
 pub loop-k-preserved : goal.loop-k-preserved
-loop-k-preserved c = holding-more c.requires.few c.loop-k.invariant c.loop-k-test.true
+loop-k-preserved c = holding_more c.requires.few c.loop-k.invariant c.loop-k-test.true
 
 pub returns : goal.returns
 returns c =
     let few = c.requires.few in
-    (holding-all few c.loop-k.invariant c.loop-k-test.false, holding-no-kinds few c.loop-k.invariant)
+    (holding_all few c.loop-k.invariant c.loop-k-test.false, holding_no_kinds few c.loop-k.invariant)

@@ -1,10 +1,11 @@
 -- `arguments::hold_shades` meets its contract: one shade after the other is put into the array. Assumes nothing.
-use mathlib.Core.Path.{sym, ◌∙◌}
+use mathlib.Core.Bool.{not}
+use mathlib.Core.Path.{sym, ◌∙◌, ap}
 use Prim.Native.Nat.{◌-◌}
 use native.Mathlib.Omega.{arith}
 use borrow.Author.Tests.{not-true, not-false}
 use borrow.Author.Rules.{rules}
-use Rattle.arguments.proofs.HoldingShades.{Shading, shading_start, shading-more, shading-some, shading-none, shading-corners}
+use Rattle.arguments.proofs.HoldingShades.{Shading, shading_start, shading_more, shading_some, shading_none, shading_corners}
 use Rattle.arguments.proofs.hold_shades.Goals as goal
 
 pub loop-k-init : goal.loop-k-init
@@ -20,7 +21,7 @@ pub bounds-held-k : goal.bounds-held-k
 bounds-held-k c = omega (arith, c.requires.0.few)
 
 pub loop-k-preserved : goal.loop-k-preserved
-loop-k-preserved c = shading-more c.requires.0 c.loop-k.invariant c.loop-k-test.true c.entry_of.ensures
+loop-k-preserved c = shading_more c.requires.0 c.loop-k.invariant c.loop-k-test.true c.entry_of.ensures
 
 pub any_shade-requires : goal.any_shade-requires
 any_shade-requires c = c.requires.0.long
@@ -30,10 +31,10 @@ returns-then-not-any_shade c =
     let two = c.requires.0 in
     let g = c.loop-k.invariant in
     let all = c.loop-k-test.false in
-    (shading-corners two g all, shading-none two g all (sym c.any_shade.ensures ∙ not-true _ c.if-not-any_shade.true))
+    (shading_corners two g all, shading_none two g all (sym c.any_shade.ensures ∙ not-true _ (ap not c.if-not-any_shade.true)))
 
 pub returns-else-not-any_shade : goal.returns-else-not-any_shade
 returns-else-not-any_shade c =
     let two = c.requires.0 in
     let g = c.loop-k.invariant in
-    (g.corners, shading-some two g c.loop-k-test.false (sym c.any_shade.ensures ∙ not-false _ c.if-not-any_shade.false))
+    (g.corners, shading_some two g c.loop-k-test.false (sym c.any_shade.ensures ∙ not-false _ (ap not c.if-not-any_shade.false)))

@@ -4,7 +4,7 @@ use Prim.Native.Nat.{◌-◌}
 use native.Mathlib.Omega.{arith}
 use borrow.Author.Tests.{not-true, not-false}
 use borrow.Author.Rules.{rules}
-use Rattle.arguments.proofs.HoldingShades.{Shading, shading_start, shading-more, shading-some, shading-none, shading-corners}
+use Rattle.arguments.proofs.HoldingShades.{Shading, shading_start, shading_more, shading_some, shading_none, shading_corners}
 use Rattle.arguments.proofs.hold_shades.Given as goal
 
 abbrev pub invariant-loop-k : goal.invariant-loop-k

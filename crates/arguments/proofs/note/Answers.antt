@@ -1,10 +1,10 @@
 -- `arguments::note` meets its contract, by the label, whose corner has an entry. Assumes nothing.
-use Rattle.arguments.proofs.Tests.{note-none, note-corner}
+use Rattle.arguments.proofs.Tests.{note_none, note_corner}
 use borrow.Author.Rules.{rules}
 use Rattle.arguments.proofs.note.Goals as goal
 
 pub returns-in_default : goal.returns-in_default
-returns-in_default c = note-none _ _ c.in_default.is
+returns-in_default c = note_none _ _ c.in_default.is
 
 pub bounds-seen-k : goal.bounds-seen-k
 bounds-seen-k c = c.requires.entry _ c.in-Corner.is
@@ -13,4 +13,4 @@ pub bounds-seen-k-2 : goal.bounds-seen-k-2
 bounds-seen-k-2 c = c.requires.entry _ c.in-Corner.is
 
 pub returns : goal.returns
-returns c = note-corner _ _ _ c.in-Corner.is (c.requires.entry _ c.in-Corner.is)
+returns c = note_corner _ _ _ c.in-Corner.is (c.requires.entry _ c.in-Corner.is)

@@ -7,7 +7,7 @@ use borrow.Author.Rules.{rules}
 use borrow.Author.Tests.{lt-ltb, le-ltb}
 use lib.ListN.{length}
 use Rattle.sheet.specs.Corners.{corner_lists, corner_of}
-use Rattle.labels.proofs.Below.{Searching, searching_start, searching-more, searching-hit, searching-end}
+use Rattle.labels.proofs.Below.{Searching, searching_start, searching_more, searching_hit, searching_end}
 use Rattle.arguments.specs.Arguments.{corner_outside, shade_outside, outside_at, some_corner_outside}
 use Rattle.arguments.proofs.Tests.{holds, fails}
 use Rattle.arguments.proofs.some_corner_outside.Goals as goal
@@ -27,7 +27,7 @@ said c = sym (c.corner_outside.ensures ∙ ap corner_outside c.listed_corner.ens
 pub returns-then-corner_outside : goal.returns-then-corner_outside
 unfolding some_corner_outside outside_at
 returns-then-corner_outside c =
-    searching-hit _ _ _ c.loop-k.invariant c.loop-k-test.true
+    searching_hit _ _ _ c.loop-k.invariant c.loop-k-test.true
     (sym (holds _ _ (said (goal.at.returns-then-corner_outside c).After-corner_outside ∙ c.if-corner_outside.true)))
 
 pub bounds-shades-k : goal.bounds-shades-k
@@ -36,15 +36,15 @@ bounds-shades-k c = omega (arith, c.loop-k-test.true, c.requires.shades_long)
 pub returns-then-shades-k-gt2 : goal.returns-then-shades-k-gt2
 unfolding some_corner_outside outside_at shade_outside
 returns-then-shades-k-gt2 c =
-    searching-hit _ _ _ c.loop-k.invariant c.loop-k-test.true
+    searching_hit _ _ _ c.loop-k.invariant c.loop-k-test.true
     (sym (fails _ _ _ (said (goal.at.returns-then-shades-k-gt2 c).After-corner_outside ∙ c.if-corner_outside.false) (sym (lt-ltb _ _ c.if-shades-k-gt2.true))))
 
 pub loop-k-preserved : goal.loop-k-preserved
 unfolding outside_at shade_outside
 loop-k-preserved c =
-    searching-more _ _ _ c.loop-k.invariant c.loop-k-test.true
+    searching_more _ _ _ c.loop-k.invariant c.loop-k-test.true
     (sym (fails _ _ _ (said (goal.at.loop-k-preserved c).After-corner_outside ∙ c.if-corner_outside.false) (sym (le-ltb _ _ c.if-shades-k-gt2.false))))
 
 pub returns : goal.returns
 unfolding some_corner_outside
-returns c = searching-end _ _ _ c.loop-k.invariant c.loop-k-test.false
+returns c = searching_end _ _ _ c.loop-k.invariant c.loop-k-test.false

@@ -7,7 +7,7 @@ use borrow.Author.Rules.{rules}
 use borrow.Author.Tests.{lt-ltb, le-ltb}
 use lib.ListN.{length}
 use Rattle.sheet.specs.Corners.{corner_lists, corner_of}
-use Rattle.labels.proofs.Below.{Searching, searching_start, searching-more, searching-hit, searching-end}
+use Rattle.labels.proofs.Below.{Searching, searching_start, searching_more, searching_hit, searching_end}
 use Rattle.arguments.specs.Arguments.{corner_outside, shade_outside, outside_at, some_corner_outside}
 use Rattle.arguments.proofs.Tests.{holds, fails}
 use Rattle.arguments.proofs.some_corner_outside.Given as goal

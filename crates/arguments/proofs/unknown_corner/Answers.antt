@@ -3,7 +3,7 @@ use mathlib.Core.Path.{◌≡◌, sym, ap, ◌∙◌}
 use Prim.Native.Nat.{◌-◌}
 use native.Mathlib.Omega.{arith}
 use borrow.Author.Rules.{rules}
-use Rattle.labels.proofs.Below.{Searching, searching_start, searching-more, searching-hit, searching-end}
+use Rattle.labels.proofs.Below.{Searching, searching_start, searching_more, searching_hit, searching_end}
 use Rattle.arguments.specs.Arguments.{unknown, unknown_at, unknown_corner}
 use Rattle.arguments.proofs.Tests.{unknown_skips}
 use Rattle.arguments.proofs.unknown_corner.Goals as goal
@@ -22,7 +22,7 @@ said c = sym (c.is_unknown.ensures ∙ ap (unknown c.args.n) c.label_of.ensures)
 
 pub returns-then-is_unknown : goal.returns-then-is_unknown
 unfolding unknown_corner
-returns-then-is_unknown c = searching-hit _ _ _ c.loop-place.invariant c.loop-place-test.true (said (goal.at.returns-then-is_unknown c).After-is_unknown ∙ c.if-is_unknown.true)
+returns-then-is_unknown c = searching_hit _ _ _ c.loop-place.invariant c.loop-place-test.true (said (goal.at.returns-then-is_unknown c).After-is_unknown ∙ c.if-is_unknown.true)
 
 pub next_written-place-requires-in-loop-place : goal.next_written-place-requires-in-loop-place
 next_written-place-requires-in-loop-place c = (omega arith, omega arith)
@@ -31,8 +31,8 @@ pub loop-place-smaller : goal.loop-place-smaller
 loop-place-smaller c = let l = c.next_written-place-in-loop-place.ensures.passed.start in omega arith
 
 pub loop-place-preserved : goal.loop-place-preserved
-loop-place-preserved c = unknown_skips _ _ (searching-more _ _ _ c.loop-place.invariant c.loop-place-test.true (said (goal.at.loop-place-preserved c).After-is_unknown ∙ c.if-is_unknown.false)) c.next_written-place-in-loop-place.ensures
+loop-place-preserved c = unknown_skips _ _ (searching_more _ _ _ c.loop-place.invariant c.loop-place-test.true (said (goal.at.loop-place-preserved c).After-is_unknown ∙ c.if-is_unknown.false)) c.next_written-place-in-loop-place.ensures
 
 pub returns : goal.returns
 unfolding unknown_corner
-returns c = searching-end _ _ _ c.loop-place.invariant c.loop-place-test.false
+returns c = searching_end _ _ _ c.loop-place.invariant c.loop-place-test.false

@@ -6,7 +6,7 @@ use native.Mathlib.Omega.{arith}
 use borrow.Author.Rules.{rules}
 use borrow.Author.Tests.{not-true, not-false}
 use Rattle.candidates.specs.Candidates.{eligible_in}
-use Rattle.candidates.proofs.Scan.{Scanned, nowhere-x, nowhere-y, nowhere, scanned-start, scanned-more, scanned-all}
+use Rattle.candidates.proofs.Scan.{Scanned, nowhere_x, nowhere_y, nowhere, scanned_start, scanned_more, scanned_all}
 use Rattle.candidates.proofs.collect_candidates.Given as goal
 
 abbrev pub invariant-loop-k : goal.invariant-loop-k

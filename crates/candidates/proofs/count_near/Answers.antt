@@ -4,7 +4,7 @@ use mathlib.Core.Path.{◌≡◌, refl, ap, ◌∙◌}
 use native.Mathlib.Omega.{arith}
 use Rattle.candidates.specs.Candidates.{positions_in}
 use Rattle.candidates.specs.Steps.{is_near, count_from}
-use Rattle.candidates.proofs.Scan.{count_most, count-more}
+use Rattle.candidates.proofs.Scan.{count_most, count_more}
 use Rattle.candidates.proofs.count_near.Goals as goal
 
 pub loop-k-init : goal.loop-k-init
@@ -24,12 +24,12 @@ overflow_add-count c =
     omega (
       arith,
       l.invariant.1,
-      count-more (is_near (positions_in a.corners.now) a.prediction a.limit) a.from l.k l.invariant.1 c.one_if_near-count.ensures,
+      count_more (is_near (positions_in a.corners.now) a.prediction a.limit) a.from l.k l.invariant.1 c.one_if_near-count.ensures,
       count_most (is_near (positions_in a.corners.now) a.prediction a.limit) a.from (l.k + 1),
     )
 
 pub loop-k-preserved : goal.loop-k-preserved
-loop-k-preserved c = (omega arith, count-more _ _ _ c.loop-k.invariant.1 c.one_if_near-count.ensures)
+loop-k-preserved c = (omega arith, count_more _ _ _ c.loop-k.invariant.1 c.one_if_near-count.ensures)
 
 pub returns : goal.returns
 returns c =

@@ -4,7 +4,7 @@ use mathlib.Core.Path.{◌≡◌, refl, ap, ◌∙◌}
 use native.Mathlib.Omega.{arith}
 use Rattle.candidates.specs.Candidates.{positions_in}
 use Rattle.candidates.specs.Steps.{is_near, count_from}
-use Rattle.candidates.proofs.Scan.{count_most, count-more}
+use Rattle.candidates.proofs.Scan.{count_most, count_more}
 use Rattle.candidates.proofs.count_near.Given as goal
 
 abbrev pub invariant-loop-k : goal.invariant-loop-k

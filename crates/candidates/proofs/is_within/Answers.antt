@@ -11,14 +11,14 @@ use Rattle.sheet.specs.Corners.{squared_distance}
 use Rattle.candidates.specs.Candidates.{positions_in, unmarked}
 use Rattle.candidates.proofs.Scan.{labelled, far, by_kind}
 use Rattle.candidates.proofs.is_within.Goals as goal
-use Rattle.candidates.proofs.is_within.Goals.{After-way_told-1, Start}
+use Rattle.candidates.proofs.is_within.Goals.{After-way_told-1}
 
 -- the corner's kind
-abbrev kinds : (s : Start) → ℕ → Bool
+abbrev kinds : (s : After-way_told-1) → ℕ → Bool
 kinds s = takes_kind (shades_in s.args.corners.now) s.args.kind
 
 -- the code's square is the corner's
-square : (s : Start) {at : Position} {d2 : Float} → at ≡ positions_in s.args.corners.now s.args.k → d2 ≡ squared_distance at s.args.prediction
+square : (s : After-way_told-1) {at : Position} {d2 : Float} → at ≡ positions_in s.args.corners.now s.args.k → d2 ≡ squared_distance at s.args.prediction
     → le (squared_distance (positions_in s.args.corners.now s.args.k) s.args.prediction) s.args.limit ≡ le d2 s.args.limit
 square s e f = sym (ap (λ (d2 : Float). le d2 s.args.limit) (f ∙ ap (λ (q : Position). squared_distance q s.args.prediction) e))
 

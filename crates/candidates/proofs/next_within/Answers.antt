@@ -3,7 +3,7 @@ use Prim.Native.Nat.{◌-◌}
 use native.Mathlib.Omega.{arith}
 use Rattle.candidates.specs.Candidates.{positions_in, eligible_in}
 use Rattle.candidates.specs.Steps.{is_within}
-use Rattle.candidates.proofs.Scan.{Passing, passing_start, passing_next, passing-block}
+use Rattle.candidates.proofs.Scan.{Passing, passing_start, passing_next, passing_block}
 use Rattle.candidates.proofs.next_within.Goals as goal
 
 pub loop-k-init : goal.loop-k-init
@@ -23,7 +23,7 @@ returns-then-count_near-ne0 c = passing_next _ _ _ _ _ c.loop-k.invariant c.next
 
 pub loop-k-preserved : goal.loop-k-preserved
 loop-k-preserved c = let a = c.args in
-    passing-block _ (eligible_in a.corners.now a.used.now a.kind) _ _ _ _ _ c.loop-k.invariant c.loop-k-test.true c.count_near.ensures (omega arith)
+    passing_block _ (eligible_in a.corners.now a.used.now a.kind) _ _ _ _ _ c.loop-k.invariant c.loop-k-test.true c.count_near.ensures (omega arith)
 
 pub next_tested-requires-2 : goal.next_tested-requires-2
 next_tested-requires-2 c = (c.requires.0, c.loop-k.invariant.within)

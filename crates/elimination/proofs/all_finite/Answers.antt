@@ -1,4 +1,6 @@
 -- `elimination::all_finite` meets its contract. The loop's invariant: the rows passed are finite. Assumes nothing.
+use mathlib.Core.Bool.{not}
+use mathlib.Core.Path.{ap}
 use Prim.Native.Nat.{◌-◌}
 use borrow.Author.Rules.{rules}
 use Rattle.elimination.specs.Solve.{row, finite_row}
@@ -9,10 +11,10 @@ pub loop-i-init : goal.loop-i-init
 loop-i-init c = passing_start _ _
 
 pub returns-then-not-f : goal.returns-then-not-f
-returns-then-not-f c = passing_stop c.loop-i.invariant c.loop-i-test.true c.row_finite-f.ensures c.if-not-f.true
+returns-then-not-f c = passing_stop c.loop-i.invariant c.loop-i-test.true c.row_finite-f.ensures (ap not c.if-not-f.true)
 
 pub loop-i-preserved : goal.loop-i-preserved
-loop-i-preserved c = passing_more c.loop-i.invariant c.loop-i-test.true c.row_finite-f.ensures c.if-not-f.false
+loop-i-preserved c = passing_more c.loop-i.invariant c.loop-i-test.true c.row_finite-f.ensures (ap not c.if-not-f.false)
 
 pub returns : goal.returns
 returns c = passing_end c.loop-i.invariant c.loop-i-test.false

@@ -2,7 +2,7 @@
 use mathlib.Core.Path.{◌≡◌, ◌∙◌}
 use Rattle.sheet.specs.Corners.{corners_in}
 use Rattle.extension_common.specs.TryCell.{gathered}
-use Rattle.extension_common.proofs.Laws.{gathered-tied, choosable, tried_with}
+use Rattle.extension_common.proofs.Laws.{gathered_tied, choosable, tried_with}
 use borrow.Author.Rules.{rules}
 use Rattle.extension_common.proofs.try_attach_at_cell.Goals as goal
 use Rattle.extension_common.proofs.try_attach_at_cell.Goals.{After-collect_candidates-candidates}
@@ -13,7 +13,7 @@ candidates : (c : After-collect_candidates-candidates) → let a = c.args in
 candidates c =
     let a = c.args in
     c.collect_candidates-candidates.ensures
-    ∙ gathered-tied a.corners.now a.count a.sheet.now a.used.now a.search.search_r a.c a.prediction c.requires.few c.requires.tied c.kind_at-kind.ensures
+    ∙ gathered_tied a.corners.now a.count a.sheet.now a.used.now a.search.search_r a.c a.prediction c.requires.few c.requires.tied c.kind_at-kind.ensures
 
 pub try_candidates-requires : goal.try_candidates-requires
 try_candidates-requires c = choosable _ _ _ _ _ _ c.requires.few c.requires.given c.requires.on (candidates c)

@@ -1,14 +1,14 @@
 -- `fill::fill_grid_holes` meets its contract: a refusal as the check gives it, or what the pass leaves. Assumes nothing.
 use borrow.Author.Rules.{rules}
 use Rattle.sheet.specs.Corners.{corner_lists}
-use Rattle.fill.proofs.Rounds.{call-refused, call_accepted, call-done}
+use Rattle.fill.proofs.Rounds.{call_refused, call_accepted, call_done}
 use Rattle.fill.proofs.fill_grid_holes.Goals as goal
 
 pub returns-in-Refused : goal.returns-in-Refused
-returns-in-Refused c = let a = c.args in call-refused (corner_lists a.xs.now a.ys.now a.pitches.now) a.shades.now a.sheet.now a.attached.now a.settings a.params _ c.check_arguments-checked.ensures _ c.in-Refused.is
+returns-in-Refused c = let a = c.args in call_refused (corner_lists a.xs.now a.ys.now a.pitches.now) a.shades.now a.sheet.now a.attached.now a.settings a.params _ c.check_arguments-checked.ensures _ c.in-Refused.is
 
 pub fill_accepted-requires : goal.fill_accepted-requires
 fill_accepted-requires c = let a = c.args in call_accepted (corner_lists a.xs.now a.ys.now a.pitches.now) a.shades.now a.sheet.now a.attached.now a.settings a.params _ c.check_arguments-checked.ensures c.in_default.is
 
 pub returns : goal.returns
-returns c = let a = c.args in call-done (corner_lists a.xs.now a.ys.now a.pitches.now) a.shades.now a.sheet.now a.attached.now a.settings a.params _ c.check_arguments-checked.ensures c.in_default.is _ c.fill_accepted.ensures
+returns c = let a = c.args in call_done (corner_lists a.xs.now a.ys.now a.pitches.now) a.shades.now a.sheet.now a.attached.now a.settings a.params _ c.check_arguments-checked.ensures c.in_default.is _ c.fill_accepted.ensures

@@ -5,7 +5,7 @@ use native.Mathlib.Omega.{arith}
 use Rattle.region.proofs.Near.{box_small}
 use Rattle.region.proofs.Jumps.{box_on}
 use Rattle.sheet.specs.Corners.{corners_in}
-use Rattle.fill.proofs.Walk.{Walking, walking_start, walking-more, walking-jumps, walking-end}
+use Rattle.fill.proofs.Walk.{Walking, walking_start, walking_more, walking_jumps, walking_end}
 use Rattle.fill.proofs.fill_round.Given as goal
 
 abbrev pub invariant-loop-place : goal.invariant-loop-place

@@ -3,11 +3,11 @@ use mathlib.Core.Path.{◌∙◌}
 use Prim.Native.Nat.{◌-◌}
 use native.Mathlib.Omega.{arith}
 use Rattle.sheet.specs.Corners.{corners_in}
-use Rattle.fill.proofs.Rounds.{Rounding, rounding-start, rounding-last, rounding-more, rounding-end}
+use Rattle.fill.proofs.Rounds.{Rounding, rounding_start, rounding_last, rounding_more, rounding_end}
 use Rattle.fill.proofs.fill_rounds.Goals as goal
 
 pub loop-rounds-init : goal.loop-rounds-init
-loop-rounds-init c = rounding-start _ _ _ _ _ _ _ c.requires
+loop-rounds-init c = rounding_start _ _ _ _ _ _ _ c.requires
 
 pub fill_round-next-requires : goal.fill_round-next-requires
 fill_round-next-requires c = c.loop-rounds.invariant.left.filling
@@ -22,14 +22,14 @@ pub shape_of-attached-then-next-made : goal.shape_of-attached-then-next-made
 shape_of-attached-then-next-made c = c.fill_round-next.auto.1.1.0 ∙ c.loop-rounds.invariant.same_list_holds
 
 pub returns-then-next-made : goal.returns-then-next-made
-returns-then-next-made c = rounding-last _ _ _ _ _ _ _ _ _ _ _ c.loop-rounds.invariant _ _ _ _ c.loop-rounds-test.true c.fill_round-next.ensures c.if-next-made.true
+returns-then-next-made c = rounding_last _ _ _ _ _ _ _ _ _ _ _ c.loop-rounds.invariant _ _ _ _ c.loop-rounds-test.true c.fill_round-next.ensures c.if-next-made.true
 
 pub loop-rounds-smaller : goal.loop-rounds-smaller
 loop-rounds-smaller c = omega (arith, c.loop-rounds-test.true)
 
 pub loop-rounds-preserved : goal.loop-rounds-preserved
 loop-rounds-preserved c =
-    rounding-more _ _ _ _ _ _ _ _ _ _ _ c.loop-rounds.invariant _ _ _ _ c.loop-rounds-test.true c.fill_round-next.ensures c.if-next-made.false
+    rounding_more _ _ _ _ _ _ _ _ _ _ _ c.loop-rounds.invariant _ _ _ _ c.loop-rounds-test.true c.fill_round-next.ensures c.if-next-made.false
     c.fill_round-next.auto.1.0 c.fill_round-next.auto.1.1.0
 
 pub shape_of-sheet : goal.shape_of-sheet
@@ -39,4 +39,4 @@ pub shape_of-attached : goal.shape_of-attached
 shape_of-attached c = c.loop-rounds.invariant.same_list_holds
 
 pub returns : goal.returns
-returns c = rounding-end _ _ _ _ _ _ _ _ _ _ _ c.loop-rounds.invariant c.loop-rounds-test.false
+returns c = rounding_end _ _ _ _ _ _ _ _ _ _ _ c.loop-rounds.invariant c.loop-rounds-test.false

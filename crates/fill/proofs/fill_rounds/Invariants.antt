@@ -3,7 +3,7 @@ use mathlib.Core.Path.{◌∙◌}
 use Prim.Native.Nat.{◌-◌}
 use native.Mathlib.Omega.{arith}
 use Rattle.sheet.specs.Corners.{corners_in}
-use Rattle.fill.proofs.Rounds.{Rounding, rounding-start, rounding-last, rounding-more, rounding-end}
+use Rattle.fill.proofs.Rounds.{Rounding, rounding_start, rounding_last, rounding_more, rounding_end}
 use Rattle.fill.proofs.fill_rounds.Given as goal
 
 abbrev pub invariant-loop-rounds : goal.invariant-loop-rounds

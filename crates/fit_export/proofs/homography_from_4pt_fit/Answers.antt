@@ -1,13 +1,15 @@
 -- `fit_export::homography_from_4pt_fit` meets its contract: too short, no fit, a fit. Assumes nothing.
+use mathlib.Core.Bool.{not}
+use mathlib.Core.Path.{ap}
 use native.Mathlib.Omega.{arith}
 use borrow.Author.Rules.{rules}
-use Rattle.fit_export.proofs.Leaving.{long_enough, leaves-short, leaves_none, leaves-fit}
+use Rattle.fit_export.proofs.Leaving.{long_enough, leaves_short, leaves_none, leaves_fit}
 use Rattle.fit_export.proofs.homography_from_4pt_fit.Goals as goal
 
 pub returns-then-too_short : goal.returns-then-too_short
 returns-then-too_short c =
     let a = c.args in
-    leaves-short a.cells-x.now a.cells-y.now a.corners-x.now a.corners-y.now a.out.now c.too_short.ensures c.if-too_short.true
+    leaves_short a.cells_x.now a.cells_y.now a.corners_x.now a.corners_y.now a.out.now c.too_short.ensures c.if-too_short.true
 
 pub points_of-cells-requires : goal.points_of-cells-requires
 points_of-cells-requires c = let l = long_enough _ _ _ _ _ c.too_short.ensures c.if-too_short.false in (omega arith, omega arith)
@@ -18,9 +20,9 @@ points_of-corners-requires c = let l = long_enough _ _ _ _ _ c.too_short.ensures
 pub returns-then-not-fit : goal.returns-then-not-fit
 returns-then-not-fit c =
     let a = c.args in
-    leaves_none a.cells-x.now a.cells-y.now a.corners-x.now a.corners-y.now a.out.now c.too_short.ensures c.if-too_short.false
+    leaves_none a.cells_x.now a.cells_y.now a.corners_x.now a.corners_y.now a.out.now c.too_short.ensures c.if-too_short.false
     c.points_of-cells.ensures c.points_of-corners.ensures
-    c.homography_from_4pt-fit.ensures c.if-not-fit.true
+    c.homography_from_4pt-fit.ensures (ap not c.if-not-fit.true)
 
 pub enter-requires : goal.enter-requires
 enter-requires c =
@@ -29,6 +31,6 @@ enter-requires c =
 pub returns : goal.returns
 returns c =
     let a = c.args in
-    leaves-fit a.cells-x.now a.cells-y.now a.corners-x.now a.corners-y.now a.out.now c.too_short.ensures c.if-too_short.false
+    leaves_fit a.cells_x.now a.cells_y.now a.corners_x.now a.corners_y.now a.out.now c.too_short.ensures c.if-too_short.false
     c.points_of-cells.ensures c.points_of-corners.ensures
-    c.homography_from_4pt-fit.ensures c.if-not-fit.false c.enter.ensures
+    c.homography_from_4pt-fit.ensures (ap not c.if-not-fit.false) c.enter.ensures

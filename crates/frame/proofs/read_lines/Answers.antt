@@ -4,15 +4,15 @@ use Prim.Native.Nat.{◌-◌, ◌<◌, ◌≤◌}
 use native.Mathlib.Omega.{arith}
 use lib.ListN.{length}
 use Rattle.frame_state.specs.State.{arrays}
-use Rattle.line_form.proofs.Lines.{end_after, end-inside}
-use Rattle.frame.proofs.Turn.{Turning, turning_start, turn-room, turn_stopped, turn-onward, end-missing, finishable, end-finished}
+use Rattle.line_form.proofs.Lines.{end_after, end_inside}
+use Rattle.frame.proofs.Turn.{Turning, turning_start, turn_room, turn_stopped, turn_onward, end_missing, finishable, end_finished}
 use borrow.Author.Rules.{rules}
 use Rattle.frame.proofs.read_lines.Goals as goal
 use Rattle.frame.proofs.read_lines.Goals.{After-line_end-end}
 
 -- the line has bytes, and its end lies in the text
 bounds : (c : After-line_end-end) → (c.loop-at.at < c.line_end-end.result) × (c.line_end-end.result ≤ length c.args.text.now)
-bounds c = (end_after _ _ _ c.loop-at-test.true c.line_end-end.ensures, end-inside _ _ _ c.loop-at-test.true c.line_end-end.ensures)
+bounds c = (end_after _ _ _ c.loop-at-test.true c.line_end-end.ensures, end_inside _ _ _ c.loop-at-test.true c.line_end-end.ensures)
 
 pub loop-at-init : goal.loop-at-init
 loop-at-init c = rw c.start-p.ensures (turning_start _ _ _ refl c.requires)
@@ -27,7 +27,7 @@ pub slice_bounds-step_line-end : goal.slice_bounds-step_line-end
 slice_bounds-step_line-end c = (bounds (goal.at.slice_bounds-step_line-end c).After-line_end-end).1
 
 pub step_line-stepped-requires : goal.step_line-stepped-requires
-step_line-stepped-requires c = turn-room c.loop-at.invariant
+step_line-stepped-requires c = turn_room c.loop-at.invariant
 
 pub returns-in-Stopped : goal.returns-in-Stopped
 returns-in-Stopped c = turn_stopped c.loop-at.invariant c.loop-at-test.true _ c.line_end-end.ensures _ _ c.step_line-stepped.ensures _ c.in-Stopped.is
@@ -39,14 +39,17 @@ pub loop-at-smaller : goal.loop-at-smaller
 loop-at-smaller c = omega (arith, bounds (goal.at.loop-at-smaller c).After-line_end-end)
 
 pub loop-at-preserved : goal.loop-at-preserved
-loop-at-preserved c = turn-onward c.loop-at.invariant c.loop-at-test.true _ c.line_end-end.ensures _ _ c.step_line-stepped.ensures _ c.in-Onward.is
+loop-at-preserved c = turn_onward c.loop-at.invariant c.loop-at-test.true _ c.line_end-end.ensures _ _ c.step_line-stepped.ensures _ c.in-Onward.is
 
 pub finish-requires : goal.finish-requires
 finish-requires c = finishable _ _ _ c.loop-at.invariant.holds
 
 pub returns-then-may_end : goal.returns-then-may_end
 returns-then-may_end c =
-    end-finished c.loop-at.invariant c.loop-at-test.false (sym ?UNRESOLVED?e.before.may_end_lem.ensures ∙ ?UNRESOLVED?e.if1.true) _ _ c.finish.ensures
+    end_finished c.loop-at.invariant c.loop-at-test.false (sym ?UNRESOLVED?e.before.may_end_lem.ensures ∙ ?UNRESOLVED?e.if1.true) _ _ c.finish.ensures
 
 pub returns : goal.returns
-returns c = end-missing c.loop-at.invariant c.loop-at-test.false (sym c.may_end.ensures ∙ c.if-may_end.false)
+returns c = end_missing c.loop-at.invariant c.loop-at-test.false (sym c.may_end.ensures ∙ c.if-may_end.false)
+
+pub start-p-requires : goal.start-p-requires
+start-p-requires c = tt

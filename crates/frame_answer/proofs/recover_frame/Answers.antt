@@ -1,21 +1,21 @@
 -- `recover_frame` meets its contract. Assumes nothing.
-use Rattle.frame_answer.proofs.Recovering.{recovered-not, frame-ready, recovered-done}
+use Rattle.frame_answer.proofs.Recovering.{recovered_not, frame_ready, recovered_done}
 use borrow.Author.Rules.{rules}
 use Rattle.frame_answer.proofs.recover_frame.Goals as goal
 
 pub run_frame-requires : goal.run_frame-requires
 run_frame-requires c =
     let a = c.args in
-    frame-ready a.text.now a.xs.now a.ys.now a.pitches.now a.shades.now a.sheet.now a.passes.now c.requires.0 _
+    frame_ready a.text.now a.xs.now a.ys.now a.pitches.now a.shades.now a.sheet.now a.passes.now c.requires.frame_room _
     ?UNRESOLVED?r.read-frame.new.1.0 ?UNRESOLVED?r.read-frame.new.1.1.0 ?UNRESOLVED?r.read-frame.new.1.1.1.0 ?UNRESOLVED?r.read-frame.new.1.1.1.1.0
-    ?UNRESOLVED?r.read-frame.new.1.1.1.1.1.0 ?UNRESOLVED?r.read-frame.new.1.1.1.1.1.1.0 ?UNRESOLVED?r.read-frame.ensures.0 _ c.in-Accepted.is a.queue.now a.attached.now a.words.now c.requires.1
+    ?UNRESOLVED?r.read-frame.new.1.1.1.1.1.0 ?UNRESOLVED?r.read-frame.new.1.1.1.1.1.1.0 ?UNRESOLVED?r.read-frame.ensures.0 _ c.in-Accepted.is a.queue.now a.attached.now a.words.now c.requires.pass_room
 
 pub returns-in-Refused : goal.returns-in-Refused
 returns-in-Refused c =
     let a = c.args in
-    recovered-not a.text.now a.xs.now a.ys.now a.pitches.now a.shades.now a.sheet.now a.passes.now c.requires.0 _
+    recovered_not a.text.now a.xs.now a.ys.now a.pitches.now a.shades.now a.sheet.now a.passes.now c.requires.frame_room _
     c.read_frame-answer.new.1.0 c.read_frame-answer.new.1.1.0 c.read_frame-answer.new.1.1.1.0 c.read_frame-answer.new.1.1.1.1.0
-    c.read_frame-answer.new.1.1.1.1.1.0 c.read_frame-answer.new.1.1.1.1.1.1.0 c.read_frame-answer.ensures.0 _ _ c.in-Refused.is a.queue.now a.attached.now a.words.now
+    c.read_frame-answer.new.1.1.1.1.1.0 c.read_frame-answer.new.1.1.1.1.1.1.0 c.read_frame-answer.ensures.passes_after _ _ c.in-Refused.is a.queue.now a.attached.now a.words.now
 
 pub shape_of-xs-in-Accepted : goal.shape_of-xs-in-Accepted
 shape_of-xs-in-Accepted c = c.read_frame-answer.auto.1.0
@@ -23,6 +23,6 @@ shape_of-xs-in-Accepted c = c.read_frame-answer.auto.1.0
 pub returns-in-Accepted : goal.returns-in-Accepted
 returns-in-Accepted c =
     let a = c.args in
-    recovered-done a.text.now a.xs.now a.ys.now a.pitches.now a.shades.now a.sheet.now a.passes.now c.requires.0 _
+    recovered_done a.text.now a.xs.now a.ys.now a.pitches.now a.shades.now a.sheet.now a.passes.now c.requires.frame_room _
     ?UNRESOLVED?r.read-frame.new.1.0 ?UNRESOLVED?r.read-frame.new.1.1.0 ?UNRESOLVED?r.read-frame.new.1.1.1.0 ?UNRESOLVED?r.read-frame.new.1.1.1.1.0
-    ?UNRESOLVED?r.read-frame.new.1.1.1.1.1.0 ?UNRESOLVED?r.read-frame.new.1.1.1.1.1.1.0 ?UNRESOLVED?r.read-frame.ensures.0 _ c.in-Accepted.is a.queue.now a.attached.now a.words.now c.requires.1 _ _ c.run_frame.ensures
+    ?UNRESOLVED?r.read-frame.new.1.1.1.1.1.0 ?UNRESOLVED?r.read-frame.new.1.1.1.1.1.1.0 ?UNRESOLVED?r.read-frame.ensures.0 _ c.in-Accepted.is a.queue.now a.attached.now a.words.now c.requires.pass_room _ _ c.run_frame.ensures

@@ -1,5 +1,5 @@
 -- `result_piece` meets its contract. Assumes nothing.
-use Rattle.frame_answer.proofs.Printing.{wrote-piece, not_refused, moves_result}
+use Rattle.frame_answer.proofs.Printing.{wrote_piece, not_refused, moves_result}
 use borrow.Author.Rules.{rules}
 use Rattle.frame_answer.proofs.result_piece.Reads as reads
 use Rattle.frame_answer.proofs.result_piece.Lts as lts
@@ -7,7 +7,7 @@ use Rattle.report.proofs.write_result_piece.Reads as write-result-piece-reads
 use Rattle.frame_answer.proofs.result_piece.Goals as goal
 
 pub returns-in-Written : goal.returns-in-Written
-returns-in-Written c = let w = wrote-piece c.args.corners c.args.passes c.args.words.now c.args.sheet.now c.requires.0 c.args.from c.requires.1.0 c.args.out.now c.requires.1.1 _ c.write_result_piece-answer.new.1.1.1.1.1.0 c.write_result_piece-answer.ensures.0 _ _ c.in-Written.is in (w, moves_result c.args.corners c.args.passes c.args.words.now c.args.sheet.now c.args.out.now _ c.args.from _ c.requires.1.0 c.requires.1.1 w c.write_result_piece-answer.auto.1.1.1.1.1.0)
+returns-in-Written c = let w = wrote_piece c.args.corners c.args.passes c.args.words.now c.args.sheet.now c.requires.printable c.args.from c.requires.from_bound c.args.out.now c.requires.line_room_in_bounds _ c.write_result_piece-answer.new.1.1.1.1.1.0 c.write_result_piece-answer.ensures.out_after _ _ c.in-Written.is in (w, moves_result c.args.corners c.args.passes c.args.words.now c.args.sheet.now c.args.out.now _ c.args.from _ c.requires.from_bound c.requires.line_room_in_bounds w c.write_result_piece-answer.auto.1.1.1.1.1.0)
 
 pub returns-in-Refused : goal.returns-in-Refused
-returns-in-Refused c = absurd (not_refused c.args.corners c.args.passes c.args.words.now c.args.sheet.now c.requires.0 c.args.from c.requires.1.0 c.args.out.now c.requires.1.1 _ c.write_result_piece-answer.new.1.1.1.1.1.0 c.write_result_piece-answer.ensures.0 _ c.in-Refused.is)
+returns-in-Refused c = absurd (not_refused c.args.corners c.args.passes c.args.words.now c.args.sheet.now c.requires.printable c.args.from c.requires.from_bound c.args.out.now c.requires.line_room_in_bounds _ c.write_result_piece-answer.new.1.1.1.1.1.0 c.write_result_piece-answer.ensures.out_after _ c.in-Refused.is)

@@ -30,3 +30,39 @@ no_4 c = says (goal.at.Else-has_refusal-3 c).After-refusals_of-found (omega arit
 no_5 : (c : Else-has_refusal-4) → Says 5 false (goal.at.Else-has_refusal-4 c).After-refusals_of-found
 no_5 c =
     says (goal.at.Else-has_refusal-4 c).After-refusals_of-found (omega arith) c.has_refusal-4.ensures ∙ c.if-has_refusal-4.false
+
+pub overflow_cast-given : goal.overflow_cast-given
+unfolding checked_held checks_in_order
+overflow_cast-given c = search rules
+
+pub refusals_of-found-requires : goal.refusals_of-found-requires
+unfolding checked_held checks_in_order
+refusals_of-found-requires c = search rules
+
+pub has_refusal-requires : goal.has_refusal-requires
+unfolding checked_held checks_in_order
+has_refusal-requires c = search rules
+
+pub returns-then-has_refusal : goal.returns-then-has_refusal
+unfolding checked_held checks_in_order
+returns-then-has_refusal c = rw (says (goal.at.returns-then-has_refusal c).After-refusals_of-found (omega arith) c.has_refusal.ensures ∙ c.if-has_refusal.true)
+
+pub over_limit-requires : goal.over_limit-requires
+unfolding checked_held checks_in_order
+over_limit-requires c = search rules
+
+pub returns-then-over_limit : goal.returns-then-over_limit
+unfolding checked_held checks_in_order
+returns-then-over_limit c = rw (no_1 (goal.at.returns-then-over_limit c).Else-has_refusal, ← c.over_limit.ensures, c.if-over_limit.true)
+
+pub has_refusal-requires-2 : goal.has_refusal-requires-2
+unfolding checked_held checks_in_order
+has_refusal-requires-2 c = search rules
+
+pub has_refusal-requires-3 : goal.has_refusal-requires-3
+unfolding checked_held checks_in_order
+has_refusal-requires-3 c = search rules
+
+pub has_refusal-requires-4 : goal.has_refusal-requires-4
+unfolding checked_held checks_in_order
+has_refusal-requires-4 c = search rules

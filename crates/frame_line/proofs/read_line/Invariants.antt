@@ -10,8 +10,8 @@ use Rattle.line_form.specs.Held.{held_fit}
 use Rattle.line_form.specs.declared.read.LineFit.{LineFit}
 use Rattle.frame_line.specs.Table.{rows, row_count, form_at}
 use Rattle.frame_line.specs.Held.{held_read}
-use Rattle.frame_line.proofs.Rows.{ordered, inside, form-is, second-other}
-use Rattle.frame_line.proofs.Laws.{Looking, looking_start, looking-more, looking-end, held-hit, held_more}
+use Rattle.frame_line.proofs.Rows.{ordered, inside, form_is, second_other}
+use Rattle.frame_line.proofs.Laws.{Looking, looking_start, looking_more, looking_end, held_hit, held_more}
 use Rattle.frame_line.proofs.read_line.Given as goal
 
 abbrev pub invariant-loop-row : goal.invariant-loop-row

@@ -2,7 +2,7 @@
 use native.Mathlib.Omega.{arith}
 use borrow.Author.Rules.{rules}
 use lib.IntN.{pos}
-use Rattle.sheet.proofs.Laws.{sub-fits, sub_read}
+use Rattle.sheet.proofs.Laws.{sub_fits, sub_read}
 use Rattle.frame_number.proofs.cell_of.Goals as goal
 
 pub returns : goal.returns
@@ -14,3 +14,9 @@ returns c =
       i = sub_read (pos i.result) (pos 1000000) (omega (arith, i.ensures)) t;
       j = sub_read (pos j.result) (pos 1000000) (omega (arith, j.ensures)) t;
     })
+
+pub overflow_sub-result : goal.overflow_sub-result
+overflow_sub-result c = sub_fits (pos c.capped-i.result) (pos 1000000) (omega (arith, c.capped-i.ensures))
+
+pub overflow_sub-result-2 : goal.overflow_sub-result-2
+overflow_sub-result-2 c = sub_fits (pos c.capped-j.result) (pos 1000000) (omega (arith, c.capped-j.ensures))

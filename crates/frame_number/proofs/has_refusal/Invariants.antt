@@ -2,7 +2,7 @@
 use Prim.Native.Nat.{◌-◌}
 use native.Mathlib.Omega.{arith}
 use borrow.Author.Tests.{eq-eqb, ne_eqb}
-use Rattle.labels.proofs.Below.{Searching, searching_start, searching-more, searching-hit, searching-end}
+use Rattle.labels.proofs.Below.{Searching, searching_start, searching_more, searching_hit, searching_end}
 use Rattle.frame_line.specs.Held.{is_refusal}
 use Rattle.frame_number.proofs.has_refusal.Given as goal
 

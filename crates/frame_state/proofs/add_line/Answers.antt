@@ -1,12 +1,12 @@
 -- `frame_state::add_line` meets its contract, by the kind. Assumes nothing.
 use mathlib.Core.Path.{sym, ◌∙◌}
-use Rattle.frame_state.proofs.Laws.{opening-fits, corner_fits, labels-room, shade-room, pass_fits, label_added_lem}
+use Rattle.frame_state.proofs.Laws.{opening_fits, corner_fits, labels_room, shade_room, pass_fits, label_added_lem}
 use Rattle.frame_state.specs.State.{adds_as}
 use borrow.Author.Rules.{rules}
 use Rattle.frame_state.proofs.add_line.Goals as goal
 
 pub with_opening-requires : goal.with_opening-requires
-with_opening-requires c = opening-fits c.requires _ (sym c.kind_of-kind.ensures ∙ c.in-Opening.is)
+with_opening-requires c = opening_fits c.requires _ (sym c.kind_of-kind.ensures ∙ c.in-Opening.is)
 
 pub put_corner-requires : goal.put_corner-requires
 put_corner-requires c = corner_fits c.requires (sym c.kind_of-kind.ensures ∙ c.in-Corner.is)
@@ -15,10 +15,10 @@ pub with_corner-requires : goal.with_corner-requires
 with_corner-requires c = (corner_fits c.requires (sym c.kind_of-kind.ensures ∙ c.in-Corner.is)).room
 
 pub add_label-requires : goal.add_label-requires
-add_label-requires c = rw c.label_of.ensures (labels-room c.requires (sym c.kind_of-kind.ensures ∙ c.in-Label.is))
+add_label-requires c = rw c.label_of.ensures (labels_room c.requires (sym c.kind_of-kind.ensures ∙ c.in-Label.is))
 
 pub put_shade-requires : goal.put_shade-requires
-put_shade-requires c = rw c.shade_of.ensures (shade-room c.requires (sym c.kind_of-kind.ensures ∙ c.in-Shade.is))
+put_shade-requires c = rw c.shade_of.ensures (shade_room c.requires (sym c.kind_of-kind.ensures ∙ c.in-Shade.is))
 
 pub put_pass-requires : goal.put_pass-requires
 put_pass-requires c = pass_fits c.requires _ (sym c.kind_of-kind.ensures ∙ c.in-Pass.is)

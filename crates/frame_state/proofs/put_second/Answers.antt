@@ -9,3 +9,9 @@ use Rattle.frame_state.proofs.put_second.Goals.{After-place_of-place}
 
 below : (c : After-place_of-place) → c.place_of-place.result < 16384
 below c = rw c.place_of-place.ensures (place_in _ c.requires.fits.on)
+
+pub overflow_cast-second-2 : goal.overflow_cast-second-2
+overflow_cast-second-2 c = omega (arith, below c)
+
+pub returns : goal.returns
+returns c = rw c.place_of-place.ensures (record { used_is = refl; second_is = refl })

@@ -1,6 +1,6 @@
 -- `grow_extend::extend_from_labelled` meets its contract: refused, with nothing written, or the pass done. Assumes nothing.
 use Rattle.sheet.specs.Corners.{corner_lists}
-use Rattle.grow_extend.proofs.Laws.{call-refused, call_accepted, call-done}
+use Rattle.grow_extend.proofs.Laws.{call_refused, call_accepted, call_done}
 use borrow.Author.Rules.{rules}
 use Rattle.grow_extend.proofs.extend_from_labelled.Goals as goal
 
@@ -12,9 +12,9 @@ extend-requires c =
 pub returns-in-Refused : goal.returns-in-Refused
 returns-in-Refused c =
     let a = c.args in
-    call-refused (corner_lists a.xs.now a.ys.now a.pitches.now) a.settings a.params a.shades.now a.sheet.now a.queue.now a.attached.now c.check_arguments-checked.ensures c.in-Refused.is
+    call_refused (corner_lists a.xs.now a.ys.now a.pitches.now) a.settings a.params a.shades.now a.sheet.now a.queue.now a.attached.now c.check_arguments-checked.ensures c.in-Refused.is
 
 pub returns-in-Fine : goal.returns-in-Fine
 returns-in-Fine c =
     let a = c.args in
-    call-done (corner_lists a.xs.now a.ys.now a.pitches.now) a.settings a.params a.shades.now a.sheet.now a.queue.now a.attached.now c.check_arguments-checked.ensures c.in-Fine.is c.extend.ensures
+    call_done (corner_lists a.xs.now a.ys.now a.pitches.now) a.settings a.params a.shades.now a.sheet.now a.queue.now a.attached.now c.check_arguments-checked.ensures c.in-Fine.is c.extend.ensures

@@ -3,11 +3,11 @@
 use Prim.Native.Nat.{◌-◌}
 use native.Mathlib.Omega.{arith}
 use Rattle.sheet.specs.Corners.{corners_in}
-use Rattle.grow_extend.proofs.Laws.{Running, running-start, running-queue, running-news, place-below, head_few, head_in, running-visitable, running_more, running-end}
+use Rattle.grow_extend.proofs.Laws.{Running, running_start, running_queue, running_news, place_below, head_few, head_in, running_visitable, running_more, running_end}
 use Rattle.grow_extend.proofs.grow.Goals as goal
 
 pub loop-head-init : goal.loop-head-init
-loop-head-init c = running-start _ c.requires _ _
+loop-head-init c = running_start _ c.requires _ _
 
 pub offset_bounds-queue-head : goal.offset_bounds-queue-head
 offset_bounds-queue-head c = omega (arith, head_few _ c.requires c.loop-head.invariant c.loop-head-test.true)
@@ -16,13 +16,13 @@ pub bounds-queue-head : goal.bounds-queue-head
 bounds-queue-head c = head_in _ c.requires c.loop-head.invariant c.loop-head-test.true
 
 pub overflow_cast-queue : goal.overflow_cast-queue
-overflow_cast-queue c = omega (arith, place-below _ c.requires c.loop-head.invariant c.loop-head-test.true)
+overflow_cast-queue c = omega (arith, place_below _ c.requires c.loop-head.invariant c.loop-head-test.true)
 
 pub cell_of-c-requires : goal.cell_of-c-requires
-cell_of-c-requires c = place-below _ c.requires c.loop-head.invariant c.loop-head-test.true
+cell_of-c-requires c = place_below _ c.requires c.loop-head.invariant c.loop-head-test.true
 
 pub visit-next-requires : goal.visit-next-requires
-visit-next-requires c = running-visitable _ c.requires c.loop-head.invariant c.loop-head-test.true c.cell_of-c.ensures
+visit-next-requires c = running_visitable _ c.requires c.loop-head.invariant c.loop-head-test.true c.cell_of-c.ensures
 
 pub overflow_add-head : goal.overflow_add-head
 overflow_add-head c = omega (arith, head_few _ c.requires c.loop-head.invariant c.loop-head-test.true)
@@ -37,10 +37,10 @@ pub shape_of-sheet : goal.shape_of-sheet
 shape_of-sheet c = c.loop-head.invariant.sheet_same
 
 pub shape_of-queue : goal.shape_of-queue
-shape_of-queue c = running-queue _ c.requires c.loop-head.invariant
+shape_of-queue c = running_queue _ c.requires c.loop-head.invariant
 
 pub shape_of-attached : goal.shape_of-attached
-shape_of-attached c = running-news _ c.requires c.loop-head.invariant
+shape_of-attached c = running_news _ c.requires c.loop-head.invariant
 
 pub returns : goal.returns
-returns c = running-end _ c.requires c.loop-head.invariant c.loop-head-test.false
+returns c = running_end _ c.requires c.loop-head.invariant c.loop-head-test.false

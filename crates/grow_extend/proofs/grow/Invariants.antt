@@ -3,7 +3,7 @@
 use Prim.Native.Nat.{◌-◌}
 use native.Mathlib.Omega.{arith}
 use Rattle.sheet.specs.Corners.{corners_in}
-use Rattle.grow_extend.proofs.Laws.{Running, running-start, running-queue, running-news, place-below, head_few, head_in, running-visitable, running_more, running-end}
+use Rattle.grow_extend.proofs.Laws.{Running, running_start, running_queue, running_news, place_below, head_few, head_in, running_visitable, running_more, running_end}
 use Rattle.grow_extend.proofs.grow.Given as goal
 
 abbrev pub invariant-loop-head : goal.invariant-loop-head

@@ -1,7 +1,7 @@
 -- `grow_extend::try_cell` meets its contract, with a prediction and without. Assumes nothing.
 use Rattle.sheet.specs.Corners.{corner_in}
 use Rattle.sheet.proofs.Corners.{given_more}
-use Rattle.grow_extend.proofs.Laws.{found_none, found-at}
+use Rattle.grow_extend.proofs.Laws.{found_none, found_at_lem}
 use borrow.Author.Rules.{rules}
 use Rattle.grow_extend.proofs.try_cell.Goals as goal
 
@@ -12,4 +12,4 @@ pub returns-in-NoNeighbour : goal.returns-in-NoNeighbour
 returns-in-NoNeighbour c = found_none _ _ _ _ _ c.predict_from_neighbours-prediction.ensures c.in-NoNeighbour.is
 
 pub returns-in-At : goal.returns-in-At
-returns-in-At c = found-at _ _ _ _ _ c.predict_from_neighbours-prediction.ensures c.in-At.is (c.is_extrapolating.ensures (corner_in c.args.corners.now)) c.search_for-search.ensures c.try_attach_at_cell.ensures
+returns-in-At c = found_at_lem _ _ _ _ _ c.predict_from_neighbours-prediction.ensures c.in-At.is (c.is_extrapolating.ensures (corner_in c.args.corners.now)) c.search_for-search.ensures c.try_attach_at_cell.ensures

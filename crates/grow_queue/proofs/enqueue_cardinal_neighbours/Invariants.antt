@@ -5,7 +5,7 @@ use Prim.Native.Nat.{◌-◌}
 use native.Mathlib.Omega.{arith}
 use Rattle.sheet.specs.Cells.{moved}
 use Rattle.positions_policy.proofs.Search.{cardinal_within}
-use Rattle.grow_queue.proofs.Laws.{Spreading, spreading-start, spreading-length, spreading-room, spreading-more, spreading-end}
+use Rattle.grow_queue.proofs.Laws.{Spreading, spreading_start, spreading_length, spreading_room, spreading_more, spreading_end}
 use Rattle.grow_queue.proofs.enqueue_cardinal_neighbours.Given as goal
 
 abbrev pub invariant-loop-k : goal.invariant-loop-k

@@ -2,7 +2,7 @@
 -- measure is how many places are left. Assumes nothing.
 use Prim.Native.Nat.{◌-◌}
 use native.Mathlib.Omega.{arith}
-use Rattle.grow_queue.proofs.Laws.{Seeding, seeding-start, seeding-length, seeding-room, seeding-more, seeding_skips, seeding-end}
+use Rattle.grow_queue.proofs.Laws.{Seeding, seeding_start, seeding_length, seeding_room, seeding_more, seeding_skips, seeding_end}
 use Rattle.grow_queue.proofs.seed.Given as goal
 
 abbrev pub invariant-loop-place : goal.invariant-loop-place

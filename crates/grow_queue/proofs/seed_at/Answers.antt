@@ -1,7 +1,7 @@
 -- `grow_queue::seed_at` meets its contract, by both ways. Assumes nothing.
 use mathlib.Core.Path.{sym, ◌∙◌}
 use Rattle.sheet.proofs.Laws.{cell_on_lem}
-use Rattle.grow_queue.proofs.Laws.{seed-labelled, seed-bare}
+use Rattle.grow_queue.proofs.Laws.{seed_labelled, seed_bare}
 use borrow.Author.Rules.{rules}
 use Rattle.grow_queue.proofs.seed_at.Goals as goal
 
@@ -9,7 +9,7 @@ pub enqueue_cardinal_neighbours-requires : goal.enqueue_cardinal_neighbours-requ
 enqueue_cardinal_neighbours-requires c = (record { long = c.requires.long; room = c.requires.room (sym c.is_labelled.ensures ∙ c.if-is_labelled.true); flagged = c.requires.flagged }, rw c.cell_of.ensures (cell_on_lem _ c.requires.place))
 
 pub returns-then-is_labelled : goal.returns-then-is_labelled
-returns-then-is_labelled c = seed-labelled _ _ c.args.tail c.args.place (sym c.is_labelled.ensures ∙ c.if-is_labelled.true) c.cell_of.ensures c.enqueue_cardinal_neighbours.ensures
+returns-then-is_labelled c = seed_labelled _ _ c.args.tail c.args.place (sym c.is_labelled.ensures ∙ c.if-is_labelled.true) c.cell_of.ensures c.enqueue_cardinal_neighbours.ensures
 
 pub returns : goal.returns
-returns c = seed-bare _ _ _ _ c.requires (sym c.is_labelled.ensures ∙ c.if-is_labelled.false)
+returns c = seed_bare _ _ _ _ c.requires (sym c.is_labelled.ensures ∙ c.if-is_labelled.false)

@@ -7,7 +7,7 @@ use Rattle.homography.proofs.hartley_scale.Goals as goal
 
 pub returns-then-mean_dist : goal.returns-then-mean_dist
 unfolding scale_of
-returns-then-mean_dist c = rw c.if-mean_dist.true (ap (λ (r : Float). div binary32 r c.args.mean-dist) (sym root_two))
+returns-then-mean_dist c = rw c.if-mean_dist.true (ap (λ (r : Float). div binary32 r c.args.mean_dist) (sym root_two))
 
 pub returns : goal.returns
 unfolding scale_of

@@ -4,4 +4,4 @@ use Rattle.homography.proofs.Undoing.{eight_and_one}
 use Rattle.homography.proofs.with_one.Goals as goal
 
 pub returns : goal.returns
-returns c = eight_and_one c.args.t1 (search rules)
+returns c = eight_and_one c.args.x (search rules)

@@ -1,12 +1,12 @@
 -- `join_sheet::agrees` meets its contract, by the label of the cell. Assumes nothing.
-use Rattle.join_sheet.proofs.Walk.{agrees-bare, agrees-corner}
+use Rattle.join_sheet.proofs.Walk.{agrees_bare, agrees_corner}
 use borrow.Author.Rules.{rules}
 use Rattle.join_sheet.proofs.agrees.Goals as goal
 
 pub returns-in-Unlabelled : goal.returns-in-Unlabelled
 returns-in-Unlabelled c =
-    agrees-bare _ _ c.requires.1.0 _ c.requires.1.1 _ _ c.label_at-label.ensures c.in-Unlabelled.is
+    agrees_bare _ _ c.requires.1.0 _ c.requires.1.1 _ _ c.label_at-label.ensures c.in-Unlabelled.is
 
 pub returns-in-Corner : goal.returns-in-Corner
 returns-in-Corner c =
-    agrees-corner _ _ c.requires.1.0 _ c.requires.1.1 _ _ c.label_at-label.ensures _ c.in-Corner.is
+    agrees_corner _ _ c.requires.1.0 _ c.requires.1.1 _ _ c.label_at-label.ensures _ c.in-Corner.is

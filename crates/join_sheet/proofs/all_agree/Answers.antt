@@ -1,5 +1,6 @@
 -- `join_sheet::all_agree` meets its contract: what is left of the array decides. Assumes nothing.
-use mathlib.Core.Path.{sym, ◌∙◌}
+use mathlib.Core.Bool.{not}
+use mathlib.Core.Path.{sym, ◌∙◌, ap}
 use mathlib.Core.List.{map}
 use Prim.Native.Nat.{◌-◌}
 use native.Mathlib.Omega.{arith}
@@ -7,11 +8,11 @@ use borrow.Author.Rules.{rules}
 use Rattle.join.specs.Rule.{shifted_by}
 use Rattle.join.specs.Join.{every}
 use Rattle.join_sheet.specs.Held.{held_at, held_labels, agrees_on}
-use Rattle.join_sheet.proofs.Walk.{Rest, rest-start, rest_more, rest-stop, rest_end, test-yes, test-no, test_all}
+use Rattle.join_sheet.proofs.Walk.{Rest, rest_start, rest_more, rest_stop, rest_end, test_yes, test_no, test_all}
 use Rattle.join_sheet.proofs.all_agree.Goals as goal
 
 pub loop-i-init : goal.loop-i-init
-loop-i-init c = rest-start _ _ _
+loop-i-init c = rest_start _ _ _
 
 pub moved_cell-requires : goal.moved_cell-requires
 moved_cell-requires c =
@@ -24,16 +25,16 @@ agrees-requires c =
 pub returns-then-not-agrees : goal.returns-then-not-agrees
 returns-then-not-agrees c =
     let l = c.loop-i in
-    rest-stop _ _ _ l.invariant c.loop-i-test.true
-    (test-no (agrees_on c.args.sheet.now) c.args.d (held_at c.args.second.now l.i) _
-    (c.agrees.ensures ∙ rw (c.moved_cell.ensures, c.wide-corner.ensures)) c.if-not-agrees.true)
+    rest_stop _ _ _ l.invariant c.loop-i-test.true
+    (test_no (agrees_on c.args.sheet.now) c.args.d (held_at c.args.second.now l.i) _
+    (c.agrees.ensures ∙ rw (c.moved_cell.ensures, c.wide-corner.ensures)) (ap not c.if-not-agrees.true))
 
 pub loop-i-preserved : goal.loop-i-preserved
 loop-i-preserved c =
     let l = c.loop-i in
     rest_more _ _ _ l.invariant c.loop-i-test.true
-    (test-yes (agrees_on c.args.sheet.now) c.args.d (held_at c.args.second.now l.i) _
-    (c.agrees.ensures ∙ rw (c.moved_cell.ensures, c.wide-corner.ensures)) c.if-not-agrees.false)
+    (test_yes (agrees_on c.args.sheet.now) c.args.d (held_at c.args.second.now l.i) _
+    (c.agrees.ensures ∙ rw (c.moved_cell.ensures, c.wide-corner.ensures)) (ap not c.if-not-agrees.false))
 
 pub returns : goal.returns
 returns c = sym (test_all _) ∙ rest_end _ _ c.loop-i.invariant c.loop-i-test.false

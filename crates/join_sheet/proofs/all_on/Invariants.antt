@@ -8,7 +8,7 @@ use Rattle.sheet.specs.Cells.{on_sheet}
 use Rattle.join.specs.Rule.{Placed, shifted_by}
 use Rattle.join.specs.Join.{every}
 use Rattle.join_sheet.specs.Held.{held_at, held_labels}
-use Rattle.join_sheet.proofs.Walk.{Rest, rest-start, rest_more, rest-stop, rest_end, test-yes, test-no, test_all}
+use Rattle.join_sheet.proofs.Walk.{Rest, rest_start, rest_more, rest_stop, rest_end, test_yes, test_no, test_all}
 use Rattle.join_sheet.proofs.all_on.Given as goal
 
 abbrev pub invariant-loop-i : goal.invariant-loop-i

@@ -2,12 +2,12 @@
 use mathlib.Core.Path.{sym, ◌∙◌}
 use Rattle.sheet.proofs.Laws.{on_near}
 use Rattle.join_sheet.proofs.Held.{cell_found_on}
-use Rattle.join_sheet.proofs.Walk.{entry-nowhere, asks_nothing, asks_for}
+use Rattle.join_sheet.proofs.Walk.{entry_nowhere, asks_nothing, asks_for}
 use borrow.Author.Rules.{rules}
 use Rattle.join_sheet.proofs.asked_by.Goals as goal
 
 pub returns-then-used-corner-eq0 : goal.returns-then-used-corner-eq0
-returns-then-used-corner-eq0 c = asks_nothing _ _ (entry-nowhere _ _ _ c.requires.1.0 c.requires.1.1.0 c.if-used-corner-eq0.true)
+returns-then-used-corner-eq0 c = asks_nothing _ _ (entry_nowhere _ _ _ c.requires.1.0 c.requires.1.1.0 c.if-used-corner-eq0.true)
 
 pub difference-requires : goal.difference-requires
 difference-requires c =

@@ -6,11 +6,11 @@ use borrow.Author.Rules.{rules}
 use Rattle.sheet.proofs.Laws.{cell_on_lem}
 use Rattle.join.specs.Join.{asked}
 use Rattle.join_sheet.specs.Held.{held_at, held_labels, cell_on}
-use Rattle.join_sheet.proofs.Walk.{Rest, rest-start, rest_more, rest-stop, rest_end, asked-on, asked_here, asked_end}
+use Rattle.join_sheet.proofs.Walk.{Rest, rest_start, rest_more, rest_stop, rest_end, asked_on, asked_here, asked_end}
 use Rattle.join_sheet.proofs.asked_shift.Goals as goal
 
 pub loop-i-init : goal.loop-i-init
-loop-i-init c = rest-start _ _ _
+loop-i-init c = rest_start _ _ _
 
 pub offset_bounds-second-i : goal.offset_bounds-second-i
 offset_bounds-second-i c = omega (arith, c.requires.second.few)
@@ -47,7 +47,7 @@ asked_by-asked-requires c =
 pub returns-in-For : goal.returns-in-For
 returns-in-For c =
     let l = c.loop-i in
-    rest-stop _ _ _ l.invariant c.loop-i-test.true
+    rest_stop _ _ _ l.invariant c.loop-i-test.true
     (asked_here (cell_on c.args.sheet.now) (held_at c.args.second.now l.i) _ _
     (c.asked_by-asked.ensures ∙ rw (c.cell_of.ensures, c.wide-place.ensures, c.wide-corner.ensures)) c.in-For.is)
 
@@ -58,7 +58,7 @@ pub loop-i-preserved : goal.loop-i-preserved
 loop-i-preserved c =
     let l = c.loop-i in
     rest_more _ _ _ l.invariant c.loop-i-test.true
-    (asked-on (cell_on c.args.sheet.now) (held_at c.args.second.now l.i) _
+    (asked_on (cell_on c.args.sheet.now) (held_at c.args.second.now l.i) _
     (c.asked_by-asked.ensures ∙ rw (c.cell_of.ensures, c.wide-place.ensures, c.wide-corner.ensures)) c.in-Nothing.is)
 
 pub returns : goal.returns

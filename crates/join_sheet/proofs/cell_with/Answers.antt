@@ -4,17 +4,17 @@ use Prim.Native.Nat.{◌-◌}
 use native.Mathlib.Omega.{arith}
 use borrow.Author.Rules.{rules}
 use Rattle.sizes.specs.Sizes.{place_count}
-use Rattle.labels.proofs.Below.{Searching, searching_start, searching-more}
+use Rattle.labels.proofs.Below.{Searching, searching_start, searching_more}
 use Rattle.join_sheet.specs.Held.{holds_at}
 use Rattle.join.specs.declared.Found.{Found}
-use Rattle.join_sheet.proofs.Walk.{holds-skips, holds-hit, holds_none}
+use Rattle.join_sheet.proofs.Walk.{holds_skips, holds_hit, holds_none}
 use Rattle.join_sheet.proofs.cell_with.Goals as goal
 
 pub next_written-place-requires : goal.next_written-place-requires
 next_written-place-requires c = (omega arith, omega arith)
 
 pub loop-place-init : goal.loop-place-init
-loop-place-init c = holds-skips _ _ (searching_start _ _) c.next_written-place.ensures
+loop-place-init c = holds_skips _ _ (searching_start _ _) c.next_written-place.ensures
 
 pub cell_of-requires : goal.cell_of-requires
 cell_of-requires c = c.loop-place-test.true
@@ -22,7 +22,7 @@ cell_of-requires c = c.loop-place-test.true
 pub returns-then-word_names : goal.returns-then-word_names
 returns-then-word_names c =
     let l = c.loop-place in
-    ap Found.At c.cell_of.ensures ∙ holds-hit _ _ _ l.invariant c.loop-place-test.true (sym c.word_names.ensures ∙ c.if-word_names.true)
+    ap Found.At c.cell_of.ensures ∙ holds_hit _ _ _ l.invariant c.loop-place-test.true (sym c.word_names.ensures ∙ c.if-word_names.true)
 
 pub next_written-place-requires-in-loop-place : goal.next_written-place-requires-in-loop-place
 next_written-place-requires-in-loop-place c = (omega arith, omega arith)
@@ -33,8 +33,8 @@ loop-place-smaller c = let l = c.next_written-place-in-loop-place.ensures.passed
 pub loop-place-preserved : goal.loop-place-preserved
 loop-place-preserved c =
     let l = c.loop-place in
-    holds-skips _ _
-    (searching-more (holds_at c.args.sheet.now c.args.corner) place_count _ l.invariant c.loop-place-test.true
+    holds_skips _ _
+    (searching_more (holds_at c.args.sheet.now c.args.corner) place_count _ l.invariant c.loop-place-test.true
     (sym c.word_names.ensures ∙ c.if-word_names.false))
     c.next_written-place-in-loop-place.ensures
 

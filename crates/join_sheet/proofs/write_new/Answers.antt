@@ -5,11 +5,11 @@ use native.Mathlib.Omega.{arith}
 use borrow.Author.Rules.{rules}
 use Rattle.join.specs.Sheets.{labelled}
 use Rattle.join_sheet.specs.Held.{held_at, held_labels, new_held}
-use Rattle.join_sheet.proofs.Walk.{Rest, rest-start, rest_more, rest_end, write_more, write_end}
+use Rattle.join_sheet.proofs.Walk.{Rest, rest_start, rest_more, rest_end, write_more, write_end}
 use Rattle.join_sheet.proofs.write_new.Goals as goal
 
 pub loop-i-init : goal.loop-i-init
-loop-i-init c = rest-start _ _ _
+loop-i-init c = rest_start _ _ _
 
 pub offset_bounds-second-i : goal.offset_bounds-second-i
 offset_bounds-second-i c = omega (arith, c.requires.second.few)

@@ -3,7 +3,7 @@ use Prim.Native.Nat.{ℕ, ◌-◌}
 use native.Mathlib.Omega.{arith}
 use borrow.Author.Rules.{rules}
 use lib.ListN.{length-replicate, get_or-replicate}
-use Rattle.labels.proofs.Used.{Marking, marking_start, marking-more, marking_skips, marking-end}
+use Rattle.labels.proofs.Used.{Marking, marking_start, marking_more, marking_skips, marking_end}
 use Rattle.labels.proofs.mark_used.Goals as goal
 
 pub next_written-place-requires : goal.next_written-place-requires
@@ -19,7 +19,7 @@ pub loop-place-smaller : goal.loop-place-smaller
 loop-place-smaller c = let l = c.next_written-place-in-loop-place.ensures.passed.start in omega arith
 
 pub loop-place-preserved : goal.loop-place-preserved
-loop-place-preserved c = marking_skips _ _ _ (marking-more _ _ _ c.loop-place.invariant _ c.loop-place-test.true c.note_used.ensures) c.next_written-place-in-loop-place.ensures
+loop-place-preserved c = marking_skips _ _ _ (marking_more _ _ _ c.loop-place.invariant _ c.loop-place-test.true c.note_used.ensures) c.next_written-place-in-loop-place.ensures
 
 pub returns : goal.returns
-returns c = marking-end _ _ _ c.loop-place.invariant c.loop-place-test.false
+returns c = marking_end _ _ _ c.loop-place.invariant c.loop-place-test.false

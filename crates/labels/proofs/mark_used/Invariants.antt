@@ -3,7 +3,7 @@ use Prim.Native.Nat.{ℕ, ◌-◌}
 use native.Mathlib.Omega.{arith}
 use borrow.Author.Rules.{rules}
 use lib.ListN.{length-replicate, get_or-replicate}
-use Rattle.labels.proofs.Used.{Marking, marking_start, marking-more, marking_skips, marking-end}
+use Rattle.labels.proofs.Used.{Marking, marking_start, marking_more, marking_skips, marking_end}
 use Rattle.labels.proofs.mark_used.Given as goal
 
 abbrev pub invariant-loop-place : goal.invariant-loop-place

@@ -4,7 +4,7 @@ use Prim.Native.Nat.{◌-◌}
 use native.Mathlib.Omega.{arith}
 use lib.ListN.{get_or}
 use Rattle.labels.specs.Rim.{rim_at, rim}
-use Rattle.labels.proofs.Below.{Searching, searching_start, searching-more, searching-hit, searching-end}
+use Rattle.labels.proofs.Below.{Searching, searching_start, searching_more, searching_hit, searching_end}
 use Rattle.labels.proofs.Rim.{rim_skips}
 use Rattle.labels.proofs.rim_reached.Goals as goal
 
@@ -20,7 +20,7 @@ place_on_rim-requires c = (omega arith, omega arith)
 pub returns-then-place_on_rim : goal.returns-then-place_on_rim
 unfolding rim
 returns-then-place_on_rim c = let a = c.args in
-    searching-hit (λ p. rim_at a.depth (get_or a.sheet.now p 0) p) 16384 _ c.loop-place.invariant c.loop-place-test.true (sym c.place_on_rim.ensures ∙ c.if-place_on_rim.true)
+    searching_hit (λ p. rim_at a.depth (get_or a.sheet.now p 0) p) 16384 _ c.loop-place.invariant c.loop-place-test.true (sym c.place_on_rim.ensures ∙ c.if-place_on_rim.true)
 
 pub next_written-place-requires-in-loop-place : goal.next_written-place-requires-in-loop-place
 next_written-place-requires-in-loop-place c = (omega arith, omega arith)
@@ -31,10 +31,10 @@ loop-place-smaller c = let l = c.next_written-place-in-loop-place.ensures.passed
 pub loop-place-preserved : goal.loop-place-preserved
 loop-place-preserved c = let a = c.args in
     rim_skips _ _
-    (searching-more (λ p. rim_at a.depth (get_or a.sheet.now p 0) p) 16384 _ c.loop-place.invariant c.loop-place-test.true (sym c.place_on_rim.ensures ∙ c.if-place_on_rim.false))
+    (searching_more (λ p. rim_at a.depth (get_or a.sheet.now p 0) p) 16384 _ c.loop-place.invariant c.loop-place-test.true (sym c.place_on_rim.ensures ∙ c.if-place_on_rim.false))
     c.next_written-place-in-loop-place.ensures
 
 pub returns : goal.returns
 unfolding rim
 returns c = let a = c.args in
-    searching-end (λ p. rim_at a.depth (get_or a.sheet.now p 0) p) 16384 _ c.loop-place.invariant c.loop-place-test.false
+    searching_end (λ p. rim_at a.depth (get_or a.sheet.now p 0) p) 16384 _ c.loop-place.invariant c.loop-place-test.false

@@ -12,7 +12,7 @@ use Rattle.labels.proofs.widen.Goals as goal
 
 -- a result that fits is read back as it was
 back : {y z : ℤ} → mag y < 2147483648 → y ≡ z → to_z w32 (of_z w32 y) ≡ z
-back h e = to_z-of_z (record { sfits = h }) ∙ e
+back h e = to_z-of_z {w = w32} (record { sfits = h }) ∙ e
 
 pub returns-in-Empty : goal.returns-in-Empty
 returns-in-Empty c =
@@ -23,20 +23,19 @@ returns-in-Empty c =
 pub returns-in-Around : goal.returns-in-Around
 returns-in-Around c =
     let d = c.args.c in
-    let known = c.around-1.given in
-    let b = known.0.0 in
-    let i-fits : SFits w32 d.i = search rules in
-    let j-fits : SFits w32 d.j = search rules in
-    let low-i-fits : SFits w32 b.low_i = search rules in
-    let high-i-fits : SFits w32 b.high_i = search rules in
-    let low-j-fits : SFits w32 b.low_j = search rules in
-    let high-j-fits : SFits w32 b.high_j = search rules in
+    let b = c.in-Around.b in
+    let i_fits : SFits w32 d.i = search rules in
+    let j_fits : SFits w32 d.j = search rules in
+    let low_i_fits : SFits w32 b.low_i = search rules in
+    let high_i_fits : SFits w32 b.high_i = search rules in
+    let low_j_fits : SFits w32 b.low_j = search rules in
+    let high_j_fits : SFits w32 b.high_j = search rules in
     let low-i = c.lower in
     let high-i = c.higher in
     let low-j = c.lower-in-Around in
     let high-j = c.higher-in-Around in
-    widened_around _ _ _ _ _ _ _ known.1
-    (back low-i.type-inv (rw (to_z-of_z low-i-fits, to_z-of_z i-fits) at low-i.ensures))
-    (back high-i.type-inv (rw (to_z-of_z high-i-fits, to_z-of_z i-fits) at high-i.ensures))
-    (back low-j.type-inv (rw (to_z-of_z low-j-fits, to_z-of_z j-fits) at low-j.ensures))
-    (back high-j.type-inv (rw (to_z-of_z high-j-fits, to_z-of_z j-fits) at high-j.ensures))
+    widened_around _ _ _ _ _ _ _ c.in-Around.is
+    (back low-i.type_inv (rw (to_z-of_z low_i_fits, to_z-of_z i_fits) at low-i.ensures))
+    (back high-i.type_inv (rw (to_z-of_z high_i_fits, to_z-of_z i_fits) at high-i.ensures))
+    (back low-j.type_inv (rw (to_z-of_z low_j_fits, to_z-of_z j_fits) at low-j.ensures))
+    (back high-j.type_inv (rw (to_z-of_z high_j_fits, to_z-of_z j_fits) at high-j.ensures))

@@ -1,14 +1,14 @@
 -- `local::extend_via_local_homography` meets its contract: a refusal as the check gives it, or what the pass leaves. Assumes nothing.
 use borrow.Author.Rules.{rules}
 use Rattle.sheet.specs.Corners.{corner_lists}
-use Rattle.local.proofs.Rounds.{call-refused, call_accepted, call-done}
+use Rattle.local.proofs.Rounds.{call_refused, call_accepted, call_done}
 use Rattle.local.proofs.extend_via_local_homography.Goals as goal
 
 pub returns-in-Refused : goal.returns-in-Refused
-returns-in-Refused c = call-refused (corner_lists c.args.xs.now c.args.ys.now c.args.pitches.now) c.args.shades.now c.args.sheet.now c.args.attached.now c.args.settings c.args.params _ c.check_arguments-checked.ensures _ c.in-Refused.is
+returns-in-Refused c = call_refused (corner_lists c.args.xs.now c.args.ys.now c.args.pitches.now) c.args.shades.now c.args.sheet.now c.args.attached.now c.args.settings c.args.params _ c.check_arguments-checked.ensures _ c.in-Refused.is
 
 pub local_accepted-requires : goal.local_accepted-requires
 local_accepted-requires c = call_accepted (corner_lists c.args.xs.now c.args.ys.now c.args.pitches.now) c.args.shades.now c.args.sheet.now c.args.attached.now c.args.settings c.args.params _ c.check_arguments-checked.ensures c.in_default.is
 
 pub returns : goal.returns
-returns c = call-done (corner_lists c.args.xs.now c.args.ys.now c.args.pitches.now) c.args.shades.now c.args.sheet.now c.args.attached.now c.args.settings c.args.params _ c.check_arguments-checked.ensures c.in_default.is _ c.local_accepted.ensures
+returns c = call_done (corner_lists c.args.xs.now c.args.ys.now c.args.pitches.now) c.args.shades.now c.args.sheet.now c.args.attached.now c.args.settings c.args.params _ c.check_arguments-checked.ensures c.in_default.is _ c.local_accepted.ensures

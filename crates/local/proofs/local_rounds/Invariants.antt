@@ -5,7 +5,7 @@ use native.Mathlib.Omega.{arith}
 use borrow.Author.Rules.{rules}
 use Rattle.sheet.specs.Corners.{corners_in}
 use Rattle.local_cell.specs.Extending.{Recalls}
-use Rattle.local.proofs.Rounds.{Rounding, rounding-start, rounding-asked, rounding-last, rounding-more, rounding-end}
+use Rattle.local.proofs.Rounds.{Rounding, rounding_start, rounding_asked, rounding_last, rounding_more, rounding_end}
 use Rattle.local.proofs.local_rounds.Given as goal
 
 abbrev pub invariant-loop-rounds : goal.invariant-loop-rounds

@@ -4,14 +4,14 @@ use Prim.Native.Nat.{◌-◌}
 use native.Mathlib.Omega.{arith}
 use Rattle.region.specs.Region.{region_of}
 use Rattle.local.specs.Rounds.{tried_at}
-use Rattle.local.proofs.Walk.{Seeking, seeking-start, seeking-more, seeking_hit, seeking_end}
+use Rattle.local.proofs.Walk.{Seeking, seeking_start, seeking_more, seeking_hit, seeking_end}
 use Rattle.local.proofs.next_tried.Goals as goal
 
 pub next_inside-place-requires : goal.next_inside-place-requires
 next_inside-place-requires c = (c.requires.0.fits, c.requires.1)
 
 pub loop-place-init : goal.loop-place-init
-loop-place-init c = seeking-start c.requires.0 c.next_inside-place.ensures
+loop-place-init c = seeking_start c.requires.0 c.next_inside-place.ensures
 
 pub is_tried-requires : goal.is_tried-requires
 is_tried-requires c = let w = c.requires.0 in (record { below = c.loop-place-test.true; shallow = w.shallow; small = w.small }, w.long)
@@ -26,7 +26,7 @@ pub loop-place-smaller : goal.loop-place-smaller
 loop-place-smaller c = let l = c.next_inside-place-in-loop-place.ensures.start in omega (arith, c.loop-place-test.true)
 
 pub loop-place-preserved : goal.loop-place-preserved
-loop-place-preserved c = seeking-more c.requires.0 c.loop-place.invariant (sym c.is_tried.ensures ∙ c.if-is_tried.false) c.next_inside-place-in-loop-place.ensures
+loop-place-preserved c = seeking_more c.requires.0 c.loop-place.invariant (sym c.is_tried.ensures ∙ c.if-is_tried.false) c.next_inside-place-in-loop-place.ensures
 
 pub returns : goal.returns
 returns c = seeking_end c.loop-place.invariant c.loop-place-test.false

@@ -4,7 +4,7 @@ use Prim.Native.Nat.{◌-◌}
 use native.Mathlib.Omega.{arith}
 use Rattle.region.specs.Region.{region_of}
 use Rattle.local.specs.Rounds.{tried_at}
-use Rattle.local.proofs.Walk.{Seeking, seeking-start, seeking-more, seeking_hit, seeking_end}
+use Rattle.local.proofs.Walk.{Seeking, seeking_start, seeking_more, seeking_hit, seeking_end}
 use Rattle.local.proofs.next_tried.Given as goal
 
 abbrev pub invariant-loop-place : goal.invariant-loop-place

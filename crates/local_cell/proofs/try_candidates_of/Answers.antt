@@ -6,10 +6,10 @@ use Rattle.extension_common.specs.declared.Search.{Search}
 use Rattle.extension_common.proofs.Laws.{choosable, tried_with}
 use Rattle.passes.specs.Grow.{tolerances_of}
 use Rattle.passes.specs.Local.{local_search}
-use Rattle.remembered.proofs.Notes.{notable-no-candidates, notable-ambiguous}
+use Rattle.remembered.proofs.Notes.{notable_no_candidates, notable_ambiguous}
 use Rattle.local_cell.specs.Extending.{Taking}
-use Rattle.local_cell.proofs.Visit.{gathered_is, found_is, taking, taking-writable, taking-fits, found_none, found-ambiguous, found-refused, found-corner}
-use Rattle.local_cell.proofs.Memory.{noting, recalls-counted, recalls-attached, recalls-missed, recalls-ambiguous}
+use Rattle.local_cell.proofs.Visit.{gathered_is, found_is, taking, taking_writable, taking_fits, found_none, found_ambiguous, found_refused, found_corner}
+use Rattle.local_cell.proofs.Memory.{noting, recalls_counted, recalls_attached, recalls_missed, recalls_ambiguous}
 use borrow.Author.Rules.{rules}
 use Rattle.local_cell.proofs.try_candidates_of.Goals as goal
 use Rattle.local_cell.proofs.try_candidates_of.Goals.{After-collect_candidates-arg-1, After-collect_candidates-candidates, After-try_candidates-found, In-Attached-2}
@@ -34,13 +34,13 @@ pub try_candidates-found-requires : goal.try_candidates-found-requires
 try_candidates-found-requires c = choosable _ _ _ _ _ _ c.requires.0.extending.few c.requires.0.extending.given c.requires.0.on (held (goal.at.try_candidates-found-requires c).After-collect_candidates-arg-1)
 
 pub note_if_bare-requires : goal.note_if_bare-requires
-note_if_bare-requires c = noting c.requires.0 c.requires.1.0 (notable-no-candidates c.requires.1.1.small)
+note_if_bare-requires c = noting c.requires.0 c.requires.1.0 (notable_no_candidates c.requires.1.1.small)
 
 pub count_cell-requires : goal.count_cell-requires
 count_cell-requires c = c.requires.0.countable
 
 pub note_if_bare-requires-in-Ambiguous : goal.note_if_bare-requires-in-Ambiguous
-note_if_bare-requires-in-Ambiguous c = noting c.requires.0 c.requires.1.0 (notable-ambiguous c.requires.1.1.small _ _)
+note_if_bare-requires-in-Ambiguous c = noting c.requires.0 c.requires.1.0 (notable_ambiguous c.requires.1.1.small _ _)
 
 pub count_cell-requires-in-Ambiguous : goal.count_cell-requires-in-Ambiguous
 count_cell-requires-in-Ambiguous c = c.requires.0.countable
@@ -49,19 +49,19 @@ pub count_cell-requires-in-EdgeRejected : goal.count_cell-requires-in-EdgeReject
 count_cell-requires-in-EdgeRejected c = c.requires.0.countable
 
 pub corner_at-taken-requires : goal.corner_at-taken-requires
-corner_at-taken-requires c = taking-fits (attach_this (goal.at.corner_at-taken-requires c).In-Attached-2)
+corner_at-taken-requires c = taking_fits (attach_this (goal.at.corner_at-taken-requires c).In-Attached-2)
 
 pub attach_corner-requires : goal.attach_corner-requires
-attach_corner-requires c = (taking-writable (attach_this (goal.at.attach_corner-requires c).In-Attached-2), c.requires.1.0.remembered.size)
+attach_corner-requires c = (taking_writable (attach_this (goal.at.attach_corner-requires c).In-Attached-2), c.requires.1.0.remembered.size)
 
 pub returns-in-NoCandidates : goal.returns-in-NoCandidates
-returns-in-NoCandidates c = (found_none _ _ (found (goal.at.returns-in-NoCandidates c).After-try_candidates-found) c.requires.0.extending c.count_cell.ensures c.in-NoCandidates.is, recalls-missed c.requires.1.0 _ c.requires.0 c.requires.1.1 (found (goal.at.returns-in-NoCandidates c).After-try_candidates-found) c.in-NoCandidates.is c.count_cell.ensures c.note_if_bare.ensures)
+returns-in-NoCandidates c = (found_none _ _ (found (goal.at.returns-in-NoCandidates c).After-try_candidates-found) c.requires.0.extending c.count_cell.ensures c.in-NoCandidates.is, recalls_missed c.requires.1.0 _ c.requires.0 c.requires.1.1 (found (goal.at.returns-in-NoCandidates c).After-try_candidates-found) c.in-NoCandidates.is c.count_cell.ensures c.note_if_bare.ensures)
 
 pub returns-in-Ambiguous : goal.returns-in-Ambiguous
-returns-in-Ambiguous c = (found-ambiguous _ _ (found (goal.at.returns-in-Ambiguous c).After-try_candidates-found) c.requires.0.extending c.count_cell-in-Ambiguous.ensures c.in-Ambiguous.is, recalls-ambiguous c.requires.1.0 _ c.requires.0 c.requires.1.1 (candidates (goal.at.returns-in-Ambiguous c).After-collect_candidates-arg-1) c.last_distance-limit.ensures (found (goal.at.returns-in-Ambiguous c).After-try_candidates-found) c.in-Ambiguous.is c.count_cell-in-Ambiguous.ensures c.note_if_bare-in-Ambiguous.ensures)
+returns-in-Ambiguous c = (found_ambiguous _ _ (found (goal.at.returns-in-Ambiguous c).After-try_candidates-found) c.requires.0.extending c.count_cell-in-Ambiguous.ensures c.in-Ambiguous.is, recalls_ambiguous c.requires.1.0 _ c.requires.0 c.requires.1.1 (candidates (goal.at.returns-in-Ambiguous c).After-collect_candidates-arg-1) c.last_distance-limit.ensures (found (goal.at.returns-in-Ambiguous c).After-try_candidates-found) c.in-Ambiguous.is c.count_cell-in-Ambiguous.ensures c.note_if_bare-in-Ambiguous.ensures)
 
 pub returns-in-EdgeRejected : goal.returns-in-EdgeRejected
-returns-in-EdgeRejected c = (found-refused _ _ (found (goal.at.returns-in-EdgeRejected c).After-try_candidates-found) c.requires.0.extending c.count_cell-in-EdgeRejected.ensures c.in-EdgeRejected.is, recalls-counted c.requires.1.0 c.try_candidates-found.result c.requires.0 c.count_cell-in-EdgeRejected.ensures)
+returns-in-EdgeRejected c = (found_refused _ _ (found (goal.at.returns-in-EdgeRejected c).After-try_candidates-found) c.requires.0.extending c.count_cell-in-EdgeRejected.ensures c.in-EdgeRejected.is, recalls_counted c.requires.1.0 c.try_candidates-found.result c.requires.0 c.count_cell-in-EdgeRejected.ensures)
 
 pub returns-in-Attached : goal.returns-in-Attached
-returns-in-Attached c = (found-corner _ _ (found (goal.at.returns-in-Attached c).After-try_candidates-found) (attach_this (goal.at.returns-in-Attached c).In-Attached-2) c.in-Attached.is c.attach_corner.ensures.0, recalls-attached c.requires.1.0 (attach_this (goal.at.returns-in-Attached c).In-Attached-2) c.corner_at-taken.ensures c.attach_corner.ensures.0 c.attach_corner.ensures.1)
+returns-in-Attached c = (found_corner _ _ (found (goal.at.returns-in-Attached c).After-try_candidates-found) (attach_this (goal.at.returns-in-Attached c).In-Attached-2) c.in-Attached.is c.attach_corner.ensures.0, recalls_attached c.requires.1.0 (attach_this (goal.at.returns-in-Attached c).In-Attached-2) c.corner_at-taken.ensures c.attach_corner.ensures.0 c.attach_corner.ensures.1)

@@ -1,6 +1,6 @@
 -- `call_pass` meets its contract, by the pass that is asked for. Assumes nothing.
 use Rattle.sheet.specs.Corners.{corner_lists}
-use Rattle.pass_call.proofs.Calling.{grow-left, fill-left, local-left, both}
+use Rattle.pass_call.proofs.Calling.{grow_left_lem, fill_left_lem, local_left_lem, both}
 use Rattle.pass_call.specs.Call.{call_of}
 use lib.ListN.{length}
 use borrow.Author.Rules.{rules}
@@ -13,7 +13,7 @@ returns-in-Grow c =
     let l = corner_lists a.xs.now a.ys.now a.pitches.now in
     both l a.sheet.now (call_of a.settings a.shades.now (length a.queue.now) (length a.attached.now) a.pass)
     a.queue.now a.attached.now o.new.1.1.1.1.0 o.new.1.1.1.1.1.0 o.new.1.1.1.1.1.1.0 c.of_grow.result
-    (grow-left l a.settings a.shades.now a.sheet.now a.queue.now a.attached.now o.new.1.1.1.1.0 o.new.1.1.1.1.1.1.0
+    (grow_left_lem l a.settings a.shades.now a.sheet.now a.queue.now a.attached.now o.new.1.1.1.1.0 o.new.1.1.1.1.1.1.0
     a.pass c.of_grow.result _ c.in-Grow.is o.new.1.1.1.1.1.0 _ c.of_grow.ensures o.ensures.0)
 
 pub returns-in-Fill : goal.returns-in-Fill
@@ -23,7 +23,7 @@ returns-in-Fill c =
     let l = corner_lists a.xs.now a.ys.now a.pitches.now in
     both l a.sheet.now (call_of a.settings a.shades.now (length a.queue.now) (length a.attached.now) a.pass)
     a.queue.now a.attached.now o.new.1.1.1.1.0 a.queue.now o.new.1.1.1.1.1.0 c.of_fill.result
-    (fill-left l a.settings a.shades.now a.sheet.now a.queue.now a.attached.now o.new.1.1.1.1.0 o.new.1.1.1.1.1.0
+    (fill_left_lem l a.settings a.shades.now a.sheet.now a.queue.now a.attached.now o.new.1.1.1.1.0 o.new.1.1.1.1.1.0
     a.pass c.of_fill.result _ c.in-Fill.is _ c.of_fill.ensures o.ensures.0)
 
 pub returns-in-Local : goal.returns-in-Local
@@ -33,5 +33,5 @@ returns-in-Local c =
     let l = corner_lists a.xs.now a.ys.now a.pitches.now in
     both l a.sheet.now (call_of a.settings a.shades.now (length a.queue.now) (length a.attached.now) a.pass)
     a.queue.now a.attached.now o.new.1.1.1.1.0 a.queue.now o.new.1.1.1.1.1.0 c.of_local.result
-    (local-left l a.settings a.shades.now a.sheet.now a.queue.now a.attached.now o.new.1.1.1.1.0 o.new.1.1.1.1.1.0
+    (local_left_lem l a.settings a.shades.now a.sheet.now a.queue.now a.attached.now o.new.1.1.1.1.0 o.new.1.1.1.1.1.0
     a.pass c.of_local.result _ c.in-Local.is _ c.of_local.ensures o.ensures.0)

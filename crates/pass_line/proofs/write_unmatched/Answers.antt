@@ -1,6 +1,6 @@
 -- `pass_line::write_unmatched` meets its contract, by whether a shade stands. Assumes nothing.
 use Rattle.report_line.proofs.Forms.{unmatched_form, same_room, same_wrote, nothing_written}
-use Rattle.report_line.proofs.Behind.{no_line, count-line, count_held}
+use Rattle.report_line.proofs.Behind.{no_line, count_line, count_held}
 use mathlib.Core.Path.{◌∙◌}
 use borrow.Author.Rules.{rules}
 use Rattle.pass_line.proofs.write_unmatched.Goals as goal
@@ -9,10 +9,10 @@ pub held-requires : goal.held-requires
 held-requires c = count_held c.args.unmatched _ c.in-Count.is c.args.out.now c.requires
 
 pub write_form-requires : goal.write_form-requires
-write_form-requires c = same_room _ _ c.args.out.now (unmatched_form _ _ c.held.ensures ∙ count-line c.args.unmatched _ c.in-Count.is) c.requires.room
+write_form-requires c = same_room _ _ c.args.out.now (unmatched_form _ _ c.held.ensures ∙ count_line c.args.unmatched _ c.in-Count.is) c.requires.room
 
 pub returns-in-NoShades : goal.returns-in-NoShades
 returns-in-NoShades c = nothing_written _ c.args.out.now (no_line c.args.unmatched c.in-NoShades.is)
 
 pub returns-in-Count : goal.returns-in-Count
-returns-in-Count c = same_wrote _ _ _ _ _ (unmatched_form _ _ c.held.ensures ∙ count-line c.args.unmatched _ c.in-Count.is) c.write_form.ensures
+returns-in-Count c = same_wrote _ _ _ _ _ (unmatched_form _ _ c.held.ensures ∙ count_line c.args.unmatched _ c.in-Count.is) c.write_form.ensures

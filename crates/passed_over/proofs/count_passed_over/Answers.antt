@@ -1,16 +1,16 @@
 -- `count_passed_over` meets its contract: at each turn the count is that of the corners passed. Assumes nothing.
-use mathlib.Core.Path.{sym, ◌∙◌}
-use mathlib.Core.Bool.{Bool}
+use mathlib.Core.Path.{sym, ◌∙◌, ap}
+use mathlib.Core.Bool.{Bool, not}
 use Prim.Native.Nat.{ℕ, ◌-◌}
 use native.Mathlib.Omega.{arith}
 use borrow.Author.Rules.{rules}
 use borrow.Author.Tests.{not-true, not-false}
 use Rattle.sheet.specs.Shades.{takes_kind, shades_in}
 use Rattle.sheet.proofs.Shades.{takes_every}
-use Rattle.labels.proofs.Count.{Tallying, tallying_start, tallying-more, tallying-few, tallying-end}
+use Rattle.labels.proofs.Count.{Tallying, tallying_start, tallying_more, tallying_few, tallying_end}
 use Rattle.candidates.specs.Candidates.{positions_in, unmarked, squared_radius}
 use Rattle.passed_over.specs.PassedOver.{is_passed_over}
-use Rattle.passed_over.proofs.Laws.{none_passed_over, over-nowhere-x, over-nowhere-y, over-somewhere}
+use Rattle.passed_over.proofs.Laws.{none_passed_over, over_nowhere_x, over_nowhere_y, over_somewhere}
 use Rattle.passed_over.proofs.count_passed_over.Goals as goal
 use Rattle.passed_over.proofs.count_passed_over.Goals.{Start}
 
@@ -20,17 +20,17 @@ kinds s = takes_kind (shades_in s.args.corners.now) s.args.kind
 
 pub returns-then-not-is_shaded : goal.returns-then-not-is_shaded
 returns-then-not-is_shaded c = let a = c.args in
-    sym (none_passed_over (positions_in a.corners.now) (unmarked a.used.now) (kinds (goal.at.returns-then-not-is_shaded c).Start) a.count a.prediction a.search-r
-    (λ k h. takes_every (shades_in a.corners.now) a.kind k (sym c.is_shaded.ensures ∙ not-true _ c.if-not-is_shaded.true)))
+    sym (none_passed_over (positions_in a.corners.now) (unmarked a.used.now) (kinds (goal.at.returns-then-not-is_shaded c).Start) a.count a.prediction a.search_r
+    (λ k h. takes_every (shades_in a.corners.now) a.kind k (sym c.is_shaded.ensures ∙ not-true _ (ap not c.if-not-is_shaded.true))))
 
 pub returns-then-not-is_finite : goal.returns-then-not-is_finite
 returns-then-not-is_finite c = let a = c.args in
-    over-nowhere-x (positions_in a.corners.now) (unmarked a.used.now) (kinds (goal.at.returns-then-not-is_finite c).Start) a.prediction _ _ (sym c.is_finite.ensures ∙ not-true _ c.if-not-is_finite.true)
+    over_nowhere_x (positions_in a.corners.now) (unmarked a.used.now) (kinds (goal.at.returns-then-not-is_finite c).Start) a.prediction _ _ (sym c.is_finite.ensures ∙ not-true _ (ap not c.if-not-is_finite.true))
 
 pub returns-then-not-is_finite-2 : goal.returns-then-not-is_finite-2
 returns-then-not-is_finite-2 c = let a = c.args in
-    over-nowhere-y (positions_in a.corners.now) (unmarked a.used.now) (kinds (goal.at.returns-then-not-is_finite-2 c).Start) a.prediction _ _
-    (sym c.is_finite.ensures ∙ not-false _ c.if-not-is_finite.false) (sym c.is_finite-2.ensures ∙ not-true _ c.if-not-is_finite-2.true)
+    over_nowhere_y (positions_in a.corners.now) (unmarked a.used.now) (kinds (goal.at.returns-then-not-is_finite-2 c).Start) a.prediction _ _
+    (sym c.is_finite.ensures ∙ not-false _ (ap not c.if-not-is_finite.false)) (sym c.is_finite-2.ensures ∙ not-true _ (ap not c.if-not-is_finite-2.true))
 
 pub loop-k-init : goal.loop-k-init
 loop-k-init c = tallying_start _ _
@@ -40,13 +40,13 @@ one_if_passed_over-passed-requires c = omega (arith, c.loop-k-test.true, c.requi
 
 pub overflow_add-passed : goal.overflow_add-passed
 overflow_add-passed c =
-    omega (arith, c.loop-k-test.true, tallying-few (tallying-more c.loop-k.invariant c.loop-k-test.true c.one_if_passed_over-passed.ensures))
+    omega (arith, c.loop-k-test.true, tallying_few (tallying_more c.loop-k.invariant c.loop-k-test.true c.one_if_passed_over-passed.ensures))
 
 pub loop-k-preserved : goal.loop-k-preserved
-loop-k-preserved c = tallying-more c.loop-k.invariant c.loop-k-test.true c.one_if_passed_over-passed.ensures
+loop-k-preserved c = tallying_more c.loop-k.invariant c.loop-k-test.true c.one_if_passed_over-passed.ensures
 
 pub returns : goal.returns
 returns c = let a = c.args in
-    tallying-end c.loop-k.invariant c.loop-k-test.false
-    ∙ over-somewhere (positions_in a.corners.now) (unmarked a.used.now) (kinds (goal.at.returns c).Start) a.prediction _ _
-    (sym c.is_finite.ensures ∙ not-false _ c.if-not-is_finite.false) (sym c.is_finite-2.ensures ∙ not-false _ c.if-not-is_finite-2.false)
+    tallying_end c.loop-k.invariant c.loop-k-test.false
+    ∙ over_somewhere (positions_in a.corners.now) (unmarked a.used.now) (kinds (goal.at.returns c).Start) a.prediction _ _
+    (sym c.is_finite.ensures ∙ not-false _ (ap not c.if-not-is_finite.false)) (sym c.is_finite-2.ensures ∙ not-false _ (ap not c.if-not-is_finite-2.false))

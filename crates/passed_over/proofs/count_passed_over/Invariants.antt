@@ -7,10 +7,10 @@ use borrow.Author.Rules.{rules}
 use borrow.Author.Tests.{not-true, not-false}
 use Rattle.sheet.specs.Shades.{takes_kind, shades_in}
 use Rattle.sheet.proofs.Shades.{takes_every}
-use Rattle.labels.proofs.Count.{Tallying, tallying_start, tallying-more, tallying-few, tallying-end}
+use Rattle.labels.proofs.Count.{Tallying, tallying_start, tallying_more, tallying_few, tallying_end}
 use Rattle.candidates.specs.Candidates.{positions_in, unmarked, squared_radius}
 use Rattle.passed_over.specs.PassedOver.{is_passed_over}
-use Rattle.passed_over.proofs.Laws.{none_passed_over, over-nowhere-x, over-nowhere-y, over-somewhere}
+use Rattle.passed_over.proofs.Laws.{none_passed_over, over_nowhere_x, over_nowhere_y, over_somewhere}
 use Rattle.passed_over.proofs.count_passed_over.Given as goal
 
 abbrev pub invariant-loop-k : goal.invariant-loop-k

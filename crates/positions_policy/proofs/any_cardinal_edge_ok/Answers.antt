@@ -1,6 +1,5 @@
 -- `positions_policy::any_cardinal_edge_ok` meets its contract. The loop's invariant: no edge is accepted so far, and what was found,
 -- followed by the edges that are left, is the verdict. The measure is how many are left. Assumes nothing.
-use mathlib.Core.Logic.{⊎_elim}
 use Prim.Native.Nat.{◌-◌, ◌<◌}
 use native.Mathlib.Omega.{arith}
 use borrow.Author.Rules.{rules}
@@ -8,6 +7,7 @@ use Rattle.sheet.specs.Corners.{corner_in, seen_of}
 use Rattle.positions_policy.specs.Edge.{edge_at, verdict_of}
 use Rattle.positions_policy.proofs.Search.{Open, opened, ended, passed, refused, stopped}
 use Rattle.positions_policy.proofs.any_cardinal_edge_ok.Goals as goal
+use Rattle.positions_policy.proofs.any_cardinal_edge_ok.Goals.{in-Refused, in-NonePresent}
 
 pub loop-k-init : goal.loop-k-init
 loop-k-init c = opened _
@@ -21,10 +21,10 @@ loop-k-preserved c =
     let so_far = c.loop-k.invariant in
     let more : c.loop-k.k < 4 = omega arith in
     let is = c.cardinal_edge-edge.ensures in
-    ⊎_elim
-    (λ w. rw w.2 (refused _ so_far more is w.1.given.1))
-    (λ w. rw w.2 (passed _ so_far more is w.1.given.1))
-    c.match-edge.branch
+    elim c.match-edge.branch [
+      in-Refused w ↦ rw w.verdict-is (refused _ so_far more is w.in-Refused.is)
+    | in-NonePresent w ↦ rw w.verdict-is (passed _ so_far more is w.in-NonePresent.is)
+    ]
 
 pub returns-after-loop-k : goal.returns-after-loop-k
 unfolding verdict_of

@@ -3,7 +3,7 @@ use mathlib.Core.Path.{◌≡◌}
 use Rattle.sheet.specs.Cells.{moved}
 use Rattle.sheet.specs.Corners.{corner_in, seen_of}
 use Rattle.positions_policy.specs.Edge.{cardinal_at}
-use Rattle.positions_policy.proofs.Search.{cardinal_within, seen_beside, edge_none, edge-accepted, edge-refused}
+use Rattle.positions_policy.proofs.Search.{cardinal_within, seen_beside, edge_none, edge_accepted, edge_refused}
 use borrow.Author.Rules.{rules}
 use Rattle.positions_policy.proofs.cardinal_edge.Goals as goal
 use Rattle.positions_policy.proofs.cardinal_edge.Goals.{After-seen_at-seen}
@@ -31,13 +31,13 @@ returns-in-Nothing c =
 pub returns-then-edge_ok : goal.returns-then-edge_ok
 returns-then-edge_ok c =
     let a = c.args in
-    edge-accepted a.tol a.candidate (at (goal.at.returns-then-edge_ok c).After-seen_at-seen) c.in-At.is
+    edge_accepted a.tol a.candidate (at (goal.at.returns-then-edge_ok c).After-seen_at-seen) c.in-At.is
     c.edge_ok.ensures
     c.if-edge_ok.true
 
 pub returns-else-edge_ok : goal.returns-else-edge_ok
 returns-else-edge_ok c =
     let a = c.args in
-    edge-refused a.tol a.candidate (at (goal.at.returns-else-edge_ok c).After-seen_at-seen) c.in-At.is
+    edge_refused a.tol a.candidate (at (goal.at.returns-else-edge_ok c).After-seen_at-seen) c.in-At.is
     c.edge_ok.ensures
     c.if-edge_ok.false

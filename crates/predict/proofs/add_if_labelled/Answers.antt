@@ -1,4 +1,16 @@
 -- `predict::add_if_labelled` meets its contract, by what is seen at the cell that is reached; a labelled cell is on the sheet. Assumes nothing.
+use mathlib.Core.Path.{◌≡◌, sym, ap, ◌∙◌}
+use borrow.Author.Rules.{rules}
+use Rattle.sheet.specs.Cells.{moved}
+use Rattle.sheet.specs.declared.Cell.{Cell}
+use Rattle.sheet.specs.declared.Corner.{Corner}
+use Rattle.sheet.specs.declared.Seen.{Seen}
+use Rattle.predict.specs.Predict.{with_neighbour, with_seen}
+use Rattle.predict.specs.declared.Grid.{Grid}
+use Rattle.predict.specs.declared.Sums.{Sums}
+use Rattle.predict.proofs.Laws.{square_within, seen_on}
+use Rattle.predict.proofs.add_if_labelled.Goals as goal
+
 module _ (seen : Cell → Seen) (grid : Grid) (c : Cell) (s : Sums) {cell at : Cell} {v : Seen} (reached : at ≡ cell) (found : v ≡ seen at) where
   passed : v ≡ Seen.Nothing → s ≡ with_seen seen grid c s cell (seen cell)
   unfolding with_seen
@@ -9,17 +21,6 @@ module _ (seen : Cell → Seen) (grid : Grid) (c : Cell) (s : Sums) {cell at : C
   added k e f =
       f ∙ ap (λ (a : Cell). with_neighbour seen grid c s (record { at = a; position = k.position })) reached
       ∙ sym (ap (with_seen seen grid c s cell) (sym (found ∙ ap seen reached) ∙ e))
-use mathlib.Core.Path.{◌≡◌, sym, ap, ◌∙◌}
-use borrow.Author.Rules.{rules}
-use Rattle.sheet.specs.Cells.{moved}
-use Rattle.sheet.specs.declared.Cell.{Cell}
-use Rattle.sheet.specs.declared.Corner.{Corner}
-use Rattle.sheet.specs.declared.Seen.{Seen}
-use Rattle.predict.specs.Predict.{with_neighbour, with_seen}
-use Rattle.predict.specs.declared.Grid.{Grid}
-use Rattle.predict.specs.declared.Sums.{Sums}
-use Rattle.predict.proofs.Laws.{square_within, seen-on}
-use Rattle.predict.proofs.add_if_labelled.Goals as goal
 
 pub neighbour-at-requires : goal.neighbour-at-requires
 neighbour-at-requires c =
@@ -30,7 +31,7 @@ add_neighbour-requires c =
     record {
       given = c.requires.given;
       on = c.requires.on;
-      on_too = seen-on _ _ _ _ (sym c.seen_at-seen.ensures ∙ c.in-At.is);
+      on_too = seen_on _ _ _ _ (sym c.seen_at-seen.ensures ∙ c.in-At.is);
     }
 
 pub returns-in-Nothing : goal.returns-in-Nothing

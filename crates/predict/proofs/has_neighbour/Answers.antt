@@ -5,7 +5,7 @@ use native.Mathlib.Omega.{arith}
 use Rattle.sheet.specs.Corners.{seen_of}
 use Rattle.sheet.specs.declared.Corner.{Corner}
 use Rattle.predict.specs.Predict.{neighbours_of, any_on, has_neighbour}
-use Rattle.predict.proofs.Laws.{neighbours_from, any_here, any-later, any-end}
+use Rattle.predict.proofs.Laws.{neighbours_from, any_here, any_later, any_end}
 use Rattle.predict.proofs.has_neighbour.Goals as goal
 
 pub loop-k-init : goal.loop-k-init
@@ -26,10 +26,10 @@ pub loop-k-preserved : goal.loop-k-preserved
 loop-k-preserved c = (
   omega arith,
   λ corner.
-      sym (any-later _ _ _ _ c.loop-k-test.true (sym (c.is_neighbour_on.ensures corner) ∙ c.if-is_neighbour_on.false))
+      sym (any_later _ _ _ _ c.loop-k-test.true (sym (c.is_neighbour_on.ensures corner) ∙ c.if-is_neighbour_on.false))
       ∙ c.loop-k.invariant.1 corner,
 )
 
 pub returns : goal.returns
 returns c =
-    λ corner. sym (any-end _ _ _ _ c.loop-k.invariant.0 c.loop-k-test.false) ∙ c.loop-k.invariant.1 corner
+    λ corner. sym (any_end _ _ _ _ c.loop-k.invariant.0 c.loop-k-test.false) ∙ c.loop-k.invariant.1 corner

@@ -5,7 +5,7 @@ use native.Mathlib.Omega.{arith}
 use Rattle.sheet.specs.Corners.{seen_of}
 use Rattle.sheet.specs.declared.Corner.{Corner}
 use Rattle.predict.specs.Predict.{neighbours_of, any_on, has_neighbour}
-use Rattle.predict.proofs.Laws.{neighbours_from, any_here, any-later, any-end}
+use Rattle.predict.proofs.Laws.{neighbours_from, any_here, any_later, any_end}
 use Rattle.predict.proofs.has_neighbour.Given as goal
 
 abbrev pub invariant-loop-k : goal.invariant-loop-k

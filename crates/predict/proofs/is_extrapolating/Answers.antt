@@ -1,6 +1,6 @@
 -- `predict::is_extrapolating` meets its contract, by the first side that has no neighbour. Assumes nothing.
-use mathlib.Core.Path.{◌≡◌, sym, ◌∙◌}
-use mathlib.Core.Bool.{true}
+use mathlib.Core.Path.{◌≡◌, sym, ◌∙◌, ap}
+use mathlib.Core.Bool.{true, not}
 use Prim.Native.Nat.{ℕ}
 use borrow.Author.Rules.{rules}
 use borrow.Author.Tests.{not-true, not-false}
@@ -12,31 +12,31 @@ use Rattle.predict.proofs.is_extrapolating.Goals as goal
 use Rattle.predict.proofs.is_extrapolating.Goals.{Else-not-has_neighbour, Else-not-has_neighbour-2, Else-not-has_neighbour-3, Start}
 
 -- the sides that were passed have a neighbour
-abbrev has : tie.Start → (ℕ → Corner) → Side → Type 0
+abbrev has : Start → (ℕ → Corner) → Side → Type 0
 has s corner side = has_neighbour (seen_of corner s.args.sheet.now) s.args.c side ≡ true
 
 minus_i : (c : Else-not-has_neighbour) (corner : ℕ → Corner) → has (goal.at.Else-not-has_neighbour c).Start corner Side.MinusI
-minus_i c corner = sym (c.has_neighbour.ensures corner) ∙ not-false _ c.if-not-has_neighbour.false
+minus_i c corner = sym (c.has_neighbour.ensures corner) ∙ not-false _ (ap not c.if-not-has_neighbour.false)
 
 plus_i : (c : Else-not-has_neighbour-2) (corner : ℕ → Corner) → has (goal.at.Else-not-has_neighbour-2 c).Start corner Side.PlusI
-plus_i c corner = sym (c.has_neighbour-2.ensures corner) ∙ not-false _ c.if-not-has_neighbour-2.false
+plus_i c corner = sym (c.has_neighbour-2.ensures corner) ∙ not-false _ (ap not c.if-not-has_neighbour-2.false)
 
 minus_j : (c : Else-not-has_neighbour-3) (corner : ℕ → Corner) → has (goal.at.Else-not-has_neighbour-3 c).Start corner Side.MinusJ
-minus_j c corner = sym (c.has_neighbour-3.ensures corner) ∙ not-false _ c.if-not-has_neighbour-3.false
+minus_j c corner = sym (c.has_neighbour-3.ensures corner) ∙ not-false _ (ap not c.if-not-has_neighbour-3.false)
 
 pub returns-then-not-has_neighbour : goal.returns-then-not-has_neighbour
 unfolding extrapolating
-returns-then-not-has_neighbour c = λ corner. rw (sym (c.has_neighbour.ensures corner) ∙ not-true _ c.if-not-has_neighbour.true)
+returns-then-not-has_neighbour c = λ corner. rw (sym (c.has_neighbour.ensures corner) ∙ not-true _ (ap not c.if-not-has_neighbour.true))
 
 pub returns-then-not-has_neighbour-2 : goal.returns-then-not-has_neighbour-2
 unfolding extrapolating
-returns-then-not-has_neighbour-2 c = λ corner. rw (minus_i (goal.at.returns-then-not-has_neighbour-2 c).Else-not-has_neighbour corner, sym (c.has_neighbour-2.ensures corner) ∙ not-true _ c.if-not-has_neighbour-2.true)
+returns-then-not-has_neighbour-2 c = λ corner. rw (minus_i (goal.at.returns-then-not-has_neighbour-2 c).Else-not-has_neighbour corner, sym (c.has_neighbour-2.ensures corner) ∙ not-true _ (ap not c.if-not-has_neighbour-2.true))
 
 pub returns-then-not-has_neighbour-3 : goal.returns-then-not-has_neighbour-3
 unfolding extrapolating
 returns-then-not-has_neighbour-3 c =
     λ corner.
-    rw (minus_i (goal.at.returns-then-not-has_neighbour-3 c).Else-not-has_neighbour corner, plus_i (goal.at.returns-then-not-has_neighbour-3 c).Else-not-has_neighbour-2 corner, sym (c.has_neighbour-3.ensures corner) ∙ not-true _ c.if-not-has_neighbour-3.true)
+    rw (minus_i (goal.at.returns-then-not-has_neighbour-3 c).Else-not-has_neighbour corner, plus_i (goal.at.returns-then-not-has_neighbour-3 c).Else-not-has_neighbour-2 corner, sym (c.has_neighbour-3.ensures corner) ∙ not-true _ (ap not c.if-not-has_neighbour-3.true))
 
 pub returns : goal.returns
 unfolding extrapolating

@@ -1,13 +1,4 @@
 -- `predict::is_neighbour_on` meets its contract, by the label of the cell that is reached. Assumes nothing.
-module _ (seen : Cell → Seen) (side : Side) (c : Cell) {cell at : Cell} {labelled : Bool} (reached : at ≡ cell) (known : labelled ≡ is_seen (seen at)) where
-  here : {t : Bool} → labelled ≡ t → is_seen (seen cell) ≡ t
-  here e = sym (known ∙ ap (λ (a : Cell). is_seen (seen a)) reached) ∙ e
-
-  counted : {r : Bool} → labelled ≡ true → r ≡ on_side side c at → r ≡ (is_seen (seen cell) && on_side side c cell)
-  counted e f = f ∙ ap (on_side side c) reached ∙ sym (ap (λ (b : Bool). b && on_side side c cell) (here e))
-
-  passed : labelled ≡ false → false ≡ (is_seen (seen cell) && on_side side c cell)
-  passed e = sym (ap (λ (b : Bool). b && on_side side c cell) (here e))
 use mathlib.Core.Path.{◌≡◌, sym, ap, ◌∙◌}
 use mathlib.Core.Bool.{Bool, true, false, ◌&&◌}
 use borrow.Author.Rules.{rules}
@@ -19,6 +10,16 @@ use Rattle.predict.specs.Predict.{on_side, is_seen}
 use Rattle.predict.specs.declared.Side.{Side}
 use Rattle.predict.proofs.Laws.{square_within}
 use Rattle.predict.proofs.is_neighbour_on.Goals as goal
+
+module _ (seen : Cell → Seen) (side : Side) (c : Cell) {cell at : Cell} {labelled : Bool} (reached : at ≡ cell) (known : labelled ≡ is_seen (seen at)) where
+  here : {t : Bool} → labelled ≡ t → is_seen (seen cell) ≡ t
+  here e = sym (known ∙ ap (λ (a : Cell). is_seen (seen a)) reached) ∙ e
+
+  counted : {r : Bool} → labelled ≡ true → r ≡ on_side side c at → r ≡ (is_seen (seen cell) && on_side side c cell)
+  counted e f = f ∙ ap (on_side side c) reached ∙ sym (ap (λ (b : Bool). b && on_side side c cell) (here e))
+
+  passed : labelled ≡ false → false ≡ (is_seen (seen cell) && on_side side c cell)
+  passed e = sym (ap (λ (b : Bool). b && on_side side c cell) (here e))
 
 pub neighbour-at-requires : goal.neighbour-at-requires
 neighbour-at-requires c =

@@ -2,7 +2,6 @@
 use mathlib.Core.Path.{◌≡◌}
 use Prim.Native.Nat.{ℕ, suc, ◌<◌, ◌≤◌}
 use native.Mathlib.Omega.{arith}
-use borrow.Author.Rules.{zero≤}
 use Rattle.predict.specs.Predict.{neighbour_offsets}
 use Rattle.predict.proofs.offset_of.Goals as goal
 
@@ -44,6 +43,6 @@ returns-in-6 c = rw c.in-6.is
 pub returns-in_default : goal.returns-in_default
 unfolding neighbour_offsets
 returns-in_default c =
-    let r = c.in_default.rest in
-    let h = past 3 (past 2 (past 1 (past 0 zero≤ r.0.0.0.0.0.0.1) r.0.0.0.0.0.1) r.0.0.0.0.1) r.0.0.0.1 in
+    let r = c.in_default.in_default-own.rest in
+    let h = past 3 (past 2 (past 1 (past 0 (omega arith) r.0.0.0.0.0.0.1) r.0.0.0.0.0.1) r.0.0.0.0.1) r.0.0.0.1 in
     rw (is_seven c.args.k (past 6 (past 5 (past 4 h r.0.0.1) r.0.1) r.1) c.requires)

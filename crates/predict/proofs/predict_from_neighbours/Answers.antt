@@ -1,18 +1,19 @@
 -- `predict::predict_from_neighbours` meets its contract, by whether there is a neighbour. Assumes nothing.
+use mathlib.Core.Bool.{not}
 use mathlib.Core.Path.{sym, ap, ◌∙◌}
 use borrow.Author.Tests.{not-true, not-false}
 use borrow.Author.Rules.{rules}
 use Rattle.predict.specs.Predict.{mean_of}
 use Rattle.predict.specs.declared.Sums.{Sums}
 use Rattle.predict.specs.declared.Prediction.{Prediction}
-use Rattle.predict.proofs.Laws.{predicted-none, predicted-some}
+use Rattle.predict.proofs.Laws.{predicted_none, predicted_some}
 use Rattle.predict.proofs.predict_from_neighbours.Goals as goal
 
 pub returns-then-not-has_neighbour : goal.returns-then-not-has_neighbour
-returns-then-not-has_neighbour c = sym (predicted-none _ _ _ (sym (c.has_neighbour.ensures _) ∙ not-true _ c.if-not-has_neighbour.true))
+returns-then-not-has_neighbour c = sym (predicted_none _ _ _ (sym (c.has_neighbour.ensures _) ∙ not-true _ (ap not c.if-not-has_neighbour.true)))
 
 pub returns : goal.returns
 unfolding mean_of
 returns c =
     ap (λ (s : Sums). Prediction.At (mean_of s)) c.sum_neighbours-sums.ensures
-    ∙ sym (predicted-some _ _ _ (sym (c.has_neighbour.ensures _) ∙ not-false _ c.if-not-has_neighbour.false))
+    ∙ sym (predicted_some _ _ _ (sym (c.has_neighbour.ensures _) ∙ not-false _ (ap not c.if-not-has_neighbour.false)))

@@ -4,7 +4,7 @@ use Prim.Native.Nat.{◌≤◌, ◌-◌}
 use native.Mathlib.Omega.{arith}
 use Rattle.sheet.specs.Corners.{corner_in, seen_of}
 use Rattle.predict.specs.Predict.{neighbours_of, sums_from, no_sums, sums_of}
-use Rattle.predict.proofs.Laws.{neighbours_from, sums_next, sums-end}
+use Rattle.predict.proofs.Laws.{neighbours_from, sums_next, sums_end}
 use Rattle.predict.proofs.sum_neighbours.Goals as goal
 
 pub loop-k-init : goal.loop-k-init
@@ -20,4 +20,4 @@ loop-k-preserved c =
     (omega arith, rw c.add_if_labelled-more.ensures (sym (sums_next _ _ _ _ _ c.loop-k-test.true) ∙ c.loop-k.invariant.1))
 
 pub returns : goal.returns
-returns c = sym (sums-end _ _ _ _ _ c.loop-k.invariant.0 c.loop-k-test.false) ∙ c.loop-k.invariant.1
+returns c = sym (sums_end _ _ _ _ _ c.loop-k.invariant.0 c.loop-k-test.false) ∙ c.loop-k.invariant.1

@@ -4,7 +4,7 @@ use Prim.Native.Nat.{◌≤◌, ◌-◌}
 use native.Mathlib.Omega.{arith}
 use Rattle.sheet.specs.Corners.{corner_in, seen_of}
 use Rattle.predict.specs.Predict.{neighbours_of, sums_from, no_sums, sums_of}
-use Rattle.predict.proofs.Laws.{neighbours_from, sums_next, sums-end}
+use Rattle.predict.proofs.Laws.{neighbours_from, sums_next, sums_end}
 use Rattle.predict.proofs.sum_neighbours.Given as goal
 
 abbrev pub invariant-loop-k : goal.invariant-loop-k

@@ -14,5 +14,5 @@ use Rattle.recover_read.proofs.read_rest.Goals as goal
 pub returns : goal.returns
 returns c =
     let r = c.read-answer in
-    let f : SFits w64 r.result = record { sfits = r.type-inv } in
+    let f : SFits w64 r.result = record { sfits = r.type_inv } in
     rw (c.meaning.ensures, to_z-of_z f) (refilled _ r.new.1.0 _ _ _ c.requires r.auto.1.0 r.ensures)

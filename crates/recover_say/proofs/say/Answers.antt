@@ -6,7 +6,7 @@ use lib.ListN.{length, length-take}
 use borrow.Author.Rules.{rules}
 use Rattle.recover_say.specs.Said.{Telling, PutSo}
 use Rattle.recover_say.specs.declared.Put.{Put}
-use Rattle.recover_say.proofs.Telling.{begun, few_lines, text-so, one_more, told_of}
+use Rattle.recover_say.proofs.Telling.{begun, few_lines, text_so, one_more, told_of}
 use Rattle.recover_say.proofs.say.Reads as reads
 use Rattle.recover_say.proofs.say.Lts as lts
 use Rattle.io.proofs.buffer.Reads as buffer-reads
@@ -19,7 +19,7 @@ pub buffer-out-requires : goal.buffer-out-requires
 buffer-out-requires c = tt
 
 pub answer_lines-lines-requires : goal.answer_lines-lines-requires
-answer_lines-lines-requires c = c.requires.1
+answer_lines-lines-requires c = c.requires.few_passes
 
 pub loop-from-init : goal.loop-from-init
 loop-from-init c = begun _ _ _ _ c.buffer-out.ensures
@@ -28,25 +28,25 @@ pub slice_bounds-answer_piece-end : goal.slice_bounds-answer_piece-end
 slice_bounds-answer_piece-end c = c.loop-from.invariant.whole
 
 pub answer_piece-piece-requires : goal.answer_piece-piece-requires
-answer_piece-piece-requires c = (c.requires.0, (omega (arith, c.loop-from-test.true, c.answer_lines-lines.ensures), omega (arith, c.loop-from.invariant.whole)))
+answer_piece-piece-requires c = (c.requires.can_say, (omega (arith, c.loop-from-test.true, c.answer_lines-lines.ensures), omega (arith, c.loop-from.invariant.whole)))
 
 pub slice_bounds-out-end : goal.slice_bounds-out-end
-slice_bounds-out-end c = omega (arith, c.answer_piece-piece.ensures.1.in_room, c.loop-from.invariant.whole)
+slice_bounds-out-end c = omega (arith, c.answer_piece-piece.ensures.moves.in_room, c.loop-from.invariant.whole)
 
 pub slice_bounds-put_piece-end : goal.slice_bounds-put_piece-end
-slice_bounds-put_piece-end c = simp length-take (omega (arith, c.answer_piece-piece.ensures.1.in_room, c.loop-from.invariant.whole))
+slice_bounds-put_piece-end c = simp length-take (omega (arith, c.answer_piece-piece.ensures.moves.in_room, c.loop-from.invariant.whole))
 
 pub put_piece-put-requires : goal.put_piece-put-requires
 put_piece-put-requires c =
     let l = c.loop-from in
     let p = c.answer_piece-piece in
-    (text-so _ _ _ l.invariant p.ensures.0, omega (arith, l.invariant.behind, c.loop-from-test.true, c.answer_lines-lines.ensures, few_lines c.args.answer c.requires.1))
+    (text_so _ _ _ l.invariant p.ensures.0, omega (arith, l.invariant.behind, c.loop-from-test.true, c.answer_lines-lines.ensures, few_lines c.args.answer c.requires.few_passes))
 
 pub returns-in-Failed : goal.returns-in-Failed
 returns-in-Failed c = told_of _ _ _ c.loop-from.invariant c.answer_lines-lines.ensures
 
 pub loop-from-smaller : goal.loop-from-smaller
-loop-from-smaller c = omega (arith, c.answer_piece-piece.ensures.1.later, c.loop-from-test.true)
+loop-from-smaller c = omega (arith, c.answer_piece-piece.ensures.moves.later, c.loop-from-test.true)
 
 pub loop-from-preserved : goal.loop-from-preserved
 loop-from-preserved c =

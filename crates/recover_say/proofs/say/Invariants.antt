@@ -6,7 +6,7 @@ use lib.ListN.{length, length-take}
 use borrow.Author.Rules.{rules}
 use Rattle.recover_say.specs.Said.{Telling, PutSo}
 use Rattle.recover_say.specs.declared.Put.{Put}
-use Rattle.recover_say.proofs.Telling.{begun, few_lines, text-so, one_more, told_of}
+use Rattle.recover_say.proofs.Telling.{begun, few_lines, text_so, one_more, told_of}
 use Rattle.recover_say.proofs.say.Reads as reads
 use Rattle.recover_say.proofs.say.Lts as lts
 use Rattle.io.proofs.buffer.Reads as buffer-reads

@@ -3,7 +3,7 @@ use Prim.Native.Nat.{ℕ, ◌-◌, ◌/◌}
 use native.Mathlib.Omega.{arith}
 use borrow.Author.Rules.{rules}
 use lib.ListN.{length-replicate, get_or-replicate}
-use Rattle.region.proofs.Told.{Lining, lining-start, lining-more, lining-end}
+use Rattle.region.proofs.Told.{Lining, lining_start, lining_more, lining_end}
 use Rattle.region.proofs.columns_of.Given as goal
 
 abbrev pub invariant-loop-k : goal.invariant-loop-k

@@ -8,35 +8,35 @@ use mir.Syntax.{w32}
 use mir.Val.{SFits}
 use mir.Facts.{to_z-of_z}
 use Rattle.labels.proofs.Rim.{depth_read}
-use Rattle.region.proofs.Near.{less-fits, more-fits, from-below, from_on}
+use Rattle.region.proofs.Near.{less_fits, more_fits, from_below, from_on}
 use Rattle.region.proofs.is_near_i.Goals as goal
 use Rattle.region.proofs.is_near_i.Goals.{Else-c-low}
 
 pub overflow_sub-low : goal.overflow_sub-low
 overflow_sub-low c =
     let f : SFits w32 c.args.b.low_i = search rules in
-    rw (to_z-of_z f, depth_read _ c.requires.1) (less-fits c.args.b.low_i c.args.past c.requires.0.low_i_small c.requires.1)
+    rw (to_z-of_z f, depth_read _ c.requires.1) (less_fits c.args.b.low_i c.args.past c.requires.0.low_i_small c.requires.1)
 
 pub overflow_add-high : goal.overflow_add-high
 overflow_add-high c =
     let f : SFits w32 c.args.b.high_i = search rules in
-    rw (to_z-of_z f, depth_read _ c.requires.1) (more-fits c.args.b.high_i c.args.past c.requires.0.high_i_small c.requires.1)
+    rw (to_z-of_z f, depth_read _ c.requires.1) (more_fits c.args.b.high_i c.args.past c.requires.0.high_i_small c.requires.1)
 
 pub returns-then-c-low : goal.returns-then-c-low
 returns-then-c-low c =
     let f : SFits w32 c.args.c.i = search rules in
     let g : SFits w32 c.args.b.low_i = search rules in
-    from-below _ _ c.args.c.i (rw (to_z-of_z f, to_z-of_z g, depth_read _ c.requires.1, to_z-of_z (less-fits c.args.b.low_i c.args.past c.requires.0.low_i_small c.requires.1)) at c.if-c-low.true)
+    from_below _ _ c.args.c.i (rw (to_z-of_z f, to_z-of_z g, depth_read _ c.requires.1, to_z-of_z (less_fits c.args.b.low_i c.args.past c.requires.0.low_i_small c.requires.1)) at c.if-c-low.true)
 
 not_below : (c : Else-c-low) → let a = c.args in lt_z a.c.i (a.b.low_i -ℤ pos a.past) ≡ false
 not_below c =
     let f : SFits w32 c.args.c.i = search rules in
     let g : SFits w32 c.args.b.low_i = search rules in
-    rw (to_z-of_z f, to_z-of_z g, depth_read _ c.requires.1, to_z-of_z (less-fits c.args.b.low_i c.args.past c.requires.0.low_i_small c.requires.1)) at c.if-c-low.false
+    rw (to_z-of_z f, to_z-of_z g, depth_read _ c.requires.1, to_z-of_z (less_fits c.args.b.low_i c.args.past c.requires.0.low_i_small c.requires.1)) at c.if-c-low.false
 
 pub returns : goal.returns
 returns c =
     let f : SFits w32 c.args.c.i = search rules in
     let g : SFits w32 c.args.b.high_i = search rules in
-    rw (to_z-of_z f, to_z-of_z g, depth_read _ c.requires.1, to_z-of_z (more-fits c.args.b.high_i c.args.past c.requires.0.high_i_small c.requires.1))
+    rw (to_z-of_z f, to_z-of_z g, depth_read _ c.requires.1, to_z-of_z (more_fits c.args.b.high_i c.args.past c.requires.0.high_i_small c.requires.1))
     (from_on _ _ c.args.c.i (not_below (goal.at.returns c).Else-c-low))

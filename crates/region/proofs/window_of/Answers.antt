@@ -8,7 +8,7 @@ use mir.Facts.{to_z-of_z}
 use Rattle.sheet.specs.Cells.{place_of}
 use Rattle.sheet.proofs.Laws.{place_in}
 use Rattle.region.specs.Windowed.{BoundsOn}
-use Rattle.region.proofs.Jumps.{window-none, window-around}
+use Rattle.region.proofs.Jumps.{window_none, window_around}
 use borrow.Author.Rules.{rules}
 use Rattle.region.proofs.window_of.Goals as goal
 use Rattle.region.proofs.window_of.Goals.{After-place_of-high}
@@ -28,7 +28,7 @@ high_in : (c : After-place_of-high) → c.place_of-high.result < 16384
 high_in c = rw (high_is c) (place_in _ (bounds c).high_on)
 
 pub returns-in_default : goal.returns-in_default
-returns-in_default c = window-none _ _ _ c.in_default.is refl refl refl
+returns-in_default c = window_none _ _ _ c.in_default.is refl refl refl
 
 pub place_of-low-requires : goal.place_of-low-requires
 place_of-low-requires c =
@@ -54,4 +54,4 @@ returns c =
     let known = c.around-1.given in
     let f : SFits w32 known.0.0.low_i = search rules in
     let g : SFits w32 known.0.0.low_j = search rules in
-    window-around _ _ _ _ _ _ known.1 (bounds (goal.at.returns c).After-place_of-high) (rw (to_z-of_z f, to_z-of_z g) at c.place_of-low.ensures) (high_is (goal.at.returns c).After-place_of-high) c.line_before.ensures c.line_after.ensures c.line_before-2.ensures c.line_after-2.ensures
+    window_around _ _ _ _ _ _ known.1 (bounds (goal.at.returns c).After-place_of-high) (rw (to_z-of_z f, to_z-of_z g) at c.place_of-low.ensures) (high_is (goal.at.returns c).After-place_of-high) c.line_before.ensures c.line_after.ensures c.line_before-2.ensures c.line_after-2.ensures

@@ -1,7 +1,7 @@
 -- `remembered::forget_near` meets its contract: at each place the words before it are done. Assumes nothing.
 use Prim.Native.Nat.{◌-◌}
 use native.Mathlib.Omega.{arith}
-use Rattle.remembered.proofs.Words.{Forgetting, forgetting_start, forgetting-more, forgetting_skips, forgetting-end}
+use Rattle.remembered.proofs.Words.{Forgetting, forgetting_start, forgetting_more, forgetting_skips, forgetting_end}
 use Rattle.remembered.proofs.forget_near.Goals as goal
 
 pub next_written-place-requires : goal.next_written-place-requires
@@ -20,7 +20,7 @@ pub loop-place-smaller : goal.loop-place-smaller
 loop-place-smaller c = let l = c.next_written-place-in-loop-place.ensures.passed.start in omega arith
 
 pub loop-place-preserved : goal.loop-place-preserved
-loop-place-preserved c = forgetting_skips _ _ _ _ _ (forgetting-more _ _ _ _ _ _ c.loop-place.invariant c.requires.0 c.loop-place-test.true c.left_of.ensures) c.next_written-place-in-loop-place.ensures
+loop-place-preserved c = forgetting_skips _ _ _ _ _ (forgetting_more _ _ _ _ _ _ c.loop-place.invariant c.requires.0 c.loop-place-test.true c.left_of.ensures) c.next_written-place-in-loop-place.ensures
 
 pub returns : goal.returns
-returns c = forgetting-end _ _ _ _ _ _ c.loop-place.invariant c.loop-place-test.false
+returns c = forgetting_end _ _ _ _ _ _ c.loop-place.invariant c.loop-place-test.false

@@ -1,15 +1,15 @@
 -- `write_result` meets its contract: refused as the check says, and else the whole text. Assumes nothing.
 use mathlib.Core.Path.{sym, ◌∙◌}
 use Rattle.report.specs.WriteResult.{text_lent}
-use Rattle.report.proofs.Answers.{text-asked, text_refused, text-written}
+use Rattle.report.proofs.Answers.{text_asked, text_refused, text_written_lem}
 use borrow.Author.Rules.{rules}
 use Rattle.report.proofs.write_result.Goals as goal
 
 pub write_all-requires : goal.write_all-requires
-write_all-requires c = text-asked (text_lent c.args.corners c.args.passes c.args.words.now c.args.sheet.now) c.args.out.now (sym c.check_text-checked.ensures ∙ c.in-Fine.is)
+write_all-requires c = text_asked (text_lent c.args.corners c.args.passes c.args.words.now c.args.sheet.now) c.args.out.now (sym c.check_text-checked.ensures ∙ c.in-Fine.is)
 
 pub returns-in-Refused : goal.returns-in-Refused
 returns-in-Refused c = text_refused (text_lent c.args.corners c.args.passes c.args.words.now c.args.sheet.now) c.args.out.now _ (sym c.check_text-checked.ensures ∙ c.in-Refused.is)
 
 pub returns-in-Fine : goal.returns-in-Fine
-returns-in-Fine c = text-written (text_lent c.args.corners c.args.passes c.args.words.now c.args.sheet.now) c.args.out.now _ _ (sym c.check_text-checked.ensures ∙ c.in-Fine.is) c.write_all.ensures
+returns-in-Fine c = text_written_lem (text_lent c.args.corners c.args.passes c.args.words.now c.args.sheet.now) c.args.out.now _ _ (sym c.check_text-checked.ensures ∙ c.in-Fine.is) c.write_all.ensures

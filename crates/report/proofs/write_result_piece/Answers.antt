@@ -1,15 +1,15 @@
 -- `write_result_piece` meets its contract: refused as the check says, and else the piece. Assumes nothing.
 use mathlib.Core.Path.{sym, ◌∙◌}
 use Rattle.report.specs.WriteResult.{text_lent}
-use Rattle.report.proofs.Answers.{piece-asked, piece-refused, piece-written}
+use Rattle.report.proofs.Answers.{piece_asked, piece_refused, piece_written_lem}
 use borrow.Author.Rules.{rules}
 use Rattle.report.proofs.write_result_piece.Goals as goal
 
 pub returns-in-Refused : goal.returns-in-Refused
-returns-in-Refused c = piece-refused (text_lent c.args.corners c.args.passes c.args.words.now c.args.sheet.now) c.args.from c.args.out.now _ (sym c.check_piece-checked.ensures ∙ c.in-Refused.is)
+returns-in-Refused c = piece_refused (text_lent c.args.corners c.args.passes c.args.words.now c.args.sheet.now) c.args.from c.args.out.now _ (sym c.check_piece-checked.ensures ∙ c.in-Refused.is)
 
 pub write_some-end-requires : goal.write_some-end-requires
-write_some-end-requires c = piece-asked (text_lent c.args.corners c.args.passes c.args.words.now c.args.sheet.now) c.args.from c.args.out.now (sym c.check_piece-checked.ensures ∙ c.in_default.is)
+write_some-end-requires c = piece_asked (text_lent c.args.corners c.args.passes c.args.words.now c.args.sheet.now) c.args.from c.args.out.now (sym c.check_piece-checked.ensures ∙ c.in_default.is)
 
 pub returns : goal.returns
-returns c = piece-written (text_lent c.args.corners c.args.passes c.args.words.now c.args.sheet.now) c.args.from c.args.out.now _ _ (sym c.check_piece-checked.ensures ∙ c.in_default.is) c.write_some-end.ensures
+returns c = piece_written_lem (text_lent c.args.corners c.args.passes c.args.words.now c.args.sheet.now) c.args.from c.args.out.now _ _ (sym c.check_piece-checked.ensures ∙ c.in_default.is) c.write_some-end.ensures

@@ -4,4 +4,5 @@ use Rattle.root_table.proofs.Rule.{answered}
 use Rattle.root_table.proofs.whole_root.Goals as goal
 
 pub returns : goal.returns
-returns c = answered c.args.k c.row-row.result c.requires c.row-row.ensures
+returns c =
+    let a = answered c.args.k c.row-row.result c.requires c.row-row.ensures in record { listed = a.0; ruled = a.1 }

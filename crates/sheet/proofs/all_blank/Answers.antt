@@ -4,14 +4,14 @@ use Prim.Native.Nat.{◌-◌, ◌≤◌}
 use native.Mathlib.Omega.{arith}
 use lib.Dec.{eqb}
 use Rattle.sheet.specs.Blank.{all_blank}
-use Rattle.sheet.proofs.Blank.{none-blank, joined-more}
+use Rattle.sheet.proofs.Blank.{none_blank, joined_more}
 use Rattle.sheet.proofs.all_blank.Goals as goal
 
 pub loop-i-init : goal.loop-i-init
-loop-i-init c = (omega arith, none-blank _ _)
+loop-i-init c = (omega arith, none_blank _ _)
 
 pub loop-i-preserved : goal.loop-i-preserved
-loop-i-preserved c = (omega arith, joined-more _ _ _ c.loop-i.all c.loop-i.invariant.1)
+loop-i-preserved c = (omega arith, joined_more _ _ _ c.loop-i.all c.loop-i.invariant.1)
 
 pub returns : goal.returns
 returns c = let e : c.loop-i.i ≡ c.args.count = omega arith in c.loop-i.invariant.1 ∙ ap (all_blank _ _) e

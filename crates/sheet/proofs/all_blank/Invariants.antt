@@ -4,7 +4,7 @@ use Prim.Native.Nat.{◌-◌, ◌≤◌}
 use native.Mathlib.Omega.{arith}
 use lib.Dec.{eqb}
 use Rattle.sheet.specs.Blank.{all_blank}
-use Rattle.sheet.proofs.Blank.{none-blank, joined-more}
+use Rattle.sheet.proofs.Blank.{none_blank, joined_more}
 use Rattle.sheet.proofs.all_blank.Given as goal
 
 abbrev pub invariant-loop-i : goal.invariant-loop-i

@@ -3,14 +3,14 @@
 use mathlib.Core.Path.{sym, ◌∙◌}
 use native.Mathlib.Omega.{arith}
 use borrow.Author.Rules.{rules}
-use Rattle.sheet.proofs.Blank.{blank-block, blank-rest}
+use Rattle.sheet.proofs.Blank.{blank_block, blank_rest}
 use Rattle.sheet.proofs.blank_places.Goals as goal
 
 pub returns-then-all_blank : goal.returns-then-all_blank
-returns-then-all_blank c = blank-block _ _ _ (omega arith) (omega arith) (sym c.all_blank.ensures ∙ c.if-all_blank.true)
+returns-then-all_blank c = blank_block _ _ _ (omega arith) (omega arith) (sym c.all_blank.ensures ∙ c.if-all_blank.true)
 
 pub returns-then-all_blank-2 : goal.returns-then-all_blank-2
-returns-then-all_blank-2 c = blank-block _ _ _ (omega arith) (omega arith) (sym c.all_blank-then-at-eq0-2.ensures ∙ c.if-all_blank-2.true)
+returns-then-all_blank-2 c = blank_block _ _ _ (omega arith) (omega arith) (sym c.all_blank-then-at-eq0-2.ensures ∙ c.if-all_blank-2.true)
 
 pub returns : goal.returns
-returns c = blank-rest _ _ _ c.blank_run.ensures
+returns c = blank_rest _ _ _ c.blank_run.ensures

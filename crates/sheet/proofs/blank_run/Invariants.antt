@@ -4,7 +4,7 @@ use mathlib.Core.Bool.{true}
 use Prim.Native.Nat.{◌-◌, ◌≤◌}
 use native.Mathlib.Omega.{arith}
 use Rattle.sheet.specs.Blank.{all_blank}
-use Rattle.sheet.proofs.Blank.{none-blank, blank-more}
+use Rattle.sheet.proofs.Blank.{none_blank, blank_more}
 use Rattle.sheet.proofs.blank_run.Given as goal
 
 abbrev pub invariant-loop-n : goal.invariant-loop-n

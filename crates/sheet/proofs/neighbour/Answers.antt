@@ -2,7 +2,7 @@
 use Prim.Native.Nat.{◌+◌, ◌<◌}
 use native.Mathlib.Omega.{arith}
 use lib.IntN.{nat_abs}
-use Rattle.sheet.proofs.Laws.{line_i, line_j, sum_fits, sum-read}
+use Rattle.sheet.proofs.Laws.{line_i, line_j, sum_fits, sum_read}
 use Rattle.sheet.proofs.neighbour.Goals as goal
 use Rattle.sheet.proofs.neighbour.Goals.{Start}
 
@@ -23,6 +23,6 @@ pub returns : goal.returns
 returns c =
     λ t.
     record {
-      i = sum-read c.args.c.i c.args.o.di (small_i (goal.at.returns c).Start) t;
-      j = sum-read c.args.c.j c.args.o.dj (small_j (goal.at.returns c).Start) t;
+      i = sum_read c.args.c.i c.args.o.di (small_i (goal.at.returns c).Start) t;
+      j = sum_read c.args.c.j c.args.o.dj (small_j (goal.at.returns c).Start) t;
     }

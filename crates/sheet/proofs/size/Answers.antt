@@ -5,7 +5,7 @@ use borrow.Author.Rules.{rules}
 use lib.IntN.{pos, nat_abs, ◌-ℤ◌}
 use mir.Syntax.{w32}
 use mir.Val.{to_z, of_z}
-use Rattle.sheet.proofs.Laws.{read_back, sub-fits, sub_read, size_below, size_above}
+use Rattle.sheet.proofs.Laws.{read_back, sub_fits, sub_read, size_below, size_above}
 use Rattle.sheet.proofs.size.Goals as goal
 use Rattle.sheet.proofs.size.Goals.{Else-z-lt0, Then-z-lt0}
 
@@ -15,7 +15,7 @@ turned c =
     sub_read (pos 0) z (omega arith) ∙ size_below z (rw (read_back z (omega arith)) at c.if-z-lt0.true)
 
 pub overflow_sub-result : goal.overflow_sub-result
-overflow_sub-result c = sub-fits (pos 0) c.args.z (omega arith)
+overflow_sub-result c = sub_fits (pos 0) c.args.z (omega arith)
 
 pub overflow_cast-result : goal.overflow_cast-result
 overflow_cast-result c = rw (turned c) (tt, record { fits = omega arith })

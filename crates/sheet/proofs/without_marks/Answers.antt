@@ -1,7 +1,7 @@
 -- `sheet::without_marks` meets its contract. Assumes nothing.
 use native.Mathlib.Omega.{arith}
-use Rattle.sheet.proofs.Words.{plain-sum}
+use Rattle.sheet.proofs.Words.{plain_sum}
 use Rattle.sheet.proofs.without_marks.Goals as goal
 
 pub returns : goal.returns
-returns c = plain-sum c.args.word (omega arith)
+returns c = plain_sum c.args.word (omega arith)

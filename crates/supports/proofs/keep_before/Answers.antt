@@ -4,7 +4,7 @@ use Prim.Native.Nat.{ℕ, ◌<◌}
 use native.Mathlib.Omega.{arith}
 use borrow.Author.Rules.{rules}
 use Rattle.supports.specs.Nearest.{support_at}
-use Rattle.supports.proofs.Outward.{Backing, backing_start, backing-more, backing-stop, backing-end}
+use Rattle.supports.proofs.Outward.{Backing, backing_start, backing_more, backing_stop, backing_end}
 use Rattle.supports.proofs.keep_before.Goals as goal
 
 pub row_of-row-requires : goal.row_of-row-requires
@@ -25,7 +25,7 @@ far_before-requires c = let p = c.requires in
 
 pub returns-then-far_before : goal.returns-then-far_before
 returns-then-far_before c = let p = c.requires in
-    backing-stop _ _ _ _ p.0 p.1 _ _ _ _ c.loop-k-test.true c.loop-k.invariant c.wide-place.ensures c.row_of-row.ensures (sym c.far_before.ensures ∙ c.if-far_before.true)
+    backing_stop _ _ _ _ p.0 p.1 _ _ _ _ c.loop-k-test.true c.loop-k.invariant c.wide-place.ensures c.row_of-row.ensures (sym c.far_before.ensures ∙ c.if-far_before.true)
 
 pub support_of-requires : goal.support_of-requires
 support_of-requires c = let p = c.requires in
@@ -36,7 +36,7 @@ keep_earlier-next-requires c = c.loop-k.invariant.in_order
 
 pub loop-k-preserved : goal.loop-k-preserved
 loop-k-preserved c = let p = c.requires in
-    backing-more _ _ _ _ p.0 p.1 _ _ _ _ c.loop-k-test.true c.loop-k.invariant (c.support_of.ensures ∙ ap (support_at c.args.c) c.wide-place.ensures) c.keep_earlier-next.ensures
+    backing_more _ _ _ _ p.0 p.1 _ _ _ _ c.loop-k-test.true c.loop-k.invariant (c.support_of.ensures ∙ ap (support_at c.args.c) c.wide-place.ensures) c.keep_earlier-next.ensures
 
 pub returns : goal.returns
-returns c = let p = c.requires in backing-end _ _ _ _ p.0 p.1 _ _ c.loop-k-test.false c.loop-k.invariant
+returns c = let p = c.requires in backing_end _ _ _ _ p.0 p.1 _ _ c.loop-k-test.false c.loop-k.invariant

@@ -4,7 +4,7 @@ use Prim.Native.Nat.{ℕ, ◌<◌}
 use native.Mathlib.Omega.{arith}
 use borrow.Author.Rules.{rules}
 use Rattle.supports.specs.Nearest.{support_at}
-use Rattle.supports.proofs.Outward.{Backing, backing_start, backing-more, backing-stop, backing-end}
+use Rattle.supports.proofs.Outward.{Backing, backing_start, backing_more, backing_stop, backing_end}
 use Rattle.supports.proofs.keep_before.Given as goal
 
 abbrev pub invariant-loop-k : goal.invariant-loop-k

@@ -5,8 +5,8 @@ use native.Mathlib.Omega.{arith}
 use borrow.Author.Rules.{rules}
 use Rattle.sheet.proofs.Laws.{place_in}
 use Rattle.supports.specs.Nearest.{support_at, Keeping}
-use Rattle.supports.proofs.Nearest.{keeping-more, keeping-end}
-use Rattle.supports.proofs.Outward.{keeping-stop}
+use Rattle.supports.proofs.Nearest.{keeping_more, keeping_end}
+use Rattle.supports.proofs.Outward.{keeping_stop}
 use Rattle.supports.proofs.nearest_labelled_by_grid.Goals as goal
 
 pub row_of-row-requires : goal.row_of-row-requires
@@ -32,8 +32,8 @@ far_behind-requires c = omega (arith, c.row_of-row.ensures, place_in _ c.require
 
 pub returns-then-far_behind : goal.returns-then-far_behind
 returns-then-far_behind c = let p = c.requires in
-    keeping-end _ _ _ p _ _
-    (keeping-stop _ _ _ p _ _ _ _ c.loop-k-test.true c.loop-k.invariant c.wide-place.ensures c.row_of-row.ensures (sym c.far_behind.ensures ∙ c.if-far_behind.true))
+    keeping_end _ _ _ p _ _
+    (keeping_stop _ _ _ p _ _ _ _ c.loop-k-test.true c.loop-k.invariant c.wide-place.ensures c.row_of-row.ensures (sym c.far_behind.ensures ∙ c.if-far_behind.true))
     (omega arith)
 
 pub support_of-requires : goal.support_of-requires
@@ -48,7 +48,7 @@ overflow_add-k c = omega (arith, c.requires.few)
 
 pub loop-k-preserved : goal.loop-k-preserved
 loop-k-preserved c = let p = c.requires in
-    keeping-more _ _ _ p _ _ c.loop-k.invariant _ _ c.loop-k-test.true (c.support_of.ensures ∙ ap (support_at c.args.c) c.wide-place.ensures) c.keep_support-next.ensures
+    keeping_more _ _ _ p _ _ c.loop-k.invariant _ _ c.loop-k-test.true (c.support_of.ensures ∙ ap (support_at c.args.c) c.wide-place.ensures) c.keep_support-next.ensures
 
 pub returns : goal.returns
-returns c = keeping-end _ _ _ c.requires _ _ c.loop-k.invariant c.loop-k-test.false
+returns c = keeping_end _ _ _ c.requires _ _ c.loop-k.invariant c.loop-k-test.false

@@ -5,8 +5,8 @@ use native.Mathlib.Omega.{arith}
 use borrow.Author.Rules.{rules}
 use Rattle.sheet.proofs.Laws.{place_in}
 use Rattle.supports.specs.Nearest.{support_at, Keeping}
-use Rattle.supports.proofs.Nearest.{keeping-more, keeping-end}
-use Rattle.supports.proofs.Outward.{keeping-stop}
+use Rattle.supports.proofs.Nearest.{keeping_more, keeping_end}
+use Rattle.supports.proofs.Outward.{keeping_stop}
 use Rattle.supports.proofs.nearest_labelled_by_grid.Given as goal
 
 abbrev pub invariant-loop-k : goal.invariant-loop-k

@@ -9,8 +9,8 @@ use Rattle.binary32.proofs.ranges.in_range.Goals as goal
 
 pub returns-then-e-x : goal.returns-then-e-x
 returns-then-e-x c =
-    sym (ap (λ (e : Ends). between e c.args.x) (sym c.ends_of-e.ensures) ∙ ap (λ (t : Bool). t && le c.args.x c.ends_of-e.result.high) c.if-e-x.taken)
+    sym (ap (λ (e : Ends). between e c.args.x) (sym c.ends_of-e.ensures) ∙ ap (λ (t : Bool). t && le c.args.x c.ends_of-e.result.high) c.if-e-x.true)
 
 pub returns : goal.returns
 returns c =
-    sym (ap (λ (e : Ends). between e c.args.x) (sym c.ends_of-e.ensures) ∙ ap (λ (t : Bool). t && le c.args.x c.ends_of-e.result.high) c.if-e-x.left)
+    sym (ap (λ (e : Ends). between e c.args.x) (sym c.ends_of-e.ensures) ∙ ap (λ (t : Bool). t && le c.args.x c.ends_of-e.result.high) c.if-e-x.false)

@@ -9,8 +9,8 @@ float_from_bits-infinity c = tt
 
 pub returns-then-infinity-x : goal.returns-then-infinity-x
 unfolding of_bits neg
-returns-then-infinity-x c = below_top c.args.x c.if-infinity-x.taken
+returns-then-infinity-x c = below_top c.args.x c.if-infinity-x.true
 
 pub returns : goal.returns
 unfolding of_bits neg
-returns c = not_above_bottom c.args.x c.if-infinity-x.left
+returns c = not_above_bottom c.args.x c.if-infinity-x.false

@@ -4,4 +4,4 @@ use borrow.Author.Rules.{rules}
 use Rattle.grid_words.proofs.frame_calls.enter_counts.Goals as goal
 
 pub returns : goal.returns
-returns c = two c.args.out.now _ _ _ _ c.requires.0 c.enter.ensures c.enter-2.ensures
+returns c = two c.args.out.now _ _ _ _ c.requires.in_bounds c.enter.ensures c.enter-2.ensures

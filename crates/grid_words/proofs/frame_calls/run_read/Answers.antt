@@ -4,7 +4,7 @@ use borrow.Author.Rules.{rules}
 use Rattle.grid_words.proofs.frame_calls.run_read.Goals as goal
 
 pub tell-requires : goal.tell-requires
-tell-requires c = (c.requires, sayable c.args.text.now _ _ c.read_frame-answer.new.1.0 c.read_frame-answer.new.1.1.0 c.read_frame-answer.new.1.1.1.0 c.read_frame-answer.new.1.1.1.1.0 c.read_frame-answer.new.1.1.1.1.1.0 c.read_frame-answer.new.1.1.1.1.1.1.0 c.read_frame-answer.ensures.0)
+tell-requires c = (c.requires, sayable c.args.text.now _ _ c.read_frame-answer.new.1.0 c.read_frame-answer.new.1.1.0 c.read_frame-answer.new.1.1.1.0 c.read_frame-answer.new.1.1.1.1.0 c.read_frame-answer.new.1.1.1.1.1.0 c.read_frame-answer.new.1.1.1.1.1.1.0 c.read_frame-answer.ensures.passes_after)
 
 pub returns : goal.returns
-returns c = read_left c.args.text.now _ _ c.read_frame-answer.new.1.0 c.read_frame-answer.new.1.1.0 c.read_frame-answer.new.1.1.1.0 c.read_frame-answer.new.1.1.1.1.0 c.read_frame-answer.new.1.1.1.1.1.0 c.read_frame-answer.new.1.1.1.1.1.1.0 c.read_frame-answer.ensures.0 _ c.args.settings.now _ c.args.out.now _ c.tell.ensures
+returns c = read_left c.args.text.now _ _ c.read_frame-answer.new.1.0 c.read_frame-answer.new.1.1.0 c.read_frame-answer.new.1.1.1.0 c.read_frame-answer.new.1.1.1.1.0 c.read_frame-answer.new.1.1.1.1.1.0 c.read_frame-answer.new.1.1.1.1.1.1.0 c.read_frame-answer.ensures.passes_after _ c.args.settings.now _ c.args.out.now _ c.tell.ensures

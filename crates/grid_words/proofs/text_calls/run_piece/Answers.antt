@@ -1,17 +1,17 @@
 -- `text_calls::run_piece` meets its contract: a refusal, or a piece, its length and the next line. Assumes nothing.
 use native.Mathlib.Omega.{arith}
-use Rattle.grid_words.proofs.Texts.{piece-words, piece-refused, piece-done}
+use Rattle.grid_words.proofs.Texts.{piece_words, piece_refused, piece_done}
 use borrow.Author.Rules.{rules}
 use Rattle.grid_words.proofs.text_calls.run_piece.Goals as goal
 
 pub enter-requires : goal.enter-requires
-enter-requires c = (omega (arith, c.requires), (piece-words _ c.args.from c.args.text.now c.args.out.now c.write_result_piece-answer.new.1.1.1.1.1.0 _ c.write_result_piece-answer.ensures.0 _ _ c.in-Written.is).0)
+enter-requires c = (omega (arith, c.requires), (piece_words _ c.args.from c.args.text.now c.args.out.now c.write_result_piece-answer.new.1.1.1.1.1.0 _ c.write_result_piece-answer.ensures.out_after _ _ c.in-Written.is).0)
 
 pub enter-requires-in-Written : goal.enter-requires-in-Written
-enter-requires-in-Written c = (omega (arith, c.requires, c.enter.auto), (piece-words _ c.args.from c.args.text.now c.args.out.now c.write_result_piece-answer.new.1.1.1.1.1.0 _ c.write_result_piece-answer.ensures.0 _ _ c.in-Written.is).1)
+enter-requires-in-Written c = (omega (arith, c.requires, c.enter.auto), (piece_words _ c.args.from c.args.text.now c.args.out.now c.write_result_piece-answer.new.1.1.1.1.1.0 _ c.write_result_piece-answer.ensures.out_after _ _ c.in-Written.is).1)
 
 pub returns-in-Refused : goal.returns-in-Refused
-returns-in-Refused c = piece-refused _ c.args.from c.args.text.now c.args.out.now c.write_result_piece-answer.new.1.1.1.1.1.0 _ c.write_result_piece-answer.ensures.0 _ _ c.in-Refused.is c.number_of.ensures
+returns-in-Refused c = piece_refused _ c.args.from c.args.text.now c.args.out.now c.write_result_piece-answer.new.1.1.1.1.1.0 _ c.write_result_piece-answer.ensures.out_after _ _ c.in-Refused.is c.number_of.ensures
 
 pub returns-in-Written : goal.returns-in-Written
-returns-in-Written c = piece-done _ c.args.from c.args.text.now c.args.out.now c.write_result_piece-answer.new.1.1.1.1.1.0 _ c.write_result_piece-answer.ensures.0 _ _ _ _ c.in-Written.is c.requires c.enter.ensures c.enter-in-Written.ensures
+returns-in-Written c = piece_done _ c.args.from c.args.text.now c.args.out.now c.write_result_piece-answer.new.1.1.1.1.1.0 _ c.write_result_piece-answer.ensures.out_after _ _ _ _ c.in-Written.is c.requires c.enter.ensures c.enter-in-Written.ensures

@@ -4,7 +4,7 @@ use lib.ListN.{length}
 use mathlib.Core.Path.{sym, ◌∙◌}
 use native.Mathlib.Omega.{arith}
 use borrow.Author.Rules.{rules}
-use Rattle.line_form.proofs.Reading.{Fitting, begun, missed, byte-room, byte-passed, number-room, number_passed, all_read, more_left}
+use Rattle.line_form.proofs.Reading.{Fitting, begun, missed, byte_room, byte_passed, number_room, number_passed, all_read, more_left}
 use Rattle.line_form.proofs.read.fit_line.Goals as goal
 
 pub loop-i-init : goal.loop-i-init
@@ -29,7 +29,7 @@ pub returns-in-Nothing : goal.returns-in-Nothing
 returns-in-Nothing c = c.misfit.ensures ∙ missed _ _ _ _ _ _ c.loop-i.invariant c.loop-i-test.true (sym c.in-Nothing.is ∙ c.piece-p.ensures)
 
 pub overflow_add-at : goal.overflow_add-at
-overflow_add-at c = omega (arith, byte-room _ _ _ _ _ _ c.loop-i.invariant c.loop-i-test.true (sym c.in-Byte.is ∙ c.piece-p.ensures))
+overflow_add-at c = omega (arith, byte_room _ _ _ _ _ _ c.loop-i.invariant c.loop-i-test.true (sym c.in-Byte.is ∙ c.piece-p.ensures))
 
 pub overflow_add-i : goal.overflow_add-i
 overflow_add-i c = omega (arith, c.loop-i-test.true)
@@ -38,7 +38,7 @@ pub loop-i-smaller-in-Byte : goal.loop-i-smaller-in-Byte
 loop-i-smaller-in-Byte c = omega (arith, c.loop-i-test.true)
 
 pub loop-i-preserved-in-Byte : goal.loop-i-preserved-in-Byte
-loop-i-preserved-in-Byte c = byte-passed _ _ _ _ _ _ c.loop-i.invariant c.loop-i-test.true (sym c.in-Byte.is ∙ c.piece-p.ensures)
+loop-i-preserved-in-Byte c = byte_passed _ _ _ _ _ _ c.loop-i.invariant c.loop-i-test.true (sym c.in-Byte.is ∙ c.piece-p.ensures)
 
 pub put-next-requires : goal.put-next-requires
 put-next-requires c = tt
@@ -47,7 +47,7 @@ pub overflow_add-k : goal.overflow_add-k
 overflow_add-k c = omega (arith, c.loop-i.invariant.few, c.loop-i-test.true)
 
 pub overflow_sub-at : goal.overflow_sub-at
-overflow_sub-at c = number-room _ _ _ _ _ _ c.loop-i.invariant c.loop-i-test.true _ _ (sym c.in-Number.is ∙ c.piece-p.ensures)
+overflow_sub-at c = number_room _ _ _ _ _ _ c.loop-i.invariant c.loop-i-test.true _ _ (sym c.in-Number.is ∙ c.piece-p.ensures)
 
 pub overflow_add-i-in-Number : goal.overflow_add-i-in-Number
 overflow_add-i-in-Number c = omega (arith, c.loop-i-test.true)

@@ -4,7 +4,7 @@ use lib.ListN.{length}
 use mathlib.Core.Path.{sym, ◌∙◌}
 use native.Mathlib.Omega.{arith}
 use borrow.Author.Rules.{rules}
-use Rattle.line_form.proofs.Reading.{Fitting, begun, missed, byte-room, byte-passed, number-room, number_passed, all_read, more_left}
+use Rattle.line_form.proofs.Reading.{Fitting, begun, missed, byte_room, byte_passed, number_room, number_passed, all_read, more_left}
 use Rattle.line_form.proofs.read.fit_line.Given as goal
 
 abbrev pub invariant-loop-i : goal.invariant-loop-i

@@ -4,7 +4,7 @@ use lib.ListN.{length}
 use mathlib.Core.Path.{sym, ◌∙◌}
 use native.Mathlib.Omega.{arith}
 use borrow.Author.Tests.{not-true, not-false}
-use Rattle.line_form.proofs.Reading.{Counting, none_counted, one-counted, counted-to, counted_all}
+use Rattle.line_form.proofs.Reading.{Counting, none_counted, one_counted, counted_to, counted_all}
 use Rattle.line_form.proofs.read.read_digits.Given as goal
 
 abbrev pub invariant-loop-i : goal.invariant-loop-i

@@ -1,6 +1,6 @@
 -- `write::write_decimal` meets its contract. The invariant: the digits that are still to be written and the part behind them make the text. Assumes nothing.
 use native.Mathlib.Omega.{arith}
-use Rattle.line_form.proofs.Writing.{Placing, none_placed, place-room, one_placed, all_placed}
+use Rattle.line_form.proofs.Writing.{Placing, none_placed, place_room, one_placed, all_placed}
 use Rattle.line_form.proofs.write.write_decimal.Goals as goal
 
 pub digit_count-count-requires : goal.digit_count-count-requires
@@ -13,7 +13,7 @@ pub last_digit-requires : goal.last_digit-requires
 last_digit-requires c = tt
 
 pub bounds-out-i : goal.bounds-out-i
-bounds-out-i c = place-room _ _ _ _ _ c.loop-i.invariant c.loop-i-test.true
+bounds-out-i c = place_room _ _ _ _ _ c.loop-i.invariant c.loop-i-test.true
 
 pub loop-i-preserved : goal.loop-i-preserved
 loop-i-preserved c = one_placed _ _ _ _ _ c.loop-i.invariant c.loop-i-test.true _ c.last_digit.ensures

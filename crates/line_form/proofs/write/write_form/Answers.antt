@@ -2,7 +2,7 @@
 use Prim.Native.Nat.{◌-◌}
 use lib.ListN.{length}
 use native.Mathlib.Omega.{arith}
-use Rattle.line_form.proofs.Writing.{Filling, word_room, fill_begun, piece-room, piece-part, piece-written, all-written}
+use Rattle.line_form.proofs.Writing.{Filling, word_room, fill_begun, piece_room, piece_part, piece_written_lem, all_written}
 use Rattle.line_form.proofs.write.write_form.Goals as goal
 
 pub loop-i-init : goal.loop-i-init
@@ -18,10 +18,10 @@ pub slice_bounds-write_piece-start : goal.slice_bounds-write_piece-start
 slice_bounds-write_piece-start c = c.loop-i.invariant.inside
 
 pub write_piece-n-requires : goal.write_piece-n-requires
-write_piece-n-requires c = piece-part _ _ _ _ _ _ _ c.loop-i.invariant c.loop-i-test.true _ c.word_at-w.ensures
+write_piece-n-requires c = piece_part _ _ _ _ _ _ _ c.loop-i.invariant c.loop-i-test.true _ c.word_at-w.ensures
 
 pub overflow_add-at : goal.overflow_add-at
-overflow_add-at c = omega (arith, c.write_piece-n.ensures.count, c.loop-i.invariant.sized, piece-room _ _ _ _ _ _ _ c.loop-i.invariant c.loop-i-test.true _ c.word_at-w.ensures)
+overflow_add-at c = omega (arith, c.write_piece-n.ensures.count, c.loop-i.invariant.sized, piece_room _ _ _ _ _ _ _ c.loop-i.invariant c.loop-i-test.true _ c.word_at-w.ensures)
 
 pub words_of-k-requires : goal.words_of-k-requires
 words_of-k-requires c = tt
@@ -36,10 +36,10 @@ pub loop-i-smaller : goal.loop-i-smaller
 loop-i-smaller c = omega (arith, c.loop-i-test.true)
 
 pub loop-i-preserved : goal.loop-i-preserved
-loop-i-preserved c = piece-written _ _ _ _ _ _ _ c.loop-i.invariant c.loop-i-test.true _ c.word_at-w.ensures _ _ _ c.write_piece-n.ensures c.words_of-k.ensures
+loop-i-preserved c = piece_written_lem _ _ _ _ _ _ _ c.loop-i.invariant c.loop-i-test.true _ c.word_at-w.ensures _ _ _ c.write_piece-n.ensures c.words_of-k.ensures
 
 pub shape_of-out : goal.shape_of-out
 shape_of-out c = c.loop-i.invariant.sized
 
 pub returns : goal.returns
-returns c = all-written _ _ _ _ _ _ _ c.loop-i.invariant c.loop-i-test.false
+returns c = all_written _ _ _ _ _ _ _ c.loop-i.invariant c.loop-i-test.false

@@ -2,7 +2,7 @@
 use Prim.Native.Nat.{◌-◌}
 use lib.ListN.{length}
 use native.Mathlib.Omega.{arith}
-use Rattle.line_form.proofs.Writing.{Filling, word_room, fill_begun, piece-room, piece-part, piece-written, all-written}
+use Rattle.line_form.proofs.Writing.{Filling, word_room, fill_begun, piece_room, piece_part, piece_written_lem, all_written}
 use Rattle.line_form.proofs.write.write_form.Given as goal
 
 abbrev pub invariant-loop-i : goal.invariant-loop-i

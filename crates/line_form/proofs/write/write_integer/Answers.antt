@@ -2,32 +2,32 @@
 use native.Mathlib.Omega.{arith}
 use lib.ListN.{length-set}
 use borrow.Author.Rules.{rules}
-use Rattle.line_form.proofs.Writing.{wrote_length, minus-room, minus-part, minus-written, plus-room, plus-written}
+use Rattle.line_form.proofs.Writing.{wrote_length, minus_room, minus_part, minus_written, plus_room, plus_written}
 use Rattle.line_form.proofs.write.write_integer.Goals as goal
 
 pub bounds-out-0 : goal.bounds-out-0
-bounds-out-0 c = omega (arith, minus-room c.args.w c.args.out.now c.requires c.if-w-lt-OFFSET.true)
+bounds-out-0 c = omega (arith, minus_room c.args.w c.args.out.now c.requires c.if-w-lt-OFFSET.true)
 
 pub slice_bounds-write_decimal-count : goal.slice_bounds-write_decimal-count
-slice_bounds-write_decimal-count c = simp length-set (omega (arith, minus-room c.args.w c.args.out.now c.requires c.if-w-lt-OFFSET.true))
+slice_bounds-write_decimal-count c = simp length-set (omega (arith, minus_room c.args.w c.args.out.now c.requires c.if-w-lt-OFFSET.true))
 
 pub slice_bounds-write_decimal-start : goal.slice_bounds-write_decimal-start
-slice_bounds-write_decimal-start c = simp length-set (omega (arith, minus-room c.args.w c.args.out.now c.requires c.if-w-lt-OFFSET.true))
+slice_bounds-write_decimal-start c = simp length-set (omega (arith, minus_room c.args.w c.args.out.now c.requires c.if-w-lt-OFFSET.true))
 
 pub write_decimal-n-requires : goal.write_decimal-n-requires
-write_decimal-n-requires c = minus-part c.args.w c.args.out.now c.requires c.if-w-lt-OFFSET.true
+write_decimal-n-requires c = minus_part c.args.w c.args.out.now c.requires c.if-w-lt-OFFSET.true
 
 pub overflow_add-result : goal.overflow_add-result
-overflow_add-result c = omega (arith, c.write_decimal-n.ensures.count, minus-room c.args.w c.args.out.now c.requires c.if-w-lt-OFFSET.true)
+overflow_add-result c = omega (arith, c.write_decimal-n.ensures.count, minus_room c.args.w c.args.out.now c.requires c.if-w-lt-OFFSET.true)
 
 pub shape_of-out-then-w-lt-OFFSET : goal.shape_of-out-then-w-lt-OFFSET
-shape_of-out-then-w-lt-OFFSET c = wrote_length _ _ _ _ (minus-written c.args.w c.args.out.now c.requires c.if-w-lt-OFFSET.true _ _ c.write_decimal-n.ensures) c.requires
+shape_of-out-then-w-lt-OFFSET c = wrote_length _ _ _ _ (minus_written c.args.w c.args.out.now c.requires c.if-w-lt-OFFSET.true _ _ c.write_decimal-n.ensures) c.requires
 
 pub returns-then-w-lt-OFFSET : goal.returns-then-w-lt-OFFSET
-returns-then-w-lt-OFFSET c = minus-written c.args.w c.args.out.now c.requires c.if-w-lt-OFFSET.true _ _ c.write_decimal-n.ensures
+returns-then-w-lt-OFFSET c = minus_written c.args.w c.args.out.now c.requires c.if-w-lt-OFFSET.true _ _ c.write_decimal-n.ensures
 
 pub write_decimal-requires : goal.write_decimal-requires
-write_decimal-requires c = plus-room c.args.w c.args.out.now c.requires c.if-w-lt-OFFSET.false
+write_decimal-requires c = plus_room c.args.w c.args.out.now c.requires c.if-w-lt-OFFSET.false
 
 pub returns : goal.returns
-returns c = plus-written c.args.w c.args.out.now c.requires c.if-w-lt-OFFSET.false _ _ c.write_decimal.ensures
+returns c = plus_written c.args.w c.args.out.now c.requires c.if-w-lt-OFFSET.false _ _ c.write_decimal.ensures

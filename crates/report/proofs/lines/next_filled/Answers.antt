@@ -2,14 +2,14 @@
 use Prim.Native.Nat.{◌-◌}
 use native.Mathlib.Omega.{arith}
 use Rattle.report.specs.Asked.{Skipped}
-use Rattle.report.proofs.Blank.{skip-start, skip-lines}
+use Rattle.report.proofs.Blank.{skip_start, skip_lines}
 use Rattle.report.proofs.lines.next_filled.Goals as goal
 
 pub overflow_add-last : goal.overflow_add-last
 overflow_add-last c = let w = c.requires.all.words_long in omega arith
 
 pub loop-r-init : goal.loop-r-init
-loop-r-init c = skip-start _ _ _ _ c.requires.below
+loop-r-init c = skip_start _ _ _ _ c.requires.below
 
 pub blank_lines-n-requires : goal.blank_lines-n-requires
 blank_lines-n-requires c = c.requires.all.sheet_long
@@ -21,7 +21,7 @@ pub overflow_sub-last : goal.overflow_sub-last
 overflow_sub-last c = omega (arith, c.loop-r-test.true)
 
 pub returns-then-last-r : goal.returns-then-last-r
-returns-then-last-r c = skip-lines _ _ _ _ _ _ _ c.loop-r.invariant c.blank_lines-n.ensures (omega (arith, c.loop-r-test.true)) (omega (arith, c.if-last-r.true)) (omega arith)
+returns-then-last-r c = skip_lines _ _ _ _ _ _ _ c.loop-r.invariant c.blank_lines-n.ensures (omega (arith, c.loop-r-test.true)) (omega (arith, c.if-last-r.true)) (omega arith)
 
 pub overflow_add-r : goal.overflow_add-r
 overflow_add-r c = let w = c.requires.all.words_long in omega (arith, c.if-last-r.false, c.loop-r-test.true)
@@ -30,7 +30,7 @@ pub loop-r-smaller : goal.loop-r-smaller
 loop-r-smaller c = omega (arith, c.if-last-r.false, c.if-n-eq0.false, c.loop-r-test.true)
 
 pub loop-r-preserved : goal.loop-r-preserved
-loop-r-preserved c = skip-lines _ _ _ _ _ _ _ c.loop-r.invariant c.blank_lines-n.ensures (omega arith) (omega arith) (omega (arith, c.if-last-r.false))
+loop-r-preserved c = skip_lines _ _ _ _ _ _ _ c.loop-r.invariant c.blank_lines-n.ensures (omega arith) (omega arith) (omega (arith, c.if-last-r.false))
 
 pub returns : goal.returns
 returns c = c.loop-r.invariant

@@ -2,7 +2,7 @@
 use Prim.Native.Nat.{◌-◌}
 use native.Mathlib.Omega.{arith}
 use Rattle.report.specs.Asked.{Skipped}
-use Rattle.report.proofs.Blank.{skip-start, skip-lines}
+use Rattle.report.proofs.Blank.{skip_start, skip_lines}
 use Rattle.report.proofs.lines.next_filled.Given as goal
 
 abbrev pub invariant-loop-r : goal.invariant-loop-r

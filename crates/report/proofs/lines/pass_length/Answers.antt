@@ -1,25 +1,25 @@
 -- `lines::pass_length` meets its contract, by the kind of the outcome. Assumes nothing.
 use Rattle.report_words.specs.Asked.{grow_at, fill_at, local_at}
-use Rattle.report.proofs.Numbered.{grow-counted, fill-counted, local_counted}
-use Rattle.report_line.proofs.Like.{grow-like-asked, fill-like-asked, local-like-asked}
+use Rattle.report.proofs.Numbered.{grow_counted, fill_counted, local_counted}
+use Rattle.report_line.proofs.Like.{grow_like_asked, fill_like_asked, local_like_asked}
 use native.Mathlib.Omega.{arith}
 use borrow.Author.Rules.{rules}
 use Rattle.report.proofs.lines.pass_length.Goals as goal
 
 pub write_grow-requires : goal.write_grow-requires
-write_grow-requires c = grow-like-asked (grow_at c.args.words.now c.args.k) _ c.grow_like.ensures _ (omega arith)
+write_grow-requires c = grow_like_asked (grow_at c.args.words.now c.args.k) _ c.grow_like.ensures _ (omega arith)
 
 pub returns-then-kind-eq0 : goal.returns-then-kind-eq0
-returns-then-kind-eq0 c = grow-counted c.args.words.now c.args.k _ c.word_at-kind.ensures _ _ _ _ c.grow_like.ensures c.if-kind-eq0.true c.write_grow.ensures
+returns-then-kind-eq0 c = grow_counted c.args.words.now c.args.k _ c.word_at-kind.ensures _ _ _ _ c.grow_like.ensures c.if-kind-eq0.true c.write_grow.ensures
 
 pub write_fill-requires : goal.write_fill-requires
-write_fill-requires c = fill-like-asked (fill_at c.args.words.now c.args.k) _ c.fill_like.ensures _ (omega arith)
+write_fill-requires c = fill_like_asked (fill_at c.args.words.now c.args.k) _ c.fill_like.ensures _ (omega arith)
 
 pub returns-then-kind-eq1 : goal.returns-then-kind-eq1
-returns-then-kind-eq1 c = fill-counted c.args.words.now c.args.k _ c.word_at-kind.ensures _ _ _ _ c.fill_like.ensures c.if-kind-eq1.true c.write_fill.ensures
+returns-then-kind-eq1 c = fill_counted c.args.words.now c.args.k _ c.word_at-kind.ensures _ _ _ _ c.fill_like.ensures c.if-kind-eq1.true c.write_fill.ensures
 
 pub write_local-requires : goal.write_local-requires
-write_local-requires c = local-like-asked (local_at c.args.words.now c.args.k) _ c.local_like.ensures _ (omega arith)
+write_local-requires c = local_like_asked (local_at c.args.words.now c.args.k) _ c.local_like.ensures _ (omega arith)
 
 pub returns : goal.returns
 returns c = local_counted c.args.words.now c.args.k _ c.word_at-kind.ensures _ _ _ _ c.local_like.ensures c.if-kind-eq0.false c.if-kind-eq1.false c.write_local.ensures

@@ -1,7 +1,7 @@
 -- `lines::text_short` meets its contract: what is left of the room falls line by line. Assumes nothing.
 use Prim.Native.Nat.{◌-◌}
 use native.Mathlib.Omega.{arith}
-use Rattle.report.proofs.Numbered.{Measuring, measuring_start, measuring-more, measuring-short, measuring-end}
+use Rattle.report.proofs.Numbered.{Measuring, measuring_start, measuring_more, measuring_short, measuring_end}
 use Rattle.report.proofs.lines.text_short.Goals as goal
 
 pub loop-k-init : goal.loop-k-init
@@ -11,10 +11,10 @@ pub line_length-n-requires : goal.line_length-n-requires
 line_length-n-requires c = record { all = c.requires; below = omega arith }
 
 pub returns-then-left-n : goal.returns-then-left-n
-returns-then-left-n c = measuring-short _ _ _ _ _ _ c.loop-k.invariant _ (omega arith) c.line_length-n.ensures c.if-left-n.true
+returns-then-left-n c = measuring_short _ _ _ _ _ _ c.loop-k.invariant _ (omega arith) c.line_length-n.ensures c.if-left-n.true
 
 pub loop-k-preserved : goal.loop-k-preserved
-loop-k-preserved c = measuring-more _ _ _ _ _ _ c.loop-k.invariant _ (omega arith) c.line_length-n.ensures c.if-left-n.false
+loop-k-preserved c = measuring_more _ _ _ _ _ _ c.loop-k.invariant _ (omega arith) c.line_length-n.ensures c.if-left-n.false
 
 pub returns : goal.returns
-returns c = measuring-end _ _ _ _ _ _ c.loop-k.invariant (omega arith)
+returns c = measuring_end _ _ _ _ _ _ c.loop-k.invariant (omega arith)

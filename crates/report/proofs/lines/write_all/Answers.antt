@@ -1,7 +1,7 @@
 -- `lines::write_all` meets its contract: the lines before line k stand at the front, and what comes after them completes the text. Assumes nothing.
 use Prim.Native.Nat.{◌-◌}
 use native.Mathlib.Omega.{arith}
-use Rattle.report.proofs.Writing.{Filling, filling_start, filling-fits, filling-length, line-fits, filling-asked, filling_more, filling_end}
+use Rattle.report.proofs.Writing.{Filling, filling_start, filling_fits, filling_length, line_fits, filling_asked, filling_more, filling_end}
 use Rattle.report.proofs.lines.write_all.Goals as goal
 
 pub overflow_add-count : goal.overflow_add-count
@@ -11,16 +11,16 @@ pub loop-k-init : goal.loop-k-init
 loop-k-init c = filling_start c.args.passes c.args.words.now c.args.sheet.now c.args.out.now
 
 pub slice_bounds-write_line-count : goal.slice_bounds-write_line-count
-slice_bounds-write_line-count c = let l = filling-length c.args.passes c.args.words.now c.args.sheet.now c.args.out.now c.loop-k.out c.loop-k.at c.loop-k.k c.requires c.loop-k.invariant in let m = filling-fits c.args.passes c.args.words.now c.args.sheet.now c.args.out.now c.loop-k.out c.loop-k.at c.loop-k.k c.requires c.loop-k.invariant in omega arith
+slice_bounds-write_line-count c = let l = filling_length c.args.passes c.args.words.now c.args.sheet.now c.args.out.now c.loop-k.out c.loop-k.at c.loop-k.k c.requires c.loop-k.invariant in let m = filling_fits c.args.passes c.args.words.now c.args.sheet.now c.args.out.now c.loop-k.out c.loop-k.at c.loop-k.k c.requires c.loop-k.invariant in omega arith
 
 pub slice_bounds-write_line-start : goal.slice_bounds-write_line-start
-slice_bounds-write_line-start c = let l = filling-length c.args.passes c.args.words.now c.args.sheet.now c.args.out.now c.loop-k.out c.loop-k.at c.loop-k.k c.requires c.loop-k.invariant in let m = filling-fits c.args.passes c.args.words.now c.args.sheet.now c.args.out.now c.loop-k.out c.loop-k.at c.loop-k.k c.requires c.loop-k.invariant in omega arith
+slice_bounds-write_line-start c = let l = filling_length c.args.passes c.args.words.now c.args.sheet.now c.args.out.now c.loop-k.out c.loop-k.at c.loop-k.k c.requires c.loop-k.invariant in let m = filling_fits c.args.passes c.args.words.now c.args.sheet.now c.args.out.now c.loop-k.out c.loop-k.at c.loop-k.k c.requires c.loop-k.invariant in omega arith
 
 pub write_line-n-requires : goal.write_line-n-requires
-write_line-n-requires c = filling-asked c.args.passes c.args.words.now c.args.sheet.now c.args.out.now c.loop-k.out c.loop-k.at c.loop-k.k c.requires c.loop-k.invariant (omega (arith, c.loop-k-test.true))
+write_line-n-requires c = filling_asked c.args.passes c.args.words.now c.args.sheet.now c.args.out.now c.loop-k.out c.loop-k.at c.loop-k.k c.requires c.loop-k.invariant (omega (arith, c.loop-k-test.true))
 
 pub overflow_add-at : goal.overflow_add-at
-overflow_add-at c = let l = line-fits c.args.passes c.args.words.now c.args.sheet.now c.args.out.now c.loop-k.out c.loop-k.at c.loop-k.k c.requires c.loop-k.invariant (omega (arith, c.loop-k-test.true)) in let m = c.write_line-n.ensures.count in record { fits = omega (arith, l, m) }
+overflow_add-at c = let l = line_fits c.args.passes c.args.words.now c.args.sheet.now c.args.out.now c.loop-k.out c.loop-k.at c.loop-k.k c.requires c.loop-k.invariant (omega (arith, c.loop-k-test.true)) in let m = c.write_line-n.ensures.count in record { fits = omega (arith, l, m) }
 
 pub overflow_add-k : goal.overflow_add-k
 overflow_add-k c = omega (arith, c.loop-k-test.true)
@@ -32,7 +32,7 @@ pub loop-k-preserved : goal.loop-k-preserved
 loop-k-preserved c = filling_more c.args.passes c.args.words.now c.args.sheet.now c.args.out.now c.loop-k.out c.loop-k.at c.loop-k.k c.requires c.loop-k.invariant (omega (arith, c.loop-k-test.true)) _ _ c.write_line-n.ensures
 
 pub shape_of-out : goal.shape_of-out
-shape_of-out c = filling-length c.args.passes c.args.words.now c.args.sheet.now c.args.out.now c.loop-k.out c.loop-k.at c.loop-k.k c.requires c.loop-k.invariant
+shape_of-out c = filling_length c.args.passes c.args.words.now c.args.sheet.now c.args.out.now c.loop-k.out c.loop-k.at c.loop-k.k c.requires c.loop-k.invariant
 
 pub returns : goal.returns
 returns c = filling_end c.args.passes c.args.words.now c.args.sheet.now c.args.out.now c.loop-k.out c.loop-k.at c.loop-k.k c.requires c.loop-k.invariant (omega (arith, c.loop-k-test.false))

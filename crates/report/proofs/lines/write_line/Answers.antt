@@ -2,25 +2,25 @@
 use mathlib.Core.Path.{refl}
 use Rattle.report_line.proofs.Forms.{same_room, same_wrote}
 use Rattle.report.specs.Asked.{line_at}
-use Rattle.report.proofs.Numbered.{pass_line_holds, sheet-line}
-use Rattle.report.proofs.Writing.{heading-is, pass-asked, sheet-asked}
+use Rattle.report.proofs.Numbered.{pass_line_holds, sheet_line_lem}
+use Rattle.report.proofs.Writing.{heading_is, pass_asked, sheet_asked}
 use borrow.Author.Rules.{rules}
 use Rattle.report.proofs.lines.write_line.Goals as goal
 
 pub write_heading-requires : goal.write_heading-requires
-write_heading-requires c = same_room _ _ c.args.out.now (heading-is c.args.passes c.args.words.now c.args.sheet.now c.args.k c.if-k-eq0.true) c.requires.room
+write_heading-requires c = same_room _ _ c.args.out.now (heading_is c.args.passes c.args.words.now c.args.sheet.now c.args.k c.if-k-eq0.true) c.requires.room
 
 pub returns-then-k-eq0 : goal.returns-then-k-eq0
-returns-then-k-eq0 c = same_wrote _ (line_at c.args.passes c.args.words.now c.args.sheet.now c.args.k) _ _ _ (heading-is c.args.passes c.args.words.now c.args.sheet.now c.args.k c.if-k-eq0.true) c.write_heading.ensures
+returns-then-k-eq0 c = same_wrote _ (line_at c.args.passes c.args.words.now c.args.sheet.now c.args.k) _ _ _ (heading_is c.args.passes c.args.words.now c.args.sheet.now c.args.k c.if-k-eq0.true) c.write_heading.ensures
 
 pub write_pass-requires : goal.write_pass-requires
-write_pass-requires c = pass-asked c.args.passes c.args.words.now c.args.sheet.now c.args.k c.args.out.now c.requires _ refl c.if-k-eq0.false c.if-k-passes.true
+write_pass-requires c = pass_asked c.args.passes c.args.words.now c.args.sheet.now c.args.k c.args.out.now c.requires _ refl c.if-k-eq0.false c.if-k-passes.true
 
 pub returns-then-k-passes : goal.returns-then-k-passes
 returns-then-k-passes c = same_wrote _ (line_at c.args.passes c.args.words.now c.args.sheet.now c.args.k) _ _ _ (pass_line_holds c.args.passes c.args.words.now c.args.sheet.now c.args.k _ c.if-k-eq0.false refl c.if-k-passes.true) c.write_pass.ensures
 
 pub write_sheet_line-requires : goal.write_sheet_line-requires
-write_sheet_line-requires c = sheet-asked c.args.passes c.args.words.now c.args.sheet.now c.args.k c.args.out.now c.requires _ refl c.if-k-eq0.false c.if-k-passes.false
+write_sheet_line-requires c = sheet_asked c.args.passes c.args.words.now c.args.sheet.now c.args.k c.args.out.now c.requires _ refl c.if-k-eq0.false c.if-k-passes.false
 
 pub returns : goal.returns
-returns c = same_wrote _ (line_at c.args.passes c.args.words.now c.args.sheet.now c.args.k) _ _ _ (sheet-line c.args.passes c.args.words.now c.args.sheet.now c.args.k _ c.if-k-eq0.false refl c.if-k-passes.false) c.write_sheet_line.ensures
+returns c = same_wrote _ (line_at c.args.passes c.args.words.now c.args.sheet.now c.args.k) _ _ _ (sheet_line_lem c.args.passes c.args.words.now c.args.sheet.now c.args.k _ c.if-k-eq0.false refl c.if-k-passes.false) c.write_sheet_line.ensures

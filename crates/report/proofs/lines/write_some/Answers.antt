@@ -3,7 +3,7 @@ use mathlib.Core.Path.{refl}
 use Prim.Native.Nat.{◌-◌}
 use native.Mathlib.Omega.{arith}
 use Rattle.report.proofs.Short.{tame_short}
-use Rattle.report.proofs.Writing.{Cutting, cutting-start, cutting-length, cutting-full, cutting-last, cutting-asked, cutting-more}
+use Rattle.report.proofs.Writing.{Cutting, cutting_start, cutting_length, cutting_full, cutting_last, cutting_asked, cutting_more}
 use Rattle.report.proofs.Blank.{skipped_at}
 use Rattle.report.proofs.lines.write_some.Goals as goal
 
@@ -11,28 +11,28 @@ pub overflow_add-count : goal.overflow_add-count
 overflow_add-count c = let w = c.requires.sound.all.words_long in omega arith
 
 pub loop-k-init : goal.loop-k-init
-loop-k-init c = cutting-start c.args.passes c.args.words.now c.args.sheet.now c.args.from c.args.out.now c.requires
+loop-k-init c = cutting_start c.args.passes c.args.words.now c.args.sheet.now c.args.from c.args.out.now c.requires
 
 pub overflow_sub-out : goal.overflow_sub-out
-overflow_sub-out c = let l = cutting-length c.args.passes c.args.words.now c.args.sheet.now c.args.from c.args.out.now c.requires c.loop-k.out c.loop-k.at c.loop-k.k c.loop-k.invariant in omega (arith, c.loop-k.invariant.fits)
+overflow_sub-out c = let l = cutting_length c.args.passes c.args.words.now c.args.sheet.now c.args.from c.args.out.now c.requires c.loop-k.out c.loop-k.at c.loop-k.k c.loop-k.invariant in omega (arith, c.loop-k.invariant.fits)
 
 pub shape_of-out-then-out-at-lt-LINE_ROOM : goal.shape_of-out-then-out-at-lt-LINE_ROOM
-shape_of-out-then-out-at-lt-LINE_ROOM c = cutting-length c.args.passes c.args.words.now c.args.sheet.now c.args.from c.args.out.now c.requires c.loop-k.out c.loop-k.at c.loop-k.k c.loop-k.invariant
+shape_of-out-then-out-at-lt-LINE_ROOM c = cutting_length c.args.passes c.args.words.now c.args.sheet.now c.args.from c.args.out.now c.requires c.loop-k.out c.loop-k.at c.loop-k.k c.loop-k.invariant
 
 pub returns-then-out-at-lt-LINE_ROOM : goal.returns-then-out-at-lt-LINE_ROOM
-returns-then-out-at-lt-LINE_ROOM c = cutting-full c.args.passes c.args.words.now c.args.sheet.now c.args.from c.args.out.now c.requires c.loop-k.out c.loop-k.at c.loop-k.k c.loop-k.invariant c.if-out-at-lt-LINE_ROOM.true _ refl refl
+returns-then-out-at-lt-LINE_ROOM c = cutting_full c.args.passes c.args.words.now c.args.sheet.now c.args.from c.args.out.now c.requires c.loop-k.out c.loop-k.at c.loop-k.k c.loop-k.invariant c.if-out-at-lt-LINE_ROOM.true _ refl refl
 
 pub next_filled-filled-requires : goal.next_filled-filled-requires
 next_filled-filled-requires c = record { all = c.requires.sound.all; below = omega (arith, c.loop-k-test.true) }
 
 pub slice_bounds-write_line-count : goal.slice_bounds-write_line-count
-slice_bounds-write_line-count c = let l = cutting-length c.args.passes c.args.words.now c.args.sheet.now c.args.from c.args.out.now c.requires c.loop-k.out c.loop-k.at c.loop-k.k c.loop-k.invariant in omega (arith, c.loop-k.invariant.fits)
+slice_bounds-write_line-count c = let l = cutting_length c.args.passes c.args.words.now c.args.sheet.now c.args.from c.args.out.now c.requires c.loop-k.out c.loop-k.at c.loop-k.k c.loop-k.invariant in omega (arith, c.loop-k.invariant.fits)
 
 pub slice_bounds-write_line-start : goal.slice_bounds-write_line-start
-slice_bounds-write_line-start c = let l = cutting-length c.args.passes c.args.words.now c.args.sheet.now c.args.from c.args.out.now c.requires c.loop-k.out c.loop-k.at c.loop-k.k c.loop-k.invariant in omega (arith, c.loop-k.invariant.fits)
+slice_bounds-write_line-start c = let l = cutting_length c.args.passes c.args.words.now c.args.sheet.now c.args.from c.args.out.now c.requires c.loop-k.out c.loop-k.at c.loop-k.k c.loop-k.invariant in omega (arith, c.loop-k.invariant.fits)
 
 pub write_line-n-requires : goal.write_line-n-requires
-write_line-n-requires c = cutting-asked c.args.passes c.args.words.now c.args.sheet.now c.args.from c.args.out.now c.requires c.loop-k.out c.loop-k.at c.next_filled-filled.result (skipped_at c.args.passes c.args.words.now c.args.sheet.now c.args.from c.args.out.now c.requires c.loop-k.out c.loop-k.at c.loop-k.k c.loop-k.invariant c.if-out-at-lt-LINE_ROOM.false c.next_filled-filled.ensures) c.next_filled-filled.ensures.below c.if-out-at-lt-LINE_ROOM.false (tame_short c.args.passes c.args.words.now c.args.sheet.now c.requires.sound.tame c.next_filled-filled.result c.next_filled-filled.ensures.below)
+write_line-n-requires c = cutting_asked c.args.passes c.args.words.now c.args.sheet.now c.args.from c.args.out.now c.requires c.loop-k.out c.loop-k.at c.next_filled-filled.result (skipped_at c.args.passes c.args.words.now c.args.sheet.now c.args.from c.args.out.now c.requires c.loop-k.out c.loop-k.at c.loop-k.k c.loop-k.invariant c.if-out-at-lt-LINE_ROOM.false c.next_filled-filled.ensures) c.next_filled-filled.ensures.below c.if-out-at-lt-LINE_ROOM.false (tame_short c.args.passes c.args.words.now c.args.sheet.now c.requires.sound.tame c.next_filled-filled.result c.next_filled-filled.ensures.below)
 
 pub overflow_add-at : goal.overflow_add-at
 overflow_add-at c = let l = (tame_short c.args.passes c.args.words.now c.args.sheet.now c.requires.sound.tame c.next_filled-filled.result c.next_filled-filled.ensures.below) in let m = c.write_line-n.ensures.count in record { fits = omega (arith, l, m, c.loop-k.invariant.fits) }
@@ -44,10 +44,10 @@ pub loop-k-smaller : goal.loop-k-smaller
 loop-k-smaller c = omega (arith, c.loop-k-test.true, c.next_filled-filled.ensures.from, c.next_filled-filled.ensures.below)
 
 pub loop-k-preserved : goal.loop-k-preserved
-loop-k-preserved c = cutting-more c.args.passes c.args.words.now c.args.sheet.now c.args.from c.args.out.now c.requires c.loop-k.out c.loop-k.at c.next_filled-filled.result (skipped_at c.args.passes c.args.words.now c.args.sheet.now c.args.from c.args.out.now c.requires c.loop-k.out c.loop-k.at c.loop-k.k c.loop-k.invariant c.if-out-at-lt-LINE_ROOM.false c.next_filled-filled.ensures) c.next_filled-filled.ensures.below c.if-out-at-lt-LINE_ROOM.false (tame_short c.args.passes c.args.words.now c.args.sheet.now c.requires.sound.tame c.next_filled-filled.result c.next_filled-filled.ensures.below) _ _ c.write_line-n.ensures
+loop-k-preserved c = cutting_more c.args.passes c.args.words.now c.args.sheet.now c.args.from c.args.out.now c.requires c.loop-k.out c.loop-k.at c.next_filled-filled.result (skipped_at c.args.passes c.args.words.now c.args.sheet.now c.args.from c.args.out.now c.requires c.loop-k.out c.loop-k.at c.loop-k.k c.loop-k.invariant c.if-out-at-lt-LINE_ROOM.false c.next_filled-filled.ensures) c.next_filled-filled.ensures.below c.if-out-at-lt-LINE_ROOM.false (tame_short c.args.passes c.args.words.now c.args.sheet.now c.requires.sound.tame c.next_filled-filled.result c.next_filled-filled.ensures.below) _ _ c.write_line-n.ensures
 
 pub shape_of-out : goal.shape_of-out
-shape_of-out c = cutting-length c.args.passes c.args.words.now c.args.sheet.now c.args.from c.args.out.now c.requires c.loop-k.out c.loop-k.at c.loop-k.k c.loop-k.invariant
+shape_of-out c = cutting_length c.args.passes c.args.words.now c.args.sheet.now c.args.from c.args.out.now c.requires c.loop-k.out c.loop-k.at c.loop-k.k c.loop-k.invariant
 
 pub returns : goal.returns
-returns c = cutting-last c.args.passes c.args.words.now c.args.sheet.now c.args.from c.args.out.now c.requires c.loop-k.out c.loop-k.at c.loop-k.k c.loop-k.invariant (omega (arith, c.loop-k-test.false)) _ refl refl
+returns c = cutting_last c.args.passes c.args.words.now c.args.sheet.now c.args.from c.args.out.now c.requires c.loop-k.out c.loop-k.at c.loop-k.k c.loop-k.invariant (omega (arith, c.loop-k-test.false)) _ refl refl

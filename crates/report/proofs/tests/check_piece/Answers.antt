@@ -2,33 +2,33 @@
 use mathlib.Core.Path.{sym, ◌∙◌}
 use native.Mathlib.Omega.{arith}
 use Rattle.report.specs.WriteResult.{text_lent}
-use Rattle.report.proofs.Checking.{all-lent, corners-asked, piece-7, piece-7-too, piece-2, piece-3, piece-3-too, piece-rest}
+use Rattle.report.proofs.Checking.{all_lent, corners_asked, piece_7, piece_7_too, piece_2, piece_3, piece_3_too, piece_rest}
 use borrow.Author.Rules.{rules}
 use Rattle.report.proofs.tests.check_piece.Goals as goal
 
 pub returns-then-input_short : goal.returns-then-input_short
-returns-then-input_short c = piece-7 (text_lent c.args.corners c.args.passes c.args.words.now c.args.sheet.now) c.args.from c.args.room (sym c.input_short.ensures ∙ c.if-input_short.true)
+returns-then-input_short c = piece_7 (text_lent c.args.corners c.args.passes c.args.words.now c.args.sheet.now) c.args.from c.args.room (sym c.input_short.ensures ∙ c.if-input_short.true)
 
 pub returns-then-room-lt-LINE_ROOM : goal.returns-then-room-lt-LINE_ROOM
-returns-then-room-lt-LINE_ROOM c = piece-7-too (text_lent c.args.corners c.args.passes c.args.words.now c.args.sheet.now) c.args.from c.args.room (sym c.input_short.ensures ∙ c.if-input_short.false) c.if-room-lt-LINE_ROOM.true
+returns-then-room-lt-LINE_ROOM c = piece_7_too (text_lent c.args.corners c.args.passes c.args.words.now c.args.sheet.now) c.args.from c.args.room (sym c.input_short.ensures ∙ c.if-input_short.false) c.if-room-lt-LINE_ROOM.true
 
 pub returns-then-over_limit : goal.returns-then-over_limit
-returns-then-over_limit c = piece-2 (text_lent c.args.corners c.args.passes c.args.words.now c.args.sheet.now) c.args.from c.args.room (sym c.input_short.ensures ∙ c.if-input_short.false) c.if-room-lt-LINE_ROOM.false (sym c.over_limit.ensures ∙ c.if-over_limit.true)
+returns-then-over_limit c = piece_2 (text_lent c.args.corners c.args.passes c.args.words.now c.args.sheet.now) c.args.from c.args.room (sym c.input_short.ensures ∙ c.if-input_short.false) c.if-room-lt-LINE_ROOM.false (sym c.over_limit.ensures ∙ c.if-over_limit.true)
 
 pub is_wild-requires : goal.is_wild-requires
-is_wild-requires c = (all-lent (text_lent c.args.corners c.args.passes c.args.words.now c.args.sheet.now) (sym c.input_short.ensures ∙ c.if-input_short.false)).words_long
+is_wild-requires c = (all_lent (text_lent c.args.corners c.args.passes c.args.words.now c.args.sheet.now) (sym c.input_short.ensures ∙ c.if-input_short.false)).words_long
 
 pub returns-then-is_wild : goal.returns-then-is_wild
-returns-then-is_wild c = piece-3 (text_lent c.args.corners c.args.passes c.args.words.now c.args.sheet.now) c.args.from c.args.room (sym c.input_short.ensures ∙ c.if-input_short.false) c.if-room-lt-LINE_ROOM.false (sym c.over_limit.ensures ∙ c.if-over_limit.false) (sym c.is_wild.ensures ∙ c.if-is_wild.true)
+returns-then-is_wild c = piece_3 (text_lent c.args.corners c.args.passes c.args.words.now c.args.sheet.now) c.args.from c.args.room (sym c.input_short.ensures ∙ c.if-input_short.false) c.if-room-lt-LINE_ROOM.false (sym c.over_limit.ensures ∙ c.if-over_limit.false) (sym c.is_wild.ensures ∙ c.if-is_wild.true)
 
 pub overflow_add-passes : goal.overflow_add-passes
-overflow_add-passes c = let w = (all-lent (text_lent c.args.corners c.args.passes c.args.words.now c.args.sheet.now) (sym c.input_short.ensures ∙ c.if-input_short.false)).words_long in omega arith
+overflow_add-passes c = let w = (all_lent (text_lent c.args.corners c.args.passes c.args.words.now c.args.sheet.now) (sym c.input_short.ensures ∙ c.if-input_short.false)).words_long in omega arith
 
 pub returns-then-passes-from : goal.returns-then-passes-from
-returns-then-passes-from c = piece-3-too (text_lent c.args.corners c.args.passes c.args.words.now c.args.sheet.now) c.args.from c.args.room (sym c.input_short.ensures ∙ c.if-input_short.false) c.if-room-lt-LINE_ROOM.false (sym c.over_limit.ensures ∙ c.if-over_limit.false) (sym c.is_wild.ensures ∙ c.if-is_wild.false) (omega (arith, c.if-passes-from.true))
+returns-then-passes-from c = piece_3_too (text_lent c.args.corners c.args.passes c.args.words.now c.args.sheet.now) c.args.from c.args.room (sym c.input_short.ensures ∙ c.if-input_short.false) c.if-room-lt-LINE_ROOM.false (sym c.over_limit.ensures ∙ c.if-over_limit.false) (sym c.is_wild.ensures ∙ c.if-is_wild.false) (omega (arith, c.if-passes-from.true))
 
 pub check_corners-requires : goal.check_corners-requires
-check_corners-requires c = corners-asked (text_lent c.args.corners c.args.passes c.args.words.now c.args.sheet.now) (sym c.input_short.ensures ∙ c.if-input_short.false) (sym c.over_limit.ensures ∙ c.if-over_limit.false)
+check_corners-requires c = corners_asked (text_lent c.args.corners c.args.passes c.args.words.now c.args.sheet.now) (sym c.input_short.ensures ∙ c.if-input_short.false) (sym c.over_limit.ensures ∙ c.if-over_limit.false)
 
 pub returns : goal.returns
-returns c = c.check_corners.ensures ∙ piece-rest (text_lent c.args.corners c.args.passes c.args.words.now c.args.sheet.now) c.args.from c.args.room (sym c.input_short.ensures ∙ c.if-input_short.false) c.if-room-lt-LINE_ROOM.false (sym c.over_limit.ensures ∙ c.if-over_limit.false) (sym c.is_wild.ensures ∙ c.if-is_wild.false) (omega (arith, c.if-passes-from.false))
+returns c = c.check_corners.ensures ∙ piece_rest (text_lent c.args.corners c.args.passes c.args.words.now c.args.sheet.now) c.args.from c.args.room (sym c.input_short.ensures ∙ c.if-input_short.false) c.if-room-lt-LINE_ROOM.false (sym c.over_limit.ensures ∙ c.if-over_limit.false) (sym c.is_wild.ensures ∙ c.if-is_wild.false) (omega (arith, c.if-passes-from.false))

@@ -1,30 +1,30 @@
 -- `tests::check_text` meets its contract: each refusal by the tests that passed before it. Assumes nothing.
 use mathlib.Core.Path.{sym, ◌∙◌}
 use Rattle.report.specs.WriteResult.{text_lent}
-use Rattle.report.proofs.Checking.{all-lent, corners-asked, text-7, text-7-too, text-2, text-3, text-rest}
+use Rattle.report.proofs.Checking.{all_lent, corners_asked, text_7, text_7_too, text_2, text_3, text_rest}
 use borrow.Author.Rules.{rules}
 use Rattle.report.proofs.tests.check_text.Goals as goal
 
 pub returns-then-input_short : goal.returns-then-input_short
-returns-then-input_short c = text-7 (text_lent c.args.corners c.args.passes c.args.words.now c.args.sheet.now) c.args.room (sym c.input_short.ensures ∙ c.if-input_short.true)
+returns-then-input_short c = text_7 (text_lent c.args.corners c.args.passes c.args.words.now c.args.sheet.now) c.args.room (sym c.input_short.ensures ∙ c.if-input_short.true)
 
 pub text_short-requires : goal.text_short-requires
-text_short-requires c = all-lent (text_lent c.args.corners c.args.passes c.args.words.now c.args.sheet.now) (sym c.input_short.ensures ∙ c.if-input_short.false)
+text_short-requires c = all_lent (text_lent c.args.corners c.args.passes c.args.words.now c.args.sheet.now) (sym c.input_short.ensures ∙ c.if-input_short.false)
 
 pub returns-then-text_short : goal.returns-then-text_short
-returns-then-text_short c = text-7-too (text_lent c.args.corners c.args.passes c.args.words.now c.args.sheet.now) c.args.room (sym c.input_short.ensures ∙ c.if-input_short.false) (sym c.text_short.ensures ∙ c.if-text_short.true)
+returns-then-text_short c = text_7_too (text_lent c.args.corners c.args.passes c.args.words.now c.args.sheet.now) c.args.room (sym c.input_short.ensures ∙ c.if-input_short.false) (sym c.text_short.ensures ∙ c.if-text_short.true)
 
 pub returns-then-over_limit : goal.returns-then-over_limit
-returns-then-over_limit c = text-2 (text_lent c.args.corners c.args.passes c.args.words.now c.args.sheet.now) c.args.room (sym c.input_short.ensures ∙ c.if-input_short.false) (sym c.text_short.ensures ∙ c.if-text_short.false) (sym c.over_limit.ensures ∙ c.if-over_limit.true)
+returns-then-over_limit c = text_2 (text_lent c.args.corners c.args.passes c.args.words.now c.args.sheet.now) c.args.room (sym c.input_short.ensures ∙ c.if-input_short.false) (sym c.text_short.ensures ∙ c.if-text_short.false) (sym c.over_limit.ensures ∙ c.if-over_limit.true)
 
 pub is_wild-requires : goal.is_wild-requires
-is_wild-requires c = (all-lent (text_lent c.args.corners c.args.passes c.args.words.now c.args.sheet.now) (sym c.input_short.ensures ∙ c.if-input_short.false)).words_long
+is_wild-requires c = (all_lent (text_lent c.args.corners c.args.passes c.args.words.now c.args.sheet.now) (sym c.input_short.ensures ∙ c.if-input_short.false)).words_long
 
 pub returns-then-is_wild : goal.returns-then-is_wild
-returns-then-is_wild c = text-3 (text_lent c.args.corners c.args.passes c.args.words.now c.args.sheet.now) c.args.room (sym c.input_short.ensures ∙ c.if-input_short.false) (sym c.text_short.ensures ∙ c.if-text_short.false) (sym c.over_limit.ensures ∙ c.if-over_limit.false) (sym c.is_wild.ensures ∙ c.if-is_wild.true)
+returns-then-is_wild c = text_3 (text_lent c.args.corners c.args.passes c.args.words.now c.args.sheet.now) c.args.room (sym c.input_short.ensures ∙ c.if-input_short.false) (sym c.text_short.ensures ∙ c.if-text_short.false) (sym c.over_limit.ensures ∙ c.if-over_limit.false) (sym c.is_wild.ensures ∙ c.if-is_wild.true)
 
 pub check_corners-requires : goal.check_corners-requires
-check_corners-requires c = corners-asked (text_lent c.args.corners c.args.passes c.args.words.now c.args.sheet.now) (sym c.input_short.ensures ∙ c.if-input_short.false) (sym c.over_limit.ensures ∙ c.if-over_limit.false)
+check_corners-requires c = corners_asked (text_lent c.args.corners c.args.passes c.args.words.now c.args.sheet.now) (sym c.input_short.ensures ∙ c.if-input_short.false) (sym c.over_limit.ensures ∙ c.if-over_limit.false)
 
 pub returns : goal.returns
-returns c = c.check_corners.ensures ∙ text-rest (text_lent c.args.corners c.args.passes c.args.words.now c.args.sheet.now) c.args.room (sym c.input_short.ensures ∙ c.if-input_short.false) (sym c.text_short.ensures ∙ c.if-text_short.false) (sym c.over_limit.ensures ∙ c.if-over_limit.false) (sym c.is_wild.ensures ∙ c.if-is_wild.false)
+returns c = c.check_corners.ensures ∙ text_rest (text_lent c.args.corners c.args.passes c.args.words.now c.args.sheet.now) c.args.room (sym c.input_short.ensures ∙ c.if-input_short.false) (sym c.text_short.ensures ∙ c.if-text_short.false) (sym c.over_limit.ensures ∙ c.if-over_limit.false) (sym c.is_wild.ensures ∙ c.if-is_wild.false)

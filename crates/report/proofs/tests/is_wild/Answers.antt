@@ -2,7 +2,7 @@
 use mathlib.Core.Path.{sym, ◌∙◌}
 use Prim.Native.Nat.{◌-◌}
 use native.Mathlib.Omega.{arith}
-use Rattle.labels.proofs.Below.{Searching, searching_start, searching-more, searching-hit, searching-end}
+use Rattle.labels.proofs.Below.{Searching, searching_start, searching_more, searching_hit, searching_end}
 use Rattle.report_words.specs.Outcomes.{wild_outcome}
 use Rattle.report.specs.WriteResult.{wild}
 use Rattle.report.proofs.tests.is_wild.Goals as goal
@@ -15,11 +15,11 @@ wild_outcome-requires c = record { there = omega arith }
 
 pub returns-then-wild_outcome : goal.returns-then-wild_outcome
 unfolding wild
-returns-then-wild_outcome c = searching-hit _ _ _ c.loop-k.invariant c.loop-k-test.true (sym c.wild_outcome.ensures ∙ c.if-wild_outcome.true)
+returns-then-wild_outcome c = searching_hit _ _ _ c.loop-k.invariant c.loop-k-test.true (sym c.wild_outcome.ensures ∙ c.if-wild_outcome.true)
 
 pub loop-k-preserved : goal.loop-k-preserved
-loop-k-preserved c = searching-more _ _ _ c.loop-k.invariant c.loop-k-test.true (sym c.wild_outcome.ensures ∙ c.if-wild_outcome.false)
+loop-k-preserved c = searching_more _ _ _ c.loop-k.invariant c.loop-k-test.true (sym c.wild_outcome.ensures ∙ c.if-wild_outcome.false)
 
 pub returns : goal.returns
 unfolding wild
-returns c = searching-end _ _ _ c.loop-k.invariant c.loop-k-test.false
+returns c = searching_end _ _ _ c.loop-k.invariant c.loop-k-test.false

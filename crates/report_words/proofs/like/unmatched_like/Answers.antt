@@ -1,12 +1,13 @@
 -- `like::unmatched_like` meets its contract, by the word that says whether a shade stands. Assumes nothing.
+use mathlib.Core.Bool.{not}
 use borrow.Author.Tests.{not-true, not-false}
-use mathlib.Core.Path.{sym, ◌∙◌}
-use Rattle.report_words.proofs.Outcomes.{unmatched-like-none, unmatched-like-some}
+use mathlib.Core.Path.{sym, ◌∙◌, ap}
+use Rattle.report_words.proofs.Outcomes.{unmatched_like_none, unmatched_like_some}
 use borrow.Author.Rules.{rules}
 use Rattle.report_words.proofs.like.unmatched_like.Goals as goal
 
 pub returns-then-not-yes_at : goal.returns-then-not-yes_at
-returns-then-not-yes_at c = unmatched-like-none c.args.words.now c.args.k (sym c.yes_at.ensures ∙ not-true _ c.if-not-yes_at.true)
+returns-then-not-yes_at c = unmatched_like_none c.args.words.now c.args.k (sym c.yes_at.ensures ∙ not-true _ (ap not c.if-not-yes_at.true))
 
 pub returns : goal.returns
-returns c = unmatched-like-some c.args.words.now c.args.k (sym c.yes_at.ensures ∙ not-false _ c.if-not-yes_at.false) _ c.like_at.ensures
+returns c = unmatched_like_some c.args.words.now c.args.k (sym c.yes_at.ensures ∙ not-false _ (ap not c.if-not-yes_at.false)) _ c.like_at.ensures

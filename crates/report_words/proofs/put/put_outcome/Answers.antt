@@ -5,18 +5,18 @@ use Rattle.passes.specs.Run.{grow_stats, fill_stats, local_stats}
 use Prim.Native.Nat.{ℕ}
 use mathlib.Core.List.{List}
 use mathlib.Core.Path.{ap}
-use Rattle.report_words.proofs.Putting.{grow-fits, fill-fits, local_fits, put_answer}
+use Rattle.report_words.proofs.Putting.{grow_fits, fill_fits, local_fits, put_answer}
 use borrow.Author.Rules.{rules}
 use Rattle.report_words.proofs.put.put_outcome.Goals as goal
 
 pub grow_words-requires : goal.grow_words-requires
-grow_words-requires c = grow-fits c.args.answer c.requires.1 _ c.in-Grow.is
+grow_words-requires c = grow_fits c.args.answer c.requires.answer_fits _ c.in-Grow.is
 
 pub fill_words-requires : goal.fill_words-requires
-fill_words-requires c = fill-fits c.args.answer c.requires.1 _ c.in-Fill.is
+fill_words-requires c = fill_fits c.args.answer c.requires.answer_fits _ c.in-Fill.is
 
 pub local_words-requires : goal.local_words-requires
-local_words-requires c = local_fits c.args.answer c.requires.1 _ c.in-Local.is
+local_words-requires c = local_fits c.args.answer c.requires.answer_fits _ c.in-Local.is
 
 pub returns-in-Grow : goal.returns-in-Grow
 returns-in-Grow c = put_answer c.args.words.now c.args.k _ _ c.args.answer (grow_stats _) c.put_words.ensures c.grow_words.ensures (ap (λ (a : PassAnswer). with_answer c.args.words.now c.args.k a) c.in-Grow.is)
