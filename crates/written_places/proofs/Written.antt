@@ -8,7 +8,7 @@ use native.Mathlib.Omega.{arith}
 use borrow.Author.Tests.{eq-eqb, ne_eqb, eqb-true, eqb-false, ltb-true, ltb-false}
 use lib.Dec.{T, eqb, ltb}
 use lib.ListN.{length, get_or, set, length-set}
-use lib.Seq.{get_or-set_same, get_or-set_other, set_set, set_comm, set_out}
+use lib.Seq.{get_or-set_same, get_or-set_other, set-set, set_comm, set_out}
 use Rattle.sheet.specs.Cells.{on_sheet, place_of}
 use Rattle.sheet.specs.Words.{label_of, label_of_number, label_at, with_label, with_hole, with_ambiguous, without_marks, attached, hole_marked, ambiguous_marked, marks_cleared}
 use Rattle.sheet.specs.Corners.{seen_through, seen_of}
@@ -49,7 +49,7 @@ put_in_lem [] p v = refl
 put_in_lem (e ∷ es) p v = go (put_in_lem es p v) (ltb p e.place) (ℕ_discrete p e.place)
   where
     at : set (sheet_with es) p v ≡ sheet_with (put_in es p v) → Dec (p ≡ e.place) → set (set (sheet_with es) e.place e.word) p v ≡ sheet_with (cond (eqb p e.place) (written p v ∷ es) (e ∷ put_in es p v))
-    at f (yes d) = rw (eq-eqb p e.place d, d) (set_set (sheet_with es) e.place e.word v)
+    at f (yes d) = rw (eq-eqb p e.place d, d) (set-set (sheet_with es) e.place e.word v)
     at f (no d) =
         rw (ne_eqb p e.place d)
         (set_comm (sheet_with es) e.place p e.word v (λ z. d (sym z)) ∙ ap (λ (s : List ℕ). set s e.place e.word) f)

@@ -12,7 +12,7 @@ use Rattle.arguments.proofs.check_arguments.Goals as goal
 use Rattle.arguments.proofs.check_arguments.Goals.{Else-pass_outside, Else-settings_outside, Else-some_corner_outside, Else-too_short, Else-unknown_corner, Else-xs-gt-CORNERS, Start}
 
 -- what is lent, and what each test that did not refuse says of it
-abbrev at : tie.Start → Lent
+abbrev at : Start → Lent
 at c = lent c.args.xs.now c.args.ys.now c.args.pitches.now c.args.shades.now c.args.sheet.now c.args.queue c.args.attached
 
 passed_7 : (c : Else-too_short) → too_short (at (goal.at.Else-too_short c).Start) c.args.pass ≡ false

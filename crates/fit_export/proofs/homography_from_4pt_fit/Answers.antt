@@ -22,7 +22,7 @@ returns-then-not-fit c =
     let a = c.args in
     leaves_none a.cells_x.now a.cells_y.now a.corners_x.now a.corners_y.now a.out.now c.too_short.ensures c.if-too_short.false
     c.points_of-cells.ensures c.points_of-corners.ensures
-    c.homography_from_4pt-fit.ensures (ap not c.if-not-fit.true)
+    c.homography_from_4pt-fit.ensures c.if-not-fit.true
 
 pub enter-requires : goal.enter-requires
 enter-requires c =
@@ -33,4 +33,4 @@ returns c =
     let a = c.args in
     leaves_fit a.cells_x.now a.cells_y.now a.corners_x.now a.corners_y.now a.out.now c.too_short.ensures c.if-too_short.false
     c.points_of-cells.ensures c.points_of-corners.ensures
-    c.homography_from_4pt-fit.ensures (ap not c.if-not-fit.false) c.enter.ensures
+    c.homography_from_4pt-fit.ensures c.if-not-fit.false c.enter.ensures

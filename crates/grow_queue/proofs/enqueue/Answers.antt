@@ -34,16 +34,16 @@ pub returns-then-is_labelled : goal.returns-then-is_labelled
 returns-then-is_labelled c = queue_labelled _ c.requires (on (goal.at.returns-then-is_labelled c).Else-not-on_sheet) c.place_of-place.ensures (sym c.is_labelled.ensures ∙ c.if-is_labelled.true)
 
 pub bounds-seen-place : goal.bounds-seen-place
-bounds-seen-place c = below (goal.at.bounds-seen-place c).After-shared_slice_known-2-1
+bounds-seen-place c = below (goal.at.bounds-seen-place c).After-place_of-place
 
 pub returns-then-seen-place-ne0 : goal.returns-then-seen-place-ne0
-returns-then-seen-place-ne0 c = queue_seen _ c.requires (on (goal.at.returns-then-seen-place-ne0 c).After-place_of-place) c.place_of-place.ensures (sym c.is_labelled.ensures ∙ c.if-is_labelled.false) c.if-seen-place-ne0.true
+returns-then-seen-place-ne0 c = queue_seen _ c.requires (on (goal.at.returns-then-seen-place-ne0 c).Else-not-on_sheet) c.place_of-place.ensures (sym c.is_labelled.ensures ∙ c.if-is_labelled.false) c.if-seen-place-ne0.true
 
 pub bounds-seen-place-2 : goal.bounds-seen-place-2
-bounds-seen-place-2 c = below (goal.at.bounds-seen-place-2 c).After-shared_slice_known-2-1
+bounds-seen-place-2 c = below (goal.at.bounds-seen-place-2 c).After-place_of-place
 
 pub overflow_cast-queue : goal.overflow_cast-queue
-overflow_cast-queue c = omega (arith, below (goal.at.overflow_cast-queue c).After-shared_slice_known-2-1)
+overflow_cast-queue c = omega (arith, below (goal.at.overflow_cast-queue c).After-place_of-place)
 
 pub returns : goal.returns
-returns c = queue_new _ c.requires (on (goal.at.returns c).After-place_of-place) c.place_of-place.ensures (sym c.is_labelled.ensures ∙ c.if-is_labelled.false) c.if-seen-place-ne0.false
+returns c = queue_new _ c.requires (on (goal.at.returns c).Else-not-on_sheet) c.place_of-place.ensures (sym c.is_labelled.ensures ∙ c.if-is_labelled.false) c.if-seen-place-ne0.false

@@ -12,7 +12,7 @@ use Rattle.join_sheet.proofs.all_agree.Given as goal
 
 abbrev pub invariant-loop-i : goal.invariant-loop-i
 invariant-loop-i l =
-    Rest l.second l.count l.i (λ l. every (agrees_on l.sheet) (map (shifted_by l.d) l)) (every (agrees_on l.sheet) (map (shifted_by l.d) (held_labels l.second l.count)))
+    Rest l.second l.count l.i (λ m. every (agrees_on l.sheet) (map (shifted_by l.d) m)) (every (agrees_on l.sheet) (map (shifted_by l.d) (held_labels l.second l.count)))
 
 abbrev pub decreases-loop-i : goal.decreases-loop-i
 decreases-loop-i l = l.count - l.i

@@ -13,7 +13,7 @@ use Rattle.join_sheet.proofs.all_on.Given as goal
 
 abbrev pub invariant-loop-i : goal.invariant-loop-i
 invariant-loop-i l =
-    Rest l.second l.count l.i (λ l. every (λ (m : Placed). on_sheet m.cell) (map (shifted_by l.d) l))
+    Rest l.second l.count l.i (λ k. every (λ (m : Placed). on_sheet m.cell) (map (shifted_by l.d) k))
     (every (λ (m : Placed). on_sheet m.cell) (map (shifted_by l.d) (held_labels l.second l.count)))
 
 abbrev pub decreases-loop-i : goal.decreases-loop-i

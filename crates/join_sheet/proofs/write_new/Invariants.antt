@@ -10,7 +10,7 @@ use Rattle.join_sheet.proofs.write_new.Given as goal
 
 abbrev pub invariant-loop-i : goal.invariant-loop-i
 invariant-loop-i l =
-    Rest l.second l.count l.i (λ l. labelled l.sheet (new_held l.used l l.d)) (labelled l.initial.sheet (new_held l.used (held_labels l.second l.count) l.d))
+    Rest l.second l.count l.i (λ m. labelled l.sheet (new_held l.used m l.d)) (labelled l.initial.sheet (new_held l.used (held_labels l.second l.count) l.d))
 
 abbrev pub decreases-loop-i : goal.decreases-loop-i
 decreases-loop-i l = l.count - l.i

@@ -24,14 +24,14 @@ candidates c = let a = c.args in held c ∙ ap (λ (s : Search). gathered (corne
 
 -- what was found is what the definition finds
 found : (c : After-try_candidates-found) → let a = c.args in c.try_candidates-found.result ≡ try_at (corners_in a.corners.now a.setup.count) a.sheet.now (tolerances_of a.setup.settings) (local_search a.setup.settings a.setup.params) a.target.cell a.target.prediction
-found c = found_is _ _ _ _ c.search_of-search.ensures c.tolerances_of-tol.ensures (tried_with _ _ _ _ _ _ (held (goal.at.After-try_candidates-found c).After-collect_candidates-arg-1) c.try_candidates-found.ensures)
+found c = found_is _ _ _ _ c.search_of-search.ensures c.tolerances_of-tol.ensures (tried_with _ _ _ _ _ _ (held (goal.at.After-try_candidates-found c).After-collect_candidates-candidates) c.try_candidates-found.ensures)
 
 -- the corner to attach
 attach_this : (c : In-Attached-2) → let a = c.args in Taking a.setup.count a.sheet.now a.attached.now a.used.now a.places.now a.at a.target.cell c.in-Attached.k
 attach_this c = taking _ _ _ _ c.requires.0 (found (goal.at.In-Attached-2 c).After-try_candidates-found) c.in-Attached.is
 
 pub try_candidates-found-requires : goal.try_candidates-found-requires
-try_candidates-found-requires c = choosable _ _ _ _ _ _ c.requires.0.extending.few c.requires.0.extending.given c.requires.0.on (held (goal.at.try_candidates-found-requires c).After-collect_candidates-arg-1)
+try_candidates-found-requires c = choosable _ _ _ _ _ _ c.requires.0.extending.few c.requires.0.extending.given c.requires.0.on (held (goal.at.try_candidates-found-requires c).After-collect_candidates-candidates)
 
 pub note_if_bare-requires : goal.note_if_bare-requires
 note_if_bare-requires c = noting c.requires.0 c.requires.1.0 (notable_no_candidates c.requires.1.1.small)
@@ -58,7 +58,7 @@ pub returns-in-NoCandidates : goal.returns-in-NoCandidates
 returns-in-NoCandidates c = (found_none _ _ (found (goal.at.returns-in-NoCandidates c).After-try_candidates-found) c.requires.0.extending c.count_cell.ensures c.in-NoCandidates.is, recalls_missed c.requires.1.0 _ c.requires.0 c.requires.1.1 (found (goal.at.returns-in-NoCandidates c).After-try_candidates-found) c.in-NoCandidates.is c.count_cell.ensures c.note_if_bare.ensures)
 
 pub returns-in-Ambiguous : goal.returns-in-Ambiguous
-returns-in-Ambiguous c = (found_ambiguous _ _ (found (goal.at.returns-in-Ambiguous c).After-try_candidates-found) c.requires.0.extending c.count_cell-in-Ambiguous.ensures c.in-Ambiguous.is, recalls_ambiguous c.requires.1.0 _ c.requires.0 c.requires.1.1 (candidates (goal.at.returns-in-Ambiguous c).After-collect_candidates-arg-1) c.last_distance-limit.ensures (found (goal.at.returns-in-Ambiguous c).After-try_candidates-found) c.in-Ambiguous.is c.count_cell-in-Ambiguous.ensures c.note_if_bare-in-Ambiguous.ensures)
+returns-in-Ambiguous c = (found_ambiguous _ _ (found (goal.at.returns-in-Ambiguous c).After-try_candidates-found) c.requires.0.extending c.count_cell-in-Ambiguous.ensures c.in-Ambiguous.is, recalls_ambiguous c.requires.1.0 _ c.requires.0 c.requires.1.1 (candidates (goal.at.returns-in-Ambiguous c).After-collect_candidates-candidates) c.last_distance-limit.ensures (found (goal.at.returns-in-Ambiguous c).After-try_candidates-found) c.in-Ambiguous.is c.count_cell-in-Ambiguous.ensures c.note_if_bare-in-Ambiguous.ensures)
 
 pub returns-in-EdgeRejected : goal.returns-in-EdgeRejected
 returns-in-EdgeRejected c = (found_refused _ _ (found (goal.at.returns-in-EdgeRejected c).After-try_candidates-found) c.requires.0.extending c.count_cell-in-EdgeRejected.ensures c.in-EdgeRejected.is, recalls_counted c.requires.1.0 c.try_candidates-found.result c.requires.0 c.count_cell-in-EdgeRejected.ensures)

@@ -14,11 +14,11 @@ use Rattle.passed_over.proofs.one_if_passed_over.Goals as goal
 use Rattle.passed_over.proofs.one_if_passed_over.Goals.{After-way_told-1, Start}
 
 -- what a cell of the kind takes
-abbrev kinds : (s : Start) → ℕ → Bool
+abbrev kinds : (s : After-way_told-1) → ℕ → Bool
 kinds s = takes_kind (shades_in s.args.corners.now) s.args.kind
 
 -- the code's square is the corner's
-square : (s : Start) {at : Position} {d2 : Float} → at ≡ positions_in s.args.corners.now s.args.k → d2 ≡ squared_distance at s.args.prediction
+square : (s : After-way_told-1) {at : Position} {d2 : Float} → at ≡ positions_in s.args.corners.now s.args.k → d2 ≡ squared_distance at s.args.prediction
     → le (squared_distance (positions_in s.args.corners.now s.args.k) s.args.prediction) s.args.limit ≡ le d2 s.args.limit
 square s e f = sym (ap (λ (d2 : Float). le d2 s.args.limit) (f ∙ ap (λ (q : Position). squared_distance q s.args.prediction) e))
 

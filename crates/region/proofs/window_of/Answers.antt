@@ -16,9 +16,8 @@ use Rattle.region.proofs.window_of.Goals.{After-place_of-high}
 -- the place of the high end
 high_is : (c : After-place_of-high) → c.place_of-high.result ≡ place_of (record { i = c.in-Around.b.high_i; j = c.in-Around.b.high_j })
 high_is c =
-    let known = c.around-1.given in
-    let f : SFits w32 known.0.0.high_i = search rules in
-    let g : SFits w32 known.0.0.high_j = search rules in
+    let f : SFits w32 c.in-Around.b.high_i = search rules in
+    let g : SFits w32 c.in-Around.b.high_j = search rules in
     rw (to_z-of_z f, to_z-of_z g) at c.place_of-high.ensures
 
 bounds : (c : After-place_of-high) → BoundsOn c.in-Around.b
@@ -32,17 +31,15 @@ returns-in_default c = window_none _ _ _ c.in_default.is refl refl refl
 
 pub place_of-low-requires : goal.place_of-low-requires
 place_of-low-requires c =
-    let known = c.around-1.given in
-    let f : SFits w32 known.0.0.low_i = search rules in
-    let g : SFits w32 known.0.0.low_j = search rules in
-    rw (to_z-of_z f, to_z-of_z g) (c.requires.0.bounds_on _ known.1).low_on
+    let f : SFits w32 c.in-Around.b.low_i = search rules in
+    let g : SFits w32 c.in-Around.b.low_j = search rules in
+    rw (to_z-of_z f, to_z-of_z g) (c.requires.0.bounds_on _ c.in-Around.is).low_on
 
 pub place_of-high-requires : goal.place_of-high-requires
 place_of-high-requires c =
-    let known = c.around-1.given in
-    let f : SFits w32 known.0.0.high_i = search rules in
-    let g : SFits w32 known.0.0.high_j = search rules in
-    rw (to_z-of_z f, to_z-of_z g) (c.requires.0.bounds_on _ known.1).high_on
+    let f : SFits w32 c.in-Around.b.high_i = search rules in
+    let g : SFits w32 c.in-Around.b.high_j = search rules in
+    rw (to_z-of_z f, to_z-of_z g) (c.requires.0.bounds_on _ c.in-Around.is).high_on
 
 pub line_after-requires : goal.line_after-requires
 line_after-requires c =
@@ -51,7 +48,6 @@ line_after-requires c =
 
 pub returns : goal.returns
 returns c =
-    let known = c.around-1.given in
-    let f : SFits w32 known.0.0.low_i = search rules in
-    let g : SFits w32 known.0.0.low_j = search rules in
-    window_around _ _ _ _ _ _ known.1 (bounds (goal.at.returns c).After-place_of-high) (rw (to_z-of_z f, to_z-of_z g) at c.place_of-low.ensures) (high_is (goal.at.returns c).After-place_of-high) c.line_before.ensures c.line_after.ensures c.line_before-2.ensures c.line_after-2.ensures
+    let f : SFits w32 c.in-Around.b.low_i = search rules in
+    let g : SFits w32 c.in-Around.b.low_j = search rules in
+    window_around _ _ _ _ _ _ c.in-Around.is (bounds (goal.at.returns c).After-place_of-high) (rw (to_z-of_z f, to_z-of_z g) at c.place_of-low.ensures) (high_is (goal.at.returns c).After-place_of-high) c.line_before.ensures c.line_after.ensures c.line_before-2.ensures c.line_after-2.ensures
