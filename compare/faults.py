@@ -1,5 +1,5 @@
 #!/usr/bin/env python3
-"""Runs the frame program, target/bin/recover, where reads and writes fail.
+"""Runs the frame program, crates/recover/out/recover, where reads and writes fail.
 
     faults.py                  every fault below
     faults.py --program PATH   of another program
@@ -24,8 +24,8 @@ What is asked. An input that could not be read to its end is answered by nothing
 on standard output and a message on standard error: no part of a frame passes
 for a whole one. Any other is answered by its whole answer, that of reference.py
 (of 01's example, 01's own) and nothing on standard error; or, where a write
-failed, by a front part of it and a message. Every run ends, with status 0,
-unless the system ends it where nobody reads what it writes (SIGPIPE).
+failed, by a front part of it and a message; so also where nobody reads what it
+writes, since a program of Rattle ignores SIGPIPE. Every run ends, with status 0.
 
 Says for each kind how many runs there were and how many were wrong, and ends
 with status 1 if any was.
@@ -382,10 +382,10 @@ class Faults:
             self.reader_away(long, ignored)
         for most in (0, 1, 100, 4000, 5000):
             self.limited(long, most)
-        self.done("what was written is a front part of the answer; SIGPIPE ends the program with the same, and no message")
+        self.done("what was written is a front part of the answer, and there is a message")
 
     def reader_away(self, data, ignored):
-        """The first 4,096 bytes are read, then nobody reads any more. Where SIGPIPE is ignored, the write fails instead."""
+        """The first 4,096 bytes are read, then nobody reads any more. The write fails, whether SIGPIPE was ignored before the start or not."""
         here, other = os.pipe()
         fcntl.fcntl(other, fcntl.F_SETPIPE_SZ, 4096)
         with tempfile.TemporaryFile(dir=self.folder) as file:
@@ -398,10 +398,8 @@ class Faults:
             seen = self.end(run)
         seen.out = out
         front = len(out) > 0 and answer_of(data).startswith(out) and out != answer_of(data)
-        if ignored:
-            self.right("a reader that goes away, SIGPIPE ignored", seen, front and (seen.err, seen.status) == (NOT_WRITTEN, 0), "a front part, and the message")
-        else:
-            self.right("a reader that goes away", seen, front and (seen.err, seen.status) == (b"", -signal.SIGPIPE), "a front part, ended by SIGPIPE")
+        name = "a reader that goes away" + ", SIGPIPE ignored" * ignored
+        self.right(name, seen, front and (seen.err, seen.status) == (NOT_WRITTEN, 0), "a front part, and the message")
 
     def limited(self, data, most):
         """Standard output is a file that may have so many bytes and no more (RLIMIT_FSIZE)."""
@@ -565,11 +563,11 @@ class Faults:
 
 def main():
     options = argparse.ArgumentParser(description=__doc__, formatter_class=argparse.RawDescriptionHelpFormatter)
-    options.add_argument("--program", default=os.path.join(HERE, "..", "target", "bin", "recover"))
+    options.add_argument("--program", default=os.path.join(HERE, "..", "crates", "recover", "out", "recover"))
     options.add_argument("--seed", type=int, default=1)
     options = options.parse_args()
     if not os.path.exists(options.program):
-        sys.exit("faults.py: target/bin/recover is missing: rt check recover builds it")
+        sys.exit("faults.py: crates/recover/out/recover is missing: rt run in crates/recover builds it")
     if not shutil.which("gcc"):
         sys.exit("faults.py: there is no gcc on this machine: reads and writes cannot be made to fail")
     with tempfile.TemporaryDirectory() as folder:
