@@ -46,10 +46,7 @@ finish-requires c = finishable _ _ _ c.loop-at.invariant.holds
 
 pub returns-then-may_end : goal.returns-then-may_end
 returns-then-may_end c =
-    end_finished c.loop-at.invariant c.loop-at-test.false (sym ?UNRESOLVED?e.before.may_end_lem.ensures ∙ ?UNRESOLVED?e.if1.true) _ _ c.finish.ensures
+    end_finished c.loop-at.invariant c.loop-at-test.false (sym c.may_end.ensures ∙ c.if-may_end.true) _ _ c.finish.ensures
 
 pub returns : goal.returns
 returns c = end_missing c.loop-at.invariant c.loop-at-test.false (sym c.may_end.ensures ∙ c.if-may_end.false)
-
-pub start-p-requires : goal.start-p-requires
-start-p-requires c = tt

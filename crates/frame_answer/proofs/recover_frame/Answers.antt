@@ -7,8 +7,8 @@ pub run_frame-requires : goal.run_frame-requires
 run_frame-requires c =
     let a = c.args in
     frame_ready a.text.now a.xs.now a.ys.now a.pitches.now a.shades.now a.sheet.now a.passes.now c.requires.frame_room _
-    ?UNRESOLVED?r.read-frame.new.1.0 ?UNRESOLVED?r.read-frame.new.1.1.0 ?UNRESOLVED?r.read-frame.new.1.1.1.0 ?UNRESOLVED?r.read-frame.new.1.1.1.1.0
-    ?UNRESOLVED?r.read-frame.new.1.1.1.1.1.0 ?UNRESOLVED?r.read-frame.new.1.1.1.1.1.1.0 ?UNRESOLVED?r.read-frame.ensures.0 _ c.in-Accepted.is a.queue.now a.attached.now a.words.now c.requires.pass_room
+    c.read_frame-answer.new.xs c.read_frame-answer.new.ys c.read_frame-answer.new.pitches c.read_frame-answer.new.shades
+    c.read_frame-answer.new.sheet c.read_frame-answer.new.passes c.read_frame-answer.ensures.passes_after _ c.in-Accepted.is a.queue.now a.attached.now a.words.now c.requires.pass_room
 
 pub returns-in-Refused : goal.returns-in-Refused
 returns-in-Refused c =
@@ -24,5 +24,5 @@ pub returns-in-Accepted : goal.returns-in-Accepted
 returns-in-Accepted c =
     let a = c.args in
     recovered_done a.text.now a.xs.now a.ys.now a.pitches.now a.shades.now a.sheet.now a.passes.now c.requires.frame_room _
-    ?UNRESOLVED?r.read-frame.new.1.0 ?UNRESOLVED?r.read-frame.new.1.1.0 ?UNRESOLVED?r.read-frame.new.1.1.1.0 ?UNRESOLVED?r.read-frame.new.1.1.1.1.0
-    ?UNRESOLVED?r.read-frame.new.1.1.1.1.1.0 ?UNRESOLVED?r.read-frame.new.1.1.1.1.1.1.0 ?UNRESOLVED?r.read-frame.ensures.0 _ c.in-Accepted.is a.queue.now a.attached.now a.words.now c.requires.pass_room _ _ c.run_frame.ensures
+    c.read_frame-answer.new.xs c.read_frame-answer.new.ys c.read_frame-answer.new.pitches c.read_frame-answer.new.shades
+    c.read_frame-answer.new.sheet c.read_frame-answer.new.passes c.read_frame-answer.ensures.passes_after _ c.in-Accepted.is a.queue.now a.attached.now a.words.now c.requires.pass_room _ _ c.run_frame.ensures
