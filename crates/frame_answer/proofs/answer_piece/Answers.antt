@@ -8,10 +8,12 @@ use Rattle.frame_answer.proofs.result_piece.Reads as result-piece-reads
 use Rattle.frame_answer.proofs.answer_piece.Goals as goal
 
 pub refused_piece-requires : goal.refused_piece-requires
-refused_piece-requires c = (case_refused c.args.answer c.args.words.now c.args.sheet.now c.requires.can_say c.args.from c.requires.from_bound _ _ c.in-Refused.is, c.requires.line_room_in_bounds)
+refused_piece-requires c =
+    record { line_bound = case_refused c.args.answer c.args.words.now c.args.sheet.now c.requires.can_say c.args.from c.requires.from_bound _ _ c.in-Refused.is; line_room_in_bounds = c.requires.line_room_in_bounds }
 
 pub result_piece-requires : goal.result_piece-requires
-result_piece-requires c = (case_done c.args.answer c.args.words.now c.args.sheet.now c.requires.can_say c.args.from c.requires.from_bound _ _ c.in-Done.is, (case_below c.args.answer c.args.words.now c.args.sheet.now c.requires.can_say c.args.from c.requires.from_bound _ _ c.in-Done.is, c.requires.line_room_in_bounds))
+result_piece-requires c =
+    record { printable = case_done c.args.answer c.args.words.now c.args.sheet.now c.requires.can_say c.args.from c.requires.from_bound _ _ c.in-Done.is; from_bound = case_below c.args.answer c.args.words.now c.args.sheet.now c.requires.can_say c.args.from c.requires.from_bound _ _ c.in-Done.is; line_room_in_bounds = c.requires.line_room_in_bounds }
 
 pub returns-in-Refused : goal.returns-in-Refused
 returns-in-Refused c =

@@ -8,7 +8,8 @@ use borrow.Author.Rules.{rules}
 use Rattle.frame_passes.proofs.run_pass.Goals as goal
 
 pub put_outcome-requires : goal.put_outcome-requires
-put_outcome-requires c = (record { there = omega (arith, c.requires) }, small_fits c.call_pass-answer.result c.call_pass-answer.ensures.small)
+put_outcome-requires c =
+    record { has_outcome = record { there = omega (arith, c.requires) }; answer_fits = small_fits c.call_pass-answer.result c.call_pass-answer.ensures.small }
 
 pub returns : goal.returns
 returns c = pass_left_lem (corner_lists c.args.xs.now c.args.ys.now c.args.pitches.now) (call_of c.args.call.settings c.args.shades.now (length c.args.queue.now) (length c.args.attached.now) c.args.call.pass) c.args.sheet.now c.args.queue.now c.args.attached.now c.call_pass-answer.new.sheet c.call_pass-answer.new.queue c.call_pass-answer.new.attached c.args.k c.args.words.now _ c.call_pass-answer.result c.call_pass-answer.ensures.attached_after c.put_outcome.ensures

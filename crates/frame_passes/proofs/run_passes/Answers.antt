@@ -32,7 +32,7 @@ loop-k-preserved c =
     rw (add-one c.loop-k.k)
     (next_turn _ _ _ _ _ _ _ _ _ _ _ _ _ _ c.loop-k.invariant c.loop-k-test.true _ c.pass_at-pass.ensures _ _ _ _
     c.run_pass.auto.sheet c.run_pass.auto.queue c.run_pass.auto.attached
-    c.run_pass.auto.1.1.1.1.1.1.1.1.1.0 c.run_pass.ensures)
+    c.run_pass.auto.words c.run_pass.ensures)
 
 pub shape_of-sheet : goal.shape_of-sheet
 shape_of-sheet c = c.loop-k.invariant.same_sheet

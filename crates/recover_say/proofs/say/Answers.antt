@@ -28,7 +28,8 @@ pub slice_bounds-answer_piece-end : goal.slice_bounds-answer_piece-end
 slice_bounds-answer_piece-end c = c.loop-from.invariant.whole
 
 pub answer_piece-piece-requires : goal.answer_piece-piece-requires
-answer_piece-piece-requires c = (c.requires.can_say, (omega (arith, c.loop-from-test.true, c.answer_lines-lines.ensures), omega (arith, c.loop-from.invariant.whole)))
+answer_piece-piece-requires c =
+    record { can_say = c.requires.can_say; from_bound = omega (arith, c.loop-from-test.true, c.answer_lines-lines.ensures); line_room_in_bounds = omega (arith, c.loop-from.invariant.whole) }
 
 pub slice_bounds-out-end : goal.slice_bounds-out-end
 slice_bounds-out-end c = omega (arith, c.answer_piece-piece.ensures.moves.in_room, c.loop-from.invariant.whole)
@@ -40,7 +41,7 @@ pub put_piece-put-requires : goal.put_piece-put-requires
 put_piece-put-requires c =
     let l = c.loop-from in
     let p = c.answer_piece-piece in
-    (text_so _ _ _ l.invariant p.ensures.0, omega (arith, l.invariant.behind, c.loop-from-test.true, c.answer_lines-lines.ensures, few_lines c.args.answer c.requires.few_passes))
+    record { piece_text = text_so _ _ _ l.invariant p.ensures.0; pieces_bound = omega (arith, l.invariant.behind, c.loop-from-test.true, c.answer_lines-lines.ensures, few_lines c.args.answer c.requires.few_passes) }
 
 pub returns-in-Failed : goal.returns-in-Failed
 returns-in-Failed c = told_of _ _ _ c.loop-from.invariant c.answer_lines-lines.ensures

@@ -11,7 +11,8 @@ pub enter_settings-requires : goal.enter_settings-requires
 enter_settings-requires c = omega (arith, c.requires.head_room)
 
 pub enter_counts-requires : goal.enter_counts-requires
-enter_counts-requires c = let few = counts_sayable _ _ c.requires.sayable c.in-Accepted.is in (omega (arith, c.requires.head_room), (few.0, few.1))
+enter_counts-requires c = let few = counts_sayable _ _ c.requires.sayable c.in-Accepted.is in
+    record { in_bounds = omega (arith, c.requires.head_room); word = few.0; word_2 = few.1 }
 
 pub returns-in-Refused : goal.returns-in-Refused
 returns-in-Refused c = tell_refused c.args.answer c.args.settings.now c.args.out.now c.args.out.now _ _ _ c.in-Refused.is c.refused_answer.ensures

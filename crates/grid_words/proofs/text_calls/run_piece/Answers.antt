@@ -5,10 +5,12 @@ use borrow.Author.Rules.{rules}
 use Rattle.grid_words.proofs.text_calls.run_piece.Goals as goal
 
 pub enter-requires : goal.enter-requires
-enter-requires c = (omega (arith, c.requires), (piece_words _ c.args.from c.args.text.now c.args.out.now c.write_result_piece-answer.new.out _ c.write_result_piece-answer.ensures.out_after _ _ c.in-Written.is).0)
+enter-requires c =
+    record { at_in_bounds = omega (arith, c.requires); word = (piece_words _ c.args.from c.args.text.now c.args.out.now c.write_result_piece-answer.new.out _ c.write_result_piece-answer.ensures.out_after _ _ c.in-Written.is).0 }
 
 pub enter-requires-in-Written : goal.enter-requires-in-Written
-enter-requires-in-Written c = (omega (arith, c.requires, c.enter.auto), (piece_words _ c.args.from c.args.text.now c.args.out.now c.write_result_piece-answer.new.out _ c.write_result_piece-answer.ensures.out_after _ _ c.in-Written.is).1)
+enter-requires-in-Written c =
+    record { at_in_bounds = omega (arith, c.requires, c.enter.auto); word = (piece_words _ c.args.from c.args.text.now c.args.out.now c.write_result_piece-answer.new.out _ c.write_result_piece-answer.ensures.out_after _ _ c.in-Written.is).1 }
 
 pub returns-in-Refused : goal.returns-in-Refused
 returns-in-Refused c = piece_refused _ c.args.from c.args.text.now c.args.out.now c.write_result_piece-answer.new.out _ c.write_result_piece-answer.ensures.out_after _ _ c.in-Refused.is c.number_of.ensures
