@@ -9,4 +9,4 @@ pub float_from_bits-x : goal.float_from_bits-x
 float_from_bits-x c = pattern _ c.without_nan-bits.ensures
 
 pub float_to_bits-result : goal.float_to_bits-result
-float_to_bits-result c = answer_no_nan _ _ (subst (Answers _) c.in-Root.is c.sqrt-root.ensures.0)
+float_to_bits-result c = answer_no_nan _ _ (subst (Answers _) c.in-Root.is c.sqrt-root.ensures.rounded)
