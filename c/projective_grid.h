@@ -1,7 +1,7 @@
 /* The proved grid recovery for C: the three passes, the reader of a frame and the text of a result.
  *
- * The functions are those of the crate grid_export; `rt staticlib grid_export` proves them and writes
- * target/staticlib/libgrid_export.a, which links on x86-64. "01" is the specification, "02" the list of requests.
+ * The functions are those of the crate grid_export; `rt lib` in crates/grid_export proves them and writes
+ * crates/grid_export/out/libgrid_export.a, which links on x86-64. "01" is the specification, "02" the list of requests.
  *
  * WHAT HOLDS OF EVERY FUNCTION
  *

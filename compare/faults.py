@@ -1,5 +1,5 @@
 #!/usr/bin/env python3
-"""Runs the frame program, target/bin/recover, where reads and writes fail.
+"""Runs the frame program, crates/recover/out/recover, where reads and writes fail.
 
     faults.py                  every fault below
     faults.py --program PATH   of another program
@@ -565,11 +565,11 @@ class Faults:
 
 def main():
     options = argparse.ArgumentParser(description=__doc__, formatter_class=argparse.RawDescriptionHelpFormatter)
-    options.add_argument("--program", default=os.path.join(HERE, "..", "target", "bin", "recover"))
+    options.add_argument("--program", default=os.path.join(HERE, "..", "crates", "recover", "out", "recover"))
     options.add_argument("--seed", type=int, default=1)
     options = options.parse_args()
     if not os.path.exists(options.program):
-        sys.exit("faults.py: target/bin/recover is missing: rt check recover builds it")
+        sys.exit("faults.py: crates/recover/out/recover is missing: rt run in crates/recover builds it")
     if not shutil.which("gcc"):
         sys.exit("faults.py: there is no gcc on this machine: reads and writes cannot be made to fail")
     with tempfile.TemporaryDirectory() as folder:

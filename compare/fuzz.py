@@ -1,5 +1,5 @@
 #!/usr/bin/env python3
-"""Feeds the frame program, target/bin/recover, with damaged and random texts.
+"""Feeds the frame program, crates/recover/out/recover, with damaged and random texts.
 
     fuzz.py [--seed S] [--count N] [--workers W] [--limit SECONDS]
     fuzz.py --replay NUMBER         prints text NUMBER of the seed
@@ -58,7 +58,7 @@ import generate
 import reference as ref
 
 HERE = os.path.dirname(os.path.abspath(__file__))
-PROGRAM = os.path.join(HERE, "..", "target", "bin", "recover")
+PROGRAM = os.path.join(HERE, "..", "crates", "recover", "out", "recover")
 MOST_BYTES = 65536
 
 
@@ -568,7 +568,7 @@ def main():
         sys.stdout.buffer.write(Texts(options.seed).text(options.replay)[1])
         return 0
     if not os.path.exists(PROGRAM):
-        sys.exit("fuzz.py: target/bin/recover is missing: rt check recover builds it")
+        sys.exit("fuzz.py: crates/recover/out/recover is missing: rt run in crates/recover builds it")
     began = time.monotonic()
     tally = Tally()
     tasks = [(options.seed, options.count, options.limit, k, options.workers) for k in range(options.workers)]

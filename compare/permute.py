@@ -4,7 +4,7 @@ for demand 3", tried on our program.
 
     permute.py [--seed S] [--count N] [--frames M] [--shuffles K] [--model] [--keep FOLDER]
 
-after `rt check passes_main recover`. A case is a frame and a list of 0 to 6 calls, each
+after `rt run` in crates/passes_main and in crates/recover. A case is a frame and a list of 0 to 6 calls, each
 with a cell size, axes, a band, shades and buffer lengths of its own; calls that
 are refused stand anywhere. Every call that runs has a factor above 1, down to
 the next float. The corner lines are put into K other orders and the labels
@@ -25,7 +25,7 @@ shades. Last, for each pass, a smallest pair that differs at factor 1 and agrees
 at the next float.
 
 Besides, M frames (half of N) with a patch line (02, 3/14: "Corner order still
-decides nothing") are put to the frame program, target/bin/recover, and the same
+decides nothing") are put to the frame program, crates/recover/out/recover, and the same
 frames with their corner lines in K other orders, the labels of both sets and the
 shades renumbered: their results differ only in the corner numbers of the cell
 lines, or both have the same refusal, number and line. Some are not joined. How
@@ -52,8 +52,8 @@ import generate
 import reference as ref
 import words
 
-PROGRAM = os.path.join(os.path.dirname(os.path.abspath(__file__)), "..", "target", "bin", "passes_main")
-RECOVER = os.path.join(os.path.dirname(os.path.abspath(__file__)), "..", "target", "bin", "recover")
+PROGRAM = os.path.join(os.path.dirname(os.path.abspath(__file__)), "..", "crates", "passes_main", "out", "passes_main")
+RECOVER = os.path.join(os.path.dirname(os.path.abspath(__file__)), "..", "crates", "recover", "out", "recover")
 ABOVE_ONE = generate.beside(1.0, 1)
 
 
@@ -629,7 +629,7 @@ def main():
         options.frames = options.count // 2
     for path, crate in ((PROGRAM, "passes_main"), (RECOVER, "recover")):
         if not os.path.exists(path):
-            sys.exit(f"permute.py: target/bin/{crate} is missing: rt check {crate} builds it")
+            sys.exit(f"permute.py: crates/{crate}/out/{crate} is missing: rt run in crates/{crate} builds it")
     began = time.time()
     run = Run(options)
     for k in range(options.count):

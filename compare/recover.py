@@ -1,5 +1,5 @@
 #!/usr/bin/env python3
-"""Runs the frame program, target/bin/recover, on many frames.
+"""Runs the frame program, crates/recover/out/recover, on many frames.
 
     recover.py                     every case of cases.py
     recover.py --frames N          and N generated frames (generate.py)
@@ -20,7 +20,7 @@ import cases
 import generate
 import reference
 
-PROGRAM = os.path.join(os.path.dirname(os.path.abspath(__file__)), "..", "target", "bin", "recover")
+PROGRAM = os.path.join(os.path.dirname(os.path.abspath(__file__)), "..", "crates", "recover", "out", "recover")
 
 
 class Runs:
@@ -53,7 +53,7 @@ def main():
     options.add_argument("--seed", type=int, default=1)
     options = options.parse_args()
     if not os.path.exists(PROGRAM):
-        sys.exit("recover.py: target/bin/recover is missing: rt check recover builds it")
+        sys.exit("recover.py: crates/recover/out/recover is missing: rt run in crates/recover builds it")
     runs = Runs()
     for name, data, result in cases.checked():
         runs.run(name, data, result)

@@ -1,7 +1,7 @@
 #!/usr/bin/env python3
 """Runs every refusal of the library calls, and looks at every buffer.
 
-    refusals.py            after `rt check passes_main`
+    refusals.py            after `rt run` in crates/passes_main
 
 Each case changes one thing of a good call, or two to show which is tried
 first. The expected numbers are those of 01's table, written here by hand. A
@@ -15,7 +15,7 @@ import os
 import subprocess
 import sys
 
-PROGRAM = os.path.join(os.path.dirname(os.path.abspath(__file__)), "..", "target", "bin", "passes_main")
+PROGRAM = os.path.join(os.path.dirname(os.path.abspath(__file__)), "..", "crates", "passes_main", "out", "passes_main")
 GROW, FILL, LOCAL = 0, 1, 2
 UNTOUCHED = 43981  # what the program puts into queue and list first
 PLACES = {"queue": 4100, "list": 1025}  # how long they are
@@ -227,7 +227,7 @@ def is_fine(call, what, number):
 
 def main():
     if not os.path.exists(PROGRAM):
-        sys.exit("refusals.py: target/bin/passes_main is missing: rt check passes_main builds it")
+        sys.exit("refusals.py: crates/passes_main/out/passes_main is missing: rt run in crates/passes_main builds it")
     wrong = count = 0
     for kind, name in ((GROW, "grow"), (FILL, "fill"), (LOCAL, "local")):
         for what, change, number in cases(kind):

@@ -13,9 +13,9 @@
                     standard output, in the form of `reference.py --passes`;
                     without it reference.py itself is our side
     --proved        our side is the proved programs: the passes one by one
-                    (target/bin/passes_main), as with --ours compare/ours, but
+                    (crates/passes_main/out/passes_main), as with --ours compare/ours, but
                     without a shell and a second python for every frame, and
-                    the whole result of the frame program (target/bin/recover)
+                    the whole result of the frame program (crates/recover/out/recover)
     --order ORDER   in which the Rust's tree finds corners: rising, falling or
                     mixed
     --edge EDGE     whether a corner at the radius itself is found: at-most or
@@ -89,8 +89,8 @@ import reference as ref
 import words
 
 HERE = os.path.dirname(os.path.abspath(__file__))
-PROVED = os.path.join(HERE, "..", "target", "bin", "passes_main")
-RECOVER = os.path.join(HERE, "..", "target", "bin", "recover")
+PROVED = os.path.join(HERE, "..", "crates", "passes_main", "out", "passes_main")
+RECOVER = os.path.join(HERE, "..", "crates", "recover", "out", "recover")
 ORACLE = os.path.join(HERE, "rust", "out", "oracle")
 KINDS = ["grow", "fill", "local"]
 EXCLUSIONS = ["rim", "equal", "radius", "fit", "residual", "prediction", "panic"]
@@ -706,7 +706,7 @@ def missing(options):
         sys.exit("run.py: compare/rust/out/oracle is missing: compare/rust/build builds it")
     for path, crate in ((PROVED, "passes_main"), (RECOVER, "recover")):
         if options.proved and not os.path.exists(path):
-            sys.exit(f"run.py: target/bin/{crate} is missing: rt check {crate} builds it")
+            sys.exit(f"run.py: crates/{crate}/out/{crate} is missing: rt run in crates/{crate} builds it")
 
 
 def main():
