@@ -24,8 +24,7 @@ What is asked. An input that could not be read to its end is answered by nothing
 on standard output and a message on standard error: no part of a frame passes
 for a whole one. Any other is answered by its whole answer, that of reference.py
 (of 01's example, 01's own) and nothing on standard error; or, where a write
-failed, by a front part of it and a message. Every run ends, with status 0,
-unless the system ends it where nobody reads what it writes (SIGPIPE).
+failed, by a front part of it and a message. Every run ends, with status 0.
 
 Says for each kind how many runs there were and how many were wrong, and ends
 with status 1 if any was.
@@ -382,10 +381,10 @@ class Faults:
             self.reader_away(long, ignored)
         for most in (0, 1, 100, 4000, 5000):
             self.limited(long, most)
-        self.done("what was written is a front part of the answer; SIGPIPE ends the program with the same, and no message")
+        self.done("what was written is a front part of the answer, and a message says that it is not all")
 
     def reader_away(self, data, ignored):
-        """The first 4,096 bytes are read, then nobody reads any more. Where SIGPIPE is ignored, the write fails instead."""
+        """The first 4,096 bytes are read, then nobody reads any more. The program ignores SIGPIPE from its start, as Rust's do: the write fails."""
         here, other = os.pipe()
         fcntl.fcntl(other, fcntl.F_SETPIPE_SZ, 4096)
         with tempfile.TemporaryFile(dir=self.folder) as file:
@@ -398,10 +397,8 @@ class Faults:
             seen = self.end(run)
         seen.out = out
         front = len(out) > 0 and answer_of(data).startswith(out) and out != answer_of(data)
-        if ignored:
-            self.right("a reader that goes away, SIGPIPE ignored", seen, front and (seen.err, seen.status) == (NOT_WRITTEN, 0), "a front part, and the message")
-        else:
-            self.right("a reader that goes away", seen, front and (seen.err, seen.status) == (b"", -signal.SIGPIPE), "a front part, ended by SIGPIPE")
+        name = "a reader that goes away" + (", SIGPIPE ignored" if ignored else "")
+        self.right(name, seen, front and (seen.err, seen.status) == (NOT_WRITTEN, 0), "a front part, and the message")
 
     def limited(self, data, most):
         """Standard output is a file that may have so many bytes and no more (RLIMIT_FSIZE)."""
