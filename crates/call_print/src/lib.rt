@@ -10,6 +10,10 @@ use refusal::Refusal;
 use sheet::Label;
 use std::io;
 
+fn print_number(rt: &impl Print, n: usize) -> io::Result<()> {
+    print!(rt; "{n}")
+}
+
 pub fn print_word(rt: &impl Print, word: &[u8]) -> io::Result<()> {
     rt.write_all(word)
 }
@@ -17,9 +21,10 @@ pub fn print_word(rt: &impl Print, word: &[u8]) -> io::Result<()> {
 // A line of the sheet, 0 to 127, as i or j.
 fn print_coordinate(rt: &impl Print, line: usize) -> io::Result<()> {
     if line < 64 {
-        return print!(rt; "-{}", 64 - line);
+        print_word(rt, b"-")?;
+        return print_number(rt, 64 - line);
     }
-    print!(rt; "{}", line - 64)
+    print_number(rt, line - 64)
 }
 
 // A word and the cell of a place.
@@ -34,7 +39,10 @@ fn print_corner(rt: &impl Print, word: u16) -> io::Result<()> {
     let label = sheet::label_of(word);
     match label {
         Label::Unlabelled => print_word(rt, b" none"),
-        Label::Corner(k) => print!(rt; " {k}"),
+        Label::Corner(k) => {
+            print_word(rt, b" ")?;
+            print_number(rt, k)
+        }
     }
 }
 
