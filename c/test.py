@@ -1,7 +1,7 @@
 #!/usr/bin/env python3
 """Compares the C example over the proved static library with the proved program.
 
-    c/test.py                 builds (c/build), then compares c/out/recover with target/bin/recover byte for byte: the
+    c/test.py                 builds (c/build), then compares c/out/recover with crates/recover/out/recover byte for byte: the
                               example frames, the refused ones too, the frames of compare/, every text of
                               compare/cases.py, refused ones included, and generated frames; where c/out/recover
                               cannot read or write, it has to say so on standard error and end with status 1; then
@@ -9,7 +9,7 @@
     c/test.py --frames N      N generated frames (default 1000), --seed S from another seed
     c/test.py --built         does not build first
 
-Fails at the first frame with another answer. target/bin/recover comes from `rt check recover`. Without gcc it says so,
+Fails at the first frame with another answer. crates/recover/out/recover comes from `rt run` in crates/recover. Without gcc it says so,
 compares nothing and ends with status 1.
 """
 
@@ -30,7 +30,7 @@ import generate
 
 OURS = os.path.join(HERE, "out", "recover")
 SHORT = os.path.join(HERE, "out", "short")
-PROVED = os.path.join(ROOT, "target", "bin", "recover")
+PROVED = os.path.join(ROOT, "crates", "recover", "out", "recover")
 
 
 class Comparison:
@@ -110,7 +110,7 @@ def main():
     if not options.built:
         if subprocess.run([os.path.join(HERE, "build")]).returncode:
             sys.exit("c/test.py: c/build failed")
-    for path, built in ((PROVED, "rt check recover"), (OURS, "c/build"), (SHORT, "c/build")):
+    for path, built in ((PROVED, "rt run in crates/recover"), (OURS, "c/build"), (SHORT, "c/build")):
         if not os.path.exists(path):
             sys.exit(f"c/test.py: {os.path.relpath(path, ROOT)} is missing: {built} builds it")
     accepted = []

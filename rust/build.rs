@@ -15,13 +15,13 @@ fn main() {
     }
     let folder = match env::var_os("PROJECTIVE_GRID_LIB_DIR") {
         Some(folder) => PathBuf::from(folder),
-        None => PathBuf::from(env!("CARGO_MANIFEST_DIR")).join("../target/staticlib"),
+        None => PathBuf::from(env!("CARGO_MANIFEST_DIR")).join("../crates/grid_export/out"),
     };
     let archive = folder.join("libgrid_export.a");
     println!("cargo:rerun-if-changed={}", archive.display());
     let Ok(archive) = archive.canonicalize() else {
         stop(&format!(
-            "there is no {}: run `rt staticlib grid_export` at the top of the repository, \
+            "there is no {}: run `rt lib` in crates/grid_export, \
              or set PROJECTIVE_GRID_LIB_DIR to the folder of libgrid_export.a",
             archive.display()
         ));

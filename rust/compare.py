@@ -14,7 +14,7 @@ import tempfile
 import cases
 import generate
 
-PROGRAM = os.path.join(os.path.dirname(os.path.abspath(__file__)), "..", "target", "bin", "recover")
+PROGRAM = os.path.join(os.path.dirname(os.path.abspath(__file__)), "..", "crates", "recover", "out", "recover")
 
 
 def texts(count):

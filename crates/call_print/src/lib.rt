@@ -1,219 +1,212 @@
 // What the program `passes_main` prints: what a call answers and leaves. For comparing with other programs: what it prints is not proved.
+// Where something cannot be printed, nothing more is, and the error is returned.
 
 #![tactic(auto)]
 
 use arguments::Pass;
 use call_text::number_at;
-use libc::STDOUT_FILENO;
 use passes::{Counts, FillStats, GrowStats, LargestResidual, LocalStats, PassAnswer, Unmatched};
 use refusal::Refusal;
 use sheet::Label;
+use std::io;
 
-fn print_number(n: usize) {
-    io::print_decimal(STDOUT_FILENO, n as u64);
+fn print_number(rt: &impl Print, n: usize) -> io::Result<()> {
+    print!(rt; "{n}")
 }
 
-pub fn print_word(word: &[u8]) {
-    io::write_all(STDOUT_FILENO, word);
+pub fn print_word(rt: &impl Print, word: &[u8]) -> io::Result<()> {
+    rt.write_all(word)
 }
 
 // A line of the sheet, 0 to 127, as i or j.
-fn print_coordinate(line: usize) {
+fn print_coordinate(rt: &impl Print, line: usize) -> io::Result<()> {
     if line < 64 {
-        print_word(b"-");
-        print_number(64 - line);
-        return;
+        print_word(rt, b"-")?;
+        return print_number(rt, 64 - line);
     }
-    print_number(line - 64);
+    print_number(rt, line - 64)
 }
 
 // A word and the cell of a place.
-fn print_cell(word: &[u8], place: usize) {
-    print_word(word);
-    print_coordinate(place / 128);
-    print_word(b" ");
-    print_coordinate(place % 128);
+fn print_cell(rt: &impl Print, word: &[u8], place: usize) -> io::Result<()> {
+    print_word(rt, word)?;
+    print_coordinate(rt, place / 128)?;
+    print_word(rt, b" ")?;
+    print_coordinate(rt, place % 128)
 }
 
-fn print_corner(word: u16) {
+fn print_corner(rt: &impl Print, word: u16) -> io::Result<()> {
     let label = sheet::label_of(word);
     match label {
-        Label::Unlabelled => print_word(b" none"),
+        Label::Unlabelled => print_word(rt, b" none"),
         Label::Corner(k) => {
-            print_word(b" ");
-            print_number(k);
+            print_word(rt, b" ")?;
+            print_number(rt, k)
         }
     }
 }
 
-fn print_one_visited(place: usize) {
-    print_cell(b"visited ", place);
-    print_word(b"\n");
+fn print_one_visited(rt: &impl Print, place: usize) -> io::Result<()> {
+    print_cell(rt, b"visited ", place)?;
+    print_word(rt, b"\n")
 }
 
-fn print_visited(list: &[u16], count: usize) {
-    let mut i = 0usize;
-    while i < count {
+fn print_visited(rt: &impl Print, list: &[u16], count: usize) -> io::Result<()> {
+    for i in 0..count {
         if list.len() <= i {
-            return;
+            return Ok(());
         }
-        print_one_visited(list[i] as usize);
-        i += 1;
+        print_one_visited(rt, list[i] as usize)?;
     }
+    Ok(())
 }
 
-fn print_one_attached(sheet: &[u16], place: usize) {
-    print_cell(b"attached ", place);
+fn print_one_attached(rt: &impl Print, sheet: &[u16], place: usize) -> io::Result<()> {
+    print_cell(rt, b"attached ", place)?;
     if place < sheet.len() {
-        print_corner(sheet[place]);
+        print_corner(rt, sheet[place])?;
     }
-    print_word(b"\n");
+    print_word(rt, b"\n")
 }
 
-fn print_attached(sheet: &[u16], list: &[u16], count: usize) {
-    let mut i = 0usize;
-    while i < count {
+fn print_attached(rt: &impl Print, sheet: &[u16], list: &[u16], count: usize) -> io::Result<()> {
+    for i in 0..count {
         if list.len() <= i {
-            return;
+            return Ok(());
         }
-        print_one_attached(sheet, list[i] as usize);
-        i += 1;
+        print_one_attached(rt, sheet, list[i] as usize)?;
     }
+    Ok(())
 }
 
 // A place, if it is labelled.
-fn print_if_labelled(place: usize, word: u16) {
+fn print_if_labelled(rt: &impl Print, place: usize, word: u16) -> io::Result<()> {
     if labels::is_labelled(word) {
-        print_cell(b"cell ", place);
-        print_corner(word);
-        print_word(b"\n");
+        print_cell(rt, b"cell ", place)?;
+        print_corner(rt, word)?;
+        print_word(rt, b"\n")?;
     }
+    Ok(())
 }
 
-fn print_if_hole(place: usize, word: u16) {
+fn print_if_hole(rt: &impl Print, place: usize, word: u16) -> io::Result<()> {
     if sheet::is_hole(word) {
-        print_cell(b"hole ", place);
-        print_word(b"\n");
+        print_cell(rt, b"hole ", place)?;
+        print_word(rt, b"\n")?;
     }
+    Ok(())
 }
 
-fn print_if_ambiguous(place: usize, word: u16) {
+fn print_if_ambiguous(rt: &impl Print, place: usize, word: u16) -> io::Result<()> {
     if sheet::is_ambiguous(word) {
-        print_cell(b"ambiguous ", place);
-        print_word(b"\n");
+        print_cell(rt, b"ambiguous ", place)?;
+        print_word(rt, b"\n")?;
+    }
+    Ok(())
+}
+
+// Which places are printed.
+#[derive(Clone, Copy)]
+enum Places {
+    Labelled,
+    Holes,
+    Ambiguous,
+}
+
+// A place, if it is one of these.
+fn print_place(rt: &impl Print, places: Places, place: usize, word: u16) -> io::Result<()> {
+    match places {
+        Places::Labelled => print_if_labelled(rt, place, word),
+        Places::Holes => print_if_hole(rt, place, word),
+        Places::Ambiguous => print_if_ambiguous(rt, place, word),
     }
 }
 
-// A place as cell (0), hole (1) or ambiguous (2).
-fn print_place(kind: usize, place: usize, word: u16) {
-    if kind == 0 {
-        print_if_labelled(place, word);
-        return;
+fn print_places(rt: &impl Print, places: Places, sheet: &[u16]) -> io::Result<()> {
+    for (place, word) in sheet.iter().enumerate() {
+        print_place(rt, places, place, *word)?;
     }
-    if kind == 1 {
-        print_if_hole(place, word);
-        return;
-    }
-    print_if_ambiguous(place, word);
+    Ok(())
 }
 
-fn print_places(kind: usize, sheet: &[u16]) {
-    let mut p = 0usize;
-    while p < sheet.len() {
-        print_place(kind, p, sheet[p]);
-        p += 1;
-    }
+pub fn print_sheet(rt: &impl Print, sheet: &[u16]) -> io::Result<()> {
+    print_places(rt, Places::Labelled, sheet)?;
+    print_places(rt, Places::Holes, sheet)?;
+    print_places(rt, Places::Ambiguous, sheet)
 }
 
-pub fn print_sheet(sheet: &[u16]) {
-    print_places(0, sheet);
-    print_places(1, sheet);
-    print_places(2, sheet);
+fn print_refused(rt: &impl Print, refusal: Refusal) -> io::Result<()> {
+    let number = refusal::number(refusal);
+    println!(rt; "(refused {number})")
 }
 
-fn print_refused(refusal: Refusal) {
-    print_word(b"(refused ");
-    print_number(refusal::number(refusal) as usize);
-    print_word(b")\n");
-}
-
-fn print_rim(rim: bool) {
+fn print_rim(rt: &impl Print, rim: bool) -> io::Result<()> {
     if rim {
-        print_word(b" yes)\n");
-        return;
+        return print_word(rt, b" yes)\n");
     }
-    print_word(b" no)\n");
+    print_word(rt, b" no)\n")
 }
 
-fn print_counts(counts: Counts) {
-    print_number(counts.attached);
-    print_word(b" ");
-    print_number(counts.rejected_no_candidate);
-    print_word(b" ");
-    print_number(counts.rejected_ambiguous);
-    print_word(b" ");
-    print_number(counts.rejected_edge);
+fn print_counts(rt: &impl Print, counts: Counts) -> io::Result<()> {
+    let attached = counts.attached;
+    let no_candidate = counts.rejected_no_candidate;
+    let ambiguous = counts.rejected_ambiguous;
+    let edge = counts.rejected_edge;
+    print!(rt; "{attached} {no_candidate} {ambiguous} {edge}")
 }
 
-fn print_heading(number: usize, word: &[u8]) {
-    print_word(b"pass ");
-    print_number(number);
-    print_word(word);
+fn print_heading(rt: &impl Print, number: usize, word: &[u8]) -> io::Result<()> {
+    print!(rt; "pass {number}")?;
+    print_word(rt, word)
 }
 
-fn print_grow(stats: GrowStats) {
-    print_word(b"(grow ");
+fn print_grow(rt: &impl Print, stats: GrowStats) -> io::Result<()> {
+    print_word(rt, b"(grow ")?;
     let counts = stats.counts;
-    print_counts(counts);
-    print_rim(stats.rim);
+    print_counts(rt, counts)?;
+    print_rim(rt, stats.rim)
 }
 
-fn print_fill(stats: FillStats) {
-    print_word(b"(fill ");
-    print_number(stats.added);
-    print_word(b" ");
-    print_number(stats.iterations);
-    print_rim(stats.rim);
+fn print_fill(rt: &impl Print, stats: FillStats) -> io::Result<()> {
+    let added = stats.added;
+    let iterations = stats.iterations;
+    print!(rt; "(fill {added} {iterations}")?;
+    print_rim(rt, stats.rim)
 }
 
 // A float's eight digits.
-fn print_float(x: f32) {
+fn print_float(rt: &impl Print, x: f32) -> io::Result<()> {
     let mut text = [0u8; 8];
     binary32::hex::write_float(x, &mut text);
-    io::write_all(STDOUT_FILENO, &text);
+    rt.write_all(&text)
 }
 
-fn print_residual(residual: LargestResidual) {
+fn print_residual(rt: &impl Print, residual: LargestResidual) -> io::Result<()> {
     match residual {
-        LargestResidual::Nothing => print_word(b"none"),
-        LargestResidual::Residual(x) => print_float(x),
+        LargestResidual::Nothing => print_word(rt, b"none"),
+        LargestResidual::Residual(x) => print_float(rt, x),
     }
 }
 
 // Local's line of the corners that it passed over, where a shade stands.
-fn print_unmatched(unmatched: Unmatched) {
+fn print_unmatched(rt: &impl Print, unmatched: Unmatched) -> io::Result<()> {
     match unmatched {
-        Unmatched::NoShades => {}
-        Unmatched::Count(count) => {
-            print_word(b"(unmatched ");
-            print_number(count);
-            print_word(b")\n");
-        }
+        Unmatched::NoShades => Ok(()),
+        Unmatched::Count(count) => println!(rt; "(unmatched {count})"),
     }
 }
 
-fn print_local(stats: LocalStats) {
-    print_word(b"(local ");
+fn print_local(rt: &impl Print, stats: LocalStats) -> io::Result<()> {
+    print_word(rt, b"(local ")?;
     let counts = stats.counts;
-    print_counts(counts);
-    print_word(b" ");
-    print_number(stats.iterations);
-    print_word(b" ");
+    print_counts(rt, counts)?;
+    let iterations = stats.iterations;
+    print!(rt; " {iterations} ")?;
     let residual = stats.residual;
-    print_residual(residual);
-    print_rim(stats.rim);
+    print_residual(rt, residual)?;
+    print_rim(rt, stats.rim)?;
     let unmatched = stats.unmatched;
-    print_unmatched(unmatched);
+    print_unmatched(rt, unmatched)
 }
 
 // How many cells grow visited: each is counted once.
@@ -239,36 +232,38 @@ fn visited_by(counts: Counts) -> usize {
 // ---- calls
 
 // Grow's visited cells, where they are asked for.
-fn print_queue(text: &[u8], counts: Counts, queue: &[u16]) {
+fn print_queue(rt: &impl Print, text: &[u8], counts: Counts, queue: &[u16]) -> io::Result<()> {
     if number_at(text, 3) != 0 {
-        print_visited(queue, visited_by(counts));
+        print_visited(rt, queue, visited_by(counts))?;
     }
+    Ok(())
 }
 
 // What a call answers, and the cells that it attached.
 pub fn print_answer(
+    rt: &impl Print,
     text: &[u8],
     answer: PassAnswer,
     sheet: &[u16],
     queue: &[u16],
     attached: &[u16],
-) {
+) -> io::Result<()> {
     match answer {
-        PassAnswer::Refused(refusal) => print_refused(refusal),
+        PassAnswer::Refused(refusal) => print_refused(rt, refusal),
         PassAnswer::Grow(stats) => {
-            print_grow(stats);
+            print_grow(rt, stats)?;
             let counts = stats.counts;
-            print_queue(text, counts, queue);
-            print_attached(sheet, attached, counts.attached);
+            print_queue(rt, text, counts, queue)?;
+            print_attached(rt, sheet, attached, counts.attached)
         }
         PassAnswer::Fill(stats) => {
-            print_fill(stats);
-            print_attached(sheet, attached, stats.added);
+            print_fill(rt, stats)?;
+            print_attached(rt, sheet, attached, stats.added)
         }
         PassAnswer::Local(stats) => {
-            print_local(stats);
+            print_local(rt, stats)?;
             let counts = stats.counts;
-            print_attached(sheet, attached, counts.attached);
+            print_attached(rt, sheet, attached, counts.attached)
         }
     }
 }
@@ -280,35 +275,32 @@ fn summed(sum: u64, i: usize, v: u16) -> u64 {
 
 fn sum_of(list: &[u16]) -> u64 {
     let mut sum = 0u64;
-    let mut i = 0usize;
-    while i < list.len() {
-        let s = summed(sum, i, list[i]);
-        sum = s;
-        i += 1;
+    for (i, v) in list.iter().enumerate() {
+        sum = summed(sum, i, *v);
     }
     sum
 }
 
-fn print_sum(word: &[u8], list: &[u16]) {
-    print_word(word);
-    io::print_hex(STDOUT_FILENO, sum_of(list), 8);
-    print_word(b"\n");
+fn print_sum(rt: &impl Print, word: &[u8], list: &[u16]) -> io::Result<()> {
+    print_word(rt, word)?;
+    let sum = sum_of(list);
+    println!(rt; "{sum:08x}")
 }
 
 // Where they are asked for: sums over the whole queue and the whole attached list, so that it is seen what a call left in them.
-pub fn print_sums(text: &[u8], queue: &[u16], attached: &[u16]) {
+pub fn print_sums(rt: &impl Print, text: &[u8], queue: &[u16], attached: &[u16]) -> io::Result<()> {
     if number_at(text, 3) != 2 {
-        return;
+        return Ok(());
     }
-    print_sum(b"queue ", queue);
-    print_sum(b"list ", attached);
+    print_sum(rt, b"queue ", queue)?;
+    print_sum(rt, b"list ", attached)
 }
 
 // A call's number and its kind.
-pub fn print_call(number: usize, pass: Pass) {
+pub fn print_call(rt: &impl Print, number: usize, pass: Pass) -> io::Result<()> {
     match pass {
-        Pass::Grow(_) => print_heading(number, b" grow\n"),
-        Pass::Fill(_) => print_heading(number, b" fill\n"),
-        Pass::Local(_) => print_heading(number, b" local\n"),
+        Pass::Grow(_) => print_heading(rt, number, b" grow\n"),
+        Pass::Fill(_) => print_heading(rt, number, b" fill\n"),
+        Pass::Local(_) => print_heading(rt, number, b" local\n"),
     }
 }

@@ -7,20 +7,24 @@
 // pass, and the lengths to lend: ys, pitches, sheet, queue, attached, shades. A list with another kind is not run, nor what follows it.
 //
 // A corner's shades are two bits for each call, the lowest two for the first, and for the 17th again: the byte that is lent for that corner.
+//
+// Where the input cannot be read or something not be printed, it ends with an error.
 
 #![tactic(auto)]
 
-ghost use Rattle.std.specs.Prelude.{◌≡◌, ◌≤◌, ◌<◌, length};
+ghost use Rattle.std.specs.Prelude.{◌≡◌, ◌≤◌, ◌<◌, length, IfOk};
 
 use call_print::{print_answer, print_call, print_sheet, print_sums, print_word};
 use call_text::{
     at_most, has_unknown_kind, header_at, lengths_at, pass_at, read_floats, read_labels,
     read_shades, settings_at,
 };
-use libc::STDIN_FILENO;
+use recover_read::Input;
+use std::io;
 
 // One call, of one of the three kinds.
 fn call(
+    rt: &impl Print,
     text: &[u8],
     number: usize,
     at: usize,
@@ -31,20 +35,21 @@ fn call(
     sheet: &mut [u16],
     queue: &mut [u16],
     attached: &mut [u16],
-)
+) -> io::Result<()>
     requires { at ≤ 9000 }
 {
     let pass = pass_at(text, at);
-    print_call(number, pass);
+    print_call(rt, number, pass)?;
     let settings = settings_at(text, at + 1);
     let answer = pass_call::call_pass(
         xs, ys, pitches, shades, sheet, queue, attached, settings, pass,
     );
-    print_answer(text, answer, sheet, queue, attached);
+    print_answer(rt, text, answer, sheet, queue, attached)
 }
 
 // A call that is lent the front of every buffer, and the whole sheet after it.
 fn call_on(
+    rt: &impl Print,
     text: &[u8],
     number: usize,
     at: usize,
@@ -54,7 +59,7 @@ fn call_on(
     sheet: &mut [u16],
     queue: &mut [u16],
     attached: &mut [u16],
-)
+) -> io::Result<()>
     requires le_number { 1 ≤ number }
     requires at_bound { at ≤ 9000 }
 {
@@ -67,6 +72,7 @@ fn call_on(
     let a = at_most(lengths.attached, attached.len());
     let h = at_most(lengths.shades, 1025);
     call(
+        rt,
         text,
         number,
         at,
@@ -77,12 +83,13 @@ fn call_on(
         &mut sheet[..s],
         &mut queue[..q],
         &mut attached[..a],
-    );
-    print_sheet(sheet);
-    print_sums(text, queue, attached);
+    )?;
+    print_sheet(rt, sheet)?;
+    print_sums(rt, text, queue, attached)
 }
 
 fn calls(
+    rt: &impl Print,
     text: &[u8],
     first: usize,
     count: usize,
@@ -92,13 +99,13 @@ fn calls(
     sheet: &mut [u16],
     queue: &mut [u16],
     attached: &mut [u16],
-)
+) -> io::Result<()>
     requires first_bound { first ≤ 8200 }
     requires count_bound { count ≤ 40 }
 {
-    let mut i = 0usize;
-    while i < count {
+    for i in 0..count {
         call_on(
+            rt,
             text,
             i + 1,
             first + 18 * i,
@@ -108,9 +115,9 @@ fn calls(
             sheet,
             queue,
             attached,
-        );
-        i += 1;
+        )?;
     }
+    Ok(())
 }
 
 fn queue_buffer() -> [u16; 4100]
@@ -126,8 +133,8 @@ fn attached_buffer() -> [u16; 1025]
 }
 
 // The corners and the labels, and then the calls; answers how many numbers the list has.
-fn run(text: &[u8]) -> usize
-    ensures { (4 ≤ result) × (result ≤ 9000) }
+fn run(rt: &impl Print, text: &[u8]) -> io::Result<usize>
+    ensures { IfOk result (λ numbers. (4 ≤ numbers) × (numbers ≤ 9000)) }
 {
     let h = header_at(text);
     let n = h.n;
@@ -138,6 +145,7 @@ fn run(text: &[u8]) -> usize
     let mut queue = queue_buffer();
     let mut attached = attached_buffer();
     calls(
+        rt,
         text,
         h.first,
         h.count,
@@ -147,21 +155,21 @@ fn run(text: &[u8]) -> usize
         &mut sheet,
         &mut queue,
         &mut attached,
-    );
-    h.all
+    )?;
+    Ok(h.all)
 }
 
 // List after list, up to the end or to one that cannot be run.
-fn run_all(text: &[u8]) {
+fn run_all(rt: &impl Print, text: &[u8]) -> io::Result<()> {
     let mut at = 0usize;
     while at < text.len() {
         if has_unknown_kind(&text[at..]) {
-            print_word(b"not run: a call of an unknown kind\n");
-            return;
+            return print_word(rt, b"not run: a call of an unknown kind\n");
         }
-        let numbers = run(&text[at..]);
+        let numbers = run(rt, &text[at..])?;
         at += numbers * 9;
     }
+    Ok(())
 }
 
 fn input_buffer() -> [u8; 131072]
@@ -170,8 +178,11 @@ fn input_buffer() -> [u8; 131072]
     [0; 131072]
 }
 
-fn main() {
+fn main(rt: HostRuntime) -> io::Result<()> {
     let mut buffer = input_buffer();
-    let n = io::read_full(STDIN_FILENO, &mut buffer);
-    run_all(&buffer[..n]);
+    let input = recover_read::read_input(&mut rt.stdin(), &mut buffer);
+    match input {
+        Input::Whole(n) => run_all(&rt, &buffer[..n]),
+        Input::Failed => Err(io::Error::other("standard input cannot be read")),
+    }
 }

@@ -2,12 +2,16 @@
 use mathlib.Core.Path.{◌≡◌, sym, subst}
 use mathlib.Core.List.{List}
 use Prim.Native.Nat.{ℕ, ◌≤◌}
-use lib.ListN.{length, take}
-use Rattle.recover_read.specs.Reading.{bytes_of, AtFront, ReadInto}
+use lib.ListN.{length, take, length-take}
+use native.Mathlib.Omega.{arith}
+use Prim.Native.Nat.{◌<◌}
+use Rattle.std.proofs.Common.{Option}
+use Rattle.std.proofs.KnownBytes.{Appends-nil}
+use Rattle.recover_read.specs.Reading.{bytes_of, AtFront, ReadInto, TookAll}
 use Rattle.recover_read.specs.declared.Input.{Input}
-use Rattle.recover_say.specs.Said.{Told}
+use Rattle.recover_say.specs.Said.{Told, WroteAnswer}
 use Rattle.recover_say.specs.declared.Said.{Said}
-use Rattle.recover.specs.Program.{Replied, input_in, Ran}
+use Rattle.recover.specs.Program.{Replied, WroteReply, input_in, Ran, Answered}
 use Rattle.recover.specs.declared.Outcome.{Outcome}
 
 pub in_buffer : {buffer : List ℕ} {input : Input} {n : ℕ} → ReadInto buffer input → input ≡ Input.Whole n → n ≤ length buffer
@@ -19,6 +23,20 @@ module _ (buffer : List ℕ) {input : Input} where
 
   pub not_read : input ≡ Input.Failed → Replied (input_in buffer input) input Outcome.NotRead
   not_read e = subst (λ (i : Input). Replied (input_in buffer i) i Outcome.NotRead) (sym e) tt
+
+module _ (buffer : List ℕ) {input : Input} (before after : Option (List ℕ)) where
+  pub whole_wrote : {n : ℕ} {said : Said} → input ≡ Input.Whole n → WroteAnswer before after (take n buffer) said → WroteReply before after (input_in buffer input) (Outcome.Answered said)
+  whole_wrote {n} {said} e w = subst (λ (i : Input). WroteAnswer before after (input_in buffer i) said) (sym e) w
+
+-- what was read is answered
+pub answered : (buffer : List ℕ) (input : Input) (outcome : Outcome) (left left_after before after : Option (List ℕ)) → 65537 ≡ length buffer → ReadInto buffer input
+    → TookAll left left_after buffer input → Replied (input_in buffer input) input outcome → WroteReply before after (input_in buffer input) outcome
+    → Answered left left_after before after outcome
+answered buffer (Input.Whole n) (Outcome.Answered said) left left_after before after h w t r o =
+    (take n buffer, t.0, λ l. t.1 (omega (arith, l, h, length-take n buffer)), o)
+answered buffer (Input.Whole n) Outcome.NotRead left left_after before after h w t r o = absurd r
+answered buffer Input.Failed (Outcome.Answered said) left left_after before after h w t r o = absurd r
+answered buffer Input.Failed Outcome.NotRead left left_after before after h w t r o = o
 
 -- the input in the buffer is the bytes that the reads gave
 pub ran : (buffer : List ℕ) (input : Input) {outcome : Outcome} → 65537 ≡ length buffer → ReadInto buffer input → Replied (input_in buffer input) input outcome → Ran outcome

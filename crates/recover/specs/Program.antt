@@ -1,9 +1,10 @@
 -- A run of the frame program (01, "Frame and result"): the bytes that the reads gave are answered, or a read failed and nothing is. Definitions only.
-use Rattle.std.specs.Prelude.{◌≡◌, Bool, true, false, List, [], ◌++◌, ℕ, ltb, take}
+use Rattle.std.specs.Prelude.{◌≡◌, Bool, true, false, List, [], ◌++◌, ℕ, ◌<◌, ltb, take, length, Option}
+use Rattle.std.specs.Io.KnownBytes.{Appends, Consumes, IsAtEnd}
 use Rattle.frame_answer.specs.Answer.{answer_text}
 use Rattle.recover_read.specs.Reading.{Read, bytes_of, standing_after, Answers}
 use Rattle.recover_read.specs.declared.Input.{Input}
-use Rattle.recover_say.specs.Said.{text_after, piece_from, Told}
+use Rattle.recover_say.specs.Said.{text_after, piece_from, Told, WroteAnswer}
 use Rattle.recover.specs.declared.Outcome.{Outcome}
 use Rattle.recover.specs.declared.Fault.{Fault}
 
@@ -50,3 +51,16 @@ pub record Printed (bytes : List ℕ) (outcome : Outcome) : Type 0 where
 -- so it is of every run
 abbrev pub RanPrints : Type 0
 RanPrints = (outcome : Outcome) (r : Ran outcome) → Printed (bytes_of r.reads) outcome
+
+-- ---- what a writer took, where the bytes that it holds are known
+
+-- the answer to these bytes or a front part of it; where the input could not be read, nothing
+abbrev pub WroteReply : Option (List ℕ) → Option (List ℕ) → List ℕ → Outcome → Type 0
+WroteReply before after bytes (Outcome.Answered said) = WroteAnswer before after bytes said
+WroteReply before after bytes Outcome.NotRead = Appends before after []
+
+-- the same to what a reader gave, whose bytes are known: all that it had left, or its first 65,537 bytes
+abbrev pub Answered : Option (List ℕ) → Option (List ℕ) → Option (List ℕ) → Option (List ℕ) → Outcome → Type 0
+Answered left left_after before after (Outcome.Answered said) =
+    (bytes : List ℕ) × Consumes left left_after bytes × (length bytes < 65537 → IsAtEnd left_after) × WroteAnswer before after bytes said
+Answered left left_after before after Outcome.NotRead = Appends before after []

@@ -5,11 +5,11 @@
 
 ghost use Rattle.std.specs.Prelude.{◌≡◌};
 ghost use Rattle.recover_read.specs.Reading.{ReadInto};
-ghost use Rattle.recover.specs.Program.{Replied, input_in, Ran, fault_of};
+ghost use Rattle.recover.specs.Program.{Replied, WroteReply, input_in, Ran, Answered, fault_of};
 
-use libc::{STDERR_FILENO, STDIN_FILENO};
 use recover_read::Input;
 use recover_say::Said;
+use std::io::{Read, Write};
 
 // What became of a run: so far the answer was said; or the input could not be read, and nothing was said.
 #[derive(Clone, Copy)]
@@ -19,26 +19,29 @@ enum Outcome {
 }
 
 // Answers the input that stands at the front of the buffer.
-fn reply(buffer: &[u8], input: Input) -> Outcome
+fn reply<W: Write>(out: &mut W, buffer: &[u8], input: Input) -> Outcome
     requires { ReadInto buffer.now input }
-    ensures { Replied (input_in buffer.now input) input result }
+    ensures replied { Replied (input_in buffer.now input) input result }
+    ensures wrote { WroteReply (W.contents out.old) (W.contents out.new) (input_in buffer.now input) result }
 {
     match input {
         Input::Whole(n) => {
-            let said = recover_say::answer(&buffer[..n]);
+            let said = recover_say::answer(out, &buffer[..n]);
             Outcome::Answered(said)
         }
         Input::Failed => Outcome::NotRead,
     }
 }
 
-// Reads standard input and answers it.
-fn run() -> Outcome
-    ensures { Ran result }
+// Reads an input and answers it.
+fn run<R: Read, W: Write>(source: &mut R, out: &mut W) -> Outcome
+    ensures ran { Ran result }
+    ensures answered { Answered (R.remaining source.old) (R.remaining source.new)
+        (W.contents out.old) (W.contents out.new) result }
 {
     let mut buffer = recover_say::text_buffer();
-    let input = recover_read::read_input(STDIN_FILENO, &mut buffer);
-    reply(&buffer, input)
+    let input = recover_read::read_input(source, &mut buffer);
+    reply(out, &buffer, input)
 }
 
 // What went wrong in a run, if anything did.
@@ -64,24 +67,21 @@ fn fault_of(outcome: Outcome) -> Fault
     }
 }
 
-// Says on standard error what went wrong.
-fn complain(fault: Fault) {
+// Says on standard error what went wrong. Where that cannot be written either, nothing is left to do.
+fn complain(rt: &impl Eprint, fault: Fault) {
     match fault {
         Fault::Nothing => {}
         Fault::Input => {
-            io::write_all(STDERR_FILENO, b"recover: standard input cannot be read\n");
+            let _ = eprintln!(rt; "recover: standard input cannot be read");
         }
         Fault::Output => {
-            io::write_all(
-                STDERR_FILENO,
-                b"recover: standard output cannot be written\n",
-            );
+            let _ = eprintln!(rt; "recover: standard output cannot be written");
         }
     }
 }
 
-fn main() {
-    let outcome = run();
+fn main(rt: HostRuntime) {
+    let outcome = run(&mut rt.stdin(), &mut rt.stdout());
     let fault = fault_of(outcome);
-    complain(fault);
+    complain(&rt, fault);
 }

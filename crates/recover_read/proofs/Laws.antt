@@ -1,90 +1,81 @@
 -- What a read's answer means, and what comes of one read more. Assumes nothing.
-use mathlib.Core.Path.{◌≡◌, refl, sym, ap, ◌∙◌, subst}
-use mathlib.Core.Bool.{Bool, true, false}
-use mathlib.Core.List.{List, [], ◌∷◌, ◌++◌, append-nil}
-use Prim.Native.Nat.{ℕ, zero, suc, ◌+◌, ◌-◌, ◌<◌, ◌≤◌}
-use native.Mathlib.Omega.{arith}
-use borrow.Author.Tests.{ltb-false, eq-eqb, ne_eqb}
-use lib.Dec.{T, eqb}
-use lib.ListN.{length, take, drop, length-take, length-drop}
-use lib.IntN.{ℤ, pos, negsuc, nat_abs}
-use lib.Signed.{lt_z, non_neg}
-use lib.Seq.{take-add}
+use Rattle.std.proofs.Common.{◌≡◌, refl, sym, ap, ◌∙◌, subst, Bool, true, false, List, [], ◌∷◌, ◌++◌, append-nil, ℕ, zero, suc, ◌+◌, ◌-◌, ◌<◌, ◌≤◌, arith, length, take, drop, length-take, length-drop, length-take-le, drop_at, Result, Ok, Err, Option, None, Some}
+use Rattle.std.specs.IoError.{error_kind}
+use Rattle.std.specs.declared.io.Error.{Error}
+use lib.Seq.{take-add, take-append-le}
 use borrow.Rule.Slice.PartMut.{put_mid, take_put, same_len_mid}
-use mir.Syntax.{w32, w64}
-use mir.Val.{SFits, of_z}
-use Rattle.libc.specs.Io.{Moved}
-use Rattle.recover_read.specs.Reading.{none_by, none_for, got_of, FitsIn, Refilled, read_on, Read, some, ended, interrupted, failed, got_by, standing_after, bytes_in, bytes_of, over, full, ReadInto, SoFar}
+use Rattle.std.specs.Io.{ReadsAtMost}
+use Rattle.std.specs.Io.KnownBytes.{Consumes, ReadConsumes, Keeps}
+use Rattle.std.proofs.KnownBytes.{Consumes-trans, Consumes-kept}
+use Rattle.recover_read.specs.Reading.{none_by, interrupts, got_of, FitsIn, Refilled, Took, read_on, Read, some, ended, interrupted, failed, got_by, standing_after, bytes_in, bytes_of, over, full, ReadInto, TookAll, SoFar}
 use Rattle.recover_read.specs.declared.Got.{Got}
 use Rattle.recover_read.specs.declared.Input.{Input}
 use Rattle.recover_read.specs.declared.Standing.{Standing}
 
 -- ---- one read
 
--- a test has one answer
-differ : {A : Type 0} (t : Bool) → t ≡ true → t ≡ false → A
-differ t h g = absurd (let z : ◌≡◌ {A = ℕ} 0 1 = cc in omega arith)
+-- an error that says so is an interruption, and any other a failure
+pub stopped : {answer : Result ℕ Error} (error : Error) → answer ≡ Err error → interrupts (error_kind error) ≡ true → Got.Interrupted ≡ got_of answer
+unfolding got_of none_by
+stopped error e h = rw (e, h) refl
 
--- what is above 0 is not negative
-pub above_none : (z : ℤ) → lt_z (pos 0) z ≡ true → T (non_neg z)
-above_none (pos k) h = tt
-above_none (negsuc k) h = differ _ h refl
+pub could_not : {answer : Result ℕ Error} (error : Error) → answer ≡ Err error → interrupts (error_kind error) ≡ false → Got.Failed ≡ got_of answer
+unfolding got_of none_by
+could_not error e h = rw (e, h) refl
 
-pub bytes_came : (answer error : ℤ) → lt_z (pos 0) answer ≡ true → Got.Bytes (nat_abs answer) ≡ got_of answer error
+pub bytes_came : {answer : Result ℕ Error} (n : ℕ) → answer ≡ Ok n → (n ≡ 0 → ⊥) → Got.Bytes n ≡ got_of answer
 unfolding got_of
-bytes_came (pos zero) error h = differ _ h refl
-bytes_came (pos (suc k)) error h = refl
-bytes_came (negsuc k) error h = differ _ h refl
+bytes_came zero e h = absurd (h refl)
+bytes_came (suc n) e h = rw e refl
 
-pub at_end_lem : (answer error : ℤ) → SFits w64 answer → of_z w64 answer ≡ 0 → Got.End ≡ got_of answer error
+pub at_end : {answer : Result ℕ Error} (n : ℕ) → answer ≡ Ok n → n ≡ 0 → Got.End ≡ got_of answer
 unfolding got_of
-at_end_lem (pos zero) error f h = refl
-at_end_lem (pos (suc k)) error f h = absurd (omega (arith, h))
-at_end_lem (negsuc k) error f h = absurd (omega (arith, h, f.sfits))
+at_end n e h = rw (e, h) refl
 
--- no bytes and not the end: the read answered less than 0
-none_came : (answer error : ℤ) → lt_z (pos 0) answer ≡ false → (of_z w64 answer ≡ 0 → ⊥) → got_of answer error ≡ none_for error
-unfolding got_of
-none_came (pos zero) error h g = absurd (g refl)
-none_came (pos (suc k)) error h g = absurd (omega (arith, ltb-false 0 (suc k) h))
-none_came (negsuc k) error h g = refl
-
-pub stopped : (answer error : ℤ) → lt_z (pos 0) answer ≡ false → (of_z w64 answer ≡ 0 → ⊥) → SFits w32 error → of_z w32 error ≡ 4 → Got.Interrupted ≡ got_of answer error
-unfolding none_for none_by
-stopped answer (pos e) h g f four = rw (none_came answer (pos e) h g, eq-eqb e 4 four) refl
-stopped answer (negsuc k) h g f four = absurd (omega (arith, four, f.sfits))
-
-pub could_not : (answer error : ℤ) → lt_z (pos 0) answer ≡ false → (of_z w64 answer ≡ 0 → ⊥) → (of_z w32 error ≡ 4 → ⊥) → Got.Failed ≡ got_of answer error
-unfolding none_for none_by
-could_not answer (pos e) h g other = rw (none_came answer (pos e) h g, ne_eqb e 4 other) refl
-could_not answer (negsuc k) h g other = rw (none_came answer (negsuc k) h g) refl
+-- nothing was taken
+kept : (a b : Option (List ℕ)) → Consumes a b [] → Keeps a b
+kept None b h = tt
+kept (Some xs) None h = absurd h
+kept (Some xs) (Some ys) h = sym h
 
 -- a read that gave none lies in any buffer
-none_fits : (at room : ℕ) (error : ℤ) → FitsIn at room (none_for error)
-unfolding none_for none_by
-none_fits at room (pos e) = go (eqb e 4)
-  where
-    go : (t : Bool) → FitsIn at room (none_by t)
-    go true = tt
-    go false = tt
-none_fits at room (negsuc k) = tt
+none_fits : (at room : ℕ) (t : Bool) → FitsIn at room (none_by t)
+unfolding none_by
+none_fits at room true = tt
+none_fits at room false = tt
 
 -- a read into the rest of a buffer
-pub refilled : (old part : List ℕ) (at : ℕ) (answer error : ℤ) → at < length old → length part ≡ length (take (length old - at) (drop at old))
-    → Moved (length (take (length old - at) (drop at old))) answer → Refilled old (put_mid at (length old - at) old part) at (got_of answer error)
-unfolding got_of
-refilled old part at answer error h e m = record { front = take_put at (length old - at) old part (omega arith); fits = go answer m }
-  where
-    long : length (put_mid at (length old - at) old part) ≡ length old
-    long = same_len_mid at (length old - at) old part e
+module _ (old part : List ℕ) (at : ℕ) (answer : Result ℕ Error) (h : at < length old) (e : length part ≡ length (take (length old - at) (drop at old))) (m : ReadsAtMost answer part) where
+  pub refilled : Refilled old (put_mid at (length old - at) old part) at (got_of answer)
+  unfolding got_of
+  refilled = record { front = take_put at (length old - at) old part (omega arith); fits = go answer m }
+    where
+      long : length (put_mid at (length old - at) old part) ≡ length old
+      long = same_len_mid at (length old - at) old part e
 
-    rest : length (take (length old - at) (drop at old)) ≡ length old - at
-    rest = simp (length-take, length-drop) (omega arith)
+      rest : length (take (length old - at) (drop at old)) ≡ length old - at
+      rest = simp (length-take, length-drop) (omega arith)
 
-    go : (answer : ℤ) → Moved (length (take (length old - at) (drop at old))) answer → FitsIn at (length (put_mid at (length old - at) old part)) (got_of answer error)
-    go (pos zero) m = tt
-    go (pos (suc k)) m = (omega arith, omega (arith, long, rest, m))
-    go (negsuc k) m = none_fits at _ error
+      go : (answer : Result ℕ Error) → ReadsAtMost answer part → FitsIn at (length (put_mid at (length old - at) old part)) (got_of answer)
+      go (Ok zero) m = tt
+      go (Ok (suc k)) m = (omega arith, omega (arith, long, rest, e, m.0))
+      go (Err error) m = none_fits at _ (interrupts (error_kind error))
+
+  pub took : (before after : Option (List ℕ)) → ReadConsumes before after answer part → Took before after (put_mid at (length old - at) old part) at (got_of answer)
+  unfolding got_of none_by
+  took before after b = go answer m b
+    where
+      rest : length (take (length old - at) (drop at old)) ≡ length old - at
+      rest = simp (length-take, length-drop) (omega arith)
+
+      none : (t : Bool) → Keeps before after → Took before after (put_mid at (length old - at) old part) at (none_by t)
+      none true k = k
+      none false k = k
+
+      go : (answer : Result ℕ Error) → ReadsAtMost answer part → ReadConsumes before after answer part → Took before after (put_mid at (length old - at) old part) at (got_of answer)
+      go (Ok zero) m b = (kept before after b.0, b.1 refl (omega (arith, e, rest, h)))
+      go (Ok (suc k)) m b = subst (Consumes before after) (sym (ap (take (suc k)) (drop_at (take at old) (part ++ _) at (length-take-le at old (omega arith))) ∙ take-append-le (suc k) part _ m.0)) b.0
+      go (Err error) m b = none (interrupts (error_kind error)) b
 
 -- a buffer's length is a usize
 pub sum_fits : (at room : ℕ) (got : Got) → FitsIn at room got → room ≤ 18446744073709551615 → FitsIn at 18446744073709551615 got
@@ -170,3 +161,28 @@ pub filled : {buffer : List ℕ} {at tries : ℕ} → SoFar buffer at tries → 
 filled {buffer} {at} {tries} s h =
     let e : at ≡ length buffer = omega (arith, s.in_room, h) in
     record { reads = s.reads; answers = rw (s.stands, e) (full tries); front = (s.in_room, s.front) }
+
+-- ---- the bytes, where they are known
+
+-- what was taken after one read more
+abbrev pub NextTook : Option (List ℕ) → Option (List ℕ) → List ℕ → Standing → Type 0
+NextTook first after buffer (Standing.Reading at tries) = Consumes first after (take at buffer)
+NextTook first after buffer (Standing.Over input) = TookAll first after buffer input
+
+module _ {old new : List ℕ} {at : ℕ} (first before after : Option (List ℕ)) where
+  next_took : (tries : ℕ) (got : Got) → Consumes first before (take at old) → Refilled old new at got → Took before after new at got → NextTook first after new (read_on at tries got)
+  unfolding read_on
+  next_took tries (Got.Bytes n) s w t =
+      subst (Consumes first after) (sym (take-add at n new)) (Consumes-trans first before after _ _ (subst (Consumes first before) (sym w.front) s) t)
+  next_took tries Got.End s w t = (Consumes-kept first before after _ (subst (Consumes first before) (sym w.front) s) t.0, λ h. t.1)
+  next_took zero Got.Interrupted s w t = tt
+  next_took (suc tries) Got.Interrupted s w t = Consumes-kept first before after _ (subst (Consumes first before) (sym w.front) s) t
+  next_took tries Got.Failed s w t = tt
+
+  -- the same of what a call said
+  pub next_took_of : (tries : ℕ) (got : Got) (r s : Standing) → Consumes first before (take at old) → Refilled old new at got → Took before after new at got
+      → r ≡ read_on at tries got → r ≡ s → NextTook first after new s
+  next_took_of tries got r s f w t e g = subst (NextTook first after new) (sym e ∙ g) (next_took tries got f w t)
+
+pub filled_took : (buffer : List ℕ) (at : ℕ) (first after : Option (List ℕ)) → Consumes first after (take at buffer) → length buffer ≤ at → TookAll first after buffer (Input.Whole at)
+filled_took buffer at first after t h = (t, λ l. absurd (omega (arith, l, h)))

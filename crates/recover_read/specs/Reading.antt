@@ -1,26 +1,31 @@
--- Reading an input to its end: what a read's answer means, and what comes of all reads. Which bytes a read gives, nothing says. Definitions only.
-use Rattle.std.specs.Prelude.{◌≡◌, Bool, true, false, List, [], ◌∷◌, ◌++◌, ℕ, zero, suc, ◌+◌, ◌<◌, ◌≤◌, eqb, ℤ, pos, negsuc, length, take}
+-- Reading an input to its end: what a read's answer means, and what comes of all reads. Which bytes a read gives, only a reader whose bytes are known says.
+-- Definitions only.
+use Rattle.std.specs.Prelude.{◌≡◌, Bool, true, false, List, [], ◌∷◌, ◌++◌, ℕ, zero, suc, ◌+◌, ◌<◌, ◌≤◌, length, take, drop, Result, Ok, Err, Option, ⊤}
+use Rattle.std.specs.IoError.{error_kind}
+use Rattle.std.specs.declared.io.ErrorKind.{ErrorKind}
+use Rattle.std.specs.declared.io.Error.{Error}
+use Rattle.std.specs.Io.KnownBytes.{Consumes, Keeps, IsAtEnd}
 use Rattle.recover_read.specs.declared.Got.{Got}
 use Rattle.recover_read.specs.declared.Input.{Input}
 use Rattle.recover_read.specs.declared.Standing.{Standing}
 
 -- ---- one read
 
--- a read that answered -1 was interrupted, or it failed
+-- a read that gave no answer was interrupted, or it failed
 unfoldable pub none_by : Bool → Got
 none_by true = Got.Interrupted
 none_by false = Got.Failed
 
--- by errno, which is 4 (EINTR) where it was interrupted
-unfoldable pub none_for : ℤ → Got
-none_for (pos error) = none_by (eqb error 4)
-none_for (negsuc k) = Got.Failed
+-- an error says so by its kind
+abbrev pub interrupts : ErrorKind → Bool
+interrupts ErrorKind.Interrupted = true
+interrupts _ = false
 
--- what a read's answer means, with errno beside it: 0 is the end, a positive number so many bytes, a negative one none
-unfoldable pub got_of : ℤ → ℤ → Got
-got_of (pos zero) error = Got.End
-got_of (pos (suc k)) error = Got.Bytes (suc k)
-got_of (negsuc k) error = none_for error
+-- what a read's answer means: 0 bytes are the end, more are so many, and an error is none
+unfoldable pub got_of : Result ℕ Error → Got
+got_of (Ok zero) = Got.End
+got_of (Ok (suc k)) = Got.Bytes (suc k)
+got_of (Err error) = none_by (interrupts (error_kind error))
 
 -- where bytes came, there is at least one, and with those before them they are at most so many
 abbrev pub FitsIn : ℕ → ℕ → Got → Type 0
@@ -33,6 +38,13 @@ FitsIn at room Got.Failed = Unit {0}
 pub record Refilled (old new : List ℕ) (at : ℕ) (got : Got) : Type 0 where
   pub front : take at new ≡ take at old
   pub fits : FitsIn at (length new) got
+
+-- one read took what it gave from the front of the bytes that the reader has left, where those are known; at the end none is left
+abbrev pub Took : Option (List ℕ) → Option (List ℕ) → List ℕ → ℕ → Got → Type 0
+Took before after new at (Got.Bytes n) = Consumes before after (take n (drop at new))
+Took before after new at Got.End = Keeps before after × IsAtEnd after
+Took before after new at Got.Interrupted = Keeps before after
+Took before after new at Got.Failed = Keeps before after
 
 -- ---- all reads
 
@@ -95,6 +107,11 @@ pub record ReadInto (buffer : List ℕ) (r : Input) : Type 0 where
   pub reads : List Read
   pub answers : Answers (length buffer) (standing_after reads) r
   pub front : AtFront buffer (bytes_of reads) r
+
+-- what was read is the front of the bytes that the reader had left, where those are known; a buffer that is not full has all of them
+abbrev pub TookAll : Option (List ℕ) → Option (List ℕ) → List ℕ → Input → Type 0
+TookAll before after buffer (Input.Whole n) = Consumes before after (take n buffer) × (n < length buffer → IsAtEnd after)
+TookAll before after buffer Input.Failed = ⊤
 
 -- what holds before each read
 pub record SoFar (buffer : List ℕ) (at tries : ℕ) : Type 0 where

@@ -1,13 +1,15 @@
 // Reads an input into a buffer, until it ends, the buffer is full or a read fails. A failed read is told from the end.
-// Which bytes a read gives, and that it answers -1 where it failed, no contract can say: `read_rest` asks the C library, `libc::read` and errno.
-// Proved is what is made of its answers.
+// Which bytes standard input gives, and that it answers an error where it failed, no contract can say: `read_rest` asks the reader,
+// `std::io::Read::read`. Proved is what is made of its answers; and of a reader whose bytes are known, that they are what was read.
 
 #![tactic(auto)]
 
 ghost use Rattle.std.specs.Prelude.{◌≡◌, ◌<◌, length};
-ghost use Rattle.recover_read.specs.Reading.{got_of, FitsIn, Refilled, read_on, ReadInto};
+ghost use Rattle.std.specs.IoError.{error_kind};
+ghost use Rattle.recover_read.specs.Reading.{interrupts, got_of, FitsIn, Refilled, Took, read_on, ReadInto, TookAll};
 
-use libc::EINTR;
+use std::io;
+use std::io::{ErrorKind, Read};
 
 // ---- one read
 
@@ -20,30 +22,41 @@ pub enum Got {
     Failed,
 }
 
-// What a read's answer means, with the errno that it left.
-fn meaning(answer: isize, error: i32) -> Got
-    ensures { result ≡ got_of answer error }
+// Whether a signal interrupted a read before any byte came.
+fn is_interrupted(error: &io::Error) -> bool
+    ensures { result ≡ interrupts (error_kind error.now) }
 {
-    if answer > 0 {
-        return Got::Bytes(answer as usize);
+    matches!(error.kind(), ErrorKind::Interrupted)
+}
+
+// What a read's answer means.
+fn meaning(answer: io::Result<usize>) -> Got
+    ensures { result ≡ got_of answer }
+{
+    match answer {
+        Ok(n) => {
+            if n == 0 {
+                return Got::End;
+            }
+            Got::Bytes(n)
+        }
+        Err(error) => {
+            if is_interrupted(&error) {
+                return Got::Interrupted;
+            }
+            Got::Failed
+        }
     }
-    if answer == 0 {
-        return Got::End;
-    }
-    if error == EINTR {
-        return Got::Interrupted;
-    }
-    Got::Failed
 }
 
 // One read into the unfilled rest of the buffer; what stands before it is kept.
-fn read_rest(fd: i32, buffer: &mut [u8], at: usize) -> Got
+fn read_rest<R: Read>(input: &mut R, buffer: &mut [u8], at: usize) -> Got
     requires { at < length buffer.old }
-    ensures { Refilled buffer.old buffer.new at result }
+    ensures refilled { Refilled buffer.old buffer.new at result }
+    ensures took { Took (R.remaining input.old) (R.remaining input.new) buffer.new at result }
 {
-    let answer = libc::read(fd, &mut buffer[at..]);
-    let error = os::errno();
-    meaning(answer, error)
+    let answer = input.read(&mut buffer[at..]);
+    meaning(answer)
 }
 
 // ---- all reads
@@ -81,17 +94,18 @@ fn read_on(at: usize, tries: usize, got: Got) -> Standing
 }
 
 // Reads until the input ends, the buffer is full or a read fails. An interrupted read is tried again, at most 1,000 times in all.
-pub fn read_input(fd: i32, buffer: &mut [u8]) -> Input
-    ensures { ReadInto buffer.new result }
+pub fn read_input<R: Read>(input: &mut R, buffer: &mut [u8]) -> Input
+    ensures read { ReadInto buffer.new result }
+    ensures took { TookAll (R.remaining input.old) (R.remaining input.new) buffer.new result }
 {
     let mut at = 0usize;
     let mut tries = 1000usize;
     while at < buffer.len() {
-        let got = read_rest(fd, buffer, at);
+        let got = read_rest(input, buffer, at);
         let standing = read_on(at, tries, got);
         match standing {
-            Standing::Over(input) => {
-                return input;
+            Standing::Over(all) => {
+                return all;
             }
             Standing::Reading(bytes, left) => {
                 at = bytes;

@@ -7,6 +7,7 @@ use Prim.Native.Nat.{ℕ, zero, suc, ◌+◌, ◌<◌, ◌≤◌}
 use native.Mathlib.Numerals.{add-one}
 use native.Mathlib.Omega.{arith}
 use lib.ListN.{length, take}
+use Rattle.std.proofs.Common.{Option}
 use lib.Seq.{take_at}
 use borrow.Author.Count.{below_more}
 use Rattle.report_line.specs.Result.{Piece}
@@ -15,7 +16,7 @@ use Rattle.frame_answer.specs.declared.Recovered.{Recovered}
 use Rattle.frame_answer.specs.declared.PieceWritten.{PieceWritten}
 use Rattle.frame_answer.proofs.Saying.{says}
 use Rattle.frame.specs.Frame.{read_frame}
-use Rattle.recover_say.specs.Said.{line_after, SaidOf, Told, held_from, piece_from, ToldOf, PieceText, put_of, PutSo, Telling}
+use Rattle.recover_say.specs.Said.{line_after, SaidOf, Told, held_from, piece_from, ToldOf, PieceText, put_of, PutSo, Telling, WroteText, WrotePut}
 use Rattle.recover_say.specs.declared.Said.{Said}
 
 pub begun : (answer : Recovered) (words sheet out : List ℕ) → 4096 ≡ length out → Telling answer words sheet out 0 0
@@ -32,6 +33,11 @@ few_lines (Recovered.Done corners passes) h = omega (arith, h)
 pub put_so : (n : ℕ) (written : Bool) → PutSo n (put_of written n)
 put_so n true = refl
 put_so n false = tt
+
+-- and it was written
+pub wrote_put : (before after : Option (List ℕ)) (text : List ℕ) (n : ℕ) (written : Bool) → WroteText before after text written → WrotePut before after text (put_of written n)
+wrote_put before after text n true w = w
+wrote_put before after text n false w = w
 
 module _ (answer : Recovered) (words sheet : List ℕ) {out old new : List ℕ} {n from : ℕ} {piece : PieceWritten} (t : Telling answer words sheet out n from)
     (w : WrotePiece (held_piece answer words sheet from (length out)) old new piece) where
@@ -63,7 +69,7 @@ pub told_of : (answer : Recovered) (words sheet : List ℕ) {out : List ℕ} {n 
 told_of answer words sheet t e = record { lines_so = e; next_so = t.reached; few = t.few; started = t.started }
 
 -- the same pieces reach the same line
-same_after : (f g : ℕ → Piece) → ((k : ℕ) → f k ≡ g k) → (n : ℕ) → line_after f n ≡ line_after g n
+pub same_after : (f g : ℕ → Piece) → ((k : ℕ) → f k ≡ g k) → (n : ℕ) → line_after f n ≡ line_after g n
 unfolding line_after
 same_after f g e zero = refl
 same_after f g e (suc n) = ap (λ (p : Piece). p.next) (e (line_after f n)) ∙ ap (λ (k : ℕ). (g k).next) (same_after f g e n)

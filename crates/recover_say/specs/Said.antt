@@ -1,6 +1,7 @@
 -- How far an answer was said: how many pieces were written, which line comes after them, and what they are of the answer. What the written bytes
--- do outside the program is no part of this. Definitions only.
-use Rattle.std.specs.Prelude.{◌≡◌, Bool, true, false, List, [], ◌++◌, ℕ, zero, suc, ◌+◌, ◌<◌, ◌≤◌, length}
+-- do outside the program is no part of this; of a writer whose bytes are known it is said what it took. Definitions only.
+use Rattle.std.specs.Prelude.{◌≡◌, Bool, true, false, List, [], ◌++◌, ℕ, zero, suc, ◌+◌, ◌<◌, ◌≤◌, length, Option}
+use Rattle.std.specs.Io.KnownBytes.{Appends}
 use Rattle.frame.specs.Frame.{read_frame}
 use Rattle.report_line.specs.Result.{Piece}
 use Rattle.frame_answer.specs.Answer.{answer_lines, answer_piece, answer_text, held_lines, held_piece}
@@ -78,3 +79,31 @@ pub record Telling (answer : Recovered) (words sheet out : List ℕ) (n from : �
   pub behind : n ≤ from
   pub few : n ≤ held_lines answer
   pub started : (k : ℕ) → k < n → line_after (held_from answer words sheet) k < held_lines answer
+
+-- ---- what a writer took, where the bytes that it holds are known
+
+-- a text, or, where a write failed, a front part of it
+abbrev pub WroteText : Option (List ℕ) → Option (List ℕ) → List ℕ → Bool → Type 0
+WroteText before after text true = Appends before after text
+WroteText before after text false = (part : List ℕ) × (rest : List ℕ) × (part ++ rest ≡ text) × Appends before after part
+
+-- the same by what became of a piece
+abbrev pub WrotePut : Option (List ℕ) → Option (List ℕ) → List ℕ → Put → Type 0
+WrotePut before after text (Put.Written more) = WroteText before after text true
+WrotePut before after text Put.Failed = WroteText before after text false
+
+-- so many pieces, and of the next one a part, if it could not be written
+pub record WroteOf (before after : Option (List ℕ)) (piece : ℕ → Piece) (r : Said) : Type 0 where
+  pub part : List ℕ
+  pub rest : List ℕ
+  pub taken : Appends before after (text_after piece r.pieces ++ part)
+  pub nothing : r.lines ≤ r.next → part ≡ []
+  pub of_next : r.next < r.lines → (r.pieces < r.lines) × (part ++ rest ≡ (piece (line_after piece r.pieces)).text)
+
+-- a front part of the answer, and all of it where the next line is past the last
+pub record WroteAnswer (before after : Option (List ℕ)) (text : List ℕ) (r : Said) : Type 0 where
+  pub part : List ℕ
+  pub rest : List ℕ
+  pub taken : Appends before after part
+  pub front : part ++ rest ≡ answer_text text
+  pub whole : r.lines ≤ r.next → part ≡ answer_text text

@@ -1,19 +1,20 @@
-// The answer to a text, worked out by the crate `frame_answer` and written to standard output piece by piece.
+// The answer to a text, worked out by the crate `frame_answer` and written piece by piece, to standard output or another writer.
 // Proved of each piece: `frame_answer::answer_piece` puts it at the front of the buffer, and `put_piece` is lent exactly its text (`PieceText`). Proved
 // of `answer`: how many pieces were written, from the first on, and that they are all of the answer where the next line is past the last
-// (`Told`, `Prints`). Not proved is that the one call of `io::write_all` in `put_piece` takes those bytes to standard output and answers true only
-// then: no contract can say what happens outside the program. It is tested (`compare/faults.py`).
+// (`Told`, `Prints`); and of a writer whose bytes are known, that it took a front part of the answer, and all of it in that case (`WroteAnswer`).
+// Not proved is that standard output takes the bytes that its `write` says it took: no contract can say what happens outside the program. It is
+// tested (`compare/faults.py`).
 
 #![tactic(auto)]
 
 ghost use Rattle.std.specs.Prelude.{◌≡◌, ◌*◌, ◌<◌, length};
 ghost use Rattle.sizes.specs.Sizes.{place_count, corner_limit, all_pass_words, all_outcome_words};
 ghost use Rattle.frame_answer.specs.Answer.{CanSay, FewPasses};
-ghost use Rattle.recover_say.specs.Said.{PieceText, put_of, PutSo, Told, ToldOf};
+ghost use Rattle.recover_say.specs.Said.{held_from, PieceText, put_of, PutSo, Told, ToldOf, WroteText, WrotePut, WroteOf, WroteAnswer};
 
 use frame_answer::Recovered;
-use libc::STDOUT_FILENO;
 use sizes::{ALL_OUTCOME_WORDS, ALL_PASS_WORDS, CORNERS, PLACES};
+use std::io::Write;
 
 // ---- buffers
 
@@ -60,6 +61,12 @@ fn attached_buffer() -> [u16; CORNERS]
     [0; CORNERS]
 }
 
+fn out_buffer() -> [u8; 4096]
+    ensures { 4096 ≡ length result }
+{
+    [0; 4096]
+}
+
 fn word_buffer() -> [u32; ALL_OUTCOME_WORDS]
     ensures { all_outcome_words ≡ length result }
 {
@@ -95,32 +102,63 @@ fn after_write(written: bool, pieces: usize) -> Put
     Put::Failed
 }
 
-// Writes a piece of an answer to standard output: its number is how many were written before it. The answer, the words and the sheet say in the
+// Writes all of the text and answers true; or stops at the first write that takes nothing or fails, and answers false.
+fn write_text<W: Write>(out: &mut W, text: &[u8]) -> bool
+    ensures { WroteText (W.contents out.old) (W.contents out.new) text.now result }
+{
+    let mut done = 0usize;
+    while done < text.len() {
+        match out.write(&text[done..]) {
+            Ok(n) => {
+                if n == 0 {
+                    return false;
+                }
+                done += n;
+            }
+            Err(_) => {
+                return false;
+            }
+        }
+    }
+    true
+}
+
+// Writes a piece of an answer: its number is how many were written before it. The answer, the words and the sheet say in the
 // contract which piece that is.
-fn put_piece(answer: Recovered, words: &[u32], sheet: &[u16], pieces: usize, text: &[u8]) -> Put
+fn put_piece<W: Write>(
+    out: &mut W,
+    answer: Recovered,
+    words: &[u32],
+    sheet: &[u16],
+    pieces: usize,
+    text: &[u8],
+) -> Put
     requires piece_text { PieceText answer words.now sheet.now pieces text.now }
     requires pieces_bound { pieces < 65536 }
-    ensures { PutSo pieces result }
+    ensures put_so { PutSo pieces result }
+    ensures wrote { WrotePut (W.contents out.old) (W.contents out.new) text.now result }
 {
-    let written = io::write_all(STDOUT_FILENO, text);
+    let written = write_text(out, text);
     after_write(written, pieces)
 }
 
-// Writes the answer to standard output, piece by piece, until one cannot be written.
-fn say(answer: Recovered, words: &[u32], sheet: &[u16]) -> Said
+// Writes the answer, piece by piece, until one cannot be written.
+fn say<W: Write>(out: &mut W, answer: Recovered, words: &[u32], sheet: &[u16]) -> Said
     requires can_say { CanSay answer words.now sheet.now }
     requires few_passes { FewPasses answer }
-    ensures { ToldOf answer words.now sheet.now result }
+    ensures told { ToldOf answer words.now sheet.now result }
+    ensures wrote { WroteOf (W.contents out.old) (W.contents out.new)
+        (held_from answer words.now sheet.now) result }
 {
-    let mut out = io::buffer();
+    let mut buffer = out_buffer();
     let lines = frame_answer::answer_lines(answer);
     let mut pieces = 0usize;
     let mut from = 0usize;
     while from < lines {
-        let piece = frame_answer::answer_piece(answer, words, sheet, from, &mut out);
+        let piece = frame_answer::answer_piece(answer, words, sheet, from, &mut buffer);
         let n = piece.bytes;
         let next = piece.next;
-        let put = put_piece(answer, words, sheet, pieces, &out[..n]);
+        let put = put_piece(out, answer, words, sheet, pieces, &buffer[..n]);
         match put {
             Put::Failed => {
                 return Said {
@@ -142,9 +180,10 @@ fn say(answer: Recovered, words: &[u32], sheet: &[u16]) -> Said
     }
 }
 
-// Reads a frame from its text, runs its passes and writes the answer to standard output; tells how far.
-pub fn answer(text: &[u8]) -> Said
-    ensures { Told text.now result }
+// Reads a frame from its text, runs its passes and writes the answer; tells how far.
+pub fn answer<W: Write>(out: &mut W, text: &[u8]) -> Said
+    ensures told { Told text.now result }
+    ensures wrote { WroteAnswer (W.contents out.old) (W.contents out.new) text.now result }
 {
     let mut xs = float_buffer();
     let mut ys = float_buffer();
@@ -167,5 +206,5 @@ pub fn answer(text: &[u8]) -> Said
         &mut attached,
         &mut words,
     );
-    say(recovered, &words, &sheet)
+    say(out, recovered, &words, &sheet)
 }

@@ -1,12 +1,13 @@
 // Takes the square root of 102,400 pseudo-random patterns, and prints for each 1,024 of them a sum over the answers' bits, where a
 // refusal counts as its number: (block number sum), all in hexadecimal.
+// Where the output cannot be written, it ends with an error.
 
 #![tactic(auto)]
 
 ghost use Rattle.std.specs.Prelude.{◌≤◌, ◌%◌};
 
 use binary32::root::Rooted;
-use libc::STDOUT_FILENO;
+use std::io;
 
 // Where the sweep stands: the next pattern, and the sum over the block so far.
 #[derive(Clone, Copy)]
@@ -54,30 +55,23 @@ fn add_answer(s: Sweep) -> Sweep {
 // The sum over 1,024 patterns, and the pattern after them.
 fn block(pattern: u32) -> Sweep {
     let mut s = Sweep { pattern, sum: 0 };
-    let mut i = 0u32;
-    while i < 1024 {
-        let n = add_answer(s);
-        s = n;
-        i += 1;
+    for _ in 0..1024 {
+        s = add_answer(s);
     }
     s
 }
 
-fn print_block(i: u32, s: Sweep) {
-    io::write_all(STDOUT_FILENO, b"(block ");
-    io::print_hex(STDOUT_FILENO, i as u64, 2);
-    io::write_all(STDOUT_FILENO, b" ");
-    io::print_hex(STDOUT_FILENO, s.sum as u64, 8);
-    io::write_all(STDOUT_FILENO, b")\n");
+fn print_block(rt: &impl Print, i: u32, s: Sweep) -> io::Result<()> {
+    let sum = s.sum;
+    println!(rt; "(block {i:02x} {sum:08x})")
 }
 
-fn main() {
+fn main(rt: HostRuntime) -> io::Result<()> {
     let mut pattern = 0x2026_1115u32;
-    let mut i = 0u32;
-    while i < 100 {
+    for i in 0..100u32 {
         let s = block(pattern);
-        print_block(i, s);
+        print_block(&rt, i, s)?;
         pattern = s.pattern;
-        i += 1;
     }
+    Ok(())
 }

@@ -5,4 +5,4 @@ use lib.ListN.{length-take}
 use Rattle.passes_main.proofs.run.Goals as goal
 
 pub slice_bounds-calls-end : goal.slice_bounds-calls-end
-slice_bounds-calls-end c = simp length-take (omega arith)
+slice_bounds-calls-end g c = simp length-take (omega arith)

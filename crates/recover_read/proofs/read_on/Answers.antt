@@ -4,9 +4,6 @@ use mathlib.Core.Path.{refl}
 use Rattle.recover_read.specs.Reading.{FitsIn, read_on}
 use Rattle.recover_read.specs.declared.Got.{Got}
 use Rattle.recover_read.proofs.Laws.{again}
-use borrow.Author.Rules.{rules}
-use Rattle.recover_read.proofs.read_on.Reads as reads
-use Rattle.recover_read.proofs.read_on.Lts as lts
 use Rattle.recover_read.proofs.read_on.Goals as goal
 
 pub overflow_add-result : goal.overflow_add-result
