@@ -23,6 +23,4 @@ returns-in-Refused c =
 
 pub returns-in-Done : goal.returns-in-Done
 returns-in-Done c =
-    let both_clauses =
-      (case_wrote c.args.answer c.args.words.now c.args.sheet.now c.requires.can_say c.args.from c.requires.from_bound _ c.in-Done.is _ _ _ _ c.result_piece.ensures.wrote_piece, c.result_piece.ensures.moves) in
-    record { wrote_piece = both_clauses.0; moves = both_clauses.1 }
+    record { wrote_piece = case_wrote c.args.answer c.args.words.now c.args.sheet.now c.requires.can_say c.args.from c.requires.from_bound _ c.in-Done.is _ _ _ _ c.result_piece.ensures.wrote_piece; moves = c.result_piece.ensures.moves }

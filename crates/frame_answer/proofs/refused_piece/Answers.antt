@@ -8,6 +8,4 @@ use Rattle.frame_answer.proofs.refused_piece.Goals as goal
 
 pub returns : goal.returns
 returns c =
-    let both_clauses =
-      (wrote_refused c.args.refusal c.args.line [] [] _ _ _ _ c.write_refused-bytes.ensures, moves_refused c.args.refusal c.args.line c.write_refused-bytes.ensures c.write_refused-bytes.auto.out) in
-    record { wrote_piece = both_clauses.0; moves = both_clauses.1 }
+    record { wrote_piece = wrote_refused c.args.refusal c.args.line [] [] _ _ _ _ c.write_refused-bytes.ensures; moves = moves_refused c.args.refusal c.args.line c.write_refused-bytes.ensures c.write_refused-bytes.auto.out }
