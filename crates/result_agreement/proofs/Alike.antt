@@ -35,6 +35,8 @@ module _ {n : ℕ} (s : Shuffle n) (l l' : CornerLists) where
   agree_sheets [] [] sheet sheet' (agree_end p) = p
   agree_sheets (c ∷ cs) (c' ∷ cs') sheet sheet' (agree_call p o rest) =
       agree_sheets cs cs' (sheet_after sheet (step l sheet c)) (sheet_after sheet' (step l' sheet' c')) rest
+  agree_sheets [] (c' ∷ cs') sheet sheet' x'' = elim x'' [ ]
+  agree_sheets (c ∷ cs) [] sheet sheet' x3 = elim x3 [ ]
 
 -- ---- labels
 
