@@ -1,10 +1,8 @@
 -- `arguments::any_shade` meets its contract: at each turn no shade stands among the corners passed. Assumes nothing.
-use mathlib.Core.Path.{◌≡◌}
 use Prim.Native.Nat.{◌-◌}
 use native.Mathlib.Omega.{arith}
-use Rattle.labels.proofs.Below.{Searching, searching_start, searching_more, searching_hit, searching_end}
-use lib.ListN.{get_or}
-use Rattle.arguments.specs.Shades.{shade_of, stands, any_shade}
+use Rattle.labels.proofs.Below.{searching_start, searching_more, searching_hit, searching_end}
+use Rattle.arguments.specs.Shades.{any_shade}
 use Rattle.arguments.proofs.HoldingShades.{byte_stands, byte_bare}
 use Rattle.arguments.proofs.any_shade.Goals as goal
 

@@ -1,11 +1,8 @@
 -- `arguments::any_shade` meets its contract: at each turn no shade stands among the corners passed. Assumes nothing.
-use mathlib.Core.Path.{◌≡◌}
 use Prim.Native.Nat.{◌-◌}
-use native.Mathlib.Omega.{arith}
-use Rattle.labels.proofs.Below.{Searching, searching_start, searching_more, searching_hit, searching_end}
+use Rattle.labels.proofs.Below.{Searching}
 use lib.ListN.{get_or}
-use Rattle.arguments.specs.Shades.{shade_of, stands, any_shade}
-use Rattle.arguments.proofs.HoldingShades.{byte_stands, byte_bare}
+use Rattle.arguments.specs.Shades.{shade_of, stands}
 use Rattle.arguments.proofs.any_shade.Given as goal
 
 abbrev pub invariant-loop-k : goal.invariant-loop-k

@@ -1,7 +1,6 @@
 -- `arguments::check_arguments` meets its contract: each refusal by the tests that passed before it. Assumes nothing.
 use mathlib.Core.Path.{◌≡◌, sym, ◌∙◌}
 use mathlib.Core.Bool.{false}
-use borrow.Author.Rules.{rules}
 use borrow.Author.Tests.{lt-ltb, le-ltb}
 use Rattle.sheet.specs.Corners.{corner_lists}
 use Rattle.arguments.specs.Arguments.{Lent, lent, corner_count, too_short, over_limit, some_corner_outside, settings_outside, out_of_range, unknown_corner}

@@ -1,7 +1,6 @@
 -- `arguments::doubled_corner` meets its contract: nothing is seen at the start. Assumes nothing.
 use Prim.Native.Nat.{ℕ}
 use lib.ListN.{length-replicate, get_or-replicate}
-use borrow.Author.Rules.{rules}
 use Rattle.arguments.proofs.doubled_corner.Goals as goal
 
 pub seen_twice-requires : goal.seen_twice-requires

@@ -2,7 +2,6 @@
 use mathlib.Core.Path.{refl, sym, ◌∙◌}
 use Rattle.arguments.specs.Arguments.{fill_outside}
 use Rattle.arguments.proofs.Tests.{holds, fails}
-use borrow.Author.Rules.{rules}
 use Rattle.arguments.proofs.fill_outside.Goals as goal
 
 pub returns-then-is_outside : goal.returns-then-is_outside

@@ -1,6 +1,5 @@
 -- `arguments::hold_corners` meets its contract: the positions and pitches first, then the shades. Assumes nothing.
 use Rattle.arguments.proofs.HoldingShades.{held_corners}
-use borrow.Author.Rules.{rules}
 use Rattle.arguments.proofs.hold_corners.Goals as goal
 
 pub returns : goal.returns

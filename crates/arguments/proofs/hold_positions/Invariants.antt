@@ -1,9 +1,8 @@
 -- `arguments::hold_positions` meets its contract: the positions and pitch of one corner after the other are put into the array. Assumes nothing.
 use Prim.Native.Nat.{◌-◌}
-use native.Mathlib.Omega.{arith}
 use lib.ListN.{length}
 use Rattle.sheet.specs.Corners.{corner_lists}
-use Rattle.arguments.proofs.Holding.{Holding, holding_start, holding_more, holding_all, holding_no_kinds}
+use Rattle.arguments.proofs.Holding.{Holding}
 use Rattle.arguments.proofs.hold_positions.Given as goal
 
 abbrev pub invariant-loop-k : goal.invariant-loop-k

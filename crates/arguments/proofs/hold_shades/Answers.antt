@@ -4,8 +4,7 @@ use mathlib.Core.Path.{sym, ◌∙◌, ap}
 use Prim.Native.Nat.{◌-◌}
 use native.Mathlib.Omega.{arith}
 use borrow.Author.Tests.{not-true, not-false}
-use borrow.Author.Rules.{rules}
-use Rattle.arguments.proofs.HoldingShades.{Shading, shading_start, shading_more, shading_some, shading_none, shading_corners}
+use Rattle.arguments.proofs.HoldingShades.{shading_start, shading_more, shading_some, shading_none, shading_corners}
 use Rattle.arguments.proofs.hold_shades.Goals as goal
 
 pub loop-k-init : goal.loop-k-init

@@ -2,7 +2,6 @@
 use mathlib.Core.Path.{ap}
 use mathlib.Core.Bool.{not}
 use Rattle.arguments.specs.Arguments.{outside}
-use borrow.Author.Rules.{rules}
 use Rattle.arguments.proofs.is_outside.Goals as goal
 
 pub returns : goal.returns

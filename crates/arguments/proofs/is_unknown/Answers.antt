@@ -1,6 +1,5 @@
 -- `arguments::is_unknown` meets its contract, by the label. Assumes nothing.
 use Rattle.arguments.specs.Arguments.{unknown}
-use borrow.Author.Rules.{rules}
 use Rattle.arguments.proofs.is_unknown.Goals as goal
 
 pub returns-in-Unlabelled : goal.returns-in-Unlabelled

@@ -1,7 +1,6 @@
 -- `arguments::listed_corner` meets its contract. Assumes nothing.
 use mathlib.Core.Path.{sym}
 use Rattle.sheet.proofs.Corners as corners
-use borrow.Author.Rules.{rules}
 use Rattle.arguments.proofs.listed_corner.Goals as goal
 
 pub returns : goal.returns

@@ -3,7 +3,6 @@ use mathlib.Core.Path.{refl, sym, ◌∙◌}
 use borrow.Author.Tests.{lt-ltb, le-ltb}
 use Rattle.arguments.specs.Arguments.{local_outside}
 use Rattle.arguments.proofs.Tests.{holds, fails}
-use borrow.Author.Rules.{rules}
 use Rattle.arguments.proofs.local_outside.Goals as goal
 
 pub returns-then-is_outside : goal.returns-then-is_outside

@@ -1,6 +1,5 @@
 -- `arguments::note` meets its contract, by the label, whose corner has an entry. Assumes nothing.
 use Rattle.arguments.proofs.Tests.{note_none, note_corner}
-use borrow.Author.Rules.{rules}
 use Rattle.arguments.proofs.note.Goals as goal
 
 pub returns-in_default : goal.returns-in_default

@@ -1,7 +1,6 @@
 -- `arguments::pass_outside` meets its contract, by the pass. Assumes nothing.
 use mathlib.Core.Path.{sym, ap, ◌∙◌}
 use Rattle.arguments.specs.Arguments.{pass_outside}
-use borrow.Author.Rules.{rules}
 use Rattle.arguments.proofs.pass_outside.Goals as goal
 
 pub returns-in-Grow : goal.returns-in-Grow

@@ -1,6 +1,5 @@
 -- `arguments::queue_short` meets its contract, by the pass. Assumes nothing.
 use Rattle.arguments.proofs.Tests.{queue_grow, queue_fill, queue_local}
-use borrow.Author.Rules.{rules}
 use Rattle.arguments.proofs.queue_short.Goals as goal
 
 pub returns-in-Grow : goal.returns-in-Grow

@@ -2,7 +2,6 @@
 use mathlib.Core.Path.{sym, ◌∙◌}
 use Rattle.arguments.specs.Arguments.{settings_outside}
 use Rattle.arguments.proofs.Tests.{holds, fails}
-use borrow.Author.Rules.{rules}
 use Rattle.arguments.proofs.settings_outside.Goals as goal
 
 pub returns-then-is_outside : goal.returns-then-is_outside

@@ -3,7 +3,6 @@ use mathlib.Core.Path.{refl, sym, ◌∙◌}
 use borrow.Author.Tests.{lt-ltb, le-ltb}
 use Rattle.arguments.specs.Arguments.{too_short}
 use Rattle.arguments.proofs.Tests.{holds, fails}
-use borrow.Author.Rules.{rules}
 use Rattle.arguments.proofs.too_short.Goals as goal
 
 pub returns-then-ys-xs : goal.returns-then-ys-xs

@@ -2,8 +2,7 @@
 use mathlib.Core.Path.{◌≡◌, sym, ap, ◌∙◌}
 use Prim.Native.Nat.{◌-◌}
 use native.Mathlib.Omega.{arith}
-use borrow.Author.Rules.{rules}
-use Rattle.labels.proofs.Below.{Searching, searching_start, searching_more, searching_hit, searching_end}
+use Rattle.labels.proofs.Below.{searching_start, searching_more, searching_hit, searching_end}
 use Rattle.arguments.specs.Arguments.{unknown, unknown_at, unknown_corner}
 use Rattle.arguments.proofs.Tests.{unknown_skips}
 use Rattle.arguments.proofs.unknown_corner.Goals as goal

@@ -1,11 +1,7 @@
 -- `arguments::unknown_corner` meets its contract: a search from the first place on that stops at a hit. Assumes nothing.
-use mathlib.Core.Path.{◌≡◌, sym, ap, ◌∙◌}
 use Prim.Native.Nat.{◌-◌}
-use native.Mathlib.Omega.{arith}
-use borrow.Author.Rules.{rules}
-use Rattle.labels.proofs.Below.{Searching, searching_start, searching_more, searching_hit, searching_end}
-use Rattle.arguments.specs.Arguments.{unknown, unknown_at, unknown_corner}
-use Rattle.arguments.proofs.Tests.{unknown_skips}
+use Rattle.labels.proofs.Below.{Searching}
+use Rattle.arguments.specs.Arguments.{unknown_at}
 use Rattle.arguments.proofs.unknown_corner.Given as goal
 
 abbrev pub invariant-loop-place : goal.invariant-loop-place

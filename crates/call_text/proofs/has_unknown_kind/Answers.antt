@@ -1,6 +1,5 @@
 -- `call_text::has_unknown_kind` is safe and ends: the measure is the number of calls that are left. Assumes nothing.
-use Prim.Native.Nat.{◌-◌, ◌≤◌}
-use native.Mathlib.Omega.{arith}
+use Prim.Native.Nat.{◌-◌}
 use Rattle.call_text.proofs.has_unknown_kind.Goals as goal
 
 pub header_at-h-requires : goal.header_at-h-requires

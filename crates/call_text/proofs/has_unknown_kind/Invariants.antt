@@ -1,6 +1,5 @@
 -- `call_text::has_unknown_kind` is safe and ends: the measure is the number of calls that are left. Assumes nothing.
 use Prim.Native.Nat.{◌-◌, ◌≤◌}
-use native.Mathlib.Omega.{arith}
 use Rattle.call_text.proofs.has_unknown_kind.Given as goal
 
 abbrev pub invariant-loop-i : goal.invariant-loop-i

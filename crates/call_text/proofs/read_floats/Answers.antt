@@ -1,9 +1,8 @@
 -- `call_text::read_floats` is safe and ends: the measure is the number of floats that are left, and the array keeps its length. Assumes nothing.
 use Prim.Native.Nat.{◌-◌}
-use mathlib.Core.Path.{◌≡◌, refl}
+use mathlib.Core.Path.{refl}
 use native.Mathlib.Omega.{arith}
-use borrow.Author.Rules.{rules}
-use lib.ListN.{length, length-set, length-replicate}
+use lib.ListN.{length-set}
 use Rattle.call_text.proofs.read_floats.Goals as goal
 
 pub loop-i-init : goal.loop-i-init

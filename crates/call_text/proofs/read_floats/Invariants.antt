@@ -1,9 +1,7 @@
 -- `call_text::read_floats` is safe and ends: the measure is the number of floats that are left, and the array keeps its length. Assumes nothing.
 use Prim.Native.Nat.{◌-◌}
-use mathlib.Core.Path.{◌≡◌, refl}
-use native.Mathlib.Omega.{arith}
-use borrow.Author.Rules.{rules}
-use lib.ListN.{length, length-set, length-replicate}
+use mathlib.Core.Path.{◌≡◌}
+use lib.ListN.{length}
 use Rattle.call_text.proofs.read_floats.Given as goal
 
 abbrev pub invariant-loop-i : goal.invariant-loop-i

@@ -1,8 +1,8 @@
 -- `call_text::read_shades` is safe and ends: the measure is the number of corners that are left, and the array keeps its length. Assumes nothing.
 use Prim.Native.Nat.{◌-◌}
-use mathlib.Core.Path.{◌≡◌, refl}
+use mathlib.Core.Path.{refl}
 use native.Mathlib.Omega.{arith}
-use lib.ListN.{length, length-set}
+use lib.ListN.{length-set}
 use Rattle.call_text.proofs.read_shades.Goals as goal
 
 pub loop-i-init : goal.loop-i-init

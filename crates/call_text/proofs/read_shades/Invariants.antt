@@ -1,8 +1,7 @@
 -- `call_text::read_shades` is safe and ends: the measure is the number of corners that are left, and the array keeps its length. Assumes nothing.
 use Prim.Native.Nat.{◌-◌}
-use mathlib.Core.Path.{◌≡◌, refl}
-use native.Mathlib.Omega.{arith}
-use lib.ListN.{length, length-set}
+use mathlib.Core.Path.{◌≡◌}
+use lib.ListN.{length}
 use Rattle.call_text.proofs.read_shades.Given as goal
 
 abbrev pub invariant-loop-i : goal.invariant-loop-i

@@ -1,6 +1,5 @@
 -- `choose_unambiguous` meets its contract, case by case of the candidates. Assumes nothing.
 use mathlib.Core.Path.{◌∙◌}
-use borrow.Author.Rules.{rules}
 use Rattle.candidates.specs.Choice.{choose_unambiguous}
 use Rattle.candidates.proofs.choose_unambiguous.Goals as goal
 

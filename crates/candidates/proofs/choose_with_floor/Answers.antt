@@ -1,6 +1,5 @@
 -- `choose_with_floor` meets its contract, case by case of the candidates. Assumes nothing.
 use mathlib.Core.Path.{◌∙◌}
-use borrow.Author.Rules.{rules}
 use Rattle.candidates.specs.Choice.{choose_with_floor}
 use Rattle.candidates.proofs.choose_with_floor.Goals as goal
 

@@ -4,10 +4,9 @@ use mathlib.Core.Bool.{not}
 use mathlib.Core.Path.{sym, ◌∙◌, ap}
 use Prim.Native.Nat.{◌-◌}
 use native.Mathlib.Omega.{arith}
-use borrow.Author.Rules.{rules}
 use borrow.Author.Tests.{not-true, not-false}
 use Rattle.candidates.specs.Candidates.{eligible_in}
-use Rattle.candidates.proofs.Scan.{Scanned, nowhere_x, nowhere_y, nowhere, scanned_start, scanned_more, scanned_all}
+use Rattle.candidates.proofs.Scan.{nowhere_x, nowhere_y, nowhere, scanned_start, scanned_more, scanned_all}
 use Rattle.candidates.proofs.collect_candidates.Goals as goal
 
 pub returns-then-not-is_finite : goal.returns-then-not-is_finite

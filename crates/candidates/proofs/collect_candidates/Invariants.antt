@@ -1,12 +1,8 @@
 -- `collect_candidates` meets its contract. The loop's invariant: corner k is the next within the limit or there is none left, what was found is the
 -- first two of the candidates before it, and the limit is right for them. The measure is what is left of the corners. Assumes nothing.
-use mathlib.Core.Path.{sym, ◌∙◌}
 use Prim.Native.Nat.{◌-◌}
-use native.Mathlib.Omega.{arith}
-use borrow.Author.Rules.{rules}
-use borrow.Author.Tests.{not-true, not-false}
 use Rattle.candidates.specs.Candidates.{eligible_in}
-use Rattle.candidates.proofs.Scan.{Scanned, nowhere_x, nowhere_y, nowhere, scanned_start, scanned_more, scanned_all}
+use Rattle.candidates.proofs.Scan.{Scanned}
 use Rattle.candidates.proofs.collect_candidates.Given as goal
 
 abbrev pub invariant-loop-k : goal.invariant-loop-k

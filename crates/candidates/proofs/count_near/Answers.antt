@@ -1,5 +1,5 @@
 -- `count_near` meets its contract: at each turn those before it are counted. Assumes nothing.
-use Prim.Native.Nat.{◌≤◌, ◌+◌, ◌-◌}
+use Prim.Native.Nat.{◌+◌, ◌-◌}
 use mathlib.Core.Path.{◌≡◌, refl, ap, ◌∙◌}
 use native.Mathlib.Omega.{arith}
 use Rattle.candidates.specs.Candidates.{positions_in}

@@ -1,10 +1,8 @@
 -- `count_near` meets its contract: at each turn those before it are counted. Assumes nothing.
-use Prim.Native.Nat.{◌≤◌, ◌+◌, ◌-◌}
-use mathlib.Core.Path.{◌≡◌, refl, ap, ◌∙◌}
-use native.Mathlib.Omega.{arith}
+use Prim.Native.Nat.{◌≤◌, ◌-◌}
+use mathlib.Core.Path.{◌≡◌}
 use Rattle.candidates.specs.Candidates.{positions_in}
 use Rattle.candidates.specs.Steps.{is_near, count_from}
-use Rattle.candidates.proofs.Scan.{count_most, count_more}
 use Rattle.candidates.proofs.count_near.Given as goal
 
 abbrev pub invariant-loop-k : goal.invariant-loop-k

@@ -1,6 +1,5 @@
 -- `distance` meets its contract. Assumes nothing.
 use mathlib.Core.Path.{◌∙◌, ap}
-use borrow.Author.Rules.{rules}
 use Rattle.binary32.specs.Sqrt.{sqrt_or_nan}
 use Rattle.candidates.proofs.distance.Goals as goal
 

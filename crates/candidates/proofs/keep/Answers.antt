@@ -1,6 +1,5 @@
 -- `keep` meets its contract: each return has the case of what was found and the comparisons on the way there. Assumes nothing.
 use mathlib.Core.Path.{ap, ◌∙◌}
-use borrow.Author.Rules.{rules}
 use Rattle.candidates.specs.declared.Candidates.{Candidates}
 use Rattle.candidates.specs.declared.Found.{Found}
 use Rattle.candidates.proofs.keep.Goals as goal

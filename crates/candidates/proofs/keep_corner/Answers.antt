@@ -1,7 +1,6 @@
 -- `keep_corner` meets its contract: the number, and the root of the squared distance. Assumes nothing.
 use mathlib.Core.Path.{ap, ap₂, ◌∙◌}
 use Prim.Native.Nat.{ℕ}
-use borrow.Author.Rules.{rules}
 use lib.Ieee.{Float}
 use Rattle.sheet.specs.declared.Position.{Position}
 use Rattle.sheet.specs.Corners.{squared_distance}

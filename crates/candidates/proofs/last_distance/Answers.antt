@@ -1,5 +1,4 @@
 -- `last_distance` meets its contract. Assumes nothing.
-use borrow.Author.Rules.{rules}
 use Rattle.candidates.specs.Candidates.{last_distance}
 use Rattle.candidates.proofs.last_distance.Goals as goal
 

@@ -2,9 +2,8 @@
 use mathlib.Core.Path.{sym, ◌∙◌}
 use Prim.Native.Nat.{◌-◌}
 use native.Mathlib.Omega.{arith}
-use Rattle.candidates.specs.Candidates.{positions_in, eligible_in}
 use Rattle.candidates.specs.Steps.{is_within}
-use Rattle.candidates.proofs.Scan.{Passing, passing_start, passing_more, passing_hit, passing_end}
+use Rattle.candidates.proofs.Scan.{passing_start, passing_more, passing_hit, passing_end}
 use Rattle.candidates.proofs.next_tested.Goals as goal
 
 pub loop-k-init : goal.loop-k-init

@@ -1,9 +1,8 @@
 -- `next_within` meets its contract. The loop's invariant: no corner passed is a candidate. The measure is what is left of the corners. Assumes nothing.
 use Prim.Native.Nat.{◌-◌}
-use native.Mathlib.Omega.{arith}
 use Rattle.candidates.specs.Candidates.{positions_in, eligible_in}
 use Rattle.candidates.specs.Steps.{is_within}
-use Rattle.candidates.proofs.Scan.{Passing, passing_start, passing_next, passing_block}
+use Rattle.candidates.proofs.Scan.{Passing}
 use Rattle.candidates.proofs.next_within.Given as goal
 
 abbrev pub invariant-loop-k : goal.invariant-loop-k

@@ -1,6 +1,5 @@
 -- `one_if_near` meets its contract, by the squared distance. Assumes nothing.
 use mathlib.Core.Path.{ap, ◌∙◌}
-use borrow.Author.Rules.{rules}
 use Rattle.sheet.specs.declared.Position.{Position}
 use Rattle.sheet.specs.Corners.{squared_distance}
 use Rattle.candidates.specs.Candidates.{positions_in}

@@ -1,6 +1,5 @@
 -- `position_of` meets its contract. Assumes nothing.
 use mathlib.Core.Path.{sym, ap}
-use borrow.Author.Rules.{rules}
 use Rattle.sheet.proofs.Corners.{held_corner}
 use Rattle.sheet.specs.declared.Corner.{Corner}
 use Rattle.candidates.proofs.position_of.Goals as goal

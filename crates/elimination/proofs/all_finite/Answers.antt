@@ -2,9 +2,7 @@
 use mathlib.Core.Bool.{not}
 use mathlib.Core.Path.{ap}
 use Prim.Native.Nat.{◌-◌}
-use borrow.Author.Rules.{rules}
-use Rattle.elimination.specs.Solve.{row, finite_row}
-use Rattle.elimination.proofs.Tables.{Passing, passing_start, passing_more, passing_stop, passing_end}
+use Rattle.elimination.proofs.Tables.{passing_start, passing_more, passing_stop, passing_end}
 use Rattle.elimination.proofs.all_finite.Goals as goal
 
 pub loop-i-init : goal.loop-i-init

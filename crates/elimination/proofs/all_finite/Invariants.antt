@@ -1,8 +1,7 @@
 -- `elimination::all_finite` meets its contract. The loop's invariant: the rows passed are finite. Assumes nothing.
 use Prim.Native.Nat.{◌-◌}
-use borrow.Author.Rules.{rules}
 use Rattle.elimination.specs.Solve.{row, finite_row}
-use Rattle.elimination.proofs.Tables.{Passing, passing_start, passing_more, passing_stop, passing_end}
+use Rattle.elimination.proofs.Tables.{Passing}
 use Rattle.elimination.proofs.all_finite.Given as goal
 
 abbrev pub invariant-loop-i : goal.invariant-loop-i

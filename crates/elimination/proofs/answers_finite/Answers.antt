@@ -2,11 +2,7 @@
 use mathlib.Core.Bool.{not}
 use mathlib.Core.Path.{ap}
 use Prim.Native.Nat.{◌-◌}
-use borrow.Author.Rules.{rules}
-use lib.Ieee.{nan}
-use lib.ListN.{get_or}
-use Rattle.binary32.specs.Ranges.{is_finite}
-use Rattle.elimination.proofs.Tables.{Passing, passing_start, passing_more, passing_stop, passing_end}
+use Rattle.elimination.proofs.Tables.{passing_start, passing_more, passing_stop, passing_end}
 use Rattle.elimination.proofs.answers_finite.Goals as goal
 
 pub loop-j-init : goal.loop-j-init

@@ -1,7 +1,6 @@
 -- `elimination::carry` meets its contract. The loop's invariant: the right sides passed are carried on, and the others are as they were. Assumes nothing.
 use Prim.Native.Nat.{◌-◌}
-use borrow.Author.Rules.{rules}
-use Rattle.elimination.proofs.Rows.{Carrying, carry_start, carry_more, carry_end}
+use Rattle.elimination.proofs.Rows.{Carrying}
 use Rattle.elimination.proofs.carry.Given as goal
 
 abbrev pub invariant-loop-i : goal.invariant-loop-i

@@ -1,7 +1,7 @@
 -- `elimination::clear` meets its contract. The loop's invariant: the rows passed have gained, and the others are as they were. Assumes nothing.
 use Prim.Native.Nat.{◌-◌}
 use borrow.Author.Rules.{rules}
-use Rattle.elimination.proofs.Rows.{Clearing, clear_start, clear_row, clear_more, clear_end}
+use Rattle.elimination.proofs.Rows.{clear_start, clear_row, clear_more, clear_end}
 use Rattle.elimination.proofs.clear.Goals as goal
 
 pub loop-i-init : goal.loop-i-init

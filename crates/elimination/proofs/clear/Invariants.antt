@@ -1,7 +1,6 @@
 -- `elimination::clear` meets its contract. The loop's invariant: the rows passed have gained, and the others are as they were. Assumes nothing.
 use Prim.Native.Nat.{◌-◌}
-use borrow.Author.Rules.{rules}
-use Rattle.elimination.proofs.Rows.{Clearing, clear_start, clear_row, clear_more, clear_end}
+use Rattle.elimination.proofs.Rows.{Clearing}
 use Rattle.elimination.proofs.clear.Given as goal
 
 abbrev pub invariant-loop-i : goal.invariant-loop-i

@@ -2,7 +2,6 @@
 use mathlib.Core.Bool.{not}
 use mathlib.Core.Path.{ap}
 use Rattle.elimination.proofs.Tables.{stop, on}
-use borrow.Author.Rules.{rules}
 use Rattle.elimination.proofs.counts.Goals as goal
 
 pub returns-then-not-diagonal_nonzero : goal.returns-then-not-diagonal_nonzero

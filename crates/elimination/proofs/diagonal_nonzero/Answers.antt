@@ -2,11 +2,7 @@
 use mathlib.Core.Bool.{not}
 use mathlib.Core.Path.{ap}
 use Prim.Native.Nat.{◌-◌}
-use borrow.Author.Rules.{rules}
-use lib.Ieee.{eq}
-use Rattle.binary32.specs.Numbers.{nought}
-use Rattle.elimination.specs.Solve.{entry}
-use Rattle.elimination.proofs.Tables.{Passing, passing_start, passing_next, passing_fail, passing_end}
+use Rattle.elimination.proofs.Tables.{passing_start, passing_next, passing_fail, passing_end}
 use Rattle.elimination.proofs.diagonal_nonzero.Goals as goal
 
 pub loop-k-init : goal.loop-k-init

@@ -1,12 +1,10 @@
 -- `elimination::diagonal_nonzero` meets its contract. The loop's invariant: no entry passed is zero. Assumes nothing.
 use mathlib.Core.Bool.{not}
-use mathlib.Core.Path.{ap}
 use Prim.Native.Nat.{◌-◌}
-use borrow.Author.Rules.{rules}
 use lib.Ieee.{eq}
 use Rattle.binary32.specs.Numbers.{nought}
 use Rattle.elimination.specs.Solve.{entry}
-use Rattle.elimination.proofs.Tables.{Passing, passing_start, passing_next, passing_fail, passing_end}
+use Rattle.elimination.proofs.Tables.{Passing}
 use Rattle.elimination.proofs.diagonal_nonzero.Given as goal
 
 abbrev pub invariant-loop-k : goal.invariant-loop-k

@@ -1,7 +1,6 @@
 -- `elimination::gain` meets its contract. The loop's invariant: the columns up to k are as they were, and those passed have gained. Assumes nothing.
 use Prim.Native.Nat.{◌-◌}
-use borrow.Author.Rules.{rules}
-use Rattle.elimination.proofs.Rows.{Gaining, gain_start, gain_more, gain_end}
+use Rattle.elimination.proofs.Rows.{Gaining}
 use Rattle.elimination.proofs.gain.Given as goal
 
 abbrev pub invariant-loop-j : goal.invariant-loop-j

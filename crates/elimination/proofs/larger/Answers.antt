@@ -1,5 +1,4 @@
 -- `elimination::larger` meets its contract. Assumes nothing.
-use borrow.Author.Rules.{rules}
 use Rattle.elimination.proofs.larger.Goals as goal
 
 pub returns-then-magnitude : goal.returns-then-magnitude

@@ -2,7 +2,7 @@
 use Prim.Native.Nat.{◌-◌}
 use native.Mathlib.Omega.{arith}
 use borrow.Author.Rules.{rules}
-use Rattle.elimination.proofs.Rows.{Chosen, chosen_start, chosen_more, chosen_end}
+use Rattle.elimination.proofs.Rows.{chosen_start, chosen_more, chosen_end}
 use Rattle.elimination.proofs.pivot.Goals as goal
 
 pub loop-i-init : goal.loop-i-init

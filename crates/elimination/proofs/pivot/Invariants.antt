@@ -1,8 +1,6 @@
 -- `elimination::pivot` meets its contract. The loop's invariant: the row chosen among those passed. Assumes nothing.
 use Prim.Native.Nat.{◌-◌}
-use native.Mathlib.Omega.{arith}
-use borrow.Author.Rules.{rules}
-use Rattle.elimination.proofs.Rows.{Chosen, chosen_start, chosen_more, chosen_end}
+use Rattle.elimination.proofs.Rows.{Chosen}
 use Rattle.elimination.proofs.pivot.Given as goal
 
 abbrev pub invariant-loop-i : goal.invariant-loop-i

@@ -3,9 +3,8 @@ use mathlib.Core.Path.{refl}
 use Prim.Native.Nat.{◌-◌}
 use native.Mathlib.Omega.{arith}
 use borrow.Author.Rules.{rules}
-use lib.Ieee.{nan}
-use Rattle.elimination.specs.Solve.{entry, right_sides}
-use Rattle.elimination.proofs.Tables.{Filling, filling_start, filling_more, filling_whole}
+use Rattle.elimination.specs.Solve.{right_sides}
+use Rattle.elimination.proofs.Tables.{filling_start, filling_more, filling_whole}
 use Rattle.elimination.proofs.right_sides.Goals as goal
 
 pub loop-i-init : goal.loop-i-init

@@ -1,11 +1,8 @@
 -- `elimination::right_sides` meets its contract. The loop's invariant: the places passed hold the right sides. Assumes nothing.
-use mathlib.Core.Path.{refl}
 use Prim.Native.Nat.{◌-◌}
-use native.Mathlib.Omega.{arith}
-use borrow.Author.Rules.{rules}
 use lib.Ieee.{nan}
-use Rattle.elimination.specs.Solve.{entry, right_sides}
-use Rattle.elimination.proofs.Tables.{Filling, filling_start, filling_more, filling_whole}
+use Rattle.elimination.specs.Solve.{entry}
+use Rattle.elimination.proofs.Tables.{Filling}
 use Rattle.elimination.proofs.right_sides.Given as goal
 
 abbrev pub invariant-loop-i : goal.invariant-loop-i

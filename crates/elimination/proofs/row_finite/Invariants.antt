@@ -1,10 +1,9 @@
 -- `elimination::row_finite` meets its contract. The loop's invariant: the entries passed are finite. Assumes nothing.
 use Prim.Native.Nat.{◌-◌}
-use borrow.Author.Rules.{rules}
 use lib.Ieee.{nan}
 use lib.ListN.{get_or}
 use Rattle.binary32.specs.Ranges.{is_finite}
-use Rattle.elimination.proofs.Tables.{Passing, passing_start, passing_more, passing_stop, passing_end}
+use Rattle.elimination.proofs.Tables.{Passing}
 use Rattle.elimination.proofs.row_finite.Given as goal
 
 abbrev pub invariant-loop-j : goal.invariant-loop-j

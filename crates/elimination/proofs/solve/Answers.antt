@@ -1,5 +1,4 @@
 -- `elimination::solve` meets its contract. Assumes nothing.
-use borrow.Author.Rules.{rules}
 use Rattle.elimination.proofs.Shape.{owned_shape}
 use Rattle.elimination.proofs.Sound.{solved_is}
 use Rattle.elimination.proofs.solve.Goals as goal

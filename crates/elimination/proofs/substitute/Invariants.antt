@@ -1,7 +1,6 @@
 -- `elimination::substitute` meets its contract. The loop's invariant: the last n answers are carried on. Assumes nothing.
 use Prim.Native.Nat.{◌-◌}
-use borrow.Author.Rules.{rules}
-use Rattle.elimination.proofs.Rows.{Answering, answering_start, answering_long, answering_more, answering_end}
+use Rattle.elimination.proofs.Rows.{Answering}
 use Rattle.elimination.proofs.substitute.Given as goal
 
 abbrev pub invariant-loop-n : goal.invariant-loop-n

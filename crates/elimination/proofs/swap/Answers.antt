@@ -1,5 +1,4 @@
 -- `elimination::swap` meets its contract. Assumes nothing.
-use borrow.Author.Rules.{rules}
 use Rattle.elimination.proofs.Rows.{swap_set}
 use Rattle.elimination.proofs.swap.Goals as goal
 

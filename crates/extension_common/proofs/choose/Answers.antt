@@ -2,7 +2,6 @@
 use mathlib.Core.Path.{sym, ap, ◌∙◌}
 use Rattle.extension_common.specs.TryCell.{choice_by}
 use Rattle.extension_common.specs.declared.ChoiceRule.{ChoiceRule}
-use borrow.Author.Rules.{rules}
 use Rattle.extension_common.proofs.choose.Goals as goal
 
 pub returns-in-Unambiguous : goal.returns-in-Unambiguous

@@ -3,7 +3,6 @@ use mathlib.Core.Path.{◌≡◌, ◌∙◌}
 use Rattle.sheet.specs.Corners.{corners_in}
 use Rattle.extension_common.specs.TryCell.{gathered}
 use Rattle.extension_common.proofs.Laws.{gathered_tied, choosable, tried_with}
-use borrow.Author.Rules.{rules}
 use Rattle.extension_common.proofs.try_attach_at_cell.Goals as goal
 use Rattle.extension_common.proofs.try_attach_at_cell.Goals.{After-collect_candidates-candidates}
 

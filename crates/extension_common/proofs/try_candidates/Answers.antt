@@ -1,7 +1,6 @@
 -- `extension_common::try_candidates` meets its contract: each arm is given the choice. Assumes nothing.
 use mathlib.Core.Path.{sym, ap, ◌∙◌}
 use Rattle.extension_common.specs.TryCell.{result_of}
-use borrow.Author.Rules.{rules}
 use Rattle.extension_common.proofs.try_candidates.Goals as goal
 
 pub try_edges-requires : goal.try_edges-requires

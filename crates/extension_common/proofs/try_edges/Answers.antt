@@ -1,7 +1,6 @@
 -- `extension_common::try_edges` meets its contract, by whether the verdict passes. Assumes nothing.
 use mathlib.Core.Bool.{not}
 use mathlib.Core.Path.{ap}
-use borrow.Author.Rules.{rules}
 use borrow.Author.Tests.{not-true, not-false}
 use Rattle.extension_common.proofs.Laws.{edges_refuse, edges_pass}
 use Rattle.extension_common.proofs.try_edges.Goals as goal

@@ -4,7 +4,6 @@ use Prim.Native.Nat.{ℕ, ◌<◌}
 use native.Mathlib.Omega.{arith}
 use lib.ListN.{set}
 use Rattle.sheet.proofs.Laws.{place_in}
-use borrow.Author.Rules.{rules}
 use Rattle.fill.proofs.attach_corner.Goals as goal
 use Rattle.fill.proofs.attach_corner.Goals.{After-place_of}
 

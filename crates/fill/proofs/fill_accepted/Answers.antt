@@ -1,7 +1,6 @@
 -- `fill::fill_accepted` meets its contract: the limit as the definition has it, and what the rounds leave. Assumes nothing.
 use mathlib.Core.Path.{ap, ◌∙◌}
 use Prim.Native.Nat.{ℕ}
-use borrow.Author.Rules.{rules}
 use Rattle.sheet.specs.Corners.{corner_lists}
 use Rattle.passes.specs.Fill.{fill_limit}
 use Rattle.arguments.proofs.Holding.{holdable}

@@ -1,5 +1,4 @@
 -- `fill::fill_grid_holes` meets its contract: a refusal as the check gives it, or what the pass leaves. Assumes nothing.
-use borrow.Author.Rules.{rules}
 use Rattle.sheet.specs.Corners.{corner_lists}
 use Rattle.fill.proofs.Rounds.{call_refused, call_accepted, call_done}
 use Rattle.fill.proofs.fill_grid_holes.Goals as goal
@@ -7,7 +6,7 @@ use Rattle.fill.proofs.fill_grid_holes.Goals as goal
 pub returns-in-Refused : goal.returns-in-Refused
 returns-in-Refused c = let a = c.args in
     let both_clauses =
-      call_refused (corner_lists a.xs.now a.ys.now a.pitches.now) a.shades.now a.sheet.now a.attached.now a.settings a.params _ c.check_arguments-checked.ensures _ c.in-Refused.is in
+    call_refused (corner_lists a.xs.now a.ys.now a.pitches.now) a.shades.now a.sheet.now a.attached.now a.settings a.params _ c.check_arguments-checked.ensures _ c.in-Refused.is in
     record { attached_after = both_clauses.0; said = both_clauses.1 }
 
 pub fill_accepted-requires : goal.fill_accepted-requires
@@ -16,5 +15,5 @@ fill_accepted-requires c = let a = c.args in call_accepted (corner_lists a.xs.no
 pub returns : goal.returns
 returns c = let a = c.args in
     let both_clauses =
-      call_done (corner_lists a.xs.now a.ys.now a.pitches.now) a.shades.now a.sheet.now a.attached.now a.settings a.params _ c.check_arguments-checked.ensures c.in_default.is _ c.fill_accepted.ensures in
+    call_done (corner_lists a.xs.now a.ys.now a.pitches.now) a.shades.now a.sheet.now a.attached.now a.settings a.params _ c.check_arguments-checked.ensures c.in_default.is _ c.fill_accepted.ensures in
     record { attached_after = both_clauses.0; said = both_clauses.1 }

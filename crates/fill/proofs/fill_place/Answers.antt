@@ -1,7 +1,6 @@
 -- `fill::fill_place` meets its contract: by the region's test and by the label that the place has now. Assumes nothing.
 use mathlib.Core.Path.{◌≡◌, sym, ap, ◌∙◌}
 use mathlib.Core.Bool.{true, not}
-use borrow.Author.Rules.{rules}
 use borrow.Author.Tests.{not-true, not-false}
 use Rattle.sheet.specs.Cells.{cell_of}
 use Rattle.sheet.proofs.Laws.{cell_on_lem}

@@ -4,8 +4,7 @@ use Prim.Native.Nat.{◌-◌}
 use native.Mathlib.Omega.{arith}
 use Rattle.region.proofs.Near.{box_small}
 use Rattle.region.proofs.Jumps.{box_on}
-use Rattle.sheet.specs.Corners.{corners_in}
-use Rattle.fill.proofs.Walk.{Walking, walking_start, walking_more, walking_jumps, walking_end}
+use Rattle.fill.proofs.Walk.{walking_start, walking_more, walking_jumps, walking_end}
 use Rattle.fill.proofs.fill_round.Goals as goal
 
 pub label_box-around-requires : goal.label_box-around-requires

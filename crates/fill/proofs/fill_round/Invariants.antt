@@ -1,11 +1,8 @@
 -- `fill::fill_round` meets its contract: at each place the buffers hold what the round's list leaves after the places passed; those out of the window
 -- are jumped over. Assumes nothing.
 use Prim.Native.Nat.{◌-◌}
-use native.Mathlib.Omega.{arith}
-use Rattle.region.proofs.Near.{box_small}
-use Rattle.region.proofs.Jumps.{box_on}
 use Rattle.sheet.specs.Corners.{corners_in}
-use Rattle.fill.proofs.Walk.{Walking, walking_start, walking_more, walking_jumps, walking_end}
+use Rattle.fill.proofs.Walk.{Walking}
 use Rattle.fill.proofs.fill_round.Given as goal
 
 abbrev pub invariant-loop-place : goal.invariant-loop-place

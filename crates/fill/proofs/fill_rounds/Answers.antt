@@ -2,8 +2,7 @@
 use mathlib.Core.Path.{◌∙◌}
 use Prim.Native.Nat.{◌-◌}
 use native.Mathlib.Omega.{arith}
-use Rattle.sheet.specs.Corners.{corners_in}
-use Rattle.fill.proofs.Rounds.{Rounding, rounding_start, rounding_last, rounding_more, rounding_end}
+use Rattle.fill.proofs.Rounds.{rounding_start, rounding_last, rounding_more, rounding_end}
 use Rattle.fill.proofs.fill_rounds.Goals as goal
 
 pub loop-rounds-init : goal.loop-rounds-init

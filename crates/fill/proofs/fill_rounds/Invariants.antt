@@ -1,9 +1,7 @@
 -- `fill::fill_rounds` meets its contract: after each round the rounds that are left lead to the same end. Assumes nothing.
-use mathlib.Core.Path.{◌∙◌}
 use Prim.Native.Nat.{◌-◌}
-use native.Mathlib.Omega.{arith}
 use Rattle.sheet.specs.Corners.{corners_in}
-use Rattle.fill.proofs.Rounds.{Rounding, rounding_start, rounding_last, rounding_more, rounding_end}
+use Rattle.fill.proofs.Rounds.{Rounding}
 use Rattle.fill.proofs.fill_rounds.Given as goal
 
 abbrev pub invariant-loop-rounds : goal.invariant-loop-rounds

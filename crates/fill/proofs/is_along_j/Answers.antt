@@ -1,7 +1,6 @@
 -- `fill::is_along_j` meets its contract, by its two tests. Assumes nothing.
 use mathlib.Core.Bool.{not}
 use mathlib.Core.Path.{sym, ◌∙◌, ap}
-use borrow.Author.Rules.{rules}
 use borrow.Author.Tests.{not-true, not-false}
 use Rattle.region.proofs.Near.{first_fails, second_says}
 use Rattle.fill.proofs.is_along_j.Goals as goal

@@ -1,6 +1,5 @@
 -- `fill::is_fill_cell` meets its contract, by the box and the two tests. Assumes nothing.
 use mathlib.Core.Path.{sym, ◌∙◌}
-use borrow.Author.Rules.{rules}
 use Rattle.fill.proofs.Region.{along_j, along_i}
 use Rattle.fill.proofs.is_fill_cell.Goals as goal
 

@@ -10,7 +10,6 @@ use Rattle.passes.specs.Grow.{tolerances_of}
 use Rattle.passes.specs.Fill.{fill_search, fill_with, fill_visit}
 use Rattle.fill.specs.Filling.{state_of, Taking}
 use Rattle.fill.proofs.Visit.{visit_none, visit_found, untouched, taking_room, taking_fits, found_none, found_ambiguous, found_refused, found_corner}
-use borrow.Author.Rules.{rules}
 use Rattle.fill.proofs.try_fill_cell.Goals as goal
 use Rattle.fill.proofs.try_fill_cell.Goals.{After-try_attach_at_cell-found, In-Attached}
 

@@ -2,7 +2,7 @@
 use Prim.Native.Nat.{◌-◌}
 use native.Mathlib.Omega.{arith}
 use borrow.Author.Rules.{rules}
-use Rattle.fit_export.proofs.Entering.{Entering, begun, still, more, done}
+use Rattle.fit_export.proofs.Entering.{begun, still, more, done}
 use Rattle.fit_export.proofs.enter.Goals as goal
 
 pub loop-n-init : goal.loop-n-init

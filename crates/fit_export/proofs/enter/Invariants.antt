@@ -1,8 +1,6 @@
 -- `fit_export::enter` meets its contract. The loop's invariant: the first n places are the entries, and the rest is as it was. Assumes nothing.
 use Prim.Native.Nat.{◌-◌}
-use native.Mathlib.Omega.{arith}
-use borrow.Author.Rules.{rules}
-use Rattle.fit_export.proofs.Entering.{Entering, begun, still, more, done}
+use Rattle.fit_export.proofs.Entering.{Entering}
 use Rattle.fit_export.proofs.enter.Given as goal
 
 abbrev pub invariant-loop-n : goal.invariant-loop-n

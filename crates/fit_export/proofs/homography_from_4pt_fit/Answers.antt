@@ -1,8 +1,5 @@
 -- `fit_export::homography_from_4pt_fit` meets its contract: too short, no fit, a fit. Assumes nothing.
-use mathlib.Core.Bool.{not}
-use mathlib.Core.Path.{ap}
 use native.Mathlib.Omega.{arith}
-use borrow.Author.Rules.{rules}
 use Rattle.fit_export.proofs.Leaving.{long_enough, leaves_short, leaves_none, leaves_fit}
 use Rattle.fit_export.proofs.homography_from_4pt_fit.Goals as goal
 

@@ -2,7 +2,6 @@
 use mathlib.Core.Path.{refl}
 use Rattle.elimination.specs.Tables.{table}
 use Rattle.fit_export.specs.FitCall.{points_of}
-use borrow.Author.Rules.{rules}
 use Rattle.fit_export.proofs.points_of.Goals as goal
 
 pub returns : goal.returns

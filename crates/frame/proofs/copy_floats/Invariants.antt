@@ -1,8 +1,7 @@
 -- `frame::copy_floats` meets its contract: entry by entry. Assumes nothing.
 use Prim.Native.Nat.{◌-◌}
-use native.Mathlib.Omega.{arith}
 use Rattle.sizes.specs.Sizes.{corner_limit}
-use Rattle.frame.proofs.Leaving.{Copying, copying_start, copying_more, copied}
+use Rattle.frame.proofs.Leaving.{Copying}
 use Rattle.frame.proofs.copy_floats.Given as goal
 
 abbrev pub invariant-loop-i : goal.invariant-loop-i

@@ -1,8 +1,6 @@
 -- `frame::copy_words` meets its contract: entry by entry. Assumes nothing.
 use Prim.Native.Nat.{◌-◌}
-use native.Mathlib.Omega.{arith}
-use Rattle.sizes.specs.Sizes.{all_pass_words}
-use Rattle.frame.proofs.Leaving.{Copying, copying_start, copying_more, copied}
+use Rattle.frame.proofs.Leaving.{copying_start, copying_more, copied}
 use Rattle.frame.proofs.copy_words.Goals as goal
 
 pub loop-i-init : goal.loop-i-init

@@ -1,8 +1,7 @@
 -- `frame::copy_words` meets its contract: entry by entry. Assumes nothing.
 use Prim.Native.Nat.{◌-◌}
-use native.Mathlib.Omega.{arith}
 use Rattle.sizes.specs.Sizes.{all_pass_words}
-use Rattle.frame.proofs.Leaving.{Copying, copying_start, copying_more, copied}
+use Rattle.frame.proofs.Leaving.{Copying}
 use Rattle.frame.proofs.copy_words.Given as goal
 
 abbrev pub invariant-loop-i : goal.invariant-loop-i

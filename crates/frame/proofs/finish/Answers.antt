@@ -1,10 +1,7 @@
 -- `frame::finish` meets its contract: without a patch line nothing is done, else the sets are joined. Assumes nothing.
-use mathlib.Core.Bool.{not}
-use mathlib.Core.Path.{sym, ap, ◌∙◌}
-use native.Mathlib.Omega.{arith}
+use mathlib.Core.Path.{sym, ap}
 use Rattle.frame.specs.Reading.{finished_as}
 use Rattle.frame.proofs.Turn.{finish_one, finish_as}
-use borrow.Author.Rules.{rules}
 use Rattle.frame.proofs.finish.Goals as goal
 
 pub returns-then-not-p : goal.returns-then-not-p

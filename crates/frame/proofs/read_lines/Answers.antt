@@ -3,10 +3,8 @@ use mathlib.Core.Path.{refl, sym, ◌∙◌}
 use Prim.Native.Nat.{◌-◌, ◌<◌, ◌≤◌}
 use native.Mathlib.Omega.{arith}
 use lib.ListN.{length}
-use Rattle.frame_state.specs.State.{arrays}
 use Rattle.line_form.proofs.Lines.{end_after, end_inside}
-use Rattle.frame.proofs.Turn.{Turning, turning_start, turn_room, turn_stopped, turn_onward, end_missing, finishable, end_finished}
-use borrow.Author.Rules.{rules}
+use Rattle.frame.proofs.Turn.{turning_start, turn_room, turn_stopped, turn_onward, end_missing, finishable, end_finished}
 use Rattle.frame.proofs.read_lines.Goals as goal
 use Rattle.frame.proofs.read_lines.Goals.{After-line_end-end}
 

@@ -1,12 +1,8 @@
 -- `frame::read_lines` meets its contract: a line a turn, and what is left leads where the whole text does. Assumes nothing.
-use mathlib.Core.Path.{refl, sym, ◌∙◌}
-use Prim.Native.Nat.{◌-◌, ◌<◌, ◌≤◌}
-use native.Mathlib.Omega.{arith}
+use Prim.Native.Nat.{◌-◌}
 use lib.ListN.{length}
 use Rattle.frame_state.specs.State.{arrays}
-use Rattle.line_form.proofs.Lines.{end_after, end_inside}
-use Rattle.frame.proofs.Turn.{Turning, turning_start, turn_room, turn_stopped, turn_onward, end_missing, finishable, end_finished}
-use borrow.Author.Rules.{rules}
+use Rattle.frame.proofs.Turn.{Turning}
 use Rattle.frame.proofs.read_lines.Given as goal
 
 abbrev pub invariant-loop-at : goal.invariant-loop-at

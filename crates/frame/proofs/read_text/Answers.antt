@@ -2,7 +2,6 @@
 use native.Mathlib.Omega.{arith}
 use Rattle.frame.proofs.Adding.{nothing_held}
 use Rattle.frame.proofs.Leaving.{whole_read, text_refused, copies, shades_held, sheet_held, text_accepted}
-use borrow.Author.Rules.{rules}
 use Rattle.frame.proofs.read_text.Goals as goal
 
 pub read_lines-read-requires : goal.read_lines-read-requires

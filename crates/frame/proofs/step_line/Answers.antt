@@ -1,6 +1,5 @@
 -- `frame::step_line` meets its contract: the line is read, checked in its turn and added. Assumes nothing.
 use Rattle.frame.proofs.Turn.{step_no, step_row, step_stopped, step_addable, step_onward}
-use borrow.Author.Rules.{rules}
 use Rattle.frame.proofs.step_line.Goals as goal
 
 pub check_line-checked-requires : goal.check_line-checked-requires

@@ -1,8 +1,7 @@
 -- `answer_lines` meets its contract. Assumes nothing.
 use native.Mathlib.Omega.{arith}
-use mathlib.Core.Path.{◌≡◌, refl, sym, ap, ◌∙◌, subst}
+use mathlib.Core.Path.{refl, subst}
 use Rattle.frame_answer.specs.Answer.{held_lines, FewPasses}
-use borrow.Author.Rules.{rules}
 use Rattle.frame_answer.proofs.answer_lines.Reads as reads
 use Rattle.frame_answer.proofs.answer_lines.Lts as lts
 use Rattle.frame_answer.proofs.answer_lines.Goals as goal

@@ -1,6 +1,5 @@
 -- `answer_piece` meets its contract. Assumes nothing.
 use Rattle.frame_answer.proofs.Printing.{case_refused, case_done, case_below, case_wrote, case_first}
-use borrow.Author.Rules.{rules}
 use Rattle.frame_answer.proofs.answer_piece.Reads as reads
 use Rattle.frame_answer.proofs.answer_piece.Lts as lts
 use Rattle.frame_answer.proofs.refused_piece.Reads as refused-piece-reads
@@ -18,7 +17,7 @@ result_piece-requires c =
 pub returns-in-Refused : goal.returns-in-Refused
 returns-in-Refused c =
     let both_clauses =
-      case_first c.args.answer c.args.words.now c.args.sheet.now c.requires.can_say c.args.from c.requires.from_bound _ _ c.in-Refused.is _ _ _ _ c.refused_piece.ensures.wrote_piece c.refused_piece.ensures.moves in
+    case_first c.args.answer c.args.words.now c.args.sheet.now c.requires.can_say c.args.from c.requires.from_bound _ _ c.in-Refused.is _ _ _ _ c.refused_piece.ensures.wrote_piece c.refused_piece.ensures.moves in
     record { wrote_piece = both_clauses.0; moves = both_clauses.1 }
 
 pub returns-in-Done : goal.returns-in-Done

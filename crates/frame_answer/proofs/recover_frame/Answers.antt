@@ -1,6 +1,5 @@
 -- `recover_frame` meets its contract. Assumes nothing.
 use Rattle.frame_answer.proofs.Recovering.{recovered_not, frame_ready, recovered_done}
-use borrow.Author.Rules.{rules}
 use Rattle.frame_answer.proofs.recover_frame.Goals as goal
 
 pub run_frame-requires : goal.run_frame-requires

@@ -1,7 +1,5 @@
 -- `refused_piece` meets its contract. Assumes nothing.
 use Rattle.frame_answer.proofs.Printing.{wrote_refused, moves_refused}
-use mathlib.Core.List.{[]}
-use borrow.Author.Rules.{rules}
 use Rattle.frame_answer.proofs.refused_piece.Reads as reads
 use Rattle.frame_answer.proofs.refused_piece.Lts as lts
 use Rattle.frame_answer.proofs.refused_piece.Goals as goal

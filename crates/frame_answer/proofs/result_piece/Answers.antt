@@ -1,6 +1,5 @@
 -- `result_piece` meets its contract. Assumes nothing.
 use Rattle.frame_answer.proofs.Printing.{wrote_piece, not_refused, moves_result}
-use borrow.Author.Rules.{rules}
 use Rattle.frame_answer.proofs.result_piece.Reads as reads
 use Rattle.frame_answer.proofs.result_piece.Lts as lts
 use Rattle.report.proofs.write_result_piece.Reads as write-result-piece-reads

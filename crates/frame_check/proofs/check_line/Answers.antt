@@ -3,7 +3,6 @@ use mathlib.Core.Path.{◌≡◌, sym, ◌∙◌}
 use mathlib.Core.Bool.{Bool, false}
 use Prim.Native.Nat.{ℕ, ◌<◌}
 use native.Mathlib.Omega.{arith}
-use borrow.Author.Rules.{rules}
 use Rattle.labels.specs.Labelled.{any_below}
 use Rattle.frame_line.specs.Held.{outside_held, is_refusal}
 use Rattle.frame_line.proofs.Checking.{has_is}

@@ -1,7 +1,6 @@
 -- `frame_check::first_twice` meets its contract. Assumes nothing.
 use Prim.Native.Nat.{◌<◌}
 use native.Mathlib.Omega.{arith}
-use borrow.Author.Rules.{rules}
 use borrow.Author.Tests.{eq-eqb, ne_eqb}
 use Rattle.sheet.proofs.Laws.{place_in}
 use Rattle.frame_check.proofs.first_twice.Goals as goal

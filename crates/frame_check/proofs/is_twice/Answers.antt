@@ -1,17 +1,8 @@
 -- `frame_check::is_twice` meets its contract, by the kind. Assumes nothing.
 use mathlib.Core.Path.{sym, ap, ◌∙◌}
-use borrow.Author.Rules.{rules}
 use Rattle.frame_check.specs.Checks.{label_twice, shade_twice, twice_of}
 use Rattle.frame_check.proofs.Laws.{set_fits, shade_fits}
 use Rattle.frame_check.proofs.is_twice.Goals as goal
-
-
-
-
-
-
-
-
 
 pub returns-in-Opening : goal.returns-in-Opening
 unfolding twice_of

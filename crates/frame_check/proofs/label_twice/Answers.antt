@@ -1,5 +1,4 @@
 -- `frame_check::label_twice` meets its contract, by the set that is open. Assumes nothing.
-use borrow.Author.Rules.{rules}
 use Rattle.frame_check.proofs.label_twice.Goals as goal
 
 pub returns-then-patched : goal.returns-then-patched

@@ -2,8 +2,7 @@
 use Prim.Native.Nat.{◌-◌}
 use native.Mathlib.Omega.{arith}
 use borrow.Author.Tests.{eq-eqb, ne_eqb}
-use Rattle.labels.proofs.Below.{Searching, searching_start, searching_more, searching_hit, searching_end}
-use Rattle.frame_check.specs.Checks.{has_place}
+use Rattle.labels.proofs.Below.{searching_start, searching_more, searching_hit, searching_end}
 use Rattle.frame_check.proofs.place_taken.Goals as goal
 
 pub returns-then-second-i : goal.returns-then-second-i

@@ -1,8 +1,6 @@
 -- `frame_check::place_taken` meets its contract: no label passed has the place. Assumes nothing.
 use Prim.Native.Nat.{◌-◌}
-use native.Mathlib.Omega.{arith}
-use borrow.Author.Tests.{eq-eqb, ne_eqb}
-use Rattle.labels.proofs.Below.{Searching, searching_start, searching_more, searching_hit, searching_end}
+use Rattle.labels.proofs.Below.{Searching}
 use Rattle.frame_check.specs.Checks.{has_place}
 use Rattle.frame_check.proofs.place_taken.Given as goal
 

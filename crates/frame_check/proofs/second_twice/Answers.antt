@@ -2,7 +2,6 @@
 use mathlib.Core.Path.{sym, ◌∙◌}
 use Prim.Native.Nat.{◌<◌}
 use native.Mathlib.Omega.{arith}
-use borrow.Author.Rules.{rules}
 use Rattle.sheet.proofs.Laws.{place_in}
 use Rattle.frame_check.proofs.second_twice.Goals as goal
 use Rattle.frame_check.proofs.second_twice.Goals.{After-place_of-place}

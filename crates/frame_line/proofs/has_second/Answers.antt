@@ -1,5 +1,4 @@
 -- `frame_line::has_second` meets its contract. Assumes nothing.
-use borrow.Author.Rules.{rules}
 use borrow.Author.Tests.{lt-leb, le-leb}
 use Rattle.frame_line.proofs.has_second.Goals as goal
 

@@ -1,5 +1,4 @@
 -- `frame_line::letters_of` meets its contract: the bytes of the table. Assumes nothing.
-use borrow.Author.Rules.{rules}
 use Rattle.frame_line.specs.Table.{rows}
 use Rattle.frame_line.proofs.Rows.{letters_are}
 use Rattle.frame_line.proofs.letters_of.Goals as goal

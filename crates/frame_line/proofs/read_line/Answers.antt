@@ -4,15 +4,14 @@ use mathlib.Core.Bool.{not}
 use mathlib.Core.List.{List}
 use Prim.Native.Nat.{ℕ, ◌-◌}
 use native.Mathlib.Omega.{arith}
-use borrow.Author.Rules.{rules}
 use borrow.Author.Tests.{not-true}
 use Rattle.line_form.specs.Forms.{fit_of}
 use Rattle.line_form.specs.Held.{held_fit}
 use Rattle.line_form.specs.declared.read.LineFit.{LineFit}
-use Rattle.frame_line.specs.Table.{rows, row_count, form_at}
+use Rattle.frame_line.specs.Table.{rows, form_at}
 use Rattle.frame_line.specs.Held.{held_read}
 use Rattle.frame_line.proofs.Rows.{ordered, inside, form_is, second_other}
-use Rattle.frame_line.proofs.Laws.{Looking, looking_start, looking_more, looking_end, held_hit, held_more}
+use Rattle.frame_line.proofs.Laws.{looking_start, looking_more, looking_end, held_hit, held_more}
 use Rattle.frame_line.proofs.read_line.Goals as goal
 use Rattle.frame_line.proofs.read_line.Goals.{After-fit_line-fit}
 
@@ -28,10 +27,6 @@ pub loop-row-init : goal.loop-row-init
 unfolding rows held_read
 loop-row-init c = looking_start _
 
-
-
-
-
 pub overflow_add-from : goal.overflow_add-from
 unfolding rows held_read
 overflow_add-from c = omega (arith, ordered c.loop-row.row c.loop-row-test.true, inside c.loop-row.row c.loop-row-test.true)
@@ -39,8 +34,6 @@ overflow_add-from c = omega (arith, ordered c.loop-row.row c.loop-row-test.true,
 pub bounds-forms-from : goal.bounds-forms-from
 unfolding rows held_read
 bounds-forms-from c = omega (arith, ordered c.loop-row.row c.loop-row-test.true, inside c.loop-row.row c.loop-row-test.true)
-
-
 
 pub slice_bounds-fit_line-count : goal.slice_bounds-fit_line-count
 unfolding rows held_read
@@ -57,7 +50,6 @@ slice_bounds-fit_line-end c = inside c.loop-row.row c.loop-row-test.true
 pub returns-then-fit : goal.returns-then-fit
 unfolding rows held_read
 returns-then-fit c = held_hit c.loop-row.invariant c.loop-row-test.true _ (fit (goal.at.returns-then-fit c).After-fit_line-fit) c.if-fit.true
-
 
 pub loop-row-preserved : goal.loop-row-preserved
 unfolding rows held_read

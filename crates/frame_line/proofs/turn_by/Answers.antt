@@ -1,5 +1,4 @@
 -- `frame_line::turn_by` meets its contract. Assumes nothing.
-use borrow.Author.Rules.{rules}
 use borrow.Author.Tests.{lt-ltb, le-ltb}
 use Rattle.frame_line.proofs.turn_by.Goals as goal
 

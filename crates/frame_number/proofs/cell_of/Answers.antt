@@ -1,6 +1,5 @@
 -- `frame_number::cell_of` meets its contract: both numbers less 1,000,000 fit. Assumes nothing.
 use native.Mathlib.Omega.{arith}
-use borrow.Author.Rules.{rules}
 use lib.IntN.{pos}
 use Rattle.sheet.proofs.Laws.{sub_fits, sub_read}
 use Rattle.frame_number.proofs.cell_of.Goals as goal

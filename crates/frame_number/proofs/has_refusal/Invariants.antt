@@ -1,8 +1,6 @@
 -- `frame_number::has_refusal` meets its contract: none of those passed is the refusal. Assumes nothing.
 use Prim.Native.Nat.{◌-◌}
-use native.Mathlib.Omega.{arith}
-use borrow.Author.Tests.{eq-eqb, ne_eqb}
-use Rattle.labels.proofs.Below.{Searching, searching_start, searching_more, searching_hit, searching_end}
+use Rattle.labels.proofs.Below.{Searching}
 use Rattle.frame_line.specs.Held.{is_refusal}
 use Rattle.frame_number.proofs.has_refusal.Given as goal
 

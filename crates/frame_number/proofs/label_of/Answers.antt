@@ -1,5 +1,4 @@
 -- `frame_number::label_of` meets its contract. Assumes nothing.
-use borrow.Author.Rules.{rules}
 use Rattle.frame_number.proofs.label_of.Goals as goal
 
 pub returns : goal.returns

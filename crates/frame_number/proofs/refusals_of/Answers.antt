@@ -1,5 +1,4 @@
 -- `frame_number::refusals_of` meets its contract. Assumes nothing.
-use borrow.Author.Rules.{rules}
 use Rattle.frame_line.specs.Table.{sort_at}
 use Rattle.frame_line.specs.Held.{refusals_in}
 use Rattle.frame_line.proofs.Rows.{letters_are}

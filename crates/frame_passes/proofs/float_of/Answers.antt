@@ -1,8 +1,7 @@
 -- `float_of` meets its contract: what is no pattern of a number is a NaN. Assumes nothing.
-use borrow.Author.Rules.{rules}
 use Rattle.frame_passes.proofs.float_of.Reads as reads
 use Rattle.frame_passes.proofs.float_of.Lts as lts
-use mathlib.Core.Path.{◌≡◌, refl, sym, ap, ◌∙◌}
+use mathlib.Core.Path.{sym}
 use Rattle.binary32.proofs.Answered.{pattern}
 use Rattle.frame_passes.proofs.Words.{nan_pattern}
 use lib.Ieee.{of_bits, div}

@@ -1,5 +1,4 @@
 -- `pass_at` meets its contract. Assumes nothing.
-use borrow.Author.Rules.{rules}
 use Rattle.frame_passes.proofs.pass_at.Reads as reads
 use Rattle.frame_passes.proofs.pass_at.Lts as lts
 use Rattle.frame_passes.proofs.float_of.Reads as float-of-reads

@@ -1,7 +1,6 @@
 -- `run_frame` meets its contract. Assumes nothing.
 use native.Mathlib.Omega.{arith}
 use lib.ListN.{length-take}
-use borrow.Author.Rules.{rules}
 use Rattle.frame_passes.proofs.run_frame.Goals as goal
 
 pub slice_bounds-run_passes-end : goal.slice_bounds-run_passes-end

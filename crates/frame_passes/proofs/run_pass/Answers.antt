@@ -4,7 +4,6 @@ use Rattle.frame_passes.proofs.Running.{small_fits, pass_left_lem}
 use Rattle.pass_call.specs.Call.{call_of}
 use lib.ListN.{length}
 use native.Mathlib.Omega.{arith}
-use borrow.Author.Rules.{rules}
 use Rattle.frame_passes.proofs.run_pass.Goals as goal
 
 pub put_outcome-requires : goal.put_outcome-requires

@@ -2,8 +2,7 @@
 use Prim.Native.Nat.{◌-◌}
 use native.Mathlib.Omega.{arith}
 use native.Mathlib.Numerals.{add-one}
-use Rattle.sheet.specs.Corners.{corner_lists}
-use Rattle.frame_passes.proofs.Running.{Turning, first_turn, next_turn, last_turn}
+use Rattle.frame_passes.proofs.Running.{first_turn, next_turn, last_turn}
 use Rattle.frame_passes.proofs.run_passes.Goals as goal
 
 pub loop-k-init : goal.loop-k-init

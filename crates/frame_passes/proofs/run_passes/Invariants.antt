@@ -1,9 +1,7 @@
 -- `run_passes` meets its contract. Assumes nothing.
 use Prim.Native.Nat.{◌-◌}
-use native.Mathlib.Omega.{arith}
-use native.Mathlib.Numerals.{add-one}
 use Rattle.sheet.specs.Corners.{corner_lists}
-use Rattle.frame_passes.proofs.Running.{Turning, first_turn, next_turn, last_turn}
+use Rattle.frame_passes.proofs.Running.{Turning}
 use Rattle.frame_passes.proofs.run_passes.Given as goal
 
 abbrev pub invariant-loop-k : goal.invariant-loop-k

@@ -1,5 +1,4 @@
 -- `frame_state::add_label` meets its contract, by the set that is open. Assumes nothing.
-use borrow.Author.Rules.{rules}
 use Rattle.frame_state.proofs.Laws.{to_second, to_first}
 use Rattle.frame_state.proofs.add_label.Goals as goal
 

@@ -2,7 +2,6 @@
 use mathlib.Core.Path.{sym, ◌∙◌}
 use Rattle.frame_state.proofs.Laws.{opening_fits, corner_fits, labels_room, shade_room, pass_fits, label_added_lem}
 use Rattle.frame_state.specs.State.{adds_as}
-use borrow.Author.Rules.{rules}
 use Rattle.frame_state.proofs.add_line.Goals as goal
 
 pub with_opening-requires : goal.with_opening-requires

@@ -1,5 +1,4 @@
 -- `frame_state::fill_words` meets its contract. Assumes nothing.
-use borrow.Author.Rules.{rules}
 use Rattle.frame_state.proofs.fill_words.Goals as goal
 
 pub returns : goal.returns

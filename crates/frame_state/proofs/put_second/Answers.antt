@@ -2,7 +2,6 @@
 use mathlib.Core.Path.{refl}
 use Prim.Native.Nat.{◌<◌}
 use native.Mathlib.Omega.{arith}
-use borrow.Author.Rules.{rules}
 use Rattle.sheet.proofs.Laws.{place_in}
 use Rattle.frame_state.proofs.put_second.Goals as goal
 use Rattle.frame_state.proofs.put_second.Goals.{After-place_of-place}

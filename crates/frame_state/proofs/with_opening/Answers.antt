@@ -1,5 +1,4 @@
 -- `frame_state::with_opening` meets its contract, by the kind. Assumes nothing.
-use borrow.Author.Rules.{rules}
 use Rattle.frame_state.proofs.with_opening.Goals as goal
 
 pub with_cell_size-requires : goal.with_cell_size-requires

@@ -1,5 +1,4 @@
 -- `frame_state::words_of` meets its contract, by the pass. Assumes nothing.
-use borrow.Author.Rules.{rules}
 use Rattle.frame_state.proofs.words_of.Goals as goal
 
 pub returns-in-BareGrow : goal.returns-in-BareGrow

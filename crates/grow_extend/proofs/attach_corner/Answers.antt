@@ -2,7 +2,6 @@
 use native.Mathlib.Omega.{arith}
 use Rattle.sheet.proofs.Laws.{place_in}
 use Rattle.grow_extend.proofs.Laws.{attached_room, settled_attached}
-use borrow.Author.Rules.{rules}
 use Rattle.grow_extend.proofs.attach_corner.Goals as goal
 
 pub overflow_cast-attached : goal.overflow_cast-attached

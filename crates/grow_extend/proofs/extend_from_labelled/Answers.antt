@@ -1,7 +1,6 @@
 -- `grow_extend::extend_from_labelled` meets its contract: refused, with nothing written, or the pass done. Assumes nothing.
 use Rattle.sheet.specs.Corners.{corner_lists}
 use Rattle.grow_extend.proofs.Laws.{call_refused, call_accepted, call_done}
-use borrow.Author.Rules.{rules}
 use Rattle.grow_extend.proofs.extend_from_labelled.Goals as goal
 
 pub extend-requires : goal.extend-requires
@@ -13,12 +12,12 @@ pub returns-in-Refused : goal.returns-in-Refused
 returns-in-Refused c =
     let a = c.args in
     let both_clauses =
-      call_refused (corner_lists a.xs.now a.ys.now a.pitches.now) a.settings a.params a.shades.now a.sheet.now a.queue.now a.attached.now c.check_arguments-checked.ensures c.in-Refused.is in
+    call_refused (corner_lists a.xs.now a.ys.now a.pitches.now) a.settings a.params a.shades.now a.sheet.now a.queue.now a.attached.now c.check_arguments-checked.ensures c.in-Refused.is in
     record { attached_after = both_clauses.0; said = both_clauses.1 }
 
 pub returns-in-Fine : goal.returns-in-Fine
 returns-in-Fine c =
     let a = c.args in
     let both_clauses =
-      call_done (corner_lists a.xs.now a.ys.now a.pitches.now) a.settings a.params a.shades.now a.sheet.now a.queue.now a.attached.now c.check_arguments-checked.ensures c.in-Fine.is c.extend.ensures in
+    call_done (corner_lists a.xs.now a.ys.now a.pitches.now) a.settings a.params a.shades.now a.sheet.now a.queue.now a.attached.now c.check_arguments-checked.ensures c.in-Fine.is c.extend.ensures in
     record { attached_after = both_clauses.0; said = both_clauses.1 }

@@ -2,8 +2,7 @@
 -- cells that are left it is what it shall be. The measure is what is left of 4,096 cells, four a corner. Assumes nothing.
 use Prim.Native.Nat.{◌-◌}
 use native.Mathlib.Omega.{arith}
-use Rattle.sheet.specs.Corners.{corners_in}
-use Rattle.grow_extend.proofs.Laws.{Running, running_start, running_queue, running_news, place_below, head_few, head_in, running_visitable, running_more, running_end}
+use Rattle.grow_extend.proofs.Laws.{running_start, running_queue, running_news, place_below, head_few, head_in, running_visitable, running_more, running_end}
 use Rattle.grow_extend.proofs.grow.Goals as goal
 
 pub loop-head-init : goal.loop-head-init

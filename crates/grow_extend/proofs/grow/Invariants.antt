@@ -1,9 +1,8 @@
 -- `grow_extend::grow` meets its contract. The loop's invariant: what the buffers hold is a state of the definition's run, and with the
 -- cells that are left it is what it shall be. The measure is what is left of 4,096 cells, four a corner. Assumes nothing.
 use Prim.Native.Nat.{◌-◌}
-use native.Mathlib.Omega.{arith}
 use Rattle.sheet.specs.Corners.{corners_in}
-use Rattle.grow_extend.proofs.Laws.{Running, running_start, running_queue, running_news, place_below, head_few, head_in, running_visitable, running_more, running_end}
+use Rattle.grow_extend.proofs.Laws.{Running}
 use Rattle.grow_extend.proofs.grow.Given as goal
 
 abbrev pub invariant-loop-head : goal.invariant-loop-head

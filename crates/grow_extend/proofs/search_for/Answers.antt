@@ -1,6 +1,5 @@
 -- `grow_extend::search_for` meets its contract. Assumes nothing.
 use Rattle.passes.specs.Grow.{search_of}
-use borrow.Author.Rules.{rules}
 use Rattle.grow_extend.proofs.search_for.Goals as goal
 
 pub returns : goal.returns

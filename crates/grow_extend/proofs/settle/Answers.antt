@@ -1,6 +1,5 @@
 -- `grow_extend::settle` meets its contract, by each of the four results. Assumes nothing.
 use Rattle.grow_extend.proofs.Laws.{settled_none, settled_ambiguous, settled_edge}
-use borrow.Author.Rules.{rules}
 use Rattle.grow_extend.proofs.settle.Goals as goal
 
 pub attach_corner-requires : goal.attach_corner-requires

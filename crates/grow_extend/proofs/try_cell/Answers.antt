@@ -2,7 +2,6 @@
 use Rattle.sheet.specs.Corners.{corner_in}
 use Rattle.sheet.proofs.Corners.{given_more}
 use Rattle.grow_extend.proofs.Laws.{found_none, found_at_lem}
-use borrow.Author.Rules.{rules}
 use Rattle.grow_extend.proofs.try_cell.Goals as goal
 
 pub predict_from_neighbours-prediction-requires : goal.predict_from_neighbours-prediction-requires

@@ -1,7 +1,6 @@
 -- `grow_extend::visit` meets its contract: a visit is what was found, settled. Assumes nothing.
 use Rattle.sheet.specs.Corners.{corners_in}
 use Rattle.grow_extend.proofs.Laws.{visit_settled, visit_settleable}
-use borrow.Author.Rules.{rules}
 use Rattle.grow_extend.proofs.visit.Goals as goal
 
 pub settle-requires : goal.settle-requires

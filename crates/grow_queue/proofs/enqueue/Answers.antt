@@ -7,9 +7,8 @@ use borrow.Author.Tests.{not-true, not-false}
 use native.Mathlib.Omega.{arith}
 use Rattle.sheet.specs.Cells.{on_sheet}
 use Rattle.grow_queue.proofs.Laws.{place_below, queue_off, queue_labelled, queue_seen, queue_new}
-use borrow.Author.Rules.{rules}
 use Rattle.grow_queue.proofs.enqueue.Goals as goal
-use Rattle.grow_queue.proofs.enqueue.Goals.{After-place_of-place, After-shared_slice_known-2-1, Else-not-on_sheet}
+use Rattle.grow_queue.proofs.enqueue.Goals.{After-place_of-place, Else-not-on_sheet}
 
 -- past the first test the cell is on the sheet, and its place is below 16,384
 on : (c : Else-not-on_sheet) → on_sheet c.args.c ≡ true

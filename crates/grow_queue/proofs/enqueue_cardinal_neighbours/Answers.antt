@@ -5,7 +5,7 @@ use Prim.Native.Nat.{◌-◌}
 use native.Mathlib.Omega.{arith}
 use Rattle.sheet.specs.Cells.{moved}
 use Rattle.positions_policy.proofs.Search.{cardinal_within}
-use Rattle.grow_queue.proofs.Laws.{Spreading, spreading_start, spreading_length, spreading_room, spreading_more, spreading_end}
+use Rattle.grow_queue.proofs.Laws.{spreading_start, spreading_length, spreading_room, spreading_more, spreading_end}
 use Rattle.grow_queue.proofs.enqueue_cardinal_neighbours.Goals as goal
 
 pub loop-k-init : goal.loop-k-init

@@ -1,11 +1,7 @@
 -- `grow_queue::enqueue_cardinal_neighbours` meets its contract. The loop's invariant: what is queued so far, with the neighbours that
 -- are left, is what it shall be. The measure is how many are left. Assumes nothing.
-use mathlib.Core.Path.{ap, ◌∙◌}
 use Prim.Native.Nat.{◌-◌}
-use native.Mathlib.Omega.{arith}
-use Rattle.sheet.specs.Cells.{moved}
-use Rattle.positions_policy.proofs.Search.{cardinal_within}
-use Rattle.grow_queue.proofs.Laws.{Spreading, spreading_start, spreading_length, spreading_room, spreading_more, spreading_end}
+use Rattle.grow_queue.proofs.Laws.{Spreading}
 use Rattle.grow_queue.proofs.enqueue_cardinal_neighbours.Given as goal
 
 abbrev pub invariant-loop-k : goal.invariant-loop-k

@@ -2,7 +2,7 @@
 -- measure is how many places are left. Assumes nothing.
 use Prim.Native.Nat.{◌-◌}
 use native.Mathlib.Omega.{arith}
-use Rattle.grow_queue.proofs.Laws.{Seeding, seeding_start, seeding_length, seeding_room, seeding_more, seeding_skips, seeding_end}
+use Rattle.grow_queue.proofs.Laws.{seeding_start, seeding_length, seeding_room, seeding_more, seeding_skips, seeding_end}
 use Rattle.grow_queue.proofs.seed.Goals as goal
 
 pub next_written-place-requires : goal.next_written-place-requires

@@ -1,8 +1,7 @@
 -- `grow_queue::seed` meets its contract. The loop's invariant: the neighbours of the labelled cells before the place are queued. The
 -- measure is how many places are left. Assumes nothing.
 use Prim.Native.Nat.{◌-◌}
-use native.Mathlib.Omega.{arith}
-use Rattle.grow_queue.proofs.Laws.{Seeding, seeding_start, seeding_length, seeding_room, seeding_more, seeding_skips, seeding_end}
+use Rattle.grow_queue.proofs.Laws.{Seeding}
 use Rattle.grow_queue.proofs.seed.Given as goal
 
 abbrev pub invariant-loop-place : goal.invariant-loop-place

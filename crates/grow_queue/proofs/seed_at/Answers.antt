@@ -2,7 +2,6 @@
 use mathlib.Core.Path.{sym, ◌∙◌}
 use Rattle.sheet.proofs.Laws.{cell_on_lem}
 use Rattle.grow_queue.proofs.Laws.{seed_labelled, seed_bare}
-use borrow.Author.Rules.{rules}
 use Rattle.grow_queue.proofs.seed_at.Goals as goal
 
 pub enqueue_cardinal_neighbours-requires : goal.enqueue_cardinal_neighbours-requires

@@ -1,6 +1,5 @@
 -- `homography::apply` meets its contract. Assumes nothing.
 use Rattle.homography.specs.Fit.{applied}
-use borrow.Author.Rules.{rules}
 use Rattle.homography.proofs.apply.Goals as goal
 
 pub returns : goal.returns

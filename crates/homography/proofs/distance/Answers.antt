@@ -1,6 +1,5 @@
 -- `homography::distance` meets its contract. Assumes nothing.
 use Rattle.homography.specs.Normalize.{distance}
-use borrow.Author.Rules.{rules}
 use Rattle.homography.proofs.distance.Goals as goal
 
 pub returns : goal.returns

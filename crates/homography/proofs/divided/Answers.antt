@@ -3,11 +3,8 @@ use mathlib.Core.Path.{refl}
 use Prim.Native.Nat.{◌-◌}
 use native.Mathlib.Omega.{arith}
 use borrow.Author.Rules.{rules}
-use lib.ListN.{get_or}
-use lib.Ieee.{nan}
-use Rattle.elimination.specs.Rounded.{◌⊘◌}
-use Rattle.homography.specs.Fit.{last_of, quotients}
-use Rattle.elimination.proofs.Tables.{Filling, filling_start, filling_more, filling_whole}
+use Rattle.homography.specs.Fit.{quotients}
+use Rattle.elimination.proofs.Tables.{filling_start, filling_more, filling_whole}
 use Rattle.homography.proofs.divided.Goals as goal
 
 pub loop-n-init : goal.loop-n-init

@@ -1,13 +1,10 @@
 -- `homography::divided` meets its contract. The loop's invariant: the entries passed are divided, and the others as they were. Assumes nothing.
-use mathlib.Core.Path.{refl}
 use Prim.Native.Nat.{◌-◌}
-use native.Mathlib.Omega.{arith}
-use borrow.Author.Rules.{rules}
 use lib.ListN.{get_or}
 use lib.Ieee.{nan}
 use Rattle.elimination.specs.Rounded.{◌⊘◌}
-use Rattle.homography.specs.Fit.{last_of, quotients}
-use Rattle.elimination.proofs.Tables.{Filling, filling_start, filling_more, filling_whole}
+use Rattle.homography.specs.Fit.{last_of}
+use Rattle.elimination.proofs.Tables.{Filling}
 use Rattle.homography.proofs.divided.Given as goal
 
 abbrev pub invariant-loop-n : goal.invariant-loop-n

@@ -1,10 +1,9 @@
 -- `homography::entries_finite` meets its contract. The loop's invariant: the entries passed are finite. Assumes nothing.
 use Prim.Native.Nat.{◌-◌}
-use borrow.Author.Rules.{rules}
 use lib.ListN.{get_or}
 use lib.Ieee.{nan}
 use Rattle.binary32.specs.Ranges.{is_finite}
-use Rattle.elimination.proofs.Tables.{Passing, passing_start, passing_more, passing_stop, passing_end}
+use Rattle.elimination.proofs.Tables.{Passing}
 use Rattle.homography.proofs.entries_finite.Given as goal
 
 abbrev pub invariant-loop-k : goal.invariant-loop-k

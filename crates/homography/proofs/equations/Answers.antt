@@ -1,11 +1,9 @@
 -- `homography::equations` meets its contract. The loop's invariant: the equations passed stand in their places. Assumes nothing.
-use Prim.Native.Nat.{◌-◌, ◌/◌}
-use mathlib.Core.List.{[]}
+use Prim.Native.Nat.{◌-◌}
 use native.Mathlib.Omega.{arith}
 use borrow.Author.Rules.{rules}
-use Rattle.homography.specs.Normalize.{point}
-use Rattle.homography.specs.Equations.{equation, equations}
-use Rattle.elimination.proofs.Tables.{Filling, filling_start, filling_more, filling_whole}
+use Rattle.homography.specs.Equations.{equations}
+use Rattle.elimination.proofs.Tables.{filling_start, filling_more, filling_whole}
 use Rattle.homography.proofs.equations.Goals as goal
 
 pub loop-i-init : goal.loop-i-init

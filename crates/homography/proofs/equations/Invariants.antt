@@ -1,11 +1,8 @@
 -- `homography::equations` meets its contract. The loop's invariant: the equations passed stand in their places. Assumes nothing.
 use Prim.Native.Nat.{◌-◌, ◌/◌}
-use mathlib.Core.List.{[]}
-use native.Mathlib.Omega.{arith}
-use borrow.Author.Rules.{rules}
 use Rattle.homography.specs.Normalize.{point}
-use Rattle.homography.specs.Equations.{equation, equations}
-use Rattle.elimination.proofs.Tables.{Filling, filling_start, filling_more, filling_whole}
+use Rattle.homography.specs.Equations.{equation}
+use Rattle.elimination.proofs.Tables.{Filling}
 use Rattle.homography.proofs.equations.Given as goal
 
 abbrev pub invariant-loop-i : goal.invariant-loop-i

@@ -1,8 +1,5 @@
 -- `homography::homography_from_4pt` meets its contract. Assumes nothing.
-use mathlib.Core.Bool.{not}
-use mathlib.Core.Path.{ap}
 use Rattle.homography.proofs.Fitting.{fit_first, fit_second, fit_third, fit_last}
-use borrow.Author.Rules.{rules}
 use Rattle.homography.proofs.homography_from_4pt.Goals as goal
 
 pub returns-then-not-s : goal.returns-then-not-s

@@ -1,6 +1,5 @@
 -- `homography::map_row` meets its contract. Assumes nothing.
 use Rattle.homography.specs.Normalize.{map_row}
-use borrow.Author.Rules.{rules}
 use Rattle.homography.proofs.map_row.Goals as goal
 
 pub returns : goal.returns

@@ -1,6 +1,5 @@
 -- `homography::moved` meets its contract. Assumes nothing.
 use Rattle.homography.specs.Normalize.{moved}
-use borrow.Author.Rules.{rules}
 use Rattle.homography.proofs.moved.Goals as goal
 
 pub returns : goal.returns

@@ -2,10 +2,8 @@
 use Prim.Native.Nat.{◌-◌}
 use native.Mathlib.Omega.{arith}
 use borrow.Author.Rules.{rules}
-use lib.Ieee.{nan}
-use Rattle.homography.specs.Undo.{crossed, multiplied}
-use Rattle.homography.specs.Normalize.{row_sum}
-use Rattle.elimination.proofs.Tables.{Filling, filling_start, filling_more, filling_whole}
+use Rattle.homography.specs.Undo.{multiplied}
+use Rattle.elimination.proofs.Tables.{filling_start, filling_more, filling_whole}
 use Rattle.homography.proofs.multiply.Goals as goal
 
 pub loop-n-init : goal.loop-n-init

@@ -1,11 +1,9 @@
 -- `homography::multiply` meets its contract. The loop's invariant: the entries passed stand in their places. Assumes nothing.
 use Prim.Native.Nat.{◌-◌}
-use native.Mathlib.Omega.{arith}
-use borrow.Author.Rules.{rules}
 use lib.Ieee.{nan}
-use Rattle.homography.specs.Undo.{crossed, multiplied}
+use Rattle.homography.specs.Undo.{crossed}
 use Rattle.homography.specs.Normalize.{row_sum}
-use Rattle.elimination.proofs.Tables.{Filling, filling_start, filling_more, filling_whole}
+use Rattle.elimination.proofs.Tables.{Filling}
 use Rattle.homography.proofs.multiply.Given as goal
 
 abbrev pub invariant-loop-n : goal.invariant-loop-n

@@ -1,6 +1,5 @@
 -- `homography::normalize_points4` meets its contract. Assumes nothing.
 use Rattle.homography.proofs.Normalizing.{normalized_is}
-use borrow.Author.Rules.{rules}
 use Rattle.homography.proofs.normalize_points4.Goals as goal
 
 pub returns : goal.returns

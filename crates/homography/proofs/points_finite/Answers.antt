@@ -2,10 +2,7 @@
 use mathlib.Core.Bool.{not}
 use mathlib.Core.Path.{ap}
 use Prim.Native.Nat.{◌-◌}
-use borrow.Author.Rules.{rules}
-use Rattle.sheet.specs.Corners.{finite_position}
-use Rattle.homography.specs.Normalize.{point}
-use Rattle.elimination.proofs.Tables.{Passing, passing_start, passing_more, passing_stop, passing_end}
+use Rattle.elimination.proofs.Tables.{passing_start, passing_more, passing_stop, passing_end}
 use Rattle.homography.proofs.points_finite.Goals as goal
 
 pub loop-i-init : goal.loop-i-init

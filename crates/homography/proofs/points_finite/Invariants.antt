@@ -1,9 +1,8 @@
 -- `homography::points_finite` meets its contract. The loop's invariant: the points passed are finite. Assumes nothing.
 use Prim.Native.Nat.{◌-◌}
-use borrow.Author.Rules.{rules}
 use Rattle.sheet.specs.Corners.{finite_position}
 use Rattle.homography.specs.Normalize.{point}
-use Rattle.elimination.proofs.Tables.{Passing, passing_start, passing_more, passing_stop, passing_end}
+use Rattle.elimination.proofs.Tables.{Passing}
 use Rattle.homography.proofs.points_finite.Given as goal
 
 abbrev pub invariant-loop-i : goal.invariant-loop-i

@@ -1,5 +1,4 @@
 -- `homography::product_at` meets its contract. Assumes nothing.
-use borrow.Author.Rules.{rules}
 use Rattle.homography.proofs.product_at.Goals as goal
 
 pub returns : goal.returns

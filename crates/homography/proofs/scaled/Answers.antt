@@ -4,7 +4,6 @@ use mathlib.Core.Path.{sym, ◌∙◌, ap}
 use lib.Ieee.{Float, lt}
 use Rattle.homography.specs.Normalize.{tiny}
 use Rattle.homography.proofs.Fitting.{scaled_small, scaled_wild, scaled_fit}
-use borrow.Author.Rules.{rules}
 use Rattle.homography.proofs.scaled.Goals as goal
 
 pub returns-then-magnitude : goal.returns-then-magnitude

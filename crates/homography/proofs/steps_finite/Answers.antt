@@ -2,7 +2,6 @@
 use mathlib.Core.Bool.{not}
 use mathlib.Core.Path.{ap}
 use Rattle.elimination.proofs.Tables.{stop, on}
-use borrow.Author.Rules.{rules}
 use Rattle.homography.proofs.steps_finite.Goals as goal
 
 pub returns-then-not-is_finite : goal.returns-then-not-is_finite

@@ -1,6 +1,5 @@
 -- `homography::undo` meets its contract. Assumes nothing.
 use Rattle.homography.specs.Undo.{undone}
-use borrow.Author.Rules.{rules}
 use Rattle.homography.proofs.undo.Goals as goal
 
 pub returns : goal.returns

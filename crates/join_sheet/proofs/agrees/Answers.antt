@@ -1,6 +1,5 @@
 -- `join_sheet::agrees` meets its contract, by the label of the cell. Assumes nothing.
 use Rattle.join_sheet.proofs.Walk.{agrees_bare, agrees_corner}
-use borrow.Author.Rules.{rules}
 use Rattle.join_sheet.proofs.agrees.Goals as goal
 
 pub returns-in-Unlabelled : goal.returns-in-Unlabelled

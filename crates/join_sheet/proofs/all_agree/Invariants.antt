@@ -1,13 +1,10 @@
 -- `join_sheet::all_agree` meets its contract: what is left of the array decides. Assumes nothing.
-use mathlib.Core.Path.{sym, ◌∙◌}
 use mathlib.Core.List.{map}
 use Prim.Native.Nat.{◌-◌}
-use native.Mathlib.Omega.{arith}
-use borrow.Author.Rules.{rules}
 use Rattle.join.specs.Rule.{shifted_by}
 use Rattle.join.specs.Join.{every}
-use Rattle.join_sheet.specs.Held.{held_at, held_labels, agrees_on}
-use Rattle.join_sheet.proofs.Walk.{Rest, rest_start, rest_more, rest_stop, rest_end, test_yes, test_no, test_all}
+use Rattle.join_sheet.specs.Held.{held_labels, agrees_on}
+use Rattle.join_sheet.proofs.Walk.{Rest}
 use Rattle.join_sheet.proofs.all_agree.Given as goal
 
 abbrev pub invariant-loop-i : goal.invariant-loop-i

@@ -1,15 +1,12 @@
 -- `join_sheet::all_on` meets its contract: what is left of the array decides. Assumes nothing.
 use mathlib.Core.Bool.{not}
 use mathlib.Core.Path.{sym, ◌∙◌, ap}
-use mathlib.Core.List.{map}
 use Prim.Native.Nat.{◌-◌}
 use native.Mathlib.Omega.{arith}
-use borrow.Author.Rules.{rules}
 use Rattle.sheet.specs.Cells.{on_sheet}
-use Rattle.join.specs.Rule.{Placed, shifted_by}
-use Rattle.join.specs.Join.{every}
-use Rattle.join_sheet.specs.Held.{held_at, held_labels}
-use Rattle.join_sheet.proofs.Walk.{Rest, rest_start, rest_more, rest_stop, rest_end, test_yes, test_no, test_all}
+use Rattle.join.specs.Rule.{Placed}
+use Rattle.join_sheet.specs.Held.{held_at}
+use Rattle.join_sheet.proofs.Walk.{rest_start, rest_more, rest_stop, rest_end, test_yes, test_no, test_all}
 use Rattle.join_sheet.proofs.all_on.Goals as goal
 
 pub loop-i-init : goal.loop-i-init

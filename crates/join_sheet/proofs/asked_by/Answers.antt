@@ -3,7 +3,6 @@ use mathlib.Core.Path.{sym, ◌∙◌}
 use Rattle.sheet.proofs.Laws.{on_near}
 use Rattle.join_sheet.proofs.Held.{cell_found_on}
 use Rattle.join_sheet.proofs.Walk.{entry_nowhere, asks_nothing, asks_for}
-use borrow.Author.Rules.{rules}
 use Rattle.join_sheet.proofs.asked_by.Goals as goal
 
 pub returns-then-used-corner-eq0 : goal.returns-then-used-corner-eq0

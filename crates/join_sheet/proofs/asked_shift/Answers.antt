@@ -2,11 +2,9 @@
 use mathlib.Core.Path.{sym, ◌∙◌}
 use Prim.Native.Nat.{◌-◌}
 use native.Mathlib.Omega.{arith}
-use borrow.Author.Rules.{rules}
 use Rattle.sheet.proofs.Laws.{cell_on_lem}
-use Rattle.join.specs.Join.{asked}
-use Rattle.join_sheet.specs.Held.{held_at, held_labels, cell_on}
-use Rattle.join_sheet.proofs.Walk.{Rest, rest_start, rest_more, rest_stop, rest_end, asked_on, asked_here, asked_end}
+use Rattle.join_sheet.specs.Held.{held_at, cell_on}
+use Rattle.join_sheet.proofs.Walk.{rest_start, rest_more, rest_stop, rest_end, asked_on, asked_here, asked_end}
 use Rattle.join_sheet.proofs.asked_shift.Goals as goal
 
 pub loop-i-init : goal.loop-i-init

@@ -1,13 +1,8 @@
 -- `join_sheet::cell_with` meets its contract: no place passed holds the corner. Assumes nothing.
-use mathlib.Core.Path.{sym, ap, ◌∙◌}
 use Prim.Native.Nat.{◌-◌}
-use native.Mathlib.Omega.{arith}
-use borrow.Author.Rules.{rules}
 use Rattle.sizes.specs.Sizes.{place_count}
-use Rattle.labels.proofs.Below.{Searching, searching_start, searching_more}
+use Rattle.labels.proofs.Below.{Searching}
 use Rattle.join_sheet.specs.Held.{holds_at}
-use Rattle.join.specs.declared.Found.{Found}
-use Rattle.join_sheet.proofs.Walk.{holds_skips, holds_hit, holds_none}
 use Rattle.join_sheet.proofs.cell_with.Given as goal
 
 abbrev pub invariant-loop-place : goal.invariant-loop-place

@@ -1,6 +1,5 @@
 -- `join_sheet::join_sets` meets its contract: a refusal leaves the sheet, a shift writes the union. Assumes nothing.
 use Rattle.join_sheet.proofs.Walk.{join_apart, join_clash, join_off, join_by, join_write}
-use borrow.Author.Rules.{rules}
 use Rattle.join_sheet.proofs.join_sets.Goals as goal
 
 pub write_new-requires : goal.write_new-requires

@@ -1,7 +1,6 @@
 -- `join_sheet::put_new` meets its contract, by the entry of the corner. Assumes nothing.
 use mathlib.Core.Path.{◌∙◌}
 use Rattle.join_sheet.proofs.Walk.{put_new, put_old}
-use borrow.Author.Rules.{rules}
 use Rattle.join_sheet.proofs.put_new.Goals as goal
 
 pub returns-then-used-corner-eq0 : goal.returns-then-used-corner-eq0

@@ -1,7 +1,6 @@
 -- `join_sheet::verdict_of` meets its contract: 8 before the test of the shift, which is at most 128 each way. Assumes nothing.
 use mathlib.Core.Path.{sym, ◌∙◌}
 use Rattle.join_sheet.proofs.Walk.{verdict_apart, verdict_tested, asked_within}
-use borrow.Author.Rules.{rules}
 use Rattle.join_sheet.proofs.verdict_of.Goals as goal
 
 pub test_shift-requires : goal.test_shift-requires

@@ -1,6 +1,5 @@
 -- `join_sheet::word_names` meets its contract, by the word's label. Assumes nothing.
 use Rattle.join_sheet.proofs.Walk.{names_none, names_one}
-use borrow.Author.Rules.{rules}
 use Rattle.join_sheet.proofs.word_names.Goals as goal
 
 pub returns-in-Unlabelled : goal.returns-in-Unlabelled

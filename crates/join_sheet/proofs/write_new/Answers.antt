@@ -2,10 +2,8 @@
 use mathlib.Core.Path.{sym, ◌∙◌}
 use Prim.Native.Nat.{◌-◌}
 use native.Mathlib.Omega.{arith}
-use borrow.Author.Rules.{rules}
-use Rattle.join.specs.Sheets.{labelled}
-use Rattle.join_sheet.specs.Held.{held_at, held_labels, new_held}
-use Rattle.join_sheet.proofs.Walk.{Rest, rest_start, rest_more, rest_end, write_more, write_end}
+use Rattle.join_sheet.specs.Held.{held_at}
+use Rattle.join_sheet.proofs.Walk.{rest_start, rest_more, rest_end, write_more, write_end}
 use Rattle.join_sheet.proofs.write_new.Goals as goal
 
 pub loop-i-init : goal.loop-i-init

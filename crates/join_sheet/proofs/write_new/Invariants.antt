@@ -1,11 +1,8 @@
 -- `join_sheet::write_new` meets its contract: what is left of the array gives the whole sheet. Assumes nothing.
-use mathlib.Core.Path.{sym, ◌∙◌}
 use Prim.Native.Nat.{◌-◌}
-use native.Mathlib.Omega.{arith}
-use borrow.Author.Rules.{rules}
 use Rattle.join.specs.Sheets.{labelled}
-use Rattle.join_sheet.specs.Held.{held_at, held_labels, new_held}
-use Rattle.join_sheet.proofs.Walk.{Rest, rest_start, rest_more, rest_end, write_more, write_end}
+use Rattle.join_sheet.specs.Held.{held_labels, new_held}
+use Rattle.join_sheet.proofs.Walk.{Rest}
 use Rattle.join_sheet.proofs.write_new.Given as goal
 
 abbrev pub invariant-loop-i : goal.invariant-loop-i

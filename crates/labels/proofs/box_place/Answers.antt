@@ -1,7 +1,6 @@
 -- `labels::box_place` meets its contract, by whether the word is labelled. Assumes nothing.
 use mathlib.Core.Path.{sym, ap, ◌∙◌}
 use Rattle.labels.specs.Box.{widened, box_with}
-use borrow.Author.Rules.{rules}
 use Rattle.labels.proofs.box_place.Goals as goal
 
 pub returns-then-is_labelled : goal.returns-then-is_labelled

@@ -1,7 +1,6 @@
 -- `labels::count_word` meets its contract, by whether the word is labelled. Assumes nothing.
 use mathlib.Core.Path.{sym, ◌∙◌}
 use Rattle.labels.specs.Labelled.{counted}
-use borrow.Author.Rules.{rules}
 use Rattle.labels.proofs.count_word.Goals as goal
 
 pub returns-then-is_labelled : goal.returns-then-is_labelled

@@ -1,7 +1,6 @@
 -- `labels::is_labelled` meets its contract, by the word's label. Assumes nothing.
 use mathlib.Core.Path.{sym, ◌∙◌}
 use Rattle.labels.proofs.Labelled.{corner_labelled, none_unlabelled}
-use borrow.Author.Rules.{rules}
 use Rattle.labels.proofs.is_labelled.Goals as goal
 
 pub returns-in-Unlabelled : goal.returns-in-Unlabelled

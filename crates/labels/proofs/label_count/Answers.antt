@@ -1,7 +1,7 @@
 -- `labels::label_count` meets its contract: at each place the count is that of the places passed. Assumes nothing.
 use Prim.Native.Nat.{◌-◌}
 use native.Mathlib.Omega.{arith}
-use Rattle.labels.proofs.Labelled.{Counting, counting_start, counting_few, counting_more, counting_skips, counting_end}
+use Rattle.labels.proofs.Labelled.{counting_start, counting_few, counting_more, counting_skips, counting_end}
 use Rattle.labels.proofs.label_count.Goals as goal
 
 pub next_written-place-requires : goal.next_written-place-requires

@@ -1,7 +1,6 @@
 -- `labels::label_count` meets its contract: at each place the count is that of the places passed. Assumes nothing.
 use Prim.Native.Nat.{◌-◌}
-use native.Mathlib.Omega.{arith}
-use Rattle.labels.proofs.Labelled.{Counting, counting_start, counting_few, counting_more, counting_skips, counting_end}
+use Rattle.labels.proofs.Labelled.{Counting}
 use Rattle.labels.proofs.label_count.Given as goal
 
 abbrev pub invariant-loop-place : goal.invariant-loop-place

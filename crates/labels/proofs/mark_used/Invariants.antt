@@ -1,9 +1,6 @@
 -- `labels::mark_used` meets its contract: at each place the array is tied to the places passed. Assumes nothing.
-use Prim.Native.Nat.{ℕ, ◌-◌}
-use native.Mathlib.Omega.{arith}
-use borrow.Author.Rules.{rules}
-use lib.ListN.{length-replicate, get_or-replicate}
-use Rattle.labels.proofs.Used.{Marking, marking_start, marking_more, marking_skips, marking_end}
+use Prim.Native.Nat.{◌-◌}
+use Rattle.labels.proofs.Used.{Marking}
 use Rattle.labels.proofs.mark_used.Given as goal
 
 abbrev pub invariant-loop-place : goal.invariant-loop-place

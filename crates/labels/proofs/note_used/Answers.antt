@@ -1,7 +1,6 @@
 -- `labels::note_used` meets its contract, by the word's label and whether its corner has an entry. Assumes nothing.
 use mathlib.Core.Path.{sym, ◌∙◌}
 use Rattle.labels.proofs.Used.{noted_none, noted_entry, noted_over}
-use borrow.Author.Rules.{rules}
 use Rattle.labels.proofs.note_used.Goals as goal
 
 pub returns-in_default : goal.returns-in_default

@@ -1,7 +1,6 @@
 -- `labels::place_on_rim` meets its contract, by whether the word is labelled. Assumes nothing.
 use mathlib.Core.Path.{sym, ap, ◌∙◌}
 use Rattle.labels.specs.Rim.{on_rim, rim_at}
-use borrow.Author.Rules.{rules}
 use Rattle.labels.proofs.place_on_rim.Goals as goal
 
 pub returns-then-is_labelled : goal.returns-then-is_labelled

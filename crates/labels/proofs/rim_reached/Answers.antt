@@ -4,7 +4,7 @@ use Prim.Native.Nat.{◌-◌}
 use native.Mathlib.Omega.{arith}
 use lib.ListN.{get_or}
 use Rattle.labels.specs.Rim.{rim_at, rim}
-use Rattle.labels.proofs.Below.{Searching, searching_start, searching_more, searching_hit, searching_end}
+use Rattle.labels.proofs.Below.{searching_start, searching_more, searching_hit, searching_end}
 use Rattle.labels.proofs.Rim.{rim_skips}
 use Rattle.labels.proofs.rim_reached.Goals as goal
 

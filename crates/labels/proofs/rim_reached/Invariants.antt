@@ -1,11 +1,8 @@
 -- `labels::rim_reached` meets its contract: no place passed is labelled and on the rim. Assumes nothing.
-use mathlib.Core.Path.{sym, ◌∙◌}
 use Prim.Native.Nat.{◌-◌}
-use native.Mathlib.Omega.{arith}
 use lib.ListN.{get_or}
-use Rattle.labels.specs.Rim.{rim_at, rim}
-use Rattle.labels.proofs.Below.{Searching, searching_start, searching_more, searching_hit, searching_end}
-use Rattle.labels.proofs.Rim.{rim_skips}
+use Rattle.labels.specs.Rim.{rim_at}
+use Rattle.labels.proofs.Below.{Searching}
 use Rattle.labels.proofs.rim_reached.Given as goal
 
 abbrev pub invariant-loop-place : goal.invariant-loop-place

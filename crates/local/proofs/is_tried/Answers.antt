@@ -5,7 +5,6 @@ use lib.ListN.{get_or}
 use Rattle.labels.specs.Labelled.{is_labelled}
 use borrow.Author.Tests.{not-true, not-false}
 use Rattle.local.proofs.Walk.{outside_not, inside_so}
-use borrow.Author.Rules.{rules}
 use Rattle.local.proofs.is_tried.Goals as goal
 
 pub returns-then-not-is_local_cell : goal.returns-then-not-is_local_cell

@@ -1,7 +1,6 @@
 -- `local::local_accepted` meets its contract: under four labels nothing is done, else what the rounds leave, where at first nothing is remembered. Assumes nothing.
 use Prim.Native.Nat.{ℕ}
 use native.Mathlib.Omega.{arith}
-use borrow.Author.Rules.{rules}
 use lib.ListN.{length, length-replicate}
 use lib.Ieee.{Float, of_bits, binary32}
 use Rattle.sheet.specs.Corners.{corner_lists, corners_in}

@@ -1,17 +1,11 @@
 -- `local::local_round` meets its contract: at each place that is tried the buffers hold what the round's list leaves after the places passed, and what
 -- is remembered holds; places that are not tried are passed over. Assumes nothing.
-use Prim.Native.Nat.{◌-◌, ◌<◌}
-use mathlib.Core.Path.{◌≡◌}
+use Prim.Native.Nat.{◌-◌}
 use mathlib.Core.Bool.{true}
 use native.Mathlib.Omega.{arith}
-use borrow.Author.Rules.{rules}
-use Rattle.sheet.specs.Corners.{corners_in}
-use Rattle.region.specs.Region.{region_of}
 use Rattle.region.proofs.Jumps.{box_on}
-use Rattle.local_cell.specs.Extending.{Recalls}
-use Rattle.local.specs.Rounds.{tried_at}
 use Rattle.local.proofs.Depth.{depth_in}
-use Rattle.local.proofs.Walk.{listed, region_found, tellable, Walking, walking_start, walking_skips, tried_trying, walking_tried, walking_end}
+use Rattle.local.proofs.Walk.{listed, region_found, tellable, walking_start, walking_skips, tried_trying, walking_tried, walking_end}
 use Rattle.local.proofs.local_round.Goals as goal
 
 pub rows_of-rows-requires : goal.rows_of-rows-requires

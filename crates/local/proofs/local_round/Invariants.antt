@@ -3,15 +3,11 @@
 use Prim.Native.Nat.{◌-◌, ◌<◌}
 use mathlib.Core.Path.{◌≡◌}
 use mathlib.Core.Bool.{true}
-use native.Mathlib.Omega.{arith}
-use borrow.Author.Rules.{rules}
 use Rattle.sheet.specs.Corners.{corners_in}
 use Rattle.region.specs.Region.{region_of}
-use Rattle.region.proofs.Jumps.{box_on}
 use Rattle.local_cell.specs.Extending.{Recalls}
 use Rattle.local.specs.Rounds.{tried_at}
-use Rattle.local.proofs.Depth.{depth_in}
-use Rattle.local.proofs.Walk.{listed, region_found, tellable, Walking, walking_start, walking_skips, tried_trying, walking_tried, walking_end}
+use Rattle.local.proofs.Walk.{Walking}
 use Rattle.local.proofs.local_round.Given as goal
 
 abbrev pub invariant-loop-place : goal.invariant-loop-place

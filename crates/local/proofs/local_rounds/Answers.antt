@@ -2,10 +2,7 @@
 use mathlib.Core.Path.{refl, ◌∙◌}
 use Prim.Native.Nat.{◌-◌}
 use native.Mathlib.Omega.{arith}
-use borrow.Author.Rules.{rules}
-use Rattle.sheet.specs.Corners.{corners_in}
-use Rattle.local_cell.specs.Extending.{Recalls}
-use Rattle.local.proofs.Rounds.{Rounding, rounding_start, rounding_asked, rounding_last, rounding_more, rounding_end}
+use Rattle.local.proofs.Rounds.{rounding_start, rounding_asked, rounding_last, rounding_more, rounding_end}
 use Rattle.local.proofs.local_rounds.Goals as goal
 
 pub loop-rounds-init : goal.loop-rounds-init

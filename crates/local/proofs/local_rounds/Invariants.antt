@@ -1,11 +1,8 @@
 -- `local::local_rounds` meets its contract: after each round the rounds that are left lead to the same end, and what is remembered holds. Assumes nothing.
-use mathlib.Core.Path.{refl, ◌∙◌}
 use Prim.Native.Nat.{◌-◌}
-use native.Mathlib.Omega.{arith}
-use borrow.Author.Rules.{rules}
 use Rattle.sheet.specs.Corners.{corners_in}
 use Rattle.local_cell.specs.Extending.{Recalls}
-use Rattle.local.proofs.Rounds.{Rounding, rounding_start, rounding_asked, rounding_last, rounding_more, rounding_end}
+use Rattle.local.proofs.Rounds.{Rounding}
 use Rattle.local.proofs.local_rounds.Given as goal
 
 abbrev pub invariant-loop-rounds : goal.invariant-loop-rounds

@@ -2,9 +2,7 @@
 use mathlib.Core.Path.{sym, ◌∙◌}
 use Prim.Native.Nat.{◌-◌}
 use native.Mathlib.Omega.{arith}
-use Rattle.region.specs.Region.{region_of}
-use Rattle.local.specs.Rounds.{tried_at}
-use Rattle.local.proofs.Walk.{Seeking, seeking_start, seeking_more, seeking_hit, seeking_end}
+use Rattle.local.proofs.Walk.{seeking_start, seeking_more, seeking_hit, seeking_end}
 use Rattle.local.proofs.next_tried.Goals as goal
 
 pub next_inside-place-requires : goal.next_inside-place-requires

@@ -1,10 +1,8 @@
 -- `local::next_tried` meets its contract. The loop's invariant: no place passed is tried. The measure is what is left of the sheet. Assumes nothing.
-use mathlib.Core.Path.{sym, ◌∙◌}
 use Prim.Native.Nat.{◌-◌}
-use native.Mathlib.Omega.{arith}
 use Rattle.region.specs.Region.{region_of}
 use Rattle.local.specs.Rounds.{tried_at}
-use Rattle.local.proofs.Walk.{Seeking, seeking_start, seeking_more, seeking_hit, seeking_end}
+use Rattle.local.proofs.Walk.{Seeking}
 use Rattle.local.proofs.next_tried.Given as goal
 
 abbrev pub invariant-loop-place : goal.invariant-loop-place

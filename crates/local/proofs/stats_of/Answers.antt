@@ -1,5 +1,4 @@
 -- `local::stats_of` meets its contract. Assumes nothing.
-use borrow.Author.Rules.{rules}
 use Rattle.local.proofs.stats_of.Goals as goal
 
 pub returns : goal.returns

@@ -3,7 +3,6 @@ use Prim.Native.Nat.{◌<◌}
 use native.Mathlib.Omega.{arith}
 use Rattle.sheet.proofs.Laws.{place_in}
 use Rattle.local_cell.proofs.Visit.{wrote, gatherable}
-use borrow.Author.Rules.{rules}
 use Rattle.local_cell.proofs.attach_corner.Goals as goal
 
 pub overflow_cast-attached : goal.overflow_cast-attached

@@ -1,5 +1,4 @@
 -- `local_cell::count_cell` meets its contract: one cell more, by what was found. Assumes nothing.
-use borrow.Author.Rules.{rules}
 use Rattle.local_cell.proofs.count_cell.Goals as goal
 
 pub returns : goal.returns

@@ -1,6 +1,5 @@
 -- `local_cell::count_unmatched` meets its contract: by the search and the cell's kind. Assumes nothing.
 use mathlib.Core.Path.{◌∙◌}
-use borrow.Author.Rules.{rules}
 use Rattle.local_cell.proofs.count_unmatched.Goals as goal
 
 pub returns : goal.returns

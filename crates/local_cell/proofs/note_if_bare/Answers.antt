@@ -1,7 +1,6 @@
 -- `local_cell::note_if_bare` meets its contract: noted, or a shade stands. Assumes nothing.
 use mathlib.Core.Bool.{not}
 use mathlib.Core.Path.{refl, sym, ◌∙◌, ap}
-use borrow.Author.Rules.{rules}
 use borrow.Author.Tests.{not-true, not-false}
 use Rattle.labels.proofs.Below.{no_both}
 use Rattle.local_cell.proofs.note_if_bare.Goals as goal

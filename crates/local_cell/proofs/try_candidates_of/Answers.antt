@@ -10,9 +10,8 @@ use Rattle.remembered.proofs.Notes.{notable_no_candidates, notable_ambiguous}
 use Rattle.local_cell.specs.Extending.{Taking}
 use Rattle.local_cell.proofs.Visit.{gathered_is, found_is, taking, taking_writable, taking_fits, found_none, found_ambiguous, found_refused, found_corner}
 use Rattle.local_cell.proofs.Memory.{noting, recalls_counted, recalls_attached, recalls_missed, recalls_ambiguous}
-use borrow.Author.Rules.{rules}
 use Rattle.local_cell.proofs.try_candidates_of.Goals as goal
-use Rattle.local_cell.proofs.try_candidates_of.Goals.{After-collect_candidates-arg-1, After-collect_candidates-candidates, After-try_candidates-found, In-Attached}
+use Rattle.local_cell.proofs.try_candidates_of.Goals.{After-collect_candidates-candidates, After-try_candidates-found, In-Attached}
 
 -- what was gathered is what the definition gathers
 held : (c : After-collect_candidates-candidates) → let a = c.args in c.collect_candidates-candidates.result ≡ gathered (corners_in a.corners.now a.setup.count) a.sheet.now c.search_of-search.result.search_r a.target.cell a.target.prediction

@@ -3,7 +3,6 @@ use mathlib.Core.Path.{refl}
 use Rattle.extension_common.specs.declared.TryCellResult.{TryCellResult}
 use Rattle.local_cell.proofs.Visit.{untouched, left_as, found_none, found_ambiguous}
 use Rattle.local_cell.proofs.Memory.{recalls_counted, known_idle, known_no_candidates, known_ambiguous, known_predicted, known_foretold}
-use borrow.Author.Rules.{rules}
 use Rattle.local_cell.proofs.try_local_cell.Goals as goal
 
 pub recall-known-requires : goal.recall-known-requires

@@ -1,5 +1,4 @@
 -- `local_cell::try_predicted_cell` meets its contract: what is passed over is counted, and the cell is tried. Assumes nothing.
-use borrow.Author.Rules.{rules}
 use Rattle.local_cell.proofs.Visit.{unmatched_is}
 use Rattle.local_cell.proofs.Memory.{passed_fits, passed_left}
 use Rattle.local_cell.proofs.try_predicted_cell.Goals as goal

@@ -1,6 +1,5 @@
 -- `local_cell::try_unknown_cell` meets its contract: by the fit and by the gate. Assumes nothing.
 use native.Mathlib.Omega.{arith}
-use borrow.Author.Rules.{rules}
 use Rattle.supports.proofs.Nearest.{nearest_pictured}
 use Rattle.remembered.proofs.Notes.{notable_idle, notable_predicted}
 use Rattle.sheet.proofs.Corners.{given_more}

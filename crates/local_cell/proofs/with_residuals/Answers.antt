@@ -1,5 +1,4 @@
 -- `local_cell::with_residuals` meets its contract: the residuals recorded one after the other. Assumes nothing.
-use borrow.Author.Rules.{rules}
 use Rattle.local_cell.proofs.with_residuals.Goals as goal
 
 pub returns : goal.returns

@@ -3,7 +3,6 @@ use Rattle.sheet.specs.Corners.{corner_lists}
 use Rattle.pass_call.proofs.Calling.{grow_left_lem, fill_left_lem, local_left_lem, both}
 use Rattle.pass_call.specs.Call.{call_of}
 use lib.ListN.{length}
-use borrow.Author.Rules.{rules}
 use Rattle.pass_call.proofs.call_pass.Goals as goal
 
 pub returns-in-Grow : goal.returns-in-Grow
@@ -12,7 +11,7 @@ returns-in-Grow c =
     let o = c.extend_from_labelled in
     let l = corner_lists a.xs.now a.ys.now a.pitches.now in
     let both_clauses =
-      both l a.sheet.now (call_of a.settings a.shades.now (length a.queue.now) (length a.attached.now) a.pass)
+    both l a.sheet.now (call_of a.settings a.shades.now (length a.queue.now) (length a.attached.now) a.pass)
     a.queue.now a.attached.now o.new.sheet o.new.queue o.new.attached c.of_grow.result
     (grow_left_lem l a.settings a.shades.now a.sheet.now a.queue.now a.attached.now o.new.sheet o.new.attached
     a.pass c.of_grow.result _ c.in-Grow.is o.new.queue _ c.of_grow.ensures o.ensures.attached_after) in
@@ -24,7 +23,7 @@ returns-in-Fill c =
     let o = c.fill_grid_holes in
     let l = corner_lists a.xs.now a.ys.now a.pitches.now in
     let both_clauses =
-      both l a.sheet.now (call_of a.settings a.shades.now (length a.queue.now) (length a.attached.now) a.pass)
+    both l a.sheet.now (call_of a.settings a.shades.now (length a.queue.now) (length a.attached.now) a.pass)
     a.queue.now a.attached.now o.new.sheet a.queue.now o.new.attached c.of_fill.result
     (fill_left_lem l a.settings a.shades.now a.sheet.now a.queue.now a.attached.now o.new.sheet o.new.attached
     a.pass c.of_fill.result _ c.in-Fill.is _ c.of_fill.ensures o.ensures.attached_after) in
@@ -36,7 +35,7 @@ returns-in-Local c =
     let o = c.extend_via_local_homography in
     let l = corner_lists a.xs.now a.ys.now a.pitches.now in
     let both_clauses =
-      both l a.sheet.now (call_of a.settings a.shades.now (length a.queue.now) (length a.attached.now) a.pass)
+    both l a.sheet.now (call_of a.settings a.shades.now (length a.queue.now) (length a.attached.now) a.pass)
     a.queue.now a.attached.now o.new.sheet a.queue.now o.new.attached c.of_local.result
     (local_left_lem l a.settings a.shades.now a.sheet.now a.queue.now a.attached.now o.new.sheet o.new.attached
     a.pass c.of_local.result _ c.in-Local.is _ c.of_local.ensures o.ensures.attached_after) in

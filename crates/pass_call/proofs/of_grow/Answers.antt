@@ -1,6 +1,5 @@
 -- `of_grow` meets its contract, by its case. Assumes nothing.
 use mathlib.Core.Path.{refl}
-use borrow.Author.Rules.{rules}
 use Rattle.pass_call.proofs.of_grow.Goals as goal
 
 pub returns-in-Done : goal.returns-in-Done

@@ -1,6 +1,5 @@
 -- `pass_line::write_bare_local` meets its contract, by whether the rim was reached. Assumes nothing.
 use Rattle.report_line.proofs.Forms.{bare_yes, bare_no, same_room, same_wrote}
-use borrow.Author.Rules.{rules}
 use Rattle.pass_line.proofs.write_bare_local.Goals as goal
 
 pub write_form-requires : goal.write_form-requires

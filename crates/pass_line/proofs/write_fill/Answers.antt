@@ -1,6 +1,5 @@
 -- `pass_line::write_fill` meets its contract, by whether the rim was reached. Assumes nothing.
 use Rattle.report_line.proofs.Forms.{fill_yes, fill_no, same_room, same_wrote}
-use borrow.Author.Rules.{rules}
 use Rattle.pass_line.proofs.write_fill.Goals as goal
 
 pub write_form-requires : goal.write_form-requires

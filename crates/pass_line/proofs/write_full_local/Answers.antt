@@ -1,7 +1,6 @@
 -- `pass_line::write_full_local` meets its contract, by whether the rim was reached. Assumes nothing.
 use Rattle.report_line.proofs.Forms.{no_nan}
 use Rattle.report_line.proofs.Forms.{full_yes, full_no, same_room, same_wrote}
-use borrow.Author.Rules.{rules}
 use Rattle.pass_line.proofs.write_full_local.Goals as goal
 
 pub float_to_bits-words : goal.float_to_bits-words

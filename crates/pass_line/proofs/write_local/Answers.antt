@@ -1,7 +1,6 @@
 -- `pass_line::write_local` meets its contract: one line behind the other. Assumes nothing.
 use native.Mathlib.Omega.{arith}
 use Rattle.report_line.proofs.Behind.{line_asked, line_within, unmatched_asked, local_wrote}
-use borrow.Author.Rules.{rules}
 use Rattle.pass_line.proofs.write_local.Goals as goal
 
 pub write_local_line-n-requires : goal.write_local_line-n-requires

@@ -2,7 +2,6 @@
 use Rattle.report_line.proofs.Forms.{bare_line, bare_asked, full_line, full_asked, same_wrote}
 use Rattle.report_line.specs.Result.{local_line}
 use Rattle.report_line.specs.Written.{bare_local_text}
-use borrow.Author.Rules.{rules}
 use Rattle.pass_line.proofs.write_local_line.Goals as goal
 
 pub write_bare_local-requires : goal.write_bare_local-requires

@@ -2,7 +2,6 @@
 use Rattle.report_line.proofs.Forms.{unmatched_form, same_room, same_wrote, nothing_written}
 use Rattle.report_line.proofs.Behind.{no_line, count_line, count_held}
 use mathlib.Core.Path.{◌∙◌}
-use borrow.Author.Rules.{rules}
 use Rattle.pass_line.proofs.write_unmatched.Goals as goal
 
 pub held-requires : goal.held-requires

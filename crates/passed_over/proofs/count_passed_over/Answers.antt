@@ -3,13 +3,11 @@ use mathlib.Core.Path.{sym, ◌∙◌, ap}
 use mathlib.Core.Bool.{Bool, not}
 use Prim.Native.Nat.{ℕ, ◌-◌}
 use native.Mathlib.Omega.{arith}
-use borrow.Author.Rules.{rules}
 use borrow.Author.Tests.{not-true, not-false}
 use Rattle.sheet.specs.Shades.{takes_kind, shades_in}
 use Rattle.sheet.proofs.Shades.{takes_every}
-use Rattle.labels.proofs.Count.{Tallying, tallying_start, tallying_more, tallying_few, tallying_end}
-use Rattle.candidates.specs.Candidates.{positions_in, unmarked, squared_radius}
-use Rattle.passed_over.specs.PassedOver.{is_passed_over}
+use Rattle.labels.proofs.Count.{tallying_start, tallying_more, tallying_few, tallying_end}
+use Rattle.candidates.specs.Candidates.{positions_in, unmarked}
 use Rattle.passed_over.proofs.Laws.{none_passed_over, over_nowhere_x, over_nowhere_y, over_somewhere}
 use Rattle.passed_over.proofs.count_passed_over.Goals as goal
 use Rattle.passed_over.proofs.count_passed_over.Goals.{Start}

@@ -2,7 +2,6 @@
 use mathlib.Core.Path.{◌≡◌, sym, ap, ◌∙◌}
 use mathlib.Core.Bool.{Bool}
 use Prim.Native.Nat.{ℕ}
-use borrow.Author.Rules.{rules}
 use borrow.Author.Tests.{eq-eqb, ne_eqb}
 use lib.Ieee.{Float, le}
 use Rattle.sheet.specs.declared.Position.{Position}
@@ -11,7 +10,7 @@ use Rattle.sheet.specs.Corners.{squared_distance}
 use Rattle.candidates.specs.Candidates.{positions_in, unmarked}
 use Rattle.passed_over.proofs.Laws.{one_labelled, one_taken, one_near, one_far}
 use Rattle.passed_over.proofs.one_if_passed_over.Goals as goal
-use Rattle.passed_over.proofs.one_if_passed_over.Goals.{After-way_told-1, Start}
+use Rattle.passed_over.proofs.one_if_passed_over.Goals.{After-way_told-1}
 
 -- what a cell of the kind takes
 abbrev kinds : (s : After-way_told-1) → ℕ → Bool

@@ -1,5 +1,4 @@
 -- `passes::one_more` meets its contract, by each of the four results. Assumes nothing.
-use borrow.Author.Rules.{rules}
 use Rattle.passes.proofs.one_more.Goals as goal
 
 pub returns-in-NoCandidates : goal.returns-in-NoCandidates

@@ -1,5 +1,4 @@
 -- `passes_main::call_on` is safe: each length is cut to the length of its buffer. Assumes nothing.
-use borrow.Author.Rules.{rules}
 use native.Mathlib.Omega.{arith}
 use lib.ListN.{length-take}
 use Rattle.passes_main.proofs.call_on.Goals as goal

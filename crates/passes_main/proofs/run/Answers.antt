@@ -1,5 +1,4 @@
 -- `passes_main::run` is safe: the header bounds what it answers. Assumes nothing.
-use borrow.Author.Rules.{rules}
 use native.Mathlib.Omega.{arith}
 use lib.ListN.{length-take}
 use Rattle.passes_main.proofs.run.Goals as goal

@@ -2,10 +2,8 @@
 -- followed by the edges that are left, is the verdict. The measure is how many are left. Assumes nothing.
 use Prim.Native.Nat.{◌-◌, ◌<◌}
 use native.Mathlib.Omega.{arith}
-use borrow.Author.Rules.{rules}
-use Rattle.sheet.specs.Corners.{corner_in, seen_of}
-use Rattle.positions_policy.specs.Edge.{edge_at, verdict_of}
-use Rattle.positions_policy.proofs.Search.{Open, opened, ended, passed, refused, stopped}
+use Rattle.positions_policy.specs.Edge.{verdict_of}
+use Rattle.positions_policy.proofs.Search.{opened, ended, passed, refused, stopped}
 use Rattle.positions_policy.proofs.any_cardinal_edge_ok.Goals as goal
 use Rattle.positions_policy.proofs.any_cardinal_edge_ok.Goals.{in-Refused, in-NonePresent}
 
@@ -22,8 +20,8 @@ loop-k-preserved c =
     let more : c.loop-k.k < 4 = omega arith in
     let is = c.cardinal_edge-edge.ensures in
     elim c.match-edge.branch [
-      in-Refused w ↦ rw w.verdict-is (refused _ so_far more is w.in-Refused.is)
-    | in-NonePresent w ↦ rw w.verdict-is (passed _ so_far more is w.in-NonePresent.is)
+      | in-Refused w ↦ rw w.verdict-is (refused _ so_far more is w.in-Refused.is)
+      | in-NonePresent w ↦ rw w.verdict-is (passed _ so_far more is w.in-NonePresent.is)
     ]
 
 pub returns-after-loop-k : goal.returns-after-loop-k

@@ -1,12 +1,9 @@
 -- `positions_policy::any_cardinal_edge_ok` meets its contract. The loop's invariant: no edge is accepted so far, and what was found,
 -- followed by the edges that are left, is the verdict. The measure is how many are left. Assumes nothing.
-use mathlib.Core.Logic.{⊎_elim}
-use Prim.Native.Nat.{◌-◌, ◌<◌}
-use native.Mathlib.Omega.{arith}
-use borrow.Author.Rules.{rules}
+use Prim.Native.Nat.{◌-◌}
 use Rattle.sheet.specs.Corners.{corner_in, seen_of}
-use Rattle.positions_policy.specs.Edge.{edge_at, verdict_of}
-use Rattle.positions_policy.proofs.Search.{Open, opened, ended, passed, refused, stopped}
+use Rattle.positions_policy.specs.Edge.{edge_at}
+use Rattle.positions_policy.proofs.Search.{Open}
 use Rattle.positions_policy.proofs.any_cardinal_edge_ok.Given as goal
 
 abbrev pub invariant-loop-k : goal.invariant-loop-k

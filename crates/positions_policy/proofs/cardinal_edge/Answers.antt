@@ -4,7 +4,6 @@ use Rattle.sheet.specs.Cells.{moved}
 use Rattle.sheet.specs.Corners.{corner_in, seen_of}
 use Rattle.positions_policy.specs.Edge.{cardinal_at}
 use Rattle.positions_policy.proofs.Search.{cardinal_within, seen_beside, edge_none, edge_accepted, edge_refused}
-use borrow.Author.Rules.{rules}
 use Rattle.positions_policy.proofs.cardinal_edge.Goals as goal
 use Rattle.positions_policy.proofs.cardinal_edge.Goals.{After-seen_at-seen}
 

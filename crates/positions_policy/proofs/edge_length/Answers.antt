@@ -1,6 +1,5 @@
 -- `positions_policy::edge_length` meets its contract: the root is taken of the squared length. Assumes nothing.
 use Rattle.positions_policy.specs.Edge.{length_of}
-use borrow.Author.Rules.{rules}
 use Rattle.sheet.specs.Corners.{squared_distance}
 use Rattle.positions_policy.proofs.edge_length.Goals as goal
 

@@ -2,7 +2,6 @@
 use mathlib.Core.Path.{ap₂, ◌∙◌}
 use lib.Ieee.{Float}
 use Rattle.positions_policy.specs.Edge.{in_band, edge_ok}
-use borrow.Author.Rules.{rules}
 use Rattle.positions_policy.proofs.edge_ok.Goals as goal
 
 pub returns : goal.returns

@@ -1,6 +1,5 @@
 -- `positions_policy::passes` meets its contract, by the three verdicts. Assumes nothing.
 use Rattle.positions_policy.specs.Edge.{passes}
-use borrow.Author.Rules.{rules}
 use Rattle.positions_policy.proofs.passes.Goals as goal
 
 pub returns-in-Accepted : goal.returns-in-Accepted

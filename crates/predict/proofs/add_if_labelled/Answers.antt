@@ -1,6 +1,5 @@
 -- `predict::add_if_labelled` meets its contract, by what is seen at the cell that is reached; a labelled cell is on the sheet. Assumes nothing.
 use mathlib.Core.Path.{◌≡◌, sym, ap, ◌∙◌}
-use borrow.Author.Rules.{rules}
 use Rattle.sheet.specs.Cells.{moved}
 use Rattle.sheet.specs.declared.Cell.{Cell}
 use Rattle.sheet.specs.declared.Corner.{Corner}

@@ -1,6 +1,5 @@
 -- `predict::add_neighbour` meets its contract, from those of what it calls; both cells are near the sheet. Assumes nothing.
 use mathlib.Core.Path.{◌∙◌}
-use borrow.Author.Rules.{rules}
 use Rattle.sheet.proofs.Laws.{on_near, difference_within}
 use Rattle.predict.specs.Predict.{with_neighbour}
 use Rattle.predict.proofs.add_neighbour.Goals as goal

@@ -1,5 +1,4 @@
 -- `predict::forward` meets its contract, direction by direction. Assumes nothing.
-use borrow.Author.Rules.{rules}
 use Rattle.predict.proofs.forward.Goals as goal
 
 pub returns-in-I : goal.returns-in-I

@@ -1,11 +1,10 @@
 -- `predict::has_neighbour` meets its contract. The loop's invariant: the search from the k-th cell on gives what the whole search gives. Assumes nothing.
-use mathlib.Core.Path.{◌≡◌, refl, sym, ◌∙◌}
+use mathlib.Core.Path.{◌≡◌}
 use Prim.Native.Nat.{ℕ, ◌≤◌, ◌-◌}
-use native.Mathlib.Omega.{arith}
 use Rattle.sheet.specs.Corners.{seen_of}
 use Rattle.sheet.specs.declared.Corner.{Corner}
-use Rattle.predict.specs.Predict.{neighbours_of, any_on, has_neighbour}
-use Rattle.predict.proofs.Laws.{neighbours_from, any_here, any_later, any_end}
+use Rattle.predict.specs.Predict.{any_on, has_neighbour}
+use Rattle.predict.proofs.Laws.{neighbours_from}
 use Rattle.predict.proofs.has_neighbour.Given as goal
 
 abbrev pub invariant-loop-k : goal.invariant-loop-k

@@ -1,6 +1,5 @@
 -- `predict::is_labelled` meets its contract: a cell is seen exactly where it is labelled. Assumes nothing.
 use mathlib.Core.Path.{sym, ◌∙◌}
-use borrow.Author.Rules.{rules}
 use Rattle.predict.proofs.Laws.{not_seen, is_seen_holds}
 use Rattle.predict.proofs.is_labelled.Goals as goal
 

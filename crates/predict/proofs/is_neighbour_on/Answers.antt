@@ -1,7 +1,6 @@
 -- `predict::is_neighbour_on` meets its contract, by the label of the cell that is reached. Assumes nothing.
 use mathlib.Core.Path.{◌≡◌, sym, ap, ◌∙◌}
 use mathlib.Core.Bool.{Bool, true, false, ◌&&◌}
-use borrow.Author.Rules.{rules}
 use Rattle.sheet.specs.Corners.{seen_of}
 use Rattle.sheet.specs.Cells.{moved}
 use Rattle.sheet.specs.declared.Cell.{Cell}

@@ -1,6 +1,5 @@
 -- `predict::local_step_at` meets its contract, from what is seen on both sides of the neighbour. Assumes nothing.
 use mathlib.Core.Path.{◌≡◌, ◌∙◌}
-use borrow.Author.Rules.{rules}
 use Rattle.sheet.specs.Cells.{moved}
 use Rattle.sheet.specs.declared.Cell.{Cell}
 use Rattle.sheet.specs.declared.Offset.{Offset}

@@ -2,7 +2,6 @@
 use mathlib.Core.Bool.{not}
 use mathlib.Core.Path.{sym, ap, ◌∙◌}
 use borrow.Author.Tests.{not-true, not-false}
-use borrow.Author.Rules.{rules}
 use Rattle.predict.specs.Predict.{mean_of}
 use Rattle.predict.specs.declared.Sums.{Sums}
 use Rattle.predict.specs.declared.Prediction.{Prediction}

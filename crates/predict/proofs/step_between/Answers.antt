@@ -1,5 +1,4 @@
 -- `predict::step_between` meets its contract, by what is seen forward and backward. Assumes nothing.
-use borrow.Author.Rules.{rules}
 use Rattle.predict.proofs.step_between.Goals as goal
 
 pub returns-in_default : goal.returns-in_default

@@ -1,6 +1,5 @@
 -- `predict::step_vector` meets its contract, from those of what it calls. Assumes nothing.
 use mathlib.Core.Path.{◌∙◌}
-use borrow.Author.Rules.{rules}
 use Rattle.predict.specs.Predict.{step_vector}
 use Rattle.predict.proofs.step_vector.Goals as goal
 

@@ -1,5 +1,4 @@
 -- `predict::step_without_forward` meets its contract, by what is seen backward. Assumes nothing.
-use borrow.Author.Rules.{rules}
 use Rattle.predict.proofs.step_without_forward.Goals as goal
 
 pub returns-in-At : goal.returns-in-At

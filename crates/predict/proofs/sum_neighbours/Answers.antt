@@ -1,10 +1,9 @@
 -- `predict::sum_neighbours` meets its contract. The loop's invariant: the sums so far, run on from the k-th cell, are all the sums. Assumes nothing.
-use mathlib.Core.Path.{◌≡◌, refl, sym, ◌∙◌}
-use Prim.Native.Nat.{◌≤◌, ◌-◌}
+use mathlib.Core.Path.{refl, sym, ◌∙◌}
+use Prim.Native.Nat.{◌-◌}
 use native.Mathlib.Omega.{arith}
-use Rattle.sheet.specs.Corners.{corner_in, seen_of}
-use Rattle.predict.specs.Predict.{neighbours_of, sums_from, no_sums, sums_of}
-use Rattle.predict.proofs.Laws.{neighbours_from, sums_next, sums_end}
+use Rattle.predict.specs.Predict.{neighbours_of, no_sums, sums_of}
+use Rattle.predict.proofs.Laws.{sums_next, sums_end}
 use Rattle.predict.proofs.sum_neighbours.Goals as goal
 
 pub loop-k-init : goal.loop-k-init

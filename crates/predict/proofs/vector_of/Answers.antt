@@ -1,5 +1,4 @@
 -- `predict::vector_of` meets its contract, by the step's case. Assumes nothing.
-use borrow.Author.Rules.{rules}
 use Rattle.predict.proofs.vector_of.Goals as goal
 
 pub returns-in-Own : goal.returns-in-Own

@@ -2,7 +2,6 @@
 use mathlib.Core.Path.{refl}
 use borrow.Author.Tests.{lt-ltb, le-ltb}
 use Rattle.recover.specs.Program.{fault_of}
-use borrow.Author.Rules.{rules}
 use Rattle.recover.proofs.fault_of.Reads as reads
 use Rattle.recover.proofs.fault_of.Lts as lts
 use Rattle.recover.proofs.fault_of.Goals as goal

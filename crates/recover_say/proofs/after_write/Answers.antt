@@ -1,6 +1,5 @@
 -- `recover_say::after_write` meets its contract, by whether the piece was written. Assumes nothing.
 use mathlib.Core.Path.{refl}
-use borrow.Author.Rules.{rules}
 use Rattle.recover_say.proofs.after_write.Reads as reads
 use Rattle.recover_say.proofs.after_write.Lts as lts
 use Rattle.recover_say.proofs.after_write.Goals as goal

@@ -1,10 +1,9 @@
 -- `recover_say::say` meets its contract: the pieces before each line are written, and each is lent whole. Assumes nothing.
 use Prim.Native.Nat.{◌-◌}
 use native.Mathlib.Omega.{arith}
-use mathlib.Core.Path.{◌≡◌, refl, sym, ap, ◌∙◌}
-use lib.ListN.{length, length-take}
-use borrow.Author.Rules.{rules}
-use Rattle.recover_say.specs.Said.{Telling, PutSo, WrotePut}
+use mathlib.Core.Path.{sym, ◌∙◌}
+use lib.ListN.{length-take}
+use Rattle.recover_say.specs.Said.{PutSo, WrotePut}
 use Rattle.recover_say.specs.declared.Put.{Put}
 use Rattle.recover_say.proofs.Telling.{begun, few_lines, text_so, one_more, told_of}
 use Rattle.recover_say.proofs.Writing.{no_piece, wrote_more, wrote_part, wrote_all}

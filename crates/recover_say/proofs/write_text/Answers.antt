@@ -1,6 +1,5 @@
 -- `recover_say::write_text` meets its contract: what is written is the front of the text. Assumes nothing.
-use Rattle.std.proofs.Common.{arith, subst, take, drop, take-append-drop, take_all}
-use Rattle.std.specs.Io.KnownBytes.{Appends}
+use Rattle.std.proofs.Common.{take, drop, take-append-drop}
 use Rattle.std.proofs.KnownBytes.{Appends-kept}
 use Rattle.recover_say.proofs.Writing.{in_text, some_more, none_more}
 use Rattle.recover_say.proofs.write_text.Goals as goal

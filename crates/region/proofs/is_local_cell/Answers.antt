@@ -1,6 +1,5 @@
 -- `region::is_local_cell` meets its contract: by the box and the tests in order. Assumes nothing.
 use mathlib.Core.Path.{sym, ◌∙◌}
-use borrow.Author.Rules.{rules}
 use Rattle.region.proofs.Told.{told_empty, told_inside, told_row, told_corner, told_column, told_out}
 use Rattle.region.proofs.is_local_cell.Goals as goal
 

@@ -2,7 +2,6 @@
 use mathlib.Core.Path.{sym, ap, ◌∙◌}
 use mathlib.Core.Bool.{not}
 use borrow.Author.Tests.{not-true, not-false}
-use borrow.Author.Rules.{rules}
 use Rattle.region.proofs.Near.{first_fails, second_says}
 use Rattle.region.proofs.is_past_i.Goals as goal
 

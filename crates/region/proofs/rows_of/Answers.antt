@@ -1,9 +1,8 @@
 -- `region::rows_of` meets its contract: after k places their rows are marked. Assumes nothing.
-use Prim.Native.Nat.{ℕ, ◌-◌, ◌%◌}
+use Prim.Native.Nat.{ℕ, ◌-◌}
 use native.Mathlib.Omega.{arith}
-use borrow.Author.Rules.{rules}
 use lib.ListN.{length-replicate, get_or-replicate}
-use Rattle.region.proofs.Told.{Lining, lining_start, lining_more, lining_end}
+use Rattle.region.proofs.Told.{lining_start, lining_more, lining_end}
 use Rattle.region.proofs.rows_of.Goals as goal
 
 pub loop-k-init : goal.loop-k-init

@@ -1,9 +1,6 @@
 -- `region::rows_of` meets its contract: after k places their rows are marked. Assumes nothing.
-use Prim.Native.Nat.{ℕ, ◌-◌, ◌%◌}
-use native.Mathlib.Omega.{arith}
-use borrow.Author.Rules.{rules}
-use lib.ListN.{length-replicate, get_or-replicate}
-use Rattle.region.proofs.Told.{Lining, lining_start, lining_more, lining_end}
+use Prim.Native.Nat.{◌-◌, ◌%◌}
+use Rattle.region.proofs.Told.{Lining}
 use Rattle.region.proofs.rows_of.Given as goal
 
 abbrev pub invariant-loop-k : goal.invariant-loop-k

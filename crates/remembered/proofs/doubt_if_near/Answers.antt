@@ -2,7 +2,6 @@
 use mathlib.Core.Path.{sym, ap, ◌∙◌}
 use lib.Ieee.{lt}
 use Rattle.remembered.proofs.Words.{far_stays, doubts}
-use borrow.Author.Rules.{rules}
 use Rattle.remembered.proofs.doubt_if_near.Goals as goal
 
 pub returns-then-limit-distance : goal.returns-then-limit-distance

@@ -1,5 +1,4 @@
 -- `remembered::forget_if_near` meets its contract, by whether the new label is near. Assumes nothing.
-use borrow.Author.Rules.{rules}
 use Rattle.remembered.proofs.Words.{forgets, keeps}
 use Rattle.remembered.proofs.forget_if_near.Goals as goal
 

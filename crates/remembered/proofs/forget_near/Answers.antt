@@ -1,7 +1,7 @@
 -- `remembered::forget_near` meets its contract: at each place the words before it are done. Assumes nothing.
 use Prim.Native.Nat.{◌-◌}
 use native.Mathlib.Omega.{arith}
-use Rattle.remembered.proofs.Words.{Forgetting, forgetting_start, forgetting_more, forgetting_skips, forgetting_end}
+use Rattle.remembered.proofs.Words.{forgetting_start, forgetting_more, forgetting_skips, forgetting_end}
 use Rattle.remembered.proofs.forget_near.Goals as goal
 
 pub next_written-place-requires : goal.next_written-place-requires

@@ -1,7 +1,6 @@
 -- `remembered::forget_near` meets its contract: at each place the words before it are done. Assumes nothing.
 use Prim.Native.Nat.{◌-◌}
-use native.Mathlib.Omega.{arith}
-use Rattle.remembered.proofs.Words.{Forgetting, forgetting_start, forgetting_more, forgetting_skips, forgetting_end}
+use Rattle.remembered.proofs.Words.{Forgetting}
 use Rattle.remembered.proofs.forget_near.Given as goal
 
 abbrev pub invariant-loop-place : goal.invariant-loop-place

@@ -1,5 +1,4 @@
 -- `remembered::known_of` meets its contract, by the last three bits of the word. Assumes nothing.
-use borrow.Author.Rules.{rules}
 use native.Mathlib.Omega.{arith}
 use Rattle.remembered.proofs.Notes.{told}
 use Rattle.remembered.proofs.Words.{known_nothing, known_idle, known_no_candidates, known_predicted, known_last}

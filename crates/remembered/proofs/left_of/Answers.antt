@@ -1,8 +1,7 @@
 -- `remembered::left_of` meets its contract: it is forgotten first, and then doubted. Assumes nothing.
-use mathlib.Core.Path.{sym, ap, ◌∙◌}
-use Rattle.remembered.specs.Remembered.{doubted_word, left_word}
+use mathlib.Core.Path.{ap, ◌∙◌}
+use Rattle.remembered.specs.Remembered.{doubted_word}
 use Rattle.remembered.proofs.Words.{certain_stays, left_doubted}
-use borrow.Author.Rules.{rules}
 use Rattle.remembered.proofs.left_of.Goals as goal
 
 pub returns-then-kept-lt4 : goal.returns-then-kept-lt4

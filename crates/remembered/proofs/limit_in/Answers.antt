@@ -1,5 +1,4 @@
 -- `remembered::limit_in` meets its contract, by what is known. Assumes nothing.
-use borrow.Author.Rules.{rules}
 use Rattle.remembered.proofs.Words.{nothing_limit, idle_limit, no_candidates_limit, predicted_limit, ambiguous_limit}
 use Rattle.remembered.proofs.limit_in.Goals as goal
 

@@ -1,5 +1,4 @@
 -- `remembered::note` meets its contract: the entry of the place is written. Assumes nothing.
-use borrow.Author.Rules.{rules}
 use native.Mathlib.Omega.{arith}
 use Rattle.remembered.proofs.Words.{put}
 use Rattle.sheet.proofs.Laws.{place_in}

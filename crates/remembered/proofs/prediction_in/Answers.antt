@@ -1,5 +1,4 @@
 -- `remembered::prediction_in` meets its contract, by what is known. Assumes nothing.
-use borrow.Author.Rules.{rules}
 use mathlib.Core.Path.{◌∙◌}
 use Rattle.remembered.proofs.Words.{nothing_prediction, idle_prediction, no_candidates_prediction, predicted_prediction, ambiguous_prediction}
 use Rattle.remembered.proofs.prediction_in.Goals as goal

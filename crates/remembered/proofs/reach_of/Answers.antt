@@ -1,6 +1,5 @@
 -- `remembered::reach_of` meets its contract: cells of the sheet are near each other. Assumes nothing.
 use mathlib.Core.Path.{sym, subst}
-use borrow.Author.Rules.{rules}
 use Rattle.sheet.specs.Cells.{NearSheet, Within}
 use Rattle.sheet.proofs.Laws.{cell_on_lem, cell_place, on_near, difference_within}
 use Rattle.remembered.proofs.reach_of.Goals as goal

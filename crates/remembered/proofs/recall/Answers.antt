@@ -1,5 +1,4 @@
 -- `remembered::recall` meets its contract: the entry of the place is read. Assumes nothing.
-use borrow.Author.Rules.{rules}
 use native.Mathlib.Omega.{arith}
 use Rattle.remembered.proofs.Words.{entry_is}
 use Rattle.sheet.proofs.Laws.{place_in}

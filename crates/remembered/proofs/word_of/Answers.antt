@@ -1,5 +1,4 @@
 -- `remembered::word_of` meets its contract, by what is known. Assumes nothing.
-use borrow.Author.Rules.{rules}
 use native.Mathlib.Omega.{arith}
 use Rattle.remembered.proofs.Words.{nothing_word, idle_below, idle_word, no_candidates_below, no_candidates_word, predicted_below, predicted_word, ambiguous_below, ambiguous_word}
 use Rattle.remembered.proofs.word_of.Goals as goal

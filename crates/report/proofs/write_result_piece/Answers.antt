@@ -2,13 +2,12 @@
 use mathlib.Core.Path.{sym, ◌∙◌}
 use Rattle.report.specs.WriteResult.{text_lent}
 use Rattle.report.proofs.Answers.{piece_asked, piece_refused, piece_written_lem}
-use borrow.Author.Rules.{rules}
 use Rattle.report.proofs.write_result_piece.Goals as goal
 
 pub returns-in-Refused : goal.returns-in-Refused
 returns-in-Refused c =
     let both_clauses =
-      piece_refused (text_lent c.args.corners c.args.passes c.args.words.now c.args.sheet.now) c.args.from c.args.out.now _ (sym c.check_piece-checked.ensures ∙ c.in-Refused.is) in
+    piece_refused (text_lent c.args.corners c.args.passes c.args.words.now c.args.sheet.now) c.args.from c.args.out.now _ (sym c.check_piece-checked.ensures ∙ c.in-Refused.is) in
     record { out_after = both_clauses.0; said = both_clauses.1 }
 
 pub write_some-end-requires : goal.write_some-end-requires
@@ -17,5 +16,5 @@ write_some-end-requires c = piece_asked (text_lent c.args.corners c.args.passes 
 pub returns : goal.returns
 returns c =
     let both_clauses =
-      piece_written_lem (text_lent c.args.corners c.args.passes c.args.words.now c.args.sheet.now) c.args.from c.args.out.now _ _ (sym c.check_piece-checked.ensures ∙ c.in_default.is) c.write_some-end.ensures in
+    piece_written_lem (text_lent c.args.corners c.args.passes c.args.words.now c.args.sheet.now) c.args.from c.args.out.now _ _ (sym c.check_piece-checked.ensures ∙ c.in_default.is) c.write_some-end.ensures in
     record { out_after = both_clauses.0; said = both_clauses.1 }

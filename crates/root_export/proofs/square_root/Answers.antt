@@ -1,7 +1,6 @@
 -- `root_export::square_root` meets its contract: each arm reads the case that `sqrt` answered, and a root is no NaN. Assumes nothing.
 use Prim.Native.Nat.{ℕ, ◌*◌, ◌^◌}
 use mathlib.Core.Path.{◌∙◌, sym, ap, subst}
-use borrow.Author.Rules.{rules}
 use Rattle.binary32.specs.Sqrt.{Answers}
 use Rattle.binary32.proofs.Answered.{answer_no_nan}
 use Rattle.root_export.specs.RootCall.{root_word}

@@ -2,7 +2,6 @@
 use mathlib.Core.Path.{subst}
 use Rattle.binary32.specs.Sqrt.{Answers}
 use Rattle.binary32.proofs.Answered.{pattern, answer_no_nan}
-use borrow.Author.Rules.{rules}
 use Rattle.root_sweep.proofs.answer.Goals as goal
 
 pub float_from_bits-x : goal.float_from_bits-x

@@ -1,5 +1,4 @@
 -- `root_table::whole_root` meets its contract: the entry stands in its row. Assumes nothing.
-use borrow.Author.Rules.{rules}
 use Rattle.root_table.proofs.Rule.{answered}
 use Rattle.root_table.proofs.whole_root.Goals as goal
 

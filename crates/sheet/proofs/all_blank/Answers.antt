@@ -1,8 +1,7 @@
 -- `sheet::all_blank` meets its contract: the joined word is 0 where each word looked at is. Assumes nothing.
 use mathlib.Core.Path.{◌≡◌, ap, ◌∙◌}
-use Prim.Native.Nat.{◌-◌, ◌≤◌}
+use Prim.Native.Nat.{◌-◌}
 use native.Mathlib.Omega.{arith}
-use lib.Dec.{eqb}
 use Rattle.sheet.specs.Blank.{all_blank}
 use Rattle.sheet.proofs.Blank.{none_blank, joined_more}
 use Rattle.sheet.proofs.all_blank.Goals as goal

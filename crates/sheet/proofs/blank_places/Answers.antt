@@ -2,7 +2,6 @@
 -- and else a run of places. Assumes nothing.
 use mathlib.Core.Path.{sym, ◌∙◌}
 use native.Mathlib.Omega.{arith}
-use borrow.Author.Rules.{rules}
 use Rattle.sheet.proofs.Blank.{blank_block, blank_rest}
 use Rattle.sheet.proofs.blank_places.Goals as goal
 

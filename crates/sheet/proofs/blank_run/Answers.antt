@@ -1,9 +1,8 @@
 -- `sheet::blank_run` meets its contract: all places passed hold nothing. Assumes nothing.
-use mathlib.Core.Path.{◌≡◌, sym}
+use mathlib.Core.Path.{sym}
 use mathlib.Core.Bool.{true}
-use Prim.Native.Nat.{◌-◌, ◌≤◌}
+use Prim.Native.Nat.{◌-◌}
 use native.Mathlib.Omega.{arith}
-use Rattle.sheet.specs.Blank.{all_blank}
 use Rattle.sheet.proofs.Blank.{none_blank, blank_more}
 use Rattle.sheet.proofs.blank_run.Goals as goal
 

@@ -1,10 +1,8 @@
 -- `sheet::blank_run` meets its contract: all places passed hold nothing. Assumes nothing.
-use mathlib.Core.Path.{◌≡◌, sym}
+use mathlib.Core.Path.{◌≡◌}
 use mathlib.Core.Bool.{true}
 use Prim.Native.Nat.{◌-◌, ◌≤◌}
-use native.Mathlib.Omega.{arith}
 use Rattle.sheet.specs.Blank.{all_blank}
-use Rattle.sheet.proofs.Blank.{none_blank, blank_more}
 use Rattle.sheet.proofs.blank_run.Given as goal
 
 abbrev pub invariant-loop-n : goal.invariant-loop-n

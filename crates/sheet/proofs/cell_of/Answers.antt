@@ -1,5 +1,4 @@
 -- `sheet::cell_of` meets its contract: row and column less 64 fit. Assumes nothing.
-use borrow.Author.Rules.{rules}
 use native.Mathlib.Omega.{arith}
 use Prim.Native.Nat.{◌/◌, ◌%◌}
 use lib.IntN.{pos}

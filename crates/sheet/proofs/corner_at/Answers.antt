@@ -1,7 +1,6 @@
 -- `sheet::corner_at` meets its contract. Assumes nothing.
 use mathlib.Core.Path.{sym}
 use Rattle.sheet.proofs.Corners.{held_corner}
-use borrow.Author.Rules.{rules}
 use Rattle.sheet.proofs.corner_at.Goals as goal
 
 pub returns : goal.returns

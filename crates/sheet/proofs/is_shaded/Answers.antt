@@ -1,6 +1,5 @@
 -- `sheet::is_shaded` meets its contract. Assumes nothing.
 use mathlib.Core.Path.{refl}
-use borrow.Author.Rules.{rules}
 use lib.Ieee.{eq, ne}
 use Rattle.sheet.specs.Shades.{any_in}
 use Rattle.sheet.proofs.is_shaded.Goals as goal

@@ -1,7 +1,6 @@
 -- `sheet::is_taken` meets its contract: no shade stands, or the corner's entry decides. Assumes nothing.
 use mathlib.Core.Bool.{not}
 use mathlib.Core.Path.{sym, ◌∙◌, ap}
-use borrow.Author.Rules.{rules}
 use borrow.Author.Tests.{not-true, not-false}
 use Rattle.sheet.proofs.Shades.{takes_every, takes_one, takes_two, takes_none}
 use Rattle.sheet.proofs.is_taken.Goals as goal

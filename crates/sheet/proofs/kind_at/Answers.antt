@@ -1,5 +1,4 @@
 -- `sheet::kind_at` meets its contract: i + 64 and j + 64 are the cell's two lines, and their sum has the parity of i + j. Assumes nothing.
-use mathlib.Core.Path.{◌≡◌}
 use native.Mathlib.Omega.{arith}
 use lib.IntN.{pos}
 use Rattle.sheet.proofs.Laws.{Line, line_i, line_j, line_read, sum_fits}

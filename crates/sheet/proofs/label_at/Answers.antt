@@ -8,7 +8,6 @@ use Rattle.sheet.specs.Cells.{OnSheet}
 use Rattle.sheet.specs.Words.{label_of}
 use Rattle.sheet.proofs.Laws.{place_in}
 use Rattle.sheet.proofs.Words.{label_on, label_off}
-use borrow.Author.Rules.{rules}
 use Rattle.sheet.proofs.label_at.Goals as goal
 use Rattle.sheet.proofs.label_at.Goals.{After-place_of-place, Then-on_sheet}
 

@@ -1,6 +1,5 @@
 -- `sheet::label_of` meets its contract, by whether the low bits are 0. Assumes nothing.
 use Rattle.sheet.proofs.Words.{label_none, label_some}
-use borrow.Author.Rules.{rules}
 use Rattle.sheet.proofs.label_of.Goals as goal
 
 pub returns-then-number-eq0 : goal.returns-then-number-eq0

@@ -2,7 +2,6 @@
 use mathlib.Core.Path.{ap, ap₂, ◌∙◌}
 use Prim.Native.Nat.{◌+◌}
 use native.Mathlib.Omega.{arith}
-use borrow.Author.Rules.{rules}
 use lib.IntN.{nat_abs}
 use Rattle.sheet.proofs.Laws.{read_back}
 use Rattle.sheet.proofs.magnitude.Goals as goal

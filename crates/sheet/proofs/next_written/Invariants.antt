@@ -1,8 +1,6 @@
 -- `sheet::next_written` meets its contract: all places passed hold nothing. Assumes nothing.
 use Prim.Native.Nat.{◌-◌}
-use native.Mathlib.Omega.{arith}
 use Rattle.sheet.specs.Blank.{Passed}
-use Rattle.sheet.proofs.Blank.{passed_start, passed_more, passed_end, passed_hit}
 use Rattle.sheet.proofs.next_written.Given as goal
 
 abbrev pub invariant-loop-r : goal.invariant-loop-r

@@ -2,7 +2,6 @@
 use mathlib.Core.Path.{sym, ap, ◌∙◌}
 use Rattle.sheet.proofs.Corners.{seen_none, seen_some, label_known}
 use Rattle.sheet.specs.declared.Seen.{Seen}
-use borrow.Author.Rules.{rules}
 use Rattle.sheet.proofs.seen_at.Goals as goal
 
 pub corner_at-requires : goal.corner_at-requires

@@ -1,7 +1,6 @@
 -- `sheet::with_ambiguous` meets its contract. Assumes nothing.
 use native.Mathlib.Omega.{arith}
 use Rattle.sheet.proofs.Words.{ambiguous_sum}
-use borrow.Author.Rules.{rules}
 use Rattle.sheet.proofs.with_ambiguous.Goals as goal
 
 pub returns : goal.returns

@@ -1,7 +1,6 @@
 -- `sheet::with_hole` meets its contract. Assumes nothing.
 use native.Mathlib.Omega.{arith}
 use Rattle.sheet.proofs.Words.{hole_sum}
-use borrow.Author.Rules.{rules}
 use Rattle.sheet.proofs.with_hole.Goals as goal
 
 pub returns : goal.returns

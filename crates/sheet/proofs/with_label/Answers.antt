@@ -1,7 +1,6 @@
 -- `sheet::with_label` meets its contract. Assumes nothing.
 use native.Mathlib.Omega.{arith}
 use Rattle.sheet.proofs.Words.{label_sum}
-use borrow.Author.Rules.{rules}
 use Rattle.sheet.proofs.with_label.Goals as goal
 
 pub returns : goal.returns

@@ -2,7 +2,6 @@
 use mathlib.Core.Bool.{not}
 use mathlib.Core.Path.{sym, ◌∙◌, ap}
 use borrow.Author.Tests.{not-true, not-false}
-use borrow.Author.Rules.{rules}
 use Rattle.supports.proofs.Fitted.{finite_first, finite_second, finite_third, finite_fourth}
 use Rattle.supports.proofs.all_finite.Goals as goal
 

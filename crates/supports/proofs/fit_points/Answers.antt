@@ -1,7 +1,6 @@
 -- `supports::fit_points` meets its contract: by the fit and its four residuals. Assumes nothing.
 use mathlib.Core.Bool.{not}
 use mathlib.Core.Path.{ap}
-use borrow.Author.Rules.{rules}
 use Rattle.supports.proofs.Fitted.{points_none, points_wild, points_fitted}
 use Rattle.supports.proofs.fit_points.Goals as goal
 

@@ -2,9 +2,8 @@
 use mathlib.Core.Path.{sym, ap, ◌∙◌, subst}
 use Prim.Native.Nat.{ℕ, ◌<◌}
 use native.Mathlib.Omega.{arith}
-use borrow.Author.Rules.{rules}
 use Rattle.supports.specs.Nearest.{support_at}
-use Rattle.supports.proofs.Outward.{Backing, backing_start, backing_more, backing_stop, backing_end}
+use Rattle.supports.proofs.Outward.{backing_start, backing_more, backing_stop, backing_end}
 use Rattle.supports.proofs.keep_before.Goals as goal
 
 pub row_of-row-requires : goal.row_of-row-requires

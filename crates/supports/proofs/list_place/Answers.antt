@@ -1,7 +1,6 @@
 -- `supports::list_place` meets its contract: by the word. Assumes nothing.
 use mathlib.Core.Path.{sym, ◌∙◌}
 use native.Mathlib.Omega.{arith}
-use borrow.Author.Rules.{rules}
 use Rattle.supports.proofs.Listing.{listed_more, listed_same}
 use Rattle.supports.proofs.list_place.Goals as goal
 

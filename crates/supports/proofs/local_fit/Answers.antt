@@ -1,5 +1,4 @@
 -- `supports::local_fit` meets its contract: from the four points and their pictured corners. Assumes nothing.
-use borrow.Author.Rules.{rules}
 use Rattle.supports.proofs.Fitted.{fit_is}
 use Rattle.supports.proofs.local_fit.Goals as goal
 

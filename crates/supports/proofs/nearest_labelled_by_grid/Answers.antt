@@ -2,9 +2,8 @@
 use mathlib.Core.Path.{sym, ap, ◌∙◌, subst}
 use Prim.Native.Nat.{ℕ, ◌-◌, ◌<◌}
 use native.Mathlib.Omega.{arith}
-use borrow.Author.Rules.{rules}
 use Rattle.sheet.proofs.Laws.{place_in}
-use Rattle.supports.specs.Nearest.{support_at, Keeping}
+use Rattle.supports.specs.Nearest.{support_at}
 use Rattle.supports.proofs.Nearest.{keeping_more, keeping_end}
 use Rattle.supports.proofs.Outward.{keeping_stop}
 use Rattle.supports.proofs.nearest_labelled_by_grid.Goals as goal

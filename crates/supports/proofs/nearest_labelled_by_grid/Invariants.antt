@@ -1,12 +1,6 @@
 -- `supports::nearest_labelled_by_grid` meets its contract: after k places the nearest four of these are kept, and those not reached are no nearer. Assumes nothing.
-use mathlib.Core.Path.{sym, ap, ◌∙◌, subst}
-use Prim.Native.Nat.{ℕ, ◌-◌, ◌<◌}
-use native.Mathlib.Omega.{arith}
-use borrow.Author.Rules.{rules}
-use Rattle.sheet.proofs.Laws.{place_in}
-use Rattle.supports.specs.Nearest.{support_at, Keeping}
-use Rattle.supports.proofs.Nearest.{keeping_more, keeping_end}
-use Rattle.supports.proofs.Outward.{keeping_stop}
+use Prim.Native.Nat.{◌-◌}
+use Rattle.supports.specs.Nearest.{Keeping}
 use Rattle.supports.proofs.nearest_labelled_by_grid.Given as goal
 
 abbrev pub invariant-loop-k : goal.invariant-loop-k

@@ -1,5 +1,4 @@
 -- `supports::pictured` meets its contract: by what is seen. Assumes nothing.
-use borrow.Author.Rules.{rules}
 use Rattle.supports.proofs.Fitted.{pictured_none, pictured_corner}
 use Rattle.supports.proofs.pictured.Goals as goal
 

@@ -1,6 +1,5 @@
 -- `supports::place_point` meets its contract: a place has a cell of the sheet. Assumes nothing.
 use mathlib.Core.Path.{sym, ap, ◌∙◌, subst}
-use borrow.Author.Rules.{rules}
 use Rattle.sheet.specs.Cells.{OnSheet}
 use Rattle.sheet.proofs.Laws.{cell_on_lem}
 use Rattle.passes.specs.Local.{cell_point}

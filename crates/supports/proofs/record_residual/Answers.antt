@@ -1,5 +1,4 @@
 -- `supports::record_residual` meets its contract: by what was recorded before. Assumes nothing.
-use borrow.Author.Rules.{rules}
 use Rattle.passes.specs.Local.{recorded}
 use Rattle.supports.proofs.record_residual.Goals as goal
 

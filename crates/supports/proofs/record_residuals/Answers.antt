@@ -1,5 +1,4 @@
 -- `supports::record_residuals` meets its contract: the four one after the other. Assumes nothing.
-use borrow.Author.Rules.{rules}
 use Rattle.supports.proofs.Residuals.{recorded_four}
 use Rattle.supports.proofs.record_residuals.Goals as goal
 

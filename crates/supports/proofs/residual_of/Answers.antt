@@ -1,5 +1,4 @@
 -- `supports::residual_of` meets its contract: as it stands. Assumes nothing.
-use borrow.Author.Rules.{rules}
 use Rattle.sheet.specs.Corners.{squared_distance}
 use Rattle.passes.specs.Local.{residual_of}
 use Rattle.supports.proofs.residual_of.Goals as goal

@@ -1,6 +1,5 @@
 -- `supports::start_of` meets its contract: the span stays within the places. The measure is its length. Assumes nothing.
 use Prim.Native.Nat.{◌-◌, ◌≤◌}
-use native.Mathlib.Omega.{arith}
 use Rattle.supports.proofs.start_of.Given as goal
 
 abbrev pub invariant-loop-span : goal.invariant-loop-span

@@ -1,7 +1,6 @@
 -- `supports::support_of` meets its contract: cells of the sheet are near each other. Assumes nothing.
 use mathlib.Core.Path.{sym, subst}
 use native.Mathlib.Omega.{arith}
-use borrow.Author.Rules.{rules}
 use Rattle.sheet.specs.Cells.{NearSheet, Within}
 use Rattle.sheet.proofs.Laws.{cell_on_lem, on_near, difference_within}
 use Rattle.supports.proofs.support_of.Goals as goal

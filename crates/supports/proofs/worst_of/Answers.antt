@@ -1,5 +1,4 @@
 -- `supports::worst_of` meets its contract: the four one after the other. Assumes nothing.
-use borrow.Author.Rules.{rules}
 use Rattle.supports.proofs.Residuals.{worst_four}
 use Rattle.supports.proofs.worst_of.Goals as goal
 

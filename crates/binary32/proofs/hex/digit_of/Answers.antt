@@ -1,5 +1,4 @@
 -- `hex::digit_of` meets its contract: the test picks the same case. Assumes nothing.
-use borrow.Author.Rules.{rules}
 use borrow.Author.Tests.{lt-ltb, le-ltb}
 use Rattle.binary32.proofs.hex.digit_of.Goals as goal
 

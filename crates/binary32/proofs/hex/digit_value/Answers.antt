@@ -1,5 +1,4 @@
 -- `hex::digit_value` meets its contract: `proofs/Digits.antt` has each case. Assumes nothing.
-use borrow.Author.Rules.{rules}
 use mathlib.Core.Path.{sym}
 use Rattle.binary32.proofs.Digits.{value_low, value_decimal, value_between, value_letter, value_high}
 use Rattle.binary32.proofs.hex.digit_value.Goals as goal

@@ -1,5 +1,4 @@
 -- `hex::read_bits` meets its contract. The invariant: what is left to read, after the digits that made `bits`, gives the answer. Assumes nothing.
-use borrow.Author.Rules.{rules}
 use mathlib.Core.Path.{◌≡◌, sym, subst, ◌∙◌}
 use Prim.Native.Nat.{ℕ, ◌+◌, ◌-◌, ◌*◌, ◌<◌}
 use native.Mathlib.Omega.{arith}

@@ -1,11 +1,6 @@
 -- `hex::read_bits` meets its contract. The invariant: what is left to read, after the digits that made `bits`, gives the answer. Assumes nothing.
-use borrow.Author.Rules.{rules}
-use mathlib.Core.Path.{◌≡◌, sym, subst, ◌∙◌}
-use Prim.Native.Nat.{ℕ, ◌+◌, ◌-◌, ◌*◌, ◌<◌}
-use native.Mathlib.Omega.{arith}
-use lib.ListN.{get_or}
-use Rattle.binary32.specs.Hex.{digit_value}
-use Rattle.binary32.proofs.Digits.{Reading, started, short, no_digit, one_more, digit, in_word, ended}
+use Prim.Native.Nat.{◌-◌}
+use Rattle.binary32.proofs.Digits.{Reading}
 use Rattle.binary32.proofs.hex.read_bits.Given as goal
 
 abbrev pub invariant-loop-i : goal.invariant-loop-i

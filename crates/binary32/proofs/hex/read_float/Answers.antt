@@ -1,5 +1,4 @@
 -- `hex::read_float` meets its contract: each arm reads what `read_bits` answered. Assumes nothing.
-use borrow.Author.Rules.{rules}
 use mathlib.Core.Path.{sym, ap, ◌∙◌}
 use Rattle.binary32.specs.Hex.{float_of_bits}
 use Rattle.binary32.proofs.hex.read_float.Goals as goal

@@ -1,7 +1,7 @@
 -- `hex::write_bits` meets its contract. The invariant: the first i bytes are the first i digits, and the rest is as it was. Assumes nothing.
 use Prim.Native.Nat.{◌-◌}
 use native.Mathlib.Omega.{arith}
-use Rattle.binary32.proofs.Digits.{Writing, begun, one_more_written, still, done}
+use Rattle.binary32.proofs.Digits.{begun, one_more_written, still, done}
 use Rattle.binary32.proofs.hex.write_bits.Goals as goal
 
 pub loop-i-init : goal.loop-i-init

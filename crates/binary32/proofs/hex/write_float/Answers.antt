@@ -1,5 +1,4 @@
 -- `hex::write_float` meets its contract: a NaN, which alone differs from itself, has the pattern that is written for it. Assumes nothing.
-use borrow.Author.Rules.{rules}
 use mathlib.Core.Path.{ap, ◌∙◌}
 use mathlib.Core.List.{◌++◌}
 use Prim.Native.Nat.{ℕ}

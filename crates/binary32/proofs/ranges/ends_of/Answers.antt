@@ -1,5 +1,4 @@
 -- `ranges::ends_of` meets its contract: each arm is given which quantity it is, and a float literal computes to the number it writes. Assumes nothing.
-use borrow.Author.Rules.{rules}
 use mathlib.Core.Path.{sym, ap}
 use lib.Ieee.{of_bits, neg, of_int}
 use Rattle.binary32.specs.Ranges.{ends_of}

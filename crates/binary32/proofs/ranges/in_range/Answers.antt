@@ -1,5 +1,4 @@
 -- `ranges::in_range` meets its contract: the two tests are those of the range. Assumes nothing.
-use borrow.Author.Rules.{rules}
 use mathlib.Core.Path.{sym, ap, ◌∙◌}
 use mathlib.Core.Bool.{Bool, ◌&&◌}
 use lib.Ieee.{le}

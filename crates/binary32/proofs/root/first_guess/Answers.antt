@@ -1,5 +1,4 @@
 -- `root::first_guess` meets its contract: `proofs/Squares.antt` has both inequalities, from the rule of the table. Assumes nothing.
-use borrow.Author.Rules.{rules}
 use Rattle.binary32.proofs.Squares.{table_encloses, table_encloses_last, from_table, from_table_last}
 use Rattle.binary32.proofs.root.first_guess.Goals as goal
 

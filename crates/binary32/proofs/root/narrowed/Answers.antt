@@ -1,5 +1,4 @@
 -- `root::narrowed` meets its contract: whatever it is led to is tested. Assumes nothing.
-use borrow.Author.Rules.{rules}
 use native.Mathlib.Omega.{arith}
 use Rattle.binary32.proofs.Squares.{middle_small, once_small, twice_small}
 use Rattle.binary32.proofs.root.narrowed.Goals as goal

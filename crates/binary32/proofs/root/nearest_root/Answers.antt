@@ -1,5 +1,4 @@
 -- `root::nearest_root` meets its contract: `proofs/Squares.antt` has both ways to round. Assumes nothing.
-use borrow.Author.Rules.{rules}
 use Rattle.binary32.proofs.Squares.{rounded_down, rounded_up}
 use Rattle.binary32.proofs.root.nearest_root.Goals as goal
 

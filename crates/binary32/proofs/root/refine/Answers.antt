@@ -2,7 +2,6 @@
 use Prim.Native.Nat.{ℕ, ◌+◌, ◌-◌, ◌*◌, ◌/◌, ◌<◌}
 use mathlib.Core.Path.{◌≡◌}
 use native.Mathlib.Omega.{arith}
-use Rattle.binary32.specs.Steps.{Enclosed}
 use Rattle.binary32.proofs.Squares.{square_small, enclosed_apart}
 use Rattle.binary32.proofs.root.refine.Goals as goal
 

@@ -1,9 +1,6 @@
 -- `root::refine` meets its contract. The root lies from lo up and below hi, and each turn halves what is between. Assumes nothing.
-use Prim.Native.Nat.{ℕ, ◌+◌, ◌-◌, ◌*◌, ◌/◌, ◌<◌}
-use mathlib.Core.Path.{◌≡◌}
-use native.Mathlib.Omega.{arith}
+use Prim.Native.Nat.{◌-◌}
 use Rattle.binary32.specs.Steps.{Enclosed}
-use Rattle.binary32.proofs.Squares.{square_small, enclosed_apart}
 use Rattle.binary32.proofs.root.refine.Given as goal
 
 abbrev pub invariant-loop-lo : goal.invariant-loop-lo

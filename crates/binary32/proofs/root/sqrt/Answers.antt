@@ -1,5 +1,4 @@
 -- `root::sqrt` meets its contract: `proofs/Answered.antt` has each answer. Assumes nothing.
-use borrow.Author.Rules.{rules}
 use mathlib.Core.Path.{sym, subst}
 use native.Mathlib.Omega.{arith}
 use lib.Dec.{T}

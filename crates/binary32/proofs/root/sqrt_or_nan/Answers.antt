@@ -1,5 +1,4 @@
 -- `root::sqrt_or_nan` meets its contract: each arm reads the case that `sqrt` answered. Assumes nothing.
-use borrow.Author.Rules.{rules}
 use mathlib.Core.Path.{sym, ap, ◌∙◌}
 use lib.Ieee.{div, of_bits}
 use Rattle.binary32.specs.Sqrt.{value_of}

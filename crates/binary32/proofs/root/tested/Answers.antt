@@ -1,5 +1,4 @@
 -- `root::tested` meets its contract: the two tests are what an enclosing guess is. Assumes nothing.
-use borrow.Author.Rules.{rules}
 use native.Mathlib.Nat.{mul-le-mul, le_of_lt}
 use native.Mathlib.Omega.{arith}
 use Rattle.binary32.proofs.Squares.{enclosed_within}

@@ -2,7 +2,6 @@
 use Rattle.sheet.specs.Corners.{corner_lists}
 use Rattle.grid_export.proofs.Passes.{pass_short, pass_room}
 use mathlib.Core.Path.{◌∙◌}
-use borrow.Author.Rules.{rules}
 use Rattle.grid_export.proofs.pass_calls.pass_or_short.Goals as goal
 
 pub returns-then-out-lt-OUTCOME_WORDS : goal.returns-then-out-lt-OUTCOME_WORDS

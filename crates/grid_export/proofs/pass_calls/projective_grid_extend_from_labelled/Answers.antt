@@ -2,7 +2,6 @@
 use Rattle.sheet.specs.Corners.{corner_lists}
 use Rattle.grid_export.proofs.Passes.{exported_as}
 use mathlib.Core.Path.{◌∙◌}
-use borrow.Author.Rules.{rules}
 use Rattle.grid_export.proofs.pass_calls.projective_grid_extend_from_labelled.Goals as goal
 
 pub returns : goal.returns

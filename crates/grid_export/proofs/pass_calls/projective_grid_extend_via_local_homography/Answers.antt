@@ -1,7 +1,6 @@
 -- `pass_calls::projective_grid_extend_via_local_homography` meets its contract: local by its numbers. Assumes nothing.
 use Rattle.sheet.specs.Corners.{corner_lists}
 use Rattle.grid_export.proofs.Passes.{exported_bare}
-use borrow.Author.Rules.{rules}
 use Rattle.grid_export.proofs.pass_calls.projective_grid_extend_via_local_homography.Goals as goal
 
 pub returns : goal.returns

@@ -1,7 +1,6 @@
 -- `pass_calls::projective_grid_fill_grid_holes` meets its contract: fill by its numbers. Assumes nothing.
 use Rattle.sheet.specs.Corners.{corner_lists}
 use Rattle.grid_export.proofs.Passes.{exported_bare}
-use borrow.Author.Rules.{rules}
 use Rattle.grid_export.proofs.pass_calls.projective_grid_fill_grid_holes.Goals as goal
 
 pub returns : goal.returns

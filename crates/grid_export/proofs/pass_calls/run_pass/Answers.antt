@@ -6,7 +6,6 @@ use Rattle.pass_call.specs.Call.{call_of}
 use Rattle.passes.specs.Run.{step}
 use lib.ListN.{length}
 use native.Mathlib.Omega.{arith}
-use borrow.Author.Rules.{rules}
 use Rattle.grid_export.proofs.pass_calls.run_pass.Goals as goal
 
 pub put_outcome-requires : goal.put_outcome-requires

@@ -1,6 +1,5 @@
 -- `frame_calls::enter_counts` meets its contract: two words one after the other. Assumes nothing.
 use Rattle.grid_words.proofs.Entering.{two}
-use borrow.Author.Rules.{rules}
 use Rattle.grid_words.proofs.frame_calls.enter_counts.Goals as goal
 
 pub returns : goal.returns

@@ -1,6 +1,5 @@
 -- `frame_calls::enter_settings` meets its contract: six floats one after the other. Assumes nothing.
 use Rattle.grid_words.proofs.Entering.{at_1, at_2, at_3, at_4, at_5, six}
-use borrow.Author.Rules.{rules}
 use Rattle.grid_words.proofs.frame_calls.enter_settings.Goals as goal
 
 pub bounds-floats-1 : goal.bounds-floats-1

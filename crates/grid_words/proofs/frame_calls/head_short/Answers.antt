@@ -2,7 +2,6 @@
 use mathlib.Core.Path.{refl}
 use borrow.Author.Tests.{lt-ltb, le-ltb}
 use Rattle.arguments.proofs.Tests.{holds, fails}
-use borrow.Author.Rules.{rules}
 use Rattle.grid_words.proofs.frame_calls.head_short.Goals as goal
 
 pub returns-then-floats-lt6 : goal.returns-then-floats-lt6

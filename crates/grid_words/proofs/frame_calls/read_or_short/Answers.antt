@@ -1,7 +1,6 @@
 -- `frame_calls::read_or_short` meets its contract: no room for the head, or the reader. Assumes nothing.
 use mathlib.Core.Path.{◌∙◌}
 use Rattle.grid_words.proofs.Frames.{head_room, read_short, read_room}
-use borrow.Author.Rules.{rules}
 use Rattle.grid_words.proofs.frame_calls.read_or_short.Goals as goal
 
 pub returns-then-head_short : goal.returns-then-head_short

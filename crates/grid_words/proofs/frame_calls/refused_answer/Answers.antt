@@ -1,7 +1,6 @@
 -- `frame_calls::refused_answer` meets its contract: number and line fit into a word. Assumes nothing.
 use native.Mathlib.Omega.{arith}
 use Rattle.report_line.proofs.Refused.{number_small}
-use borrow.Author.Rules.{rules}
 use Rattle.grid_words.proofs.frame_calls.refused_answer.Goals as goal
 
 pub overflow_add-result : goal.overflow_add-result

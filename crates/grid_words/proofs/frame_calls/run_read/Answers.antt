@@ -1,6 +1,5 @@
 -- `frame_calls::run_read` meets its contract: the reader's answer is told. Assumes nothing.
 use Rattle.grid_words.proofs.Frames.{sayable, read_left}
-use borrow.Author.Rules.{rules}
 use Rattle.grid_words.proofs.frame_calls.run_read.Goals as goal
 
 pub tell-requires : goal.tell-requires

@@ -1,7 +1,6 @@
 -- `frame_calls::tell` meets its contract: a refusal, or a head. Assumes nothing.
 use native.Mathlib.Omega.{arith}
 use Rattle.grid_words.proofs.Frames.{tell_refused, tell_accepted, line_sayable, counts_sayable}
-use borrow.Author.Rules.{rules}
 use Rattle.grid_words.proofs.frame_calls.tell.Goals as goal
 
 pub refused_answer-requires : goal.refused_answer-requires

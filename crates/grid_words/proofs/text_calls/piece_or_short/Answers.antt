@@ -1,7 +1,6 @@
 -- `text_calls::piece_or_short` meets its contract: no room for two words, or a piece. Assumes nothing.
 use mathlib.Core.Path.{◌∙◌}
 use Rattle.grid_words.proofs.Texts.{piece_short, piece_room}
-use borrow.Author.Rules.{rules}
 use Rattle.grid_words.proofs.text_calls.piece_or_short.Goals as goal
 
 pub returns-then-out-lt2 : goal.returns-then-out-lt2

@@ -1,7 +1,6 @@
 -- `text_calls::run_piece` meets its contract: a refusal, or a piece, its length and the next line. Assumes nothing.
 use native.Mathlib.Omega.{arith}
 use Rattle.grid_words.proofs.Texts.{piece_words, piece_refused, piece_done}
-use borrow.Author.Rules.{rules}
 use Rattle.grid_words.proofs.text_calls.run_piece.Goals as goal
 
 pub enter-requires : goal.enter-requires

@@ -1,7 +1,6 @@
 -- `text_calls::run_text` meets its contract: a refusal, or the text and its length. Assumes nothing.
 use native.Mathlib.Omega.{arith}
 use Rattle.grid_words.proofs.Texts.{text_word, text_refused, text_done}
-use borrow.Author.Rules.{rules}
 use Rattle.grid_words.proofs.text_calls.run_text.Goals as goal
 
 pub enter-requires : goal.enter-requires

@@ -1,7 +1,6 @@
 -- `text_calls::text_or_short` meets its contract: no room for the word, or the text. Assumes nothing.
 use mathlib.Core.Path.{◌∙◌}
 use Rattle.grid_words.proofs.Texts.{text_short, text_room}
-use borrow.Author.Rules.{rules}
 use Rattle.grid_words.proofs.text_calls.text_or_short.Goals as goal
 
 pub returns-then-out-lt1 : goal.returns-then-out-lt1

@@ -3,7 +3,6 @@ use mathlib.Core.Bool.{not}
 use mathlib.Core.Path.{sym, ◌∙◌, ap}
 use native.Mathlib.Omega.{arith}
 use borrow.Author.Tests.{not-true, not-false}
-use borrow.Author.Rules.{rules}
 use Rattle.line_form.proofs.Reading.{digits_small, sign_none, below_read}
 use Rattle.line_form.proofs.read.below.Goals as goal
 

@@ -1,5 +1,4 @@
 -- `read::byte` meets its contract: by its tests. Assumes nothing.
-use borrow.Author.Rules.{rules}
 use Rattle.line_form.proofs.Reading.{byte_none, byte_same, byte_other}
 use Rattle.line_form.proofs.read.byte.Goals as goal
 

@@ -1,5 +1,4 @@
 -- `read::float` meets its contract: by what `read_bits` says. Assumes nothing.
-use borrow.Author.Rules.{rules}
 use Rattle.line_form.proofs.Reading.{float_none, float_room, float_read}
 use Rattle.line_form.proofs.read.float.Goals as goal
 

@@ -1,5 +1,4 @@
 -- `read::grown` meets its contract: the cut is the test. Assumes nothing.
-use borrow.Author.Rules.{rules}
 use Rattle.line_form.proofs.Reading.{in_digits}
 use Rattle.line_form.proofs.read.grown.Goals as goal
 

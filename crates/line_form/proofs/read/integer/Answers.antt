@@ -1,6 +1,5 @@
 -- `read::integer` meets its contract: one law for each way out. Assumes nothing.
 use mathlib.Core.Path.{◌∙◌}
-use borrow.Author.Rules.{rules}
 use Rattle.line_form.proofs.Reading.{integer_none, integer_zero, integer_minus, integer_plus}
 use Rattle.line_form.proofs.read.integer.Goals as goal
 

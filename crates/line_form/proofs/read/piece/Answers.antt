@@ -1,6 +1,5 @@
 -- `read::piece` meets its contract: by the byte of the form. Assumes nothing.
 use mathlib.Core.Path.{sym, ap, ◌∙◌}
-use borrow.Author.Rules.{rules}
 use Rattle.line_form.specs.Held.{held_piece}
 use Rattle.line_form.proofs.Reading.{of_float, of_whole, of_byte}
 use Rattle.line_form.proofs.read.piece.Goals as goal

@@ -1,5 +1,4 @@
 -- `read::put` meets its contract: by its test. Assumes nothing.
-use borrow.Author.Rules.{rules}
 use borrow.Author.Tests.{lt-ltb, le-ltb}
 use Rattle.line_form.specs.Held.{kept}
 use Rattle.line_form.proofs.read.put.Goals as goal

@@ -1,11 +1,9 @@
 -- `read::read_digits` meets its contract. The invariant: the digits that are left, after the number that was read and cut, give the answer. Assumes nothing.
 use mathlib.Core.Bool.{not}
 use Prim.Native.Nat.{◌-◌}
-use lib.ListN.{length}
 use mathlib.Core.Path.{sym, ◌∙◌, ap}
-use native.Mathlib.Omega.{arith}
 use borrow.Author.Tests.{not-true, not-false}
-use Rattle.line_form.proofs.Reading.{Counting, none_counted, one_counted, counted_to, counted_all}
+use Rattle.line_form.proofs.Reading.{none_counted, one_counted, counted_to, counted_all}
 use Rattle.line_form.proofs.read.read_digits.Goals as goal
 
 pub loop-i-init : goal.loop-i-init

@@ -1,5 +1,4 @@
 -- `read::starts` meets its contract: by its tests. Assumes nothing.
-use borrow.Author.Rules.{rules}
 use Rattle.line_form.proofs.Reading.{starts_none, starts_low, starts_else}
 use Rattle.line_form.proofs.read.starts.Goals as goal
 

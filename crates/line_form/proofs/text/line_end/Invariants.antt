@@ -1,9 +1,7 @@
 -- `text::line_end` meets its contract: a search from the position on. Assumes nothing.
-use mathlib.Core.Path.{refl}
 use Prim.Native.Nat.{◌-◌}
-use native.Mathlib.Omega.{arith}
 use lib.ListN.{length}
-use Rattle.line_form.proofs.Lines.{Seeking, seek_found, seek_more, seek_end}
+use Rattle.line_form.proofs.Lines.{Seeking}
 use Rattle.line_form.proofs.text.line_end.Given as goal
 
 abbrev pub invariant-loop-i : goal.invariant-loop-i

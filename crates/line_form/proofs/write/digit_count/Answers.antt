@@ -1,6 +1,6 @@
 -- `write::digit_count` meets its contract. The invariant: those counted and those of what is left are the digits of n, and one. Assumes nothing.
 use native.Mathlib.Omega.{arith}
-use Rattle.line_form.proofs.Writing.{Counted, count_begun, count_room, one_more_digit, all_counted}
+use Rattle.line_form.proofs.Writing.{count_begun, count_room, one_more_digit, all_counted}
 use Rattle.line_form.proofs.write.digit_count.Goals as goal
 
 pub loop-m-init : goal.loop-m-init

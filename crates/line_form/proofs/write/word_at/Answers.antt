@@ -1,5 +1,4 @@
 -- `write::word_at` meets its contract: past the end the word is 0. Assumes nothing.
-use borrow.Author.Rules.{rules}
 use mathlib.Core.Path.{sym}
 use lib.ListN.{get_or-eq_default}
 use Rattle.line_form.proofs.write.word_at.Goals as goal

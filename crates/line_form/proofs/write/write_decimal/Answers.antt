@@ -1,6 +1,5 @@
 -- `write::write_decimal` meets its contract. The invariant: the digits that are still to be written and the part behind them make the text. Assumes nothing.
-use native.Mathlib.Omega.{arith}
-use Rattle.line_form.proofs.Writing.{Placing, none_placed, place_room, one_placed, all_placed}
+use Rattle.line_form.proofs.Writing.{none_placed, place_room, one_placed, all_placed}
 use Rattle.line_form.proofs.write.write_decimal.Goals as goal
 
 pub digit_count-count-requires : goal.digit_count-count-requires

@@ -1,8 +1,7 @@
 -- `write::write_form` meets its contract. The invariant: what is written and the text of what is left of the form make the text; behind it the part is as it was. Assumes nothing.
 use Prim.Native.Nat.{◌-◌}
 use lib.ListN.{length}
-use native.Mathlib.Omega.{arith}
-use Rattle.line_form.proofs.Writing.{Filling, word_room, fill_begun, piece_room, piece_part, piece_written_lem, all_written}
+use Rattle.line_form.proofs.Writing.{Filling}
 use Rattle.line_form.proofs.write.write_form.Given as goal
 
 abbrev pub invariant-loop-i : goal.invariant-loop-i

@@ -1,7 +1,6 @@
 -- `write::write_integer` meets its contract: a minus and the digits, or the digits. Assumes nothing.
 use native.Mathlib.Omega.{arith}
 use lib.ListN.{length-set}
-use borrow.Author.Rules.{rules}
 use Rattle.line_form.proofs.Writing.{wrote_length, minus_room, minus_part, minus_written, plus_room, plus_written}
 use Rattle.line_form.proofs.write.write_integer.Goals as goal
 

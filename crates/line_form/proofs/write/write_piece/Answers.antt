@@ -1,5 +1,4 @@
 -- `write::write_piece` meets its contract: by the byte of the form. Assumes nothing.
-use borrow.Author.Rules.{rules}
 use Rattle.line_form.proofs.Writing.{float_fits, float_written, whole_fits, whole_written, byte_fits, byte_written}
 use Rattle.line_form.proofs.write.write_piece.Goals as goal
 

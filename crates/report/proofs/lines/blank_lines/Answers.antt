@@ -1,5 +1,4 @@
 -- `lines::blank_lines` meets its contract: the lines counted are of places of one row, which hold nothing. Assumes nothing.
-use borrow.Author.Rules.{rules}
 use Rattle.report.proofs.Blank.{no_lines, lines_of}
 use Rattle.report.proofs.lines.blank_lines.Goals as goal
 

@@ -6,7 +6,6 @@ use lib.ListN.{length}
 use mathlib.Core.List.{List}
 use mathlib.Core.Path.{refl, ap, ◌∙◌}
 use native.Mathlib.Omega.{arith}
-use borrow.Author.Rules.{rules}
 use Rattle.report.proofs.lines.line_length.Goals as goal
 
 pub returns-then-k-eq0 : goal.returns-then-k-eq0

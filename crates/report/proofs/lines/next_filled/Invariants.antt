@@ -1,8 +1,6 @@
 -- `lines::next_filled` meets its contract: all lines passed over are empty. Assumes nothing.
 use Prim.Native.Nat.{◌-◌}
-use native.Mathlib.Omega.{arith}
 use Rattle.report.specs.Asked.{Skipped}
-use Rattle.report.proofs.Blank.{skip_start, skip_lines}
 use Rattle.report.proofs.lines.next_filled.Given as goal
 
 abbrev pub invariant-loop-r : goal.invariant-loop-r

@@ -3,7 +3,6 @@ use Rattle.report_words.specs.Asked.{grow_at, fill_at, local_at}
 use Rattle.report.proofs.Numbered.{grow_counted, fill_counted, local_counted}
 use Rattle.report_line.proofs.Like.{grow_like_asked, fill_like_asked, local_like_asked}
 use native.Mathlib.Omega.{arith}
-use borrow.Author.Rules.{rules}
 use Rattle.report.proofs.lines.pass_length.Goals as goal
 
 pub write_grow-requires : goal.write_grow-requires

@@ -1,7 +1,6 @@
 -- `lines::write_all` meets its contract: the lines before line k stand at the front, and what comes after them completes the text. Assumes nothing.
 use Prim.Native.Nat.{◌-◌}
-use native.Mathlib.Omega.{arith}
-use Rattle.report.proofs.Writing.{Filling, filling_start, filling_fits, filling_length, line_fits, filling_asked, filling_more, filling_end}
+use Rattle.report.proofs.Writing.{Filling}
 use Rattle.report.proofs.lines.write_all.Given as goal
 
 abbrev pub invariant-loop-k : goal.invariant-loop-k

@@ -4,7 +4,6 @@ use Rattle.report_line.proofs.Forms.{same_room, same_wrote}
 use Rattle.report.specs.Asked.{line_at}
 use Rattle.report.proofs.Numbered.{pass_line_holds, sheet_line_lem}
 use Rattle.report.proofs.Writing.{heading_is, pass_asked, sheet_asked}
-use borrow.Author.Rules.{rules}
 use Rattle.report.proofs.lines.write_line.Goals as goal
 
 pub write_heading-requires : goal.write_heading-requires

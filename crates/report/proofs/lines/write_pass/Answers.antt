@@ -3,7 +3,6 @@ use Rattle.report_line.proofs.Forms.{same_wrote}
 use Rattle.report_line.specs.Result.{pass_line}
 use Rattle.report_words.specs.Outcomes.{stats_at}
 use Rattle.report.proofs.Writing.{grow_line_lem, grow_asked, fill_line_lem, fill_asked, local_line_lem, local_asked}
-use borrow.Author.Rules.{rules}
 use Rattle.report.proofs.lines.write_pass.Goals as goal
 
 pub write_grow-requires : goal.write_grow-requires

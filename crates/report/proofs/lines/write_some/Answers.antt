@@ -3,7 +3,7 @@ use mathlib.Core.Path.{refl}
 use Prim.Native.Nat.{◌-◌}
 use native.Mathlib.Omega.{arith}
 use Rattle.report.proofs.Short.{tame_short}
-use Rattle.report.proofs.Writing.{Cutting, cutting_start, cutting_length, cutting_full, cutting_last, cutting_asked, cutting_more}
+use Rattle.report.proofs.Writing.{cutting_start, cutting_length, cutting_full, cutting_last, cutting_asked, cutting_more}
 use Rattle.report.proofs.Blank.{skipped_at}
 use Rattle.report.proofs.lines.write_some.Goals as goal
 

@@ -1,10 +1,6 @@
 -- `lines::write_some` meets its contract: the lines up to line k stand at the front, and the rest of the piece starts there. Assumes nothing.
-use mathlib.Core.Path.{refl}
 use Prim.Native.Nat.{◌-◌}
-use native.Mathlib.Omega.{arith}
-use Rattle.report.proofs.Short.{tame_short}
-use Rattle.report.proofs.Writing.{Cutting, cutting_start, cutting_length, cutting_full, cutting_last, cutting_asked, cutting_more}
-use Rattle.report.proofs.Blank.{skipped_at}
+use Rattle.report.proofs.Writing.{Cutting}
 use Rattle.report.proofs.lines.write_some.Given as goal
 
 abbrev pub invariant-loop-k : goal.invariant-loop-k

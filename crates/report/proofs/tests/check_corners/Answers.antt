@@ -2,7 +2,6 @@
 use mathlib.Core.Path.{refl, sym, ◌∙◌}
 use Rattle.arguments.proofs.Laws.{known, known_more}
 use Rattle.arguments.proofs.Chains.{refused, passed}
-use borrow.Author.Rules.{rules}
 use Rattle.report.proofs.tests.check_corners.Goals as goal
 
 pub returns-then-unknown_corner : goal.returns-then-unknown_corner

@@ -3,7 +3,6 @@ use mathlib.Core.Path.{sym, ◌∙◌}
 use native.Mathlib.Omega.{arith}
 use Rattle.report.specs.WriteResult.{text_lent}
 use Rattle.report.proofs.Checking.{all_lent, corners_asked, piece_7, piece_7_too, piece_2, piece_3, piece_3_too, piece_rest}
-use borrow.Author.Rules.{rules}
 use Rattle.report.proofs.tests.check_piece.Goals as goal
 
 pub returns-then-input_short : goal.returns-then-input_short

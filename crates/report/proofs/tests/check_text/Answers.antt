@@ -2,7 +2,6 @@
 use mathlib.Core.Path.{sym, ◌∙◌}
 use Rattle.report.specs.WriteResult.{text_lent}
 use Rattle.report.proofs.Checking.{all_lent, corners_asked, text_7, text_7_too, text_2, text_3, text_rest}
-use borrow.Author.Rules.{rules}
 use Rattle.report.proofs.tests.check_text.Goals as goal
 
 pub returns-then-input_short : goal.returns-then-input_short

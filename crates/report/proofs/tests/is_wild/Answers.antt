@@ -2,7 +2,7 @@
 use mathlib.Core.Path.{sym, ◌∙◌}
 use Prim.Native.Nat.{◌-◌}
 use native.Mathlib.Omega.{arith}
-use Rattle.labels.proofs.Below.{Searching, searching_start, searching_more, searching_hit, searching_end}
+use Rattle.labels.proofs.Below.{searching_start, searching_more, searching_hit, searching_end}
 use Rattle.report_words.specs.Outcomes.{wild_outcome}
 use Rattle.report.specs.WriteResult.{wild}
 use Rattle.report.proofs.tests.is_wild.Goals as goal

@@ -1,6 +1,5 @@
 -- `line::held` meets its contract. Assumes nothing.
 use Rattle.report_line.proofs.Forms.{held_count}
-use borrow.Author.Rules.{rules}
 use Rattle.report_line.proofs.line.held.Goals as goal
 
 pub returns : goal.returns

@@ -1,7 +1,6 @@
 -- `line::write_ambiguous` meets its contract. Assumes nothing.
 use Rattle.report_line.specs.Written.{ambiguous_text}
 use Rattle.report_line.proofs.Forms.{small_i, small_j, held_i, held_j, ambiguous_form, same_room, same_wrote}
-use borrow.Author.Rules.{rules}
 use Rattle.report_line.proofs.line.write_ambiguous.Goals as goal
 
 pub held_number-requires : goal.held_number-requires

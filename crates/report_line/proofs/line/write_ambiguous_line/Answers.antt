@@ -4,7 +4,6 @@ use mathlib.Core.Path.{sym, ◌∙◌, ap}
 use borrow.Author.Tests.{not-true, not-false}
 use Rattle.report_line.specs.Result.{ambiguous_line}
 use Rattle.report_line.proofs.Forms.{not_ambiguous, ambiguous_is, cell_asked, nothing_written, same_wrote}
-use borrow.Author.Rules.{rules}
 use Rattle.report_line.proofs.line.write_ambiguous_line.Goals as goal
 
 pub returns-then-not-is_ambiguous : goal.returns-then-not-is_ambiguous

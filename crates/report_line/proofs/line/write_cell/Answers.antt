@@ -1,7 +1,6 @@
 -- `line::write_cell` meets its contract. Assumes nothing.
 use Rattle.report_line.proofs.Forms.{small_i, small_j, held_i, held_j, cell_form, same_room, same_wrote}
 use Rattle.report_line.specs.Written.{cell_text}
-use borrow.Author.Rules.{rules}
 use Rattle.report_line.proofs.line.write_cell.Goals as goal
 
 pub held_number-requires : goal.held_number-requires

@@ -2,7 +2,6 @@
 use mathlib.Core.Path.{sym, ◌∙◌}
 use Rattle.report_line.specs.Result.{cell_line}
 use Rattle.report_line.proofs.Forms.{no_cell, cell_is, corner_asked, nothing_written, same_wrote}
-use borrow.Author.Rules.{rules}
 use Rattle.report_line.proofs.line.write_cell_line.Goals as goal
 
 pub write_cell-requires : goal.write_cell-requires

@@ -1,6 +1,5 @@
 -- `line::write_heading` meets its contract: a form that has no numbers. Assumes nothing.
 use Rattle.report_line.proofs.Forms.{heading_form, same_room, same_wrote}
-use borrow.Author.Rules.{rules}
 use Rattle.report_line.proofs.line.write_heading.Goals as goal
 
 pub write_form-requires : goal.write_form-requires

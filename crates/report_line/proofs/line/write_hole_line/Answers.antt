@@ -4,7 +4,6 @@ use mathlib.Core.Path.{sym, ◌∙◌, ap}
 use borrow.Author.Tests.{not-true, not-false}
 use Rattle.report_line.specs.Result.{hole_line}
 use Rattle.report_line.proofs.Forms.{no_hole, hole_is, cell_asked, nothing_written, same_wrote}
-use borrow.Author.Rules.{rules}
 use Rattle.report_line.proofs.line.write_hole_line.Goals as goal
 
 pub returns-then-not-is_hole : goal.returns-then-not-is_hole

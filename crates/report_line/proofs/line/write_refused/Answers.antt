@@ -1,8 +1,7 @@
 -- `line::write_refused` meets its contract. Assumes nothing.
 use Rattle.report_line.proofs.Refused.{refused_room, refused_wrote}
-use mathlib.Core.Path.{◌≡◌, refl, sym, ap, ◌∙◌}
-use lib.IntN.{ℤ, pos}
-use borrow.Author.Rules.{rules}
+use mathlib.Core.Path.{ap, ◌∙◌}
+use lib.IntN.{pos}
 use Rattle.report_line.proofs.line.write_refused.Goals as goal
 
 pub write_form-requires : goal.write_form-requires

@@ -3,7 +3,6 @@ use native.Mathlib.Omega.{arith}
 use Rattle.report_line.specs.Result.{sheet_line}
 use Rattle.report_line.proofs.Forms.{among_cells, among_holes, among_ambiguous}
 use Rattle.report_line.proofs.Forms.{place_asked, same_wrote}
-use borrow.Author.Rules.{rules}
 use Rattle.report_line.proofs.line.write_sheet_line.Goals as goal
 
 pub write_cell_line-requires : goal.write_cell_line-requires

@@ -2,7 +2,6 @@
 use Rattle.report_line.proofs.Like.{like_itself, like_largest}
 use Prim.Native.Nat.{◌+◌, ◌*◌}
 use native.Mathlib.Omega.{arith}
-use borrow.Author.Rules.{rules}
 use Rattle.report_words.proofs.like.like_at.Goals as goal
 
 pub returns-then-n-gt4293967295 : goal.returns-then-n-gt4293967295

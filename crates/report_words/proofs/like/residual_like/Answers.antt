@@ -5,7 +5,6 @@ use lib.Ieee.{of_bits}
 use borrow.Author.Tests.{not-true, not-false}
 use mathlib.Core.Path.{refl, sym, ◌∙◌, ap}
 use Rattle.report_words.proofs.Outcomes.{like_none, like_some}
-use borrow.Author.Rules.{rules}
 use Rattle.report_words.proofs.like.residual_like.Goals as goal
 
 pub returns-then-not-yes_at : goal.returns-then-not-yes_at

@@ -3,7 +3,6 @@ use mathlib.Core.Bool.{not}
 use borrow.Author.Tests.{not-true, not-false}
 use mathlib.Core.Path.{sym, ◌∙◌, ap}
 use Rattle.report_words.proofs.Outcomes.{unmatched_like_none, unmatched_like_some}
-use borrow.Author.Rules.{rules}
 use Rattle.report_words.proofs.like.unmatched_like.Goals as goal
 
 pub returns-then-not-yes_at : goal.returns-then-not-yes_at

@@ -1,5 +1,5 @@
 -- `put::bit` meets its contract. Assumes nothing.
-use mathlib.Core.Path.{◌≡◌, refl}
+use mathlib.Core.Path.{refl}
 use Rattle.sheet.specs.Words.{bit_of}
 use Rattle.report_words.proofs.put.bit.Goals as goal
 

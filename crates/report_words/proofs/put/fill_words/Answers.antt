@@ -1,6 +1,5 @@
 -- `put::fill_words` meets its contract. Assumes nothing.
 use Rattle.report_words.proofs.Putting.{fill_words_lem}
-use borrow.Author.Rules.{rules}
 use Rattle.report_words.proofs.put.fill_words.Goals as goal
 
 pub returns : goal.returns

@@ -1,5 +1,4 @@
 -- `put::float_bits` meets its contract: a NaN, which alone differs from itself, has the pattern that is put for it. Assumes nothing.
-use borrow.Author.Rules.{rules}
 use Rattle.binary32.proofs.Answered.{no_nan, nan_bits_lem}
 use Rattle.report_words.proofs.put.float_bits.Goals as goal
 

@@ -1,6 +1,5 @@
 -- `put::grow_words` meets its contract. Assumes nothing.
 use Rattle.report_words.proofs.Putting.{grow_words_lem}
-use borrow.Author.Rules.{rules}
 use Rattle.report_words.proofs.put.grow_words.Goals as goal
 
 pub returns : goal.returns

@@ -1,6 +1,5 @@
 -- `put::local_words` meets its contract. Assumes nothing.
 use Rattle.report_words.proofs.Putting.{local_words_lem}
-use borrow.Author.Rules.{rules}
 use Rattle.report_words.proofs.put.local_words.Goals as goal
 
 pub returns : goal.returns

@@ -2,11 +2,8 @@
 use Rattle.report_words.specs.Asked.{with_answer}
 use Rattle.passes.specs.declared.PassAnswer.{PassAnswer}
 use Rattle.passes.specs.Run.{grow_stats, fill_stats, local_stats}
-use Prim.Native.Nat.{ℕ}
-use mathlib.Core.List.{List}
 use mathlib.Core.Path.{ap}
 use Rattle.report_words.proofs.Putting.{grow_fits, fill_fits, local_fits, put_answer}
-use borrow.Author.Rules.{rules}
 use Rattle.report_words.proofs.put.put_outcome.Goals as goal
 
 pub grow_words-requires : goal.grow_words-requires

@@ -1,7 +1,7 @@
 -- `put::put_words` meets its contract, word by word. Assumes nothing.
 use Prim.Native.Nat.{◌-◌}
 use native.Mathlib.Omega.{arith}
-use Rattle.report_words.proofs.Putting.{Putting, putting_start, putting_length, putting_more, putting_end}
+use Rattle.report_words.proofs.Putting.{putting_start, putting_length, putting_more, putting_end}
 use Rattle.report_words.proofs.put.put_words.Goals as goal
 
 pub loop-m-init : goal.loop-m-init

@@ -1,7 +1,6 @@
 -- `put::put_words` meets its contract, word by word. Assumes nothing.
 use Prim.Native.Nat.{◌-◌}
-use native.Mathlib.Omega.{arith}
-use Rattle.report_words.proofs.Putting.{Putting, putting_start, putting_length, putting_more, putting_end}
+use Rattle.report_words.proofs.Putting.{Putting}
 use Rattle.report_words.proofs.put.put_words.Given as goal
 
 abbrev pub invariant-loop-m : goal.invariant-loop-m

@@ -1,5 +1,4 @@
 -- `put::residual_bits` meets its contract, by whether there is one. Assumes nothing.
-use borrow.Author.Rules.{rules}
 use Rattle.report_words.proofs.put.residual_bits.Goals as goal
 
 pub returns-in-Residual : goal.returns-in-Residual

@@ -1,5 +1,4 @@
 -- `read::fill_at` meets its contract, word by word. Assumes nothing.
-use borrow.Author.Rules.{rules}
 use Rattle.report_words.proofs.read.fill_at.Goals as goal
 
 pub returns : goal.returns

@@ -1,6 +1,5 @@
 -- `read::residual_at` meets its contract, by the word that says whether there is one. Assumes nothing.
 use mathlib.Core.Bool.{not}
-use borrow.Author.Rules.{rules}
 use mathlib.Core.Path.{sym, ◌∙◌, ap}
 use borrow.Author.Tests.{not-true, not-false}
 use Rattle.report_words.proofs.Outcomes.{residual_none, residual_some, residual_plain}

@@ -1,5 +1,4 @@
 -- `read::word_at` meets its contract: a word fits. Assumes nothing.
-use borrow.Author.Rules.{rules}
 use native.Mathlib.Omega.{arith}
 use Prim.Native.Nat.{◌+◌, ◌*◌}
 use Rattle.report_words.proofs.read.word_at.Goals as goal

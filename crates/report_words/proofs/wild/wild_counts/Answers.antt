@@ -2,7 +2,6 @@
 use Rattle.arguments.proofs.Tests.{holds, fails}
 use Rattle.report_words.specs.Outcomes.{wild_counts}
 use Rattle.report_words.proofs.Checking.{above, not_above, as_above}
-use borrow.Author.Rules.{rules}
 use Rattle.report_words.proofs.wild.wild_counts.Goals as goal
 
 pub returns-then-word_at-gt1048576 : goal.returns-then-word_at-gt1048576

@@ -3,7 +3,6 @@ use Rattle.arguments.proofs.Tests.{holds, fails}
 use mathlib.Core.Path.{sym, ◌∙◌}
 use Rattle.report_words.specs.Outcomes.{wild_outcome}
 use Rattle.report_words.proofs.Checking.{above, not_above}
-use borrow.Author.Rules.{rules}
 use Rattle.report_words.proofs.wild.wild_outcome.Goals as goal
 
 pub returns-then-word_at-gt2 : goal.returns-then-word_at-gt2

@@ -1,6 +1,5 @@
 -- `wild::wild_residual` meets its contract, by the flag. Assumes nothing.
 use Rattle.report_words.proofs.Checking.{flag_wild, flag_none, flag_some}
-use borrow.Author.Rules.{rules}
 use Rattle.report_words.proofs.wild.wild_residual.Goals as goal
 
 pub returns-then-flag-gt1 : goal.returns-then-flag-gt1

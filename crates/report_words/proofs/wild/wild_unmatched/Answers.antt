@@ -1,6 +1,5 @@
 -- `wild::wild_unmatched` meets its contract, by the word for shades and the kind. Assumes nothing.
 use Rattle.report_words.proofs.Checking.{shade_wild, shade_none, shade_other, shade_local}
-use borrow.Author.Rules.{rules}
 use Rattle.report_words.proofs.wild.wild_unmatched.Goals as goal
 
 pub returns-then-shades-gt1 : goal.returns-then-shades-gt1
