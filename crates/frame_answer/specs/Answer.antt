@@ -19,7 +19,7 @@ use Rattle.frame_answer.specs.declared.PieceWritten.{PieceWritten}
 
 -- ---- the whole answer
 
--- what the passes said; no pass of an accepted frame is refused (`frame_laws`: `accepted-runs`)
+-- what the passes said; no pass of an accepted frame is refused (`frame_laws`: `accepted_runs`)
 unfoldable pub stats_of : List (Outcome PassStats) → List PassStats
 stats_of [] = []
 stats_of (refused r ∷ os) = stats_of os

@@ -66,7 +66,7 @@ pub data Histories (l : CornerLists) (first : List ℕ) : List ℕ → List ℕ 
       → Histories l first (made ++ more) after
 
 -- The n-th of all new cells, counted over all passes: it was attached with some shades and tolerances, on the sheet to which all before it had led.
--- Which they are is not said here. It is said call by call: `Invariant.each-call` (Calls.antt) holds for each call that ran a `Ran`, whose `each`
+-- Which they are is not said here. It is said call by call: `Invariant.each_call` (Calls.antt) holds for each call that ran a `Ran`, whose `each`
 -- and `kinds` have that call's own shades, cell size and band.
 pub record AttachedInTurn (l : CornerLists) (first made last : List ℕ) (n : ℕ) : Type 0 where
   pub shades : List ℕ

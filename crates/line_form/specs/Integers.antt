@@ -13,7 +13,7 @@ unfoldable pub decimal_up_to : ℕ → ℕ → List ℕ
 decimal_up_to zero n = []
 decimal_up_to (suc f) n = cond (ltb n 10) [] (decimal_up_to f (n / 10)) ++ ((48 + n % 10) ∷ [])
 
--- all digits of n: it has no more than n + 1 (`proofs/`: `decimal-digits`)
+-- all digits of n: it has no more than n + 1 (`proofs/`: `decimal_digits`)
 unfoldable pub decimal : ℕ → List ℕ
 decimal n = decimal_up_to (suc n) n
 

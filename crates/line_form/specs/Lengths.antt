@@ -1,4 +1,4 @@
--- How long a printed line can be. Definitions only; the bound is `printed-length` of `proofs/Laws.antt`.
+-- How long a printed line can be. Definitions only; the bound is `printed_length` of `proofs/Laws.antt`.
 use Rattle.std.specs.Prelude.{cond, ◌≡◌, List, [], ◌∷◌, ℕ, ◌+◌, ◌≤◌, ◌<◌, nat_abs, length}
 use Rattle.line_form.specs.Integers.{decimal}
 use Rattle.line_form.specs.Forms.{Number, bits, whole, is_slot}

@@ -136,7 +136,7 @@ result_line stats sheet (suc k) = after_heading stats sheet k
 abbrev pub line_count : ℕ → ℕ
 line_count p = suc (p + sheet_lines)
 
--- the text from line k on; from line 0 on it is the whole text (`proofs/`: `from-the-start`)
+-- the text from line k on; from line 0 on it is the whole text (`proofs/`: `from_the_start`)
 unfoldable pub result_from : List PassStats → List ℕ → ℕ → List ℕ
 result_from stats sheet k = lines_from (result_line stats sheet) k (line_count (length stats) - k)
 
