@@ -1,4 +1,5 @@
 -- `refused_piece` meets its contract. Assumes nothing.
+use mathlib.Core.List.{[]}
 use Rattle.frame_answer.proofs.Printing.{wrote_refused, moves_refused}
 use Rattle.frame_answer.proofs.refused_piece.Reads as reads
 use Rattle.frame_answer.proofs.refused_piece.Lts as lts

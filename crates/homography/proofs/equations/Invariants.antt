@@ -1,4 +1,5 @@
 -- `homography::equations` meets its contract. The loop's invariant: the equations passed stand in their places. Assumes nothing.
+use mathlib.Core.List.{[]}
 use Prim.Native.Nat.{◌-◌, ◌/◌}
 use Rattle.homography.specs.Normalize.{point}
 use Rattle.homography.specs.Equations.{equation}
