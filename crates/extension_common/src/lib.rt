@@ -38,6 +38,7 @@ pub enum TryCellResult {
 }
 
 // The choice among candidates, by either rule.
+#[tactic(auto, unfolding(crate::specs::TryCell::choice_by))]
 pub fn choose(rule: ChoiceRule, candidates: Candidates, factor: f32) -> CandidateChoice
     ensures { result ≡ choice_by rule candidates factor }
 {
