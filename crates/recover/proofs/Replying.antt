@@ -33,7 +33,7 @@ pub answered : (buffer : List ℕ) (input : Input) (outcome : Outcome) (left lef
     → TookAll left left_after buffer input → Replied (input_in buffer input) input outcome → WroteReply before after (input_in buffer input) outcome
     → Answered left left_after before after outcome
 answered buffer (Input.Whole n) (Outcome.Answered said) left left_after before after h w t r o =
-    (take n buffer, t.0, λ l. t.1 (omega (arith, l, h, length-take n buffer)), o)
+    (take n buffer, t.0, omega (arith, h, length-take n buffer), λ l. t.1 (omega (arith, l, h, length-take n buffer)), o)
 answered buffer (Input.Whole n) Outcome.NotRead left left_after before after h w t r o = absurd r
 answered buffer Input.Failed (Outcome.Answered said) left left_after before after h w t r o = absurd r
 answered buffer Input.Failed Outcome.NotRead left left_after before after h w t r o = o

@@ -1,5 +1,5 @@
 -- A run of the frame program (01, "Frame and result"): the bytes that the reads gave are answered, or a read failed and nothing is. Definitions only.
-use Rattle.std.specs.Prelude.{◌≡◌, Bool, true, false, List, [], ◌++◌, ℕ, ◌<◌, ltb, take, length, Option}
+use Rattle.std.specs.Prelude.{◌≡◌, Bool, true, false, List, [], ◌++◌, ℕ, ◌<◌, ◌≤◌, ltb, take, length, Option}
 use Rattle.std.specs.Io.KnownBytes.{Appends, Consumes, IsAtEnd}
 use Rattle.frame_answer.specs.Answer.{answer_text}
 use Rattle.recover_read.specs.Reading.{Read, bytes_of, standing_after, Answers}
@@ -62,5 +62,6 @@ WroteReply before after bytes Outcome.NotRead = Appends before after []
 -- the same to what a reader gave, whose bytes are known: all that it had left, or its first 65,537 bytes
 abbrev pub Answered : Option (List ℕ) → Option (List ℕ) → Option (List ℕ) → Option (List ℕ) → Outcome → Type 0
 Answered left left_after before after (Outcome.Answered said) =
-    (bytes : List ℕ) × Consumes left left_after bytes × (length bytes < 65537 → IsAtEnd left_after) × WroteAnswer before after bytes said
+    (bytes : List ℕ) × Consumes left left_after bytes × (length bytes ≤ 65537) × (length bytes < 65537 → IsAtEnd left_after)
+    × WroteAnswer before after bytes said
 Answered left left_after before after Outcome.NotRead = Appends before after []
