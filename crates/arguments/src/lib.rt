@@ -78,6 +78,7 @@ fn queue_short(queue: usize, n: usize, pass: Pass) -> bool
 }
 
 // 7: whether a lent buffer is too short.
+#[tactic(auto, unfolding(crate::specs::Arguments::too_short))]
 fn too_short(
     xs: &[f32],
     ys: &[f32],

@@ -294,6 +294,7 @@ fn by_quotient(number: usize, first: f32, second: f32, factor: f32) -> Candidate
 }
 
 // Grow's choice. Of two or more: a first distance of at most 2^-23 is ambiguous, and else the quotient decides.
+#[tactic(auto, unfolding(crate::specs::Choice::choose_unambiguous))]
 pub fn choose_unambiguous(candidates: Candidates, ambiguity_factor: f32) -> CandidateChoice
     ensures { result ≡ choose_unambiguous candidates ambiguity_factor }
 {
