@@ -1,16 +1,16 @@
 -- The shades that are lent, put into the array that the passes hold one after the other. Assumes nothing.
 use mathlib.Core.Path.{◌≡◌, refl, sym, ap, ◌∙◌}
-use mathlib.Core.Bool.{Bool, true, false, cond}
+use mathlib.Core.Bool.{Bool, true, false, not, cond}
 use mathlib.Core.List.{List}
-use mathlib.Core.Logic.{◌≢◌}
 use Prim.Native.Nat.{ℕ, zero, suc, ◌+◌, ◌<◌, ◌≤◌}
 use native.Mathlib.Decide.{ℕ_discrete}
 use native.Mathlib.Omega.{arith}
-use borrow.Author.Tests.{lt-ltb, le-ltb, ltb-true, ltb-false}
-use lib.Dec.{ltb}
+use borrow.Author.Tests.{le-ltb, ltb-true, ltb-false}
+use lib.Dec.{eqb, ltb}
+use Rattle.std.proofs.lemmas.Bool.{ne_eqb}
 use lib.ListN.{length, get_or, set, length-set}
 use lib.Seq.{get_or-set_same, get_or-set_other}
-use lib.Ieee.{Float, nan, binary32, of_bits, eq}
+use lib.Ieee.{Float, nan, of_bits, eq}
 use Rattle.binary32.specs.Numbers.{nought}
 use Rattle.sheet.specs.Shades.{bare, two, shade_held, shade_in, any_in, shades_in}
 use Rattle.sheet.specs.Corners.{CornerLists, corner_of, corner_in, corners_in}
@@ -21,7 +21,7 @@ use Rattle.arguments.specs.Arguments.{Lent}
 use Rattle.arguments.specs.Accepted.{Accepted}
 use Rattle.arguments.specs.declared.Pass.{Pass}
 use Rattle.arguments.specs.declared.Settings.{Settings}
-use Rattle.arguments.specs.Asked.{NoKinds, TwoKinds, entry_of}
+use Rattle.arguments.specs.Asked.{TwoKinds, entry_of}
 
 -- ---- a byte and its entry
 
@@ -33,14 +33,11 @@ entry_shade (suc zero) h = refl
 entry_shade (suc (suc zero)) h = refl
 entry_shade (suc (suc (suc k))) h = absurd (omega arith)
 
-pub byte_stands : (b : ℕ) → (b ≡ 0 → ⊥) → stands (shade_of b) ≡ true
+-- a byte stands for a shade if it is not 0
+pub stands_if : (b : ℕ) → not (eqb b 0) ≡ stands (shade_of b)
 unfolding stands shade_of
-byte_stands zero h = absurd (h refl)
-byte_stands (suc k) h = refl
-
-pub byte_bare : (b : ℕ) → b ≡ 0 → stands (shade_of b) ≡ false
-unfolding stands shade_of
-byte_bare b e = rw e
+stands_if zero = refl
+stands_if (suc k) = ap not (ne_eqb (suc k) 0 (λ e. omega arith))
 
 -- any byte but 0 and 1
 pub entry_other : (b : ℕ) → (b ≡ 0 → ⊥) → (b ≡ 1 → ⊥) → two ≡ entry_of b
@@ -105,9 +102,6 @@ pub record Shading (shades : List ℕ) (n : ℕ) (before held : List Float) (k :
   pub first : (m : ℕ) → m < k → get_or held (m + 3072) nan ≡ entry_of (get_or shades m 0)
   pub rest : (m : ℕ) → k ≤ m → m < 1024 → get_or held (m + 3072) nan ≡ nan
   pub corners : corner_in held ≡ corner_in before
-
-pub shading_start : (shades : List ℕ) (n : ℕ) (held : List Float) → NoKinds held → Shading shades n held held 0
-shading_start shades n held w = record { size = w.size; within = omega arith; first = λ m h. absurd (omega arith); rest = λ m a h. w.none m h; corners = refl }
 
 module _ {shades : List ℕ} {n : ℕ} {before held : List Float} {k : ℕ} (two : TwoKinds shades n) (g : Shading shades n before held k) where
   -- one more

@@ -1,5 +1,6 @@
 -- What the checks say: a call is accepted exactly if its buffers are long enough, its corners at most 1,024, its numbers in
 -- their ranges, and its sheet names given corners only, each at one place. Assumes nothing.
+use Rattle.std.specs.Prelude.{Option, Some, None}
 use mathlib.Core.Path.{◌≡◌, refl, sym, ap, ◌∙◌}
 use mathlib.Core.Bool.{Bool, true, false, not}
 use mathlib.Core.List.{List}
@@ -15,7 +16,6 @@ use Rattle.binary32.specs.Ranges.{in_range}
 use Rattle.binary32.specs.declared.ranges.Quantity.{Quantity}
 use Rattle.sheet.specs.Words.{label_of}
 use Rattle.sheet.specs.Corners.{CornerLists, corner_of}
-use Rattle.sheet.specs.declared.Label.{Label}
 use Rattle.sheet.specs.declared.Corner.{Corner}
 use Rattle.labels.specs.Used.{names, OneCell}
 use Rattle.labels.proofs.Below.{no_both, any_hit, any_yes, any_none, any_no}
@@ -174,7 +174,7 @@ pass_not_outside (Pass.Local p) i = local_not_outside p i
 
 -- ---- 5: every corner on the sheet is given
 
-unknown_yes : (n : ℕ) (label : Label) (k : ℕ) → label ≡ Label.Corner k → unknown n label ≡ false → k < n
+unknown_yes : (n : ℕ) (label : Option ℕ) (k : ℕ) → label ≡ Some k → unknown n label ≡ false → k < n
 unfolding unknown
 unknown_yes n label k e f = leb-false n k (sym (ap (unknown n) e) ∙ f)
 
@@ -186,9 +186,9 @@ pub not_unknown : (n : ℕ) (sheet : List ℕ) → Known n sheet → unknown_cor
 unfolding unknown_corner unknown_at unknown
 not_unknown n sheet w = any_no (unknown_at n sheet) 16384 (λ p h. go (label_of (get_or sheet p 0)) (λ k. w.known p k h))
   where
-    go : (l : Label) → ((k : ℕ) → l ≡ Label.Corner k → k < n) → unknown n l ≡ false
-    go Label.Unlabelled m = refl
-    go (Label.Corner k) m = lt-leb n k (m k refl)
+    go : (l : Option ℕ) → ((k : ℕ) → l ≡ Some k → k < n) → unknown n l ≡ false
+    go None m = refl
+    go (Some k) m = lt-leb n k (m k refl)
 
 -- and below any number that is no less
 pub known_more : (n m : ℕ) (sheet : List ℕ) → n ≤ m → Known n sheet → Known m sheet
@@ -196,10 +196,10 @@ known_more n m sheet h w = record { known = λ p k l e. let g = w.known p k l e 
 
 -- ---- 6: the test says yes exactly if a corner stands on two places
 
-same_corner_holds : (l m : Label) (P : Type 0) → same_corner l m ≡ true → ((k : ℕ) → l ≡ Label.Corner k → m ≡ Label.Corner k → P) → P
+same_corner_holds : (l m : Option ℕ) (P : Type 0) → same_corner l m ≡ true → ((k : ℕ) → l ≡ Some k → m ≡ Some k → P) → P
 unfolding same_corner
-same_corner_holds Label.Unlabelled m P e f = absurd (no_both false e refl)
-same_corner_holds (Label.Corner k) m P e f = f k refl (it_names k m e)
+same_corner_holds None m P e f = absurd (no_both false e refl)
+same_corner_holds (Some k) m P e f = f k refl (it_names k m e)
 
 pub on_two_places : (sheet : List ℕ) → doubled_corner sheet ≡ true → OnTwoPlaces sheet
 unfolding doubled_corner doubled_at
@@ -221,7 +221,7 @@ one_cell sheet e = record { one_place = λ p q k g h l m. go p q k g h l m (ℕ_
     not_two : OnTwoPlaces sheet → ⊥
     not_two w = no_both (doubled_corner sheet) (doubled sheet w) e
 
-    go : (p q k : ℕ) → p < 16384 → q < 16384 → label_of (get_or sheet p 0) ≡ Label.Corner k → label_of (get_or sheet q 0) ≡ Label.Corner k → Dec (p ≡ q) → Dec (p < q) → p ≡ q
+    go : (p q k : ℕ) → p < 16384 → q < 16384 → label_of (get_or sheet p 0) ≡ Some k → label_of (get_or sheet q 0) ≡ Some k → Dec (p ≡ q) → Dec (p < q) → p ≡ q
     go p q k g h l m (yes d) f = d
     go p q k g h l m (no d) (yes f) = absurd (not_two (record { first = p; second = q; corner = k; earlier = f; below = h; first_holds = l; second_holds = m }))
     go p q k g h l m (no d) (no f) = absurd (not_two (record { first = q; second = p; corner = k; earlier = omega arith; below = g; first_holds = m; second_holds = l }))

@@ -1,5 +1,6 @@
 -- A call is refused with a number exactly if that number's meaning holds and none of those tried before it, and is let pass exactly if it is
 -- accepted. Assumes nothing.
+use Rattle.std.specs.Prelude.{Option, Some, None}
 use mathlib.Core.Path.{◌≡◌, refl, sym, subst}
 use mathlib.Core.Bool.{Bool, true, false}
 use mathlib.Core.List.{List}
@@ -8,7 +9,6 @@ use borrow.Author.Tests.{lt-ltb, le-ltb, ltb-true, ltb-false, leb-true, le-leb}
 use lib.ListN.{get_or}
 use Rattle.refusal.specs.declared.Refusal.{Refusal}
 use Rattle.sheet.specs.Words.{label_of}
-use Rattle.sheet.specs.declared.Label.{Label}
 use Rattle.labels.proofs.Below.{no_both, any_hit, any_yes}
 use Rattle.arguments.specs.Arguments.{Lent, corner_count, too_short, over_limit, some_corner_outside, settings_outside, out_of_range, unknown, unknown_at, unknown_corner, doubled_corner, refused_if, checked}
 use Rattle.arguments.specs.Accepted.{LongEnough}
@@ -69,10 +69,10 @@ module _ (l : Lent) (settings : Settings) (pass : Pass) where
   is_outside f = yes_else (out_of_range l settings pass) (λ e. f (numbers_inside e))
 
 -- some place names a corner from n on
-unknown_corner_lem : (n : ℕ) (label : Label) (P : Type 0) → unknown n label ≡ true → ((k : ℕ) → label ≡ Label.Corner k → n ≤ k → P) → P
+unknown_corner_lem : (n : ℕ) (label : Option ℕ) (P : Type 0) → unknown n label ≡ true → ((k : ℕ) → label ≡ Some k → n ≤ k → P) → P
 unfolding unknown
-unknown_corner_lem n Label.Unlabelled P e f = absurd (no_both false e refl)
-unknown_corner_lem n (Label.Corner k) P e f = f k refl (leb-true n k e)
+unknown_corner_lem n None P e f = absurd (no_both false e refl)
+unknown_corner_lem n (Some k) P e f = f k refl (leb-true n k e)
 
 names_unknown : (n : ℕ) (sheet : List ℕ) → unknown_corner n sheet ≡ true → NamesUnknown n sheet
 unfolding unknown_corner unknown_at

@@ -1,5 +1,6 @@
 -- Two calls on frames that hold the same corners in another order, with the same settings, pass and buffer lengths, are
 -- refused alike. Assumes nothing.
+use Rattle.std.specs.Prelude.{Option, Some, None}
 use mathlib.Core.Path.{◌≡◌, refl, sym, ap, ap₂, ◌∙◌}
 use mathlib.Core.Bool.{Bool, true, false, not, ◌||◌}
 use mathlib.Core.List.{List}
@@ -12,7 +13,6 @@ use Rattle.sheet.specs.declared.Corner.{Corner}
 use Rattle.sheet.specs.Pairing.{Shuffle, paired_label, PairedCorners, PairedSheets}
 use Rattle.sheet.proofs.Words.{no_corner_lem}
 use Rattle.sheet.proofs.Pairing.{to_one}
-use Rattle.sheet.specs.declared.Label.{Label}
 use Rattle.labels.specs.Used.{OneCell}
 use Rattle.labels.proofs.Count.{any_paired}
 use Rattle.arguments.specs.Arguments.{Lent, corner_count, too_short, over_limit, corner_outside, shade_outside, outside_at, some_corner_outside, out_of_range, checked}
@@ -46,13 +46,13 @@ module _ {n : ℕ} (s : Shuffle n) {shades shades' : List ℕ} (paired : PairedS
 
 module _ {n : ℕ} (s : Shuffle n) {sheet sheet' : List ℕ} (paired : PairedSheets s sheet sheet') (w : Known n sheet) where
   -- what the second sheet names is the pair of what the first names
-  named : (p k : ℕ) (P : Type 0) → p < 16384 → label_of (get_or sheet' p 0) ≡ Label.Corner k → ((j : ℕ) → j < n → label_of (get_or sheet p 0) ≡ Label.Corner j → s.to j ≡ k → P) → P
+  named : (p k : ℕ) (P : Type 0) → p < 16384 → label_of (get_or sheet' p 0) ≡ Some k → ((j : ℕ) → j < n → label_of (get_or sheet p 0) ≡ Some j → s.to j ≡ k → P) → P
   unfolding paired_label
   named p k P h e f = go (label_of (get_or sheet p 0)) refl (sym (paired.labels p h) ∙ e)
     where
-      go : (l : Label) → label_of (get_or sheet p 0) ≡ l → paired_label s l ≡ Label.Corner k → P
-      go Label.Unlabelled d g = absurd (no_corner_lem k g)
-      go (Label.Corner j) d g = f j (w.known p j h d) d (let q : s.to j ≡ k = cc in q)
+      go : (l : Option ℕ) → label_of (get_or sheet p 0) ≡ l → paired_label s l ≡ Some k → P
+      go None d g = absurd (no_corner_lem k g)
+      go (Some j) d g = f j (w.known p j h d) d (let q : s.to j ≡ k = cc in q)
 
   pub known_paired : Known n sheet'
   known_paired = record { known = λ p k h e. named p k (k < n) h e (λ j i d q. rw (← q) (s.to_in j i)) }
@@ -63,7 +63,7 @@ module _ {n : ℕ} (s : Shuffle n) {sheet sheet' : List ℕ} (paired : PairedShe
         one_place =
             λ p q k g h a b.
             named p k (p ≡ q) g a
-            (λ i m d x. named q k (p ≡ q) h b (λ j r f y. o.one_place p q i g h d (f ∙ ap Label.Corner (to_one s j i r m (y ∙ sym x)))));
+            (λ i m d x. named q k (p ≡ q) h b (λ j r f y. o.one_place p q i g h d (f ∙ ap Some (to_one s j i r m (y ∙ sym x)))));
       }
 
 -- ---- the calls

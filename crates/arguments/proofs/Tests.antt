@@ -1,27 +1,22 @@
--- Laws of the tests, for the functions that make them: a chain of tests of which one is enough, a chain of refusals, the
--- queue's length, a label's corner, and the corners seen place by place. Assumes nothing.
+-- Laws of the tests, for the functions that make them: a chain of tests of which one is enough, a chain of refusals, a
+-- label's corner, and the corners seen place by place. Assumes nothing.
+use Rattle.std.specs.Prelude.{Option, Some, None}
 use mathlib.Core.Path.{◌≡◌, refl, sym, ap, ◌∙◌}
 use mathlib.Core.Bool.{Bool, true, false, not, ◌||◌}
 use mathlib.Core.List.{List}
-use Prim.Native.Nat.{ℕ, ◌+◌, ◌*◌, ◌/◌, ◌<◌, ◌≤◌}
-use native.Mathlib.Omega.{arith}
-use borrow.Author.Tests.{lt-ltb, le-ltb, ltb-true, ltb-false}
-use lib.Dec.{eqb, ltb}
+use Prim.Native.Nat.{ℕ, ◌+◌, ◌<◌, ◌≤◌}
+use lib.Dec.{eqb}
 use lib.ListN.{get_or, set}
 use Rattle.refusal.specs.declared.Refusal.{Refusal}
 use Rattle.sheet.specs.Words.{bit_of, label_of}
 use Rattle.sheet.specs.Blank.{NextWritten}
 use Rattle.sheet.proofs.Blank.{skips, blank_label}
-use Rattle.sheet.specs.declared.Label.{Label}
 use Rattle.labels.specs.Labelled.{any_below}
 use Rattle.labels.specs.Used.{names}
 use Rattle.labels.proofs.Below.{any_no, Searching, searching_start, searching_more, searching_hit, searching_end, searching_skips}
 use Rattle.labels.proofs.Used.{Marking, marking_start, marking_more, noted_none, noted_entry}
-use Rattle.arguments.specs.Arguments.{Lent, corner_count, queue_needed, too_short, over_limit, out_of_range, unknown, unknown_at, unknown_corner, same_corner, doubled_at, doubled_corner, checked}
+use Rattle.arguments.specs.Arguments.{Lent, corner_count, too_short, over_limit, out_of_range, unknown, unknown_at, unknown_corner, same_corner, doubled_at, doubled_corner, checked}
 use Rattle.arguments.specs.Asked.{HasEntry, HasEntries, seen_before, Noted, Unseen}
-use Rattle.arguments.specs.declared.GrowParams.{GrowParams}
-use Rattle.arguments.specs.declared.FillParams.{FillParams}
-use Rattle.arguments.specs.declared.LocalExtensionParams.{LocalExtensionParams}
 use Rattle.arguments.specs.declared.Pass.{Pass}
 use Rattle.arguments.specs.declared.Settings.{Settings}
 use Rattle.arguments.specs.declared.Checked.{Checked}
@@ -67,30 +62,6 @@ module _ (l : Lent) (settings : Settings) (pass : Pass) where
           unfolding checked
           refused_none e = passed _ _ _ _ a7 (passed _ _ _ _ a2 (passed _ _ _ _ (sym a3) (passed _ _ _ _ a5 (passed _ _ _ _ e refl))))
 
--- ---- the queue
-
--- four places a corner, by a division that cannot overflow
-quarter : (queue n : ℕ) → ltb (queue / 4) n ≡ ltb queue (4 * n)
-quarter queue n = go (ltb queue (4 * n)) refl
-  where
-    go : (t : Bool) → ltb queue (4 * n) ≡ t → ltb (queue / 4) n ≡ t
-    go true e = let h = ltb-true queue (4 * n) e in lt-ltb (queue / 4) n (omega arith)
-    go false e = let h = ltb-false queue (4 * n) e in le-ltb (queue / 4) n (omega arith)
-
--- by the pass
-module _ (queue n : ℕ) (pass : Pass) where
-  pub queue_grow : (p : GrowParams) → pass ≡ Pass.Grow p → ltb (queue / 4) n ≡ ltb queue (queue_needed pass n)
-  unfolding queue_needed
-  queue_grow p e = rw e (quarter queue n)
-
-  pub queue_fill : (p : FillParams) → pass ≡ Pass.Fill p → false ≡ ltb queue (queue_needed pass n)
-  unfolding queue_needed
-  queue_fill p e = rw e (sym (le-ltb queue 0 (omega arith)))
-
-  pub queue_local : (p : LocalExtensionParams) → pass ≡ Pass.Local p → false ≡ ltb queue (queue_needed pass n)
-  unfolding queue_needed
-  queue_local p e = rw e (sym (le-ltb queue 0 (omega arith)))
-
 -- ---- the corners seen
 
 -- the walk at a place: the entries say which corners the places before it hold, and none of those is doubled
@@ -116,9 +87,9 @@ module _ (sheet seen : List ℕ) (p : ℕ) (s : Seeing sheet seen p) (h : p < 16
       bit true = refl
       bit false = refl
 
-      go : (l : Label) → ((k : ℕ) → l ≡ Label.Corner k → k < 1024) → seen_before seen l ≡ any_below p (λ q. same_corner l (label_of (get_or sheet q 0)))
-      go Label.Unlabelled m = sym (any_no (λ q. false) p (λ q l. refl))
-      go (Label.Corner k) m = rw (s.marking.so_far k (m k refl)) (bit (any_below p (λ q. names k (label_of (get_or sheet q 0)))))
+      go : (l : Option ℕ) → ((k : ℕ) → l ≡ Some k → k < 1024) → seen_before seen l ≡ any_below p (λ q. same_corner l (label_of (get_or sheet q 0)))
+      go None m = sym (any_no (λ q. false) p (λ q l. refl))
+      go (Some k) m = rw (s.marking.so_far k (m k refl)) (bit (any_below p (λ q. names k (label_of (get_or sheet q 0)))))
 
   module _ (after : List ℕ) (r : Bool) (w : Noted seen (label_of (get_or sheet p 0)) after r) where
     pub seeing_more : r ≡ false → Seeing sheet after (p + 1)
@@ -138,12 +109,12 @@ unfolding doubled_corner
 seeing_end sheet seen p s h = searching_end (doubled_at sheet) 16384 p s.searching h
 
 -- a label noted, by its two ways
-module _ (seen : List ℕ) (label : Label) where
-  pub note_none : label ≡ Label.Unlabelled → Noted seen label seen false
+module _ (seen : List ℕ) (label : Option ℕ) where
+  pub note_none : label ≡ None → Noted seen label seen false
   unfolding seen_before
   note_none e = record { said = rw e; written = noted_none seen label e }
 
-  pub note_corner : (k : ℕ) → label ≡ Label.Corner k → k < 1024 → Noted seen label (set seen k 1) (not (eqb (get_or seen k 0) 0))
+  pub note_corner : (k : ℕ) → label ≡ Some k → k < 1024 → Noted seen label (set seen k 1) (not (eqb (get_or seen k 0) 0))
   unfolding seen_before
   note_corner k e h = record { said = rw e; written = noted_entry seen label k e h }
 

@@ -1,12 +1,11 @@
 -- What is known of the arguments of a call that is not refused, part by part; and what it is that a corner stands on two
 -- places. Definitions only.
-use Rattle.std.specs.Prelude.{◌≡◌, true, List, ℕ, ◌<◌, ◌≤◌, length, get_or}
+use Rattle.std.specs.Prelude.{◌≡◌, true, List, ℕ, ◌<◌, ◌≤◌, length, get_or, Some}
 use Rattle.sizes.specs.Sizes.{place_count, corner_limit}
 use Rattle.binary32.specs.Ranges.{in_range}
 use Rattle.binary32.specs.declared.ranges.Quantity.{Quantity}
 use Rattle.sheet.specs.Words.{label_of}
 use Rattle.sheet.specs.Corners.{corner_of, AllListed, Given}
-use Rattle.sheet.specs.declared.Label.{Label}
 use Rattle.sheet.specs.declared.Corner.{Corner}
 use Rattle.labels.specs.Used.{OneCell}
 use Rattle.predict.specs.declared.Vector.{Vector}
@@ -86,7 +85,7 @@ pub record LongEnough (l : Lent) (pass : Pass) : Type 0 where
 
 -- the sheet names corners below n only
 pub record Known (n : ℕ) (sheet : List ℕ) : Type 0 where
-  pub known : (p k : ℕ) → p < place_count → label_of (get_or sheet p 0) ≡ Label.Corner k → k < n
+  pub known : (p k : ℕ) → p < place_count → label_of (get_or sheet p 0) ≡ Some k → k < n
 
 -- a corner that stands on two places of the sheet
 pub record OnTwoPlaces (sheet : List ℕ) : Type 0 where
@@ -95,5 +94,5 @@ pub record OnTwoPlaces (sheet : List ℕ) : Type 0 where
   pub corner : ℕ
   pub earlier : first < second
   pub below : second < place_count
-  pub first_holds : label_of (get_or sheet first 0) ≡ Label.Corner corner
-  pub second_holds : label_of (get_or sheet second 0) ≡ Label.Corner corner
+  pub first_holds : label_of (get_or sheet first 0) ≡ Some corner
+  pub second_holds : label_of (get_or sheet second 0) ≡ Some corner

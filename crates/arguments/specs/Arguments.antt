@@ -1,13 +1,12 @@
 -- What every library call checks of what it is lent (01, "Frame and result", the table of refusals): "The library tries
 -- 7, 2, 3, 5, 6". Each of the five has a test that is true where the call is refused. Definitions only.
-use Rattle.std.specs.Prelude.{Bool, true, false, not, ◌||◌, List, ℕ, ◌*◌, ltb, leb, length, get_or, Float}
+use Rattle.std.specs.Prelude.{Bool, true, false, not, ◌||◌, List, ℕ, ◌*◌, ltb, leb, length, get_or, Float, Option, Some, None}
 use Rattle.sizes.specs.Sizes.{place_count, corner_limit}
 use Rattle.refusal.specs.declared.Refusal.{Refusal}
 use Rattle.binary32.specs.Ranges.{in_range}
 use Rattle.binary32.specs.declared.ranges.Quantity.{Quantity}
 use Rattle.sheet.specs.Words.{label_of}
 use Rattle.sheet.specs.Corners.{CornerLists, corner_lists, corner_of}
-use Rattle.sheet.specs.declared.Label.{Label}
 use Rattle.sheet.specs.declared.Corner.{Corner}
 use Rattle.labels.specs.Labelled.{any_below}
 use Rattle.labels.specs.Used.{names}
@@ -129,9 +128,9 @@ out_of_range l settings pass = some_corner_outside l.corners l.shades || (settin
 -- ---- 5, stranger: "label's corner not given"
 
 -- a corner number from n on
-unfoldable pub unknown : ℕ → Label → Bool
-unknown n Label.Unlabelled = false
-unknown n (Label.Corner k) = leb n k
+unfoldable pub unknown : ℕ → Option ℕ → Bool
+unknown n None = false
+unknown n (Some k) = leb n k
 
 -- the place p holds one
 unfoldable pub unknown_at : ℕ → List ℕ → ℕ → Bool
@@ -144,9 +143,9 @@ unknown_corner n sheet = any_below place_count (unknown_at n sheet)
 -- ---- 6, doubled: "cell or corner labelled twice"; a place holds one corner at most, so a cell never is
 
 -- both labels name a corner, and the same one
-unfoldable pub same_corner : Label → Label → Bool
-same_corner Label.Unlabelled other = false
-same_corner (Label.Corner k) other = names k other
+unfoldable pub same_corner : Option ℕ → Option ℕ → Bool
+same_corner None other = false
+same_corner (Some k) other = names k other
 
 -- some place before q holds the corner that q holds
 unfoldable pub doubled_at : List ℕ → ℕ → Bool

@@ -1,11 +1,10 @@
 -- What the inner functions ask of their arguments, and the array of the corners seen. Definitions only.
-use Rattle.std.specs.Prelude.{◌≡◌, Bool, false, not, List, ℕ, zero, suc, ◌+◌, ◌*◌, ◌<◌, ◌≤◌, eqb, length, get_or, Float}
+use Rattle.std.specs.Prelude.{◌≡◌, Bool, false, not, List, ℕ, zero, suc, ◌+◌, ◌*◌, ◌<◌, ◌≤◌, eqb, length, get_or, Float, Option, Some, None}
 use Rattle.std.specs.Float.{nan}
 use Rattle.sizes.specs.Sizes.{place_count, corner_limit}
 use Rattle.binary32.specs.Numbers.{one}
 use Rattle.sheet.specs.Shades.{two}
 use Rattle.sheet.specs.Corners.{no_corner, CornerLists, corner_in, AllListed}
-use Rattle.sheet.specs.declared.Label.{Label}
 use Rattle.labels.specs.Used.{noted}
 use Rattle.arguments.specs.Accepted.{Known}
 
@@ -46,16 +45,16 @@ entry_of (suc (suc k)) = two
 -- ---- the corners seen: 1,024 entries, that of a corner 1 if it was seen, and else 0
 
 -- a label whose corner, if it names one, has an entry
-pub record HasEntry (label : Label) : Type 0 where
-  pub entry : (k : ℕ) → label ≡ Label.Corner k → k < corner_limit
+pub record HasEntry (label : Option ℕ) : Type 0 where
+  pub entry : (k : ℕ) → label ≡ Some k → k < corner_limit
 
 -- the label's corner was seen before
-unfoldable pub seen_before : List ℕ → Label → Bool
-seen_before seen Label.Unlabelled = false
-seen_before seen (Label.Corner k) = not (eqb (get_or seen k 0) 0)
+unfoldable pub seen_before : List ℕ → Option ℕ → Bool
+seen_before seen None = false
+seen_before seen (Some k) = not (eqb (get_or seen k 0) 0)
 
 -- a label noted: whether its corner was seen before, and its entry set
-pub record Noted (seen : List ℕ) (label : Label) (after : List ℕ) (r : Bool) : Type 0 where
+pub record Noted (seen : List ℕ) (label : Option ℕ) (after : List ℕ) (r : Bool) : Type 0 where
   pub said : r ≡ seen_before seen label
   pub written : after ≡ noted seen label
 

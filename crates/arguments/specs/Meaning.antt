@@ -1,11 +1,10 @@
 -- When a library call is refused, and with which number, without the tests that find it (01, "Frame and result", the table of refusals: "The
 -- library tries 7, 2, 3, 5, 6"). `proofs/Meaning.antt` proves `RefusedExactlyIf`. Definitions only.
-use Rattle.std.specs.Prelude.{◌≡◌, List, ◌↔◌, ℕ, ◌<◌, ◌≤◌, get_or}
+use Rattle.std.specs.Prelude.{◌≡◌, List, ◌↔◌, ℕ, ◌<◌, ◌≤◌, get_or, Some}
 use Rattle.sizes.specs.Sizes.{place_count, corner_limit}
 use Rattle.refusal.specs.declared.Refusal.{Refusal}
 use Rattle.sheet.specs.Words.{label_of}
 use Rattle.sheet.specs.Corners.{corner_of}
-use Rattle.sheet.specs.declared.Label.{Label}
 use Rattle.arguments.specs.Arguments.{Lent, corner_count, checked}
 use Rattle.arguments.specs.Accepted.{CornerInside, SettingsInside, PassInside, LongEnough, Known, OnTwoPlaces, Accepted}
 use Rattle.arguments.specs.declared.Checked.{Checked}
@@ -24,7 +23,7 @@ pub record NamesUnknown (n : ℕ) (sheet : List ℕ) : Type 0 where
   pub place : ℕ
   pub corner : ℕ
   pub below : place < place_count
-  pub holds : label_of (get_or sheet place 0) ≡ Label.Corner corner
+  pub holds : label_of (get_or sheet place 0) ≡ Some corner
   pub unknown : n ≤ corner
 
 -- What each number means, beside that none of those tried before it does. 1 and 4 speak of a frame's lines, 8 and 9 of its patches: no call is refused

@@ -14,7 +14,7 @@ ghost use Rattle.arguments.specs.Asked.{HasCorner, AllShaded, NoKinds, Holdable,
 use binary32::ranges::Quantity;
 use predict::{Grid, Vector};
 use refusal::Refusal;
-use sheet::{Corner, Label, Position};
+use sheet::{Corner, Position};
 use sizes::{CORNERS, PLACES};
 
 // The numbers of a grow pass: search, factor and boundary in 01's words.
@@ -67,13 +67,13 @@ pub enum Checked {
 }
 
 // Whether the queue is shorter than the pass needs.
+#[tactic(auto, unfolding(crate::specs::Arguments::queue_needed))]
 fn queue_short(queue: usize, n: usize, pass: Pass) -> bool
     ensures { result ≡ ltb queue (queue_needed pass n) }
 {
     match pass {
         Pass::Grow(_) => queue / 4 < n,
-        Pass::Fill(_) => false,
-        Pass::Local(_) => false,
+        Pass::Fill(_) | Pass::Local(_) => false,
     }
 }
 
@@ -92,25 +92,16 @@ fn too_short(
     ensures { result ≡ too_short (lent xs.now ys.now pitches.now shades.now sheet.now
         queue attached) pass }
 {
-    if ys.len() < xs.len() {
-        return true;
-    }
-    if pitches.len() < xs.len() {
-        return true;
-    }
-    if shades.len() < xs.len() {
-        return true;
-    }
-    if sheet.len() < PLACES {
-        return true;
-    }
-    if queue_short(queue, xs.len(), pass) {
-        return true;
-    }
-    attached < xs.len()
+    ys.len() < xs.len()
+        || pitches.len() < xs.len()
+        || shades.len() < xs.len()
+        || sheet.len() < PLACES
+        || queue_short(queue, xs.len(), pass)
+        || attached < xs.len()
 }
 
 // Whether a float is not in the range of its quantity.
+#[tactic(auto, unfolding(crate::specs::Arguments::outside))]
 fn is_outside(q: Quantity, x: f32) -> bool
     ensures { result ≡ outside q x }
 {
@@ -118,16 +109,13 @@ fn is_outside(q: Quantity, x: f32) -> bool
 }
 
 // Whether a corner's x, y or pitch is out of range.
+#[tactic(auto, unfolding(crate::specs::Arguments::corner_outside))]
 fn corner_outside(c: Corner) -> bool
     ensures { result ≡ corner_outside c }
 {
-    if is_outside(Quantity::Position, c.position.x) {
-        return true;
-    }
-    if is_outside(Quantity::Position, c.position.y) {
-        return true;
-    }
-    is_outside(Quantity::Pitch, c.pitch)
+    is_outside(Quantity::Position, c.position.x)
+        || is_outside(Quantity::Position, c.position.y)
+        || is_outside(Quantity::Pitch, c.pitch)
 }
 
 // The corner of a number, out of the lists that are lent.
@@ -149,13 +137,10 @@ fn hold_positions(xs: &[f32], ys: &[f32], pitches: &[f32], held: &mut [f32; 4 * 
     ensures { (corner_in held.new ≡ corner_of (corner_lists xs.now ys.now pitches.now))
         × NoKinds held.new }
 {
-    let mut k = 0usize;
-    while k < xs.len() {
-        held[k] = xs[k];
-        held[k + CORNERS] = ys[k];
-        held[k + 2 * CORNERS] = pitches[k];
-        k += 1;
-    }
+    let n = xs.len();
+    held[..n].copy_from_slice(xs);
+    held[CORNERS..CORNERS + n].copy_from_slice(&ys[..n]);
+    held[2 * CORNERS..2 * CORNERS + n].copy_from_slice(&pitches[..n]);
 }
 
 // Whether any shade stands among the first n corners.
@@ -163,27 +148,19 @@ pub fn any_shade(shades: &[u8], n: usize) -> bool
     requires { n ≤ length shades.now }
     ensures { result ≡ any_shade shades.now n }
 {
-    let mut k = 0usize;
-    while k < n {
-        if shades[k] != 0 {
-            return true;
-        }
-        k += 1;
-    }
-    false
+    shades[..n].iter().any(|shade| *shade != 0)
 }
 
 // The number that is held for a shade's byte: 1 or 2 for the two kinds, and a NaN for no shade.
+#[tactic(auto, unfolding(crate::specs::Asked::entry_of))]
 fn entry_of(shade: u8) -> f32
     ensures { result ≡ entry_of shade }
 {
-    if shade == 0 {
-        return 0.0 / 0.0;
+    match shade {
+        0 => f32::NAN,
+        1 => 1.0,
+        _ => 2.0,
     }
-    if shade == 1 {
-        return 1.0;
-    }
-    2.0
 }
 
 // The shades of n corners, put into that array; where none stands, the first of the kinds is 0.
@@ -191,10 +168,8 @@ fn hold_shades(shades: &[u8], n: usize, held: &mut [f32; 4 * CORNERS])
     requires { TwoKinds shades.now n × NoKinds held.old }
     ensures { (corner_in held.new ≡ corner_in held.old) × (shades_in held.new ≡ shades_of shades.now n) }
 {
-    let mut k = 0usize;
-    while k < n {
-        held[k + 3 * CORNERS] = entry_of(shades[k]);
-        k += 1;
+    for (k, shade) in shades[..n].iter().enumerate() {
+        held[k + 3 * CORNERS] = entry_of(*shade);
     }
     if !any_shade(shades, n) {
         held[3 * CORNERS] = 0.0;
@@ -222,92 +197,63 @@ fn some_corner_outside(xs: &[f32], ys: &[f32], pitches: &[f32], shades: &[u8]) -
     requires { AllShaded (corner_lists xs.now ys.now pitches.now) shades.now }
     ensures { result ≡ some_corner_outside (corner_lists xs.now ys.now pitches.now) shades.now }
 {
-    let mut k = 0usize;
-    while k < xs.len() {
-        if corner_outside(listed_corner(xs, ys, pitches, k)) {
-            return true;
-        }
-        if 2 < shades[k] {
-            return true;
-        }
-        k += 1;
-    }
-    false
+    (0..xs.len()).any(|k| corner_outside(listed_corner(xs, ys, pitches, k)) || 2 < shades[k])
 }
 
 // Whether a part of an axis is out of range.
+#[tactic(auto, unfolding(crate::specs::Arguments::axis_outside))]
 fn axis_outside(v: Vector) -> bool
     ensures { result ≡ axis_outside v }
 {
-    if is_outside(Quantity::AxisPart, v.x) {
-        return true;
-    }
-    is_outside(Quantity::AxisPart, v.y)
+    is_outside(Quantity::AxisPart, v.x) || is_outside(Quantity::AxisPart, v.y)
 }
 
 // Whether the cell size, an axis or the band is out of range.
+#[tactic(auto, unfolding(crate::specs::Arguments::settings_outside))]
 fn settings_outside(settings: Settings) -> bool
     ensures { result ≡ settings_outside settings }
 {
     let grid = settings.grid;
-    if is_outside(Quantity::CellSize, grid.cell_size) {
-        return true;
-    }
-    if axis_outside(grid.axis_i) {
-        return true;
-    }
-    if axis_outside(grid.axis_j) {
-        return true;
-    }
-    is_outside(Quantity::Band, settings.edge_length_tol)
+    is_outside(Quantity::CellSize, grid.cell_size)
+        || axis_outside(grid.axis_i)
+        || axis_outside(grid.axis_j)
+        || is_outside(Quantity::Band, settings.edge_length_tol)
 }
 
 // Whether one of grow's numbers is out of range.
+#[tactic(auto, unfolding(crate::specs::Arguments::grow_outside))]
 fn grow_outside(p: GrowParams) -> bool
     ensures { result ≡ grow_outside p }
 {
-    if is_outside(Quantity::Multiple, p.attach_search_rel) {
-        return true;
-    }
-    if is_outside(Quantity::Factor, p.attach_ambiguity_factor) {
-        return true;
-    }
-    is_outside(Quantity::Multiple, p.boundary_search_factor)
+    is_outside(Quantity::Multiple, p.attach_search_rel)
+        || is_outside(Quantity::Factor, p.attach_ambiguity_factor)
+        || is_outside(Quantity::Multiple, p.boundary_search_factor)
 }
 
 // Whether one of fill's numbers is out of range.
+#[tactic(auto, unfolding(crate::specs::Arguments::fill_outside))]
 fn fill_outside(p: FillParams) -> bool
     ensures { result ≡ fill_outside p }
 {
-    if is_outside(Quantity::Multiple, p.attach_search_rel) {
-        return true;
-    }
-    if is_outside(Quantity::Factor, p.attach_ambiguity_factor) {
-        return true;
-    }
-    64 < p.max_iters
+    is_outside(Quantity::Multiple, p.attach_search_rel)
+        || is_outside(Quantity::Factor, p.attach_ambiguity_factor)
+        || 64 < p.max_iters
 }
 
 // Whether one of local's numbers is out of range.
+#[tactic(auto, unfolding(crate::specs::Arguments::local_outside))]
 fn local_outside(p: LocalExtensionParams) -> bool
     ensures { result ≡ local_outside p }
 {
-    if is_outside(Quantity::Multiple, p.search_rel) {
-        return true;
-    }
-    if is_outside(Quantity::Factor, p.ambiguity_factor) {
-        return true;
-    }
-    if 64 < p.max_iters {
-        return true;
-    }
-    if is_outside(Quantity::Multiple, p.max_residual_rel) {
-        return true;
-    }
-    4 < p.extend_depth
+    is_outside(Quantity::Multiple, p.search_rel)
+        || is_outside(Quantity::Factor, p.ambiguity_factor)
+        || 64 < p.max_iters
+        || is_outside(Quantity::Multiple, p.max_residual_rel)
+        || 4 < p.extend_depth
 }
 
 // Whether one of the pass's own numbers is out of range.
+#[tactic(auto, unfolding(crate::specs::Arguments::pass_outside))]
 fn pass_outside(pass: Pass) -> bool
     ensures { result ≡ pass_outside pass }
 {
@@ -319,12 +265,13 @@ fn pass_outside(pass: Pass) -> bool
 }
 
 // Whether a label names a corner from n on.
-fn is_unknown(n: usize, label: Label) -> bool
+#[tactic(auto, unfolding(crate::specs::Arguments::unknown))]
+fn is_unknown(n: usize, label: Option<usize>) -> bool
     ensures { result ≡ unknown n label }
 {
     match label {
-        Label::Unlabelled => false,
-        Label::Corner(k) => n <= k,
+        None => false,
+        Some(k) => n <= k,
     }
 }
 
@@ -333,6 +280,7 @@ pub fn unknown_corner(n: usize, sheet: &[u16]) -> bool
     requires { place_count ≤ length sheet.now }
     ensures { result ≡ unknown_corner n sheet.now }
 {
+    // No chain over all places: most hold nothing, and are passed over by rows, at 3,400 instructions for 144,000 of a sheet with two labels.
     let mut place = sheet::next_written(sheet, 0);
     while place < PLACES {
         if is_unknown(n, sheet::label_of(sheet[place])) {
@@ -344,11 +292,11 @@ pub fn unknown_corner(n: usize, sheet: &[u16]) -> bool
 }
 
 // Notes the corner of a label as seen; true if it was seen before.
-fn note(seen: &mut [u8; CORNERS], label: Label) -> bool
+fn note(seen: &mut [u8; CORNERS], label: Option<usize>) -> bool
     requires { HasEntry label }
     ensures { Noted seen.old label seen.new result }
 {
-    let Label::Corner(k) = label else {
+    let Some(k) = label else {
         return false;
     };
     let before = seen[k];
@@ -361,6 +309,7 @@ fn seen_twice(sheet: &[u16], seen: &mut [u8; CORNERS]) -> bool
     requires { Unseen sheet.now seen.old }
     ensures { result ≡ doubled_corner sheet.now }
 {
+    // Passed over by rows, as in `unknown_corner`.
     let mut place = sheet::next_written(sheet, 0);
     while place < PLACES {
         if note(seen, sheet::label_of(sheet[place])) {

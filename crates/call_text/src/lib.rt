@@ -12,18 +12,18 @@ use sizes::PLACES;
 
 // ---- numbers
 
-// The k-th number of the text, counted from 0, and 0 where there is none or its number is past 7,280, which is more than a list of 1,024 corners, as
-// many labels and 16 calls has.
+// The text from its k-th number on, counted from 0; nothing where it ends before or the number is past 7,280, which is more than a list of 1,024
+// corners, as many labels and 16 calls has.
+fn text_from(text: &[u8], k: usize) -> Option<&[u8]> {
+    if k <= 7280 { text.get(9 * k..) } else { None }
+}
+
+// The k-th number of the text, counted from 0, and 0 where there is none.
 pub fn number_at(text: &[u8], k: usize) -> usize {
-    if 7280 < k {
+    let Some(rest) = text_from(text, k) else {
         return 0;
-    }
-    let at = k * 9;
-    if text.len() < at {
-        return 0;
-    }
-    let read = binary32::hex::read_bits(&text[at..]);
-    match read {
+    };
+    match binary32::hex::read_bits(rest) {
         Bits::Number(bits) => bits as usize,
         Bits::Broken => 0,
     }
@@ -31,26 +31,19 @@ pub fn number_at(text: &[u8], k: usize) -> usize {
 
 // The float of bits that are not finite: an infinity, or a NaN.
 fn not_finite(bits: usize) -> f32 {
-    if bits == 0x7f80_0000 {
-        return 1.0 / 0.0;
+    match bits {
+        0x7f80_0000 => f32::INFINITY,
+        0xff80_0000 => f32::NEG_INFINITY,
+        _ => f32::NAN,
     }
-    if bits == 0xff80_0000 {
-        return -1.0 / 0.0;
-    }
-    0.0 / 0.0
 }
 
 // The k-th float of the text.
 fn float_at(text: &[u8], k: usize) -> f32 {
-    if 7280 < k {
+    let Some(rest) = text_from(text, k) else {
         return 0.0;
-    }
-    let at = k * 9;
-    if text.len() < at {
-        return 0.0;
-    }
-    let read = binary32::hex::read_float(&text[at..]);
-    match read {
+    };
+    match binary32::hex::read_float(rest) {
         FloatRead::Float(x) => x,
         FloatRead::Refused(_) => not_finite(number_at(text, k)),
     }
@@ -60,7 +53,7 @@ fn float_at(text: &[u8], k: usize) -> f32 {
 pub fn at_most(n: usize, most: usize) -> usize
     ensures { result ≤ most }
 {
-    if n < most { n } else { most }
+    n.min(most)
 }
 
 // n floats, every fourth number from number `from` on.
@@ -70,10 +63,8 @@ pub fn read_floats(text: &[u8], from: usize, n: usize) -> [f32; 1025]
     ensures { 1025 ≡ length result }
 {
     let mut out = [0.0f32; 1025];
-    let mut i = 0usize;
-    while i < n {
-        out[i] = float_at(text, from + 4 * i);
-        i += 1;
+    for (i, x) in out[..n].iter_mut().enumerate() {
+        *x = float_at(text, from + 4 * i);
     }
     out
 }
@@ -81,13 +72,7 @@ pub fn read_floats(text: &[u8], from: usize, n: usize) -> [f32; 1025]
 // The byte that is lent to call `call`, counted from 0, for a corner: two bits of the word that the corner has for all calls of a list, the
 // lowest for call 0 and for call 16 again.
 fn shade_of(word: usize, call: usize) -> u8 {
-    let mut rest = word;
-    let mut i = 0usize;
-    while i < call % 16 {
-        rest = rest / 4;
-        i += 1;
-    }
-    (rest % 4) as u8
+    (word >> (2 * (call % 16)) & 3) as u8
 }
 
 // The shades of n corners as call `call` is lent them, every fourth number from number `from` on.
@@ -97,10 +82,8 @@ pub fn read_shades(text: &[u8], from: usize, n: usize, call: usize) -> [u8; 1025
     ensures { 1025 ≡ length result }
 {
     let mut out = [0u8; 1025];
-    let mut i = 0usize;
-    while i < n {
-        out[i] = shade_of(number_at(text, from + 4 * i), call);
-        i += 1;
+    for (i, shade) in out[..n].iter_mut().enumerate() {
+        *shade = shade_of(number_at(text, from + 4 * i), call);
     }
     out
 }
@@ -123,12 +106,8 @@ pub fn read_labels(text: &[u8], from: usize, m: usize) -> [u16; PLACES]
     ensures { place_count ≡ length result }
 {
     let mut sheet = [0u16; PLACES];
-    let mut i = 0usize;
-    while i < m {
-        let at = from + 2 * i;
-        let place = place_at(text, at + 1);
-        sheet[place] = label_word(text, at);
-        i += 1;
+    for at in (from..from + 2 * m).step_by(2) {
+        sheet[place_at(text, at + 1)] = label_word(text, at);
     }
     sheet
 }
@@ -163,38 +142,34 @@ pub fn settings_at(text: &[u8], k: usize) -> Settings
 
 // A number of rounds, or of rings.
 fn rounds_at(text: &[u8], k: usize) -> u32 {
-    let n = number_at(text, k);
-    if n < 1000 { n as u32 } else { 1000 }
+    number_at(text, k).min(1000) as u32
 }
 
 // The pass of a call: kind 0 is grow, 1 fill, and any other local.
 pub fn pass_at(text: &[u8], at: usize) -> Pass
     requires { at ≤ 9000 }
 {
-    let kind = number_at(text, at);
     let search = float_at(text, at + 7);
     let factor = float_at(text, at + 8);
-    if kind == 0 {
-        return Pass::Grow(GrowParams {
+    match number_at(text, at) {
+        0 => Pass::Grow(GrowParams {
             attach_search_rel: search,
             attach_ambiguity_factor: factor,
             boundary_search_factor: float_at(text, at + 9),
-        });
-    }
-    if kind == 1 {
-        return Pass::Fill(FillParams {
+        }),
+        1 => Pass::Fill(FillParams {
             attach_search_rel: search,
             attach_ambiguity_factor: factor,
             max_iters: rounds_at(text, at + 9),
-        });
+        }),
+        _ => Pass::Local(LocalExtensionParams {
+            search_rel: search,
+            ambiguity_factor: factor,
+            max_iters: rounds_at(text, at + 9),
+            max_residual_rel: float_at(text, at + 10),
+            extend_depth: rounds_at(text, at + 11),
+        }),
     }
-    Pass::Local(LocalExtensionParams {
-        search_rel: search,
-        ambiguity_factor: factor,
-        max_iters: rounds_at(text, at + 9),
-        max_residual_rel: float_at(text, at + 10),
-        extend_depth: rounds_at(text, at + 11),
-    })
 }
 
 // How many places of each buffer a call is lent.
@@ -253,12 +228,5 @@ pub fn header_at(text: &[u8]) -> Header
 // Whether a call of the list is of none of the three kinds.
 pub fn has_unknown_kind(text: &[u8]) -> bool {
     let h = header_at(text);
-    let mut i = 0usize;
-    while i < h.count {
-        if 2 < number_at(text, h.first + 18 * i) {
-            return true;
-        }
-        i += 1;
-    }
-    false
+    (0..h.count).any(|i| 2 < number_at(text, h.first + 18 * i))
 }

@@ -1,4 +1,5 @@
 -- What a call that is not refused says is small: its counts, its rounds, its residual, which is finite, and what it passed over. Assumes nothing.
+use Rattle.sheet.specs.declared.Corner.{Corner}
 use mathlib.Core.Path.{◌≡◌, refl, sym, ap, subst}
 use mathlib.Core.Bool.{Bool, true, false, cond, ◌&&◌}
 use mathlib.Core.List.{List, [], ◌∷◌}
@@ -8,14 +9,14 @@ use lib.Dec.{T, eqb, ltb}
 use lib.ListN.{length, get_or}
 use lib.Ieee.{Float, binary32, fits, of_bits, add, sub, mul, lt}
 use lib.Ieee.Fits.{add-fits}
+use Rattle.std.specs.Prelude.{Some, None, Option}
 use Rattle.binary32.specs.Ranges.{is_finite, all_finite}
 use Rattle.binary32.specs.Sqrt.{sqrt_or_nan}
 use Rattle.binary32.proofs.Exists.{sqrt_fits}
-use Rattle.homography.specs.Fit.{Answer, NoFit, Entries, homography_of}
+use Rattle.homography.specs.Fit.{Answer, homography_of}
 use Rattle.sheet.specs.Cells.{cell_of}
 use Rattle.sheet.specs.Corners.{Corners, seen_of, squared_distance}
 use Rattle.sheet.specs.declared.Cell.{Cell}
-use Rattle.sheet.specs.declared.Seen.{Seen}
 use Rattle.labels.specs.Labelled.{is_labelled, labelled_places, label_count}
 use Rattle.labels.proofs.Below.{both, passing_few}
 use Rattle.arguments.specs.Shades.{corners_of}
@@ -57,7 +58,7 @@ abbrev Finites : List Float → Type 0
 Finites [] = Unit {0}
 Finites (x ∷ xs) = FiniteFloat x × Finites xs
 
-module _ (seen : Cell → Seen) (h : List Float) where
+module _ (seen : Cell → Option Corner) (h : List Float) where
   residual_fits : (p : ℕ) → T (fits binary32 (residual_of h (cell_point (cell_of p)) (pictured_at seen p)))
   unfolding residual_of squared_distance
   residual_fits p = sqrt_fits _ (add-fits binary32 _ _)
@@ -73,10 +74,10 @@ none_fitted : {h rs : List Float} → none ≡ fitted h rs → ⊥
 none_fitted e = let z : ◌≡◌ {A = ℕ} 0 1 = cc in omega arith
 
 -- the fit of a cell's supports, if it is trusted, has finite residuals
-trusted_finite : (seen : Cell → Seen) (ps : List ℕ) (a : Answer) (h rs : List Float) → trusted seen ps a ≡ fitted h rs → Finites rs
+trusted_finite : (seen : Cell → Option Corner) (ps : List ℕ) (a : Answer) (h rs : List Float) → trusted seen ps a ≡ fitted h rs → Finites rs
 unfolding trusted
-trusted_finite seen ps NoFit h rs e = absurd (none_fitted e)
-trusted_finite seen ps (Entries g) h rs e = go (all_finite (residuals_of seen g ps)) refl e
+trusted_finite seen ps None h rs e = absurd (none_fitted e)
+trusted_finite seen ps (Some g) h rs e = go (all_finite (residuals_of seen g ps)) refl e
   where
     go : (t : Bool) → all_finite (residuals_of seen g ps) ≡ t → cond t (fitted g (residuals_of seen g ps)) none ≡ fitted h rs → Finites rs
     go true f q = let same : residuals_of seen g ps ≡ rs = cc in subst Finites same (residuals_finite seen g ps f)

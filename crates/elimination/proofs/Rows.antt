@@ -13,8 +13,6 @@ use lib.Seq.{get_or-set_same, get_or-set_other}
 use lib.Ieee.{Float, nan, lt}
 use Rattle.elimination.specs.Rounded.{◌⊗◌, magnitude}
 use Rattle.elimination.specs.Solve.{Row, Matrix, row, entry, largest, swapped, pivoted, reciprocal, multiplier, gain, gained, cleared, eliminated, right_sides, answer, carry, carried, answered}
-use Rattle.elimination.specs.Shape.{EightByNine}
-use Rattle.elimination.proofs.Shape.{answered_long}
 use Rattle.elimination.proofs.Tables.{table_is, Filling, filling_start, filling_more, filling_whole}
 
 -- ---- the pivot, chosen among the rows up to row i
@@ -100,20 +98,14 @@ abbrev cleared_at : Matrix → ℕ → ℕ → Row
 cleared_at m k i = cond (ltb k i) (gained (row m i) (row m k) (multiplier m k i) k) (row m i)
 
 pub record Clearing (m : Matrix) (k : ℕ) (n : Matrix) (i : ℕ) : Type 0 where
-  pub shape : EightByNine m
   pub fill : Filling 8 (k + 1) (cleared_at m k) [] m n i
 
-pub clear_start : (m : Matrix) (k : ℕ) → EightByNine m → k < 8 → Clearing m k m (k + 1)
-clear_start m k e h = record { shape = e; fill = filling_start 8 (k + 1) (cleared_at m k) [] m (omega arith) e.rows (λ i l. rw (le-ltb k i (omega arith))) }
-
--- a row that is still to gain has nine entries
-pub clear_row : {m : Matrix} {k : ℕ} {n : Matrix} {i : ℕ} → Clearing m k n i → i < 8 → length (row n i) ≡ 9
-clear_row {i = i} g h = ap length (g.fill.kept i (omega arith)) ∙ g.shape.columns i h
+pub clear_start : (m : Matrix) (k : ℕ) → length m ≡ 8 → k < 8 → Clearing m k m (k + 1)
+clear_start m k e h = record { fill = filling_start 8 (k + 1) (cleared_at m k) [] m (omega arith) e (λ i l. rw (le-ltb k i (omega arith))) }
 
 -- the rows are written in place: what row i holds, and row k, is what they held
 pub clear_more : {m : Matrix} {k : ℕ} {n : Matrix} {i : ℕ} {x : Row} → Clearing m k n i → i < 8 → x ≡ gained (row n i) (row m k) (entry n i k ⊗ reciprocal m k) k → Clearing m k (set n i x) (i + 1)
 clear_more {m} {k} {n} {i} {x} g h e = record {
-  shape = g.shape;
   fill = filling_more g.fill h (rw (lt-ltb k i (omega (arith, g.fill.from))) (e ∙ ap (λ (r : Row). gained r (row m k) (get_or r k nan ⊗ reciprocal m k) k) (g.fill.kept i (omega arith))));
 }
 
@@ -132,8 +124,8 @@ unfolding eliminated
 eliminated_suc k a = refl
 
 -- one more column
-pub next_column : (k : ℕ) (a : Matrix) {m n : Matrix} → m ≡ eliminated k a → n ≡ cleared (pivoted m k) k → n ≡ eliminated (suc k) a
-next_column k a e q = q ∙ ap (λ (x : Matrix). cleared (pivoted x k) k) e ∙ sym (eliminated_suc k a)
+pub next_column : (k : ℕ) (a m n : Matrix) → m ≡ eliminated k a → n ≡ cleared (pivoted m k) k → n ≡ eliminated (k + 1) a
+next_column k a m n e q = rw add-one (q ∙ ap (λ (x : Matrix). cleared (pivoted x k) k) e ∙ sym (eliminated_suc k a))
 
 -- ---- back substitution: one answer, carried to the right sides above, up to row i
 
@@ -172,25 +164,18 @@ carry_end {m} {b} {k} {l} {i} g h = table_is 8 (carried_at m b k) (set l k x) na
     at j (no q) true e = get_or-set_other l k j x nan q ∙ g.fill.filled j (omega (arith, ltb-true j k e))
     at j (no q) false e = rw (ne_eqb j k q, e) (get_or-set_other l k j x nan q ∙ g.fill.kept j (omega (arith, ltb-false j k e, g.above)))
 
--- ---- the answers, from the last to the first
+-- ---- the answers, from the last to the first: those from row k on are carried
 
-pub record Answering (m : Matrix) (b : Row) (n : ℕ) : Type 0 where
-  pub upto : n ≤ 8
-  pub sides : b ≡ answered n m
-
-pub answering_start : (m : Matrix) (b : Row) → b ≡ right_sides m → Answering m b 0
+pub answering_start : (m : Matrix) (b : Row) → b ≡ right_sides m → b ≡ answered 0 m
 unfolding answered
-answering_start m b e = record { upto = omega arith; sides = e }
+answering_start m b e = e
 
 pub answered_suc : (n : ℕ) (m : Matrix) → answered (suc n) m ≡ carried m (answered n m) (7 - n)
 unfolding answered
 answered_suc n m = refl
 
-pub answering_long : {m : Matrix} {b : Row} {n : ℕ} → Answering m b n → length b ≡ 8
-answering_long {m} {b} {n} w = ap length w.sides ∙ answered_long n m
-
-pub answering_more : {m : Matrix} {b c : Row} {n : ℕ} → Answering m b n → n < 8 → c ≡ carried m b (7 - n) → Answering m c (n + 1)
-answering_more {m} {b} {c} {n} w h e = record { upto = omega arith; sides = rw (add-one, answered_suc n m) (e ∙ ap (λ (x : Row). carried m x (7 - n)) w.sides) }
-
-pub answering_end : {m : Matrix} {b : Row} {n : ℕ} → Answering m b n → 8 ≤ n → b ≡ answered 8 m
-answering_end {n = n} w h = let e : n ≡ 8 = omega arith in rw e at w.sides
+pub answering_more : (m : Matrix) (b c : Row) (k : ℕ) → b ≡ answered (8 - k) m → 0 < k → k ≤ 8 → c ≡ carried m b (k - 1) → c ≡ answered (8 - (k - 1)) m
+answering_more m b c k e h l q =
+    let n : 8 - (k - 1) ≡ suc (8 - k) = omega arith in
+    let r : 7 - (8 - k) ≡ k - 1 = omega arith in
+    rw (n, answered_suc (8 - k) m, r) (q ∙ ap (λ (x : Row). carried m x (k - 1)) e)

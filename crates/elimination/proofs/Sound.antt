@@ -17,6 +17,7 @@ use Rattle.elimination.specs.Tables.{table, concatenated, every}
 use Rattle.elimination.specs.Solve.{Row, Matrix, row, entry, values, largest, swapped, pivoted, reciprocal, multiplier, gain, gained, cleared, eliminated, pivot_of, no_zero_pivot, gain_steps, lower_steps, column_steps, elimination_steps, right_sides, answer, carry, carried, answered, carry_steps, answer_steps, solve_steps, answers_of, sound_of, solved, nonzero_diagonal, finite_matrix, finite_answers}
 use Rattle.elimination.proofs.Tables.{get_d_table, both, same, every_true, every_at, every_same}
 use Rattle.elimination.proofs.Finite.{add_finite, mul_finite, div_finite, one_finite, none_finite, parts_finite, append_finite, gathered_finite, gathered_at, gathered_true, where_true, table_finite}
+use Rattle.std.specs.Prelude.{Some, None}
 use Rattle.elimination.proofs.Rows.{eliminated_suc, answered_suc}
 
 -- ---- a matrix of finite values
@@ -303,6 +304,10 @@ unfolding sound_of
 sound_is a m b t em eb et = et ∙ rw (eb, em) (ap₂ (λ (s t : Bool). s && t) (diagonal_is a) (steps_is a))
 
 -- what `solve` answers
-pub solved_is : (a m : Matrix) (b : Row) (t : Bool) → m ≡ eliminated 8 a → b ≡ answered 8 m → t ≡ (nonzero_diagonal m && (finite_matrix m && finite_answers b)) → record { answers = b; sound = t } ≡ solved a
-unfolding answers_of
-solved_is a m b t em eb et = let x = eb ∙ ap (answered 8) em in let s = sound_is a m b t em eb et in λ i. record { answers = x i; sound = s i }
+module _ (a m : Matrix) (b : Row) (t : Bool) (em : m ≡ eliminated 8 a) (eb : b ≡ answered 8 m) (et : t ≡ (nonzero_diagonal m && (finite_matrix m && finite_answers b))) where
+  pub solved_some : t ≡ true → Some b ≡ solved a
+  unfolding answers_of
+  solved_some e = rw (← sound_is a m b t em eb et, e, ← em, ← eb)
+
+  pub solved_none : t ≡ false → None ≡ solved a
+  solved_none e = rw (← sound_is a m b t em eb et, e)

@@ -1,17 +1,18 @@
--- Laws of tables and of tests of every place, and the two loops over them: one that fills a list, and one that leaves at the first
--- place that does not pass. Assumes nothing.
+-- Laws of tables and of tests of every place, and the loop that fills a list. Assumes nothing.
 use mathlib.Core.Path.{◌≡◌, refl, sym, ap, ◌∙◌}
-use mathlib.Core.Bool.{Bool, true, false, not, ◌&&◌, true≢false}
-use mathlib.Core.List.{List}
+use mathlib.Core.Bool.{Bool, true, false, ◌&&◌, true≢false}
+use mathlib.Core.List.{List, [], ◌∷◌}
 use Prim.Native.Nat.{ℕ, zero, suc, ◌+◌, ◌<◌, ◌≤◌}
 use native.Mathlib.Nat.{not-suc-le-zero, le_of_suc-le-suc}
 use native.Mathlib.Decide.{ℕ_discrete}
 use native.Mathlib.Omega.{arith}
 use borrow.Author.Count.{below_more}
-use borrow.Author.Tests.{ltb-true, ltb-false, not-true, not-false}
+use borrow.Author.Tests.{ltb-true, ltb-false}
 use lib.Dec.{ltb}
 use lib.ListN.{length, get_or, set, length-set}
 use lib.Seq.{get_or-set_same, get_or-set_other, ext_get_or}
+use Rattle.std.specs.List.{list_all, range_with_len}
+use Rattle.std.proofs.lemmas.List.FromFn.{length-range_with_len, get_or-range_with_len}
 use Rattle.elimination.specs.Tables.{table, every}
 
 -- ---- tables
@@ -83,13 +84,6 @@ pub both : (a b : Bool) → (a && b) ≡ true → (a ≡ true) × (b ≡ true)
 both true b e = (refl, e)
 both false b e = absurd (true≢false (sym e))
 
--- tests in a row: the first that fails is the answer, and after one that passes the others are
-pub stop : {t a : Bool} (b : Bool) → t ≡ a → not t ≡ true → false ≡ (a && b)
-stop {t} {a} b e n = rw (← e, not-true t n)
-
-pub on : {t a b r : Bool} → t ≡ a → not t ≡ false → r ≡ b → r ≡ (a && b)
-on {t} {a} e n q = rw (← e, not-false t n) q
-
 pub every_at : (n : ℕ) (p : ℕ → Bool) → every n p ≡ true → (i : ℕ) → i < n → p i ≡ true
 unfolding every
 every_at zero p e i h = absurd (not-suc-le-zero h)
@@ -108,34 +102,22 @@ same false false f g = refl
 pub every_same : (n : ℕ) (p q : ℕ → Bool) → ((i : ℕ) → i < n → p i ≡ q i) → every n p ≡ every n q
 every_same n p q h = same (every n p) (every n q) (λ e. every_true n q (λ i l. sym (h i l) ∙ every_at n p e i l)) (λ e. every_true n p (λ i l. h i l ∙ every_at n q e i l))
 
-pub every_false : (n : ℕ) (p : ℕ → Bool) (i : ℕ) → i < n → p i ≡ false → false ≡ every n p
-every_false n p i l e = go (every n p) refl
-  where
-    go : (t : Bool) → every n p ≡ t → false ≡ t
-    go true s = absurd (true≢false (sym (every_at n p s i l) ∙ e))
-    go false s = refl
+-- a test of each element of a list of n, or of each number below n, is a test of every place
+module _ {A : Type 0} (p : A → Bool) (d : A) where
+  all_down : (xs : List A) → list_all p xs ≡ true → (i : ℕ) → i < length xs → p (get_or xs i d) ≡ true
+  all_down [] e i h = absurd (not-suc-le-zero h)
+  all_down (x ∷ xs) e zero h = (both (p x) (list_all p xs) e).0
+  all_down (x ∷ xs) e (suc i) h = all_down xs (both (p x) (list_all p xs) e).1 i (le_of_suc-le-suc h)
 
--- ---- a loop that leaves at the first of n that does not pass: the first i do
+  all_up : (xs : List A) → ((i : ℕ) → i < length xs → p (get_or xs i d) ≡ true) → list_all p xs ≡ true
+  all_up [] h = refl
+  all_up (x ∷ xs) h = rw (h 0 (omega arith), all_up xs (λ i l. h (suc i) (omega arith)))
 
-pub record Passing (n : ℕ) (p : ℕ → Bool) (i : ℕ) : Type 0 where
-  pub upto : i ≤ n
-  pub all : (h : ℕ) → h < i → p h ≡ true
+  pub all_is_every : (n : ℕ) (xs : List A) → length xs ≡ n → list_all p xs ≡ every n (λ i. p (get_or xs i d))
+  all_is_every n xs e =
+      same (list_all p xs) (every n (λ i. p (get_or xs i d))) (λ t. every_true n (λ i. p (get_or xs i d)) (λ i h. all_down xs t i (omega arith)))
+      (λ t. all_up xs (λ i h. every_at n (λ i. p (get_or xs i d)) t i (omega arith)))
 
-pub passing_start : (n : ℕ) (p : ℕ → Bool) → Passing n p 0
-passing_start n p = record { upto = omega arith; all = λ h l. absurd (not-suc-le-zero l) }
-
-pub passing_next : {n : ℕ} {p : ℕ → Bool} {i : ℕ} → Passing n p i → i < n → p i ≡ true → Passing n p (i + 1)
-passing_next g h e = record { upto = omega arith; all = below_more _ _ g.all e }
-
-pub passing_fail : {n : ℕ} {p : ℕ → Bool} {i : ℕ} → Passing n p i → i < n → p i ≡ false → false ≡ every n p
-passing_fail {n = n} {p = p} {i = i} g h e = every_false n p i h e
-
--- the same by the answer t of a call
-pub passing_more : {n : ℕ} {p : ℕ → Bool} {i : ℕ} {t : Bool} → Passing n p i → i < n → t ≡ p i → not t ≡ false → Passing n p (i + 1)
-passing_more {t = t} g h e s = passing_next g h (sym e ∙ not-false t s)
-
-pub passing_stop : {n : ℕ} {p : ℕ → Bool} {i : ℕ} {t : Bool} → Passing n p i → i < n → t ≡ p i → not t ≡ true → false ≡ every n p
-passing_stop {t = t} g h e s = passing_fail g h (sym e ∙ not-true t s)
-
-pub passing_end : {n : ℕ} {p : ℕ → Bool} {i : ℕ} → Passing n p i → n ≤ i → true ≡ every n p
-passing_end {n = n} {p = p} g h = sym (every_true n p (λ k l. g.all k (omega arith)))
+pub range_is_every : (n : ℕ) (p : ℕ → Bool) → list_all p (range_with_len 0 n) ≡ every n p
+range_is_every n p =
+    all_is_every p 0 n (range_with_len 0 n) (length-range_with_len 0 n) ∙ every_same n (λ i. p (get_or (range_with_len 0 n) i 0)) p (λ i h. let e : 0 + i ≡ i = omega arith in ap p (get_or-range_with_len 0 n i 0 h ∙ e))

@@ -1,11 +1,11 @@
 -- The region of a round: the two tests along i and along j give the box and its strips, and all of it lies in the window. Assumes nothing.
+use Rattle.std.specs.Prelude.{Option, Some, None}
 use mathlib.Core.Path.{◌≡◌, refl, sym}
 use mathlib.Core.Bool.{Bool, true, false, ◌&&◌, ◌||◌}
 use Prim.Native.Nat.{ℕ, ◌<◌}
 use native.Mathlib.Omega.{arith}
 use Rattle.sheet.specs.Cells.{cell_of}
 use Rattle.labels.specs.declared.Bounds.{Bounds}
-use Rattle.labels.specs.declared.LabelBox.{LabelBox}
 use Rattle.labels.proofs.Below.{both}
 use Rattle.sheet.specs.declared.Cell.{Cell}
 use Rattle.arguments.proofs.Tests.{holds, fails}
@@ -13,7 +13,7 @@ use Rattle.passes.specs.Fill.{near_i, near_j, box_and_strips}
 use Rattle.region.specs.Windowed.{InWindow, Windowed}
 use Rattle.region.specs.declared.Window.{Window}
 
-module _ (around : LabelBox) (b : Bounds) (c : Cell) (e : around ≡ LabelBox.Around b) where
+module _ (around : Option Bounds) (b : Bounds) (c : Cell) (e : around ≡ Some b) where
   pub along_j : true ≡ (near_i 0 b c && near_j 1 b c) → true ≡ box_and_strips around c
   along_j f = rw e (holds (near_i 0 b c && near_j 1 b c) (near_i 1 b c && near_j 0 b c) (sym f))
 
@@ -21,9 +21,9 @@ module _ (around : LabelBox) (b : Bounds) (c : Cell) (e : around ≡ LabelBox.Ar
   along_i t f g = rw e (fails (near_i 0 b c && near_j 1 b c) (near_i 1 b c && near_j 0 b c) t (sym f) g)
 
 -- a place outside of the window is not in the region
-pub in_window : (around : LabelBox) (w : Window) (p : ℕ) → Windowed 1 around w → p < 16384 → (InWindow w p → ⊥) → box_and_strips around (cell_of p) ≡ false
-in_window LabelBox.Empty w p c h out = refl
-in_window (LabelBox.Around b) w p c h out = go (near_i 0 b (cell_of p) && near_j 1 b (cell_of p)) refl (near_i 1 b (cell_of p) && near_j 0 b (cell_of p)) refl
+pub in_window : (around : Option Bounds) (w : Window) (p : ℕ) → Windowed 1 around w → p < 16384 → (InWindow w p → ⊥) → box_and_strips around (cell_of p) ≡ false
+in_window None w p c h out = refl
+in_window (Some b) w p c h out = go (near_i 0 b (cell_of p) && near_j 1 b (cell_of p)) refl (near_i 1 b (cell_of p) && near_j 0 b (cell_of p)) refl
   where
     go : (t : Bool) → (near_i 0 b (cell_of p) && near_j 1 b (cell_of p)) ≡ t → (u : Bool) → (near_i 1 b (cell_of p) && near_j 0 b (cell_of p)) ≡ u → (t || u) ≡ false
     go true e u f = let k = both (near_i 0 b (cell_of p)) (near_j 1 b (cell_of p)) e in absurd (out (c.covers b refl 0 1 p (omega arith) (omega arith) h k.0 k.1))

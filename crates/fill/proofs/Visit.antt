@@ -1,5 +1,6 @@
 -- One cell of fill: what a visit does to the state, by the prediction and by what trying the cell finds; and what the code has written
 -- when it has attached a corner. Assumes nothing.
+use Rattle.std.specs.Prelude.{None}
 use mathlib.Core.Path.{◌≡◌, refl, sym, ap₂, ◌∙◌}
 use mathlib.Core.List.{List, [], ◌∷◌, ◌++◌}
 use Prim.Native.Nat.{ℕ, ◌<◌, ◌≤◌}
@@ -11,7 +12,6 @@ use Rattle.sheet.specs.Cells.{OnSheet, place_of}
 use Rattle.sheet.specs.Words.{label_at, attached}
 use Rattle.sheet.specs.Corners.{Corners, seen_of}
 use Rattle.sheet.specs.declared.Cell.{Cell}
-use Rattle.sheet.specs.declared.Label.{Label}
 use Rattle.sheet.specs.declared.Position.{Position}
 use Rattle.sheet.proofs.Corners.{given_attached}
 use Rattle.labels.specs.Labelled.{Attaching}
@@ -59,7 +59,7 @@ tried_grows {c = c} {s = s} (attaches k a) = omega (arith, length-append s.made 
 
 -- a corner to be attached, as the laws of labels have it
 pub attaching : {cs : Corners} {sheet : List ℕ} {tol : Tolerances} {c : Cell} {k : ℕ} → cs.count ≤ 1024 → 16384 ≤ length sheet → OnSheet c
-    → label_at sheet c ≡ Label.Unlabelled → Attachable cs sheet tol c k → Attaching sheet c k
+    → label_at sheet c ≡ None → Attachable cs sheet tol c k → Attaching sheet c k
 attaching few long on bare a = record { long = long; on = on; bare = bare; corner_fits = omega (arith, a.given) }
 
 -- ---- by the prediction and by what was found

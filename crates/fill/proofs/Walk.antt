@@ -1,4 +1,6 @@
 -- A round of fill, a place at a time: a visit changes no label elsewhere, and what the code has written after each place. Assumes nothing.
+use Rattle.labels.specs.declared.Bounds.{Bounds}
+use Rattle.std.specs.Prelude.{None, Option}
 use mathlib.Core.Path.{◌≡◌, refl, ap, ◌∙◌}
 use mathlib.Core.Bool.{Bool}
 use mathlib.Core.List.{List}
@@ -10,11 +12,9 @@ use Rattle.sheet.specs.Corners.{Corners}
 use Rattle.sheet.specs.Cells.{cell_of}
 use Rattle.sheet.specs.Words.{label_of, label_at}
 use Rattle.sheet.specs.declared.Cell.{Cell}
-use Rattle.sheet.specs.declared.Label.{Label}
 use Rattle.sheet.proofs.Laws.{cell_on_lem, place_cell}
 use Rattle.sheet.proofs.Words.{attached_changes}
 use Rattle.labels.specs.Box.{box_of}
-use Rattle.labels.specs.declared.LabelBox.{LabelBox}
 use Rattle.labels.proofs.Labelled.{word_else}
 use Rattle.arguments.specs.declared.Settings.{Settings}
 use Rattle.arguments.specs.declared.FillParams.{FillParams}
@@ -47,7 +47,7 @@ walked_round cs set p s = walked_all (fill_visit cs set p) (λ t. t.sheet) (regi
 
 -- a visit of a bare cell changes no label elsewhere
 tried_else : {cs : Corners} {tol : Tolerances} {s : FillState} (n : ℕ) {after : FillState} → n < 16384 → cs.count ≤ 1024 → 16384 ≤ length s.sheet
-    → label_at s.sheet (cell_of n) ≡ Label.Unlabelled
+    → label_at s.sheet (cell_of n) ≡ None
     → Tried cs tol (cell_of n) s after → Elsewhere s.sheet after.sheet n
 tried_else n h few long e passed = record { same_length = refl; same_label = λ q k d. refl }
 tried_else {s = s} n h few long e (attaches k w) =
@@ -58,7 +58,7 @@ tried_else {s = s} n h few long e (attaches k w) =
     }
 
 pub visit_else : (cs : Corners) → cs.count ≤ 1024 → (set : Settings) (p : FillParams) (n : ℕ) → n < 16384 → (s : FillState) → 16384 ≤ length s.sheet
-    → label_at s.sheet (cell_of n) ≡ Label.Unlabelled
+    → label_at s.sheet (cell_of n) ≡ None
     → Elsewhere s.sheet (fill_visit cs set p (cell_of n) s).sheet n
 visit_else cs few set p n h s long e = tried_else n h few long e (tried cs set p (cell_of n) s)
 
@@ -110,7 +110,7 @@ module _ (set : Settings) (p : FillParams) (cs : Corners) (sheet₀ list₀ : Li
       }
 
   module _ (sheet list used : List ℕ) (made n : ℕ) (w : Walking set p cs sheet₀ list₀ made₀ sheet list used made n) where
-    pub walking_more : (around : LabelBox) (sheet' list' used' : List ℕ) (made' : ℕ) → n < 16384 → around ≡ box_of sheet₀ → length sheet' ≡ length sheet → length list' ≡ length list
+    pub walking_more : (around : Option Bounds) (sheet' list' used' : List ℕ) (made' : ℕ) → n < 16384 → around ≡ box_of sheet₀ → length sheet' ≡ length sheet → length list' ≡ length list
         → Left (looked_at cs set p around n (state_of sheet list made)) cs.count list sheet' list' used' made'
         → Walking set p cs sheet₀ list₀ made₀ sheet' list' used' made' (n + 1)
     walking_more around sheet' list' used' made' h b e g l =
@@ -131,7 +131,7 @@ module _ (set : Settings) (p : FillParams) (cs : Corners) (sheet₀ list₀ : Li
         next =
             ap (looked_at cs set p around n) (holds_state w.left.holds)
             ∙ looked (fill_visit cs set p) (λ t. t.sheet) (visit_else cs w.left.filling.few set p)
-            (region_of sheet₀) s w.long n h (ap (λ (a : LabelBox). box_and_strips a (cell_of n)) b)
+            (region_of sheet₀) s w.long n h (ap (λ (a : Option Bounds). box_and_strips a (cell_of n)) b)
 
     pub walking_end : 16384 ≤ n → Left (fill_round cs set p (state_of sheet₀ list₀ made₀)) cs.count list₀ sheet list used made
     walking_end h =
@@ -139,7 +139,7 @@ module _ (set : Settings) (p : FillParams) (cs : Corners) (sheet₀ list₀ : Li
         rw (← walked_round cs set p (state_of sheet₀ list₀ made₀), ← e) w.left
 
   -- to the next place of the window: no place before it is in the region
-  pub walking_jumps : (sheet list used : List ℕ) (made : ℕ) (around : LabelBox) (window : Window) → around ≡ box_of sheet₀ → Windowed 1 around window → {n r : ℕ}
+  pub walking_jumps : (sheet list used : List ℕ) (made : ℕ) (around : Option Bounds) (window : Window) → around ≡ box_of sheet₀ → Windowed 1 around window → {n r : ℕ}
       → Walking set p cs sheet₀ list₀ made₀ sheet list used made n → NextIn window n r → Walking set p cs sheet₀ list₀ made₀ sheet list used made r
   walking_jumps sheet list used made around window b c w t =
       jumps window (Walking set p cs sheet₀ list₀ made₀ sheet list used made)

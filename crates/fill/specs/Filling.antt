@@ -1,14 +1,13 @@
 -- What fill's inner functions ask and leave, in the terms of fill's definition (crate passes, Fill). Definitions only.
-use Rattle.std.specs.Prelude.{◌≡◌, false, List, ℕ, ◌+◌, ◌<◌, ◌≤◌, length, set, take}
+use Rattle.labels.specs.declared.Bounds.{Bounds}
+use Rattle.std.specs.Prelude.{◌≡◌, false, List, ℕ, ◌+◌, ◌<◌, ◌≤◌, length, set, take, None, Option}
 use Rattle.sizes.specs.Sizes.{place_count, corner_limit}
 use Rattle.sheet.specs.Cells.{OnSheet, place_of, cell_of}
 use Rattle.sheet.specs.Words.{label_at, attached, SheetCell}
 use Rattle.sheet.specs.Corners.{Corners, Given}
 use Rattle.sheet.specs.declared.Cell.{Cell}
-use Rattle.sheet.specs.declared.Label.{Label}
 use Rattle.labels.specs.Labelled.{label_count}
 use Rattle.labels.specs.Used.{used_on, Tied, OneCell}
-use Rattle.labels.specs.declared.LabelBox.{LabelBox}
 use Rattle.arguments.specs.declared.Settings.{Settings}
 use Rattle.arguments.specs.declared.FillParams.{FillParams}
 use Rattle.passes.specs.Fill.{FillState, FillRounds, box_and_strips, fill_visit}
@@ -50,7 +49,7 @@ pub record Left (s : FillState) (n : ℕ) (before sheet list used : List ℕ) (m
 pub record Trying (n : ℕ) (sheet list used : List ℕ) (made : ℕ) (c : Cell) : Type 0 where
   pub filling : Filling n sheet list used made
   pub on : OnSheet c
-  pub bare : label_at sheet c ≡ Label.Unlabelled
+  pub bare : label_at sheet c ≡ None
 
 -- a corner that no cell holds is to be attached there
 pub record Taking (n : ℕ) (sheet list used : List ℕ) (made : ℕ) (c : Cell) (k : ℕ) : Type 0 where
@@ -72,13 +71,13 @@ pub record Wrote (sheet list used : List ℕ) (made : ℕ) (c : Cell) (k : ℕ) 
   pub made_is : made' ≡ made + 1
 
 -- a place is to be looked at, with the label box of the round's start
-pub record Looking (n : ℕ) (sheet list used : List ℕ) (made : ℕ) (around : LabelBox) (place : ℕ) : Type 0 where
+pub record Looking (n : ℕ) (sheet list used : List ℕ) (made : ℕ) (around : Option Bounds) (place : ℕ) : Type 0 where
   pub filling : Filling n sheet list used made
   pub below : place < place_count
   pub small : SmallBox around
 
 -- a place looked at: its cell is tried if it lies in the region and is unlabelled now
-abbrev pub looked_at : Corners → Settings → FillParams → LabelBox → ℕ → FillState → FillState
+abbrev pub looked_at : Corners → Settings → FillParams → Option Bounds → ℕ → FillState → FillState
 looked_at cs set p around place s = place_visited (fill_visit cs set p) (λ t. t.sheet) (box_and_strips around (cell_of place)) place s
 
 -- ---- rounds

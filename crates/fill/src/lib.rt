@@ -17,7 +17,7 @@ ghost use Rattle.fill.specs.Filling.{state_of, Filling, Left, Trying, Writable, 
 
 use arguments::{Checked, FillParams, Pass, Settings};
 use extension_common::{ChoiceRule, Search, TryCellResult};
-use labels::{Bounds, LabelBox};
+use labels::Bounds;
 use passes::{FillAnswer, FillStats};
 use positions_policy::Tolerances;
 use predict::Prediction;
@@ -62,11 +62,11 @@ fn is_along_i(b: Bounds, c: Cell) -> bool
 }
 
 // Whether a cell is one that a round walks, if it is unlabelled: it lies in the label box or in the strip along a whole side.
-fn is_fill_cell(around: LabelBox, c: Cell) -> bool
+fn is_fill_cell(around: Option<Bounds>, c: Cell) -> bool
     requires { SmallBox around }
     ensures { result ≡ box_and_strips around c }
 {
-    let LabelBox::Around(b) = around else {
+    let Some(b) = around else {
         return false;
     };
     if is_along_j(b, c) {
@@ -165,7 +165,7 @@ fn fill_place(
     attached: &mut [u16],
     used: &mut [u8; CORNERS],
     made: usize,
-    around: LabelBox,
+    around: Option<Bounds>,
     place: usize,
     setup: FillSetup,
 ) -> usize

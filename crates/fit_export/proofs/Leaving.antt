@@ -1,25 +1,17 @@
 -- The exported fit as the code leaves it: too short, no fit, a fit. Assumes nothing.
 use mathlib.Core.Path.{◌≡◌, refl, sym, ap, ◌∙◌}
-use mathlib.Core.Bool.{Bool, true, false, not, ◌||◌, true≢false}
+use mathlib.Core.Bool.{Bool, true, false, ◌||◌, true≢false}
 use mathlib.Core.List.{List}
 use Prim.Native.Nat.{ℕ, ◌≤◌}
-use borrow.Author.Tests.{not-true, not-false, ltb-false}
+use borrow.Author.Tests.{ltb-false}
 use lib.ListN.{length}
 use lib.Ieee.{Float}
-use Rattle.homography.specs.declared.Fit.{Fit}
-use Rattle.homography.specs.Fit.{fit_of, homography_of}
-use Rattle.homography.proofs.Laws.{found_entries, not_found}
+use Rattle.std.specs.Prelude.{Some, None}
+use Rattle.homography.specs.Fit.{Answer, homography_of}
 use Rattle.sheet.specs.declared.Position.{Position}
 use Rattle.fit_export.specs.FitCall.{left, points_of, too_short, entered, fit_leaves, exported}
 
 -- ---- lengths
-
--- a chain of tests of which one is enough: this one holds; this one fails, and the rest says t
-pub holds : (a b : Bool) → a ≡ true → true ≡ (a || b)
-holds a b e = rw e
-
-pub fails : (a b t : Bool) → a ≡ false → t ≡ b → t ≡ (a || b)
-fails a b t e f = rw e f
 
 -- none of two tests holds
 neither : (a b : Bool) → (a || b) ≡ false → (a ≡ false) × (b ≡ false)
@@ -56,17 +48,14 @@ module _ (cx cy px py out : List Float) {t : Bool} (et : t ≡ too_short (length
   unfolding exported
   leaves_short e = rw (← et, e)
 
-  module _ (e : t ≡ false) {cells corners : List Position} {fit : Fit} (ec : cells ≡ points_of cx cy) (ep : corners ≡ points_of px py) (ef : fit ≡ fit_of (homography_of cells corners)) where
-    answer : fit ≡ fit_of (homography_of (points_of cx cy) (points_of px py))
+  module _ (e : t ≡ false) {cells corners : List Position} {fit : Answer} (ec : cells ≡ points_of cx cy) (ep : corners ≡ points_of px py) (ef : fit ≡ homography_of cells corners) where
+    answer : fit ≡ homography_of (points_of cx cy) (points_of px py)
     answer = ef ∙ rw (ec, ep)
 
-    found : fit.found ≡ (fit_of (homography_of (points_of cx cy) (points_of px py))).found
-    found = ap (λ (f : Fit). f.found) answer
-
-    pub leaves_none : not fit.found ≡ true → left 0 out ≡ exported cx cy px py out
+    pub leaves_none : fit ≡ None → left 0 out ≡ exported cx cy px py out
     unfolding exported fit_leaves
-    leaves_none n = rw (← et, e, not_found (homography_of (points_of cx cy) (points_of px py)) (sym found ∙ not-true fit.found n))
+    leaves_none n = rw (← et, e, ← answer, n)
 
-    pub leaves_fit : {now : List Float} → not fit.found ≡ false → now ≡ entered fit.h out → left 1 now ≡ exported cx cy px py out
+    pub leaves_fit : {h now : List Float} → fit ≡ Some h → now ≡ entered h out → left 1 now ≡ exported cx cy px py out
     unfolding exported fit_leaves
-    leaves_fit {now} n w = rw (← et, e, found_entries (homography_of (points_of cx cy) (points_of px py)) (sym found ∙ not-false fit.found n)) (ap (left 1) (w ∙ rw answer))
+    leaves_fit {h} {now} n w = rw (← et, e, ← answer, n) (ap (left 1) w)

@@ -1,3 +1,2 @@
 -- Laws of the exported fit. Assumes nothing.
-pub mod Entering
 pub mod Leaving

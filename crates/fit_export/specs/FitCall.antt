@@ -1,10 +1,10 @@
 -- The fit over lent buffers: four cells and four pictured corners by their x and their y, and a buffer of which a fit takes the first
 -- nine places. Definitions only.
-use Rattle.std.specs.Prelude.{Bool, cond, ◌||◌, List, ◌++◌, ℕ, ltb, length, get_or, drop, Float}
+use Rattle.std.specs.Prelude.{Bool, cond, ◌||◌, List, ◌++◌, ℕ, ltb, length, get_or, drop, Some, None, Float}
 use Rattle.std.specs.Float.{nan}
 use Rattle.elimination.specs.Tables.{table}
 use Rattle.sheet.specs.declared.Position.{Position}
-use Rattle.homography.specs.Fit.{Answer, NoFit, Entries, homography_of}
+use Rattle.homography.specs.Fit.{Answer, homography_of}
 
 -- what a call answers, and the whole out buffer after it
 pub record Left : Type 0 where
@@ -28,8 +28,8 @@ entered h out = h ++ drop 9 out
 
 -- 1 and the entries where there is a fit; 0 and the buffer as it was where there is none
 unfoldable pub fit_leaves : Answer → List Float → Left
-fit_leaves NoFit out = left 0 out
-fit_leaves (Entries h) out = left 1 (entered h out)
+fit_leaves None out = left 0 out
+fit_leaves (Some h) out = left 1 (entered h out)
 
 -- the fit of 01 on the points, unless a list is too short: that is answered as no fit
 unfoldable pub exported : List Float → List Float → List Float → List Float → List Float → Left

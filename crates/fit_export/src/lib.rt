@@ -9,22 +9,11 @@ ghost use Rattle.fit_export.specs.FitCall.{left, points_of, too_short, entered, 
 use sheet::Position;
 
 // Whether one of four slices with these lengths has fewer than four, or there are fewer than nine places.
+#[tactic(auto, unfolding(crate::specs::FitCall::too_short))]
 fn too_short(a: usize, b: usize, c: usize, d: usize, places: usize) -> bool
     ensures { result ≡ too_short a b c d places }
 {
-    if a < 4 {
-        return true;
-    }
-    if b < 4 {
-        return true;
-    }
-    if c < 4 {
-        return true;
-    }
-    if d < 4 {
-        return true;
-    }
-    places < 9
+    a < 4 || b < 4 || c < 4 || d < 4 || places < 9
 }
 
 // The first four points of a list of x and a list of y.
@@ -41,13 +30,12 @@ fn points_of(xs: &[f32], ys: &[f32]) -> [Position; 4]
 }
 
 // Writes nine entries to the front of a buffer, and leaves the rest of it as it was.
+#[tactic(auto, unfolding(crate::specs::FitCall::entered))]
 fn enter(h: [f32; 9], out: &mut [f32])
     requires { 9 ≤ length out.old }
     ensures { out.new ≡ entered h out.old }
 {
-    for n in 0..9usize {
-        out[n] = h[n];
-    }
+    out[..9].copy_from_slice(&h);
 }
 
 // The fit that takes four cells to their pictured corners, each given by the first four x and the first four y. Where there is one the answer
@@ -74,11 +62,9 @@ pub extern "C" fn homography_from_4pt_fit(
     }
     let cells = points_of(cells_x, cells_y);
     let corners = points_of(corners_x, corners_y);
-    let fit = homography::homography_from_4pt(cells, corners);
-    if !fit.found {
+    let Some(h) = homography::homography_from_4pt(cells, corners) else {
         return 0;
-    }
-    let h = fit.h;
+    };
     enter(h, out);
     1
 }

@@ -20,7 +20,7 @@ use Rattle.labels.specs.Labelled.{any_below}
 use Rattle.labels.proofs.Below.{passing_one_more, any_start, any_more, any_ext}
 use Rattle.labels.proofs.Count.{many_ext, many_none}
 use Rattle.arguments.proofs.Chains.{or_false_both}
-use Rattle.join.specs.Rule.{Placed, All}
+use Rattle.join.specs.Rule.{Placed}
 use Rattle.join.specs.Join.{same_cell}
 use Rattle.join.specs.Sheets.{labelled}
 use Rattle.join.proofs.Lists.{same_cell_lem, cell_same}
@@ -41,13 +41,13 @@ use Rattle.frame_line.specs.declared.HeldLabel.{HeldLabel}
 use Rattle.frame_line.specs.declared.HeldShade.{HeldShade}
 use Rattle.frame_line.proofs.Shapes.{bits_held, whole_held}
 use Rattle.frame_line.proofs.Words.{tame_count}
-use Rattle.frame_check.specs.Checks.{checks_in_order, over_limit, first_twice, second_twice, label_twice, shade_twice, twice_of, has_place, checked_held, is_set}
+use Rattle.frame_check.specs.Checks.{checks_in_order, over_limit, label_twice, shade_twice, twice_of, has_place, checked_held, is_set}
 use Rattle.frame_check.proofs.Laws.{checks_alike, AllFine, fine_all}
 use Rattle.sizes.specs.Sizes.{corner_limit, pass_limit, place_count, used_count, second_count, all_pass_words}
 use Rattle.frame_state.specs.State.{with_opening, labels_after, label_added, shade_put, words_in, words_put, State, adds_as, adds, at_stage, nothing_said, arrays, state}
 use Rattle.frame_state.specs.declared.PassWords.{PassWords}
 use Rattle.frame_state.proofs.Laws.{many_room}
-use Rattle.frame.specs.Frame.{outside_in, over_in, twice_in, Parts, some_of, collide, doubled, open_labels, placed, with_label, shaded_before, checked_line, opened, adding, added, no_parts}
+use Rattle.frame.specs.Frame.{outside_in, over_in, twice_in, Parts, some_of, doubled, open_labels, placed, shaded_before, checked_line, opened, adding, added, no_parts}
 use Rattle.frame.specs.Text.{Sound}
 use Rattle.frame.specs.Reading.{cell_taken, corner_taken, corner_shaded, HoldsUsed, CheckedLabels, HoldsLabels, HoldsSecond, HoldsShades, Holds, HoldsCorners, HoldsPasses, FrameHeld}
 use Rattle.frame.specs.ReadFrame.{float_of, settings_in, shaded, full_of, words_of, all_words}

@@ -1,15 +1,14 @@
 -- The labels of a set: one more at the end, labels that are checked as the join has them, and the corners that their sheet uses. Assumes nothing.
-use mathlib.Core.Path.{◌≡◌, refl, sym, ap, subst, ◌∙◌}
+use Rattle.std.specs.Prelude.{Some}
+use mathlib.Core.Path.{◌≡◌, refl, sym, ap, ◌∙◌}
 use mathlib.Core.Bool.{Bool, true, false, ◌||◌, or-true}
 use mathlib.Core.List.Memᴰ
 use mathlib.Core.List.{List, [], ◌∷◌, ◌++◌, map, Memᴰ}
 use mathlib.Core.Logic.{◌⊎◌, inl, inr}
-use Prim.Native.Nat.{ℕ, ◌<◌, ◌≤◌}
+use Prim.Native.Nat.{ℕ, ◌≤◌}
 use native.Mathlib.Omega.{arith}
 use lib.IntN.{pos, nat_abs}
-use lib.ListN.{get_or}
 use Rattle.sheet.specs.Cells.{eq_z, cell_of, place_of}
-use Rattle.sheet.specs.declared.Label.{Label}
 use Rattle.sheet.proofs.Laws.{eq_z_equal, equal_eq_z, place_in}
 use Rattle.sheet.proofs.Words.{label_on}
 use Rattle.labels.specs.Used.{used_on}
@@ -148,5 +147,5 @@ taken_used n ls sheet s h k =
     (record {
       place = place_of l.cell;
       below = place_in l.cell on;
-      holds = sym (label_on sheet l.cell on) ∙ h.each (placed l) (Memᴰ.map placed o.1) ∙ ap Label.Corner same;
+      holds = sym (label_on sheet l.cell on) ∙ h.each (placed l) (Memᴰ.map placed o.1) ∙ ap Some same;
     }))

@@ -3,12 +3,12 @@ use mathlib.Core.Path.{◌≡◌, refl, sym, ap, ap₂, subst, ◌∙◌}
 use mathlib.Core.Bool.{Bool, true, false, not, cond}
 use mathlib.Core.Logic.{⊎_elim}
 use mathlib.Core.List.{List, [], ◌∷◌, ◌++◌, map}
-use Prim.Native.Nat.{ℕ, suc, ◌+◌, ◌-◌, ◌<◌, ◌≤◌}
+use Prim.Native.Nat.{ℕ, zero, suc, ◌+◌, ◌<◌, ◌≤◌}
 use native.Mathlib.Omega.{arith}
 use native.Mathlib.Numerals.{add-one}
-use borrow.Author.Tests.{not-true, not-false}
+use native.Mathlib.Nat.{sub-zero}
 use lib.Dec.{eqb}
-use lib.ListN.{length, get_or, take, drop}
+use lib.ListN.{length, get_or, take, drop, length-append}
 use Rattle.refusal.specs.declared.Refusal.{Refusal}
 use Rattle.sheet.specs.Words.{empty_sheet}
 use Rattle.sheet.proofs.Words.{empty_length}
@@ -18,12 +18,11 @@ use Rattle.join.specs.Rule.{Placed}
 use Rattle.join.specs.Join.{Joined, apart, clash, off, union_of, joined}
 use Rattle.join.specs.Sheets.{labelled, HoldsSet}
 use Rattle.join.proofs.Sets.{labelled_length, set_held}
-use Rattle.join_sheet.specs.Held.{held_labels, outcome, join_on, concluded}
-use Rattle.join_sheet.specs.declared.Joining.{Joining}
+use Rattle.join_sheet.specs.Held.{held_labels, concluded}
 use Rattle.join_sheet.proofs.Held.{joins_as}
 use Rattle.arguments.specs.declared.Checked.{Checked}
 use Rattle.line_form.specs.Lines.{lines_of, line_length}
-use Rattle.line_form.proofs.Lines.{end_after, end_inside, lines_from, no_lines}
+use Rattle.line_form.proofs.Lines.{lines_from, no_lines}
 use Rattle.frame_line.specs.Table.{row_count, turn_at, may_end}
 use Rattle.frame_line.specs.Lines.{Line, LineRead, ill_formed, line, read_line}
 use Rattle.frame_line.specs.Held.{held_line, held_read}
@@ -33,13 +32,15 @@ use Rattle.frame_line.proofs.Laws.{line_prints_back}
 use Rattle.frame_line.proofs.Checking.{no_row}
 use Rattle.sizes.specs.Sizes.{corner_limit, place_count}
 use Rattle.frame_check.specs.Checks.{is_set, checked_held}
-use Rattle.frame_state.specs.State.{at_stage, Arrays, arrays, State, state, Addable, adds}
+use Rattle.frame_state.specs.State.{Arrays, arrays, State, state, Addable, adds}
 use Rattle.frame_state.specs.declared.Progress.{Progress}
-use Rattle.frame.specs.Frame.{Frame, Parts, added, parts_from, no_parts, parts_of, checked_line, placed, first_set, second_set, join_if, join_of, labels_in, given_of, patch_line, FrameRead, refused_at, accepted, Step, stopped, onward, step_by, step_with, step_line, finish_by, finish, at_end, going, read_lines}
+use Rattle.frame.specs.Frame.{Frame, Parts, added, parts_from, no_parts, parts_of, checked_line, placed, first_set, second_set, join_if, join_of, labels_in, given_of, patch_line, FrameRead, refused_at, Step, stopped, onward, step_by, step_with, step_line, finish_by, finish, at_end, going, read_lines}
 use Rattle.frame.specs.ReadFrame.{sheet_of}
-use Rattle.frame.specs.Reading.{FrameHeld, Room, Went, went, held_by, held_step, Finishable, Finished, finished, finished_as, finished_by, finish_on, FrameDone, ReadAs, refused_as, held_as}
-use Rattle.frame.specs.declared.Stepped.{Stepped}
-use Rattle.frame.specs.declared.LinesRead.{LinesRead}
+use Rattle.frame.specs.Reading.{FrameHeld, Room, Went, went, held_by, held_step, Finishable, Finished, finished, finished_by, finish_on, FrameDone, ReadAs, refused_as, held_as}
+use Rattle.frame.specs.declared.FrameRefusal.{FrameRefusal}
+use Rattle.std.proofs.Common.{Result, Ok, Err, min}
+use Rattle.std.specs.List.{IsFirstMatchOrLen}
+use Rattle.std.proofs.lemmas.List.{take_at, drop_at}
 use Rattle.frame.proofs.Sets.{all_holdable, all_once, taken_used}
 use Rattle.frame.proofs.Adding.{below_or_not, checks_agree, line_held, restaged}
 
@@ -62,9 +63,9 @@ record WentOn (step : Step) (p : Progress) (a : Arrays) : Type 0 where
   holds : FrameHeld (parts_of frame) (state p a)
 
 -- where a line leads, in the definition and in the code
-abbrev SteppedAs : Step → Stepped → Arrays → Type 0
-SteppedAs step (Stepped.Stopped r) a = step ≡ stopped r
-SteppedAs step (Stepped.Onward p) a = WentOn step p a
+abbrev SteppedAs : Step → Result Progress Refusal → Arrays → Type 0
+SteppedAs step (Err r) a = step ≡ stopped r
+SteppedAs step (Ok p) a = WentOn step p a
 
 abbrev LedAs : Step → Went → Type 0
 LedAs step w = SteppedAs step w.answer w.held
@@ -105,36 +106,13 @@ pub step_row : (stage row to : ℕ) (turn : Turn) → turn ≡ turn_at stage row
 step_row stage row to turn t e =
     ⊎_elim (λ h. h) (λ h. let n = no_row stage row h in absurd (let z : ◌≡◌ {A = ℕ} 0 1 = cc in omega arith)) (below_or_not row row_count)
 
-module _ (p : Progress) (a : Arrays) (found : HeldLine) (turn : Turn) (t : turn ≡ turn_at p.stage found.row) where
-  pub step_no : turn ≡ Turn.No → went (Stepped.Stopped Refusal.Malformed) a ≡ held_step found (state p a)
-  unfolding held_step
-  step_no e = rw (← t, e)
-
-  module _ (to : ℕ) (e : turn ≡ Turn.To to) where
-    module _ (checked : Checked) (c : checked ≡ checked_held p.corners p.passes p.patched a.shades a.sheet a.used a.second p.second found) where
-      pub step_stopped : (r : Refusal) → checked ≡ Checked.Refused r → went (Stepped.Stopped r) a ≡ held_step found (state p a)
-      unfolding held_step
-      step_stopped r h = rw (← t, e, ← c, h)
-
-      pub step_addable : Room p a → checked ≡ Checked.Fine → Addable p a found
-      step_addable g h = record { fine = sym c ∙ h; fits = record { few = g.few; labels_few = g.second_few; row_fits = step_row p.stage found.row to turn t e }; long = g.long; counted = g.counted }
-
-      pub step_onward : checked ≡ Checked.Fine → (next last : Progress) (b : Arrays) → state next b ≡ adds found (state p a) → last ≡ at_stage next to
-          → went (Stepped.Onward last) b ≡ held_step found (state p a)
-      unfolding held_step
-      step_onward h next last b d k = rw (← t, e, ← c, h, k) (ap (λ (x : State). went (Stepped.Onward (at_stage x.progress to)) x.held) d)
+-- and it can be added where nothing is wrong with it
+pub step_addable : (p : Progress) (a : Arrays) (found : HeldLine) (turn : Turn) → turn ≡ turn_at p.stage found.row → (to : ℕ) → turn ≡ Turn.To to → (checked : Checked)
+    → checked ≡ checked_held p.corners p.passes p.patched a.shades a.sheet a.used a.second p.second found → Room p a → checked ≡ Checked.Fine → Addable p a found
+step_addable p a found turn t to e checked c g h =
+    record { fine = sym c ∙ h; fits = record { few = g.few; labels_few = g.second_few; row_fits = step_row p.stage found.row to turn t e }; long = g.long; counted = g.counted }
 
 -- ---- after the last line
-
--- the code's end, from its parts
-module _ (p : Progress) (sheet : List ℕ) (second : List Placed) where
-  pub finish_one : not p.patched ≡ true → finished sheet (LinesRead.Whole p) ≡ finish_on p.patched p sheet second
-  finish_one e = rw (not-true p.patched e)
-
-  module _ (e : not p.patched ≡ false) (after : List ℕ) (r : Joining) (w : outcome after r ≡ join_on sheet second) where
-    pub finish_as : (a : LinesRead) → a ≡ finished_as p r → finished after a ≡ finish_on p.patched p sheet second
-    finish_as a h =
-        subst (λ (t : Bool). finished after a ≡ finish_on t p sheet second) (sym (not-false p.patched e)) (ap (finished after) h ∙ ap (finished_by p) w)
 
 -- the arrays with another sheet
 abbrev pub on_sheet_of : Arrays → List ℕ → Arrays
@@ -204,28 +182,54 @@ module _ (f : Frame) (p : Progress) (a : Arrays) (g : FrameHeld (parts_of f) (st
       subst (λ (j : Joined). ReadAs (finish_by j f) o.answer (on_sheet_of a o.sheet)) (sym is)
       (by_join (joined (first_set (parts_of f)) (second_set (parts_of f))) is o (w ∙ ap (finished_by p) (joins_as first_held (second_set (parts_of f)))))
 
-  finishes : (r : LinesRead) (sheet : List ℕ) → finished sheet r ≡ finish_on p.patched p a.sheet (held_labels a.second p.second)
+  finishes : (r : Result Progress FrameRefusal) (sheet : List ℕ) → finished sheet r ≡ finish_on p.patched p a.sheet (held_labels a.second p.second)
       → ReadAs (finish f) r (on_sheet_of a sheet)
   finishes r sheet w =
       by_patch (parts_of f).patched refl (finished sheet r)
       (w ∙ ap₂ (λ (t : Bool) (l : List Placed). finish_on t p a.sheet l) g.patched g.second.labels_are)
 
+-- ---- the first line of a text
+
+-- a text is its first line, which is not empty, and the lines behind it
+pub record FirstLine (rest front after : List ℕ) : Type 0 where
+  pub lines : lines_of rest ≡ front ∷ lines_of after
+  pub shorter : length after < length rest
+
+-- it ends behind the first line feed, or where the text ends
+line_is : (rest : List ℕ) (i : ℕ) → IsFirstMatchOrLen (λ b. eqb b 10) rest i → line_length rest ≡ min (i + 1) (length rest)
+unfolding line_length
+line_is [] i h = omega arith
+line_is (b ∷ rest) zero h = rw (h.1 (omega arith) 0) (omega arith)
+line_is (b ∷ rest) (suc i) h =
+    let more = line_is rest i (λ k d l m. h.0 (suc k) d (omega arith) (omega (arith, m)), λ l d. h.1 (omega (arith, l)) d) in
+    rw (h.0 0 0 (omega arith) (omega arith)) (omega (arith, more))
+
+pub first_line : (rest front after : List ℕ) (i : ℕ) → rest ≡ front ++ after → length front ≡ min (i + 1) (length rest)
+    → IsFirstMatchOrLen (λ b. eqb b 10) rest i → 0 < length rest → FirstLine rest front after
+first_line rest front after i e long h some =
+    record {
+      lines =
+          lines_from rest 0 (length front) some (omega (arith, long, line_is rest i h))
+          ∙ ap₂ (λ (x y : List ℕ). x ∷ lines_of y) (ap₂ take (sub-zero (length front)) e ∙ take_at front after (length front) refl)
+          (ap (drop (length front)) e ∙ drop_at front after (length front) refl);
+      shorter = omega (arith, long, some, ap length e, length-append front after);
+    }
+
 -- ---- all lines
 
--- before a line: so many are read, and what is left leads where the whole text does
-pub record Turning (text : List ℕ) (p : Progress) (n at : ℕ) (a : Arrays) : Type 0 where
-  pub inside : at ≤ length text
-  pub lines : n ≤ at + 1
+-- before a line: so many are read, and what is left of the text leads where the whole text does
+pub record Turning (text rest : List ℕ) (p : Progress) (n : ℕ) (a : Arrays) : Type 0 where
+  pub lines : n + length rest ≤ length text + 1
   pub frame : Frame
   pub holds : FrameHeld (parts_of frame) (state p a)
-  pub rest : read_lines n p.stage frame (lines_of (drop at text)) ≡ read_lines 1 0 [] (lines_of text)
+  pub leads : read_lines n p.stage frame (lines_of rest) ≡ read_lines 1 0 [] (lines_of text)
 
-pub turning_start : (text : List ℕ) (p : Progress) (a : Arrays) → p.stage ≡ 0 → FrameHeld no_parts (state p a) → Turning text p 1 0 a
+pub turning_start : (text rest : List ℕ) (p : Progress) (a : Arrays) → rest ≡ text → p.stage ≡ 0 → FrameHeld no_parts (state p a) → Turning text rest p 1 a
 unfolding parts_of parts_from
-turning_start text p a e g =
-    record { inside = omega arith; lines = omega arith; frame = []; holds = g; rest = ap (λ (k : ℕ). read_lines 1 k [] (lines_of text)) e }
+turning_start text rest p a t e g =
+    record { lines = omega (arith, ap length t); frame = []; holds = g; leads = ap₂ (λ (k : ℕ) (x : List ℕ). read_lines 1 k [] (lines_of x)) e t }
 
-module _ {text : List ℕ} {p : Progress} {n at : ℕ} {a : Arrays} (g : Turning text p n at a) where
+module _ {text rest : List ℕ} {p : Progress} {n : ℕ} {a : Arrays} (g : Turning text rest p n a) where
   pub turn_room : Room p a
   turn_room =
       let h = g.holds in
@@ -236,52 +240,49 @@ module _ {text : List ℕ} {p : Progress} {n at : ℕ} {a : Arrays} (g : Turning
         counted = record { first = h.labels.uses.many; second = h.second.uses.many };
       }
 
-  module _ (h : at < length text) (end : ℕ) (e : end ≡ at + line_length (drop at text)) where
+  module _ {front after : List ℕ} (l : FirstLine rest front after) where
     -- the lines behind this one
     behind : Step → FrameRead
-    behind x = going n x (λ after f. read_lines (suc n) after f (lines_of (drop end text)))
+    behind x = going n x (λ stage f. read_lines (suc n) stage f (lines_of after))
 
-    one_line : read_lines n p.stage g.frame (lines_of (drop at text)) ≡ behind (step_line p.stage g.frame (take (end - at) (drop at text)))
+    one_line : read_lines n p.stage g.frame (lines_of rest) ≡ behind (step_line p.stage g.frame front)
     unfolding read_lines behind
-    one_line = ap (read_lines n p.stage g.frame) (lines_from text at end h e)
+    one_line = ap (read_lines n p.stage g.frame) l.lines
 
-    module _ (r : Stepped) (b : Arrays) (w : went r b ≡ held_step (held_read (read_line (take (end - at) (drop at text)))) (state p a)) where
-      stepped : SteppedAs (step_line p.stage g.frame (take (end - at) (drop at text))) r b
-      stepped =
-          subst (LedAs (step_line p.stage g.frame (take (end - at) (drop at text)))) (sym w)
-          (steps_agree g.frame (state p a) g.holds (take (end - at) (drop at text)))
+    module _ (r : Result Progress Refusal) (b : Arrays) (w : went r b ≡ held_step (held_read (read_line front)) (state p a)) where
+      stepped : SteppedAs (step_line p.stage g.frame front) r b
+      stepped = subst (LedAs (step_line p.stage g.frame front)) (sym w) (steps_agree g.frame (state p a) g.holds front)
 
-      led : (x : Stepped) → r ≡ x → SteppedAs (step_line p.stage g.frame (take (end - at) (drop at text))) x b
-      led x d = subst (λ (y : Stepped). SteppedAs (step_line p.stage g.frame (take (end - at) (drop at text))) y b) d stepped
+      led : (x : Result Progress Refusal) → r ≡ x → SteppedAs (step_line p.stage g.frame front) x b
+      led x d = subst (λ (y : Result Progress Refusal). SteppedAs (step_line p.stage g.frame front) y b) d stepped
 
-      pub turn_stopped : (q : Refusal) → r ≡ Stepped.Stopped q → ReadAs (read_lines 1 0 [] (lines_of text)) (LinesRead.Refused q n) b
+      pub turn_stopped : (q : Refusal) → r ≡ Err q → ReadAs (read_lines 1 0 [] (lines_of text)) (Err (record { refusal = q; line = n })) b
       unfolding behind
       turn_stopped q d =
-          subst (λ (x : FrameRead). ReadAs x (LinesRead.Refused q n) b) (sym (one_line ∙ ap behind (led (Stepped.Stopped q) d)) ∙ g.rest) (refused_as q n)
+          subst (λ (x : FrameRead). ReadAs x (Err (record { refusal = q; line = n })) b) (sym (one_line ∙ ap behind (led (Err q) d)) ∙ g.leads) (refused_as q n)
 
-      pub turn_onward : (next : Progress) → r ≡ Stepped.Onward next → Turning text next (n + 1) end b
+      pub turn_onward : (next : Progress) → r ≡ Ok next → Turning text after next (n + 1) b
       unfolding behind
       turn_onward next d =
-          let on = led (Stepped.Onward next) d in
+          let on = led (Ok next) d in
           record {
-            inside = end_inside text at end h e;
-            lines = omega (arith, g.lines, end_after text at end h e);
+            lines = omega (arith, g.lines, l.shorter);
             frame = on.frame;
             holds = on.holds;
-            rest = rw add-one (sym (one_line ∙ ap behind on.step_is) ∙ g.rest);
+            leads = rw add-one (sym (one_line ∙ ap behind on.step_is) ∙ g.leads);
           }
 
   -- behind the last line
-  module _ (h : length text ≤ at) where
+  module _ (h : length rest ≡ 0) where
     at_the_end : (t : Bool) → may_end p.stage ≡ t → read_lines 1 0 [] (lines_of text) ≡ cond t (finish g.frame) (refused_at Refusal.Malformed n)
     unfolding read_lines at_end
     at_the_end t e =
-        sym g.rest ∙ ap (read_lines n p.stage g.frame) (no_lines text at h)
+        sym g.leads ∙ ap (read_lines n p.stage g.frame) (no_lines rest 0 (omega (arith, h)))
         ∙ ap (λ (x : Bool). cond x (finish g.frame) (refused_at Refusal.Malformed n)) e
 
-    pub end_missing : may_end p.stage ≡ false → ReadAs (read_lines 1 0 [] (lines_of text)) (LinesRead.Refused Refusal.Malformed n) a
-    end_missing e = subst (λ (x : FrameRead). ReadAs x (LinesRead.Refused Refusal.Malformed n) a) (sym (at_the_end false e)) (refused_as Refusal.Malformed n)
+    pub end_missing : may_end p.stage ≡ false → ReadAs (read_lines 1 0 [] (lines_of text)) (Err (record { refusal = Refusal.Malformed; line = n })) a
+    end_missing e = subst (λ (x : FrameRead). ReadAs x (Err (record { refusal = Refusal.Malformed; line = n })) a) (sym (at_the_end false e)) (refused_as Refusal.Malformed n)
 
-    pub end_finished : may_end p.stage ≡ true → (r : LinesRead) (sheet : List ℕ)
+    pub end_finished : may_end p.stage ≡ true → (r : Result Progress FrameRefusal) (sheet : List ℕ)
         → finished sheet r ≡ finish_on p.patched p a.sheet (held_labels a.second p.second) → ReadAs (read_lines 1 0 [] (lines_of text)) r (on_sheet_of a sheet)
     end_finished e r sheet w = subst (λ (x : FrameRead). ReadAs x r (on_sheet_of a sheet)) (sym (at_the_end true e)) (finishes g.frame p a g.holds r sheet w)

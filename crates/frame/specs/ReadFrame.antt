@@ -6,18 +6,12 @@ use Rattle.std.specs.Float.Ieee.{of_bits}
 use Rattle.refusal.specs.declared.Refusal.{Refusal}
 use Rattle.sheet.specs.Words.{empty_sheet}
 use Rattle.join.specs.Sheets.{labelled}
-use Rattle.predict.specs.declared.Grid.{Grid}
-use Rattle.predict.specs.declared.Vector.{Vector}
-use Rattle.arguments.specs.declared.GrowParams.{GrowParams}
-use Rattle.arguments.specs.declared.FillParams.{FillParams}
-use Rattle.arguments.specs.declared.LocalExtensionParams.{LocalExtensionParams}
 use Rattle.arguments.specs.declared.Pass.{Pass}
 use Rattle.arguments.specs.declared.Settings.{Settings}
 use Rattle.frame_line.specs.Lines.{ShadeLine, PassLine, bare_grow_holds, grow, bare_fill, fill, local, bare_grow}
 use Rattle.arguments.specs.Front.{over}
 use Rattle.sizes.specs.Sizes.{corner_limit, place_count, all_pass_words}
 use Rattle.frame.specs.Frame.{Frame, Opening, parts_of, given_of, FrameRead, refused_at, accepted, read_frame}
-use Rattle.frame.specs.declared.FrameHead.{FrameHead}
 use Rattle.frame.specs.declared.FrameAnswer.{FrameAnswer}
 
 -- ---- what a frame gives

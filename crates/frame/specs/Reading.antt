@@ -1,6 +1,6 @@
 -- How the reader holds what it has read: its arrays and numbers, tied to the definition's frame, and what its functions leave. Definitions
 -- only.
-use Rattle.std.specs.Prelude.{◌≡◌, Bool, true, false, List, map, ℕ, ◌+◌, ◌*◌, ◌<◌, ◌≤◌, ℤ, pos, length, take, replicate, Float}
+use Rattle.std.specs.Prelude.{◌≡◌, Bool, true, false, List, map, ℕ, ◌+◌, ◌*◌, ◌<◌, ◌≤◌, ℤ, pos, length, take, replicate, Float, Result, Ok, Err}
 use Rattle.refusal.specs.declared.Refusal.{Refusal}
 use Rattle.sheet.specs.Cells.{OnSheet, place_of, eq_z}
 use Rattle.sheet.specs.Words.{empty_sheet}
@@ -11,7 +11,7 @@ use Rattle.labels.specs.Count.{how_many}
 use Rattle.join.specs.Rule.{Placed, All}
 use Rattle.join.specs.Join.{same_cell}
 use Rattle.join.specs.Sheets.{labelled}
-use Rattle.join_sheet.specs.Held.{held_labels, HeldSecond, HeldSets, Outcome, outcome, join_on}
+use Rattle.join_sheet.specs.Held.{held_labels, HeldSecond, HeldSets, Outcome, join_on}
 use Rattle.join_sheet.specs.declared.Joining.{Joining}
 use Rattle.frame_line.specs.Lines.{CornerLine, LabelLine, ShadeLine, PassLine}
 use Rattle.frame_line.specs.Table.{turn_at}
@@ -19,15 +19,19 @@ use Rattle.frame_line.specs.declared.HeldLine.{HeldLine}
 use Rattle.frame_line.specs.declared.Turn.{Turn}
 use Rattle.frame_check.specs.Checks.{is_set, has_place, checked_held}
 use Rattle.sizes.specs.Sizes.{corner_limit, place_count, used_count, second_count, pass_size, all_pass_words}
-use Rattle.frame_state.specs.State.{Counted, at_stage, Arrays, State, state, adds}
+use Rattle.frame_state.specs.State.{Counted, at_stage, Arrays, arrays, State, adds}
 use Rattle.frame_state.specs.declared.Progress.{Progress}
 use Rattle.frame.specs.Frame.{Frame, Parts, parts_of, some_of, placed, FrameRead, refused_at, accepted}
 use Rattle.frame.specs.Text.{Sound, Apart}
 use Rattle.frame.specs.ReadFrame.{float_of, settings_in, shaded, sheet_of, all_words, Buffers}
-use Rattle.frame.specs.declared.Stepped.{Stepped}
-use Rattle.frame.specs.declared.LinesRead.{LinesRead}
+use Rattle.frame.specs.declared.FrameRefusal.{FrameRefusal}
+use Rattle.frame.specs.declared.Held.{Held}
 
 -- ---- what the arrays hold
+
+-- the arrays that are held
+abbrev pub arrays_in : Held → Arrays
+arrays_in h = arrays h.xs h.ys h.pitches h.shades h.sheet h.used h.second h.passes
 
 abbrev pub xs_in : List CornerLine → List Float
 xs_in cs = map (λ c. float_of c.x) cs
@@ -123,16 +127,16 @@ pub record Room (p : Progress) (a : Arrays) : Type 0 where
 
 -- what a line leads to, and the arrays after it
 pub record Went : Type 0 where
-  pub answer : Stepped
+  pub answer : Result Progress Refusal
   pub held : Arrays
 
-abbrev pub went : Stepped → Arrays → Went
+abbrev pub went : Result Progress Refusal → Arrays → Went
 went r a = record { answer = r; held = a }
 
 abbrev pub held_by : Turn → Checked → State → Arrays → Went
-held_by Turn.No checked s a = went (Stepped.Stopped Refusal.Malformed) a
-held_by (Turn.To stage) Checked.Fine s a = went (Stepped.Onward (at_stage s.progress stage)) s.held
-held_by (Turn.To stage) (Checked.Refused r) s a = went (Stepped.Stopped r) a
+held_by Turn.No checked s a = went (Err Refusal.Malformed) a
+held_by (Turn.To stage) Checked.Fine s a = went (Ok (at_stage s.progress stage)) s.held
+held_by (Turn.To stage) (Checked.Refused r) s a = went (Err r) a
 
 -- the line is checked in its turn, and added if it is fine
 unfoldable pub held_step : HeldLine → State → Went
@@ -152,21 +156,21 @@ pub record Finishable (p : Progress) (sheet used second : List ℕ) : Type 0 whe
 -- what the end leads to, and the sheet after it
 pub record Finished : Type 0 where
   pub sheet : List ℕ
-  pub answer : LinesRead
+  pub answer : Result Progress FrameRefusal
 
-abbrev pub finished : List ℕ → LinesRead → Finished
+abbrev pub finished : List ℕ → Result Progress FrameRefusal → Finished
 finished sheet r = record { sheet = sheet; answer = r }
 
-abbrev pub finished_as : Progress → Joining → LinesRead
-finished_as p Joining.Fine = LinesRead.Whole p
-finished_as p (Joining.Refused r) = LinesRead.Refused r (5 + p.corners + p.labels)
+abbrev pub finished_as : Progress → Joining → Result Progress FrameRefusal
+finished_as p Joining.Fine = Ok p
+finished_as p (Joining.Refused r) = Err (record { refusal = r; line = 5 + p.corners + p.labels })
 
 abbrev pub finished_by : Progress → Outcome → Finished
 finished_by p o = finished o.sheet (finished_as p o.answer)
 
 -- the second set is joined to the first where the patch line stands
 abbrev pub finish_on : Bool → Progress → List ℕ → List Placed → Finished
-finish_on false p sheet second = finished sheet (LinesRead.Whole p)
+finish_on false p sheet second = finished sheet (Ok p)
 finish_on true p sheet second = finished_by p (join_on sheet second)
 
 -- ---- all lines
@@ -181,9 +185,9 @@ pub record FrameDone (f : Frame) (p : Progress) (a : Arrays) : Type 0 where
   pub passes : HoldsPasses (parts_of f).passes p.passes a.passes
 
 -- a frame read as the definition reads it: the same refusal at the same line, or the frame held
-pub data ReadAs : FrameRead → LinesRead → Arrays → Type 0 where
-  refused_as : {a : Arrays} (r : Refusal) (n : ℕ) → ReadAs (refused_at r n) (LinesRead.Refused r n) a
-  held_as : {a : Arrays} (f : Frame) (p : Progress) → FrameDone f p a → ReadAs (accepted f) (LinesRead.Whole p) a
+pub data ReadAs : FrameRead → Result Progress FrameRefusal → Arrays → Type 0 where
+  refused_as : {a : Arrays} (r : Refusal) (n : ℕ) → ReadAs (refused_at r n) (Err (record { refusal = r; line = n })) a
+  held_as : {a : Arrays} (f : Frame) (p : Progress) → FrameDone f p a → ReadAs (accepted f) (Ok p) a
 
 -- ---- the lent buffers
 
@@ -197,9 +201,3 @@ pub record LongEnough (b : Buffers) : Type 0 where
 
 abbrev pub buffers : List Float → List Float → List Float → List ℕ → List ℕ → List ℕ → Buffers
 buffers xs ys pitches shades sheet passes = record { xs = xs; ys = ys; pitches = pitches; shades = shades; sheet = sheet; passes = passes }
-
--- the first n of `size` entries have room in a buffer
-pub record Copies {A : Type 0} (size n : ℕ) (from to : List A) : Type 0 where
-  pub whole : length from ≡ size
-  pub some : n ≤ size
-  pub room : size ≤ length to

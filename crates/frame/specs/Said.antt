@@ -3,11 +3,7 @@
 use Rattle.std.specs.Prelude.{cond, List, [], ◌∷◌, ℕ, length}
 use Rattle.refusal.specs.Refusal.{number_of}
 use Rattle.refusal.specs.Said.{Value, whole, float, Said, number_and_line, values}
-use Rattle.predict.specs.declared.Grid.{Grid}
-use Rattle.predict.specs.declared.Vector.{Vector}
-use Rattle.arguments.specs.declared.Settings.{Settings}
-use Rattle.frame_line.specs.Lines.{Axes}
-use Rattle.frame.specs.Frame.{Frame, Parts, parts_of, FrameRead, refused_at, accepted, read_frame}
+use Rattle.frame.specs.Frame.{Parts, parts_of, FrameRead, refused_at, accepted, read_frame}
 use Rattle.frame.specs.ReadFrame.{float_of, Buffers, too_short}
 use Rattle.frame.specs.declared.FrameHead.{FrameHead}
 use Rattle.frame.specs.declared.FrameAnswer.{FrameAnswer}

@@ -4,24 +4,22 @@
 
 #![tactic(auto)]
 
-ghost use Rattle.std.specs.Prelude.{◌≡◌, ◌||◌, [], ltb, take};
+ghost use Rattle.std.specs.Prelude.{◌≡◌, ◌≤◌, [], length};
 ghost use Rattle.frame_line.specs.Lines.{read_line};
 ghost use Rattle.frame_line.specs.Held.{held_read};
 ghost use Rattle.line_form.specs.Lines.{lines_of};
-ghost use Rattle.sizes.specs.Sizes.{corner_limit, place_count, all_pass_words};
 ghost use Rattle.join_sheet.specs.Held.{held_labels};
-ghost use Rattle.frame_state.specs.State.{nothing_said, arrays, state};
+ghost use Rattle.frame_state.specs.State.{nothing_said, state};
 ghost use Rattle.arguments.specs.Front.{over};
 ghost use Rattle.frame.specs.Frame.{no_parts, read_lines};
-ghost use Rattle.frame.specs.ReadFrame.{frame_out, leaves, read_into};
+ghost use Rattle.frame.specs.ReadFrame.{frame_out, too_short, leaves, read_into};
 ghost use Rattle.frame.specs.Said.{frame_said, frame_due};
-ghost use Rattle.frame.specs.Reading.{FrameHeld, Room, went, held_step, Finishable, finished, finish_on, ReadAs, buffers, Copies, LongEnough};
+ghost use Rattle.frame.specs.Reading.{arrays_in, FrameHeld, Room, went, held_step, Finishable, finished, finish_on, ReadAs, buffers, LongEnough};
 
 use arguments::{Checked, Settings};
 use frame_line::Turn;
 use frame_state::Progress;
 use join_sheet::Joining;
-use line_form::text::line_end;
 use refusal::Refusal;
 use sizes::{ALL_PASS_WORDS, BYTES, CORNERS, PASS_WORDS, PLACES, SECOND, USED};
 
@@ -40,54 +38,63 @@ pub enum FrameAnswer {
     Refused(Refusal, usize),
 }
 
-// What a line leads to: a refusal, or what is said after it.
+// A refusal with its line, 0 where it is about no line.
 #[derive(Clone, Copy)]
-enum Stepped {
-    Stopped(Refusal),
-    Onward(Progress),
+pub struct FrameRefusal {
+    pub refusal: Refusal,
+    pub line: usize,
 }
 
-// What all lines lead to: a refusal with its line, or what is said in the end.
-#[derive(Clone, Copy)]
-enum LinesRead {
-    Refused(Refusal, usize),
-    Whole(Progress),
+// The arrays in which a frame is held until it is accepted.
+#[derive(Drop)]
+struct Held {
+    xs: [f32; CORNERS],
+    ys: [f32; CORNERS],
+    pitches: [f32; CORNERS],
+    shades: [u8; CORNERS],
+    sheet: [u16; PLACES],
+    used: [u8; USED],
+    second: [u16; SECOND],
+    passes: [u32; ALL_PASS_WORDS],
 }
 
 // One line is read and checked in its turn, and added if it is fine.
-fn step_line(
-    p: Progress,
-    xs: &mut [f32; CORNERS],
-    ys: &mut [f32; CORNERS],
-    pitches: &mut [f32; CORNERS],
-    shades: &mut [u8; CORNERS],
-    sheet: &mut [u16; PLACES],
-    used: &mut [u8; USED],
-    second: &mut [u16; SECOND],
-    passes: &mut [u32; ALL_PASS_WORDS],
-    line: &[u8],
-) -> Stepped
-    requires { Room p (arrays xs.old ys.old pitches.old shades.old sheet.old used.old second.old passes.old) }
-    ensures { went result (arrays xs.new ys.new pitches.new shades.new sheet.new used.new
-        second.new passes.new) ≡ held_step (held_read (read_line line.now)) (state p (arrays xs.old
-        ys.old pitches.old shades.old sheet.old used.old second.old
-        passes.old)) }
+#[tactic(auto, using(crate::proofs::Turn::step_row, crate::proofs::Turn::step_addable), unfolding(crate::specs::Reading::held_step))]
+fn step_line(p: Progress, held: &mut Held, line: &[u8]) -> Result<Progress, Refusal>
+    requires { Room p (arrays_in held.old) }
+    ensures { went result (arrays_in held.new)
+        ≡ held_step (held_read (read_line line.now)) (state p (arrays_in held.old)) }
 {
     let found = frame_line::read_line(line);
-    let turn = frame_line::turn_at(p.stage, found.row);
-    match turn {
-        Turn::No => Stepped::Stopped(Refusal::Malformed),
+    match frame_line::turn_at(p.stage, found.row) {
+        Turn::No => Err(Refusal::Malformed),
         Turn::To(stage) => {
-            let checked = frame_check::check_line(
-                p.corners, p.passes, p.patched, shades, sheet, used, second, p.second, found,
-            );
-            match checked {
-                Checked::Refused(refusal) => Stepped::Stopped(refusal),
+            match frame_check::check_line(
+                p.corners,
+                p.passes,
+                p.patched,
+                &held.shades,
+                &held.sheet,
+                &held.used,
+                &held.second,
+                p.second,
+                found,
+            ) {
+                Checked::Refused(refusal) => Err(refusal),
                 Checked::Fine => {
                     let next = frame_state::add_line(
-                        p, xs, ys, pitches, shades, sheet, used, second, passes, found,
+                        p,
+                        &mut held.xs,
+                        &mut held.ys,
+                        &mut held.pitches,
+                        &mut held.shades,
+                        &mut held.sheet,
+                        &mut held.used,
+                        &mut held.second,
+                        &mut held.passes,
+                        found,
                     );
-                    Stepped::Onward(frame_state::at_stage(next, stage))
+                    Ok(frame_state::at_stage(next, stage))
                 }
             }
         }
@@ -101,147 +108,67 @@ fn finish(
     sheet: &mut [u16; PLACES],
     used: &[u8; USED],
     second: &[u16; SECOND],
-) -> LinesRead
+) -> Result<Progress, FrameRefusal>
     requires { Finishable p sheet.old used.now second.now }
     ensures { finished sheet.new result ≡ finish_on p.patched p sheet.old (held_labels second.now p.second) }
 {
     if !p.patched {
-        return LinesRead::Whole(p);
+        return Ok(p);
     }
-    let joining = join_sheet::join_sets(sheet, used, second, p.second);
-    match joining {
-        Joining::Fine => LinesRead::Whole(p),
-        Joining::Refused(refusal) => LinesRead::Refused(refusal, 5 + p.corners + p.labels),
+    match join_sheet::join_sets(sheet, used, second, p.second) {
+        Joining::Fine => Ok(p),
+        Joining::Refused(refusal) => Err(FrameRefusal {
+            refusal,
+            line: 5 + p.corners + p.labels,
+        }),
     }
 }
 
 // All lines, from the top. A line that is missing counts as the one after the last.
-fn read_lines(
-    text: &[u8],
-    xs: &mut [f32; CORNERS],
-    ys: &mut [f32; CORNERS],
-    pitches: &mut [f32; CORNERS],
-    shades: &mut [u8; CORNERS],
-    sheet: &mut [u16; PLACES],
-    used: &mut [u8; USED],
-    second: &mut [u16; SECOND],
-    passes: &mut [u32; ALL_PASS_WORDS],
-) -> LinesRead
-    requires { FrameHeld no_parts (state nothing_said
-        (arrays xs.old ys.old pitches.old shades.old sheet.old used.old second.old passes.old)) }
-    ensures { ReadAs (read_lines 1 0 [] (lines_of text.now)) result (arrays xs.new ys.new pitches.new
-        shades.new sheet.new used.new second.new passes.new) }
+fn read_lines(text: &[u8], held: &mut Held) -> Result<Progress, FrameRefusal>
+    requires { FrameHeld no_parts (state nothing_said (arrays_in held.old)) }
+    ensures { ReadAs (read_lines 1 0 [] (lines_of text.now)) result (arrays_in held.new) }
 {
     let mut p = frame_state::start();
     let mut n = 1usize;
-    let mut at = 0usize;
-    while at < text.len() {
-        let end = line_end(text, at);
-        let stepped = step_line(
-            p,
-            xs,
-            ys,
-            pitches,
-            shades,
-            sheet,
-            used,
-            second,
-            passes,
-            &text[at..end],
-        );
-        match stepped {
-            Stepped::Stopped(refusal) => {
-                return LinesRead::Refused(refusal, n);
-            }
-            Stepped::Onward(next) => {
-                p = next;
-                n += 1;
-                at = end;
-            }
-        }
+    for line in text.split_inclusive(|b| *b == b'\n') {
+        p = step_line(p, held, line).map_err(|refusal| FrameRefusal { refusal, line: n })?;
+        n += 1;
     }
-    if frame_line::may_end(p.stage) {
-        return finish(p, sheet, used, second);
+    if !frame_line::may_end(p.stage) {
+        return Err(FrameRefusal {
+            refusal: Refusal::Malformed,
+            line: n,
+        });
     }
-    LinesRead::Refused(Refusal::Malformed, n)
+    finish(p, &mut held.sheet, &held.used, &held.second)
 }
 
-// The first n floats are copied to the front of a buffer.
-fn copy_floats(from: &[f32; CORNERS], n: usize, to: &mut [f32])
-    requires { Copies corner_limit n from.now to.old }
-    ensures { to.new ≡ over (take n from.now) to.old }
+// Entries are copied to the front of a buffer.
+fn copy_front<T: Copy>(from: &[T], to: &mut [T])
+    requires { length from.now ≤ length to.old }
+    ensures { to.new ≡ over from.now to.old }
 {
-    let mut i = 0usize;
-    while i < n {
-        to[i] = from[i];
-        i += 1;
-    }
+    to[..from.len()].copy_from_slice(from);
 }
 
-// The first n bytes are copied to the front of a buffer.
-fn copy_bytes(from: &[u8; CORNERS], n: usize, to: &mut [u8])
-    requires { Copies corner_limit n from.now to.old }
-    ensures { to.new ≡ over (take n from.now) to.old }
-{
-    let mut i = 0usize;
-    while i < n {
-        to[i] = from[i];
-        i += 1;
-    }
-}
-
-// The sheet is copied to the front of a buffer.
-fn copy_sheet(from: &[u16; PLACES], to: &mut [u16])
-    requires { Copies place_count place_count from.now to.old }
-    ensures { to.new ≡ over (take place_count from.now) to.old }
-{
-    let mut i = 0usize;
-    while i < PLACES {
-        to[i] = from[i];
-        i += 1;
-    }
-}
-
-// The first n words are copied to the front of a buffer.
-fn copy_words(from: &[u32; ALL_PASS_WORDS], n: usize, to: &mut [u32])
-    requires { Copies all_pass_words n from.now to.old }
-    ensures { to.new ≡ over (take n from.now) to.old }
-{
-    let mut i = 0usize;
-    while i < n {
-        to[i] = from[i];
-        i += 1;
-    }
-}
-
-// 7: whether a lent buffer is too short, by the lengths.
+// 7: whether a lent buffer is too short.
 fn too_short(
-    xs: usize,
-    ys: usize,
-    pitches: usize,
-    shades: usize,
-    sheet: usize,
-    passes: usize,
+    xs: &[f32],
+    ys: &[f32],
+    pitches: &[f32],
+    shades: &[u8],
+    sheet: &[u16],
+    passes: &[u32],
 ) -> bool
-    ensures { result ≡ (ltb xs corner_limit || (ltb ys corner_limit || (ltb pitches corner_limit || (ltb shades corner_limit
-        || (ltb sheet place_count || ltb passes all_pass_words))))) }
+    ensures { result ≡ too_short (buffers xs.now ys.now pitches.now shades.now sheet.now passes.now) }
 {
-    if xs < CORNERS {
-        return true;
-    }
-    if ys < CORNERS {
-        return true;
-    }
-    if pitches < CORNERS {
-        return true;
-    }
-    if shades < CORNERS {
-        return true;
-    }
-    if sheet < PLACES {
-        return true;
-    }
-    passes < ALL_PASS_WORDS
+    xs.len() < CORNERS
+        || ys.len() < CORNERS
+        || pitches.len() < CORNERS
+        || shades.len() < CORNERS
+        || sheet.len() < PLACES
+        || passes.len() < ALL_PASS_WORDS
 }
 
 // A text that is not too long, with buffers that are long enough.
@@ -259,37 +186,27 @@ fn read_text(
         ≡ leaves (read_lines 1 0 [] (lines_of text.now)) (buffers xs.old ys.old pitches.old shades.old
         sheet.old passes.old) }
 {
-    let mut own_xs = [0.0f32; CORNERS];
-    let mut own_ys = [0.0f32; CORNERS];
-    let mut own_pitches = [0.0f32; CORNERS];
-    let mut own_shades = [0u8; CORNERS];
-    let mut own_sheet = [0u16; PLACES];
-    let mut own_used = [0u8; USED];
-    let mut own_second = [0u16; SECOND];
-    let mut own_passes = [0u32; ALL_PASS_WORDS];
-    let read = read_lines(
-        text,
-        &mut own_xs,
-        &mut own_ys,
-        &mut own_pitches,
-        &mut own_shades,
-        &mut own_sheet,
-        &mut own_used,
-        &mut own_second,
-        &mut own_passes,
-    );
-    match read {
-        LinesRead::Refused(refusal, line) => FrameAnswer::Refused(refusal, line),
-        LinesRead::Whole(p) => {
-            copy_floats(&own_xs, p.corners, xs);
-            copy_floats(&own_ys, p.corners, ys);
-            copy_floats(&own_pitches, p.corners, pitches);
-            copy_bytes(&own_shades, p.corners, shades);
-            copy_sheet(&own_sheet, sheet);
-            copy_words(&own_passes, PASS_WORDS * p.passes, passes);
-            let settings = p.settings;
+    let mut held = Held {
+        xs: [0.0; CORNERS],
+        ys: [0.0; CORNERS],
+        pitches: [0.0; CORNERS],
+        shades: [0; CORNERS],
+        sheet: [0; PLACES],
+        used: [0; USED],
+        second: [0; SECOND],
+        passes: [0; ALL_PASS_WORDS],
+    };
+    match read_lines(text, &mut held) {
+        Err(refused) => FrameAnswer::Refused(refused.refusal, refused.line),
+        Ok(p) => {
+            copy_front(&held.xs[..p.corners], xs);
+            copy_front(&held.ys[..p.corners], ys);
+            copy_front(&held.pitches[..p.corners], pitches);
+            copy_front(&held.shades[..p.corners], shades);
+            copy_front(&held.sheet, sheet);
+            copy_front(&held.passes[..PASS_WORDS * p.passes], passes);
             FrameAnswer::Accepted(FrameHead {
-                settings,
+                settings: p.settings,
                 corners: p.corners,
                 passes: p.passes,
             })
@@ -301,6 +218,7 @@ fn read_text(
 // a byte each (0 none, 1 kind 0, 2 kind 1), the sheet of its given labels, joined where there are two sets, to the first 16,384 places of the
 // fifth, and its passes, six words each, to the front of the last; the rest of them stays. A refused one writes nothing, and the answer has the
 // refusal and the line, 0 where it is about no line. `said` is the same answer in 01's number with the line, or values.
+#[tactic(auto, using(crate::proofs::Leaving::long_enough, crate::proofs::Leaving::due_said), unfolding(crate::specs::ReadFrame::read_into, crate::specs::Frame::read_frame))]
 pub fn read_frame(
     text: &[u8],
     xs: &mut [f32],
@@ -316,14 +234,7 @@ pub fn read_frame(
     ensures said { frame_said result ≡ frame_due text.now
         (buffers xs.old ys.old pitches.old shades.old sheet.old passes.old) }
 {
-    if too_short(
-        xs.len(),
-        ys.len(),
-        pitches.len(),
-        shades.len(),
-        sheet.len(),
-        passes.len(),
-    ) {
+    if too_short(xs, ys, pitches, shades, sheet, passes) {
         return FrameAnswer::Refused(Refusal::BufferTooShort, 0);
     }
     if BYTES < text.len() {

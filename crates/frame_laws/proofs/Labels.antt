@@ -1,5 +1,6 @@
 -- The sheet of a frame's given labels: each given label's cell holds its corner, no other cell holds one, and there are no marks. So it belongs
 -- to the frame's corners, each corner at one cell. Assumes nothing.
+use Rattle.std.specs.Prelude.{Some}
 use mathlib.Core.Path.{◌≡◌, refl, sym, ap, subst, ◌∙◌}
 use mathlib.Core.Bool.{Bool, true, false}
 use mathlib.Core.List.Memᴰ
@@ -10,7 +11,6 @@ use lib.IntN.{nat_abs}
 use lib.ListN.{length, get_or}
 use Rattle.sheet.specs.Cells.{cell_of, place_of}
 use Rattle.sheet.specs.Words.{empty_sheet, label_of}
-use Rattle.sheet.specs.declared.Label.{Label}
 use Rattle.sheet.proofs.Laws.{cell_on_lem, place_cell}
 use Rattle.sheet.proofs.Words.{label_on}
 use Rattle.labels.specs.Used.{OneCell}
@@ -127,11 +127,11 @@ module _ (f : Frame) (w : WithinLimits f) where
   sheet_long = set_long given
 
   -- the label of a place
-  named_at : (p k : ℕ) → p < place_count → label_of (get_or (sheet_of f) p 0) ≡ Label.Corner k → Memᴰ (record { corner = k; cell = cell_of p }) given
+  named_at : (p k : ℕ) → p < place_count → label_of (get_or (sheet_of f) p 0) ≡ Some k → Memᴰ (record { corner = k; cell = cell_of p }) given
   named_at p k h e =
       held.only (cell_of p) k (label_on (sheet_of f) (cell_of p) (cell_on_lem p h) ∙ ap (λ (q : ℕ). label_of (get_or (sheet_of f) q 0)) (place_cell p h) ∙ e)
 
-  pub corner_known : (p k : ℕ) → p < place_count → label_of (get_or (sheet_of f) p 0) ≡ Label.Corner k → k < length (parts_of f).corners
+  pub corner_known : (p k : ℕ) → p < place_count → label_of (get_or (sheet_of f) p 0) ≡ Some k → k < length (parts_of f).corners
   corner_known p k h e = given_fine.known _ (named_at p k h e)
 
   pub one_cell : OneCell (sheet_of f)

@@ -1,12 +1,11 @@
 -- What an accepted frame starts (document 01, "Lists of passes, for demand 3"): "It starts from an accepted frame's corners and the sheet of
 -- its given labels, those of the label lines"; and "a frame's passes are one such list". Document 02, 3/14: "passes run on the union, which then is the
 -- given labels". Definitions only.
-use Rattle.std.specs.Prelude.{◌≡◌, true, false, ℕ, ◌*◌}
+use Rattle.std.specs.Prelude.{◌≡◌, true, false, ℕ, ◌*◌, Some}
 use mathlib.Core.List.{List, [], ◌∷◌, Memᴰ, map}
 use Rattle.sheet.specs.Corners.{CornerLists}
 use Rattle.sheet.specs.Words.{label_at, hole_at, ambiguous_at}
 use Rattle.sheet.specs.declared.Cell.{Cell}
-use Rattle.sheet.specs.declared.Label.{Label}
 use Rattle.sheet.specs.declared.Offset.{Offset}
 use Rattle.passes.specs.Outcome.{Outcome, refused, done}
 use Rattle.passes.specs.Step.{Rooms}
@@ -38,8 +37,8 @@ pub record JoinedSets (first second u : List Placed) : Type 0 where
 -- each given label's cell holds its corner, no other cell holds one, and "The frame starts with no marks"; the given labels are those of the label lines,
 -- or, where the patch line stands, the union of both sets
 pub record GivenLabels (f : Frame) : Type 0 where
-  pub each : (l : Placed) → Memᴰ l (given_of (parts_of f)) → label_at (sheet_of f) l.cell ≡ Label.Corner l.corner
-  pub only : (c : Cell) (k : ℕ) → label_at (sheet_of f) c ≡ Label.Corner k → Memᴰ (record { corner = k; cell = c }) (given_of (parts_of f))
+  pub each : (l : Placed) → Memᴰ l (given_of (parts_of f)) → label_at (sheet_of f) l.cell ≡ Some l.corner
+  pub only : (c : Cell) (k : ℕ) → label_at (sheet_of f) c ≡ Some k → Memᴰ (record { corner = k; cell = c }) (given_of (parts_of f))
   pub no_hole : (c : Cell) → hole_at (sheet_of f) c ≡ false
   pub no_ambiguous : (c : Cell) → ambiguous_at (sheet_of f) c ≡ false
   pub one_set : (parts_of f).patched ≡ false → given_of (parts_of f) ≡ first_set (parts_of f)

@@ -1,3 +1,2 @@
 -- The laws of a frame's passes.
 pub mod Running
-pub mod Words

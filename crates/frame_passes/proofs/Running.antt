@@ -1,22 +1,19 @@
 -- What a pass leaves of the sheet and of the outcomes' words. Assumes nothing.
-use mathlib.Core.Path.{◌≡◌, refl, sym, ap, ◌∙◌, subst}
+use mathlib.Core.Path.{◌≡◌, refl, sym, ap, ◌∙◌}
 use mathlib.Core.List.{List}
 use Prim.Native.Nat.{ℕ, suc, ◌-◌, ◌<◌, ◌≤◌}
 use native.Mathlib.Omega.{arith}
 use native.Mathlib.Nat.{sub-zero}
-use lib.ListN.{length}
 use Rattle.sheet.specs.Corners.{CornerLists}
-use Rattle.arguments.specs.declared.Pass.{Pass}
-use Rattle.arguments.specs.declared.Settings.{Settings}
-use Rattle.passes.specs.Outcome.{After, Outcome, refused, done}
+use Rattle.passes.specs.Outcome.{Outcome, refused, done}
 use Rattle.passes.specs.Run.{Call, PassStats, grow_stats, fill_stats, local_stats, step, sheet_after}
 use Rattle.passes.specs.declared.Counts.{Counts}
 use Rattle.passes.specs.declared.PassAnswer.{PassAnswer}
 use Rattle.passes.specs.declared.Unmatched.{Unmatched}
-use Rattle.count_bounds.specs.Bounds.{FewCounts, FewUnmatched, Small, small_grow, small_fill, small_local}
-use Rattle.pass_call.specs.Call.{call_of, done_answer, PassOut, pass_out, pass_leaves, SmallAnswer}
+use Rattle.count_bounds.specs.Bounds.{FewCounts, FewUnmatched, small_grow, small_fill, small_local}
+use Rattle.pass_call.specs.Call.{done_answer, PassOut, pass_out, pass_leaves, SmallAnswer}
 use Rattle.report_words.specs.Asked.{with_outcome, CountsFit, UnmatchedFits, AnswerFits, with_answer}
-use Rattle.frame_passes.specs.Running.{pass_at, call_at, noted, Left, left, left_by, left_by_all}
+use Rattle.frame_passes.specs.Running.{noted, Left, left, left_by, left_by_all}
 
 -- ---- one pass
 
@@ -68,40 +65,3 @@ one_run l call n k first now h g = record { upto = h; rest = (let e : n - k ≡ 
 pub all_run : (l : CornerLists) (call : ℕ → Call) (n k : ℕ) (first now : Left) → n ≤ k → Going l call n k first now → now ≡ left_by_all l call n 0 first
 unfolding left_by_all
 all_run l call n k first now h g = (let e : n - k ≡ 0 = omega arith in ap (λ (m : ℕ). left_by_all l call m k now) (sym e)) ∙ g.rest
-
--- the loop over the passes: where it goes, and the buffers as long as they were
-pub record Turning (l : CornerLists) (set : Settings) (shades passes : List ℕ) (n : ℕ) (sheet₀ queue₀ attached₀ words₀ sheet queue attached words : List ℕ) (k : ℕ) : Type 0 where
-  pub going : Going l (call_at set shades (length queue₀) (length attached₀) passes) n k (left sheet₀ words₀) (left sheet words)
-  pub same_sheet : length sheet ≡ length sheet₀
-  pub same_queue : length queue ≡ length queue₀
-  pub same_attached : length attached ≡ length attached₀
-  pub same_words : length words ≡ length words₀
-
-pub first_turn : (l : CornerLists) (set : Settings) (shades passes : List ℕ) (n : ℕ) (sheet queue attached words : List ℕ)
-    → Turning l set shades passes n sheet queue attached words sheet queue attached words 0
-first_turn l set shades passes n sheet queue attached words =
-    record { going = none_run l (call_at set shades (length queue) (length attached) passes) n (left sheet words); same_sheet = refl; same_queue = refl; same_attached = refl; same_words = refl }
-
-pub next_turn : (l : CornerLists) (set : Settings) (shades passes : List ℕ) (n : ℕ) (sheet₀ queue₀ attached₀ words₀ sheet queue attached words : List ℕ) (k : ℕ)
-    → Turning l set shades passes n sheet₀ queue₀ attached₀ words₀ sheet queue attached words k → k < n
-    → (pass : Pass) → pass ≡ pass_at passes k → (sheet' queue' attached' words' : List ℕ)
-    → length sheet' ≡ length sheet → length queue' ≡ length queue → length attached' ≡ length attached → length words' ≡ length words
-    → left sheet' words' ≡ left_by l (call_of set shades (length queue) (length attached) pass) k (left sheet words)
-    → Turning l set shades passes n sheet₀ queue₀ attached₀ words₀ sheet' queue' attached' words' (suc k)
-next_turn l set shades passes n sheet₀ queue₀ attached₀ words₀ sheet queue attached words k t h pass e sheet' queue' attached' words' a b c d f =
-    record {
-      going = subst (Going l (call_at set shades (length queue₀) (length attached₀) passes) n (suc k) (left sheet₀ words₀)) (sym so) (one_run l (call_at set shades (length queue₀) (length attached₀) passes) n k (left sheet₀ words₀) (left sheet words) h t.going);
-      same_sheet = a ∙ t.same_sheet;
-      same_queue = b ∙ t.same_queue;
-      same_attached = c ∙ t.same_attached;
-      same_words = d ∙ t.same_words;
-    }
-  where
-    so : left sheet' words' ≡ left_by l (call_at set shades (length queue₀) (length attached₀) passes k) k (left sheet words)
-    so = f ∙ rw (e, t.same_queue, t.same_attached) refl
-
-pub last_turn : (l : CornerLists) (set : Settings) (shades passes : List ℕ) (n : ℕ) (sheet₀ queue₀ attached₀ words₀ sheet queue attached words : List ℕ) (k : ℕ)
-    → Turning l set shades passes n sheet₀ queue₀ attached₀ words₀ sheet queue attached words k → n ≤ k
-    → left sheet words ≡ left_by_all l (call_at set shades (length queue₀) (length attached₀) passes) n 0 (left sheet₀ words₀)
-last_turn l set shades passes n sheet₀ queue₀ attached₀ words₀ sheet queue attached words k t h =
-    all_run l (call_at set shades (length queue₀) (length attached₀) passes) n k (left sheet₀ words₀) (left sheet words) h t.going

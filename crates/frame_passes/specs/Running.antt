@@ -1,5 +1,5 @@
 -- The passes of a frame, run in order on one sheet (document 01, "Lists of passes, for demand 3": "a frame's passes are one such list"). Definitions only.
-use Rattle.std.specs.Prelude.{cond, List, ℕ, zero, suc, ◌+◌, ◌*◌, ◌<◌, ◌≤◌, eqb, length, get_or, Float}
+use Rattle.std.specs.Prelude.{cond, List, ℕ, zero, suc, ◌+◌, ◌*◌, ◌≤◌, eqb, length, get_or, Float}
 use Rattle.sheet.specs.Corners.{CornerLists}
 use Rattle.arguments.specs.declared.Pass.{Pass}
 use Rattle.arguments.specs.declared.Settings.{Settings}
@@ -7,7 +7,7 @@ use Rattle.passes.specs.Outcome.{Outcome, refused, done}
 use Rattle.passes.specs.Run.{Call, PassStats, step, sheet_after}
 use Rattle.pass_call.specs.Call.{call_of}
 use Rattle.frame.specs.ReadFrame.{grow_of, fill_of, local_of}
-use Rattle.sizes.specs.Sizes.{pass_limit, pass_size, all_pass_words, all_outcome_words}
+use Rattle.sizes.specs.Sizes.{pass_limit, pass_size, all_pass_words}
 use Rattle.report_words.specs.Asked.{with_outcome}
 
 -- ---- a pass from its six words: kind (0 grow, 1 fill, 2 local), search, factor, boundary or residual, rounds, depth
@@ -47,12 +47,7 @@ unfoldable pub left_by_all : CornerLists → (ℕ → Call) → ℕ → ℕ → 
 left_by_all l call zero k s = s
 left_by_all l call (suc n) k s = left_by_all l call n (suc k) (left_by l (call k) k s)
 
--- ---- what the inner functions ask
-
--- room for the words of outcome k
-pub record RoomFor (k : ℕ) (words : List ℕ) : Type 0 where
-  pub below : k < pass_limit
-  pub long : all_outcome_words ≤ length words
+-- ---- what is asked of the buffers
 
 -- n passes of six words each
 pub record PassWords (n : ℕ) (passes : List ℕ) : Type 0 where

@@ -1,24 +1,27 @@
 -- Laws of grow as the code holds it: a cell settled, by what was found there; the run, a cell at a time; the call, refused or done.
 -- Assumes nothing.
-use mathlib.Core.Path.{◌≡◌, refl, sym, ap, ◌∙◌, subst}
+use mathlib.Core.Path.{◌≡◌, refl, sym, ap, ap₂, ◌∙◌, subst}
 use mathlib.Core.Bool.{Bool, true, false, cond}
-use mathlib.Core.List.{List, []}
+use mathlib.Core.List.{List}
+use mathlib.Core.Logic.{◌⊎◌, inl, inr}
 use Prim.Native.Nat.{ℕ, zero, suc, ◌+◌, ◌-◌, ◌*◌, ◌<◌, ◌≤◌}
 use native.Mathlib.Omega.{arith}
 use lib.Dec.{ltb}
 use lib.ListN.{length, get_or, take, set, length-set}
-use lib.Seq.{length-take-le}
 use lib.Ieee.{Float}
+use Rattle.std.specs.Prelude.{Option, None, Some}
+use Rattle.std.proofs.Common.{Bor}
 use Rattle.refusal.specs.declared.Refusal.{Refusal}
-use Rattle.sheet.specs.Cells.{place_of, cell_of}
+use Rattle.sheet.specs.Cells.{OnSheet, place_of, cell_of}
 use Rattle.sheet.specs.Words.{attached, hole_marked, ambiguous_marked}
-use Rattle.sheet.specs.Corners.{Corners, CornerLists, seen_of, Given}
+use Rattle.sheet.specs.Corners.{Corners, CornerLists, seen_of, Given, corners_in}
 use Rattle.sheet.specs.declared.Cell.{Cell}
 use Rattle.sheet.specs.declared.Position.{Position}
-use Rattle.labels.specs.Labelled.{labelled_places, label_count}
-use Rattle.labels.specs.Rim.{rim}
+use Rattle.sheet.proofs.Corners.{given_attached}
+use Rattle.labels.specs.Labelled.{SameLabels}
 use Rattle.labels.specs.Used.{used_on, Tied}
-use Rattle.labels.proofs.Used.{tied_hole, tied_ambiguous, tied_attached}
+use Rattle.labels.proofs.Labelled.{hole_keeps, ambiguous_keeps}
+use Rattle.labels.proofs.Used.{tied_attached}
 use Rattle.predict.specs.Predict.{prediction_of, extrapolating}
 use Rattle.predict.specs.declared.Prediction.{Prediction}
 use Rattle.arguments.specs.Shades.{corners_of}
@@ -39,15 +42,18 @@ use Rattle.passes.specs.Step.{grow_step, GrowOut, grow_out, grow_leaves, lent_of
 use Rattle.passes.specs.Said.{grow_values, grow_said, outcome_due}
 use Rattle.passes.specs.declared.Counts.{Counts}
 use Rattle.passes.specs.declared.GrowAnswer.{GrowAnswer}
+use Rattle.passes.specs.declared.GrowStats.{GrowStats}
 use Rattle.passes.proofs.Over.{over_length, over_at, over_read, over_own, over_put, over_over}
-use Rattle.passes.proofs.Queue.{more_length, spread_longer, seeded_longer}
+use Rattle.passes.proofs.Queue.{more_length, spread_longer}
 use Rattle.passes.proofs.Said.{grow_said_lem}
-use Rattle.passes.proofs.Enough.{Belongs, belongs_accepted, Going, Free, found_free, next_of, next_on, room_left, slot_left, queue_few, made_few, start_going, visit_going, from_ended, from_next, labels_few}
-use Rattle.grow_queue.specs.Queue.{Flagged, Room, QueueHeld, Unqueued, seeded}
-use Rattle.grow_queue.proofs.Laws.{holds_read, holds_length}
+use Rattle.passes.proofs.Enough.{Belongs, Going, Free, found_free, next_of, next_on, room_left, slot_left, queue_few, made_few, start_going, visit_going, from_ended, from_next, labels_few}
+use Rattle.grow_queue.specs.Queue.{queued, Empty, Room, QueueHeld, TakenAs, Taken, Unqueued, seeded}
+use Rattle.grow_queue.specs.declared.Queue.{Queue}
+use Rattle.grow_queue.proofs.Laws.{holds_own}
 use Rattle.arguments.specs.Front.{over}
-use Rattle.grow_extend.specs.Grow.{found_from, found_at, SmallCounts, state_of, Leaves, Spare, Attachable, Settleable, Visitable, Startable}
-use Rattle.grow_extend.specs.declared.Progress.{Progress}
+use Rattle.grow_extend.specs.Grow.{found_from, found_at, SmallCounts, held, state_of, stats_of, SameRun, Left, Leaves, Spare, Attachable, Settleable, Visitable, Startable}
+use Rattle.grow_extend.specs.declared.GrowSetup.{GrowSetup}
+use Rattle.grow_extend.specs.declared.Growing.{Growing}
 
 -- ---- what is found at a cell
 
@@ -81,92 +87,111 @@ module _ (cs : Corners) (set : Settings) (p : GrowParams) (sheet : List ℕ) (c 
 
 -- ---- a cell settled
 
-module _ {sheet queue attached used seen : List ℕ} {c : Cell} {found : TryCellResult} {at : Progress} (w : Settleable sheet queue attached used seen c found at) where
-  -- a mark set, and the counts with one more
-  marked : (after : List ℕ) (counts : Counts) → Tied after used → Leaves queue attached after queue attached used seen (record { tail = at.tail; counts = counts }) (record { sheet = after; queued = take at.tail queue; made = take at.counts.attached attached; counts = counts })
-  marked after counts t =
+-- the corners given stay so where the labels do
+given_same : {n : ℕ} {sheet after : List ℕ} → length after ≡ length sheet → SameLabels sheet after → Given n sheet → Given n after
+given_same e s g = record { long = omega (arith, g.long); known = λ p k h l. g.known p k h (sym (s.same_label p h) ∙ l) }
+
+module _ (g : Growing) (c : Cell) (on : OnSheet c) where
+  pub given_hole : Given g.count (hole_marked g.sheet.now c)
+  unfolding hole_marked
+  given_hole = given_same (length-set g.sheet.now (place_of c) _) (hole_keeps g.sheet.now c g.given.long on) g.given
+
+  pub given_ambiguous : Given g.count (ambiguous_marked g.sheet.now c)
+  unfolding ambiguous_marked
+  given_ambiguous = given_same (length-set g.sheet.now (place_of c) _) (ambiguous_keeps g.sheet.now c g.given.long on) g.given
+
+-- only marks and counts are written
+pub record MarksOnly (before after : Growing) : Type 0 where
+  pub same : SameRun before after
+  pub same_list : after.attached.now ≡ before.attached.now
+
+module _ {g after : Growing} (q : Queue) (m : MarksOnly g after) {sheet : List ℕ} {counts : Counts} where
+  marked : after.sheet.now ≡ sheet → after.counts ≡ counts → Leaves g q after q (record { sheet = sheet; queued = queued q; made = take g.counts.attached g.attached.now; counts = counts })
+  marked e n =
+      let h = holds_own q in
       record {
-        sheet_is = refl;
-        queue_is = sym (over_own queue at.tail w.queue_in);
-        attached_is = sym (over_own attached at.counts.attached w.attached_in_holds);
-        tail_is = sym (length-take-le at.tail queue w.queue_in);
-        counts_are = refl;
-        used_tied = t;
-        seen_flagged = w.seen_flagged;
+        left =
+            record {
+              same = m.same;
+              same_queue = refl;
+              sheet_is = e;
+              queue_is = h.written;
+              attached_is = m.same_list ∙ sym (over_own g.attached.now g.counts.attached g.within);
+              tail_is = h.count;
+              counts_are = n;
+            };
+        head_same = refl;
       }
 
-  module _ {counts : Counts} {after : List ℕ} where
-    pub settled_none : found ≡ TryCellResult.NoCandidates → after ≡ hole_marked sheet c → counts ≡ one_more found at.counts
-        → Leaves queue attached after queue attached used seen (record { tail = at.tail; counts = counts }) (grow_with c found (state_of sheet queue attached at))
-    unfolding grow_with
-    settled_none e m n = rw (n, m, e) (marked (hole_marked sheet c) _ (tied_hole sheet c w.long w.on w.used_tied))
+-- what marks a hole, and counts no corner
+abbrev pub NoCorner : TryCellResult → Type 0
+NoCorner found = (found ≡ TryCellResult.NoCandidates) ⊎ (found ≡ TryCellResult.EdgeRejected)
 
-    pub settled_ambiguous : found ≡ TryCellResult.Ambiguous → after ≡ ambiguous_marked sheet c → counts ≡ one_more found at.counts
-        → Leaves queue attached after queue attached used seen (record { tail = at.tail; counts = counts }) (grow_with c found (state_of sheet queue attached at))
-    unfolding grow_with
-    settled_ambiguous e m n = rw (n, m, e) (marked (ambiguous_marked sheet c) _ (tied_ambiguous sheet c w.long w.on w.used_tied))
+pub hole_counts : {found : TryCellResult} (n : Counts) → NoCorner found → (one_more found n).attached ≡ n.attached
+hole_counts n (inl e) = rw e
+hole_counts n (inr e) = rw e
 
-    pub settled_edge : found ≡ TryCellResult.EdgeRejected → after ≡ hole_marked sheet c → counts ≡ one_more found at.counts
-        → Leaves queue attached after queue attached used seen (record { tail = at.tail; counts = counts }) (grow_with c found (state_of sheet queue attached at))
-    unfolding grow_with
-    settled_edge e m n = rw (n, m, e) (marked (hole_marked sheet c) _ (tied_hole sheet c w.long w.on w.used_tied))
+module _ {g after : Growing} (q : Queue) (c : Cell) {found : TryCellResult} (m : MarksOnly g after) (n : after.counts ≡ one_more found g.counts) where
+  pub settled_hole : NoCorner found → after.sheet.now ≡ hole_marked g.sheet.now c → Leaves g q after q (grow_with c found (state_of g q))
+  unfolding grow_with
+  settled_hole (inl e) h = rw e (marked q m h (rw e at n))
+  settled_hole (inr e) h = rw e (marked q m h (rw e at n))
+
+  pub settled_ambiguous : found ≡ TryCellResult.Ambiguous → after.sheet.now ≡ ambiguous_marked g.sheet.now c → Leaves g q after q (grow_with c found (state_of g q))
+  unfolding grow_with
+  settled_ambiguous e h = rw e (marked q m h (rw e at n))
 
 -- a cell that is visited, and what was found there
-pub visit_settled : (cs : Corners) (set : Settings) (p : GrowParams) (sheet queue news : List ℕ) (c : Cell) (at : Progress) (found : TryCellResult) → found ≡ found_at cs set p sheet c
-    → (sheet' queue' news' used' seen' : List ℕ) (at' : Progress) → Leaves queue news sheet' queue' news' used' seen' at' (grow_with c found (state_of sheet queue news at))
-    → Leaves queue news sheet' queue' news' used' seen' at' (grow_visit cs set p c (state_of sheet queue news at))
-visit_settled cs set p sheet queue news c at found is sheet' queue' news' used' seen' at' l =
-    subst (λ (s : GrowState). Leaves queue news sheet' queue' news' used' seen' at' s)
-    (ap (λ (r : TryCellResult). grow_with c r (state_of sheet queue news at)) is ∙ visit_as cs set p c (state_of sheet queue news at)) l
+pub visit_settled : {g after : Growing} {q next : Queue} (c : Cell) {found : TryCellResult} → found ≡ found_at (held g) g.setup.settings g.setup.params g.sheet.now c
+    → Leaves g q after next (grow_with c found (state_of g q)) → Leaves g q after next (grow_visit (held g) g.setup.settings g.setup.params c (state_of g q))
+visit_settled {g} {after} {q} {next} c is l =
+    subst (λ (s : GrowState). Leaves g q after next s)
+    (ap (λ (r : TryCellResult). grow_with c r (state_of g q)) is ∙ visit_as (held g) g.setup.settings g.setup.params c (state_of g q)) l
 
-pub visit_settleable : (cs : Corners) (set : Settings) (p : GrowParams) {sheet queue news used seen : List ℕ} {c : Cell} {at : Progress} → Visitable cs.count sheet queue news used seen c at
-    → {found : TryCellResult} → found ≡ found_at cs set p sheet c → Settleable sheet queue news used seen c found at
-visit_settleable cs set p {sheet} {queue} {news} {used} {seen} {c} {at} w is =
-    record {
-      long = w.given.long;
-      on = w.on;
-      queue_in = w.queue_in;
-      attached_in_holds = w.attached_in_holds;
-      small = w.small;
-      used_tied = w.used_tied;
-      seen_flagged = w.seen_flagged;
-      to_attach = λ k e. attach k (found_spare cs set p sheet c k (sym is ∙ e));
-    }
+pub visit_settleable : {g : Growing} {q : Queue} {c : Cell} → Visitable g q c → {found : TryCellResult} → found ≡ found_at (held g) g.setup.settings g.setup.params g.sheet.now c → Settleable g q c found
+visit_settleable {g} {q} {c} w is = record { on = w.on; small = w.small; to_attach = λ k e. attach k (found_spare (held g) g.setup.settings g.setup.params g.sheet.now c k (sym is ∙ e)) }
   where
-    attach : (k : ℕ) → Free cs sheet k → Attachable sheet queue news used seen c k at
+    attach : (k : ℕ) → Free (held g) g.sheet.now k → Attachable g q c k
     attach k f =
         record {
-          attaching = record { long = w.given.long; on = w.on; bare = w.bare; corner_fits = omega (arith, f.given, w.few) };
-          entry = omega (arith, f.given, w.few);
+          attaching = record { long = g.given.long; on = w.on; bare = w.bare; corner_fits = omega (arith, f.given, g.few) };
+          known = f.given;
           spare = w.spare k f.given f.free;
           small = w.small;
-          used_tied = w.used_tied;
-          seen_flagged = w.seen_flagged;
         }
 
--- a corner attached; `news` is the attached list
-module _ {sheet queue news used seen : List ℕ} {c : Cell} {k : ℕ} {at : Progress} (w : Attachable sheet queue news used seen c k at) where
-  -- the queue has room for the cell's neighbours
-  pub attached_room : {after : List ℕ} → after ≡ attached sheet c k → Room 4 after queue seen at.tail
-  unfolding attached
-  attached_room e = record { long = rw (e, length-set) w.attaching.long; room = w.spare.queue_room; flagged = w.seen_flagged }
+-- a corner attached
+module _ {g : Growing} {q : Queue} {c : Cell} {k : ℕ} (w : Attachable g q c k) where
+  pub given_more : Given g.count (attached g.sheet.now c k)
+  given_more = given_attached g.given c w.attaching.on k w.known w.attaching.corner_fits
 
-  pub settled_attached : {after queue' seen' : List ℕ} {place tail : ℕ} {counts : Counts} → after ≡ attached sheet c k → place ≡ place_of c
-      → QueueHeld queue queue' seen' tail (spread after c (take at.tail queue)) → counts ≡ one_more (TryCellResult.Attached k) at.counts
-      → Leaves queue news after queue' (set news at.counts.attached place) (set used k 1) seen' (record { tail = tail; counts = counts }) (grow_with c (TryCellResult.Attached k) (state_of sheet queue news at))
+  pub tied_more : Tied (attached g.sheet.now c k) (set g.used k 1)
+  tied_more = tied_attached w.attaching (omega (arith, w.known, g.few)) g.tied
+
+  -- the queue has room for the cell's neighbours
+  pub attached_room : {sheet : List ℕ} → sheet ≡ attached g.sheet.now c k → Room 4 sheet q
+  unfolding attached
+  attached_room e = record { long = rw (e, length-set) w.attaching.long; room = w.spare.queue_room }
+
+  pub settled_attached : {after : Growing} {next : Queue} {place : ℕ} → SameRun g after → after.sheet.now ≡ attached g.sheet.now c k → place ≡ place_of c → after.attached.now ≡ set g.attached.now g.counts.attached place
+      → QueueHeld q next (spread after.sheet.now c (queued q)) → after.counts ≡ one_more (TryCellResult.Attached k) g.counts
+      → Leaves g q after next (grow_with c (TryCellResult.Attached k) (state_of g q))
   unfolding grow_with
-  settled_attached {queue' = queue'} {seen' = seen'} {tail = tail} m p h n =
-      let g : QueueHeld queue queue' seen' tail (spread (attached sheet c k) c (take at.tail queue)) = rw m at h in
-      rw (m, p, n)
-      (record {
-        sheet_is = refl;
-        queue_is = g.written;
-        attached_is = over_put news at.counts.attached (place_of c) w.spare.attached_room;
-        tail_is = g.count;
-        counts_are = refl;
-        used_tied = tied_attached w.attaching w.entry w.used_tied;
-        seen_flagged = g.flagged;
-      })
+  settled_attached {next = next} same m p l h n =
+      let r : QueueHeld q next (spread (attached g.sheet.now c k) c (queued q)) = rw m at h in
+      record {
+        left =
+            record {
+              same = same;
+              same_queue = r.same_buffer;
+              sheet_is = m;
+              queue_is = r.written;
+              attached_is = l ∙ ap (set g.attached.now g.counts.attached) p ∙ over_put g.attached.now g.counts.attached (place_of c) w.spare.attached_room;
+              tail_is = r.count;
+              counts_are = n;
+            };
+        head_same = r.head_same;
+      }
 
 -- ---- what a visit leaves as long or makes longer
 
@@ -202,206 +227,187 @@ from_grown cs set p (suc m) head s =
     go true g = g
     go false g = record { sheet_same = refl; queued_more = omega arith; made_more = omega arith }
 
--- ---- the state that the buffers hold
+-- ---- the state that a run holds
 
 -- it is read back
-state_read : {queue news sheet' queue' news' used' seen' : List ℕ} {at : Progress} {s : GrowState} → Leaves queue news sheet' queue' news' used' seen' at s → s.counts.attached ≡ length s.made → state_of sheet' queue' news' at ≡ s
-state_read {queue} {news} {s = s} l e =
-    let q : take (length s.queued) (over s.queued queue) ≡ s.queued = over_read s.queued queue in
-    let a : take (length s.made) (over s.made news) ≡ s.made = over_read s.made news in
+state_read : {before after : Growing} {queue queue' : Queue} {s : GrowState} → Left before queue after queue' s → s.counts.attached ≡ length s.made → state_of after queue' ≡ s
+state_read {before} {queue = queue} {s = s} l e =
+    let q : take (length s.queued) (over s.queued queue.places.now) ≡ s.queued = over_read s.queued queue.places.now in
+    let a : take (length s.made) (over s.made before.attached.now) ≡ s.made = over_read s.made before.attached.now in
     rw (l.sheet_is, l.queue_is, l.attached_is, l.tail_is, l.counts_are, e, q, a)
 
--- one step after the other
-leaves_then : {queue news sheet₁ queue₁ news₁ used₁ seen₁ sheet₂ queue₂ news₂ used₂ seen₂ : List ℕ} {at₁ at₂ : Progress} {s₁ s₂ : GrowState}
-    → Leaves queue news sheet₁ queue₁ news₁ used₁ seen₁ at₁ s₁ → Leaves queue₁ news₁ sheet₂ queue₂ news₂ used₂ seen₂ at₂ s₂ → Grown s₁ s₂ → Leaves queue news sheet₂ queue₂ news₂ used₂ seen₂ at₂ s₂
-leaves_then {queue} {news} {s₁ = s₁} {s₂ = s₂} a b g =
+same_then : {first between last : Growing} → SameRun first between → SameRun between last → SameRun first last
+same_then a b =
     record {
+      same_corners = b.same_corners ∙ a.same_corners;
+      same_count = b.same_count ∙ a.same_count;
+      same_setup = b.same_setup ∙ a.same_setup;
+      same_sheet = b.same_sheet ∙ a.same_sheet;
+      same_list = b.same_list ∙ a.same_list;
+    }
+
+-- one step after the other
+left_then : {first between last : Growing} {q₀ q₁ q₂ : Queue} {s₁ s₂ : GrowState} → Left first q₀ between q₁ s₁ → Left between q₁ last q₂ s₂ → Grown s₁ s₂ → Left first q₀ last q₂ s₂
+left_then {first} {q₀ = q} {s₁ = s₁} {s₂ = s₂} a b g =
+    record {
+      same = same_then a.same b.same;
+      same_queue = b.same_queue ∙ a.same_queue;
       sheet_is = b.sheet_is;
-      queue_is = b.queue_is ∙ ap (over s₂.queued) a.queue_is ∙ over_over s₁.queued s₂.queued queue g.queued_more;
-      attached_is = b.attached_is ∙ ap (over s₂.made) a.attached_is ∙ over_over s₁.made s₂.made news g.made_more;
+      queue_is = b.queue_is ∙ ap (over s₂.queued) a.queue_is ∙ over_over s₁.queued s₂.queued q.places.now g.queued_more;
+      attached_is = b.attached_is ∙ ap (over s₂.made) a.attached_is ∙ over_over s₁.made s₂.made first.attached.now g.made_more;
       tail_is = b.tail_is;
       counts_are = b.counts_are;
-      used_tied = b.used_tied;
-      seen_flagged = b.seen_flagged;
     }
 
 -- ---- the run
 
--- A run that has visited `head` cells: what the buffers hold is a state of the definition's run, and with the cells that are left it is
--- what it shall be.
-pub record Running (cs : Corners) (set : Settings) (p : GrowParams) (sheet queue news : List ℕ) (sheet' queue' news' used' seen' : List ℕ) (at : Progress) (head : ℕ) : Type 0 where
+visit_alike : {cs cs' : Corners} {set set' : Settings} {p p' : GrowParams} {c c' : Cell} {s s' : GrowState} → cs ≡ cs' → set ≡ set' → p ≡ p' → c ≡ c' → s ≡ s' → grow_visit cs set p c s ≡ grow_visit cs' set' p' c' s'
+visit_alike a b d e f = cc
+
+held_alike : {g h : Growing} → SameRun g h → held h ≡ held g
+held_alike s = ap₂ corners_in (ap (λ (k : Bor (List Float)). k.now) s.same_corners) s.same_count
+
+-- A run that has visited the cells that were taken from the queue: what is held is a state of the definition's run, and with the cells that are
+-- left it is what it shall be.
+pub record Running (before : Growing) (queue : Queue) (now : Growing) (queue' : Queue) : Type 0 where
   pub state : GrowState
-  pub leaves : Leaves queue news sheet' queue' news' used' seen' at state
-  pub going : Going cs head state
-  pub sheet_same : length sheet' ≡ length sheet
-  pub rest : grow_from cs set p (4 * cs.count - head) head state ≡ grow_run cs set p sheet
+  pub left : Left before queue now queue' state
+  pub going : Going (held before) queue'.head state
+  pub rest :
+      grow_from (held before) before.setup.settings before.setup.params (4 * before.count - queue'.head) queue'.head state
+      ≡ grow_run (held before) before.setup.settings before.setup.params before.sheet.now
 
-module _ (cs : Corners) {sheet queue news used seen : List ℕ} {tail : ℕ} (w : Startable cs.count sheet queue news used seen tail) where
-  start_fit : Belongs cs sheet
-  start_fit = record { long = w.given.long; few = w.few; known = w.given.known; one_cell = w.one_cell }
+module _ {g : Growing} {q : Queue} (w : Startable g q) where
+  fit : Belongs (held g) g.sheet.now
+  fit = record { long = g.given.long; few = g.few; known = g.given.known; one_cell = w.one_cell }
 
-  start_in : tail ≤ length queue
-  unfolding label_count start_of
-  start_in = omega (arith, w.count, queue_few (start_going cs sheet start_fit), w.queue_long)
+  -- the queue has room for the seeds
+  pub start_unqueued : Unqueued g.sheet.now q
+  start_unqueued = record { long = g.given.long; room = omega (arith, w.queue_long, labels_few fit); none = w.none_queued }
 
-  pub running_start : (set : Settings) (p : GrowParams) → Running cs set p sheet queue news sheet queue news used seen (record { tail = tail; counts = no_counts }) 0
+  pub running_start : {after : Growing} {next : Queue} → SameRun g after → after.sheet.now ≡ g.sheet.now → after.attached.now ≡ g.attached.now → after.counts ≡ g.counts
+      → QueueHeld q next (seeded g.sheet.now) → Running g q after next
   unfolding start_of grow_run
-  running_start set p =
+  running_start {next = next} same e l n h =
+      let z : next.head ≡ 0 = h.head_same ∙ w.none_taken in
       record {
-        state = start_of sheet;
-        leaves =
-            record {
-              sheet_is = refl;
-              queue_is = sym (over_own queue tail start_in) ∙ ap (λ (l : List ℕ). over l queue) w.queued;
-              attached_is = refl;
-              tail_is = w.count;
-              counts_are = refl;
-              used_tied = w.used_tied;
-              seen_flagged = w.seen_flagged;
-            };
-        going = start_going cs sheet start_fit;
-        sheet_same = refl;
-        rest = let e : 4 * cs.count - 0 ≡ 4 * cs.count = omega arith in ap (λ (m : ℕ). grow_from cs set p m 0 (start_of sheet)) e;
+        state = start_of g.sheet.now;
+        left = record { same = same; same_queue = h.same_buffer; sheet_is = e; queue_is = h.written; attached_is = l; tail_is = h.count; counts_are = n ∙ w.none_counted };
+        going = rw z (start_going (held g) g.sheet.now fit);
+        rest = rw z (let e : 4 * g.count - 0 ≡ 4 * g.count = omega arith in ap (λ (m : ℕ). grow_from (held g) g.setup.settings g.setup.params m 0 (start_of g.sheet.now)) e);
       }
 
-  module _ {set : Settings} {p : GrowParams} {sheet' queue' news' used' seen' : List ℕ} {at : Progress} {head : ℕ} (r : Running cs set p sheet queue news sheet' queue' news' used' seen' at head) where
-    pub running_queue : length queue' ≡ length queue
-    running_queue = rw r.leaves.queue_is (over_length r.state.queued queue (omega (arith, queue_few r.going, w.queue_long)))
+  module _ {now : Growing} {queue : Queue} (r : Running g q now queue) {taken : Queue} {next : Option Cell} (t : Taken queue taken next) where
+    -- a cell taken from the queue, or none
+    left_taken : Left g q now taken r.state
+    left_taken =
+        record {
+          same = r.left.same;
+          same_queue = t.same_buffer ∙ r.left.same_queue;
+          sheet_is = r.left.sheet_is;
+          queue_is = t.same_places ∙ r.left.queue_is;
+          attached_is = r.left.attached_is;
+          tail_is = t.same_tail ∙ r.left.tail_is;
+          counts_are = r.left.counts_are;
+        }
 
-    pub running_news : length news' ≡ length news
-    running_news = rw r.leaves.attached_is (over_length r.state.made news (omega (arith, made_few r.going, w.attached_long)))
+    pub running_end : next ≡ None → Left g q now taken (grow_run (held g) g.setup.settings g.setup.params g.sheet.now)
+    running_end e =
+        let f : TakenAs queue taken None = rw e at t.next in
+        let d = sym (from_ended (held g) g.setup.settings g.setup.params (4 * g.count - queue.head) queue.head r.state (omega (arith, r.left.tail_is, f.0))) ∙ r.rest in
+        subst (λ (s : GrowState). Left g q now taken s) d left_taken
 
-    read : state_of sheet' queue' news' at ≡ r.state
-    read = state_read r.leaves r.going.made_counted
+    module _ {c : Cell} (some : next ≡ Some c) where
+      took : TakenAs queue taken (Some c)
+      took = rw some at t.next
 
-    module _ (left : head < at.tail) where
-      here : head < length r.state.queued
-      here = omega (arith, r.leaves.tail_is)
+      here : queue.head < length r.state.queued
+      here = omega (arith, r.left.tail_is, took.0)
 
-      -- the next cell's place is read from the queue
-      pub next_place : get_or queue' head 0 ≡ get_or r.state.queued head 0
-      next_place = ap (λ (q : List ℕ). get_or q head 0) r.leaves.queue_is ∙ over_at r.state.queued queue head here
+      head_few : queue.head < 4096
+      head_few = omega (arith, here, queue_few r.going, g.few)
 
-      pub place_below : get_or queue' head 0 < 16384
-      place_below = rw next_place (r.going.lined.places head here)
+      -- it is the next of the definition's run
+      next_cell : c ≡ next_of r.state queue.head
+      next_cell = took.1 ∙ ap cell_of (ap (λ (l : List ℕ). get_or l queue.head 0) r.left.queue_is ∙ over_at r.state.queued q.places.now queue.head here)
 
-      pub head_few : head < 4096
-      head_few = omega (arith, here, queue_few r.going, w.few)
+      read : state_of now taken ≡ r.state
+      read = state_read left_taken r.going.made_counted
 
-      pub head_in : head < length queue'
-      head_in = omega (arith, running_queue, here, queue_few r.going, w.queue_long)
-
-      small : SmallCounts at.counts
+      small : SmallCounts now.counts
       small =
           let t = r.going.tallied in
           let f = head_few in
-          rw r.leaves.counts_are
+          rw r.left.counts_are
           (record { attached_small = omega arith; no_candidate_small = omega arith; ambiguous_small = omega arith; edge_small = omega arith })
 
-      pub running_visitable : {c : Cell} → c ≡ cell_of (get_or queue' head 0) → Visitable cs.count sheet' queue' news' used' seen' c at
-      running_visitable {c} e =
-          let g = r.going in
-          let l = r.leaves in
-          let d : c ≡ next_of r.state head = e ∙ ap cell_of next_place in
-          let given : Given cs.count sheet' = rw l.sheet_is (record { long = g.fit.long; known = g.fit.known }) in
+      spare : (k : ℕ) → k < g.count → used_on r.state.sheet k ≡ false → Spare now taken
+      spare k h f =
+          let free : Free (held g) r.state.sheet k = record { given = h; free = f } in
+          let room : length taken.places.now ≡ length q.places.now = rw left_taken.queue_is (over_length r.state.queued q.places.now (omega (arith, queue_few r.going, w.queue_long))) in
+          let list : length now.attached.now ≡ length g.attached.now = rw r.left.attached_is (over_length r.state.made g.attached.now (omega (arith, made_few r.going, w.attached_long))) in
           record {
-            given = given;
-            few = w.few;
-            on = rw d (next_on g here);
-            bare = rw (d, l.sheet_is) (g.lined.waiting head (omega arith) here);
-            queue_in = omega (arith, l.tail_is, queue_few g, running_queue, w.queue_long);
-            attached_in_holds = rw l.counts_are (omega (arith, g.made_counted, made_few g, running_news, w.attached_long));
+            queue_room = omega (arith, left_taken.tail_is, room_left r.going here k free, room, w.queue_long);
+            attached_room = rw r.left.counts_are (omega (arith, r.going.made_counted, slot_left r.going here k free, list, w.attached_long));
+          }
+
+      pub running_visitable : Visitable now taken c
+      running_visitable =
+          record {
+            on = rw next_cell (next_on r.going here);
+            bare = rw (next_cell, r.left.sheet_is) (r.going.lined.waiting queue.head (omega arith) here);
             small = small;
-            used_tied = rw l.sheet_is l.used_tied;
-            seen_flagged = rw (ap (λ (s : GrowState). s.queued) read) l.seen_flagged;
-            spare = λ k h f. spare k h (rw l.sheet_is at f);
+            spare = λ k h f. spare k (omega (arith, r.left.same.same_count)) (rw r.left.sheet_is at f);
           }
-        where
-          spare : (k : ℕ) → k < cs.count → used_on r.state.sheet k ≡ false → Spare queue' news' at
-          spare k h f =
-              let free : Free cs r.state.sheet k = record { given = h; free = f } in
-              record {
-                queue_room = omega (arith, r.leaves.tail_is, room_left r.going here k free, running_queue, w.queue_long);
-                attached_room = rw r.leaves.counts_are (omega (arith, r.going.made_counted, slot_left r.going here k free, running_news, w.attached_long));
-              }
 
-      pub running_more : {c : Cell} → c ≡ cell_of (get_or queue' head 0) → {sheet₂ queue₂ news₂ used₂ seen₂ : List ℕ} {at₂ : Progress}
-          → Leaves queue' news' sheet₂ queue₂ news₂ used₂ seen₂ at₂ (grow_visit cs set p c (state_of sheet' queue' news' at)) → Running cs set p sheet queue news sheet₂ queue₂ news₂ used₂ seen₂ at₂ (head + 1)
-      running_more {c} e {sheet₂} {queue₂} {news₂} {used₂} {seen₂} {at₂} m =
-          let d : c ≡ next_of r.state head = e ∙ ap cell_of next_place in
-          let next = grow_visit cs set p (next_of r.state head) r.state in
-          let l : Leaves queue' news' sheet₂ queue₂ news₂ used₂ seen₂ at₂ next = rw (d, read) at m in
-          let grown = visit_grown cs set p (next_of r.state head) r.state in
-          let fuel : 4 * cs.count - head ≡ suc (4 * cs.count - (head + 1)) = omega (arith, here, queue_few r.going) in
+      pub running_falls : {after : Growing} {left : Queue} {s : GrowState} → Leaves now taken after left s → 4096 - left.head < 4096 - queue.head
+      running_falls m = omega (arith, head_few, m.head_same, took.2)
+
+      pub running_more : {after : Growing} {left : Queue} → Leaves now taken after left (grow_visit (held now) now.setup.settings now.setup.params c (state_of now taken)) → Running g q after left
+      running_more {after} {left} m =
+          let set = g.setup.settings in
+          let p = g.setup.params in
+          let head = queue.head in
+          let n = grow_visit (held g) set p (next_of r.state head) r.state in
+          let same = r.left.same in
+          let e : grow_visit (held now) now.setup.settings now.setup.params c (state_of now taken) ≡ n = visit_alike (held_alike same) (ap (λ (s : GrowSetup). s.settings) same.same_setup) (ap (λ (s : GrowSetup). s.params) same.same_setup) next_cell read in
+          let l : Left now taken after left n = subst (λ (s : GrowState). Left now taken after left s) e m.left in
+          let h : left.head ≡ head + 1 = m.head_same ∙ took.2 in
+          let fuel : 4 * g.count - head ≡ suc (4 * g.count - (head + 1)) = omega (arith, here, queue_few r.going) in
           record {
-            state = next;
-            leaves = leaves_then r.leaves l grown;
-            going = visit_going cs set p head r.state r.going here;
-            sheet_same = ap length l.sheet_is ∙ grown.sheet_same ∙ sym (ap length r.leaves.sheet_is) ∙ r.sheet_same;
-            rest =
-                sym (from_next cs set p (4 * cs.count - (head + 1)) head r.state here)
-                ∙ sym (ap (λ (m : ℕ). grow_from cs set p m head r.state) fuel)
-                ∙ r.rest;
+            state = n;
+            left = left_then left_taken l (visit_grown (held g) set p (next_of r.state head) r.state);
+            going = rw h (visit_going (held g) set p head r.state r.going here);
+            rest = rw h
+                (sym (from_next (held g) set p (4 * g.count - (head + 1)) head r.state here)
+                ∙ sym (ap (λ (m : ℕ). grow_from (held g) set p m head r.state) fuel)
+                ∙ r.rest);
           }
-
-    pub running_end : at.tail ≤ head → Leaves queue news sheet' queue' news' used' seen' at (grow_run cs set p sheet)
-    running_end h =
-        let e = sym (from_ended cs set p (4 * cs.count - head) head r.state (omega (arith, r.leaves.tail_is))) ∙ r.rest in
-        subst (λ (s : GrowState). Leaves queue news sheet' queue' news' used' seen' at s) e r.leaves
 
 -- ---- the call
 
--- the run on the corners that are lent, by that on those that are held
-pub run_lent : {cs cs' : Corners} (set : Settings) (p : GrowParams) (sheet : List ℕ) {queue news sheet' queue' news' used' seen' : List ℕ} {at : Progress} → cs ≡ cs'
-    → Leaves queue news sheet' queue' news' used' seen' at (grow_run cs set p sheet) → Leaves queue news sheet' queue' news' used' seen' at (grow_run cs' set p sheet)
-run_lent set p sheet {queue} {news} {sheet'} {queue'} {news'} {used'} {seen'} {at} e l =
-    subst (λ (cs : Corners). Leaves queue news sheet' queue' news' used' seen' at (grow_run cs set p sheet)) e l
-
 module _ (corners : CornerLists) (set : Settings) (p : GrowParams) (shades sheet queue news : List ℕ) where
   module _ (a : Accepted (lent_of corners shades sheet (rooms (length queue) (length news))) set (Pass.Grow p)) where
-    seeds_few : 4 * label_count sheet ≤ length queue
+    pub call_startable : {g : Growing} {q : Queue} → g.count ≡ length corners.xs → g.sheet.now ≡ sheet → Empty queue q → g.attached.now ≡ news → g.counts ≡ no_counts → Startable g q
     unfolding queue_needed
-    seeds_few = omega (arith, a.queue_long, labels_few (belongs_accepted a))
+    call_startable n s q l c =
+        record {
+          one_cell = rw s a.one_cell;
+          queue_long = rw (n, q.places_are) (omega (arith, a.queue_long));
+          attached_long = rw (n, l) a.attached_long;
+          none_queued = q.tail_is;
+          none_taken = q.head_is;
+          none_counted = c;
+        }
 
-    -- the queue has room for the seeds
-    pub call_unqueued : {seen : List ℕ} → Flagged [] seen → Unqueued sheet queue seen
-    call_unqueued f = record { long = a.given.long; room = seeds_few; flagged = f }
-
-    module _ {queue' seen' : List ℕ} {tail : ℕ} (h : QueueHeld queue queue' seen' tail (seeded sheet)) where
-      same : length queue' ≡ length queue
-      unfolding label_count
-      same = holds_length h (omega (arith, (seeded_longer sheet (labelled_places sheet) []).few, seeds_few))
-
-      pub call_startable : {used : List ℕ} → Tied sheet used → Startable (length corners.xs) sheet queue' news used seen' tail
-      unfolding queue_needed
-      call_startable t =
-          record {
-            given = a.given;
-            few = a.few;
-            one_cell = a.one_cell;
-            queue_long = omega (arith, a.queue_long, same);
-            attached_long = a.attached_long;
-            used_tied = t;
-            queued = holds_read h;
-            count = h.count;
-            seen_flagged = h.flagged;
-          }
-
-      -- the sheet's length is kept, so that the rim can be looked for
-      pub call_long : {sheet₂ queue₂ news₂ used₂ seen₂ : List ℕ} {end : Progress} → Leaves queue' news sheet₂ queue₂ news₂ used₂ seen₂ end (grow_run (corners_of corners shades) set p sheet) → 16384 ≤ length sheet₂
-      unfolding grow_run start_of
-      call_long l =
-          let s = (from_grown (corners_of corners shades) set p (4 * length corners.xs) 0 (start_of sheet)).sheet_same in
-          rw (l.sheet_is, s) a.given.long
-
-      -- the pass done
-      pub call_left : {sheet₂ queue₂ news₂ used₂ seen₂ : List ℕ} {end : Progress} {reached : Bool} → Leaves queue' news sheet₂ queue₂ news₂ used₂ seen₂ end (grow_run (corners_of corners shades) set p sheet) → reached ≡ rim 1 sheet₂
-          → grow_out (GrowAnswer.Done (record { counts = end.counts; rim = reached })) sheet₂ queue₂ news₂ ≡ grow_leaves (done (grow_after (corners_of corners shades) set p sheet)) sheet queue news
-      unfolding grow_after grow_run start_of
-      call_left l e =
-          let longer = (from_grown (corners_of corners shades) set p (4 * length corners.xs) 0 (start_of sheet)).queued_more in
-          let q = l.queue_is ∙ ap (over (grow_run (corners_of corners shades) set p sheet).queued) h.written ∙ over_over (seeded sheet) (grow_run (corners_of corners shades) set p sheet).queued queue longer in
-          rw (e, l.counts_are, l.sheet_is, q, l.attached_is)
+    -- the pass done
+    pub call_left : {before after : Growing} {q next : Queue} {stats : GrowStats} → held before ≡ corners_of corners shades → before.setup.settings ≡ set → before.setup.params ≡ p → before.sheet.now ≡ sheet
+        → q.places.now ≡ queue → before.attached.now ≡ news → Left before q after next (grow_run (held before) before.setup.settings before.setup.params before.sheet.now) → stats ≡ stats_of after
+        → {s q' n : List ℕ} → s ≡ after.sheet.now → q' ≡ next.places.now → n ≡ after.attached.now → grow_out (GrowAnswer.Done stats) s q' n ≡ grow_leaves (done (grow_after (corners_of corners shades) set p sheet)) sheet queue news
+    unfolding grow_after
+    call_left {before} {after} cs s m sh q n l e es eq en =
+        let run : grow_run (held before) before.setup.settings before.setup.params before.sheet.now ≡ grow_run (corners_of corners shades) set p sheet = rw (cs, s, m, sh) in
+        rw (e, es, eq, en, l.counts_are, l.sheet_is, l.queue_is, l.attached_is, run, q, n)
 
   -- what the call promises of its answer and its buffers, and of what the answer says
   abbrev pub Promised : GrowOut → Type 0

@@ -1,25 +1,26 @@
 -- Grow as the code holds it: what is found at a cell, where grow stands in the lent buffers, and what the
 -- functions ask and leave. Definitions only.
-use Rattle.std.specs.Prelude.{◌≡◌, false, List, ℕ, ◌+◌, ◌*◌, ◌<◌, ◌≤◌, length, take}
-use Rattle.sizes.specs.Sizes.{place_count, corner_limit}
+use Rattle.std.specs.Prelude.{◌≡◌, false, List, ℕ, ◌+◌, ◌*◌, ◌<◌, ◌≤◌, length, take, None}
 use Rattle.sheet.specs.Cells.{OnSheet}
 use Rattle.sheet.specs.Words.{label_at}
-use Rattle.sheet.specs.Corners.{Corners, seen_of, Given}
+use Rattle.sheet.specs.Corners.{Corners, seen_of, corners_in}
 use Rattle.sheet.specs.declared.Cell.{Cell}
-use Rattle.sheet.specs.declared.Label.{Label}
 use Rattle.labels.specs.Labelled.{Attaching}
-use Rattle.labels.specs.Used.{used_on, Tied, OneCell}
+use Rattle.labels.specs.Rim.{rim}
+use Rattle.labels.specs.Used.{used_on, OneCell}
 use Rattle.predict.specs.Predict.{prediction_of, extrapolating}
 use Rattle.predict.specs.declared.Prediction.{Prediction}
 use Rattle.arguments.specs.declared.GrowParams.{GrowParams}
 use Rattle.arguments.specs.declared.Settings.{Settings}
 use Rattle.extension_common.specs.TryCell.{try_at}
 use Rattle.extension_common.specs.declared.TryCellResult.{TryCellResult}
-use Rattle.passes.specs.Grow.{GrowState, tolerances_of, search_of}
+use Rattle.passes.specs.Grow.{GrowState, no_counts, tolerances_of, search_of}
 use Rattle.passes.specs.declared.Counts.{Counts}
-use Rattle.grow_queue.specs.Queue.{Flagged, seeded}
+use Rattle.passes.specs.declared.GrowStats.{GrowStats}
+use Rattle.grow_queue.specs.Queue.{queued}
+use Rattle.grow_queue.specs.declared.Queue.{Queue}
 use Rattle.arguments.specs.Front.{over}
-use Rattle.grow_extend.specs.declared.Progress.{Progress}
+use Rattle.grow_extend.specs.declared.Growing.{Growing}
 
 -- ---- what is found at a cell
 
@@ -42,69 +43,74 @@ pub record SmallCounts (n : Counts) : Type 0 where
 
 -- ---- where grow stands
 
--- the state that the lent buffers hold: the first `tail` places of the queue, and as many of the attached list as are counted
-abbrev pub state_of : List ℕ → List ℕ → List ℕ → Progress → GrowState
-state_of sheet queue attached at = record { sheet = sheet; queued = take at.tail queue; made = take at.counts.attached attached; counts = at.counts }
+-- the corners that a run holds
+abbrev pub held : Growing → Corners
+held g = corners_in g.corners.now g.count
 
--- What is left of the buffers: the state's sheet, its queued and its new cells at the front of the queue and the attached list, the rest
--- as it was, and the two arrays in step.
-pub record Leaves (queue attached : List ℕ) (sheet' queue' attached' used' seen' : List ℕ) (at : Progress) (s : GrowState) : Type 0 where
-  pub sheet_is : sheet' ≡ s.sheet
-  pub queue_is : queue' ≡ over s.queued queue
-  pub attached_is : attached' ≡ over s.made attached
-  pub tail_is : at.tail ≡ length s.queued
-  pub counts_are : at.counts ≡ s.counts
-  pub used_tied : Tied s.sheet used'
-  pub seen_flagged : Flagged s.queued seen'
+-- the state that a run and its queue hold: the sheet, the cells queued so far, as many of the attached list as are counted, and the counts
+abbrev pub state_of : Growing → Queue → GrowState
+state_of g q = record { sheet = g.sheet.now; queued = queued q; made = take g.counts.attached g.attached.now; counts = g.counts }
+
+-- what is said of it
+abbrev pub stats_of : Growing → GrowStats
+stats_of g = record { counts = g.counts; rim = rim 1 g.sheet.now }
+
+-- a run on the same corners and buffers, searched alike
+pub record SameRun (before after : Growing) : Type 0 where
+  pub same_corners : after.corners ≡ before.corners
+  pub same_count : after.count ≡ before.count
+  pub same_setup : after.setup ≡ before.setup
+  pub same_sheet : after.sheet.ghost_name ≡ before.sheet.ghost_name
+  pub same_list : after.attached.ghost_name ≡ before.attached.ghost_name
+
+-- What is left of a run's buffers: the state's sheet, its queued and its new cells at the front of the queue and the attached list, and the rest
+-- as it was.
+pub record Left (before : Growing) (queue : Queue) (after : Growing) (queue' : Queue) (s : GrowState) : Type 0 where
+  pub same : SameRun before after
+  pub same_queue : queue'.places.ghost_name ≡ queue.places.ghost_name
+  pub sheet_is : after.sheet.now ≡ s.sheet
+  pub queue_is : queue'.places.now ≡ over s.queued queue.places.now
+  pub attached_is : after.attached.now ≡ over s.made before.attached.now
+  pub tail_is : queue'.tail ≡ length s.queued
+  pub counts_are : after.counts ≡ s.counts
+
+-- and as many cells of the queue are taken as before
+pub record Leaves (before : Growing) (queue : Queue) (after : Growing) (queue' : Queue) (s : GrowState) : Type 0 where
+  pub left : Left before queue after queue' s
+  pub head_same : queue'.head ≡ queue.head
 
 -- ---- what the functions ask
 
 -- room for a corner more: four places in the queue and one in the attached list
-pub record Spare (queue attached : List ℕ) (at : Progress) : Type 0 where
-  pub queue_room : at.tail + 4 ≤ length queue
-  pub attached_room : at.counts.attached < length attached
+pub record Spare (g : Growing) (q : Queue) : Type 0 where
+  pub queue_room : q.tail + 4 ≤ length q.places.now
+  pub attached_room : g.counts.attached < length g.attached.now
 
 -- a corner that may be attached to a cell
-pub record Attachable (sheet queue attached used seen : List ℕ) (c : Cell) (k : ℕ) (at : Progress) : Type 0 where
-  pub attaching : Attaching sheet c k
-  pub entry : k < corner_limit
-  pub spare : Spare queue attached at
-  pub small : SmallCounts at.counts
-  pub used_tied : Tied sheet used
-  pub seen_flagged : Flagged (take at.tail queue) seen
+pub record Attachable (g : Growing) (q : Queue) (c : Cell) (k : ℕ) : Type 0 where
+  pub attaching : Attaching g.sheet.now c k
+  pub known : k < g.count
+  pub spare : Spare g q
+  pub small : SmallCounts g.counts
 
 -- a cell of the sheet, and what was found there
-pub record Settleable (sheet queue attached used seen : List ℕ) (c : Cell) (found : TryCellResult) (at : Progress) : Type 0 where
-  pub long : place_count ≤ length sheet
+pub record Settleable (g : Growing) (q : Queue) (c : Cell) (found : TryCellResult) : Type 0 where
   pub on : OnSheet c
-  pub queue_in : at.tail ≤ length queue
-  pub attached_in_holds : at.counts.attached ≤ length attached
-  pub small : SmallCounts at.counts
-  pub used_tied : Tied sheet used
-  pub seen_flagged : Flagged (take at.tail queue) seen
-  pub to_attach : (k : ℕ) → found ≡ TryCellResult.Attached k → Attachable sheet queue attached used seen c k at
+  pub small : SmallCounts g.counts
+  pub to_attach : (k : ℕ) → found ≡ TryCellResult.Attached k → Attachable g q c k
 
 -- an unlabelled cell of the sheet, and room for a corner as long as there is one that no cell holds
-pub record Visitable (n : ℕ) (sheet queue attached used seen : List ℕ) (c : Cell) (at : Progress) : Type 0 where
-  pub given : Given n sheet
-  pub few : n ≤ corner_limit
+pub record Visitable (g : Growing) (q : Queue) (c : Cell) : Type 0 where
   pub on : OnSheet c
-  pub bare : label_at sheet c ≡ Label.Unlabelled
-  pub queue_in : at.tail ≤ length queue
-  pub attached_in_holds : at.counts.attached ≤ length attached
-  pub small : SmallCounts at.counts
-  pub used_tied : Tied sheet used
-  pub seen_flagged : Flagged (take at.tail queue) seen
-  pub spare : (k : ℕ) → k < n → used_on sheet k ≡ false → Spare queue attached at
+  pub bare : label_at g.sheet.now c ≡ None
+  pub small : SmallCounts g.counts
+  pub spare : (k : ℕ) → k < g.count → used_on g.sheet.now k ≡ false → Spare g q
 
--- what an accepted call lends, with the seeds queued
-pub record Startable (n : ℕ) (sheet queue attached used seen : List ℕ) (tail : ℕ) : Type 0 where
-  pub given : Given n sheet
-  pub few : n ≤ corner_limit
-  pub one_cell : OneCell sheet
-  pub queue_long : 4 * n ≤ length queue
-  pub attached_long : n ≤ length attached
-  pub used_tied : Tied sheet used
-  pub queued : take tail queue ≡ seeded sheet
-  pub count : tail ≡ length (seeded sheet)
-  pub seen_flagged : Flagged (seeded sheet) seen
+-- what an accepted call lends
+pub record Startable (g : Growing) (q : Queue) : Type 0 where
+  pub one_cell : OneCell g.sheet.now
+  pub queue_long : 4 * g.count ≤ length q.places.now
+  pub attached_long : g.count ≤ length g.attached.now
+  pub none_queued : q.tail ≡ 0
+  pub none_taken : q.head ≡ 0
+  pub none_counted : g.counts ≡ no_counts

@@ -4,215 +4,183 @@
 
 #![tactic(auto)]
 
-ghost use Rattle.std.specs.Prelude.{◌≡◌, length};
-ghost use Rattle.sheet.specs.Corners.{corner_lists, corners_in};
+ghost use Rattle.std.specs.Prelude.{◌≡◌, ◌≤◌, length};
+ghost use Rattle.sizes.specs.Sizes.{corner_limit};
+ghost use Rattle.sheet.specs.Corners.{Given, corner_lists};
+ghost use Rattle.labels.specs.Used.{Tied};
 ghost use Rattle.arguments.specs.Shades.{corners_of};
 ghost use Rattle.arguments.specs.Accepted.{Accepted};
-ghost use Rattle.extension_common.specs.TryCell.{Ready};
 ghost use Rattle.passes.specs.Outcome.{Outcome};
-ghost use Rattle.passes.specs.Grow.{radius_of, search_of, grow_with, grow_visit, grow_run, grow_after};
+ghost use Rattle.passes.specs.Grow.{radius_of, search_of, tolerances_of, grow_after};
 ghost use Rattle.passes.specs.Step.{grow_step, grow_out, grow_leaves, lent_of, rooms};
 ghost use Rattle.passes.specs.Said.{grow_values, grow_said, outcome_due};
-ghost use Rattle.grow_extend.specs.Grow.{found_at, state_of, Leaves, Attachable, Settleable, Visitable, Startable};
 
 use arguments::{Checked, GrowParams, Pass, Settings};
 use extension_common::{ChoiceRule, Search, TryCellResult};
+use grow_queue::Queue;
 use passes::{Counts, GrowAnswer, GrowStats};
 use positions_policy::Tolerances;
 use predict::Prediction;
 use sheet::Cell;
-use sizes::{CORNERS, PLACES};
+use sizes::CORNERS;
 
-// Where grow stands: how many cells were queued so far, and the counts.
-#[derive(Clone, Copy)]
-pub struct Progress {
-    pub tail: usize,
-    pub counts: Counts,
-}
-
-// What a run is given beside its buffers: how many corners there are, the settings, and the numbers of the pass.
+// The settings of a call, and the numbers of the pass.
 #[derive(Clone, Copy)]
 pub struct GrowSetup {
-    pub count: usize,
     pub settings: Settings,
     pub params: GrowParams,
 }
 
-// The radius: search times cell size, times boundary where extrapolating.
-fn radius(settings: Settings, params: GrowParams, extrapolating: bool) -> f32
-    ensures { result ≡ radius_of settings params extrapolating }
-{
-    let grid = settings.grid;
-    let search_r = params.attach_search_rel * grid.cell_size;
-    if extrapolating {
-        return search_r * params.boundary_search_factor;
+impl GrowSetup {
+    // The radius: search times cell size, times boundary where extrapolating.
+    #[tactic(auto, unfolding(passes::specs::Grow::radius_of))]
+    fn radius(self, extrapolating: bool) -> f32
+        ensures { result ≡ radius_of self.settings self.params extrapolating }
+    {
+        let search_r = self.params.attach_search_rel * self.settings.grid.cell_size;
+        if extrapolating {
+            search_r * self.params.boundary_search_factor
+        } else {
+            search_r
+        }
     }
-    search_r
+
+    // How a cell is searched: the radius, the factor, and grow's rule of choice.
+    #[tactic(auto, unfolding(passes::specs::Grow::search_of))]
+    fn search(self, extrapolating: bool) -> Search
+        ensures { result ≡ search_of self.settings self.params extrapolating }
+    {
+        Search {
+            search_r: self.radius(extrapolating),
+            ambiguity_factor: self.params.attach_ambiguity_factor,
+            rule: ChoiceRule::Unambiguous,
+        }
+    }
+
+    // The edge's tolerances: cell size and band.
+    fn tolerances(self) -> Tolerances
+        ensures { result ≡ tolerances_of self.settings }
+    {
+        Tolerances {
+            cell_size: self.settings.grid.cell_size,
+            edge_length_tol: self.settings.edge_length_tol,
+        }
+    }
 }
 
-// How a cell is searched: the radius, the factor, and grow's rule of choice.
-fn search_for(settings: Settings, params: GrowParams, extrapolating: bool) -> Search
-    ensures { result ≡ search_of settings params extrapolating }
-{
-    Search {
-        search_r: radius(settings, params, extrapolating),
-        ambiguity_factor: params.attach_ambiguity_factor,
-        rule: ChoiceRule::Unambiguous,
-    }
+// A run: the corners, of which there are `count`, and how they are searched; the lent sheet, the lent list of the cells that are new, which corners
+// are used, and the counts so far. The queue stands beside it.
+#[derive(Drop)]
+pub struct Growing<'a> {
+    pub corners: &'a [f32; 4 * CORNERS],
+    pub count: usize,
+    pub setup: GrowSetup,
+    pub sheet: &'a mut [u16],
+    pub attached: &'a mut [u16],
+    pub used: [u8; CORNERS],
+    pub counts: Counts,
+    ghost few: { count ≤ corner_limit },
+    ghost given: { Given count sheet.now },
+    ghost tied: { Tied sheet.now used },
+    ghost within: { counts.attached ≤ length attached.now },
 }
 
-// What is found at a cell: it is tried at its prediction; one with no labelled neighbour has no candidate.
-fn try_cell(
-    corners: &[f32; 4 * CORNERS],
-    sheet: &[u16],
-    used: &[u8; CORNERS],
-    c: Cell,
-    setup: GrowSetup,
-) -> TryCellResult
-    requires { Ready setup.count sheet.now used.now c }
-    ensures { result ≡ found_at (corners_in corners.now setup.count) setup.settings setup.params sheet.now c }
-{
-    let settings = setup.settings;
-    let params = setup.params;
-    let grid = settings.grid;
-    let prediction = predict::predict_from_neighbours(corners, sheet, c, grid);
-    match prediction {
-        Prediction::NoNeighbour => TryCellResult::NoCandidates,
-        Prediction::At(at) => {
-            let search = search_for(settings, params, predict::is_extrapolating(sheet, c));
-            let tol = Tolerances {
-                cell_size: grid.cell_size,
-                edge_length_tol: settings.edge_length_tol,
-            };
-            extension_common::try_attach_at_cell(
-                corners,
-                setup.count,
-                sheet,
-                used,
+impl<'a> Growing<'a> {
+    ghost use Rattle.passes.specs.Grow.{grow_with, grow_visit, grow_run};
+    ghost use Rattle.sheet.specs.Cells.{OnSheet};
+    ghost use Rattle.grow_extend.specs.Grow.{found_at, state_of, held, stats_of, Left, Leaves, Attachable, Settleable, Visitable, Startable};
+
+    // What is found at a cell: it is tried at its prediction; one with no labelled neighbour has no candidate.
+    fn try_cell(&self, c: Cell) -> TryCellResult
+        requires { OnSheet c }
+        ensures { result ≡ found_at (held self.now) self.now.setup.settings self.now.setup.params self.now.sheet.now c }
+    {
+        let setup = self.setup;
+        let prediction = predict::predict_from_neighbours(
+            self.corners,
+            self.sheet,
+            c,
+            setup.settings.grid,
+        );
+        match prediction {
+            Prediction::NoNeighbour => TryCellResult::NoCandidates,
+            Prediction::At(at) => extension_common::try_attach_at_cell(
+                self.corners,
+                self.count,
+                self.sheet,
+                &self.used,
                 c,
                 at,
-                search,
-                tol,
-            )
+                setup.search(predict::is_extrapolating(self.sheet, c)),
+                setup.tolerances(),
+            ),
         }
     }
-}
 
-// Attaches a corner to a cell: its marks stay, the cell joins the attached list, and its neighbours are queued.
-fn attach_corner(
-    sheet: &mut [u16],
-    queue: &mut [u16],
-    attached: &mut [u16],
-    used: &mut [u8; CORNERS],
-    seen: &mut [u8; PLACES],
-    c: Cell,
-    k: usize,
-    at: Progress,
-) -> Progress
-    requires { Attachable sheet.old queue.old attached.old used.old seen.old c k at }
-    ensures { Leaves queue.old attached.old sheet.new queue.new attached.new used.new
-        seen.new result (grow_with c (TryCellResult.Attached k) (state_of sheet.old queue.old attached.old at)) }
-{
-    let counts = at.counts;
-    let made = counts.attached;
-    sheet::attach(sheet, c, k);
-    used[k] = 1;
-    attached[made] = sheet::place_of(c) as u16;
-    let tail = grow_queue::enqueue_cardinal_neighbours(sheet, queue, seen, at.tail, c);
-    Progress {
-        tail,
-        counts: passes::one_more(TryCellResult::Attached(k), counts),
+    // Attaches a corner to a cell: its marks stay, the cell joins the attached list, and its neighbours are queued.
+    fn attach_corner(&mut self, queue: &mut Queue, c: Cell, k: usize)
+        requires { Attachable self.old queue.old c k }
+        ensures { Leaves self.old queue.old self.new queue.new (grow_with c (TryCellResult.Attached k) (state_of self.old queue.old)) }
+    {
+        self.attached[self.counts.attached] = sheet::place_of(c) as u16;
+        let sheet = &mut *self.sheet;
+        sheet::attach(sheet, c, k);
+        queue.enqueue_cardinal_neighbours(sheet, c);
+        self.used[k] = 1;
+        self.counts = passes::one_more(TryCellResult::Attached(k), self.counts);
     }
-}
 
-// Settles a cell by what was found there: no candidate and refused edges mark a hole, an ambiguous choice marks ambiguous, and a corner
-// found is attached.
-fn settle(
-    sheet: &mut [u16],
-    queue: &mut [u16],
-    attached: &mut [u16],
-    used: &mut [u8; CORNERS],
-    seen: &mut [u8; PLACES],
-    c: Cell,
-    found: TryCellResult,
-    at: Progress,
-) -> Progress
-    requires { Settleable sheet.old queue.old attached.old used.old seen.old c found at }
-    ensures { Leaves queue.old attached.old sheet.new queue.new attached.new used.new
-        seen.new result (grow_with c found (state_of sheet.old queue.old attached.old at)) }
-{
-    let tail = at.tail;
-    match found {
-        TryCellResult::NoCandidates => {
-            sheet::mark_hole(sheet, c);
-            let counts = passes::one_more(found, at.counts);
-            Progress { tail, counts }
+    // Settles a cell by what was found there: no candidate and refused edges mark a hole, an ambiguous choice marks ambiguous, and a corner
+    // found is attached.
+    fn settle(&mut self, queue: &mut Queue, c: Cell, found: TryCellResult)
+        requires { Settleable self.old queue.old c found }
+        ensures { Leaves self.old queue.old self.new queue.new (grow_with c found (state_of self.old queue.old)) }
+    {
+        match found {
+            TryCellResult::NoCandidates | TryCellResult::EdgeRejected => {
+                sheet::mark_hole(self.sheet, c);
+                self.counts = passes::one_more(found, self.counts);
+            }
+            TryCellResult::Ambiguous => {
+                sheet::mark_ambiguous(self.sheet, c);
+                self.counts = passes::one_more(found, self.counts);
+            }
+            TryCellResult::Attached(k) => self.attach_corner(queue, c, k),
         }
-        TryCellResult::Ambiguous => {
-            sheet::mark_ambiguous(sheet, c);
-            let counts = passes::one_more(found, at.counts);
-            Progress { tail, counts }
-        }
-        TryCellResult::EdgeRejected => {
-            sheet::mark_hole(sheet, c);
-            let counts = passes::one_more(found, at.counts);
-            Progress { tail, counts }
-        }
-        TryCellResult::Attached(k) => attach_corner(sheet, queue, attached, used, seen, c, k, at),
     }
-}
 
-// Visits a cell of the queue.
-fn visit(
-    corners: &[f32; 4 * CORNERS],
-    sheet: &mut [u16],
-    queue: &mut [u16],
-    attached: &mut [u16],
-    used: &mut [u8; CORNERS],
-    seen: &mut [u8; PLACES],
-    c: Cell,
-    setup: GrowSetup,
-    at: Progress,
-) -> Progress
-    requires { Visitable setup.count sheet.old queue.old attached.old used.old seen.old c at }
-    ensures { Leaves queue.old attached.old sheet.new queue.new attached.new used.new
-        seen.new result (grow_visit (corners_in corners.now setup.count) setup.settings setup.params c
-        (state_of sheet.old queue.old attached.old at)) }
-{
-    let found = try_cell(corners, sheet, used, c, setup);
-    settle(sheet, queue, attached, used, seen, c, found, at)
-}
-
-// The run: the queue's cells, of which the first `tail` are the seeds, are visited in order until none is left.
-fn grow(
-    corners: &[f32; 4 * CORNERS],
-    sheet: &mut [u16],
-    queue: &mut [u16],
-    attached: &mut [u16],
-    used: &mut [u8; CORNERS],
-    seen: &mut [u8; PLACES],
-    setup: GrowSetup,
-    tail: usize,
-) -> Progress
-    requires { Startable setup.count sheet.old queue.old attached.old used.old seen.old tail }
-    ensures { Leaves queue.old attached.old sheet.new queue.new attached.new used.new
-        seen.new result (grow_run (corners_in corners.now setup.count) setup.settings setup.params sheet.old) }
-{
-    let counts = Counts {
-        attached: 0,
-        rejected_no_candidate: 0,
-        rejected_ambiguous: 0,
-        rejected_edge: 0,
-    };
-    let mut at = Progress { tail, counts };
-    let mut head = 0usize;
-    while head < at.tail {
-        let c = sheet::cell_of(queue[head] as usize);
-        let next = visit(corners, sheet, queue, attached, used, seen, c, setup, at);
-        at = next;
-        head += 1;
+    // Visits a cell of the queue.
+    fn visit(&mut self, queue: &mut Queue, c: Cell)
+        requires { Visitable self.old queue.old c }
+        ensures { Leaves self.old queue.old self.new queue.new
+            (grow_visit (held self.old) self.old.setup.settings self.old.setup.params c (state_of self.old queue.old)) }
+    {
+        let found = self.try_cell(c);
+        self.settle(queue, c, found);
     }
-    at
+
+    // The run: the seeds are queued, and the queue's cells are visited in order until none is left.
+    fn run(&mut self, queue: &mut Queue)
+        requires { Startable self.old queue.old }
+        ensures { Left self.old queue.old self.new queue.new
+            (grow_run (held self.old) self.old.setup.settings self.old.setup.params self.old.sheet.now) }
+    {
+        let sheet = &mut *self.sheet;
+        queue.seed(sheet);
+        while let Some(c) = queue.pop() {
+            self.visit(queue, c);
+        }
+    }
+
+    // What is said of a run: its counts, and the rim.
+    fn stats(&self) -> GrowStats
+        ensures { result ≡ stats_of self.now }
+    {
+        GrowStats {
+            counts: self.counts,
+            rim: labels::rim_reached(self.sheet, 1),
+        }
+    }
 }
 
 // The pass on arguments that are accepted: which corners are used, the seeds, the run, and the rim at its end.
@@ -236,20 +204,24 @@ fn extend(
     let nothing = 0.0f32 / 0.0f32;
     let mut corners = [nothing; 4 * CORNERS];
     arguments::hold_corners(xs, ys, pitches, shades, &mut corners);
-    let mut used = labels::mark_used(sheet);
-    let mut seen = [0u8; PLACES];
-    let tail = grow_queue::seed(sheet, queue, &mut seen);
-    let setup = GrowSetup {
+    let used = labels::mark_used(sheet);
+    let mut queue = Queue::new(queue);
+    let mut growing = Growing {
+        corners: &corners,
         count: xs.len(),
-        settings,
-        params,
+        setup: GrowSetup { settings, params },
+        sheet,
+        attached,
+        used,
+        counts: Counts {
+            attached: 0,
+            rejected_no_candidate: 0,
+            rejected_ambiguous: 0,
+            rejected_edge: 0,
+        },
     };
-    let end = grow(
-        &corners, sheet, queue, attached, &mut used, &mut seen, setup, tail,
-    );
-    let counts = end.counts;
-    let rim = labels::rim_reached(sheet, 1);
-    GrowStats { counts, rim }
+    growing.run(&mut queue);
+    growing.stats()
 }
 
 // Grow on the corners, their shades and the sheet that are lent. A refusal says why and changes nothing. Else the sheet holds what grow

@@ -1,33 +1,53 @@
--- Grow's queue as the code holds it: a lent buffer whose first places are the cells queued so far, and an array that says which places
--- those are. Definitions only.
-use Rattle.std.specs.Prelude.{◌≡◌, true, cond, List, [], ℕ, ◌+◌, ◌*◌, ◌<◌, ◌≤◌, length, get_or, take}
+-- Grow's queue as the code holds it: what is queued, what its functions ask, and what they leave. Definitions only.
+use Rattle.std.specs.Prelude.{◌≡◌, true, false, cond, List, [], ℕ, ◌+◌, ◌*◌, ◌<◌, ◌≤◌, length, get_or, Option, None, Some}
 use Rattle.sizes.specs.Sizes.{place_count}
 use Rattle.sheet.specs.Cells.{cell_of}
-use Rattle.sheet.specs.Words.{bit_of}
+use Rattle.sheet.specs.declared.Cell.{Cell}
 use Rattle.labels.specs.Labelled.{is_labelled, labelled_places, label_count}
 use Rattle.passes.specs.Grow.{member, spread, seeded_from}
 use Rattle.arguments.specs.Front.{over}
+use Rattle.grow_queue.specs.Places.{so_far}
+use Rattle.grow_queue.specs.declared.Queue.{Queue}
 
--- the cells queued so far: the first `tail` places of the queue
-abbrev pub so_far : List ℕ → ℕ → List ℕ
-so_far queue tail = take tail queue
+-- the cells queued so far
+abbrev pub queued : Queue → List ℕ
+queued q = so_far q.places.now q.tail
 
--- an array in step with the queue: entry p is 1 if the place p was queued, and else 0
-pub record Flagged (queued seen : List ℕ) : Type 0 where
-  pub size : length seen ≡ place_count
-  pub at : (p : ℕ) → p < place_count → get_or seen p 0 ≡ bit_of (member p queued)
+-- nothing is queued yet, in a buffer that holds these places
+pub record Empty (places : List ℕ) (q : Queue) : Type 0 where
+  pub places_are : q.places.now ≡ places
+  pub head_is : q.head ≡ 0
+  pub tail_is : q.tail ≡ 0
+
+-- a place of the sheet that was not queued before, and room for it
+pub record Fresh (place : ℕ) (q : Queue) : Type 0 where
+  pub room : q.tail < length q.places.now
+  pub below : place < place_count
+  pub new : member place (queued q) ≡ false
 
 -- room in the queue for n cells more
-pub record Room (n : ℕ) (sheet queue seen : List ℕ) (tail : ℕ) : Type 0 where
+pub record Room (n : ℕ) (sheet : List ℕ) (q : Queue) : Type 0 where
   pub long : place_count ≤ length sheet
-  pub room : tail + n ≤ length queue
-  pub flagged : Flagged (so_far queue tail) seen
+  pub room : q.tail + n ≤ length q.places.now
 
--- what the queue is left with: these cells at its front, r in number, the rest as it was, and the array in step
-pub record QueueHeld (queue after seen : List ℕ) (r : ℕ) (queued : List ℕ) : Type 0 where
-  pub written : after ≡ over queued queue
-  pub count : r ≡ length queued
-  pub flagged : Flagged queued seen
+-- what the queue is left with: these cells at its front, the rest as it was, and as many taken
+pub record QueueHeld (before after : Queue) (cells : List ℕ) : Type 0 where
+  pub same_buffer : after.places.ghost_name ≡ before.places.ghost_name
+  pub written : after.places.now ≡ over cells before.places.now
+  pub count : after.tail ≡ length cells
+  pub head_same : after.head ≡ before.head
+
+-- the first cell that was not taken is taken, none where all were
+abbrev pub TakenAs : Queue → Queue → Option Cell → Type 0
+TakenAs before after None = (before.tail ≤ before.head) × (after.head ≡ before.head)
+TakenAs before after (Some c) = (before.head < before.tail) × (c ≡ cell_of (get_or before.places.now before.head 0)) × (after.head ≡ before.head + 1)
+
+pub record Taken (before after : Queue) (r : Option Cell) : Type 0 where
+  pub same_buffer : after.places.ghost_name ≡ before.places.ghost_name
+  pub same_places : after.places.now ≡ before.places.now
+  pub same_tail : after.tail ≡ before.tail
+  pub same_seen : after.seen ≡ before.seen
+  pub next : TakenAs before after r
 
 -- ---- the seeds
 
@@ -40,15 +60,13 @@ abbrev pub seeded : List ℕ → List ℕ
 seeded sheet = seeded_from sheet (labelled_places sheet) []
 
 -- room in the queue for four cells more, if the place is labelled
-pub record SeedRoom (sheet queue seen : List ℕ) (tail p : ℕ) : Type 0 where
+pub record SeedRoom (sheet : List ℕ) (q : Queue) (p : ℕ) : Type 0 where
   pub long : place_count ≤ length sheet
   pub place : p < place_count
-  pub upto : tail ≤ length queue
-  pub room : is_labelled (get_or sheet p 0) ≡ true → tail + 4 ≤ length queue
-  pub flagged : Flagged (so_far queue tail) seen
+  pub room : is_labelled (get_or sheet p 0) ≡ true → q.tail + 4 ≤ length q.places.now
 
 -- room in the queue for four cells a labelled cell, and nothing queued
-pub record Unqueued (sheet queue seen : List ℕ) : Type 0 where
+pub record Unqueued (sheet : List ℕ) (q : Queue) : Type 0 where
   pub long : place_count ≤ length sheet
-  pub room : 4 * label_count sheet ≤ length queue
-  pub flagged : Flagged [] seen
+  pub room : 4 * label_count sheet ≤ length q.places.now
+  pub none : q.tail ≡ 0

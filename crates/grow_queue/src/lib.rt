@@ -1,89 +1,124 @@
 // Grow's queue (01, "Grow": "seeds by i, then j; neighbours are queued in Edge's order, each cell once"; port of
-// enqueue_cardinal_neighbours of shared/grow/mod.rs and of the seeds of shared/grow_extend.rs). The queue is lent and holds places; its
-// first `tail` places are the cells queued so far, and `seen` says which places those are.
+// enqueue_cardinal_neighbours of shared/grow/mod.rs and of the seeds of shared/grow_extend.rs).
 
 #![tactic(auto)]
 
-ghost use Rattle.sheet.specs.Cells.{OnSheet};
-ghost use Rattle.passes.specs.Grow.{enqueued, spread};
-ghost use Rattle.grow_queue.specs.Queue.{so_far, Room, QueueHeld, seeded_at, SeedRoom, seeded, Unqueued};
+ghost use Rattle.std.specs.Prelude.{◌≤◌, length};
+ghost use Rattle.grow_queue.specs.Places.{so_far, Flagged, OnPlaces};
 
 use sheet::Cell;
 use sizes::PLACES;
 
-// Queues a cell: it goes to the queue's end if it lies on the sheet, is unlabelled, and was not queued before. Returns the new end.
-fn enqueue(sheet: &[u16], queue: &mut [u16], seen: &mut [u8; PLACES], tail: usize, c: Cell) -> usize
-    requires { Room 1 sheet.now queue.old seen.old tail }
-    ensures { QueueHeld queue.old queue.new seen.new result (enqueued sheet.now c (so_far queue.old tail)) }
-{
-    if !sheet::on_sheet(c) {
-        return tail;
-    }
-    let place = sheet::place_of(c);
-    if labels::is_labelled(sheet[place]) {
-        return tail;
-    }
-    if seen[place] != 0 {
-        return tail;
-    }
-    seen[place] = 1;
-    queue[tail] = place as u16;
-    tail + 1
+// The queue, in a lent buffer of places: its first `tail` places are the cells queued so far, and of these the first `head` are taken.
+// `seen` says which places those are.
+#[derive(Drop)]
+pub struct Queue<'a> {
+    pub places: &'a mut [u16],
+    pub seen: [bool; PLACES],
+    pub head: usize,
+    pub tail: usize,
+    ghost within: { tail ≤ length places.now },
+    ghost upto: { head ≤ tail },
+    ghost flagged: { Flagged (so_far places.now tail) seen },
+    ghost on_places: { OnPlaces (so_far places.now tail) },
 }
 
-// Queues the four cardinal neighbours of a cell, in the order +i, -i, +j, -j. Returns the queue's new end.
-pub fn enqueue_cardinal_neighbours(
-    sheet: &[u16],
-    queue: &mut [u16],
-    seen: &mut [u8; PLACES],
-    tail: usize,
-    c: Cell,
-) -> usize
-    requires { Room 4 sheet.now queue.old seen.old tail × OnSheet c }
-    ensures { QueueHeld queue.old queue.new seen.new result (spread sheet.now c (so_far queue.old tail)) }
-{
-    let mut end = tail;
-    let mut k = 0usize;
-    while k < 4 {
-        end = enqueue(
-            sheet,
-            queue,
-            seen,
-            end,
-            sheet::neighbour(c, positions_policy::cardinal_offset(k)),
-        );
-        k += 1;
-    }
-    end
-}
+impl<'a> Queue<'a> {
+    ghost use Rattle.std.specs.Prelude.{◌≡◌, [], ◌∷◌, ◌++◌};
+    ghost use Rattle.sizes.specs.Sizes.{place_count};
+    ghost use Rattle.sheet.specs.Cells.{OnSheet};
+    ghost use Rattle.passes.specs.Grow.{wanted, enqueued, spread};
+    ghost use Rattle.grow_queue.specs.Queue.{queued, Empty, Fresh, Room, QueueHeld, SeedRoom, Unqueued, seeded_at, seeded, Taken};
 
-// Queues the neighbours of a place's cell, if it is labelled. Returns the queue's new end.
-fn seed_at(
-    sheet: &[u16],
-    queue: &mut [u16],
-    seen: &mut [u8; PLACES],
-    tail: usize,
-    place: usize,
-) -> usize
-    requires { SeedRoom sheet.now queue.old seen.old tail place }
-    ensures { QueueHeld queue.old queue.new seen.new result (seeded_at sheet.now place (so_far queue.old tail)) }
-{
-    if labels::is_labelled(sheet[place]) {
-        return enqueue_cardinal_neighbours(sheet, queue, seen, tail, sheet::cell_of(place));
+    // A queue of no cell.
+    pub fn new(places: &'a mut [u16]) -> Queue<'a>
+        ensures same_places { result.places.ghost_name ≡ places.entry.ghost_name }
+        ensures empty { Empty places.old result }
+    {
+        Queue {
+            places,
+            seen: [false; PLACES],
+            head: 0,
+            tail: 0,
+        }
     }
-    tail
-}
 
-// Queues the neighbours of all labelled cells, by i, then j, from an empty queue. Returns the queue's end.
-pub fn seed(sheet: &[u16], queue: &mut [u16], seen: &mut [u8; PLACES]) -> usize
-    requires { Unqueued sheet.now queue.old seen.old }
-    ensures { QueueHeld queue.old queue.new seen.new result (seeded sheet.now) }
-{
-    let mut tail = 0usize;
-    let mut place = sheet::next_written(sheet, 0);
-    while place < PLACES {
-        tail = seed_at(sheet, queue, seen, tail, place);
-        place = sheet::next_written(sheet, place + 1);
+    // Queues a place that was not queued before.
+    fn push(&mut self, place: usize)
+        requires { Fresh place self.old }
+        ensures { QueueHeld self.old self.new (queued self.old ++ place ∷ []) }
+    {
+        self.places[self.tail] = place as u16;
+        self.seen[place] = true;
+        self.tail += 1;
     }
-    tail
+
+    // Takes the first cell that is not taken yet.
+    pub fn pop(&mut self) -> Option<Cell>
+        ensures { Taken self.old self.new result }
+    {
+        if self.head == self.tail {
+            return None;
+        }
+        let place = self.places[self.head] as usize;
+        self.head += 1;
+        Some(sheet::cell_of(place))
+    }
+
+    // Whether a cell is to be queued: it lies on the sheet, is unlabelled, and was not queued before.
+    fn wants(&self, sheet: &[u16], c: Cell) -> bool
+        requires { place_count ≤ length sheet.now }
+        ensures { result ≡ wanted sheet.now (queued self.now) c }
+    {
+        sheet::on_sheet(c)
+            && {
+                let place = sheet::place_of(c);
+                !labels::is_labelled(sheet[place]) && !self.seen[place]
+            }
+    }
+
+    // Queues a cell if it is to be queued.
+    fn enqueue(&mut self, sheet: &[u16], c: Cell)
+        requires { Room 1 sheet.now self.old }
+        ensures { QueueHeld self.old self.new (enqueued sheet.now c (queued self.old)) }
+    {
+        if self.wants(sheet, c) {
+            self.push(sheet::place_of(c));
+        }
+    }
+
+    // Queues the four cardinal neighbours of a cell, in the order +i, -i, +j, -j.
+    pub fn enqueue_cardinal_neighbours(&mut self, sheet: &[u16], c: Cell)
+        requires { Room 4 sheet.now self.old × OnSheet c }
+        ensures { QueueHeld self.old self.new (spread sheet.now c (queued self.old)) }
+    {
+        for k in 0..4 {
+            self.enqueue(
+                sheet,
+                sheet::neighbour(c, positions_policy::cardinal_offset(k)),
+            );
+        }
+    }
+
+    // Queues the neighbours of a place's cell, if it is labelled.
+    fn seed_at(&mut self, sheet: &[u16], place: usize)
+        requires { SeedRoom sheet.now self.old place }
+        ensures { QueueHeld self.old self.new (seeded_at sheet.now place (queued self.old)) }
+    {
+        if labels::is_labelled(sheet[place]) {
+            self.enqueue_cardinal_neighbours(sheet, sheet::cell_of(place));
+        }
+    }
+
+    // Queues the neighbours of all labelled cells, by i, then j.
+    pub fn seed(&mut self, sheet: &[u16])
+        requires { Unqueued sheet.now self.old }
+        ensures { QueueHeld self.old self.new (seeded sheet.now) }
+    {
+        let mut place = sheet::next_written(sheet, 0);
+        while place < PLACES {
+            self.seed_at(sheet, place);
+            place = sheet::next_written(sheet, place + 1);
+        }
+    }
 }

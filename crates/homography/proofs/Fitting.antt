@@ -1,10 +1,10 @@
 -- The fit from its parts, as the code has it: the two normalisations, the solution, and the scaling. Assumes nothing.
 use mathlib.Core.Path.{◌≡◌, refl, sym, ap, ◌∙◌}
-use mathlib.Core.Bool.{Bool, true, false, cond, ◌&&◌, not}
+use mathlib.Core.Bool.{Bool, true, false, cond, ◌&&◌, not, true≢false}
 use mathlib.Core.List.{List, ◌++◌}
 use Prim.Native.Nat.{ℕ}
-use borrow.Author.Tests.{not-true, not-false}
 use lib.ListN.{get_or}
+use Rattle.std.specs.Prelude.{Option, Some, None}
 use lib.Ieee.{Float, nan, binary32}
 use Rattle.binary32.specs.Ranges.{is_finite, all_finite}
 use Rattle.elimination.specs.Rounded.{◌⊘◌}
@@ -13,13 +13,11 @@ use Rattle.elimination.specs.Solve.{Matrix, values, no_zero_pivot, solve_steps, 
 use Rattle.elimination.proofs.Tables.{get_d_table, both, same, every_at, every_same}
 use Rattle.elimination.proofs.Finite.{div_finite, joined, apart, table_finite}
 use Rattle.sheet.specs.declared.Position.{Position}
-use Rattle.elimination.specs.declared.Solution.{Solution}
 use Rattle.homography.specs.declared.Normalized.{Normalized}
-use Rattle.homography.specs.declared.Fit.{Fit}
 use Rattle.homography.specs.Normalize.{normalization_of, normalized, normal_steps, normalized_of}
 use Rattle.homography.specs.Equations.{equations, equation_steps}
 use Rattle.homography.specs.Undo.{undone, undo_steps}
-use Rattle.homography.specs.Fit.{NoFit, Entries, fit_of, last_of, small, quotients, finite_entries, scaled_of, equations_of, unscaled, fit_steps, fits, homography_of}
+use Rattle.homography.specs.Fit.{last_of, small, quotients, finite_entries, scaled_of, equations_of, unscaled, fit_steps, fits, homography_of}
 use Rattle.homography.proofs.Normalizing.{normal_up}
 use Rattle.homography.proofs.Equating.{products_finite, equations_finite}
 use Rattle.homography.proofs.Undoing.{FiniteNine, undo_before}
@@ -39,17 +37,18 @@ divided_finite : (h : List Float) → all_finite (quotients h) ≡ true → Fini
 unfolding quotients
 divided_finite h e n l = div_finite binary32 (get_or h n nan) (last_of h) (every_at 9 (λ n. is_finite (get_or h n nan ⊘ last_of h)) (sym (table_finite 9 (λ n. get_or h n nan ⊘ last_of h)) ∙ e) n l)
 
-pub scaled_small : (h : List Float) (r : Fit) → r ≡ fit_of NoFit → small h ≡ true → r ≡ fit_of (scaled_of h)
+pub scaled_small : (h : List Float) → small h ≡ true → None ≡ scaled_of h
 unfolding scaled_of
-scaled_small h r e s = e ∙ rw s
+scaled_small h s = rw s
 
-pub scaled_wild : (h q : List Float) (r : Fit) (t : Bool) → r ≡ fit_of NoFit → small h ≡ false → q ≡ quotients h → t ≡ finite_entries q → not t ≡ true → r ≡ fit_of (scaled_of h)
-unfolding scaled_of
-scaled_wild h q r t e s eq et n = e ∙ rw (s, ← quotients_finite h, ← eq, ← et, not-true t n)
+module _ (h q : List Float) (t : Bool) (s : small h ≡ false) (eq : q ≡ quotients h) (et : t ≡ finite_entries q) where
+  pub scaled_wild : t ≡ false → None ≡ scaled_of h
+  unfolding scaled_of
+  scaled_wild e = rw (s, ← quotients_finite h, ← eq, ← et, e)
 
-pub scaled_fit : (h q : List Float) (t : Bool) → small h ≡ false → q ≡ quotients h → t ≡ finite_entries q → not t ≡ false → record { found = true; h = q } ≡ fit_of (scaled_of h)
-unfolding scaled_of fit_of
-scaled_fit h q t s eq et n = rw (s, ← quotients_finite h, ← eq, ← et, not-false t n)
+  pub scaled_fit : t ≡ true → Some q ≡ scaled_of h
+  unfolding scaled_of
+  scaled_fit e = rw (s, ← quotients_finite h, ← eq, ← et, e)
 
 -- ---- the whole
 
@@ -111,44 +110,52 @@ module _ (cells corners : List Position) where
       rw (z.0, q.0, all)
 
   -- the fit is that of the scaling, where both normalisations and the solution are sound
-  pub homography_is : homography_of cells corners ≡ cond reached (scaled_of h) NoFit
+  pub homography_is : homography_of cells corners ≡ cond reached (scaled_of h) None
   unfolding homography_of scaled_of
   homography_is = rw (same (fits cells corners) (reached && passed) fits_down fits_up) (go reached)
     where
-      go : (t : Bool) → cond (t && passed) (Entries (quotients h)) NoFit ≡ cond t (cond passed (Entries (quotients h)) NoFit) NoFit
+      go : (t : Bool) → cond (t && passed) (Some (quotients h)) None ≡ cond t (cond passed (Some (quotients h)) None) None
       go true = refl
       go false = refl
 
--- ---- as the code leaves it: s and t the normalisations, m the equations, a their solution, k the matrix undone, r the answer
+-- ---- as the code leaves it: s and t the normalisations, m the equations, x their answers, k the matrix undone, r the answer
 
-module _ (cells corners : List Position) {s : Normalized} (es : s ≡ normalized_of cells) where
-  sound_s : s.sound ≡ all_finite (normal_steps cells)
-  sound_s = ap (λ (n : Normalized). n.sound) es
+-- what is there under a test, and what is not
+module _ {A : Type 0} where
+  there : (t : Bool) (x : A) {y : A} → cond t (Some x) None ≡ Some y → (t ≡ true) × (x ≡ y)
+  there true x e = (refl, cc)
+  there false x e = absurd (let z : true ≡ false = cc in true≢false z)
 
-  pub fit_first : {r : Fit} → r ≡ fit_of NoFit → not s.sound ≡ true → r ≡ fit_of (homography_of cells corners)
-  fit_first e n = e ∙ rw (homography_is cells corners, ← sound_s, not-true s.sound n)
+  absent : (t : Bool) (x : A) → cond t (Some x) None ≡ None → t ≡ false
+  absent true x e = let z : true ≡ false = cc in z
+  absent false x e = refl
 
-  module _ {t : Normalized} (n : not s.sound ≡ false) (et : t ≡ normalized_of corners) where
-    sound_t : t.sound ≡ all_finite (normal_steps corners)
-    sound_t = ap (λ (n : Normalized). n.sound) et
+module _ (cells corners : List Position) where
+  pub fit_first : normalized_of cells ≡ None → None ≡ homography_of cells corners
+  fit_first e = rw (homography_is cells corners, absent (all_finite (normal_steps cells)) _ e)
 
-    pub fit_second : {r : Fit} → r ≡ fit_of NoFit → not t.sound ≡ true → r ≡ fit_of (homography_of cells corners)
-    fit_second e o = e ∙ rw (homography_is cells corners, ← sound_s, not-false s.sound n, ← sound_t, not-true t.sound o)
+  module _ (s : Normalized) (es : normalized_of cells ≡ Some s) where
+    told_s : (all_finite (normal_steps cells) ≡ true) × (record { points = normalized cells; by = normalization_of cells } ≡ s)
+    told_s = there (all_finite (normal_steps cells)) _ es
 
-    module _ {m : Matrix} {a : Solution} (o : not t.sound ≡ false) (em : m ≡ equations s.points t.points) (ea : a ≡ solved m) where
-      solution : a ≡ solved (equations_of cells corners)
-      solution = ea ∙ ap solved (em ∙ rw (es, et))
+    pub fit_second : normalized_of corners ≡ None → None ≡ homography_of cells corners
+    fit_second e = rw (homography_is cells corners, told_s.0, absent (all_finite (normal_steps corners)) _ e)
 
-      sound_a : a.sound ≡ sound_of (equations_of cells corners)
-      sound_a = ap (λ (x : Solution). x.sound) solution
+    module _ (t : Normalized) (et : normalized_of corners ≡ Some t) (m : Matrix) (em : m ≡ equations s.points t.points) where
+      told_t : (all_finite (normal_steps corners) ≡ true) × (record { points = normalized corners; by = normalization_of corners } ≡ t)
+      told_t = there (all_finite (normal_steps corners)) _ et
 
-      pub fit_third : {r : Fit} → r ≡ fit_of NoFit → not a.sound ≡ true → r ≡ fit_of (homography_of cells corners)
-      fit_third e l = e ∙ rw (homography_is cells corners, ← sound_s, not-false s.sound n, ← sound_t, not-false t.sound o, ← sound_a, not-true a.sound l)
+      solution : solved m ≡ solved (equations_of cells corners)
+      solution = ap solved (em ∙ rw (← told_s.1, ← told_t.1))
 
-      pub fit_last : {k : List Float} {r : Fit} → not a.sound ≡ false → k ≡ undone a.answers s.by t.by → r ≡ fit_of (scaled_of k) → r ≡ fit_of (homography_of cells corners)
-      fit_last {k} l ek e =
-          e ∙ rw (homography_is cells corners, ← sound_s, not-false s.sound n, ← sound_t, not-false t.sound o, ← sound_a, not-false a.sound l)
-          (ap (λ (x : List Float). fit_of (scaled_of x)) (ek ∙ whole))
+      pub fit_third : solved m ≡ None → None ≡ homography_of cells corners
+      fit_third e = rw (homography_is cells corners, told_s.0, told_t.0, absent (sound_of (equations_of cells corners)) _ (sym solution ∙ e))
+
+      pub fit_last : (x k : List Float) (r : Option (List Float)) → solved m ≡ Some x → k ≡ undone x s.by t.by → r ≡ scaled_of k → r ≡ homography_of cells corners
+      fit_last x k r ex ek e = e ∙ rw (homography_is cells corners, told_s.0, told_t.0, answered.0) (ap scaled_of (ek ∙ whole))
         where
-          whole : undone a.answers s.by t.by ≡ unscaled cells corners
-          whole = unfold unscaled in rw (solution, es, et)
+          answered : (sound_of (equations_of cells corners) ≡ true) × (answers_of (equations_of cells corners) ≡ x)
+          answered = there (sound_of (equations_of cells corners)) _ (sym solution ∙ ex)
+
+          whole : undone x s.by t.by ≡ unscaled cells corners
+          whole = unfold unscaled in rw (← answered.1, ← told_s.1, ← told_t.1)

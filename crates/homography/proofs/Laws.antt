@@ -5,6 +5,7 @@ use mathlib.Core.List.{List}
 use Prim.Native.Nat.{ℕ, ◌-◌, ◌<◌}
 use borrow.Author.Tests.{not-true}
 use lib.ListN.{length, get_or}
+use Rattle.std.specs.Prelude.{Some, None}
 use lib.Ieee.{Float, nan, eq}
 use Rattle.binary32.specs.Ranges.{is_finite, all_finite}
 use Rattle.elimination.specs.Rounded.{◌⊘◌, magnitude}
@@ -15,29 +16,17 @@ use Rattle.elimination.proofs.Laws.{FirstLargest, sound_first}
 use Rattle.sheet.specs.declared.Position.{Position}
 use Rattle.binary32.specs.Numbers.{nought}
 use Rattle.homography.specs.Normalize.{normal_steps}
-use Rattle.homography.specs.Fit.{Answer, NoFit, Entries, fit_of, last_of, small, quotients, equations_of, unscaled, fit_steps, fits, homography_of}
+use Rattle.homography.specs.Fit.{Answer, last_of, small, quotients, equations_of, unscaled, fit_steps, fits, homography_of}
 use Rattle.homography.proofs.Fitting.{reached, passed, fits_down}
-
--- ---- the struct and what it stands for
-
-pub found_entries : (a : Answer) → (fit_of a).found ≡ true → a ≡ Entries (fit_of a).h
-unfolding fit_of
-found_entries NoFit e = absurd (true≢false (sym e))
-found_entries (Entries h) e = refl
-
-pub not_found : (a : Answer) → (fit_of a).found ≡ false → a ≡ NoFit
-unfolding fit_of
-not_found NoFit e = refl
-not_found (Entries h) e = absurd (true≢false e)
 
 -- ---- a fit that is answered
 
 -- what is picked under a test that passes, and under one that fails
-picked : (t : Bool) (q h : List Float) → cond t (Entries q) NoFit ≡ Entries h → (t ≡ true) × (h ≡ q)
+picked : (t : Bool) (q h : List Float) → cond t (Some q) None ≡ Some h → (t ≡ true) × (h ≡ q)
 picked true q h e = (refl, cc)
 picked false q h e = let z : true ≡ false = cc in absurd (true≢false z)
 
-module _ (cells corners : List Position) (h : List Float) (e : homography_of cells corners ≡ Entries h) where
+module _ (cells corners : List Position) (h : List Float) (e : homography_of cells corners ≡ Some h) where
   it_fits : (fits cells corners ≡ true) × (h ≡ quotients (unscaled cells corners))
   unfolding homography_of
   it_fits = picked (fits cells corners) (quotients (unscaled cells corners)) h e
@@ -87,9 +76,9 @@ module _ (cells corners : List Position) (h : List Float) (e : homography_of cel
 
 -- ---- "a non-finite value at any step of the fit means no fit"
 
-pub wild_step : (cells corners : List Position) (i : ℕ) → i < length (fit_steps cells corners) → is_finite (get_or (fit_steps cells corners) i nan) ≡ false → homography_of cells corners ≡ NoFit
+pub wild_step : (cells corners : List Position) (i : ℕ) → i < length (fit_steps cells corners) → is_finite (get_or (fit_steps cells corners) i nan) ≡ false → homography_of cells corners ≡ None
 wild_step cells corners i l e = go (homography_of cells corners) refl
   where
-    go : (a : Answer) → homography_of cells corners ≡ a → a ≡ NoFit
-    go NoFit q = refl
-    go (Entries h) q = absurd (true≢false (sym (fit_step cells corners h q i l) ∙ e))
+    go : (a : Answer) → homography_of cells corners ≡ a → a ≡ None
+    go None q = refl
+    go (Some h) q = absurd (true≢false (sym (fit_step cells corners h q i l) ∙ e))

@@ -5,12 +5,14 @@ use mathlib.Core.Bool.{Bool, true, false, cond, ◌&&◌, true≢false}
 use mathlib.Core.List.{List, [], ◌∷◌, ◌++◌}
 use Prim.Native.Nat.{ℕ, zero, suc, ◌<◌}
 use native.Mathlib.Omega.{arith}
+use Rattle.std.specs.Prelude.{Some, None, fold}
+use lib.ListN.{length, get_or}
 use lib.Ieee.{Float, nan, inf, fin, binary32, neg, lt, of_bits, to_bits}
 use Rattle.binary32.specs.Ranges.{is_finite, all_finite}
 use Rattle.binary32.specs.Sqrt.{units_of, reaches, climb, rooted, sqrt_or_nan}
 use Rattle.elimination.specs.Rounded.{◌⊕◌, ◌⊖◌, ◌⊗◌, ◌⊘◌}
 use Rattle.elimination.specs.Tables.{table, concatenated}
-use Rattle.elimination.proofs.Tables.{get_d_table, both, same, every_true, every_at}
+use Rattle.elimination.proofs.Tables.{get_d_table, table_is, both, same, every_true, every_at}
 use Rattle.elimination.proofs.Finite.{add_finite, mul_finite, div_finite, one_finite, none_finite, parts_finite, joined, apart, gathered_at, gathered_true}
 use Rattle.sheet.specs.declared.Position.{Position}
 use Rattle.binary32.specs.Numbers.{nought, one}
@@ -209,27 +211,46 @@ module _ (ps : List Position) where
       (λ e. let w = both (is_finite (mean_distance ps)) (finite_points (normalized ps)) e in normal_down w.0 w.1)
       (λ e. let w = normal_up e in ap₂ (λ (s t : Bool). s && t) w.0 w.1)
 
--- ---- as the code has it: the centre, four distances and their mean d, the scale s, the matrix m, and four points
+-- ---- as the code has it: the centre, the distances and their mean d, the scale s, the matrix m, and the points
 
-module _ (ps : List Position) {cx cy d0 d1 d2 d3 d s : Float} {m : List Float} {q0 q1 q2 q3 : Position} {ok : Bool}
-    (ex : cx ≡ centre_x ps) (ey : cy ≡ centre_y ps)
-    (e0 : d0 ≡ distance cx cy (point ps 0)) (e1 : d1 ≡ distance cx cy (point ps 1)) (e2 : d2 ≡ distance cx cy (point ps 2)) (e3 : d3 ≡ distance cx cy (point ps 3))
-    (ed : d ≡ mean d0 d1 d2 d3) (es : s ≡ scale_of d) (em : m ≡ forward (record { scale = s; cx = cx; cy = cy }))
-    (p0 : q0 ≡ moved m (point ps 0)) (p1 : q1 ≡ moved m (point ps 1)) (p2 : q2 ≡ moved m (point ps 2)) (p3 : q3 ≡ moved m (point ps 3))
-    (eok : ok ≡ (is_finite d && finite_points (q0 ∷ q1 ∷ q2 ∷ q3 ∷ []))) where
+-- four numbers summed one after the other
+pub summed : (xs : List Float) → length xs ≡ 4 → fold (λ a x. a ⊕ x) nought xs ⊘ four ≡ of_four mean (λ i. get_or xs i nan)
+unfolding table mean
+summed xs e = rw (table_is 4 (λ i. get_or xs i nan) xs nan e (λ i h. refl))
+
+-- the mean of four that stand in a table
+mean_table : (f : ℕ → Float) {xs : List Float} {a : Float} → xs ≡ table 4 f → a ≡ of_four mean (λ i. get_or xs i nan) → a ≡ of_four mean f
+unfolding table
+mean_table f e q = q ∙ rw e
+
+module _ (ps : List Position) {cx cy d s : Float} {xs ys ds m : List Float} {qs : List Position} {ok : Bool}
+    (exs : xs ≡ table 4 (λ i. (point ps i).x)) (ex : cx ≡ of_four mean (λ i. get_or xs i nan))
+    (eys : ys ≡ table 4 (λ i. (point ps i).y)) (ey : cy ≡ of_four mean (λ i. get_or ys i nan))
+    (eds : ds ≡ table 4 (λ i. distance cx cy (point ps i))) (ed : d ≡ of_four mean (λ i. get_or ds i nan))
+    (es : s ≡ scale_of d) (em : m ≡ forward (record { scale = s; cx = cx; cy = cy }))
+    (eqs : qs ≡ table 4 (λ i. moved m (point ps i))) (eok : ok ≡ (is_finite d && finite_points qs)) where
+  x_is : cx ≡ centre_x ps
+  x_is = mean_table (λ i. (point ps i).x) exs ex
+
+  y_is : cy ≡ centre_y ps
+  y_is = mean_table (λ i. (point ps i).y) eys ey
+
   mean_is : d ≡ mean_distance ps
-  mean_is = ed ∙ rw (e0, e1, e2, e3, ex, ey)
+  mean_is = mean_table (λ i. distance cx cy (point ps i)) eds ed ∙ rw (x_is, y_is)
 
   by_is : record { scale = s; cx = cx; cy = cy } ≡ normalization_of ps
   unfolding normalization_of
-  by_is = let e = es ∙ ap scale_of mean_is in λ i. record { scale = e i; cx = ex i; cy = ey i }
+  by_is = let e = es ∙ ap scale_of mean_is in λ i. record { scale = e i; cx = x_is i; cy = y_is i }
 
-  points_are : q0 ∷ q1 ∷ q2 ∷ q3 ∷ [] ≡ normalized ps
-  unfolding normalized table
-  points_are = rw (p0, p1, p2, p3, em, by_is)
+  points_are : qs ≡ normalized ps
+  unfolding normalized
+  points_are = eqs ∙ rw (em, by_is)
 
   ok_is : ok ≡ all_finite (normal_steps ps)
   ok_is = eok ∙ rw (mean_is, points_are) (normal_finite ps)
 
-  pub normalized_is : record { points = q0 ∷ q1 ∷ q2 ∷ q3 ∷ []; by = record { scale = s; cx = cx; cy = cy }; sound = ok } ≡ normalized_of ps
-  normalized_is = λ i. record { points = points_are i; by = by_is i; sound = ok_is i }
+  pub normalized_some : ok ≡ true → Some (record { points = qs; by = record { scale = s; cx = cx; cy = cy } }) ≡ normalized_of ps
+  normalized_some e = rw (← ok_is, e, points_are, by_is)
+
+  pub normalized_none : ok ≡ false → None ≡ normalized_of ps
+  normalized_none e = rw (← ok_is, e)

@@ -1,25 +1,18 @@
 -- Undoing: the nine entries stand for every step, since a non-finite value of a step leaves one among them. Assumes nothing.
 use mathlib.Core.Path.{◌≡◌, refl, sym, ap, ◌∙◌}
 use mathlib.Core.Bool.{true}
-use mathlib.Core.List.{List, [], ◌∷◌, ◌++◌}
+use mathlib.Core.List.{List, ◌++◌}
 use Prim.Native.Nat.{ℕ, zero, suc, ◌+◌, ◌*◌, ◌/◌, ◌%◌, ◌<◌}
 use native.Mathlib.Omega.{arith}
-use lib.ListN.{length, get_or}
+use lib.ListN.{get_or}
 use lib.Ieee.{Float, nan}
 use Rattle.binary32.specs.Ranges.{is_finite, all_finite}
-use Rattle.elimination.specs.Tables.{table}
-use Rattle.elimination.proofs.Tables.{get_d_table, table_is}
+use Rattle.elimination.proofs.Tables.{get_d_table}
 use Rattle.elimination.proofs.Finite.{one_finite, none_finite, joined, gathered_true}
-use Rattle.binary32.specs.Numbers.{one}
 use Rattle.homography.specs.declared.Normalization.{Normalization}
 use Rattle.homography.specs.Normalize.{row_sum, row_steps, forward}
 use Rattle.homography.specs.Undo.{backward, backward_steps, crossed, multiplied, multiplied_steps, answers_and_one, half_undone, undone, undo_steps}
 use Rattle.homography.proofs.Normalizing.{Factors, row_factors, row_steps_lem}
-
--- the eight answers and a 1, as the code has them
-pub eight_and_one : (xs : List Float) → length xs ≡ 8 → get_or xs 0 nan ∷ get_or xs 1 nan ∷ get_or xs 2 nan ∷ get_or xs 3 nan ∷ get_or xs 4 nan ∷ get_or xs 5 nan ∷ get_or xs 6 nan ∷ get_or xs 7 nan ∷ one ∷ [] ≡ answers_and_one xs
-unfolding table
-eight_and_one xs e = ap (λ (l : List Float). l ++ one ∷ []) (sym (table_is 8 (λ i. get_or xs i nan) xs nan e (λ i h. refl)))
 
 -- nine finite entries
 abbrev pub FiniteNine : List Float → Type 0

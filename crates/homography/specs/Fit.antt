@@ -1,6 +1,6 @@
 -- The fit of document 01: four cells and their four pictured corners give nine entries, or no fit; and how a point maps.
 -- Definitions only.
-use Rattle.std.specs.Prelude.{Bool, true, false, cond, ◌&&◌, not, List, ◌++◌, get_or, replicate, Float}
+use Rattle.std.specs.Prelude.{Bool, cond, ◌&&◌, not, List, ◌++◌, get_or, Option, Some, None, Float}
 use Rattle.std.specs.Float.{nan}
 use Rattle.std.specs.Float.Ieee.{lt}
 use Rattle.binary32.specs.Ranges.{is_finite, all_finite}
@@ -8,21 +8,13 @@ use Rattle.elimination.specs.Rounded.{◌⊘◌, magnitude}
 use Rattle.elimination.specs.Tables.{table, every}
 use Rattle.elimination.specs.Solve.{Matrix, no_zero_pivot, solve_steps, answers_of}
 use Rattle.sheet.specs.declared.Position.{Position}
-use Rattle.binary32.specs.Numbers.{nought}
-use Rattle.homography.specs.declared.Fit.{Fit}
 use Rattle.homography.specs.Normalize.{tiny, map_row, normalization_of, normalized, normal_steps}
 use Rattle.homography.specs.Equations.{equations, equation_steps}
 use Rattle.homography.specs.Undo.{undone, undo_steps}
 
 -- what a fit answers: no fit, or nine entries row by row
-pub data Answer : Type 0 where
-  NoFit : Answer
-  Entries : List Float → Answer
-
--- the struct that stands for it: where there is no fit, the nine entries are 0
-unfoldable pub fit_of : Answer → Fit
-fit_of NoFit = record { found = false; h = replicate 9 nought }
-fit_of (Entries h) = record { found = true; h = h }
+abbrev pub Answer : Type 0
+Answer = Option (List Float)
 
 -- ---- the last entry
 
@@ -43,7 +35,7 @@ finite_entries h = every 9 (λ n. is_finite (get_or h n nan))
 
 -- so a matrix gives its quotients, unless its last entry is small or a quotient is not finite
 unfoldable pub scaled_of : List Float → Answer
-scaled_of h = cond (not (small h) && all_finite (quotients h)) (Entries (quotients h)) NoFit
+scaled_of h = cond (not (small h) && all_finite (quotients h)) (Some (quotients h)) None
 
 -- ---- the fit
 
@@ -68,7 +60,7 @@ abbrev pub fits : List Position → List Position → Bool
 fits cells corners = no_zero_pivot (equations_of cells corners) && (not (small (unscaled cells corners)) && all_finite (fit_steps cells corners))
 
 unfoldable pub homography_of : List Position → List Position → Answer
-homography_of cells corners = cond (fits cells corners) (Entries (quotients (unscaled cells corners))) NoFit
+homography_of cells corners = cond (fits cells corners) (Some (quotients (unscaled cells corners))) None
 
 -- ---- a point
 

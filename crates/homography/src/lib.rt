@@ -3,13 +3,13 @@
 
 #![tactic(auto)]
 
-ghost use Rattle.std.specs.Prelude.{◌≡◌, ◌&&◌, ◌<◌};
+ghost use Rattle.std.specs.Prelude.{◌≡◌, ◌/◌, ◌&&◌, ◌<◌, get_or};
+ghost use Rattle.std.specs.Float.{nan};
 ghost use Rattle.binary32.specs.Ranges.{is_finite};
-ghost use Rattle.sheet.specs.Corners.{finite_position};
-ghost use Rattle.homography.specs.Normalize.{mean, distance, scale_of, row_sum, forward, map_row, moved, finite_points, normalized_of};
+ghost use Rattle.homography.specs.Normalize.{point, mean, of_four, scale_of, row_sum, forward, map_row, moved, finite_points, normalized_of};
 ghost use Rattle.homography.specs.Equations.{equation, equations};
 ghost use Rattle.homography.specs.Undo.{backward, crossed, multiplied, answers_and_one, undone};
-ghost use Rattle.homography.specs.Fit.{NoFit, fit_of, quotients, finite_entries, scaled_of, homography_of, applied};
+ghost use Rattle.homography.specs.Fit.{quotients, scaled_of, homography_of, applied};
 
 use sheet::Position;
 
@@ -21,35 +21,18 @@ pub struct Normalization {
     pub cy: f32,
 }
 
-// Four normalised points, and what they are normalised by. They count where `sound`.
+// Four normalised points, and what they are normalised by.
 #[derive(Clone, Copy)]
 pub struct Normalized {
     pub points: [Position; 4],
     pub by: Normalization,
-    pub sound: bool,
-}
-
-// A fit: the nine entries where one is found, and else nine zeros.
-#[derive(Clone, Copy)]
-pub struct Fit {
-    pub found: bool,
-    pub h: [f32; 9],
 }
 
 // The mean of four numbers, summed in their order.
-fn mean4(a: f32, b: f32, c: f32, d: f32) -> f32
-    ensures { result ≡ mean a b c d }
+fn mean4(numbers: [f32; 4]) -> f32
+    ensures { result ≡ of_four mean (λ i. get_or numbers i nan) }
 {
-    (0.0 + a + b + c + d) / 4.0
-}
-
-// A point's distance from the centre.
-fn distance(p: Position, cx: f32, cy: f32) -> f32
-    ensures { result ≡ distance cx cy p }
-{
-    let dx = p.x - cx;
-    let dy = p.y - cy;
-    binary32::root::sqrt_or_nan(dx * dx + dy * dy)
+    numbers.iter().fold(0.0, |sum, x| sum + *x) / 4.0
 }
 
 // The root of two by the mean distance, and 1 where that is at most 10^-12.
@@ -57,9 +40,10 @@ fn hartley_scale(mean_dist: f32) -> f32
     ensures { result ≡ scale_of mean_dist }
 {
     if mean_dist > 1e-12 {
-        return 1.4142135 / mean_dist;
+        1.4142135 / mean_dist
+    } else {
+        1.0
     }
-    1.0
 }
 
 // A row's sum, left to right.
@@ -95,83 +79,66 @@ fn moved(t: [f32; 9], p: Position) -> Position
     }
 }
 
-// Whether both numbers of a point are finite.
-fn point_finite(p: Position) -> bool
-    ensures { result ≡ finite_position p }
-{
-    if !binary32::ranges::is_finite(p.x) {
-        return false;
-    }
-    binary32::ranges::is_finite(p.y)
-}
-
-// Whether all four points are.
+// Whether all four points are finite.
 fn points_finite(points: [Position; 4]) -> bool
     ensures { result ≡ finite_points points }
 {
-    for i in 0..4usize {
-        if !point_finite(points[i]) {
-            return false;
-        }
-    }
-    true
+    points.iter().all(|p| p.is_finite())
 }
 
 // Whether the values of all steps of a normalisation are finite. A non-finite one leaves the mean distance or a point non-finite.
 fn steps_finite(mean_dist: f32, points: [Position; 4]) -> bool
     ensures { result ≡ (is_finite mean_dist && finite_points points) }
 {
-    if !binary32::ranges::is_finite(mean_dist) {
-        return false;
-    }
-    points_finite(points)
+    binary32::ranges::is_finite(mean_dist) && points_finite(points)
 }
 
-// Four points normalised by their centre and their mean distance from it, in the order of the Rust's function of this name.
-pub fn normalize_points4(pts: [Position; 4]) -> Normalized
+// Four points normalised by their centre and their mean distance from it, in the order of the Rust's function of this name: none where
+// the value of a step is not finite.
+pub fn normalize_points4(pts: [Position; 4]) -> Option<Normalized>
     ensures { result ≡ normalized_of pts }
 {
-    let a = pts[0];
-    let b = pts[1];
-    let c = pts[2];
-    let d = pts[3];
-    let cx = mean4(a.x, b.x, c.x, d.x);
-    let cy = mean4(a.y, b.y, c.y, d.y);
-    let mean_dist = mean4(
-        distance(a, cx, cy),
-        distance(b, cx, cy),
-        distance(c, cx, cy),
-        distance(d, cx, cy),
-    );
+    let cx = mean4(pts.map(|p| p.x));
+    let cy = mean4(pts.map(|p| p.y));
+    let centre = Position { x: cx, y: cy };
+    let mean_dist = mean4(pts.map(|p| p.distance(centre)));
     let scale = hartley_scale(mean_dist);
     let by = Normalization { scale, cx, cy };
     let t = forward(by);
-    let points = [moved(t, a), moved(t, b), moved(t, c), moved(t, d)];
-    let sound = steps_finite(mean_dist, points);
-    Normalized { points, by, sound }
+    let points = pts.map(|p| moved(t, p));
+    if steps_finite(mean_dist, points) {
+        Some(Normalized { points, by })
+    } else {
+        None
+    }
 }
 
 // One of the eight equations: the first of two of a point p that goes to q where i is even, else the second.
-fn equation_of(i: usize, p: Position, q: Position) -> [f32; 9]
-    ensures { result ≡ equation i p q }
+fn equation_of(i: usize, cells: [Position; 4], corners: [Position; 4]) -> [f32; 9]
+    requires { i < 8 }
+    ensures { result ≡ equation i (point cells (i / 2)) (point corners (i / 2)) }
 {
+    let p = cells[i / 2];
+    let q = corners[i / 2];
     let u = q.x;
     let v = q.y;
     if i % 2 == 0 {
-        return [p.x, p.y, 1.0, 0.0, 0.0, 0.0, -u * p.x, -u * p.y, u];
+        [p.x, p.y, 1.0, 0.0, 0.0, 0.0, -u * p.x, -u * p.y, u]
+    } else {
+        [0.0, 0.0, 0.0, p.x, p.y, 1.0, -v * p.x, -v * p.y, v]
     }
-    [0.0, 0.0, 0.0, p.x, p.y, 1.0, -v * p.x, -v * p.y, v]
 }
 
 // The eight equations of four points that go to four others.
 pub fn equations(cells: [Position; 4], corners: [Position; 4]) -> [[f32; 9]; 8]
     ensures { result ≡ equations cells corners }
 {
-    let mut m = [[0.0f32; 9]; 8];
-    for i in 0..8usize {
-        m[i] = equation_of(i, cells[i / 2], corners[i / 2]);
-    }
-    m
+    std::array::from_fn(
+        |i|
+            requires { i < 8 }
+            ensures { result ≡ equation i (point cells (i / 2)) (point corners (i / 2)) }
+        { equation_of(i, cells, corners) },
+    )
 }
 
 // The matrix with rows (1/s 0 cx), (0 1/s cy), (0 0 1).
@@ -196,18 +163,20 @@ fn product_at(a: [f32; 9], b: [f32; 9], n: usize) -> f32
 fn multiply(a: [f32; 9], b: [f32; 9]) -> [f32; 9]
     ensures { result ≡ multiplied a b }
 {
-    let mut m = [0.0f32; 9];
-    for n in 0..9usize {
-        m[n] = product_at(a, b, n);
-    }
-    m
+    std::array::from_fn(
+        |n|
+            requires { n < 9 }
+        { product_at(a, b, n) },
+    )
 }
 
 // The eight answers and a 1.
 fn with_one(x: [f32; 8]) -> [f32; 9]
     ensures { result ≡ answers_and_one x }
 {
-    [x[0], x[1], x[2], x[3], x[4], x[5], x[6], x[7], 1.0]
+    let mut h = [1.0f32; 9];
+    h[..8].copy_from_slice(&x);
+    h
 }
 
 // The matrix of eight answers, with the normalisation of the cells (s) and of the corners (t) undone.
@@ -223,67 +192,32 @@ fn divided(h: [f32; 9]) -> [f32; 9]
     ensures { result ≡ quotients h }
 {
     let last = h[8];
-    let mut q = h;
-    for n in 0..9usize {
-        q[n] = h[n] / last;
-    }
-    q
-}
-
-// Whether all nine entries are finite.
-fn entries_finite(h: [f32; 9]) -> bool
-    ensures { result ≡ finite_entries h }
-{
-    for k in 0..9usize {
-        if !binary32::ranges::is_finite(h[k]) {
-            return false;
-        }
-    }
-    true
-}
-
-// No fit.
-fn no_fit() -> Fit
-    ensures { result ≡ fit_of NoFit }
-{
-    let h = [0.0f32; 9];
-    Fit { found: false, h }
+    h.map(|x| x / last)
 }
 
 // The fit that a matrix gives when all its entries are divided by the last: none where that one is small, or a quotient is not finite.
-pub fn scaled(h: [f32; 9]) -> Fit
-    ensures { result ≡ fit_of (scaled_of h) }
+pub fn scaled(h: [f32; 9]) -> Option<[f32; 9]>
+    ensures { result ≡ scaled_of h }
 {
     if elimination::magnitude(h[8]) < 1e-12 {
-        return no_fit();
+        return None;
     }
     let q = divided(h);
-    if !entries_finite(q) {
-        return no_fit();
+    if elimination::values_finite(&q) {
+        Some(q)
+    } else {
+        None
     }
-    Fit { found: true, h: q }
 }
 
-// The fit that takes four cells to their pictured corners. There is none where a pivot is zero, where the last entry is small, or
-// where the value of any step is not finite.
-pub fn homography_from_4pt(cells: [Position; 4], corners: [Position; 4]) -> Fit
-    ensures { result ≡ fit_of (homography_of cells corners) }
+// The fit that takes four cells to their pictured corners, its nine entries row by row. There is none where a pivot is zero, where the last
+// entry is small, or where the value of any step is not finite.
+pub fn homography_from_4pt(cells: [Position; 4], corners: [Position; 4]) -> Option<[f32; 9]>
+    ensures { result ≡ homography_of cells corners }
 {
-    let s = normalize_points4(cells);
-    if !s.sound {
-        return no_fit();
-    }
-    let t = normalize_points4(corners);
-    if !t.sound {
-        return no_fit();
-    }
-    let from = s.points;
-    let to = t.points;
-    let a = elimination::solve(equations(from, to));
-    if !a.sound {
-        return no_fit();
-    }
-    let x = a.answers;
+    let s = normalize_points4(cells)?;
+    let t = normalize_points4(corners)?;
+    let x = elimination::solve(equations(s.points, t.points))?;
     scaled(undo(x, s.by, t.by))
 }
 

@@ -1,4 +1,5 @@
 -- What marks and attached corners make of a sheet, one after the other. Assumes nothing.
+use Rattle.std.specs.Prelude.{Option, Some, None}
 use mathlib.Core.Path.{◌≡◌, refl, sym, ap, ◌∙◌, subst}
 use mathlib.Core.Bool.{Bool, true, false, cond}
 use mathlib.Core.List.Memᴰ
@@ -13,7 +14,6 @@ use Rattle.sheet.specs.Corners.{Corners}
 use Rattle.sheet.specs.Cells.{on_sheet, place_of, cell_of}
 use Rattle.sheet.specs.Words.{label_of, word_at, label_at, hole_at, ambiguous_at, attached}
 use Rattle.sheet.specs.declared.Cell.{Cell}
-use Rattle.sheet.specs.declared.Label.{Label}
 use Rattle.sheet.proofs.Laws.{place_in, cell_on_lem, place_cell}
 use Rattle.sheet.proofs.Words.{no_corner_lem, Changed, attached_changes, label_here, label_else}
 use Rattle.labels.specs.Labelled.{LabelledCell, Attaching, SameLabels}
@@ -36,12 +36,12 @@ once_append (p ∷ s) t a b apart = (
 -- ---- sheets with the same labels
 
 -- what is equal of the labels place by place is equal cell by cell
-pub by_cell : {A : Type 0} (f : Label → A) (sheet after : List ℕ) → ((p : ℕ) → p < 16384 → f (label_of (get_or after p 0)) ≡ f (label_of (get_or sheet p 0)))
+pub by_cell : {A : Type 0} (f : Option ℕ → A) (sheet after : List ℕ) → ((p : ℕ) → p < 16384 → f (label_of (get_or after p 0)) ≡ f (label_of (get_or sheet p 0)))
     → (c : Cell) → f (label_at after c) ≡ f (label_at sheet c)
 unfolding label_at
 by_cell f sheet after same c = go (on_sheet c) refl
   where
-    go : (t : Bool) → on_sheet c ≡ t → f (cond t (label_of (word_at after c)) Label.Unlabelled) ≡ f (cond t (label_of (word_at sheet c)) Label.Unlabelled)
+    go : (t : Bool) → on_sheet c ≡ t → f (cond t (label_of (word_at after c)) None) ≡ f (cond t (label_of (word_at sheet c)) None)
     go true e = same (place_of c) (place_in c (subst T (sym e) tt))
     go false e = refl
 
@@ -55,7 +55,7 @@ known_same s w = record { known = λ p k h e. w.known p k h (sym (s.same_label p
 pub still_labelled : {first last : List ℕ} → Kept first last → (c : Cell) → LabelledCell first c → LabelledCell last c
 still_labelled k c l = record { corner = l.corner; holds = k.kept c l.corner l.holds }
 
-not_bare : {sheet : List ℕ} {c : Cell} → LabelledCell sheet c → label_at sheet c ≡ Label.Unlabelled → ⊥
+not_bare : {sheet : List ℕ} {c : Cell} → LabelledCell sheet c → label_at sheet c ≡ None → ⊥
 not_bare l e = no_corner_lem l.corner (sym e ∙ l.holds)
 
 -- ---- one step
@@ -84,13 +84,13 @@ module _ {cs : Corners} {first : List ℕ} (s : Sound cs.count first) where
     pub attaching : Attaching first (cell_of p) k
     attaching = record { long = s.long; on = cell_on_lem p a.on; bare = a.bare; corner_fits = omega (arith, a.given) }
 
-    changed : Changed first (attached first (cell_of p) k) (cell_of p) (record { label = Label.Corner k; hole = hole_at first (cell_of p); ambiguous = ambiguous_at first (cell_of p) })
+    changed : Changed first (attached first (cell_of p) k) (cell_of p) (record { label = Some k; hole = hole_at first (cell_of p); ambiguous = ambiguous_at first (cell_of p) })
     changed = attached_changes first (cell_of p) s.long (cell_on_lem p a.on) k attaching.corner_fits
 
-    pub attached_label : label_at (attached first (cell_of p) k) (cell_of p) ≡ Label.Corner k
+    pub attached_label : label_at (attached first (cell_of p) k) (cell_of p) ≡ Some k
     attached_label = label_here changed (cell_on_lem p a.on)
 
-    new_label : label_of (get_or (attached first (cell_of p) k) p 0) ≡ Label.Corner k
+    new_label : label_of (get_or (attached first (cell_of p) k) p 0) ≡ Some k
     new_label = ap (λ (q : ℕ). label_of (get_or (attached first (cell_of p) k) q 0)) (sym (place_cell p a.on)) ∙ label_after attaching
 
     other_word : (q : ℕ) → (q ≡ p → ⊥) → get_or (attached first (cell_of p) k) q 0 ≡ get_or first q 0
@@ -99,9 +99,9 @@ module _ {cs : Corners} {first : List ℕ} (s : Sound cs.count first) where
     known_attached : Known cs.count (attached first (cell_of p) k)
     known_attached = record { known = λ q j h e. go q j h e (ℕ_discrete q p) }
       where
-        go : (q j : ℕ) → q < 16384 → label_of (get_or (attached first (cell_of p) k) q 0) ≡ Label.Corner j → Dec (q ≡ p) → j < cs.count
+        go : (q j : ℕ) → q < 16384 → label_of (get_or (attached first (cell_of p) k) q 0) ≡ Some j → Dec (q ≡ p) → j < cs.count
         go q j h e (yes d) =
-            let f : Label.Corner k ≡ Label.Corner j = sym new_label ∙ ap (λ (r : ℕ). label_of (get_or (attached first (cell_of p) k) r 0)) (sym d) ∙ e in
+            let f : Some k ≡ Some j = sym new_label ∙ ap (λ (r : ℕ). label_of (get_or (attached first (cell_of p) k) r 0)) (sym d) ∙ e in
             let g : k ≡ j = cc in
             omega (arith, a.given)
         go q j h e (no d) = s.known.known q j h (ap label_of (sym (other_word q d)) ∙ e)
@@ -109,7 +109,7 @@ module _ {cs : Corners} {first : List ℕ} (s : Sound cs.count first) where
     kept_attached : Kept first (attached first (cell_of p) k)
     kept_attached = record { kept = λ c j e. label_else changed (cell_on_lem p a.on) c (ne c j e) ∙ e }
       where
-        ne : (c : Cell) (j : ℕ) → label_at first c ≡ Label.Corner j → c ≡ cell_of p → ⊥
+        ne : (c : Cell) (j : ℕ) → label_at first c ≡ Some j → c ≡ cell_of p → ⊥
         ne c j e d = no_corner_lem j (sym a.bare ∙ ap (label_at first) (sym d) ∙ e)
 
     -- one more label
@@ -150,6 +150,6 @@ extended_then {n} {first} {made} {mid} {more} {last} e f =
     }
   where
     -- a cell that is unlabelled later was so before
-    bare_before : (p : ℕ) → p < 16384 → label_at mid (cell_of p) ≡ Label.Unlabelled → (l : Label) → label_at first (cell_of p) ≡ l → l ≡ Label.Unlabelled
-    bare_before p h b Label.Unlabelled q = refl
-    bare_before p h b (Label.Corner k) q = absurd (no_corner_lem k (sym b ∙ e.kept.kept (cell_of p) k q))
+    bare_before : (p : ℕ) → p < 16384 → label_at mid (cell_of p) ≡ None → (l : Option ℕ) → label_at first (cell_of p) ≡ l → l ≡ None
+    bare_before p h b None q = refl
+    bare_before p h b (Some k) q = absurd (no_corner_lem k (sym b ∙ e.kept.kept (cell_of p) k q))

@@ -1,4 +1,5 @@
 -- Grow's run is a history: every queued cell lies on the sheet and stays unlabelled until its own visit. Assumes nothing.
+use Rattle.std.specs.Prelude.{None}
 use mathlib.Core.Path.{◌≡◌, refl, sym, subst}
 use mathlib.Core.Bool.{Bool, true, false, not, cond}
 use mathlib.Core.List.Memᴰ
@@ -15,7 +16,6 @@ use Rattle.sheet.specs.Cells.{on_sheet, OnSheet, place_of, cell_of, moved}
 use Rattle.sheet.specs.Words.{label_at, attached}
 use Rattle.sheet.specs.Corners.{Corners, seen_of}
 use Rattle.sheet.specs.declared.Cell.{Cell}
-use Rattle.sheet.specs.declared.Label.{Label}
 use Rattle.sheet.specs.declared.Offset.{Offset}
 use Rattle.sheet.proofs.Laws.{place_in, cell_on_lem, place_cell, cell_place}
 use Rattle.sheet.proofs.Words.{hole_changes, ambiguous_changes}
@@ -59,7 +59,7 @@ drop_in (suc n) p (q ∷ l) m = Memᴰ.tail (drop_in n p l m)
 -- a wanted cell lies on the sheet, is unlabelled and was not queued before
 record Wanted (sheet queued : List ℕ) (c : Cell) : Type 0 where
   on : OnSheet c
-  bare : label_at sheet c ≡ Label.Unlabelled
+  bare : label_at sheet c ≡ None
   fresh : Memᴰ (place_of c) queued → ⊥
 
 is_wanted : (sheet queued : List ℕ) (c : Cell) → wanted sheet queued c ≡ true → Wanted sheet queued c

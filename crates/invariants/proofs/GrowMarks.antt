@@ -1,5 +1,6 @@
 -- Grow and the marks, cell by cell: what it found at each visited cell set that cell's mark and is counted, its new cells are those at which it found
 -- a corner, and no other mark changes. Assumes nothing.
+use Rattle.std.specs.Prelude.{Option, Some, None}
 use mathlib.Core.Path.{◌≡◌, refl, sym, ap, ◌∙◌}
 use mathlib.Core.Bool.{Bool, true, false, cond}
 use mathlib.Core.List.Memᴰ
@@ -16,7 +17,6 @@ use Rattle.sheet.specs.Cells.{place_of, cell_of, moved}
 use Rattle.sheet.specs.Words.{bit_of, label_at}
 use Rattle.sheet.specs.Corners.{Corners, seen_of}
 use Rattle.sheet.specs.declared.Cell.{Cell}
-use Rattle.sheet.specs.declared.Label.{Label}
 use Rattle.sheet.specs.declared.Offset.{Offset}
 use Rattle.sheet.proofs.Laws.{place_cell}
 use Rattle.sheet.proofs.Words.{no_corner_lem}
@@ -114,8 +114,8 @@ with_begins c (TryCellResult.Attached k) s = at_begins _ c cardinal_offsets s.qu
 record Finding (first : List ℕ) (head : ℕ) (s : GrowState) : Type 0 where
   found : List TryCellResult
   each : length found ≡ head
-  kept : (c : Cell) (k : ℕ) → label_at first c ≡ Label.Corner k → label_at s.sheet c ≡ Label.Corner k
-  bare : (n : ℕ) → n < head → label_at first (cell_of (get_or s.queued n 0)) ≡ Label.Unlabelled
+  kept : (c : Cell) (k : ℕ) → label_at first c ≡ Some k → label_at s.sheet c ≡ Some k
+  bare : (n : ℕ) → n < head → label_at first (cell_of (get_or s.queued n 0)) ≡ None
   marked : (n : ℕ) → n < head → MarksSet (get_or found n TryCellResult.NoCandidates) first s.sheet (cell_of (get_or s.queued n 0))
   others : (c : Cell) → ((n : ℕ) → n < head → cell_of (get_or s.queued n 0) ≡ c → ⊥) → SameMarks first s.sheet c
   stand : (c : Cell) → MarksStand first s.sheet c
@@ -149,12 +149,12 @@ module _ {cs : Corners} {first : List ℕ} {head : ℕ} {s : GrowState} (g : Goi
       (sym (place_cell _ (g.lined.places n (omega arith))) ∙ ap place_of e ∙ place_cell _ (g.lined.places head left))
 
   -- it was unlabelled from the first
-  next_bare : label_at first (next_of s head) ≡ Label.Unlabelled
+  next_bare : label_at first (next_of s head) ≡ None
   next_bare = go (label_at first (next_of s head)) refl
     where
-      go : (l : Label) → label_at first (next_of s head) ≡ l → l ≡ Label.Unlabelled
-      go Label.Unlabelled e = refl
-      go (Label.Corner k) e = absurd (no_corner_lem k (sym (g.lined.waiting head (omega arith) left) ∙ w.kept (next_of s head) k e))
+      go : (l : Option ℕ) → label_at first (next_of s head) ≡ l → l ≡ None
+      go None e = refl
+      go (Some k) e = absurd (no_corner_lem k (sym (g.lined.waiting head (omega arith) left) ∙ w.kept (next_of s head) k e))
 
   -- what is found there, and the state after the visit
   module _ (r : TryCellResult) (after : GrowState) (visit : GrowVisit r (next_of s head) s after) (begins : Begins s.queued after.queued) where
@@ -171,11 +171,11 @@ module _ {cs : Corners} {first : List ℕ} {head : ℕ} {s : GrowState} (g : Goi
     this_found : get_or (w.found ++ (r ∷ [])) head TryCellResult.NoCandidates ≡ r
     this_found = rw (← w.each) (get_or-append_seam w.found r [] TryCellResult.NoCandidates)
 
-    kept_with : (c : Cell) (k : ℕ) → label_at first c ≡ Label.Corner k → Dec (c ≡ next_of s head) → label_at after.sheet c ≡ Label.Corner k
+    kept_with : (c : Cell) (k : ℕ) → label_at first c ≡ Some k → Dec (c ≡ next_of s head) → label_at after.sheet c ≡ Some k
     kept_with c k e (yes d) = absurd (no_corner_lem k (sym next_bare ∙ ap (label_at first) (sym d) ∙ e))
     kept_with c k e (no ne) = (visit.labels.others c ne).label ∙ w.kept c k e
 
-    bare_with : (n : ℕ) → n < head + 1 → Dec (n ≡ head) → label_at first (cell_of (get_or after.queued n 0)) ≡ Label.Unlabelled
+    bare_with : (n : ℕ) → n < head + 1 → Dec (n ≡ head) → label_at first (cell_of (get_or after.queued n 0)) ≡ None
     bare_with n h (yes d) = ap (label_at first) (older n (omega arith) ∙ ap (λ (i : ℕ). cell_of (get_or s.queued i 0)) d) ∙ next_bare
     bare_with n h (no d) = ap (label_at first) (older n (omega arith)) ∙ w.bare n (omega arith)
 
@@ -284,5 +284,5 @@ at_listed P (x ∷ l) f p m = ⊎_elim (λ e. rw e (f zero (omega arith))) (at_l
 
 -- every visited cell was unlabelled
 pub grow_bare : {first visited made : List ℕ} {counts : Counts} {last : List ℕ} → GrowMarks first visited made counts last
-    → (p : ℕ) → Memᴰ p visited → label_at first (cell_of p) ≡ Label.Unlabelled
-grow_bare {first} {visited} w = at_listed (λ p. label_at first (cell_of p) ≡ Label.Unlabelled) visited w.bare
+    → (p : ℕ) → Memᴰ p visited → label_at first (cell_of p) ≡ None
+grow_bare {first} {visited} w = at_listed (λ p. label_at first (cell_of p) ≡ None) visited w.bare

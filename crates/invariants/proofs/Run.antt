@@ -3,6 +3,7 @@
 -- labelled cardinal neighbour, or no such neighbour, when attached, and each that a call attached to which a shade is lent is of its cell's kind. Only
 -- grow sets marks, and only local clears them. A call whose numbers and buffers are right is not refused in mid-list.
 -- Assumes nothing.
+use Rattle.std.specs.Prelude.{None}
 use mathlib.Core.Path.{◌≡◌, refl, sym, ap, ◌∙◌, subst}
 use mathlib.Core.List.Memᴰ
 use mathlib.Core.List.{List, [], ◌∷◌, Memᴰ}
@@ -15,7 +16,6 @@ use Rattle.sheet.specs.Corners.{CornerLists}
 use Rattle.sheet.specs.Cells.{cell_of}
 use Rattle.sheet.specs.Words.{label_at}
 use Rattle.sheet.specs.declared.Cell.{Cell}
-use Rattle.sheet.specs.declared.Label.{Label}
 use Rattle.sheet.proofs.Words.{no_corner_lem}
 use Rattle.labels.specs.Labelled.{LabelledCell}
 use Rattle.arguments.specs.Shades.{corners_of}
@@ -166,7 +166,7 @@ module _ {l : CornerLists} {c : Call} {sheet : List ℕ} {a : After PassStats} (
   call_unmarked : (d : Cell) → LabelledCell sheet d → NoMarks sheet d → NoMarks a.sheet d
   call_unmarked d b n = go c.pass r.marks
     where
-      apart : (ps : List ℕ) → ((p : ℕ) → Memᴰ p ps → label_at sheet (cell_of p) ≡ Label.Unlabelled) → NotIn ps d
+      apart : (ps : List ℕ) → ((p : ℕ) → Memᴰ p ps → label_at sheet (cell_of p) ≡ None) → NotIn ps d
       apart ps bare p m e = no_corner_lem b.corner (sym (bare p m) ∙ ap (label_at sheet) e ∙ b.holds)
 
       go : (p : Pass) → PassMarks p sheet a → NoMarks a.sheet d

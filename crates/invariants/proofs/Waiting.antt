@@ -1,5 +1,6 @@
 -- Cells that wait to be tried, for all passes: they stay unlabelled until their own turn; and a corner that trying such a cell finds may be
 -- attached there. Assumes nothing.
+use Rattle.std.specs.Prelude.{Option, Some, None}
 use mathlib.Core.Path.{◌≡◌, refl, sym, ap, ◌∙◌}
 use mathlib.Core.Bool.{Bool, true, false, not, ◌&&◌, cond}
 use mathlib.Core.List.Memᴰ
@@ -11,7 +12,6 @@ use Rattle.sheet.specs.Cells.{place_of, cell_of}
 use Rattle.sheet.specs.Words.{label_at, attached}
 use Rattle.sheet.specs.Corners.{Corners, seen_of}
 use Rattle.sheet.specs.declared.Cell.{Cell}
-use Rattle.sheet.specs.declared.Label.{Label}
 use Rattle.sheet.specs.declared.Position.{Position}
 use Rattle.sheet.proofs.Laws.{cell_on_lem, place_cell}
 use Rattle.sheet.proofs.Words.{attached_changes, label_else}
@@ -31,17 +31,17 @@ use Rattle.invariants.proofs.Extended.{once_append, same_label_at, attaching}
 -- places on the sheet whose cells are unlabelled, each listed once
 pub record Waiting (sheet ps : List ℕ) : Type 0 where
   pub on : (p : ℕ) → Memᴰ p ps → p < 16384
-  pub bare : (p : ℕ) → Memᴰ p ps → label_at sheet (cell_of p) ≡ Label.Unlabelled
+  pub bare : (p : ℕ) → Memᴰ p ps → label_at sheet (cell_of p) ≡ None
   pub once : Once ps
 
 pub waiting_none : (sheet : List ℕ) → Waiting sheet []
 waiting_none sheet = record { on = λ p m. absurd (Memᴰ.not-nil m); bare = λ p m. absurd (Memᴰ.not-nil m); once = tt }
 
 -- a label that names no corner
-pub unnamed : (l : Label) → not (names_corner l) ≡ true → l ≡ Label.Unlabelled
+pub unnamed : (l : Option ℕ) → not (names_corner l) ≡ true → l ≡ None
 unfolding names_corner
-unnamed Label.Unlabelled h = refl
-unnamed (Label.Corner k) h = absurd (no_both false h refl)
+unnamed None h = refl
+unnamed (Some k) h = absurd (no_both false h refl)
 
 -- the cells of a round, listed at its start
 once_passing : (f : ℕ → Bool) (n : ℕ) → Once (passing f n)
@@ -68,7 +68,7 @@ cells_wait region sheet =
     chosen p = region (cell_of p) && not (names_corner (label_at sheet (cell_of p)))
 
 -- one more at the end
-pub waiting_more : {sheet ps : List ℕ} {p : ℕ} → Waiting sheet ps → p < 16384 → label_at sheet (cell_of p) ≡ Label.Unlabelled → (Memᴰ p ps → ⊥) → Waiting sheet (ps ++ (p ∷ []))
+pub waiting_more : {sheet ps : List ℕ} {p : ℕ} → Waiting sheet ps → p < 16384 → label_at sheet (cell_of p) ≡ None → (Memᴰ p ps → ⊥) → Waiting sheet (ps ++ (p ∷ []))
 waiting_more {sheet} {ps} {p} w h b fresh =
     record {
       on = λ q m. ⊎_elim (w.on q) (λ n. let e : q ≡ p = Memᴰ.eq_of_singleton n in rw e h) (Memᴰ.append_cases ps m);
@@ -85,7 +85,7 @@ module _ {sheet ps : List ℕ} {p : ℕ} (w : Waiting sheet (p ∷ ps)) where
   pub first_on : p < 16384
   first_on = w.on p (Memᴰ.head refl)
 
-  pub first_bare : label_at sheet (cell_of p) ≡ Label.Unlabelled
+  pub first_bare : label_at sheet (cell_of p) ≡ None
   first_bare = w.bare p (Memᴰ.head refl)
 
   -- the others, without it

@@ -1,13 +1,12 @@
 -- What stays true over every list of calls, refused ones among them, whatever their factors and shades (document 01, "Lists of passes, for demand 3";
 -- document 02, 1/14). Definitions only.
-use Rattle.std.specs.Prelude.{◌≡◌, true, List, [], ◌∷◌, ◌++◌, ℕ, ◌<◌, ◌≤◌, length, get_or}
+use Rattle.std.specs.Prelude.{◌≡◌, true, List, [], ◌∷◌, ◌++◌, ℕ, ◌<◌, ◌≤◌, length, get_or, Some}
 use Rattle.sizes.specs.Sizes.{corner_limit}
 use Rattle.refusal.specs.declared.Refusal.{Refusal}
 use Rattle.sheet.specs.Cells.{cell_of}
 use Rattle.sheet.specs.Words.{label_at}
 use Rattle.sheet.specs.Shades.{kind, kind_at}
 use Rattle.sheet.specs.Corners.{CornerLists, corner_of, AllListed, Given}
-use Rattle.sheet.specs.declared.Label.{Label}
 use Rattle.labels.specs.Used.{OneCell}
 use Rattle.arguments.specs.Shades.{shade_of, any_shade, corners_of}
 use Rattle.arguments.specs.Arguments.{queue_needed, checked}
@@ -61,7 +60,7 @@ attached_count (local_stats s) = s.counts.attached
 pub record OfItsKind (l : CornerLists) (c : Call) (a : After PassStats) (n : ℕ) : Type 0 where
   pub corner : ℕ
   pub given : corner < length l.xs
-  pub holds : label_at a.sheet (cell_of (get_or a.attached n 0)) ≡ Label.Corner corner
+  pub holds : label_at a.sheet (cell_of (get_or a.attached n 0)) ≡ Some corner
   pub of_kind : any_shade c.shades (length l.xs) ≡ true → shade_of (get_or c.shades corner 0) ≡ kind (kind_at (cell_of (get_or a.attached n 0)))
 
 -- A call that ran, from a sheet: what happened to the labels, with the call's shades, cell size and band; so each new corner had an accepted edge to a

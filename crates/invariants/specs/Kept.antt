@@ -1,14 +1,13 @@
 -- What a pass keeps and what it adds (document 01, "Lists of passes, for demand 3": "When a corner is attached, the labels are the given ones
 -- and all attached before it, in this pass or an earlier one", "After a pass the labelled cells are those before it and those of its attached
 -- list"). Definitions only.
-use Rattle.std.specs.Prelude.{◌≡◌, ◌↔◌, ◌⊎◌, ℕ, ◌+◌, ◌<◌, ◌≤◌, length, get_or, take}
+use Rattle.std.specs.Prelude.{◌≡◌, ◌↔◌, ◌⊎◌, ℕ, ◌+◌, ◌<◌, ◌≤◌, length, get_or, take, Some, None}
 use mathlib.Core.List.{List, [], ◌∷◌, ◌++◌, Memᴰ}
 use Rattle.sizes.specs.Sizes.{place_count}
 use Rattle.sheet.specs.Corners.{Corners, CornerLists}
 use Rattle.sheet.specs.Cells.{cell_of}
 use Rattle.sheet.specs.Words.{label_at}
 use Rattle.sheet.specs.declared.Cell.{Cell}
-use Rattle.sheet.specs.declared.Label.{Label}
 use Rattle.labels.specs.Labelled.{LabelledCell, label_count}
 use Rattle.labels.specs.Used.{OneCell}
 use Rattle.positions_policy.specs.declared.Tolerances.{Tolerances}
@@ -24,7 +23,7 @@ pub record Sound (n : ℕ) (sheet : List ℕ) : Type 0 where
 
 -- labels that stood are kept
 pub record Kept (first last : List ℕ) : Type 0 where
-  pub kept : (c : Cell) (k : ℕ) → label_at first c ≡ Label.Corner k → label_at last c ≡ Label.Corner k
+  pub kept : (c : Cell) (k : ℕ) → label_at first c ≡ Some k → label_at last c ≡ Some k
 
 -- no number stands twice in a list
 abbrev pub Once : List ℕ → Type 0
@@ -39,7 +38,7 @@ pub record Extended (n : ℕ) (first made last : List ℕ) : Type 0 where
   pub kept : Kept first last
   pub labelled : (p : ℕ) → p < place_count → LabelledCell last (cell_of p) ↔ (LabelledCell first (cell_of p) ⊎ Memᴰ p made)
   pub on : (p : ℕ) → Memᴰ p made → p < place_count
-  pub bare : (p : ℕ) → Memᴰ p made → label_at first (cell_of p) ≡ Label.Unlabelled
+  pub bare : (p : ℕ) → Memᴰ p made → label_at first (cell_of p) ≡ None
   pub once : Once made
   pub count : label_count last ≡ label_count first + length made
 
@@ -49,7 +48,7 @@ pub record Attachment (cs : Corners) (tol : Tolerances) (first earlier sheet las
   pub corner : ℕ
   pub labels : Extended cs.count first earlier sheet
   pub attaches : Attaches cs tol sheet p corner
-  pub holds : label_at last (cell_of p) ≡ Label.Corner corner
+  pub holds : label_at last (cell_of p) ≡ Some corner
 
 -- the n-th of a pass's new cells, and the sheet to which those before it had led
 pub record AttachedAt (cs : Corners) (tol : Tolerances) (first made last : List ℕ) (n : ℕ) : Type 0 where

@@ -1,5 +1,6 @@
 -- The sheet of a set of labels: it is as long as the empty one, each label's cell holds its corner, no other cell holds one, and there are no marks.
 -- Assumes nothing.
+use Rattle.std.specs.Prelude.{Some}
 use mathlib.Core.Path.{◌≡◌, refl, sym, ap, ◌∙◌}
 use mathlib.Core.Bool.{false}
 use mathlib.Core.List.Memᴰ
@@ -11,7 +12,6 @@ use lib.ListN.{length, length-set}
 use Rattle.sizes.specs.Sizes.{place_count}
 use Rattle.sheet.specs.Words.{label_at, hole_at, ambiguous_at, attached, empty_sheet}
 use Rattle.sheet.specs.declared.Cell.{Cell}
-use Rattle.sheet.specs.declared.Label.{Label}
 use Rattle.sheet.proofs.Words.{Changed, attached_changes, label_here, hole_here, ambiguous_here, label_else, hole_else, ambiguous_else, no_corner_lem, empty_length, empty_label, empty_hole, empty_ambiguous}
 use Rattle.join.specs.Rule.{Placed, All, Differ, Once}
 use Rattle.join.specs.Sheets.{labelled, Holdable, HoldsSet}
@@ -38,22 +38,22 @@ put sheet l = attached sheet l.cell l.corner
 module _ (sheet : List ℕ) (long : place_count ≤ length sheet) (l : Placed) (s : Holdable l) where
   changed :
       Changed sheet (put sheet l) l.cell
-      (record { label = Label.Corner l.corner; hole = hole_at sheet l.cell; ambiguous = ambiguous_at sheet l.cell })
+      (record { label = Some l.corner; hole = hole_at sheet l.cell; ambiguous = ambiguous_at sheet l.cell })
   changed = attached_changes sheet l.cell long s.on l.corner (omega arith)
 
   still_long : place_count ≤ length (put sheet l)
   still_long = omega (arith, changed.same_length)
 
-  here : label_at (put sheet l) l.cell ≡ Label.Corner l.corner
+  here : label_at (put sheet l) l.cell ≡ Some l.corner
   here = label_here changed s.on
 
-  label_cases : (c : Cell) (k : ℕ) → label_at (put sheet l) c ≡ Label.Corner k → (record { corner = k; cell = c } ≡ l) ⊎ (label_at sheet c ≡ Label.Corner k)
+  label_cases : (c : Cell) (k : ℕ) → label_at (put sheet l) c ≡ Some k → (record { corner = k; cell = c } ≡ l) ⊎ (label_at sheet c ≡ Some k)
   label_cases c k e =
       by_cell c l.cell
       (λ p. inl (λ t. record { corner = corner_one k l.corner (sym e ∙ ap (label_at (put sheet l)) p ∙ here) t; cell = p t }))
       (λ p. inr (sym (label_else changed s.on c p) ∙ e))
     where
-      corner_one : (j k : ℕ) → Label.Corner j ≡ Label.Corner k → j ≡ k
+      corner_one : (j k : ℕ) → Some j ≡ Some k → j ≡ k
       corner_one j k h = cc
 
   hole_kept : (c : Cell) → hole_at (put sheet l) c ≡ hole_at sheet c
@@ -73,7 +73,7 @@ others_keep (l ∷ ls) sheet long s c d =
     ∙ label_else (changed sheet long l s.0) s.0.on c (d l (Memᴰ.head refl))
 
 each_held : (ls : List Placed) (sheet : List ℕ) → place_count ≤ length sheet → All Holdable ls → Once ls
-    → (a : Placed) → Memᴰ a ls → label_at (labelled sheet ls) a.cell ≡ Label.Corner a.corner
+    → (a : Placed) → Memᴰ a ls → label_at (labelled sheet ls) a.cell ≡ Some a.corner
 unfolding labelled
 each_held [] sheet long s o a m = absurd (Memᴰ.not-nil m)
 each_held (l ∷ ls) sheet long s o a m =
@@ -84,7 +84,7 @@ each_held (l ∷ ls) sheet long s o a m =
     (Memᴰ.cases_cons m)
 
 only_named : (ls : List Placed) (sheet : List ℕ) → place_count ≤ length sheet → All Holdable ls → (c : Cell) (k : ℕ)
-    → label_at (labelled sheet ls) c ≡ Label.Corner k → Memᴰ (record { corner = k; cell = c }) ls ⊎ (label_at sheet c ≡ Label.Corner k)
+    → label_at (labelled sheet ls) c ≡ Some k → Memᴰ (record { corner = k; cell = c }) ls ⊎ (label_at sheet c ≡ Some k)
 unfolding labelled
 only_named [] sheet long s c k e = inr e
 only_named (l ∷ ls) sheet long s c k e =

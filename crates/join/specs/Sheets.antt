@@ -1,11 +1,10 @@
 -- The sheet of a set of labels. Definitions only.
-use Rattle.std.specs.Prelude.{◌≡◌, ℕ, ◌<◌}
+use Rattle.std.specs.Prelude.{◌≡◌, ℕ, ◌<◌, Some}
 use mathlib.Core.List.{List, [], ◌∷◌, Memᴰ}
 use Rattle.sizes.specs.Sizes.{corner_limit}
 use Rattle.sheet.specs.Cells.{OnSheet}
 use Rattle.sheet.specs.Words.{label_at, attached, empty_sheet}
 use Rattle.sheet.specs.declared.Cell.{Cell}
-use Rattle.sheet.specs.declared.Label.{Label}
 use Rattle.join.specs.Rule.{Placed, Once}
 
 -- a sheet with labels attached, one after the other
@@ -21,6 +20,6 @@ pub record Holdable (l : Placed) : Type 0 where
 -- the sheet of a set: each label's cell holds its corner, no other cell holds one, and the set has each corner once and each cell once
 pub record HoldsSet (set : List Placed) (sheet : List ℕ) : Type 0 where
   pub is_sheet : sheet ≡ labelled empty_sheet set
-  pub each : (a : Placed) → Memᴰ a set → label_at sheet a.cell ≡ Label.Corner a.corner
-  pub only : (c : Cell) (k : ℕ) → label_at sheet c ≡ Label.Corner k → Memᴰ (record { corner = k; cell = c }) set
+  pub each : (a : Placed) → Memᴰ a set → label_at sheet a.cell ≡ Some a.corner
+  pub only : (c : Cell) (k : ℕ) → label_at sheet c ≡ Some k → Memᴰ (record { corner = k; cell = c }) set
   pub once : Once set

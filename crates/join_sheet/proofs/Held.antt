@@ -1,4 +1,5 @@
 -- The join as the code has it is the join of the lists. Assumes nothing.
+use Rattle.std.specs.Prelude.{Option, Some, None}
 use mathlib.Core.Path.{◌≡◌, refl, sym, ap, ◌∙◌, subst}
 use mathlib.Core.Bool.{Bool, true, false, ◌||◌}
 use mathlib.Core.List.{List, ◌++◌, Memᴰ}
@@ -12,7 +13,6 @@ use Rattle.sizes.specs.Sizes.{place_count}
 use Rattle.sheet.specs.Cells.{OnSheet, cell_of, place_of}
 use Rattle.sheet.specs.Words.{label_of, label_at, empty_sheet}
 use Rattle.sheet.specs.declared.Cell.{Cell}
-use Rattle.sheet.specs.declared.Label.{Label}
 use Rattle.sheet.specs.declared.Offset.{Offset}
 use Rattle.sheet.proofs.Laws.{place_in, cell_on_lem, place_cell, cell_place}
 use Rattle.sheet.proofs.Words.{label_on, labelled_on_lem, no_corner_lem}
@@ -100,13 +100,13 @@ module _ {first : List Placed} {sheet : List ℕ} (h : HoldsSet first sheet) whe
   on_first : (a : Placed) → Memᴰ a first → OnSheet a.cell
   on_first a m = labelled_on_lem sheet a.cell a.corner (h.each a m)
 
-  holds_first : (a : Placed) → Memᴰ a first → label_of (get_or sheet (place_of a.cell) 0) ≡ Label.Corner a.corner
+  holds_first : (a : Placed) → Memᴰ a first → label_of (get_or sheet (place_of a.cell) 0) ≡ Some a.corner
   holds_first a m = sym (label_on sheet a.cell (on_first a m)) ∙ h.each a m
 
   used_first : (a : Placed) → Memᴰ a first → (k : ℕ) → a.corner ≡ k → used_on sheet k ≡ true
   used_first a m k e =
       let on = on_first a m in
-      used_there sheet k (record { place = place_of a.cell; below = place_in a.cell on; holds = holds_first a m ∙ ap Label.Corner e })
+      used_there sheet k (record { place = place_of a.cell; below = place_in a.cell on; holds = holds_first a m ∙ ap Some e })
 
   -- where the sheet has a corner is where the set has it
   cell_same : (k : ℕ) → cell_on sheet k ≡ cell_in first k
@@ -127,7 +127,7 @@ module _ {first : List Placed} {sheet : List ℕ} (h : HoldsSet first sheet) whe
           let on = on_first r.label r.listed in
           let p = place_of r.label.cell in
           only_found (holds_at sheet k) place_count p (place_in r.label.cell on)
-          (names_it k (label_of (get_or sheet p 0)) (holds_first r.label r.listed ∙ ap Label.Corner r.its_corner))
+          (names_it k (label_of (get_or sheet p 0)) (holds_first r.label r.listed ∙ ap Some r.its_corner))
           (λ q l m. sym (place_cell q l) ∙ ap place_of (cells_one _ r.label (there q l m) r.listed (sym r.its_corner)))
           ∙ ap Found.At (cell_place r.label.cell on ∙ r.its_cell)
 
@@ -140,29 +140,29 @@ module _ {first : List Placed} {sheet : List ℕ} (h : HoldsSet first sheet) whe
       not_all n true e = absurd (n e)
       not_all n false e = refl
 
-      corner : (j : ℕ) → label_at sheet l.cell ≡ Label.Corner j → (t : Bool) → eqb j l.corner ≡ t → t ≡ every (λ a. agree a l) first
+      corner : (j : ℕ) → label_at sheet l.cell ≡ Some j → (t : Bool) → eqb j l.corner ≡ t → t ≡ every (λ a. agree a l) first
       corner j e true d =
-          let here : label_at sheet l.cell ≡ Label.Corner l.corner = e ∙ ap Label.Corner (eqb-true j l.corner d) in
+          let here : label_at sheet l.cell ≡ Some l.corner = e ∙ ap Some (eqb-true j l.corner d) in
           sym (every_all (λ a. agree a l) first (λ a m. agrees a l
           (λ q. cells_one a l m (h.only l.cell l.corner here) q)
-          (λ q. let z : Label.Corner a.corner ≡ Label.Corner l.corner = sym (h.each a m) ∙ ap (label_at sheet) q ∙ here in cc)))
+          (λ q. let z : Some a.corner ≡ Some l.corner = sym (h.each a m) ∙ ap (label_at sheet) q ∙ here in cc)))
       corner j e false d =
           not_all
           (λ y.
           eqb-false j l.corner d
           (agree_corners (record { corner = j; cell = l.cell }) l (every_yes (λ a. agree a l) first y _ (h.only l.cell j e)) refl)) _ refl
 
-      bare : label_at sheet l.cell ≡ Label.Unlabelled → (a : Placed) → Memᴰ a first → a.cell ≡ l.cell → ⊥
+      bare : label_at sheet l.cell ≡ None → (a : Placed) → Memᴰ a first → a.cell ≡ l.cell → ⊥
       bare e a m q = no_corner_lem a.corner (sym e ∙ ap (label_at sheet) (sym q) ∙ h.each a m)
 
-      go : (x : Label) (u : Bool) → label_at sheet l.cell ≡ x → used_on sheet l.corner ≡ u → agrees_with x u l.corner ≡ every (λ a. agree a l) first
-      go (Label.Corner j) u e d = corner j e (eqb j l.corner) refl
-      go Label.Unlabelled true e d =
+      go : (x : Option ℕ) (u : Bool) → label_at sheet l.cell ≡ x → used_on sheet l.corner ≡ u → agrees_with x u l.corner ≡ every (λ a. agree a l) first
+      go (Some j) u e d = corner j e (eqb j l.corner) refl
+      go None true e d =
           let s = used_yes sheet l.corner d in
           let m = h.only (cell_of s.place) l.corner (label_of_place sheet s.place s.below ∙ s.holds) in
           not_all
           (λ y. bare e _ m (agree_cells (record { corner = l.corner; cell = cell_of s.place }) l (every_yes (λ a. agree a l) first y _ m) refl)) _ refl
-      go Label.Unlabelled false e d =
+      go None false e d =
           sym (every_all (λ a. agree a l) first (λ a m. agrees a l
           (λ q. absurd (no_both (used_on sheet l.corner) (used_first a m l.corner q) d))
           (λ q. absurd (bare e a m q))))

@@ -1,5 +1,6 @@
 -- Laws for the code of the join: a walk over the second set's array, where the sheet has a corner, what a label asks for, what is attached.
 -- Assumes nothing.
+use Rattle.std.specs.Prelude.{Option, Some, None}
 use mathlib.Core.Path.{◌≡◌, refl, sym, ap, ◌∙◌, subst}
 use mathlib.Core.Bool.{Bool, true, false, cond, not}
 use mathlib.Core.List.Memᴰ
@@ -17,7 +18,6 @@ use Rattle.sheet.specs.Words.{label_at, attached}
 use Rattle.sheet.specs.Blank.{NextWritten}
 use Rattle.sheet.specs.declared.Cell.{Cell}
 use Rattle.sheet.specs.declared.Offset.{Offset}
-use Rattle.sheet.specs.declared.Label.{Label}
 use Rattle.sheet.proofs.Laws.{cell_on_lem, line_i, line_j, abs_sub}
 use Rattle.sheet.proofs.Blank.{blank_label}
 use Rattle.labels.specs.Used.{names}
@@ -167,22 +167,22 @@ module _ (sheet second : List ℕ) where
 
 -- ---- a label that agrees
 
-module _ (sheet used : List ℕ) (t : Unused sheet used) (k : ℕ) (h : k < corner_limit) (c : Cell) (x : Label) (e : x ≡ label_at sheet c) where
-  pub agrees_bare : x ≡ Label.Unlabelled → eqb (get_or used k 0) 0 ≡ agrees_on sheet (record { corner = k; cell = c })
+module _ (sheet used : List ℕ) (t : Unused sheet used) (k : ℕ) (h : k < corner_limit) (c : Cell) (x : Option ℕ) (e : x ≡ label_at sheet c) where
+  pub agrees_bare : x ≡ None → eqb (get_or used k 0) 0 ≡ agrees_on sheet (record { corner = k; cell = c })
   unfolding agrees_on agrees_with
   agrees_bare f = t.free k h ∙ rw (sym e ∙ f)
 
-  pub agrees_corner : (j : ℕ) → x ≡ Label.Corner j → eqb j k ≡ agrees_on sheet (record { corner = k; cell = c })
+  pub agrees_corner : (j : ℕ) → x ≡ Some j → eqb j k ≡ agrees_on sheet (record { corner = k; cell = c })
   unfolding agrees_on agrees_with
   agrees_corner j f = rw (sym e ∙ f)
 
 -- ---- a word that names a corner
 
-pub names_none : (k : ℕ) (x l : Label) → x ≡ l → x ≡ Label.Unlabelled → false ≡ names k l
+pub names_none : (k : ℕ) (x l : Option ℕ) → x ≡ l → x ≡ None → false ≡ names k l
 unfolding names
 names_none k x l e f = rw (sym e ∙ f)
 
-pub names_one : (k j : ℕ) (x l : Label) → x ≡ l → x ≡ Label.Corner j → eqb j k ≡ names k l
+pub names_one : (k j : ℕ) (x l : Option ℕ) → x ≡ l → x ≡ Some j → eqb j k ≡ names k l
 unfolding names
 names_one k j x l e f = rw (sym e ∙ f)
 

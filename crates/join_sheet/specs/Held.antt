@@ -1,12 +1,11 @@
 -- The join as the code has it: the first set is a sheet, the second an array of its corners and places in the order of the lines. Definitions
 -- only. `proofs/Held.antt` shows that it is the join of the two lists.
-use Rattle.std.specs.Prelude.{◌≡◌, Bool, cond, not, List, [], ◌∷◌, map, ℕ, zero, suc, ◌+◌, ◌<◌, ◌≤◌, eqb, length, get_or}
+use Rattle.std.specs.Prelude.{◌≡◌, Bool, cond, not, List, [], ◌∷◌, map, ℕ, zero, suc, ◌+◌, ◌<◌, ◌≤◌, eqb, length, get_or, Option, Some, None}
 use Rattle.sizes.specs.Sizes.{place_count, corner_limit}
 use Rattle.sheet.specs.Cells.{cell_of, OnSheet, moved, Within}
 use Rattle.sheet.specs.Words.{label_of, label_at, attached, empty_sheet}
 use Rattle.sheet.specs.declared.Cell.{Cell}
 use Rattle.sheet.specs.declared.Offset.{Offset}
-use Rattle.sheet.specs.declared.Label.{Label}
 use Rattle.labels.specs.Used.{names, used_on}
 use Rattle.refusal.specs.declared.Refusal.{Refusal}
 use Rattle.join.specs.Rule.{Placed, shifted_by}
@@ -47,9 +46,9 @@ unfoldable pub cell_on : List ℕ → ℕ → Found
 cell_on sheet k = found_below (holds_at sheet k) place_count
 
 -- a label agrees with a sheet: its cell there has this corner, or none, and then no other cell has it
-unfoldable pub agrees_with : Label → Bool → ℕ → Bool
-agrees_with Label.Unlabelled elsewhere k = not elsewhere
-agrees_with (Label.Corner j) elsewhere k = eqb j k
+unfoldable pub agrees_with : Option ℕ → Bool → ℕ → Bool
+agrees_with None elsewhere k = not elsewhere
+agrees_with (Some j) elsewhere k = eqb j k
 
 unfoldable pub agrees_on : List ℕ → Placed → Bool
 agrees_on sheet l = agrees_with (label_at sheet l.cell) (used_on sheet l.corner) l.corner

@@ -15,7 +15,7 @@ ghost use Rattle.join_sheet.specs.Held.{held_labels, cell_on, agrees_on, new_put
 
 use join::{Asked, Found, Verdict};
 use refusal::Refusal;
-use sheet::{Cell, Label, Offset};
+use sheet::{Cell, Offset};
 use sizes::{CORNERS, PLACES, SECOND, USED};
 
 // What the join answers.
@@ -37,8 +37,8 @@ fn word_names(word: u16, corner: usize) -> bool
 {
     let label = sheet::label_of(word);
     match label {
-        Label::Unlabelled => false,
-        Label::Corner(k) => k == corner,
+        None => false,
+        Some(k) => k == corner,
     }
 }
 
@@ -109,8 +109,8 @@ fn agrees(sheet: &[u16], used: &[u8; USED], corner: usize, c: Cell) -> bool
 {
     let label = sheet::label_at(sheet, c);
     match label {
-        Label::Unlabelled => used[corner] == 0,
-        Label::Corner(k) => k == corner,
+        None => used[corner] == 0,
+        Some(k) => k == corner,
     }
 }
 

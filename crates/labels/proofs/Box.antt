@@ -1,29 +1,29 @@
 -- Laws of the label box: the computed box meets the rule, and no other box does; one cell more widens it; the box after a
--- corner is attached; its bounds are on the sheet; the box a place at a time. Assumes nothing.
+-- corner is attached; its bounds are on the sheet; the box, by a walk over the places that hold something. Assumes nothing.
 use mathlib.Core.Path.{◌≡◌, refl, sym, ap, ◌∙◌, subst}
-use mathlib.Core.Bool.{Bool, true, false, cond}
+use mathlib.Core.Bool.{Bool, true, false, cond, not}
 use mathlib.Core.List.Memᴰ
-use mathlib.Core.List.{List, [], ◌∷◌, foldl, foldl-append, Memᴰ}
+use mathlib.Core.List.{List, [], ◌∷◌, foldl, map, Memᴰ}
 use mathlib.Core.Logic.{◌⊎◌, inl, inr}
-use Prim.Native.Nat.{ℕ, ◌+◌, ◌<◌, ◌≤◌}
-use native.Mathlib.Omega.{arith}
+use Prim.Native.Nat.{ℕ}
 use lib.Dec.{T}
 use lib.IntN.{ℤ}
-use lib.ListN.{get_or}
-use lib.Signed.{le_z, ◌≤ℤ◌, ≤ℤ_refl}
+use Rattle.std.specs.Prelude.{Some, None, Option}
+use lib.Signed.{le_z, lt_z, ◌≤ℤ◌, ≤ℤ_refl}
 use Rattle.sheet.specs.Cells.{in_range, OnSheet, place_of, cell_of}
 use Rattle.sheet.specs.Words.{attached, empty_sheet}
-use Rattle.sheet.specs.Blank.{NextWritten}
-use Rattle.sheet.proofs.Blank.{skips}
-use Rattle.sheet.proofs.Laws.{cell_place, on_i, on_j}
+use Rattle.sheet.specs.Blank.{written_from}
+use Rattle.std.specs.Int.{int_min, int_max}
+use Rattle.std.specs.List.{filter, fold, filter_map, cons_option}
+use Rattle.sheet.proofs.Laws.{flip, cell_place, on_i, on_j}
+use Rattle.sheet.proofs.Words.{yes}
 use Rattle.sheet.specs.declared.Cell.{Cell}
-use Rattle.labels.specs.Labelled.{is_labelled, LabelledCell, labelled_below, labelled_places, Attaching}
-use Rattle.labels.specs.Box.{Inside, Taken, IsBoxOf, IsBox, lower_of, higher_of, widened, box_around, box_of, box_with}
+use Rattle.labels.proofs.Below.{no_both}
+use Rattle.labels.specs.Labelled.{is_labelled, labelled_cell, LabelledCell, labelled_places, Attaching}
+use Rattle.labels.specs.Box.{Inside, Taken, IsBoxOf, IsBox, lower_of, higher_of, widened, box_around, box_of}
 use Rattle.labels.proofs.Signed.{le_z_true, le_z_false, ≤ℤ-trans, ≤ℤ-antisym}
-use Rattle.labels.proofs.Below.{passing_none, passing_hit, passing_miss}
-use Rattle.labels.proofs.Labelled.{SamePlaces, same_places, cell_listed, listed_cell, labelled_cell_on, labelled_new, labelled_still, labelled_cases, empty_unlabelled, blank_unlabelled}
+use Rattle.labels.proofs.Labelled.{SamePlaces, same_places, cell_listed, listed_cell, labelled_cell_on, labelled_new, labelled_still, labelled_cases, empty_unlabelled, labels_walked}
 use Rattle.labels.specs.declared.Bounds.{Bounds}
-use Rattle.labels.specs.declared.LabelBox.{LabelBox}
 
 -- ---- the lower and the higher of two numbers
 
@@ -54,29 +54,31 @@ higher_law a b = go (le_z b a) refl
     go true e = record { above_first = ≤ℤ_refl a; above_second = le_z_true b a e; higher_is = inl refl }
     go false e = record { above_first = le_z_false b a e; above_second = ≤ℤ_refl b; higher_is = inr refl }
 
--- by the comparison of the two
-pub lower_le : (a b : ℤ) → le_z a b ≡ true → a ≡ lower_of a b
+-- as the machine finds them
+pub min_lower : (a b : ℤ) → int_min a b ≡ lower_of a b
 unfolding lower_of
-lower_le a b e = rw e
+min_lower a b = rw (flip b a) (go (lt_z b a))
+  where
+    go : (t : Bool) → cond t b a ≡ cond (not t) a b
+    go true = refl
+    go false = refl
 
-pub lower_gt : (a b : ℤ) → le_z a b ≡ false → b ≡ lower_of a b
-unfolding lower_of
-lower_gt a b e = rw e
-
-pub higher_ge : (a b : ℤ) → le_z b a ≡ true → a ≡ higher_of a b
+pub max_higher : (a b : ℤ) → int_max a b ≡ higher_of a b
 unfolding higher_of
-higher_ge a b e = rw e
-
-pub higher_lt : (a b : ℤ) → le_z b a ≡ false → b ≡ higher_of a b
-unfolding higher_of
-higher_lt a b e = rw e
+max_higher a b = go (lt_z b a) refl (le_z b a) refl
+  where
+    go : (t : Bool) → lt_z b a ≡ t → (u : Bool) → le_z b a ≡ u → cond t a b ≡ cond u a b
+    go true e true f = refl
+    go true e false f = absurd (no_both (le_z a b) (yes (le_z a b) (le_z_false b a f).le) (flip b a ∙ ap not e))
+    go false e true f = ≤ℤ-antisym (le_z_true b a f) (le_z_true a b (flip b a ∙ ap not e))
+    go false e false f = refl
 
 -- ---- the rule
 
 -- the rule looks only at which cells there are
-pub box_respects : (cells others : Cell → Type 0) → ((c : Cell) → cells c → others c) → ((c : Cell) → others c → cells c) → (box : LabelBox) → IsBoxOf cells box → IsBoxOf others box
-box_respects cells others f g LabelBox.Empty h = λ c m. h c (g c m)
-box_respects cells others f g (LabelBox.Around b) h =
+pub box_respects : (cells others : Cell → Type 0) → ((c : Cell) → cells c → others c) → ((c : Cell) → others c → cells c) → (box : Option Bounds) → IsBoxOf cells box → IsBoxOf others box
+box_respects cells others f g None h = λ c m. h c (g c m)
+box_respects cells others f g (Some b) h =
     record {
       all_inside = λ c m. h.all_inside c (g c m);
       low_i_taken = moved h.low_i_taken;
@@ -96,21 +98,21 @@ at_least : {cells : Cell → Type 0} {line : Cell → ℤ} {y z : ℤ} → Taken
 at_least {y = y} t h = subst (λ (x : ℤ). x ≤ℤ y) t.there (h t.cell t.among)
 
 -- cells have one box
-pub box_only : (cells : Cell → Type 0) (a b : LabelBox) → IsBoxOf cells a → IsBoxOf cells b → a ≡ b
-box_only cells LabelBox.Empty LabelBox.Empty h k = refl
-box_only cells LabelBox.Empty (LabelBox.Around b) h k = absurd (h k.low_i_taken.cell k.low_i_taken.among)
-box_only cells (LabelBox.Around a) LabelBox.Empty h k = absurd (k h.low_i_taken.cell h.low_i_taken.among)
-box_only cells (LabelBox.Around a) (LabelBox.Around b) h k =
+pub box_only : (cells : Cell → Type 0) (a b : Option Bounds) → IsBoxOf cells a → IsBoxOf cells b → a ≡ b
+box_only cells None None h k = refl
+box_only cells None (Some b) h k = absurd (h k.low_i_taken.cell k.low_i_taken.among)
+box_only cells (Some a) None h k = absurd (k h.low_i_taken.cell h.low_i_taken.among)
+box_only cells (Some a) (Some b) h k =
     let low-i = ≤ℤ-antisym (at_most k.low_i_taken (λ c m. (h.all_inside c m).from_low_i)) (at_most h.low_i_taken (λ c m. (k.all_inside c m).from_low_i)) in
     let high-i = ≤ℤ-antisym (at_least h.high_i_taken (λ c m. (k.all_inside c m).to_high_i)) (at_least k.high_i_taken (λ c m. (h.all_inside c m).to_high_i)) in
     let low-j = ≤ℤ-antisym (at_most k.low_j_taken (λ c m. (h.all_inside c m).from_low_j)) (at_most h.low_j_taken (λ c m. (k.all_inside c m).from_low_j)) in
     let high-j = ≤ℤ-antisym (at_least h.high_j_taken (λ c m. (k.all_inside c m).to_high_j)) (at_least k.high_j_taken (λ c m. (h.all_inside c m).to_high_j)) in
-    λ t. LabelBox.Around (record { low_i = low-i t; high_i = high-i t; low_j = low-j t; high_j = high-j t })
+    λ t. Some (record { low_i = low-i t; high_i = high-i t; low_j = low-j t; high_j = high-j t })
 
 -- one cell more widens the box
-pub box_widens : (cells : Cell → Type 0) (box : LabelBox) (d : Cell) → IsBoxOf cells box → IsBoxOf (λ c. (c ≡ d) ⊎ cells c) (widened box d)
+pub box_widens : (cells : Cell → Type 0) (box : Option Bounds) (d : Cell) → IsBoxOf cells box → IsBoxOf (λ c. (c ≡ d) ⊎ cells c) (widened box d)
 unfolding widened
-box_widens cells LabelBox.Empty d h =
+box_widens cells None d h =
     record {
       all_inside = inside;
       low_i_taken = record { cell = d; among = inl refl; there = refl };
@@ -122,7 +124,7 @@ box_widens cells LabelBox.Empty d h =
     inside : (c : Cell) → (c ≡ d) ⊎ cells c → Inside (record { low_i = d.i; high_i = d.i; low_j = d.j; high_j = d.j }) c
     inside c (inl e) = rw e (record { from_low_i = ≤ℤ_refl d.i; to_high_i = ≤ℤ_refl d.i; from_low_j = ≤ℤ_refl d.j; to_high_j = ≤ℤ_refl d.j })
     inside c (inr m) = absurd (h c m)
-box_widens cells (LabelBox.Around b) d h =
+box_widens cells (Some b) d h =
     record {
       all_inside = inside;
       low_i_taken = taken (λ c. c.i) h.low_i_taken (lower_law b.low_i d.i).lower_is;
@@ -153,17 +155,6 @@ box_widens cells (LabelBox.Around b) d h =
           to_high_j = ≤ℤ-trans w.to_high_j (higher_law b.high_j d.j).above_first;
         }
 
--- the widened box, by which box it was
-pub widened_empty : (box : LabelBox) (c : Cell) (i j : ℤ) → box ≡ LabelBox.Empty → i ≡ c.i → j ≡ c.j → LabelBox.Around (record { low_i = i; high_i = i; low_j = j; high_j = j }) ≡ widened box c
-unfolding widened
-widened_empty box c i j e f g = rw (e, f, g)
-
-pub widened_around : (box : LabelBox) (c : Cell) (b : Bounds) (low-i high-i low-j high-j : ℤ) → box ≡ LabelBox.Around b
-    → low-i ≡ lower_of b.low_i c.i → high-i ≡ higher_of b.high_i c.i → low-j ≡ lower_of b.low_j c.j → high-j ≡ higher_of b.high_j c.j
-    → LabelBox.Around (record { low_i = low-i; high_i = high-i; low_j = low-j; high_j = high-j }) ≡ widened box c
-unfolding widened
-widened_around box c b low-i high-i low-j high-j e f g h k = rw (e, f, g, h, k)
-
 -- ---- the computed box
 
 -- the cell of a listed place
@@ -173,7 +164,7 @@ record Among (l : List ℕ) (c : Cell) : Type 0 where
   its_cell : c ≡ cell_of place
 
 -- places taken in one by one
-folded : (l : List ℕ) (cells : Cell → Type 0) (box : LabelBox) → IsBoxOf cells box → IsBoxOf (λ c. cells c ⊎ Among l c) (foldl (λ b p. widened b (cell_of p)) box l)
+folded : (l : List ℕ) (cells : Cell → Type 0) (box : Option Bounds) → IsBoxOf cells box → IsBoxOf (λ c. cells c ⊎ Among l c) (foldl (λ b p. widened b (cell_of p)) box l)
 folded [] cells box h = box_respects cells (λ c. cells c ⊎ Among [] c) (λ c m. inl m) back box h
   where
     back : (c : Cell) → cells c ⊎ Among [] c → cells c
@@ -201,7 +192,7 @@ pub box_is : (sheet : List ℕ) → IsBox sheet (box_of sheet)
 unfolding box_of
 box_is sheet =
     box_respects (λ c. ⊥ ⊎ Among (labelled_places sheet) c) (LabelledCell sheet) forth back (box_around (labelled_places sheet))
-    (folded (labelled_places sheet) (λ c. ⊥) LabelBox.Empty (λ c m. m))
+    (folded (labelled_places sheet) (λ c. ⊥) None (λ c m. m))
   where
     forth : (c : Cell) → ⊥ ⊎ Among (labelled_places sheet) c → LabelledCell sheet c
     forth c (inl m) = absurd m
@@ -211,7 +202,7 @@ box_is sheet =
     back c l = inr (record { place = place_of c; listed = cell_listed sheet c l; its_cell = sym (cell_place c (labelled_cell_on sheet c l)) })
 
 -- and no other box is
-pub box_found : (sheet : List ℕ) (box : LabelBox) → IsBox sheet box → box_of sheet ≡ box
+pub box_found : (sheet : List ℕ) (box : Option Bounds) → IsBox sheet box → box_of sheet ≡ box
 box_found sheet box h = box_only (LabelledCell sheet) (box_of sheet) box (box_is sheet) h
 
 -- ---- the box of changed sheets
@@ -233,8 +224,8 @@ box_attached {sheet} {c} {k} a =
     forth d (inl e) = subst (LabelledCell (attached sheet c k)) (sym e) (labelled_new a)
     forth d (inr l) = labelled_still a d l
 
-pub box_empty : box_of empty_sheet ≡ LabelBox.Empty
-box_empty = box_found empty_sheet LabelBox.Empty empty_unlabelled
+pub box_empty : box_of empty_sheet ≡ None
+box_empty = box_found empty_sheet None empty_unlabelled
 
 -- ---- the bounds of a label box are on the sheet, and each low one is at most the high one
 
@@ -246,7 +237,7 @@ pub record Framed (b : Bounds) : Type 0 where
   pub i_ordered : b.low_i ≤ℤ b.high_i
   pub j_ordered : b.low_j ≤ℤ b.high_j
 
-pub box_framed : (sheet : List ℕ) (b : Bounds) → IsBox sheet (LabelBox.Around b) → Framed b
+pub box_framed : (sheet : List ℕ) (b : Bounds) → IsBox sheet (Some b) → Framed b
 box_framed sheet b h =
     record {
       low_i_in = ranged (λ c. c.i) on_i h.low_i_taken;
@@ -260,38 +251,23 @@ box_framed sheet b h =
     ranged : (line : Cell → ℤ) → ((c : Cell) → OnSheet c → T (in_range (line c))) → {z : ℤ} → Taken (LabelledCell sheet) line z → T (in_range z)
     ranged line f t = subst (λ (x : ℤ). T (in_range x)) t.there (f t.cell (labelled_cell_on sheet t.cell t.among))
 
-pub box_of_framed : (sheet : List ℕ) (b : Bounds) → box_of sheet ≡ LabelBox.Around b → Framed b
+pub box_of_framed : (sheet : List ℕ) (b : Bounds) → box_of sheet ≡ Some b → Framed b
 box_of_framed sheet b e = box_framed sheet b (subst (IsBox sheet) e (box_is sheet))
 
--- ---- the box, a place at a time
+-- ---- the box, by a walk over the places that hold something
 
--- the box of the labelled cells of the first p places
-pub record Boxing (sheet : List ℕ) (box : LabelBox) (p : ℕ) : Type 0 where
-  pub upto : p ≤ 16384
-  pub so_far : box ≡ box_around (labelled_below sheet p)
+boxed : (l : List (ℕ × ℕ)) (box : Option Bounds)
+    → fold widened box (filter_map labelled_cell l) ≡ foldl (λ b p. widened b (cell_of p)) box (map (λ e. e.0) (filter (λ e. is_labelled e.1) l))
+boxed [] box = refl
+boxed (e ∷ l) box = go (is_labelled e.1) (boxed l)
+  where
+    go : (t : Bool)
+        → ((b : Option Bounds) → fold widened b (filter_map labelled_cell l) ≡ foldl (λ b p. widened b (cell_of p)) b (map (λ e. e.0) (filter (λ e. is_labelled e.1) l)))
+        → fold widened box (cons_option (cond t (Some (cell_of e.0)) None) (filter_map labelled_cell l))
+        ≡ foldl (λ b p. widened b (cell_of p)) box (map (λ e. e.0) (cond t (e ∷ filter (λ e. is_labelled e.1) l) (filter (λ e. is_labelled e.1) l)))
+    go true w = w (widened box (cell_of e.0))
+    go false w = w box
 
-pub boxing_start : (sheet : List ℕ) → Boxing sheet LabelBox.Empty 0
-boxing_start sheet = record { upto = omega arith; so_far = sym (ap box_around (passing_none (λ q. is_labelled (get_or sheet q 0)))) }
-
-module _ (sheet : List ℕ) (box : LabelBox) (p : ℕ) (g : Boxing sheet box p) where
-  pub boxing_more : (next : LabelBox) → p < 16384 → next ≡ box_with box (get_or sheet p 0) p → Boxing sheet next (p + 1)
-  unfolding box_with
-  boxing_more next h e = record { upto = omega arith; so_far = e ∙ go (is_labelled (get_or sheet p 0)) refl }
-    where
-      go : (t : Bool) → is_labelled (get_or sheet p 0) ≡ t → cond t (widened box (cell_of p)) box ≡ box_around (labelled_below sheet (p + 1))
-      go true q =
-          ap (λ (b : LabelBox). widened b (cell_of p)) g.so_far
-          ∙ sym (foldl-append (λ b r. widened b (cell_of r)) LabelBox.Empty (labelled_below sheet p) (p ∷ []))
-          ∙ ap box_around (sym (passing_hit (λ q. is_labelled (get_or sheet q 0)) p q))
-      go false q = g.so_far ∙ ap box_around (sym (passing_miss (λ q. is_labelled (get_or sheet q 0)) p q))
-
-  boxing_blank : p < 16384 → get_or sheet p 0 ≡ 0 → Boxing sheet box (p + 1)
-  unfolding box_with
-  boxing_blank h e = boxing_more box h (rw (blank_unlabelled e))
-
-  pub boxing_end : 16384 ≤ p → box ≡ box_of sheet
-  unfolding box_of labelled_places
-  boxing_end h = let e : p ≡ 16384 = omega (arith, g.upto) in g.so_far ∙ ap (λ (q : ℕ). box_around (labelled_below sheet q)) e
-
-pub boxing_skips : (sheet : List ℕ) (box : LabelBox) (p : ℕ) → Boxing sheet box p → {r : ℕ} → NextWritten sheet p r → Boxing sheet box r
-boxing_skips sheet box p g w = skips sheet (Boxing sheet box) (λ q h e s. boxing_blank sheet box q s h e) w g
+pub box_walked : (sheet : List ℕ) → fold widened None (filter_map labelled_cell (written_from sheet 0)) ≡ box_of sheet
+unfolding box_of
+box_walked sheet = boxed (written_from sheet 0) None ∙ ap box_around (labels_walked sheet)

@@ -11,7 +11,7 @@ use lib.ListN.{length, length-append}
 use Rattle.sheet.specs.Pairing.{Shuffle}
 use Rattle.sheet.proofs.Pairing.{to_one}
 use Rattle.labels.specs.Labelled.{any_below}
-use Rattle.labels.proofs.Below.{passing_none, passing_hit, passing_miss, passing_ext, passing_few, passing_one_more, Passes, any_hit, any_yes, any_no, any_none}
+use Rattle.labels.proofs.Below.{passing_none, passing_hit, passing_miss, passing_ext, passing_few, passing_one_more, any_hit, any_yes, any_no, any_none}
 use Rattle.labels.specs.Count.{how_many}
 
 -- ---- one number more

@@ -1,32 +1,35 @@
 -- Laws of the labelled cells of a sheet: a cell is labelled exactly if its place is listed; the places rise; what marks keep
--- and what attaching a corner adds; the count, a place at a time. Assumes nothing.
+-- and what attaching a corner adds; the count, by a walk over the places that hold something. Assumes nothing.
+use Rattle.std.specs.Prelude.{Option, Some, None}
 use mathlib.Core.Path.{◌≡◌, refl, sym, ap, ◌∙◌}
-use mathlib.Core.Bool.{Bool, true, false, cond}
-use mathlib.Core.List.{List, Memᴰ}
+use mathlib.Core.Bool.{true, false}
+use mathlib.Core.List.{List, map, Memᴰ}
 use mathlib.Core.Logic.{◌⊎◌, inl, inr}
 use Prim.Native.Nat.{ℕ, ◌+◌, ◌<◌, ◌≤◌}
 use native.Mathlib.Decide.{ℕ_discrete}
 use native.Mathlib.Omega.{arith}
 use borrow.Author.Tests.{lt-ltb}
-use lib.ListN.{length, get_or, length-append}
+use lib.ListN.{length, get_or}
 use Rattle.sheet.specs.Cells.{OnSheet, place_of, cell_of, earlier}
 use Rattle.sheet.specs.Words.{Content, label_of_number, label_of, word_at, label_at, hole_at, ambiguous_at, attached, hole_marked, ambiguous_marked, marks_cleared, empty_sheet}
 use Rattle.sheet.proofs.Laws.{place_in, cell_on_lem, place_cell, place_one, place_rises}
-use Rattle.sheet.specs.Blank.{NextWritten}
-use Rattle.sheet.proofs.Blank.{skips, blank_label}
+use Rattle.sheet.specs.Blank.{written_from}
+use Rattle.sheet.proofs.Blank.{blank_label}
 use Rattle.sheet.proofs.Words.{label_on, labelled_on_lem, no_corner_lem, Changed, attached_changes, hole_changes, ambiguous_changes, cleared_changes, label_here, label_else, empty_word}
 use Rattle.sheet.specs.declared.Cell.{Cell}
-use Rattle.sheet.specs.declared.Label.{Label}
-use Rattle.labels.specs.Labelled.{Rising, names_corner, is_labelled, LabelledCell, labelled_below, labelled_places, label_count, counted, Attaching, SameLabels}
-use Rattle.labels.proofs.Below.{no_both, in_passing, passing_in, passing_ext, passing_none, passing_hit, passing_miss, passing_few, passing_one_more, passing_below, passing_rises}
+use Rattle.labels.specs.Labelled.{Rising, names_corner, is_labelled, LabelledCell, labelled_places, label_count, Attaching, SameLabels}
+use Rattle.std.specs.List.{filter}
+use Rattle.std.proofs.lemmas.List.{length-map}
+use Rattle.labels.proofs.Written.{written_passing}
+use Rattle.labels.proofs.Below.{no_both, in_passing, passing_in, passing_ext, passing_one_more, passing_below, passing_rises}
 
 -- ---- a word
 
-pub corner_labelled : (w k : ℕ) → label_of w ≡ Label.Corner k → is_labelled w ≡ true
+pub corner_labelled : (w k : ℕ) → label_of w ≡ Some k → is_labelled w ≡ true
 unfolding is_labelled names_corner
 corner_labelled w k e = ap names_corner e
 
-pub none_unlabelled : (w : ℕ) → label_of w ≡ Label.Unlabelled → is_labelled w ≡ false
+pub none_unlabelled : (w : ℕ) → label_of w ≡ None → is_labelled w ≡ false
 unfolding is_labelled names_corner
 none_unlabelled w e = ap names_corner e
 
@@ -37,23 +40,23 @@ blank_unlabelled {w} e = none_unlabelled w (blank_label e)
 -- the corner that a word names
 pub record Named (w : ℕ) : Type 0 where
   pub corner : ℕ
-  pub named : label_of w ≡ Label.Corner corner
+  pub named : label_of w ≡ Some corner
 
 pub labelled_names : (w : ℕ) → is_labelled w ≡ true → Named w
 unfolding is_labelled names_corner
 labelled_names w e = go (label_of w) refl e
   where
-    go : (l : Label) → label_of w ≡ l → names_corner l ≡ true → Named w
-    go Label.Unlabelled f h = absurd (no_both false h refl)
-    go (Label.Corner k) f h = record { corner = k; named = f }
+    go : (l : Option ℕ) → label_of w ≡ l → names_corner l ≡ true → Named w
+    go None f h = absurd (no_both false h refl)
+    go (Some k) f h = record { corner = k; named = f }
 
-pub unlabelled_none : (w : ℕ) → is_labelled w ≡ false → label_of w ≡ Label.Unlabelled
+pub unlabelled_none : (w : ℕ) → is_labelled w ≡ false → label_of w ≡ None
 unfolding is_labelled names_corner
 unlabelled_none w e = go (label_of w) e
   where
-    go : (l : Label) → names_corner l ≡ false → l ≡ Label.Unlabelled
-    go Label.Unlabelled h = refl
-    go (Label.Corner k) h = absurd (no_both true refl h)
+    go : (l : Option ℕ) → names_corner l ≡ false → l ≡ None
+    go None h = refl
+    go (Some k) h = absurd (no_both true refl h)
 
 -- ---- places and cells
 
@@ -146,13 +149,13 @@ module _ (sheet : List ℕ) (c : Cell) (long : 16384 ≤ length sheet) (on : OnS
 -- ---- a corner attached at an unlabelled cell
 
 module _ {sheet : List ℕ} {c : Cell} {k : ℕ} (a : Attaching sheet c k) where
-  changes : Changed sheet (attached sheet c k) c (record { label = Label.Corner k; hole = hole_at sheet c; ambiguous = ambiguous_at sheet c })
+  changes : Changed sheet (attached sheet c k) c (record { label = Some k; hole = hole_at sheet c; ambiguous = ambiguous_at sheet c })
   changes = attached_changes sheet c a.long a.on k a.corner_fits
 
-  pub label_before : label_of (get_or sheet (place_of c) 0) ≡ Label.Unlabelled
+  pub label_before : label_of (get_or sheet (place_of c) 0) ≡ None
   label_before = sym (label_on sheet c a.on) ∙ a.bare
 
-  pub label_after : label_of (get_or (attached sheet c k) (place_of c) 0) ≡ Label.Corner k
+  pub label_after : label_of (get_or (attached sheet c k) (place_of c) 0) ≡ Some k
   label_after = changes.label_word
 
   pub word_else : (p : ℕ) → (p ≡ place_of c → ⊥) → get_or (attached sheet c k) p 0 ≡ get_or sheet p 0
@@ -188,35 +191,12 @@ pub empty_unlabelled : (c : Cell) → LabelledCell empty_sheet c → ⊥
 unfolding is_labelled names_corner label_of label_of_number
 empty_unlabelled c l = no_both true refl (sym (labelled_word empty_sheet c l) ∙ ap is_labelled (empty_word (place_of c)))
 
--- ---- the count, a place at a time
+-- ---- the labelled places, by a walk over those that hold something
 
--- n is the number of labels of the first p places
-pub record Counting (sheet : List ℕ) (n p : ℕ) : Type 0 where
-  pub upto : p ≤ 16384
-  pub so_far : n ≡ length (labelled_below sheet p)
+pub labels_walked : (sheet : List ℕ) → map (λ e. e.0) (filter (λ e. is_labelled e.1) (written_from sheet 0)) ≡ labelled_places sheet
+unfolding labelled_places
+labels_walked sheet = written_passing sheet (λ e. is_labelled e.1) (λ p. blank_unlabelled refl)
 
-pub counting_start : (sheet : List ℕ) → Counting sheet 0 0
-counting_start sheet = record { upto = omega arith; so_far = sym (ap length (passing_none (λ q. is_labelled (get_or sheet q 0)))) }
-
-module _ (sheet : List ℕ) (n p : ℕ) (g : Counting sheet n p) where
-  pub counting_few : p < 16384 → n < 16384
-  counting_few h = let e = passing_few (λ q. is_labelled (get_or sheet q 0)) p in omega (arith, g.so_far)
-
-  pub counting_more : (m : ℕ) → p < 16384 → m ≡ counted n (get_or sheet p 0) → Counting sheet m (p + 1)
-  unfolding counted
-  counting_more m h e = record { upto = omega arith; so_far = e ∙ go (is_labelled (get_or sheet p 0)) refl }
-    where
-      go : (t : Bool) → is_labelled (get_or sheet p 0) ≡ t → cond t (n + 1) n ≡ length (labelled_below sheet (p + 1))
-      go true q = rw (passing_hit (λ q. is_labelled (get_or sheet q 0)) p q, length-append) (omega (arith, g.so_far))
-      go false q = rw (passing_miss (λ q. is_labelled (get_or sheet q 0)) p q) g.so_far
-
-  counting_blank : p < 16384 → get_or sheet p 0 ≡ 0 → Counting sheet n (p + 1)
-  unfolding counted
-  counting_blank h e = counting_more n h (rw (blank_unlabelled e))
-
-  pub counting_end : 16384 ≤ p → n ≡ label_count sheet
-  unfolding label_count labelled_places
-  counting_end h = let e : p ≡ 16384 = omega (arith, g.upto) in g.so_far ∙ ap (λ (q : ℕ). length (labelled_below sheet q)) e
-
-pub counting_skips : (sheet : List ℕ) (n p : ℕ) → Counting sheet n p → {r : ℕ} → NextWritten sheet p r → Counting sheet n r
-counting_skips sheet n p g w = skips sheet (Counting sheet n) (λ q h e s. counting_blank sheet n q s h e) w g
+pub count_walked : (sheet : List ℕ) → length (filter (λ e. is_labelled e.1) (written_from sheet 0)) ≡ label_count sheet
+unfolding label_count
+count_walked sheet = sym (length-map _ (λ e. e.0)) ∙ ap length (labels_walked sheet)

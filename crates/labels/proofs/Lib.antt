@@ -1,5 +1,6 @@
 -- The laws of the labels of a sheet, a module for each of the definitions, and of paired sheets. Assumes nothing.
 pub mod Below
+pub mod Written
 pub mod Signed
 pub mod Labelled
 pub mod Box

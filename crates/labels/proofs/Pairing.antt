@@ -1,5 +1,6 @@
 -- Laws of two sheets that hold paired corners: the same places are labelled, so places, count, box and rim are equal; a
 -- corner is used on the first exactly if its pair is on the second; each corner is at one cell on both. Assumes nothing.
+use Rattle.std.specs.Prelude.{Option, Some, None}
 use mathlib.Core.Path.{◌≡◌, refl, sym, ap, ◌∙◌}
 use mathlib.Core.Bool.{Bool, true, false}
 use mathlib.Core.List.{List}
@@ -11,7 +12,6 @@ use Rattle.sheet.specs.Words.{label_of}
 use Rattle.sheet.specs.Pairing.{Shuffle, paired_label, PairedSheets}
 use Rattle.sheet.proofs.Words.{no_corner_lem}
 use Rattle.sheet.proofs.Pairing.{to_one}
-use Rattle.sheet.specs.declared.Label.{Label}
 use Rattle.labels.specs.Labelled.{names_corner, is_labelled, labelled_places, label_count}
 use Rattle.labels.specs.Box.{box_of}
 use Rattle.labels.specs.Rim.{rim}
@@ -24,10 +24,10 @@ use Rattle.labels.proofs.Rim.{same_rim}
 -- ---- labels
 
 module _ {n : ℕ} (s : Shuffle n) where
-  names_paired : (l : Label) → names_corner (paired_label s l) ≡ names_corner l
+  names_paired : (l : Option ℕ) → names_corner (paired_label s l) ≡ names_corner l
   unfolding names_corner paired_label
-  names_paired Label.Unlabelled = refl
-  names_paired (Label.Corner k) = refl
+  names_paired None = refl
+  names_paired (Some k) = refl
 
   same_test : (j k : ℕ) → j < n → k < n → eqb (s.to j) (s.to k) ≡ eqb j k
   same_test j k g h = go (eqb j k) refl
@@ -37,21 +37,21 @@ module _ {n : ℕ} (s : Shuffle n) where
       go false e = ne_eqb (s.to j) (s.to k) (λ f. eqb-false j k e (to_one s j k g h f))
 
   -- a label names a corner exactly if its pair names the paired one
-  names_pair : (l : Label) (k : ℕ) → ((j : ℕ) → l ≡ Label.Corner j → j < n) → k < n → names (s.to k) (paired_label s l) ≡ names k l
+  names_pair : (l : Option ℕ) (k : ℕ) → ((j : ℕ) → l ≡ Some j → j < n) → k < n → names (s.to k) (paired_label s l) ≡ names k l
   unfolding names paired_label
-  names_pair Label.Unlabelled k known h = refl
-  names_pair (Label.Corner j) k known h = same_test j k (known j refl) h
+  names_pair None k known h = refl
+  names_pair (Some j) k known h = same_test j k (known j refl) h
 
   -- the corner whose pair a label names
-  record Unpaired (l : Label) (k : ℕ) : Type 0 where
+  record Unpaired (l : Option ℕ) (k : ℕ) : Type 0 where
     corner : ℕ
-    named : l ≡ Label.Corner corner
+    named : l ≡ Some corner
     its_pair : s.to corner ≡ k
 
-  unpaired : (l : Label) (k : ℕ) → paired_label s l ≡ Label.Corner k → Unpaired l k
+  unpaired : (l : Option ℕ) (k : ℕ) → paired_label s l ≡ Some k → Unpaired l k
   unfolding paired_label
-  unpaired Label.Unlabelled k e = absurd (no_corner_lem k e)
-  unpaired (Label.Corner j) k e = record { corner = j; named = refl; its_pair = cc }
+  unpaired None k e = absurd (no_corner_lem k e)
+  unpaired (Some j) k e = record { corner = j; named = refl; its_pair = cc }
 
 -- ---- sheets
 
@@ -73,7 +73,7 @@ module _ {n : ℕ} {s : Shuffle n} {sheet sheet' : List ℕ} (paired : PairedShe
   paired_rim depth = same_rim depth sheet sheet' paired_labelled
 
   -- where the first sheet names no corner from n on
-  module _ (known : (p k : ℕ) → p < 16384 → label_of (get_or sheet p 0) ≡ Label.Corner k → k < n) where
+  module _ (known : (p k : ℕ) → p < 16384 → label_of (get_or sheet p 0) ≡ Some k → k < n) where
     pub paired_used : (k : ℕ) → k < n → used_on sheet' (s.to k) ≡ used_on sheet k
     unfolding used_on
     paired_used k h =
@@ -87,5 +87,5 @@ module _ {n : ℕ} {s : Shuffle n} {sheet sheet' : List ℕ} (paired : PairedShe
               let x = unpaired s (label_of (get_or sheet p 0)) k (sym (paired.labels p g) ∙ a) in
               let y = unpaired s (label_of (get_or sheet q 0)) k (sym (paired.labels q h) ∙ b) in
               let e = to_one s x.corner y.corner (known p x.corner g x.named) (known q y.corner h y.named) (x.its_pair ∙ sym y.its_pair) in
-              o.one_place p q x.corner g h x.named (y.named ∙ ap Label.Corner (sym e));
+              o.one_place p q x.corner g h x.named (y.named ∙ ap Some (sym e));
         }

@@ -1,25 +1,27 @@
 -- Laws of the rim: it is yes exactly if a labelled cell lies in the outermost rings; what marks keep and what attaching a
--- corner adds; the four comparisons of a cell with the rings. Assumes nothing.
+-- corner adds; the rim, by a walk over the places that hold something. Assumes nothing.
 use mathlib.Core.Path.{◌≡◌, refl, sym, ap, ◌∙◌}
-use mathlib.Core.Bool.{Bool, true, false, ◌&&◌, ◌||◌}
-use mathlib.Core.List.{List}
+use mathlib.Core.Bool.{Bool, true, false, cond, ◌&&◌, ◌||◌}
+use mathlib.Core.List.{List, [], ◌∷◌}
 use mathlib.Core.Logic.{◌⊎◌, inl, inr}
 use Prim.Native.Nat.{ℕ, ◌≤◌}
 use native.Mathlib.Omega.{arith}
-use lib.IntN.{pos, ◌-ℤ◌}
+use lib.IntN.{pos}
 use lib.ListN.{get_or}
-use lib.Signed.{lt_z}
 use mir.Syntax.{w32}
-use mir.Val.{SFits, to_z}
+use mir.Val.{to_z}
 use mir.Facts.{to_z_pos}
 use Rattle.sheet.specs.Cells.{place_of, cell_of}
 use Rattle.sheet.specs.Words.{attached, empty_sheet}
-use Rattle.sheet.specs.Blank.{NextWritten}
-use Rattle.sheet.proofs.Laws.{abs_sub, fits, place_in, cell_place}
+use Rattle.sheet.specs.Blank.{written_from}
+use Rattle.sheet.proofs.Laws.{place_in, cell_place}
 use Rattle.sheet.specs.declared.Cell.{Cell}
-use Rattle.labels.specs.Labelled.{is_labelled, LabelledCell, Attaching}
+use Rattle.labels.specs.Labelled.{is_labelled, labelled_cell, LabelledCell, Attaching}
 use Rattle.labels.specs.Rim.{on_rim, RimReached, rim_at, rim}
-use Rattle.labels.proofs.Below.{no_both, both, any_hit, any_yes, any_ext, Searching, searching_skips}
+use Rattle.labels.proofs.Below.{no_both, both, any_hit, any_yes, any_ext}
+use Rattle.labels.proofs.Written.{written_any}
+use Rattle.std.specs.List.{list_any, filter_map, cons_option}
+use Rattle.std.specs.Prelude.{Some, None}
 use Rattle.labels.proofs.Labelled.{SamePlaces, cell_labelled, labelled_cell_on, labelled_word, labelled_new, labelled_still, labelled_cases, empty_unlabelled, blank_unlabelled}
 
 -- ---- the rule
@@ -74,40 +76,25 @@ rim_attached {sheet} {c} {k} depth a = go (on_rim depth c) refl (rim depth sheet
 pub rim_empty : (depth : ℕ) → rim depth empty_sheet ≡ false
 rim_empty depth = rim_no depth empty_sheet (λ r. empty_unlabelled r.cell r.labelled)
 
--- ---- the rings' ends, as the machine has them
+-- ---- a depth, as the machine has it
 
 pub depth_read : (d : ℕ) → d ≤ 64 → to_z w32 d ≡ pos d
 depth_read d h = to_z_pos w32 (omega arith)
 
-pub low_fits : (d : ℕ) → d ≤ 64 → SFits w32 (pos d -ℤ pos 64)
-low_fits d h = fits (pos d -ℤ pos 64) (omega (arith, abs_sub (pos d) (pos 64)))
+-- ---- the rim, by a walk over the places that hold something
 
-pub high_fits : (d : ℕ) → d ≤ 64 → SFits w32 (pos 63 -ℤ pos d)
-high_fits d h = fits (pos 63 -ℤ pos d) (omega (arith, abs_sub (pos 63) (pos d)))
-
--- ---- a cell, by the four comparisons
-
-module _ (depth : ℕ) (c : Cell) where
-  pub rim_low_i : lt_z c.i (pos depth -ℤ pos 64) ≡ true → true ≡ on_rim depth c
-  unfolding on_rim
-  rim_low_i e = rw e
-
-  module _ (not_low_i : lt_z c.i (pos depth -ℤ pos 64) ≡ false) where
-    pub rim_high_i : lt_z (pos 63 -ℤ pos depth) c.i ≡ true → true ≡ on_rim depth c
-    unfolding on_rim
-    rim_high_i e = rw (not_low_i, e)
-
-    module _ (not_high_i : lt_z (pos 63 -ℤ pos depth) c.i ≡ false) where
-      pub rim_low_j : lt_z c.j (pos depth -ℤ pos 64) ≡ true → true ≡ on_rim depth c
-      unfolding on_rim
-      rim_low_j e = rw (not_low_i, not_high_i, e)
-
-      pub rim_high_j : lt_z c.j (pos depth -ℤ pos 64) ≡ false → lt_z (pos 63 -ℤ pos depth) c.j ≡ on_rim depth c
-      unfolding on_rim
-      rim_high_j e = rw (not_low_i, not_high_i, e)
-
--- ---- places that hold nothing
-
-pub rim_skips : (depth : ℕ) (sheet : List ℕ) {p r : ℕ} → Searching (λ q. rim_at depth (get_or sheet q 0) q) 16384 p → NextWritten sheet p r → Searching (λ q. rim_at depth (get_or sheet q 0) q) 16384 r
+rimmed : (depth : ℕ) (l : List (ℕ × ℕ)) → list_any (on_rim depth) (filter_map labelled_cell l) ≡ list_any (λ e. rim_at depth e.1 e.0) l
 unfolding rim_at
-rim_skips depth sheet g w = searching_skips sheet (λ q. rim_at depth (get_or sheet q 0) q) (λ q e. rw (blank_unlabelled e)) g w
+rimmed depth [] = refl
+rimmed depth (e ∷ l) = go (is_labelled e.1) (rimmed depth l)
+  where
+    go : (t : Bool) → list_any (on_rim depth) (filter_map labelled_cell l) ≡ list_any (λ e. rim_at depth e.1 e.0) l
+        → list_any (on_rim depth) (cons_option (cond t (Some (cell_of e.0)) None) (filter_map labelled_cell l))
+        ≡ ((t && on_rim depth (cell_of e.0)) || list_any (λ e. rim_at depth e.1 e.0) l)
+    go true w = ap (λ (u : Bool). on_rim depth (cell_of e.0) || u) w
+    go false w = w
+
+pub rim_walked : (depth : ℕ) (sheet : List ℕ) → list_any (on_rim depth) (filter_map labelled_cell (written_from sheet 0)) ≡ rim depth sheet
+unfolding rim rim_at
+rim_walked depth sheet =
+    rimmed depth (written_from sheet 0) ∙ written_any sheet (λ e. rim_at depth e.1 e.0) (λ p. rw (blank_unlabelled {w = 0} refl))

@@ -1,42 +1,44 @@
 -- Laws of the used corners: a corner is used exactly if a cell holds it; the array stays tied to the sheet, and each corner
 -- at one cell, when a cell is marked and when an unused corner is attached; so there are at most as many labels as corners;
--- the array, a place at a time. Assumes nothing.
+-- the array, a place at a time, and by a walk over the places that hold something. Assumes nothing.
+use Rattle.std.specs.Prelude.{Option, Some, None}
 use mathlib.Core.Path.{◌≡◌, refl, sym, ap, ◌∙◌}
 use mathlib.Core.Bool.{Bool, true, false, cond, not, ◌&&◌, ◌||◌}
-use mathlib.Core.List.{List}
+use mathlib.Core.List.{List, [], ◌∷◌}
 use Prim.Native.Nat.{ℕ, zero, suc, ◌+◌, ◌<◌, ◌≤◌}
 use native.Mathlib.Nat.{not-suc-le-zero}
 use native.Mathlib.Decide.{ℕ_discrete}
 use native.Mathlib.Omega.{arith}
-use borrow.Author.Tests.{eq-eqb, ne_eqb, eqb-true, eqb-false, lt-ltb, le-ltb, ltb-true, ltb-false, not-true}
+use borrow.Author.Tests.{eq-eqb, ne_eqb, eqb-true, eqb-false, lt-ltb, ltb-true, ltb-false, not-true}
 use lib.Dec.{eqb, ltb}
-use lib.ListN.{length, get_or, set, length-set, length-append}
+use lib.ListN.{length, get_or, set, length-set, length-append, replicate, length-replicate, get_or-replicate}
+use Rattle.std.specs.List.{fold, list_any}
 use lib.Seq.{get_or-set_same, get_or-set_other}
 use Rattle.sheet.specs.Cells.{OnSheet, place_of}
 use Rattle.sheet.specs.Words.{bit_of, label_of_number, label_of, attached, hole_marked, ambiguous_marked, marks_cleared, empty_sheet}
-use Rattle.sheet.specs.Blank.{NextWritten}
-use Rattle.sheet.proofs.Blank.{skips, blank_label}
+use Rattle.sheet.specs.Blank.{written_from}
+use Rattle.sheet.proofs.Blank.{blank_label}
 use Rattle.sheet.proofs.Laws.{place_in}
 use Rattle.sheet.proofs.Words.{no_corner_lem, empty_word}
 use Rattle.sheet.specs.declared.Cell.{Cell}
-use Rattle.sheet.specs.declared.Label.{Label}
 use Rattle.labels.specs.Labelled.{passing, any_below, is_labelled, labelled_places, label_count, Attaching, SameLabels}
 use Rattle.labels.specs.Used.{names, used_on, UsedAt, Tied, noted, OneCell}
+use Rattle.labels.proofs.Written.{behind, written_any}
 use Rattle.labels.proofs.Below.{no_both, passing_ext, passing_one_more, both, Passes, any_hit, any_yes, any_none, any_no, any_ext, any_start, any_more}
 use Rattle.labels.proofs.Labelled.{labelled_names, hole_keeps, ambiguous_keeps, cleared_keeps, label_before, label_after, word_else}
 
 -- ---- a label that names a corner
 
-pub names_it : (k : ℕ) (l : Label) → l ≡ Label.Corner k → names k l ≡ true
+pub names_it : (k : ℕ) (l : Option ℕ) → l ≡ Some k → names k l ≡ true
 unfolding names
 names_it k l e = rw e (eq-eqb k k refl)
 
-pub it_names : (k : ℕ) (l : Label) → names k l ≡ true → l ≡ Label.Corner k
+pub it_names : (k : ℕ) (l : Option ℕ) → names k l ≡ true → l ≡ Some k
 unfolding names
-it_names k Label.Unlabelled e = absurd (no_both false e refl)
-it_names k (Label.Corner j) e = ap Label.Corner (eqb-true j k e)
+it_names k None e = absurd (no_both false e refl)
+it_names k (Some j) e = ap Some (eqb-true j k e)
 
-one_corner : (j k : ℕ) → Label.Corner j ≡ Label.Corner k → j ≡ k
+one_corner : (j k : ℕ) → Some j ≡ Some k → j ≡ k
 one_corner j k e = cc
 
 -- ---- the rule: a corner is used exactly if a place, or a cell, holds it
@@ -86,7 +88,7 @@ used_attached {sheet} {c} {k} a j = go (ℕ_discrete k j) (used_on sheet j) refl
     go : Dec (k ≡ j) → (t : Bool) → used_on sheet j ≡ t → used_on after j ≡ (eqb k j || t)
     go (yes d) t e =
         rw (eq-eqb k j d)
-        (used_there after j (record { place = place_of c; below = place_in c a.on; holds = label_after a ∙ ap Label.Corner d }))
+        (used_there after j (record { place = place_of c; below = place_in c a.on; holds = label_after a ∙ ap Some d }))
     go (no d) true e = rw (ne_eqb k j d) (used_there after j (still (used_yes sheet j e)))
     go (no d) false e = rw (ne_eqb k j d) (none d e (used_on after j) refl)
 
@@ -130,12 +132,12 @@ one_attached {sheet} {c} {k} a free o = record { one_place = λ p q j g h x y. g
     after = attached sheet c k
 
     -- a place elsewhere does not hold the new corner
-    clash : (p q j : ℕ) → p ≡ place_of c → (q ≡ place_of c → ⊥) → q < 16384 → label_of (get_or after p 0) ≡ Label.Corner j → label_of (get_or after q 0) ≡ Label.Corner j → ⊥
+    clash : (p q j : ℕ) → p ≡ place_of c → (q ≡ place_of c → ⊥) → q < 16384 → label_of (get_or after p 0) ≡ Some j → label_of (get_or after q 0) ≡ Some j → ⊥
     clash p q j e f h x y =
         let d : k ≡ j = one_corner k j (sym (label_after a) ∙ ap (λ (r : ℕ). label_of (get_or after r 0)) (sym e) ∙ x) in
-        unused sheet k free (record { place = q; below = h; holds = ap label_of (sym (word_else a q f)) ∙ y ∙ ap Label.Corner (sym d) })
+        unused sheet k free (record { place = q; below = h; holds = ap label_of (sym (word_else a q f)) ∙ y ∙ ap Some (sym d) })
 
-    go : (p q j : ℕ) → p < 16384 → q < 16384 → label_of (get_or after p 0) ≡ Label.Corner j → label_of (get_or after q 0) ≡ Label.Corner j → Dec (p ≡ place_of c) → Dec (q ≡ place_of c) → p ≡ q
+    go : (p q j : ℕ) → p < 16384 → q < 16384 → label_of (get_or after p 0) ≡ Some j → label_of (get_or after q 0) ≡ Some j → Dec (p ≡ place_of c) → Dec (q ≡ place_of c) → p ≡ q
     go p q j g h x y (yes d) (yes e) = d ∙ sym e
     go p q j g h x y (yes d) (no e) = absurd (clash p q j d e h x y)
     go p q j g h x y (no d) (yes e) = absurd (clash q p j e d g y x)
@@ -219,12 +221,12 @@ few_values (suc m) n f value small own = go (few_values m n others value small' 
                 let d : eqb (value q) m ≡ false = ne_eqb (value q) m (λ z. ne (own q x.number h x.below k there.0 (z ∙ sym (eqb-true (value x.number) m there.1)))) in
                 rw d
 
-corner_number : Label → ℕ
-corner_number Label.Unlabelled = 0
-corner_number (Label.Corner k) = k
+corner_number : Option ℕ → ℕ
+corner_number None = 0
+corner_number (Some k) = k
 
 -- where each label is below n and no corner is at two cells, there are at most n labels
-pub count_bounded : (sheet : List ℕ) (n : ℕ) → ((p k : ℕ) → p < 16384 → label_of (get_or sheet p 0) ≡ Label.Corner k → k < n) → OneCell sheet → label_count sheet ≤ n
+pub count_bounded : (sheet : List ℕ) (n : ℕ) → ((p k : ℕ) → p < 16384 → label_of (get_or sheet p 0) ≡ Some k → k < n) → OneCell sheet → label_count sheet ≤ n
 unfolding label_count labelled_places corner_number
 count_bounded sheet n known o = few_values n 16384 (λ p. is_labelled (get_or sheet p 0)) value small own
   where
@@ -239,24 +241,41 @@ count_bounded sheet n known o = few_values n 16384 (λ p. is_labelled (get_or sh
         let l = labelled_names (get_or sheet p 0) a in
         let r = labelled_names (get_or sheet q 0) b in
         let d : l.corner ≡ r.corner = sym (ap corner_number l.named) ∙ e ∙ ap corner_number r.named in
-        o.one_place p q l.corner g h l.named (r.named ∙ ap Label.Corner (sym d))
+        o.one_place p q l.corner g h l.named (r.named ∙ ap Some (sym d))
 
 -- ---- the array, a place at a time
 
 -- what is noted, by the label
-module _ (used : List ℕ) (l : Label) where
-  pub noted_none : l ≡ Label.Unlabelled → used ≡ noted used l
+module _ (used : List ℕ) (l : Option ℕ) where
+  pub noted_none : l ≡ None → used ≡ noted used l
   unfolding noted
   noted_none e = rw e
 
-  module _ (k : ℕ) (e : l ≡ Label.Corner k) where
+  module _ (k : ℕ) (e : l ≡ Some k) where
     pub noted_entry : k < 1024 → set used k 1 ≡ noted used l
     unfolding noted
     noted_entry h = rw (e, lt-ltb k 1024 h)
 
-    pub noted_over : 1024 ≤ k → used ≡ noted used l
-    unfolding noted
-    noted_over h = rw (e, le-ltb k 1024 h)
+-- an array whose entries say which corners pass a test, with one label more noted
+record Marked (used : List ℕ) (t : ℕ → Bool) : Type 0 where
+  size : length used ≡ 1024
+  at : (k : ℕ) → k < 1024 → get_or used k 0 ≡ bit_of (t k)
+
+marked_more : (used : List ℕ) (t : ℕ → Bool) → Marked used t → (l : Option ℕ) → Marked (noted used l) (λ k. names k l || t k)
+unfolding noted names bit_of
+marked_more used t m None = record { size = m.size; at = m.at }
+marked_more used t m (Some k) = go (ltb k 1024) refl
+  where
+    one : k < 1024 → (j : ℕ) → j < 1024 → Dec (k ≡ j) → get_or (set used k 1) j 0 ≡ bit_of (eqb k j || t j)
+    one h j l (yes d) = rw (eq-eqb k j d, ← d) (get_or-set_same used k 1 0 (omega (arith, m.size)))
+    one h j l (no d) = rw (ne_eqb k j d) (get_or-set_other used k j 1 0 (λ z. d (sym z)) ∙ m.at j l)
+
+    other : 1024 ≤ k → (j : ℕ) → j < 1024 → get_or used j 0 ≡ bit_of (eqb k j || t j)
+    other h j l = rw (ne_eqb k j (λ z. omega arith)) (m.at j l)
+
+    go : (b : Bool) → ltb k 1024 ≡ b → Marked (cond b (set used k 1) used) (λ j. eqb k j || t j)
+    go true f = record { size = length-set used k 1 ∙ m.size; at = λ j l. one (ltb-true k 1024 f) j l (ℕ_discrete k j) }
+    go false f = record { size = m.size; at = other (ltb-false k 1024 f) }
 
 -- the array is tied to the first p places
 pub record Marking (sheet used : List ℕ) (p : ℕ) : Type 0 where
@@ -268,43 +287,42 @@ pub marking_start : (sheet used : List ℕ) → length used ≡ 1024 → ((k : �
 unfolding bit_of
 marking_start sheet used l h = record { upto = omega arith; size = l; so_far = λ k m. h k m ∙ ap bit_of (sym (any_start (λ q. names k (label_of (get_or sheet q 0))))) }
 
-module _ (sheet used : List ℕ) (p : ℕ) (g : Marking sheet used p) where
-  pub marking_more : (after : List ℕ) → p < 16384 → after ≡ noted used (label_of (get_or sheet p 0)) → Marking sheet after (p + 1)
-  unfolding noted names bit_of
-  marking_more after h e =
-      record {
-        upto = omega arith;
-        size = ap length e ∙ len (label_of (get_or sheet p 0));
-        so_far = λ j l. ap (λ (u : List ℕ). get_or u j 0) e ∙ rw (any_more (λ q. names j (label_of (get_or sheet q 0))) p) (go j l (label_of (get_or sheet p 0)));
-      }
-    where
-      len_at : (t : Bool) (k : ℕ) → length (cond t (set used k 1) used) ≡ 1024
-      len_at true k = length-set used k 1 ∙ g.size
-      len_at false k = g.size
+pub marking_more : (sheet used : List ℕ) (p : ℕ) → Marking sheet used p → (after : List ℕ) → p < 16384 → after ≡ noted used (label_of (get_or sheet p 0)) → Marking sheet after (p + 1)
+marking_more sheet used p g after h e =
+    let m = marked_more used (λ k. any_below p (λ q. names k (label_of (get_or sheet q 0)))) (record { size = g.size; at = g.so_far }) (label_of (get_or sheet p 0)) in
+    record {
+      upto = omega arith;
+      size = ap length e ∙ m.size;
+      so_far = λ j l. ap (λ (u : List ℕ). get_or u j 0) e ∙ rw (any_more (λ q. names j (label_of (get_or sheet q 0))) p) (m.at j l);
+    }
 
-      len : (l : Label) → length (noted used l) ≡ 1024
-      len Label.Unlabelled = g.size
-      len (Label.Corner k) = len_at (ltb k 1024) k
+-- ---- the array, by a walk over the places that hold something
 
-      rest : ℕ → Bool
-      rest j = any_below p (λ q. names j (label_of (get_or sheet q 0)))
+-- the array with the corner of one word more noted
+abbrev pub word_noted : List ℕ → ℕ × ℕ → List ℕ
+word_noted used e = noted used (label_of e.1)
 
-      at : (j k : ℕ) → j < 1024 → (t : Bool) → ltb k 1024 ≡ t → Dec (k ≡ j) → get_or (cond t (set used k 1) used) j 0 ≡ bit_of (eqb k j || rest j)
-      at j k l true f (yes d) = rw (eq-eqb k j d, ← d) (get_or-set_same used k 1 0 (omega (arith, g.size, ltb-true k 1024 f)))
-      at j k l true f (no d) = rw (ne_eqb k j d) (get_or-set_other used k j 1 0 (λ z. d (sym z)) ∙ g.so_far j l)
-      at j k l false f (yes d) = absurd (omega (arith, ltb-false k 1024 f))
-      at j k l false f (no d) = rw (ne_eqb k j d) (g.so_far j l)
+marked_all : (l : List (ℕ × ℕ)) (used : List ℕ) (t : ℕ → Bool) → Marked used t → Marked (fold word_noted used l) (λ k. list_any (λ e. names k (label_of e.1)) l || t k)
+marked_all [] used t m = m
+marked_all (e ∷ l) used t m =
+    let w = marked_all l (word_noted used e) (λ k. names k (label_of e.1) || t k) (marked_more used t m (label_of e.1)) in
+    record { size = w.size; at = λ k h. w.at k h ∙ ap bit_of (behind (list_any (λ e. names k (label_of e.1)) l) (names k (label_of e.1)) (t k)) }
 
-      go : (j : ℕ) → j < 1024 → (l : Label) → get_or (noted used l) j 0 ≡ bit_of (names j l || rest j)
-      go j m Label.Unlabelled = g.so_far j m
-      go j m (Label.Corner k) = at j k m (ltb k 1024) refl (ℕ_discrete k j)
+-- what is left to note is nothing
+pub noted_all : (sheet used : List ℕ) (rest : List (ℕ × ℕ)) → rest ≡ [] → fold word_noted used rest ≡ fold word_noted (replicate 1024 0) (written_from sheet 0) → Tied sheet used
+unfolding used_on bit_of names
+noted_all sheet used rest e f =
+    let m = marked_all (written_from sheet 0) (replicate 1024 0) (λ k. false) (record { size = length-replicate {A = ℕ} 1024 0; at = λ k h. get_or-replicate {A = ℕ} 1024 k 0 0 h }) in
+    let g : used ≡ fold word_noted (replicate 1024 0) (written_from sheet 0) = sym (ap (fold word_noted used) e) ∙ f in
+    rw g
+    (record {
+      size = m.size;
+      at = λ k h. m.at k h ∙ ap bit_of (none (list_any (λ e. names k (label_of e.1)) (written_from sheet 0)) ∙ walked k);
+    })
+  where
+    none : (t : Bool) → (t || false) ≡ t
+    none true = refl
+    none false = refl
 
-  pub marking_blank : p < 16384 → get_or sheet p 0 ≡ 0 → Marking sheet used (p + 1)
-  marking_blank h e = marking_more used h (noted_none used (label_of (get_or sheet p 0)) (blank_label e))
-
-  pub marking_end : 16384 ≤ p → Tied sheet used
-  unfolding used_on
-  marking_end h = let e : p ≡ 16384 = omega (arith, g.upto) in record { size = g.size; at = λ k l. rw (← e) (g.so_far k l) }
-
-pub marking_skips : (sheet used : List ℕ) (p : ℕ) → Marking sheet used p → {r : ℕ} → NextWritten sheet p r → Marking sheet used r
-marking_skips sheet used p g w = skips sheet (Marking sheet used) (λ q h e s. marking_blank sheet used q s h e) w g
+    walked : (k : ℕ) → list_any (λ e. names k (label_of e.1)) (written_from sheet 0) ≡ any_below 16384 (λ p. names k (label_of (get_or sheet p 0)))
+    walked k = written_any sheet (λ e. names k (label_of e.1)) (λ p. ap (names k) (blank_label {w = 0} refl))

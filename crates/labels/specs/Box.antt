@@ -1,13 +1,12 @@
 -- The label box: the lowest and highest labelled i and j, or empty. First as a rule that a box of given cells meets, then
 -- as a box computed from the sheet. Definitions only.
-use Rattle.std.specs.Prelude.{◌≡◌, cond, ℕ, ℤ, ◌≤ℤ◌}
+use Rattle.std.specs.Prelude.{◌≡◌, cond, ℕ, ℤ, ◌≤ℤ◌, Option, Some, None}
 use mathlib.Core.List.{List, foldl}
 use Rattle.std.specs.Int.Signed.{le_z}
 use Rattle.sheet.specs.Cells.{cell_of}
 use Rattle.sheet.specs.declared.Cell.{Cell}
-use Rattle.labels.specs.Labelled.{is_labelled, LabelledCell, labelled_places}
+use Rattle.labels.specs.Labelled.{LabelledCell, labelled_places}
 use Rattle.labels.specs.declared.Bounds.{Bounds}
-use Rattle.labels.specs.declared.LabelBox.{LabelBox}
 
 -- ---- the rule
 
@@ -33,12 +32,12 @@ pub record Bounding (cells : Cell → Type 0) (b : Bounds) : Type 0 where
   pub high_j_taken : Taken cells (λ c. c.j) b.high_j
 
 -- the box of cells: empty where there is none, else their bounds
-abbrev pub IsBoxOf : (Cell → Type 0) → LabelBox → Type 0
-IsBoxOf cells LabelBox.Empty = (c : Cell) → cells c → ⊥
-IsBoxOf cells (LabelBox.Around b) = Bounding cells b
+abbrev pub IsBoxOf : (Cell → Type 0) → Option Bounds → Type 0
+IsBoxOf cells None = (c : Cell) → cells c → ⊥
+IsBoxOf cells (Some b) = Bounding cells b
 
 -- the label box
-abbrev pub IsBox : List ℕ → LabelBox → Type 0
+abbrev pub IsBox : List ℕ → Option Bounds → Type 0
 IsBox sheet box = IsBoxOf (LabelledCell sheet) box
 
 -- ---- the box computed
@@ -50,10 +49,10 @@ unfoldable pub higher_of : ℤ → ℤ → ℤ
 higher_of a b = cond (le_z b a) a b
 
 -- the box with one cell more
-unfoldable pub widened : LabelBox → Cell → LabelBox
-widened LabelBox.Empty c = LabelBox.Around (record { low_i = c.i; high_i = c.i; low_j = c.j; high_j = c.j })
-widened (LabelBox.Around b) c =
-    LabelBox.Around
+unfoldable pub widened : Option Bounds → Cell → Option Bounds
+widened None c = Some (record { low_i = c.i; high_i = c.i; low_j = c.j; high_j = c.j })
+widened (Some b) c =
+    Some
     (record {
       low_i = lower_of b.low_i c.i;
       high_i = higher_of b.high_i c.i;
@@ -62,12 +61,8 @@ widened (LabelBox.Around b) c =
     })
 
 -- the box of cells given by their places
-abbrev pub box_around : List ℕ → LabelBox
-box_around places = foldl (λ box p. widened box (cell_of p)) LabelBox.Empty places
+abbrev pub box_around : List ℕ → Option Bounds
+box_around places = foldl (λ box p. widened box (cell_of p)) None places
 
-unfoldable pub box_of : List ℕ → LabelBox
+unfoldable pub box_of : List ℕ → Option Bounds
 box_of sheet = box_around (labelled_places sheet)
-
--- a box with one more place, which holds this word
-unfoldable pub box_with : LabelBox → ℕ → ℕ → LabelBox
-box_with box w p = cond (is_labelled w) (widened box (cell_of p)) box

@@ -1,11 +1,10 @@
 -- The labelled cells of a sheet: their places in rising order, so by i, then j, and how many there are. The sheet's first
 -- 16,384 places are looked at. Definitions only.
-use Rattle.std.specs.Prelude.{◌≡◌, Bool, true, false, cond, ◌||◌, List, [], ◌∷◌, ◌++◌, ℕ, zero, suc, ◌+◌, ◌<◌, ◌≤◌, length, get_or}
+use Rattle.std.specs.Prelude.{◌≡◌, Bool, true, false, cond, ◌||◌, List, [], ◌∷◌, ◌++◌, ℕ, zero, suc, ◌+◌, ◌<◌, ◌≤◌, length, get_or, Option, Some, None}
 use Rattle.sizes.specs.Sizes.{place_count}
-use Rattle.sheet.specs.Cells.{OnSheet}
+use Rattle.sheet.specs.Cells.{OnSheet, cell_of}
 use Rattle.sheet.specs.Words.{label_of, label_at}
 use Rattle.sheet.specs.declared.Cell.{Cell}
-use Rattle.sheet.specs.declared.Label.{Label}
 
 -- ---- tests of the numbers below a number
 
@@ -25,18 +24,22 @@ pub record Rising (l : List ℕ) : Type 0 where
 
 -- ---- labels
 
-unfoldable pub names_corner : Label → Bool
-names_corner Label.Unlabelled = false
-names_corner (Label.Corner k) = true
+unfoldable pub names_corner : Option ℕ → Bool
+names_corner None = false
+names_corner (Some k) = true
 
 -- a word that names a corner
 unfoldable pub is_labelled : ℕ → Bool
 is_labelled w = names_corner (label_of w)
 
+-- the cell of a place whose word names a corner, of a place with its word
+abbrev pub labelled_cell : ℕ × ℕ → Option Cell
+labelled_cell e = cond (is_labelled e.1) (Some (cell_of e.0)) None
+
 -- a cell of the sheet that holds a corner
 pub record LabelledCell (sheet : List ℕ) (c : Cell) : Type 0 where
   pub corner : ℕ
-  pub holds : label_at sheet c ≡ Label.Corner corner
+  pub holds : label_at sheet c ≡ Some corner
 
 -- the labelled places below n, and all of them
 abbrev pub labelled_below : List ℕ → ℕ → List ℕ
@@ -57,7 +60,7 @@ counted n w = cond (is_labelled w) (n + 1) n
 pub record Attaching (sheet : List ℕ) (c : Cell) (k : ℕ) : Type 0 where
   pub long : place_count ≤ length sheet
   pub on : OnSheet c
-  pub bare : label_at sheet c ≡ Label.Unlabelled
+  pub bare : label_at sheet c ≡ None
   pub corner_fits : k < 16383
 
 -- two sheets with the same labels, whatever their marks: the same places hold the same corners

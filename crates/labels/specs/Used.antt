@@ -1,14 +1,13 @@
 -- Which corners are on the sheet, the array that says so, and that no corner is at two cells. Definitions only.
-use Rattle.std.specs.Prelude.{◌≡◌, Bool, false, cond, List, ℕ, ◌<◌, eqb, ltb, length, get_or, set}
+use Rattle.std.specs.Prelude.{◌≡◌, Bool, false, cond, List, ℕ, ◌<◌, eqb, ltb, length, get_or, set, Option, Some, None}
 use Rattle.sizes.specs.Sizes.{place_count, corner_limit}
 use Rattle.sheet.specs.Words.{bit_of, label_of}
-use Rattle.sheet.specs.declared.Label.{Label}
 use Rattle.labels.specs.Labelled.{any_below}
 
 -- a label that names the corner k
-unfoldable pub names : ℕ → Label → Bool
-names k Label.Unlabelled = false
-names k (Label.Corner j) = eqb j k
+unfoldable pub names : ℕ → Option ℕ → Bool
+names k None = false
+names k (Some j) = eqb j k
 
 -- the corner k is used: some place of the sheet holds it
 unfoldable pub used_on : List ℕ → ℕ → Bool
@@ -18,7 +17,7 @@ used_on sheet k = any_below place_count (λ p. names k (label_of (get_or sheet p
 pub record UsedAt (sheet : List ℕ) (k : ℕ) : Type 0 where
   pub place : ℕ
   pub below : place < place_count
-  pub holds : label_of (get_or sheet place 0) ≡ Label.Corner k
+  pub holds : label_of (get_or sheet place 0) ≡ Some k
 
 -- an array that is tied to the sheet: entry k is 1 if the corner k is used, and else 0
 pub record Tied (sheet used : List ℕ) : Type 0 where
@@ -26,11 +25,11 @@ pub record Tied (sheet used : List ℕ) : Type 0 where
   pub at : (k : ℕ) → k < corner_limit → get_or used k 0 ≡ bit_of (used_on sheet k)
 
 -- an array with the corner of a label marked; a corner of 1,024 or more has no entry
-unfoldable pub noted : List ℕ → Label → List ℕ
-noted used Label.Unlabelled = used
-noted used (Label.Corner k) = cond (ltb k corner_limit) (set used k 1) used
+unfoldable pub noted : List ℕ → Option ℕ → List ℕ
+noted used None = used
+noted used (Some k) = cond (ltb k corner_limit) (set used k 1) used
 
 -- one cell a corner: two places of the sheet never hold the same corner
 pub record OneCell (sheet : List ℕ) : Type 0 where
   pub one_place :
-      (p q k : ℕ) → p < place_count → q < place_count → label_of (get_or sheet p 0) ≡ Label.Corner k → label_of (get_or sheet q 0) ≡ Label.Corner k → p ≡ q
+      (p q k : ℕ) → p < place_count → q < place_count → label_of (get_or sheet p 0) ≡ Some k → label_of (get_or sheet q 0) ≡ Some k → p ≡ q

@@ -6,34 +6,20 @@
 ghost use Rattle.std.specs.Prelude.{◌≡◌, ◌≤◌, ◌<◌, length};
 ghost use Rattle.sizes.specs.Sizes.{place_count};
 ghost use Rattle.sheet.specs.Words.{label_of};
-ghost use Rattle.labels.specs.Labelled.{is_labelled, counted, label_count};
-ghost use Rattle.labels.specs.Box.{lower_of, higher_of, widened, box_with, box_of};
-ghost use Rattle.labels.specs.Rim.{on_rim, rim_at, rim, RimAsked};
+ghost use Rattle.labels.specs.Labelled.{is_labelled, labelled_cell, label_count};
+ghost use Rattle.labels.specs.Box.{widened, box_of};
+ghost use Rattle.labels.specs.Rim.{outermost, on_rim, rim, RimAsked};
 ghost use Rattle.labels.specs.Used.{noted, Tied};
 
-use sheet::{Cell, Label};
-use sizes::{CORNERS, PLACES};
+use sheet::{Cell, Written};
+use sizes::CORNERS;
 
 // Whether a word names a corner.
+#[tactic(auto, unfolding(crate::specs::Labelled::is_labelled, crate::specs::Labelled::names_corner))]
 pub fn is_labelled(word: u16) -> bool
     ensures { result ≡ is_labelled word }
 {
-    let label = sheet::label_of(word);
-    match label {
-        Label::Unlabelled => false,
-        Label::Corner(_) => true,
-    }
-}
-
-// The count with one more word looked at.
-fn count_word(count: usize, word: u16) -> usize
-    requires { count < place_count }
-    ensures { result ≡ counted count word }
-{
-    if is_labelled(word) {
-        return count + 1;
-    }
-    count
+    sheet::label_of(word).is_some()
 }
 
 // How many cells are labelled.
@@ -41,13 +27,18 @@ pub fn label_count(sheet: &[u16]) -> usize
     requires { place_count ≤ length sheet.now }
     ensures { result ≡ label_count sheet.now }
 {
-    let mut count = 0usize;
-    let mut place = sheet::next_written(sheet, 0);
-    while place < PLACES {
-        count = count_word(count, sheet[place]);
-        place = sheet::next_written(sheet, place + 1);
-    }
-    count
+    Written::new(sheet)
+        .filter(|(_, word)| is_labelled(*word))
+        .count()
+}
+
+// The cell of a place whose word names a corner.
+fn labelled_cell(place_and_word: (usize, u16)) -> Option<Cell>
+    requires { place_and_word.0 < place_count }
+    ensures { result ≡ labelled_cell place_and_word }
+{
+    let (place, word) = place_and_word;
+    is_labelled(word).then(|| sheet::cell_of(place))
 }
 
 // The lowest and highest labelled i and j.
@@ -59,134 +50,74 @@ pub struct Bounds {
     pub high_j: i32,
 }
 
-// The label box: empty where no cell is labelled.
-#[derive(Clone, Copy)]
-pub enum LabelBox {
-    Empty,
-    Around(Bounds),
-}
-
-// The lower of two numbers.
-fn lower(a: i32, b: i32) -> i32
-    ensures { result ≡ lower_of a b }
-{
-    if a <= b {
-        return a;
-    }
-    b
-}
-
-// The higher of two numbers.
-fn higher(a: i32, b: i32) -> i32
-    ensures { result ≡ higher_of a b }
-{
-    if b <= a {
-        return a;
-    }
-    b
-}
-
 // The box with one cell more in it.
-pub fn widen(around: LabelBox, c: Cell) -> LabelBox
+#[tactic(auto, unfolding(crate::specs::Box::widened))]
+pub fn widen(around: Option<Bounds>, c: Cell) -> Option<Bounds>
     ensures { result ≡ widened around c }
 {
     match around {
-        LabelBox::Empty => LabelBox::Around(Bounds {
+        None => Some(Bounds {
             low_i: c.i,
             high_i: c.i,
             low_j: c.j,
             high_j: c.j,
         }),
-        LabelBox::Around(b) => LabelBox::Around(Bounds {
-            low_i: lower(b.low_i, c.i),
-            high_i: higher(b.high_i, c.i),
-            low_j: lower(b.low_j, c.j),
-            high_j: higher(b.high_j, c.j),
+        Some(b) => Some(Bounds {
+            low_i: b.low_i.min(c.i),
+            high_i: b.high_i.max(c.i),
+            low_j: b.low_j.min(c.j),
+            high_j: b.high_j.max(c.j),
         }),
     }
 }
 
-// The box with one place more looked at.
-fn box_place(around: LabelBox, word: u16, place: usize) -> LabelBox
-    requires { place < place_count }
-    ensures { result ≡ box_with around word place }
-{
-    if is_labelled(word) {
-        return widen(around, sheet::cell_of(place));
-    }
-    around
-}
-
 // The label box of a sheet: the lowest and highest labelled i and j, or empty.
-pub fn label_box(sheet: &[u16]) -> LabelBox
+#[tactic(auto, using(sheet::proofs::Blank::rest_below))]
+pub fn label_box(sheet: &[u16]) -> Option<Bounds>
     requires { place_count ≤ length sheet.now }
     ensures { result ≡ box_of sheet.now }
 {
-    let mut around = LabelBox::Empty;
-    let mut place = sheet::next_written(sheet, 0);
-    while place < PLACES {
-        let next = box_place(around, sheet[place], place);
-        around = next;
-        place = sheet::next_written(sheet, place + 1);
-    }
-    around
+    Written::new(sheet)
+        .filter_map(labelled_cell)
+        .fold(None, widen)
+}
+
+// Whether i or j lies in the outermost `depth` lines on either side.
+fn is_outermost(line: i32, depth: u32) -> bool
+    requires { depth ≤ 64 }
+    ensures { result ≡ outermost depth line }
+{
+    line < depth as i32 - 64 || line > 63 - depth as i32
 }
 
 // Whether a cell lies in the outermost `depth` rings of the sheet.
+#[tactic(auto, unfolding(crate::specs::Rim::on_rim))]
 pub fn on_rim(c: Cell, depth: u32) -> bool
     requires { depth ≤ 64 }
     ensures { result ≡ on_rim depth c }
 {
-    let d = depth as i32;
-    let low = d - 64;
-    let high = 63 - d;
-    if c.i < low {
-        return true;
-    }
-    if c.i > high {
-        return true;
-    }
-    if c.j < low {
-        return true;
-    }
-    c.j > high
-}
-
-// Whether a place is labelled and lies in the outermost `depth` rings.
-fn place_on_rim(word: u16, place: usize, depth: u32) -> bool
-    requires { (place < place_count) × (depth ≤ 64) }
-    ensures { result ≡ rim_at depth word place }
-{
-    if is_labelled(word) {
-        return on_rim(sheet::cell_of(place), depth);
-    }
-    false
+    is_outermost(c.i, depth) || is_outermost(c.j, depth)
 }
 
 // The rim: whether a labelled cell lies in the outermost `depth` rings of the sheet.
+#[tactic(auto, using(sheet::proofs::Blank::rest_below))]
 pub fn rim_reached(sheet: &[u16], depth: u32) -> bool
     requires { RimAsked sheet.now depth }
     ensures { result ≡ rim depth sheet.now }
 {
-    let mut place = sheet::next_written(sheet, 0);
-    while place < PLACES {
-        if place_on_rim(sheet[place], place, depth) {
-            return true;
-        }
-        place = sheet::next_written(sheet, place + 1);
-    }
-    false
+    Written::new(sheet)
+        .filter_map(labelled_cell)
+        .any(|c| on_rim(c, depth))
 }
 
 // The corner that a word names is marked as used; all other entries stay. A corner of 1,024 or more has no entry.
+#[tactic(auto, unfolding(crate::specs::Used::noted))]
 fn note_used(used: &mut [u8; CORNERS], word: u16)
     ensures { used.new ≡ noted used.old (label_of word) }
 {
-    let named = sheet::label_of(word);
-    let Label::Corner(k) = named else {
-        return;
-    };
-    if k < CORNERS {
+    if let Some(k) = sheet::label_of(word)
+        && k < CORNERS
+    {
         used[k] = 1;
     }
 }
@@ -197,10 +128,8 @@ pub fn mark_used(sheet: &[u16]) -> [u8; CORNERS]
     ensures { Tied sheet.now result }
 {
     let mut used = [0u8; CORNERS];
-    let mut place = sheet::next_written(sheet, 0);
-    while place < PLACES {
-        note_used(&mut used, sheet[place]);
-        place = sheet::next_written(sheet, place + 1);
+    for (_, word) in Written::new(sheet) {
+        note_used(&mut used, word);
     }
     used
 }

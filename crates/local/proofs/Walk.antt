@@ -1,5 +1,7 @@
 -- A round of local, a place at a time: a visit changes no label elsewhere and counts at most one cell, and what the code has written after each place.
 -- Assumes nothing.
+use Rattle.labels.specs.declared.Bounds.{Bounds}
+use Rattle.std.specs.Prelude.{None, Option}
 use mathlib.Core.Path.{◌≡◌, refl, sym, ap, ap₂, ◌∙◌}
 use mathlib.Core.Bool.{Bool, true, false, not, ◌&&◌, true≢false}
 use mathlib.Core.List.{List}
@@ -7,24 +9,25 @@ use Prim.Native.Nat.{ℕ, ◌+◌, ◌/◌, ◌%◌, ◌<◌, ◌≤◌}
 use native.Mathlib.Decide.{dec_lt, ℕ_discrete}
 use native.Mathlib.Omega.{arith}
 use lib.ListN.{length, get_or, take}
+use lib.Seq.{get_or-take, length-take-le}
+use Rattle.std.specs.List.{All}
+use Rattle.std.proofs.lemmas.List.Elements.{All-from_get_or}
 use Rattle.sheet.specs.Corners.{Corners}
 use Rattle.sheet.specs.Cells.{cell_of}
 use Rattle.sheet.specs.Words.{label_at}
 use Rattle.sheet.specs.declared.Cell.{Cell}
-use Rattle.sheet.specs.declared.Label.{Label}
 use Rattle.sheet.proofs.Laws.{cell_on_lem, place_cell}
 use Rattle.sheet.proofs.Blank.{carried}
 use Rattle.labels.specs.Labelled.{is_labelled, labelled_places}
 use Rattle.labels.specs.Box.{box_of}
 use Rattle.labels.proofs.Labelled.{label_of_place, unlabelled_none}
-use Rattle.labels.specs.declared.LabelBox.{LabelBox}
 use Rattle.arguments.specs.declared.Settings.{Settings}
 use Rattle.arguments.specs.declared.LocalExtensionParams.{LocalExtensionParams}
 use Rattle.positions_policy.specs.declared.Tolerances.{Tolerances}
 use Rattle.passes.specs.Counting.{visits}
 use Rattle.passes.specs.Local.{depth_of, local_region, local_cells, LocalState, local_visit, local_round}
 use Rattle.passes.proofs.Over.{over_read, over_over}
-use Rattle.region.specs.Region.{Region, Listed, Lines, RegionFound, region_of, region_at}
+use Rattle.region.specs.Region.{Region, Lines, RegionFound, region_of, region_at}
 use Rattle.region.specs.Windowed.{InWindow, Windowed, NextIn}
 use Rattle.region.specs.declared.Window.{Window}
 use Rattle.region.proofs.Told.{region_is}
@@ -56,7 +59,7 @@ walked_round cs set p s = walked_all (local_visit cs set p) (λ t. t.sheet) (rou
 
 -- a visit of a bare cell changes no label elsewhere
 tried_else : {cs : Corners} {tol : Tolerances} {s : LocalState} (n : ℕ) {after : LocalState} → n < 16384 → cs.count ≤ 1024 → 16384 ≤ length s.sheet
-    → label_at s.sheet (cell_of n) ≡ Label.Unlabelled
+    → label_at s.sheet (cell_of n) ≡ None
     → Tried cs tol (cell_of n) s after → Elsewhere s.sheet after.sheet n
 tried_else n h few long e (passed m l u v) = record { same_length = refl; same_label = λ q k d. refl }
 tried_else n h few long e (attaches m l u k v w) =
@@ -65,7 +68,7 @@ tried_else n h few long e (attaches m l u k v w) =
 
 pub visit_else : (cs : Corners) → cs.count ≤ 1024 → (set : Settings) (p : LocalExtensionParams) (n : ℕ) → n < 16384 → (s : LocalState)
     → 16384 ≤ length s.sheet
-    → label_at s.sheet (cell_of n) ≡ Label.Unlabelled → Elsewhere s.sheet (local_visit cs set p (cell_of n) s).sheet n
+    → label_at s.sheet (cell_of n) ≡ None → Elsewhere s.sheet (local_visit cs set p (cell_of n) s).sheet n
 visit_else cs few set p n h s long e = tried_else n h few long e (tried cs set p (cell_of n) s)
 
 module _ (cs : Corners) (set : Settings) (p : LocalExtensionParams) where
@@ -88,10 +91,12 @@ module _ (cs : Corners) (set : Settings) (p : LocalExtensionParams) where
 -- ---- the region of a round, from the labelled places that are listed
 
 module _ {n : ℕ} {sheet list used places : List ℕ} {made labels : ℕ} (f : Extending n sheet list used places made labels) where
-  pub listed : Listed places labels
-  listed = record { few = labels_in f; size = f.size; below = listed_below f }
+  pub listed : All (λ (p : ℕ). p < 16384) (take labels places)
+  listed =
+      All-from_get_or (λ (p : ℕ). p < 16384) (take labels places) 0
+      (λ a h. let l : a < labels = omega (arith, labels_in f, f.size, length-take-le labels places (omega (arith, labels_in f, f.size))) in rw (get_or-take labels places a 0 l) (listed_below f a l))
 
-  pub region_found : {around : LabelBox} {rows columns : List ℕ} → around ≡ box_of sheet → Lines (λ p. p % 128) (take labels places) rows → Lines (λ p. p / 128) (take labels places) columns
+  pub region_found : {around : Option Bounds} {rows columns : List Bool} → around ≡ box_of sheet → Lines (λ p. p % 128) (take labels places) rows → Lines (λ p. p / 128) (take labels places) columns
       → RegionFound sheet (region_of around rows columns)
   region_found a r c = record { around_is = a; rows_are = rw f.places_are at r; columns_are = rw f.places_are at c }
 

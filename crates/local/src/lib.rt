@@ -18,7 +18,7 @@ ghost use Rattle.local_cell.specs.Extending.{state_of, Left, Recalls};
 ghost use Rattle.local.specs.Rounds.{tried_at, Tellable, NextTried, RoundAsked, no_progress, start_of, RoundsAsked, RoundsLeft, stats_of};
 
 use arguments::{Checked, LocalExtensionParams, Pass, Settings};
-use labels::LabelBox;
+use labels::Bounds;
 use local_cell::{LocalProgress, LocalSetup};
 use passes::{Counts, LargestResidual, LocalAnswer, LocalStats, Unmatched};
 use region::Window;
@@ -44,9 +44,9 @@ fn depth_of(params: LocalExtensionParams) -> u32
 // Whether a round tries the cell of a place: it lies in the region and is unlabelled.
 fn is_tried(
     sheet: &[u16],
-    around: LabelBox,
-    rows: &[u8; 128],
-    columns: &[u8; 128],
+    around: Option<Bounds>,
+    rows: &[bool; 128],
+    columns: &[bool; 128],
     place: usize,
     depth: u32,
 ) -> bool
@@ -63,9 +63,9 @@ fn is_tried(
 fn next_tried(
     sheet: &[u16],
     window: Window,
-    around: LabelBox,
-    rows: &[u8; 128],
-    columns: &[u8; 128],
+    around: Option<Bounds>,
+    rows: &[bool; 128],
+    columns: &[bool; 128],
     depth: u32,
     from: usize,
 ) -> usize
@@ -102,8 +102,9 @@ fn local_round(
         sheet.new memory.new predictions.new result }
 {
     let around = labels::label_box(sheet);
-    let rows = region::rows_of(places, at.labels);
-    let columns = region::columns_of(places, at.labels);
+    let labelled = &places[..at.labels];
+    let rows = region::rows_of(labelled);
+    let columns = region::columns_of(labelled);
     let depth = depth_of(setup.params);
     let window = region::window_of(around, depth);
     let mut reached = at;

@@ -1,11 +1,11 @@
 -- A visit and what is remembered of the cells after it: of a cell of which nothing is known, where the fit maps one to, and by what is known of
 -- one. Assumes nothing.
 use mathlib.Core.Path.{◌≡◌, refl, sym, ap, ap₂, ◌∙◌}
-use mathlib.Core.Bool.{Bool, not, true, false}
+use mathlib.Core.Bool.{Bool, true, false}
 use mathlib.Core.List.{List}
 use Prim.Native.Nat.{ℕ, ◌+◌, ◌*◌, ◌<◌, ◌≤◌}
 use native.Mathlib.Omega.{arith}
-use borrow.Author.Tests.{not-true, not-false}
+use Rattle.std.specs.Prelude.{Option, None, Some}
 use lib.ListN.{take}
 use lib.Ieee.{Float, of_bits, binary32, lt}
 use Rattle.sheet.specs.Cells.{place_of}
@@ -24,12 +24,12 @@ use Rattle.homography.specs.Fit.{applied}
 use Rattle.passes.specs.Grow.{tolerances_of}
 use Rattle.passes.specs.Local.{supports_of, cell_point, fitted, local_fit, worst, with_unmatched, local_search, gate_of, local_with, local_try, local_visit}
 use Rattle.passes.specs.Counting.{one_more, visits}
-use Rattle.supports.specs.Nearest.{kept_of, places_of, nearest_among}
+use Rattle.supports.specs.Nearest.{places_of, nearest_among}
 use Rattle.supports.specs.Fitted.{support_fit_of}
-use Rattle.supports.specs.declared.Supports.{Supports}
+use Rattle.supports.specs.declared.Support.{Support}
 use Rattle.supports.specs.declared.SupportFit.{SupportFit}
 use Rattle.supports.proofs.Fitted.{fit_none, fit_some}
-use Rattle.supports.proofs.Nearest.{Reached, ReachesSmall, nearest_places, nearest_reached, nearest_small}
+use Rattle.supports.proofs.Nearest.{nth, Reached, nearest_places, nearest_reached, nearest_small}
 use Rattle.remembered.specs.Remembered.{fit_at, KnownAt, Remembered, Notable, Noting, Noted, Forgotten, entry_of}
 use Rattle.remembered.specs.declared.Known.{Known}
 use Rattle.remembered.proofs.Words.{predicted_below}
@@ -49,16 +49,16 @@ module _ {set : Settings} {p : LocalExtensionParams} {cs : Corners} {sheet list 
   noting h = record { size = r.remembered.size; room = r.remembered.room; on = t.on; notable = h }
 
 -- how far a support is can be noted
-pub reaches_small : {n : ℕ} {sheet list used places : List ℕ} {at : LocalProgress} {c : Cell} {near : Supports} → Trying n sheet list used places at c
-    → kept_of near ≡ nearest_among c (take at.labels places) → ReachesSmall near
+pub reaches_small : {n : ℕ} {sheet list used places : List ℕ} {at : LocalProgress} {c : Cell} {near : List Support} → Trying n sheet list used places at c
+    → near ≡ nearest_among c (take at.labels places) → (nth near 3).reach < 8192
 reaches_small {c = c} t e = nearest_small (nearby t.extending c t.on) e
 
 -- ---- a cell of which nothing is known
 
 module _ (set : Settings) (p : LocalExtensionParams) {cs : Corners} {sheet list used places memory : List ℕ} {predictions : List Float} (at : LocalProgress) (c : Cell)
-    (t : Trying cs.count sheet list used places at c) (r : Recalls set p cs sheet memory predictions at) (near : Supports)
-    (nearest : kept_of near ≡ nearest_among c (take at.labels places)) {fit : SupportFit}
-    (is : fit ≡ support_fit_of (local_fit (seen_of cs.corner sheet) (places_of near))) where
+    (t : Trying cs.count sheet list used places at c) (r : Recalls set p cs sheet memory predictions at) (near : List Support)
+    (nearest : near ≡ nearest_among c (take at.labels places)) {found : Option SupportFit}
+    (is : found ≡ support_fit_of (local_fit (seen_of cs.corner sheet) (places_of near))) where
   supports : places_of near ≡ supports_of c sheet
   supports = supports_are t.extending c near (nearest_places (nearby t.extending c t.on) nearest)
 
@@ -69,21 +69,21 @@ module _ (set : Settings) (p : LocalExtensionParams) {cs : Corners} {sheet list 
   of = ap (local_fit (seen_of cs.corner sheet)) supports
 
   -- there is no fit
-  pub unknown_none : {memory' : List ℕ} {predictions' : List Float} → not fit.found ≡ true → Noted memory predictions c (Known.Idle near.fourth.reach) memory' predictions'
+  pub unknown_none : {memory' : List ℕ} {predictions' : List Float} → found ≡ None → Noted memory predictions c (Known.Idle (nth near 3).reach) memory' predictions'
       → Left (local_visit cs set p c (state_of sheet list at)) cs.count list sheet list used places at × Recalls set p cs sheet memory' predictions' at
   unknown_none e n =
-      let g = fit_none _ is (not-true fit.found e) in (
+      let g = fit_none _ is e in (
         untouched t.extending (visit_none cs set p c (state_of sheet list at) _ of g),
         record { remembered = noted r.remembered t.on (made_none cs set p at.residual sheet c near supports far (sym of ∙ g)) n; unmatched_few = r.unmatched_few },
       )
 
-  module _ (found : not fit.found ≡ false) {gate most : Float} (gated : gate ≡ gate_of set p) (largest : most ≡ worst (of_bits binary32 0) fit.residuals) where
+  module _ {fit : SupportFit} (some : found ≡ Some fit) {gate most : Float} (gated : gate ≡ gate_of set p) (largest : most ≡ worst (of_bits binary32 0) fit.residuals) where
     has : local_fit (seen_of cs.corner sheet) (places_of near) ≡ fitted fit.h fit.residuals
-    has = fit_some _ is (not-false fit.found found)
+    has = fit_some _ is some
 
     -- a residual is above the gate
     pub unknown_above : {next : LocalProgress} {memory' : List ℕ} {predictions' : List Float} → next ≡ residuals_recorded at fit.residuals → lt gate most ≡ true
-        → Noted memory predictions c (Known.Idle near.fourth.reach) memory' predictions'
+        → Noted memory predictions c (Known.Idle (nth near 3).reach) memory' predictions'
         → Left (local_visit cs set p c (state_of sheet list at)) cs.count list sheet list used places next × Recalls set p cs sheet memory' predictions' next
     unknown_above f e n =
         let k = sym (ap₂ lt gated largest) ∙ e in
@@ -105,18 +105,18 @@ module _ (set : Settings) (p : LocalExtensionParams) {cs : Corners} {sheet list 
       mapped : prediction ≡ applied fit.h (cell_point c)
       mapped = maps ∙ ap (applied fit.h) at_point
 
-      pub unknown_known : KnownAt cs set p (residuals_recorded at fit.residuals).residual sheet c (Known.Predicted near.fourth.reach prediction)
+      pub unknown_known : KnownAt cs set p (residuals_recorded at fit.residuals).residual sheet c (Known.Predicted (nth near 3).reach prediction)
       unknown_known = rw mapped (made_within cs set p at.residual sheet c near supports far fit.h fit.residuals (sym of ∙ has) within)
 
       module _ {next : LocalProgress} (f : next ≡ residuals_recorded at fit.residuals) where
-        pub unknown_asked : {memory' : List ℕ} {predictions' : List Float} → Noted memory predictions c (Known.Predicted near.fourth.reach prediction) memory' predictions'
-            → Trying cs.count sheet list used places next c × (Recalls set p cs sheet memory' predictions' next × Foretold set p cs sheet next c near.fourth.reach prediction)
+        pub unknown_asked : {memory' : List ℕ} {predictions' : List Float} → Noted memory predictions c (Known.Predicted (nth near 3).reach prediction) memory' predictions'
+            → Trying cs.count sheet list used places next c × (Recalls set p cs sheet memory' predictions' next × Foretold set p cs sheet next c (nth near 3).reach prediction)
         unknown_asked n =
             rw f (
               record { extending = t.extending; on = t.on; bare = t.bare; countable = t.countable },
               (
                 record { remembered = noted (larger fit.residuals r.remembered) t.on unknown_known n; unmatched_few = r.unmatched_few },
-                record { known = unknown_known; small = (reaches_small t nearest).fourth_small },
+                record { known = unknown_known; small = reaches_small t nearest },
               ),
             )
 

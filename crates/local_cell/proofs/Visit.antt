@@ -1,5 +1,6 @@
 -- One cell of local: what a visit does to the state, by the fit and by what trying the cell finds; and what the code has written when it has
 -- attached a corner. Assumes nothing.
+use Rattle.std.specs.Prelude.{None}
 use mathlib.Core.Path.{◌≡◌, refl, sym, ap, ap₂, ◌∙◌}
 use mathlib.Core.Bool.{Bool, true, false, cond}
 use mathlib.Core.List.{List, [], ◌∷◌, ◌++◌}
@@ -13,7 +14,6 @@ use Rattle.sheet.specs.Words.{label_at, attached, marks_cleared}
 use Rattle.sheet.specs.Shades.{kind_at, takes, shades_in}
 use Rattle.sheet.specs.Corners.{Corners, corners_in, Given, seen_of}
 use Rattle.sheet.specs.declared.Cell.{Cell}
-use Rattle.sheet.specs.declared.Label.{Label}
 use Rattle.sheet.specs.declared.Position.{Position}
 use Rattle.sheet.proofs.Corners.{given_attached, given_cleared}
 use Rattle.sheet.proofs.Words.{attached_changes, cleared_changes}
@@ -40,7 +40,8 @@ use Rattle.passes.specs.declared.LargestResidual.{LargestResidual}
 use Rattle.passes.proofs.Over.{over_own, over_more, over_read, over_length}
 use Rattle.passes.proofs.Free.{labels_few, labels_fewer}
 use Rattle.supports.specs.Nearest.{Nearby, Gatherable, Gathered, places_of}
-use Rattle.supports.specs.declared.Supports.{Supports}
+use Rattle.supports.specs.declared.Support.{Support}
+use Rattle.std.proofs.lemmas.List.Elements.{All-from_get_or}
 use Rattle.remembered.proofs.Attach.{clear_long, clear_labels}
 use Rattle.local_cell.specs.Extending.{cell_counted, unmatched_counted, state_of, Extending, Holds, Left, Trying, Taking, attached_clear, Writable, Wrote}
 use Rattle.local_cell.specs.declared.LocalProgress.{LocalProgress}
@@ -87,7 +88,7 @@ module _ {cs : Corners} {tol : Tolerances} {c : Cell} {s : LocalState} where
 
 -- a corner to be attached, as the laws of labels have it
 pub attaching : {cs : Corners} {sheet : List ℕ} {tol : Tolerances} {c : Cell} {k : ℕ} → cs.count ≤ 1024 → 16384 ≤ length sheet → OnSheet c
-    → label_at sheet c ≡ Label.Unlabelled → Attachable cs sheet tol c k → Attaching sheet c k
+    → label_at sheet c ≡ None → Attachable cs sheet tol c k → Attaching sheet c k
 attaching few long on bare a = record { long = long; on = on; bare = bare; corner_fits = omega (arith, a.given) }
 
 -- the sheet after it, but for the cell's marks, is that with the corner attached
@@ -160,18 +161,23 @@ module _ {n : ℕ} {sheet list used places : List ℕ} {made labels : ℕ} (f : 
   pub listed_below : (a : ℕ) → a < labels → get_or places a 0 < 16384
   listed_below a h = rw (listed_at a h) (places_in_lem sheet a (omega (arith, listed_long)))
 
-  pub nearby : (c : Cell) → OnSheet c → Nearby places labels c
+  front_long : length (take labels places) ≡ labels
+  front_long = length-take-le labels places (omega (arith, labels_in, f.size))
+
+  pub nearby : (c : Cell) → OnSheet c → Nearby (take labels places) c
   nearby c on =
       record {
-        four = omega (arith, f.labels_are, f.four);
-        few = labels_in;
-        size = f.size;
-        rising = λ a b l h. rw (listed_at a (omega arith), listed_at b h) ((places_rise sheet).rises a b l (omega (arith, listed_long)));
-        below = listed_below;
-        on = on;
+        four = omega (arith, front_long, f.labels_are, f.four);
+        along =
+            rw f.places_are
+            (record {
+              rising = places_rise sheet;
+              below = All-from_get_or (λ (p : ℕ). p < 16384) (labelled_places sheet) 0 (places_in_lem sheet);
+              on = on;
+            });
       }
 
-  pub supports_are : (c : Cell) (s : Supports) → places_of s ≡ take 4 (by_reach c (take labels places)) → places_of s ≡ supports_of c sheet
+  pub supports_are : (c : Cell) (s : List Support) → places_of s ≡ take 4 (by_reach c (take labels places)) → places_of s ≡ supports_of c sheet
   unfolding supports_of
   supports_are c s e = e ∙ rw f.places_are
 

@@ -1,11 +1,10 @@
 -- What the functions that try one cell of local ask and leave, in the terms of local's definition (crate passes, Local). Definitions only.
-use Rattle.std.specs.Prelude.{◌≡◌, Bool, true, false, List, ℕ, ◌+◌, ◌*◌, ◌<◌, ◌≤◌, length, set, take, Float}
+use Rattle.std.specs.Prelude.{◌≡◌, Bool, true, false, List, ℕ, ◌+◌, ◌*◌, ◌<◌, ◌≤◌, length, set, take, Float, None}
 use Rattle.sizes.specs.Sizes.{corner_limit}
 use Rattle.sheet.specs.Cells.{OnSheet, place_of}
 use Rattle.sheet.specs.Words.{label_at, attached, marks_cleared, SheetCell}
 use Rattle.sheet.specs.Corners.{Corners, Given}
 use Rattle.sheet.specs.declared.Cell.{Cell}
-use Rattle.sheet.specs.declared.Label.{Label}
 use Rattle.sheet.specs.declared.Position.{Position}
 use Rattle.labels.specs.Labelled.{labelled_places, label_count}
 use Rattle.labels.specs.Used.{used_on, Tied, OneCell}
@@ -84,7 +83,7 @@ pub record Recalls (set : Settings) (p : LocalExtensionParams) (cs : Corners) (s
 pub record Trying (n : ℕ) (sheet list used places : List ℕ) (at : LocalProgress) (c : Cell) : Type 0 where
   pub extending : Extending n sheet list used places at.counts.attached at.labels
   pub on : OnSheet c
-  pub bare : label_at sheet c ≡ Label.Unlabelled
+  pub bare : label_at sheet c ≡ None
   pub countable : visits at.counts < 4294967296
 
 -- it is known where the fit maps the cell to

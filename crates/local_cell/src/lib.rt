@@ -99,7 +99,6 @@ fn count_cell(at: LocalProgress, found: TryCellResult) -> LocalProgress
 
 // The progress with four residuals recorded.
 fn with_residuals(at: LocalProgress, residuals: [f32; 4]) -> LocalProgress
-    requires { length residuals ≡ 4 }
     ensures { result ≡ residuals_recorded at residuals }
 {
     let counts = at.counts;
@@ -334,21 +333,18 @@ fn try_unknown_cell(
         used.new places.new result × Recalls setup.settings setup.params (corners_in corners.now setup.count)
         sheet.new memory.new predictions.new result }
 {
-    let nearest = supports::nearest_labelled_by_grid(places, at.labels, c);
-    let reach = nearest.fourth.reach;
-    let fit = supports::local_fit(corners, sheet, nearest);
-    if !fit.found {
+    let nearest = supports::nearest_labelled_by_grid(&places[..at.labels], c);
+    let reach = nearest[3].reach;
+    let Some(fit) = supports::local_fit(corners, sheet, nearest) else {
         remembered::note(memory, predictions, c, Known::Idle(reach));
         return at;
-    }
-    let h = fit.h;
-    let residuals = fit.residuals;
-    let next = with_residuals(at, residuals);
-    if gate_of(setup.settings, setup.params) < supports::worst_of(residuals) {
+    };
+    let next = with_residuals(at, fit.residuals);
+    if gate_of(setup.settings, setup.params) < supports::worst_of(fit.residuals) {
         remembered::note(memory, predictions, c, Known::Idle(reach));
         return next;
     }
-    let prediction = homography::apply(h, supports::cell_point(c));
+    let prediction = homography::apply(fit.h, supports::cell_point(c));
     remembered::note(memory, predictions, c, Known::Predicted(reach, prediction));
     try_predicted_cell(
         corners,

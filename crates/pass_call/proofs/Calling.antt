@@ -1,12 +1,11 @@
 -- What a call leaves, by the pass that it is of; and that what it says is small. Assumes nothing.
-use mathlib.Core.Path.{◌≡◌, refl, sym, ap, ◌∙◌, subst}
+use mathlib.Core.Path.{◌≡◌, refl, sym, ap, subst}
 use mathlib.Core.List.{List, []}
 use Prim.Native.Nat.{ℕ}
 use native.Mathlib.Omega.{arith}
 use borrow.Author.Tests.{le-ltb}
 use lib.ListN.{length}
 use Rattle.sheet.specs.Corners.{CornerLists}
-use Rattle.refusal.specs.declared.Refusal.{Refusal}
 use Rattle.arguments.specs.Shades.{corners_of}
 use Rattle.arguments.specs.Arguments.{queue_needed, too_short, over_limit, out_of_range, checked}
 use Rattle.arguments.specs.declared.Checked.{Checked}
@@ -15,14 +14,12 @@ use Rattle.arguments.specs.declared.Settings.{Settings}
 use Rattle.arguments.specs.declared.GrowParams.{GrowParams}
 use Rattle.arguments.specs.declared.FillParams.{FillParams}
 use Rattle.arguments.specs.declared.LocalExtensionParams.{LocalExtensionParams}
-use Rattle.passes.specs.Outcome.{After, Outcome, refused, done}
+use Rattle.passes.specs.Outcome.{Outcome, refused, done}
 use Rattle.passes.specs.Fill.{fill_after}
 use Rattle.passes.specs.Local.{local_after}
 use Rattle.passes.specs.Step.{lent_of, rooms, unless, grow_step, GrowOut, grow_out, grow_leaves, fill_step, FillOut, fill_out, fill_leaves, local_step, LocalOut, local_out, local_leaves}
 use Rattle.passes.specs.Run.{Call, PassStats, grow_stats, fill_stats, local_stats, renamed, step}
 use Rattle.passes.specs.declared.GrowStats.{GrowStats}
-use Rattle.passes.specs.declared.FillStats.{FillStats}
-use Rattle.passes.specs.declared.LocalStats.{LocalStats}
 use Rattle.passes.specs.declared.GrowAnswer.{GrowAnswer}
 use Rattle.passes.specs.declared.FillAnswer.{FillAnswer}
 use Rattle.passes.specs.declared.LocalAnswer.{LocalAnswer}

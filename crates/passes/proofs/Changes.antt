@@ -1,5 +1,6 @@
 -- One visit of each pass: the cell is labelled with what was found, no other cell changes; grow sets the finding's mark and clears none, fill
 -- changes no mark, local clears both of the cell that it attaches. Assumes nothing.
+use Rattle.std.specs.Prelude.{Some}
 use mathlib.Core.Path.{◌≡◌, refl, ◌∙◌}
 use mathlib.Core.Bool.{true, false}
 use mathlib.Core.List.{List}
@@ -8,7 +9,6 @@ use native.Mathlib.Omega.{arith}
 use Rattle.sheet.specs.Cells.{OnSheet}
 use Rattle.sheet.specs.Words.{bit_of, Content, label_at, hole_at, ambiguous_at, attached, hole_marked, ambiguous_marked, marks_cleared, SheetCell}
 use Rattle.sheet.specs.declared.Cell.{Cell}
-use Rattle.sheet.specs.declared.Label.{Label}
 use Rattle.sheet.proofs.Words.{Changed, attached_changes, hole_changes, ambiguous_changes, cleared_changes, label_here, hole_here, ambiguous_here, label_else, hole_else, ambiguous_else}
 use Rattle.extension_common.specs.declared.TryCellResult.{TryCellResult}
 use Rattle.passes.specs.Grow.{GrowState, grow_with}
@@ -49,7 +49,7 @@ module _ {sheet : List ℕ} {c : Cell} (w : SheetCell sheet c) where
   ambiguous_so = ambiguous_changes sheet c w.long w.on
 
   module _ (k : ℕ) (fits : k < 16383) where
-    attached_so : Changed sheet (attached sheet c k) c (record { label = Label.Corner k; hole = hole_at sheet c; ambiguous = ambiguous_at sheet c })
+    attached_so : Changed sheet (attached sheet c k) c (record { label = Some k; hole = hole_at sheet c; ambiguous = ambiguous_at sheet c })
     attached_so = attached_changes sheet c w.long w.on k fits
 
     cleared_so : Changed (attached sheet c k) (marks_cleared (attached sheet c k) c) c (record { label = label_at (attached sheet c k) c; hole = false; ambiguous = false })

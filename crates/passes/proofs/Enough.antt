@@ -1,6 +1,7 @@
 -- Four places a corner are enough for grow's queue: no step of a run is ever cut off, every queued cell is visited once, and the counts
 -- are those of the cells visited. What carries it: each labelled cell, given or attached, brings at most four cells into the queue, and
 -- there are at most as many labelled cells as corners. Assumes nothing.
+use Rattle.std.specs.Prelude.{Some}
 use mathlib.Core.Path.{◌≡◌, refl, sym, ap, ◌∙◌}
 use mathlib.Core.Bool.{Bool, true, false, cond}
 use mathlib.Core.List.{List, []}
@@ -15,7 +16,6 @@ use Rattle.sheet.specs.Words.{label_of, attached, hole_marked, ambiguous_marked}
 use Rattle.sheet.specs.Corners.{Corners, seen_of}
 use Rattle.arguments.specs.Shades.{corners_of}
 use Rattle.sheet.specs.declared.Cell.{Cell}
-use Rattle.sheet.specs.declared.Label.{Label}
 use Rattle.sheet.specs.declared.Position.{Position}
 use Rattle.sheet.proofs.Laws.{cell_on_lem}
 use Rattle.sheet.proofs.Words.{attached_changes, hole_changes, ambiguous_changes}
@@ -45,7 +45,7 @@ use Rattle.passes.proofs.Queue.{more_length, spread_longer, seeded_longer, Lined
 pub record Belongs (cs : Corners) (sheet : List ℕ) : Type 0 where
   pub long : 16384 ≤ length sheet
   pub few : cs.count ≤ 1024
-  pub known : (p k : ℕ) → p < 16384 → label_of (get_or sheet p 0) ≡ Label.Corner k → k < cs.count
+  pub known : (p k : ℕ) → p < 16384 → label_of (get_or sheet p 0) ≡ Some k → k < cs.count
   pub one_cell : OneCell sheet
 
 -- the sheet of every accepted call is one
@@ -72,9 +72,9 @@ module _ {cs : Corners} {sheet : List ℕ} (f : Belongs cs sheet) where
         one_cell = one_attached a free f.one_cell;
       }
     where
-      go : (p j : ℕ) → p < 16384 → label_of (get_or (attached sheet c k) p 0) ≡ Label.Corner j → Dec (p ≡ place_of c) → j < cs.count
+      go : (p j : ℕ) → p < 16384 → label_of (get_or (attached sheet c k) p 0) ≡ Some j → Dec (p ≡ place_of c) → j < cs.count
       go p j h l (yes d) =
-          let e : Label.Corner k ≡ Label.Corner j = sym (label_after a) ∙ ap (λ (q : ℕ). label_of (get_or (attached sheet c k) q 0)) (sym d) ∙ l in
+          let e : Some k ≡ Some j = sym (label_after a) ∙ ap (λ (q : ℕ). label_of (get_or (attached sheet c k) q 0)) (sym d) ∙ l in
           let g : k ≡ j = cc in
           omega arith
       go p j h l (no d) = f.known p j h (ap label_of (sym (word_else a p d)) ∙ l)

@@ -1,5 +1,6 @@
 -- Laws of grow's queue: what is a member, how much longer each step makes the queue, and that its places are cells of the sheet, all
 -- different, those that are left unlabelled. Assumes nothing.
+use Rattle.std.specs.Prelude.{Option, Some, None}
 use mathlib.Core.Path.{◌≡◌, refl, sym, ap, ◌∙◌, subst}
 use mathlib.Core.Bool.{Bool, true, false, not, cond, ◌&&◌, ◌||◌}
 use mathlib.Core.List.{List, [], ◌∷◌, ◌++◌}
@@ -14,7 +15,6 @@ use lib.Seq.{get_or-append_seam}
 use Rattle.sheet.specs.Cells.{on_sheet, place_of, cell_of, moved}
 use Rattle.sheet.specs.Words.{label_of, label_at, attached}
 use Rattle.sheet.specs.declared.Cell.{Cell}
-use Rattle.sheet.specs.declared.Label.{Label}
 use Rattle.sheet.specs.declared.Offset.{Offset}
 use Rattle.sheet.proofs.Laws.{place_in, place_cell, cell_place}
 use Rattle.labels.specs.Labelled.{names_corner, Attaching, SameLabels}
@@ -106,7 +106,7 @@ pub record Lined (sheet : List ℕ) (head : ℕ) (queued : List ℕ) : Type 0 wh
   pub upto : head ≤ length queued
   pub places : (i : ℕ) → i < length queued → get_or queued i 0 < 16384
   pub distinct : (i j : ℕ) → i < j → j < length queued → get_or queued i 0 ≡ get_or queued j 0 → ⊥
-  pub waiting : (i : ℕ) → head ≤ i → i < length queued → label_at sheet (cell_of (get_or queued i 0)) ≡ Label.Unlabelled
+  pub waiting : (i : ℕ) → head ≤ i → i < length queued → label_at sheet (cell_of (get_or queued i 0)) ≡ None
 
 pub lined_none : (sheet : List ℕ) → Lined sheet 0 []
 lined_none sheet =
@@ -119,13 +119,13 @@ lined_none sheet =
 
 -- a place more that was not there, of an unlabelled cell
 module _ (sheet : List ℕ) (head : ℕ) (queued : List ℕ) (l : Lined sheet head queued) where
-  pub lined_more : (p : ℕ) → p < 16384 → label_at sheet (cell_of p) ≡ Label.Unlabelled → member p queued ≡ false → Lined sheet head (queued ++ (p ∷ []))
+  pub lined_more : (p : ℕ) → p < 16384 → label_at sheet (cell_of p) ≡ None → member p queued ≡ false → Lined sheet head (queued ++ (p ∷ []))
   lined_more p on bare new =
       record {
         upto = omega (arith, l.upto, more_length queued p);
         places = λ i h. at i (ℕ_discrete i (length queued)) h (λ x. x < 16384) on (l.places i);
         distinct = λ i j h k. apart i j h k (ℕ_discrete j (length queued));
-        waiting = λ i g h. at i (ℕ_discrete i (length queued)) h (λ x. label_at sheet (cell_of x) ≡ Label.Unlabelled) bare (l.waiting i g);
+        waiting = λ i g h. at i (ℕ_discrete i (length queued)) h (λ x. label_at sheet (cell_of x) ≡ None) bare (l.waiting i g);
       }
     where
       at : (i : ℕ) → Dec (i ≡ length queued) → i < length (queued ++ (p ∷ [])) → (P : ℕ → Type 0) → P p → (i < length queued → P (get_or queued i 0)) → P (get_or (queued ++ (p ∷ [])) i 0)
@@ -143,15 +143,15 @@ module _ (sheet : List ℕ) (head : ℕ) (queued : List ℕ) (l : Lined sheet he
           let m : i < length queued = omega arith in
           l.distinct i j h n (sym (older_at queued p i m) ∙ e ∙ older_at queued p j n)
 
-unlabelled : (l : Label) → names_corner l ≡ false → l ≡ Label.Unlabelled
+unlabelled : (l : Option ℕ) → names_corner l ≡ false → l ≡ None
 unfolding names_corner
-unlabelled Label.Unlabelled e = refl
-unlabelled (Label.Corner k) e = absurd (no_both true refl e)
+unlabelled None e = refl
+unlabelled (Some k) e = absurd (no_both true refl e)
 
 -- what is wanted: a cell of the sheet, unlabelled, not queued before
 pub record Wanted (sheet queued : List ℕ) (c : Cell) : Type 0 where
   pub on : on_sheet c ≡ true
-  pub bare : label_at sheet c ≡ Label.Unlabelled
+  pub bare : label_at sheet c ≡ None
   pub new : member (place_of c) queued ≡ false
 
 pub is_wanted : (sheet queued : List ℕ) (c : Cell) → wanted sheet queued c ≡ true → Wanted sheet queued c
@@ -203,7 +203,7 @@ module _ (sheet : List ℕ) (head : ℕ) (queued : List ℕ) (l : Lined sheet he
   pub lined_attached : (k : ℕ) → Attaching sheet (cell_of (get_or queued head 0)) k → Lined (attached sheet (cell_of (get_or queued head 0)) k) (head + 1) queued
   lined_attached k a = record { upto = omega arith; places = l.places; distinct = l.distinct; waiting = λ i g h. wait i g h }
     where
-      wait : (i : ℕ) → head + 1 ≤ i → i < length queued → label_at (attached sheet (cell_of (get_or queued head 0)) k) (cell_of (get_or queued i 0)) ≡ Label.Unlabelled
+      wait : (i : ℕ) → head + 1 ≤ i → i < length queued → label_at (attached sheet (cell_of (get_or queued head 0)) k) (cell_of (get_or queued i 0)) ≡ None
       wait i g h =
           let p = l.places i h in
           let q = l.places head left in

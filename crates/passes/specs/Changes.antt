@@ -2,11 +2,10 @@
 -- candidate and edge refusals mark a hole", "Only local clears marks, both of the cell it attaches"). Only grow sets marks, fill sets and clears
 -- none, local only clears. `proofs/Changes.antt` proves `Visits`. What follows for whole passes and lists of calls is in the crate `invariants`.
 -- Definitions only.
-use Rattle.std.specs.Prelude.{◌≡◌, Bool, true, false, not, ◌&&◌, ◌||◌, cond, List, [], ◌∷◌, ◌++◌, ℕ, ◌+◌, ◌<◌, length}
+use Rattle.std.specs.Prelude.{◌≡◌, Bool, true, false, not, ◌&&◌, ◌||◌, cond, List, [], ◌∷◌, ◌++◌, ℕ, ◌+◌, ◌<◌, length, Option, Some}
 use Rattle.sheet.specs.Cells.{place_of}
 use Rattle.sheet.specs.Words.{bit_of, label_at, hole_at, ambiguous_at, SheetCell}
 use Rattle.sheet.specs.declared.Cell.{Cell}
-use Rattle.sheet.specs.declared.Label.{Label}
 use Rattle.extension_common.specs.declared.TryCellResult.{TryCellResult}
 use Rattle.passes.specs.Grow.{GrowState, grow_with}
 use Rattle.passes.specs.Fill.{FillState, fill_with}
@@ -47,11 +46,11 @@ abbrev pub sets_ambiguous : TryCellResult → Bool
 sets_ambiguous r = is_ambiguous r
 
 -- the label after the visit: the corner that is attached, or the label that stood
-abbrev pub label_with : TryCellResult → Label → Label
+abbrev pub label_with : TryCellResult → Option ℕ → Option ℕ
 label_with TryCellResult.NoCandidates l = l
 label_with TryCellResult.Ambiguous l = l
 label_with TryCellResult.EdgeRejected l = l
-label_with (TryCellResult.Attached k) l = Label.Corner k
+label_with (TryCellResult.Attached k) l = Some k
 
 -- ---- marks and labels before and after
 

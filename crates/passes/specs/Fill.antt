@@ -1,6 +1,6 @@
 -- Fill (document 01, "Sheet": "each round walks, by i then j, the unlabelled cells of the label box and one strip along each whole side";
 -- shared/fill.rs). Definitions only.
-use Rattle.std.specs.Prelude.{Bool, true, false, not, ◌&&◌, ◌||◌, List, [], ◌∷◌, ◌++◌, ℕ, zero, suc, max, length, ℤ, pos, ◌+ℤ◌, ◌-ℤ◌, Float}
+use Rattle.std.specs.Prelude.{Bool, true, false, not, ◌&&◌, ◌||◌, List, [], ◌∷◌, ◌++◌, ℕ, zero, suc, max, length, ℤ, pos, ◌+ℤ◌, ◌-ℤ◌, Float, Option, Some, None}
 use Rattle.std.specs.Int.Signed.{le_z}
 use Rattle.std.specs.Float.{binary32}
 use Rattle.std.specs.Float.Ieee.{mul}
@@ -13,7 +13,6 @@ use Rattle.labels.specs.Labelled.{passing, names_corner, label_count}
 use Rattle.labels.specs.Box.{box_of}
 use Rattle.labels.specs.Rim.{rim}
 use Rattle.labels.specs.declared.Bounds.{Bounds}
-use Rattle.labels.specs.declared.LabelBox.{LabelBox}
 use Rattle.predict.specs.Predict.{prediction_of}
 use Rattle.predict.specs.declared.Prediction.{Prediction}
 use Rattle.arguments.specs.declared.Settings.{Settings}
@@ -41,9 +40,9 @@ abbrev pub near_j : ℕ → Bounds → Cell → Bool
 near_j n b c = from_to (b.low_j -ℤ pos n) (b.high_j +ℤ pos n) c.j
 
 -- the box, and one strip along each whole side: the four corners past the box are left out
-abbrev pub box_and_strips : LabelBox → Cell → Bool
-box_and_strips LabelBox.Empty c = false
-box_and_strips (LabelBox.Around b) c = (near_i 0 b c && near_j 1 b c) || (near_i 1 b c && near_j 0 b c)
+abbrev pub box_and_strips : Option Bounds → Cell → Bool
+box_and_strips None c = false
+box_and_strips (Some b) c = (near_i 0 b c && near_j 1 b c) || (near_i 1 b c && near_j 0 b c)
 
 -- the cells that a round walks, by i then j: those of the region that are unlabelled
 unfoldable pub cells_of : (Cell → Bool) → (Cell → Bool) → List ℕ

@@ -8,7 +8,6 @@ use Rattle.sheet.specs.Words.{label_at, attached, hole_marked, ambiguous_marked}
 use Rattle.sheet.specs.Corners.{Corners, seen_of}
 use Rattle.sheet.specs.declared.Cell.{Cell}
 use Rattle.sheet.specs.declared.Offset.{Offset}
-use Rattle.sheet.specs.declared.Seen.{Seen}
 use Rattle.labels.specs.Labelled.{names_corner, labelled_places}
 use Rattle.labels.specs.Rim.{rim}
 use Rattle.predict.specs.Predict.{prediction_of, extrapolating}

@@ -1,12 +1,11 @@
 -- What happened to the labels during a pass, a step at a time (document 01, "Lists of passes": "When a corner is attached, the labels are the
 -- given ones and all attached before it"). Definitions only.
-use Rattle.std.specs.Prelude.{◌≡◌, true, false, List, [], ◌∷◌, ◌++◌, ◌⊎◌, ℕ, ◌<◌, length}
+use Rattle.std.specs.Prelude.{◌≡◌, true, false, List, [], ◌∷◌, ◌++◌, ◌⊎◌, ℕ, ◌<◌, length, None}
 use Rattle.sizes.specs.Sizes.{place_count}
 use Rattle.sheet.specs.Cells.{cell_of}
 use Rattle.sheet.specs.Words.{label_at, attached}
 use Rattle.sheet.specs.Shades.{takes}
 use Rattle.sheet.specs.Corners.{Corners, seen_of}
-use Rattle.sheet.specs.declared.Label.{Label}
 use Rattle.labels.specs.Labelled.{SameLabels}
 use Rattle.labels.specs.Used.{used_on}
 use Rattle.positions_policy.specs.Edge.{AcceptedEdge, NoNeighbour}
@@ -16,7 +15,7 @@ use Rattle.positions_policy.specs.declared.Tolerances.{Tolerances}
 -- 02, 1/14), and it has an accepted edge to a labelled cardinal neighbour, or there is no such neighbour
 pub record Attaches (cs : Corners) (tol : Tolerances) (sheet : List ℕ) (p k : ℕ) : Type 0 where
   pub on : p < place_count
-  pub bare : label_at sheet (cell_of p) ≡ Label.Unlabelled
+  pub bare : label_at sheet (cell_of p) ≡ None
   pub given : k < cs.count
   pub free : used_on sheet k ≡ false
   pub taken : takes cs.shades (cell_of p) k ≡ true

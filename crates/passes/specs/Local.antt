@@ -1,6 +1,7 @@
 -- Local (document 01, "Sheet": "the box, strips of the depth on labelled rows and columns only, and four corner blocks. Supports are the 4
 -- nearest by |di|+|dj|, then i, then j."; shared/extension/local.rs; document 02, 1/14: what it passes over). Definitions only.
-use Rattle.std.specs.Prelude.{Bool, true, false, not, ◌&&◌, ◌||◌, cond, List, [], ◌∷◌, ◌++◌, map, ℕ, ◌+◌, max, eqb, ltb, length, get_or, take, ℤ, Float}
+use Rattle.sheet.specs.declared.Corner.{Corner}
+use Rattle.std.specs.Prelude.{Bool, true, false, not, ◌&&◌, ◌||◌, cond, List, [], ◌∷◌, ◌++◌, map, ℕ, ◌+◌, max, eqb, ltb, length, get_or, take, ℤ, Some, None, Float, Option}
 use Rattle.std.specs.Float.{nan, binary32}
 use Rattle.std.specs.Float.Ieee.{of_bits, of_int, mul, lt}
 use Rattle.binary32.specs.Ranges.{is_finite, all_finite}
@@ -10,13 +11,11 @@ use Rattle.sheet.specs.Words.{label_at, attached, marks_cleared}
 use Rattle.sheet.specs.Corners.{Corners, seen_of, squared_distance}
 use Rattle.sheet.specs.declared.Cell.{Cell}
 use Rattle.sheet.specs.declared.Position.{Position}
-use Rattle.sheet.specs.declared.Seen.{Seen}
 use Rattle.labels.specs.Labelled.{names_corner, labelled_places, label_count}
 use Rattle.labels.specs.Box.{box_of}
 use Rattle.labels.specs.Rim.{rim}
 use Rattle.labels.specs.declared.Bounds.{Bounds}
-use Rattle.labels.specs.declared.LabelBox.{LabelBox}
-use Rattle.homography.specs.Fit.{Answer, NoFit, Entries, homography_of, applied}
+use Rattle.homography.specs.Fit.{Answer, homography_of, applied}
 use Rattle.arguments.specs.declared.Settings.{Settings}
 use Rattle.arguments.specs.declared.LocalExtensionParams.{LocalExtensionParams}
 use Rattle.extension_common.specs.TryCell.{unmatched, try_at}
@@ -56,9 +55,9 @@ abbrev pub past_j : ℕ → Bounds → Cell → Bool
 past_j depth b c = near_j depth b c && not (near_j 0 b c)
 
 -- the box, strips of the depth on labelled rows and columns only, and four corner blocks; the labelled cells are given by their places
-unfoldable pub local_region : ℕ → List ℕ → LabelBox → Cell → Bool
-local_region depth labelled LabelBox.Empty c = false
-local_region depth labelled (LabelBox.Around b) c =
+unfoldable pub local_region : ℕ → List ℕ → Option Bounds → Cell → Bool
+local_region depth labelled None c = false
+local_region depth labelled (Some b) c =
     (near_i 0 b c && near_j 0 b c)
     || ((past_i depth b c && row_among labelled c.j)
     || ((past_j depth b c && column_among labelled c.i)
@@ -99,18 +98,18 @@ unfoldable pub cell_point : Cell → Position
 cell_point c = record { x = of_int binary32 c.i; y = of_int binary32 c.j }
 
 -- the pictured corner of a labelled cell
-abbrev pub pictured_as : Seen → Position
-pictured_as Seen.Nothing = record { x = nan; y = nan }
-pictured_as (Seen.At corner) = corner.position
+abbrev pub pictured_as : Option Corner → Position
+pictured_as None = record { x = nan; y = nan }
+pictured_as (Some corner) = corner.position
 
-unfoldable pub pictured_at : (Cell → Seen) → ℕ → Position
+unfoldable pub pictured_at : (Cell → Option Corner) → ℕ → Position
 pictured_at seen p = pictured_as (seen (cell_of p))
 
 -- how far the fit maps a support from its pictured corner
 unfoldable pub residual_of : List Float → Position → Position → Float
 residual_of h cell corner = sqrt_or_nan (squared_distance (applied h cell) corner)
 
-unfoldable pub residuals_of : (Cell → Seen) → List Float → List ℕ → List Float
+unfoldable pub residuals_of : (Cell → Option Corner) → List Float → List ℕ → List Float
 residuals_of seen h ps = map (λ p. residual_of h (cell_point (cell_of p)) (pictured_at seen p)) ps
 
 -- what the supports of a cell give: no fit, or the nine entries and the residuals
@@ -119,11 +118,11 @@ pub data LocalFit : Type 0 where
   fitted : List Float → List Float → LocalFit
 
 -- "a non-finite support residual means no fit, and its residuals aren't recorded"
-unfoldable pub trusted : (Cell → Seen) → List ℕ → Answer → LocalFit
-trusted seen ps NoFit = none
-trusted seen ps (Entries h) = cond (all_finite (residuals_of seen h ps)) (fitted h (residuals_of seen h ps)) none
+unfoldable pub trusted : (Cell → Option Corner) → List ℕ → Answer → LocalFit
+trusted seen ps None = none
+trusted seen ps (Some h) = cond (all_finite (residuals_of seen h ps)) (fitted h (residuals_of seen h ps)) none
 
-unfoldable pub local_fit : (Cell → Seen) → List ℕ → LocalFit
+unfoldable pub local_fit : (Cell → Option Corner) → List ℕ → LocalFit
 local_fit seen ps = trusted seen ps (homography_of (map (λ p. cell_point (cell_of p)) ps) (map (pictured_at seen) ps))
 
 -- ---- one cell

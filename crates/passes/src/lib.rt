@@ -26,28 +26,20 @@ pub fn one_more(found: TryCellResult, n: Counts) -> Counts
 {
     match found {
         TryCellResult::NoCandidates => Counts {
-            attached: n.attached,
             rejected_no_candidate: n.rejected_no_candidate + 1,
-            rejected_ambiguous: n.rejected_ambiguous,
-            rejected_edge: n.rejected_edge,
+            ..n
         },
         TryCellResult::Ambiguous => Counts {
-            attached: n.attached,
-            rejected_no_candidate: n.rejected_no_candidate,
             rejected_ambiguous: n.rejected_ambiguous + 1,
-            rejected_edge: n.rejected_edge,
+            ..n
         },
         TryCellResult::EdgeRejected => Counts {
-            attached: n.attached,
-            rejected_no_candidate: n.rejected_no_candidate,
-            rejected_ambiguous: n.rejected_ambiguous,
             rejected_edge: n.rejected_edge + 1,
+            ..n
         },
         TryCellResult::Attached(_) => Counts {
             attached: n.attached + 1,
-            rejected_no_candidate: n.rejected_no_candidate,
-            rejected_ambiguous: n.rejected_ambiguous,
-            rejected_edge: n.rejected_edge,
+            ..n
         },
     }
 }

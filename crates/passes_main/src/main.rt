@@ -19,7 +19,6 @@ use call_text::{
     at_most, has_unknown_kind, header_at, lengths_at, pass_at, read_floats, read_labels,
     read_shades, settings_at,
 };
-use recover_read::Input;
 use std::io;
 
 // One call, of one of the three kinds.
@@ -161,13 +160,13 @@ fn run(rt: &impl Print, text: &[u8]) -> io::Result<usize>
 
 // List after list, up to the end or to one that cannot be run.
 fn run_all(rt: &impl Print, text: &[u8]) -> io::Result<()> {
-    let mut at = 0usize;
-    while at < text.len() {
-        if has_unknown_kind(&text[at..]) {
+    let mut rest = text;
+    while !rest.is_empty() {
+        if has_unknown_kind(rest) {
             return print_word(rt, b"not run: a call of an unknown kind\n");
         }
-        let numbers = run(rt, &text[at..])?;
-        at += numbers * 9;
+        let numbers = run(rt, rest)?;
+        rest = rest.get(9 * numbers..).unwrap_or(&[]);
     }
     Ok(())
 }
@@ -180,9 +179,8 @@ fn input_buffer() -> [u8; 131072]
 
 fn main(rt: HostRuntime) -> io::Result<()> {
     let mut buffer = input_buffer();
-    let input = recover_read::read_input(&mut rt.stdin(), &mut buffer);
-    match input {
-        Input::Whole(n) => run_all(&rt, &buffer[..n]),
-        Input::Failed => Err(io::Error::other("standard input cannot be read")),
+    match recover_read::read_input(&mut rt.stdin(), &mut buffer) {
+        Ok(n) => run_all(&rt, &buffer[..n]),
+        Err(_) => Err(io::Error::other("standard input cannot be read")),
     }
 }

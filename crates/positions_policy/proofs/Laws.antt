@@ -1,6 +1,7 @@
 -- Laws of the verdict: it is accepted exactly if some labelled cardinal neighbour has an accepted edge, none present exactly if no
 -- cardinal neighbour is labelled, and refused exactly in the other case; a candidate passes exactly in the first two; where the
 -- same is seen, as through the sheets of two frames with paired corners, the verdict is the same. Assumes nothing.
+use Rattle.std.specs.Prelude.{Option, Some, None}
 use mathlib.Core.Path.{◌≡◌, refl, sym, ap, ap₂, ◌∙◌}
 use mathlib.Core.Bool.{Bool, true, false, true≢false}
 use mathlib.Core.List.Memᴰ
@@ -17,7 +18,6 @@ use Rattle.sheet.proofs.Pairing.{seen_paired}
 use Rattle.sheet.specs.declared.Cell.{Cell}
 use Rattle.sheet.specs.declared.Offset.{Offset}
 use Rattle.sheet.specs.declared.Corner.{Corner}
-use Rattle.sheet.specs.declared.Seen.{Seen}
 use Rattle.positions_policy.specs.Edge.{cardinal_offsets, edge_ok, edge_to, edge_at, followed_by, tried, verdict_of, passes, AcceptedEdge, NoNeighbour}
 use Rattle.positions_policy.proofs.Search.{edge_none, edge_accepted}
 use Rattle.positions_policy.specs.declared.Tolerances.{Tolerances}
@@ -70,13 +70,13 @@ both_none v later e f = rw (e, f)
 -- ---- the edges at some offsets
 
 -- one of the edges is accepted
-record Some (edge : Offset → EdgeVerdict) (os : List Offset) : Type 0 where
+record SomeEdge (edge : Offset → EdgeVerdict) (os : List Offset) : Type 0 where
   offset : Offset
   there : Memᴰ offset os
   accepted : edge offset ≡ Accepted
 
 module _ (edge : Offset → EdgeVerdict) where
-  tried_some : (os : List Offset) → tried edge os ≡ Accepted → Some edge os
+  tried_some : (os : List Offset) → tried edge os ≡ Accepted → SomeEdge edge os
   unfolding tried
   tried_some [] e = absurd (none_accepted e)
   tried_some (o ∷ os) e =
@@ -109,30 +109,30 @@ module _ (edge : Offset → EdgeVerdict) where
 
 module _ (tol : Tolerances) (candidate : Corner) where
   -- an accepted edge has a neighbour
-  record Beside (s : Seen) : Type 0 where
+  record Beside (s : Option Corner) : Type 0 where
     neighbour : Corner
-    labelled : s ≡ Seen.At neighbour
+    labelled : s ≡ Some neighbour
     accepted : edge_ok candidate neighbour tol.cell_size tol.edge_length_tol ≡ true
 
-  accepted_beside : (s : Seen) → edge_to tol candidate s ≡ Accepted → Beside s
+  accepted_beside : (s : Option Corner) → edge_to tol candidate s ≡ Accepted → Beside s
   unfolding edge_to
-  accepted_beside Seen.Nothing e = absurd (none_accepted e)
-  accepted_beside (Seen.At neighbour) e = go (edge_ok candidate neighbour tol.cell_size tol.edge_length_tol) refl
+  accepted_beside None e = absurd (none_accepted e)
+  accepted_beside (Some neighbour) e = go (edge_ok candidate neighbour tol.cell_size tol.edge_length_tol) refl
     where
-      go : (b : Bool) → edge_ok candidate neighbour tol.cell_size tol.edge_length_tol ≡ b → Beside (Seen.At neighbour)
+      go : (b : Bool) → edge_ok candidate neighbour tol.cell_size tol.edge_length_tol ≡ b → Beside (Some neighbour)
       go true f = record { neighbour = neighbour; labelled = refl; accepted = f }
       go false f = absurd (refused_accepted (rw f at e))
 
-  none_beside : (s : Seen) → edge_to tol candidate s ≡ NonePresent → s ≡ Seen.Nothing
+  none_beside : (s : Option Corner) → edge_to tol candidate s ≡ NonePresent → s ≡ None
   unfolding edge_to
-  none_beside Seen.Nothing e = refl
-  none_beside (Seen.At neighbour) e = go (edge_ok candidate neighbour tol.cell_size tol.edge_length_tol) refl
+  none_beside None e = refl
+  none_beside (Some neighbour) e = go (edge_ok candidate neighbour tol.cell_size tol.edge_length_tol) refl
     where
-      go : (b : Bool) → edge_ok candidate neighbour tol.cell_size tol.edge_length_tol ≡ b → Seen.At neighbour ≡ Seen.Nothing
+      go : (b : Bool) → edge_ok candidate neighbour tol.cell_size tol.edge_length_tol ≡ b → Some neighbour ≡ None
       go true f = absurd (accepted_none (rw f at e))
       go false f = absurd (refused_none (rw f at e))
 
-module _ (seen : Cell → Seen) (tol : Tolerances) (c : Cell) (candidate : Corner) where
+module _ (seen : Cell → Option Corner) (tol : Tolerances) (c : Cell) (candidate : Corner) where
   -- accepted exactly if some labelled cardinal neighbour has an accepted edge
   pub accepted_exactly : verdict_of seen tol c candidate ≡ Accepted ↔ AcceptedEdge seen tol c candidate
   unfolding verdict_of
@@ -181,9 +181,9 @@ module _ (seen : Cell → Seen) (tol : Tolerances) (c : Cell) (candidate : Corne
 
 -- ---- the same seen
 
-pub verdict_same : {seen seen' : Cell → Seen} {candidate candidate' : Corner} (tol : Tolerances) (c : Cell) → seen' ≡ seen → candidate' ≡ candidate
+pub verdict_same : {seen seen' : Cell → Option Corner} {candidate candidate' : Corner} (tol : Tolerances) (c : Cell) → seen' ≡ seen → candidate' ≡ candidate
     → verdict_of seen' tol c candidate' ≡ verdict_of seen tol c candidate
-verdict_same tol c e f = ap₂ (λ (s : Cell → Seen) (k : Corner). verdict_of s tol c k) e f
+verdict_same tol c e f = ap₂ (λ (s : Cell → Option Corner) (k : Corner). verdict_of s tol c k) e f
 
 -- two frames with paired corners and sheets: the pair of a corner gets that corner's verdict
 pub verdict_paired : {l l' : CornerLists} {sheet sheet' : List ℕ} (corners : PairedCorners l l')

@@ -1,5 +1,6 @@
 -- Laws of the search over the four cardinal neighbours, for the proof of the loop: the offsets, one edge, and how a turn, a stop
 -- and the end of the search agree with the definition. Assumes nothing.
+use Rattle.std.specs.Prelude.{Option, Some, None}
 use mathlib.Core.Path.{◌≡◌, refl, sym, ◌∙◌}
 use mathlib.Core.Bool.{Bool, true, false}
 use Prim.Native.Nat.{ℕ, zero, suc, ◌+◌, ◌<◌, ◌≤◌}
@@ -13,7 +14,6 @@ use Rattle.sheet.specs.Cells.{moved, Within}
 use Rattle.sheet.specs.declared.Cell.{Cell}
 use Rattle.sheet.specs.declared.Offset.{Offset}
 use Rattle.sheet.specs.declared.Corner.{Corner}
-use Rattle.sheet.specs.declared.Seen.{Seen}
 use Rattle.positions_policy.specs.Edge.{cardinal_offsets, cardinal_at, edge_ok, edge_to, followed_by, tried}
 use Rattle.positions_policy.specs.declared.Tolerances.{Tolerances}
 use Rattle.positions_policy.specs.declared.EdgeVerdict.{EdgeVerdict}
@@ -31,18 +31,18 @@ cardinal_within (suc (suc (suc zero))) h = record { di_small = lit≤ tt; dj_sma
 cardinal_within (suc (suc (suc (suc k)))) h = absurd (omega arith)
 
 -- what is seen at the cell that was found for an offset
-pub seen_beside : (seen : Cell → Seen) (c : Cell) {s : Seen} {d : Cell} {o p : Offset} → s ≡ seen d → d ≡ moved c o → o ≡ p → s ≡ seen (moved c p)
+pub seen_beside : (seen : Cell → Option Corner) (c : Cell) {s : Option Corner} {d : Cell} {o p : Offset} → s ≡ seen d → d ≡ moved c o → o ≡ p → s ≡ seen (moved c p)
 seen_beside seen c e f g = rw (e, f, g)
 
 -- ---- one edge
 
 -- the edge to s, which was found as r
-module _ (tol : Tolerances) (candidate : Corner) {r s : Seen} (is : r ≡ s) where
-  pub edge_none : r ≡ Seen.Nothing → NonePresent ≡ edge_to tol candidate s
+module _ (tol : Tolerances) (candidate : Corner) {r s : Option Corner} (is : r ≡ s) where
+  pub edge_none : r ≡ None → NonePresent ≡ edge_to tol candidate s
   unfolding edge_to
   edge_none e = rw (sym is, e)
 
-  module _ {neighbour : Corner} {ok : Bool} (at : r ≡ Seen.At neighbour) (tested : ok ≡ edge_ok candidate neighbour tol.cell_size tol.edge_length_tol) where
+  module _ {neighbour : Corner} {ok : Bool} (at : r ≡ Some neighbour) (tested : ok ≡ edge_ok candidate neighbour tol.cell_size tol.edge_length_tol) where
     pub edge_accepted : ok ≡ true → Accepted ≡ edge_to tol candidate s
     unfolding edge_to
     edge_accepted e = rw (sym is, at, sym tested, e)

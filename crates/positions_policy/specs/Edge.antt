@@ -1,7 +1,7 @@
 -- Document 01, "Edge": the length that an edge should have, the band that its length must lie in, and what the edges from a cell
 -- to its four cardinal neighbours say of a candidate. Each rounded operation is named. Definitions only.
 -- The labels are seen as a function from cells: the corner at a cell, or nothing where none is labelled.
-use Rattle.std.specs.Prelude.{◌≡◌, Bool, true, false, ◌&&◌, cond, ℕ, pos, negsuc, get_or, Float}
+use Rattle.std.specs.Prelude.{◌≡◌, Bool, true, false, ◌&&◌, cond, ℕ, pos, negsuc, get_or, Float, Option, Some, None}
 use mathlib.Core.List.{List, [], ◌∷◌, Memᴰ}
 use Rattle.std.specs.Float.{binary32}
 use Rattle.std.specs.Float.Ieee.{of_bits, add, sub, mul, div, lt, le}
@@ -11,7 +11,6 @@ use Rattle.sheet.specs.declared.Cell.{Cell}
 use Rattle.sheet.specs.declared.Offset.{Offset}
 use Rattle.sheet.specs.declared.Position.{Position}
 use Rattle.sheet.specs.declared.Corner.{Corner}
-use Rattle.sheet.specs.declared.Seen.{Seen}
 use Rattle.binary32.specs.Numbers.{half, one}
 use Rattle.sheet.specs.Corners.{squared_distance}
 use Rattle.positions_policy.specs.declared.Tolerances.{Tolerances}
@@ -63,9 +62,9 @@ cardinal_at k = get_or cardinal_offsets k (record { di = pos 0; dj = pos 0 })
 -- ---- the verdict
 
 -- What the edge to one neighbour says: accepted or refused, or that there is none.
-unfoldable pub edge_to : Tolerances → Corner → Seen → EdgeVerdict
-edge_to tol candidate Seen.Nothing = NonePresent
-edge_to tol candidate (Seen.At neighbour) = cond (edge_ok candidate neighbour tol.cell_size tol.edge_length_tol) Accepted Refused
+unfoldable pub edge_to : Tolerances → Corner → Option Corner → EdgeVerdict
+edge_to tol candidate None = NonePresent
+edge_to tol candidate (Some neighbour) = cond (edge_ok candidate neighbour tol.cell_size tol.edge_length_tol) Accepted Refused
 
 -- An edge, and what those tried after it say: the search stops at an accepted edge, after a refused one it is refused unless a
 -- later one is accepted, and where there is no neighbour the later ones decide.
@@ -82,11 +81,11 @@ tried edge [] = NonePresent
 tried edge (o ∷ os) = followed_by (edge o) (tried edge os)
 
 -- The edge to the neighbour at an offset from a cell.
-abbrev pub edge_at : (Cell → Seen) → Tolerances → Cell → Corner → Offset → EdgeVerdict
+abbrev pub edge_at : (Cell → Option Corner) → Tolerances → Cell → Corner → Offset → EdgeVerdict
 edge_at seen tol c candidate o = edge_to tol candidate (seen (moved c o))
 
 -- "Cardinal neighbours are tried in the order +i, −i, +j, −j, and the search stops at the first accepted edge."
-unfoldable pub verdict_of : (Cell → Seen) → Tolerances → Cell → Corner → EdgeVerdict
+unfoldable pub verdict_of : (Cell → Option Corner) → Tolerances → Cell → Corner → EdgeVerdict
 verdict_of seen tol c candidate = tried (edge_at seen tol c candidate) cardinal_offsets
 
 -- An accepted edge passes. "A cell with no cardinal neighbour passes."
@@ -98,13 +97,13 @@ passes NonePresent = true
 -- ---- what a verdict means, without the search
 
 -- A labelled cardinal neighbour whose edge to the candidate is accepted.
-pub record AcceptedEdge (seen : Cell → Seen) (tol : Tolerances) (c : Cell) (candidate : Corner) : Type 0 where
+pub record AcceptedEdge (seen : Cell → Option Corner) (tol : Tolerances) (c : Cell) (candidate : Corner) : Type 0 where
   pub offset : Offset
   pub cardinal : Memᴰ offset cardinal_offsets
   pub neighbour : Corner
-  pub labelled : seen (moved c offset) ≡ Seen.At neighbour
+  pub labelled : seen (moved c offset) ≡ Some neighbour
   pub accepted : edge_ok candidate neighbour tol.cell_size tol.edge_length_tol ≡ true
 
 -- No cardinal neighbour is labelled.
-abbrev pub NoNeighbour : (Cell → Seen) → Cell → Type 0
-NoNeighbour seen c = (o : Offset) → Memᴰ o cardinal_offsets → seen (moved c o) ≡ Seen.Nothing
+abbrev pub NoNeighbour : (Cell → Option Corner) → Cell → Type 0
+NoNeighbour seen c = (o : Offset) → Memᴰ o cardinal_offsets → seen (moved c o) ≡ None

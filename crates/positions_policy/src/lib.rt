@@ -9,7 +9,7 @@ ghost use Rattle.sizes.specs.Sizes.{corner_limit};
 ghost use Rattle.sheet.specs.Corners.{corner_in, seen_of, Given};
 ghost use Rattle.positions_policy.specs.Edge.{length_of, expected_length, in_band, edge_ok, cardinal_at, edge_at, verdict_of, passes};
 
-use sheet::{Cell, Corner, Offset, Position, Seen};
+use sheet::{Cell, Corner, Offset, Position};
 use sizes::CORNERS;
 
 // The numbers of the edge test. The band of 01 is `edge_length_tol`: the part of the expected length by which a length may differ.
@@ -98,8 +98,8 @@ fn cardinal_edge(
     let beside = sheet::neighbour(c, cardinal_offset(k));
     let seen = sheet::seen_at(corners, sheet, beside);
     match seen {
-        Seen::Nothing => EdgeVerdict::NonePresent,
-        Seen::At(neighbour) => {
+        None => EdgeVerdict::NonePresent,
+        Some(neighbour) => {
             if edge_ok(candidate, neighbour, tol.cell_size, tol.edge_length_tol) {
                 EdgeVerdict::Accepted
             } else {

@@ -1,5 +1,6 @@
 -- Laws of prediction: the square a cell at a time; a seen cell is on the sheet; all is settled by what is seen, so that it is
 -- the same for paired frames; a cell with a labelled cell beside it has a prediction. Assumes nothing.
+use Rattle.std.specs.Prelude.{Option, Some, None}
 use mathlib.Core.Path.{◌≡◌, refl, sym, ap, ◌∙◌}
 use mathlib.Core.Bool.{true, false, ◌&&◌, ◌||◌, true≢false}
 use mathlib.Core.List.{List, [], ◌∷◌}
@@ -20,9 +21,7 @@ use Rattle.sheet.proofs.Corners.{seen_none, seen_some}
 use Rattle.sheet.proofs.Pairing.{seen_paired}
 use Rattle.sheet.specs.declared.Cell.{Cell}
 use Rattle.sheet.specs.declared.Offset.{Offset}
-use Rattle.sheet.specs.declared.Label.{Label}
 use Rattle.sheet.specs.declared.Corner.{Corner}
-use Rattle.sheet.specs.declared.Seen.{Seen}
 use Rattle.predict.specs.Predict.{offset, neighbour_offsets, put_before, labelled_among, neighbours_of, forward_of, backward_of, step_at, sums_from, sums_of, mean_of, prediction_from, prediction_of, on_side, any_on, has_neighbour, extrapolating, square_offset, square_cell, is_seen, labelled_on, with_seen, with_cell}
 use Rattle.predict.specs.declared.Neighbour.{Neighbour}
 use Rattle.predict.specs.declared.Direction.{Direction}
@@ -66,21 +65,21 @@ backward_within Direction.J = near_one (offset (pos 0) (negsuc 0)) (omega arith)
 -- ---- what is seen, by the labels
 
 module _ (corner : ℕ → Corner) (sheet : List ℕ) (c : Cell) where
-  pub not_seen : label_at sheet c ≡ Label.Unlabelled → false ≡ is_seen (seen_of corner sheet c)
+  pub not_seen : label_at sheet c ≡ None → false ≡ is_seen (seen_of corner sheet c)
   unfolding is_seen
   not_seen e = sym (ap is_seen (seen_none corner sheet c e))
 
-  pub is_seen_holds : (k : ℕ) → label_at sheet c ≡ Label.Corner k → true ≡ is_seen (seen_of corner sheet c)
+  pub is_seen_holds : (k : ℕ) → label_at sheet c ≡ Some k → true ≡ is_seen (seen_of corner sheet c)
   unfolding is_seen
   is_seen_holds k e = sym (ap is_seen (seen_some corner sheet c k e))
 
   -- a cell at which a corner is seen is on the sheet
-  pub seen_on : (k : Corner) → seen_of corner sheet c ≡ Seen.At k → OnSheet c
+  pub seen_on : (k : Corner) → seen_of corner sheet c ≡ Some k → OnSheet c
   seen_on k e = go (label_at sheet c) refl
     where
-      go : (l : Label) → label_at sheet c ≡ l → OnSheet c
-      go Label.Unlabelled f = let z : ◌≡◌ {A = ℕ} 0 1 = cc (seen_none corner sheet c f) in absurd (omega arith)
-      go (Label.Corner j) f = labelled_on_lem sheet c j f
+      go : (l : Option ℕ) → label_at sheet c ≡ l → OnSheet c
+      go None f = let z : ◌≡◌ {A = ℕ} 0 1 = cc (seen_none corner sheet c f) in absurd (omega arith)
+      go (Some j) f = labelled_on_lem sheet c j f
 
 -- ---- the square a cell at a time
 
@@ -89,10 +88,10 @@ unfolding neighbour_offsets
 offsets_eight = refl
 
 -- the neighbours from the k-th cell of the square on
-abbrev pub neighbours_from : (Cell → Seen) → Cell → ℕ → List Neighbour
+abbrev pub neighbours_from : (Cell → Option Corner) → Cell → ℕ → List Neighbour
 neighbours_from seen c k = labelled_among seen c (drop k neighbour_offsets)
 
-module _ (seen : Cell → Seen) (c : Cell) where
+module _ (seen : Cell → Option Corner) (c : Cell) where
   next_of : (os : List Offset) (o : Offset) (k : ℕ) → k < length os
       → labelled_among seen c (drop k os) ≡ put_before (moved c (get_or os k o)) (seen (moved c (get_or os k o))) (labelled_among seen c (drop (suc k) os))
   unfolding labelled_among
@@ -109,10 +108,10 @@ module _ (seen : Cell → Seen) (c : Cell) where
 
   -- the sums
   module _ (grid : Grid) where
-    sums_before : (s : Sums) (at : Cell) (v : Seen) (rest : List Neighbour) → sums_from seen grid c s (put_before at v rest) ≡ sums_from seen grid c (with_seen seen grid c s at v) rest
+    sums_before : (s : Sums) (at : Cell) (v : Option Corner) (rest : List Neighbour) → sums_from seen grid c s (put_before at v rest) ≡ sums_from seen grid c (with_seen seen grid c s at v) rest
     unfolding sums_from put_before with_seen
-    sums_before s at Seen.Nothing rest = refl
-    sums_before s at (Seen.At corner) rest = refl
+    sums_before s at None rest = refl
+    sums_before s at (Some corner) rest = refl
 
     pub sums_next : (s : Sums) (k : ℕ) → k < 8 → sums_from seen grid c s (neighbours_from seen c k) ≡ sums_from seen grid c (with_cell seen grid c s (square_cell c k)) (neighbours_from seen c (k + 1))
     sums_next s k h = ap (sums_from seen grid c s) (square_next k h) ∙ sums_before s (square_cell c k) (seen (square_cell c k)) (neighbours_from seen c (k + 1))
@@ -123,10 +122,10 @@ module _ (seen : Cell → Seen) (c : Cell) where
 
   -- a neighbour on a side
   module _ (side : Side) where
-    any_before : (at : Cell) (v : Seen) (rest : List Neighbour) → any_on side c (put_before at v rest) ≡ ((is_seen v && on_side side c at) || any_on side c rest)
+    any_before : (at : Cell) (v : Option Corner) (rest : List Neighbour) → any_on side c (put_before at v rest) ≡ ((is_seen v && on_side side c at) || any_on side c rest)
     unfolding any_on put_before is_seen
-    any_before at Seen.Nothing rest = refl
-    any_before at (Seen.At corner) rest = refl
+    any_before at None rest = refl
+    any_before at (Some corner) rest = refl
 
     any_next : (k : ℕ) → k < 8 → any_on side c (neighbours_from seen c k) ≡ (labelled_on seen c side (square_cell c k) || any_on side c (neighbours_from seen c (k + 1)))
     any_next k h = ap (any_on side c) (square_next k h) ∙ any_before (square_cell c k) (seen (square_cell c k)) (neighbours_from seen c (k + 1))
@@ -164,15 +163,15 @@ module _ (seen : Cell → Seen) (c : Cell) where
 
 -- ---- what is seen settles all
 
-module _ {seen seen' : Cell → Seen} (same : seen' ≡ seen) where
+module _ {seen seen' : Cell → Option Corner} (same : seen' ≡ seen) where
   pub step_same : (n : Neighbour) (d : Direction) → step_at seen' n d ≡ step_at seen n d
-  step_same n d = ap (λ (s : Cell → Seen). step_at s n d) same
+  step_same n d = ap (λ (s : Cell → Option Corner). step_at s n d) same
 
   pub prediction_same : (grid : Grid) (c : Cell) → prediction_of seen' grid c ≡ prediction_of seen grid c
-  prediction_same grid c = ap (λ (s : Cell → Seen). prediction_of s grid c) same
+  prediction_same grid c = ap (λ (s : Cell → Option Corner). prediction_of s grid c) same
 
   pub extrapolating_same : (c : Cell) → extrapolating seen' c ≡ extrapolating seen c
-  extrapolating_same c = ap (λ (s : Cell → Seen). extrapolating s c) same
+  extrapolating_same c = ap (λ (s : Cell → Option Corner). extrapolating s c) same
 
 -- ---- two frames with paired corners and sheets
 

@@ -1,7 +1,8 @@
 -- "Step, neighbour, prediction": the neighbours of a cell in their order, the step at a neighbour, the running weighted sums,
 -- the prediction, and whether it is an extrapolation. All of it is a function of `seen`, what is seen at each cell; every
 -- operation on floats is one of binary32 and stands in the order in which it is rounded. Definitions only.
-use Rattle.std.specs.Prelude.{Bool, true, false, not, ◌&&◌, ◌||◌, List, [], ◌∷◌, ℕ, ◌<◌, ◌≤◌, length, get_or, ℤ, pos, negsuc, Float}
+use Rattle.sheet.specs.declared.Corner.{Corner}
+use Rattle.std.specs.Prelude.{Bool, true, false, not, ◌&&◌, ◌||◌, List, [], ◌∷◌, ℕ, ◌<◌, ◌≤◌, length, get_or, ℤ, pos, negsuc, Float, Option, Some, None}
 use Rattle.std.specs.Int.Signed.{lt_z}
 use Rattle.std.specs.Float.{binary32}
 use Rattle.std.specs.Float.Ieee.{of_int, add, sub, mul, div}
@@ -11,7 +12,6 @@ use Rattle.sheet.specs.Corners.{Given}
 use Rattle.sheet.specs.declared.Cell.{Cell}
 use Rattle.sheet.specs.declared.Offset.{Offset}
 use Rattle.sheet.specs.declared.Position.{Position}
-use Rattle.sheet.specs.declared.Seen.{Seen}
 use Rattle.binary32.specs.Numbers.{nought, half, one}
 use Rattle.predict.specs.declared.Neighbour.{Neighbour}
 use Rattle.predict.specs.declared.Direction.{Direction}
@@ -39,17 +39,17 @@ neighbour_offsets =
     ∷ offset minus_one (pos 1) ∷ offset (pos 0) (pos 1) ∷ offset (pos 1) (pos 1) ∷ []
 
 -- a cell at which a corner is seen is put before the neighbours that follow it
-unfoldable pub put_before : Cell → Seen → List Neighbour → List Neighbour
-put_before at Seen.Nothing rest = rest
-put_before at (Seen.At corner) rest = record { at = at; position = corner.position } ∷ rest
+unfoldable pub put_before : Cell → Option Corner → List Neighbour → List Neighbour
+put_before at None rest = rest
+put_before at (Some corner) rest = record { at = at; position = corner.position } ∷ rest
 
 -- the labelled cells at some offsets, in the offsets' order
-unfoldable pub labelled_among : (Cell → Seen) → Cell → List Offset → List Neighbour
+unfoldable pub labelled_among : (Cell → Option Corner) → Cell → List Offset → List Neighbour
 labelled_among seen c [] = []
 labelled_among seen c (o ∷ os) = put_before (moved c o) (seen (moved c o)) (labelled_among seen c os)
 
 -- "Neighbours are the labelled cells of the 3 by 3 square"
-unfoldable pub neighbours_of : (Cell → Seen) → Cell → List Neighbour
+unfoldable pub neighbours_of : (Cell → Option Corner) → Cell → List Neighbour
 neighbours_of seen c = labelled_among seen c neighbour_offsets
 
 -- ---- step
@@ -72,14 +72,14 @@ both_sided f b = LocalStep.Own (mul binary32 (sub binary32 f.x b.x) half) (mul b
 
 -- a step by what is seen forward and backward: half the difference of both sides' positions, or the one-sided difference, or
 -- else the axis
-abbrev pub step_between : Position → Seen → Seen → LocalStep
-step_between here (Seen.At f) (Seen.At b) = both_sided f.position b.position
-step_between here (Seen.At f) Seen.Nothing = one_sided f.position here
-step_between here Seen.Nothing (Seen.At b) = one_sided here b.position
-step_between here Seen.Nothing Seen.Nothing = LocalStep.Axis
+abbrev pub step_between : Position → Option Corner → Option Corner → LocalStep
+step_between here (Some f) (Some b) = both_sided f.position b.position
+step_between here (Some f) None = one_sided f.position here
+step_between here None (Some b) = one_sided here b.position
+step_between here None None = LocalStep.Axis
 
 -- the step at a neighbour along i or j
-unfoldable pub step_at : (Cell → Seen) → Neighbour → Direction → LocalStep
+unfoldable pub step_at : (Cell → Option Corner) → Neighbour → Direction → LocalStep
 step_at seen n d = step_between n.position (seen (moved n.at (forward_of d))) (seen (moved n.at (backward_of d)))
 
 -- a step as a vector: its own pair, or axis times cell size
@@ -92,7 +92,7 @@ abbrev pub axis_of : Grid → Direction → Vector
 axis_of grid Direction.I = grid.axis_i
 axis_of grid Direction.J = grid.axis_j
 
-unfoldable pub step_vector : (Cell → Seen) → Grid → Neighbour → Direction → Vector
+unfoldable pub step_vector : (Cell → Option Corner) → Grid → Neighbour → Direction → Vector
 step_vector seen grid n d = vector_of (axis_of grid d) grid.cell_size (step_at seen n d)
 
 -- ---- prediction
@@ -118,18 +118,18 @@ weighed s o p iStep jStep =
     }
 
 -- a neighbour's part in the sums for a cell
-unfoldable pub with_neighbour : (Cell → Seen) → Grid → Cell → Sums → Neighbour → Sums
+unfoldable pub with_neighbour : (Cell → Option Corner) → Grid → Cell → Sums → Neighbour → Sums
 with_neighbour seen grid c s n = weighed s (difference_of c n.at) n.position (step_vector seen grid n Direction.I) (step_vector seen grid n Direction.J)
 
 -- "The sums run in neighbour order"
-unfoldable pub sums_from : (Cell → Seen) → Grid → Cell → Sums → List Neighbour → Sums
+unfoldable pub sums_from : (Cell → Option Corner) → Grid → Cell → Sums → List Neighbour → Sums
 sums_from seen grid c s [] = s
 sums_from seen grid c s (n ∷ ns) = sums_from seen grid c (with_neighbour seen grid c s n) ns
 
 unfoldable pub no_sums : Sums
 no_sums = record { x = nought; y = nought; w = nought }
 
-unfoldable pub sums_of : (Cell → Seen) → Grid → Cell → Sums
+unfoldable pub sums_of : (Cell → Option Corner) → Grid → Cell → Sums
 sums_of seen grid c = sums_from seen grid c no_sums (neighbours_of seen c)
 
 -- the weighted sums by the sum of the weights
@@ -141,7 +141,7 @@ unfoldable pub prediction_from : List Neighbour → Sums → Prediction
 prediction_from [] s = Prediction.NoNeighbour
 prediction_from (n ∷ ns) s = Prediction.At (mean_of s)
 
-unfoldable pub prediction_of : (Cell → Seen) → Grid → Cell → Prediction
+unfoldable pub prediction_of : (Cell → Option Corner) → Grid → Cell → Prediction
 prediction_of seen grid c = prediction_from (neighbours_of seen c) (sums_of seen grid c)
 
 -- ---- extrapolating
@@ -159,11 +159,11 @@ unfoldable pub any_on : Side → Cell → List Neighbour → Bool
 any_on side c [] = false
 any_on side c (n ∷ ns) = on_side side c n.at || any_on side c ns
 
-unfoldable pub has_neighbour : (Cell → Seen) → Cell → Side → Bool
+unfoldable pub has_neighbour : (Cell → Option Corner) → Cell → Side → Bool
 has_neighbour seen c side = any_on side c (neighbours_of seen c)
 
 -- "not all of the sides -i, +i, -j, +j have a neighbour"
-unfoldable pub extrapolating : (Cell → Seen) → Cell → Bool
+unfoldable pub extrapolating : (Cell → Option Corner) → Cell → Bool
 extrapolating seen c =
     not (has_neighbour seen c Side.MinusI && has_neighbour seen c Side.PlusI && has_neighbour seen c Side.MinusJ && has_neighbour seen c Side.PlusJ)
 
@@ -176,20 +176,20 @@ square_offset k = get_or neighbour_offsets k (offset (pos 0) (pos 0))
 abbrev pub square_cell : Cell → ℕ → Cell
 square_cell c k = moved c (square_offset k)
 
-unfoldable pub is_seen : Seen → Bool
-is_seen Seen.Nothing = false
-is_seen (Seen.At corner) = true
+unfoldable pub is_seen : Option Corner → Bool
+is_seen None = false
+is_seen (Some corner) = true
 
 -- a labelled cell that lies on a side
-abbrev pub labelled_on : (Cell → Seen) → Cell → Side → Cell → Bool
+abbrev pub labelled_on : (Cell → Option Corner) → Cell → Side → Cell → Bool
 labelled_on seen c side at = is_seen (seen at) && on_side side c at
 
 -- the sums with the part of a cell at which this is seen, and with the part of a cell
-unfoldable pub with_seen : (Cell → Seen) → Grid → Cell → Sums → Cell → Seen → Sums
-with_seen seen grid c s at Seen.Nothing = s
-with_seen seen grid c s at (Seen.At corner) = with_neighbour seen grid c s (record { at = at; position = corner.position })
+unfoldable pub with_seen : (Cell → Option Corner) → Grid → Cell → Sums → Cell → Option Corner → Sums
+with_seen seen grid c s at None = s
+with_seen seen grid c s at (Some corner) = with_neighbour seen grid c s (record { at = at; position = corner.position })
 
-abbrev pub with_cell : (Cell → Seen) → Grid → Cell → Sums → Cell → Sums
+abbrev pub with_cell : (Cell → Option Corner) → Grid → Cell → Sums → Cell → Sums
 with_cell seen grid c s at = with_seen seen grid c s at (seen at)
 
 -- ---- what the functions ask

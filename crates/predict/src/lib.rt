@@ -3,14 +3,14 @@
 
 #![tactic(auto)]
 
-ghost use Rattle.std.specs.Prelude.{◌≡◌, ℕ, ◌<◌, ◌≤◌, length};
+ghost use Rattle.std.specs.Prelude.{◌≡◌, ℕ, ◌<◌, ◌≤◌, length, None};
 ghost use Rattle.sizes.specs.Sizes.{place_count};
 ghost use Rattle.sheet.specs.Cells.{Within};
 ghost use Rattle.sheet.specs.Words.{SheetCell};
 ghost use Rattle.sheet.specs.Corners.{corner_in, seen_of};
 ghost use Rattle.predict.specs.Predict.{forward_of, backward_of, one_sided, both_sided, step_between, step_at, vector_of, axis_of, step_vector, weighed, with_neighbour, sums_of, prediction_of, on_side, has_neighbour, extrapolating, square_offset, square_cell, is_seen, labelled_on, with_cell, GivenCell, GivenCells, GivenSquare, SheetSquare};
 
-use sheet::{Cell, Corner, Label, Offset, Position, Seen};
+use sheet::{Cell, Corner, Offset, Position};
 use sizes::CORNERS;
 
 // A labelled cell beside another, and its corner's position.
@@ -126,25 +126,25 @@ fn both_sided(f: Position, b: Position) -> LocalStep
 }
 
 // The step at a position where nothing is seen forward.
-fn step_without_forward(here: Position, b: Seen) -> LocalStep
-    ensures { result ≡ step_between here Seen.Nothing b }
+fn step_without_forward(here: Position, b: Option<Corner>) -> LocalStep
+    ensures { result ≡ step_between here None b }
 {
     match b {
-        Seen::At(b) => one_sided(here, b.position),
-        Seen::Nothing => LocalStep::Axis,
+        Some(b) => one_sided(here, b.position),
+        None => LocalStep::Axis,
     }
 }
 
 // The step at a position by what is seen forward and backward of it.
-fn step_between(here: Position, f: Seen, b: Seen) -> LocalStep
+fn step_between(here: Position, f: Option<Corner>, b: Option<Corner>) -> LocalStep
     ensures { result ≡ step_between here f b }
 {
-    let Seen::At(f) = f else {
+    let Some(f) = f else {
         return step_without_forward(here, b);
     };
     match b {
-        Seen::At(b) => both_sided(f.position, b.position),
-        Seen::Nothing => one_sided(f.position, here),
+        Some(b) => both_sided(f.position, b.position),
+        None => one_sided(f.position, here),
     }
 }
 
@@ -253,8 +253,8 @@ fn add_if_labelled(
     let at = sheet::neighbour(c, offset_of(k));
     let seen = sheet::seen_at(corners, sheet, at);
     match seen {
-        Seen::Nothing => sums,
-        Seen::At(corner) => {
+        None => sums,
+        Some(corner) => {
             let position = corner.position;
             add_neighbour(corners, sheet, grid, c, sums, Neighbour { at, position })
         }
@@ -287,8 +287,8 @@ fn is_labelled(sheet: &[u16], c: Cell) -> bool
 {
     let label = sheet::label_at(sheet, c);
     match label {
-        Label::Unlabelled => false,
-        Label::Corner(_) => true,
+        None => false,
+        Some(_) => true,
     }
 }
 

@@ -8,7 +8,8 @@ use borrow.Author.Tests.{ltb-false}
 use lib.Dec.{ltb}
 use Rattle.frame_answer.specs.Answer.{answer_text}
 use Rattle.recover_read.specs.Reading.{bytes_of}
-use Rattle.recover_read.specs.declared.Input.{Input}
+use Rattle.std.proofs.Common.{Result, Ok, Err}
+use Rattle.recover_read.specs.declared.ReadFailed.{ReadFailed}
 use Rattle.recover_say.proofs.Printing.{told_prints}
 use Rattle.recover.specs.Program.{Replied, output_fault, fault_of, Printed, RanPrints}
 use Rattle.recover.specs.declared.Outcome.{Outcome}
@@ -22,14 +23,14 @@ past_last a b e = go (ltb a b) refl e
     go true h e = absurd (let z : ◌≡◌ {A = ℕ} 0 1 = cc in omega arith)
     go false h e = ltb-false a b h
 
-printed : (bytes : List ℕ) (input : Input) (outcome : Outcome) → Replied bytes input outcome → Printed bytes outcome
+printed : (bytes : List ℕ) (input : Result ℕ ReadFailed) (outcome : Outcome) → Replied bytes input outcome → Printed bytes outcome
 unfolding fault_of
-printed bytes (Input.Whole n) (Outcome.Answered said) t =
+printed bytes (Ok n) (Outcome.Answered said) t =
     let p = told_prints bytes said t in
     record { whole = λ e. p.whole (past_last said.next said.lines e); rest = p.rest; front = p.front }
-printed bytes (Input.Whole n) Outcome.NotRead t = absurd t
-printed bytes Input.Failed (Outcome.Answered said) t = absurd t
-printed bytes Input.Failed Outcome.NotRead t =
+printed bytes (Ok n) Outcome.NotRead t = absurd t
+printed bytes (Err e) (Outcome.Answered said) t = absurd t
+printed bytes (Err e) Outcome.NotRead t =
     record { whole = λ e. absurd (let z : ◌≡◌ {A = ℕ} 0 1 = cc in omega arith); rest = answer_text bytes; front = refl }
 
 pub ran_prints : RanPrints

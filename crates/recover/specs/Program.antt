@@ -1,29 +1,29 @@
 -- A run of the frame program (01, "Frame and result"): the bytes that the reads gave are answered, or a read failed and nothing is. Definitions only.
-use Rattle.std.specs.Prelude.{◌≡◌, Bool, true, false, List, [], ◌++◌, ℕ, ◌<◌, ◌≤◌, ltb, take, length, Option}
+use Rattle.std.specs.Prelude.{◌≡◌, Bool, true, false, List, [], ◌++◌, ℕ, ◌<◌, ◌≤◌, ltb, take, length, Option, Result, Ok, Err}
 use Rattle.std.specs.Io.KnownBytes.{Appends, Consumes, IsAtEnd}
 use Rattle.frame_answer.specs.Answer.{answer_text}
 use Rattle.recover_read.specs.Reading.{Read, bytes_of, standing_after, Answers}
-use Rattle.recover_read.specs.declared.Input.{Input}
+use Rattle.recover_read.specs.declared.ReadFailed.{ReadFailed}
 use Rattle.recover_say.specs.Said.{text_after, piece_from, Told, WroteAnswer}
 use Rattle.recover.specs.declared.Outcome.{Outcome}
 use Rattle.recover.specs.declared.Fault.{Fault}
 
 -- what is said to an input of these bytes; to one that could not be read, nothing
-abbrev pub Replied : List ℕ → Input → Outcome → Type 0
-Replied bytes (Input.Whole n) (Outcome.Answered said) = Told bytes said
-Replied bytes (Input.Whole n) Outcome.NotRead = ⊥
-Replied bytes Input.Failed (Outcome.Answered said) = ⊥
-Replied bytes Input.Failed Outcome.NotRead = Unit {0}
+abbrev pub Replied : List ℕ → Result ℕ ReadFailed → Outcome → Type 0
+Replied bytes (Ok n) (Outcome.Answered said) = Told bytes said
+Replied bytes (Ok n) Outcome.NotRead = ⊥
+Replied bytes (Err e) (Outcome.Answered said) = ⊥
+Replied bytes (Err e) Outcome.NotRead = Unit {0}
 
 -- the bytes of an input that stands at the front of a buffer
-abbrev pub input_in : List ℕ → Input → List ℕ
-input_in buffer (Input.Whole n) = take n buffer
-input_in buffer Input.Failed = []
+abbrev pub input_in : List ℕ → Result ℕ ReadFailed → List ℕ
+input_in buffer (Ok n) = take n buffer
+input_in buffer (Err e) = []
 
 -- what the reads gave, one after the other, what became of the input, and what was said to it; 65,537 bytes are read at most, one more than a frame has
 pub record Ran (outcome : Outcome) : Type 0 where
   pub reads : List Read
-  pub input : Input
+  pub input : Result ℕ ReadFailed
   pub read_so : Answers 65537 (standing_after reads) input
   pub replied : Replied (bytes_of reads) input outcome
 

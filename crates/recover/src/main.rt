@@ -7,7 +7,7 @@ ghost use Rattle.std.specs.Prelude.{◌≡◌};
 ghost use Rattle.recover_read.specs.Reading.{ReadInto};
 ghost use Rattle.recover.specs.Program.{Replied, WroteReply, input_in, Ran, Answered, fault_of};
 
-use recover_read::Input;
+use recover_read::ReadFailed;
 use recover_say::Said;
 use std::io::{Read, Write};
 
@@ -19,17 +19,17 @@ enum Outcome {
 }
 
 // Answers the input that stands at the front of the buffer.
-fn reply<W: Write>(out: &mut W, buffer: &[u8], input: Input) -> Outcome
+fn reply<W: Write>(out: &mut W, buffer: &[u8], input: Result<usize, ReadFailed>) -> Outcome
     requires { ReadInto buffer.now input }
     ensures replied { Replied (input_in buffer.now input) input result }
     ensures wrote { WroteReply (W.contents out.old) (W.contents out.new) (input_in buffer.now input) result }
 {
     match input {
-        Input::Whole(n) => {
+        Ok(n) => {
             let said = recover_say::answer(out, &buffer[..n]);
             Outcome::Answered(said)
         }
-        Input::Failed => Outcome::NotRead,
+        Err(ReadFailed) => Outcome::NotRead,
     }
 }
 

@@ -5,16 +5,17 @@ use Rattle.std.specs.IoError.{error_kind}
 use Rattle.std.specs.declared.io.ErrorKind.{ErrorKind}
 use Rattle.std.specs.declared.io.Error.{Error}
 use Rattle.std.specs.Io.KnownBytes.{Consumes, Keeps, IsAtEnd}
-use Rattle.recover_read.specs.declared.Got.{Got}
-use Rattle.recover_read.specs.declared.Input.{Input}
-use Rattle.recover_read.specs.declared.Standing.{Standing}
+use Rattle.std.specs.declared.ops.ControlFlow.{ControlFlow}
+use Rattle.std.specs.declared.ops.ControlFlow.TheVariants.{Break, Continue}
+use Rattle.recover_read.specs.declared.NoAnswer.{NoAnswer}
+use Rattle.recover_read.specs.declared.ReadFailed.{ReadFailed}
 
 -- ---- one read
 
 -- a read that gave no answer was interrupted, or it failed
-unfoldable pub none_by : Bool → Got
-none_by true = Got.Interrupted
-none_by false = Got.Failed
+unfoldable pub none_by : Bool → NoAnswer
+none_by true = NoAnswer.Interrupted
+none_by false = NoAnswer.Failed
 
 -- an error says so by its kind
 abbrev pub interrupts : ErrorKind → Bool
@@ -22,39 +23,40 @@ interrupts ErrorKind.Interrupted = true
 interrupts _ = false
 
 -- what a read's answer means: 0 bytes are the end, more are so many, and an error is none
-unfoldable pub got_of : Result ℕ Error → Got
-got_of (Ok zero) = Got.End
-got_of (Ok (suc k)) = Got.Bytes (suc k)
-got_of (Err error) = none_by (interrupts (error_kind error))
+unfoldable pub got_of : Result ℕ Error → Result ℕ NoAnswer
+got_of (Ok n) = Ok n
+got_of (Err error) = Err (none_by (interrupts (error_kind error)))
 
--- where bytes came, there is at least one, and with those before them they are at most so many
-abbrev pub FitsIn : ℕ → ℕ → Got → Type 0
-FitsIn at room (Got.Bytes n) = (0 < n) × (at + n ≤ room)
-FitsIn at room Got.End = Unit {0}
-FitsIn at room Got.Interrupted = Unit {0}
-FitsIn at room Got.Failed = Unit {0}
+-- where bytes came, with those before them they are at most so many
+abbrev pub FitsIn : ℕ → ℕ → Result ℕ NoAnswer → Type 0
+FitsIn at room (Ok n) = at + n ≤ room
+FitsIn at room (Err e) = Unit {0}
 
 -- one read into the rest of a buffer: what stands before it is kept
-pub record Refilled (old new : List ℕ) (at : ℕ) (got : Got) : Type 0 where
+pub record Refilled (old new : List ℕ) (at : ℕ) (got : Result ℕ NoAnswer) : Type 0 where
   pub front : take at new ≡ take at old
   pub fits : FitsIn at (length new) got
 
 -- one read took what it gave from the front of the bytes that the reader has left, where those are known; at the end none is left
-abbrev pub Took : Option (List ℕ) → Option (List ℕ) → List ℕ → ℕ → Got → Type 0
-Took before after new at (Got.Bytes n) = Consumes before after (take n (drop at new))
-Took before after new at Got.End = Keeps before after × IsAtEnd after
-Took before after new at Got.Interrupted = Keeps before after
-Took before after new at Got.Failed = Keeps before after
+abbrev pub Took : Option (List ℕ) → Option (List ℕ) → List ℕ → ℕ → Result ℕ NoAnswer → Type 0
+Took before after new at (Ok zero) = Keeps before after × IsAtEnd after
+Took before after new at (Ok (suc k)) = Consumes before after (take (suc k) (drop at new))
+Took before after new at (Err e) = Keeps before after
 
 -- ---- all reads
 
--- where a reading stands after one read more; one interruption too many is a failure
-unfoldable pub read_on : ℕ → ℕ → Got → Standing
-read_on at tries (Got.Bytes n) = Standing.Reading (at + n) tries
-read_on at tries Got.End = Standing.Over (Input.Whole at)
-read_on at zero Got.Interrupted = Standing.Over Input.Failed
-read_on at (suc tries) Got.Interrupted = Standing.Reading at tries
-read_on at tries Got.Failed = Standing.Over Input.Failed
+-- a read failed
+abbrev pub failure : Result ℕ ReadFailed
+failure = Err (record {})
+
+-- where a reading stands after one read more: it is over, or so many bytes are there and so many interruptions may still come; one interruption too
+-- many is a failure
+unfoldable pub read_on : ℕ → ℕ → Result ℕ NoAnswer → ControlFlow (Result ℕ ReadFailed) (ℕ × ℕ)
+read_on at tries (Ok zero) = Break (Ok at)
+read_on at tries (Ok (suc k)) = Continue (at + suc k, tries)
+read_on at zero (Err NoAnswer.Interrupted) = Break failure
+read_on at (suc tries) (Err NoAnswer.Interrupted) = Continue (at, tries)
+read_on at tries (Err NoAnswer.Failed) = Break failure
 
 -- what one read gave, with its bytes
 pub data Read : Type 0 where
@@ -64,20 +66,20 @@ pub data Read : Type 0 where
   failed : Read
 
 -- the same without them
-abbrev pub got_by : Read → Got
-got_by (some bytes) = Got.Bytes (length bytes)
-got_by ended = Got.End
-got_by interrupted = Got.Interrupted
-got_by failed = Got.Failed
+abbrev pub got_by : Read → Result ℕ NoAnswer
+got_by (some bytes) = Ok (length bytes)
+got_by ended = Ok 0
+got_by interrupted = Err NoAnswer.Interrupted
+got_by failed = Err NoAnswer.Failed
 
 -- a reading that is over stays so
-abbrev pub go_on : Standing → Got → Standing
-go_on (Standing.Reading at tries) got = read_on at tries got
-go_on (Standing.Over input) got = Standing.Over input
+abbrev pub go_on : ControlFlow (Result ℕ ReadFailed) (ℕ × ℕ) → Result ℕ NoAnswer → ControlFlow (Result ℕ ReadFailed) (ℕ × ℕ)
+go_on (Continue so) got = read_on so.0 so.1 got
+go_on (Break answer) got = Break answer
 
 -- where a reading stands after some reads, the last one first; 1,000 interruptions may come
-unfoldable pub standing_after : List Read → Standing
-standing_after [] = Standing.Reading 0 1000
+unfoldable pub standing_after : List Read → ControlFlow (Result ℕ ReadFailed) (ℕ × ℕ)
+standing_after [] = Continue (0, 1000)
 standing_after (read ∷ reads) = go_on (standing_after reads) (got_by read)
 
 -- the bytes of one read
@@ -93,29 +95,29 @@ bytes_of [] = []
 bytes_of (read ∷ reads) = bytes_of reads ++ bytes_in read
 
 -- what is answered: what the reading came to, or, where it goes on, that the buffer is full
-pub data Answers (room : ℕ) : Standing → Input → Type 0 where
-  over : (input : Input) → Answers room (Standing.Over input) input
-  full : (tries : ℕ) → Answers room (Standing.Reading room tries) (Input.Whole room)
+pub data Answers (room : ℕ) : ControlFlow (Result ℕ ReadFailed) (ℕ × ℕ) → Result ℕ ReadFailed → Type 0 where
+  over : (answer : Result ℕ ReadFailed) → Answers room (Break answer) answer
+  full : (tries : ℕ) → Answers room (Continue (room, tries)) (Ok room)
 
 -- the bytes that were read stand at the front of the buffer
-abbrev pub AtFront : List ℕ → List ℕ → Input → Type 0
-AtFront buffer bytes (Input.Whole n) = (n ≤ length buffer) × (take n buffer ≡ bytes)
-AtFront buffer bytes Input.Failed = Unit {0}
+abbrev pub AtFront : List ℕ → List ℕ → Result ℕ ReadFailed → Type 0
+AtFront buffer bytes (Ok n) = (n ≤ length buffer) × (take n buffer ≡ bytes)
+AtFront buffer bytes (Err e) = Unit {0}
 
 -- an answer to what some reads gave, one after the other, and the buffer then
-pub record ReadInto (buffer : List ℕ) (r : Input) : Type 0 where
+pub record ReadInto (buffer : List ℕ) (r : Result ℕ ReadFailed) : Type 0 where
   pub reads : List Read
   pub answers : Answers (length buffer) (standing_after reads) r
   pub front : AtFront buffer (bytes_of reads) r
 
 -- what was read is the front of the bytes that the reader had left, where those are known; a buffer that is not full has all of them
-abbrev pub TookAll : Option (List ℕ) → Option (List ℕ) → List ℕ → Input → Type 0
-TookAll before after buffer (Input.Whole n) = Consumes before after (take n buffer) × (n < length buffer → IsAtEnd after)
-TookAll before after buffer Input.Failed = ⊤
+abbrev pub TookAll : Option (List ℕ) → Option (List ℕ) → List ℕ → Result ℕ ReadFailed → Type 0
+TookAll before after buffer (Ok n) = Consumes before after (take n buffer) × (n < length buffer → IsAtEnd after)
+TookAll before after buffer (Err e) = ⊤
 
 -- what holds before each read
 pub record SoFar (buffer : List ℕ) (at tries : ℕ) : Type 0 where
   pub reads : List Read
   pub in_room : at ≤ length buffer
-  pub stands : standing_after reads ≡ Standing.Reading at tries
+  pub stands : standing_after reads ≡ Continue (at, tries)
   pub front : take at buffer ≡ bytes_of reads

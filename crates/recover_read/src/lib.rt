@@ -4,53 +4,46 @@
 
 #![tactic(auto)]
 
-ghost use Rattle.std.specs.Prelude.{◌≡◌, ◌<◌, length};
+ghost use Rattle.std.specs.Prelude.{◌≡◌, ◌-◌, ◌^◌, ◌<◌, length};
 ghost use Rattle.std.specs.IoError.{error_kind};
-ghost use Rattle.recover_read.specs.Reading.{interrupts, got_of, FitsIn, Refilled, Took, read_on, ReadInto, TookAll};
+ghost use Rattle.recover_read.specs.Reading.{interrupts, none_by, got_of, FitsIn, Refilled, Took, read_on, ReadInto, TookAll};
 
 use std::io;
 use std::io::{ErrorKind, Read};
+use std::ops::ControlFlow;
 
 // ---- one read
 
-// What one read gave: so many bytes, at least one; the end of the input; an interruption before any byte came; or a failure.
-#[derive(Clone, Copy)]
-pub enum Got {
-    Bytes(usize),
-    End,
+// Why a read gave no answer: a signal interrupted it before any byte came, or it failed.
+#[derive(Clone, Copy, Debug, PartialEq, Eq)]
+pub enum NoAnswer {
     Interrupted,
     Failed,
 }
 
-// Whether a signal interrupted a read before any byte came.
-fn is_interrupted(error: &io::Error) -> bool
-    ensures { result ≡ interrupts (error_kind error.now) }
+// What a read's error means.
+#[tactic(auto, unfolding(crate::specs::Reading::none_by))]
+fn no_answer(error: io::Error) -> NoAnswer
+    ensures { result ≡ none_by (interrupts (error_kind error)) }
 {
-    matches!(error.kind(), ErrorKind::Interrupted)
-}
-
-// What a read's answer means.
-fn meaning(answer: io::Result<usize>) -> Got
-    ensures { result ≡ got_of answer }
-{
-    match answer {
-        Ok(n) => {
-            if n == 0 {
-                return Got::End;
-            }
-            Got::Bytes(n)
-        }
-        Err(error) => {
-            if is_interrupted(&error) {
-                return Got::Interrupted;
-            }
-            Got::Failed
-        }
+    if matches!(error.kind(), ErrorKind::Interrupted) {
+        NoAnswer::Interrupted
+    } else {
+        NoAnswer::Failed
     }
 }
 
+// What a read's answer means: so many bytes, and 0 at the end of the input.
+#[tactic(auto, unfolding(crate::specs::Reading::got_of))]
+fn meaning(answer: io::Result<usize>) -> Result<usize, NoAnswer>
+    ensures { result ≡ got_of answer }
+{
+    answer.map_err(no_answer)
+}
+
 // One read into the unfilled rest of the buffer; what stands before it is kept.
-fn read_rest<R: Read>(input: &mut R, buffer: &mut [u8], at: usize) -> Got
+#[tactic(auto, unfolding(crate::specs::Reading::got_of))]
+fn read_rest<R: Read>(input: &mut R, buffer: &mut [u8], at: usize) -> Result<usize, NoAnswer>
     requires { at < length buffer.old }
     ensures refilled { Refilled buffer.old buffer.new at result }
     ensures took { Took (R.remaining input.old) (R.remaining input.new) buffer.new at result }
@@ -61,57 +54,41 @@ fn read_rest<R: Read>(input: &mut R, buffer: &mut [u8], at: usize) -> Got
 
 // ---- all reads
 
-// What became of the input: so many bytes of it stand at the front of the buffer, and it ended there or filled the buffer; or a read failed.
-#[derive(Clone, Copy)]
-pub enum Input {
-    Whole(usize),
-    Failed,
-}
+// A read failed, or one interruption more came than a reading waits out.
+#[derive(Clone, Copy, Debug, PartialEq, Eq)]
+pub struct ReadFailed;
 
-// Where a reading stands: so many bytes are there, and so many interruptions may still come; or it is over.
-#[derive(Clone, Copy)]
-pub enum Standing {
-    Reading(usize, usize),
-    Over(Input),
-}
-
-// Where a reading stands after one read more.
-fn read_on(at: usize, tries: usize, got: Got) -> Standing
-    requires { FitsIn at 18446744073709551615 got }
+// Where a reading stands after one read more: so many bytes are there, and so many interruptions may still come; or it is over.
+#[tactic(auto, unfolding(crate::specs::Reading::read_on))]
+fn read_on(
+    at: usize,
+    tries: usize,
+    got: Result<usize, NoAnswer>,
+) -> ControlFlow<Result<usize, ReadFailed>, (usize, usize)>
+    requires { FitsIn at (2 ^ 64 - 1) got }
     ensures { result ≡ read_on at tries got }
 {
     match got {
-        Got::Bytes(n) => Standing::Reading(at + n, tries),
-        Got::End => Standing::Over(Input::Whole(at)),
-        Got::Interrupted => {
-            if tries == 0 {
-                return Standing::Over(Input::Failed);
-            }
-            Standing::Reading(at, tries - 1)
-        }
-        Got::Failed => Standing::Over(Input::Failed),
+        Ok(0) => ControlFlow::Break(Ok(at)),
+        Ok(n) => ControlFlow::Continue((at + n, tries)),
+        Err(NoAnswer::Interrupted) if tries > 0 => ControlFlow::Continue((at, tries - 1)),
+        Err(_) => ControlFlow::Break(Err(ReadFailed)),
     }
 }
 
-// Reads until the input ends, the buffer is full or a read fails. An interrupted read is tried again, at most 1,000 times in all.
-pub fn read_input<R: Read>(input: &mut R, buffer: &mut [u8]) -> Input
+// Reads until the input ends, the buffer is full or a read fails: so many bytes of the input stand at the front of the buffer, and it ended there or
+// filled the buffer. An interrupted read is tried again, at most 1,000 times in all.
+pub fn read_input<R: Read>(input: &mut R, buffer: &mut [u8]) -> Result<usize, ReadFailed>
     ensures read { ReadInto buffer.new result }
     ensures took { TookAll (R.remaining input.old) (R.remaining input.new) buffer.new result }
 {
     let mut at = 0usize;
     let mut tries = 1000usize;
     while at < buffer.len() {
-        let got = read_rest(input, buffer, at);
-        let standing = read_on(at, tries, got);
-        match standing {
-            Standing::Over(all) => {
-                return all;
-            }
-            Standing::Reading(bytes, left) => {
-                at = bytes;
-                tries = left;
-            }
+        match read_on(at, tries, read_rest(input, buffer, at)) {
+            ControlFlow::Break(answer) => return answer,
+            ControlFlow::Continue(so) => (at, tries) = so,
         }
     }
-    Input::Whole(at)
+    Ok(at)
 }

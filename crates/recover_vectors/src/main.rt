@@ -9,7 +9,6 @@
 ghost use Rattle.std.specs.Prelude.{◌≤◌};
 
 use binary32::hex::Bits;
-use recover_read::Input;
 use std::io::{Read, Write};
 
 // Says what is wrong; nothing can follow.
@@ -20,10 +19,9 @@ fn stops(rt: &impl Eprint, why: &str) -> bool {
 
 // How many bytes of the buffer were filled; where a read failed, none.
 fn filled<R: Read>(rt: &impl Eprint, source: &mut R, buffer: &mut [u8]) -> usize {
-    let input = recover_read::read_input(source, buffer);
-    match input {
-        Input::Whole(n) => n,
-        Input::Failed => {
+    match recover_read::read_input(source, buffer) {
+        Ok(n) => n,
+        Err(_) => {
             stops(rt, "standard input cannot be read");
             0
         }

@@ -6,7 +6,7 @@ ghost use Rattle.std.specs.Prelude.{◌≡◌};
 ghost use Rattle.refusal.specs.Refusal.{number_of};
 
 // Each case has its number beside it, and 01's word; 02 has no word for 8 and 9.
-#[derive(Clone, Copy)]
+#[derive(Clone, Copy, Debug, PartialEq, Eq)]
 pub enum Refusal {
     // 1, bent: a line is missing, out of order or ill-formed
     Malformed,
@@ -28,19 +28,28 @@ pub enum Refusal {
     PatchesClash,
 }
 
-// The number of a refusal, as 01's table and 02 have it.
+impl From<Refusal> for u8 {
+    // The number of a refusal, as 01's table and 02 have it.
+    ghost from_gives = { λ refusal n. n ≡ number_of refusal };
+
+    fn from(refusal: Refusal) -> u8 {
+        match refusal {
+            Refusal::Malformed => 1,
+            Refusal::OverLimit => 2,
+            Refusal::OutOfRange => 3,
+            Refusal::OffSheet => 4,
+            Refusal::UnknownCorner => 5,
+            Refusal::Duplicate => 6,
+            Refusal::BufferTooShort => 7,
+            Refusal::NoSharedCorner => 8,
+            Refusal::PatchesClash => 9,
+        }
+    }
+}
+
+// The number of a refusal.
 pub fn number(refusal: Refusal) -> u8
     ensures { result ≡ number_of refusal }
 {
-    match refusal {
-        Refusal::Malformed => 1,
-        Refusal::OverLimit => 2,
-        Refusal::OutOfRange => 3,
-        Refusal::OffSheet => 4,
-        Refusal::UnknownCorner => 5,
-        Refusal::Duplicate => 6,
-        Refusal::BufferTooShort => 7,
-        Refusal::NoSharedCorner => 8,
-        Refusal::PatchesClash => 9,
-    }
+    u8::from(refusal)
 }

@@ -1,4 +1,5 @@
 -- The window of a round: that it has all places that a round walks, and that a walk may jump over all places that are not in it. Assumes nothing.
+use Rattle.std.specs.Prelude.{Option, Some, None}
 use mathlib.Core.Path.{◌≡◌, refl, ap₂, ◌∙◌, subst}
 use mathlib.Core.Bool.{Bool, true, false, ◌&&◌}
 use mathlib.Core.List.{List, [], ◌∷◌, Memᴰ}
@@ -14,7 +15,6 @@ use Rattle.sheet.proofs.Laws.{on_i, on_j, on_both, line_i, line_j, eq_z_equal}
 use Rattle.labels.specs.Labelled.{labelled_places}
 use Rattle.labels.specs.Box.{Inside, IsBox, box_of}
 use Rattle.labels.specs.declared.Bounds.{Bounds}
-use Rattle.labels.specs.declared.LabelBox.{LabelBox}
 use Rattle.labels.proofs.Below.{no_both, both}
 use Rattle.labels.proofs.Labelled.{listed_cell}
 use Rattle.labels.proofs.Box.{box_is, box_of_framed}
@@ -53,7 +53,7 @@ between a b n q g h e = let t = both _ _ e in record { from = line_from a g n q 
 starts : (line past n q start : ℕ) → start ≡ line - past → n ≤ past → line ≤ q + n → start ≤ q
 starts line past n q start e h k = omega arith
 
-ends : (line past n q end : ℕ) → end ≡ min 128 (line + past + 1) → n ≤ past → q < 128 → q ≤ line + n → q < end
+ends : (line past n q end : ℕ) → end ≡ min (line + past + 1) 128 → n ≤ past → q < 128 → q ≤ line + n → q < end
 ends line past n q end e h l k = omega arith
 
 -- the two lines of a place
@@ -65,13 +65,10 @@ lines_of : (c : Cell) (p : ℕ) → OnSheet c → p ≡ place_of c → LinesOf c
 unfolding place_of
 lines_of c p on e = let i = (line_i c on).below in let j = (line_j c on).below in record { by_i = omega arith; by_j = omega arith }
 
-module _ (past : ℕ) (around : LabelBox) (w : Window) where
-  pub window_none : around ≡ LabelBox.Empty → w.end_i ≡ 0 → w.start_i ≡ 0 → w.start_j ≡ 0 → Windowed past around w
-  window_none e f g h = record { fits = record { start_i_in = omega arith; end_i_in = omega arith; start_j_in = omega arith }; covers = λ b d. absurd (let z : ◌≡◌ {A = ℕ} 0 1 = cc in omega arith) }
-
+module _ (past : ℕ) (around : Option Bounds) (w : Window) where
   -- its lines, by the places of the box's low and high ends
-  pub window_around : (b : Bounds) (low high : ℕ) → around ≡ LabelBox.Around b → BoundsOn b → low ≡ place_of (record { i = b.low_i; j = b.low_j }) → high ≡ place_of (record { i = b.high_i; j = b.high_j })
-      → w.start_i ≡ low / 128 - past → w.end_i ≡ min 128 (high / 128 + past + 1) → w.start_j ≡ low % 128 - past → w.end_j ≡ min 128 (high % 128 + past + 1)
+  pub window_around : (b : Bounds) (low high : ℕ) → around ≡ Some b → BoundsOn b → low ≡ place_of (record { i = b.low_i; j = b.low_j }) → high ≡ place_of (record { i = b.high_i; j = b.high_j })
+      → w.start_i ≡ low / 128 - past → w.end_i ≡ min (high / 128 + past + 1) 128 → w.start_j ≡ low % 128 - past → w.end_j ≡ min (high % 128 + past + 1) 128
       → Windowed past around w
   unfolding cell_of
   window_around b low high e on l h si ei sj ej =
@@ -110,10 +107,10 @@ module _ (past : ℕ) (around : LabelBox) (w : Window) where
       sj' : w.start_j ≡ line_of b.low_j - past
       sj' = rw (lines_of lowest low on.low_on l).by_j at sj
 
-      ei' : w.end_i ≡ min 128 (line_of b.high_i + past + 1)
+      ei' : w.end_i ≡ min (line_of b.high_i + past + 1) 128
       ei' = rw (lines_of highest high on.high_on h).by_i at ei
 
-      ej' : w.end_j ≡ min 128 (line_of b.high_j + past + 1)
+      ej' : w.end_j ≡ min (line_of b.high_j + past + 1) 128
       ej' = rw (lines_of highest high on.high_on h).by_j at ej
 
 -- ---- a walk over the sheet
@@ -164,9 +161,9 @@ pub told_far : (depth : ℕ) (sheet : List ℕ) (region : Region) (w : Window) (
 unfolding local_region
 told_far depth sheet region w p f c h out = region_is depth sheet region p h f ∙ go (box_of sheet) refl
   where
-    go : (box : LabelBox) → box_of sheet ≡ box → local_region depth (labelled_places sheet) box (cell_of p) ≡ false
-    go LabelBox.Empty e = refl
-    go (LabelBox.Around b) e =
+    go : (box : Option Bounds) → box_of sheet ≡ box → local_region depth (labelled_places sheet) box (cell_of p) ≡ false
+    go None e = refl
+    go (Some b) e =
         let inside : (q : ℕ) → Memᴰ q (labelled_places sheet) → Inside b (cell_of q) = λ q m. (subst (IsBox sheet) e (box_is sheet)).all_inside (cell_of q) (listed_cell sheet q m) in
         let at : (m n : ℕ) → m ≤ depth → n ≤ depth → near_i m b (cell_of p) ≡ true → near_j n b (cell_of p) ≡ true → ⊥ = λ m n k l s t. out (c.covers b (f.around_is ∙ e) m n p k l h s t) in
         rw (

@@ -5,10 +5,10 @@ use mathlib.Core.List.{List}
 use Prim.Native.Nat.{ℕ, ◌≤◌}
 use native.Mathlib.Omega.{arith}
 use lib.IntN.{ℤ, pos, ◌+ℤ◌, ◌-ℤ◌, nat_abs}
-use lib.Signed.{le_z, lt_z}
+use lib.Signed.{le_z}
 use mir.Syntax.{w32}
 use mir.Val.{SFits}
-use Rattle.sheet.proofs.Laws.{fits, abs_add, abs_sub, flip, lined}
+use Rattle.sheet.proofs.Laws.{fits, abs_add, abs_sub, lined}
 use Rattle.labels.specs.Box.{box_of}
 use Rattle.labels.proofs.Box.{box_of_framed}
 use Rattle.passes.specs.Fill.{from_to}
@@ -25,12 +25,8 @@ module _ (z : ℤ) (n : ℕ) (small : nat_abs z ≤ 64) (few : n ≤ 64) where
 
 -- ---- from one end to the other
 
-module _ (a b z : ℤ) where
-  pub from_below : lt_z z a ≡ true → false ≡ from_to a b z
-  from_below e = rw (flip z a, e)
-
-  pub from_on : lt_z z a ≡ false → le_z z b ≡ from_to a b z
-  from_on e = rw (flip z a, e)
+pub upto_high : (a b z : ℤ) → le_z a z ≡ true → le_z z b ≡ from_to a b z
+upto_high a b z e = rw e
 
 -- ---- the box of a sheet
 

@@ -1,5 +1,6 @@
 -- A round of fill or local, a place at a time, for every pass: some cells and one more, that a cell not yet reached keeps its label, and that looking at
 -- the label that a place has now is the same as listing the cells at the round's start. Assumes nothing.
+use Rattle.std.specs.Prelude.{Option, Some, None}
 use mathlib.Core.Path.{◌≡◌, refl, sym, ap, ◌∙◌, subst}
 use mathlib.Core.Bool.{Bool, true, false, not, ◌&&◌, cond}
 use mathlib.Core.List.{List}
@@ -10,7 +11,6 @@ use lib.ListN.{length, get_or}
 use Rattle.sheet.specs.Cells.{cell_of}
 use Rattle.sheet.specs.Words.{label_of, label_at}
 use Rattle.sheet.specs.declared.Cell.{Cell}
-use Rattle.sheet.specs.declared.Label.{Label}
 use Rattle.labels.specs.Labelled.{passing, names_corner, is_labelled}
 use Rattle.labels.proofs.Below.{no_both, both, passing_none, passing_hit, passing_miss}
 use Rattle.labels.proofs.Labelled.{label_of_place}
@@ -21,10 +21,10 @@ use Rattle.region.specs.Places.{place_visited}
 
 -- ---- the places that a round walks
 
-bare : (l : Label) → not (names_corner l) ≡ true → l ≡ Label.Unlabelled
+bare : (l : Option ℕ) → not (names_corner l) ≡ true → l ≡ None
 unfolding names_corner
-bare Label.Unlabelled f = refl
-bare (Label.Corner k) f = absurd (no_both false f refl)
+bare None f = refl
+bare (Some k) f = absurd (no_both false f refl)
 
 -- in the region, and unlabelled at the round's start
 unfoldable pub walked : (Cell → Bool) → List ℕ → ℕ → Bool
@@ -35,7 +35,7 @@ abbrev pub walked_to : {S : Type 0} → (Cell → S → S) → (S → List ℕ) 
 walked_to visit sheet region s n = walk visit (passing (walked region (sheet s)) n) s
 
 -- a place that a round walks is bare at the round's start
-walked_bare : (region : Cell → Bool) (sheet : List ℕ) (q : ℕ) → q < 16384 → walked region sheet q ≡ true → label_of (get_or sheet q 0) ≡ Label.Unlabelled
+walked_bare : (region : Cell → Bool) (sheet : List ℕ) (q : ℕ) → q < 16384 → walked region sheet q ≡ true → label_of (get_or sheet q 0) ≡ None
 unfolding walked
 walked_bare region sheet q h e =
     sym (label_of_place sheet q h) ∙ bare (label_at sheet (cell_of q)) (both (region (cell_of q)) (not (names_corner (label_at sheet (cell_of q)))) e).1
@@ -79,19 +79,19 @@ module _ (region : Cell → Bool) (before : List ℕ) (n : ℕ) (h : n < 16384) 
       }
 
   -- a place not yet reached is bare if it was
-  ahead_bare : {after : List ℕ} → Ahead before after n → walked region before n ≡ true → label_at after (cell_of n) ≡ Label.Unlabelled
+  ahead_bare : {after : List ℕ} → Ahead before after n → walked region before n ≡ true → label_at after (cell_of n) ≡ None
   ahead_bare {after} a e = label_of_place after n h ∙ a.same_label n (omega arith) h ∙ walked_bare region before n h e
 
   -- its present label says what its label at the round's start says
   ahead_present : {after : List ℕ} → Ahead before after n → (region (cell_of n) && not (names_corner (label_at after (cell_of n)))) ≡ walked region before n
   unfolding walked
   ahead_present {after} a =
-      ap (λ (l : Label). region (cell_of n) && not (names_corner l))
+      ap (λ (l : Option ℕ). region (cell_of n) && not (names_corner l))
       (label_of_place after n h ∙ a.same_label n (omega arith) h ∙ sym (label_of_place before n h))
 
 -- a pass whose visits of bare cells change no label elsewhere
 module _ {S : Type 0} (visit : Cell → S → S) (sheet : S → List ℕ)
-    (elsewhere : (n : ℕ) → n < 16384 → (s : S) → 16384 ≤ length (sheet s) → label_at (sheet s) (cell_of n) ≡ Label.Unlabelled
+    (elsewhere : (n : ℕ) → n < 16384 → (s : S) → 16384 ≤ length (sheet s) → label_at (sheet s) (cell_of n) ≡ None
     → Elsewhere (sheet s) (sheet (visit (cell_of n) s)) n)
     (region : Cell → Bool) (s : S) (long : 16384 ≤ length (sheet s)) where
   -- a place more

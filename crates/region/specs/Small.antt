@@ -1,7 +1,6 @@
 -- Bounds and boxes of cells of the sheet, as far as the machine's sums ask it. Definitions only.
-use Rattle.std.specs.Prelude.{◌≡◌, ◌≤◌, nat_abs}
+use Rattle.std.specs.Prelude.{◌≡◌, ◌≤◌, nat_abs, Option, Some}
 use Rattle.labels.specs.declared.Bounds.{Bounds}
-use Rattle.labels.specs.declared.LabelBox.{LabelBox}
 
 -- bounds of cells of the sheet: none of the four numbers has a magnitude above 64
 pub record SmallBounds (b : Bounds) : Type 0 where
@@ -11,5 +10,5 @@ pub record SmallBounds (b : Bounds) : Type 0 where
   pub high_j_small : nat_abs b.high_j ≤ 64
 
 -- a box that is empty or has such bounds
-pub record SmallBox (around : LabelBox) : Type 0 where
-  pub bounds_small : (b : Bounds) → around ≡ LabelBox.Around b → SmallBounds b
+pub record SmallBox (around : Option Bounds) : Type 0 where
+  pub bounds_small : (b : Bounds) → around ≡ Some b → SmallBounds b

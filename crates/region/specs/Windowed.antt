@@ -1,9 +1,8 @@
 -- The window of a round: the lines of the sheet about the label box, as numbers from 0 to 127, and the next place in it. Definitions only.
-use Rattle.std.specs.Prelude.{◌≡◌, true, ℕ, ◌/◌, ◌%◌, ◌<◌, ◌≤◌}
+use Rattle.std.specs.Prelude.{◌≡◌, true, ℕ, ◌/◌, ◌%◌, ◌<◌, ◌≤◌, Option, Some}
 use Rattle.sizes.specs.Sizes.{place_count}
 use Rattle.sheet.specs.Cells.{OnSheet, cell_of}
 use Rattle.labels.specs.declared.Bounds.{Bounds}
-use Rattle.labels.specs.declared.LabelBox.{LabelBox}
 use Rattle.passes.specs.Fill.{near_i, near_j}
 use Rattle.region.specs.declared.Window.{Window}
 
@@ -12,8 +11,8 @@ pub record BoundsOn (b : Bounds) : Type 0 where
   pub low_on : OnSheet (record { i = b.low_i; j = b.low_j })
   pub high_on : OnSheet (record { i = b.high_i; j = b.high_j })
 
-pub record BoxOn (around : LabelBox) : Type 0 where
-  pub bounds_on : (b : Bounds) → around ≡ LabelBox.Around b → BoundsOn b
+pub record BoxOn (around : Option Bounds) : Type 0 where
+  pub bounds_on : (b : Bounds) → around ≡ Some b → BoundsOn b
 
 -- a place in a window
 pub record InWindow (w : Window) (p : ℕ) : Type 0 where
@@ -29,9 +28,9 @@ pub record WindowFits (w : Window) : Type 0 where
   pub start_j_in : w.start_j < 128
 
 -- a window that has all places that are at most so many lines past the box, by i and by j
-pub record Windowed (past : ℕ) (around : LabelBox) (w : Window) : Type 0 where
+pub record Windowed (past : ℕ) (around : Option Bounds) (w : Window) : Type 0 where
   pub fits : WindowFits w
-  pub covers : (b : Bounds) → around ≡ LabelBox.Around b → (m n p : ℕ) → m ≤ past → n ≤ past → p < place_count → near_i m b (cell_of p) ≡ true → near_j n b (cell_of p) ≡ true → InWindow w p
+  pub covers : (b : Bounds) → around ≡ Some b → (m n p : ℕ) → m ≤ past → n ≤ past → p < place_count → near_i m b (cell_of p) ≡ true → near_j n b (cell_of p) ≡ true → InWindow w p
 
 -- the next place from one on that is in the window, or 16,384: none before it is
 pub record NextIn (w : Window) (from r : ℕ) : Type 0 where

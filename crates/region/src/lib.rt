@@ -3,30 +3,32 @@
 
 #![tactic(auto)]
 
-ghost use Rattle.std.specs.Prelude.{◌≡◌, ◌&&◌, ◌+◌, ◌-◌, ◌/◌, ◌%◌, min, ◌<◌, ◌≤◌, take};
+ghost use Rattle.std.specs.Prelude.{◌≡◌, not, ◌&&◌, ℕ, ◌/◌, ◌%◌, ◌<◌, ◌≤◌, pos, ◌+ℤ◌, ◌-ℤ◌, nat_abs, All};
 ghost use Rattle.sizes.specs.Sizes.{place_count};
-ghost use Rattle.passes.specs.Fill.{near_i, near_j};
-ghost use Rattle.passes.specs.Local.{past_i, past_j};
+ghost use Rattle.passes.specs.Fill.{from_to, near_i, near_j};
 ghost use Rattle.region.specs.Small.{SmallBounds};
-ghost use Rattle.region.specs.Region.{Listed, Lines, Telling, marked, region_of, region_at};
+ghost use Rattle.region.specs.Region.{Lines, Telling, region_of, region_at};
 ghost use Rattle.region.specs.Windowed.{BoxOn, WindowFits, Windowed, NextIn};
 
-use labels::{Bounds, LabelBox};
+use labels::Bounds;
 use sheet::Cell;
-use sizes::{CORNERS, PLACES};
+use sizes::PLACES;
+
+// Whether a number lies from one end to the other, or at most `past` beyond them.
+fn is_near(low: i32, high: i32, past: u32, z: i32) -> bool
+    requires { (nat_abs low ≤ 64) × (nat_abs high ≤ 64) × (past ≤ 64) }
+    ensures { result ≡ from_to (low -ℤ pos past) (high +ℤ pos past) z }
+{
+    let n = past as i32;
+    low - n <= z && z <= high + n
+}
 
 // Whether a cell lies inside the bounds by i, or at most `past` lines beyond them.
 pub fn is_near_i(b: Bounds, past: u32, c: Cell) -> bool
     requires { SmallBounds b × (past ≤ 64) }
     ensures { result ≡ near_i past b c }
 {
-    let n = past as i32;
-    let low = b.low_i - n;
-    let high = b.high_i + n;
-    if c.i < low {
-        return false;
-    }
-    c.i <= high
+    is_near(b.low_i, b.high_i, past, c.i)
 }
 
 // Whether a cell lies inside the bounds by j, or at most `past` lines beyond them.
@@ -34,120 +36,62 @@ pub fn is_near_j(b: Bounds, past: u32, c: Cell) -> bool
     requires { SmallBounds b × (past ≤ 64) }
     ensures { result ≡ near_j past b c }
 {
-    let n = past as i32;
-    let low = b.low_j - n;
-    let high = b.high_j + n;
-    if c.j < low {
-        return false;
+    is_near(b.low_j, b.high_j, past, c.j)
+}
+
+// The lines that some places have.
+fn lines_of<F: Fn(usize) -> usize>(places: &[u16], line: F) -> [bool; 128]
+    requires callable { F.IsAlwaysCallable line }
+    requires below { (p r : ℕ) → p < place_count → F.post line p r → r < 128 }
+    requires on_sheet { All (λ p. p < place_count) places.now }
+    ensures { (f : ℕ → ℕ) → ((p r : ℕ) → p < place_count → F.post line p r → r ≡ f p) → Lines f places.now result }
+{
+    let mut lines = [false; 128];
+    for place in places {
+        lines[line(usize::from(*place))] = true;
     }
-    c.j <= high
+    lines
 }
 
-// A place of a list as a number.
-fn wide(place: u16) -> usize
-    ensures { result ≡ place }
+// The rows of some places.
+pub fn rows_of(places: &[u16]) -> [bool; 128]
+    requires { All (λ p. p < place_count) places.now }
+    ensures { Lines (λ p. p % 128) places.now result }
 {
-    place as usize
+    lines_of(places, |place| place % 128)
 }
 
-// The rows of the first `count` places.
-pub fn rows_of(places: &[u16; CORNERS], count: usize) -> [u8; 128]
-    requires { Listed places.now count }
-    ensures { Lines (λ p. p % 128) (take count places.now) result }
+// The columns of some places.
+pub fn columns_of(places: &[u16]) -> [bool; 128]
+    requires { All (λ p. p < place_count) places.now }
+    ensures { Lines (λ p. p / 128) places.now result }
 {
-    let mut rows = [0u8; 128];
-    let mut k = 0usize;
-    while k < count {
-        rows[wide(places[k]) % 128] = 1;
-        k += 1;
-    }
-    rows
-}
-
-// The columns of the first `count` places.
-pub fn columns_of(places: &[u16; CORNERS], count: usize) -> [u8; 128]
-    requires { Listed places.now count }
-    ensures { Lines (λ p. p / 128) (take count places.now) result }
-{
-    let mut columns = [0u8; 128];
-    let mut k = 0usize;
-    while k < count {
-        columns[wide(places[k]) / 128] = 1;
-        k += 1;
-    }
-    columns
-}
-
-// Whether a cell is past the bounds by i, by at most `depth` lines.
-fn is_past_i(b: Bounds, depth: u32, c: Cell) -> bool
-    requires { SmallBounds b × (depth ≤ 64) }
-    ensures { result ≡ past_i depth b c }
-{
-    if !is_near_i(b, depth, c) {
-        return false;
-    }
-    !is_near_i(b, 0, c)
-}
-
-// Whether a cell is past the bounds by j, by at most `depth` lines.
-fn is_past_j(b: Bounds, depth: u32, c: Cell) -> bool
-    requires { SmallBounds b × (depth ≤ 64) }
-    ensures { result ≡ past_j depth b c }
-{
-    if !is_near_j(b, depth, c) {
-        return false;
-    }
-    !is_near_j(b, 0, c)
-}
-
-// Whether a cell lies in the box.
-fn is_inside(b: Bounds, c: Cell) -> bool
-    requires { SmallBounds b }
-    ensures { result ≡ (near_i 0 b c && near_j 0 b c) }
-{
-    if !is_near_i(b, 0, c) {
-        return false;
-    }
-    is_near_j(b, 0, c)
-}
-
-// Whether a line has a label.
-fn is_marked(lines: &[u8; 128], line: usize) -> bool
-    requires { line < 128 }
-    ensures { result ≡ marked lines.now line }
-{
-    lines[line] == 1
+    lines_of(places, |place| place / 128)
 }
 
 // Whether a place's cell is one of a round, if it is unlabelled: it lies in the box, in a strip of the depth on a row or a column that has a
 // label, or in a corner block.
+#[tactic(auto, unfolding(crate::specs::Region::region_around))]
 pub fn is_local_cell(
-    around: LabelBox,
-    rows: &[u8; 128],
-    columns: &[u8; 128],
+    around: Option<Bounds>,
+    rows: &[bool; 128],
+    columns: &[bool; 128],
     place: usize,
     depth: u32,
 ) -> bool
     requires { Telling (region_of around rows.now columns.now) place depth }
     ensures { result ≡ region_at depth (region_of around rows.now columns.now) place }
 {
-    let LabelBox::Around(b) = around else {
+    let Some(b) = around else {
         return false;
     };
     let c = sheet::cell_of(place);
-    if is_inside(b, c) {
+    if is_near_i(b, 0, c) && is_near_j(b, 0, c) {
         return true;
     }
-    if is_past_i(b, depth, c) {
-        if is_marked(rows, place % 128) {
-            return true;
-        }
-        return is_past_j(b, depth, c);
-    }
-    if is_past_j(b, depth, c) {
-        return is_marked(columns, place / 128);
-    }
-    false
+    let past_i = is_near_i(b, depth, c) && !is_near_i(b, 0, c);
+    let past_j = is_near_j(b, depth, c) && !is_near_j(b, 0, c);
+    past_i && (past_j || rows[place % 128]) || past_j && columns[place / 128]
 }
 
 // The lines of the sheet within which a round walks, as numbers from 0 to 127: from the start up to the end, which is not one of them.
@@ -159,34 +103,12 @@ pub struct Window {
     pub end_j: usize,
 }
 
-// A line less some lines, or the first.
-fn line_before(line: usize, past: usize) -> usize
-    ensures { result ≡ line - past }
-{
-    if line < past {
-        return 0;
-    }
-    line - past
-}
-
-// The end after a line and some lines more, or that of the sheet.
-fn line_after(line: usize, past: usize) -> usize
-    requires { (line < 128) × (past ≤ 64) }
-    ensures { result ≡ min 128 (line + past + 1) }
-{
-    let end = line + past + 1;
-    if end < 128 {
-        return end;
-    }
-    128
-}
-
 // The window about a box: all its lines, and so many past them, as far as the sheet goes. About an empty box there is none.
-pub fn window_of(around: LabelBox, past: u32) -> Window
+pub fn window_of(around: Option<Bounds>, past: u32) -> Window
     requires { BoxOn around × (past ≤ 64) }
     ensures { Windowed past around result }
 {
-    let LabelBox::Around(b) = around else {
+    let Some(b) = around else {
         return Window {
             start_i: 0,
             end_i: 0,
@@ -204,10 +126,10 @@ pub fn window_of(around: LabelBox, past: u32) -> Window
     });
     let n = past as usize;
     Window {
-        start_i: line_before(low / 128, n),
-        end_i: line_after(high / 128, n),
-        start_j: line_before(low % 128, n),
-        end_j: line_after(high % 128, n),
+        start_i: (low / 128).saturating_sub(n),
+        end_i: (high / 128 + n + 1).min(128),
+        start_j: (low % 128).saturating_sub(n),
+        end_j: (high % 128 + n + 1).min(128),
     }
 }
 

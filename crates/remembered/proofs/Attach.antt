@@ -1,4 +1,5 @@
 -- A corner attached at a cell: what is remembered of the cells that are not near it holds on the new sheet. Assumes nothing.
+use Rattle.std.specs.Prelude.{Option}
 use mathlib.Core.Path.{◌≡◌, refl, sym, ap, ◌∙◌, subst}
 use mathlib.Core.Bool.{Bool, true, false, not, cond, ◌||◌, ◌&&◌}
 use mathlib.Core.List.{List}
@@ -15,9 +16,7 @@ use Rattle.sheet.specs.Words.{label_of, attached, marks_cleared}
 use Rattle.sheet.specs.Corners.{Corners, seen_through, seen_of, squared_distance}
 use Rattle.sheet.specs.declared.Cell.{Cell}
 use Rattle.sheet.specs.declared.Corner.{Corner}
-use Rattle.sheet.specs.declared.Label.{Label}
 use Rattle.sheet.specs.declared.Position.{Position}
-use Rattle.sheet.specs.declared.Seen.{Seen}
 use Rattle.sheet.proofs.Laws.{place_in}
 use Rattle.sheet.proofs.Words.{attached_changes, cleared_changes}
 use Rattle.labels.specs.Labelled.{names_corner, is_labelled, labelled_places, label_count, Attaching, SameLabels}
@@ -89,7 +88,7 @@ module _ {sheet : List ℕ} {c : Cell} {k : ℕ} (a : Attaching sheet c k) where
       → pictured_at (seen_of corner (marks_cleared (attached sheet c k) c)) q ≡ pictured_at (seen_of corner sheet) q
   unfolding pictured_at seen_of
   clear_pictured corner q h d =
-      ap (λ (l : Label). pictured_as (seen_through corner l))
+      ap (λ (l : Option ℕ). pictured_as (seen_through corner l))
       (label_of_place (marks_cleared (attached sheet c k) c) q h ∙ clear_else q h d ∙ sym (label_of_place sheet q h))
 
 -- ---- the supports of a cell, and the fit on them
@@ -102,7 +101,7 @@ unfolding supports_of
 supports_under d sheet = under_take 16384 4 (by_reach d (labelled_places sheet)) (under_sorted 16384 d (labelled_places sheet) (all_under sheet))
 
 -- places that are nearer than another are other places
-alike_far : {seen seen' : Cell → Seen} (d : Cell) (r q : ℕ) → r < reach_of d q → ((p : ℕ) → p < 16384 → (p ≡ q → ⊥) → pictured_at seen' p ≡ pictured_at seen p) → {l : List ℕ} → Near d r l → Under 16384 l
+alike_far : {seen seen' : Cell → Option Corner} (d : Cell) (r q : ℕ) → r < reach_of d q → ((p : ℕ) → p < 16384 → (p ≡ q → ⊥) → pictured_at seen' p ≡ pictured_at seen p) → {l : List ℕ} → Near d r l → Under 16384 l
     → Alike seen seen' l
 alike_far d r q far same near_none none = alike_none
 alike_far d r q far same (near_more {p} h n) (one k u) =

@@ -1,8 +1,10 @@
 -- What comes to be known of a cell by its supports and the fit on them. Assumes nothing.
 use mathlib.Core.Path.{◌≡◌, refl, sym, subst}
 use mathlib.Core.Bool.{true, false}
-use mathlib.Core.List.{List}
-use Prim.Native.Nat.{ℕ}
+use mathlib.Core.List.{List, [], ◌∷◌}
+use Prim.Native.Nat.{ℕ, ◌≤◌}
+use Rattle.std.specs.List.{AllByRecursion as ByRecursion}
+use Rattle.std.proofs.lemmas.List.Elements.{recursion_from_All}
 use lib.Ieee.{Float, binary32, of_bits, lt}
 use Rattle.sheet.specs.Corners.{Corners}
 use Rattle.sheet.specs.declared.Cell.{Cell}
@@ -14,28 +16,32 @@ use Rattle.candidates.specs.Candidates.{last_distance}
 use Rattle.extension_common.specs.TryCell.{gathered, try_at}
 use Rattle.extension_common.specs.declared.TryCellResult.{TryCellResult}
 use Rattle.passes.specs.Grow.{tolerances_of}
-use Rattle.passes.specs.Local.{supports_of, cell_point, LocalFit, none, fitted, worst, recorded_all, local_search, gate_of}
+use Rattle.passes.specs.Local.{reach_of, supports_of, cell_point, LocalFit, none, fitted, worst, recorded_all, local_search, gate_of}
 use Rattle.passes.specs.declared.LargestResidual.{LargestResidual}
 use Rattle.supports.specs.Nearest.{places_of}
-use Rattle.supports.specs.declared.Supports.{Supports}
-use Rattle.supports.proofs.Nearest.{Reached}
+use Rattle.supports.specs.declared.Support.{Support}
+use Rattle.supports.proofs.Nearest.{nth, Reached}
 use Rattle.remembered.specs.Remembered.{fit_at, Near, near_none, near_more, SupportsWithin, IdleFit, no_fit, above, Mapped, within, KnownAt, idle, no_candidates, predicted, ambiguous}
 use Rattle.remembered.specs.declared.Known.{Known}
 use Rattle.remembered.proofs.Larger.{covers}
 
-module _ (cs : Corners) (set : Settings) (p : LocalExtensionParams) (l : LargestResidual) (sheet : List ℕ) (c : Cell) (near : Supports) (four : places_of near ≡ supports_of c sheet) (far : Reached c near) where
-  reached : SupportsWithin near.fourth.reach sheet c
-  reached = subst (Near c near.fourth.reach) four (near_more far.first_near (near_more far.second_near (near_more far.third_near (near_more far.fourth_near near_none))))
+near_all : (c : Cell) (r : ℕ) (l : List ℕ) → ByRecursion (λ (q : ℕ). reach_of c q ≤ r) l → Near c r l
+near_all c r [] h = near_none
+near_all c r (p ∷ ps) h = near_more h.0 (near_all c r ps h.1)
 
-  pub made_none : fit_at cs sheet c ≡ none → KnownAt cs set p l sheet c (Known.Idle near.fourth.reach)
+module _ (cs : Corners) (set : Settings) (p : LocalExtensionParams) (l : LargestResidual) (sheet : List ℕ) (c : Cell) (near : List Support) (four : places_of near ≡ supports_of c sheet) (far : Reached c near) where
+  reached : SupportsWithin (nth near 3).reach sheet c
+  reached = subst (Near c (nth near 3).reach) four (near_all c (nth near 3).reach (places_of near) (recursion_from_All (λ (q : ℕ). reach_of c q ≤ (nth near 3).reach) (places_of near) far))
+
+  pub made_none : fit_at cs sheet c ≡ none → KnownAt cs set p l sheet c (Known.Idle (nth near 3).reach)
   made_none e = idle reached (subst (IdleFit set p l) (sym e) no_fit)
 
   pub made_above : (h rs : List Float) → fit_at cs sheet c ≡ fitted h rs → lt (gate_of set p) (worst (of_bits binary32 0) rs) ≡ true
-      → KnownAt cs set p (recorded_all l rs) sheet c (Known.Idle near.fourth.reach)
+      → KnownAt cs set p (recorded_all l rs) sheet c (Known.Idle (nth near 3).reach)
   made_above h rs e k = idle reached (subst (IdleFit set p (recorded_all l rs)) (sym e) (above k (covers l rs)))
 
   pub made_within : (h rs : List Float) → fit_at cs sheet c ≡ fitted h rs → lt (gate_of set p) (worst (of_bits binary32 0) rs) ≡ false
-      → KnownAt cs set p (recorded_all l rs) sheet c (Known.Predicted near.fourth.reach (applied h (cell_point c)))
+      → KnownAt cs set p (recorded_all l rs) sheet c (Known.Predicted (nth near 3).reach (applied h (cell_point c)))
   made_within h rs e k =
       predicted reached (subst (λ (f : LocalFit). Mapped set p (recorded_all l rs) c f (applied h (cell_point c))) (sym e) (within k (covers l rs) refl))
 

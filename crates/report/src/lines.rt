@@ -20,14 +20,11 @@ fn pass_length(words: &[u32], k: usize) -> usize
     ensures { result ≡ length (pass_line (stats_at words.now k)) }
 {
     let mut line = [0u8; LINE_ROOM];
-    let kind = report_words::read::word_at(words, k, 0);
-    if kind == 0 {
-        return write_grow(report_words::like::grow_like(words, k), &mut line);
+    match report_words::read::word_at(words, k, 0) {
+        0 => write_grow(report_words::like::grow_like(words, k), &mut line),
+        1 => write_fill(report_words::like::fill_like(words, k), &mut line),
+        _ => write_local(report_words::like::local_like(words, k), &mut line),
     }
-    if kind == 1 {
-        return write_fill(report_words::like::fill_like(words, k), &mut line);
-    }
-    write_local(report_words::like::local_like(words, k), &mut line)
 }
 
 // The length of line k: what its writer writes.
@@ -50,16 +47,13 @@ pub fn text_short(passes: usize, words: &[u32], sheet: &[u16], room: usize) -> b
     requires { AllLent passes words.now sheet.now }
     ensures { result ≡ ltb room (length (text_from passes words.now sheet.now 0)) }
 {
-    let count = passes + LINES;
     let mut left = room;
-    let mut k = 0usize;
-    while k < count {
+    for k in 0..passes + LINES {
         let n = line_length(passes, words, sheet, k);
         if left < n {
             return true;
         }
         left -= n;
-        k += 1;
     }
     false
 }
@@ -69,14 +63,11 @@ fn write_pass(words: &[u32], k: usize, out: &mut [u8]) -> usize
     requires { PassAsked words.now k out.old }
     ensures { Wrote (pass_line (stats_at words.now k)) out.old out.new result }
 {
-    let kind = report_words::read::word_at(words, k, 0);
-    if kind == 0 {
-        return write_grow(report_words::read::grow_at(words, k), out);
+    match report_words::read::word_at(words, k, 0) {
+        0 => write_grow(report_words::read::grow_at(words, k), out),
+        1 => write_fill(report_words::read::fill_at(words, k), out),
+        _ => write_local(report_words::read::local_at(words, k), out),
     }
-    if kind == 1 {
-        return write_fill(report_words::read::fill_at(words, k), out);
-    }
-    write_local(report_words::read::local_at(words, k), out)
 }
 
 // Writes line k to the front of a part.
@@ -98,13 +89,9 @@ pub fn write_all(passes: usize, words: &[u32], sheet: &[u16], out: &mut [u8]) ->
     requires { AllAsked passes words.now sheet.now out.old }
     ensures { Wrote (text_from passes words.now sheet.now 0) out.old out.new result }
 {
-    let count = passes + LINES;
     let mut at = 0usize;
-    let mut k = 0usize;
-    while k < count {
-        let n = write_line(passes, words, sheet, k, &mut out[at..]);
-        at += n;
-        k += 1;
+    for k in 0..passes + LINES {
+        at += write_line(passes, words, sheet, k, &mut out[at..]);
     }
     at
 }
@@ -132,10 +119,7 @@ fn next_filled(passes: usize, words: &[u32], sheet: &[u16], k: usize) -> usize
         if n == 0 {
             return r;
         }
-        if last - r < n {
-            return last;
-        }
-        r += n;
+        r += n.min(last - r);
     }
     r
 }
@@ -166,8 +150,7 @@ pub fn write_some(
             return PieceEnd { at, next: k };
         }
         let filled = next_filled(passes, words, sheet, k);
-        let n = write_line(passes, words, sheet, filled, &mut out[at..]);
-        at += n;
+        at += write_line(passes, words, sheet, filled, &mut out[at..]);
         k = filled + 1;
     }
     PieceEnd { at, next: k }

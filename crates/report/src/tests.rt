@@ -10,23 +10,19 @@ use report_line::line_sizes::{LINE_ROOM, LINES};
 use sizes::{CORNERS, OUTCOME_WORDS, PASSES, PLACES};
 
 // 7: whether the words or the sheet are not all there.
+#[tactic(auto, unfolding(crate::specs::WriteResult::input_short))]
 fn input_short(corners: usize, passes: usize, words: &[u32], sheet: &[u16]) -> bool
     ensures { result ≡ input_short (text_lent corners passes words.now sheet.now) }
 {
-    if words.len() / OUTCOME_WORDS < passes {
-        return true;
-    }
-    sheet.len() < PLACES
+    words.len() / OUTCOME_WORDS < passes || sheet.len() < PLACES
 }
 
 // 2: whether there are over 16 outcomes or 1,024 corners.
+#[tactic(auto, unfolding(crate::specs::WriteResult::over_limit))]
 fn over_limit(corners: usize, passes: usize, words: &[u32], sheet: &[u16]) -> bool
     ensures { result ≡ over_limit (text_lent corners passes words.now sheet.now) }
 {
-    if PASSES < passes {
-        return true;
-    }
-    CORNERS < corners
+    PASSES < passes || CORNERS < corners
 }
 
 // 3: whether some outcome's words are not those that an outcome has.
@@ -34,14 +30,7 @@ fn is_wild(corners: usize, passes: usize, words: &[u32], sheet: &[u16]) -> bool
     requires { outcome_size * passes ≤ length words.now }
     ensures { result ≡ wild (text_lent corners passes words.now sheet.now) }
 {
-    let mut k = 0usize;
-    while k < passes {
-        if report_words::wild::wild_outcome(words, k) {
-            return true;
-        }
-        k += 1;
-    }
-    false
+    (0..passes).any(|k| report_words::wild::wild_outcome(words, k))
 }
 
 // 5 and 6: the corners that the sheet names.

@@ -1,6 +1,7 @@
 -- The lines of a result from their forms and the words that hold their numbers. Assumes nothing.
+use Rattle.std.specs.Prelude.{Some, None}
 use mathlib.Core.Path.{◌≡◌, refl, sym, ap, ◌∙◌}
-use mathlib.Core.Bool.{Bool, true, false, not, cond}
+use mathlib.Core.Bool.{Bool, true, false, not}
 use mathlib.Core.List.{List, [], ◌∷◌}
 use Prim.Native.Nat.{ℕ, suc, ◌+◌, ◌-◌, ◌≤◌, ◌<◌}
 use native.Mathlib.Omega.{arith}
@@ -15,7 +16,6 @@ use Rattle.binary32.specs.Ranges.{is_finite}
 use Rattle.labels.proofs.Below.{no_both}
 use Rattle.sheet.specs.Cells.{OnSheet, cell_of}
 use Rattle.sheet.specs.Words.{label_of, hole_of, ambiguous_of}
-use Rattle.sheet.specs.declared.Label.{Label}
 use Rattle.sheet.proofs.Laws.{sub_hi, line_i, line_j, read_back, cell_on_lem}
 use Rattle.line_form.specs.Forms.{bytes, Number, bits, whole, printed}
 use Rattle.sheet.specs.declared.Cell.{Cell}
@@ -26,7 +26,7 @@ use Rattle.passes.specs.declared.LocalStats.{LocalStats}
 use Rattle.passes.specs.declared.LargestResidual.{LargestResidual}
 use Rattle.passes.specs.declared.Unmatched.{Unmatched}
 use Rattle.report_line.specs.Result.{count, grow_form, fill_form, local_form, bare_local_form, four_counts, grow_line, fill_line, local_line_with, local_line, unmatched_line, cell_numbers, label_line, cell_line, hole_line, ambiguous_line, sheet_line, heading}
-use Rattle.report_line.specs.Written.{bare_local_text, full_local_text, BareAsked, FullAsked, LocalLineAsked, cell_text, hole_text, ambiguous_text, CellAsked, CornerAsked, PlaceAsked, LineAsked}
+use Rattle.report_line.specs.Written.{bare_local_text, full_local_text, BareAsked, FullAsked, LocalLineAsked, cell_text, CornerAsked, PlaceAsked, mark_line, TwoWholes, LineAsked}
 use Rattle.report_line.proofs.Short.{corner_small}
 use Rattle.line_form.specs.Written.{unheld_whole, unheld_number, unheld, form_text, Wrote}
 
@@ -137,13 +137,19 @@ module _ (c : Cell) (a b : ℕ) (ea : unheld_whole a ≡ c.i) (eb : unheld_whole
   unfolding form_text unheld unheld_number
   cell_form k d ed = ap (printed (bytes "(cell (# #) #)\n")) (cell_two (whole (unheld_whole d) ∷ []) (count k ∷ []) (rw ed))
 
-  pub hole_form : form_text (bytes "(hole (# #))\n") (a ∷ b ∷ []) ≡ hole_text c
-  unfolding form_text unheld unheld_number
-  hole_form = ap (printed (bytes "(hole (# #))\n")) (cell_two [] [] refl)
+  -- a form that takes two integers
+  pub mark_form : (form : List ℕ) → TwoWholes form → form_text form (a ∷ b ∷ []) ≡ printed form (cell_numbers c [])
+  unfolding form_text
+  mark_form form w = ap (printed form) (w.takes a b ∙ cell_two [] [] refl)
 
-  pub ambiguous_form : form_text (bytes "(ambiguous (# #))\n") (a ∷ b ∷ []) ≡ ambiguous_text c
-  unfolding form_text unheld unheld_number
-  ambiguous_form = ap (printed (bytes "(ambiguous (# #))\n")) (cell_two [] [] refl)
+-- the two forms of marks
+pub hole_form : TwoWholes (bytes "(hole (# #))\n")
+unfolding unheld unheld_number
+hole_form = record { takes = λ a b. refl }
+
+pub ambiguous_form : TwoWholes (bytes "(ambiguous (# #))\n")
+unfolding unheld unheld_number
+ambiguous_form = record { takes = λ a b. refl }
 
 pub heading_form : (words : List ℕ) → form_text (bytes "(result 1)\n") words ≡ heading
 unfolding form_text unheld printed
@@ -223,42 +229,35 @@ module _ (s : LocalStats) (out : List ℕ) where
 
 -- ---- the line of a place, by what the place holds
 
+-- the line of a mark that a place has
+pub mark_is : (marked : Bool) (form : List ℕ) (place : ℕ) (c : Cell) → c ≡ cell_of place → marked ≡ true → printed form (cell_numbers c []) ≡ mark_line marked form place
+mark_is marked form place c here e = rw (here, e) refl
+
+pub hole_is : (sheet : List ℕ) (place : ℕ) {r : Bool} → r ≡ hole_of (get_or sheet place 0) → mark_line r (bytes "(hole (# #))\n") place ≡ hole_line sheet place
+unfolding hole_line
+hole_is sheet place e = rw e refl
+
+pub ambiguous_is : (sheet : List ℕ) (place : ℕ) {r : Bool} → r ≡ ambiguous_of (get_or sheet place 0) → mark_line r (bytes "(ambiguous (# #))\n") place ≡ ambiguous_line sheet place
+unfolding ambiguous_line
+ambiguous_is sheet place e = rw e refl
+
+pub cell_on : (place : ℕ) (c : Cell) → c ≡ cell_of place → place < 16384 → OnSheet c
+cell_on place c here h = rw here (cell_on_lem place h)
+
 module _ (sheet : List ℕ) (place : ℕ) where
-  pub no_cell : label_of (get_or sheet place 0) ≡ Label.Unlabelled → cell_line sheet place ≡ []
+  pub no_cell : label_of (get_or sheet place 0) ≡ None → cell_line sheet place ≡ []
   unfolding cell_line
   no_cell e = rw e
 
-  pub no_hole : hole_of (get_or sheet place 0) ≡ false → hole_line sheet place ≡ []
-  unfolding hole_line
-  no_hole e = rw e
-
-  pub not_ambiguous : ambiguous_of (get_or sheet place 0) ≡ false → ambiguous_line sheet place ≡ []
-  unfolding ambiguous_line
-  not_ambiguous e = rw e
-
   module _ (c : Cell) (here : c ≡ cell_of place) where
-    pub cell_is : (k : ℕ) → label_of (get_or sheet place 0) ≡ Label.Corner k → cell_text c k ≡ cell_line sheet place
+    pub cell_is : (k : ℕ) → label_of (get_or sheet place 0) ≡ Some k → cell_text c k ≡ cell_line sheet place
     unfolding cell_line
-    cell_is k e = ap (λ (d : Cell). label_line d (Label.Corner k)) here ∙ ap (label_line (cell_of place)) (sym e)
-
-    pub hole_is : hole_of (get_or sheet place 0) ≡ true → hole_text c ≡ hole_line sheet place
-    unfolding hole_line
-    hole_is e = ap hole_text here ∙ ap (λ (t : Bool). cond t (hole_text (cell_of place)) []) (sym e)
-
-    pub ambiguous_is : ambiguous_of (get_or sheet place 0) ≡ true → ambiguous_text c ≡ ambiguous_line sheet place
-    unfolding ambiguous_line
-    ambiguous_is e = ap ambiguous_text here ∙ ap (λ (t : Bool). cond t (ambiguous_text (cell_of place)) []) (sym e)
-
-    on_sheet_holds : place < 16384 → OnSheet c
-    on_sheet_holds h = rw here (cell_on_lem place h)
+    cell_is k e = ap (λ (d : Cell). label_line d (Some k)) here ∙ ap (label_line (cell_of place)) (sym e)
 
     module _ (out : List ℕ) where
-      pub corner_asked : (k : ℕ) → label_of (get_or sheet place 0) ≡ Label.Corner k → PlaceAsked sheet place (cell_line sheet place) out → CornerAsked c k out
+      pub corner_asked : (k : ℕ) → label_of (get_or sheet place 0) ≡ Some k → PlaceAsked sheet place (cell_line sheet place) out → CornerAsked c k out
       corner_asked k e a =
-          record { on = on_sheet_holds a.on.below; small = corner_small (get_or sheet place 0) k e; room = same_room _ _ out (cell_is k e) a.room }
-
-      pub cell_asked : (line text : List ℕ) → text ≡ line → PlaceAsked sheet place line out → CellAsked c text out
-      cell_asked line text e a = record { on = on_sheet_holds a.on.below; room = same_room text line out e a.room }
+          record { on = cell_on place c here a.on.below; small = corner_small (get_or sheet place 0) k e; room = same_room _ _ out (cell_is k e) a.room }
 
 pub place_asked : (sheet : List ℕ) (k place : ℕ) (line text out : List ℕ) → place < 16384 → text ≡ line → LineAsked sheet k line out → PlaceAsked sheet place text out
 place_asked sheet k place line text out h e a =

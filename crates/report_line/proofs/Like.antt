@@ -2,18 +2,15 @@
 use mathlib.Core.Path.{◌≡◌, refl, sym, ap, ◌∙◌}
 use mathlib.Core.Bool.{Bool, true, false, cond}
 use mathlib.Core.List.{List, [], ◌∷◌, ◌++◌}
-use Prim.Native.Nat.{ℕ, zero, suc, ◌+◌, ◌*◌, ◌/◌, ◌^◌, ◌≤◌, ◌<◌}
-use native.Mathlib.Nat.{pow-suc}
+use Prim.Native.Nat.{ℕ, suc, ◌*◌, ◌/◌, ◌≤◌, ◌<◌}
 use native.Mathlib.Omega.{arith}
-use borrow.Author.Tests.{ltb-true, ltb-false}
-use lib.Dec.{ltb}
 use lib.Ieee.{Float, binary32, to_bits}
 use lib.ListN.{length, drop, length-append}
 use Rattle.binary32.specs.Ranges.{is_finite}
 use Rattle.binary32.proofs.Digits.{digits_length}
 use Rattle.line_form.specs.Integers.{decimal, integer_text}
 use Rattle.line_form.specs.Forms.{bytes, Number, bits, number_text, is_slot, first_text, printed}
-use Rattle.line_form.proofs.Decimal.{one_digit, more_digits, decimal_length}
+use Rattle.line_form.proofs.Decimal.{one_digit, more_digits}
 use Rattle.passes.specs.declared.Counts.{Counts}
 use Rattle.passes.specs.declared.GrowStats.{GrowStats}
 use Rattle.passes.specs.declared.FillStats.{FillStats}

@@ -1,4 +1,5 @@
 -- The lines of a result are short: none is longer than 127 bytes. Assumes nothing.
+use Rattle.std.specs.Prelude.{Option, Some, None}
 use mathlib.Core.Path.{◌≡◌, refl}
 use mathlib.Core.Bool.{Bool, true, false, cond}
 use mathlib.Core.List.{List, [], ◌∷◌}
@@ -11,7 +12,6 @@ use lib.Ieee.{Float, binary32, to_bits}
 use Rattle.sheet.specs.Cells.{OnSheet, cell_of}
 use Rattle.sheet.specs.Words.{label_of, label_of_number, hole_of, ambiguous_of}
 use Rattle.sheet.specs.declared.Cell.{Cell}
-use Rattle.sheet.specs.declared.Label.{Label}
 use Rattle.sheet.proofs.Laws.{cell_on_lem, line_i, line_j}
 use Rattle.line_form.specs.Forms.{bytes, Number, bits, printed}
 use Rattle.line_form.specs.Lengths.{slots}
@@ -86,19 +86,19 @@ local_short s h r u = omega (arith, length-append (local_line s) (unmatched_line
 -- ---- the sheet's lines
 
 -- a word names a corner below 16,384
-pub corner_small : (w k : ℕ) → label_of w ≡ Label.Corner k → k < 16384
+pub corner_small : (w k : ℕ) → label_of w ≡ Some k → k < 16384
 unfolding label_of label_of_number
 corner_small w k e = go (w % 16384) (omega arith) e
   where
-    go : (n : ℕ) → n < 16384 → label_of_number n ≡ Label.Corner k → k < 16384
+    go : (n : ℕ) → n < 16384 → label_of_number n ≡ Some k → k < 16384
     go zero l d = let z : ◌≡◌ {A = ℕ} 0 1 = cc in omega arith
     go (suc n) l d = let z : n ≡ k = cc in omega arith
 
 module _ (c : Cell) (on : OnSheet c) where
-  pub label_short : (l : Label) → ((k : ℕ) → l ≡ Label.Corner k → k < 16384) → length (label_line c l) ≤ 127
+  pub label_short : (l : Option ℕ) → ((k : ℕ) → l ≡ Some k → k < 16384) → length (label_line c l) ≤ 127
   unfolding slots
-  label_short Label.Unlabelled h = omega arith
-  label_short (Label.Corner k) h =
+  label_short None h = omega arith
+  label_short (Some k) h =
       let small = h k refl in
       let i = (line_i c on).small in
       let j = (line_j c on).small in

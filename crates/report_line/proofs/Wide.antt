@@ -1,10 +1,8 @@
 -- How long a printed line can be whose integers have at most ten digits, as those have that 32 bits hold. Assumes nothing.
-use mathlib.Core.Path.{◌≡◌}
 use mathlib.Core.Bool.{Bool, true, false, cond}
 use mathlib.Core.List.{List, [], ◌∷◌, ◌++◌}
 use Prim.Native.Nat.{ℕ, suc, ◌+◌, ◌*◌, ◌≤◌}
 use native.Mathlib.Omega.{arith}
-use lib.IntN.{pos}
 use lib.ListN.{length, drop, length-append}
 use Rattle.binary32.proofs.Digits.{digits_length}
 use Rattle.line_form.specs.Integers.{integer_text}

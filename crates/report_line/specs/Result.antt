@@ -1,12 +1,11 @@
 -- The text of a result (document 01, "Frame and result": `(result 1)`, "After the first line stand the pass lines as run. .. Then cells (cell,
 -- corner), holes, `(ambiguous (i j))`, each by i, then j."; document 02, 1/14: `(unmatched count)` behind local's line). Definitions only.
-use Rattle.std.specs.Prelude.{Bool, true, false, cond, List, [], ◌∷◌, ◌++◌, ℕ, zero, suc, ◌+◌, ◌-◌, pos, ltb, length, get_or}
+use Rattle.std.specs.Prelude.{Bool, true, false, cond, List, [], ◌∷◌, ◌++◌, ℕ, zero, suc, ◌+◌, ◌-◌, pos, ltb, length, get_or, Option, Some, None}
 use Rattle.std.specs.Float.{binary32}
 use Rattle.std.specs.Float.Ieee.{to_bits}
 use Rattle.sheet.specs.Cells.{cell_of}
 use Rattle.sheet.specs.Words.{label_of, hole_of, ambiguous_of}
 use Rattle.sheet.specs.declared.Cell.{Cell}
-use Rattle.sheet.specs.declared.Label.{Label}
 use Rattle.line_form.specs.Forms.{bytes, Number, bits, whole, printed}
 use Rattle.passes.specs.declared.Counts.{Counts}
 use Rattle.passes.specs.declared.GrowStats.{GrowStats}
@@ -83,9 +82,9 @@ pass_lines (s ∷ ss) = pass_line s ++ pass_lines ss
 abbrev pub cell_numbers : Cell → List Number → List Number
 cell_numbers c rest = whole c.i ∷ whole c.j ∷ rest
 
-abbrev pub label_line : Cell → Label → List ℕ
-label_line c Label.Unlabelled = []
-label_line c (Label.Corner k) = printed (bytes "(cell (# #) #)\n") (cell_numbers c (count k ∷ []))
+abbrev pub label_line : Cell → Option ℕ → List ℕ
+label_line c None = []
+label_line c (Some k) = printed (bytes "(cell (# #) #)\n") (cell_numbers c (count k ∷ []))
 
 unfoldable pub cell_line : List ℕ → ℕ → List ℕ
 cell_line sheet p = label_line (cell_of p) (label_of (get_or sheet p 0))

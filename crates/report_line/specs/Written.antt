@@ -1,11 +1,11 @@
 -- What the line writers ask: numbers that a line of a result can have, and room for the line. What they leave is line_form's `Wrote`: the line at the
 -- front of the part, and the rest untouched. Definitions only.
-use Rattle.std.specs.Prelude.{◌≡◌, true, List, [], ℕ, ◌≤◌, ◌<◌, length, Float}
+use Rattle.std.specs.Prelude.{◌≡◌, Bool, true, cond, List, [], ◌∷◌, ℕ, ◌≤◌, ◌<◌, length, Float, Some}
 use Rattle.binary32.specs.Ranges.{is_finite}
-use Rattle.sheet.specs.Cells.{OnSheet}
+use Rattle.sheet.specs.Cells.{OnSheet, cell_of}
 use Rattle.sheet.specs.declared.Cell.{Cell}
-use Rattle.sheet.specs.declared.Label.{Label}
-use Rattle.line_form.specs.Forms.{bytes, printed}
+use Rattle.line_form.specs.Forms.{whole, printed}
+use Rattle.line_form.specs.Written.{unheld_whole, unheld}
 use Rattle.passes.specs.declared.Counts.{Counts}
 use Rattle.passes.specs.declared.GrowStats.{GrowStats}
 use Rattle.passes.specs.declared.FillStats.{FillStats}
@@ -76,19 +76,8 @@ pub record LocalAsked (s : LocalStats) (out : List ℕ) : Type 0 where
 
 -- ---- the sheet's lines
 
--- a cell on the sheet, and a line of it that has room
-pub record CellAsked (c : Cell) (line out : List ℕ) : Type 0 where
-  pub on : OnSheet c
-  pub room : length line ≤ length out
-
-abbrev pub hole_text : Cell → List ℕ
-hole_text c = printed (bytes "(hole (# #))\n") (cell_numbers c [])
-
-abbrev pub ambiguous_text : Cell → List ℕ
-ambiguous_text c = printed (bytes "(ambiguous (# #))\n") (cell_numbers c [])
-
 abbrev pub cell_text : Cell → ℕ → List ℕ
-cell_text c k = label_line c (Label.Corner k)
+cell_text c k = label_line c (Some k)
 
 -- a corner that a word can name
 pub record CornerAsked (c : Cell) (k : ℕ) (out : List ℕ) : Type 0 where
@@ -100,6 +89,20 @@ pub record CornerAsked (c : Cell) (k : ℕ) (out : List ℕ) : Type 0 where
 pub record OnPlaces (sheet : List ℕ) (place : ℕ) : Type 0 where
   pub there : place_count ≤ length sheet
   pub below : place < place_count
+
+-- the line of a place's mark, by its form; nothing where it has none
+abbrev pub mark_line : Bool → List ℕ → ℕ → List ℕ
+mark_line marked form p = cond marked (printed form (cell_numbers (cell_of p) [])) []
+
+-- a form that takes two integers
+pub record TwoWholes (form : List ℕ) : Type 0 where
+  pub takes : (a b : ℕ) → unheld form (a ∷ b ∷ []) ≡ whole (unheld_whole a) ∷ whole (unheld_whole b) ∷ []
+
+-- a place of the sheet, a form for its mark, and room for the line
+pub record MarkAsked (marked : Bool) (form : List ℕ) (place : ℕ) (out : List ℕ) : Type 0 where
+  pub below : place < place_count
+  pub two : TwoWholes form
+  pub room : length (mark_line marked form place) ≤ length out
 
 -- a line of the sheet: of cells, holes or ambiguous cells
 pub record OnLines (sheet : List ℕ) (k : ℕ) : Type 0 where

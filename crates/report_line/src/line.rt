@@ -4,13 +4,13 @@ ghost use Rattle.std.specs.Prelude.{◌≡◌, ◌≤◌, pos, nat_abs, length};
 ghost use Rattle.line_form.specs.Written.{unheld_whole, Wrote};
 ghost use Rattle.report_line.specs.Sizes.{line_room};
 ghost use Rattle.report_line.specs.Refused.{refused_text};
-ghost use Rattle.report_line.specs.Result.{heading, cell_line, hole_line, ambiguous_line, sheet_line};
-ghost use Rattle.report_line.specs.Written.{largest_held, CellAsked, CornerAsked, hole_text, ambiguous_text, cell_text, PlaceAsked, LineAsked};
+ghost use Rattle.report_line.specs.Result.{heading, cell_line, sheet_line};
+ghost use Rattle.report_line.specs.Written.{largest_held, CornerAsked, cell_text, PlaceAsked, mark_line, MarkAsked, LineAsked};
 
 use super::line_sizes::FIRST_AMBIGUOUS;
 use line_form::write::write_form;
 use refusal::Refusal;
-use sheet::{Cell, Label};
+use sheet::Cell;
 use sizes::PLACES;
 
 // A count as a form takes it: 1,000,000 more, so that 32 bits hold it.
@@ -58,56 +58,28 @@ fn write_cell(c: Cell, corner: usize, out: &mut [u8]) -> usize
     write_form(b"(cell (# #) #)\n", &words, out)
 }
 
-// A hole line.
-fn write_hole(c: Cell, out: &mut [u8]) -> usize
-    requires { CellAsked c (hole_text c) out.old }
-    ensures { Wrote (hole_text c) out.old out.new result }
-{
-    let words = [held_number(c.i), held_number(c.j)];
-    write_form(b"(hole (# #))\n", &words, out)
-}
-
-// An ambiguous line.
-fn write_ambiguous(c: Cell, out: &mut [u8]) -> usize
-    requires { CellAsked c (ambiguous_text c) out.old }
-    ensures { Wrote (ambiguous_text c) out.old out.new result }
-{
-    let words = [held_number(c.i), held_number(c.j)];
-    write_form(b"(ambiguous (# #))\n", &words, out)
-}
-
 // The cell line of a place; nothing where it has none.
 fn write_cell_line(sheet: &[u16], place: usize, out: &mut [u8]) -> usize
     requires { PlaceAsked sheet.now place (cell_line sheet.now place) out.old }
     ensures { Wrote (cell_line sheet.now place) out.old out.new result }
 {
-    let label = sheet::label_of(sheet[place]);
-    match label {
-        Label::Unlabelled => 0,
-        Label::Corner(k) => write_cell(sheet::cell_of(place), k, out),
+    match sheet::label_of(sheet[place]) {
+        None => 0,
+        Some(k) => write_cell(sheet::cell_of(place), k, out),
     }
 }
 
-// The hole line of a place; nothing where it has none.
-fn write_hole_line(sheet: &[u16], place: usize, out: &mut [u8]) -> usize
-    requires { PlaceAsked sheet.now place (hole_line sheet.now place) out.old }
-    ensures { Wrote (hole_line sheet.now place) out.old out.new result }
+// The line of a place's mark, by its form; nothing where it has none.
+fn write_mark_line(marked: bool, form: &[u8], place: usize, out: &mut [u8]) -> usize
+    requires { MarkAsked marked form.now place out.old }
+    ensures { Wrote (mark_line marked form.now place) out.old out.new result }
 {
-    if !sheet::is_hole(sheet[place]) {
+    if !marked {
         return 0;
     }
-    write_hole(sheet::cell_of(place), out)
-}
-
-// The ambiguous line of a place; nothing where it has none.
-fn write_ambiguous_line(sheet: &[u16], place: usize, out: &mut [u8]) -> usize
-    requires { PlaceAsked sheet.now place (ambiguous_line sheet.now place) out.old }
-    ensures { Wrote (ambiguous_line sheet.now place) out.old out.new result }
-{
-    if !sheet::is_ambiguous(sheet[place]) {
-        return 0;
-    }
-    write_ambiguous(sheet::cell_of(place), out)
+    let c = sheet::cell_of(place);
+    let words = [held_number(c.i), held_number(c.j)];
+    write_form(form, &words, out)
 }
 
 // A line of the sheet: of cells first, then holes, then ambiguous cells.
@@ -119,7 +91,14 @@ pub fn write_sheet_line(sheet: &[u16], k: usize, out: &mut [u8]) -> usize
         return write_cell_line(sheet, k, out);
     }
     if k < FIRST_AMBIGUOUS {
-        return write_hole_line(sheet, k - PLACES, out);
+        let place = k - PLACES;
+        return write_mark_line(sheet::is_hole(sheet[place]), b"(hole (# #))\n", place, out);
     }
-    write_ambiguous_line(sheet, k - FIRST_AMBIGUOUS, out)
+    let place = k - FIRST_AMBIGUOUS;
+    write_mark_line(
+        sheet::is_ambiguous(sheet[place]),
+        b"(ambiguous (# #))\n",
+        place,
+        out,
+    )
 }

@@ -24,7 +24,7 @@ use Rattle.passes.specs.declared.Unmatched.{Unmatched}
 use Rattle.passes.specs.Run.{PassStats, grow_stats, fill_stats, local_stats}
 use Rattle.arguments.proofs.Chains.{or_false_both}
 use Rattle.report_line.specs.Result.{pass_line, pass_line_at}
-use Rattle.report_line.specs.Like.{Like, ResidualLike, UnmatchedLike}
+use Rattle.report_line.specs.Like.{ResidualLike}
 use Rattle.sheet.specs.Words.{bit_of}
 use Rattle.sizes.specs.Sizes.{outcome_size}
 use Rattle.report_words.specs.Outcomes.{residual_words, unmatched_words, outcome_words, word_at, yes_at, residual_at, unmatched_at, largest_count, largest_unmatched, stats_at, stats_from, wild_counts, wild_residual, wild_unmatched, wild_outcome}
@@ -183,12 +183,6 @@ finite_pattern b h = go (dec_le 0x7f80_0000 (b % 0x8000_0000))
     go (no f) = omega arith
 
 module _ (words : List ℕ) (k : ℕ) where
-  pub residual_none : yes_at words k 6 ≡ false → LargestResidual.Nothing ≡ residual_at words k
-  residual_none e = rw e
-
-  pub residual_some : yes_at words k 6 ≡ true → LargestResidual.Residual (of_bits binary32 (word_at words k 7)) ≡ residual_at words k
-  residual_some e = rw e
-
   -- a residual that passes the check is no NaN
   pub residual_plain : Tame words k → yes_at words k 6 ≡ true → T (not (nan_bits binary32 (word_at words k 7)))
   residual_plain w e =
@@ -218,26 +212,10 @@ residual_finite words k w x e = go (eqb (word_at words k 6) 0) refl e
 
 -- ---- a finite residual for a residual, and none for none
 
-pub like_none : (words : List ℕ) (k : ℕ) → yes_at words k 6 ≡ false → ResidualLike (residual_at words k) LargestResidual.Nothing
-like_none words k e = rw e tt
-
 pub like_some : (words : List ℕ) (k : ℕ) (x : Float) → is_finite x ≡ true → yes_at words k 6 ≡ true → ResidualLike (residual_at words k) (LargestResidual.Residual x)
 like_some words k x f e = rw e f
 
--- ---- a count for a count, and none for none
-
-module _ (words : List ℕ) (k : ℕ) where
-  pub unmatched_none : yes_at words k 9 ≡ false → Unmatched.NoShades ≡ unmatched_at words k
-  unmatched_none e = rw e
-
-  pub unmatched_some : yes_at words k 9 ≡ true → (n : ℕ) → n ≡ word_at words k 10 → Unmatched.Count n ≡ unmatched_at words k
-  unmatched_some e n h = rw (e, h)
-
-  pub unmatched_like_none : yes_at words k 9 ≡ false → UnmatchedLike (unmatched_at words k) Unmatched.NoShades
-  unmatched_like_none e = rw e tt
-
-  pub unmatched_like_some : yes_at words k 9 ≡ true → (n : ℕ) → Like (word_at words k 10) n → UnmatchedLike (unmatched_at words k) (Unmatched.Count n)
-  unmatched_like_some e n l = rw e l
+-- ---- unmatched
 
 -- unmatched of an outcome that passes the check
 pub unmatched_few : (words : List ℕ) (k : ℕ) → Tame words k → (n : ℕ) → unmatched_at words k ≡ Unmatched.Count n → n ≤ largest_unmatched

@@ -6,19 +6,15 @@ ghost use Rattle.sizes.specs.Sizes.{outcome_size};
 ghost use Rattle.report_words.specs.Outcomes.{word_at, counts_at, residual_at, unmatched_at};
 ghost use Rattle.report_words.specs.Asked.{HasOutcome, grow_at, fill_at, local_at};
 
+use super::read::{word_at, yes_at};
 use passes::{Counts, FillStats, GrowStats, LargestResidual, LocalStats, Unmatched};
-use sizes::OUTCOME_WORDS;
 
 // Word m of outcome k.
 fn like_at(words: &[u32], k: usize, m: usize) -> usize
     requires { outcome_size * k + m < length words.now }
     ensures { Like (word_at words.now k m) result }
 {
-    let n = words[OUTCOME_WORDS * k + m];
-    if 4293967295 < n {
-        return 4293967295;
-    }
-    n as usize
+    word_at(words, k, m).min(4293967295)
 }
 
 // The four counts of an outcome.
@@ -39,10 +35,11 @@ fn residual_like(words: &[u32], k: usize) -> LargestResidual
     requires { HasOutcome words.now k }
     ensures { ResidualLike (residual_at words.now k) result }
 {
-    if !super::read::yes_at(words, k, 6) {
-        return LargestResidual::Nothing;
+    if yes_at(words, k, 6) {
+        LargestResidual::Residual(0.0)
+    } else {
+        LargestResidual::Nothing
     }
-    LargestResidual::Residual(0.0)
 }
 
 // How many corners were passed over, in an outcome.
@@ -50,10 +47,11 @@ fn unmatched_like(words: &[u32], k: usize) -> Unmatched
     requires { HasOutcome words.now k }
     ensures { UnmatchedLike (unmatched_at words.now k) result }
 {
-    if !super::read::yes_at(words, k, 9) {
-        return Unmatched::NoShades;
+    if yes_at(words, k, 9) {
+        Unmatched::Count(like_at(words, k, 10))
+    } else {
+        Unmatched::NoShades
     }
-    Unmatched::Count(like_at(words, k, 10))
 }
 
 // An outcome of grow.
@@ -62,7 +60,7 @@ pub fn grow_like(words: &[u32], k: usize) -> GrowStats
     ensures { GrowLike (grow_at words.now k) result }
 {
     let counts = counts_like(words, k);
-    let rim = super::read::yes_at(words, k, 8);
+    let rim = yes_at(words, k, 8);
     GrowStats { counts, rim }
 }
 
@@ -73,7 +71,7 @@ pub fn fill_like(words: &[u32], k: usize) -> FillStats
 {
     let added = like_at(words, k, 1);
     let iterations = like_at(words, k, 5);
-    let rim = super::read::yes_at(words, k, 8);
+    let rim = yes_at(words, k, 8);
     FillStats {
         added,
         iterations,
@@ -89,7 +87,7 @@ pub fn local_like(words: &[u32], k: usize) -> LocalStats
     let counts = counts_like(words, k);
     let iterations = like_at(words, k, 5);
     let residual = residual_like(words, k);
-    let rim = super::read::yes_at(words, k, 8);
+    let rim = yes_at(words, k, 8);
     let unmatched = unmatched_like(words, k);
     LocalStats {
         counts,

@@ -15,10 +15,7 @@ use sizes::OUTCOME_WORDS;
 fn bit(b: bool) -> u32
     ensures { result ≡ bit_of b }
 {
-    if b {
-        return 1;
-    }
-    0
+    u32::from(b)
 }
 
 // Whether there is a residual, as a word.
@@ -35,10 +32,7 @@ fn residual_flag(x: LargestResidual) -> u32
 fn float_bits(x: f32) -> u32
     ensures { result ≡ to_bits binary32 x }
 {
-    if x != x {
-        return 0x7fc0_0000;
-    }
-    f32::to_bits(x)
+    if x.is_nan() { 0x7fc0_0000 } else { x.to_bits() }
 }
 
 // The bits of a residual, and 0 where there is none.
@@ -77,14 +71,12 @@ fn put_words(words: &mut [u32], k: usize, outcome: [u32; OUTCOME_WORDS])
     requires { HasOutcome words.old k }
     ensures { words.new ≡ put words.old k outcome }
 {
-    let mut m = 0usize;
-    while m < OUTCOME_WORDS {
-        words[OUTCOME_WORDS * k + m] = outcome[m];
-        m += 1;
-    }
+    let first = OUTCOME_WORDS * k;
+    words[first..first + OUTCOME_WORDS].copy_from_slice(&outcome);
 }
 
 // The eleven words of an outcome of grow.
+#[tactic(auto, unfolding(crate::specs::Outcomes::outcome_words))]
 fn grow_words(s: GrowStats) -> [u32; OUTCOME_WORDS]
     requires { CountsFit s.counts }
     ensures { result ≡ outcome_words (grow_stats s) }
@@ -106,6 +98,7 @@ fn grow_words(s: GrowStats) -> [u32; OUTCOME_WORDS]
 }
 
 // The eleven words of an outcome of fill.
+#[tactic(auto, unfolding(crate::specs::Outcomes::outcome_words))]
 fn fill_words(s: FillStats) -> [u32; OUTCOME_WORDS]
     requires { FillFits s }
     ensures { result ≡ outcome_words (fill_stats s) }
@@ -126,6 +119,7 @@ fn fill_words(s: FillStats) -> [u32; OUTCOME_WORDS]
 }
 
 // The eleven words of an outcome of local.
+#[tactic(auto, unfolding(crate::specs::Outcomes::outcome_words))]
 fn local_words(s: LocalStats) -> [u32; OUTCOME_WORDS]
     requires { LocalFits s }
     ensures { result ≡ outcome_words (local_stats s) }

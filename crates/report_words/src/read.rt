@@ -66,12 +66,11 @@ fn residual_at(words: &[u32], k: usize) -> LargestResidual
     requires { TameOutcome words.now k }
     ensures { result ≡ residual_at words.now k }
 {
-    if !yes_at(words, k, 6) {
-        return LargestResidual::Nothing;
+    if yes_at(words, k, 6) {
+        LargestResidual::Residual(f32::from_bits(words[OUTCOME_WORDS * k + 7]))
+    } else {
+        LargestResidual::Nothing
     }
-    let bits = words[OUTCOME_WORDS * k + 7];
-    let x = f32::from_bits(bits);
-    LargestResidual::Residual(x)
 }
 
 // How many corners were passed over, in an outcome of local.
@@ -79,10 +78,11 @@ fn unmatched_at(words: &[u32], k: usize) -> Unmatched
     requires { HasOutcome words.now k }
     ensures { result ≡ unmatched_at words.now k }
 {
-    if !yes_at(words, k, 9) {
-        return Unmatched::NoShades;
+    if yes_at(words, k, 9) {
+        Unmatched::Count(word_at(words, k, 10))
+    } else {
+        Unmatched::NoShades
     }
-    Unmatched::Count(word_at(words, k, 10))
 }
 
 // An outcome of local that passes the check.

@@ -1,4 +1,5 @@
 -- Where the runs of two frames agree, their results differ only in the corner numbers of their cell lines. Assumes nothing.
+use Rattle.std.specs.Prelude.{Option, Some, None}
 use mathlib.Core.Path.{◌≡◌, refl, ap, ◌∙◌}
 use mathlib.Core.List.{List, [], ◌∷◌, ◌++◌}
 use Prim.Native.Nat.{ℕ, zero, suc, ◌+◌, ◌<◌}
@@ -8,7 +9,6 @@ use Rattle.sheet.specs.Corners.{CornerLists}
 use Rattle.sheet.specs.Cells.{cell_of}
 use Rattle.sheet.specs.Words.{label_of}
 use Rattle.sheet.specs.Pairing.{Shuffle, paired_label, PairedSheets}
-use Rattle.sheet.specs.declared.Label.{Label}
 use Rattle.passes.specs.Outcome.{Outcome}
 use Rattle.passes.specs.Run.{Call, PassStats, step, sheet_after, run, sheet_of as sheetAfterAll}
 use Rattle.agreement.specs.Agreement.{both_refused, both_done, Agree, agree_end, agree_call}
@@ -40,15 +40,15 @@ module _ {n : ℕ} (s : Shuffle n) (l l' : CornerLists) where
 
 -- ---- labels
 
-paired_anew : {n : ℕ} (s : Shuffle n) (to : ℕ → ℕ) → ((k : ℕ) → s.to k ≡ to k) → (l : Label) → paired_label s l ≡ numbered_anew to l
+paired_anew : {n : ℕ} (s : Shuffle n) (to : ℕ → ℕ) → ((k : ℕ) → s.to k ≡ to k) → (l : Option ℕ) → paired_label s l ≡ numbered_anew to l
 unfolding paired_label numbered_anew
-paired_anew s to e Label.Unlabelled = refl
-paired_anew s to e (Label.Corner k) = ap Label.Corner (e k)
+paired_anew s to e None = refl
+paired_anew s to e (Some k) = ap Some (e k)
 
-kept : (l : Label) → numbered_anew (λ k. k) l ≡ l
+kept : (l : Option ℕ) → numbered_anew (λ k. k) l ≡ l
 unfolding numbered_anew
-kept Label.Unlabelled = refl
-kept (Label.Corner k) = refl
+kept None = refl
+kept (Some k) = refl
 
 -- ---- lines
 

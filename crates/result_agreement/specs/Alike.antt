@@ -1,10 +1,9 @@
 -- The results of two frames that differ only in the order of their corner lines (document 01, "Lists of passes, for demand 3"): "So, where the
 -- runs agree, the two frames' results differ only in the corner numbers of their cell lines." Definitions only.
-use Rattle.std.specs.Prelude.{◌≡◌, List, ◌++◌, ℕ, ◌<◌, get_or}
+use Rattle.std.specs.Prelude.{◌≡◌, List, ◌++◌, ℕ, ◌<◌, get_or, Option, Some, None}
 use Rattle.sizes.specs.Sizes.{place_count}
 use Rattle.sheet.specs.Cells.{cell_of}
 use Rattle.sheet.specs.Words.{label_of}
-use Rattle.sheet.specs.declared.Label.{Label}
 use Rattle.passes.specs.Run.{PassStats, run}
 use Rattle.agreement.specs.Agreement.{FactorsAbove}
 use Rattle.frame.specs.Frame.{Frame, read_frame, accepted}
@@ -17,9 +16,9 @@ use Rattle.frame_answer.specs.Answer.{frame_stats, frame_sheet, answer_text}
 -- ---- a result with other corner numbers
 
 -- the same label, its corner numbered anew
-unfoldable pub numbered_anew : (ℕ → ℕ) → Label → Label
-numbered_anew to Label.Unlabelled = Label.Unlabelled
-numbered_anew to (Label.Corner k) = Label.Corner (to k)
+unfoldable pub numbered_anew : (ℕ → ℕ) → Option ℕ → Option ℕ
+numbered_anew to None = None
+numbered_anew to (Some k) = Some (to k)
 
 -- the cell line of a place, its corner numbered anew
 unfoldable pub cell_line_anew : (ℕ → ℕ) → List ℕ → ℕ → List ℕ

@@ -8,7 +8,6 @@ ghost use Rattle.std.specs.Prelude.{◌≡◌, ◌≤◌, length, IfOk};
 
 use binary32::hex::FloatRead;
 use binary32::root::Rooted;
-use recover_read::Input;
 use refusal::Refusal;
 use std::io;
 use std::io::Read;
@@ -98,9 +97,8 @@ fn read_once<R: Read>(rt: &impl Print, source: &mut R, line: Line) -> io::Result
     ensures { IfOk result (λ t. t.line.len ≤ 9) }
 {
     let mut buffer = large_buffer();
-    let input = recover_read::read_input(source, &mut buffer);
-    match input {
-        Input::Whole(n) => {
+    match recover_read::read_input(source, &mut buffer) {
+        Ok(n) => {
             if n == 0 {
                 return Ok(Turn { line, more: false });
             }
@@ -110,7 +108,7 @@ fn read_once<R: Read>(rt: &impl Print, source: &mut R, line: Line) -> io::Result
                 more: true,
             })
         }
-        Input::Failed => Err(io::Error::other("standard input cannot be read")),
+        Err(_) => Err(io::Error::other("standard input cannot be read")),
     }
 }
 

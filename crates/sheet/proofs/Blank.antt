@@ -1,8 +1,9 @@
 -- Places that hold nothing, one after the other: many of them are found by one word that joins all their words, and a walk over the sheet passes
--- over them. Assumes nothing.
+-- over them, to those that hold something. Assumes nothing.
+use Rattle.std.specs.Prelude.{None}
 use mathlib.Core.Path.{◌≡◌, refl, sym, ap, ◌∙◌, subst}
-use mathlib.Core.Bool.{Bool, true, false, ◌&&◌}
-use mathlib.Core.List.{List}
+use mathlib.Core.Bool.{Bool, true, false, cond, ◌&&◌}
+use mathlib.Core.List.{List, [], ◌∷◌}
 use Prim.Native.Nat.{ℕ, zero, suc, ◌+◌, ◌-◌, ◌%◌, ◌≤◌, ◌<◌}
 use native.Mathlib.Decide.{dec_lt}
 use native.Mathlib.Numerals.{add-one}
@@ -10,10 +11,17 @@ use native.Mathlib.Omega.{arith}
 use borrow.Author.Tests.{eqb-true, eqb-false, eq-eqb, ne_eqb}
 use lib.Bits.{bit_or, and_le_l, and_le_r, or_add_and}
 use lib.Dec.{eqb}
-use lib.ListN.{get_or}
+use lib.ListN.{length, get_or, take, drop, length-drop}
+use lib.Seq.{take-length}
+use Rattle.std.specs.List.{fold, slice_range}
+use Rattle.std.specs.Iterator.{YieldsFirst}
+use Rattle.std.specs.Iterator.Runs.{YieldsInOrder}
+use Rattle.std.proofs.iter.runs.Sources.{from_front, as_is}
+use Rattle.std.proofs.lemmas.List.{get_or-take, get_or-drop, length-take}
+use Rattle.std.proofs.lemmas.List.Sums.{fold_more}
 use Rattle.sheet.specs.Words.{label_of}
-use Rattle.sheet.specs.Blank.{all_blank, BlankRun, BlankPlaces, Passed, NextWritten}
-use Rattle.sheet.specs.declared.Label.{Label}
+use Rattle.sheet.specs.Blank.{all_blank, BlankRun, BlankPlaces, Passed, NextWritten, written_in, written_from, written_rest}
+use Rattle.sheet.specs.declared.walk.Written.{Written}
 use Rattle.sheet.proofs.Words.{label_none}
 
 -- ---- two words joined: 0 where both are
@@ -51,10 +59,11 @@ module _ (sheet : List ℕ) (at : ℕ) where
   unfolding all_blank
   joined_more i all e = or_blank all (get_or sheet (at + i) 0) ∙ rw (e, add-one)
 
-  -- one more place holds nothing
-  pub blank_more : (n : ℕ) → all_blank sheet at n ≡ true → get_or sheet (at + n) 0 ≡ 0 → all_blank sheet at (n + 1) ≡ true
+  -- places of which each holds nothing
+  pub blank_each : (n : ℕ) → ((i : ℕ) → i < n → get_or sheet (at + i) 0 ≡ 0) → all_blank sheet at n ≡ true
   unfolding all_blank
-  blank_more n s e = rw (add-one, s, e)
+  blank_each zero h = refl
+  blank_each (suc n) h = rw (blank_each n (λ i l. h i (omega arith)), h n (omega arith))
 
   -- each of them holds nothing
   pub blank_place : (n : ℕ) → all_blank sheet at n ≡ true → (i : ℕ) → i < n → get_or sheet (at + i) 0 ≡ 0
@@ -66,11 +75,31 @@ module _ (sheet : List ℕ) (at : ℕ) where
       go f l (yes y) = f y
       go f l (no m) = let d : i ≡ n = omega (arith, m) in rw d l
 
+  -- places of a part of the sheet
+  part_word : (end n : ℕ) → n < end - at → get_or (slice_range sheet at end) (0 + n) 0 ≡ get_or sheet (at + n) 0
+  part_word end n h =
+      let z : 0 + n ≡ n = omega arith in
+      ap (λ (k : ℕ). get_or (slice_range sheet at end) k 0) z ∙ get_or-take (end - at) (drop at sheet) n 0 h ∙ get_or-drop at sheet n 0
+
+  part_blank : (end n : ℕ) → n ≤ end - at → all_blank (slice_range sheet at end) 0 n ≡ all_blank sheet at n
+  unfolding all_blank
+  part_blank end zero h = refl
+  part_blank end (suc n) h = rw (part_blank end n (omega arith), part_word end n h)
+
+  part_length : (end : ℕ) → end ≤ length sheet → length (slice_range sheet at end) ≡ end - at
+  part_length end h = rw (length-take, length-drop) (omega arith)
+
   -- a row, or 16 places of it; or a run of places up to the next 16
-  pub blank_block : (n : ℕ) → 0 < n → n ≤ 128 - at % 128 → all_blank sheet at n ≡ true → BlankPlaces sheet at n
+  blank_block : (n : ℕ) → 0 < n → n ≤ 128 - at % 128 → all_blank sheet at n ≡ true → BlankPlaces sheet at n
   blank_block n some u e = record { upto = u; blank = e; some = λ z. some }
 
-  pub blank_rest : (n : ℕ) → BlankRun sheet at (16 - at % 16) n → BlankPlaces sheet at n
+  pub block_found : (n : ℕ) → 0 < n → n ≤ 128 - at % 128 → at + n ≤ length sheet
+      → all_blank (slice_range sheet at (at + n)) 0 (length (slice_range sheet at (at + n))) ≡ true → BlankPlaces sheet at n
+  block_found n some u h e =
+      let l : length (slice_range sheet at (at + n)) ≡ n = part_length (at + n) h ∙ omega arith in
+      blank_block n some u (sym (part_blank (at + n) n (omega arith)) ∙ ap (all_blank (slice_range sheet at (at + n)) 0) (sym l) ∙ e)
+
+  blank_rest : (n : ℕ) → BlankRun sheet at (16 - at % 16) n → BlankPlaces sheet at n
   blank_rest n b =
       let u = b.upto in
       record { upto = omega arith; blank = b.blank; some = λ e. go e (dec_lt 0 n) }
@@ -78,6 +107,39 @@ module _ (sheet : List ℕ) (at : ℕ) where
       go : get_or sheet at 0 ≡ 0 → Dec (0 < n) → 0 < n
       go e (yes y) = y
       go e (no m) = absurd (b.stops (omega (arith, m)) (let d : at + n ≡ at = omega (arith, m) in rw d e))
+
+  pub run_found : (n : ℕ) → at + 16 - at % 16 ≤ length sheet → BlankRun (slice_range sheet at (at + 16 - at % 16)) 0 (length (slice_range sheet at (at + 16 - at % 16))) n
+      → BlankPlaces sheet at n
+  run_found n h b =
+      let end : ℕ = at + 16 - at % 16 in
+      let l : length (slice_range sheet at end) ≡ 16 - at % 16 = part_length end h ∙ omega arith in
+      let u : n ≤ 16 - at % 16 = subst (λ (m : ℕ). n ≤ m) l b.upto in
+      blank_rest n
+      (record {
+        upto = u;
+        blank = sym (part_blank end n (omega arith)) ∙ b.blank;
+        stops = λ g e. b.stops (rw l g) (part_word end n (omega arith) ∙ e);
+      })
+
+-- ---- the words of places, joined
+
+module _ (places : List ℕ) where
+  joined : ℕ → ℕ
+  joined n = fold bit_or 0 (take n places)
+
+  joined_some : (n : ℕ) → n ≤ length places → eqb (joined n) 0 ≡ all_blank places 0 n
+  unfolding joined
+  joined_some zero h = none_blank places 0
+  joined_some (suc n) h =
+      let z : n ≡ 0 + n = omega arith in
+      subst (λ (m : ℕ). eqb (joined m) 0 ≡ all_blank places 0 m) (add-one n)
+      (ap (λ (w : ℕ). eqb w 0) (fold_more bit_or 0 places n 0 h)
+      ∙ ap (λ (k : ℕ). eqb (bit_or (joined n) (get_or places k 0)) 0) z
+      ∙ joined_more places 0 n (joined n) (joined_some n (omega arith)))
+
+  pub joined_all : eqb (fold bit_or 0 places) 0 ≡ all_blank places 0 (length places)
+  unfolding joined
+  joined_all = ap (λ (l : List ℕ). eqb (fold bit_or 0 l) 0) (sym (take-length places)) ∙ joined_some (length places) (omega arith)
 
 -- ---- the places passed
 
@@ -122,6 +184,60 @@ module _ (P Q : ℕ → Type 0) (step : (p : ℕ) → p < 16384 → Q p → P p 
 pub skips : (sheet : List ℕ) (P : ℕ → Type 0) → ((p : ℕ) → p < 16384 → get_or sheet p 0 ≡ 0 → P p → P (p + 1)) → {from r : ℕ} → NextWritten sheet from r → P from → P r
 skips sheet P step w = carried P (λ p. get_or sheet p 0 ≡ 0) step w.passed.start w.passed.upto w.passed.blank
 
+-- ---- the places that hold something, one after the other
+
+module _ (sheet : List ℕ) where
+  -- a place is passed over, or comes first
+  written_over : (p : ℕ) → p < 16384 → get_or sheet p 0 ≡ 0 → written_from sheet (p + 1) ≡ written_from sheet p
+  unfolding written_in
+  written_over p h e =
+      let n : 16384 - p ≡ suc (16384 - (p + 1)) = omega arith in
+      rw (n, e, add-one) refl
+
+  written_first : (p : ℕ) → p < 16384 → (get_or sheet p 0 ≡ 0 → ⊥) → written_from sheet p ≡ (p, get_or sheet p 0) ∷ written_from sheet (p + 1)
+  unfolding written_in
+  written_first p h e =
+      let n : 16384 - p ≡ suc (16384 - (p + 1)) = omega arith in
+      rw (n, ne_eqb (get_or sheet p 0) 0 e, add-one) refl
+
+  module _ {from r : ℕ} (w : NextWritten sheet from r) where
+    written_same : written_from sheet r ≡ written_from sheet from
+    written_same = skips sheet (λ p. written_from sheet p ≡ written_from sheet from) (λ p h e s. written_over p h e ∙ s) w refl
+
+    pub written_next : r < 16384 → written_from sheet from ≡ (r, get_or sheet r 0) ∷ written_from sheet (r + 1)
+    written_next h = sym written_same ∙ written_first r h (w.written h)
+
+    pub written_none : 16384 ≤ r → written_from sheet from ≡ []
+    unfolding written_in
+    written_none h = let n : 16384 - r ≡ 0 = omega arith in sym written_same ∙ ap (written_in sheet r) n
+
+  -- at most as many as there are places, and each below 16,384
+  pub written_few : (from n : ℕ) → length (written_in sheet from n) ≤ n
+  unfolding written_in
+  written_few from zero = omega arith
+  written_few from (suc n) = go (eqb (get_or sheet from 0) 0) (written_in sheet (suc from) n) (written_few (suc from) n)
+    where
+      go : (t : Bool) (l : List (ℕ × ℕ)) → length l ≤ n → length (cond t l ((from, get_or sheet from 0) ∷ l)) ≤ suc n
+      go true l h = omega arith
+      go false l h = omega arith
+
+  written_below : (from n : ℕ) (e : ℕ × ℕ) (l : List (ℕ × ℕ)) → written_in sheet from n ≡ e ∷ l → e.0 < from + n
+  unfolding written_in
+  written_below from zero e l d = absurd (let z : ◌≡◌ {A = ℕ} 0 1 = cc in omega arith)
+  written_below from (suc n) e l d = go (eqb (get_or sheet from 0) 0) d (written_below (suc from) n e l)
+    where
+      go : (t : Bool) → cond t (written_in sheet (suc from) n) ((from, get_or sheet from 0) ∷ written_in sheet (suc from) n) ≡ e ∷ l
+          → (written_in sheet (suc from) n ≡ e ∷ l → e.0 < suc from + n) → e.0 < from + suc n
+      go true k h = let b = h k in omega arith
+      go false k h = let b : from ≡ e.0 = cc in omega arith
+
+pub written_runs : YieldsInOrder (YieldsFirst written_rest) written_rest
+written_runs p s = as_is p (written_rest p.from) (from_front (YieldsFirst written_rest) (λ e. e) written_rest (λ w v h. ap length h.0) (λ w e v h. h) p s)
+
+pub rest_below : (w : Written) (e : ℕ × ℕ) (l : List (ℕ × ℕ)) → written_rest w ≡ e ∷ l → e.0 < 16384
+unfolding written_rest
+rest_below w e l d = omega (arith, written_below w.sheet.now w.from (16384 - w.from) e l d)
+
 -- such a place has no label
-pub blank_label : {w : ℕ} → w ≡ 0 → label_of w ≡ Label.Unlabelled
+pub blank_label : {w : ℕ} → w ≡ 0 → label_of w ≡ None
 blank_label e = ap label_of e ∙ sym (label_none 0 (omega arith))

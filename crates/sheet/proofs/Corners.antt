@@ -1,5 +1,6 @@
 -- Laws of the corners seen through the sheet: what is seen by a cell's label, and that every change of the sheet that names
 -- a given corner leaves the corners and the sheet together. Assumes nothing.
+use Rattle.std.specs.Prelude.{Some, None}
 use mathlib.Core.Path.{◌≡◌, refl, sym, ap, ◌∙◌}
 use mathlib.Core.List.{List}
 use Prim.Native.Nat.{ℕ, ◌+◌, ◌<◌, ◌≤◌}
@@ -14,16 +15,14 @@ use Rattle.sheet.specs.Corners.{CornerLists, corner_of, corner_in, seen_through,
 use Rattle.sheet.proofs.Laws.{place_in}
 use Rattle.sheet.proofs.Words.{label_on, labelled_on_lem, Changed, attached_changes, cleared_changes}
 use Rattle.sheet.specs.declared.Cell.{Cell}
-use Rattle.sheet.specs.declared.Label.{Label}
 use Rattle.sheet.specs.declared.Corner.{Corner}
-use Rattle.sheet.specs.declared.Seen.{Seen}
 
 -- what is seen, by the cell's label
-pub seen_none : (corner : ℕ → Corner) (sheet : List ℕ) (c : Cell) → label_at sheet c ≡ Label.Unlabelled → seen_of corner sheet c ≡ Seen.Nothing
+pub seen_none : (corner : ℕ → Corner) (sheet : List ℕ) (c : Cell) → label_at sheet c ≡ None → seen_of corner sheet c ≡ None
 unfolding seen_of seen_through
 seen_none corner sheet c e = rw e
 
-pub seen_some : (corner : ℕ → Corner) (sheet : List ℕ) (c : Cell) (k : ℕ) → label_at sheet c ≡ Label.Corner k → seen_of corner sheet c ≡ Seen.At (corner k)
+pub seen_some : (corner : ℕ → Corner) (sheet : List ℕ) (c : Cell) (k : ℕ) → label_at sheet c ≡ Some k → seen_of corner sheet c ≡ Some (corner k)
 unfolding seen_of seen_through
 seen_some corner sheet c k e = rw e
 
@@ -41,20 +40,20 @@ held_corner held k h = rw (lt-ltb k 1024 h) refl
 
 module _ {n : ℕ} {sheet : List ℕ} (given : Given n sheet) where
   -- a cell's corner is given
-  pub label_known : (c : Cell) (k : ℕ) → label_at sheet c ≡ Label.Corner k → k < n
+  pub label_known : (c : Cell) (k : ℕ) → label_at sheet c ≡ Some k → k < n
   label_known c k e =
       let on = labelled_on_lem sheet c k e in
       given.known (place_of c) k (place_in c on) (sym (label_on sheet c on) ∙ e)
 
   -- a change at a cell to a corner that is given, or to none
-  pub given_changed : {after : List ℕ} {c : Cell} {content : Content} → Changed sheet after c content → ((k : ℕ) → content.label ≡ Label.Corner k → k < n) → Given n after
+  pub given_changed : {after : List ℕ} {c : Cell} {content : Content} → Changed sheet after c content → ((k : ℕ) → content.label ≡ Some k → k < n) → Given n after
   given_changed {after} {c} {content} ch h =
       record {
         long = rw ch.same_length given.long;
         known = λ p k l e. go p k l e (ℕ_discrete p (place_of c));
       }
     where
-      go : (p k : ℕ) → p < 16384 → label_of (get_or after p 0) ≡ Label.Corner k → Dec (p ≡ place_of c) → k < n
+      go : (p k : ℕ) → p < 16384 → label_of (get_or after p 0) ≡ Some k → Dec (p ≡ place_of c) → k < n
       go p k l e (yes f) = h k (sym ch.label_word ∙ ap (λ (q : ℕ). label_of (get_or after q 0)) (sym f) ∙ e)
       go p k l e (no f) = given.known p k l (ap label_of (sym (ch.other_word p f)) ∙ e)
 

@@ -117,10 +117,6 @@ unlined r h = go (ltb r 64) refl
           line = rw (sub_hi r 64 k) (omega arith);
         }
 
--- z + 64, as the machine has it
-pub line_read : (z : ℤ) → Line z → to_z w32 (of_z w32 (to_z w32 (of_z w32 z) +ℤ pos 64)) ≡ pos (line_of z)
-line_read z s = sum_read z (pos 64) (omega arith) ∙ s.up
-
 -- ---- cells on the sheet
 
 pub on_i : (c : Cell) → OnSheet c → T (in_range c.i)
@@ -273,36 +269,3 @@ unfolding place_of
 place_rises c d g h =
     by_lines (line_of c.i) (line_of c.j) (line_of d.i) (line_of d.j) (line_j c g).below (line_j d h).below
     ∙ ap₂ ◌||◌ (line_lt c.i d.i (on_i c g) (on_i d h)) (ap₂ ◌&&◌ (line_eq c.i d.i (on_i c g) (on_i d h)) (line_lt c.j d.j (on_j c g) (on_j d h)))
-
--- ---- the test of being on the sheet, by its four comparisons
-
-pub out_lo : (z : ℤ) → lt_z z (negsuc 63) ≡ true → in_range z ≡ false
-out_lo z e = rw (flip z (negsuc 63), e)
-
-pub out_hi : (z : ℤ) → lt_z z (negsuc 63) ≡ false → lt_z (pos 63) z ≡ true → in_range z ≡ false
-out_hi z e f = rw (flip z (negsuc 63), flip (pos 63) z, e, f)
-
-pub within : (z : ℤ) → lt_z z (negsuc 63) ≡ false → lt_z (pos 63) z ≡ false → in_range z ≡ true
-within z e f = rw (flip z (negsuc 63), flip (pos 63) z, e, f)
-
-pub off_i : (c : Cell) → in_range c.i ≡ false → false ≡ on_sheet c
-unfolding on_sheet
-off_i c e = rw e
-
-pub off_j : (c : Cell) → in_range c.i ≡ true → in_range c.j ≡ false → false ≡ on_sheet c
-unfolding on_sheet
-off_j c e f = rw (e, f)
-
-pub on_all : (c : Cell) → in_range c.i ≡ true → in_range c.j ≡ true → true ≡ on_sheet c
-unfolding on_sheet
-on_all c e f = rw (e, f)
-
--- ---- a number without its sign
-
-pub size_below : (z : ℤ) → lt_z z (pos 0) ≡ true → pos 0 -ℤ z ≡ pos (nat_abs z)
-size_below (pos n) e = absurd (omega (arith, ltb-true n 0 e))
-size_below (negsuc n) e = ap pos (omega arith)
-
-pub size_above : (z : ℤ) → lt_z z (pos 0) ≡ false → z ≡ pos (nat_abs z)
-size_above (pos n) e = refl
-size_above (negsuc n) e = absurd (true≢false e)

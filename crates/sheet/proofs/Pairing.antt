@@ -1,5 +1,6 @@
 -- Laws of two frames with paired corners: the same is seen through paired sheets; every change of both sheets at one cell,
 -- with paired corners, leaves them paired; a cell holds a corner exactly if it holds the pair. Assumes nothing.
+use Rattle.std.specs.Prelude.{Option, Some, None}
 use mathlib.Core.Path.{◌≡◌, refl, sym, ap, ◌∙◌, subst}
 use mathlib.Core.Bool.{Bool, true, false, cond}
 use mathlib.Core.List.{List}
@@ -15,10 +16,8 @@ use Rattle.sheet.proofs.Laws.{place_in}
 use Rattle.sheet.proofs.Words.{Changed, attached_changes, hole_changes, ambiguous_changes, cleared_changes, no_corner_lem, empty_word}
 use Rattle.sheet.proofs.Corners.{label_known}
 use Rattle.sheet.specs.declared.Cell.{Cell}
-use Rattle.sheet.specs.declared.Label.{Label}
-use Rattle.sheet.specs.declared.Seen.{Seen}
 
-corner_number_lem : (j k : ℕ) → Label.Corner j ≡ Label.Corner k → j ≡ k
+corner_number_lem : (j k : ℕ) → Some j ≡ Some k → j ≡ k
 corner_number_lem j k e = cc
 
 -- ---- a pairing of numbers
@@ -29,10 +28,10 @@ module _ {n : ℕ} (s : Shuffle n) where
   to_one j k hj hk e = sym (s.from_to_holds j hj) ∙ ap s.from e ∙ s.from_to_holds k hk
 
   -- a paired label that names a corner is the pair of one that does
-  named : (l : Label) (k : ℕ) (P : Type 0) → paired_label s l ≡ Label.Corner k → ((j : ℕ) → l ≡ Label.Corner j → s.to j ≡ k → P) → P
+  named : (l : Option ℕ) (k : ℕ) (P : Type 0) → paired_label s l ≡ Some k → ((j : ℕ) → l ≡ Some j → s.to j ≡ k → P) → P
   unfolding paired_label
-  named Label.Unlabelled k P e f = absurd (no_corner_lem k e)
-  named (Label.Corner j) k P e f = f j refl (corner_number_lem (s.to j) k e)
+  named None k P e f = absurd (no_corner_lem k e)
+  named (Some j) k P e f = f j refl (corner_number_lem (s.to j) k e)
 
 -- ---- cells of paired sheets
 
@@ -48,7 +47,7 @@ module _ {n : ℕ} {s : Shuffle n} {sheet sheet' : List ℕ} (paired : PairedShe
 
   pub paired_label_lem : (c : Cell) → label_at sheet' c ≡ paired_label s (label_at sheet c)
   unfolding label_at paired_label
-  paired_label_lem = by_cell label_of Label.Unlabelled (paired_label s) refl paired.labels
+  paired_label_lem = by_cell label_of None (paired_label s) refl paired.labels
 
   pub paired_hole : (c : Cell) → hole_at sheet' c ≡ hole_at sheet c
   unfolding hole_at
@@ -59,14 +58,14 @@ module _ {n : ℕ} {s : Shuffle n} {sheet sheet' : List ℕ} (paired : PairedShe
   paired_ambiguous = by_cell ambiguous_of false (λ b. b) refl paired.ambiguous
 
   -- a cell of the first holds a corner exactly if that cell of the second holds the pair
-  pub pair_there : (c : Cell) (k : ℕ) → label_at sheet c ≡ Label.Corner k → label_at sheet' c ≡ Label.Corner (s.to k)
+  pub pair_there : (c : Cell) (k : ℕ) → label_at sheet c ≡ Some k → label_at sheet' c ≡ Some (s.to k)
   unfolding paired_label
   pair_there c k e = paired_label_lem c ∙ ap (paired_label s) e
 
-  pub pair_here : (c : Cell) (k : ℕ) → ((j : ℕ) → label_at sheet c ≡ Label.Corner j → j < n) → k < n → label_at sheet' c ≡ Label.Corner (s.to k) → label_at sheet c ≡ Label.Corner k
+  pub pair_here : (c : Cell) (k : ℕ) → ((j : ℕ) → label_at sheet c ≡ Some j → j < n) → k < n → label_at sheet' c ≡ Some (s.to k) → label_at sheet c ≡ Some k
   pair_here c k known h e =
       named s (label_at sheet c) (s.to k) _ (sym (paired_label_lem c) ∙ e)
-      (λ j f g. f ∙ ap Label.Corner (to_one s j k (known j f) h g))
+      (λ j f g. f ∙ ap Some (to_one s j k (known j f) h g))
 
   -- ---- the changes
 
@@ -113,10 +112,10 @@ paired_empty s = record { same_length = refl; labels = λ p h. rw (empty_word p)
 
 module _ {l l' : CornerLists} {sheet sheet' : List ℕ}
     (corners : PairedCorners l l') (paired : PairedSheets corners.pairs sheet sheet') (given : Given (length l.xs) sheet) where
-  through : (m : Label) → ((k : ℕ) → m ≡ Label.Corner k → k < length l.xs) → seen_through (corner_of l') (paired_label corners.pairs m) ≡ seen_through (corner_of l) m
+  through : (m : Option ℕ) → ((k : ℕ) → m ≡ Some k → k < length l.xs) → seen_through (corner_of l') (paired_label corners.pairs m) ≡ seen_through (corner_of l) m
   unfolding seen_through paired_label
-  through Label.Unlabelled h = refl
-  through (Label.Corner k) h = ap Seen.At (corners.same_corner_holds k (h k refl))
+  through None h = refl
+  through (Some k) h = ap Some (corners.same_corner_holds k (h k refl))
 
   -- the same is seen through both sheets, at every cell
   pub seen_paired : seen_of (corner_of l') sheet' ≡ seen_of (corner_of l) sheet

@@ -1,9 +1,10 @@
 -- Laws of words and of the sheet: a word is its content and back; what each of the four changes does at its cell, and that
 -- it does nothing at any other. Assumes nothing.
+use Rattle.std.specs.Prelude.{Option, Some, None}
 use mathlib.Core.Path.{◌≡◌, refl, sym, ap, ◌∙◌, subst}
 use mathlib.Core.Bool.{Bool, true, false, cond}
 use mathlib.Core.List.{List}
-use Prim.Native.Nat.{ℕ, zero, suc, ◌+◌, ◌-◌, ◌*◌, ◌/◌, ◌%◌, ◌<◌, ◌≤◌}
+use Prim.Native.Nat.{ℕ, zero, suc, ◌+◌, ◌*◌, ◌/◌, ◌%◌, ◌<◌, ◌≤◌}
 use native.Mathlib.Omega.{arith}
 use native.Mathlib.Numerals.{add-one}
 use lib.Dec.{T, eqb}
@@ -13,7 +14,6 @@ use Rattle.sheet.specs.Cells.{on_sheet, OnSheet, place_of}
 use Rattle.sheet.specs.Words.{Content, label_of_number, number_of_label, bit_of, label_of, hole_of, ambiguous_of, content_of, word_of, with_label, with_hole, with_ambiguous, without_marks, word_at, label_at, hole_at, ambiguous_at, attached, hole_marked, ambiguous_marked, marks_cleared, empty_sheet}
 use Rattle.sheet.proofs.Laws.{place_in, place_one}
 use Rattle.sheet.specs.declared.Cell.{Cell}
-use Rattle.sheet.specs.declared.Label.{Label}
 
 -- a test that holds is true
 pub yes : (b : Bool) → T b → b ≡ true
@@ -43,17 +43,17 @@ unfolding number_of_label label_of_number
 number_back zero = refl
 number_back (suc k) = add-one k
 
-label_back : (l : Label) → label_of_number (number_of_label l) ≡ l
+label_back : (l : Option ℕ) → label_of_number (number_of_label l) ≡ l
 unfolding number_of_label label_of_number
-label_back Label.Unlabelled = refl
-label_back (Label.Corner k) = rw add-one
+label_back None = refl
+label_back (Some k) = rw add-one
 
 -- the label of a word is one that a word holds
 pub label_holds : (w : ℕ) → number_of_label (label_of w) < 16384
 unfolding label_of
 label_holds w = rw number_back (omega arith)
 
-pub corner_holds : (k : ℕ) → k < 16383 → number_of_label (Label.Corner k) < 16384
+pub corner_holds : (k : ℕ) → k < 16383 → number_of_label (Some k) < 16384
 unfolding number_of_label
 corner_holds k h = omega arith
 
@@ -116,13 +116,9 @@ module _ (w : ℕ) (small : w < 65536) where
   plain_sum = rw number_back (omega arith)
 
 -- the label of a word by its low bits
-pub label_none : (w : ℕ) → w % 16384 ≡ 0 → Label.Unlabelled ≡ label_of w
+pub label_none : (w : ℕ) → w % 16384 ≡ 0 → None ≡ label_of w
 unfolding label_of label_of_number
 label_none w e = rw e
-
-pub label_some : (w : ℕ) → (w % 16384 ≡ 0 → ⊥) → Label.Corner (w % 16384 - 1) ≡ label_of w
-unfolding label_of label_of_number
-label_some w f = let e : w % 16384 ≡ suc (w % 16384 - 1) = omega arith in sym (ap label_of_number e)
 
 -- ---- a cell read
 
@@ -130,7 +126,7 @@ pub label_on : (sheet : List ℕ) (c : Cell) → OnSheet c → label_at sheet c 
 unfolding label_at
 label_on sheet c h = rw (yes (on_sheet c) h)
 
-pub label_off : (sheet : List ℕ) (c : Cell) → on_sheet c ≡ false → label_at sheet c ≡ Label.Unlabelled
+pub label_off : (sheet : List ℕ) (c : Cell) → on_sheet c ≡ false → label_at sheet c ≡ None
 unfolding label_at
 label_off sheet c e = rw e
 
@@ -143,11 +139,11 @@ unfolding ambiguous_at
 ambiguous_on sheet c h = rw (yes (on_sheet c) h)
 
 -- no corner is not a corner
-pub no_corner_lem : (k : ℕ) → Label.Unlabelled ≡ Label.Corner k → ⊥
+pub no_corner_lem : (k : ℕ) → None ≡ Some k → ⊥
 no_corner_lem k e = let z : ◌≡◌ {A = ℕ} 0 1 = cc in omega arith
 
 -- a cell that names a corner is on the sheet
-pub labelled_on_lem : (sheet : List ℕ) (c : Cell) (k : ℕ) → label_at sheet c ≡ Label.Corner k → OnSheet c
+pub labelled_on_lem : (sheet : List ℕ) (c : Cell) (k : ℕ) → label_at sheet c ≡ Some k → OnSheet c
 labelled_on_lem sheet c k e = go (on_sheet c) refl
   where
     go : (t : Bool) → on_sheet c ≡ t → OnSheet c
@@ -178,7 +174,7 @@ module _ (sheet : List ℕ) (c : Cell) (long : 16384 ≤ length sheet) (on : OnS
       }
 
   -- the four changes
-  pub attached_changes : (k : ℕ) → k < 16383 → Changed sheet (attached sheet c k) c (record { label = Label.Corner k; hole = hole_at sheet c; ambiguous = ambiguous_at sheet c })
+  pub attached_changes : (k : ℕ) → k < 16383 → Changed sheet (attached sheet c k) c (record { label = Some k; hole = hole_at sheet c; ambiguous = ambiguous_at sheet c })
   unfolding attached
   attached_changes k h = rw (hole_on sheet c on, ambiguous_on sheet c on) (stored _ (corner_holds k h))
 
@@ -214,7 +210,7 @@ module _ {before after : List ℕ} {c : Cell} {content : Content} (ch : Changed 
 
   pub label_else : (d : Cell) → (d ≡ c → ⊥) → label_at after d ≡ label_at before d
   unfolding label_at
-  label_else = elsewhere label_of Label.Unlabelled
+  label_else = elsewhere label_of None
 
   pub hole_else : (d : Cell) → (d ≡ c → ⊥) → hole_at after d ≡ hole_at before d
   unfolding hole_at
@@ -243,9 +239,9 @@ off_or_empty : {A : Type 0} (t : Bool) (f : ℕ → A) (off : A) (w : ℕ) → w
 off_or_empty true f off w e g = ap f e ∙ g
 off_or_empty false f off w e g = refl
 
-pub empty_label : (c : Cell) → label_at empty_sheet c ≡ Label.Unlabelled
+pub empty_label : (c : Cell) → label_at empty_sheet c ≡ None
 unfolding label_at label_of label_of_number
-empty_label c = off_or_empty (on_sheet c) label_of Label.Unlabelled (word_at empty_sheet c) (empty_word (place_of c)) refl
+empty_label c = off_or_empty (on_sheet c) label_of None (word_at empty_sheet c) (empty_word (place_of c)) refl
 
 pub empty_hole : (c : Cell) → hole_at empty_sheet c ≡ false
 unfolding hole_at hole_of

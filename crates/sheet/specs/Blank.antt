@@ -1,5 +1,6 @@
--- Places of the sheet that hold nothing: no corner and no mark, so that their word is 0. Definitions only.
-use Rattle.std.specs.Prelude.{◌≡◌, Bool, true, ◌&&◌, List, ℕ, zero, suc, ◌+◌, ◌-◌, ◌%◌, ◌≤◌, ◌<◌, eqb, get_or}
+-- Places of the sheet that hold nothing: no corner and no mark, so that their word is 0; and the others, which are walked over. Definitions only.
+use Rattle.std.specs.Prelude.{◌≡◌, Bool, true, ◌&&◌, cond, List, [], ◌∷◌, ℕ, zero, suc, ◌+◌, ◌-◌, ◌%◌, ◌≤◌, ◌<◌, eqb, get_or}
+use Rattle.sheet.specs.declared.walk.Written.{Written}
 
 -- the n places from one on hold nothing
 unfoldable pub all_blank : List ℕ → ℕ → ℕ → Bool
@@ -28,3 +29,17 @@ pub record Passed (sheet : List ℕ) (from r : ℕ) : Type 0 where
 pub record NextWritten (sheet : List ℕ) (from r : ℕ) : Type 0 where
   pub passed : Passed sheet from r
   pub written : r < 16384 → get_or sheet r 0 ≡ 0 → ⊥
+
+-- of n places from one on those that hold something, each with its word, rising
+unfoldable pub written_in : List ℕ → ℕ → ℕ → List (ℕ × ℕ)
+written_in sheet from zero = []
+written_in sheet from (suc n) =
+    cond (eqb (get_or sheet from 0) 0) (written_in sheet (suc from) n) ((from, get_or sheet from 0) ∷ written_in sheet (suc from) n)
+
+-- of all places from one on
+abbrev pub written_from : List ℕ → ℕ → List (ℕ × ℕ)
+written_from sheet from = written_in sheet from (16384 - from)
+
+-- what a walk has still before it
+unfoldable pub written_rest : Written → List (ℕ × ℕ)
+written_rest w = written_from w.sheet.now w.from

@@ -1,5 +1,5 @@
 -- Positions; the corners, as they are lent and as the passes hold them; and what is seen of them through the sheet at a cell. Definitions only.
-use Rattle.std.specs.Prelude.{◌≡◌, Bool, ◌&&◌, cond, List, ℕ, ◌+◌, ◌<◌, ◌≤◌, ltb, length, get_or, Float}
+use Rattle.std.specs.Prelude.{◌≡◌, Bool, ◌&&◌, cond, List, ℕ, ◌+◌, ◌<◌, ◌≤◌, ltb, length, get_or, Float, Option, Some, None}
 use Rattle.std.specs.Float.{nan, binary32}
 use Rattle.std.specs.Float.Ieee.{add, sub, mul}
 use Rattle.sizes.specs.Sizes.{place_count, corner_limit}
@@ -7,10 +7,8 @@ use Rattle.binary32.specs.Ranges.{is_finite}
 use Rattle.sheet.specs.Words.{label_of, label_at}
 use Rattle.sheet.specs.Shades.{Shades, shades_in}
 use Rattle.sheet.specs.declared.Cell.{Cell}
-use Rattle.sheet.specs.declared.Label.{Label}
 use Rattle.sheet.specs.declared.Corner.{Corner}
 use Rattle.sheet.specs.declared.Position.{Position}
-use Rattle.sheet.specs.declared.Seen.{Seen}
 
 -- the squared distance of two positions, each operation rounded: dx · dx + dy · dy
 unfoldable pub squared_distance : Position → Position → Float
@@ -67,12 +65,12 @@ corners_in held n = record { count = n; corner = corner_in held; shades = shades
 -- ---- seen through the sheet
 
 -- the corner that a label names
-unfoldable pub seen_through : (ℕ → Corner) → Label → Seen
-seen_through corner Label.Unlabelled = Seen.Nothing
-seen_through corner (Label.Corner k) = Seen.At (corner k)
+unfoldable pub seen_through : (ℕ → Corner) → Option ℕ → Option Corner
+seen_through corner None = None
+seen_through corner (Some k) = Some (corner k)
 
 -- what is seen at a cell: the corner of its label, or nothing where it has none or is off the sheet
-unfoldable pub seen_of : (ℕ → Corner) → List ℕ → Cell → Seen
+unfoldable pub seen_of : (ℕ → Corner) → List ℕ → Cell → Option Corner
 seen_of corner sheet c = seen_through corner (label_at sheet c)
 
 -- ---- what the functions ask
@@ -85,4 +83,4 @@ pub record AllListed (l : CornerLists) : Type 0 where
 -- a sheet that is long enough and names no corner from n on
 pub record Given (n : ℕ) (sheet : List ℕ) : Type 0 where
   pub long : place_count ≤ length sheet
-  pub known : (p k : ℕ) → p < place_count → label_of (get_or sheet p 0) ≡ Label.Corner k → k < n
+  pub known : (p k : ℕ) → p < place_count → label_of (get_or sheet p 0) ≡ Some k → k < n

@@ -1,10 +1,9 @@
 -- Two frames with the same corners in another order: the pairing of the corners' numbers, and sheets that hold paired corners
 -- and equal marks. Definitions only.
-use Rattle.std.specs.Prelude.{◌≡◌, List, ℕ, ◌<◌, length, get_or}
+use Rattle.std.specs.Prelude.{◌≡◌, List, ℕ, ◌<◌, length, get_or, Option, Some, None}
 use Rattle.sizes.specs.Sizes.{place_count}
 use Rattle.sheet.specs.Words.{label_of, hole_of, ambiguous_of}
 use Rattle.sheet.specs.Corners.{CornerLists, corner_of}
-use Rattle.sheet.specs.declared.Label.{Label}
 
 -- the numbers below n, paired one to one: `to` from the first frame to the second, `from` back
 pub record Shuffle (n : ℕ) : Type 0 where
@@ -16,9 +15,9 @@ pub record Shuffle (n : ℕ) : Type 0 where
   pub to_from : (j : ℕ) → j < n → to (from j) ≡ j
 
 -- the label that names the paired corner
-unfoldable pub paired_label : {n : ℕ} → Shuffle n → Label → Label
-paired_label s Label.Unlabelled = Label.Unlabelled
-paired_label s (Label.Corner k) = Label.Corner (s.to k)
+unfoldable pub paired_label : {n : ℕ} → Shuffle n → Option ℕ → Option ℕ
+paired_label s None = None
+paired_label s (Some k) = Some (s.to k)
 
 -- the corners of two frames: lists of equal lengths, and each corner of the first has an equal one, its pair, in the second
 pub record PairedCorners (l l' : CornerLists) : Type 0 where

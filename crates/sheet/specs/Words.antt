@@ -1,25 +1,24 @@
 -- What a place of the sheet holds, "a corner or none, a hole mark, an ambiguous mark", as a word of 16 bits: the low 14 bits
 -- are 0 for no corner or the corner's number plus 1, the next bit is the hole mark and the top bit the ambiguous mark.
 -- Then the sheet, a list of such words by place, read and changed at a cell. Definitions only.
-use Rattle.std.specs.Prelude.{Bool, true, false, cond, List, ℕ, zero, suc, ◌+◌, ◌*◌, ◌/◌, ◌%◌, ◌≤◌, eqb, length, get_or, set, replicate}
+use Rattle.std.specs.Prelude.{Bool, true, false, cond, List, ℕ, zero, suc, ◌+◌, ◌*◌, ◌/◌, ◌%◌, ◌≤◌, eqb, length, get_or, set, replicate, Option, Some, None}
 use Rattle.sheet.specs.Cells.{on_sheet, OnSheet, place_of}
 use Rattle.sheet.specs.declared.Cell.{Cell}
-use Rattle.sheet.specs.declared.Label.{Label}
 
 -- what a place holds
 pub record Content : Type 0 where
-  pub label : Label
+  pub label : Option ℕ
   pub hole : Bool
   pub ambiguous : Bool
 
 -- 0 is no corner, and k + 1 the corner k
-unfoldable pub label_of_number : ℕ → Label
-label_of_number zero = Label.Unlabelled
-label_of_number (suc k) = Label.Corner k
+unfoldable pub label_of_number : ℕ → Option ℕ
+label_of_number zero = None
+label_of_number (suc k) = Some k
 
-unfoldable pub number_of_label : Label → ℕ
-number_of_label Label.Unlabelled = 0
-number_of_label (Label.Corner k) = k + 1
+unfoldable pub number_of_label : Option ℕ → ℕ
+number_of_label None = 0
+number_of_label (Some k) = k + 1
 
 -- a mark as a bit
 unfoldable pub bit_of : Bool → ℕ
@@ -27,7 +26,7 @@ bit_of true = 1
 bit_of false = 0
 
 -- the low 14 bits, the bit above them, the top bit
-unfoldable pub label_of : ℕ → Label
+unfoldable pub label_of : ℕ → Option ℕ
 label_of w = label_of_number (w % 16384)
 
 unfoldable pub hole_of : ℕ → Bool
@@ -45,7 +44,7 @@ word_of c = number_of_label c.label + bit_of c.hole * 16384 + bit_of c.ambiguous
 
 -- the word with a corner, both marks kept
 abbrev pub with_label : ℕ → ℕ → ℕ
-with_label w k = word_of (record { label = Label.Corner k; hole = hole_of w; ambiguous = ambiguous_of w })
+with_label w k = word_of (record { label = Some k; hole = hole_of w; ambiguous = ambiguous_of w })
 
 -- the word with the hole mark, the rest kept
 abbrev pub with_hole : ℕ → ℕ
@@ -64,8 +63,8 @@ abbrev pub word_at : List ℕ → Cell → ℕ
 word_at sheet c = get_or sheet (place_of c) 0
 
 -- what a cell holds; nothing off the sheet
-unfoldable pub label_at : List ℕ → Cell → Label
-label_at sheet c = cond (on_sheet c) (label_of (word_at sheet c)) Label.Unlabelled
+unfoldable pub label_at : List ℕ → Cell → Option ℕ
+label_at sheet c = cond (on_sheet c) (label_of (word_at sheet c)) None
 
 unfoldable pub hole_at : List ℕ → Cell → Bool
 hole_at sheet c = cond (on_sheet c) (hole_of (word_at sheet c)) false

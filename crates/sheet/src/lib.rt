@@ -2,15 +2,19 @@
 
 #![tactic(auto)]
 
-ghost use Rattle.std.specs.Prelude.{◌≡◌, ◌+◌, ◌<◌, ◌≤◌, length, nat_abs};
+ghost use Rattle.std.specs.Prelude.{◌≡◌, ◌+◌, ◌<◌, ◌≤◌, length, set};
+ghost use Rattle.binary32.specs.Sqrt.{sqrt_or_nan};
 ghost use Rattle.sizes.specs.Sizes.{place_count, corner_limit};
 ghost use Rattle.sheet.specs.Cells.{on_sheet, OnSheet, place_of, cell_of, moved, difference_of, magnitude_of, Within, NearSheet};
-ghost use Rattle.sheet.specs.Words.{label_of, hole_of, ambiguous_of, with_label, with_hole, with_ambiguous, without_marks, label_at, attached, hole_marked, ambiguous_marked, marks_cleared, SheetCell};
-ghost use Rattle.sheet.specs.Shades.{any_in, shades_in, kind_at, takes_kind};
-ghost use Rattle.sheet.specs.Corners.{corner_in, seen_of, Given};
+ghost use Rattle.sheet.specs.Words.{label_of, hole_of, ambiguous_of, with_label, with_hole, with_ambiguous, without_marks, label_at, attached, hole_marked, ambiguous_marked, marks_cleared, SheetCell, word_at};
+ghost use Rattle.sheet.specs.Shades.{any_in, shades_in, kind_at, kind_held, takes_kind};
+ghost use Rattle.sheet.specs.Corners.{corner_in, seen_of, finite_position, squared_distance, Given};
 ghost use Rattle.sheet.specs.Blank.{all_blank, BlankRun, BlankPlaces, NextWritten};
 
+mod walk;
+
 use sizes::{CORNERS, PLACES};
+pub use walk::Written;
 
 // A cell of the checkerboard, by its two numbers. On the sheet both are from -64 to 63.
 #[derive(Clone, Copy)]
@@ -27,48 +31,36 @@ pub struct Offset {
 }
 
 // Whether a cell is on the sheet.
+#[tactic(auto, unfolding(crate::specs::Cells::on_sheet))]
 pub fn on_sheet(c: Cell) -> bool
     ensures { result ≡ on_sheet c }
 {
-    if c.i < -64 {
-        return false;
-    }
-    if c.i > 63 {
-        return false;
-    }
-    if c.j < -64 {
-        return false;
-    }
-    if c.j > 63 {
-        return false;
-    }
-    true
+    (-64..=63).contains(&c.i) && (-64..=63).contains(&c.j)
 }
 
 // The place of a cell that is on the sheet.
+#[tactic(auto, using(crate::proofs::Laws::line_i, crate::proofs::Laws::line_j), unfolding(crate::specs::Cells::place_of))]
 pub fn place_of(c: Cell) -> usize
     requires { OnSheet c }
     ensures { result ≡ place_of c }
 {
-    let i = c.i + 64;
-    let j = c.j + 64;
-    (i as usize) * 128 + (j as usize)
+    (c.i + 64) as usize * 128 + (c.j + 64) as usize
 }
 
 // The cell of a place below 16,384.
+#[tactic(auto, unfolding(crate::specs::Cells::cell_of))]
 pub fn cell_of(place: usize) -> Cell
     requires { place < place_count }
     ensures { result ≡ cell_of place }
 {
-    let i = (place / 128) as i32;
-    let j = (place % 128) as i32;
     Cell {
-        i: i - 64,
-        j: j - 64,
+        i: (place / 128) as i32 - 64,
+        j: (place % 128) as i32 - 64,
     }
 }
 
 // The cell at an offset from a cell on the sheet; it may be off the sheet.
+#[tactic(auto, using(crate::proofs::Laws::line_i, crate::proofs::Laws::line_j))]
 pub fn neighbour(c: Cell, o: Offset) -> Cell
     requires { OnSheet c × Within 128 o }
     ensures { result ≡ moved c o }
@@ -90,44 +82,27 @@ pub fn difference(a: Cell, b: Cell) -> Offset
     }
 }
 
-// A number without its sign.
-fn size(z: i32) -> u32
-    requires { nat_abs z ≤ 1000 }
-    ensures { result ≡ nat_abs z }
-{
-    if z < 0 {
-        return (0 - z) as u32;
-    }
-    z as u32
-}
-
 // |di| + |dj|.
 pub fn magnitude(o: Offset) -> u32
     requires { Within 1000 o }
     ensures { result ≡ magnitude_of o }
 {
-    size(o.di) + size(o.dj)
-}
-
-// What a place says of corners: none, or the corner's number.
-#[derive(Clone, Copy)]
-pub enum Label {
-    Unlabelled,
-    Corner(usize),
+    o.di.unsigned_abs() + o.dj.unsigned_abs()
 }
 
 // The label of a word.
-pub fn label_of(word: u16) -> Label
+#[tactic(auto, unfolding(crate::specs::Words::label_of, crate::specs::Words::label_of_number))]
+pub fn label_of(word: u16) -> Option<usize>
     ensures { result ≡ label_of word }
 {
-    let number = word % 16384;
-    if number == 0 {
-        return Label::Unlabelled;
+    match word % 16384 {
+        0 => None,
+        number => Some(usize::from(number - 1)),
     }
-    Label::Corner((number - 1) as usize)
 }
 
 // Whether a word has the hole mark.
+#[tactic(auto, unfolding(crate::specs::Words::hole_of))]
 pub fn is_hole(word: u16) -> bool
     ensures { result ≡ hole_of word }
 {
@@ -135,6 +110,7 @@ pub fn is_hole(word: u16) -> bool
 }
 
 // Whether a word has the ambiguous mark.
+#[tactic(auto, unfolding(crate::specs::Words::ambiguous_of))]
 pub fn is_ambiguous(word: u16) -> bool
     ensures { result ≡ ambiguous_of word }
 {
@@ -142,6 +118,7 @@ pub fn is_ambiguous(word: u16) -> bool
 }
 
 // The word with a corner, both marks kept.
+#[tactic(auto, using(crate::proofs::Words::label_sum))]
 pub fn with_label(word: u16, corner: usize) -> u16
     requires { corner < 16383 }
     ensures { result ≡ with_label word corner }
@@ -150,6 +127,7 @@ pub fn with_label(word: u16, corner: usize) -> u16
 }
 
 // The word with the hole mark, the rest kept.
+#[tactic(auto, using(crate::proofs::Words::hole_sum))]
 pub fn with_hole(word: u16) -> u16
     ensures { result ≡ with_hole word }
 {
@@ -157,6 +135,7 @@ pub fn with_hole(word: u16) -> u16
 }
 
 // The word with the ambiguous mark, the rest kept.
+#[tactic(auto, using(crate::proofs::Words::ambiguous_sum))]
 pub fn with_ambiguous(word: u16) -> u16
     ensures { result ≡ with_ambiguous word }
 {
@@ -164,6 +143,7 @@ pub fn with_ambiguous(word: u16) -> u16
 }
 
 // The word with neither mark, the label kept.
+#[tactic(auto, using(crate::proofs::Words::plain_sum))]
 pub fn without_marks(word: u16) -> u16
     ensures { result ≡ without_marks word }
 {
@@ -171,51 +151,62 @@ pub fn without_marks(word: u16) -> u16
 }
 
 // The label of a cell; none off the sheet.
-pub fn label_at(sheet: &[u16], c: Cell) -> Label
+#[tactic(auto, using(crate::proofs::Laws::place_in), unfolding(crate::specs::Words::label_at))]
+pub fn label_at(sheet: &[u16], c: Cell) -> Option<usize>
     requires { place_count ≤ length sheet.now }
     ensures { result ≡ label_at sheet.now c }
 {
     if on_sheet(c) {
-        let place = place_of(c);
-        return label_of(sheet[place]);
+        label_of(sheet[place_of(c)])
+    } else {
+        None
     }
-    Label::Unlabelled
+}
+
+// Changes the word of a cell by a function; all other places stay.
+#[tactic(auto, using(crate::proofs::Laws::place_in))]
+fn change<F: FnOnce(u16) -> u16>(sheet: &mut [u16], c: Cell, f: F)
+    requires { SheetCell sheet.old c × F.IsAlwaysCallable f }
+    ensures { (w : _) × F.post f (word_at sheet.old c) w × (sheet.new ≡ set sheet.old (place_of c) w) }
+{
+    let place = place_of(c);
+    sheet[place] = f(sheet[place]);
 }
 
 // Attaches a corner to a cell; its marks stay, and so do all other places.
+#[tactic(auto, unfolding(crate::specs::Words::attached))]
 pub fn attach(sheet: &mut [u16], c: Cell, corner: usize)
     requires { SheetCell sheet.old c × (corner < 16383) }
     ensures { sheet.new ≡ attached sheet.old c corner }
 {
-    let place = place_of(c);
-    sheet[place] = with_label(sheet[place], corner);
+    change(sheet, c, |word| with_label(word, corner));
 }
 
 // Marks a cell as a hole; all else stays.
+#[tactic(auto, unfolding(crate::specs::Words::hole_marked))]
 pub fn mark_hole(sheet: &mut [u16], c: Cell)
     requires { SheetCell sheet.old c }
     ensures { sheet.new ≡ hole_marked sheet.old c }
 {
-    let place = place_of(c);
-    sheet[place] = with_hole(sheet[place]);
+    change(sheet, c, with_hole);
 }
 
 // Marks a cell as ambiguous; all else stays.
+#[tactic(auto, unfolding(crate::specs::Words::ambiguous_marked))]
 pub fn mark_ambiguous(sheet: &mut [u16], c: Cell)
     requires { SheetCell sheet.old c }
     ensures { sheet.new ≡ ambiguous_marked sheet.old c }
 {
-    let place = place_of(c);
-    sheet[place] = with_ambiguous(sheet[place]);
+    change(sheet, c, with_ambiguous);
 }
 
 // Clears both marks of a cell; all else stays.
+#[tactic(auto, unfolding(crate::specs::Words::marks_cleared))]
 pub fn clear_marks(sheet: &mut [u16], c: Cell)
     requires { SheetCell sheet.old c }
     ensures { sheet.new ≡ marks_cleared sheet.old c }
 {
-    let place = place_of(c);
-    sheet[place] = without_marks(sheet[place]);
+    change(sheet, c, without_marks);
 }
 
 // A corner's position in the picture.
@@ -225,6 +216,32 @@ pub struct Position {
     pub y: f32,
 }
 
+impl Position {
+    // Whether both numbers are finite.
+    pub fn is_finite(self) -> bool
+        ensures { result ≡ finite_position self }
+    {
+        binary32::ranges::is_finite(self.x) && binary32::ranges::is_finite(self.y)
+    }
+
+    // The squared distance from another position, each operation rounded.
+    #[tactic(auto, unfolding(crate::specs::Corners::squared_distance))]
+    pub fn squared_distance(self, from: Position) -> f32
+        ensures { result ≡ squared_distance self from }
+    {
+        let dx = self.x - from.x;
+        let dy = self.y - from.y;
+        dx * dx + dy * dy
+    }
+
+    // The distance from another position: the rounded root of the squared distance.
+    pub fn distance(self, from: Position) -> f32
+        ensures { result ≡ sqrt_or_nan (squared_distance self from) }
+    {
+        binary32::root::sqrt_or_nan(self.squared_distance(from))
+    }
+}
+
 // A corner: its position, and its pitch, 01's word for the board's spacing around it in the picture.
 #[derive(Clone, Copy)]
 pub struct Corner {
@@ -232,23 +249,19 @@ pub struct Corner {
     pub pitch: f32,
 }
 
-// What is seen at a cell.
-#[derive(Clone, Copy)]
-pub enum Seen {
-    Nothing,
-    At(Corner),
-}
-
 // The corner of a number. The corners are held in one array: all xs, then all ys, then all pitches, then all kinds, each with room for 1,024.
+#[tactic(auto, unfolding(crate::specs::Corners::corner_in))]
 pub fn corner_at(corners: &[f32; 4 * CORNERS], k: usize) -> Corner
     requires { k < corner_limit }
     ensures { result ≡ corner_in corners.now k }
 {
-    let x = corners[k];
-    let y = corners[k + CORNERS];
-    let pitch = corners[k + 2 * CORNERS];
-    let position = Position { x, y };
-    Corner { position, pitch }
+    Corner {
+        position: Position {
+            x: corners[k],
+            y: corners[k + CORNERS],
+        },
+        pitch: corners[k + 2 * CORNERS],
+    }
 }
 
 // Whether any shade stands: the first of the kinds is 0 exactly if none does.
@@ -258,74 +271,59 @@ pub fn is_shaded(corners: &[f32; 4 * CORNERS]) -> bool
     corners[3 * CORNERS] != 0.0
 }
 
-// The kind that a cell takes: the parity of i + j, taken of (i + 64) + (j + 64), which has no sign.
+// The kind that a cell takes: the parity of i + j, by the remainder that has no sign.
+#[tactic(auto, using(crate::proofs::Laws::line_i, crate::proofs::Laws::line_j), unfolding(crate::specs::Shades::kind_at))]
 pub fn kind_at(c: Cell) -> usize
     requires { OnSheet c }
     ensures { result ≡ kind_at c }
 {
-    let i = c.i + 64;
-    let j = c.j + 64;
-    ((i as usize) + (j as usize)) % 2
+    (c.i + c.j).rem_euclid(2) as usize
 }
 
-// Whether a cell of a kind takes a corner: any corner if no shade stands, else those of its kind. A kind is held as 1 or 2, and anything else is
-// that of a corner without a shade.
+// The kind that an entry holds, as 1 or 2; anything else is that of a corner without a shade.
+fn kind_held(entry: f32) -> Option<usize>
+    ensures { result ≡ kind_held entry }
+{
+    if entry == 1.0 {
+        Some(0)
+    } else if entry == 2.0 {
+        Some(1)
+    } else {
+        None
+    }
+}
+
+// Whether a cell of a kind takes a corner: any corner if no shade stands, else those of its kind.
+#[tactic(auto, unfolding(crate::specs::Shades::takes_kind, crate::specs::Shades::is_kind, crate::specs::Shades::shade_in, crate::specs::Shades::shade_held))]
 pub fn is_taken(corners: &[f32; 4 * CORNERS], kind: usize, k: usize) -> bool
     requires { k < corner_limit }
     ensures { result ≡ takes_kind (shades_in corners.now) kind k }
 {
-    if !is_shaded(corners) {
-        return true;
-    }
-    let entry = corners[k + 3 * CORNERS];
-    if entry == 1.0 {
-        return kind == 0;
-    }
-    if entry == 2.0 {
-        return kind == 1;
-    }
-    false
+    !is_shaded(corners) || kind_held(corners[k + 3 * CORNERS]) == Some(kind)
 }
 
 // What is seen at a cell: the corner of its label, or nothing where it has none or is off the sheet.
-pub fn seen_at(corners: &[f32; 4 * CORNERS], sheet: &[u16], c: Cell) -> Seen
+#[tactic(auto, unfolding(crate::specs::Corners::seen_of, crate::specs::Corners::seen_through))]
+pub fn seen_at(corners: &[f32; 4 * CORNERS], sheet: &[u16], c: Cell) -> Option<Corner>
     requires { Given corner_limit sheet.now }
     ensures { result ≡ seen_of (corner_in corners.now) sheet.now c }
 {
-    let label = label_at(sheet, c);
-    match label {
-        Label::Unlabelled => Seen::Nothing,
-        Label::Corner(k) => Seen::At(corner_at(corners, k)),
-    }
+    let k = label_at(sheet, c)?;
+    Some(corner_at(corners, k))
 }
 
-// Whether so many places from one on all hold nothing. It looks at all of them in any case, so that the compiler can take several words at once.
-fn all_blank(sheet: &[u16], at: usize, count: usize) -> bool
-    requires { at + count ≤ length sheet.now }
-    ensures { result ≡ all_blank sheet.now at count }
+// Whether places hold nothing. It looks at all of them in any case, so that the compiler can take several words at once.
+fn all_blank(places: &[u16]) -> bool
+    ensures { result ≡ all_blank places.now 0 (length places.now) }
 {
-    let mut all = 0u16;
-    let mut i = 0usize;
-    while i < count {
-        all = all | sheet[at + i];
-        i += 1;
-    }
-    all == 0
+    places.iter().fold(0, |joined, word| joined | word) == 0
 }
 
-// How many places from one on hold nothing, up to the first that holds something, and at most a number.
-fn blank_run(sheet: &[u16], at: usize, most: usize) -> usize
-    requires { at + most ≤ length sheet.now }
-    ensures { BlankRun sheet.now at most result }
+// How many places hold nothing, up to the first that holds something.
+fn blank_run(places: &[u16]) -> usize
+    ensures { BlankRun places.now 0 (length places.now) result }
 {
-    let mut n = 0usize;
-    while n < most {
-        if sheet[at + n] != 0 {
-            return n;
-        }
-        n += 1;
-    }
-    n
+    places.iter().take_while(|word| **word == 0).count()
 }
 
 // Some places from one on that hold nothing, all of its row of 128 places, if the place itself holds nothing. From the row's start on the
@@ -334,17 +332,13 @@ pub fn blank_places(sheet: &[u16], at: usize) -> usize
     requires { (at < place_count) × (place_count ≤ length sheet.now) }
     ensures { BlankPlaces sheet.now at result }
 {
-    if at % 128 == 0 {
-        if all_blank(sheet, at, 128) {
-            return 128;
-        }
+    if at % 128 == 0 && all_blank(&sheet[at..at + 128]) {
+        128
+    } else if at % 16 == 0 && all_blank(&sheet[at..at + 16]) {
+        16
+    } else {
+        blank_run(&sheet[at..at + 16 - at % 16])
     }
-    if at % 16 == 0 {
-        if all_blank(sheet, at, 16) {
-            return 16;
-        }
-    }
-    blank_run(sheet, at, 16 - at % 16)
 }
 
 // The next place from one on that holds something, or 16,384 where there is none: most places hold nothing, and are passed over here row by row.
@@ -352,12 +346,9 @@ pub fn next_written(sheet: &[u16], from: usize) -> usize
     requires { (from ≤ place_count) × (place_count ≤ length sheet.now) }
     ensures { NextWritten sheet.now from result }
 {
-    let mut r = from;
-    while r < PLACES {
-        if sheet[r] != 0 {
-            return r;
-        }
-        r += blank_places(sheet, r);
+    let mut place = from;
+    while place < PLACES && sheet[place] == 0 {
+        place += blank_places(sheet, place);
     }
-    r
+    place
 }

@@ -3,25 +3,25 @@ use mathlib.Core.Path.{◌≡◌, refl, sym, ap, ◌∙◌}
 use mathlib.Core.Bool.{Bool, true, false, not, cond, ◌&&◌, ◌||◌}
 use mathlib.Core.List.Memᴰ
 use mathlib.Core.List.{List, [], ◌∷◌, ◌++◌, map}
-use Prim.Native.Nat.{ℕ, zero, suc, ◌+◌, ◌<◌, ◌≤◌}
-use native.Mathlib.Numerals.{add-one}
+use Prim.Native.Nat.{ℕ, zero, suc, ◌<◌, ◌≤◌}
 use native.Mathlib.Omega.{arith}
-use borrow.Author.Tests.{lt-ltb, le-ltb, ltb-true, ltb-false, eqb-true, eqb-false}
-use lib.Dec.{ltb, eqb}
+use borrow.Author.Tests.{lt-ltb, le-ltb, ltb-true, ltb-false, leb-true, leb-false, eqb-true, eqb-false}
+use lib.Dec.{ltb, leb, eqb}
 use lib.ListN.{length, get_or, take}
-use lib.Seq.{take-suc, take-take, get_or-take, length-take-le}
+use lib.Seq.{take-take, length-take-le}
+use Rattle.std.specs.List.{All, AllByRecursion as ByRecursion}
+use Rattle.std.proofs.lemmas.List.{length-map}
+use Rattle.std.proofs.lemmas.List.Elements.{All-from_recursion, All-get_or}
 use Rattle.sheet.specs.Cells.{OnSheet, cell_of, earlier}
 use Rattle.sheet.specs.declared.Cell.{Cell}
 use Rattle.sheet.proofs.Laws.{cell_on_lem, line_i, line_j, abs_sub}
-use Rattle.labels.specs.Labelled.{Rising}
 use Rattle.labels.proofs.Below.{no_both}
 use Rattle.passes.specs.Local.{reach_of, nearer, placed, by_reach}
 use Rattle.passes.specs.Nearest.{NearestFirst, by_reach_holds}
 use Rattle.passes.proofs.Nearest.{nearer_so, so_nearer, nearer_reach, earlier_places, by_reach_length, by_reach_first, take_first, rising_apart}
-use Rattle.supports.specs.Nearest.{support_at, kept_of, places_of, nearest_among, ahead, InOrder, MoreKept, Nearby, filled_up, Keeping}
+use Rattle.supports.specs.Nearest.{support_at, nothing_kept, places_of, nearest_among, before_those, ahead, SplitsAt, InOrder, four, Kept, MoreKept, Nearby, filled_up, Keeping}
 use Rattle.supports.specs.Fitted.{Pictured}
 use Rattle.supports.specs.declared.Support.{Support}
-use Rattle.supports.specs.declared.Supports.{Supports}
 
 -- ---- one more place, after all others
 
@@ -87,79 +87,77 @@ by_reach_last c p h (q ∷ qs) b =
 -- ---- the first four of five
 
 -- the first n of a list with one more in it are found from its first n
-pub ahead_take : (n : ℕ) (new : Support) (l : List Support) → take n (ahead new (take n l)) ≡ take n (ahead new l)
-unfolding ahead
-ahead_take zero new l = refl
-ahead_take (suc n) new [] = refl
-ahead_take (suc n) new (s ∷ ss) = go (ltb new.reach s.reach) (ahead_take n new ss)
+pub before_take : (behind : ℕ → Bool) (n : ℕ) (new : Support) (l : List Support) → take n (before_those behind new (take n l)) ≡ take n (before_those behind new l)
+unfolding before_those
+before_take behind zero new l = refl
+before_take behind (suc n) new [] = refl
+before_take behind (suc n) new (s ∷ ss) = go (behind s.reach) (before_take behind n new ss)
   where
     shorter : (m : ℕ) → take m (s ∷ take m ss) ≡ take m (s ∷ ss)
     shorter zero = refl
     shorter (suc m) = ap (λ (l : List Support). s ∷ l) (take-take m (suc m) ss (omega arith))
 
-    go : (t : Bool) → take n (ahead new (take n ss)) ≡ take n (ahead new ss) → take (suc n) (cond t (new ∷ s ∷ take n ss) (s ∷ ahead new (take n ss))) ≡ take (suc n) (cond t (new ∷ s ∷ ss) (s ∷ ahead new ss))
+    go : (t : Bool) → take n (before_those behind new (take n ss)) ≡ take n (before_those behind new ss) → take (suc n) (cond t (new ∷ s ∷ take n ss) (s ∷ before_those behind new (take n ss))) ≡ take (suc n) (cond t (new ∷ s ∷ ss) (s ∷ before_those behind new ss))
     go true w = ap (λ (l : List Support). new ∷ l) (shorter n)
     go false w = ap (λ (l : List Support). s ∷ l) w
 
+-- the two tests split
+pub farther_splits : (n : ℕ) → SplitsAt n (ltb n)
+farther_splits n = record { far = λ r e. let h = ltb-true n r e in omega arith; near = λ r e. ltb-false n r e }
+
+pub as_far_splits : (n : ℕ) → SplitsAt n (leb n)
+as_far_splits n = record { far = λ r e. leb-true n r e; near = λ r e. let h = leb-false n r e in omega arith }
+
+-- a support of a list, as the code reads it
+abbrev pub nth : List Support → ℕ → Support
+nth s n = get_or s n (record { place = 0; reach = 0 })
+
 -- one more support, by where it goes
-module _ (s : Supports) (new : Support) (o : InOrder s) where
-  pub kept_none : s.fourth.reach ≤ new.reach → MoreKept s new s
-  unfolding ahead
-  kept_none h =
+module _ {behind : ℕ → Bool} (new : Support) (splits : SplitsAt new.reach behind) where
+  -- what is nearer than one that fails the test fails it
+  nearer_fails : (q r : ℕ) → q ≤ r → behind r ≡ false → behind q ≡ false
+  nearer_fails q r h e = go (behind q) refl
+    where
+      go : (t : Bool) → behind q ≡ t → t ≡ false
+      go false f = refl
+      go true f =
+          let k : q ≡ r = omega (arith, splits.far q f, splits.near r e) in
+          sym f ∙ ap behind k ∙ e
+
+  pub kept_none : {s : List Support} → InOrder s → behind (nth s 3).reach ≡ false → Kept behind s new s
+  unfolding before_those
+  kept_none (four {a} {b} {c} {d} h k l) e =
       record {
         kept_are =
             rw (
-              le-ltb new.reach s.first.reach (omega arith),
-              le-ltb new.reach s.second.reach (omega arith),
-              le-ltb new.reach s.third.reach (omega arith),
-              le-ltb new.reach s.fourth.reach h,
+              nearer_fails a.reach d.reach (omega arith) e,
+              nearer_fails b.reach d.reach (omega arith) e,
+              nearer_fails c.reach d.reach l e,
+              e,
             );
-        in_order = o;
+        in_order = four h k l;
       }
 
-  module _ (near : new.reach < s.fourth.reach) where
-    pub kept_first : new.reach < s.first.reach → MoreKept s new (record { first = new; second = s.first; third = s.second; fourth = s.third })
-    unfolding ahead
-    kept_first h =
-        record {
-          kept_are = rw (lt-ltb new.reach s.first.reach h);
-          in_order = record { first_second = omega arith; second_third = o.first_second; third_fourth = o.second_third };
-        }
+  pub kept_first : {s : List Support} → InOrder s → behind (nth s 0).reach ≡ true → Kept behind s new (new ∷ nth s 0 ∷ nth s 1 ∷ nth s 2 ∷ [])
+  unfolding before_those
+  kept_first (four {a} h k l) e = record { kept_are = rw e; in_order = four (splits.far a.reach e) h k }
 
-    module _ (not_first : s.first.reach ≤ new.reach) where
-      pub kept_second : new.reach < s.second.reach → MoreKept s new (record { first = s.first; second = new; third = s.second; fourth = s.third })
-      unfolding ahead
-      kept_second h =
-          record {
-            kept_are = rw (le-ltb new.reach s.first.reach not_first, lt-ltb new.reach s.second.reach h);
-            in_order = record { first_second = not_first; second_third = omega arith; third_fourth = o.second_third };
-          }
+  pub kept_second : {s : List Support} → InOrder s → behind (nth s 0).reach ≡ false → behind (nth s 1).reach ≡ true → Kept behind s new (nth s 0 ∷ new ∷ nth s 1 ∷ nth s 2 ∷ [])
+  unfolding before_those
+  kept_second (four {a} {b} h k l) e f = record { kept_are = rw (e, f); in_order = four (splits.near a.reach e) (splits.far b.reach f) k }
 
-      module _ (not-second : s.second.reach ≤ new.reach) where
-        pub kept_third : new.reach < s.third.reach → MoreKept s new (record { first = s.first; second = s.second; third = new; fourth = s.third })
-        unfolding ahead
-        kept_third h =
-            record {
-              kept_are = rw (le-ltb new.reach s.first.reach not_first, le-ltb new.reach s.second.reach not-second, lt-ltb new.reach s.third.reach h);
-              in_order = record { first_second = o.first_second; second_third = not-second; third_fourth = omega arith };
-            }
+  pub kept_third : {s : List Support} → InOrder s → behind (nth s 0).reach ≡ false → behind (nth s 1).reach ≡ false → behind (nth s 2).reach ≡ true
+      → Kept behind s new (nth s 0 ∷ nth s 1 ∷ new ∷ nth s 2 ∷ [])
+  unfolding before_those
+  kept_third (four {b = b} {c} h k l) e f g = record { kept_are = rw (e, f, g); in_order = four h (splits.near b.reach f) (splits.far c.reach g) }
 
-        pub kept_fourth : s.third.reach ≤ new.reach → MoreKept s new (record { first = s.first; second = s.second; third = s.third; fourth = new })
-        unfolding ahead
-        kept_fourth h =
-            record {
-              kept_are =
-                  rw (
-                    le-ltb new.reach s.first.reach not_first,
-                    le-ltb new.reach s.second.reach not-second,
-                    le-ltb new.reach s.third.reach h,
-                    lt-ltb new.reach s.fourth.reach near,
-                  );
-              in_order = record { first_second = o.first_second; second_third = o.second_third; third_fourth = h };
-            }
+  pub kept_fourth : {s : List Support} → InOrder s → behind (nth s 0).reach ≡ false → behind (nth s 1).reach ≡ false → behind (nth s 2).reach ≡ false → behind (nth s 3).reach ≡ true
+      → Kept behind s new (nth s 0 ∷ nth s 1 ∷ nth s 2 ∷ new ∷ [])
+  unfolding before_those
+  kept_fourth (four {c = c} h k l) e f g i = record { kept_are = rw (e, f, g, i); in_order = four h k (splits.near c.reach g) }
 
 ahead_filled : (c : Cell) (p : ℕ) → reach_of c p < 1000 → (l : List ℕ) → ahead (support_at c p) (filled_up c l) ≡ filled_up c (last c p l)
-unfolding ahead last
+unfolding before_those last
 ahead_filled c p h [] = rw (lt-ltb (reach_of c p) 1000 h)
 ahead_filled c p h (q ∷ qs) = go (ltb (reach_of c p) (reach_of c q)) (ahead_filled c p h qs)
   where
@@ -178,34 +176,31 @@ reach_small c p on h =
     let e = line_j (cell_of p) (cell_on_lem p h) in
     omega (arith, abs_sub (cell_of p).i c.i, abs_sub (cell_of p).j c.j)
 
-module _ (places : List ℕ) (count : ℕ) (c : Cell) (asked : Nearby places count c) (kept : Supports) (k : ℕ) (g : Keeping places count c kept k) where
-  pub keeping_more : (new : Support) (next : Supports) → k < count → new ≡ support_at c (get_or places k 0) → MoreKept kept new next → Keeping places count c next (k + 1)
-  keeping_more new next h e w =
-      let p = get_or places k 0 in
-      let there : k < length places = omega (arith, asked.size, asked.few) in
-      let one : take (k + 1) places ≡ take k places ++ (p ∷ []) = rw add-one (take-suc places k 0 there) in
-      let all : AllBelow p (take k places) = record { below = λ a l. let m : a < k = omega (arith, length-take-le k places (omega arith)) in rw (get_or-take k places a 0 m) (asked.rising a k m h) } in
-      record {
-        upto = omega arith;
-        kept_are =
-            w.kept_are ∙ ap (λ (s : Support). take 4 (ahead s (kept_of kept))) e ∙ ap (λ (l : List Support). take 4 (ahead (support_at c p) l)) g.kept_are
-            ∙ ahead_take 4 (support_at c p) (filled_up c (by_reach c (take k places)))
-            ∙ ap (take 4) (ahead_filled c p (reach_small c p asked.on (asked.below k h)) (by_reach c (take k places)))
-            ∙ ap (λ (l : List ℕ). take 4 (filled_up c l)) (sym (by_reach_last c p (asked.below k h) (take k places) all) ∙ ap (by_reach c) (sym one));
-        in_order = w.in_order;
-      }
+-- none looked at yet
+pub keeping_none : (c : Cell) → Keeping c nothing_kept []
+unfolding by_reach
+keeping_none c = record { kept_are = refl; in_order = four (omega arith) (omega arith) (omega arith) }
 
-  -- all places looked at
-  pub keeping_end : count ≤ k → kept_of kept ≡ nearest_among c (take count places)
-  keeping_end h =
-      let e : k ≡ count = omega (arith, g.upto) in
-      let n = length-take-le count places (omega (arith, asked.size, asked.few)) in
-      g.kept_are ∙ rw e (front 4 (by_reach c (take count places)) (omega (arith, by_reach_length c (take count places), n, asked.four)))
-    where
-      front : (n : ℕ) (l : List ℕ) → n ≤ length l → take n (filled_up c l) ≡ map (support_at c) (take n l)
-      front zero l m = refl
-      front (suc n) [] m = absurd (omega arith)
-      front (suc n) (p ∷ ps) m = ap (λ (q : List Support). support_at c p ∷ q) (front n ps (omega arith))
+-- one more place, behind all others
+pub keeping_last : {c : Cell} {kept next : List Support} {ps : List ℕ} (p : ℕ) → OnSheet c → p < 16384 → AllBelow p ps → Keeping c kept ps → MoreKept kept (support_at c p) next → Keeping c next (ps ++ (p ∷ []))
+keeping_last {c} {kept} {next} {ps} p on h b g w =
+    record {
+      kept_are =
+          w.kept_are ∙ ap (λ (l : List Support). take 4 (ahead (support_at c p) l)) g.kept_are
+          ∙ before_take (ltb (reach_of c p)) 4 (support_at c p) (filled_up c (by_reach c ps))
+          ∙ ap (take 4) (ahead_filled c p (reach_small c p on h) (by_reach c ps))
+          ∙ ap (λ (l : List ℕ). take 4 (filled_up c l)) (sym (by_reach_last c p h ps b));
+      in_order = w.in_order;
+    }
+
+-- all places looked at
+pub keeping_all : {c : Cell} {kept : List Support} (places : List ℕ) → 4 ≤ length places → Keeping c kept places → kept ≡ nearest_among c places
+keeping_all {c} places h g = g.kept_are ∙ front 4 (by_reach c places) (omega (arith, by_reach_length c places, h))
+  where
+    front : (n : ℕ) (l : List ℕ) → n ≤ length l → take n (filled_up c l) ≡ map (support_at c) (take n l)
+    front zero l m = refl
+    front (suc n) [] m = absurd (omega arith)
+    front (suc n) (p ∷ ps) m = ap (λ (q : List Support). support_at c p ∷ q) (front n ps (omega arith))
 
 -- ---- what the four are
 
@@ -233,85 +228,61 @@ under_take n zero l u = none
 under_take n (suc m) [] u = none
 under_take n (suc m) (p ∷ ps) (one h u) = one h (under_take n m ps u)
 
-under_four : (s : Supports) → Under 16384 (places_of s) → Pictured s
-under_four s (one a (one b (one c (one d none)))) = record { first_below = a; second_below = b; third_below = c; fourth_below = d }
+-- supports at places of the sheet
+under_all : (c : Cell) (l : List ℕ) → Under 16384 l → All (λ (x : Support). x.place < 16384) (map (support_at c) l)
+under_all c l u = All-from_recursion (λ (x : Support). x.place < 16384) (map (support_at c) l) (go l u)
+  where
+    go : (l : List ℕ) → Under 16384 l → ByRecursion (λ (x : Support). x.place < 16384) (map (support_at c) l)
+    go [] none = tt
+    go (p ∷ ps) (one h u) = (h, go ps u)
 
--- none of the four supports of a cell is farther than the fourth
-pub record Reached (c : Cell) (s : Supports) : Type 0 where
-  pub first_near : reach_of c s.first.place ≤ s.fourth.reach
-  pub second_near : reach_of c s.second.place ≤ s.fourth.reach
-  pub third_near : reach_of c s.third.place ≤ s.fourth.reach
-  pub fourth_near : reach_of c s.fourth.place ≤ s.fourth.reach
+-- none of some supports is farther than the fourth
+abbrev pub Reached : Cell → List Support → Type 0
+Reached c s = All (λ (p : ℕ). reach_of c p ≤ (nth s 3).reach) (places_of s)
 
--- each is as near as the sheet is small
-pub record ReachesSmall (s : Supports) : Type 0 where
-  pub first_small : s.first.reach < 8192
-  pub second_small : s.second.reach < 8192
-  pub third_small : s.third.reach < 8192
-  pub fourth_small : s.fourth.reach < 8192
-
-reached : (c : Cell) (s : Supports) (l : List ℕ) → kept_of s ≡ map (support_at c) l → NearestFirst c l → OnSheet c → Under 16384 l → Reached c s × ReachesSmall s
-reached c s [] e o on u = absurd (omega (arith, ap length e))
-reached c s (p ∷ []) e o on u = absurd (omega (arith, ap length e))
-reached c s (p ∷ q ∷ []) e o on u = absurd (omega (arith, ap length e))
-reached c s (p ∷ q ∷ r ∷ []) e o on u = absurd (omega (arith, ap length e))
-reached c s (p ∷ q ∷ r ∷ t ∷ []) e o on (one i (one j (one k (one h none)))) =
-    let a : s.first ≡ support_at c p = cc in
-    let b : s.second ≡ support_at c q = cc in
-    let d : s.third ≡ support_at c r = cc in
-    let f : s.fourth ≡ support_at c t = cc in (
-      record {
-        first_near = rw (a, f) (nearer_reach (o.0 t (Memᴰ.tail (Memᴰ.tail (Memᴰ.head refl)))));
-        second_near = rw (b, f) (nearer_reach (o.1.0 t (Memᴰ.tail (Memᴰ.head refl))));
-        third_near = rw (d, f) (nearer_reach (o.1.1.0 t (Memᴰ.head refl)));
-        fourth_near = rw f (omega arith);
-      },
-      record {
-        first_small = rw a (omega (arith, reach_small c p on i));
-        second_small = rw b (omega (arith, reach_small c q on j));
-        third_small = rw d (omega (arith, reach_small c r on k));
-        fourth_small = rw f (omega (arith, reach_small c t on h));
-      },
-    )
-reached c s (p ∷ q ∷ r ∷ t ∷ v ∷ vs) e o on u = absurd (omega (arith, ap length e))
+reached : (c : Cell) (l : List ℕ) → length l ≡ 4 → NearestFirst c l → OnSheet c → Under 16384 l → Reached c (map (support_at c) l) × ((nth (map (support_at c) l) 3).reach < 8192)
+reached c [] e o on u = absurd (omega arith)
+reached c (p ∷ []) e o on u = absurd (omega arith)
+reached c (p ∷ q ∷ []) e o on u = absurd (omega arith)
+reached c (p ∷ q ∷ r ∷ []) e o on u = absurd (omega arith)
+reached c (p ∷ q ∷ r ∷ t ∷ []) e o on (one i (one j (one k (one h none)))) = (
+  All-from_recursion (λ (m : ℕ). reach_of c m ≤ reach_of c t) (p ∷ q ∷ r ∷ t ∷ []) (
+    nearer_reach (o.0 t (Memᴰ.tail (Memᴰ.tail (Memᴰ.head refl)))),
+    (nearer_reach (o.1.0 t (Memᴰ.tail (Memᴰ.head refl))), (nearer_reach (o.1.1.0 t (Memᴰ.head refl)), (omega arith, tt))),
+  ),
+  omega (arith, reach_small c t on h),
+)
+reached c (p ∷ q ∷ r ∷ t ∷ v ∷ vs) e o on u = absurd (omega arith)
 
 -- by the equation that promises the nearest four: their places, that these are of the sheet, and how far they are
-module _ {places : List ℕ} {count : ℕ} {c : Cell} {s : Supports} (asked : Nearby places count c) (e : kept_of s ≡ nearest_among c (take count places)) where
-  front : length (take count places) ≡ count
-  front = length-take-le count places (omega (arith, asked.size, asked.few))
+module _ {places : List ℕ} {c : Cell} {s : List Support} (asked : Nearby places c) (e : s ≡ nearest_among c places) where
+  on_sheet_holds : AllBelow 16384 places
+  on_sheet_holds = record { below = λ a l. All-get_or (λ (p : ℕ). p < 16384) places a 0 l asked.along.below }
 
-  on_sheet_holds : AllBelow 16384 (take count places)
-  on_sheet_holds = record { below = λ a l. let m : a < count = omega (arith, front) in rw (get_or-take count places a 0 m) (asked.below a m) }
+  under : Under 16384 (take 4 (by_reach c places))
+  under = under_take 16384 4 (by_reach c places) (under_by_reach 16384 c places on_sheet_holds)
 
-  rises : Rising (take count places)
-  rises =
-      record {
-        rises = λ a b l h.
-            let m : b < count = omega (arith, front) in
-            let k : a < count = omega arith in
-            rw (get_or-take count places a 0 k, get_or-take count places b 0 m) (asked.rising a b l m);
-      }
+  four_long : length (take 4 (by_reach c places)) ≡ 4
+  four_long = length-take-le 4 (by_reach c places) (omega (arith, by_reach_length c places, asked.four))
 
-  under : Under 16384 (take 4 (by_reach c (take count places)))
-  under = under_take 16384 4 (by_reach c (take count places)) (under_by_reach 16384 c (take count places) on_sheet_holds)
-
-  pub nearest_places : places_of s ≡ take 4 (by_reach c (take count places))
-  nearest_places = ap (map (λ (s : Support). s.place)) e ∙ back (take 4 (by_reach c (take count places)))
+  pub nearest_places : places_of s ≡ take 4 (by_reach c places)
+  nearest_places = ap places_of e ∙ back (take 4 (by_reach c places))
     where
-      back : (l : List ℕ) → map (λ (s : Support). s.place) (map (support_at c) l) ≡ l
+      back : (l : List ℕ) → places_of (map (support_at c) l) ≡ l
       back [] = refl
       back (p ∷ ps) = ap (λ (m : List ℕ). p ∷ m) (back ps)
 
   pub nearest_pictured : Pictured s
-  nearest_pictured = under_four s (rw nearest_places under)
+  nearest_pictured = rw e (record { size = length-map (take 4 (by_reach c places)) (support_at c) ∙ four_long; below = under_all c (take 4 (by_reach c places)) under })
 
-  both : Reached c s × ReachesSmall s
+  both : Reached c s × ((nth s 3).reach < 8192)
   both =
-      reached c s (take 4 (by_reach c (take count places))) e
-      (take_first c 4 (by_reach c (take count places)) (by_reach_first c (take count places) (rising_apart (take count places) rises on_sheet_holds.below))) asked.on under
+      rw e
+      (reached c (take 4 (by_reach c places)) four_long
+      (take_first c 4 (by_reach c places) (by_reach_first c places (rising_apart places asked.along.rising on_sheet_holds.below))) asked.along.on under)
 
   pub nearest_reached : Reached c s
   nearest_reached = both.0
 
-  pub nearest_small : ReachesSmall s
+  pub nearest_small : (nth s 3).reach < 8192
   nearest_small = both.1

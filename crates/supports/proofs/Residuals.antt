@@ -1,31 +1,24 @@
--- Four residuals: the largest of them, and all of them recorded. Assumes nothing.
-use mathlib.Core.Path.{◌≡◌, refl, sym, ap}
-use mathlib.Core.Bool.{cond}
+-- Residuals, one after the other: the largest of them, all of them recorded, and whether all are finite. Assumes nothing.
+use mathlib.Core.Path.{◌≡◌, refl, ap}
+use mathlib.Core.Bool.{cond, ◌&&◌}
 use mathlib.Core.List.{List, [], ◌∷◌}
-use native.Mathlib.Omega.{arith}
-use lib.ListN.{length, get_or}
-use lib.Ieee.{Float, nan, lt}
+use lib.Ieee.{Float, lt}
+use Rattle.std.specs.List.{fold, list_all}
+use Rattle.binary32.specs.Ranges.{is_finite, all_finite}
 use Rattle.passes.specs.Local.{worst, recorded, recorded_all}
 use Rattle.passes.specs.declared.LargestResidual.{LargestResidual}
 
--- a list of four is its four elements
-pub four_are : (rs : List Float) → length rs ≡ 4 → rs ≡ get_or rs 0 nan ∷ get_or rs 1 nan ∷ get_or rs 2 nan ∷ get_or rs 3 nan ∷ []
-four_are [] e = absurd (omega arith)
-four_are (a ∷ []) e = absurd (omega arith)
-four_are (a ∷ b ∷ []) e = absurd (omega arith)
-four_are (a ∷ b ∷ c ∷ []) e = absurd (omega arith)
-four_are (a ∷ b ∷ c ∷ d ∷ []) e = refl
-four_are (a ∷ b ∷ c ∷ d ∷ f ∷ rs) e = absurd (omega arith)
-
-abbrev pub larger_of : Float → Float → Float
-larger_of m r = cond (lt m r) r m
-
-pub worst_four : (m : Float) (rs : List Float) → length rs ≡ 4
-    → larger_of (larger_of (larger_of (larger_of m (get_or rs 0 nan)) (get_or rs 1 nan)) (get_or rs 2 nan)) (get_or rs 3 nan) ≡ worst m rs
+pub worst_is : (m : Float) (rs : List Float) → worst m rs ≡ fold (λ (m r : Float). cond (lt m r) r m) m rs
 unfolding worst
-worst_four m rs e = sym (ap (worst m) (four_are rs e))
+worst_is m [] = refl
+worst_is m (r ∷ rs) = worst_is (cond (lt m r) r m) rs
 
-pub recorded_four : (l : LargestResidual) (rs : List Float) → length rs ≡ 4
-    → recorded (recorded (recorded (recorded l (get_or rs 0 nan)) (get_or rs 1 nan)) (get_or rs 2 nan)) (get_or rs 3 nan) ≡ recorded_all l rs
+pub recorded_is : (l : LargestResidual) (rs : List Float) → recorded_all l rs ≡ fold recorded l rs
 unfolding recorded_all
-recorded_four l rs e = sym (ap (recorded_all l) (four_are rs e))
+recorded_is l [] = refl
+recorded_is l (r ∷ rs) = recorded_is (recorded l r) rs
+
+pub all_finite_is : (rs : List Float) → all_finite rs ≡ list_all is_finite rs
+unfolding all_finite
+all_finite_is [] = refl
+all_finite_is (r ∷ rs) = ap (λ t. is_finite r && t) (all_finite_is rs)

@@ -1,19 +1,18 @@
 -- The fit on four supports, as the code answers it (document 01, "Fit"; what it says of it is `local_fit` of crate passes, Local). Definitions only.
-use Rattle.std.specs.Prelude.{true, false, cond, List, [], ◌∷◌, ◌<◌, replicate, Float}
+use Rattle.std.specs.Prelude.{◌≡◌, cond, List, [], ◌∷◌, ◌<◌, length, Option, None, Some, Float, All}
 use Rattle.sizes.specs.Sizes.{place_count}
 use Rattle.sheet.specs.declared.Position.{Position}
 use Rattle.homography.specs.Normalize.{point}
-use Rattle.homography.specs.Fit.{Answer, NoFit, Entries, homography_of}
+use Rattle.homography.specs.Fit.{Answer, homography_of}
 use Rattle.passes.specs.Local.{residual_of, LocalFit, none, fitted}
 use Rattle.binary32.specs.Ranges.{all_finite}
-use Rattle.binary32.specs.Numbers.{nought}
-use Rattle.supports.specs.declared.Supports.{Supports}
+use Rattle.supports.specs.declared.Support.{Support}
 use Rattle.supports.specs.declared.SupportFit.{SupportFit}
 
--- the struct that stands for a fit on the supports: where there is none, all its numbers are 0
-unfoldable pub support_fit_of : LocalFit → SupportFit
-support_fit_of none = record { found = false; h = replicate 9 nought; residuals = replicate 4 nought }
-support_fit_of (fitted h rs) = record { found = true; h = h; residuals = rs }
+-- what stands for a fit on the supports
+unfoldable pub support_fit_of : LocalFit → Option SupportFit
+support_fit_of none = None
+support_fit_of (fitted h rs) = Some (record { h = h; residuals = rs })
 
 -- the residuals of four cells and their pictured corners
 abbrev pub four_residuals : List Float → List Position → List Position → List Float
@@ -26,15 +25,13 @@ four_residuals h cells corners =
 
 -- the fit on these, if all residuals are finite
 unfoldable pub trusted_points : List Position → List Position → Answer → LocalFit
-trusted_points cells corners NoFit = none
-trusted_points cells corners (Entries h) = cond (all_finite (four_residuals h cells corners)) (fitted h (four_residuals h cells corners)) none
+trusted_points cells corners None = none
+trusted_points cells corners (Some h) = cond (all_finite (four_residuals h cells corners)) (fitted h (four_residuals h cells corners)) none
 
 unfoldable pub points_fit : List Position → List Position → LocalFit
 points_fit cells corners = trusted_points cells corners (homography_of cells corners)
 
 -- four supports that are places of the sheet
-pub record Pictured (s : Supports) : Type 0 where
-  pub first_below : s.first.place < place_count
-  pub second_below : s.second.place < place_count
-  pub third_below : s.third.place < place_count
-  pub fourth_below : s.fourth.place < place_count
+pub record Pictured (s : List Support) : Type 0 where
+  pub size : length s ≡ 4
+  pub below : All (λ x. x.place < place_count) s

@@ -3,19 +3,19 @@
 
 #![tactic(auto)]
 
-ghost use Rattle.std.specs.Prelude.{◌≡◌, cond, [], ◌∷◌, ◌+◌, ◌/◌, ◌<◌, ◌≤◌, ltb, leb, length, take};
+ghost use Rattle.std.specs.Prelude.{◌≡◌, cond, ℕ, Bool, ◌+◌, ◌/◌, ◌<◌, ltb, leb};
 ghost use Rattle.std.specs.Float.{binary32};
 ghost use Rattle.std.specs.Float.Ieee.{of_bits, lt};
 ghost use Rattle.sizes.specs.Sizes.{place_count, corner_limit};
 ghost use Rattle.sheet.specs.Cells.{OnSheet, place_of, cell_of};
 ghost use Rattle.sheet.specs.Corners.{corner_in, seen_of, Given};
-ghost use Rattle.passes.specs.Local.{cell_point, pictured_at, residual_of, none, local_fit, worst, recorded, recorded_all};
+ghost use Rattle.passes.specs.Local.{cell_point, pictured_at, residual_of, local_fit, worst, recorded, recorded_all};
 ghost use Rattle.binary32.specs.Ranges.{all_finite};
-ghost use Rattle.supports.specs.Nearest.{Listable, MoreListed, Gatherable, Gathered, support_at, nothing_kept, InOrder, MoreKept, EarlierKept, kept_of, places_of, nearest_among, Nearby, Keeping, Halved};
+ghost use Rattle.supports.specs.Nearest.{Listable, MoreListed, Gatherable, Gathered, support_at, SplitsAt, InOrder, Kept, MoreKept, EarlierKept, places_of, nearest_among, Along, Nearby, Keeping};
 ghost use Rattle.supports.specs.Fitted.{support_fit_of, points_fit, Pictured};
 
 use passes::LargestResidual;
-use sheet::{Cell, Position, Seen};
+use sheet::{Cell, Position};
 use sizes::{CORNERS, PLACES};
 
 // A labelled place, and how far its cell lies from the cell whose supports are looked for: |di| + |dj|.
@@ -25,17 +25,11 @@ pub struct Support {
     pub reach: u32,
 }
 
-// Four kept supports, the nearest first.
-#[derive(Clone, Copy)]
-pub struct Supports {
-    pub first: Support,
-    pub second: Support,
-    pub third: Support,
-    pub fourth: Support,
-}
-
-// Farther than any cell of the sheet from any other: what stands for a support that is not found yet.
-const FAR: u32 = 1000;
+// What stands for a support that is not found yet: farther than any cell of the sheet from any other.
+const NOT_FOUND: Support = Support {
+    place: 0,
+    reach: 1000,
+};
 
 // One more place of the sheet, which holds this word: listed if it is labelled. Answers how many are listed.
 fn list_place(places: &mut [u16; CORNERS], count: usize, word: u16, place: usize) -> usize
@@ -64,30 +58,6 @@ pub fn gather_labelled(sheet: &[u16], places: &mut [u16; CORNERS]) -> usize
     count
 }
 
-// Nothing kept yet.
-fn no_supports() -> Supports
-    ensures { result ≡ nothing_kept }
-{
-    Supports {
-        first: Support {
-            place: 0,
-            reach: FAR,
-        },
-        second: Support {
-            place: 0,
-            reach: FAR,
-        },
-        third: Support {
-            place: 0,
-            reach: FAR,
-        },
-        fourth: Support {
-            place: 0,
-            reach: FAR,
-        },
-    }
-}
-
 // A place, with its reach from a cell.
 fn support_of(place: usize, c: Cell) -> Support
     requires { (place < place_count) × OnSheet c }
@@ -100,100 +70,41 @@ fn support_of(place: usize, c: Cell) -> Support
     }
 }
 
-// One more support, whose place is after all others': it goes before those that are farther, and the farthest of five is dropped. Of equal
-// reach the earlier place stays ahead.
-fn keep_support(s: Supports, new: Support) -> Supports
+// One more support among four, the nearest first: it goes before the first whose reach passes the test, and the farthest of five is dropped.
+fn keep<F: Fn(u32) -> bool>(s: [Support; 4], new: Support, is_behind: F) -> [Support; 4]
+    requires callable { F.IsAlwaysCallable is_behind }
+    requires in_order { InOrder s }
+    ensures { (behind : ℕ → Bool) → ((r : ℕ) (b : Bool) → F.post is_behind r b → b ≡ behind r) → SplitsAt new.reach behind
+        → Kept behind s new result }
+{
+    let [a, b, c, d] = s;
+    if !is_behind(d.reach) {
+        s
+    } else if is_behind(a.reach) {
+        [new, a, b, c]
+    } else if is_behind(b.reach) {
+        [a, new, b, c]
+    } else if is_behind(c.reach) {
+        [a, b, new, c]
+    } else {
+        [a, b, c, new]
+    }
+}
+
+// One more support, whose place is after all others': of equal reach the earlier place stays ahead.
+fn keep_support(s: [Support; 4], new: Support) -> [Support; 4]
     requires { InOrder s }
     ensures { MoreKept s new result }
 {
-    let a = s.first;
-    let b = s.second;
-    let c = s.third;
-    let d = s.fourth;
-    if d.reach <= new.reach {
-        return s;
-    }
-    if new.reach < a.reach {
-        return Supports {
-            first: new,
-            second: a,
-            third: b,
-            fourth: c,
-        };
-    }
-    if new.reach < b.reach {
-        return Supports {
-            first: a,
-            second: new,
-            third: b,
-            fourth: c,
-        };
-    }
-    if new.reach < c.reach {
-        return Supports {
-            first: a,
-            second: b,
-            third: new,
-            fourth: c,
-        };
-    }
-    Supports {
-        first: a,
-        second: b,
-        third: c,
-        fourth: new,
-    }
+    keep(s, new, |reach| new.reach < reach)
 }
 
-// One more support, whose place is before all others': it goes before those that are as far or farther, and the farthest of five is dropped.
-fn keep_earlier(s: Supports, new: Support) -> Supports
+// One more support, whose place is before all others': of equal reach it goes ahead.
+fn keep_earlier(s: [Support; 4], new: Support) -> [Support; 4]
     requires { InOrder s }
     ensures { EarlierKept s new result }
 {
-    let a = s.first;
-    let b = s.second;
-    let c = s.third;
-    let d = s.fourth;
-    if d.reach < new.reach {
-        return s;
-    }
-    if new.reach <= a.reach {
-        return Supports {
-            first: new,
-            second: a,
-            third: b,
-            fourth: c,
-        };
-    }
-    if new.reach <= b.reach {
-        return Supports {
-            first: a,
-            second: new,
-            third: b,
-            fourth: c,
-        };
-    }
-    if new.reach <= c.reach {
-        return Supports {
-            first: a,
-            second: b,
-            third: new,
-            fourth: c,
-        };
-    }
-    Supports {
-        first: a,
-        second: b,
-        third: c,
-        fourth: new,
-    }
-}
-
-// A place of the list as a number.
-pub fn wide(place: u16) -> usize
-    ensures { result ≡ place }
-{
-    place as usize
+    keep(s, new, |reach| new.reach <= reach)
 }
 
 // The line of a cell: i + 64.
@@ -220,91 +131,46 @@ fn far_behind(place: usize, row: usize, reach: u32) -> bool
     row + (reach as usize) <= place / 128
 }
 
-// Part of a list: the entries from low on and below high.
-#[derive(Clone, Copy)]
-pub struct Span {
-    pub low: usize,
-    pub high: usize,
-}
-
-// The half of a span in which the line begins.
-fn halve(places: &[u16; CORNERS], span: Span, row: usize) -> Span
-    requires { (span.low < span.high) × (span.high ≤ corner_limit) }
-    ensures { Halved span result }
-{
-    let middle = span.low + (span.high - span.low) / 2;
-    if wide(places[middle]) / 128 < row {
-        return Span {
-            low: middle + 1,
-            high: span.high,
-        };
-    }
-    Span {
-        low: span.low,
-        high: middle,
-    }
-}
-
-// Where among the places the line begins, from which the nearest are looked for both ways. Wherever that is, the nearest are the same.
-fn start_of(places: &[u16; CORNERS], count: usize, row: usize) -> usize
-    requires { count ≤ corner_limit }
-    ensures { result ≤ count }
-{
-    let mut span = Span {
-        low: 0,
-        high: count,
-    };
-    while span.low < span.high {
-        let next = halve(places, span, row);
-        span = next;
-    }
-    span.low
-}
-
-// The four nearest among the places before one, from the last back to the first that is not too far.
-fn keep_before(places: &[u16; CORNERS], count: usize, from: usize, c: Cell) -> Supports
-    requires { Nearby places.now count c × (from ≤ count) }
-    ensures { Keeping places.now count c result from }
+// The four nearest of some places, from the last back to the first that is not too far.
+fn keep_before(places: &[u16], c: Cell) -> [Support; 4]
+    requires { Along places.now c }
+    ensures { Keeping c result places.now }
 {
     let row = row_of(c);
-    let mut kept = no_supports();
-    let mut k = from;
-    while 0 < k {
-        let place = wide(places[k - 1]);
-        if far_before(place, row, kept.fourth.reach) {
-            return kept;
+    let mut kept = [NOT_FOUND; 4];
+    for place in places.iter().rev() {
+        let place = usize::from(*place);
+        if far_before(place, row, kept[3].reach) {
+            break;
         }
-        let next = keep_earlier(kept, support_of(place, c));
-        kept = next;
-        k -= 1;
+        kept = keep_earlier(kept, support_of(place, c));
     }
     kept
 }
 
-// The four nearest to a cell among at least four places, given in rising order: by |di| + |dj|, then i, then j. Each has its own reach.
-pub fn nearest_labelled_by_grid(places: &[u16; CORNERS], count: usize, c: Cell) -> Supports
-    requires { Nearby places.now count c }
-    ensures { kept_of result ≡ nearest_among c (take count places.now) }
+// The four nearest to a cell among at least four places, given in rising order: by |di| + |dj|, then i, then j. Each has its own reach. They are
+// looked for both ways from where the cell's line begins. Wherever that is, the nearest are the same.
+pub fn nearest_labelled_by_grid(places: &[u16], c: Cell) -> [Support; 4]
+    requires { Nearby places.now c }
+    ensures { result ≡ nearest_among c places.now }
 {
     let row = row_of(c);
-    let mut k = start_of(places, count, row);
-    let mut kept = keep_before(places, count, k, c);
-    while k < count {
-        let place = wide(places[k]);
-        if far_behind(place, row, kept.fourth.reach) {
-            return kept;
+    let start = places.partition_point(|place| usize::from(*place) / 128 < row);
+    let (before, behind) = places.split_at(start);
+    let mut kept = keep_before(before, c);
+    for place in behind {
+        let place = usize::from(*place);
+        if far_behind(place, row, kept[3].reach) {
+            break;
         }
-        let next = keep_support(kept, support_of(place, c));
-        kept = next;
-        k += 1;
+        kept = keep_support(kept, support_of(place, c));
     }
     kept
 }
 
-// The fit on four supports, with the residual of each: found where there is a fit and all four residuals are finite. Else all is 0.
+// A fit on four supports, with the residual of each, all finite.
 #[derive(Clone, Copy)]
 pub struct SupportFit {
-    pub found: bool,
     pub h: [f32; 9],
     pub residuals: [f32; 4],
 }
@@ -335,11 +201,11 @@ fn pictured(corners: &[f32; 4 * CORNERS], sheet: &[u16], place: usize) -> Positi
 {
     let seen = sheet::seen_at(corners, sheet, sheet::cell_of(place));
     match seen {
-        Seen::Nothing => Position {
+        None => Position {
             x: 0.0 / 0.0,
             y: 0.0 / 0.0,
         },
-        Seen::At(corner) => corner.position,
+        Some(corner) => corner.position,
     }
 }
 
@@ -353,80 +219,53 @@ fn residual_of(h: [f32; 9], cell: Position, corner: Position) -> f32
     binary32::root::sqrt_or_nan(dx * dx + dy * dy)
 }
 
-// Whether all four residuals are finite.
-fn all_finite(a: f32, b: f32, c: f32, d: f32) -> bool
-    ensures { result ≡ all_finite (a ∷ b ∷ c ∷ d ∷ []) }
+// Whether all residuals are finite.
+fn all_finite(residuals: &[f32]) -> bool
+    ensures { result ≡ all_finite residuals.now }
 {
-    if !binary32::ranges::is_finite(a) {
-        return false;
-    }
-    if !binary32::ranges::is_finite(b) {
-        return false;
-    }
-    if !binary32::ranges::is_finite(c) {
-        return false;
-    }
-    binary32::ranges::is_finite(d)
-}
-
-// No fit.
-fn no_support_fit() -> SupportFit
-    ensures { result ≡ support_fit_of none }
-{
-    let h = [0.0f32; 9];
-    let residuals = [0.0f32; 4];
-    SupportFit {
-        found: false,
-        h,
-        residuals,
-    }
+    residuals.iter().all(|r| binary32::ranges::is_finite(*r))
 }
 
 // The fit that takes four cells to their pictured corners, with its residuals. There is none where a residual is not finite.
-fn fit_points(cells: [Position; 4], corners: [Position; 4]) -> SupportFit
+fn fit_points(cells: [Position; 4], corners: [Position; 4]) -> Option<SupportFit>
     ensures { result ≡ support_fit_of (points_fit cells corners) }
 {
-    let fit = homography::homography_from_4pt(cells, corners);
-    if !fit.found {
-        return no_support_fit();
-    }
-    let h = fit.h;
-    let a = residual_of(h, cells[0], corners[0]);
-    let b = residual_of(h, cells[1], corners[1]);
-    let c = residual_of(h, cells[2], corners[2]);
-    let d = residual_of(h, cells[3], corners[3]);
-    if !all_finite(a, b, c, d) {
-        return no_support_fit();
-    }
-    let residuals = [a, b, c, d];
-    SupportFit {
-        found: true,
-        h,
-        residuals,
+    let Some(h) = homography::homography_from_4pt(cells, corners) else {
+        return None;
+    };
+    // Four calls, not one `map` of an array: no lemma of the library says what a list that it gives is.
+    let residuals = [
+        residual_of(h, cells[0], corners[0]),
+        residual_of(h, cells[1], corners[1]),
+        residual_of(h, cells[2], corners[2]),
+        residual_of(h, cells[3], corners[3]),
+    ];
+    if all_finite(&residuals) {
+        Some(SupportFit { h, residuals })
+    } else {
+        None
     }
 }
 
 // The fit on the supports: what takes their cells to the pictured corners, with the residual of each. There is none where the points have no
 // fit or a residual is not finite.
-pub fn local_fit(corners: &[f32; 4 * CORNERS], sheet: &[u16], s: Supports) -> SupportFit
+pub fn local_fit(corners: &[f32; 4 * CORNERS], sheet: &[u16], s: [Support; 4]) -> Option<SupportFit>
     requires { Given corner_limit sheet.now × Pictured s }
     ensures { result ≡ support_fit_of (local_fit (seen_of (corner_in corners.now) sheet.now) (places_of s)) }
 {
-    let a = s.first.place;
-    let b = s.second.place;
-    let c = s.third.place;
-    let d = s.fourth.place;
+    let [a, b, c, d] = s;
+    // Four calls, not one `map` of an array: no lemma of the library says what a list that it gives is.
     let cells = [
-        place_point(a),
-        place_point(b),
-        place_point(c),
-        place_point(d),
+        place_point(a.place),
+        place_point(b.place),
+        place_point(c.place),
+        place_point(d.place),
     ];
     let corners = [
-        pictured(corners, sheet, a),
-        pictured(corners, sheet, b),
-        pictured(corners, sheet, c),
-        pictured(corners, sheet, d),
+        pictured(corners, sheet, a.place),
+        pictured(corners, sheet, b.place),
+        pictured(corners, sheet, c.place),
+        pictured(corners, sheet, d.place),
     ];
     fit_points(cells, corners)
 }
@@ -435,21 +274,14 @@ pub fn local_fit(corners: &[f32; 4 * CORNERS], sheet: &[u16], s: Supports) -> Su
 fn larger(m: f32, r: f32) -> f32
     ensures { result ≡ cond (lt m r) r m }
 {
-    if m < r {
-        return r;
-    }
-    m
+    if m < r { r } else { m }
 }
 
 // The largest of four residuals, from 0 on.
 pub fn worst_of(residuals: [f32; 4]) -> f32
-    requires { length residuals ≡ 4 }
     ensures { result ≡ worst (of_bits binary32 0) residuals }
 {
-    let first = larger(0.0, residuals[0]);
-    let second = larger(first, residuals[1]);
-    let third = larger(second, residuals[2]);
-    larger(third, residuals[3])
+    residuals.iter().fold(0.0, |m, r| larger(m, *r))
 }
 
 // One residual more is recorded.
@@ -464,11 +296,9 @@ fn record_residual(largest: LargestResidual, r: f32) -> LargestResidual
 
 // Four residuals are recorded.
 pub fn record_residuals(largest: LargestResidual, residuals: [f32; 4]) -> LargestResidual
-    requires { length residuals ≡ 4 }
     ensures { result ≡ recorded_all largest residuals }
 {
-    let first = record_residual(largest, residuals[0]);
-    let second = record_residual(first, residuals[1]);
-    let third = record_residual(second, residuals[2]);
-    record_residual(third, residuals[3])
+    residuals
+        .iter()
+        .fold(largest, |l, r| record_residual(l, *r))
 }

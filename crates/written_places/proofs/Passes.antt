@@ -1,4 +1,6 @@
 -- Each pass on the sheet of some written places does what its definition on these places says, and the places still rise. Assumes nothing.
+use Rattle.labels.specs.declared.Bounds.{Bounds}
+use Rattle.sheet.specs.declared.Corner.{Corner}
 use mathlib.Core.Path.{◌≡◌, refl, sym, ap, ap₂, ◌∙◌, fun_ext}
 use mathlib.Core.Bool.{Bool, true, false, not, ◌&&◌, cond}
 use mathlib.Core.List.{List, [], ◌∷◌, ◌++◌, map}
@@ -6,11 +8,12 @@ use Prim.Native.Nat.{ℕ, zero, suc, ◌+◌, ◌*◌}
 use lib.Dec.{eqb, ltb}
 use lib.ListN.{length, get_or, take}
 use lib.Ieee.{Float, binary32, of_bits, lt}
+use Rattle.std.specs.Prelude.{Some, None, Option}
 use Rattle.elimination.specs.Solve.{eliminated, answered, answers_of}
 use Rattle.elimination.proofs.Sound.{sound_is}
 use Rattle.homography.specs.Normalize.{normalization_of}
 use Rattle.homography.specs.Undo.{undone}
-use Rattle.homography.specs.Fit.{NoFit, scaled_of, equations_of, unscaled, homography_of, applied}
+use Rattle.homography.specs.Fit.{scaled_of, equations_of, unscaled, homography_of, applied}
 use Rattle.homography.proofs.Normalizing.{normal_finite}
 use Rattle.homography.proofs.Fitting.{homography_is}
 use Rattle.sheet.specs.Cells.{on_sheet, place_of, cell_of, moved}
@@ -20,8 +23,6 @@ use Rattle.sheet.specs.Corners.{Corners, seen_of}
 use Rattle.sheet.specs.declared.Cell.{Cell}
 use Rattle.sheet.specs.declared.Offset.{Offset}
 use Rattle.sheet.specs.declared.Position.{Position}
-use Rattle.sheet.specs.declared.Seen.{Seen}
-use Rattle.labels.specs.declared.LabelBox.{LabelBox}
 use Rattle.candidates.specs.Candidates.{eligible, candidates_at, first_two}
 use Rattle.candidates.specs.declared.CandidateChoice.{CandidateChoice}
 use Rattle.passed_over.specs.PassedOver.{passed_over}
@@ -78,7 +79,7 @@ module _ (cs : Corners) (w : List Written) (r : Rise 0 w) where
   edges_so : (tol : Tolerances) (c : Cell) (k : ℕ) → edges_of cs.corner (sheet_with w) tol c k ≡ edges_in cs w tol c k
   unfolding edges_of edges_in
   edges_so tol c k =
-      ap (λ (seen : Cell → Seen). cond (passes (verdict_of seen tol c (cs.corner k))) (TryCellResult.Attached k) TryCellResult.EdgeRejected) (seen_so w cs.corner)
+      ap (λ (seen : Cell → Option Corner). cond (passes (verdict_of seen tol c (cs.corner k))) (TryCellResult.Attached k) TryCellResult.EdgeRejected) (seen_so w cs.corner)
 
   result_so : (tol : Tolerances) (c : Cell) (choice : CandidateChoice) → result_of cs.corner (sheet_with w) tol c choice ≡ result_in cs w tol c choice
   unfolding result_of result_in
@@ -139,7 +140,7 @@ module _ (cs : Corners) (set : Settings) (p : GrowParams) where
   unfolding grow_at grow_at_in
   grow_at_so c Prediction.NoNeighbour s h = missed_so c s
   grow_at_so c (Prediction.At at) s h =
-      ap (λ (seen : Cell → Seen). grow_with c (try_at cs (sheet_with s.sheet) (tolerances_of set) (search_of set p (extrapolating seen c)) c at) (grow_state_of s)) (seen_so s.sheet cs.corner)
+      ap (λ (seen : Cell → Option Corner). grow_with c (try_at cs (sheet_with s.sheet) (tolerances_of set) (search_of set p (extrapolating seen c)) c at) (grow_state_of s)) (seen_so s.sheet cs.corner)
       ∙ ap (λ (r : TryCellResult). grow_with c r (grow_state_of s)) (try_so cs s.sheet h (tolerances_of set) (search_of set p (extrapolating (seen_in cs.corner s.sheet) c)) c at)
       ∙ grow_with_so c (try_in cs s.sheet (tolerances_of set) (search_of set p (extrapolating (seen_in cs.corner s.sheet) c)) c at) s
 
@@ -152,7 +153,7 @@ module _ (cs : Corners) (set : Settings) (p : GrowParams) where
   grow_visit_so : (c : Cell) (s : GrowStateIn) → Rise 0 s.sheet → grow_visit cs set p c (grow_state_of s) ≡ grow_state_of (grow_visit_in cs set p c s)
   unfolding grow_visit grow_visit_in
   grow_visit_so c s h =
-      ap (λ (seen : Cell → Seen). grow_at cs set p c (prediction_of seen set.grid c) (grow_state_of s)) (seen_so s.sheet cs.corner)
+      ap (λ (seen : Cell → Option Corner). grow_at cs set p c (prediction_of seen set.grid c) (grow_state_of s)) (seen_so s.sheet cs.corner)
       ∙ grow_at_so c (prediction_of (seen_in cs.corner s.sheet) set.grid c) s h
 
   grow_visit_rises : (c : Cell) (s : GrowStateIn) → Rise 0 s.sheet → Rise 0 (grow_visit_in cs set p c s).sheet
@@ -229,7 +230,7 @@ module _ {S T : Type 0} (of : T → S) (sheet : T → List Written) (w : RoundPa
 
 pub fill_cells_so : (w : List Written) → Rise 0 w → fill_cells (sheet_with w) ≡ fill_cells_in w
 unfolding fill_cells
-fill_cells_so w h = ap₂ (λ (box : LabelBox) (labelled : Cell → Bool). cells_of (box_and_strips box) labelled) (box_so w h) (labelled_so w)
+fill_cells_so w h = ap₂ (λ (box : Option Bounds) (labelled : Cell → Bool). cells_of (box_and_strips box) labelled) (box_so w h) (labelled_so w)
 
 fill_with_so : (c : Cell) (r : TryCellResult) (s : FillStateIn) → fill_with c r (fill_state_of s) ≡ fill_state_of (fill_with_in c r s)
 unfolding fill_with fill_with_in
@@ -261,7 +262,7 @@ module _ (cs : Corners) (set : Settings) (p : FillParams) where
   fill_visit_so : (c : Cell) (s : FillStateIn) → Rise 0 s.sheet → fill_visit cs set p c (fill_state_of s) ≡ fill_state_of (fill_visit_in cs set p c s)
   unfolding fill_visit fill_visit_in
   fill_visit_so c s h =
-      ap (λ (seen : Cell → Seen). fill_at cs set p c (prediction_of seen set.grid c) (fill_state_of s)) (seen_so s.sheet cs.corner)
+      ap (λ (seen : Cell → Option Corner). fill_at cs set p c (prediction_of seen set.grid c) (fill_state_of s)) (seen_so s.sheet cs.corner)
       ∙ fill_at_so c (prediction_of (seen_in cs.corner s.sheet) set.grid c) s h
 
   fill_visit_rises : (c : Cell) (s : FillStateIn) → Rise 0 s.sheet → Rise 0 (fill_visit_in cs set p c s).sheet
@@ -313,12 +314,12 @@ quick_so cells corners =
     let b = answered 8 m in
     let sound = sound_is (equations_of cells corners) m b (sound_answers m b) refl refl refl in
     homography_is cells corners
-    ∙ (λ t. cond (sym (normal_finite cells) t && (sym (normal_finite corners) t && sym sound t)) (scaled_of (undone b (normalization_of cells) (normalization_of corners))) NoFit)
+    ∙ (λ t. cond (sym (normal_finite cells) t && (sym (normal_finite corners) t && sym sound t)) (scaled_of (undone b (normalization_of cells) (normalization_of corners))) None)
 
 local_fit_so : (cs : Corners) (w : List Written) (ps : List ℕ) → local_fit (seen_of cs.corner (sheet_with w)) ps ≡ local_fit_in cs w ps
 unfolding local_fit local_fit_in
 local_fit_so cs w ps =
-    ap (λ (seen : Cell → Seen). trusted seen ps (homography_of (map (λ p. cell_point (cell_of p)) ps) (map (pictured_at seen) ps))) (seen_so w cs.corner)
+    ap (λ (seen : Cell → Option Corner). trusted seen ps (homography_of (map (λ p. cell_point (cell_of p)) ps) (map (pictured_at seen) ps))) (seen_so w cs.corner)
     ∙ ap (trusted (seen_in cs.corner w) ps) (quick_so (map (λ p. cell_point (cell_of p)) ps) (map (pictured_at (seen_in cs.corner w)) ps))
 
 local_with_so : (c : Cell) (r : TryCellResult) (s : LocalStateIn) → local_with c r (local_state_of s) ≡ local_state_of (local_with_in c r s)

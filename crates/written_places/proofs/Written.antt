@@ -1,4 +1,5 @@
 -- The sheet of some written places: what is asked of it is asked of them, and it changes as they do. Assumes nothing.
+use Rattle.std.specs.Prelude.{None}
 use mathlib.Core.Path.{◌≡◌, refl, sym, ap, ◌∙◌, fun_ext, subst}
 use mathlib.Core.Bool.{Bool, true, false, cond, ◌||◌}
 use mathlib.Core.List.{List, [], ◌∷◌, ◌++◌, append_assoc, append-nil}
@@ -14,7 +15,6 @@ use Rattle.sheet.specs.Words.{label_of, label_of_number, label_at, with_label, w
 use Rattle.sheet.specs.Corners.{seen_through, seen_of}
 use Rattle.sheet.specs.declared.Cell.{Cell}
 use Rattle.sheet.specs.declared.Corner.{Corner}
-use Rattle.sheet.specs.declared.Label.{Label}
 use Rattle.sheet.proofs.Laws.{place_in}
 use Rattle.sheet.proofs.Words.{empty_length, empty_word}
 use Rattle.labels.specs.Labelled.{passing, any_below, names_corner, is_labelled, labelled_places, label_count}
@@ -119,7 +119,7 @@ module _ (w : List Written) where
   unfolding label_at label_in
   label_so c = go (on_sheet c) refl
     where
-      go : (t : Bool) → on_sheet c ≡ t → cond t (label_of (get_or (sheet_with w) (place_of c) 0)) Label.Unlabelled ≡ cond t (label_of (word_in w (place_of c))) Label.Unlabelled
+      go : (t : Bool) → on_sheet c ≡ t → cond t (label_of (get_or (sheet_with w) (place_of c) 0)) None ≡ cond t (label_of (word_in w (place_of c))) None
       go true e = ap label_of (word_so w (place_of c) (place_in c (subst T (sym e) tt)))
       go false e = refl
 

@@ -1,13 +1,13 @@
 -- The passes on a sheet of which only the written places are kept: each definition is that of the crate `passes` or `extension_common` of the same name
 -- without the ending, its sheet kept so. `proofs/Passes.antt` shows that the passes do the same. Definitions only.
-use Rattle.std.specs.Prelude.{Bool, true, false, not, ◌&&◌, cond, List, [], ◌∷◌, ◌++◌, map, ℕ, zero, suc, ◌+◌, ◌*◌, ltb, length, get_or, take, Float}
+use Rattle.std.specs.Prelude.{Bool, true, false, not, ◌&&◌, cond, List, [], ◌∷◌, ◌++◌, map, ℕ, zero, suc, ◌+◌, ◌*◌, ltb, length, get_or, take, Some, None, Float}
 use Rattle.std.specs.Float.{binary32}
 use Rattle.std.specs.Float.Ieee.{of_bits, lt}
 use Rattle.binary32.specs.Ranges.{is_finite}
 use Rattle.elimination.specs.Solve.{Matrix, Row, eliminated, answered, nonzero_diagonal, finite_matrix, finite_answers}
 use Rattle.homography.specs.Normalize.{normalization_of, mean_distance, normalized, finite_points}
 use Rattle.homography.specs.Undo.{undone}
-use Rattle.homography.specs.Fit.{Answer, NoFit, scaled_of, equations_of, applied}
+use Rattle.homography.specs.Fit.{Answer, scaled_of, equations_of, applied}
 use Rattle.sheet.specs.Shades.{takes}
 use Rattle.sheet.specs.Corners.{Corners}
 use Rattle.sheet.specs.Cells.{on_sheet, place_of, cell_of, moved}
@@ -201,7 +201,7 @@ sound_answers m b = nonzero_diagonal m && (finite_matrix m && finite_answers b)
 
 unfoldable pub quick_fit_with : List Position → List Position → Matrix → Row → Answer
 quick_fit_with cells corners m b =
-    cond (sound_points cells && (sound_points corners && sound_answers m b)) (scaled_of (undone b (normalization_of cells) (normalization_of corners))) NoFit
+    cond (sound_points cells && (sound_points corners && sound_answers m b)) (scaled_of (undone b (normalization_of cells) (normalization_of corners))) None
 
 unfoldable pub quick_fit_from : List Position → List Position → Matrix → Answer
 quick_fit_from cells corners m = quick_fit_with cells corners m (answered 8 m)

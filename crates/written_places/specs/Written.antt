@@ -1,13 +1,11 @@
 -- A sheet of which only the written places are kept, each with its word: what is asked of a sheet, and how it changes. Definitions only.
-use Rattle.std.specs.Prelude.{Bool, false, cond, ◌||◌, List, [], ◌∷◌, ◌++◌, ℕ, suc, ◌<◌, ◌≤◌, eqb, ltb, set}
+use Rattle.std.specs.Prelude.{Bool, false, cond, ◌||◌, List, [], ◌∷◌, ◌++◌, ℕ, suc, ◌<◌, ◌≤◌, eqb, ltb, set, Option, None}
 use Rattle.sizes.specs.Sizes.{place_count}
 use Rattle.sheet.specs.Cells.{on_sheet, place_of}
 use Rattle.sheet.specs.Words.{label_of, with_label, with_hole, with_ambiguous, without_marks, empty_sheet}
 use Rattle.sheet.specs.Corners.{seen_through}
 use Rattle.sheet.specs.declared.Cell.{Cell}
 use Rattle.sheet.specs.declared.Corner.{Corner}
-use Rattle.sheet.specs.declared.Label.{Label}
-use Rattle.sheet.specs.declared.Seen.{Seen}
 use Rattle.labels.specs.Labelled.{names_corner, is_labelled}
 use Rattle.labels.specs.Used.{names}
 use Rattle.labels.specs.Rim.{rim_at}
@@ -48,13 +46,13 @@ any_in test [] = false
 any_in test (e ∷ es) = test e.place e.word || any_in test es
 
 -- the label at a cell, whether it names a corner, and what is seen there
-unfoldable pub label_in : List Written → Cell → Label
-label_in w c = cond (on_sheet c) (label_of (word_in w (place_of c))) Label.Unlabelled
+unfoldable pub label_in : List Written → Cell → Option ℕ
+label_in w c = cond (on_sheet c) (label_of (word_in w (place_of c))) None
 
 abbrev pub labelled_in : List Written → Cell → Bool
 labelled_in w c = names_corner (label_in w c)
 
-abbrev pub seen_in : (ℕ → Corner) → List Written → Cell → Seen
+abbrev pub seen_in : (ℕ → Corner) → List Written → Cell → Option Corner
 seen_in corner w c = seen_through corner (label_in w c)
 
 -- the labelled places, rising

@@ -1,24 +1,18 @@
--- `arguments::any_shade` meets its contract: at each turn no shade stands among the corners passed. Assumes nothing.
-use Prim.Native.Nat.{◌-◌}
-use native.Mathlib.Omega.{arith}
-use Rattle.labels.proofs.Below.{searching_start, searching_more, searching_hit, searching_end}
-use Rattle.arguments.specs.Shades.{any_shade}
-use Rattle.arguments.proofs.HoldingShades.{byte_stands, byte_bare}
+-- `arguments::any_shade` meets its contract: a byte that is not 0 is a shade. Assumes nothing.
+use mathlib.Core.Path.{◌≡◌, ◌∙◌}
+use mathlib.Core.Bool.{not}
+use lib.Dec.{eqb}
+use lib.ListN.{take}
+use Rattle.std.proofs.Common.{rules, tests}
+use Rattle.std.proofs.lemmas.Iterator.{YieldsList-from_slice}
+use Rattle.std.proofs.lemmas.Iterator.Search.{any_from_yields_List}
+use Rattle.arguments.specs.Shades.{any_shade, shade_of, stands}
+use Rattle.arguments.proofs.Chains.{any_listed}
+use Rattle.arguments.proofs.HoldingShades.{stands_if}
 use Rattle.arguments.proofs.any_shade.Goals as goal
-
-pub loop-k-init : goal.loop-k-init
-loop-k-init c = searching_start _ _
-
-pub bounds-shades-k : goal.bounds-shades-k
-bounds-shades-k c = omega (arith, c.requires)
-
-pub returns-then-shades-k-ne0 : goal.returns-then-shades-k-ne0
-unfolding any_shade
-returns-then-shades-k-ne0 c = searching_hit _ _ _ c.loop-k.invariant c.loop-k-test.true (byte_stands _ c.if-shades-k-ne0.true)
-
-pub loop-k-preserved : goal.loop-k-preserved
-loop-k-preserved c = searching_more _ _ _ c.loop-k.invariant c.loop-k-test.true (byte_bare _ c.if-shades-k-ne0.false)
 
 pub returns : goal.returns
 unfolding any_shade
-returns c = searching_end _ _ _ c.loop-k.invariant c.loop-k-test.false
+returns c =
+    any_from_yields_List (λ b. stands (shade_of b)) _ _ _ c.any.ensures.ran (YieldsList-from_slice (take c.args.n c.args.shades.now) cc) (λ x b q k. let e : (q ≡ record {}) × (b ≡ not (eqb x.now 0)) = search (rules, tests) in (e.0, e.1 ∙ stands_if x.now))
+    ∙ any_listed _ _ _ c.requires

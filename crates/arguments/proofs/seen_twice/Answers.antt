@@ -1,5 +1,4 @@
 -- `arguments::seen_twice` meets its contract: a search from the first place on that stops at a hit. Assumes nothing.
-use Prim.Native.Nat.{◌-◌}
 use native.Mathlib.Omega.{arith}
 use Rattle.arguments.proofs.Tests.{seeing_start, has_entry, seeing_more, seeing_hit, seeing_end, seeing_skips}
 use Rattle.arguments.proofs.seen_twice.Goals as goal

@@ -1,6 +1,5 @@
 -- `arguments::unknown_corner` meets its contract: a search from the first place on that stops at a hit. Assumes nothing.
 use mathlib.Core.Path.{◌≡◌, sym, ap, ◌∙◌}
-use Prim.Native.Nat.{◌-◌}
 use native.Mathlib.Omega.{arith}
 use Rattle.labels.proofs.Below.{searching_start, searching_more, searching_hit, searching_end}
 use Rattle.arguments.specs.Arguments.{unknown, unknown_at, unknown_corner}

@@ -1,11 +1,7 @@
--- `call_text::read_labels` is safe and ends: the measure is the number of labels that are left, and the sheet keeps its length. Assumes nothing.
-use Prim.Native.Nat.{◌-◌}
+-- `call_text::read_labels` is safe: the sheet keeps its length. Assumes nothing.
 use mathlib.Core.Path.{◌≡◌}
 use lib.ListN.{length}
 use Rattle.call_text.proofs.read_labels.Given as goal
 
-abbrev pub invariant-loop-i : goal.invariant-loop-i
-invariant-loop-i l = 16384 ≡ length l.sheet
-
-abbrev pub decreases-loop-i : goal.decreases-loop-i
-decreases-loop-i l = l.m - l.i
+abbrev pub invariant-loop-at : goal.invariant-loop-at
+invariant-loop-at l = 16384 ≡ length l.sheet

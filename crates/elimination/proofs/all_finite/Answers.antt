@@ -1,18 +1,12 @@
--- `elimination::all_finite` meets its contract. The loop's invariant: the rows passed are finite. Assumes nothing.
-use mathlib.Core.Bool.{not}
-use mathlib.Core.Path.{ap}
-use Prim.Native.Nat.{◌-◌}
-use Rattle.elimination.proofs.Tables.{passing_start, passing_more, passing_stop, passing_end}
+-- `elimination::all_finite` meets its contract: a test of each row. Assumes nothing.
+use mathlib.Core.Path.{◌∙◌}
+use mathlib.Core.List.{[]}
+use Rattle.std.proofs.Common.{rules, tests}
+use Rattle.std.proofs.lemmas.Iterator.{YieldsList-from_slice}
+use Rattle.std.proofs.lemmas.Iterator.Search.{all_from_yields_List}
+use Rattle.elimination.specs.Solve.{finite_row}
+use Rattle.elimination.proofs.Tables.{all_is_every}
 use Rattle.elimination.proofs.all_finite.Goals as goal
 
-pub loop-i-init : goal.loop-i-init
-loop-i-init c = passing_start _ _
-
-pub returns-then-not-f : goal.returns-then-not-f
-returns-then-not-f c = passing_stop c.loop-i.invariant c.loop-i-test.true c.row_finite-f.ensures (ap not c.if-not-f.true)
-
-pub loop-i-preserved : goal.loop-i-preserved
-loop-i-preserved c = passing_more c.loop-i.invariant c.loop-i-test.true c.row_finite-f.ensures (ap not c.if-not-f.false)
-
 pub returns : goal.returns
-returns c = passing_end c.loop-i.invariant c.loop-i-test.false
+returns c = all_from_yields_List finite_row _ _ _ c.all.ensures.ran (YieldsList-from_slice c.args.m.now cc) (λ x b q k. search (rules, tests)) ∙ all_is_every finite_row [] _ c.args.m.now c.told-m

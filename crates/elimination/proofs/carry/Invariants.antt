@@ -1,10 +1,6 @@
 -- `elimination::carry` meets its contract. The loop's invariant: the right sides passed are carried on, and the others are as they were. Assumes nothing.
-use Prim.Native.Nat.{◌-◌}
 use Rattle.elimination.proofs.Rows.{Carrying}
 use Rattle.elimination.proofs.carry.Given as goal
 
 abbrev pub invariant-loop-i : goal.invariant-loop-i
 invariant-loop-i l = Carrying l.m l.initial.b l.k l.b l.i
-
-abbrev pub decreases-loop-i : goal.decreases-loop-i
-decreases-loop-i l = l.k - l.i

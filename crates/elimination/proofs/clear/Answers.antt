@@ -1,14 +1,9 @@
 -- `elimination::clear` meets its contract. The loop's invariant: the rows passed have gained, and the others are as they were. Assumes nothing.
-use Prim.Native.Nat.{◌-◌}
-use borrow.Author.Rules.{rules}
-use Rattle.elimination.proofs.Rows.{clear_start, clear_row, clear_more, clear_end}
+use Rattle.elimination.proofs.Rows.{clear_start, clear_more, clear_end}
 use Rattle.elimination.proofs.clear.Goals as goal
 
 pub loop-i-init : goal.loop-i-init
-loop-i-init c = let p = c.requires in clear_start _ _ p.0 p.1
-
-pub gain-requires : goal.gain-requires
-gain-requires c = (clear_row c.loop-i.invariant c.loop-i-test.true, search rules)
+loop-i-init c = clear_start _ _ c.told-m c.requires
 
 pub loop-i-preserved : goal.loop-i-preserved
 loop-i-preserved c = clear_more c.loop-i.invariant c.loop-i-test.true c.gain.ensures

@@ -1,19 +1,9 @@
--- `elimination::column` meets its contract. Assumes nothing.
-use Rattle.elimination.proofs.Shape.{swap_done, column_done}
+-- `elimination::column` meets its contract: the pivot's row comes to the diagonal, and the rows below gain. Assumes nothing.
+use mathlib.Core.Path.{ap, ◌∙◌}
+use Rattle.elimination.specs.Solve.{Matrix, swapped, cleared}
+use Rattle.elimination.proofs.Rows.{swap_set}
 use Rattle.elimination.proofs.column.Goals as goal
-
-pub pivot-b-requires : goal.pivot-b-requires
-pivot-b-requires c = c.requires.1
-
-pub swap-requires : goal.swap-requires
-swap-requires c = let p = c.requires in (p.0, (p.1, c.pivot-b.ensures.1))
-
-pub clear-requires : goal.clear-requires
-clear-requires c =
-    let p = c.requires in
-    (swap_done c.swap.ensures p.0 p.1 c.pivot-b.ensures.1, p.1)
 
 pub returns : goal.returns
 returns c =
-    let p = c.requires in
-    column_done p.0 p.1 c.pivot-b.ensures c.swap.ensures c.clear.ensures
+    c.clear.ensures ∙ ap (λ (x : Matrix). cleared x c.args.k) (swap_set _ _ _ c.told-m c.requires c.pivot-b.ensures.1 ∙ ap (swapped _ _) c.pivot-b.ensures.0)

@@ -1,18 +1,15 @@
--- `elimination::diagonal_nonzero` meets its contract. The loop's invariant: no entry passed is zero. Assumes nothing.
+-- `elimination::diagonal_nonzero` meets its contract: a test of each number below 8. Assumes nothing.
+use mathlib.Core.Path.{◌∙◌}
 use mathlib.Core.Bool.{not}
-use mathlib.Core.Path.{ap}
-use Prim.Native.Nat.{◌-◌}
-use Rattle.elimination.proofs.Tables.{passing_start, passing_next, passing_fail, passing_end}
+use lib.Ieee.{eq}
+use Rattle.std.proofs.Common.{rules, tests, arith}
+use Rattle.std.proofs.lemmas.Iterator.{YieldsList-from_range}
+use Rattle.std.proofs.lemmas.Iterator.Search.{all_from_yields_List}
+use Rattle.binary32.specs.Numbers.{nought}
+use Rattle.elimination.specs.Solve.{entry}
+use Rattle.elimination.proofs.Tables.{range_is_every}
 use Rattle.elimination.proofs.diagonal_nonzero.Goals as goal
 
-pub loop-k-init : goal.loop-k-init
-loop-k-init c = passing_start _ _
-
-pub returns-then-m-k : goal.returns-then-m-k
-returns-then-m-k c = passing_fail c.loop-k.invariant c.loop-k-test.true (ap not c.if-m-k.true)
-
-pub loop-k-preserved : goal.loop-k-preserved
-loop-k-preserved c = passing_next c.loop-k.invariant c.loop-k-test.true (ap not c.if-m-k.false)
-
 pub returns : goal.returns
-returns c = passing_end c.loop-k.invariant c.loop-k-test.false
+returns c =
+    all_from_yields_List (λ k. not (eq (entry c.args.m.now k k) nought)) _ _ _ c.all.ensures.ran (YieldsList-from_range 0 8 8 (cc) (omega arith)) (λ x b q k. search (rules, tests)) ∙ range_is_every 8 _

@@ -1,5 +1,4 @@
 -- `elimination::pivot` meets its contract. The loop's invariant: the row chosen among those passed. Assumes nothing.
-use Prim.Native.Nat.{◌-◌}
 use native.Mathlib.Omega.{arith}
 use borrow.Author.Rules.{rules}
 use Rattle.elimination.proofs.Rows.{chosen_start, chosen_more, chosen_end}

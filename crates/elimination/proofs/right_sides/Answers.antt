@@ -1,18 +1,12 @@
--- `elimination::right_sides` meets its contract. The loop's invariant: the places passed hold the right sides. Assumes nothing.
-use mathlib.Core.Path.{refl}
-use Prim.Native.Nat.{◌-◌}
-use native.Mathlib.Omega.{arith}
-use borrow.Author.Rules.{rules}
-use Rattle.elimination.specs.Solve.{right_sides}
-use Rattle.elimination.proofs.Tables.{filling_start, filling_more, filling_whole}
+-- `elimination::right_sides` meets its contract: the entry of each row. Assumes nothing.
+use mathlib.Core.List.{[]}
+use lib.Ieee.{nan}
+use lib.ListN.{get_or}
+use Rattle.std.proofs.Common.{rules}
+use Rattle.elimination.specs.Solve.{right_sides, Row}
+use Rattle.elimination.proofs.Made.{mapped}
 use Rattle.elimination.proofs.right_sides.Goals as goal
-
-pub loop-i-init : goal.loop-i-init
-loop-i-init c = filling_start _ _ _ _ _ (search rules) (search rules) (λ k l. absurd (omega arith))
-
-pub loop-i-preserved : goal.loop-i-preserved
-loop-i-preserved c = filling_more c.loop-i.invariant c.loop-i-test.true refl
 
 pub returns : goal.returns
 unfolding right_sides
-returns c = filling_whole c.loop-i.invariant c.loop-i-test.false
+returns c = mapped _ _ (λ (r : Row). get_or r 8 nan) c.args.m.now c.map.result [] nan (λ x y q k. search rules) 8 c.map.ensures.items

@@ -1,17 +1,14 @@
--- `elimination::substitute` meets its contract. The loop's invariant: the last n answers are carried on. Assumes nothing.
-use Prim.Native.Nat.{◌-◌}
-use borrow.Author.Rules.{rules}
-use Rattle.elimination.proofs.Rows.{answering_start, answering_long, answering_more, answering_end}
+-- `elimination::substitute` meets its contract. The loop's invariant: the answers from row k on are carried. Assumes nothing.
+use mathlib.Core.Path.{◌≡◌}
+use native.Mathlib.Omega.{arith}
+use Rattle.elimination.proofs.Rows.{answering_start, answering_more}
 use Rattle.elimination.proofs.substitute.Goals as goal
 
-pub loop-n-init : goal.loop-n-init
-loop-n-init c = answering_start _ _ c.right_sides-b.ensures
+pub loop-k-init : goal.loop-k-init
+loop-k-init c = answering_start _ _ c.right_sides-b.ensures
 
-pub carry-requires : goal.carry-requires
-carry-requires c = (answering_long c.loop-n.invariant, search rules)
-
-pub loop-n-preserved : goal.loop-n-preserved
-loop-n-preserved c = answering_more c.loop-n.invariant c.loop-n-test.true c.carry.ensures
+pub loop-k-preserved : goal.loop-k-preserved
+loop-k-preserved c = answering_more _ _ _ _ c.loop-k.invariant c.loop-k-test.true c.loop-k.auto.k c.carry.ensures
 
 pub returns : goal.returns
-returns c = answering_end c.loop-n.invariant c.loop-n-test.false
+returns c = let e : c.loop-k.k ≡ 0 = omega arith in rw e at c.loop-k.invariant

@@ -1,10 +1,8 @@
--- `elimination::substitute` meets its contract. The loop's invariant: the last n answers are carried on. Assumes nothing.
+-- `elimination::substitute` meets its contract. The loop's invariant: the answers from row k on are carried. Assumes nothing.
+use mathlib.Core.Path.{◌≡◌}
 use Prim.Native.Nat.{◌-◌}
-use Rattle.elimination.proofs.Rows.{Answering}
+use Rattle.elimination.specs.Solve.{answered}
 use Rattle.elimination.proofs.substitute.Given as goal
 
-abbrev pub invariant-loop-n : goal.invariant-loop-n
-invariant-loop-n l = Answering l.m l.b l.n
-
-abbrev pub decreases-loop-n : goal.decreases-loop-n
-decreases-loop-n l = 8 - l.n
+abbrev pub invariant-loop-k : goal.invariant-loop-k
+invariant-loop-k l = l.b ≡ answered (8 - l.k) l.m

@@ -14,12 +14,12 @@ points_of-cells-requires c = let l = long_enough _ _ _ _ _ c.too_short.ensures c
 pub points_of-corners-requires : goal.points_of-corners-requires
 points_of-corners-requires c = let l = long_enough _ _ _ _ _ c.too_short.ensures c.if-too_short.false in (omega arith, omega arith)
 
-pub returns-then-not-fit : goal.returns-then-not-fit
-returns-then-not-fit c =
+pub returns-in_default : goal.returns-in_default
+returns-in_default c =
     let a = c.args in
     leaves_none a.cells_x.now a.cells_y.now a.corners_x.now a.corners_y.now a.out.now c.too_short.ensures c.if-too_short.false
     c.points_of-cells.ensures c.points_of-corners.ensures
-    c.homography_from_4pt-fit.ensures c.if-not-fit.true
+    c.homography_from_4pt.ensures c.in_default.is
 
 pub enter-requires : goal.enter-requires
 enter-requires c =
@@ -30,4 +30,4 @@ returns c =
     let a = c.args in
     leaves_fit a.cells_x.now a.cells_y.now a.corners_x.now a.corners_y.now a.out.now c.too_short.ensures c.if-too_short.false
     c.points_of-cells.ensures c.points_of-corners.ensures
-    c.homography_from_4pt-fit.ensures c.if-not-fit.false c.enter.ensures
+    c.homography_from_4pt.ensures c.in-Some.is c.enter.ensures

@@ -1,50 +1,58 @@
 -- `frame::read_lines` meets its contract: a line a turn, and what is left leads where the whole text does. Assumes nothing.
-use mathlib.Core.Path.{refl, sym, ◌∙◌}
-use Prim.Native.Nat.{◌-◌, ◌<◌, ◌≤◌}
-use native.Mathlib.Omega.{arith}
-use lib.ListN.{length}
-use Rattle.line_form.proofs.Lines.{end_after, end_inside}
-use Rattle.frame.proofs.Turn.{turning_start, turn_room, turn_stopped, turn_onward, end_missing, finishable, end_finished}
+use Rattle.std.proofs.Common.{◌≡◌, refl, sym, ap, ◌∙◌, rules, arith, eqb, Result, Ok, Err, MatchResult}
+use Rattle.std.specs.Result.{IsErrAnd}
+use Rattle.std.proofs.lemmas.Fn.{always_returns_same}
+use Rattle.std.proofs.lemmas.Result.{err_from_is_err_and}
+use Rattle.frame.proofs.Turn.{FirstLine, first_line, turning_start, turn_room, turn_stopped, turn_onward, end_missing, finishable, end_finished}
 use Rattle.frame.proofs.read_lines.Goals as goal
-use Rattle.frame.proofs.read_lines.Goals.{After-line_end-end}
+use Rattle.frame.proofs.read_lines.Goals.{In-Some}
 
--- the line has bytes, and its end lies in the text
-bounds : (c : After-line_end-end) → (c.loop-at.at < c.line_end-end.result) × (c.line_end-end.result ≤ length c.args.text.now)
-bounds c = (end_after _ _ _ c.loop-at-test.true c.line_end-end.ensures, end_inside _ _ _ c.loop-at-test.true c.line_end-end.ensures)
+-- what the iterator gives is the first line of what it has left
+first : (c : In-Some) → FirstLine c.loop-line.line-iterator.rest.now c.in-Some.line.now c.next.new.self.rest.now
+first c =
+    let s = c.in-Some.ensures.steps in
+    first_line _ _ _ s.1.0 s.0 s.1.1 (s.1.2 (λ b. eqb b 10) (always_returns_same _ _ _ (λ a r f k. search rules))).1 s.2
 
-pub loop-at-init : goal.loop-at-init
-loop-at-init c = rw c.start-p.ensures (turning_start _ _ _ refl c.requires)
+-- an error that was mapped, and a value that was not
+mapped_err : {T E D : Type 0} (r : Result T E) (m : Result T D) (P : E → D → Type 0) → MatchResult r (λ x. m ≡ Ok x) (λ e. IsErrAnd m (P e)) → (d : D) → m ≡ Err d
+    → (e : E) × (r ≡ Err e) × P e d
+mapped_err (Ok x) m P h d w = absurd (cc)
+mapped_err (Err e) (Ok x) P h d w = absurd h
+mapped_err (Err e) (Err d') P h d w = let same : d' ≡ d = cc in (e, refl, rw (sym same) h)
 
-pub slice_bounds-step_line-count : goal.slice_bounds-step_line-count
-slice_bounds-step_line-count c = omega (arith, bounds (goal.at.slice_bounds-step_line-count c).After-line_end-end)
+mapped_ok : {T E D : Type 0} (r : Result T E) (m : Result T D) (P : E → D → Type 0) → MatchResult r (λ x. m ≡ Ok x) (λ e. IsErrAnd m (P e)) → (x : T) → m ≡ Ok x → r ≡ Ok x
+mapped_ok (Ok y) m P h x w = cc
+mapped_ok (Err e) (Ok y) P h x w = absurd h
+mapped_ok (Err e) (Err d) P h x w = cc
 
-pub slice_bounds-step_line-start : goal.slice_bounds-step_line-start
-slice_bounds-step_line-start c = omega (arith, bounds (goal.at.slice_bounds-step_line-start c).After-line_end-end)
+pub loop-line-init : goal.loop-line-init
+loop-line-init c =
+    turning_start _ _ _ _ (ap (λ s. s.rest.now) c.into_iter-line-iterator.ensures.into_iter_gives ∙ c.split_inclusive-line-items.ensures.rest) (ap (λ p. p.stage) c.start-p.ensures)
+    (rw c.start-p.ensures c.requires)
 
-pub slice_bounds-step_line-end : goal.slice_bounds-step_line-end
-slice_bounds-step_line-end c = (bounds (goal.at.slice_bounds-step_line-end c).After-line_end-end).1
+pub step_line-requires : goal.step_line-requires
+step_line-requires c = turn_room c.loop-line.invariant
 
-pub step_line-stepped-requires : goal.step_line-stepped-requires
-step_line-stepped-requires c = turn_room c.loop-at.invariant
-
-pub returns-in-Stopped : goal.returns-in-Stopped
-returns-in-Stopped c = turn_stopped c.loop-at.invariant c.loop-at-test.true _ c.line_end-end.ensures _ _ c.step_line-stepped.ensures _ c.in-Stopped.is
+pub returns-in_err-p : goal.returns-in_err-p
+returns-in_err-p c =
+    let p = err_from_is_err_and c.from_residual.result c.from_residual.ensures.1 in
+    let q = mapped_err _ _ _ c.map_err.ensures.cases _ c.in_err-p.was in
+    let t = turn_stopped c.loop-line.invariant (first ((goal.at.returns-in_err-p c).In-Some)) _ _ c.step_line.ensures _ q.1 in
+    let e : c.in_err-p.field-0.0 ≡ record { refusal = q.0; line = c.loop-line.n } = search rules in
+    rw (p.1, p.2, e) t
 
 pub overflow_add-n : goal.overflow_add-n
-overflow_add-n c = omega (arith, c.loop-at.invariant.lines, c.loop-at-test.true, c.well_formed)
+overflow_add-n c = let f = first ((goal.at.overflow_add-n c).In-Some) in omega (arith, c.loop-line.invariant.lines, c.well_formed, f.shorter)
 
-pub loop-at-smaller : goal.loop-at-smaller
-loop-at-smaller c = omega (arith, bounds (goal.at.loop-at-smaller c).After-line_end-end)
+pub loop-line-preserved : goal.loop-line-preserved
+loop-line-preserved c =
+    turn_onward c.loop-line.invariant (first ((goal.at.loop-line-preserved c).In-Some)) _ _ c.step_line.ensures _ (mapped_ok _ _ _ c.map_err.ensures.cases _ c.in_ok-p.was)
 
-pub loop-at-preserved : goal.loop-at-preserved
-loop-at-preserved c = turn_onward c.loop-at.invariant c.loop-at-test.true _ c.line_end-end.ensures _ _ c.step_line-stepped.ensures _ c.in-Onward.is
+pub returns-then-not-may_end : goal.returns-then-not-may_end
+returns-then-not-may_end c = end_missing c.loop-line.invariant c.in-None.ensures.steps.0 (sym c.may_end.ensures ∙ c.if-not-may_end.true)
 
 pub finish-requires : goal.finish-requires
-finish-requires c = finishable _ _ _ c.loop-at.invariant.holds
-
-pub returns-then-may_end : goal.returns-then-may_end
-returns-then-may_end c =
-    end_finished c.loop-at.invariant c.loop-at-test.false (sym c.may_end.ensures ∙ c.if-may_end.true) _ _ c.finish.ensures
+finish-requires c = finishable _ _ _ c.loop-line.invariant.holds
 
 pub returns : goal.returns
-returns c = end_missing c.loop-at.invariant c.loop-at-test.false (sym c.may_end.ensures ∙ c.if-may_end.false)
+returns c = end_finished c.loop-line.invariant c.in-None.ensures.steps.0 (sym c.may_end.ensures ∙ c.if-not-may_end.false) c.finish.result c.finish.new.sheet c.finish.ensures

@@ -1,16 +1,17 @@
--- `run_frame` meets its contract. Assumes nothing.
-use native.Mathlib.Omega.{arith}
-use lib.ListN.{length-take}
+-- `run_frame` meets its contract: a pass a turn, and what is left to do leads to the same end. Assumes nothing.
+use Rattle.std.proofs.Common.{arith, add-one}
+use Rattle.frame_passes.proofs.Running.{none_run, one_run, all_run, pass_left_lem}
 use Rattle.frame_passes.proofs.run_frame.Goals as goal
 
-pub slice_bounds-run_passes-end : goal.slice_bounds-run_passes-end
-slice_bounds-run_passes-end c = simp length-take (omega (arith, c.requires))
+pub loop-k-init : goal.loop-k-init
+loop-k-init c = none_run _ _ _ _
 
-pub slice_bounds-run_passes-end-2 : goal.slice_bounds-run_passes-end-2
-slice_bounds-run_passes-end-2 c = simp length-take (omega (arith, c.requires))
+pub loop-k-preserved : goal.loop-k-preserved
+loop-k-preserved c =
+    let k = c.loop-k in
+    let o = c.call_pass-answer in
+    let e = pass_left_lem _ _ k.sheet k.queue k.attached o.new.sheet o.new.queue o.new.attached k.k k.words _ o.result o.ensures.attached_after c.put_outcome.ensures in
+    rw (add-one k.k, e, c.pass_at-pass.ensures, k.auto.queue, k.auto.attached) (one_run _ _ _ _ _ _ (omega arith) k.invariant)
 
-pub slice_bounds-run_passes-end-3 : goal.slice_bounds-run_passes-end-3
-slice_bounds-run_passes-end-3 c = simp length-take (omega (arith, c.requires))
-
-pub slice_bounds-run_passes-end-4 : goal.slice_bounds-run_passes-end-4
-slice_bounds-run_passes-end-4 c = simp length-take (omega (arith, c.requires))
+pub returns : goal.returns
+returns c = all_run _ _ _ _ _ _ (omega arith) c.loop-k.invariant

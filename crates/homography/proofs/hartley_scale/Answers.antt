@@ -1,5 +1,5 @@
--- `homography::hartley_scale` meets its contract. Assumes nothing.
-use mathlib.Core.Path.{ap, sym}
+-- `homography::hartley_scale` meets its contract: the constant is the root of two. Assumes nothing.
+use mathlib.Core.Path.{sym, ap}
 use lib.Ieee.{Float, binary32, div}
 use Rattle.homography.specs.Normalize.{scale_of}
 use Rattle.homography.proofs.Normalizing.{root_two}
@@ -9,6 +9,6 @@ pub returns-then-mean_dist : goal.returns-then-mean_dist
 unfolding scale_of
 returns-then-mean_dist c = rw c.if-mean_dist.true (ap (λ (r : Float). div binary32 r c.args.mean_dist) (sym root_two))
 
-pub returns : goal.returns
+pub returns-else-mean_dist : goal.returns-else-mean_dist
 unfolding scale_of
-returns c = rw c.if-mean_dist.false
+returns-else-mean_dist c = rw c.if-mean_dist.false

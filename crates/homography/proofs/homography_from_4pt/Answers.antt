@@ -1,15 +1,16 @@
 -- `homography::homography_from_4pt` meets its contract. Assumes nothing.
+use mathlib.Core.Path.{sym, ◌∙◌}
 use Rattle.homography.proofs.Fitting.{fit_first, fit_second, fit_third, fit_last}
 use Rattle.homography.proofs.homography_from_4pt.Goals as goal
 
-pub returns-then-not-s : goal.returns-then-not-s
-returns-then-not-s c = fit_first c.args.cells c.args.corners c.normalize_points4-s.ensures c.no_fit.ensures c.if-not-s.true
+pub returns-in_err-s : goal.returns-in_err-s
+returns-in_err-s c = c.from_residual.ensures ∙ fit_first _ _ (sym c.in_err-s.ensures)
 
-pub returns-then-not-t : goal.returns-then-not-t
-returns-then-not-t c = fit_second c.args.cells c.args.corners c.normalize_points4-s.ensures c.if-not-s.false c.normalize_points4-t.ensures c.no_fit-then-not-t.ensures c.if-not-t.true
+pub returns-in_err-t : goal.returns-in_err-t
+returns-in_err-t c = c.from_residual-in_err-t.ensures ∙ fit_second _ _ _ (sym c.in_ok-s.ensures) (sym c.in_err-t.ensures)
 
-pub returns-then-not-a : goal.returns-then-not-a
-returns-then-not-a c = fit_third c.args.cells c.args.corners c.normalize_points4-s.ensures c.if-not-s.false c.normalize_points4-t.ensures c.if-not-t.false c.equations.ensures c.solve-a.ensures c.no_fit-then-not-a.ensures c.if-not-a.true
+pub returns-in_err-x : goal.returns-in_err-x
+returns-in_err-x c = c.from_residual-in_err-x.ensures ∙ fit_third _ _ _ (sym c.in_ok-s.ensures) _ (sym c.in_ok-t.ensures) _ c.equations.ensures (sym c.in_err-x.ensures)
 
 pub returns : goal.returns
-returns c = fit_last c.args.cells c.args.corners c.normalize_points4-s.ensures c.if-not-s.false c.normalize_points4-t.ensures c.if-not-t.false c.equations.ensures c.solve-a.ensures c.if-not-a.false c.undo.ensures c.scaled.ensures
+returns c = fit_last _ _ _ (sym c.in_ok-s.ensures) _ (sym c.in_ok-t.ensures) _ c.equations.ensures _ _ _ (sym c.in_ok-x.ensures) c.undo.ensures c.scaled.ensures

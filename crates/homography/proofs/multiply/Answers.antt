@@ -1,17 +1,11 @@
--- `homography::multiply` meets its contract. The loop's invariant: the entries passed stand in their places. Assumes nothing.
-use Prim.Native.Nat.{◌-◌}
-use native.Mathlib.Omega.{arith}
-use borrow.Author.Rules.{rules}
-use Rattle.homography.specs.Undo.{multiplied}
-use Rattle.elimination.proofs.Tables.{filling_start, filling_more, filling_whole}
+-- `homography::multiply` meets its contract: the entries in their order. Assumes nothing.
+use lib.Ieee.{nan}
+use Rattle.std.proofs.Common.{rules}
+use Rattle.homography.specs.Normalize.{row_sum}
+use Rattle.homography.specs.Undo.{crossed, multiplied}
+use Rattle.elimination.proofs.Made.{counted}
 use Rattle.homography.proofs.multiply.Goals as goal
-
-pub loop-n-init : goal.loop-n-init
-loop-n-init c = filling_start _ _ _ _ _ (search rules) (search rules) (λ k l. absurd (omega arith))
-
-pub loop-n-preserved : goal.loop-n-preserved
-loop-n-preserved c = filling_more c.loop-n.invariant c.loop-n-test.true c.product_at.ensures
 
 pub returns : goal.returns
 unfolding multiplied
-returns c = filling_whole c.loop-n.invariant c.loop-n-test.false
+returns c = counted _ _ (crossed row_sum c.args.a c.args.b) c.from_fn.result nan 9 c.from_fn.ensures.items (λ j y q l k. search rules)

@@ -1,18 +1,14 @@
--- `homography::points_finite` meets its contract. The loop's invariant: the points passed are finite. Assumes nothing.
-use mathlib.Core.Bool.{not}
-use mathlib.Core.Path.{ap}
-use Prim.Native.Nat.{◌-◌}
-use Rattle.elimination.proofs.Tables.{passing_start, passing_more, passing_stop, passing_end}
+-- `homography::points_finite` meets its contract: a test of each point. Assumes nothing.
+use mathlib.Core.Path.{◌∙◌}
+use lib.Ieee.{nan}
+use Rattle.std.proofs.Common.{rules, tests}
+use Rattle.std.proofs.lemmas.Iterator.{YieldsList-from_slice}
+use Rattle.std.proofs.lemmas.Iterator.Search.{all_from_yields_List}
+use Rattle.sheet.specs.Corners.{finite_position}
+use Rattle.elimination.proofs.Tables.{all_is_every}
 use Rattle.homography.proofs.points_finite.Goals as goal
 
-pub loop-i-init : goal.loop-i-init
-loop-i-init c = passing_start _ _
-
-pub returns-then-not-point_finite : goal.returns-then-not-point_finite
-returns-then-not-point_finite c = passing_stop c.loop-i.invariant c.loop-i-test.true c.point_finite.ensures (ap not c.if-not-point_finite.true)
-
-pub loop-i-preserved : goal.loop-i-preserved
-loop-i-preserved c = passing_more c.loop-i.invariant c.loop-i-test.true c.point_finite.ensures (ap not c.if-not-point_finite.false)
-
 pub returns : goal.returns
-returns c = passing_end c.loop-i.invariant c.loop-i-test.false
+returns c =
+    all_from_yields_List finite_position _ _ _ c.all.ensures.ran (YieldsList-from_slice c.args.points cc) (λ x b q k. search (rules, tests))
+    ∙ all_is_every finite_position (record { x = nan; y = nan }) 4 c.args.points (search rules)

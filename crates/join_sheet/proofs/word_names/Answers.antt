@@ -2,8 +2,8 @@
 use Rattle.join_sheet.proofs.Walk.{names_none, names_one}
 use Rattle.join_sheet.proofs.word_names.Goals as goal
 
-pub returns-in-Unlabelled : goal.returns-in-Unlabelled
-returns-in-Unlabelled c = names_none _ _ _ c.label_of-label.ensures c.in-Unlabelled.is
+pub returns-in-None : goal.returns-in-None
+returns-in-None c = names_none _ _ _ c.label_of-label.ensures c.in-None.is
 
-pub returns-in-Corner : goal.returns-in-Corner
-returns-in-Corner c = names_one _ _ _ _ c.label_of-label.ensures c.in-Corner.is
+pub returns-in-Some : goal.returns-in-Some
+returns-in-Some c = names_one _ _ _ _ c.label_of-label.ensures c.in-Some.is

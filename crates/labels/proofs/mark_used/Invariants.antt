@@ -1,10 +1,10 @@
--- `labels::mark_used` meets its contract: at each place the array is tied to the places passed. Assumes nothing.
-use Prim.Native.Nat.{◌-◌}
-use Rattle.labels.proofs.Used.{Marking}
+-- `labels::mark_used` meets its contract: what is left to note gives what noting all gives. Assumes nothing.
+use mathlib.Core.Path.{◌≡◌}
+use lib.ListN.{replicate}
+use Rattle.std.specs.List.{fold}
+use Rattle.sheet.specs.Blank.{written_from, written_rest}
+use Rattle.labels.proofs.Used.{word_noted}
 use Rattle.labels.proofs.mark_used.Given as goal
 
-abbrev pub invariant-loop-place : goal.invariant-loop-place
-invariant-loop-place l = Marking l.sheet l.used l.place
-
-abbrev pub decreases-loop-place : goal.decreases-loop-place
-decreases-loop-place l = 16384 - l.place
+abbrev pub invariant-loop-word : goal.invariant-loop-word
+invariant-loop-word l = fold word_noted l.used (written_rest l.word-iterator) ≡ fold word_noted (replicate 1024 0) (written_from l.sheet 0)

@@ -1,12 +1,14 @@
 -- `local::local_round` meets its contract: at each place that is tried the buffers hold what the round's list leaves after the places passed, and what
 -- is remembered holds; places that are not tried are passed over. Assumes nothing.
-use Prim.Native.Nat.{◌-◌}
-use mathlib.Core.Bool.{true}
 use native.Mathlib.Omega.{arith}
 use Rattle.region.proofs.Jumps.{box_on}
+use Rattle.local_cell.proofs.Visit.{labels_in}
 use Rattle.local.proofs.Depth.{depth_in}
 use Rattle.local.proofs.Walk.{listed, region_found, tellable, walking_start, walking_skips, tried_trying, walking_tried, walking_end}
 use Rattle.local.proofs.local_round.Goals as goal
+
+pub shared_ref_as_front-labelled : goal.shared_ref_as_front-labelled
+shared_ref_as_front-labelled c = labels_in c.requires.0.extending
 
 pub rows_of-rows-requires : goal.rows_of-rows-requires
 rows_of-rows-requires c = listed c.requires.0.extending

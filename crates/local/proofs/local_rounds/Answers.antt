@@ -1,6 +1,5 @@
 -- `local::local_rounds` meets its contract: after each round the rounds that are left lead to the same end, and what is remembered holds. Assumes nothing.
 use mathlib.Core.Path.{refl, ◌∙◌}
-use Prim.Native.Nat.{◌-◌}
 use native.Mathlib.Omega.{arith}
 use Rattle.local.proofs.Rounds.{rounding_start, rounding_asked, rounding_last, rounding_more, rounding_end}
 use Rattle.local.proofs.local_rounds.Goals as goal

@@ -1,6 +1,5 @@
 -- `local::next_tried` meets its contract. The loop's invariant: no place passed is tried. The measure is what is left of the sheet. Assumes nothing.
 use mathlib.Core.Path.{sym, ◌∙◌}
-use Prim.Native.Nat.{◌-◌}
 use native.Mathlib.Omega.{arith}
 use Rattle.local.proofs.Walk.{seeking_start, seeking_more, seeking_hit, seeking_end}
 use Rattle.local.proofs.next_tried.Goals as goal

@@ -22,21 +22,21 @@ at c =
     c.neighbour-beside.ensures
     c.cardinal_offset.ensures
 
-pub returns-in-Nothing : goal.returns-in-Nothing
-returns-in-Nothing c =
+pub returns-in-None : goal.returns-in-None
+returns-in-None c =
     let a = c.args in
-    edge_none a.tol a.candidate (at (goal.at.returns-in-Nothing c).After-seen_at-seen) c.in-Nothing.is
+    edge_none a.tol a.candidate (at (goal.at.returns-in-None c).After-seen_at-seen) c.in-None.is
 
 pub returns-then-edge_ok : goal.returns-then-edge_ok
 returns-then-edge_ok c =
     let a = c.args in
-    edge_accepted a.tol a.candidate (at (goal.at.returns-then-edge_ok c).After-seen_at-seen) c.in-At.is
+    edge_accepted a.tol a.candidate (at (goal.at.returns-then-edge_ok c).After-seen_at-seen) c.in-Some.is
     c.edge_ok.ensures
     c.if-edge_ok.true
 
 pub returns-else-edge_ok : goal.returns-else-edge_ok
 returns-else-edge_ok c =
     let a = c.args in
-    edge_refused a.tol a.candidate (at (goal.at.returns-else-edge_ok c).After-seen_at-seen) c.in-At.is
+    edge_refused a.tol a.candidate (at (goal.at.returns-else-edge_ok c).After-seen_at-seen) c.in-Some.is
     c.edge_ok.ensures
     c.if-edge_ok.false

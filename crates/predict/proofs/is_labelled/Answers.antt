@@ -3,8 +3,8 @@ use mathlib.Core.Path.{sym, ◌∙◌}
 use Rattle.predict.proofs.Laws.{not_seen, is_seen_holds}
 use Rattle.predict.proofs.is_labelled.Goals as goal
 
-pub returns-in-Unlabelled : goal.returns-in-Unlabelled
-returns-in-Unlabelled c = λ corner. not_seen corner _ _ (sym c.label_at-label.ensures ∙ c.in-Unlabelled.is)
+pub returns-in-None : goal.returns-in-None
+returns-in-None c = λ corner. not_seen corner _ _ (sym c.label_at-label.ensures ∙ c.in-None.is)
 
-pub returns-in-Corner : goal.returns-in-Corner
-returns-in-Corner c = λ corner. is_seen_holds corner _ _ _ (sym c.label_at-label.ensures ∙ c.in-Corner.is)
+pub returns-in-Some : goal.returns-in-Some
+returns-in-Some c = λ corner. is_seen_holds corner _ _ _ (sym c.label_at-label.ensures ∙ c.in-Some.is)

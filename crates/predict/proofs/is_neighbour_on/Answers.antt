@@ -1,16 +1,17 @@
 -- `predict::is_neighbour_on` meets its contract, by the label of the cell that is reached. Assumes nothing.
+use Rattle.sheet.specs.declared.Corner.{Corner}
+use Rattle.std.specs.Prelude.{Option}
 use mathlib.Core.Path.{◌≡◌, sym, ap, ◌∙◌}
 use mathlib.Core.Bool.{Bool, true, false, ◌&&◌}
 use Rattle.sheet.specs.Corners.{seen_of}
 use Rattle.sheet.specs.Cells.{moved}
 use Rattle.sheet.specs.declared.Cell.{Cell}
-use Rattle.sheet.specs.declared.Seen.{Seen}
 use Rattle.predict.specs.Predict.{on_side, is_seen}
 use Rattle.predict.specs.declared.Side.{Side}
 use Rattle.predict.proofs.Laws.{square_within}
 use Rattle.predict.proofs.is_neighbour_on.Goals as goal
 
-module _ (seen : Cell → Seen) (side : Side) (c : Cell) {cell at : Cell} {labelled : Bool} (reached : at ≡ cell) (known : labelled ≡ is_seen (seen at)) where
+module _ (seen : Cell → Option Corner) (side : Side) (c : Cell) {cell at : Cell} {labelled : Bool} (reached : at ≡ cell) (known : labelled ≡ is_seen (seen at)) where
   here : {t : Bool} → labelled ≡ t → is_seen (seen cell) ≡ t
   here e = sym (known ∙ ap (λ (a : Cell). is_seen (seen a)) reached) ∙ e
 

@@ -1,5 +1,4 @@
 -- `remembered::forget_near` meets its contract: at each place the words before it are done. Assumes nothing.
-use Prim.Native.Nat.{◌-◌}
 use native.Mathlib.Omega.{arith}
 use Rattle.remembered.proofs.Words.{forgetting_start, forgetting_more, forgetting_skips, forgetting_end}
 use Rattle.remembered.proofs.forget_near.Goals as goal

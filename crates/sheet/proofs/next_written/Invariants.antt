@@ -3,8 +3,8 @@ use Prim.Native.Nat.{◌-◌}
 use Rattle.sheet.specs.Blank.{Passed}
 use Rattle.sheet.proofs.next_written.Given as goal
 
-abbrev pub invariant-loop-r : goal.invariant-loop-r
-invariant-loop-r l = Passed l.sheet l.from l.r
+abbrev pub invariant-loop-place : goal.invariant-loop-place
+invariant-loop-place l = Passed l.sheet l.from l.place
 
-abbrev pub decreases-loop-r : goal.decreases-loop-r
-decreases-loop-r l = 16384 - l.r
+abbrev pub decreases-loop-place : goal.decreases-loop-place
+decreases-loop-place l = 16384 - l.place

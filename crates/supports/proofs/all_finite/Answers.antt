@@ -1,18 +1,10 @@
--- `supports::all_finite` meets its contract: by the first residual that is not. Assumes nothing.
-use mathlib.Core.Bool.{not}
-use mathlib.Core.Path.{sym, ◌∙◌, ap}
-use borrow.Author.Tests.{not-true, not-false}
-use Rattle.supports.proofs.Fitted.{finite_first, finite_second, finite_third, finite_fourth}
+-- `supports::all_finite` meets its contract: each residual is asked. Assumes nothing.
+use Rattle.std.proofs.Common.{rules}
+use Rattle.std.proofs.lemmas.Iterator.{YieldsList-from_slice}
+use Rattle.std.proofs.lemmas.Iterator.Search.{all_from_yields_List}
+use Rattle.binary32.specs.Ranges.{is_finite}
+use Rattle.supports.proofs.Residuals.{all_finite_is}
 use Rattle.supports.proofs.all_finite.Goals as goal
 
-pub returns-then-not-is_finite : goal.returns-then-not-is_finite
-returns-then-not-is_finite c = finite_first _ _ _ _ (sym c.is_finite.ensures ∙ not-true _ (ap not c.if-not-is_finite.true))
-
-pub returns-then-not-is_finite-2 : goal.returns-then-not-is_finite-2
-returns-then-not-is_finite-2 c = finite_second _ _ _ _ (sym c.is_finite.ensures ∙ not-false _ (ap not c.if-not-is_finite.false)) (sym c.is_finite-2.ensures ∙ not-true _ (ap not c.if-not-is_finite-2.true))
-
-pub returns-then-not-is_finite-3 : goal.returns-then-not-is_finite-3
-returns-then-not-is_finite-3 c = finite_third _ _ _ _ (sym c.is_finite.ensures ∙ not-false _ (ap not c.if-not-is_finite.false)) (sym c.is_finite-2.ensures ∙ not-false _ (ap not c.if-not-is_finite-2.false)) (sym c.is_finite-3.ensures ∙ not-true _ (ap not c.if-not-is_finite-3.true))
-
 pub returns : goal.returns
-returns c = c.is_finite-4.ensures ∙ finite_fourth _ _ _ _ (sym c.is_finite.ensures ∙ not-false _ (ap not c.if-not-is_finite.false)) (sym c.is_finite-2.ensures ∙ not-false _ (ap not c.if-not-is_finite-2.false)) (sym c.is_finite-3.ensures ∙ not-false _ (ap not c.if-not-is_finite-3.false))
+returns c = rw all_finite_is (all_from_yields_List is_finite _ _ _ c.all.ensures.ran (YieldsList-from_slice c.args.residuals.now cc) (λ x b q k. search rules))

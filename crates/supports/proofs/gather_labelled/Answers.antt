@@ -1,5 +1,4 @@
 -- `supports::gather_labelled` meets its contract: at each place the labelled ones before it are listed. Assumes nothing.
-use Prim.Native.Nat.{◌-◌}
 use native.Mathlib.Omega.{arith}
 use Rattle.supports.proofs.Listing.{listing_start, listing_room, listing_more, listing_skips, listing_end}
 use Rattle.supports.proofs.gather_labelled.Goals as goal

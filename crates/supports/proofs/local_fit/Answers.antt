@@ -2,11 +2,5 @@
 use Rattle.supports.proofs.Fitted.{fit_is}
 use Rattle.supports.proofs.local_fit.Goals as goal
 
-pub pictured-requires-3 : goal.pictured-requires-3
-pictured-requires-3 c = (c.requires.0, c.requires.1.third_below)
-
-pub pictured-requires-4 : goal.pictured-requires-4
-pictured-requires-4 c = (c.requires.0, c.requires.1.fourth_below)
-
 pub returns : goal.returns
-returns c = fit_is _ c.args.s _ _ _ _ _ _ _ _ _ c.place_point.ensures c.place_point-2.ensures c.place_point-3.ensures c.place_point-4.ensures c.pictured.ensures c.pictured-2.ensures c.pictured-3.ensures c.pictured-4.ensures c.fit_points.ensures
+returns c = fit_is _ c.args.s _ _ _ _ _ _ _ _ _ c.requires.1.size c.place_point.ensures c.place_point-2.ensures c.place_point-3.ensures c.place_point-4.ensures c.pictured.ensures c.pictured-2.ensures c.pictured-3.ensures c.pictured-4.ensures c.fit_points.ensures

@@ -1,5 +1,4 @@
 -- `lines::next_filled` meets its contract: all lines passed over are empty. Assumes nothing.
-use Prim.Native.Nat.{◌-◌}
 use native.Mathlib.Omega.{arith}
 use Rattle.report.proofs.Blank.{skip_start, skip_lines}
 use Rattle.report.proofs.lines.next_filled.Goals as goal
@@ -16,20 +15,14 @@ blank_lines-n-requires c = c.requires.all.sheet_long
 pub returns-then-n-eq0 : goal.returns-then-n-eq0
 returns-then-n-eq0 c = c.loop-r.invariant
 
-pub overflow_sub-last : goal.overflow_sub-last
-overflow_sub-last c = omega (arith, c.loop-r-test.true)
-
-pub returns-then-last-r : goal.returns-then-last-r
-returns-then-last-r c = skip_lines _ _ _ _ _ _ _ c.loop-r.invariant c.blank_lines-n.ensures (omega (arith, c.loop-r-test.true)) (omega (arith, c.if-last-r.true)) (omega arith)
-
 pub overflow_add-r : goal.overflow_add-r
-overflow_add-r c = let w = c.requires.all.words_long in omega (arith, c.if-last-r.false, c.loop-r-test.true)
+overflow_add-r c = let w = c.requires.all.words_long in omega arith
 
 pub loop-r-smaller : goal.loop-r-smaller
-loop-r-smaller c = omega (arith, c.if-last-r.false, c.if-n-eq0.false, c.loop-r-test.true)
+loop-r-smaller c = let d = c.if-n-eq0.false in omega arith
 
 pub loop-r-preserved : goal.loop-r-preserved
-loop-r-preserved c = skip_lines _ _ _ _ _ _ _ c.loop-r.invariant c.blank_lines-n.ensures (omega arith) (omega arith) (omega (arith, c.if-last-r.false))
+loop-r-preserved c = skip_lines _ _ _ _ _ _ _ c.loop-r.invariant c.blank_lines-n.ensures (omega arith) (omega arith) (omega arith)
 
 pub returns : goal.returns
 returns c = c.loop-r.invariant

@@ -8,17 +8,17 @@ use Rattle.report.proofs.lines.pass_length.Goals as goal
 pub write_grow-requires : goal.write_grow-requires
 write_grow-requires c = grow_like_asked (grow_at c.args.words.now c.args.k) _ c.grow_like.ensures _ (omega arith)
 
-pub returns-then-kind-eq0 : goal.returns-then-kind-eq0
-returns-then-kind-eq0 c = grow_counted c.args.words.now c.args.k _ c.word_at-kind.ensures _ _ _ _ c.grow_like.ensures c.if-kind-eq0.true c.write_grow.ensures
+pub returns-in-0 : goal.returns-in-0
+returns-in-0 c = grow_counted c.args.words.now c.args.k _ c.word_at.ensures _ _ _ _ c.grow_like.ensures c.in-0.is c.write_grow.ensures
 
 pub write_fill-requires : goal.write_fill-requires
 write_fill-requires c = fill_like_asked (fill_at c.args.words.now c.args.k) _ c.fill_like.ensures _ (omega arith)
 
-pub returns-then-kind-eq1 : goal.returns-then-kind-eq1
-returns-then-kind-eq1 c = fill_counted c.args.words.now c.args.k _ c.word_at-kind.ensures _ _ _ _ c.fill_like.ensures c.if-kind-eq1.true c.write_fill.ensures
+pub returns-in-1 : goal.returns-in-1
+returns-in-1 c = fill_counted c.args.words.now c.args.k _ c.word_at.ensures _ _ _ _ c.fill_like.ensures c.in-1.is c.write_fill.ensures
 
 pub write_local-requires : goal.write_local-requires
 write_local-requires c = local_like_asked (local_at c.args.words.now c.args.k) _ c.local_like.ensures _ (omega arith)
 
-pub returns : goal.returns
-returns c = local_counted c.args.words.now c.args.k _ c.word_at-kind.ensures _ _ _ _ c.local_like.ensures c.if-kind-eq0.false c.if-kind-eq1.false c.write_local.ensures
+pub returns-in_default : goal.returns-in_default
+returns-in_default c = local_counted c.args.words.now c.args.k _ c.word_at.ensures _ _ _ _ c.local_like.ensures (λ z. omega arith) (λ z. omega arith) c.write_local.ensures

@@ -1,5 +1,4 @@
 -- `lines::text_short` meets its contract: what is left of the room falls line by line. Assumes nothing.
-use Prim.Native.Nat.{◌-◌}
 use native.Mathlib.Omega.{arith}
 use Rattle.report.proofs.Numbered.{measuring_start, measuring_more, measuring_short, measuring_end}
 use Rattle.report.proofs.lines.text_short.Goals as goal

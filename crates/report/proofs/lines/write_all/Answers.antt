@@ -1,11 +1,10 @@
 -- `lines::write_all` meets its contract: the lines before line k stand at the front, and what comes after them completes the text. Assumes nothing.
-use Prim.Native.Nat.{◌-◌}
 use native.Mathlib.Omega.{arith}
 use Rattle.report.proofs.Writing.{filling_start, filling_fits, filling_length, line_fits, filling_asked, filling_more, filling_end}
 use Rattle.report.proofs.lines.write_all.Goals as goal
 
-pub overflow_add-count : goal.overflow_add-count
-overflow_add-count c = let w = c.requires.sound.all.words_long in omega arith
+pub overflow_add-k-end : goal.overflow_add-k-end
+overflow_add-k-end c = let w = c.requires.sound.all.words_long in omega arith
 
 pub loop-k-init : goal.loop-k-init
 loop-k-init c = filling_start c.args.passes c.args.words.now c.args.sheet.now c.args.out.now
@@ -16,20 +15,14 @@ slice_bounds-write_line-count c = let l = filling_length c.args.passes c.args.wo
 pub slice_bounds-write_line-start : goal.slice_bounds-write_line-start
 slice_bounds-write_line-start c = let l = filling_length c.args.passes c.args.words.now c.args.sheet.now c.args.out.now c.loop-k.out c.loop-k.at c.loop-k.k c.requires c.loop-k.invariant in let m = filling_fits c.args.passes c.args.words.now c.args.sheet.now c.args.out.now c.loop-k.out c.loop-k.at c.loop-k.k c.requires c.loop-k.invariant in omega arith
 
-pub write_line-n-requires : goal.write_line-n-requires
-write_line-n-requires c = filling_asked c.args.passes c.args.words.now c.args.sheet.now c.args.out.now c.loop-k.out c.loop-k.at c.loop-k.k c.requires c.loop-k.invariant (omega (arith, c.loop-k-test.true))
+pub write_line-at-requires : goal.write_line-at-requires
+write_line-at-requires c = filling_asked c.args.passes c.args.words.now c.args.sheet.now c.args.out.now c.loop-k.out c.loop-k.at c.loop-k.k c.requires c.loop-k.invariant (omega (arith, c.loop-k-test.true))
 
 pub overflow_add-at : goal.overflow_add-at
-overflow_add-at c = let l = line_fits c.args.passes c.args.words.now c.args.sheet.now c.args.out.now c.loop-k.out c.loop-k.at c.loop-k.k c.requires c.loop-k.invariant (omega (arith, c.loop-k-test.true)) in let m = c.write_line-n.ensures.count in record { fits = omega (arith, l, m) }
-
-pub overflow_add-k : goal.overflow_add-k
-overflow_add-k c = omega (arith, c.loop-k-test.true)
-
-pub loop-k-smaller : goal.loop-k-smaller
-loop-k-smaller c = omega (arith, c.loop-k-test.true)
+overflow_add-at c = let l = line_fits c.args.passes c.args.words.now c.args.sheet.now c.args.out.now c.loop-k.out c.loop-k.at c.loop-k.k c.requires c.loop-k.invariant (omega (arith, c.loop-k-test.true)) in let m = c.write_line-at.ensures.count in record { fits = omega (arith, l, m) }
 
 pub loop-k-preserved : goal.loop-k-preserved
-loop-k-preserved c = filling_more c.args.passes c.args.words.now c.args.sheet.now c.args.out.now c.loop-k.out c.loop-k.at c.loop-k.k c.requires c.loop-k.invariant (omega (arith, c.loop-k-test.true)) _ _ c.write_line-n.ensures
+loop-k-preserved c = filling_more c.args.passes c.args.words.now c.args.sheet.now c.args.out.now c.loop-k.out c.loop-k.at c.loop-k.k c.requires c.loop-k.invariant (omega (arith, c.loop-k-test.true)) _ _ c.write_line-at.ensures
 
 pub shape_of-out : goal.shape_of-out
 shape_of-out c = filling_length c.args.passes c.args.words.now c.args.sheet.now c.args.out.now c.loop-k.out c.loop-k.at c.loop-k.k c.requires c.loop-k.invariant

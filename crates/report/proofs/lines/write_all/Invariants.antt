@@ -1,10 +1,6 @@
 -- `lines::write_all` meets its contract: the lines before line k stand at the front, and what comes after them completes the text. Assumes nothing.
-use Prim.Native.Nat.{◌-◌}
 use Rattle.report.proofs.Writing.{Filling}
 use Rattle.report.proofs.lines.write_all.Given as goal
 
 abbrev pub invariant-loop-k : goal.invariant-loop-k
 invariant-loop-k l = Filling l.passes l.words l.sheet l.initial.out l.out l.at l.k
-
-abbrev pub decreases-loop-k : goal.decreases-loop-k
-decreases-loop-k l = l.count - l.k

@@ -1,6 +1,5 @@
 -- `lines::write_some` meets its contract: the lines up to line k stand at the front, and the rest of the piece starts there. Assumes nothing.
 use mathlib.Core.Path.{refl}
-use Prim.Native.Nat.{◌-◌}
 use native.Mathlib.Omega.{arith}
 use Rattle.report.proofs.Short.{tame_short}
 use Rattle.report.proofs.Writing.{cutting_start, cutting_length, cutting_full, cutting_last, cutting_asked, cutting_more}
@@ -31,11 +30,11 @@ slice_bounds-write_line-count c = let l = cutting_length c.args.passes c.args.wo
 pub slice_bounds-write_line-start : goal.slice_bounds-write_line-start
 slice_bounds-write_line-start c = let l = cutting_length c.args.passes c.args.words.now c.args.sheet.now c.args.from c.args.out.now c.requires c.loop-k.out c.loop-k.at c.loop-k.k c.loop-k.invariant in omega (arith, c.loop-k.invariant.fits)
 
-pub write_line-n-requires : goal.write_line-n-requires
-write_line-n-requires c = cutting_asked c.args.passes c.args.words.now c.args.sheet.now c.args.from c.args.out.now c.requires c.loop-k.out c.loop-k.at c.next_filled-filled.result (skipped_at c.args.passes c.args.words.now c.args.sheet.now c.args.from c.args.out.now c.requires c.loop-k.out c.loop-k.at c.loop-k.k c.loop-k.invariant c.if-out-at-lt-LINE_ROOM.false c.next_filled-filled.ensures) c.next_filled-filled.ensures.below c.if-out-at-lt-LINE_ROOM.false (tame_short c.args.passes c.args.words.now c.args.sheet.now c.requires.sound.tame c.next_filled-filled.result c.next_filled-filled.ensures.below)
+pub write_line-at-requires : goal.write_line-at-requires
+write_line-at-requires c = cutting_asked c.args.passes c.args.words.now c.args.sheet.now c.args.from c.args.out.now c.requires c.loop-k.out c.loop-k.at c.next_filled-filled.result (skipped_at c.args.passes c.args.words.now c.args.sheet.now c.args.from c.args.out.now c.requires c.loop-k.out c.loop-k.at c.loop-k.k c.loop-k.invariant c.if-out-at-lt-LINE_ROOM.false c.next_filled-filled.ensures) c.next_filled-filled.ensures.below c.if-out-at-lt-LINE_ROOM.false (tame_short c.args.passes c.args.words.now c.args.sheet.now c.requires.sound.tame c.next_filled-filled.result c.next_filled-filled.ensures.below)
 
 pub overflow_add-at : goal.overflow_add-at
-overflow_add-at c = let l = (tame_short c.args.passes c.args.words.now c.args.sheet.now c.requires.sound.tame c.next_filled-filled.result c.next_filled-filled.ensures.below) in let m = c.write_line-n.ensures.count in record { fits = omega (arith, l, m, c.loop-k.invariant.fits) }
+overflow_add-at c = let l = (tame_short c.args.passes c.args.words.now c.args.sheet.now c.requires.sound.tame c.next_filled-filled.result c.next_filled-filled.ensures.below) in let m = c.write_line-at.ensures.count in record { fits = omega (arith, l, m, c.loop-k.invariant.fits) }
 
 pub overflow_add-k : goal.overflow_add-k
 overflow_add-k c = omega (arith, c.next_filled-filled.ensures.below, c.requires.sound.all.words_long)
@@ -44,7 +43,7 @@ pub loop-k-smaller : goal.loop-k-smaller
 loop-k-smaller c = omega (arith, c.loop-k-test.true, c.next_filled-filled.ensures.from, c.next_filled-filled.ensures.below)
 
 pub loop-k-preserved : goal.loop-k-preserved
-loop-k-preserved c = cutting_more c.args.passes c.args.words.now c.args.sheet.now c.args.from c.args.out.now c.requires c.loop-k.out c.loop-k.at c.next_filled-filled.result (skipped_at c.args.passes c.args.words.now c.args.sheet.now c.args.from c.args.out.now c.requires c.loop-k.out c.loop-k.at c.loop-k.k c.loop-k.invariant c.if-out-at-lt-LINE_ROOM.false c.next_filled-filled.ensures) c.next_filled-filled.ensures.below c.if-out-at-lt-LINE_ROOM.false (tame_short c.args.passes c.args.words.now c.args.sheet.now c.requires.sound.tame c.next_filled-filled.result c.next_filled-filled.ensures.below) _ _ c.write_line-n.ensures
+loop-k-preserved c = cutting_more c.args.passes c.args.words.now c.args.sheet.now c.args.from c.args.out.now c.requires c.loop-k.out c.loop-k.at c.next_filled-filled.result (skipped_at c.args.passes c.args.words.now c.args.sheet.now c.args.from c.args.out.now c.requires c.loop-k.out c.loop-k.at c.loop-k.k c.loop-k.invariant c.if-out-at-lt-LINE_ROOM.false c.next_filled-filled.ensures) c.next_filled-filled.ensures.below c.if-out-at-lt-LINE_ROOM.false (tame_short c.args.passes c.args.words.now c.args.sheet.now c.requires.sound.tame c.next_filled-filled.result c.next_filled-filled.ensures.below) _ _ c.write_line-at.ensures
 
 pub shape_of-out : goal.shape_of-out
 shape_of-out c = cutting_length c.args.passes c.args.words.now c.args.sheet.now c.args.from c.args.out.now c.requires c.loop-k.out c.loop-k.at c.loop-k.k c.loop-k.invariant

@@ -1,25 +1,16 @@
--- `tests::is_wild` meets its contract: a search from the first outcome on that stops at a hit. Assumes nothing.
-use mathlib.Core.Path.{sym, ◌∙◌}
-use Prim.Native.Nat.{◌-◌}
+-- `tests::is_wild` meets its contract: one outcome after the other is looked at. Assumes nothing.
+use mathlib.Core.Path.{◌∙◌, refl}
 use native.Mathlib.Omega.{arith}
-use Rattle.labels.proofs.Below.{searching_start, searching_more, searching_hit, searching_end}
+use Rattle.std.proofs.Common.{rules, tests}
+use Rattle.std.proofs.lemmas.Iterator.{YieldsList-from_range}
+use Rattle.std.proofs.lemmas.Iterator.Search.{any_from_yields_List}
+use Rattle.arguments.proofs.Chains.{any_counted}
 use Rattle.report_words.specs.Outcomes.{wild_outcome}
 use Rattle.report.specs.WriteResult.{wild}
 use Rattle.report.proofs.tests.is_wild.Goals as goal
 
-pub loop-k-init : goal.loop-k-init
-loop-k-init c = searching_start _ _
-
-pub wild_outcome-requires : goal.wild_outcome-requires
-wild_outcome-requires c = record { there = omega arith }
-
-pub returns-then-wild_outcome : goal.returns-then-wild_outcome
-unfolding wild
-returns-then-wild_outcome c = searching_hit _ _ _ c.loop-k.invariant c.loop-k-test.true (sym c.wild_outcome.ensures ∙ c.if-wild_outcome.true)
-
-pub loop-k-preserved : goal.loop-k-preserved
-loop-k-preserved c = searching_more _ _ _ c.loop-k.invariant c.loop-k-test.true (sym c.wild_outcome.ensures ∙ c.if-wild_outcome.false)
-
 pub returns : goal.returns
 unfolding wild
-returns c = searching_end _ _ _ c.loop-k.invariant c.loop-k-test.false
+returns c =
+    any_from_yields_List (wild_outcome c.args.words.now) _ _ _ c.any.ensures.ran (YieldsList-from_range 0 c.args.passes c.args.passes refl (omega arith)) (λ x b q k. search (rules, tests))
+    ∙ any_counted _ _

@@ -5,10 +5,10 @@ use Rattle.report_line.proofs.Forms.{no_cell, cell_is, corner_asked, nothing_wri
 use Rattle.report_line.proofs.line.write_cell_line.Goals as goal
 
 pub write_cell-requires : goal.write_cell-requires
-write_cell-requires c = corner_asked c.args.sheet.now c.args.place _ c.cell_of.ensures c.args.out.now _ (sym c.label_of-label.ensures ∙ c.in-Corner.is) c.requires
+write_cell-requires c = corner_asked c.args.sheet.now c.args.place _ c.cell_of.ensures c.args.out.now _ (sym c.label_of.ensures ∙ c.in-Some.is) c.requires
 
-pub returns-in-Unlabelled : goal.returns-in-Unlabelled
-returns-in-Unlabelled c = nothing_written (cell_line c.args.sheet.now c.args.place) _ (no_cell c.args.sheet.now c.args.place (sym c.label_of-label.ensures ∙ c.in-Unlabelled.is))
+pub returns-in-None : goal.returns-in-None
+returns-in-None c = nothing_written (cell_line c.args.sheet.now c.args.place) _ (no_cell c.args.sheet.now c.args.place (sym c.label_of.ensures ∙ c.in-None.is))
 
-pub returns-in-Corner : goal.returns-in-Corner
-returns-in-Corner c = same_wrote _ (cell_line c.args.sheet.now c.args.place) _ _ _ (cell_is c.args.sheet.now c.args.place _ c.cell_of.ensures _ (sym c.label_of-label.ensures ∙ c.in-Corner.is)) c.write_cell.ensures
+pub returns-in-Some : goal.returns-in-Some
+returns-in-Some c = same_wrote _ (cell_line c.args.sheet.now c.args.place) _ _ _ (cell_is c.args.sheet.now c.args.place _ c.cell_of.ensures _ (sym c.label_of.ensures ∙ c.in-Some.is)) c.write_cell.ensures

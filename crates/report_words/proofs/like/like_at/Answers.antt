@@ -1,14 +1,20 @@
 -- `like::like_at` meets its contract: above the largest number that a line can hold there are as many digits. Assumes nothing.
-use Rattle.report_line.proofs.Like.{like_itself, like_largest}
-use Prim.Native.Nat.{◌+◌, ◌*◌}
+use Prim.Native.Nat.{ℕ, ◌+◌, ◌*◌, ◌<◌, ◌≤◌, min}
+use native.Mathlib.Decide.{dec_le}
 use native.Mathlib.Omega.{arith}
+use mathlib.Core.Path.{◌≡◌}
+use Rattle.report_line.specs.Like.{Like}
+use Rattle.report_line.proofs.Like.{like_itself, like_largest}
 use Rattle.report_words.proofs.like.like_at.Goals as goal
 
-pub returns-then-n-gt4293967295 : goal.returns-then-n-gt4293967295
-returns-then-n-gt4293967295 c = like_largest _ c.if-n-gt4293967295.true (omega (arith, c.shared_slice_known-1.given (11 * c.args.k + c.args.m)))
-
-pub overflow_cast-result : goal.overflow_cast-result
-overflow_cast-result c = omega (arith, c.shared_slice_known-1.given (11 * c.args.k + c.args.m))
+like_least : (n r : ℕ) → n < 4294967296 → r ≡ min n 4293967295 → Like n r
+like_least n r h e = go (dec_le n 4293967295)
+  where
+    go : Dec (n ≤ 4293967295) → Like n r
+    go (yes l) = let same : r ≡ n = omega arith in rw same (like_itself n l)
+    go (no f) = let same : r ≡ 4293967295 = omega arith in rw same (like_largest n (omega arith) h)
 
 pub returns : goal.returns
-returns c = like_itself _ c.if-n-gt4293967295.false
+returns c =
+    let small = c.type_inv.words (11 * c.args.k + c.args.m) in
+    like_least _ _ (omega arith) (rw (← c.word_at.ensures) c.min.ensures)

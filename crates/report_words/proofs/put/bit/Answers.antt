@@ -1,12 +1,14 @@
--- `put::bit` meets its contract. Assumes nothing.
-use mathlib.Core.Path.{refl}
+-- `put::bit` meets its contract, by the answer. Assumes nothing.
+use mathlib.Core.Bool.{Bool, true, false}
+use mathlib.Core.Path.{◌≡◌, refl, ◌∙◌}
+use mir.Val.{bool_byte}
 use Rattle.sheet.specs.Words.{bit_of}
 use Rattle.report_words.proofs.put.bit.Goals as goal
 
-pub returns-then-b : goal.returns-then-b
+same : (b : Bool) → bool_byte b ≡ bit_of b
 unfolding bit_of
-returns-then-b c = rw c.if-b.true refl
+same true = refl
+same false = refl
 
 pub returns : goal.returns
-unfolding bit_of
-returns c = rw c.if-b.false refl
+returns c = c.from.ensures ∙ same c.args.b

@@ -1,5 +1,0 @@
--- `read::grow_at` meets its contract, word by word. Assumes nothing.
-use Rattle.report_words.proofs.read.grow_at.Goals as goal
-
-pub returns : goal.returns
-returns c = cc
