@@ -21,7 +21,8 @@ use Rattle.labels.proofs.Pairing.{paired_box, paired_count}
 use Rattle.candidates.specs.Candidates.{squared_radius}
 use Rattle.candidates.proofs.Radius.{search_radius}
 use Rattle.predict.specs.Predict.{prediction_of}
-use Rattle.predict.specs.declared.Prediction.{Prediction}
+use Rattle.std.specs.Prelude.{Option, Some, None}
+use Rattle.sheet.specs.declared.Position.{Position}
 use Rattle.predict.proofs.Laws.{prediction_paired}
 use Rattle.arguments.specs.Shades.{corners_of, PairedShades}
 use Rattle.arguments.specs.Accepted.{SettingsInside, FillInside}
@@ -82,10 +83,10 @@ module _ (l l' : CornerLists) (corners : PairedCorners l l') (shades shades' : L
   factor_above = above
 
   module _ (a a' : FillState) (same : SameFill corners.pairs a a') (given : Given (length l.xs) a.sheet) (c : Cell) (on : OnSheet c) where
-    at_same : (at : Prediction) → SameFill corners.pairs (fill_at (corners_of l shades) set params c at a) (fill_at (corners_of l' shades') set params c at a')
+    at_same : (at : Option Position) → SameFill corners.pairs (fill_at (corners_of l shades) set params c at a) (fill_at (corners_of l' shades') set params c at a')
     unfolding fill_at
-    at_same Prediction.NoNeighbour = same
-    at_same (Prediction.At at) =
+    at_same None = same
+    at_same (Some at) =
         rw (try_paired l l' corners shades shades' kinds long a.sheet a'.sheet same.sheet given (tolerances_of set) (fill_search set params) c at finite_radius factor_above)
         (with_same same given.long c on few (try_at (corners_of l shades) a.sheet (tolerances_of set) (fill_search set params) c at)
         (λ k h. (attachable (corners_of l shades) a.sheet (tolerances_of set) (fill_search set params) c at k h).given))

@@ -23,7 +23,8 @@ use Rattle.labels.proofs.Pairing.{paired_places}
 use Rattle.candidates.specs.Candidates.{squared_radius}
 use Rattle.candidates.proofs.Radius.{search_radius, boundary_radius}
 use Rattle.predict.specs.Predict.{prediction_of, extrapolating}
-use Rattle.predict.specs.declared.Prediction.{Prediction}
+use Rattle.std.specs.Prelude.{Option, Some, None}
+use Rattle.sheet.specs.declared.Position.{Position}
 use Rattle.predict.proofs.Laws.{prediction_paired, extrapolating_paired}
 use Rattle.positions_policy.specs.Edge.{cardinal_offsets}
 use Rattle.arguments.specs.Shades.{corners_of, PairedShades}
@@ -142,10 +143,10 @@ module _ (l l' : CornerLists) (corners : PairedCorners l l') (shades shades' : L
   factor_above e = above
 
   module _ (a a' : GrowState) (same : SameGrow corners.pairs a a') (given : Given (length l.xs) a.sheet) (c : Cell) (on : OnSheet c) where
-    at_same : (at : Prediction) → SameGrow corners.pairs (grow_at (corners_of l shades) set params c at a) (grow_at (corners_of l' shades') set params c at a')
+    at_same : (at : Option Position) → SameGrow corners.pairs (grow_at (corners_of l shades) set params c at a) (grow_at (corners_of l' shades') set params c at a')
     unfolding grow_at
-    at_same Prediction.NoNeighbour = missed_same same given.long c on
-    at_same (Prediction.At at) =
+    at_same None = missed_same same given.long c on
+    at_same (Some at) =
         let e = extrapolating (seen_of (corner_of l) a.sheet) c in
         let search = search_of set params e in
         rw (extrapolating_paired corners same.sheet given c, try_paired l l' corners shades shades' kinds long a.sheet a'.sheet same.sheet given (tolerances_of set) search c at (finite_radius e) (factor_above e))

@@ -1,5 +1,6 @@
 -- The order of the corners decides nothing, over every list of calls: two runs on paired frames agree after every call, if each call that runs
 -- has a factor above 1. Assumes nothing.
+use Rattle.std.specs.Prelude.{Ok, Err}
 use mathlib.Core.Path.{◌≡◌, refl, sym, ap, ap₂, ◌∙◌, subst, subst₂}
 use mathlib.Core.Bool.{true, false}
 use mathlib.Core.List.{List, [], ◌∷◌}
@@ -13,9 +14,8 @@ use Rattle.sheet.specs.Pairing.{Shuffle, PairedCorners, PairedSheets}
 use Rattle.sheet.proofs.Pairing.{given_paired, listed_paired}
 use Rattle.labels.proofs.Pairing.{paired_rim, paired_one}
 use Rattle.arguments.specs.Shades.{any_shade, corners_of, PairedShades}
-use Rattle.arguments.specs.Arguments.{checked}
+use Rattle.arguments.specs.Arguments.{Checked, checked}
 use Rattle.arguments.specs.Accepted.{SettingsInside, GrowInside, FillInside, LocalInside, PassInside}
-use Rattle.arguments.specs.declared.Checked.{Checked}
 use Rattle.arguments.specs.declared.Settings.{Settings}
 use Rattle.arguments.specs.declared.Pass.{Pass}
 use Rattle.arguments.specs.declared.GrowParams.{GrowParams}
@@ -44,12 +44,12 @@ answering_same : {n : ℕ} {s : Shuffle n} {A B : Type 0} (f : A → B) {a a' : 
 answering_same f same = record { answer = ap f same.answer; sheet = same.sheet; attached = same.attached; visited = same.visited }
 
 -- a call that is checked alike and, if it runs, does the same
-unless_same : {n : ℕ} {s : Shuffle n} {A : Type 0} (k k' : Checked) (a a' : After A) → k' ≡ k → (k ≡ Checked.Fine → SameAfter s a a') → SameOutcome s (unless k a) (unless k' a')
+unless_same : {n : ℕ} {s : Shuffle n} {A : Type 0} (k k' : Checked) (a a' : After A) → k' ≡ k → (k ≡ Ok tt → SameAfter s a a') → SameOutcome s (unless k a) (unless k' a')
 unless_same {s = s} k k' a a' e same = subst (λ (j : Checked). SameOutcome s (unless k a) (unless j a')) (sym e) (go k same)
   where
-    go : (j : Checked) → (j ≡ Checked.Fine → SameAfter s a a') → SameOutcome s (unless j a) (unless j a')
-    go Checked.Fine w = both_done (w refl)
-    go (Checked.Refused r) w = both_refused r
+    go : (j : Checked) → (j ≡ Ok tt → SameAfter s a a') → SameOutcome s (unless j a) (unless j a')
+    go (Ok tt) w = both_done (w refl)
+    go (Err r) w = both_refused r
 
 sheets_after : {n : ℕ} {s : Shuffle n} {sheet sheet' : List ℕ} {o o' : Outcome PassStats} → PairedSheets s sheet sheet' → SameOutcome s o o'
     → PairedSheets s (sheet_after sheet o) (sheet_after sheet' o')

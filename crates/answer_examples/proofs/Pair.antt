@@ -1,5 +1,6 @@
 -- The two texts meet what demand 3 asks, so it speaks of them: their runs are alike, and the second answer is the first with the corners of its cell lines
 -- numbered anew. Assumes nothing.
+use Rattle.std.specs.Prelude.{Err}
 use mathlib.Core.Path.{◌≡◌, refl, sym, ap, ◌∙◌, subst}
 use mathlib.Core.Bool.{Bool, true, false, ◌||◌}
 use mathlib.Core.List.{List, [], ◌∷◌, map}
@@ -10,8 +11,7 @@ use Rattle.refusal.specs.declared.Refusal.{Refusal}
 use Rattle.binary32.specs.Ranges.{ends_of}
 use Rattle.sheet.specs.Cells.{cell_of}
 use Rattle.sheet.specs.Words.{label_of_number, label_of, hole_of, ambiguous_of}
-use Rattle.arguments.specs.Arguments.{queue_needed, too_short, over_limit, outside, some_corner_outside, settings_outside, local_outside, pass_outside, out_of_range, checked}
-use Rattle.arguments.specs.declared.Checked.{Checked}
+use Rattle.arguments.specs.Arguments.{Checked, queue_needed, too_short, over_limit, outside, some_corner_outside, settings_outside, local_outside, pass_outside, out_of_range, checked}
 use Rattle.arguments.proofs.Laws.{not_short}
 use Rattle.passes.specs.Outcome.{Outcome, refused, done}
 use Rattle.passes.specs.Step.{lent_of, unless}
@@ -100,7 +100,7 @@ module _ (sheet : List ℕ) (s : Standing (frame_corners first_frame) sheet) whe
   unfolding out_of_range pass_outside local_outside outside ends_of of_bits of_int le full_of pass_of
   deep = or_last (some_corner_outside (frame_corners first_frame) (shades_of first_frame)) (settings_outside c.settings)
 
-  wild : checked_call (frame_corners first_frame) sheet c ≡ Checked.Refused Refusal.OutOfRange
+  wild : checked_call (frame_corners first_frame) sheet c ≡ Err Refusal.OutOfRange
   unfolding checked over_limit xs_of kind_at bits_at whole_at pass_line_of opened adding parts_from parts_of
   wild = rw (long, deep) refl
 

@@ -1,4 +1,5 @@
 -- Chains of tests, for every crate that has one: tests of which one is enough, and refusals that are tried in order. Assumes nothing.
+use Rattle.std.specs.Prelude.{Ok, Err}
 use mathlib.Core.Path.{◌≡◌, refl, sym, ap, subst, ◌∙◌}
 use mathlib.Core.Bool.{Bool, true, false, ◌||◌}
 use mathlib.Core.List.{List, [], ◌∷◌, ◌++◌}
@@ -14,8 +15,7 @@ use Rattle.labels.specs.Labelled.{any_below}
 use native.Mathlib.Omega.{arith}
 use Rattle.refusal.specs.declared.Refusal.{Refusal}
 use Rattle.labels.proofs.Below.{no_both, any_start, any_more}
-use Rattle.arguments.specs.Arguments.{refused_if}
-use Rattle.arguments.specs.declared.Checked.{Checked}
+use Rattle.arguments.specs.Arguments.{Checked, refused_if}
 
 -- ---- tests of which one is enough: none holds
 
@@ -56,13 +56,13 @@ any_counted test (suc n) =
 -- ---- refusals in order
 
 -- this test refuses; it does not, and the rest says t
-pub refused : (b : Bool) (r : Refusal) (rest : Checked) → b ≡ true → Checked.Refused r ≡ refused_if b r rest
+pub refused : (b : Bool) (r : Refusal) (rest : Checked) → b ≡ true → Err r ≡ refused_if b r rest
 refused b r rest e = rw e
 
 pub passed : (b : Bool) (r : Refusal) (rest t : Checked) → b ≡ false → t ≡ rest → t ≡ refused_if b r rest
 passed b r rest t e f = rw e f
 
 -- what is fine was not refused, by this test or by the rest
-pub not_refused : (b : Bool) (r : Refusal) (rest : Checked) → refused_if b r rest ≡ Checked.Fine → (b ≡ false) × (rest ≡ Checked.Fine)
+pub not_refused : (b : Bool) (r : Refusal) (rest : Checked) → refused_if b r rest ≡ Ok tt → (b ≡ false) × (rest ≡ Ok tt)
 not_refused true r rest e = absurd (let z : ◌≡◌ {A = ℕ} 0 1 = cc in omega arith)
 not_refused false r rest e = (refl, e)

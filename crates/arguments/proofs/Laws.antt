@@ -1,6 +1,6 @@
 -- What the checks say: a call is accepted exactly if its buffers are long enough, its corners at most 1,024, its numbers in
 -- their ranges, and its sheet names given corners only, each at one place. Assumes nothing.
-use Rattle.std.specs.Prelude.{Option, Some, None}
+use Rattle.std.specs.Prelude.{Ok, Option, Some, None}
 use mathlib.Core.Path.{◌≡◌, refl, sym, ap, ◌∙◌}
 use mathlib.Core.Bool.{Bool, true, false, not}
 use mathlib.Core.List.{List}
@@ -21,14 +21,13 @@ use Rattle.labels.specs.Used.{names, OneCell}
 use Rattle.labels.proofs.Below.{no_both, any_hit, any_yes, any_none, any_no}
 use Rattle.labels.proofs.Used.{names_it, it_names}
 use Rattle.predict.specs.declared.Vector.{Vector}
-use Rattle.arguments.specs.Arguments.{Lent, corner_count, queue_needed, too_short, over_limit, outside, corner_outside, shade_outside, outside_at, some_corner_outside, axis_outside, settings_outside, grow_outside, fill_outside, local_outside, pass_outside, out_of_range, unknown, unknown_at, unknown_corner, same_corner, doubled_at, doubled_corner, refused_if, checked}
+use Rattle.arguments.specs.Arguments.{Checked, Lent, corner_count, queue_needed, too_short, over_limit, outside, corner_outside, shade_outside, outside_at, some_corner_outside, axis_outside, settings_outside, grow_outside, fill_outside, local_outside, pass_outside, out_of_range, unknown, unknown_at, unknown_corner, same_corner, doubled_at, doubled_corner, refused_if, checked}
 use Rattle.arguments.specs.Accepted.{CornerInside, AxisInside, SettingsInside, GrowInside, FillInside, LocalInside, PassInside, Accepted, LongEnough, Known, OnTwoPlaces}
 use Rattle.arguments.specs.declared.GrowParams.{GrowParams}
 use Rattle.arguments.specs.declared.FillParams.{FillParams}
 use Rattle.arguments.specs.declared.LocalExtensionParams.{LocalExtensionParams}
 use Rattle.arguments.specs.declared.Pass.{Pass}
 use Rattle.arguments.specs.declared.Settings.{Settings}
-use Rattle.arguments.specs.declared.Checked.{Checked}
 use Rattle.arguments.proofs.Chains.{or_false, or_false_both, not_refused}
 
 -- ---- 7: the buffers are long enough
@@ -238,18 +237,18 @@ not_doubled sheet o = go (doubled_corner sheet) refl
 
 -- ---- a call that is not refused
 
-still_fine : (b : Bool) (r : Refusal) (rest : Checked) → b ≡ false → rest ≡ Checked.Fine → refused_if b r rest ≡ Checked.Fine
+still_fine : (b : Bool) (r : Refusal) (rest : Checked) → b ≡ false → rest ≡ Ok tt → refused_if b r rest ≡ Ok tt
 still_fine b r rest e f = rw e f
 
 module _ (l : Lent) (settings : Settings) (pass : Pass) where
-  pub accepted : checked l settings pass ≡ Checked.Fine → Accepted l settings pass
+  pub accepted : checked l settings pass ≡ Ok tt → Accepted l settings pass
   unfolding checked over_limit out_of_range
   accepted e =
       let a7 = not_refused (too_short l pass) Refusal.BufferTooShort _ e in
       let a2 = not_refused (over_limit l) Refusal.OverLimit _ a7.1 in
       let a3 = not_refused (out_of_range l settings pass) Refusal.OutOfRange _ a2.1 in
       let a5 = not_refused (unknown_corner (corner_count l) l.sheet) Refusal.UnknownCorner _ a3.1 in
-      let a6 = not_refused (doubled_corner l.sheet) Refusal.Duplicate Checked.Fine a5.1 in
+      let a6 = not_refused (doubled_corner l.sheet) Refusal.Duplicate (Ok tt) a5.1 in
       let long = long_enough l pass a7.0 in
       let numbers = or_false_both (some_corner_outside l.corners l.shades) _ a3.0 in
       let others = or_false_both (settings_outside settings) _ numbers.1 in
@@ -267,7 +266,7 @@ module _ (l : Lent) (settings : Settings) (pass : Pass) where
         one_cell = one_cell _ a6.0;
       }
 
-  pub accepted_fine : Accepted l settings pass → checked l settings pass ≡ Checked.Fine
+  pub accepted_fine : Accepted l settings pass → checked l settings pass ≡ Ok tt
   unfolding checked over_limit out_of_range
   accepted_fine w =
       still_fine _ _ _

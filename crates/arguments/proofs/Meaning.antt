@@ -1,6 +1,6 @@
 -- A call is refused with a number exactly if that number's meaning holds and none of those tried before it, and is let pass exactly if it is
 -- accepted. Assumes nothing.
-use Rattle.std.specs.Prelude.{Option, Some, None}
+use Rattle.std.specs.Prelude.{Ok, Err, Option, Some, None}
 use mathlib.Core.Path.{◌≡◌, refl, sym, subst}
 use mathlib.Core.Bool.{Bool, true, false}
 use mathlib.Core.List.{List}
@@ -10,10 +10,9 @@ use lib.ListN.{get_or}
 use Rattle.refusal.specs.declared.Refusal.{Refusal}
 use Rattle.sheet.specs.Words.{label_of}
 use Rattle.labels.proofs.Below.{no_both, any_hit, any_yes}
-use Rattle.arguments.specs.Arguments.{Lent, corner_count, too_short, over_limit, some_corner_outside, settings_outside, out_of_range, unknown, unknown_at, unknown_corner, doubled_corner, refused_if, checked}
+use Rattle.arguments.specs.Arguments.{Checked, Lent, corner_count, too_short, over_limit, some_corner_outside, settings_outside, out_of_range, unknown, unknown_at, unknown_corner, doubled_corner, refused_if, checked}
 use Rattle.arguments.specs.Accepted.{LongEnough}
 use Rattle.arguments.specs.Meaning.{NumbersInside, NamesUnknown, RefusedFor, Meaning, RefusedExactlyIf}
-use Rattle.arguments.specs.declared.Checked.{Checked}
 use Rattle.arguments.specs.declared.Pass.{Pass}
 use Rattle.arguments.specs.declared.Settings.{Settings}
 use Rattle.arguments.proofs.Chains.{or_false, or_false_both}
@@ -106,23 +105,23 @@ module _ (l : Lent) (settings : Settings) (pass : Pass) where
 
   -- what holds is answered
   meant : (answer : Checked) → Meaning l settings pass answer → checked l settings pass ≡ answer
-  meant Checked.Fine w = accepted_fine l settings pass w
-  meant (Checked.Refused Refusal.BufferTooShort) w = sym (refused_7 l settings pass (is_short l settings pass w))
-  meant (Checked.Refused Refusal.OverLimit) w = sym (refused_2 l settings pass (not_short l pass w.0) (is_over l settings pass w.1))
-  meant (Checked.Refused Refusal.OutOfRange) w =
+  meant (Ok tt) w = accepted_fine l settings pass w
+  meant (Err Refusal.BufferTooShort) w = sym (refused_7 l settings pass (is_short l settings pass w))
+  meant (Err Refusal.OverLimit) w = sym (refused_2 l settings pass (not_short l pass w.0) (is_over l settings pass w.1))
+  meant (Err Refusal.OutOfRange) w =
       sym (refused_3 l settings pass (not_short l pass w.0) (not_over l settings pass w.1) (sym (is_outside l settings pass w.2)))
-  meant (Checked.Refused Refusal.UnknownCorner) w =
+  meant (Err Refusal.UnknownCorner) w =
       sym
       (refused_5 l settings pass (not_short l pass w.0) (not_over l settings pass w.1) (sym (numbers_not_outside l settings pass w.2))
       (is_unknown _ _ w.3))
-  meant (Checked.Refused Refusal.Duplicate) w =
+  meant (Err Refusal.Duplicate) w =
       sym
       (refused_6 l settings pass (not_short l pass w.0) (not_over l settings pass w.1) (sym (numbers_not_outside l settings pass w.2))
       (not_unknown _ _ w.3) (doubled _ w.4))
-  meant (Checked.Refused Refusal.Malformed) w = absurd w
-  meant (Checked.Refused Refusal.OffSheet) w = absurd w
-  meant (Checked.Refused Refusal.NoSharedCorner) w = absurd w
-  meant (Checked.Refused Refusal.PatchesClash) w = absurd w
+  meant (Err Refusal.Malformed) w = absurd w
+  meant (Err Refusal.OffSheet) w = absurd w
+  meant (Err Refusal.NoSharedCorner) w = absurd w
+  meant (Err Refusal.PatchesClash) w = absurd w
 
 pub refused_exactly_if : RefusedExactlyIf
 refused_exactly_if l settings pass answer = (λ e. subst (Meaning l settings pass) e (means l settings pass), meant l settings pass answer)

@@ -1,6 +1,6 @@
 -- Laws of the tests, for the functions that make them: a chain of tests of which one is enough, a chain of refusals, a
 -- label's corner, and the corners seen place by place. Assumes nothing.
-use Rattle.std.specs.Prelude.{Option, Some, None}
+use Rattle.std.specs.Prelude.{Ok, Err, Option, Some, None}
 use mathlib.Core.Path.{◌≡◌, refl, sym, ap, ◌∙◌}
 use mathlib.Core.Bool.{Bool, true, false, not, ◌||◌}
 use mathlib.Core.List.{List}
@@ -19,7 +19,6 @@ use Rattle.arguments.specs.Arguments.{Lent, corner_count, too_short, over_limit,
 use Rattle.arguments.specs.Asked.{HasEntry, HasEntries, seen_before, Noted, Unseen}
 use Rattle.arguments.specs.declared.Pass.{Pass}
 use Rattle.arguments.specs.declared.Settings.{Settings}
-use Rattle.arguments.specs.declared.Checked.{Checked}
 use Rattle.arguments.proofs.Chains.{refused, passed}
 
 -- ---- chains
@@ -34,31 +33,31 @@ fails a b t e f = rw e f
 -- ---- the refusals, tried in 01's order
 
 module _ (l : Lent) (settings : Settings) (pass : Pass) where
-  pub refused_7 : too_short l pass ≡ true → Checked.Refused Refusal.BufferTooShort ≡ checked l settings pass
+  pub refused_7 : too_short l pass ≡ true → Err Refusal.BufferTooShort ≡ checked l settings pass
   unfolding checked
   refused_7 e = refused _ _ _ e
 
   module _ (a7 : too_short l pass ≡ false) where
-    pub refused_2 : over_limit l ≡ true → Checked.Refused Refusal.OverLimit ≡ checked l settings pass
+    pub refused_2 : over_limit l ≡ true → Err Refusal.OverLimit ≡ checked l settings pass
     unfolding checked
     refused_2 e = passed _ _ _ _ a7 (refused _ _ _ e)
 
     module _ (a2 : over_limit l ≡ false) where
-      pub refused_3 : true ≡ out_of_range l settings pass → Checked.Refused Refusal.OutOfRange ≡ checked l settings pass
+      pub refused_3 : true ≡ out_of_range l settings pass → Err Refusal.OutOfRange ≡ checked l settings pass
       unfolding checked
       refused_3 e = passed _ _ _ _ a7 (passed _ _ _ _ a2 (refused _ _ _ (sym e)))
 
       module _ (a3 : false ≡ out_of_range l settings pass) where
-        pub refused_5 : unknown_corner (corner_count l) l.sheet ≡ true → Checked.Refused Refusal.UnknownCorner ≡ checked l settings pass
+        pub refused_5 : unknown_corner (corner_count l) l.sheet ≡ true → Err Refusal.UnknownCorner ≡ checked l settings pass
         unfolding checked
         refused_5 e = passed _ _ _ _ a7 (passed _ _ _ _ a2 (passed _ _ _ _ (sym a3) (refused _ _ _ e)))
 
         module _ (a5 : unknown_corner (corner_count l) l.sheet ≡ false) where
-          pub refused_6 : doubled_corner l.sheet ≡ true → Checked.Refused Refusal.Duplicate ≡ checked l settings pass
+          pub refused_6 : doubled_corner l.sheet ≡ true → Err Refusal.Duplicate ≡ checked l settings pass
           unfolding checked
           refused_6 e = passed _ _ _ _ a7 (passed _ _ _ _ a2 (passed _ _ _ _ (sym a3) (passed _ _ _ _ a5 (refused _ _ _ e))))
 
-          pub refused_none : doubled_corner l.sheet ≡ false → Checked.Fine ≡ checked l settings pass
+          pub refused_none : doubled_corner l.sheet ≡ false → Ok tt ≡ checked l settings pass
           unfolding checked
           refused_none e = passed _ _ _ _ a7 (passed _ _ _ _ a2 (passed _ _ _ _ (sym a3) (passed _ _ _ _ a5 (passed _ _ _ _ e refl))))
 

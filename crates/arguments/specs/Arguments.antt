@@ -1,6 +1,6 @@
 -- What every library call checks of what it is lent (01, "Frame and result", the table of refusals): "The library tries
 -- 7, 2, 3, 5, 6". Each of the five has a test that is true where the call is refused. Definitions only.
-use Rattle.std.specs.Prelude.{Bool, true, false, not, ◌||◌, List, ℕ, ◌*◌, ltb, leb, length, get_or, Float, Option, Some, None}
+use Rattle.std.specs.Prelude.{Bool, true, false, not, ◌||◌, List, ℕ, ◌*◌, ltb, leb, length, get_or, Float, Result, Ok, Err, Option, Some, None}
 use Rattle.sizes.specs.Sizes.{place_count, corner_limit}
 use Rattle.refusal.specs.declared.Refusal.{Refusal}
 use Rattle.binary32.specs.Ranges.{in_range}
@@ -16,7 +16,6 @@ use Rattle.arguments.specs.declared.FillParams.{FillParams}
 use Rattle.arguments.specs.declared.LocalExtensionParams.{LocalExtensionParams}
 use Rattle.arguments.specs.declared.Pass.{Pass}
 use Rattle.arguments.specs.declared.Settings.{Settings}
-use Rattle.arguments.specs.declared.Checked.{Checked}
 
 -- what a call is lent: the corners, their shades, the sheet, and the lengths of the queue and the attached list
 pub record Lent : Type 0 where
@@ -157,8 +156,12 @@ doubled_corner sheet = any_below place_count (doubled_at sheet)
 
 -- ---- "The library tries 7, 2, 3, 5, 6"
 
+-- what the check of a call's arguments finds: nothing, or why the call is refused
+abbrev pub Checked : Type 0
+Checked = Result (Unit {0}) Refusal
+
 abbrev pub refused_if : Bool → Refusal → Checked → Checked
-refused_if true refusal rest = Checked.Refused refusal
+refused_if true refusal rest = Err refusal
 refused_if false refusal rest = rest
 
 unfoldable pub checked : Lent → Settings → Pass → Checked
@@ -167,4 +170,4 @@ checked l settings pass =
     (refused_if (over_limit l) Refusal.OverLimit
     (refused_if (out_of_range l settings pass) Refusal.OutOfRange
     (refused_if (unknown_corner (corner_count l) l.sheet) Refusal.UnknownCorner
-    (refused_if (doubled_corner l.sheet) Refusal.Duplicate Checked.Fine))))
+    (refused_if (doubled_corner l.sheet) Refusal.Duplicate (Ok tt)))))

@@ -1,13 +1,12 @@
 -- When a library call is refused, and with which number, without the tests that find it (01, "Frame and result", the table of refusals: "The
 -- library tries 7, 2, 3, 5, 6"). `proofs/Meaning.antt` proves `RefusedExactlyIf`. Definitions only.
-use Rattle.std.specs.Prelude.{◌≡◌, List, ◌↔◌, ℕ, ◌<◌, ◌≤◌, get_or, Some}
+use Rattle.std.specs.Prelude.{◌≡◌, List, ◌↔◌, ℕ, ◌<◌, ◌≤◌, get_or, Ok, Err, Some}
 use Rattle.sizes.specs.Sizes.{place_count, corner_limit}
 use Rattle.refusal.specs.declared.Refusal.{Refusal}
 use Rattle.sheet.specs.Words.{label_of}
 use Rattle.sheet.specs.Corners.{corner_of}
-use Rattle.arguments.specs.Arguments.{Lent, corner_count, checked}
+use Rattle.arguments.specs.Arguments.{Checked, Lent, corner_count, checked}
 use Rattle.arguments.specs.Accepted.{CornerInside, SettingsInside, PassInside, LongEnough, Known, OnTwoPlaces, Accepted}
-use Rattle.arguments.specs.declared.Checked.{Checked}
 use Rattle.arguments.specs.declared.Pass.{Pass}
 use Rattle.arguments.specs.declared.Settings.{Settings}
 
@@ -48,8 +47,8 @@ RefusedFor l settings pass Refusal.PatchesClash = ⊥
 
 -- what each answer of the checks means
 abbrev pub Meaning : Lent → Settings → Pass → Checked → Type 0
-Meaning l settings pass Checked.Fine = Accepted l settings pass
-Meaning l settings pass (Checked.Refused r) = RefusedFor l settings pass r
+Meaning l settings pass (Ok tt) = Accepted l settings pass
+Meaning l settings pass (Err r) = RefusedFor l settings pass r
 
 -- the checks give an answer exactly if it means what holds of the call
 abbrev pub RefusedExactlyIf : Type 0

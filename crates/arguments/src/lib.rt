@@ -59,13 +59,6 @@ pub struct Settings {
     pub edge_length_tol: f32,
 }
 
-// What the check of a call's arguments finds: nothing, or why the call is refused.
-#[derive(Clone, Copy)]
-pub enum Checked {
-    Fine,
-    Refused(Refusal),
-}
-
 // Whether the queue is shorter than the pass needs.
 #[tactic(auto, unfolding(crate::specs::Arguments::queue_needed))]
 fn queue_short(queue: usize, n: usize, pass: Pass) -> bool
@@ -341,30 +334,27 @@ pub fn check_arguments(
     attached: usize,
     settings: Settings,
     pass: Pass,
-) -> Checked
+) -> Result<(), Refusal>
     ensures { result ≡ checked (lent xs.now ys.now pitches.now shades.now sheet.now
         queue attached) settings pass }
 {
     if too_short(xs, ys, pitches, shades, sheet, queue, attached, pass) {
-        return Checked::Refused(Refusal::BufferTooShort);
+        return Err(Refusal::BufferTooShort);
     }
     if CORNERS < xs.len() {
-        return Checked::Refused(Refusal::OverLimit);
+        return Err(Refusal::OverLimit);
     }
-    if some_corner_outside(xs, ys, pitches, shades) {
-        return Checked::Refused(Refusal::OutOfRange);
-    }
-    if settings_outside(settings) {
-        return Checked::Refused(Refusal::OutOfRange);
-    }
-    if pass_outside(pass) {
-        return Checked::Refused(Refusal::OutOfRange);
+    if some_corner_outside(xs, ys, pitches, shades)
+        || settings_outside(settings)
+        || pass_outside(pass)
+    {
+        return Err(Refusal::OutOfRange);
     }
     if unknown_corner(xs.len(), sheet) {
-        return Checked::Refused(Refusal::UnknownCorner);
+        return Err(Refusal::UnknownCorner);
     }
     if doubled_corner(sheet) {
-        return Checked::Refused(Refusal::Duplicate);
+        return Err(Refusal::Duplicate);
     }
-    Checked::Fine
+    Ok(())
 }

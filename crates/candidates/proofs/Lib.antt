@@ -1,6 +1,6 @@
 pub mod Listing
 pub mod Limit
-pub mod Scan
+pub mod Scanning
 pub mod Collected
 pub mod Radius
 pub mod Nearest

@@ -1,5 +1,5 @@
 -- What the steps of the candidate scan ask and hand on, for their own contracts. Definitions only.
-use Rattle.std.specs.Prelude.{◌≡◌, Bool, true, false, ◌&&◌, cond, List, ℕ, zero, suc, ◌+◌, ◌≤◌, ◌<◌, Float}
+use Rattle.std.specs.Prelude.{◌≡◌, Bool, true, false, ◌&&◌, cond, List, ℕ, zero, suc, ◌+◌, ◌≤◌, ◌<◌, Option, Some, None, Float}
 use Rattle.std.specs.Float.Ieee.{lt, le}
 use Rattle.sheet.specs.declared.Position.{Position}
 use Rattle.sheet.specs.Corners.{squared_distance}
@@ -61,6 +61,11 @@ pub record Next (candidate : ℕ → Bool) (n from r : ℕ) : Type 0 where
   pub within : r ≤ n
   pub passed : (k : ℕ) → from ≤ k → k < r → candidate k ≡ false
   pub hit : r < n → candidate r ≡ true
+
+-- the same, where it is said by what is found
+abbrev pub IsNext : (ℕ → Bool) → ℕ → ℕ → Option ℕ → Type 0
+IsNext candidate n from (Some r) = Next candidate n from r × (r < n)
+IsNext candidate n from None = Next candidate n from n
 
 -- a corner with its distance
 abbrev pub measured : (ℕ → Position) → Position → ℕ → Candidate

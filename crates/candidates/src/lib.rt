@@ -9,7 +9,7 @@ ghost use Rattle.binary32.specs.Sqrt.{sqrt_or_nan};
 ghost use Rattle.sheet.specs.Corners.{squared_distance};
 ghost use Rattle.candidates.specs.Candidates.{positions_in, eligible_in, candidates_at, first_two, last_distance};
 ghost use Rattle.candidates.specs.Choice.{by_quotient, choose_unambiguous, raised, choose_with_floor};
-ghost use Rattle.candidates.specs.Steps.{Next, is_near, is_within, one_if, count_from, measured, two_found, narrowed};
+ghost use Rattle.candidates.specs.Steps.{IsNext, is_near, is_within, count_from, measured, two_found, narrowed};
 
 use sheet::Position;
 use sizes::CORNERS;
@@ -54,16 +54,14 @@ const EPSILON: f32 = 1.1920929e-7;
 pub fn squared_distance(corner: Position, prediction: Position) -> f32
     ensures { result ≡ squared_distance corner prediction }
 {
-    let dx = corner.x - prediction.x;
-    let dy = corner.y - prediction.y;
-    dx * dx + dy * dy
+    corner.squared_distance(prediction)
 }
 
 // The distance of a corner from the prediction: the rounded root of the squared distance.
 pub fn distance(corner: Position, prediction: Position) -> f32
     ensures { result ≡ sqrt_or_nan (squared_distance corner prediction) }
 {
-    binary32::root::sqrt_or_nan(squared_distance(corner, prediction))
+    corner.distance(prediction)
 }
 
 // The distance of the last of the first two candidates: the second's, or that of the only one. A corner that is farther is neither of them.
@@ -92,8 +90,7 @@ fn several(first: Candidate, square: f32, second: f32, limit: f32) -> Found
 fn keep(found: Found, c: Candidate, d2: f32) -> Found
     ensures { result ≡ narrowed found c d2 }
 {
-    let candidates = found.candidates;
-    match candidates {
+    match found.candidates {
         Candidates::Empty => Found {
             candidates: Candidates::One(c),
             square: d2,
@@ -108,9 +105,8 @@ fn keep(found: Found, c: Candidate, d2: f32) -> Found
         }
         Candidates::Several(first, second) => {
             if c.distance < first.distance {
-                return several(c, d2, first.distance, found.square);
-            }
-            if c.distance < second {
+                several(c, d2, first.distance, found.square)
+            } else if c.distance < second {
                 several(first, found.square, c.distance, d2)
             } else {
                 found
@@ -130,118 +126,87 @@ pub fn position_of(corners: &[f32; 4 * CORNERS], k: usize) -> Position
     }
 }
 
-// Whether corner k is unlabelled, its squared distance at most the limit, and a cell of the kind takes it. No root is taken for it.
-fn is_within(
-    corners: &[f32; 4 * CORNERS],
-    used: &[u8; CORNERS],
-    kind: usize,
-    k: usize,
-    prediction: Position,
-    limit: f32,
-) -> bool
-    requires { k < corner_limit }
-    ensures { result ≡ is_within (positions_in corners.now) (eligible_in corners.now used.now kind) prediction limit k }
-{
-    if used[k] != 0 {
-        return false;
-    }
-    let corner = position_of(corners, k);
-    if squared_distance(corner, prediction) <= limit {
-        return sheet::is_taken(corners, kind, k);
-    }
-    false
-}
-
-// 1 if corner k, labelled or not, lies within the limit, and else 0.
-fn one_if_near(corners: &[f32; 4 * CORNERS], k: usize, prediction: Position, limit: f32) -> u32
-    requires { k < corner_limit }
-    ensures { result ≡ one_if (is_near (positions_in corners.now) prediction limit) k }
-{
-    let corner = position_of(corners, k);
-    if squared_distance(corner, prediction) <= limit {
-        1
-    } else {
-        0
-    }
-}
-
-// How many of the 32 corners from this one on, labelled or not, lie within the limit. No corner ends the loop early, so that the
-// compiler tests several at once.
-fn count_near(corners: &[f32; 4 * CORNERS], from: usize, prediction: Position, limit: f32) -> u32
-    requires { from + 32 ≤ corner_limit }
-    ensures { result ≡ count_from (is_near (positions_in corners.now) prediction limit) from 32 }
-{
-    let mut count = 0u32;
-    let mut k = 0usize;
-    while k < 32 {
-        count += one_if_near(corners, from + k, prediction, limit);
-        k += 1;
-    }
-    count
-}
-
-// The number of the next corner within the limit from this one on, or the number of corners if there is none. Each is tested.
-fn next_tested(
-    corners: &[f32; 4 * CORNERS],
+// What a scan goes through: the corners, how many they are, which are labelled, the kind that the cell takes, and the prediction.
+#[derive(Clone, Copy)]
+struct Scan<'a> {
+    corners: &'a [f32; 4 * CORNERS],
     count: usize,
-    used: &[u8; CORNERS],
+    used: &'a [u8; CORNERS],
     kind: usize,
-    from: usize,
     prediction: Position,
-    limit: f32,
-) -> usize
-    requires { (count ≤ corner_limit) × (from ≤ count) }
-    ensures { Next (is_within (positions_in corners.now) (eligible_in corners.now used.now kind) prediction limit)
-        count from result }
-{
-    let mut k = from;
-    while k < count {
-        if is_within(corners, used, kind, k, prediction, limit) {
-            return k;
-        }
-        k += 1;
-    }
-    k
+    ghost few: { count ≤ corner_limit },
 }
 
-// The same, 32 corners at once as long as none of them lies within the limit.
-fn next_within(
-    corners: &[f32; 4 * CORNERS],
-    count: usize,
-    used: &[u8; CORNERS],
-    kind: usize,
-    from: usize,
-    prediction: Position,
-    limit: f32,
-) -> usize
-    requires { (count ≤ corner_limit) × (from ≤ count) }
-    ensures { Next (is_within (positions_in corners.now) (eligible_in corners.now used.now kind) prediction limit)
-        count from result }
-{
-    let mut k = from;
-    while k + 32 <= count {
-        if count_near(corners, k, prediction, limit) != 0 {
-            return next_tested(corners, count, used, kind, k, prediction, limit);
-        }
-        k += 32;
+impl<'a> Scan<'a> {
+    // Whether corner k, labelled or not, lies within the limit: its squared distance is at most that. No root is taken for it.
+    fn is_near(&self, k: usize, limit: f32) -> bool
+        requires { k < corner_limit }
+        ensures { result ≡ is_near (positions_in self.now.corners.now) self.now.prediction limit k }
+    {
+        position_of(self.corners, k).squared_distance(self.prediction) <= limit
     }
-    next_tested(corners, count, used, kind, k, prediction, limit)
-}
 
-// Corner k as one more candidate, with the root of its squared distance.
-fn keep_corner(found: Found, corners: &[f32; 4 * CORNERS], k: usize, prediction: Position) -> Found
-    requires { k < corner_limit }
-    ensures { result ≡ narrowed found (measured (positions_in corners.now) prediction k)
-        (squared_distance (positions_in corners.now k) prediction) }
-{
-    let corner = position_of(corners, k);
-    let d2 = squared_distance(corner, prediction);
-    let distance = binary32::root::sqrt_or_nan(d2);
-    let c = Candidate {
-        number: k,
-        distance,
-    };
-    keep(found, c, d2)
+    // Whether corner k is unlabelled and within the limit, and a cell of the kind takes it.
+    fn is_within(&self, k: usize, limit: f32) -> bool
+        requires { k < corner_limit }
+        ensures { result ≡ is_within (positions_in self.now.corners.now) (eligible_in self.now.corners.now self.now.used.now self.now.kind)
+            self.now.prediction limit k }
+    {
+        self.used[k] == 0 && self.is_near(k, limit) && sheet::is_taken(self.corners, self.kind, k)
+    }
+
+    // How many of the 32 corners from this one on, labelled or not, lie within the limit. No corner ends the loop early, so that the
+    // compiler tests several at once.
+    fn count_near(&self, from: usize, limit: f32) -> u32
+        requires { from + 32 ≤ corner_limit }
+        ensures { result ≡ count_from (is_near (positions_in self.now.corners.now) self.now.prediction limit) from 32 }
+    {
+        (0..32)
+            .map(|k| u32::from(self.is_near(from + k, limit)))
+            .sum()
+    }
+
+    // The number of the next corner within the limit from this one on, if there is one. Each is tested.
+    fn next_tested(&self, from: usize, limit: f32) -> Option<usize>
+        requires { from ≤ self.now.count }
+        ensures { IsNext (is_within (positions_in self.now.corners.now) (eligible_in self.now.corners.now self.now.used.now self.now.kind)
+            self.now.prediction limit) self.now.count from result }
+    {
+        // `find` on the range takes 1 in 100 instructions more.
+        for k in from..self.count {
+            if self.is_within(k, limit) {
+                return Some(k);
+            }
+        }
+        None
+    }
+
+    // The same, 32 corners at once as long as none of them lies within the limit.
+    fn next_within(&self, from: usize, limit: f32) -> Option<usize>
+        requires { from ≤ self.now.count }
+        ensures { IsNext (is_within (positions_in self.now.corners.now) (eligible_in self.now.corners.now self.now.used.now self.now.kind)
+            self.now.prediction limit) self.now.count from result }
+    {
+        let mut k = from;
+        while k + 32 <= self.count && self.count_near(k, limit) == 0 {
+            k += 32;
+        }
+        self.next_tested(k, limit)
+    }
+
+    // Corner k as one more candidate, with the root of its squared distance.
+    fn keep_corner(&self, found: Found, k: usize) -> Found
+        requires { k < corner_limit }
+        ensures { result ≡ narrowed found (measured (positions_in self.now.corners.now) self.now.prediction k)
+            (squared_distance (positions_in self.now.corners.now k) self.now.prediction) }
+    {
+        let d2 = position_of(self.corners, k).squared_distance(self.prediction);
+        let c = Candidate {
+            number: k,
+            distance: binary32::root::sqrt_or_nan(d2),
+        };
+        keep(found, c, d2)
+    }
 }
 
 // The first two of the candidates at the prediction, in order of distance and then corner number: all unlabelled corners that a cell of the kind
@@ -258,26 +223,25 @@ pub fn collect_candidates(
     ensures { result ≡ first_two (candidates_at (positions_in corners.now) (eligible_in corners.now used.now kind) count
         prediction search_r) }
 {
-    if !binary32::ranges::is_finite(prediction.x) {
+    if !prediction.is_finite() {
         return Candidates::Empty;
     }
-    if !binary32::ranges::is_finite(prediction.y) {
-        return Candidates::Empty;
-    }
-    let r2 = search_r * search_r;
-    let mut k = next_within(corners, count, used, kind, 0, prediction, r2);
-    if k == count {
-        return Candidates::Empty;
-    }
+    let scan = Scan {
+        corners,
+        count,
+        used,
+        kind,
+        prediction,
+    };
     let mut found = Found {
         candidates: Candidates::Empty,
         square: 0.0,
-        limit: r2,
+        limit: search_r * search_r,
     };
-    while k < count {
-        let more = keep_corner(found, corners, k, prediction);
-        found = more;
-        k = next_within(corners, count, used, kind, k + 1, prediction, more.limit);
+    let mut from = 0usize;
+    while let Some(k) = scan.next_within(from, found.limit) {
+        found = scan.keep_corner(found, k);
+        from = k + 1;
     }
     found.candidates
 }
@@ -302,11 +266,11 @@ pub fn choose_unambiguous(candidates: Candidates, ambiguity_factor: f32) -> Cand
         Candidates::Empty => CandidateChoice::Nothing,
         Candidates::One(a) => CandidateChoice::Unique(a.number),
         Candidates::Several(a, second) => {
-            let first = a.distance;
-            if first <= EPSILON {
-                return CandidateChoice::Ambiguous;
+            if a.distance <= EPSILON {
+                CandidateChoice::Ambiguous
+            } else {
+                by_quotient(a.number, a.distance, second, ambiguity_factor)
             }
-            by_quotient(a.number, first, second, ambiguity_factor)
         }
     }
 }

@@ -9,7 +9,7 @@ use lib.Dec.{T, eqb, ltb}
 use lib.ListN.{length, get_or}
 use lib.Ieee.{Float, binary32, of_bits, lt}
 use Rattle.predict.specs.Predict.{prediction_of, extrapolating}
-use Rattle.predict.specs.declared.Prediction.{Prediction}
+use Rattle.std.specs.Prelude.{Option, Some, None}
 use Rattle.sheet.specs.Cells.{cell_of}
 use Rattle.sheet.specs.Corners.{Corners, seen_of}
 use Rattle.sheet.specs.declared.Cell.{Cell}
@@ -45,10 +45,10 @@ grow_with_lem c TryCellResult.EdgeRejected s = omega arith
 grow_with_lem c (TryCellResult.Attached k) s = omega arith
 
 module _ (cs : Corners) (set : Settings) (p : GrowParams) where
-  grow_at_lem : (c : Cell) (at : Prediction) (s : GrowState) → total (grow_at cs set p c at s).counts ≤ total s.counts + 1
+  grow_at_lem : (c : Cell) (at : Option Position) (s : GrowState) → total (grow_at cs set p c at s).counts ≤ total s.counts + 1
   unfolding grow_at
-  grow_at_lem c Prediction.NoNeighbour s = omega arith
-  grow_at_lem c (Prediction.At at) s = grow_with_lem c _ s
+  grow_at_lem c None s = omega arith
+  grow_at_lem c (Some at) s = grow_with_lem c _ s
 
   grow_visit_lem : (c : Cell) (s : GrowState) → total (grow_visit cs set p c s).counts ≤ total s.counts + 1
   unfolding grow_visit

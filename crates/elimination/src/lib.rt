@@ -33,6 +33,7 @@ fn pivot(m: &[[f32; 9]; 8], k: usize) -> usize
     ensures { (result ≡ largest m.now k (7 - k)) × (result < 8) }
 {
     let mut b = k;
+    // A `fold` would have to show of its own that row b is one of the eight.
     for i in k + 1..8usize {
         b = larger(b, m[b][k], i, m[i][k]);
     }
@@ -44,6 +45,7 @@ fn gain(r: &mut [f32; 9], p: &[f32; 9], w: f32, k: usize)
     requires { k < 8 }
     ensures { r.new ≡ gained r.old p.now w k }
 {
+    // By index: of what is written through `iter_mut` a proof knows no element.
     for j in k + 1..9usize {
         r[j] = r[j] + w * (-p[j]);
     }
@@ -56,6 +58,7 @@ fn clear(m: &mut [[f32; 9]; 8], k: usize)
 {
     let p = m[k];
     let w = 1.0 / p[k];
+    // By index, as in `gain`.
     for i in k + 1..8usize {
         let x = m[i][k] * w;
         gain(&mut m[i], &p, x, k);
@@ -108,6 +111,7 @@ fn carry(m: &[[f32; 9]; 8], b: &mut [f32; 8], k: usize)
     ensures { b.new ≡ carried m.now b.old k }
 {
     let x = b[k] / m[k][k];
+    // By index, as in `gain`.
     for i in 0..k {
         b[i] = b[i] + (-x) * m[i][k];
     }

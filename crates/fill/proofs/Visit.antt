@@ -1,35 +1,67 @@
--- One cell of fill: what a visit does to the state, by the prediction and by what trying the cell finds; and what the code has written
--- when it has attached a corner. Assumes nothing.
-use Rattle.std.specs.Prelude.{None}
-use mathlib.Core.Path.{◌≡◌, refl, sym, ap₂, ◌∙◌}
+-- One cell of fill: what is found at it, what a visit does to the state, and what the code has written when it has attached a corner. Assumes nothing.
+use mathlib.Core.Path.{◌≡◌, refl, sym, ap, ap₂, subst, ◌∙◌}
 use mathlib.Core.List.{List, [], ◌∷◌, ◌++◌}
-use Prim.Native.Nat.{ℕ, ◌<◌, ◌≤◌}
+use Prim.Native.Nat.{ℕ, ◌+◌, ◌<◌, ◌≤◌}
 use native.Mathlib.Omega.{arith}
-use lib.ListN.{length, set, take, length-append, length-set}
+use lib.ListN.{length, set, take, length-append}
 use lib.Seq.{length-take-le}
 use lib.Ieee.{Float}
+use Rattle.std.proofs.Common.{Bor, Option, Some, None}
 use Rattle.sheet.specs.Cells.{OnSheet, place_of}
 use Rattle.sheet.specs.Words.{label_at, attached}
-use Rattle.sheet.specs.Corners.{Corners, seen_of}
+use Rattle.sheet.specs.Corners.{Corners, Given, seen_of, corners_in}
 use Rattle.sheet.specs.declared.Cell.{Cell}
 use Rattle.sheet.specs.declared.Position.{Position}
 use Rattle.sheet.proofs.Corners.{given_attached}
-use Rattle.labels.specs.Labelled.{Attaching}
+use Rattle.labels.specs.Labelled.{Attaching, label_count}
+use Rattle.labels.specs.Used.{Tied, OneCell}
 use Rattle.labels.proofs.Labelled.{count_attached}
 use Rattle.labels.proofs.Used.{tied_attached, one_attached}
 use Rattle.predict.specs.Predict.{prediction_of}
-use Rattle.predict.specs.declared.Prediction.{Prediction}
 use Rattle.positions_policy.specs.declared.Tolerances.{Tolerances}
 use Rattle.arguments.specs.declared.Settings.{Settings}
 use Rattle.arguments.specs.declared.FillParams.{FillParams}
 use Rattle.extension_common.specs.TryCell.{try_at}
+use Rattle.extension_common.specs.declared.Search.{Search}
 use Rattle.extension_common.specs.declared.TryCellResult.{TryCellResult}
 use Rattle.extension_common.proofs.Laws.{Attachable, attachable}
 use Rattle.passes.specs.Grow.{tolerances_of}
 use Rattle.passes.specs.Fill.{FillState, fill_search, fill_with, fill_at, fill_visit}
 use Rattle.passes.proofs.Over.{over_own, over_more}
 use Rattle.passes.proofs.Free.{labels_few, labels_fewer}
-use Rattle.fill.specs.Filling.{state_of, Filling, StateHeld, Left, Taking, Wrote}
+use Rattle.fill.specs.Filling.{held, state_of, found_from, found_at, SamePass, Left, Trying, Taking, Wrote}
+use Rattle.fill.specs.declared.Filling.{Filling}
+
+-- ---- what is found at a cell
+
+-- a visit is what was found, written
+pub visit_as : (cs : Corners) (set : Settings) (p : FillParams) (c : Cell) (s : FillState) → fill_with c (found_at cs set p s.sheet c) s ≡ fill_visit cs set p c s
+unfolding fill_visit fill_at fill_with found_at found_from
+visit_as cs set p c s = go (prediction_of (seen_of cs.corner s.sheet) set.grid c)
+  where
+    go : (at : Option Position) → fill_with c (found_from cs set p s.sheet c at) s ≡ fill_at cs set p c at s
+    go None = refl
+    go (Some at) = refl
+
+-- by the prediction
+module _ (cs : Corners) (set : Settings) (p : FillParams) (sheet : List ℕ) (c : Cell) {at : Option Position} (is : at ≡ prediction_of (seen_of cs.corner sheet) set.grid c) where
+  pub found_none : at ≡ None → TryCellResult.NoCandidates ≡ found_at cs set p sheet c
+  unfolding found_at found_from
+  found_none e = rw (← is, e)
+
+  pub found_tried : {q : Position} → at ≡ Some q → {search : Search} {tol : Tolerances} → search ≡ fill_search set p → tol ≡ tolerances_of set
+      → {r : TryCellResult} → r ≡ try_at cs sheet tol search c q → r ≡ found_at cs set p sheet c
+  unfolding found_at found_from
+  found_tried e s t h = h ∙ rw (← is, e, s, t)
+
+-- a corner that is found may be attached
+pub found_attachable : (cs : Corners) (set : Settings) (p : FillParams) (sheet : List ℕ) (c : Cell) (k : ℕ) → found_at cs set p sheet c ≡ TryCellResult.Attached k → Attachable cs sheet (tolerances_of set) c k
+unfolding found_at found_from
+found_attachable cs set p sheet c k e = go (prediction_of (seen_of cs.corner sheet) set.grid c) e
+  where
+    go : (at : Option Position) → found_from cs set p sheet c at ≡ TryCellResult.Attached k → Attachable cs sheet (tolerances_of set) c k
+    go None e = absurd (let z : ◌≡◌ {A = ℕ} 0 1 = cc in omega arith)
+    go (Some at) e = attachable cs sheet (tolerances_of set) (fill_search set p) c at k e
 
 -- ---- what a visit does: nothing, or it attaches a corner that may be attached
 
@@ -47,9 +79,9 @@ tried cs set p c s = go (prediction_of (seen_of cs.corner s.sheet) set.grid c)
     by TryCellResult.EdgeRejected h = passed
     by (TryCellResult.Attached k) h = attaches k (h k refl)
 
-    go : (q : Prediction) → Tried cs (tolerances_of set) c s (fill_at cs set p c q s)
-    go Prediction.NoNeighbour = passed
-    go (Prediction.At at) = by _ (λ k. attachable cs s.sheet (tolerances_of set) (fill_search set p) c at k)
+    go : (q : Option Position) → Tried cs (tolerances_of set) c s (fill_at cs set p c q s)
+    go None = passed
+    go (Some at) = by _ (λ k. attachable cs s.sheet (tolerances_of set) (fill_search set p) c at k)
 
 -- ---- the state after it
 
@@ -62,94 +94,92 @@ pub attaching : {cs : Corners} {sheet : List ℕ} {tol : Tolerances} {c : Cell} 
     → label_at sheet c ≡ None → Attachable cs sheet tol c k → Attaching sheet c k
 attaching few long on bare a = record { long = long; on = on; bare = bare; corner_fits = omega (arith, a.given) }
 
--- ---- by the prediction and by what was found
-
-module _ (cs : Corners) (set : Settings) (p : FillParams) (c : Cell) (s : FillState) (q : Prediction) (e : q ≡ prediction_of (seen_of cs.corner s.sheet) set.grid c) where
-  pub visit_none : q ≡ Prediction.NoNeighbour → fill_visit cs set p c s ≡ s
-  unfolding fill_visit fill_at
-  visit_none f = rw (← e, f)
-
-  module _ (at : Position) (f : q ≡ Prediction.At at) (r : TryCellResult) (g : r ≡ try_at cs s.sheet (tolerances_of set) (fill_search set p) c at) where
-    pub visit_found : fill_visit cs set p c s ≡ fill_with c r s
-    unfolding fill_visit fill_at
-    visit_found = rw (← e, f, ← g)
-
 -- ---- what the code leaves
 
--- the same state by another expression
-pub left_as : {s after : FillState} {n : ℕ} {before sheet list used : List ℕ} {made : ℕ} → after ≡ s → Left s n before sheet list used made
-    → Left after n before sheet list used made
-left_as e l = rw e l
+pub same_own : (f : Filling) → SamePass f f
+same_own f = record { same_corners = refl; same_count = refl; same_setup = refl; same_sheet = refl; same_list = refl }
 
-module _ {n : ℕ} {sheet list used : List ℕ} {made : ℕ} (f : Filling n sheet list used made) where
-  pub made_few : made ≤ n
+pub same_then : {first between last : Filling} → SamePass first between → SamePass between last → SamePass first last
+same_then a b =
+    record {
+      same_corners = b.same_corners ∙ a.same_corners;
+      same_count = b.same_count ∙ a.same_count;
+      same_setup = b.same_setup ∙ a.same_setup;
+      same_sheet = b.same_sheet ∙ a.same_sheet;
+      same_list = b.same_list ∙ a.same_list;
+    }
+
+pub held_alike : {f g : Filling} → SamePass f g → held g ≡ held f
+held_alike s = ap₂ corners_in (ap (λ (k : Bor (List Float)). k.now) s.same_corners) s.same_count
+
+-- no more cells are new than there are corners
+module _ (f : Filling) where
+  pub made_few : f.made ≤ f.count
   made_few = omega (arith, f.room, labels_few f.given f.one_cell)
 
-  pub made_in : made ≤ length list
+  pub made_in : f.made ≤ length f.attached.now
   made_in = omega (arith, made_few, f.list_long)
 
+  pub made_length : length (take f.made f.attached.now) ≡ f.made
+  made_length = length-take-le f.made f.attached.now made_in
+
   -- nothing written
-  pub stands : StateHeld (state_of sheet list made) list sheet list made
-  stands = record { sheet_is = refl; list_is = sym (over_own list made made_in); made_is = sym (length-take-le made list made_in) }
+  pub untouched : {s : FillState} → s ≡ state_of f → Left f f s
+  untouched e = rw e (record { same = same_own f; sheet_is = refl; list_is = sym (over_own f.attached.now f.made made_in); made_is = sym made_length })
 
-  pub untouched : {after : FillState} → after ≡ state_of sheet list made → Left after n list sheet list used made
-  untouched e = rw e (record { holds = stands; filling = f })
-
-module _ {n : ℕ} {sheet list used : List ℕ} {made : ℕ} {c : Cell} {k : ℕ} (t : Taking n sheet list used made c k) where
-  pub taking_fits : k < 1024
-  taking_fits = omega (arith, t.there, t.trying.filling.few)
-
-  pub taking_attaching : Attaching sheet c k
-  taking_attaching = record { long = t.trying.filling.given.long; on = t.trying.on; bare = t.trying.bare; corner_fits = omega (arith, taking_fits) }
+module _ {f : Filling} {c : Cell} {k : ℕ} (t : Taking f c k) where
+  taking_attaching : Attaching f.sheet.now c k
+  taking_attaching = record { long = f.given.long; on = t.trying.on; bare = t.trying.bare; corner_fits = omega (arith, t.there, f.few) }
 
   -- there is a place left in the list
-  pub taking_room : made < length list
-  taking_room =
-      let f = t.trying.filling in
-      omega (arith, f.room, f.list_long, labels_fewer f.given f.one_cell taking_attaching t.there t.free)
+  pub taking_room : f.made < length f.attached.now
+  taking_room = omega (arith, f.room, f.list_long, labels_fewer f.given f.one_cell taking_attaching t.there t.free)
+
+  pub given_more : Given f.count (attached f.sheet.now c k)
+  given_more = given_attached f.given c t.trying.on k t.there (omega (arith, t.there, f.few))
+
+  pub one_more : OneCell (attached f.sheet.now c k)
+  one_more = one_attached taking_attaching t.free f.one_cell
+
+  pub tied_more : Tied (attached f.sheet.now c k) (set f.used k 1)
+  tied_more = tied_attached taking_attaching (omega (arith, t.there, f.few)) f.tied
+
+  pub room_more : f.made + 1 ≤ label_count (attached f.sheet.now c k)
+  room_more = omega (arith, f.room, count_attached taking_attaching)
 
   -- a corner attached
-  pub took : {sheet' list' used' : List ℕ} {made' : ℕ} → Wrote sheet list used made c k sheet' list' used' made'
-      → Left (fill_with c (TryCellResult.Attached k) (state_of sheet list made)) n list sheet' list' used' made'
+  pub took : {after : Filling} → Wrote f after c k → Left f after (fill_with c (TryCellResult.Attached k) (state_of f))
   unfolding fill_with
   took w =
-      let f = t.trying.filling in
-      let taken : length (take made list) ≡ made = length-take-le made list (made_in f) in
-      rw (w.sheet_is, w.list_is, w.used_is, w.made_is)
-      (record {
-        holds =
-            record {
-              sheet_is = refl;
-              list_is = ap₂ (λ (l : List ℕ) (m : ℕ). set l m (place_of c)) (sym (over_own list made (made_in f))) (sym taken) ∙ over_more (take made list) list (place_of c) (omega (arith, taken, taking_room));
-              made_is = omega (arith, taken, length-append (take made list) (place_of c ∷ []));
-            };
-        filling =
-            record {
-              given = given_attached f.given c t.trying.on k t.there (omega (arith, taking_fits));
-              few = f.few;
-              one_cell = one_attached taking_attaching t.free f.one_cell;
-              tied = tied_attached taking_attaching taking_fits f.tied;
-              list_long = rw length-set f.list_long;
-              room = omega (arith, f.room, count_attached taking_attaching);
-            };
-      })
+      record {
+        same = w.same;
+        sheet_is = w.sheet_is;
+        list_is =
+            w.list_is
+            ∙ ap₂ (λ (l : List ℕ) (m : ℕ). set l m (place_of c)) (sym (over_own f.attached.now f.made (made_in f))) (sym (made_length f))
+            ∙ over_more (take f.made f.attached.now) f.attached.now (place_of c) (omega (arith, made_length f, taking_room));
+        made_is = omega (arith, w.made_is, made_length f, length-append (take f.made f.attached.now) (place_of c ∷ []));
+      }
 
 -- ---- by what was found
 
-module _ {n : ℕ} {sheet list used : List ℕ} {made : ℕ} (c : Cell) {after : FillState} {r : TryCellResult} (e : after ≡ fill_with c r (state_of sheet list made)) where
-  module _ (f : Filling n sheet list used made) where
-    pub found_none : r ≡ TryCellResult.NoCandidates → Left after n list sheet list used made
-    unfolding fill_with
-    found_none g = untouched f (e ∙ rw g)
+pub nothing_found : (r : TryCellResult) (c : Cell) (s : FillState) → ((k : ℕ) → r ≡ TryCellResult.Attached k → ⊥) → fill_with c r s ≡ s
+unfolding fill_with
+nothing_found TryCellResult.NoCandidates c s h = refl
+nothing_found TryCellResult.Ambiguous c s h = refl
+nothing_found TryCellResult.EdgeRejected c s h = refl
+nothing_found (TryCellResult.Attached k) c s h = absurd (h k refl)
 
-    pub found_ambiguous : r ≡ TryCellResult.Ambiguous → Left after n list sheet list used made
-    unfolding fill_with
-    found_ambiguous g = untouched f (e ∙ rw g)
+module _ (f : Filling) (c : Cell) {r : TryCellResult} (is : r ≡ found_at (held f) f.setup.settings f.setup.params f.sheet.now c) where
+  visited : fill_with c r (state_of f) ≡ fill_visit (held f) f.setup.settings f.setup.params c (state_of f)
+  visited = ap (λ (x : TryCellResult). fill_with c x (state_of f)) is ∙ visit_as (held f) f.setup.settings f.setup.params c (state_of f)
 
-    pub found_refused : r ≡ TryCellResult.EdgeRejected → Left after n list sheet list used made
-    unfolding fill_with
-    found_refused g = untouched f (e ∙ rw g)
+  pub tried_none : ((k : ℕ) → r ≡ TryCellResult.Attached k → ⊥) → Left f f (fill_visit (held f) f.setup.settings f.setup.params c (state_of f))
+  tried_none h = untouched f (sym visited ∙ nothing_found r c (state_of f) h)
 
-  pub found_corner : {k : ℕ} {sheet' list' used' : List ℕ} {made' : ℕ} → Taking n sheet list used made c k → r ≡ TryCellResult.Attached k
-      → Wrote sheet list used made c k sheet' list' used' made' → Left after n list sheet' list' used' made'
-  found_corner t g w = rw (e, g) (took t w)
+  module _ (t : Trying f c) {k : ℕ} (e : r ≡ TryCellResult.Attached k) where
+    pub tried_taking : Taking f c k
+    tried_taking = let a = found_attachable (held f) f.setup.settings f.setup.params f.sheet.now c k (sym is ∙ e) in record { trying = t; there = a.given; free = a.free }
+
+    pub tried_corner : {after : Filling} → Wrote f after c k → Left f after (fill_visit (held f) f.setup.settings f.setup.params c (state_of f))
+    tried_corner {after} w = subst (λ (s : FillState). Left f after s) (ap (λ (x : TryCellResult). fill_with c x (state_of f)) (sym e) ∙ visited) (took tried_taking w)

@@ -1,13 +1,12 @@
 -- A round of fill, a place at a time: a visit changes no label elsewhere, and what the code has written after each place. Assumes nothing.
 use Rattle.labels.specs.declared.Bounds.{Bounds}
 use Rattle.std.specs.Prelude.{None, Option}
-use mathlib.Core.Path.{◌≡◌, refl, ap, ◌∙◌}
+use mathlib.Core.Path.{◌≡◌, refl, ap, subst, ◌∙◌}
 use mathlib.Core.Bool.{Bool}
 use mathlib.Core.List.{List}
 use Prim.Native.Nat.{ℕ, ◌+◌, ◌<◌, ◌≤◌}
 use native.Mathlib.Omega.{arith}
 use lib.ListN.{length}
-use lib.Ieee.{Float}
 use Rattle.sheet.specs.Corners.{Corners}
 use Rattle.sheet.specs.Cells.{cell_of}
 use Rattle.sheet.specs.Words.{label_of, label_at}
@@ -21,15 +20,17 @@ use Rattle.arguments.specs.declared.FillParams.{FillParams}
 use Rattle.positions_policy.specs.declared.Tolerances.{Tolerances}
 use Rattle.passes.specs.Fill.{FillState, box_and_strips, fill_cells, fill_visit, fill_round}
 use Rattle.passes.proofs.Over.{over_read, over_over}
-use Rattle.region.specs.Windowed.{InWindow, Windowed, NextIn}
+use Rattle.region.specs.Windowed.{Windowed, NextIn}
 use Rattle.region.specs.declared.Window.{Window}
 use Rattle.region.proofs.Jumps.{jumps}
 use Rattle.region.proofs.Places as places
 use Rattle.region.proofs.Places.{Elsewhere, walked_all, walked_start, looked, looked_out, looked_grows, walk_grows}
 use Rattle.arguments.specs.Front.{over}
-use Rattle.fill.specs.Filling.{state_of, Filling, StateHeld, Left, looked_at}
+use Rattle.fill.specs.Filling.{held, state_of, Left, looked_at}
+use Rattle.fill.specs.declared.FillSetup.{FillSetup}
+use Rattle.fill.specs.declared.Filling.{Filling}
 use Rattle.fill.proofs.Region.{in_window}
-use Rattle.fill.proofs.Visit.{Tried, passed, attaches, tried, tried_grows, attaching, untouched}
+use Rattle.fill.proofs.Visit.{Tried, passed, attaches, tried, tried_grows, attaching, same_then, held_alike, untouched}
 
 -- ---- a round
 
@@ -73,78 +74,78 @@ round_grows cs set p s = walk_grows (fill_visit cs set p) (λ t. length t.made) 
 -- ---- what the code has written
 
 -- the buffers give the state back
-pub holds_state : {s : FillState} {before sheet list : List ℕ} {made : ℕ} → StateHeld s before sheet list made → state_of sheet list made ≡ s
-holds_state {s} {before} h = rw (h.sheet_is, h.list_is, h.made_is) (ap (λ (l : List ℕ). record { sheet = s.sheet; made = l }) (over_read s.made before))
+pub left_state : {before after : Filling} {s : FillState} → Left before after s → state_of after ≡ s
+left_state {before} {s = s} l = rw (l.sheet_is, l.list_is, l.made_is) (ap (λ (m : List ℕ). record { sheet = s.sheet; made = m }) (over_read s.made before.attached.now))
 
 -- one function after another: the rest of the list is as it was before the first
-pub left_then : {s after : FillState} {n : ℕ} {before sheet list sheet' list' used' : List ℕ} {made made' : ℕ} → StateHeld s before sheet list made
-    → length s.made ≤ length after.made → Left after n list sheet' list' used' made' → Left after n before sheet' list' used' made'
-left_then {s} {after} {before = before} h g l =
+pub left_then : {first between last : Filling} {s after : FillState} → Left first between s → length s.made ≤ length after.made → Left between last after → Left first last after
+left_then {first} {s = s} {after = after} a g b =
     record {
-      holds =
-          record {
-            sheet_is = l.holds.sheet_is;
-            list_is = l.holds.list_is ∙ ap (over after.made) h.list_is ∙ over_over s.made after.made before g;
-            made_is = l.holds.made_is;
-          };
-      filling = l.filling;
+      same = same_then a.same b.same;
+      sheet_is = b.sheet_is;
+      list_is = b.list_is ∙ ap (over after.made) a.list_is ∙ over_over s.made after.made first.attached.now g;
+      made_is = b.made_is;
     }
 
--- the loop over the places of a round: n of them have been looked at
-pub record Walking (set : Settings) (p : FillParams) (cs : Corners) (sheet₀ list₀ : List ℕ) (made₀ : ℕ) (sheet list used : List ℕ) (made n : ℕ) : Type 0 where
-  pub upto : n ≤ 16384
-  pub long : 16384 ≤ length sheet₀
-  pub same_sheet : length sheet ≡ length sheet₀
-  pub same_list_holds : length list ≡ length list₀
-  pub left : Left (walked_to cs set p (state_of sheet₀ list₀ made₀) n) cs.count list₀ sheet list used made
+-- the same functions of two moments of a pass
+looked_alike : {cs cs' : Corners} {set set' : Settings} {p p' : FillParams} {s s' : FillState} (a : Option Bounds) (n : ℕ) → cs ≡ cs' → set ≡ set' → p ≡ p' → s ≡ s' → looked_at cs set p a n s ≡ looked_at cs' set' p' a n s'
+looked_alike a n q r t v = cc
 
-module _ (set : Settings) (p : FillParams) (cs : Corners) (sheet₀ list₀ : List ℕ) (made₀ : ℕ) where
-  pub walking_start : (used : List ℕ) → Filling cs.count sheet₀ list₀ used made₀ → Walking set p cs sheet₀ list₀ made₀ sheet₀ list₀ used made₀ 0
-  walking_start used f =
+-- the loop over the places of a round: n of them have been looked at
+pub record Walking (before now : Filling) (n : ℕ) : Type 0 where
+  pub upto : n ≤ 16384
+  pub left : Left before now (walked_to (held before) before.setup.settings before.setup.params (state_of before) n)
+
+module _ (f : Filling) where
+  pub walking_start : Walking f f 0
+  walking_start =
       record {
         upto = omega arith;
-        long = f.given.long;
-        same_sheet = refl;
-        same_list_holds = refl;
-        left = untouched f (walked_start (fill_visit cs set p) (λ t. t.sheet) (region_of sheet₀) (state_of sheet₀ list₀ made₀));
+        left = untouched f (walked_start (fill_visit (held f) f.setup.settings f.setup.params) (λ t. t.sheet) (region_of f.sheet.now) (state_of f));
       }
 
-  module _ (sheet list used : List ℕ) (made n : ℕ) (w : Walking set p cs sheet₀ list₀ made₀ sheet list used made n) where
-    pub walking_more : (around : Option Bounds) (sheet' list' used' : List ℕ) (made' : ℕ) → n < 16384 → around ≡ box_of sheet₀ → length sheet' ≡ length sheet → length list' ≡ length list
-        → Left (looked_at cs set p around n (state_of sheet list made)) cs.count list sheet' list' used' made'
-        → Walking set p cs sheet₀ list₀ made₀ sheet' list' used' made' (n + 1)
-    walking_more around sheet' list' used' made' h b e g l =
+  module _ {now : Filling} {n : ℕ} (w : Walking f now n) where
+    pub walking_more : (around : Option Bounds) {next : Filling} → n < 16384 → around ≡ box_of f.sheet.now → Left now next (looked_at (held now) now.setup.settings now.setup.params around n (state_of now)) → Walking f next (n + 1)
+    walking_more around {next} h b l =
         record {
           upto = omega arith;
-          long = w.long;
-          same_sheet = e ∙ w.same_sheet;
-          same_list_holds = g ∙ w.same_list_holds;
-          left = rw next at (left_then w.left.holds
-              (rw (holds_state w.left.holds)
-              (looked_grows (fill_visit cs set p) (λ t. length t.made) (visit_grows cs set p) (λ t. t.sheet) (box_and_strips around (cell_of n)) n (walked_to cs set p s n))) l);
+          left = left_then w.left grows (subst (λ (s : FillState). Left now next s) (alike ∙ looks) l);
         }
       where
+        cs : Corners
+        cs = held f
+
+        set : Settings
+        set = f.setup.settings
+
+        p : FillParams
+        p = f.setup.params
+
         s : FillState
-        s = state_of sheet₀ list₀ made₀
+        s = walked_to cs set p (state_of f) n
 
-        next : looked_at cs set p around n (state_of sheet list made) ≡ walked_to cs set p s (n + 1)
-        next =
-            ap (looked_at cs set p around n) (holds_state w.left.holds)
-            ∙ looked (fill_visit cs set p) (λ t. t.sheet) (visit_else cs w.left.filling.few set p)
-            (region_of sheet₀) s w.long n h (ap (λ (a : Option Bounds). box_and_strips a (cell_of n)) b)
+        alike : looked_at (held now) now.setup.settings now.setup.params around n (state_of now) ≡ looked_at cs set p around n s
+        alike = looked_alike around n (held_alike w.left.same) (ap (λ (x : FillSetup). x.settings) w.left.same.same_setup) (ap (λ (x : FillSetup). x.params) w.left.same.same_setup) (left_state w.left)
 
-    pub walking_end : 16384 ≤ n → Left (fill_round cs set p (state_of sheet₀ list₀ made₀)) cs.count list₀ sheet list used made
+        looks : looked_at cs set p around n s ≡ walked_to cs set p (state_of f) (n + 1)
+        looks =
+            looked (fill_visit cs set p) (λ t. t.sheet) (visit_else cs f.few set p)
+            (region_of f.sheet.now) (state_of f) f.given.long n h (ap (λ (a : Option Bounds). box_and_strips a (cell_of n)) b)
+
+        grows : length s.made ≤ length (walked_to cs set p (state_of f) (n + 1)).made
+        grows = rw (← looks) (looked_grows (fill_visit cs set p) (λ t. length t.made) (visit_grows cs set p) (λ t. t.sheet) (box_and_strips around (cell_of n)) n s)
+
+    pub walking_end : 16384 ≤ n → Left f now (fill_round (held f) f.setup.settings f.setup.params (state_of f))
     walking_end h =
         let e : n ≡ 16384 = omega (arith, w.upto) in
-        rw (← walked_round cs set p (state_of sheet₀ list₀ made₀), ← e) w.left
+        rw (← walked_round (held f) f.setup.settings f.setup.params (state_of f), ← e) w.left
 
   -- to the next place of the window: no place before it is in the region
-  pub walking_jumps : (sheet list used : List ℕ) (made : ℕ) (around : Option Bounds) (window : Window) → around ≡ box_of sheet₀ → Windowed 1 around window → {n r : ℕ}
-      → Walking set p cs sheet₀ list₀ made₀ sheet list used made n → NextIn window n r → Walking set p cs sheet₀ list₀ made₀ sheet list used made r
-  walking_jumps sheet list used made around window b c w t =
-      jumps window (Walking set p cs sheet₀ list₀ made₀ sheet list used made)
-      (λ q h out v. walking_more sheet list used made q v around sheet list used made h b refl refl
-      (untouched v.left.filling
-      (looked_out (fill_visit cs set p) (λ t. t.sheet) (box_and_strips around (cell_of q)) q (state_of sheet list made)
+  pub walking_jumps : (now : Filling) (around : Option Bounds) (window : Window) → around ≡ box_of f.sheet.now → Windowed 1 around window → {n r : ℕ} → Walking f now n → NextIn window n r → Walking f now r
+  walking_jumps now around window b c w t =
+      jumps window (Walking f now)
+      (λ q h out v. walking_more v around h b
+      (untouched now
+      (looked_out (fill_visit (held now) now.setup.settings now.setup.params) (λ t. t.sheet) (box_and_strips around (cell_of q)) q (state_of now)
       (in_window around window q c h out))))
       t w

@@ -3,62 +3,34 @@
 
 #![tactic(auto)]
 
-ghost use Rattle.std.specs.Prelude.{◌≡◌, ◌&&◌, length};
-ghost use Rattle.sheet.specs.Corners.{corner_lists, corners_in};
+ghost use Rattle.std.specs.Prelude.{◌≡◌, ◌≤◌, ◌&&◌, length};
+ghost use Rattle.sizes.specs.Sizes.{corner_limit};
+ghost use Rattle.sheet.specs.Corners.{Given, corner_lists};
+ghost use Rattle.labels.specs.Labelled.{label_count};
+ghost use Rattle.labels.specs.Used.{OneCell, Tied};
 ghost use Rattle.arguments.specs.Shades.{corners_of};
 ghost use Rattle.arguments.specs.Accepted.{Accepted};
 ghost use Rattle.passes.specs.Outcome.{done};
 ghost use Rattle.passes.specs.Grow.{tolerances_of};
-ghost use Rattle.passes.specs.Fill.{near_i, near_j, box_and_strips, fill_search, fill_visit, fill_round, fill_from, fill_limit, fill_after};
+ghost use Rattle.passes.specs.Fill.{near_i, near_j, box_and_strips, fill_search, fill_limit, fill_after};
 ghost use Rattle.passes.specs.Step.{fill_step, fill_out, fill_leaves, lent_of, rooms};
 ghost use Rattle.passes.specs.Said.{fill_values, fill_said, outcome_due};
 ghost use Rattle.region.specs.Small.{SmallBounds, SmallBox};
-ghost use Rattle.fill.specs.Filling.{state_of, Filling, Left, Trying, Writable, Wrote, Looking, looked_at, start_of, RoundsLeft};
 
-use arguments::{Checked, FillParams, Pass, Settings};
+use arguments::{FillParams, Pass, Settings};
 use extension_common::{ChoiceRule, Search, TryCellResult};
 use labels::Bounds;
 use passes::{FillAnswer, FillStats};
 use positions_policy::Tolerances;
-use predict::Prediction;
 use sheet::Cell;
 use sizes::{CORNERS, PLACES};
 
-// How far fill has come: how many places of the attached list are written, and how many rounds were walked.
-#[derive(Clone, Copy)]
-struct FillProgress {
-    made: usize,
-    rounds: usize,
-}
-
-// What the rounds are given beside their buffers: how many corners there are, the settings, and the numbers of the pass.
-#[derive(Clone, Copy)]
-struct FillSetup {
-    count: usize,
-    settings: Settings,
-    params: FillParams,
-}
-
-// Whether a cell lies in the box or in one of the two strips along its low and high j.
-fn is_along_j(b: Bounds, c: Cell) -> bool
-    requires { SmallBounds b }
-    ensures { result ≡ (near_i 0 b c && near_j 1 b c) }
+// Whether a cell lies in the box, or at most so many lines past it by i and by j.
+fn is_near(b: Bounds, past_i: u32, past_j: u32, c: Cell) -> bool
+    requires { SmallBounds b × (past_i ≤ 64) × (past_j ≤ 64) }
+    ensures { result ≡ (near_i past_i b c && near_j past_j b c) }
 {
-    if !region::is_near_i(b, 0, c) {
-        return false;
-    }
-    region::is_near_j(b, 1, c)
-}
-
-// Whether a cell lies in the box or in one of the two strips along its low and high i.
-fn is_along_i(b: Bounds, c: Cell) -> bool
-    requires { SmallBounds b }
-    ensures { result ≡ (near_i 1 b c && near_j 0 b c) }
-{
-    if !region::is_near_i(b, 1, c) {
-        return false;
-    }
-    region::is_near_j(b, 0, c)
+    region::is_near_i(b, past_i, c) && region::is_near_j(b, past_j, c)
 }
 
 // Whether a cell is one that a round walks, if it is unlabelled: it lies in the label box or in the strip along a whole side.
@@ -69,187 +41,186 @@ fn is_fill_cell(around: Option<Bounds>, c: Cell) -> bool
     let Some(b) = around else {
         return false;
     };
-    if is_along_j(b, c) {
-        return true;
-    }
-    is_along_i(b, c)
-}
-
-// How fill searches a cell: search times cell size as the radius, and fill's rule of choice.
-fn search_of(settings: Settings, params: FillParams) -> Search
-    ensures { result ≡ fill_search settings params }
-{
-    let grid = settings.grid;
-    Search {
-        search_r: params.attach_search_rel * grid.cell_size,
-        ambiguity_factor: params.attach_ambiguity_factor,
-        rule: ChoiceRule::WithFloor,
-    }
-}
-
-// The edge's tolerances: cell size and band.
-fn tolerances_of(settings: Settings) -> Tolerances
-    ensures { result ≡ tolerances_of settings }
-{
-    let grid = settings.grid;
-    Tolerances {
-        cell_size: grid.cell_size,
-        edge_length_tol: settings.edge_length_tol,
-    }
-}
-
-// Attaches a corner to a cell: the sheet, the next place of the attached list and the corner's entry are written. Answers how many
-// places of the list are written now.
-fn attach_corner(
-    sheet: &mut [u16],
-    attached: &mut [u16],
-    used: &mut [u8; CORNERS],
-    made: usize,
-    c: Cell,
-    k: usize,
-) -> usize
-    requires { Writable sheet.old attached.old used.old made c k }
-    ensures { Wrote sheet.old attached.old used.old made c k sheet.new attached.new
-        used.new result }
-{
-    sheet::attach(sheet, c, k);
-    attached[made] = sheet::place_of(c) as u16;
-    used[k] = 1;
-    made + 1
-}
-
-// Tries an unlabelled cell: where a corner is found, it is attached, else nothing is written. Answers how many places of the attached
-// list are written now.
-fn try_fill_cell(
-    corners: &[f32; 4 * CORNERS],
-    sheet: &mut [u16],
-    attached: &mut [u16],
-    used: &mut [u8; CORNERS],
-    made: usize,
-    c: Cell,
-    setup: FillSetup,
-) -> usize
-    requires { Trying setup.count sheet.old attached.old used.old made c }
-    ensures { Left (fill_visit (corners_in corners.now setup.count) setup.settings setup.params c
-        (state_of sheet.old attached.old made)) setup.count attached.old sheet.new attached.new
-        used.new result }
-{
-    let settings = setup.settings;
-    let prediction = predict::predict_from_neighbours(corners, sheet, c, settings.grid);
-    let Prediction::At(at) = prediction else {
-        return made;
-    };
-    let found = extension_common::try_attach_at_cell(
-        corners,
-        setup.count,
-        sheet,
-        used,
-        c,
-        at,
-        search_of(settings, setup.params),
-        tolerances_of(settings),
-    );
-    match found {
-        TryCellResult::NoCandidates => made,
-        TryCellResult::Ambiguous => made,
-        TryCellResult::EdgeRejected => made,
-        TryCellResult::Attached(k) => attach_corner(sheet, attached, used, made, c, k),
-    }
-}
-
-// Looks at a place: its cell is tried if it lies in the region about `around` and is unlabelled. Answers how many places of the
-// attached list are written now.
-fn fill_place(
-    corners: &[f32; 4 * CORNERS],
-    sheet: &mut [u16],
-    attached: &mut [u16],
-    used: &mut [u8; CORNERS],
-    made: usize,
-    around: Option<Bounds>,
-    place: usize,
-    setup: FillSetup,
-) -> usize
-    requires { Looking setup.count sheet.old attached.old used.old made around place }
-    ensures { Left (looked_at (corners_in corners.now setup.count) setup.settings setup.params around place
-        (state_of sheet.old attached.old made)) setup.count attached.old sheet.new attached.new
-        used.new result }
-{
-    let c = sheet::cell_of(place);
-    if !is_fill_cell(around, c) {
-        return made;
-    }
-    if labels::is_labelled(sheet[place]) {
-        return made;
-    }
-    try_fill_cell(corners, sheet, attached, used, made, c, setup)
-}
-
-// One round: all cells of the region about the label box of now that are unlabelled, by i then j. Answers how many places of the
-// attached list are written now.
-fn fill_round(
-    corners: &[f32; 4 * CORNERS],
-    sheet: &mut [u16],
-    attached: &mut [u16],
-    used: &mut [u8; CORNERS],
-    made: usize,
-    setup: FillSetup,
-) -> usize
-    requires { Filling setup.count sheet.old attached.old used.old made }
-    ensures { Left (fill_round (corners_in corners.now setup.count) setup.settings setup.params
-        (state_of sheet.old attached.old made)) setup.count attached.old sheet.new attached.new
-        used.new result }
-{
-    let around = labels::label_box(sheet);
-    let window = region::window_of(around, 1);
-    let mut reached = made;
-    let mut place = region::next_inside(window, 0);
-    while place < PLACES {
-        reached = fill_place(
-            corners, sheet, attached, used, reached, around, place, setup,
-        );
-        place = region::next_inside(window, place + 1);
-    }
-    reached
+    is_near(b, 0, 1, c) || is_near(b, 1, 0, c)
 }
 
 // How many rounds there may be: none where no cell is labelled, else the limit, where 0 acts as 1.
+#[tactic(auto, unfolding(passes::specs::Fill::fill_limit))]
 fn round_limit(labels: usize, max_iters: u32) -> usize
     ensures { result ≡ fill_limit labels max_iters }
 {
     if labels == 0 {
-        return 0;
+        0
+    } else {
+        max_iters.max(1) as usize
     }
-    if max_iters == 0 {
-        return 1;
-    }
-    max_iters as usize
 }
 
-// Round after round, until one attaches nothing or the limit is reached.
-fn fill_rounds(
-    corners: &[f32; 4 * CORNERS],
-    sheet: &mut [u16],
-    attached: &mut [u16],
-    used: &mut [u8; CORNERS],
-    limit: usize,
-    setup: FillSetup,
-) -> FillProgress
-    requires { Filling setup.count sheet.old attached.old used.old 0 }
-    ensures { RoundsLeft (fill_from (corners_in corners.now setup.count) setup.settings setup.params limit
-        (start_of sheet.old attached.old)) setup.count attached.old sheet.new attached.new
-        used.new result }
-{
-    let mut made = 0usize;
-    let mut rounds = 0usize;
-    while rounds < limit {
-        let next = fill_round(corners, sheet, attached, used, made, setup);
-        rounds += 1;
-        if next == made {
-            return FillProgress { made, rounds };
+// The settings of a call, and the numbers of the pass.
+#[derive(Clone, Copy)]
+struct FillSetup {
+    settings: Settings,
+    params: FillParams,
+}
+
+impl FillSetup {
+    // How a cell is searched: search times cell size as the radius, and fill's rule of choice.
+    #[tactic(auto, unfolding(passes::specs::Fill::fill_search))]
+    fn search(self) -> Search
+        ensures { result ≡ fill_search self.settings self.params }
+    {
+        Search {
+            search_r: self.params.attach_search_rel * self.settings.grid.cell_size,
+            ambiguity_factor: self.params.attach_ambiguity_factor,
+            rule: ChoiceRule::WithFloor,
         }
-        made = next;
     }
-    FillProgress { made, rounds }
+
+    // The edge's tolerances: cell size and band.
+    fn tolerances(self) -> Tolerances
+        ensures { result ≡ tolerances_of self.settings }
+    {
+        Tolerances {
+            cell_size: self.settings.grid.cell_size,
+            edge_length_tol: self.settings.edge_length_tol,
+        }
+    }
+}
+
+// A pass: the corners, of which there are `count`, and how they are searched; the lent sheet; the lent list, the first `made` places of which are the
+// cells that are new; and which corners are used.
+#[derive(Drop)]
+struct Filling<'a> {
+    corners: &'a [f32; 4 * CORNERS],
+    count: usize,
+    setup: FillSetup,
+    sheet: &'a mut [u16],
+    attached: &'a mut [u16],
+    used: [u8; CORNERS],
+    made: usize,
+    ghost few: { count ≤ corner_limit },
+    ghost given: { Given count sheet.now },
+    ghost one_cell: { OneCell sheet.now },
+    ghost tied: { Tied sheet.now used },
+    ghost list_long: { count ≤ length attached.now },
+    ghost room: { made ≤ label_count sheet.now },
+}
+
+impl<'a> Filling<'a> {
+    ghost use Rattle.std.specs.Prelude.{◌<◌};
+    ghost use Rattle.sizes.specs.Sizes.{place_count};
+    ghost use Rattle.sheet.specs.Cells.{OnSheet};
+    ghost use Rattle.labels.specs.Box.{box_of};
+    ghost use Rattle.passes.specs.Fill.{fill_visit, fill_round, fill_from};
+    ghost use Rattle.fill.specs.Filling.{held, state_of, found_at, Left, Trying, Taking, Wrote, looked_at, stats_of, start_of, RoundsLeft};
+
+    // What is found at a cell: it is tried at its prediction; one with no labelled neighbour has no candidate.
+    fn try_cell(&self, c: Cell) -> TryCellResult
+        requires { OnSheet c }
+        ensures { result ≡ found_at (held self.now) self.now.setup.settings self.now.setup.params self.now.sheet.now c }
+    {
+        let setup = self.setup;
+        let prediction = predict::predict_from_neighbours(
+            self.corners,
+            self.sheet,
+            c,
+            setup.settings.grid,
+        );
+        match prediction {
+            None => TryCellResult::NoCandidates,
+            Some(at) => extension_common::try_attach_at_cell(
+                self.corners,
+                self.count,
+                self.sheet,
+                &self.used,
+                c,
+                at,
+                setup.search(),
+                setup.tolerances(),
+            ),
+        }
+    }
+
+    // Attaches a corner to a cell: the sheet, the next place of the attached list and the corner's entry are written.
+    fn attach_corner(&mut self, c: Cell, k: usize)
+        requires { Taking self.old c k }
+        ensures { Wrote self.old self.new c k }
+    {
+        self.attached[self.made] = sheet::place_of(c) as u16;
+        sheet::attach(self.sheet, c, k);
+        self.used[k] = 1;
+        self.made += 1;
+    }
+
+    // Tries an unlabelled cell: where a corner is found, it is attached, else nothing is written.
+    fn try_fill_cell(&mut self, c: Cell)
+        requires { Trying self.old c }
+        ensures { Left self.old self.new (fill_visit (held self.old) self.old.setup.settings self.old.setup.params c (state_of self.old)) }
+    {
+        if let TryCellResult::Attached(k) = self.try_cell(c) {
+            self.attach_corner(c, k);
+        }
+    }
+
+    // Looks at a place: its cell is tried if it lies in the region about `around` and is unlabelled.
+    fn fill_place(&mut self, around: Option<Bounds>, place: usize)
+        requires { (place < place_count) × SmallBox around }
+        ensures { Left self.old self.new
+            (looked_at (held self.old) self.old.setup.settings self.old.setup.params around place (state_of self.old)) }
+    {
+        let c = sheet::cell_of(place);
+        if is_fill_cell(around, c) && !labels::is_labelled(self.sheet[place]) {
+            self.try_fill_cell(c);
+        }
+    }
+
+    // The label box of now.
+    fn label_box(&self) -> Option<Bounds>
+        ensures { result ≡ box_of self.now.sheet.now }
+    {
+        labels::label_box(self.sheet)
+    }
+
+    // One round: all cells of the region about the label box of now that are unlabelled, by i then j.
+    fn fill_round(&mut self)
+        ensures { Left self.old self.new
+            (fill_round (held self.old) self.old.setup.settings self.old.setup.params (state_of self.old)) }
+    {
+        let around = self.label_box();
+        let window = region::window_of(around, 1);
+        // Not a range: the places between two lines of the window are passed over.
+        let mut place = region::next_inside(window, 0);
+        while place < PLACES {
+            self.fill_place(around, place);
+            place = region::next_inside(window, place + 1);
+        }
+    }
+
+    // Round after round, until one attaches nothing or the limit is reached. Answers how many rounds were walked.
+    fn fill_rounds(&mut self, limit: usize) -> usize
+        ensures { RoundsLeft self.old self.new result
+            (fill_from (held self.old) self.old.setup.settings self.old.setup.params limit (start_of self.old)) }
+    {
+        for walked in 0..limit {
+            let before = self.made;
+            self.fill_round();
+            if self.made == before {
+                return walked + 1;
+            }
+        }
+        limit
+    }
+
+    // What is said of a pass that walked so many rounds: how many cells are new, the rounds, and the rim.
+    fn stats(&self, rounds: usize) -> FillStats
+        ensures { result ≡ stats_of self.now rounds }
+    {
+        FillStats {
+            added: self.made,
+            iterations: rounds,
+            rim: labels::rim_reached(self.sheet, 1),
+        }
+    }
 }
 
 // The pass itself, on arguments that are not refused: all rounds, and what the answer says of them.
@@ -270,22 +241,21 @@ fn fill_accepted(
         settings params sheet.old)) sheet.old attached.old }
 {
     let limit = round_limit(labels::label_count(sheet), params.max_iters);
-    let mut used = labels::mark_used(sheet);
+    let used = labels::mark_used(sheet);
     let nothing = 0.0f32 / 0.0f32;
     let mut corners = [nothing; 4 * CORNERS];
     arguments::hold_corners(xs, ys, pitches, shades, &mut corners);
-    let setup = FillSetup {
+    let mut filling = Filling {
+        corners: &corners,
         count: xs.len(),
-        settings,
-        params,
+        setup: FillSetup { settings, params },
+        sheet,
+        attached,
+        used,
+        made: 0,
     };
-    let progress = fill_rounds(&corners, sheet, attached, &mut used, limit, setup);
-    let rim = labels::rim_reached(sheet, 1);
-    FillStats {
-        added: progress.made,
-        iterations: progress.rounds,
-        rim,
-    }
+    let rounds = filling.fill_rounds(limit);
+    filling.stats(rounds)
 }
 
 // Fills the sheet: each round walks, by i then j, the unlabelled cells of the label box and one strip along each whole side, and attaches a
@@ -319,7 +289,7 @@ pub fn fill_grid_holes(
         settings,
         Pass::Fill(params),
     );
-    if let Checked::Refused(refusal) = checked {
+    if let Err(refusal) = checked {
         return FillAnswer::Refused(refusal);
     }
     FillAnswer::Done(fill_accepted(xs, ys, pitches, shades, sheet, attached, settings, params))

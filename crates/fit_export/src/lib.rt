@@ -21,6 +21,7 @@ fn points_of(xs: &[f32], ys: &[f32]) -> [Position; 4]
     requires { (4 ≤ length xs.now) × (4 ≤ length ys.now) }
     ensures { result ≡ points_of xs.now ys.now }
 {
+    // `from_fn` would need clauses of its closure on both slices, and be longer.
     [
         Position { x: xs[0], y: ys[0] },
         Position { x: xs[1], y: ys[1] },

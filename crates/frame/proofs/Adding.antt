@@ -1,5 +1,6 @@
 -- A line as the code checks it and adds it is checked and held as the definition says, part by part; nothing is held before the first. Assumes
 -- nothing.
+use Rattle.std.specs.Prelude.{Ok}
 use mathlib.Core.Path.{◌≡◌, refl, sym, ap, ap₂, ◌∙◌, subst}
 use mathlib.Core.Bool.{Bool, true, false, ◌||◌, not, cond, or-true, or-false, or_assoc, or_comm}
 use mathlib.Core.Logic.{◌⊎◌, inl, inr}
@@ -26,7 +27,6 @@ use Rattle.join.specs.Sheets.{labelled}
 use Rattle.join.proofs.Lists.{same_cell_lem, cell_same}
 use Rattle.join.proofs.Sets.{labelled_append}
 use Rattle.join_sheet.proofs.OneMore.{with_last, place_else, place_last, held_none, held_more, second_more, second_none}
-use Rattle.arguments.specs.declared.Checked.{Checked}
 use Rattle.line_form.specs.Held.{held_up_to}
 use Rattle.frame_line.specs.Lines.{Line, kind_of, Proper, label_line_of, whole_at, CornerLine, corner_line_of, LabelLine, ShadeLine, shade_line_of, PassLine, pass_line_of}
 use Rattle.frame_line.specs.Checks.{outside_line}
@@ -76,7 +76,7 @@ some_either f g (a ∷ l) = ap (λ (t : Bool). (f a || g a) || t) (some_either f
 abbrev pub FineLine : Parts → Line → Type 0
 FineLine p l = AllFine (outside_in p l) (over_in p (kind_of l)) (twice_in p (kind_of l) l.numbers)
 
-pub line_fine : (p : Parts) (l : Line) → checked_line p l ≡ Checked.Fine → FineLine p l
+pub line_fine : (p : Parts) (l : Line) → checked_line p l ≡ Ok tt → FineLine p l
 unfolding checked_line
 line_fine p l c = fine_all (outside_in p l) _ _ c
 
@@ -371,7 +371,7 @@ pass_held {ps} {m} g h p w e =
 
 -- ---- any line
 
-module _ (f : Parts) (s : State) (g : FrameHeld f s) (l : Line) (p : Proper l) (fine : checked_line f l ≡ Checked.Fine) where
+module _ (f : Parts) (s : State) (g : FrameHeld f s) (l : Line) (p : Proper l) (fine : checked_line f l ≡ Ok tt) where
   w : FineLine f l
   w = line_fine f l fine
 

@@ -1,4 +1,5 @@
 -- A line as the code takes it leads where the definition says, and so do all lines, turn by turn. Assumes nothing.
+use Rattle.std.specs.Prelude.{Ok, Err}
 use mathlib.Core.Path.{◌≡◌, refl, sym, ap, ap₂, subst, ◌∙◌}
 use mathlib.Core.Bool.{Bool, true, false, not, cond}
 use mathlib.Core.Logic.{⊎_elim}
@@ -20,7 +21,6 @@ use Rattle.join.specs.Sheets.{labelled, HoldsSet}
 use Rattle.join.proofs.Sets.{labelled_length, set_held}
 use Rattle.join_sheet.specs.Held.{held_labels, concluded}
 use Rattle.join_sheet.proofs.Held.{joins_as}
-use Rattle.arguments.specs.declared.Checked.{Checked}
 use Rattle.line_form.specs.Lines.{lines_of, line_length}
 use Rattle.line_form.proofs.Lines.{lines_from, no_lines}
 use Rattle.frame_line.specs.Table.{row_count, turn_at, may_end}
@@ -38,11 +38,12 @@ use Rattle.frame.specs.Frame.{Frame, Parts, added, parts_from, no_parts, parts_o
 use Rattle.frame.specs.ReadFrame.{sheet_of}
 use Rattle.frame.specs.Reading.{FrameHeld, Room, Went, went, held_by, held_step, Finishable, Finished, finished, finished_by, finish_on, FrameDone, ReadAs, refused_as, held_as}
 use Rattle.frame.specs.declared.FrameRefusal.{FrameRefusal}
-use Rattle.std.proofs.Common.{Result, Ok, Err, min}
+use Rattle.std.proofs.Common.{Result, min}
 use Rattle.std.specs.List.{IsFirstMatchOrLen}
 use Rattle.std.proofs.lemmas.List.{take_at, drop_at}
 use Rattle.frame.proofs.Sets.{all_holdable, all_once, taken_used}
 use Rattle.frame.proofs.Adding.{below_or_not, checks_agree, line_held, restaged}
+use Rattle.arguments.specs.Arguments.{Checked}
 
 -- ---- the parts with one line more
 
@@ -86,8 +87,8 @@ module _ (f : Frame) (s : State) (g : FrameHeld (parts_of f) s) (text : List ℕ
     where
       go : (u : Turn) (c : Checked) → checked_line (parts_of f) l ≡ c → LedAs (step_by u c (f ++ (l ∷ []))) (held_by u c (adds (held_line l) s) s.held)
       go Turn.No c h = refl
-      go (Turn.To to) (Checked.Refused r) h = refl
-      go (Turn.To to) Checked.Fine h =
+      go (Turn.To to) (Err r) h = refl
+      go (Turn.To to) (Ok tt) h =
           let held = line_held (parts_of f) s g l (line_prints_back text l e).proper h in
           record { frame = f ++ (l ∷ []); step_is = refl; holds = rw parts_more (restaged (added (parts_of f) l) (adds (held_line l) s) to held) }
 
@@ -108,7 +109,7 @@ step_row stage row to turn t e =
 
 -- and it can be added where nothing is wrong with it
 pub step_addable : (p : Progress) (a : Arrays) (found : HeldLine) (turn : Turn) → turn ≡ turn_at p.stage found.row → (to : ℕ) → turn ≡ Turn.To to → (checked : Checked)
-    → checked ≡ checked_held p.corners p.passes p.patched a.shades a.sheet a.used a.second p.second found → Room p a → checked ≡ Checked.Fine → Addable p a found
+    → checked ≡ checked_held p.corners p.passes p.patched a.shades a.sheet a.used a.second p.second found → Room p a → checked ≡ Ok tt → Addable p a found
 step_addable p a found turn t to e checked c g h =
     record { fine = sym c ∙ h; fits = record { few = g.few; labels_few = g.second_few; row_fits = step_row p.stage found.row to turn t e }; long = g.long; counted = g.counted }
 

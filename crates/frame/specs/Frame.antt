@@ -1,13 +1,12 @@
 -- A frame read from a text (document 01, "Frame and result"): "Byte length is tried first, as line 0; then lines from the top, each in order
 -- 1 to 6. A missing line counts as the one after the last." Document 02, 3/14: the labels of two patches are joined "after all lines are read". Any
 -- bytes give one accepted frame or one refusal. Definitions only.
-use Rattle.std.specs.Prelude.{Bool, true, false, ◌||◌, cond, List, [], ◌∷◌, ◌++◌, map, ℕ, suc, ◌+◌, ltb, nat_abs, length}
+use Rattle.std.specs.Prelude.{Bool, true, false, ◌||◌, cond, List, [], ◌∷◌, ◌++◌, map, ℕ, suc, ◌+◌, ltb, nat_abs, length, Ok, Err}
 use Rattle.sizes.specs.Sizes.{byte_limit}
 use Rattle.refusal.specs.declared.Refusal.{Refusal}
 use Rattle.sheet.specs.Cells.{eq_z}
 use Rattle.join.specs.Rule.{Placed}
 use Rattle.join.specs.Join.{same_cell, Joined, apart, clash, off, union_of, joined}
-use Rattle.arguments.specs.declared.Checked.{Checked}
 use Rattle.line_form.specs.Forms.{Number}
 use Rattle.line_form.specs.Lines.{lines_of}
 use Rattle.frame_line.specs.Table.{turn_at, may_end}
@@ -17,6 +16,7 @@ use Rattle.frame_line.specs.declared.Kind.{Kind}
 use Rattle.frame_line.specs.declared.OpeningKind.{OpeningKind}
 use Rattle.frame_line.specs.declared.Turn.{Turn}
 use Rattle.frame_check.specs.Checks.{checks_in_order, over_limit, twice_of}
+use Rattle.arguments.specs.Arguments.{Checked}
 
 -- a frame is its lines, in order
 abbrev pub Frame : Type 0
@@ -249,8 +249,8 @@ pub data Step : Type 0 where
 -- 1, bent: "line missing, out of order or ill-formed"; then the other checks
 abbrev pub step_by : Turn → Checked → Frame → Step
 step_by Turn.No checked f = stopped Refusal.Malformed
-step_by (Turn.To stage) Checked.Fine f = onward stage f
-step_by (Turn.To stage) (Checked.Refused r) f = stopped r
+step_by (Turn.To stage) (Ok tt) f = onward stage f
+step_by (Turn.To stage) (Err r) f = stopped r
 
 abbrev pub step_with : ℕ → Frame → LineRead → Step
 step_with stage f ill_formed = stopped Refusal.Malformed

@@ -5,7 +5,6 @@ use Rattle.refusal.specs.declared.Refusal.{Refusal}
 use Rattle.sheet.specs.Cells.{OnSheet, place_of, eq_z}
 use Rattle.sheet.specs.Words.{empty_sheet}
 use Rattle.sheet.specs.declared.Cell.{Cell}
-use Rattle.arguments.specs.declared.Checked.{Checked}
 use Rattle.labels.specs.Labelled.{any_below}
 use Rattle.labels.specs.Count.{how_many}
 use Rattle.join.specs.Rule.{Placed, All}
@@ -26,6 +25,7 @@ use Rattle.frame.specs.Text.{Sound, Apart}
 use Rattle.frame.specs.ReadFrame.{float_of, settings_in, shaded, sheet_of, all_words, Buffers}
 use Rattle.frame.specs.declared.FrameRefusal.{FrameRefusal}
 use Rattle.frame.specs.declared.Held.{Held}
+use Rattle.arguments.specs.Arguments.{Checked}
 
 -- ---- what the arrays hold
 
@@ -135,8 +135,8 @@ went r a = record { answer = r; held = a }
 
 abbrev pub held_by : Turn → Checked → State → Arrays → Went
 held_by Turn.No checked s a = went (Err Refusal.Malformed) a
-held_by (Turn.To stage) Checked.Fine s a = went (Ok (at_stage s.progress stage)) s.held
-held_by (Turn.To stage) (Checked.Refused r) s a = went (Err r) a
+held_by (Turn.To stage) (Ok tt) s a = went (Ok (at_stage s.progress stage)) s.held
+held_by (Turn.To stage) (Err r) s a = went (Err r) a
 
 -- the line is checked in its turn, and added if it is fine
 unfoldable pub held_step : HeldLine → State → Went

@@ -16,7 +16,7 @@ ghost use Rattle.frame.specs.ReadFrame.{frame_out, too_short, leaves, read_into}
 ghost use Rattle.frame.specs.Said.{frame_said, frame_due};
 ghost use Rattle.frame.specs.Reading.{arrays_in, FrameHeld, Room, went, held_step, Finishable, finished, finish_on, ReadAs, buffers, LongEnough};
 
-use arguments::{Checked, Settings};
+use arguments::Settings;
 use frame_line::Turn;
 use frame_state::Progress;
 use join_sheet::Joining;
@@ -80,8 +80,8 @@ fn step_line(p: Progress, held: &mut Held, line: &[u8]) -> Result<Progress, Refu
                 p.second,
                 found,
             ) {
-                Checked::Refused(refusal) => Err(refusal),
-                Checked::Fine => {
+                Err(refusal) => Err(refusal),
+                Ok(()) => {
                     let next = frame_state::add_line(
                         p,
                         &mut held.xs,

@@ -1,4 +1,5 @@
 -- The piece of a result is never refused where its words and sheet are fit to print. Assumes nothing.
+use Rattle.std.specs.Prelude.{Ok}
 use mathlib.Core.Path.{◌≡◌, refl, sym, ap, ◌∙◌, subst}
 use mathlib.Core.Bool.{Bool, true, false, ◌||◌}
 use mathlib.Core.List.{List, [], ◌∷◌, ◌++◌}
@@ -8,8 +9,7 @@ use borrow.Author.Tests.{le-ltb}
 use lib.Dec.{ltb}
 use lib.ListN.{length, drop, length-append, length-drop}
 use Rattle.refusal.specs.declared.Refusal.{Refusal}
-use Rattle.arguments.specs.Arguments.{unknown_corner, doubled_corner}
-use Rattle.arguments.specs.declared.Checked.{Checked}
+use Rattle.arguments.specs.Arguments.{Checked, unknown_corner, doubled_corner}
 use Rattle.labels.proofs.Below.{any_no}
 use Rattle.line_form.specs.Written.{Wrote}
 use Rattle.report_line.specs.Result.{Piece, result_piece, line_count}
@@ -25,7 +25,7 @@ use Rattle.frame_answer.specs.declared.Recovered.{Recovered}
 use Rattle.frame_answer.specs.declared.PieceWritten.{PieceWritten}
 
 module _ (corners passes : ℕ) (words sheet : List ℕ) (p : Printable corners passes words sheet) (from : ℕ) (below : from < line_count passes) (out : List ℕ) (room : 128 ≤ length out) where
-  fine : checked_piece (text_lent corners passes words sheet) from (length out) ≡ Checked.Fine
+  fine : checked_piece (text_lent corners passes words sheet) from (length out) ≡ Ok tt
   unfolding checked_piece input_short over_limit wild
   fine =
       rw (

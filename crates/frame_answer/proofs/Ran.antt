@@ -1,5 +1,6 @@
 -- What is left when the passes of an accepted frame have run: the sheet and the outcomes of the definition, and nothing that the printer refuses.
 -- Assumes nothing.
+use Rattle.std.specs.Prelude.{Ok, Err}
 use mathlib.Core.Path.{◌≡◌, refl, sym, ap, ◌∙◌, subst}
 use mathlib.Core.Bool.{Bool, true, false, not, ◌&&◌, ◌||◌, cond}
 use mathlib.Core.List.{List, [], ◌∷◌, ◌++◌, append_assoc, append-nil, map}
@@ -15,7 +16,6 @@ use lib.Ieee.{binary32, of_bits}
 use lib.Ieee.Bits.{of_bits-to_bits}
 use Rattle.refusal.specs.declared.Refusal.{Refusal}
 use Rattle.binary32.specs.Ranges.{is_finite}
-use Rattle.arguments.specs.declared.Checked.{Checked}
 use Rattle.arguments.specs.declared.Pass.{Pass}
 use Rattle.arguments.proofs.Laws.{not_unknown, not_doubled}
 use Rattle.passes.specs.declared.Counts.{Counts}
@@ -46,6 +46,7 @@ use Rattle.arguments.specs.Front.{over}
 use Rattle.frame_passes.specs.Running.{pass_at, call_at, Left, left, noted, left_by, left_by_all}
 use Rattle.frame_answer.specs.Answer.{stats_of, frame_stats, frame_sheet, Recorded}
 use Rattle.arguments.proofs.Chains.{or_false}
+use Rattle.arguments.specs.Arguments.{Checked}
 
 -- ---- a pass from its six words
 
@@ -274,8 +275,8 @@ answered : (l : CornerLists) (sheet : List ℕ) (c : Call) → Answered (step l 
 answered l sheet c = subst Answered (sym (step_as_lem l sheet c)) (go (checked_call l sheet c) refl)
   where
     go : (k : Checked) → checked_call l sheet c ≡ k → Answered (unless k (after_call l sheet c))
-    go Checked.Fine e = answers _ (small l sheet c (call_accepted l sheet c e))
-    go (Checked.Refused r) e = answers_not r
+    go (Ok tt) e = answers _ (small l sheet c (call_accepted l sheet c e))
+    go (Err r) e = answers_not r
 
 -- after n calls behind k others: the sheet, and the words of the outcomes, which say what the calls said
 record Said (k n : ℕ) (words : List ℕ) (sheet : List ℕ) (stats : List PassStats) (end : Left) : Type 0 where

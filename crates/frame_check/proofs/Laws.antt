@@ -1,12 +1,12 @@
 -- Laws of the checks in order: what is fine, checks that say the same, a label that can be written, and a shade's corner. Assumes nothing.
+use Rattle.std.specs.Prelude.{Ok}
 use mathlib.Core.Path.{◌≡◌, refl, ap}
 use mathlib.Core.Bool.{Bool, true, false}
 use Prim.Native.Nat.{ℕ, ◌<◌}
 use native.Mathlib.Omega.{arith}
 use lib.ListN.{get_or}
 use Rattle.refusal.specs.declared.Refusal.{Refusal}
-use Rattle.arguments.specs.Arguments.{refused_if}
-use Rattle.arguments.specs.declared.Checked.{Checked}
+use Rattle.arguments.specs.Arguments.{Checked, refused_if}
 use Rattle.arguments.proofs.Chains.{not_refused}
 use Rattle.frame_line.specs.Table.{rows, row_at, kind_at, sort_of, sort_at}
 use Rattle.frame_line.specs.Held.{count_in, label_in, shade_in}
@@ -27,7 +27,7 @@ pub record AllFine (outside : ℕ → Bool) (over twice : Bool) : Type 0 where
   pub known : outside 5 ≡ false
   pub once : twice ≡ false
 
-pub fine_all : (outside : ℕ → Bool) (over twice : Bool) → checks_in_order outside over twice ≡ Checked.Fine → AllFine outside over twice
+pub fine_all : (outside : ℕ → Bool) (over twice : Bool) → checks_in_order outside over twice ≡ Ok tt → AllFine outside over twice
 unfolding checks_in_order
 fine_all outside over twice e =
     let a = not_refused (outside 1) Refusal.Malformed _ e in
@@ -38,7 +38,7 @@ fine_all outside over twice e =
     let h = not_refused twice Refusal.Duplicate _ g.1 in
     record { first = a.0; room = b.0; ranges = c.0; on = d.0; known = g.0; once = h.0 }
 
-pub all_fine : (outside : ℕ → Bool) (over twice : Bool) → AllFine outside over twice → checks_in_order outside over twice ≡ Checked.Fine
+pub all_fine : (outside : ℕ → Bool) (over twice : Bool) → AllFine outside over twice → checks_in_order outside over twice ≡ Ok tt
 unfolding checks_in_order
 all_fine outside over twice f = rw (f.first, f.room, f.ranges, f.on, f.known, f.once)
 
@@ -60,7 +60,7 @@ checks_alike f g over twice twice' e t =
     refused_alike (f 4) (g 4) Refusal.OffSheet _ _ (e 4)
     (λ on.
     refused_alike (f 5) (g 5) Refusal.UnknownCorner _ _ (e 5)
-    (λ known. ap (λ (x : Bool). refused_if x Refusal.Duplicate Checked.Fine) (t on known))))))
+    (λ known. ap (λ (x : Bool). refused_if x Refusal.Duplicate (Ok tt)) (t on known))))))
 
 -- ---- a label and a shade
 

@@ -1,11 +1,10 @@
 -- The checks of a line that is in its turn (document 01, the table of refusals): "each in order 1 to 6". Definitions only.
-use Rattle.std.specs.Prelude.{◌≡◌, Bool, true, false, not, ◌||◌, List, ℕ, ◌+◌, ◌<◌, ◌≤◌, leb, eqb, get_or}
+use Rattle.std.specs.Prelude.{◌≡◌, Bool, true, false, not, ◌||◌, List, ℕ, ◌+◌, ◌<◌, ◌≤◌, leb, eqb, get_or, Ok}
 use Rattle.sizes.specs.Sizes.{corner_limit, pass_limit}
 use Rattle.refusal.specs.declared.Refusal.{Refusal}
 use Rattle.sheet.specs.Cells.{OnSheet, place_of}
 use Rattle.labels.specs.Labelled.{any_below}
-use Rattle.arguments.specs.Arguments.{refused_if}
-use Rattle.arguments.specs.declared.Checked.{Checked}
+use Rattle.arguments.specs.Arguments.{Checked, refused_if}
 use Rattle.frame_line.specs.Table.{row_count, kind_at}
 use Rattle.frame_line.specs.Held.{label_in, shade_in, outside_held}
 use Rattle.frame_line.specs.declared.Kind.{Kind}
@@ -21,7 +20,7 @@ checks_in_order outside over twice =
     (refused_if (outside 3) Refusal.OutOfRange
     (refused_if (outside 4) Refusal.OffSheet
     (refused_if (outside 5) Refusal.UnknownCorner
-    (refused_if twice Refusal.Duplicate Checked.Fine)))))
+    (refused_if twice Refusal.Duplicate (Ok tt))))))
 
 -- 2, overfull ("At most .. 1,024 corners, 16 passes"), n corners and m passes standing already
 unfoldable pub over_limit : ℕ → ℕ → Kind → Bool

@@ -8,7 +8,6 @@ ghost use Rattle.frame_line.specs.Table.{row_count, kind_at};
 ghost use Rattle.sizes.specs.Sizes.{corner_limit};
 ghost use Rattle.frame_check.specs.Checks.{over_limit, first_twice, has_place, second_twice, label_twice, shade_twice, twice_held, checked_held, LabelFits, SetFits, LineFits, NumbersFine};
 
-use arguments::Checked;
 use frame_line::{HeldLabel, HeldLine, HeldShade, Kind};
 use frame_number::has_refusal;
 use refusal::Refusal;
@@ -148,7 +147,7 @@ pub fn check_line(
     second: &[u16; SECOND],
     labels: usize,
     line: HeldLine,
-) -> Checked
+) -> Result<(), Refusal>
     requires { LineFits corners labels line }
     ensures { result ≡ checked_held corners passes patched shades.now sheet.now used.now second.now labels
         line }
@@ -156,22 +155,22 @@ pub fn check_line(
     let given = corners as u32;
     let found = frame_number::refusals_of(given, line);
     if has_refusal(found, 1) {
-        return Checked::Refused(Refusal::Malformed);
+        return Err(Refusal::Malformed);
     }
     if over_limit(corners, passes, line.row) {
-        return Checked::Refused(Refusal::OverLimit);
+        return Err(Refusal::OverLimit);
     }
     if has_refusal(found, 3) {
-        return Checked::Refused(Refusal::OutOfRange);
+        return Err(Refusal::OutOfRange);
     }
     if has_refusal(found, 4) {
-        return Checked::Refused(Refusal::OffSheet);
+        return Err(Refusal::OffSheet);
     }
     if has_refusal(found, 5) {
-        return Checked::Refused(Refusal::UnknownCorner);
+        return Err(Refusal::UnknownCorner);
     }
     if is_twice(corners, patched, shades, sheet, used, second, labels, line) {
-        return Checked::Refused(Refusal::Duplicate);
+        return Err(Refusal::Duplicate);
     }
-    Checked::Fine
+    Ok(())
 }

@@ -1,5 +1,6 @@
 -- Reading and printing. A text that is accepted is what is printed of the frame that was read, and that frame is within the limits. What is printed
 -- of a frame within the limits is accepted and read back: the reader refuses nothing that 01 allows. Assumes nothing.
+use Rattle.std.specs.Prelude.{Ok}
 use mathlib.Core.Path.{◌≡◌, refl, sym, ap, ap₂, ◌∙◌, subst}
 use mathlib.Core.Bool.{Bool, true}
 use mathlib.Core.Logic.{⊎_elim}
@@ -9,7 +10,6 @@ use native.Mathlib.Omega.{arith}
 use borrow.Author.Tests.{lt-ltb, le-ltb}
 use lib.ListN.{length}
 use Rattle.refusal.specs.declared.Refusal.{Refusal}
-use Rattle.arguments.specs.declared.Checked.{Checked}
 use Rattle.line_form.specs.Lines.{lines_of}
 use Rattle.line_form.proofs.Every.{every_below, every_at}
 use Rattle.line_form.proofs.Ends.{is_none, ends_once, printed_ends, first_line, joined, lines_joined}
@@ -30,6 +30,7 @@ use Rattle.frame.proofs.Turn.{parts_more}
 use Rattle.frame_laws.proofs.Parts.{all_map, all_given, Limits, limits_after, limits_before, limits_first, no_limits, within_limits, frame_limits}
 use Rattle.frame_laws.proofs.Joining.{joinable_whole}
 use Rattle.frame_laws.proofs.Refusals.{Stepping, stops, goes, stepping, Ending, all_read, one_fails, one_missing, sets_apart, ending}
+use Rattle.arguments.specs.Arguments.{Checked}
 
 -- ---- the lines of what is printed
 
@@ -56,7 +57,7 @@ lines_text (l ∷ ls) = ap (λ (t : List ℕ). line_text l ++ t) (lines_text ls)
 
 pub data Passing : ℕ → Parts → List Line → Type 0 where
   end_here : {stage : ℕ} {p : Parts} → may_end stage ≡ true → Passing stage p []
-  pass_on : {stage to : ℕ} {p : Parts} {ls : List Line} (l : Line) → Proper l → turn_at stage l.row ≡ Turn.To to → checked_line p l ≡ Checked.Fine
+  pass_on : {stage to : ℕ} {p : Parts} {ls : List Line} (l : Line) → Proper l → turn_at stage l.row ≡ Turn.To to → checked_line p l ≡ Ok tt
       → Passing to (added p l) ls
       → Passing stage p (l ∷ ls)
 

@@ -1,4 +1,5 @@
 -- The first check that a line fails, and how the reading of a frame ends. Assumes nothing.
+use Rattle.std.specs.Prelude.{Ok, Err}
 use mathlib.Core.Path.{◌≡◌, refl, subst}
 use mathlib.Core.Bool.{Bool, true, false, cond}
 use mathlib.Core.List.{List, [], ◌∷◌, ◌++◌}
@@ -6,8 +7,7 @@ use Prim.Native.Nat.{ℕ, suc, ◌+◌, ◌<◌}
 use native.Mathlib.Omega.{arith}
 use lib.ListN.{length, get_or, take}
 use Rattle.refusal.specs.declared.Refusal.{Refusal}
-use Rattle.arguments.specs.Arguments.{refused_if}
-use Rattle.arguments.specs.declared.Checked.{Checked}
+use Rattle.arguments.specs.Arguments.{Checked, refused_if}
 use Rattle.frame_line.specs.Table.{turn_at, may_end}
 use Rattle.frame_line.specs.Lines.{Line, kind_of, LineRead, ill_formed, line, read_line}
 use Rattle.frame_line.specs.declared.Turn.{Turn}
@@ -18,18 +18,18 @@ use Rattle.frame_laws.proofs.Joining.{Finishing, is_whole, not_joined, finishing
 
 -- ---- a line that fails
 
-first_check : (f : ℕ → Bool) (over twice : Bool) (s : Refusal) → checks_in_order f over twice ≡ Checked.Refused s → FirstCheck f over twice s
+first_check : (f : ℕ → Bool) (over twice : Bool) (s : Refusal) → checks_in_order f over twice ≡ Err s → FirstCheck f over twice s
 unfolding checks_in_order
 first_check f over twice s = go (f 1) over (f 3) (f 4) (f 5) twice refl refl refl refl refl refl
   where
-    same : (r : Refusal) → FirstCheck f over twice r → Checked.Refused r ≡ Checked.Refused s → FirstCheck f over twice s
+    same : (r : Refusal) → FirstCheck f over twice r → ◌≡◌ {A = Checked} (Err r) (Err s) → FirstCheck f over twice s
     same r w e = let d : r ≡ s = cc in subst (FirstCheck f over twice) d w
 
     go : (t2 t3 t4 t5 t6 t7 : Bool) → f 1 ≡ t2 → over ≡ t3 → f 3 ≡ t4 → f 4 ≡ t5 → f 5 ≡ t6 → twice ≡ t7
         → refused_if t2 Refusal.Malformed
         (refused_if t3 Refusal.OverLimit
-        (refused_if t4 Refusal.OutOfRange (refused_if t5 Refusal.OffSheet (refused_if t6 Refusal.UnknownCorner (refused_if t7 Refusal.Duplicate Checked.Fine)))))
-        ≡ Checked.Refused s → FirstCheck f over twice s
+        (refused_if t4 Refusal.OutOfRange (refused_if t5 Refusal.OffSheet (refused_if t6 Refusal.UnknownCorner (refused_if t7 Refusal.Duplicate (Ok tt))))))
+        ≡ Err s → FirstCheck f over twice s
     go true t3 t4 t5 t6 t7 a b c d g h e = same _ (is_first a) e
     go false true t4 t5 t6 t7 a b c d g h e = same _ (too_many a b) e
     go false false true t5 t6 t7 a b c d g h e = same _ (is_wild a b c) e
@@ -38,7 +38,7 @@ first_check f over twice s = go (f 1) over (f 3) (f 4) (f 5) twice refl refl ref
     go false false false false false true a b c d g h e = same _ (is_doubled a b c d g h) e
     go false false false false false false a b c d g h e = absurd (let z : ◌≡◌ {A = ℕ} 0 1 = cc in omega arith)
 
-check_first : (f : ℕ → Bool) (over twice : Bool) (s : Refusal) → FirstCheck f over twice s → checks_in_order f over twice ≡ Checked.Refused s
+check_first : (f : ℕ → Bool) (over twice : Bool) (s : Refusal) → FirstCheck f over twice s → checks_in_order f over twice ≡ Err s
 unfolding checks_in_order
 check_first f over twice s (is_first a) = rw a
 check_first f over twice s (too_many a b) = rw (a, b)
@@ -51,7 +51,7 @@ module _ (stage : ℕ) (f : Frame) where
   -- where a line leads, and why
   pub data Stepping (text : List ℕ) : Step → Type 0 where
     stops : (r : Refusal) → FirstFault stage f (read_line text) r → Stepping text (stopped r)
-    goes : (l : Line) (to : ℕ) → read_line text ≡ line l → turn_at stage l.row ≡ Turn.To to → checked_line (parts_of f) l ≡ Checked.Fine
+    goes : (l : Line) (to : ℕ) → read_line text ≡ line l → turn_at stage l.row ≡ Turn.To to → checked_line (parts_of f) l ≡ Ok tt
         → Stepping text (onward to (f ++ (l ∷ [])))
 
   pub stepping : (text : List ℕ) → Stepping text (step_line stage f text)
@@ -61,8 +61,8 @@ module _ (stage : ℕ) (f : Frame) where
       by : (l : Line) (u : Turn) (c : Checked) → read_line text ≡ line l → turn_at stage l.row ≡ u → checked_line (parts_of f) l ≡ c
           → Stepping text (step_by u c (f ++ (l ∷ [])))
       by l Turn.No c r p q = stops Refusal.Malformed (rw r (not_its_turn p))
-      by l (Turn.To to) Checked.Fine r p q = goes l to r p q
-      by l (Turn.To to) (Checked.Refused s) r p q = stops s (rw r (fails p (first_check _ _ _ s q)))
+      by l (Turn.To to) (Ok tt) r p q = goes l to r p q
+      by l (Turn.To to) (Err s) r p q = stops s (rw r (fails p (first_check _ _ _ s q)))
 
       go : (r : LineRead) → read_line text ≡ r → Stepping text (step_with stage f r)
       go ill_formed r = stops Refusal.Malformed (rw r has_no_form)

@@ -1,4 +1,5 @@
 -- The shades of a frame: the checks of a shade line, what its lines give each corner, and that they leave all else alone. Assumes nothing.
+use Rattle.std.specs.Prelude.{Ok}
 use mathlib.Core.Path.{◌≡◌, refl, sym, ap, ap₂, ◌∙◌}
 use mathlib.Core.Bool.{Bool, true, false, not, ◌&&◌, ◌||◌, or-false, cond}
 use mathlib.Core.Logic.{◌⊎◌, inl, inr, ⊎_elim}
@@ -17,7 +18,6 @@ use Rattle.sheet.specs.Cells.{eq_z}
 use Rattle.labels.proofs.Below.{any_hit, any_no}
 use Rattle.arguments.specs.Arguments.{refused_if}
 use Rattle.arguments.specs.Shades.{shade_of, stands, any_shade}
-use Rattle.arguments.specs.declared.Checked.{Checked}
 use Rattle.line_form.specs.Forms.{Number}
 use Rattle.line_form.specs.Written.{unheld_whole}
 use Rattle.frame_line.specs.Table.{rows, row_at, kind_at, sort_of, sort_at}
@@ -50,7 +50,7 @@ unfolding checked_line checks_in_order outside_line some_outside number_outside 
 shade_checked p n k =
     ap₂
     (λ (a b : Bool). refused_if a Refusal.Malformed
-    (refused_if b Refusal.UnknownCorner (refused_if (some_of (λ s. eq_z s.corner n) p.shades) Refusal.Duplicate Checked.Fine)))
+    (refused_if b Refusal.UnknownCorner (refused_if (some_of (λ s. eq_z s.corner n) p.shades) Refusal.Duplicate (Ok tt))))
     (or-false _ ∙ other_kind k) (or-false (not (le_z (pos 0) n && lt_z n (pos (length p.corners)))))
 
 -- ---- the bytes

@@ -1,13 +1,12 @@
 -- The shades of a frame (document 02, 1/14): which refusals a shade line has, what its lines give each corner, and what they leave alone.
 -- Definitions only.
-use Rattle.std.specs.Prelude.{◌≡◌, Bool, true, false, not, ◌&&◌, ◌||◌, cond, ℕ, ◌+◌, ◌≤◌, eqb, ℤ, pos, nat_abs, length, get_or}
+use Rattle.std.specs.Prelude.{◌≡◌, Bool, true, false, not, ◌&&◌, ◌||◌, cond, ℕ, ◌+◌, ◌≤◌, eqb, ℤ, pos, nat_abs, length, get_or, Ok}
 use mathlib.Core.List.{List, [], ◌∷◌, Memᴰ}
 use Rattle.std.specs.Int.Signed.{le_z, lt_z}
 use Rattle.refusal.specs.declared.Refusal.{Refusal}
 use Rattle.sheet.specs.Cells.{eq_z}
 use Rattle.arguments.specs.Arguments.{refused_if}
 use Rattle.arguments.specs.Shades.{any_shade}
-use Rattle.arguments.specs.declared.Checked.{Checked}
 use Rattle.line_form.specs.Forms.{whole}
 use Rattle.frame_line.specs.Lines.{Line, kind_of, ShadeLine}
 use Rattle.frame_line.specs.declared.Kind.{Kind}
@@ -28,7 +27,7 @@ ShadeChecked = (p : Parts) (n k : ℤ)
     → checked_line p (shade_line n k)
     ≡ refused_if (not (eq_z k (pos 0) || eq_z k (pos 1))) Refusal.Malformed
     (refused_if (not (le_z (pos 0) n && lt_z n (pos (length p.corners)))) Refusal.UnknownCorner
-    (refused_if (some_of (λ s. eq_z s.corner n) p.shades) Refusal.Duplicate Checked.Fine))
+    (refused_if (some_of (λ s. eq_z s.corner n) p.shades) Refusal.Duplicate (Ok tt)))
 
 -- ---- what the shade lines give
 

@@ -1,6 +1,6 @@
 -- What a frame's lines have said so far as the code holds it, and one line added to it. Definitions only; crate frame shows that it is what
 -- the definition of a frame says.
-use Rattle.std.specs.Prelude.{◌≡◌, Bool, true, false, not, List, [], ◌∷◌, ℕ, ◌+◌, ◌*◌, ◌<◌, ◌≤◌, T, length, get_or, set, Float}
+use Rattle.std.specs.Prelude.{◌≡◌, Bool, true, false, not, List, [], ◌∷◌, ℕ, ◌+◌, ◌*◌, ◌<◌, ◌≤◌, T, length, get_or, set, Float, Ok}
 use Rattle.std.specs.Float.{binary32}
 use Rattle.std.specs.Float.Ieee.{of_bits, nan_bits}
 use Rattle.sizes.specs.Sizes.{place_count, corner_limit, pass_size}
@@ -9,7 +9,6 @@ use Rattle.sheet.specs.Words.{attached}
 use Rattle.predict.specs.declared.Grid.{Grid}
 use Rattle.predict.specs.declared.Vector.{Vector}
 use Rattle.arguments.specs.declared.Settings.{Settings}
-use Rattle.arguments.specs.declared.Checked.{Checked}
 use Rattle.frame_line.specs.Table.{kind_at}
 use Rattle.frame_line.specs.Lines.{bare_grow}
 use Rattle.frame_line.specs.Held.{count_in, label_in, shade_in}
@@ -290,7 +289,7 @@ pub record Counted (p : Progress) (used : List ℕ) : Type 0 where
 
 -- a line can be added: it passed its checks, the corners before it are few enough, and the labels are counted
 pub record Addable (p : Progress) (a : Arrays) (line : HeldLine) : Type 0 where
-  pub fine : checked_held p.corners p.passes p.patched a.shades a.sheet a.used a.second p.second line ≡ Checked.Fine
+  pub fine : checked_held p.corners p.passes p.patched a.shades a.sheet a.used a.second p.second line ≡ Ok tt
   pub fits : LineFits p.corners p.second line
   pub long : length a.sheet ≡ place_count
   pub counted : Counted p a.used

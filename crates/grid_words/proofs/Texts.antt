@@ -1,4 +1,5 @@
 -- What the exported writers of a result leave, and that its length and the numbers of its lines are words. Assumes nothing.
+use Rattle.std.specs.Prelude.{Ok, Err}
 use mathlib.Core.Path.{◌≡◌, refl, sym, ap, ◌∙◌}
 use mathlib.Core.Bool.{false, ◌||◌}
 use mathlib.Core.List.{List, [], ◌∷◌, ◌++◌}
@@ -9,7 +10,6 @@ use lib.Dec.{ltb}
 use lib.ListN.{length, drop, set, length-append}
 use Rattle.refusal.specs.declared.Refusal.{Refusal}
 use Rattle.refusal.specs.Refusal.{number_of}
-use Rattle.arguments.specs.declared.Checked.{Checked}
 use Rattle.arguments.proofs.Chains.{or_false_both, not_refused}
 use Rattle.passes.specs.Run.{PassStats}
 use Rattle.report_line.specs.Result.{lines_from, result_line, line_count, result_from, Piece}
@@ -23,6 +23,7 @@ use Rattle.report_words.proofs.Outcomes.{stats_length}
 use Rattle.grid_words.specs.Frames.{Word}
 use Rattle.grid_words.specs.Texts.{TextLeft, text_left, text_told, text_written, text_unless, text_exported, piece_told, piece_written, piece_unless, piece_exported}
 use Rattle.grid_words.proofs.Entering.{one, two}
+use Rattle.arguments.specs.Arguments.{Checked}
 
 -- ---- lengths
 
@@ -70,7 +71,7 @@ module _ (l : TextLent) (few : Few l) where
 -- ---- the whole text
 
 module _ (l : TextLent) (text out : List ℕ) where
-  text_cleared : checked_text l (length text) ≡ Checked.Fine → Few l
+  text_cleared : checked_text l (length text) ≡ Ok tt → Few l
   unfolding checked_text checked_rest
   text_cleared e =
       let seven = not_refused (input_short l || ltb (length text) (length (text_of l))) _ _ e in
@@ -91,11 +92,11 @@ module _ (l : TextLent) (text out : List ℕ) where
     text_word n t = go (checked_text l (length text)) refl e
       where
         go : (k : Checked) → checked_text l (length text) ≡ k → text_out answer text' ≡ text_leaves k l text → Word n
-        go Checked.Fine f w =
+        go (Ok tt) f w =
             let answers : answer ≡ TextAnswer.Written (length (text_of l)) = ap (λ (o : TextOut). o.answer) w in
             let same : n ≡ length (text_of l) = cc in
             omega (arith, same, text_few l (text_cleared f))
-        go (Checked.Refused r) f w =
+        go (Err r) f w =
             let answers : answer ≡ TextAnswer.Refused r = ap (λ (o : TextOut). o.answer) w in
             absurd (let z : ◌≡◌ {A = ℕ} 0 1 = cc in omega arith)
 
@@ -112,7 +113,7 @@ module _ (l : TextLent) (text out : List ℕ) where
 -- ---- a piece
 
 module _ (l : TextLent) (from : ℕ) (text out : List ℕ) where
-  piece_cleared : checked_piece l from (length text) ≡ Checked.Fine → Few l × (from ≤ line_count l.passes)
+  piece_cleared : checked_piece l from (length text) ≡ Ok tt → Few l × (from ≤ line_count l.passes)
   unfolding checked_piece
   piece_cleared e =
       let seven = not_refused (input_short l || ltb (length text) 128) _ _ e in
@@ -135,7 +136,7 @@ module _ (l : TextLent) (from : ℕ) (text out : List ℕ) where
     piece_words n next t = go (checked_piece l from (length text)) refl e
       where
         go : (k : Checked) → checked_piece l from (length text) ≡ k → piece_out answer text' ≡ piece_leaves k (piece_in l from (length text)) text → Word n × Word next
-        go Checked.Fine f w =
+        go (Ok tt) f w =
             let p = piece_in l from (length text) in
             let answers : answer ≡ PieceAnswer.Written (length p.text) p.next = ap (λ (o : PieceOut). o.answer) w in
             let bytes : n ≡ length p.text = cc in
@@ -143,7 +144,7 @@ module _ (l : TextLent) (from : ℕ) (text out : List ℕ) where
             let clear = piece_cleared f in
             let few = piece_few l clear.0 from (length text) clear.1 in
             (omega (arith, bytes, few.0), omega (arith, nexts, few.1))
-        go (Checked.Refused r) f w =
+        go (Err r) f w =
             let answers : answer ≡ PieceAnswer.Refused r = ap (λ (o : PieceOut). o.answer) w in
             absurd (let z : ◌≡◌ {A = ℕ} 0 1 = cc in omega arith)
 

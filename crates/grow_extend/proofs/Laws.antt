@@ -1,5 +1,6 @@
 -- Laws of grow as the code holds it: a cell settled, by what was found there; the run, a cell at a time; the call, refused or done.
 -- Assumes nothing.
+use Rattle.std.specs.Prelude.{Ok, Err}
 use mathlib.Core.Path.{◌≡◌, refl, sym, ap, ap₂, ◌∙◌, subst}
 use mathlib.Core.Bool.{Bool, true, false, cond}
 use mathlib.Core.List.{List}
@@ -23,12 +24,10 @@ use Rattle.labels.specs.Used.{used_on, Tied}
 use Rattle.labels.proofs.Labelled.{hole_keeps, ambiguous_keeps}
 use Rattle.labels.proofs.Used.{tied_attached}
 use Rattle.predict.specs.Predict.{prediction_of, extrapolating}
-use Rattle.predict.specs.declared.Prediction.{Prediction}
 use Rattle.arguments.specs.Shades.{corners_of}
-use Rattle.arguments.specs.Arguments.{checked, queue_needed}
+use Rattle.arguments.specs.Arguments.{Checked, checked, queue_needed}
 use Rattle.arguments.specs.Accepted.{Accepted}
 use Rattle.arguments.proofs.Laws.{accepted}
-use Rattle.arguments.specs.declared.Checked.{Checked}
 use Rattle.arguments.specs.declared.GrowParams.{GrowParams}
 use Rattle.arguments.specs.declared.Pass.{Pass}
 use Rattle.arguments.specs.declared.Settings.{Settings}
@@ -62,25 +61,25 @@ pub visit_as : (cs : Corners) (set : Settings) (p : GrowParams) (c : Cell) (s : 
 unfolding grow_visit grow_at grow_with found_at found_from
 visit_as cs set p c s = go (prediction_of (seen_of cs.corner s.sheet) set.grid c)
   where
-    go : (at : Prediction) → grow_with c (found_from cs set p s.sheet c at) s ≡ grow_at cs set p c at s
-    go Prediction.NoNeighbour = refl
-    go (Prediction.At at) = refl
+    go : (at : Option Position) → grow_with c (found_from cs set p s.sheet c at) s ≡ grow_at cs set p c at s
+    go None = refl
+    go (Some at) = refl
 
 pub found_spare : (cs : Corners) (set : Settings) (p : GrowParams) (sheet : List ℕ) (c : Cell) (k : ℕ) → found_at cs set p sheet c ≡ TryCellResult.Attached k → Free cs sheet k
 unfolding found_at found_from
 found_spare cs set p sheet c k e = go (prediction_of (seen_of cs.corner sheet) set.grid c) e
   where
-    go : (at : Prediction) → found_from cs set p sheet c at ≡ TryCellResult.Attached k → Free cs sheet k
-    go Prediction.NoNeighbour e = absurd (let z : ◌≡◌ {A = ℕ} 0 1 = cc in omega arith)
-    go (Prediction.At at) e = found_free cs set p sheet c at (extrapolating (seen_of cs.corner sheet) c) k e
+    go : (at : Option Position) → found_from cs set p sheet c at ≡ TryCellResult.Attached k → Free cs sheet k
+    go None e = absurd (let z : ◌≡◌ {A = ℕ} 0 1 = cc in omega arith)
+    go (Some at) e = found_free cs set p sheet c at (extrapolating (seen_of cs.corner sheet) c) k e
 
 -- what is found, by the prediction
-module _ (cs : Corners) (set : Settings) (p : GrowParams) (sheet : List ℕ) (c : Cell) {at : Prediction} (is : at ≡ prediction_of (seen_of cs.corner sheet) set.grid c) where
-  pub found_none : at ≡ Prediction.NoNeighbour → TryCellResult.NoCandidates ≡ found_at cs set p sheet c
+module _ (cs : Corners) (set : Settings) (p : GrowParams) (sheet : List ℕ) (c : Cell) {at : Option Position} (is : at ≡ prediction_of (seen_of cs.corner sheet) set.grid c) where
+  pub found_none : at ≡ None → TryCellResult.NoCandidates ≡ found_at cs set p sheet c
   unfolding found_at found_from
   found_none e = rw (← is, e)
 
-  pub found_at_lem : {q : Position} → at ≡ Prediction.At q → {outer : Bool} → outer ≡ extrapolating (seen_of cs.corner sheet) c → {search : Search} → search ≡ search_of set p outer
+  pub found_at_lem : {q : Position} → at ≡ Some q → {outer : Bool} → outer ≡ extrapolating (seen_of cs.corner sheet) c → {search : Search} → search ≡ search_of set p outer
       → {r : TryCellResult} → r ≡ try_at cs sheet (tolerances_of set) search c q → r ≡ found_at cs set p sheet c
   unfolding found_at found_from
   found_at_lem e o s h = h ∙ rw (← is, e, s, o)
@@ -420,22 +419,22 @@ module _ (corners : CornerLists) (set : Settings) (p : GrowParams) (shades sheet
 
   -- by what the check of the arguments finds
   module _ {found : Checked} (is : found ≡ checked (lent_of corners shades sheet (rooms (length queue) (length news))) set (Pass.Grow p)) where
-    leaves_refused : {r : Refusal} → found ≡ Checked.Refused r
+    leaves_refused : {r : Refusal} → found ≡ Err r
         → grow_out (GrowAnswer.Refused r) sheet queue news ≡ grow_leaves (grow_step corners shades sheet set p (rooms (length queue) (length news))) sheet queue news
     unfolding grow_step
     leaves_refused e = rw (← is, e)
 
-    pub call_refused : {r : Refusal} → found ≡ Checked.Refused r → Promised (grow_out (GrowAnswer.Refused r) sheet queue news)
+    pub call_refused : {r : Refusal} → found ≡ Err r → Promised (grow_out (GrowAnswer.Refused r) sheet queue news)
     call_refused e = promised (leaves_refused e)
 
-    pub call_accepted : found ≡ Checked.Fine → Accepted (lent_of corners shades sheet (rooms (length queue) (length news))) set (Pass.Grow p)
+    pub call_accepted : found ≡ Ok tt → Accepted (lent_of corners shades sheet (rooms (length queue) (length news))) set (Pass.Grow p)
     call_accepted e = accepted _ _ _ (sym is ∙ e)
 
-    leaves_done : found ≡ Checked.Fine → {out : GrowOut} → out ≡ grow_leaves (done (grow_after (corners_of corners shades) set p sheet)) sheet queue news
+    leaves_done : found ≡ Ok tt → {out : GrowOut} → out ≡ grow_leaves (done (grow_after (corners_of corners shades) set p sheet)) sheet queue news
         → out ≡ grow_leaves (grow_step corners shades sheet set p (rooms (length queue) (length news))) sheet queue news
     unfolding grow_step
     leaves_done e h = rw (← is, e) h
 
-    pub call_done : found ≡ Checked.Fine → {r : GrowAnswer} {s q n : List ℕ} → grow_out r s q n ≡ grow_leaves (done (grow_after (corners_of corners shades) set p sheet)) sheet queue news
+    pub call_done : found ≡ Ok tt → {r : GrowAnswer} {s q n : List ℕ} → grow_out r s q n ≡ grow_leaves (done (grow_after (corners_of corners shades) set p sheet)) sheet queue news
         → Promised (grow_out r s q n)
     call_done e h = promised (leaves_done e h)

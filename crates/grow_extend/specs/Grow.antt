@@ -1,6 +1,7 @@
 -- Grow as the code holds it: what is found at a cell, where grow stands in the lent buffers, and what the
 -- functions ask and leave. Definitions only.
-use Rattle.std.specs.Prelude.{◌≡◌, false, List, ℕ, ◌+◌, ◌*◌, ◌<◌, ◌≤◌, length, take, None}
+use Rattle.sheet.specs.declared.Position.{Position}
+use Rattle.std.specs.Prelude.{◌≡◌, false, List, ℕ, ◌+◌, ◌*◌, ◌<◌, ◌≤◌, length, take, Option, Some, None}
 use Rattle.sheet.specs.Cells.{OnSheet}
 use Rattle.sheet.specs.Words.{label_at}
 use Rattle.sheet.specs.Corners.{Corners, seen_of, corners_in}
@@ -9,7 +10,6 @@ use Rattle.labels.specs.Labelled.{Attaching}
 use Rattle.labels.specs.Rim.{rim}
 use Rattle.labels.specs.Used.{used_on, OneCell}
 use Rattle.predict.specs.Predict.{prediction_of, extrapolating}
-use Rattle.predict.specs.declared.Prediction.{Prediction}
 use Rattle.arguments.specs.declared.GrowParams.{GrowParams}
 use Rattle.arguments.specs.declared.Settings.{Settings}
 use Rattle.extension_common.specs.TryCell.{try_at}
@@ -25,9 +25,9 @@ use Rattle.grow_extend.specs.declared.Growing.{Growing}
 -- ---- what is found at a cell
 
 -- a cell with a prediction is tried there; one with no labelled neighbour has no candidate
-unfoldable pub found_from : Corners → Settings → GrowParams → List ℕ → Cell → Prediction → TryCellResult
-found_from cs set p sheet c Prediction.NoNeighbour = TryCellResult.NoCandidates
-found_from cs set p sheet c (Prediction.At at) = try_at cs sheet (tolerances_of set) (search_of set p (extrapolating (seen_of cs.corner sheet) c)) c at
+unfoldable pub found_from : Corners → Settings → GrowParams → List ℕ → Cell → Option Position → TryCellResult
+found_from cs set p sheet c None = TryCellResult.NoCandidates
+found_from cs set p sheet c (Some at) = try_at cs sheet (tolerances_of set) (search_of set p (extrapolating (seen_of cs.corner sheet) c)) c at
 
 unfoldable pub found_at : Corners → Settings → GrowParams → List ℕ → Cell → TryCellResult
 found_at cs set p sheet c = found_from cs set p sheet c (prediction_of (seen_of cs.corner sheet) set.grid c)

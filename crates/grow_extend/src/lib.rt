@@ -15,12 +15,11 @@ ghost use Rattle.passes.specs.Grow.{radius_of, search_of, tolerances_of, grow_af
 ghost use Rattle.passes.specs.Step.{grow_step, grow_out, grow_leaves, lent_of, rooms};
 ghost use Rattle.passes.specs.Said.{grow_values, grow_said, outcome_due};
 
-use arguments::{Checked, GrowParams, Pass, Settings};
+use arguments::{GrowParams, Pass, Settings};
 use extension_common::{ChoiceRule, Search, TryCellResult};
 use grow_queue::Queue;
 use passes::{Counts, GrowAnswer, GrowStats};
 use positions_policy::Tolerances;
-use predict::Prediction;
 use sheet::Cell;
 use sizes::CORNERS;
 
@@ -103,8 +102,8 @@ impl<'a> Growing<'a> {
             setup.settings.grid,
         );
         match prediction {
-            Prediction::NoNeighbour => TryCellResult::NoCandidates,
-            Prediction::At(at) => extension_common::try_attach_at_cell(
+            None => TryCellResult::NoCandidates,
+            Some(at) => extension_common::try_attach_at_cell(
                 self.corners,
                 self.count,
                 self.sheet,
@@ -257,8 +256,8 @@ pub fn extend_from_labelled(
         Pass::Grow(params),
     );
     match checked {
-        Checked::Refused(refusal) => GrowAnswer::Refused(refusal),
-        Checked::Fine => GrowAnswer::Done(extend(
+        Err(refusal) => GrowAnswer::Refused(refusal),
+        Ok(()) => GrowAnswer::Done(extend(
             xs, ys, pitches, shades, sheet, queue, attached, settings, params,
         )),
     }

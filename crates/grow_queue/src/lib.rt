@@ -115,6 +115,7 @@ impl<'a> Queue<'a> {
         requires { Unqueued sheet.now self.old }
         ensures { QueueHeld self.old self.new (seeded sheet.now) }
     {
+        // Not a range: the places that hold nothing are passed over.
         let mut place = sheet::next_written(sheet, 0);
         while place < PLACES {
             self.seed_at(sheet, place);

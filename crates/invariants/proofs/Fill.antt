@@ -8,7 +8,8 @@ use Rattle.sheet.proofs.Laws.{place_cell}
 use Rattle.labels.specs.Labelled.{label_count}
 use Rattle.labels.specs.Box.{box_of}
 use Rattle.predict.specs.Predict.{prediction_of}
-use Rattle.predict.specs.declared.Prediction.{Prediction}
+use Rattle.std.specs.Prelude.{Option, Some, None}
+use Rattle.sheet.specs.declared.Position.{Position}
 use Rattle.positions_policy.specs.declared.Tolerances.{Tolerances}
 use Rattle.arguments.specs.declared.Settings.{Settings}
 use Rattle.arguments.specs.declared.FillParams.{FillParams}
@@ -52,9 +53,9 @@ module _ {cs : Corners} {first : List ℕ} (few : cs.count ≤ 1024) (begins : S
     unfolding fill_visit fill_at
     filling_visit p ps s g = go (prediction_of (seen_of cs.corner s.sheet) set.grid (cell_of p))
       where
-        go : (at : Prediction) → Filling cs (tolerances_of set) first ps (fill_at cs set params (cell_of p) at s)
-        go Prediction.NoNeighbour = record { history = g.history; waiting = waiting_marked g.waiting (record { same_label = λ q h. refl }) }
-        go (Prediction.At at) = filling_with p ps s g _ (λ k e. found_attaches g.waiting cs (tolerances_of set) _ at k e)
+        go : (at : Option Position) → Filling cs (tolerances_of set) first ps (fill_at cs set params (cell_of p) at s)
+        go None = record { history = g.history; waiting = waiting_marked g.waiting (record { same_label = λ q h. refl }) }
+        go (Some at) = filling_with p ps s g _ (λ k e. found_attaches g.waiting cs (tolerances_of set) _ at k e)
 
     -- the whole run: a round lists its cells, and each waits for its turn
     pub filling_begins : (s : FillState) → Filling cs (tolerances_of set) first [] s → Filling cs (tolerances_of set) first (fill_cells s.sheet) s

@@ -1,5 +1,4 @@
 -- Grow's run is a history: every queued cell lies on the sheet and stays unlabelled until its own visit. Assumes nothing.
-use Rattle.std.specs.Prelude.{None}
 use mathlib.Core.Path.{◌≡◌, refl, sym, subst}
 use mathlib.Core.Bool.{Bool, true, false, not, cond}
 use mathlib.Core.List.Memᴰ
@@ -23,7 +22,8 @@ use Rattle.labels.specs.Labelled.{names_corner, labelled_places, SameLabels}
 use Rattle.labels.proofs.Below.{no_both, both}
 use Rattle.labels.proofs.Labelled.{hole_keeps, ambiguous_keeps}
 use Rattle.predict.specs.Predict.{prediction_of}
-use Rattle.predict.specs.declared.Prediction.{Prediction}
+use Rattle.std.specs.Prelude.{Option, Some, None}
+use Rattle.sheet.specs.declared.Position.{Position}
 use Rattle.positions_policy.specs.Edge.{cardinal_offsets}
 use Rattle.positions_policy.specs.declared.Tolerances.{Tolerances}
 use Rattle.arguments.specs.declared.Settings.{Settings}
@@ -180,9 +180,9 @@ module _ {cs : Corners} {first : List ℕ} (set : Settings) (params : GrowParams
   unfolding grow_visit grow_at
   growing_visit head s g h = go (prediction_of (seen_of cs.corner s.sheet) set.grid (cell_of (get_or s.queued head 0)))
     where
-      go : (at : Prediction) → Growing cs (tolerances_of set) first (head + 1) (grow_at cs set params (cell_of (get_or s.queued head 0)) at s)
-      go Prediction.NoNeighbour = growing_missed few begins head s g h
-      go (Prediction.At at) = growing_with few begins head s g h _ (λ k e. found_attaches (turn few begins head s g h) cs (tolerances_of set) _ at k e)
+      go : (at : Option Position) → Growing cs (tolerances_of set) first (head + 1) (grow_at cs set params (cell_of (get_or s.queued head 0)) at s)
+      go None = growing_missed few begins head s g h
+      go (Some at) = growing_with few begins head s g h _ (λ k e. found_attaches (turn few begins head s g h) cs (tolerances_of set) _ at k e)
 
   -- at most m cells more
   grown_from : (m head : ℕ) (s : GrowState) → Growing cs (tolerances_of set) first head s → Grown cs (tolerances_of set) first (grow_from cs set params m head s)

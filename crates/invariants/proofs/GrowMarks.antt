@@ -1,6 +1,5 @@
 -- Grow and the marks, cell by cell: what it found at each visited cell set that cell's mark and is counted, its new cells are those at which it found
 -- a corner, and no other mark changes. Assumes nothing.
-use Rattle.std.specs.Prelude.{Option, Some, None}
 use mathlib.Core.Path.{◌≡◌, refl, sym, ap, ◌∙◌}
 use mathlib.Core.Bool.{Bool, true, false, cond}
 use mathlib.Core.List.Memᴰ
@@ -21,7 +20,8 @@ use Rattle.sheet.specs.declared.Offset.{Offset}
 use Rattle.sheet.proofs.Laws.{place_cell}
 use Rattle.sheet.proofs.Words.{no_corner_lem}
 use Rattle.predict.specs.Predict.{prediction_of, extrapolating}
-use Rattle.predict.specs.declared.Prediction.{Prediction}
+use Rattle.std.specs.Prelude.{Option, Some, None}
+use Rattle.sheet.specs.declared.Position.{Position}
 use Rattle.positions_policy.specs.Edge.{cardinal_offsets}
 use Rattle.arguments.specs.declared.Settings.{Settings}
 use Rattle.arguments.specs.declared.GrowParams.{GrowParams}
@@ -236,9 +236,9 @@ module _ (cs : Corners) (set : Settings) (params : GrowParams) {first : List ℕ
   unfolding grow_visit grow_at grow_with
   finding_visit {head} {s} g w left = go (prediction_of (seen_of cs.corner s.sheet) set.grid (next_of s head))
     where
-      go : (at : Prediction) → Finding first (head + 1) (grow_at cs set params (next_of s head) at s)
-      go Prediction.NoNeighbour = finding_with g w left TryCellResult.NoCandidates (λ k e. absurd (let z : ◌≡◌ {A = ℕ} 0 1 = cc in omega arith))
-      go (Prediction.At at) =
+      go : (at : Option Position) → Finding first (head + 1) (grow_at cs set params (next_of s head) at s)
+      go None = finding_with g w left TryCellResult.NoCandidates (λ k e. absurd (let z : ◌≡◌ {A = ℕ} 0 1 = cc in omega arith))
+      go (Some at) =
           let search = search_of set params (extrapolating (seen_of cs.corner s.sheet) (next_of s head)) in
           finding_with g w left (try_at cs s.sheet (tolerances_of set) search (next_of s head) at) (found_fits cs g.fit.few s.sheet (tolerances_of set) search (next_of s head) at)
 

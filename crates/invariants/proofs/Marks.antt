@@ -19,7 +19,7 @@ use Rattle.sheet.proofs.Laws.{cell_on_lem, place_cell}
 use Rattle.labels.specs.Labelled.{label_count}
 use Rattle.labels.proofs.Below.{no_both}
 use Rattle.predict.specs.Predict.{prediction_of}
-use Rattle.predict.specs.declared.Prediction.{Prediction}
+use Rattle.std.specs.Prelude.{Option, Some, None}
 use Rattle.positions_policy.specs.declared.Tolerances.{Tolerances}
 use Rattle.arguments.specs.declared.Settings.{Settings}
 use Rattle.arguments.specs.declared.FillParams.{FillParams}
@@ -132,9 +132,9 @@ module _ (cs : Corners) (few : cs.count ≤ 1024) (first : List ℕ) (set : Sett
   unfolding fill_visit fill_at
   fill_visit_lem q h s w = go (prediction_of (seen_of cs.corner s.sheet) set.grid (cell_of q))
     where
-      go : (at : Prediction) → FillKeeps first (fill_at cs set params (cell_of q) at s)
-      go Prediction.NoNeighbour = w
-      go (Prediction.At at) = fill_with_lem q h _ s (λ k e. found_fits cs few s.sheet _ _ (cell_of q) at k e) w
+      go : (at : Option Position) → FillKeeps first (fill_at cs set params (cell_of q) at s)
+      go None = w
+      go (Some at) = fill_with_lem q h _ s (λ k e. found_fits cs few s.sheet _ _ (cell_of q) at k e) w
 
   pub fill_marks : 16384 ≤ length first → FillMarks first (fill_run cs set params first).state.sheet
   unfolding fill_run fill_from

@@ -3,7 +3,7 @@
 -- labelled cardinal neighbour, or no such neighbour, when attached, and each that a call attached to which a shade is lent is of its cell's kind. Only
 -- grow sets marks, and only local clears them. A call whose numbers and buffers are right is not refused in mid-list.
 -- Assumes nothing.
-use Rattle.std.specs.Prelude.{None}
+use Rattle.std.specs.Prelude.{Ok, Err, None}
 use mathlib.Core.Path.{◌≡◌, refl, sym, ap, ◌∙◌, subst}
 use mathlib.Core.List.Memᴰ
 use mathlib.Core.List.{List, [], ◌∷◌, Memᴰ}
@@ -19,9 +19,8 @@ use Rattle.sheet.specs.declared.Cell.{Cell}
 use Rattle.sheet.proofs.Words.{no_corner_lem}
 use Rattle.labels.specs.Labelled.{LabelledCell}
 use Rattle.arguments.specs.Shades.{corners_of}
-use Rattle.arguments.specs.Arguments.{checked}
+use Rattle.arguments.specs.Arguments.{Checked, checked}
 use Rattle.arguments.specs.Accepted.{Accepted}
-use Rattle.arguments.specs.declared.Checked.{Checked}
 use Rattle.arguments.specs.declared.Settings.{Settings}
 use Rattle.arguments.proofs.Laws.{accepted, accepted_fine}
 use Rattle.arguments.specs.declared.Pass.{Pass}
@@ -54,8 +53,8 @@ unfolding step grow_step fill_step local_step
 step_as_lem l sheet c = go c.pass
   where
     under : {A : Type 0} (f : A → PassStats) (k : Checked) (a : After A) → renamed f (unless k a) ≡ unless k (answering f a)
-    under f Checked.Fine a = refl
-    under f (Checked.Refused r) a = refl
+    under f (Ok tt) a = refl
+    under f (Err r) a = refl
 
     go : (p : Pass) → step_as l c.shades sheet c.settings c.rooms p ≡ unless (checked (lent_of l c.shades sheet c.rooms) c.settings p) (after_pass l c.shades sheet c.settings p)
     go (Pass.Grow p) = under grow_stats (checked (lent_of l c.shades sheet c.rooms) c.settings (Pass.Grow p)) (grow_after (corners_of l c.shades) c.settings p sheet)
@@ -92,7 +91,7 @@ module _ (l : CornerLists) (shades sheet : List ℕ) (set : Settings) (few : len
   pass_marks (Pass.Local p) = local_marks (corners_of l shades) few sheet set p s.long
 
 -- a call that is not refused
-pub call_accepted : (l : CornerLists) (sheet : List ℕ) (c : Call) → checked_call l sheet c ≡ Checked.Fine → Accepted (lent_of l c.shades sheet c.rooms) c.settings c.pass
+pub call_accepted : (l : CornerLists) (sheet : List ℕ) (c : Call) → checked_call l sheet c ≡ Ok tt → Accepted (lent_of l c.shades sheet c.rooms) c.settings c.pass
 call_accepted l sheet c e = accepted (lent_of l c.shades sheet c.rooms) c.settings c.pass e
 
 -- each new corner is of its cell's kind, where a shade is lent
@@ -129,8 +128,8 @@ pub outcomes : (l : CornerLists) (sheet : List ℕ) (c : Call) → Outcomes l sh
 outcomes l sheet c = subst (Outcomes l sheet c) (sym (step_as_lem l sheet c)) (go (checked_call l sheet c) refl)
   where
     go : (k : Checked) → checked_call l sheet c ≡ k → Outcomes l sheet c (unless k (after_call l sheet c))
-    go Checked.Fine e = let w = call_accepted l sheet c e in ran _ w (call_ran l sheet c w)
-    go (Checked.Refused r) e = was_refused r
+    go (Ok tt) e = let w = call_accepted l sheet c e in ran _ w (call_ran l sheet c w)
+    go (Err r) e = was_refused r
 
 -- ---- the marks over one call
 

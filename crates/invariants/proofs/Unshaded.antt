@@ -16,7 +16,6 @@ use Rattle.labels.specs.Labelled.{label_count}
 use Rattle.labels.proofs.Below.{no_both, any_none}
 use Rattle.candidates.specs.declared.Candidates.{Candidates}
 use Rattle.arguments.specs.Shades.{shade_of, stands, any_shade, shade_at, corners_of}
-use Rattle.arguments.specs.declared.Checked.{Checked}
 use Rattle.arguments.specs.declared.Pass.{Pass}
 use Rattle.arguments.specs.declared.Settings.{Settings}
 use Rattle.arguments.specs.declared.LocalExtensionParams.{LocalExtensionParams}
@@ -36,6 +35,7 @@ use Rattle.invariants.specs.Calls.{answering, after_pass, lent_shades, ShadesIns
 use Rattle.invariants.specs.Unshaded.{try_any, AsBefore, unshaded, NoShade, CallsAsBefore}
 use Rattle.invariants.proofs.Shading.{kinds_not_tested}
 use Rattle.invariants.proofs.Run.{step_as_lem}
+use Rattle.arguments.specs.Arguments.{Checked}
 
 -- ---- one cell
 

@@ -9,9 +9,8 @@ use Rattle.sheet.specs.Shades.{kind, kind_at}
 use Rattle.sheet.specs.Corners.{CornerLists, corner_of, AllListed, Given}
 use Rattle.labels.specs.Used.{OneCell}
 use Rattle.arguments.specs.Shades.{shade_of, any_shade, corners_of}
-use Rattle.arguments.specs.Arguments.{queue_needed, checked}
+use Rattle.arguments.specs.Arguments.{Checked, queue_needed, checked}
 use Rattle.arguments.specs.Accepted.{CornerInside, SettingsInside, PassInside}
-use Rattle.arguments.specs.declared.Checked.{Checked}
 use Rattle.arguments.specs.declared.Pass.{Pass}
 use Rattle.arguments.specs.declared.Settings.{Settings}
 use Rattle.passes.specs.Outcome.{After, Outcome, refused, done}

@@ -8,19 +8,19 @@ use mathlib.Core.Logic.{◌⊎◌, inl, inr}
 use Prim.Native.Nat.{ℕ}
 use lib.Dec.{T}
 use lib.IntN.{ℤ}
-use Rattle.std.specs.Prelude.{Some, None, Option}
+use Rattle.std.specs.Prelude.{Option, Some, None}
 use lib.Signed.{le_z, lt_z, ◌≤ℤ◌, ≤ℤ_refl}
 use Rattle.sheet.specs.Cells.{in_range, OnSheet, place_of, cell_of}
 use Rattle.sheet.specs.Words.{attached, empty_sheet}
 use Rattle.sheet.specs.Blank.{written_from}
 use Rattle.std.specs.Int.{int_min, int_max}
-use Rattle.std.specs.List.{filter, fold, filter_map, cons_option}
+use Rattle.std.specs.List.{filter, fold, filter_map, cons_option, reduce}
 use Rattle.sheet.proofs.Laws.{flip, cell_place, on_i, on_j}
 use Rattle.sheet.proofs.Words.{yes}
 use Rattle.sheet.specs.declared.Cell.{Cell}
 use Rattle.labels.proofs.Below.{no_both}
 use Rattle.labels.specs.Labelled.{is_labelled, labelled_cell, LabelledCell, labelled_places, Attaching}
-use Rattle.labels.specs.Box.{Inside, Taken, IsBoxOf, IsBox, lower_of, higher_of, widened, box_around, box_of}
+use Rattle.labels.specs.Box.{Inside, Taken, IsBoxOf, IsBox, lower_of, higher_of, bounds_of, bounds_joined, widened, box_around, box_of}
 use Rattle.labels.proofs.Signed.{le_z_true, le_z_false, ≤ℤ-trans, ≤ℤ-antisym}
 use Rattle.labels.proofs.Labelled.{SamePlaces, same_places, cell_listed, listed_cell, labelled_cell_on, labelled_new, labelled_still, labelled_cases, empty_unlabelled, labels_walked}
 use Rattle.labels.specs.declared.Bounds.{Bounds}
@@ -256,10 +256,11 @@ box_of_framed sheet b e = box_framed sheet b (subst (IsBox sheet) e (box_is shee
 
 -- ---- the box, by a walk over the places that hold something
 
-boxed : (l : List (ℕ × ℕ)) (box : Option Bounds)
+-- the cells of the labelled places are those of the walk
+cells_walked : (l : List (ℕ × ℕ)) (box : Option Bounds)
     → fold widened box (filter_map labelled_cell l) ≡ foldl (λ b p. widened b (cell_of p)) box (map (λ e. e.0) (filter (λ e. is_labelled e.1) l))
-boxed [] box = refl
-boxed (e ∷ l) box = go (is_labelled e.1) (boxed l)
+cells_walked [] box = refl
+cells_walked (e ∷ l) box = go (is_labelled e.1) (cells_walked l)
   where
     go : (t : Bool)
         → ((b : Option Bounds) → fold widened b (filter_map labelled_cell l) ≡ foldl (λ b p. widened b (cell_of p)) b (map (λ e. e.0) (filter (λ e. is_labelled e.1) l)))
@@ -268,6 +269,22 @@ boxed (e ∷ l) box = go (is_labelled e.1) (boxed l)
     go true w = w (widened box (cell_of e.0))
     go false w = w box
 
-pub box_walked : (sheet : List ℕ) → fold widened None (filter_map labelled_cell (written_from sheet 0)) ≡ box_of sheet
+-- the bounds of cells, joined
+boxed_behind : (cells : List Cell) (b : Bounds) → fold widened (Some b) cells ≡ Some (fold bounds_joined b (map bounds_of cells))
+unfolding widened
+boxed_behind [] b = refl
+boxed_behind (c ∷ cells) b = boxed_behind cells (bounds_joined b (bounds_of c))
+
+abbrev pub boxed : Option Bounds → Option Bounds
+boxed None = None
+boxed (Some b) = Some b
+
+boxed_all : (cells : List Cell) → boxed (reduce bounds_joined (map bounds_of cells)) ≡ fold widened None cells
+unfolding widened
+boxed_all [] = refl
+boxed_all (c ∷ cells) = sym (boxed_behind cells (bounds_of c))
+
+pub box_walked : (sheet : List ℕ) (r : Option Bounds) → reduce bounds_joined (map bounds_of (filter_map labelled_cell (written_from sheet 0))) ≡ r → boxed r ≡ box_of sheet
 unfolding box_of
-box_walked sheet = boxed (written_from sheet 0) None ∙ ap box_around (labels_walked sheet)
+box_walked sheet r e =
+    sym (ap boxed e) ∙ boxed_all (filter_map labelled_cell (written_from sheet 0)) ∙ cells_walked (written_from sheet 0) None ∙ ap box_around (labels_walked sheet)

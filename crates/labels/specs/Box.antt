@@ -48,6 +48,19 @@ lower_of a b = cond (le_z a b) a b
 unfoldable pub higher_of : ℤ → ℤ → ℤ
 higher_of a b = cond (le_z b a) a b
 
+-- the bounds of one cell, and of what is in one of two bounds
+abbrev pub bounds_of : Cell → Bounds
+bounds_of c = record { low_i = c.i; high_i = c.i; low_j = c.j; high_j = c.j }
+
+abbrev pub bounds_joined : Bounds → Bounds → Bounds
+bounds_joined a b =
+    record {
+      low_i = lower_of a.low_i b.low_i;
+      high_i = higher_of a.high_i b.high_i;
+      low_j = lower_of a.low_j b.low_j;
+      high_j = higher_of a.high_j b.high_j;
+    }
+
 -- the box with one cell more
 unfoldable pub widened : Option Bounds → Cell → Option Bounds
 widened None c = Some (record { low_i = c.i; high_i = c.i; low_j = c.j; high_j = c.j })

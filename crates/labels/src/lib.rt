@@ -7,7 +7,7 @@ ghost use Rattle.std.specs.Prelude.{◌≡◌, ◌≤◌, ◌<◌, length};
 ghost use Rattle.sizes.specs.Sizes.{place_count};
 ghost use Rattle.sheet.specs.Words.{label_of};
 ghost use Rattle.labels.specs.Labelled.{is_labelled, labelled_cell, label_count};
-ghost use Rattle.labels.specs.Box.{widened, box_of};
+ghost use Rattle.labels.specs.Box.{widened, box_of, bounds_of, bounds_joined};
 ghost use Rattle.labels.specs.Rim.{outermost, on_rim, rim, RimAsked};
 ghost use Rattle.labels.specs.Used.{noted, Tied};
 
@@ -50,24 +50,40 @@ pub struct Bounds {
     pub high_j: i32,
 }
 
+impl Bounds {
+    // The bounds of one cell.
+    fn of(c: Cell) -> Self
+        ensures { result ≡ bounds_of c }
+    {
+        Bounds {
+            low_i: c.i,
+            high_i: c.i,
+            low_j: c.j,
+            high_j: c.j,
+        }
+    }
+
+    // The bounds of what is in one of two bounds.
+    fn join(self, other: Bounds) -> Self
+        ensures { result ≡ bounds_joined self other }
+    {
+        Bounds {
+            low_i: self.low_i.min(other.low_i),
+            high_i: self.high_i.max(other.high_i),
+            low_j: self.low_j.min(other.low_j),
+            high_j: self.high_j.max(other.high_j),
+        }
+    }
+}
+
 // The box with one cell more in it.
 #[tactic(auto, unfolding(crate::specs::Box::widened))]
 pub fn widen(around: Option<Bounds>, c: Cell) -> Option<Bounds>
     ensures { result ≡ widened around c }
 {
     match around {
-        None => Some(Bounds {
-            low_i: c.i,
-            high_i: c.i,
-            low_j: c.j,
-            high_j: c.j,
-        }),
-        Some(b) => Some(Bounds {
-            low_i: b.low_i.min(c.i),
-            high_i: b.high_i.max(c.i),
-            low_j: b.low_j.min(c.j),
-            high_j: b.high_j.max(c.j),
-        }),
+        None => Some(Bounds::of(c)),
+        Some(b) => Some(b.join(Bounds::of(c))),
     }
 }
 
@@ -77,9 +93,14 @@ pub fn label_box(sheet: &[u16]) -> Option<Bounds>
     requires { place_count ≤ length sheet.now }
     ensures { result ≡ box_of sheet.now }
 {
-    Written::new(sheet)
+    let bounds = Written::new(sheet)
         .filter_map(labelled_cell)
-        .fold(None, widen)
+        .map(Bounds::of)
+        .reduce(Bounds::join);
+    match bounds {
+        None => None,
+        Some(b) => Some(b),
+    }
 }
 
 // Whether i or j lies in the outermost `depth` lines on either side.

@@ -1,4 +1,5 @@
 -- The rounds of local, one after the other, and the whole call: refused, under four labels, or all rounds done. Assumes nothing.
+use Rattle.std.specs.Prelude.{Ok, Err}
 use mathlib.Core.Path.{◌≡◌, refl, sym, ap, ◌∙◌, subst}
 use mathlib.Core.Bool.{Bool}
 use mathlib.Core.List.{List}
@@ -14,9 +15,8 @@ use Rattle.refusal.specs.declared.Refusal.{Refusal}
 use Rattle.labels.specs.Labelled.{label_count}
 use Rattle.labels.specs.Rim.{rim}
 use Rattle.labels.specs.Used.{Tied}
-use Rattle.arguments.specs.Arguments.{checked}
+use Rattle.arguments.specs.Arguments.{Checked, checked}
 use Rattle.arguments.specs.Accepted.{Accepted}
-use Rattle.arguments.specs.declared.Checked.{Checked}
 use Rattle.arguments.specs.declared.Pass.{Pass}
 use Rattle.arguments.specs.declared.Settings.{Settings}
 use Rattle.arguments.specs.declared.LocalExtensionParams.{LocalExtensionParams}
@@ -36,83 +36,80 @@ use Rattle.passes.proofs.Said.{local_said_lem}
 use Rattle.supports.specs.Nearest.{Gatherable, Gathered}
 use Rattle.local_cell.specs.Extending.{state_of, Left}
 use Rattle.local_cell.specs.declared.LocalProgress.{LocalProgress}
+use Rattle.local_cell.specs.declared.LocalWork.{LocalWork}
 use Rattle.local_cell.proofs.Visit.{gathered_front, gathered_size, stands, left_as}
 use Rattle.local.specs.Rounds.{RoundAsked, no_progress, start_of, RoundsAsked, RoundsLeft, stats_of}
-use Rattle.local.specs.declared.RoundsDone.{RoundsDone}
 use Rattle.local.proofs.Walk.{holds_state, left_then, round_grows, round_counted}
 
 -- ---- the loop over the rounds
 
 -- the same rounds by another expression
-rounds_left_as : {r after : LocalRounds} {n : ℕ} {before sheet list used places : List ℕ} {answer : RoundsDone} → after ≡ r
-    → RoundsLeft r n before sheet list used places answer → RoundsLeft after n before sheet list used places answer
+rounds_left_as : {r after : LocalRounds} {n : ℕ} {before sheet list : List ℕ} {work : LocalWork} {rounds : ℕ} → after ≡ r
+    → RoundsLeft r n before sheet list work rounds → RoundsLeft after n before sheet list work rounds
 rounds_left_as e l = rw e l
 
-pub record Rounding (set : Settings) (p : LocalExtensionParams) (limit : ℕ) (cs : Corners) (sheet₀ list₀ : List ℕ) (labels₀ : ℕ) (sheet list used places : List ℕ) (at : LocalProgress) (rounds : ℕ) : Type 0 where
-  pub remaining : Remaining (local_pass cs set p) limit (state_of sheet₀ list₀ (no_progress labels₀)) (state_of sheet list at) rounds
+pub record Rounding (set : Settings) (p : LocalExtensionParams) (limit : ℕ) (cs : Corners) (sheet₀ list₀ : List ℕ) (at₀ : LocalProgress) (sheet list : List ℕ) (work : LocalWork) (rounds : ℕ) : Type 0 where
+  pub remaining : Remaining (local_pass cs set p) limit (state_of sheet₀ list₀ at₀) (state_of sheet list work.progress) rounds
   pub few : limit ≤ 64
   pub shallow : p.extend_depth ≤ 4
   pub same_sheet : length sheet ≡ length sheet₀
   pub same_list_holds : length list ≡ length list₀
-  pub counted : visits at.counts ≤ 16384 * rounds
-  pub left : Left (state_of sheet list at) cs.count list₀ sheet list used places at
+  pub counted : visits work.progress.counts ≤ 16384 * rounds
+  pub left : Left (state_of sheet list work.progress) cs.count list₀ sheet list work
 
-module _ (set : Settings) (p : LocalExtensionParams) (limit : ℕ) (cs : Corners) (sheet₀ list₀ : List ℕ) (labels₀ : ℕ) where
-  pub rounding_start : (used places : List ℕ) {at : LocalProgress} → limit ≡ p.max_iters → at ≡ no_progress labels₀ → RoundsAsked cs.count sheet₀ list₀ used places labels₀ p
-      → Rounding set p limit cs sheet₀ list₀ labels₀ sheet₀ list₀ used places at 0
-  rounding_start used places e g f =
-      rw g
-      (record {
-        remaining = remaining_all (local_pass cs set p) limit (state_of sheet₀ list₀ (no_progress labels₀));
+module _ {set : Settings} {p : LocalExtensionParams} {limit : ℕ} {cs : Corners} {sheet₀ list₀ : List ℕ} where
+  pub rounding_start : {work : LocalWork} → limit ≡ p.max_iters → RoundsAsked cs.count sheet₀ list₀ work p → Rounding set p limit cs sheet₀ list₀ work.progress sheet₀ list₀ work 0
+  rounding_start {work} e f =
+      record {
+        remaining = remaining_all (local_pass cs set p) limit (state_of sheet₀ list₀ work.progress);
         few = omega (arith, f.rounds_few);
         shallow = f.shallow;
         same_sheet = refl;
         same_list_holds = refl;
-        counted = omega arith;
-        left = record { holds = stands {at = no_progress labels₀} f.extending; extending = f.extending };
-      })
+        counted = omega (arith, ap (λ (at : LocalProgress). visits at.counts) f.unstarted);
+        left = record { holds = stands f.extending; extending = f.extending };
+      }
 
-  module _ (sheet list used places : List ℕ) (at : LocalProgress) (rounds : ℕ) (g : Rounding set p limit cs sheet₀ list₀ labels₀ sheet list used places at rounds) where
-    pub rounding_asked : rounds < limit → RoundAsked cs.count sheet list used places at p
+  module _ {at₀ : LocalProgress} {sheet list : List ℕ} {work : LocalWork} {rounds : ℕ} (g : Rounding set p limit cs sheet₀ list₀ at₀ sheet list work rounds) where
+    pub rounding_asked : rounds < limit → RoundAsked cs.count sheet list work p
     rounding_asked h = record { extending = g.left.extending; shallow = g.shallow; countable = omega (arith, g.counted, g.few) }
 
-    pub rounding_end : limit ≤ rounds
-        → RoundsLeft (local_from cs set p limit (start_of sheet₀ list₀ labels₀)) cs.count list₀ sheet list used places (record { progress = at; rounds = rounds })
+    pub rounding_end : limit ≤ rounds → rounds ≤ limit → RoundsLeft (local_from cs set p limit (start_of sheet₀ list₀ at₀)) cs.count list₀ sheet list work limit
     unfolding local_from
-    rounding_end h =
-        rounds_left_as (remaining_none (local_pass cs set p) limit (state_of sheet₀ list₀ (no_progress labels₀)) g.remaining h)
-        (record { left = g.left; rounds_are = refl })
+    rounding_end h k =
+        rounds_left_as (remaining_none (local_pass cs set p) limit (state_of sheet₀ list₀ at₀) g.remaining h)
+        (record { left = g.left; rounds_are = omega arith })
 
-    module _ (sheet' list' used' places' : List ℕ) (next : LocalProgress) (h : rounds < limit)
-        (l : Left (local_round cs set p (state_of sheet list at)) cs.count list sheet' list' used' places' next) where
+    module _ {sheet' list' : List ℕ} {next : LocalWork} (h : rounds < limit)
+        (l : Left (local_round cs set p (state_of sheet list work.progress)) cs.count list sheet' list' next) where
       -- the state after the round, with the list's rest as it was at the start
-      whole : Left (local_round cs set p (state_of sheet list at)) cs.count list₀ sheet' list' used' places' next
-      whole = left_then g.left.holds (round_grows cs set p (state_of sheet list at)) l
+      whole : Left (local_round cs set p (state_of sheet list work.progress)) cs.count list₀ sheet' list' next
+      whole = left_then g.left.holds (round_grows cs set p (state_of sheet list work.progress)) l
 
-      pub rounding_last : next.counts.attached ≡ at.counts.attached
-          → RoundsLeft (local_from cs set p limit (start_of sheet₀ list₀ labels₀)) cs.count list₀ sheet' list' used' places' (record { progress = next; rounds = rounds + 1 })
+      pub rounding_last : next.progress.counts.attached ≡ work.progress.counts.attached
+          → RoundsLeft (local_from cs set p limit (start_of sheet₀ list₀ at₀)) cs.count list₀ sheet' list' next (rounds + 1)
       unfolding local_from
       rounding_last e =
-          rounds_left_as (remaining_last (local_pass cs set p) limit (state_of sheet₀ list₀ (no_progress labels₀))
+          rounds_left_as (remaining_last (local_pass cs set p) limit (state_of sheet₀ list₀ at₀)
           g.remaining h (sym l.holds.made_is ∙ e ∙ g.left.holds.made_is))
           (record { left = whole; rounds_are = refl })
 
-      pub rounding_more : (next.counts.attached ≡ at.counts.attached → ⊥) → length sheet' ≡ length sheet → length list' ≡ length list
-          → Rounding set p limit cs sheet₀ list₀ labels₀ sheet' list' used' places' next (rounds + 1)
+      pub rounding_more : (next.progress.counts.attached ≡ work.progress.counts.attached → ⊥) → length sheet' ≡ length sheet → length list' ≡ length list
+          → Rounding set p limit cs sheet₀ list₀ at₀ sheet' list' next (rounds + 1)
       unfolding local_round
       rounding_more e a b =
           record {
             remaining =
-                subst (λ (s : LocalState). Remaining (local_pass cs set p) limit (state_of sheet₀ list₀ (no_progress labels₀))
+                subst (λ (s : LocalState). Remaining (local_pass cs set p) limit (state_of sheet₀ list₀ at₀)
                 s (rounds + 1))
                 (sym (holds_state l.holds))
-                (remaining_more (local_pass cs set p) limit (state_of sheet₀ list₀ (no_progress labels₀))
+                (remaining_more (local_pass cs set p) limit (state_of sheet₀ list₀ at₀)
                 g.remaining h (λ d. e (l.holds.made_is ∙ d ∙ sym g.left.holds.made_is)));
             few = g.few;
             shallow = g.shallow;
             same_sheet = a ∙ g.same_sheet;
             same_list_holds = b ∙ g.same_list_holds;
-            counted = omega (arith, g.counted, ap visits l.holds.counts_are, round_counted cs set p (state_of sheet list at));
+            counted = omega (arith, g.counted, ap visits l.holds.counts_are, round_counted cs set p (state_of sheet list work.progress));
             left = left_as (holds_state l.holds) whole;
           }
 
@@ -129,9 +126,10 @@ module _ (corners : CornerLists) (shades sheet list : List ℕ) (set : Settings)
     unfolding local_search
     accepted_radius = search_radius p.search_rel set.grid.cell_size a.pass_inside.search a.settings_inside.cell_size
 
-    pub accepted_asked : {used places before : List ℕ} {labels : ℕ} → length before ≡ 1024 → Gathered sheet before places labels → 4 ≤ labels → Tied sheet used
-        → RoundsAsked (length corners.xs) sheet list used places labels p
-    accepted_asked n w h t =
+    pub accepted_asked : {work : LocalWork} {before : List ℕ} {labels : ℕ} → length before ≡ 1024 → Gathered sheet before work.places labels → 4 ≤ labels → Tied sheet work.used
+        → work.progress ≡ no_progress labels → RoundsAsked (length corners.xs) sheet list work p
+    accepted_asked n w h t e =
+        let k = ap (λ (at : LocalProgress). at.labels) e in
         record {
           extending =
               record {
@@ -140,12 +138,13 @@ module _ (corners : CornerLists) (shades sheet list : List ℕ) (set : Settings)
                 one_cell = a.one_cell;
                 tied = t;
                 list_long = a.attached_long;
-                room = omega arith;
+                room = omega (arith, ap (λ (at : LocalProgress). at.counts.attached) e);
                 four = omega (arith, w.count_is);
-                labels_are = w.count_is;
-                places_are = gathered_front w;
+                labels_are = k ∙ w.count_is;
+                places_are = rw k (gathered_front w);
                 size = gathered_size n (omega (arith, labels_few a.given a.one_cell, a.few)) w;
               };
+          unstarted = e ∙ ap no_progress (sym k);
           shallow = a.pass_inside.depth;
           rounds_few = a.pass_inside.rounds;
         }
@@ -154,17 +153,18 @@ module _ (corners : CornerLists) (shades sheet list : List ℕ) (set : Settings)
   module _ {labels depth : ℕ} {edge shaded : Bool} {stats : LocalStats} (counted : labels ≡ label_count sheet) (deep : depth ≡ depth_of p)
       (any : shaded ≡ any_shade shades (length corners.xs)) where
     -- under four labels
-    pub pass_few : {at : LocalProgress} → labels < 4 → at ≡ no_progress labels → edge ≡ rim depth sheet → stats ≡ stats_of (record { progress = at; rounds = 0 }) edge shaded
+    pub pass_few : {at : LocalProgress} → labels < 4 → at ≡ no_progress labels → edge ≡ rim depth sheet → stats ≡ stats_of at 0 edge shaded
         → local_out (LocalAnswer.Done stats) sheet list ≡ local_leaves (done (local_after (corners_of corners shades) set p sheet)) sheet list
     unfolding local_after local_run local_limit local_from
     pass_few h g f e = rw (← counted, lt-ltb labels 4 h, e, g, f, deep, any)
 
     -- all rounds done
-    pub pass_done : (cs : Corners) → cs ≡ corners_of corners shades → {sheet' list' used' places' : List ℕ} {answer : RoundsDone} → 4 ≤ labels
-        → RoundsLeft (local_from cs set p p.max_iters (start_of sheet list labels)) cs.count list sheet' list' used' places' answer → edge ≡ rim depth sheet'
-        → stats ≡ stats_of answer edge shaded → local_out (LocalAnswer.Done stats) sheet' list' ≡ local_leaves (done (local_after (corners_of corners shades) set p sheet)) sheet list
+    pub pass_done : (cs : Corners) → cs ≡ corners_of corners shades → {sheet' list' : List ℕ} {at : LocalProgress} {work : LocalWork} {rounds : ℕ} → 4 ≤ labels → at ≡ no_progress labels
+        → RoundsLeft (local_from cs set p p.max_iters (start_of sheet list at)) cs.count list sheet' list' work rounds → edge ≡ rim depth sheet'
+        → stats ≡ stats_of work.progress rounds edge shaded → local_out (LocalAnswer.Done stats) sheet' list' ≡ local_leaves (done (local_after (corners_of corners shades) set p sheet)) sheet list
     unfolding local_after local_run local_limit
-    pass_done cs held h l f e =
+    pass_done cs held h m l' f e =
+        let l = rw m at l' in
         rw (
           ← held,
           ← counted,
@@ -194,16 +194,16 @@ module _ (corners : CornerLists) (shades sheet list : List ℕ) (set : Settings)
 
   -- its check refuses it, or lets it pass
   module _ (check : Checked) (is : check ≡ checked (lent_of corners shades sheet (rooms 0 (length list))) set (Pass.Local p)) where
-    leaves_refused : (r : Refusal) → check ≡ Checked.Refused r
+    leaves_refused : (r : Refusal) → check ≡ Err r
         → local_out (LocalAnswer.Refused r) sheet list
         ≡ local_leaves (local_step corners shades sheet set p (rooms 0 (length list))) sheet list
     unfolding local_step
     leaves_refused r e = rw (← is, e)
 
-    pub call_refused : (r : Refusal) → check ≡ Checked.Refused r → Promised (local_out (LocalAnswer.Refused r) sheet list)
+    pub call_refused : (r : Refusal) → check ≡ Err r → Promised (local_out (LocalAnswer.Refused r) sheet list)
     call_refused r e = promised (leaves_refused r e)
 
-    module _ (e : check ≡ Checked.Fine) where
+    module _ (e : check ≡ Ok tt) where
       pub call_accepted : Accepted (lent_of corners shades sheet (rooms 0 (length list))) set (Pass.Local p)
       call_accepted = accepted (lent_of corners shades sheet (rooms 0 (length list))) set (Pass.Local p) (sym is ∙ e)
 

@@ -1,15 +1,13 @@
 -- A round of local, a place at a time: a visit changes no label elsewhere and counts at most one cell, and what the code has written after each place.
 -- Assumes nothing.
-use Rattle.labels.specs.declared.Bounds.{Bounds}
-use Rattle.std.specs.Prelude.{None, Option}
+use Rattle.std.specs.Prelude.{None}
 use mathlib.Core.Path.{◌≡◌, refl, sym, ap, ap₂, ◌∙◌}
 use mathlib.Core.Bool.{Bool, true, false, not, ◌&&◌, true≢false}
 use mathlib.Core.List.{List}
-use Prim.Native.Nat.{ℕ, ◌+◌, ◌/◌, ◌%◌, ◌<◌, ◌≤◌}
+use Prim.Native.Nat.{ℕ, ◌+◌, ◌<◌, ◌≤◌}
 use native.Mathlib.Decide.{dec_lt, ℕ_discrete}
 use native.Mathlib.Omega.{arith}
 use lib.ListN.{length, get_or, take}
-use lib.Seq.{get_or-take, length-take-le}
 use Rattle.std.specs.List.{All}
 use Rattle.std.proofs.lemmas.List.Elements.{All-from_get_or}
 use Rattle.sheet.specs.Corners.{Corners}
@@ -20,15 +18,15 @@ use Rattle.sheet.proofs.Laws.{cell_on_lem, place_cell}
 use Rattle.sheet.proofs.Blank.{carried}
 use Rattle.labels.specs.Labelled.{is_labelled, labelled_places}
 use Rattle.labels.specs.Box.{box_of}
-use Rattle.labels.proofs.Labelled.{label_of_place, unlabelled_none}
+use Rattle.labels.proofs.Labelled.{places_in_lem, label_of_place, unlabelled_none}
 use Rattle.arguments.specs.declared.Settings.{Settings}
 use Rattle.arguments.specs.declared.LocalExtensionParams.{LocalExtensionParams}
 use Rattle.positions_policy.specs.declared.Tolerances.{Tolerances}
 use Rattle.passes.specs.Counting.{visits}
 use Rattle.passes.specs.Local.{depth_of, local_region, local_cells, LocalState, local_visit, local_round}
 use Rattle.passes.proofs.Over.{over_read, over_over}
-use Rattle.region.specs.Region.{Region, Lines, RegionFound, region_of, region_at}
-use Rattle.region.specs.Windowed.{InWindow, Windowed, NextIn}
+use Rattle.region.specs.Region.{Region, RegionFound, region_at}
+use Rattle.region.specs.Windowed.{InWindow, NextIn}
 use Rattle.region.specs.declared.Window.{Window}
 use Rattle.region.proofs.Told.{region_is}
 use Rattle.region.proofs.Jumps.{told_far}
@@ -39,8 +37,10 @@ use Rattle.remembered.proofs.Attach.{clear_same, clear_else}
 use Rattle.arguments.specs.Front.{over}
 use Rattle.local_cell.specs.Extending.{state_of, Extending, Trying, Holds, Left}
 use Rattle.local_cell.specs.declared.LocalProgress.{LocalProgress}
-use Rattle.local_cell.proofs.Visit.{Tried, passed, attaches, tried, tried_grows, tried_counted, attaching, untouched, left_as, labels_in, listed_below}
-use Rattle.local.specs.Rounds.{tried_at, Tellable, NextTried, looked_at}
+use Rattle.local_cell.specs.declared.LocalWork.{LocalWork}
+use Rattle.local_cell.proofs.Visit.{Tried, passed, attaches, tried, tried_grows, tried_counted, attaching, untouched, left_as}
+use Rattle.local.specs.Rounds.{region_in, RoundOf, tried_at, Tellable, NextTried, looked_at}
+use Rattle.local.specs.declared.Round.{Round}
 use Rattle.local.proofs.Depth.{depth_in}
 
 -- ---- a round
@@ -88,28 +88,21 @@ module _ (cs : Corners) (set : Settings) (p : LocalExtensionParams) where
   round_counted s = rw (← walked_round cs set p s)
       (walked_most (local_visit cs set p) (λ t. t.sheet) (λ t. visits t.counts) visit_counted (round_region p s.sheet) s 16384)
 
--- ---- the region of a round, from the labelled places that are listed
+-- ---- the region of a round
 
-module _ {n : ℕ} {sheet list used places : List ℕ} {made labels : ℕ} (f : Extending n sheet list used places made labels) where
-  pub listed : All (λ (p : ℕ). p < 16384) (take labels places)
-  listed =
-      All-from_get_or (λ (p : ℕ). p < 16384) (take labels places) 0
-      (λ a h. let l : a < labels = omega (arith, labels_in f, f.size, length-take-le labels places (omega (arith, labels_in f, f.size))) in rw (get_or-take labels places a 0 l) (listed_below f a l))
-
-  pub region_found : {around : Option Bounds} {rows columns : List Bool} → around ≡ box_of sheet → Lines (λ p. p % 128) (take labels places) rows → Lines (λ p. p / 128) (take labels places) columns
-      → RegionFound sheet (region_of around rows columns)
-  region_found a r c = record { around_is = a; rows_are = rw f.places_are at r; columns_are = rw f.places_are at c }
+-- the labelled places are of the sheet
+pub listed : (sheet : List ℕ) {labelled : List ℕ} → labelled ≡ labelled_places sheet → All (λ (p : ℕ). p < 16384) labelled
+listed sheet e = rw e (All-from_get_or (λ (p : ℕ). p < 16384) (labelled_places sheet) 0 (places_in_lem sheet))
 
 -- no place outside of the window is in the region
-pub tellable : {d : ℕ} (p : LocalExtensionParams) {sheet₀ sheet : List ℕ} {region : Region} {window : Window} → d ≡ depth_of p → p.extend_depth ≤ 4 → RegionFound sheet₀ region
-    → Windowed d region.around window → 16384 ≤ length sheet → Tellable d region window sheet
-tellable {d} p {sheet₀} {sheet} {region} {window} e shallow f c long =
+pub tellable : {p : LocalExtensionParams} {sheet₀ sheet : List ℕ} {round : Round} → RoundOf sheet₀ p round → p.extend_depth ≤ 4 → 16384 ≤ length sheet → Tellable round.depth (region_in round) round.window sheet
+tellable {p} {sheet₀} {sheet} {round} r shallow long =
     record {
       long = long;
-      shallow = rw e (depth_in p shallow);
-      small = rw f.around_is (box_small sheet₀);
-      fits = c.fits;
-      far = λ q h out. told_far d sheet₀ region window q f c h out;
+      shallow = rw r.deep (depth_in p shallow);
+      small = rw r.found.around_is (box_small sheet₀);
+      fits = r.windowed.fits;
+      far = λ q h out. told_far round.depth sheet₀ (region_in round) round.window q r.found r.windowed h out;
     }
 
 -- ---- the next place whose cell is tried
@@ -147,13 +140,6 @@ seeking_hit s e = record { start = s.start; upto = s.upto; passed = s.passed; hi
 pub seeking_end : {sought : ℕ → Bool} {from n : ℕ} → Seeking sought from n → 16384 ≤ n → NextTried sought from n
 seeking_end s l = record { start = s.start; upto = s.upto; passed = s.passed; hit = λ h. absurd (omega arith) }
 
--- a place is tried if it is in the region and unlabelled
-pub outside_not : {inside : Bool} (labelled : Bool) → inside ≡ false → false ≡ (inside && not labelled)
-outside_not labelled e = rw e
-
-pub inside_so : {inside labelled r : Bool} → inside ≡ true → r ≡ labelled → not r ≡ (inside && not labelled)
-inside_so e f = rw (e, f)
-
 pub tried_parts : (inside labelled : Bool) → (inside && not labelled) ≡ true → (inside ≡ true) × (labelled ≡ false)
 tried_parts true true e = absurd (true≢false (sym e))
 tried_parts true false e = (refl, refl)
@@ -174,8 +160,8 @@ holds_state {s} {before} h =
     }
 
 -- one function after another: the rest of the list is as it was before the first
-pub left_then : {s after : LocalState} {n : ℕ} {before sheet list sheet' list' used' places' : List ℕ} {at at' : LocalProgress} → Holds s before sheet list at
-    → length s.made ≤ length after.made → Left after n list sheet' list' used' places' at' → Left after n before sheet' list' used' places' at'
+pub left_then : {s after : LocalState} {n : ℕ} {before sheet list sheet' list' : List ℕ} {at : LocalProgress} {work' : LocalWork} → Holds s before sheet list at
+    → length s.made ≤ length after.made → Left after n list sheet' list' work' → Left after n before sheet' list' work'
 left_then {s} {after} {before = before} h g l =
     record {
       holds =
@@ -191,18 +177,17 @@ left_then {s} {after} {before = before} h g l =
     }
 
 -- the loop over the places of a round: n of them have been looked at
-pub record Walking (set : Settings) (p : LocalExtensionParams) (cs : Corners) (sheet₀ list₀ : List ℕ) (at₀ : LocalProgress) (sheet list used places : List ℕ) (at : LocalProgress) (n : ℕ) : Type 0 where
+pub record Walking (set : Settings) (p : LocalExtensionParams) (cs : Corners) (sheet₀ list₀ : List ℕ) (work₀ : LocalWork) (sheet list : List ℕ) (work : LocalWork) (n : ℕ) : Type 0 where
   pub upto : n ≤ 16384
   pub long : 16384 ≤ length sheet₀
   pub same_sheet : length sheet ≡ length sheet₀
   pub same_list_holds : length list ≡ length list₀
-  pub counted : visits at.counts ≤ visits at₀.counts + n
-  pub left : Left (walked_to cs set p (state_of sheet₀ list₀ at₀) n) cs.count list₀ sheet list used places at
+  pub counted : visits work.progress.counts ≤ visits work₀.progress.counts + n
+  pub left : Left (walked_to cs set p (state_of sheet₀ list₀ work₀.progress) n) cs.count list₀ sheet list work
 
-module _ (set : Settings) (p : LocalExtensionParams) (cs : Corners) (sheet₀ list₀ : List ℕ) (at₀ : LocalProgress) where
-  pub walking_start : (used places : List ℕ) → Extending cs.count sheet₀ list₀ used places at₀.counts.attached at₀.labels
-      → Walking set p cs sheet₀ list₀ at₀ sheet₀ list₀ used places at₀ 0
-  walking_start used places f =
+module _ {set : Settings} {p : LocalExtensionParams} {cs : Corners} {sheet₀ list₀ : List ℕ} {work₀ : LocalWork} where
+  pub walking_start : Extending cs.count sheet₀ list₀ work₀ → Walking set p cs sheet₀ list₀ work₀ sheet₀ list₀ work₀ 0
+  walking_start f =
       record {
         upto = omega arith;
         long = f.given.long;
@@ -210,14 +195,14 @@ module _ (set : Settings) (p : LocalExtensionParams) (cs : Corners) (sheet₀ li
         same_list_holds = refl;
         counted = omega arith;
         left =
-            untouched f (walked_start (local_visit cs set p) (λ t. t.sheet) (round_region p sheet₀) (state_of sheet₀ list₀ at₀));
+            untouched f (walked_start (local_visit cs set p) (λ t. t.sheet) (round_region p sheet₀) (state_of sheet₀ list₀ work₀.progress));
       }
 
-  module _ (sheet list used places : List ℕ) (at : LocalProgress) (n : ℕ) (w : Walking set p cs sheet₀ list₀ at₀ sheet list used places at n) where
-    pub walking_more : (region : Region) (sheet' list' used' places' : List ℕ) (at' : LocalProgress) → n < 16384 → RegionFound sheet₀ region → length sheet' ≡ length sheet → length list' ≡ length list
-        → Left (looked_at cs set p region n (state_of sheet list at)) cs.count list sheet' list' used' places' at'
-        → Walking set p cs sheet₀ list₀ at₀ sheet' list' used' places' at' (n + 1)
-    walking_more region sheet' list' used' places' at' h f e g l =
+  module _ {sheet list : List ℕ} {work : LocalWork} {n : ℕ} (w : Walking set p cs sheet₀ list₀ work₀ sheet list work n) where
+    walking_more : {region : Region} {sheet' list' : List ℕ} {work' : LocalWork} → n < 16384 → RegionFound sheet₀ region → length sheet' ≡ length sheet → length list' ≡ length list
+        → Left (looked_at cs set p region n (state_of sheet list work.progress)) cs.count list sheet' list' work'
+        → Walking set p cs sheet₀ list₀ work₀ sheet' list' work' (n + 1)
+    walking_more {region} {sheet'} {list'} {work'} h f e g l =
         record {
           upto = omega arith;
           long = w.long;
@@ -229,7 +214,7 @@ module _ (set : Settings) (p : LocalExtensionParams) (cs : Corners) (sheet₀ li
                 w.counted,
                 ap visits l.holds.counts_are,
                 looked_most (local_visit cs set p) (λ t. t.sheet) (λ t. visits t.counts)
-                    (visit_counted cs set p) (region_at (depth_of p) region n) n (state_of sheet list at),
+                    (visit_counted cs set p) (region_at (depth_of p) region n) n (state_of sheet list work.progress),
               );
           left =
               rw next at
@@ -241,43 +226,43 @@ module _ (set : Settings) (p : LocalExtensionParams) (cs : Corners) (sheet₀ li
         }
       where
         s : LocalState
-        s = state_of sheet₀ list₀ at₀
+        s = state_of sheet₀ list₀ work₀.progress
 
-        next : looked_at cs set p region n (state_of sheet list at) ≡ walked_to cs set p s (n + 1)
+        next : looked_at cs set p region n (state_of sheet list work.progress) ≡ walked_to cs set p s (n + 1)
         next =
             ap (looked_at cs set p region n) (holds_state w.left.holds)
             ∙ looked (local_visit cs set p) (λ t. t.sheet) (visit_else cs w.left.extending.few set p) (round_region p sheet₀) s w.long n h
             (region_is (depth_of p) sheet₀ region n h f)
 
-    pub walking_end : 16384 ≤ n → Left (local_round cs set p (state_of sheet₀ list₀ at₀)) cs.count list₀ sheet list used places at
+    pub walking_end : 16384 ≤ n → Left (local_round cs set p (state_of sheet₀ list₀ work₀.progress)) cs.count list₀ sheet list work
     walking_end h =
         let e : n ≡ 16384 = omega (arith, w.upto) in
-        rw (← walked_round cs set p (state_of sheet₀ list₀ at₀), ← e) w.left
+        rw (← walked_round cs set p (state_of sheet₀ list₀ work₀.progress), ← e) w.left
 
-  module _ (region : Region) (f : RegionFound sheet₀ region) {d : ℕ} (deep : d ≡ depth_of p) (sheet list used places : List ℕ) (at : LocalProgress) where
+  module _ {round : Round} (o : RoundOf sheet₀ p round) {sheet list : List ℕ} {work : LocalWork} where
     -- to the next place that is tried: those before it change nothing
-    pub walking_skips : {n r : ℕ} → Walking set p cs sheet₀ list₀ at₀ sheet list used places at n → NextTried (tried_at d region sheet) n r
-        → Walking set p cs sheet₀ list₀ at₀ sheet list used places at r
+    pub walking_skips : {n r : ℕ} → Walking set p cs sheet₀ list₀ work₀ sheet list work n → NextTried (tried_at round.depth (region_in round) sheet) n r
+        → Walking set p cs sheet₀ list₀ work₀ sheet list work r
     walking_skips w t =
-        carried (Walking set p cs sheet₀ list₀ at₀ sheet list used places at) (λ q. tried_at d region sheet q ≡ false)
-        (λ q h e v. walking_more sheet list used places at q v region sheet list used places at h f refl refl (untouched v.left.extending (same q h (rw deep at e))))
+        carried (Walking set p cs sheet₀ list₀ work₀ sheet list work) (λ q. tried_at round.depth (region_in round) sheet q ≡ false)
+        (λ q h e v. walking_more v h o.found refl refl (untouched v.left.extending (same q h (rw o.deep at e))))
         t.start t.upto t.passed w
       where
-        same : (q : ℕ) → q < 16384 → tried_at (depth_of p) region sheet q ≡ false → looked_at cs set p region q (state_of sheet list at) ≡ state_of sheet list at
-        same q h e = go (region_at (depth_of p) region q) (is_labelled (get_or sheet q 0)) refl refl e
+        same : (q : ℕ) → q < 16384 → tried_at (depth_of p) (region_in round) sheet q ≡ false → looked_at cs set p (region_in round) q (state_of sheet list work.progress) ≡ state_of sheet list work.progress
+        same q h e = go (region_at (depth_of p) (region_in round) q) (is_labelled (get_or sheet q 0)) refl refl e
           where
-            go : (inside labelled : Bool) → region_at (depth_of p) region q ≡ inside → is_labelled (get_or sheet q 0) ≡ labelled → (inside && not labelled) ≡ false
-                → looked_at cs set p region q (state_of sheet list at) ≡ state_of sheet list at
-            go true true i l z = looked_labelled (local_visit cs set p) (λ t. t.sheet) (region_at (depth_of p) region q) q (state_of sheet list at) h i l
+            go : (inside labelled : Bool) → region_at (depth_of p) (region_in round) q ≡ inside → is_labelled (get_or sheet q 0) ≡ labelled → (inside && not labelled) ≡ false
+                → looked_at cs set p (region_in round) q (state_of sheet list work.progress) ≡ state_of sheet list work.progress
+            go true true i l z = looked_labelled (local_visit cs set p) (λ t. t.sheet) (region_at (depth_of p) (region_in round) q) q (state_of sheet list work.progress) h i l
             go true false i l z = absurd (true≢false z)
-            go false labelled i l z = looked_out (local_visit cs set p) (λ t. t.sheet) (region_at (depth_of p) region q) q (state_of sheet list at) i
+            go false labelled i l z = looked_out (local_visit cs set p) (λ t. t.sheet) (region_at (depth_of p) (region_in round) q) q (state_of sheet list work.progress) i
 
     -- a place that is tried: its cell is bare, and its visit is what the round does there
-    module _ {n : ℕ} (w : Walking set p cs sheet₀ list₀ at₀ sheet list used places at n) (h : n < 16384) (t : tried_at d region sheet n ≡ true) {c : Cell} (is : c ≡ cell_of n) where
-      parts : (region_at d region n ≡ true) × (is_labelled (get_or sheet n 0) ≡ false)
-      parts = tried_parts (region_at d region n) (is_labelled (get_or sheet n 0)) t
+    module _ {n : ℕ} (w : Walking set p cs sheet₀ list₀ work₀ sheet list work n) (h : n < 16384) (t : tried_at round.depth (region_in round) sheet n ≡ true) {c : Cell} (is : c ≡ cell_of n) where
+      parts : (region_at round.depth (region_in round) n ≡ true) × (is_labelled (get_or sheet n 0) ≡ false)
+      parts = tried_parts (region_at round.depth (region_in round) n) (is_labelled (get_or sheet n 0)) t
 
-      pub tried_trying : visits at₀.counts ≤ 4294950912 → Trying cs.count sheet list used places at c
+      pub tried_trying : visits work₀.progress.counts ≤ 4294950912 → Trying cs.count sheet list work c
       tried_trying m =
           rw is
           (record {
@@ -287,8 +272,8 @@ module _ (set : Settings) (p : LocalExtensionParams) (cs : Corners) (sheet₀ li
             countable = omega (arith, w.counted, m);
           })
 
-      pub walking_tried : {sheet' list' used' places' : List ℕ} {at' : LocalProgress} → length sheet' ≡ length sheet → length list' ≡ length list
-          → Left (local_visit cs set p c (state_of sheet list at)) cs.count list sheet' list' used' places' at' → Walking set p cs sheet₀ list₀ at₀ sheet' list' used' places' at' (n + 1)
+      pub walking_tried : {sheet' list' : List ℕ} {work' : LocalWork} → length sheet' ≡ length sheet → length list' ≡ length list
+          → Left (local_visit cs set p c (state_of sheet list work.progress)) cs.count list sheet' list' work' → Walking set p cs sheet₀ list₀ work₀ sheet' list' work' (n + 1)
       walking_tried e g l =
-          walking_more sheet list used places at n w region _ _ _ _ _ h f e g
-          (left_as (looked_bare (local_visit cs set p) (λ t. t.sheet) (region_at (depth_of p) region n) n (state_of sheet list at) h (rw deep at parts).0 c is parts.1) l)
+          walking_more w h o.found e g
+          (left_as (looked_bare (local_visit cs set p) (λ t. t.sheet) (region_at (depth_of p) (region_in round) n) n (state_of sheet list work.progress) h (rw o.deep at parts).0 c is parts.1) l)

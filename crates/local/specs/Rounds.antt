@@ -9,16 +9,27 @@ use Rattle.passes.specs.Counting.{no_counts, visits}
 use Rattle.passes.specs.Local.{depth_of, LocalState, LocalRounds, local_visit, unmatched_if}
 use Rattle.passes.specs.declared.LargestResidual.{LargestResidual}
 use Rattle.passes.specs.declared.LocalStats.{LocalStats}
-use Rattle.region.specs.Region.{Region, region_at}
+use Rattle.region.specs.Region.{Region, RegionFound, region_of, region_at}
 use Rattle.region.specs.Small.{SmallBox}
-use Rattle.region.specs.Windowed.{InWindow, WindowFits}
+use Rattle.region.specs.Windowed.{InWindow, WindowFits, Windowed}
 use Rattle.region.specs.declared.Window.{Window}
 use Rattle.region.specs.Places.{place_visited}
 use Rattle.local_cell.specs.Extending.{state_of, Extending, Left}
 use Rattle.local_cell.specs.declared.LocalProgress.{LocalProgress}
-use Rattle.local.specs.declared.RoundsDone.{RoundsDone}
+use Rattle.local_cell.specs.declared.LocalWork.{LocalWork}
+use Rattle.local.specs.declared.Round.{Round}
 
 -- ---- a round
+
+-- what tells the cells of a round
+abbrev pub region_in : Round → Region
+region_in round = region_of round.around round.rows round.columns
+
+-- a round that starts with a sheet
+pub record RoundOf (sheet : List ℕ) (p : LocalExtensionParams) (round : Round) : Type 0 where
+  pub found : RegionFound sheet (region_in round)
+  pub deep : round.depth ≡ depth_of p
+  pub windowed : Windowed round.depth round.around round.window
 
 -- the cell of a place is one that a round tries: it lies in the region and is unlabelled now
 abbrev pub tried_at : ℕ → Region → List ℕ → ℕ → Bool
@@ -44,10 +55,10 @@ abbrev pub looked_at : Corners → Settings → LocalExtensionParams → Region 
 looked_at cs set p region place s = place_visited (local_visit cs set p) (λ t. t.sheet) (region_at (depth_of p) region place) place s
 
 -- a round is to be done: the depth is that of an accepted call, and all visits can be counted
-pub record RoundAsked (n : ℕ) (sheet list used places : List ℕ) (at : LocalProgress) (p : LocalExtensionParams) : Type 0 where
-  pub extending : Extending n sheet list used places at.counts.attached at.labels
+pub record RoundAsked (n : ℕ) (sheet list : List ℕ) (work : LocalWork) (p : LocalExtensionParams) : Type 0 where
+  pub extending : Extending n sheet list work
   pub shallow : p.extend_depth ≤ 4
-  pub countable : visits at.counts ≤ 4294950912
+  pub countable : visits work.progress.counts ≤ 4294950912
 
 -- ---- all rounds
 
@@ -55,27 +66,28 @@ pub record RoundAsked (n : ℕ) (sheet list used places : List ℕ) (at : LocalP
 abbrev pub no_progress : ℕ → LocalProgress
 no_progress labels = record { counts = no_counts; residual = LargestResidual.Nothing; labels = labels; unmatched = 0 }
 
-abbrev pub start_of : List ℕ → List ℕ → ℕ → LocalRounds
-start_of sheet list labels = record { state = state_of sheet list (no_progress labels); rounds = 0 }
+abbrev pub start_of : List ℕ → List ℕ → LocalProgress → LocalRounds
+start_of sheet list at = record { state = state_of sheet list at; rounds = 0 }
 
--- all rounds are to be done: rounds and depth are those of an accepted call
-pub record RoundsAsked (n : ℕ) (sheet list used places : List ℕ) (labels : ℕ) (p : LocalExtensionParams) : Type 0 where
-  pub extending : Extending n sheet list used places 0 labels
+-- all rounds are to be done, and nothing is done yet: rounds and depth are those of an accepted call
+pub record RoundsAsked (n : ℕ) (sheet list : List ℕ) (work : LocalWork) (p : LocalExtensionParams) : Type 0 where
+  pub extending : Extending n sheet list work
+  pub unstarted : work.progress ≡ no_progress work.progress.labels
   pub shallow : p.extend_depth ≤ 4
   pub rounds_few : p.max_iters ≤ 64
 
--- what some rounds leave: the buffers hold the state after them, and the answer says how many rounds there were
-pub record RoundsLeft (r : LocalRounds) (n : ℕ) (before sheet list used places : List ℕ) (answer : RoundsDone) : Type 0 where
-  pub left : Left r.state n before sheet list used places answer.progress
-  pub rounds_are : answer.rounds ≡ r.rounds
+-- what some rounds leave: the buffers hold the state after them, and the answer is how many rounds there were
+pub record RoundsLeft (r : LocalRounds) (n : ℕ) (before sheet list : List ℕ) (work : LocalWork) (rounds : ℕ) : Type 0 where
+  pub left : Left r.state n before sheet list work
+  pub rounds_are : rounds ≡ r.rounds
 
 -- what the answer says of the rounds and of the rim, and, if any shade stands, of the corners passed over
-abbrev pub stats_of : RoundsDone → Bool → Bool → LocalStats
-stats_of r edge shaded =
+abbrev pub stats_of : LocalProgress → ℕ → Bool → Bool → LocalStats
+stats_of at rounds edge shaded =
     record {
-      counts = r.progress.counts;
-      iterations = r.rounds;
-      residual = r.progress.residual;
+      counts = at.counts;
+      iterations = rounds;
+      residual = at.residual;
       rim = edge;
-      unmatched = unmatched_if shaded r.progress.unmatched;
+      unmatched = unmatched_if shaded at.unmatched;
     }

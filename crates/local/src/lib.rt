@@ -13,192 +13,149 @@ ghost use Rattle.passes.specs.Local.{depth_of, local_round, local_from, unmatche
 ghost use Rattle.passes.specs.Step.{local_step, local_out, local_leaves, lent_of, rooms};
 ghost use Rattle.passes.specs.Said.{local_values, local_said, outcome_due};
 ghost use Rattle.arguments.specs.Accepted.{Accepted};
-ghost use Rattle.region.specs.Region.{region_of, Telling};
+ghost use Rattle.labels.specs.Labelled.{labelled_places};
+ghost use Rattle.region.specs.Region.{Telling};
 ghost use Rattle.local_cell.specs.Extending.{state_of, Left, Recalls};
-ghost use Rattle.local.specs.Rounds.{tried_at, Tellable, NextTried, RoundAsked, no_progress, start_of, RoundsAsked, RoundsLeft, stats_of};
+ghost use Rattle.local.specs.Rounds.{region_in, RoundOf, tried_at, Tellable, NextTried, RoundAsked, no_progress, start_of, RoundsAsked, RoundsLeft, stats_of};
 
-use arguments::{Checked, LocalExtensionParams, Pass, Settings};
+use arguments::{LocalExtensionParams, Pass, Settings};
 use labels::Bounds;
-use local_cell::{LocalProgress, LocalSetup};
+use local_cell::{LocalProgress, LocalSetup, LocalWork};
 use passes::{Counts, LargestResidual, LocalAnswer, LocalStats, Unmatched};
 use region::Window;
+use remembered::Memory;
 use sizes::{CORNERS, PLACES};
 
-// How far it has come, and after how many rounds.
+// What a round walks: the label box, which rows and which columns have a label, the depth, and the window within which all its cells lie.
 #[derive(Clone, Copy)]
-struct RoundsDone {
-    progress: LocalProgress,
-    rounds: usize,
+struct Round {
+    around: Option<Bounds>,
+    rows: [bool; 128],
+    columns: [bool; 128],
+    depth: u32,
+    window: Window,
 }
 
 // Depth 0 acts as 1.
+#[tactic(auto, unfolding(passes::specs::Local::depth_of))]
 fn depth_of(params: LocalExtensionParams) -> u32
     ensures { result ≡ depth_of params }
 {
-    if params.extend_depth == 0 {
-        return 1;
-    }
-    params.extend_depth
+    params.extend_depth.max(1)
 }
 
-// Whether a round tries the cell of a place: it lies in the region and is unlabelled.
-fn is_tried(
-    sheet: &[u16],
-    around: Option<Bounds>,
-    rows: &[bool; 128],
-    columns: &[bool; 128],
-    place: usize,
-    depth: u32,
-) -> bool
-    requires { Telling (region_of around rows.now columns.now) place depth × (place_count ≤ length sheet.now) }
-    ensures { result ≡ tried_at depth (region_of around rows.now columns.now) sheet.now place }
-{
-    if !region::is_local_cell(around, rows, columns, place, depth) {
-        return false;
+impl Round {
+    // Whether the round tries the cell of a place: it lies in the region and is unlabelled.
+    fn is_tried(&self, sheet: &[u16], place: usize) -> bool
+        requires telling { Telling (region_in self.now) place self.now.depth }
+        requires long { place_count ≤ length sheet.now }
+        ensures { result ≡ tried_at self.now.depth (region_in self.now) sheet.now place }
+    {
+        region::is_local_cell(self.around, &self.rows, &self.columns, place, self.depth)
+            && !labels::is_labelled(sheet[place])
     }
-    !labels::is_labelled(sheet[place])
-}
 
-// The next place from one on whose cell a round tries, or 16,384 where there is none.
-fn next_tried(
-    sheet: &[u16],
-    window: Window,
-    around: Option<Bounds>,
-    rows: &[bool; 128],
-    columns: &[bool; 128],
-    depth: u32,
-    from: usize,
-) -> usize
-    requires { Tellable depth (region_of around rows.now columns.now) window sheet.now × (from ≤ place_count) }
-    ensures { NextTried (tried_at depth (region_of around rows.now columns.now) sheet.now) from result }
-{
-    let mut place = region::next_inside(window, from);
-    while place < PLACES {
-        if is_tried(sheet, around, rows, columns, place, depth) {
-            return place;
+    // The next place from one on whose cell the round tries, or 16,384 where there is none.
+    fn next_tried(&self, sheet: &[u16], from: usize) -> usize
+        requires tellable { Tellable self.now.depth (region_in self.now) self.now.window sheet.now }
+        requires start { from ≤ place_count }
+        ensures { NextTried (tried_at self.now.depth (region_in self.now) sheet.now) from result }
+    {
+        let mut place = region::next_inside(self.window, from);
+        while place < PLACES {
+            if self.is_tried(sheet, place) {
+                return place;
+            }
+            place = region::next_inside(self.window, place + 1);
         }
-        place = region::next_inside(window, place + 1);
+        place
     }
-    place
 }
 
-// One round: all unlabelled cells of the region of now, by i then j. Answers how far the pass has come.
+// What a round walks that starts with a sheet, whose labelled places are given.
+fn round_of(sheet: &[u16], labelled: &[u16], params: LocalExtensionParams) -> Round
+    requires long { place_count ≤ length sheet.now }
+    requires labelled { labelled.now ≡ labelled_places sheet.now }
+    requires shallow { params.extend_depth ≤ 4 }
+    ensures { RoundOf sheet.now params result }
+{
+    let around = labels::label_box(sheet);
+    let depth = depth_of(params);
+    Round {
+        around,
+        rows: region::rows_of(labelled),
+        columns: region::columns_of(labelled),
+        depth,
+        window: region::window_of(around, depth),
+    }
+}
+
+// One round: all unlabelled cells of the region of now, by i then j.
 fn local_round(
     corners: &[f32; 4 * CORNERS],
     sheet: &mut [u16],
     attached: &mut [u16],
-    used: &mut [u8; CORNERS],
-    places: &mut [u16; CORNERS],
-    memory: &mut [u16; PLACES],
-    predictions: &mut [f32; 3 * PLACES],
-    at: LocalProgress,
+    work: &mut LocalWork,
     setup: LocalSetup,
-) -> LocalProgress
-    requires { RoundAsked setup.count sheet.old attached.old used.old places.old at setup.params
-        × Recalls setup.settings setup.params (corners_in corners.now setup.count) sheet.old memory.old predictions.old at }
-    ensures { Left (local_round (corners_in corners.now setup.count) setup.settings setup.params
-        (state_of sheet.old attached.old at)) setup.count attached.old sheet.new attached.new
-        used.new places.new result × Recalls setup.settings setup.params (corners_in corners.now setup.count)
-        sheet.new memory.new predictions.new result }
+)
+    requires asked { RoundAsked setup.count sheet.old attached.old work.old setup.params }
+    requires recalls { Recalls setup.settings setup.params (corners_in corners.now setup.count) sheet.old work.old }
+    ensures left { Left (local_round (corners_in corners.now setup.count) setup.settings setup.params
+        (state_of sheet.old attached.old work.old.progress)) setup.count attached.old sheet.new attached.new work.new }
+    ensures recalls { Recalls setup.settings setup.params (corners_in corners.now setup.count) sheet.new work.new }
 {
-    let around = labels::label_box(sheet);
-    let labelled = &places[..at.labels];
-    let rows = region::rows_of(labelled);
-    let columns = region::columns_of(labelled);
-    let depth = depth_of(setup.params);
-    let window = region::window_of(around, depth);
-    let mut reached = at;
-    let mut place = next_tried(sheet, window, around, &rows, &columns, depth, 0);
+    let round = round_of(sheet, &work.places[..work.progress.labels], setup.params);
+    let mut place = round.next_tried(sheet, 0);
     while place < PLACES {
-        let next = local_cell::try_local_cell(
-            corners,
-            sheet,
-            attached,
-            used,
-            places,
-            memory,
-            predictions,
-            reached,
-            sheet::cell_of(place),
-            setup,
-        );
-        reached = next;
-        place = next_tried(sheet, window, around, &rows, &columns, depth, place + 1);
+        local_cell::try_local_cell(corners, sheet, attached, work, sheet::cell_of(place), setup);
+        place = round.next_tried(sheet, place + 1);
     }
-    reached
 }
 
 // Nothing done yet, with so many labels.
 fn no_progress(labels: usize) -> LocalProgress
     ensures { result ≡ no_progress labels }
 {
-    let counts = Counts {
-        attached: 0,
-        rejected_no_candidate: 0,
-        rejected_ambiguous: 0,
-        rejected_edge: 0,
-    };
-    let residual = LargestResidual::Nothing;
     LocalProgress {
-        counts,
-        residual,
+        counts: Counts {
+            attached: 0,
+            rejected_no_candidate: 0,
+            rejected_ambiguous: 0,
+            rejected_edge: 0,
+        },
+        residual: LargestResidual::Nothing,
         labels,
         unmatched: 0,
     }
 }
 
-// Round after round, until one attaches nothing or the limit is reached; a limit of 0 does none.
+// Round after round, until one attaches nothing or the limit is reached; a limit of 0 does none. Answers how many rounds there were.
 fn local_rounds(
     corners: &[f32; 4 * CORNERS],
     sheet: &mut [u16],
     attached: &mut [u16],
-    used: &mut [u8; CORNERS],
-    places: &mut [u16; CORNERS],
-    memory: &mut [u16; PLACES],
-    predictions: &mut [f32; 3 * PLACES],
-    labels: usize,
+    work: &mut LocalWork,
     setup: LocalSetup,
-) -> RoundsDone
-    requires { RoundsAsked setup.count sheet.old attached.old used.old places.old labels setup.params
-        × Recalls setup.settings setup.params (corners_in corners.now setup.count) sheet.old memory.old predictions.old
-        (no_progress labels) }
-    ensures { RoundsLeft (local_from (corners_in corners.now setup.count) setup.settings setup.params setup.params.max_iters
-        (start_of sheet.old attached.old labels)) setup.count attached.old sheet.new attached.new
-        used.new places.new result × Recalls setup.settings setup.params (corners_in corners.now setup.count)
-        sheet.new memory.new predictions.new result.progress }
+) -> usize
+    requires asked { RoundsAsked setup.count sheet.old attached.old work.old setup.params }
+    requires recalls { Recalls setup.settings setup.params (corners_in corners.now setup.count) sheet.old work.old }
+    ensures left { RoundsLeft (local_from (corners_in corners.now setup.count) setup.settings setup.params setup.params.max_iters
+        (start_of sheet.old attached.old work.old.progress)) setup.count attached.old sheet.new attached.new work.new result }
+    ensures recalls { Recalls setup.settings setup.params (corners_in corners.now setup.count) sheet.new work.new }
 {
-    let params = setup.params;
-    let limit = params.max_iters as usize;
-    let mut at = no_progress(labels);
-    let mut rounds = 0usize;
-    while rounds < limit {
-        let next = local_round(
-            corners,
-            sheet,
-            attached,
-            used,
-            places,
-            memory,
-            predictions,
-            at,
-            setup,
-        );
-        rounds += 1;
-        if next.counts.attached == at.counts.attached {
-            return RoundsDone {
-                progress: next,
-                rounds,
-            };
+    let limit = setup.params.max_iters as usize;
+    for rounds in 0..limit {
+        let before = work.progress.counts.attached;
+        local_round(corners, sheet, attached, work, setup);
+        if work.progress.counts.attached == before {
+            return rounds + 1;
         }
-        at = next;
     }
-    RoundsDone {
-        progress: at,
-        rounds,
-    }
+    limit
 }
 
 // How many corners were passed over, if any shade stands.
+#[tactic(auto, unfolding(passes::specs::Local::unmatched_if))]
 fn unmatched_of(shaded: bool, unmatched: usize) -> Unmatched
     ensures { result ≡ unmatched_if shaded unmatched }
 {
@@ -210,19 +167,15 @@ fn unmatched_of(shaded: bool, unmatched: usize) -> Unmatched
 }
 
 // What the answer says of the rounds and of the rim, and of the corners passed over.
-fn stats_of(done: RoundsDone, rim: bool, shaded: bool) -> LocalStats
-    ensures { result ≡ stats_of done rim shaded }
+fn stats_of(progress: LocalProgress, rounds: usize, rim: bool, shaded: bool) -> LocalStats
+    ensures { result ≡ stats_of progress rounds rim shaded }
 {
-    let progress = done.progress;
-    let counts = progress.counts;
-    let residual = progress.residual;
-    let unmatched = unmatched_of(shaded, progress.unmatched);
     LocalStats {
-        counts,
-        iterations: done.rounds,
-        residual,
+        counts: progress.counts,
+        iterations: rounds,
+        residual: progress.residual,
         rim,
-        unmatched,
+        unmatched: unmatched_of(shaded, progress.unmatched),
     }
 }
 
@@ -247,16 +200,16 @@ fn local_accepted(
     let shaded = arguments::any_shade(shades, xs.len());
     let mut places = [0u16; CORNERS];
     let labels = supports::gather_labelled(sheet, &mut places);
+    let progress = no_progress(labels);
     if labels < 4 {
-        let nothing = RoundsDone {
-            progress: no_progress(labels),
-            rounds: 0,
-        };
-        return stats_of(nothing, labels::rim_reached(sheet, depth), shaded);
+        return stats_of(progress, 0, labels::rim_reached(sheet, depth), shaded);
     }
-    let mut used = labels::mark_used(sheet);
-    let mut memory = [0u16; PLACES];
-    let mut predictions = [0.0f32; 3 * PLACES];
+    let mut work = LocalWork {
+        used: labels::mark_used(sheet),
+        places,
+        memory: Memory::new(),
+        progress,
+    };
     let nothing = 0.0f32 / 0.0f32;
     let mut corners = [nothing; 4 * CORNERS];
     arguments::hold_corners(xs, ys, pitches, shades, &mut corners);
@@ -265,18 +218,13 @@ fn local_accepted(
         settings,
         params,
     };
-    let rounds = local_rounds(
-        &corners,
-        sheet,
-        attached,
-        &mut used,
-        &mut places,
-        &mut memory,
-        &mut predictions,
-        labels,
-        setup,
-    );
-    stats_of(rounds, labels::rim_reached(sheet, depth), shaded)
+    let rounds = local_rounds(&corners, sheet, attached, &mut work, setup);
+    stats_of(
+        work.progress,
+        rounds,
+        labels::rim_reached(sheet, depth),
+        shaded,
+    )
 }
 
 // Extends the labels by local fits: each round walks, by i then j, the unlabelled cells of the label box, of strips of the depth on labelled rows
@@ -313,7 +261,7 @@ pub fn extend_via_local_homography(
         settings,
         Pass::Local(params),
     );
-    if let Checked::Refused(refusal) = checked {
+    if let Err(refusal) = checked {
         return LocalAnswer::Refused(refusal);
     }
     LocalAnswer::Done(local_accepted(xs, ys, pitches, shades, sheet, attached, settings, params))

@@ -6,8 +6,8 @@ use mathlib.Core.Bool.{Bool, true, false, cond}
 use mathlib.Core.List.{List, [], ◌∷◌, ◌++◌}
 use Prim.Native.Nat.{ℕ, ◌+◌, ◌<◌, ◌≤◌}
 use native.Mathlib.Omega.{arith}
-use lib.ListN.{length, get_or, set, take, length-append, length-set}
-use lib.Seq.{length-take-le, get_or-take}
+use lib.ListN.{length, set, take, length-append, length-set}
+use lib.Seq.{length-take-le}
 use lib.Ieee.{Float, of_bits, binary32, lt}
 use Rattle.sheet.specs.Cells.{OnSheet, place_of}
 use Rattle.sheet.specs.Words.{label_at, attached, marks_cleared}
@@ -41,10 +41,12 @@ use Rattle.passes.proofs.Over.{over_own, over_more, over_read, over_length}
 use Rattle.passes.proofs.Free.{labels_few, labels_fewer}
 use Rattle.supports.specs.Nearest.{Nearby, Gatherable, Gathered, places_of}
 use Rattle.supports.specs.declared.Support.{Support}
+use Rattle.std.specs.List.{All}
 use Rattle.std.proofs.lemmas.List.Elements.{All-from_get_or}
 use Rattle.remembered.proofs.Attach.{clear_long, clear_labels}
 use Rattle.local_cell.specs.Extending.{cell_counted, unmatched_counted, state_of, Extending, Holds, Left, Trying, Taking, attached_clear, Writable, Wrote}
 use Rattle.local_cell.specs.declared.LocalProgress.{LocalProgress}
+use Rattle.local_cell.specs.declared.LocalWork.{LocalWork}
 
 -- ---- what a visit does: no label changes, or it attaches a corner that may be attached; and it counts at most one cell
 
@@ -129,89 +131,92 @@ module _ (sheet : List ℕ) (c : Cell) (k : ℕ) {first second : List ℕ} (e : 
       let long : 16384 ≤ length (attached sheet c k) = rw (attached_changes sheet c w.sheet_cell.long w.sheet_cell.on k (omega (arith, w.entry))).same_length w.sheet_cell.long in
       rw both_changes (record { long = rw (cleared_changes (attached sheet c k) c long w.sheet_cell.on).same_length long; few = w.few; size = w.size })
 
-  pub wrote : (list used places : List ℕ) (at : LocalProgress) {place labels : ℕ} {places' : List ℕ} {n : Counts} → place ≡ place_of c → Gathered second places places' labels
-      → n ≡ one_more (TryCellResult.Attached k) at.counts
-      → Wrote sheet list used places at c k second (set list at.counts.attached place) (set used k 1) places'
-      (record { counts = n; residual = at.residual; labels = labels; unmatched = at.unmatched })
-  wrote list used places at p w e =
+  pub wrote : {list : List ℕ} {work work' : LocalWork} {place : ℕ} → place ≡ place_of c → Gathered second work.places work'.places work'.progress.labels
+      → work'.used ≡ set work.used k 1 → work'.progress.counts ≡ one_more (TryCellResult.Attached k) work.progress.counts
+      → work'.progress.residual ≡ work.progress.residual → work'.progress.unmatched ≡ work.progress.unmatched
+      → Wrote sheet list work c k second (set list work.progress.counts.attached place) work'
+  wrote {list} {work} p w u e l m =
       record {
         sheet_is = both_changes;
-        list_is = ap (set list at.counts.attached) p;
-        used_is = refl;
+        list_is = ap (set list work.progress.counts.attached) p;
+        used_is = u;
         places_are = rw both_changes at w;
         counts_are = e;
-        largest_is = refl;
-        unmatched_is = refl;
+        largest_is = l;
+        unmatched_is = m;
       }
 
 -- ---- the supports
 
-module _ {n : ℕ} {sheet list used places : List ℕ} {made labels : ℕ} (f : Extending n sheet list used places made labels) where
-  pub labels_in : labels ≤ 1024
+module _ {n : ℕ} {sheet list : List ℕ} {work : LocalWork} (f : Extending n sheet list work) where
+  pub labels_in : work.progress.labels ≤ 1024
   labels_in = omega (arith, f.labels_are, f.few, labels_few f.given f.one_cell)
 
-  -- the labelled places, by number
-  listed_at : (a : ℕ) → a < labels → get_or places a 0 ≡ get_or (labelled_places sheet) a 0
-  listed_at a h = sym (get_or-take labels places a 0 h) ∙ ap (λ (l : List ℕ). get_or l a 0) f.places_are
+  front_long : length (take work.progress.labels work.places) ≡ work.progress.labels
+  front_long = length-take-le work.progress.labels work.places (omega (arith, labels_in, f.size))
 
-  listed_long : labels ≡ length (labelled_places sheet)
-  unfolding label_count
-  listed_long = f.labels_are
+  -- the labelled places are of the sheet
+  pub listed_below : All (λ (p : ℕ). p < 16384) (take work.progress.labels work.places)
+  listed_below = rw f.places_are (All-from_get_or (λ (p : ℕ). p < 16384) (labelled_places sheet) 0 (places_in_lem sheet))
 
-  pub listed_below : (a : ℕ) → a < labels → get_or places a 0 < 16384
-  listed_below a h = rw (listed_at a h) (places_in_lem sheet a (omega (arith, listed_long)))
-
-  front_long : length (take labels places) ≡ labels
-  front_long = length-take-le labels places (omega (arith, labels_in, f.size))
-
-  pub nearby : (c : Cell) → OnSheet c → Nearby (take labels places) c
+  pub nearby : (c : Cell) → OnSheet c → Nearby (take work.progress.labels work.places) c
   nearby c on =
       record {
         four = omega (arith, front_long, f.labels_are, f.four);
-        along =
-            rw f.places_are
-            (record {
-              rising = places_rise sheet;
-              below = All-from_get_or (λ (p : ℕ). p < 16384) (labelled_places sheet) 0 (places_in_lem sheet);
-              on = on;
-            });
+        along = record { rising = rw f.places_are (places_rise sheet); below = listed_below; on = on };
       }
 
-  pub supports_are : (c : Cell) (s : List Support) → places_of s ≡ take 4 (by_reach c (take labels places)) → places_of s ≡ supports_of c sheet
+  pub supports_are : (c : Cell) (s : List Support) → places_of s ≡ take 4 (by_reach c (take work.progress.labels work.places)) → places_of s ≡ supports_of c sheet
   unfolding supports_of
   supports_are c s e = e ∙ rw f.places_are
 
 -- ---- what the code leaves
 
 -- the same state by another expression
-pub left_as : {s after : LocalState} {n : ℕ} {before sheet list used places : List ℕ} {at : LocalProgress} → after ≡ s
-    → Left s n before sheet list used places at → Left after n before sheet list used places at
+pub left_as : {s after : LocalState} {n : ℕ} {before sheet list : List ℕ} {work : LocalWork} → after ≡ s
+    → Left s n before sheet list work → Left after n before sheet list work
 left_as e l = rw e l
 
-module _ {n : ℕ} {sheet list used places : List ℕ} {made labels : ℕ} (f : Extending n sheet list used places made labels) where
-  pub made_few : made ≤ n
+module _ {n : ℕ} {sheet list : List ℕ} {work : LocalWork} (f : Extending n sheet list work) where
+  pub made_few : work.progress.counts.attached ≤ n
   made_few = omega (arith, f.room, labels_few f.given f.one_cell)
 
-  pub made_in : made ≤ length list
+  pub made_in : work.progress.counts.attached ≤ length list
   made_in = omega (arith, made_few, f.list_long)
 
-module _ {n : ℕ} {sheet list used places : List ℕ} {at : LocalProgress} (f : Extending n sheet list used places at.counts.attached at.labels) where
   -- nothing written
-  pub stands : Holds (state_of sheet list at) list sheet list at
+  pub stands : Holds (state_of sheet list work.progress) list sheet list work.progress
   stands =
       record {
         sheet_is = refl;
-        list_is = sym (over_own list at.counts.attached (made_in f));
-        made_is = sym (length-take-le at.counts.attached list (made_in f));
+        list_is = sym (over_own list work.progress.counts.attached made_in);
+        made_is = sym (length-take-le work.progress.counts.attached list made_in);
         counts_are = refl;
         largest_is = refl;
         unmatched_is = refl;
       }
 
-  pub untouched : {after : LocalState} → after ≡ state_of sheet list at → Left after n list sheet list used places at
-  untouched e = rw e (record { holds = stands; extending = f })
+  -- the same buffers, with as many attached and labelled
+  pub extending_as : {work' : LocalWork} → work'.used ≡ work.used → work'.places ≡ work.places → work'.progress.counts.attached ≡ work.progress.counts.attached
+      → work'.progress.labels ≡ work.progress.labels → Extending n sheet list work'
+  extending_as u p m l =
+      record {
+        given = f.given;
+        few = f.few;
+        one_cell = f.one_cell;
+        tied = rw u f.tied;
+        list_long = f.list_long;
+        room = rw m f.room;
+        four = f.four;
+        labels_are = rw l f.labels_are;
+        places_are = rw (l, p) f.places_are;
+        size = rw p f.size;
+      }
 
-module _ {n : ℕ} {sheet list used places : List ℕ} {at : LocalProgress} {c : Cell} {k : ℕ} (t : Taking n sheet list used places at c k) where
+pub untouched : {n : ℕ} {sheet list : List ℕ} {work : LocalWork} {after : LocalState} → Extending n sheet list work → after ≡ state_of sheet list work.progress → Left after n list sheet list work
+untouched f e = rw e (record { holds = stands f; extending = f })
+
+module _ {n : ℕ} {sheet list : List ℕ} {work : LocalWork} {c : Cell} {k : ℕ} (t : Taking n sheet list work c k) where
   pub taking_fits : k < 1024
   taking_fits = omega (arith, t.there, t.trying.extending.few)
 
@@ -229,12 +234,12 @@ module _ {n : ℕ} {sheet list used places : List ℕ} {at : LocalProgress} {c :
   taking_few = omega (arith, labels_few given' one', t.trying.extending.few)
 
   -- there is a place left in the list
-  pub taking_room : at.counts.attached < length list
+  pub taking_room : work.progress.counts.attached < length list
   taking_room =
       let f = t.trying.extending in
       omega (arith, f.room, f.list_long, labels_fewer f.given f.one_cell taking_attaching t.there t.free)
 
-  pub taking_writable : Writable sheet list places at c k
+  pub taking_writable : Writable sheet list work.places work.progress c k
   taking_writable =
       record {
         sheet_cell = record { long = t.trying.extending.given.long; on = t.trying.on };
@@ -246,14 +251,15 @@ module _ {n : ℕ} {sheet list used places : List ℕ} {at : LocalProgress} {c :
       }
 
   -- a corner attached
-  pub took : {sheet' list' used' places' : List ℕ} {at' : LocalProgress} → Wrote sheet list used places at c k sheet' list' used' places' at'
-      → Left (local_with c (TryCellResult.Attached k) (state_of sheet list at)) n list sheet' list' used' places' at'
+  pub took : {sheet' list' : List ℕ} {work' : LocalWork} → Wrote sheet list work c k sheet' list' work'
+      → Left (local_with c (TryCellResult.Attached k) (state_of sheet list work.progress)) n list sheet' list' work'
   unfolding local_with
-  took {sheet'} {list'} {used'} {places'} {at'} w =
+  took {sheet'} {list'} {work'} w =
       let f = t.trying.extending in
+      let at = work.progress in
       let taken : length (take at.counts.attached list) ≡ at.counts.attached = length-take-le at.counts.attached list (made_in f) in
-      let m : at'.counts.attached ≡ at.counts.attached + 1 = ap (λ (x : Counts). x.attached) w.counts_are in
-      rw (w.sheet_is, w.list_is, w.used_is)
+      let m : work'.progress.counts.attached ≡ at.counts.attached + 1 = ap (λ (x : Counts). x.attached) w.counts_are in
+      rw (w.sheet_is, w.list_is)
       (record {
         holds =
             record {
@@ -269,7 +275,7 @@ module _ {n : ℕ} {sheet list used places : List ℕ} {at : LocalProgress} {c :
               given = given';
               few = f.few;
               one_cell = one';
-              tied = clear_tied taking_attaching taking_fits f.tied;
+              tied = rw w.used_is (clear_tied taking_attaching taking_fits f.tied);
               list_long = rw length-set f.list_long;
               room = omega (arith, m, f.room, clear_count taking_attaching);
               four = omega (arith, f.four, clear_count taking_attaching);
@@ -287,44 +293,47 @@ pub found_is : (cs : Corners) (sheet : List ℕ) (c : Cell) (prediction : Positi
 found_is cs sheet c prediction s t e = e ∙ rw (t, s)
 
 -- what was gathered by the array of used corners
-pub gathered_is : (held : List Float) {n : ℕ} {sheet list used places : List ℕ} {at : LocalProgress} {c : Cell} {candidates : Candidates} (radius : Float) (prediction : Position)
-    → Trying n sheet list used places at c → {kind : ℕ} → kind ≡ kind_at c
-    → candidates ≡ first_two (candidates_at (positions_in held) (eligible_in held used kind) n prediction radius)
+pub gathered_is : (held : List Float) {n : ℕ} {sheet list : List ℕ} {work : LocalWork} {c : Cell} {candidates : Candidates} (radius : Float) (prediction : Position)
+    → Trying n sheet list work c → {kind : ℕ} → kind ≡ kind_at c
+    → candidates ≡ first_two (candidates_at (positions_in held) (eligible_in held work.used kind) n prediction radius)
     → candidates ≡ gathered (corners_in held n) sheet radius c prediction
-gathered_is held {n} {sheet} {used = used} {c = c} radius prediction t k e = e ∙ gathered_tied held n sheet used radius c prediction t.extending.few t.extending.tied k
+gathered_is held {n} {sheet} {work = work} {c = c} radius prediction t k e = e ∙ gathered_tied held n sheet work.used radius c prediction t.extending.few t.extending.tied k
 
 -- and passed over
-pub unmatched_is : (held : List Float) {n : ℕ} {sheet list used places : List ℕ} {at : LocalProgress} {c : Cell} {passed : ℕ} (radius : Float) (prediction : Position)
-    → Trying n sheet list used places at c → passed ≡ passed_over (positions_in held) (unmarked used) (takes (shades_in held) c) n prediction radius
+pub unmatched_is : (held : List Float) {n : ℕ} {sheet list : List ℕ} {work : LocalWork} {c : Cell} {passed : ℕ} (radius : Float) (prediction : Position)
+    → Trying n sheet list work c → passed ≡ passed_over (positions_in held) (unmarked work.used) (takes (shades_in held) c) n prediction radius
     → passed ≡ unmatched (corners_in held n) sheet radius c prediction
-unmatched_is held {n} {sheet} {used = used} {c = c} radius prediction t e =
-    e ∙ unmatched_tied held n sheet used radius c prediction t.extending.few t.extending.tied refl
+unmatched_is held {n} {sheet} {work = work} {c = c} radius prediction t e =
+    e ∙ unmatched_tied held n sheet work.used radius c prediction t.extending.few t.extending.tied refl
 
 -- a corner that was found is to be attached
-pub taking : (cs : Corners) {sheet list used places : List ℕ} {at : LocalProgress} {c : Cell} {k : ℕ} {r : TryCellResult} (tol : Tolerances) (search : Search) (prediction : Position)
-    → Trying cs.count sheet list used places at c → r ≡ try_at cs sheet tol search c prediction → r ≡ TryCellResult.Attached k
-    → Taking cs.count sheet list used places at c k
+pub taking : (cs : Corners) {sheet list : List ℕ} {work : LocalWork} {c : Cell} {k : ℕ} {r : TryCellResult} (tol : Tolerances) (search : Search) (prediction : Position)
+    → Trying cs.count sheet list work c → r ≡ try_at cs sheet tol search c prediction → r ≡ TryCellResult.Attached k
+    → Taking cs.count sheet list work c k
 taking cs {sheet} {c = c} {k} tol search prediction t e g =
     let w = attachable cs sheet tol search c prediction k (sym e ∙ g) in
     record { trying = t; there = w.given; free = w.free }
 
-module _ {n : ℕ} {sheet list used places : List ℕ} (at : LocalProgress) (c : Cell) {q r : TryCellResult} (d : r ≡ q) where
+module _ {n : ℕ} {sheet list : List ℕ} {work : LocalWork} (c : Cell) {q r : TryCellResult} (d : r ≡ q) where
   -- no corner: the cell is counted, and nothing is written
-  module _ (f : Extending n sheet list used places at.counts.attached at.labels) {at' : LocalProgress} (is : at' ≡ cell_counted at r) where
-    pub found_none : r ≡ TryCellResult.NoCandidates → Left (local_with c q (state_of sheet list at)) n list sheet list used places at'
-    unfolding local_with
-    found_none g = rw (is, ← d, g) (untouched f refl)
+  module _ (f : Extending n sheet list work) {work' : LocalWork} (u : work'.used ≡ work.used) (p : work'.places ≡ work.places) (is : work'.progress ≡ cell_counted work.progress r) where
+    counted : (s : LocalState) → work'.progress.counts.attached ≡ work.progress.counts.attached → s ≡ state_of sheet list (cell_counted work.progress r) → Left s n list sheet list work'
+    counted s m e = untouched (extending_as f u p m (ap (λ (x : LocalProgress). x.labels) is)) (e ∙ ap (state_of sheet list) (sym is))
 
-    pub found_ambiguous : r ≡ TryCellResult.Ambiguous → Left (local_with c q (state_of sheet list at)) n list sheet list used places at'
+    pub found_none : r ≡ TryCellResult.NoCandidates → Left (local_with c q (state_of sheet list work.progress)) n list sheet list work'
     unfolding local_with
-    found_ambiguous g = rw (is, ← d, g) (untouched f refl)
+    found_none g = counted _ (rw (is, g)) (rw (← d, g))
 
-    pub found_refused : r ≡ TryCellResult.EdgeRejected → Left (local_with c q (state_of sheet list at)) n list sheet list used places at'
+    pub found_ambiguous : r ≡ TryCellResult.Ambiguous → Left (local_with c q (state_of sheet list work.progress)) n list sheet list work'
     unfolding local_with
-    found_refused g = rw (is, ← d, g) (untouched f refl)
+    found_ambiguous g = counted _ (rw (is, g)) (rw (← d, g))
 
-  pub found_corner : {k : ℕ} {sheet' list' used' places' : List ℕ} {at' : LocalProgress} → Taking n sheet list used places at c k → r ≡ TryCellResult.Attached k
-      → Wrote sheet list used places at c k sheet' list' used' places' at' → Left (local_with c q (state_of sheet list at)) n list sheet' list' used' places' at'
+    pub found_refused : r ≡ TryCellResult.EdgeRejected → Left (local_with c q (state_of sheet list work.progress)) n list sheet list work'
+    unfolding local_with
+    found_refused g = counted _ (rw (is, g)) (rw (← d, g))
+
+  pub found_corner : {k : ℕ} {sheet' list' : List ℕ} {work' : LocalWork} → Taking n sheet list work c k → r ≡ TryCellResult.Attached k
+      → Wrote sheet list work c k sheet' list' work' → Left (local_with c q (state_of sheet list work.progress)) n list sheet' list' work'
   found_corner t g w = rw (← d, g) (took t w)
 
 -- ---- the corners passed over
@@ -343,22 +352,22 @@ try_counts cs set p c at s = go (try_at cs s.sheet (tolerances_of set) (local_se
     go (TryCellResult.Attached k) n = unfold local_with in refl
 
 -- the buffers hold the state with them counted
-pub counted_left : {s : LocalState} {n : ℕ} {before sheet list used places : List ℕ} {at at' : LocalProgress} (m : ℕ) → at' ≡ unmatched_counted at m
-    → Left s n before sheet list used places at → Left (with_unmatched m s) n before sheet list used places at'
-counted_left m e l =
-    rw e
-    (record {
+pub counted_left : {s : LocalState} {n : ℕ} {before sheet list : List ℕ} {work work' : LocalWork} (m : ℕ) → work'.used ≡ work.used → work'.places ≡ work.places
+    → work'.progress ≡ unmatched_counted work.progress m → Left s n before sheet list work → Left (with_unmatched m s) n before sheet list work'
+counted_left m u p e l =
+    record {
       holds =
-          record {
+          rw e
+          (record {
             sheet_is = l.holds.sheet_is;
             list_is = l.holds.list_is;
             made_is = l.holds.made_is;
             counts_are = l.holds.counts_are;
             largest_is = l.holds.largest_is;
-            unmatched_is = ap (λ (u : ℕ). u + m) l.holds.unmatched_is;
-          };
-      extending = l.extending;
-    })
+            unmatched_is = ap (λ (x : ℕ). x + m) l.holds.unmatched_is;
+          });
+      extending = extending_as l.extending u p (ap (λ (x : LocalProgress). x.counts.attached) e) (ap (λ (x : LocalProgress). x.labels) e);
+    }
 
 -- a try is one visit more, and passes over none by itself
 pub visits_more : (r : TryCellResult) (n : Counts) → visits (one_more r n) ≡ visits n + 1

@@ -3,27 +3,27 @@
 
 #![tactic(auto)]
 
-ghost use Rattle.std.specs.Prelude.{◌≡◌, ◌+◌, ◌<◌, ◌≤◌, length};
+ghost use Rattle.std.specs.Prelude.{◌≡◌, ◌+◌, ◌<◌, ◌≤◌};
 ghost use Rattle.sheet.specs.Corners.{corners_in};
 ghost use Rattle.sheet.specs.Cells.{OnSheet};
 ghost use Rattle.sheet.specs.Shades.{takes, any_in, shades_in};
-ghost use Rattle.sizes.specs.Sizes.{place_count, corner_limit};
+ghost use Rattle.sizes.specs.Sizes.{corner_limit};
 ghost use Rattle.candidates.specs.Candidates.{positions_in, unmarked};
 ghost use Rattle.passed_over.specs.PassedOver.{passed_over};
 ghost use Rattle.extension_common.specs.TryCell.{try_at};
 ghost use Rattle.passes.specs.Counting.{visits};
 ghost use Rattle.passes.specs.Grow.{tolerances_of};
 ghost use Rattle.passes.specs.Local.{local_search, gate_of, local_with, local_try, local_visit};
-ghost use Rattle.remembered.specs.Remembered.{Noting, Forgotten};
+ghost use Rattle.remembered.specs.Remembered.{Forgotten};
 ghost use Rattle.local_cell.specs.Extending.{cell_counted, residuals_recorded, unmatched_counted, state_of, Left, Recalls, Foretold, Trying, Writable, Wrote, NotedIfBare};
 
 use arguments::{LocalExtensionParams, Settings};
 use extension_common::{ChoiceRule, Search, TryCellResult};
 use passes::{Counts, LargestResidual};
 use positions_policy::Tolerances;
-use remembered::Known;
+use remembered::{Finding, Known, Memory};
 use sheet::{Cell, Position};
-use sizes::{CORNERS, PLACES};
+use sizes::CORNERS;
 
 // How far the pass has come: the counts, the largest residual recorded, how many cells are labelled, and how many corners were passed over.
 #[derive(Clone, Copy)]
@@ -32,6 +32,16 @@ pub struct LocalProgress {
     pub residual: LargestResidual,
     pub labels: usize,
     pub unmatched: usize,
+}
+
+// What a pass works with beside the sheet and the attached list: which corners are used, the labelled places in rising order at the front of an
+// array, what is remembered of the cells, and how far it has come.
+#[derive(Drop)]
+pub struct LocalWork {
+    pub used: [u8; CORNERS],
+    pub places: [u16; CORNERS],
+    pub memory: Memory,
+    pub progress: LocalProgress,
 }
 
 // What a pass is given beside its buffers: how many corners there are, the settings, and the numbers of the pass.
@@ -50,120 +60,105 @@ struct Target {
     prediction: Position,
 }
 
-// How local searches a cell: search times cell size as the radius, and fill's and local's rule of choice.
-fn search_of(settings: Settings, params: LocalExtensionParams) -> Search
-    ensures { result ≡ local_search settings params }
-{
-    let grid = settings.grid;
-    Search {
-        search_r: params.search_rel * grid.cell_size,
-        ambiguity_factor: params.ambiguity_factor,
-        rule: ChoiceRule::WithFloor,
+impl Target {
+    // What is known of the cell by what was found there.
+    fn known(self, finding: Finding) -> Known
+        ensures { result ≡ record { reach = self.reach; finding = finding } }
+    {
+        Known {
+            reach: self.reach,
+            finding,
+        }
     }
 }
 
-// The edge's tolerances: cell size and band.
-fn tolerances_of(settings: Settings) -> Tolerances
-    ensures { result ≡ tolerances_of settings }
-{
-    let grid = settings.grid;
-    Tolerances {
-        cell_size: grid.cell_size,
-        edge_length_tol: settings.edge_length_tol,
+impl LocalSetup {
+    // How local searches a cell: search times cell size as the radius, and fill's and local's rule of choice.
+    #[tactic(auto, unfolding(passes::specs::Local::local_search))]
+    fn search(self) -> Search
+        ensures { result ≡ local_search self.settings self.params }
+    {
+        Search {
+            search_r: self.params.search_rel * self.settings.grid.cell_size,
+            ambiguity_factor: self.params.ambiguity_factor,
+            rule: ChoiceRule::WithFloor,
+        }
+    }
+
+    // The edge's tolerances: cell size and band.
+    fn tolerances(self) -> Tolerances
+        ensures { result ≡ tolerances_of self.settings }
+    {
+        Tolerances {
+            cell_size: self.settings.grid.cell_size,
+            edge_length_tol: self.settings.edge_length_tol,
+        }
+    }
+
+    // The residual gate: the largest residual that is let through.
+    fn gate(self) -> f32
+        ensures { result ≡ gate_of self.settings self.params }
+    {
+        self.params.max_residual_rel * self.settings.grid.cell_size
     }
 }
 
-// The residual gate: the largest residual that is let through.
-fn gate_of(settings: Settings, params: LocalExtensionParams) -> f32
-    ensures { result ≡ gate_of settings params }
-{
-    let grid = settings.grid;
-    params.max_residual_rel * grid.cell_size
-}
-
-// One more cell is counted, by what was found there.
-fn count_cell(at: LocalProgress, found: TryCellResult) -> LocalProgress
-    requires { visits at.counts < 4294967296 }
-    ensures { result ≡ cell_counted at found }
-{
-    let before = at.counts;
-    let counts = passes::one_more(found, before);
-    let residual = at.residual;
-    LocalProgress {
-        counts,
-        residual,
-        labels: at.labels,
-        unmatched: at.unmatched,
+impl LocalProgress {
+    // One more cell is counted, by what was found there.
+    fn count_cell(&mut self, found: TryCellResult)
+        requires { visits self.old.counts < 4294967296 }
+        ensures { self.new ≡ cell_counted self.old found }
+    {
+        self.counts = passes::one_more(found, self.counts);
     }
-}
 
-// The progress with four residuals recorded.
-fn with_residuals(at: LocalProgress, residuals: [f32; 4]) -> LocalProgress
-    ensures { result ≡ residuals_recorded at residuals }
-{
-    let counts = at.counts;
-    let before = at.residual;
-    let residual = supports::record_residuals(before, residuals);
-    LocalProgress {
-        counts,
-        residual,
-        labels: at.labels,
-        unmatched: at.unmatched,
+    // Four residuals are recorded.
+    fn record_residuals(&mut self, residuals: [f32; 4])
+        ensures { self.new ≡ residuals_recorded self.old residuals }
+    {
+        self.residual = supports::record_residuals(self.residual, residuals);
+    }
+
+    // Some corners more are passed over.
+    fn pass_over(&mut self, passed: usize)
+        requires { self.old.unmatched + passed < 9007199254740992 }
+        ensures { self.new ≡ unmatched_counted self.old passed }
+    {
+        self.unmatched += passed;
     }
 }
 
 // Attaches a corner to a cell and clears both of its marks: the sheet, the next place of the attached list and the corner's entry are written,
-// the labelled places are listed anew, and what the new label may change is forgotten. Answers how far the pass has come.
+// the labelled places are listed anew, and what the new label may change is forgotten.
 fn attach_corner(
     sheet: &mut [u16],
     attached: &mut [u16],
-    used: &mut [u8; CORNERS],
-    places: &mut [u16; CORNERS],
-    memory: &mut [u16; PLACES],
-    predictions: &[f32; 3 * PLACES],
-    at: LocalProgress,
+    work: &mut LocalWork,
     c: Cell,
     k: usize,
     corner: Position,
-) -> LocalProgress
-    requires { Writable sheet.old attached.old places.old at c k × (length memory.old ≡ place_count) }
-    ensures { Wrote sheet.old attached.old used.old places.old at c k sheet.new
-        attached.new used.new places.new result
-        × Forgotten memory.old predictions.now c corner memory.new }
+)
+    requires { Writable sheet.old attached.old work.old.places work.old.progress c k }
+    ensures { Wrote sheet.old attached.old work.old c k sheet.new attached.new work.new
+        × Forgotten work.old.memory c corner work.new.memory }
 {
-    let n = at.counts;
-    let made = n.attached;
     sheet::attach(sheet, c, k);
     sheet::clear_marks(sheet, c);
-    attached[made] = sheet::place_of(c) as u16;
-    used[k] = 1;
-    let labels = supports::gather_labelled(sheet, places);
-    remembered::forget_near(memory, predictions, c, corner);
-    let counts = passes::one_more(TryCellResult::Attached(k), n);
-    let residual = at.residual;
-    LocalProgress {
-        counts,
-        residual,
-        labels,
-        unmatched: at.unmatched,
-    }
+    attached[work.progress.counts.attached] = sheet::place_of(c) as u16;
+    work.used[k] = 1;
+    work.progress.labels = supports::gather_labelled(sheet, &mut work.places);
+    work.memory.forget_near(c, corner);
+    work.progress.count_cell(TryCellResult::Attached(k));
 }
 
 // Notes what is known of a cell where no shade stands. Where one does, what is passed over changes with every corner that is labelled, so that a
 // cell is gathered anew at each visit.
-fn note_if_bare(
-    corners: &[f32; 4 * CORNERS],
-    memory: &mut [u16; PLACES],
-    predictions: &mut [f32; 3 * PLACES],
-    c: Cell,
-    known: Known,
-)
-    requires { Noting memory.old predictions.old c known }
-    ensures { NotedIfBare (any_in corners.now) memory.old predictions.old c known memory.new
-        predictions.new }
+fn note_if_bare(corners: &[f32; 4 * CORNERS], memory: &mut Memory, c: Cell, known: Known)
+    requires { OnSheet c × (known.reach < 8192) }
+    ensures { NotedIfBare (any_in corners.now) memory.old c known memory.new }
 {
     if !sheet::is_shaded(corners) {
-        remembered::note(memory, predictions, c, known);
+        memory.note(c, Some(known));
     }
 }
 
@@ -173,71 +168,53 @@ fn try_candidates_of(
     corners: &[f32; 4 * CORNERS],
     sheet: &mut [u16],
     attached: &mut [u16],
-    used: &mut [u8; CORNERS],
-    places: &mut [u16; CORNERS],
-    memory: &mut [u16; PLACES],
-    predictions: &mut [f32; 3 * PLACES],
-    at: LocalProgress,
+    work: &mut LocalWork,
     target: Target,
     setup: LocalSetup,
-) -> LocalProgress
-    requires { Trying setup.count sheet.old attached.old used.old places.old at target.cell
-        × (Recalls setup.settings setup.params (corners_in corners.now setup.count) sheet.old memory.old predictions.old at
-        × Foretold setup.settings setup.params (corners_in corners.now setup.count) sheet.old at target.cell target.reach
-        target.prediction) }
-    ensures { Left (local_with target.cell (try_at (corners_in corners.now setup.count) sheet.old
+)
+    requires trying { Trying setup.count sheet.old attached.old work.old target.cell }
+    requires recalls { Recalls setup.settings setup.params (corners_in corners.now setup.count) sheet.old work.old }
+    requires foretold { Foretold setup.settings setup.params (corners_in corners.now setup.count) sheet.old work.old
+        target.cell target.reach target.prediction }
+    ensures left { Left (local_with target.cell (try_at (corners_in corners.now setup.count) sheet.old
         (tolerances_of setup.settings) (local_search setup.settings setup.params) target.cell target.prediction)
-        (state_of sheet.old attached.old at)) setup.count attached.old sheet.new attached.new
-        used.new places.new result × Recalls setup.settings setup.params (corners_in corners.now setup.count)
-        sheet.new memory.new predictions.new result }
+        (state_of sheet.old attached.old work.old.progress)) setup.count attached.old sheet.new attached.new work.new }
+    ensures recalls { Recalls setup.settings setup.params (corners_in corners.now setup.count) sheet.new work.new }
 {
     let c = target.cell;
-    let reach = target.reach;
-    let prediction = target.prediction;
-    let settings = setup.settings;
-    let search = search_of(settings, setup.params);
-    let radius = search.search_r;
+    let search = setup.search();
     let candidates = candidates::collect_candidates(
         corners,
         setup.count,
-        used,
+        &work.used,
         sheet::kind_at(c),
         target.prediction,
-        radius,
+        search.search_r,
     );
-    let tol = tolerances_of(settings);
-    let found = extension_common::try_candidates(corners, sheet, c, candidates, search, tol);
+    let found = extension_common::try_candidates(
+        corners,
+        sheet,
+        c,
+        candidates,
+        search,
+        setup.tolerances(),
+    );
     match found {
         TryCellResult::NoCandidates => {
-            note_if_bare(corners, memory, predictions, c, Known::NoCandidates(reach));
-            count_cell(at, found)
+            let known = target.known(Finding::NoCandidates);
+            note_if_bare(corners, &mut work.memory, c, known);
+            work.progress.count_cell(found);
         }
         TryCellResult::Ambiguous => {
             let limit = candidates::last_distance(candidates);
-            note_if_bare(
-                corners,
-                memory,
-                predictions,
-                c,
-                Known::Ambiguous(reach, prediction, limit),
-            );
-            count_cell(at, found)
+            let known = target.known(Finding::Ambiguous(target.prediction, limit));
+            note_if_bare(corners, &mut work.memory, c, known);
+            work.progress.count_cell(found);
         }
-        TryCellResult::EdgeRejected => count_cell(at, found),
+        TryCellResult::EdgeRejected => work.progress.count_cell(found),
         TryCellResult::Attached(k) => {
             let taken = sheet::corner_at(corners, k);
-            attach_corner(
-                sheet,
-                attached,
-                used,
-                places,
-                memory,
-                predictions,
-                at,
-                c,
-                k,
-                taken.position,
-            )
+            attach_corner(sheet, attached, work, c, k, taken.position);
         }
     }
 }
@@ -253,25 +230,9 @@ fn count_unmatched(
     ensures { result ≡ passed_over (positions_in corners.now) (unmarked used.now) (takes (shades_in corners.now)
         target.cell) setup.count target.prediction (local_search setup.settings setup.params).search_r }
 {
-    let search = search_of(setup.settings, setup.params);
     let kind = sheet::kind_at(target.cell);
-    let radius = search.search_r;
+    let radius = setup.search().search_r;
     passed_over::count_passed_over(corners, setup.count, used, kind, target.prediction, radius)
-}
-
-// The progress with some corners more passed over.
-fn with_unmatched(at: LocalProgress, passed: usize) -> LocalProgress
-    requires { at.unmatched + passed < 9007199254740992 }
-    ensures { result ≡ unmatched_counted at passed }
-{
-    let counts = at.counts;
-    let residual = at.residual;
-    LocalProgress {
-        counts,
-        residual,
-        labels: at.labels,
-        unmatched: at.unmatched + passed,
-    }
 }
 
 // Gathers at an unlabelled cell where a fit maps it to: what is passed over is counted, and the cell is tried.
@@ -279,37 +240,21 @@ fn try_predicted_cell(
     corners: &[f32; 4 * CORNERS],
     sheet: &mut [u16],
     attached: &mut [u16],
-    used: &mut [u8; CORNERS],
-    places: &mut [u16; CORNERS],
-    memory: &mut [u16; PLACES],
-    predictions: &mut [f32; 3 * PLACES],
-    at: LocalProgress,
+    work: &mut LocalWork,
     target: Target,
     setup: LocalSetup,
-) -> LocalProgress
-    requires { Trying setup.count sheet.old attached.old used.old places.old at target.cell
-        × (Recalls setup.settings setup.params (corners_in corners.now setup.count) sheet.old memory.old predictions.old at
-        × Foretold setup.settings setup.params (corners_in corners.now setup.count) sheet.old at target.cell target.reach
-        target.prediction) }
-    ensures { Left (local_try (corners_in corners.now setup.count) setup.settings setup.params target.cell target.prediction
-        (state_of sheet.old attached.old at)) setup.count attached.old sheet.new attached.new
-        used.new places.new result × Recalls setup.settings setup.params (corners_in corners.now setup.count)
-        sheet.new memory.new predictions.new result }
+)
+    requires trying { Trying setup.count sheet.old attached.old work.old target.cell }
+    requires recalls { Recalls setup.settings setup.params (corners_in corners.now setup.count) sheet.old work.old }
+    requires foretold { Foretold setup.settings setup.params (corners_in corners.now setup.count) sheet.old work.old
+        target.cell target.reach target.prediction }
+    ensures left { Left (local_try (corners_in corners.now setup.count) setup.settings setup.params target.cell target.prediction
+        (state_of sheet.old attached.old work.old.progress)) setup.count attached.old sheet.new attached.new work.new }
+    ensures recalls { Recalls setup.settings setup.params (corners_in corners.now setup.count) sheet.new work.new }
 {
-    let passed = count_unmatched(corners, used, target, setup);
-    let next = try_candidates_of(
-        corners,
-        sheet,
-        attached,
-        used,
-        places,
-        memory,
-        predictions,
-        at,
-        target,
-        setup,
-    );
-    with_unmatched(next, passed)
+    let passed = count_unmatched(corners, &work.used, target, setup);
+    try_candidates_of(corners, sheet, attached, work, target, setup);
+    work.progress.pass_over(passed);
 }
 
 // Tries an unlabelled cell of which nothing is known: by the fit on its four nearest labels, whose residuals are recorded. Without a fit, or with a
@@ -318,50 +263,39 @@ fn try_unknown_cell(
     corners: &[f32; 4 * CORNERS],
     sheet: &mut [u16],
     attached: &mut [u16],
-    used: &mut [u8; CORNERS],
-    places: &mut [u16; CORNERS],
-    memory: &mut [u16; PLACES],
-    predictions: &mut [f32; 3 * PLACES],
-    at: LocalProgress,
+    work: &mut LocalWork,
     c: Cell,
     setup: LocalSetup,
-) -> LocalProgress
-    requires { Trying setup.count sheet.old attached.old used.old places.old at c
-        × Recalls setup.settings setup.params (corners_in corners.now setup.count) sheet.old memory.old predictions.old at }
-    ensures { Left (local_visit (corners_in corners.now setup.count) setup.settings setup.params c
-        (state_of sheet.old attached.old at)) setup.count attached.old sheet.new attached.new
-        used.new places.new result × Recalls setup.settings setup.params (corners_in corners.now setup.count)
-        sheet.new memory.new predictions.new result }
+)
+    requires trying { Trying setup.count sheet.old attached.old work.old c }
+    requires recalls { Recalls setup.settings setup.params (corners_in corners.now setup.count) sheet.old work.old }
+    ensures left { Left (local_visit (corners_in corners.now setup.count) setup.settings setup.params c
+        (state_of sheet.old attached.old work.old.progress)) setup.count attached.old sheet.new attached.new work.new }
+    ensures recalls { Recalls setup.settings setup.params (corners_in corners.now setup.count) sheet.new work.new }
 {
-    let nearest = supports::nearest_labelled_by_grid(&places[..at.labels], c);
+    let nearest = supports::nearest_labelled_by_grid(&work.places[..work.progress.labels], c);
     let reach = nearest[3].reach;
-    let Some(fit) = supports::local_fit(corners, sheet, nearest) else {
-        remembered::note(memory, predictions, c, Known::Idle(reach));
-        return at;
+    let idle = Known {
+        reach,
+        finding: Finding::Idle,
     };
-    let next = with_residuals(at, fit.residuals);
-    if gate_of(setup.settings, setup.params) < supports::worst_of(fit.residuals) {
-        remembered::note(memory, predictions, c, Known::Idle(reach));
-        return next;
+    let Some(fit) = supports::local_fit(corners, sheet, nearest) else {
+        work.memory.note(c, Some(idle));
+        return;
+    };
+    work.progress.record_residuals(fit.residuals);
+    if setup.gate() < supports::worst_of(fit.residuals) {
+        work.memory.note(c, Some(idle));
+        return;
     }
-    let prediction = homography::apply(fit.h, supports::cell_point(c));
-    remembered::note(memory, predictions, c, Known::Predicted(reach, prediction));
-    try_predicted_cell(
-        corners,
-        sheet,
-        attached,
-        used,
-        places,
-        memory,
-        predictions,
-        next,
-        Target {
-            cell: c,
-            reach,
-            prediction,
-        },
-        setup,
-    )
+    let target = Target {
+        cell: c,
+        reach,
+        prediction: homography::apply(fit.h, supports::cell_point(c)),
+    };
+    let known = target.known(Finding::Predicted(target.prediction));
+    work.memory.note(c, Some(known));
+    try_predicted_cell(corners, sheet, attached, work, target, setup);
 }
 
 // Tries an unlabelled cell: by what is known of it from an earlier round, or anew.
@@ -369,53 +303,30 @@ pub fn try_local_cell(
     corners: &[f32; 4 * CORNERS],
     sheet: &mut [u16],
     attached: &mut [u16],
-    used: &mut [u8; CORNERS],
-    places: &mut [u16; CORNERS],
-    memory: &mut [u16; PLACES],
-    predictions: &mut [f32; 3 * PLACES],
-    at: LocalProgress,
+    work: &mut LocalWork,
     c: Cell,
     setup: LocalSetup,
-) -> LocalProgress
-    requires { Trying setup.count sheet.old attached.old used.old places.old at c
-        × Recalls setup.settings setup.params (corners_in corners.now setup.count) sheet.old memory.old predictions.old at }
-    ensures { Left (local_visit (corners_in corners.now setup.count) setup.settings setup.params c
-        (state_of sheet.old attached.old at)) setup.count attached.old sheet.new attached.new
-        used.new places.new result × Recalls setup.settings setup.params (corners_in corners.now setup.count)
-        sheet.new memory.new predictions.new result }
+)
+    requires trying { Trying setup.count sheet.old attached.old work.old c }
+    requires recalls { Recalls setup.settings setup.params (corners_in corners.now setup.count) sheet.old work.old }
+    ensures left { Left (local_visit (corners_in corners.now setup.count) setup.settings setup.params c
+        (state_of sheet.old attached.old work.old.progress)) setup.count attached.old sheet.new attached.new work.new }
+    ensures recalls { Recalls setup.settings setup.params (corners_in corners.now setup.count) sheet.new work.new }
 {
-    let known = remembered::recall(memory, predictions, c);
-    match known {
-        Known::Nothing => try_unknown_cell(
-            corners,
-            sheet,
-            attached,
-            used,
-            places,
-            memory,
-            predictions,
-            at,
-            c,
-            setup,
-        ),
-        Known::Idle(_) => at,
-        Known::NoCandidates(_) => count_cell(at, TryCellResult::NoCandidates),
-        Known::Ambiguous(_, _, _) => count_cell(at, TryCellResult::Ambiguous),
-        Known::Predicted(reach, prediction) => try_predicted_cell(
-            corners,
-            sheet,
-            attached,
-            used,
-            places,
-            memory,
-            predictions,
-            at,
-            Target {
+    let Some(Known { reach, finding }) = work.memory.recall(c) else {
+        return try_unknown_cell(corners, sheet, attached, work, c, setup);
+    };
+    match finding {
+        Finding::Idle => {}
+        Finding::NoCandidates => work.progress.count_cell(TryCellResult::NoCandidates),
+        Finding::Ambiguous(_, _) => work.progress.count_cell(TryCellResult::Ambiguous),
+        Finding::Predicted(prediction) => {
+            let target = Target {
                 cell: c,
                 reach,
                 prediction,
-            },
-            setup,
-        ),
+            };
+            try_predicted_cell(corners, sheet, attached, work, target, setup);
+        }
     }
 }

@@ -1,5 +1,6 @@
 -- What a call leaves, by the pass that it is of; and that what it says is small. Assumes nothing.
-use mathlib.Core.Path.{◌≡◌, refl, sym, ap, subst}
+use Rattle.std.specs.Prelude.{Ok, Err}
+use mathlib.Core.Path.{◌≡◌, refl, sym, ap, ◌∙◌, subst}
 use mathlib.Core.List.{List, []}
 use Prim.Native.Nat.{ℕ}
 use native.Mathlib.Omega.{arith}
@@ -7,8 +8,7 @@ use borrow.Author.Tests.{le-ltb}
 use lib.ListN.{length}
 use Rattle.sheet.specs.Corners.{CornerLists}
 use Rattle.arguments.specs.Shades.{corners_of}
-use Rattle.arguments.specs.Arguments.{queue_needed, too_short, over_limit, out_of_range, checked}
-use Rattle.arguments.specs.declared.Checked.{Checked}
+use Rattle.arguments.specs.Arguments.{Checked, queue_needed, too_short, over_limit, out_of_range, checked}
 use Rattle.arguments.specs.declared.Pass.{Pass}
 use Rattle.arguments.specs.declared.Settings.{Settings}
 use Rattle.arguments.specs.declared.GrowParams.{GrowParams}
@@ -77,8 +77,8 @@ module _ (l : CornerLists) (set : Settings) (shades sheet queue attached sheet' 
       go : (k : Checked) → fill_out answer sheet' attached' ≡ fill_leaves (unless k (fill_after (corners_of l shades) set p sheet)) sheet attached
           → pass_out (fill_answered answer) sheet' queue attached'
           ≡ pass_leaves (renamed fill_stats (unless k (fill_after (corners_of l shades) set p sheet))) sheet queue attached
-      go (Checked.Refused s) w = ap told w
-      go Checked.Fine w = rw (fill_visits_none l set p shades sheet) (ap told w)
+      go (Err s) w = ap told w
+      go (Ok tt) w = rw (fill_visits_none l set p shades sheet) (ap told w)
 
   pub local_left_lem : (p : LocalExtensionParams) → pass ≡ Pass.Local p → (answer : LocalAnswer) → r ≡ local_answered answer
       → local_out answer sheet' attached' ≡ local_leaves (local_step l shades sheet set p (rooms 0 (length attached))) sheet attached
@@ -93,8 +93,8 @@ module _ (l : CornerLists) (set : Settings) (shades sheet queue attached sheet' 
       go : (k : Checked) → local_out answer sheet' attached' ≡ local_leaves (unless k (local_after (corners_of l shades) set p sheet)) sheet attached
           → pass_out (local_answered answer) sheet' queue attached'
           ≡ pass_leaves (renamed local_stats (unless k (local_after (corners_of l shades) set p sheet))) sheet queue attached
-      go (Checked.Refused s) w = ap told w
-      go Checked.Fine w = rw (local_visits_none l set p shades sheet) (ap told w)
+      go (Err s) w = ap told w
+      go (Ok tt) w = rw (local_visits_none l set p shades sheet) (ap told w)
 
 -- ---- what it says is small
 
@@ -107,8 +107,8 @@ pub call_small : (l : CornerLists) (sheet : List ℕ) (c : Call) (queue attached
 call_small l sheet c queue attached = rw (step_as_lem l sheet c) (go (checked_call l sheet c) refl)
   where
     go : (k : Checked) → checked_call l sheet c ≡ k → SmallAnswer (pass_leaves (unless k (after_call l sheet c)) sheet queue attached).answer
-    go (Checked.Refused r) e = tt
-    go Checked.Fine e = small_done (after_call l sheet c).answer (small l sheet c (call_accepted l sheet c e))
+    go (Err r) e = tt
+    go (Ok tt) e = small_done (after_call l sheet c).answer (small l sheet c (call_accepted l sheet c e))
 
 pub answer_small : (l : CornerLists) (sheet : List ℕ) (c : Call) (queue attached sheet' queue' attached' : List ℕ) (r : PassAnswer)
     → pass_out r sheet' queue' attached' ≡ pass_leaves (step l sheet c) sheet queue attached → SmallAnswer r

@@ -1,17 +1,22 @@
 -- Laws of what gathering passes over: one corner more or not, none where all are taken, and two frames with paired corners. Assumes nothing.
-use mathlib.Core.Path.{◌≡◌, refl, ap, ◌∙◌}
-use mathlib.Core.Bool.{Bool, true, false, not, ◌&&◌, cond}
-use Prim.Native.Nat.{ℕ, ◌<◌, ◌≤◌}
+use mathlib.Core.Path.{◌≡◌, refl, sym, ap, ◌∙◌}
+use mathlib.Core.Bool.{Bool, true, false, ◌&&◌, cond}
+use Prim.Native.Nat.{ℕ, zero, suc, ◌<◌, ◌≤◌}
 use native.Mathlib.Omega.{arith}
-use lib.Ieee.{Float, le}
-use Rattle.binary32.specs.Ranges.{is_finite}
-use Rattle.sheet.specs.Corners.{squared_distance, finite_position}
+use lib.Ieee.{Float}
+use Rattle.sheet.specs.Corners.{finite_position}
 use Rattle.sheet.specs.Pairing.{Shuffle}
 use Rattle.sheet.specs.declared.Position.{Position}
 use Rattle.labels.specs.Count.{how_many}
 use Rattle.labels.proofs.Count.{many_ext, many_none, many_few, many_paired}
 use Rattle.candidates.specs.Candidates.{squared_radius}
-use Rattle.candidates.specs.Steps.{one_if}
+use Rattle.std.specs.List.{filter, range_with_len}
+use Rattle.std.proofs.lemmas.List.{map-id}
+use Rattle.std.proofs.lemmas.List.FromFn.{filter_of_map_range_with_len_more}
+use Rattle.labels.specs.Labelled.{passing}
+use mathlib.Core.List.{List, [], ◌∷◌, ◌++◌, map}
+use lib.ListN.{length}
+use native.Mathlib.Numerals.{add-one}
 use Rattle.passed_over.specs.PassedOver.{is_passed_over, passed_over}
 
 -- ---- nothing but the corners below n counts
@@ -35,48 +40,24 @@ none_passed_over position unlabelled taken n p r h = ap (λ (m : ℕ). cond (fin
     same true = refl
     same false = refl
 
--- ---- one corner more or not
+-- ---- as the code counts them
 
-module _ (position : ℕ → Position) (unlabelled taken : ℕ → Bool) (p : Position) where
-  module _ (limit : Float) (k : ℕ) where
-    pub one_labelled : unlabelled k ≡ false → 0 ≡ one_if (is_passed_over position unlabelled taken p limit) k
-    unfolding is_passed_over
-    one_labelled e = rw e
+-- the numbers below n that pass a test
+filtered : (f : ℕ → Bool) (n : ℕ) → filter f (range_with_len 0 n) ≡ passing f n
+unfolding passing
+filtered f zero = refl
+filtered f (suc n) =
+    ap (filter f) (sym (map-id (range_with_len 0 (suc n))) ∙ ap (λ (k : ℕ). map (λ (x : ℕ). x) (range_with_len 0 k)) (sym (add-one n))) ∙ filter_of_map_range_with_len_more f (λ x. x) 0 n n (omega arith)
+    ∙ ap (λ (l : List ℕ). l ++ cond (f n) (n ∷ []) []) (ap (filter f) (map-id (range_with_len 0 n)) ∙ filtered f n)
 
-    pub one_taken : taken k ≡ true → 0 ≡ one_if (is_passed_over position unlabelled taken p limit) k
-    unfolding is_passed_over
-    one_taken f = rw f (go (unlabelled k))
-      where
-        go : (t : Bool) → ◌≡◌ {A = ℕ} 0 (cond (t && false) 1 0)
-        go true = refl
-        go false = refl
+module _ (position : ℕ → Position) (unlabelled taken : ℕ → Bool) (p : Position) (n : ℕ) (r : Float) where
+  pub over_nowhere : finite_position p ≡ false → 0 ≡ passed_over position unlabelled taken n p r
+  unfolding passed_over
+  over_nowhere e = rw e
 
-    pub one_near : unlabelled k ≡ true → taken k ≡ false → le (squared_distance (position k) p) limit ≡ true → 1 ≡ one_if (is_passed_over position unlabelled taken p limit) k
-    unfolding is_passed_over
-    one_near e f h = rw (e, f, h)
-
-    pub one_far : le (squared_distance (position k) p) limit ≡ false → 0 ≡ one_if (is_passed_over position unlabelled taken p limit) k
-    unfolding is_passed_over
-    one_far h = rw h (go (unlabelled k) (not (taken k)))
-      where
-        go : (t u : Bool) → ◌≡◌ {A = ℕ} 0 (cond (t && (u && false)) 1 0)
-        go true true = refl
-        go true false = refl
-        go false u = refl
-
-  -- of n corners
-  module _ (n : ℕ) (r : Float) where
-    pub over_nowhere_x : is_finite p.x ≡ false → 0 ≡ passed_over position unlabelled taken n p r
-    unfolding passed_over
-    over_nowhere_x e = rw e
-
-    pub over_nowhere_y : is_finite p.x ≡ true → is_finite p.y ≡ false → 0 ≡ passed_over position unlabelled taken n p r
-    unfolding passed_over
-    over_nowhere_y e f = rw (e, f)
-
-    pub over_somewhere : is_finite p.x ≡ true → is_finite p.y ≡ true → how_many (is_passed_over position unlabelled taken p (squared_radius r)) n ≡ passed_over position unlabelled taken n p r
-    unfolding passed_over
-    over_somewhere e f = rw (e, f)
+  pub over_somewhere : finite_position p ≡ true → length (filter (is_passed_over position unlabelled taken p (squared_radius r)) (range_with_len 0 n)) ≡ passed_over position unlabelled taken n p r
+  unfolding passed_over
+  over_somewhere e = ap length (filtered (is_passed_over position unlabelled taken p (squared_radius r)) n) ∙ rw e
 
 -- ---- two frames with the same corners in another order, of which both or neither are taken
 

@@ -1,7 +1,6 @@
 -- Four places a corner are enough for grow's queue: no step of a run is ever cut off, every queued cell is visited once, and the counts
 -- are those of the cells visited. What carries it: each labelled cell, given or attached, brings at most four cells into the queue, and
 -- there are at most as many labelled cells as corners. Assumes nothing.
-use Rattle.std.specs.Prelude.{Some}
 use mathlib.Core.Path.{◌≡◌, refl, sym, ap, ◌∙◌}
 use mathlib.Core.Bool.{Bool, true, false, cond}
 use mathlib.Core.List.{List, []}
@@ -24,7 +23,7 @@ use Rattle.labels.specs.Used.{used_on, OneCell}
 use Rattle.labels.proofs.Labelled.{labels_places, same_count, hole_keeps, ambiguous_keeps, count_attached, label_after, word_else}
 use Rattle.labels.proofs.Used.{one_same, one_attached, count_bounded}
 use Rattle.predict.specs.Predict.{prediction_of, extrapolating}
-use Rattle.predict.specs.declared.Prediction.{Prediction}
+use Rattle.std.specs.Prelude.{Option, Some, None}
 use Rattle.arguments.specs.Arguments.{Lent}
 use Rattle.arguments.specs.Accepted.{Accepted}
 use Rattle.arguments.proofs.Laws.{accepted}
@@ -196,9 +195,9 @@ module _ (cs : Corners) (set : Settings) (p : GrowParams) where
   unfolding grow_visit grow_at
   visit_going head s g left = go (prediction_of (seen_of cs.corner s.sheet) set.grid (next_of s head))
     where
-      go : (at : Prediction) → Going cs (head + 1) (grow_at cs set p (next_of s head) at s)
-      go Prediction.NoNeighbour = hole_going g left _ refl (omega arith)
-      go (Prediction.At at) = with_going g left _ (found_free s.sheet (next_of s head) at (extrapolating (seen_of cs.corner s.sheet) (next_of s head)))
+      go : (at : Option Position) → Going cs (head + 1) (grow_at cs set p (next_of s head) at s)
+      go None = hole_going g left _ refl (omega arith)
+      go (Some at) = with_going g left _ (found_free s.sheet (next_of s head) at (extrapolating (seen_of cs.corner s.sheet) (next_of s head)))
 
   -- ---- the run
 

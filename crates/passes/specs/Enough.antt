@@ -1,11 +1,10 @@
 -- The step limit of `grow_run`, four cells a corner, cuts nothing off (01, "Frame and result": "4 queue places a corner"). `proofs/Enough.antt`
 -- proves `NothingCutOff`. Definitions only.
-use Rattle.std.specs.Prelude.{◌≡◌, List, ℕ, ◌+◌, ◌*◌, ◌<◌, ◌≤◌, length, get_or}
+use Rattle.std.specs.Prelude.{◌≡◌, List, ℕ, ◌+◌, ◌*◌, ◌<◌, ◌≤◌, length, get_or, Ok}
 use Rattle.sheet.specs.Corners.{Corners}
 use Rattle.arguments.specs.Shades.{corners_of}
 use Rattle.sizes.specs.Sizes.{place_count}
 use Rattle.arguments.specs.Arguments.{Lent, checked}
-use Rattle.arguments.specs.declared.Checked.{Checked}
 use Rattle.arguments.specs.declared.GrowParams.{GrowParams}
 use Rattle.arguments.specs.declared.Pass.{Pass}
 use Rattle.arguments.specs.declared.Settings.{Settings}
@@ -33,5 +32,5 @@ pub record Enough (cs : Corners) (set : Settings) (p : GrowParams) (sheet : List
 -- so it is for every call of grow that the checks let pass
 abbrev pub NothingCutOff : Type 0
 NothingCutOff =
-    (l : Lent) (set : Settings) (p : GrowParams) → checked l set (Pass.Grow p) ≡ Checked.Fine
+    (l : Lent) (set : Settings) (p : GrowParams) → checked l set (Pass.Grow p) ≡ Ok tt
     → Enough (corners_of l.corners l.shades) set p l.sheet

@@ -14,7 +14,7 @@ use Rattle.labels.specs.Box.{box_of}
 use Rattle.labels.specs.Rim.{rim}
 use Rattle.labels.specs.declared.Bounds.{Bounds}
 use Rattle.predict.specs.Predict.{prediction_of}
-use Rattle.predict.specs.declared.Prediction.{Prediction}
+use Rattle.sheet.specs.declared.Position.{Position}
 use Rattle.arguments.specs.declared.Settings.{Settings}
 use Rattle.arguments.specs.declared.FillParams.{FillParams}
 use Rattle.extension_common.specs.TryCell.{try_at}
@@ -74,9 +74,9 @@ fill_with c TryCellResult.EdgeRejected s = s
 fill_with c (TryCellResult.Attached k) s = record { sheet = attached s.sheet c k; made = s.made ++ (place_of c ∷ []) }
 
 -- a cell with no labelled neighbour is passed over
-unfoldable pub fill_at : Corners → Settings → FillParams → Cell → Prediction → FillState → FillState
-fill_at cs set p c Prediction.NoNeighbour s = s
-fill_at cs set p c (Prediction.At at) s = fill_with c (try_at cs s.sheet (tolerances_of set) (fill_search set p) c at) s
+unfoldable pub fill_at : Corners → Settings → FillParams → Cell → Option Position → FillState → FillState
+fill_at cs set p c None s = s
+fill_at cs set p c (Some at) s = fill_with c (try_at cs s.sheet (tolerances_of set) (fill_search set p) c at) s
 
 unfoldable pub fill_visit : Corners → Settings → FillParams → Cell → FillState → FillState
 fill_visit cs set p c s = fill_at cs set p c (prediction_of (seen_of cs.corner s.sheet) set.grid c) s

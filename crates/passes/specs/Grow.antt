@@ -1,6 +1,6 @@
 -- Grow (document 01, "Sheet": "seeds by i, then j; neighbours are queued in Edge's order, each cell once. No candidate and edge refusals
 -- mark a hole."; shared/grow_extend.rs). Definitions only.
-use Rattle.std.specs.Prelude.{Bool, true, false, not, ◌&&◌, cond, List, [], ◌∷◌, ◌++◌, ℕ, zero, suc, ◌+◌, ◌*◌, eqb, ltb, length, get_or, Float}
+use Rattle.std.specs.Prelude.{Bool, true, false, not, ◌&&◌, cond, List, [], ◌∷◌, ◌++◌, ℕ, zero, suc, ◌+◌, ◌*◌, eqb, ltb, length, get_or, Float, Option, Some, None}
 use Rattle.std.specs.Float.{binary32}
 use Rattle.std.specs.Float.Ieee.{mul}
 use Rattle.sheet.specs.Cells.{on_sheet, place_of, cell_of, moved}
@@ -11,7 +11,7 @@ use Rattle.sheet.specs.declared.Offset.{Offset}
 use Rattle.labels.specs.Labelled.{names_corner, labelled_places}
 use Rattle.labels.specs.Rim.{rim}
 use Rattle.predict.specs.Predict.{prediction_of, extrapolating}
-use Rattle.predict.specs.declared.Prediction.{Prediction}
+use Rattle.sheet.specs.declared.Position.{Position}
 use Rattle.positions_policy.specs.Edge.{cardinal_offsets}
 use Rattle.positions_policy.specs.declared.Tolerances.{Tolerances}
 use Rattle.arguments.specs.declared.Settings.{Settings}
@@ -106,9 +106,9 @@ grow_with c (TryCellResult.Attached k) s = record {
 }
 
 -- a cell with a prediction is tried there; one with no labelled neighbour has no candidate
-unfoldable pub grow_at : Corners → Settings → GrowParams → Cell → Prediction → GrowState → GrowState
-grow_at cs set p c Prediction.NoNeighbour s = missed c s
-grow_at cs set p c (Prediction.At at) s =
+unfoldable pub grow_at : Corners → Settings → GrowParams → Cell → Option Position → GrowState → GrowState
+grow_at cs set p c None s = missed c s
+grow_at cs set p c (Some at) s =
     grow_with c (try_at cs s.sheet (tolerances_of set) (search_of set p (extrapolating (seen_of cs.corner s.sheet) c)) c at) s
 
 unfoldable pub grow_visit : Corners → Settings → GrowParams → Cell → GrowState → GrowState

@@ -1,10 +1,9 @@
 -- One library call on the corners and a sheet: refused, or what its pass does (document 01, "Lists of passes, for demand 3"). Definitions only.
-use Rattle.std.specs.Prelude.{List, [], ℕ, length}
+use Rattle.std.specs.Prelude.{List, [], ℕ, length, Ok, Err}
 use Rattle.sheet.specs.Corners.{CornerLists}
 use Rattle.arguments.specs.Shades.{corners_of}
 use Rattle.refusal.specs.declared.Refusal.{Refusal}
-use Rattle.arguments.specs.Arguments.{Lent, checked}
-use Rattle.arguments.specs.declared.Checked.{Checked}
+use Rattle.arguments.specs.Arguments.{Checked, Lent, checked}
 use Rattle.arguments.specs.declared.Pass.{Pass}
 use Rattle.arguments.specs.declared.Settings.{Settings}
 use Rattle.arguments.specs.declared.GrowParams.{GrowParams}
@@ -35,8 +34,8 @@ lent_of l shades sheet r = record { corners = l; shades = shades; sheet = sheet;
 
 -- a refusal, or the pass
 abbrev pub unless : {A : Type 0} → Checked → After A → Outcome A
-unless Checked.Fine a = done a
-unless (Checked.Refused r) a = refused r
+unless (Ok tt) a = done a
+unless (Err r) a = refused r
 
 -- ---- each pass: the corners, their shades, the sheet, and the rest
 

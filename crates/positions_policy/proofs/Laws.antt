@@ -10,7 +10,6 @@ use mathlib.Core.Logic.{◌↔◌, ◌⊎◌, inl, inr, ⊎_elim}
 use Prim.Native.Nat.{ℕ, ◌<◌}
 use native.Mathlib.Omega.{arith}
 use lib.ListN.{length}
-use lib.Ieee.{Float}
 use Rattle.sheet.specs.Cells.{moved}
 use Rattle.sheet.specs.Corners.{CornerLists, corner_of, seen_of, Given}
 use Rattle.sheet.specs.Pairing.{PairedCorners, PairedSheets}

@@ -28,26 +28,24 @@ pub enum EdgeVerdict {
 }
 
 // The length of the edge to the candidate's position from the neighbour's, each operation rounded.
+#[tactic(auto, unfolding(crate::specs::Edge::length_of))]
 pub fn edge_length(to: Position, from: Position) -> f32
     ensures { result ≡ length_of to from }
 {
-    let dx = to.x - from.x;
-    let dy = to.y - from.y;
-    binary32::root::sqrt_or_nan(dx * dx + dy * dy)
+    to.distance(from)
 }
 
 // The length that an edge should have: half the sum of both pitches if that is above 0.001, else the cell size.
+#[tactic(auto, unfolding(crate::specs::Edge::mean_pitch, crate::specs::Edge::expected_length))]
 pub fn expected_length(cell_size: f32, candidate: f32, neighbour: f32) -> f32
     ensures { result ≡ expected_length cell_size candidate neighbour }
 {
     let local = 0.5 * (candidate + neighbour);
-    if local > 0.001 {
-        return local;
-    }
-    cell_size
+    if local > 0.001 { local } else { cell_size }
 }
 
 // Whether length/expected lies in 1-band to 1+band, ends included.
+#[tactic(auto, unfolding(crate::specs::Edge::in_band))]
 pub fn in_band(length: f32, expected: f32, band: f32) -> bool
     ensures { result ≡ in_band length expected band }
 {
@@ -58,6 +56,7 @@ pub fn in_band(length: f32, expected: f32, band: f32) -> bool
 }
 
 // Whether the edge to the candidate from the neighbour is accepted: its length lies in the band about the expected length.
+#[tactic(auto, unfolding(crate::specs::Edge::edge_ok))]
 pub fn edge_ok(candidate: Corner, neighbour: Corner, cell_size: f32, band: f32) -> bool
     ensures { result ≡ edge_ok candidate neighbour cell_size band }
 {
@@ -66,21 +65,21 @@ pub fn edge_ok(candidate: Corner, neighbour: Corner, cell_size: f32, band: f32) 
     in_band(length, expected, band)
 }
 
-// The offset of the k-th cardinal neighbour, in the order +i, -i, +j, -j.
+// The cardinal neighbours, in the order +i, -i, +j, -j.
+const CARDINALS: [Offset; 4] = [
+    Offset { di: 1, dj: 0 },
+    Offset { di: -1, dj: 0 },
+    Offset { di: 0, dj: 1 },
+    Offset { di: 0, dj: -1 },
+];
+
+// The offset of the k-th cardinal neighbour.
+#[tactic(auto, unfolding(crate::specs::Edge::cardinal_offsets))]
 pub fn cardinal_offset(k: usize) -> Offset
     requires { k < 4 }
     ensures { result ≡ cardinal_at k }
 {
-    if k == 0 {
-        return Offset { di: 1, dj: 0 };
-    }
-    if k == 1 {
-        return Offset { di: -1, dj: 0 };
-    }
-    if k == 2 {
-        return Offset { di: 0, dj: 1 };
-    }
-    Offset { di: 0, dj: -1 }
+    CARDINALS[k]
 }
 
 // What the edge between the candidate, at the cell, and the k-th cardinal neighbour says.
@@ -122,29 +121,20 @@ pub fn any_cardinal_edge_ok(
     ensures { result ≡ verdict_of (seen_of (corner_in corners.now) sheet.now) tol c candidate }
 {
     let mut verdict = EdgeVerdict::NonePresent;
-    let mut k = 0usize;
-    while k < 4 {
-        let edge = cardinal_edge(corners, sheet, c, candidate, tol, k);
-        match edge {
-            EdgeVerdict::Accepted => {
-                verdict = EdgeVerdict::Accepted;
-                break;
-            }
+    for k in 0..4usize {
+        match cardinal_edge(corners, sheet, c, candidate, tol, k) {
+            EdgeVerdict::Accepted => return EdgeVerdict::Accepted,
             EdgeVerdict::Refused => verdict = EdgeVerdict::Refused,
             EdgeVerdict::NonePresent => {}
         }
-        k += 1;
     }
     verdict
 }
 
 // Whether a candidate with this verdict passes: an edge is accepted, or there is no cardinal neighbour.
+#[tactic(auto, unfolding(crate::specs::Edge::passes))]
 pub fn passes(verdict: EdgeVerdict) -> bool
     ensures { result ≡ passes verdict }
 {
-    match verdict {
-        EdgeVerdict::Accepted => true,
-        EdgeVerdict::Refused => false,
-        EdgeVerdict::NonePresent => true,
-    }
+    matches!(verdict, EdgeVerdict::Accepted | EdgeVerdict::NonePresent)
 }

@@ -1,8 +1,7 @@
 -- Laws of prediction: the square a cell at a time; a seen cell is on the sheet; all is settled by what is seen, so that it is
 -- the same for paired frames; a cell with a labelled cell beside it has a prediction. Assumes nothing.
-use Rattle.std.specs.Prelude.{Option, Some, None}
 use mathlib.Core.Path.{◌≡◌, refl, sym, ap, ◌∙◌}
-use mathlib.Core.Bool.{true, false, ◌&&◌, ◌||◌, true≢false}
+use mathlib.Core.Bool.{Bool, true, false, ◌&&◌, ◌||◌, true≢false}
 use mathlib.Core.List.{List, [], ◌∷◌}
 use Prim.Native.Nat.{ℕ, zero, suc, ◌+◌, ◌<◌, ◌≤◌}
 use native.Mathlib.Omega.{arith}
@@ -11,7 +10,7 @@ use lib.IntN.{ℤ, pos, negsuc, nat_abs}
 use lib.Dec.{T, le→leb}
 use lib.ListN.{length, get_or, drop}
 use lib.Seq.{drop-cons}
-use lib.Ieee.{Float, binary32, in_float}
+use lib.Ieee.{binary32, in_float}
 use Rattle.sheet.specs.Cells.{OnSheet, moved, Within}
 use Rattle.sheet.specs.Words.{label_at}
 use Rattle.sheet.specs.Corners.{CornerLists, corner_of, seen_of, Given}
@@ -27,8 +26,9 @@ use Rattle.predict.specs.declared.Neighbour.{Neighbour}
 use Rattle.predict.specs.declared.Direction.{Direction}
 use Rattle.predict.specs.declared.Grid.{Grid}
 use Rattle.predict.specs.declared.Sums.{Sums}
-use Rattle.predict.specs.declared.Prediction.{Prediction}
 use Rattle.predict.specs.declared.Side.{Side}
+use Rattle.std.specs.Prelude.{Some, None, Option}
+use Rattle.std.specs.List.{range_with_len, list_any, fold}
 
 -- ---- small numbers
 
@@ -113,12 +113,18 @@ module _ (seen : Cell → Option Corner) (c : Cell) where
     sums_before s at None rest = refl
     sums_before s at (Some corner) rest = refl
 
-    pub sums_next : (s : Sums) (k : ℕ) → k < 8 → sums_from seen grid c s (neighbours_from seen c k) ≡ sums_from seen grid c (with_cell seen grid c s (square_cell c k)) (neighbours_from seen c (k + 1))
+    sums_next : (s : Sums) (k : ℕ) → k < 8 → sums_from seen grid c s (neighbours_from seen c k) ≡ sums_from seen grid c (with_cell seen grid c s (square_cell c k)) (neighbours_from seen c (k + 1))
     sums_next s k h = ap (sums_from seen grid c s) (square_next k h) ∙ sums_before s (square_cell c k) (seen (square_cell c k)) (neighbours_from seen c (k + 1))
 
-    pub sums_end : (s : Sums) (k : ℕ) → k ≤ 8 → 8 ≤ k → sums_from seen grid c s (neighbours_from seen c k) ≡ s
+    sums_rest : (n k : ℕ) → k + n ≡ 8 → (s : Sums) → fold (λ (s : Sums) (k : ℕ). with_cell seen grid c s (square_cell c k)) s (range_with_len k n) ≡ sums_from seen grid c s (neighbours_from seen c k)
     unfolding sums_from
-    sums_end s k h l = ap (sums_from seen grid c s) (square_end k h l)
+    sums_rest zero k e s = sym (ap (sums_from seen grid c s) (square_end k (omega arith) (omega arith)))
+    sums_rest (suc n) k e s = sums_rest n (k + 1) (omega arith) (with_cell seen grid c s (square_cell c k)) ∙ sym (sums_next s k (omega arith))
+
+    -- the sums over all eight cells
+    pub sums_all : (s : Sums) → fold (λ (s : Sums) (k : ℕ). with_cell seen grid c s (square_cell c k)) s (range_with_len 0 8) ≡ sums_from seen grid c s (neighbours_of seen c)
+    unfolding neighbours_of
+    sums_all s = sums_rest 8 0 (omega arith) s
 
   -- a neighbour on a side
   module _ (side : Side) where
@@ -130,34 +136,34 @@ module _ (seen : Cell → Option Corner) (c : Cell) where
     any_next : (k : ℕ) → k < 8 → any_on side c (neighbours_from seen c k) ≡ (labelled_on seen c side (square_cell c k) || any_on side c (neighbours_from seen c (k + 1)))
     any_next k h = ap (any_on side c) (square_next k h) ∙ any_before (square_cell c k) (seen (square_cell c k)) (neighbours_from seen c (k + 1))
 
-    pub any_here : (k : ℕ) → k < 8 → labelled_on seen c side (square_cell c k) ≡ true → any_on side c (neighbours_from seen c k) ≡ true
-    any_here k h e = rw (any_next k h, e)
-
-    pub any_later : (k : ℕ) → k < 8 → labelled_on seen c side (square_cell c k) ≡ false → any_on side c (neighbours_from seen c k) ≡ any_on side c (neighbours_from seen c (k + 1))
-    any_later k h e = rw (any_next k h, e)
-
-    pub any_end : (k : ℕ) → k ≤ 8 → 8 ≤ k → any_on side c (neighbours_from seen c k) ≡ false
+    any_rest : (n k : ℕ) → k + n ≡ 8 → list_any (λ k. labelled_on seen c side (square_cell c k)) (range_with_len k n) ≡ any_on side c (neighbours_from seen c k)
     unfolding any_on
-    any_end k h l = ap (any_on side c) (square_end k h l)
+    any_rest zero k e = sym (ap (any_on side c) (square_end k (omega arith) (omega arith)))
+    any_rest (suc n) k e = ap (λ (t : Bool). labelled_on seen c side (square_cell c k) || t) (any_rest n (k + 1) (omega arith)) ∙ sym (any_next k (omega arith))
+
+    -- one of all eight cells
+    pub any_all : list_any (λ k. labelled_on seen c side (square_cell c k)) (range_with_len 0 8) ≡ has_neighbour seen c side
+    unfolding neighbours_of has_neighbour
+    any_all = any_rest 8 0 (omega arith)
 
   -- ---- no neighbour, or a prediction
 
-  from_none : (l : List Neighbour) (s : Sums) → any_on Side.Any c l ≡ false → prediction_from l s ≡ Prediction.NoNeighbour
+  from_none : (l : List Neighbour) (s : Sums) → any_on Side.Any c l ≡ false → prediction_from l s ≡ None
   unfolding any_on on_side prediction_from
   from_none [] s e = refl
   from_none (n ∷ ns) s e = absurd (true≢false e)
 
-  from_some : (l : List Neighbour) (s : Sums) → any_on Side.Any c l ≡ true → prediction_from l s ≡ Prediction.At (mean_of s)
+  from_some : (l : List Neighbour) (s : Sums) → any_on Side.Any c l ≡ true → prediction_from l s ≡ Some (mean_of s)
   unfolding any_on on_side prediction_from
   from_some [] s e = absurd (true≢false (sym e))
   from_some (n ∷ ns) s e = refl
 
   module _ (grid : Grid) where
-    pub predicted_none : has_neighbour seen c Side.Any ≡ false → prediction_of seen grid c ≡ Prediction.NoNeighbour
+    pub predicted_none : has_neighbour seen c Side.Any ≡ false → prediction_of seen grid c ≡ None
     unfolding has_neighbour prediction_of
     predicted_none e = from_none (neighbours_of seen c) (sums_of seen grid c) e
 
-    pub predicted_some : has_neighbour seen c Side.Any ≡ true → prediction_of seen grid c ≡ Prediction.At (mean_of (sums_of seen grid c))
+    pub predicted_some : has_neighbour seen c Side.Any ≡ true → prediction_of seen grid c ≡ Some (mean_of (sums_of seen grid c))
     unfolding has_neighbour prediction_of
     predicted_some e = from_some (neighbours_of seen c) (sums_of seen grid c) e
 

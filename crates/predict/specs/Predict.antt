@@ -2,7 +2,7 @@
 -- the prediction, and whether it is an extrapolation. All of it is a function of `seen`, what is seen at each cell; every
 -- operation on floats is one of binary32 and stands in the order in which it is rounded. Definitions only.
 use Rattle.sheet.specs.declared.Corner.{Corner}
-use Rattle.std.specs.Prelude.{Bool, true, false, not, ◌&&◌, ◌||◌, List, [], ◌∷◌, ℕ, ◌<◌, ◌≤◌, length, get_or, ℤ, pos, negsuc, Float, Option, Some, None}
+use Rattle.std.specs.Prelude.{Bool, true, false, not, ◌&&◌, ◌||◌, List, [], ◌∷◌, ℕ, ◌<◌, ◌≤◌, length, get_or, ℤ, pos, negsuc, Option, Some, None, Float}
 use Rattle.std.specs.Int.Signed.{lt_z}
 use Rattle.std.specs.Float.{binary32}
 use Rattle.std.specs.Float.Ieee.{of_int, add, sub, mul, div}
@@ -15,11 +15,9 @@ use Rattle.sheet.specs.declared.Position.{Position}
 use Rattle.binary32.specs.Numbers.{nought, half, one}
 use Rattle.predict.specs.declared.Neighbour.{Neighbour}
 use Rattle.predict.specs.declared.Direction.{Direction}
-use Rattle.predict.specs.declared.LocalStep.{LocalStep}
 use Rattle.predict.specs.declared.Vector.{Vector}
 use Rattle.predict.specs.declared.Grid.{Grid}
 use Rattle.predict.specs.declared.Sums.{Sums}
-use Rattle.predict.specs.declared.Prediction.{Prediction}
 use Rattle.predict.specs.declared.Side.{Side}
 
 -- ---- neighbours
@@ -64,28 +62,27 @@ backward_of Direction.I = offset minus_one (pos 0)
 backward_of Direction.J = offset (pos 0) minus_one
 
 -- the difference of two positions, and half of it
-abbrev pub one_sided : Position → Position → LocalStep
-one_sided f b = LocalStep.Own (sub binary32 f.x b.x) (sub binary32 f.y b.y)
+abbrev pub one_sided : Position → Position → Vector
+one_sided f b = record { x = sub binary32 f.x b.x; y = sub binary32 f.y b.y }
 
-abbrev pub both_sided : Position → Position → LocalStep
-both_sided f b = LocalStep.Own (mul binary32 (sub binary32 f.x b.x) half) (mul binary32 (sub binary32 f.y b.y) half)
+abbrev pub both_sided : Position → Position → Vector
+both_sided f b = record { x = mul binary32 (sub binary32 f.x b.x) half; y = mul binary32 (sub binary32 f.y b.y) half }
 
--- a step by what is seen forward and backward: half the difference of both sides' positions, or the one-sided difference, or
--- else the axis
-abbrev pub step_between : Position → Option Corner → Option Corner → LocalStep
-step_between here (Some f) (Some b) = both_sided f.position b.position
-step_between here (Some f) None = one_sided f.position here
-step_between here None (Some b) = one_sided here b.position
-step_between here None None = LocalStep.Axis
+-- a step by what is seen forward and backward: half the difference of both sides' positions, or the one-sided difference, or none
+abbrev pub step_between : Position → Option Corner → Option Corner → Option Vector
+step_between here (Some f) (Some b) = Some (both_sided f.position b.position)
+step_between here (Some f) None = Some (one_sided f.position here)
+step_between here None (Some b) = Some (one_sided here b.position)
+step_between here None None = None
 
--- the step at a neighbour along i or j
-unfoldable pub step_at : (Cell → Option Corner) → Neighbour → Direction → LocalStep
+-- the step of its own at a neighbour along i or j
+unfoldable pub step_at : (Cell → Option Corner) → Neighbour → Direction → Option Vector
 step_at seen n d = step_between n.position (seen (moved n.at (forward_of d))) (seen (moved n.at (backward_of d)))
 
--- a step as a vector: its own pair, or axis times cell size
-abbrev pub vector_of : Vector → Float → LocalStep → Vector
-vector_of axis size (LocalStep.Own x y) = record { x = x; y = y }
-vector_of axis size LocalStep.Axis = record { x = mul binary32 axis.x size; y = mul binary32 axis.y size }
+-- a step of its own, or else axis times cell size
+abbrev pub vector_of : Vector → Float → Option Vector → Vector
+vector_of axis size (Some step) = step
+vector_of axis size None = record { x = mul binary32 axis.x size; y = mul binary32 axis.y size }
 
 -- the axis of i, or of j
 abbrev pub axis_of : Grid → Direction → Vector
@@ -137,11 +134,11 @@ unfoldable pub mean_of : Sums → Position
 mean_of s = record { x = div binary32 s.x s.w; y = div binary32 s.y s.w }
 
 -- no neighbour, or the mean over all of them
-unfoldable pub prediction_from : List Neighbour → Sums → Prediction
-prediction_from [] s = Prediction.NoNeighbour
-prediction_from (n ∷ ns) s = Prediction.At (mean_of s)
+unfoldable pub prediction_from : List Neighbour → Sums → Option Position
+prediction_from [] s = None
+prediction_from (n ∷ ns) s = Some (mean_of s)
 
-unfoldable pub prediction_of : (Cell → Option Corner) → Grid → Cell → Prediction
+unfoldable pub prediction_of : (Cell → Option Corner) → Grid → Cell → Option Position
 prediction_of seen grid c = prediction_from (neighbours_of seen c) (sums_of seen grid c)
 
 -- ---- extrapolating

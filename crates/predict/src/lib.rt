@@ -3,7 +3,7 @@
 
 #![tactic(auto)]
 
-ghost use Rattle.std.specs.Prelude.{◌≡◌, ℕ, ◌<◌, ◌≤◌, length, None};
+ghost use Rattle.std.specs.Prelude.{◌≡◌, ℕ, ◌<◌, ◌≤◌, length};
 ghost use Rattle.sizes.specs.Sizes.{place_count};
 ghost use Rattle.sheet.specs.Cells.{Within};
 ghost use Rattle.sheet.specs.Words.{SheetCell};
@@ -25,13 +25,6 @@ pub struct Neighbour {
 pub enum Direction {
     I,
     J,
-}
-
-// A step at a cell: its own pair, or axis times cell size.
-#[derive(Clone, Copy)]
-pub enum LocalStep {
-    Own(f32, f32),
-    Axis,
 }
 
 // A vector in the picture.
@@ -57,13 +50,6 @@ pub struct Sums {
     pub w: f32,
 }
 
-// What is predicted for a cell: nothing where it has no neighbour, else a position.
-#[derive(Clone, Copy)]
-pub enum Prediction {
-    NoNeighbour,
-    At(Position),
-}
-
 // A side of a cell: -i, +i, -j, +j, or any.
 #[derive(Clone, Copy)]
 pub enum Side {
@@ -74,21 +60,25 @@ pub enum Side {
     Any,
 }
 
-// The offset of the k-th cell of the 3 by 3 square, j outer and i inner, both rising, centre left out.
+// The cells of the 3 by 3 square, j outer and i inner, both rising, centre left out.
+const SQUARE: [Offset; 8] = [
+    Offset { di: -1, dj: -1 },
+    Offset { di: 0, dj: -1 },
+    Offset { di: 1, dj: -1 },
+    Offset { di: -1, dj: 0 },
+    Offset { di: 1, dj: 0 },
+    Offset { di: -1, dj: 1 },
+    Offset { di: 0, dj: 1 },
+    Offset { di: 1, dj: 1 },
+];
+
+// The offset of the k-th cell of the square.
+#[tactic(auto, unfolding(crate::specs::Predict::neighbour_offsets))]
 fn offset_of(k: usize) -> Offset
     requires { k < 8 }
     ensures { result ≡ square_offset k }
 {
-    match k {
-        0 => Offset { di: -1, dj: -1 },
-        1 => Offset { di: 0, dj: -1 },
-        2 => Offset { di: 1, dj: -1 },
-        3 => Offset { di: -1, dj: 0 },
-        4 => Offset { di: 1, dj: 0 },
-        5 => Offset { di: -1, dj: 1 },
-        6 => Offset { di: 0, dj: 1 },
-        _ => Offset { di: 1, dj: 1 },
-    }
+    SQUARE[k]
 }
 
 // The offset of the cell forward along i or j.
@@ -112,50 +102,44 @@ fn backward(d: Direction) -> Offset
 }
 
 // The difference of two positions.
-fn one_sided(f: Position, b: Position) -> LocalStep
+fn one_sided(f: Position, b: Position) -> Vector
     ensures { result ≡ one_sided f b }
 {
-    LocalStep::Own(f.x - b.x, f.y - b.y)
+    Vector {
+        x: f.x - b.x,
+        y: f.y - b.y,
+    }
 }
 
 // Half the difference of two positions.
-fn both_sided(f: Position, b: Position) -> LocalStep
+fn both_sided(f: Position, b: Position) -> Vector
     ensures { result ≡ both_sided f b }
 {
-    LocalStep::Own((f.x - b.x) * 0.5, (f.y - b.y) * 0.5)
-}
-
-// The step at a position where nothing is seen forward.
-fn step_without_forward(here: Position, b: Option<Corner>) -> LocalStep
-    ensures { result ≡ step_between here None b }
-{
-    match b {
-        Some(b) => one_sided(here, b.position),
-        None => LocalStep::Axis,
+    Vector {
+        x: (f.x - b.x) * 0.5,
+        y: (f.y - b.y) * 0.5,
     }
 }
 
-// The step at a position by what is seen forward and backward of it.
-fn step_between(here: Position, f: Option<Corner>, b: Option<Corner>) -> LocalStep
+// The step at a position by what is seen forward and backward of it, if anything is.
+fn step_between(here: Position, f: Option<Corner>, b: Option<Corner>) -> Option<Vector>
     ensures { result ≡ step_between here f b }
 {
-    let Some(f) = f else {
-        return step_without_forward(here, b);
-    };
-    match b {
-        Some(b) => both_sided(f.position, b.position),
-        None => one_sided(f.position, here),
+    match (f, b) {
+        (Some(f), Some(b)) => Some(both_sided(f.position, b.position)),
+        (Some(f), None) => Some(one_sided(f.position, here)),
+        (None, Some(b)) => Some(one_sided(here, b.position)),
+        (None, None) => None,
     }
 }
 
-// The step at a neighbour along i or j: half the difference of both sides' positions, or the one-sided difference, or else the
-// axis. (The Rust looks the neighbour's own position up again; here the neighbour has it.)
+// The step of its own that a neighbour has along i or j: half the difference of both sides' positions, or the one-sided difference. (The Rust looks the neighbour's own position up again; here the neighbour has it.)
 pub fn local_step_at(
     corners: &[f32; 4 * CORNERS],
     sheet: &[u16],
     n: Neighbour,
     d: Direction,
-) -> LocalStep
+) -> Option<Vector>
     requires { GivenCell sheet.now n.at }
     ensures { result ≡ step_at (seen_of (corner_in corners.now) sheet.now) n d }
 {
@@ -164,17 +148,14 @@ pub fn local_step_at(
     step_between(n.position, f, b)
 }
 
-// A step as a vector: its own pair, or axis times cell size.
-fn vector_of(axis: Vector, cell_size: f32, step: LocalStep) -> Vector
+// A step of its own, or axis times cell size.
+fn vector_of(axis: Vector, cell_size: f32, step: Option<Vector>) -> Vector
     ensures { result ≡ vector_of axis cell_size step }
 {
-    match step {
-        LocalStep::Own(x, y) => Vector { x, y },
-        LocalStep::Axis => Vector {
-            x: axis.x * cell_size,
-            y: axis.y * cell_size,
-        },
-    }
+    step.unwrap_or(Vector {
+        x: axis.x * cell_size,
+        y: axis.y * cell_size,
+    })
 }
 
 // The axis of i, or of j.
@@ -266,18 +247,14 @@ fn sum_neighbours(corners: &[f32; 4 * CORNERS], sheet: &[u16], c: Cell, grid: Gr
     requires { GivenCell sheet.now c }
     ensures { result ≡ sums_of (seen_of (corner_in corners.now) sheet.now) grid c }
 {
-    let mut sums = Sums {
+    let none = Sums {
         x: 0.0,
         y: 0.0,
         w: 0.0,
     };
-    let mut k = 0usize;
-    while k < 8 {
-        let more = add_if_labelled(corners, sheet, grid, c, sums, k);
-        sums = more;
-        k += 1;
-    }
-    sums
+    (0..8usize).fold(none, |sums, k| {
+        add_if_labelled(corners, sheet, grid, c, sums, k)
+    })
 }
 
 // Whether a cell is labelled, that is, whether a corner is seen at it, whatever the corners are.
@@ -285,11 +262,7 @@ fn is_labelled(sheet: &[u16], c: Cell) -> bool
     requires { place_count ≤ length sheet.now }
     ensures { (corner : ℕ → Corner) → result ≡ is_seen (seen_of corner sheet.now c) }
 {
-    let label = sheet::label_at(sheet, c);
-    match label {
-        None => false,
-        Some(_) => true,
-    }
+    matches!(sheet::label_at(sheet, c), Some(_))
 }
 
 // Whether a cell lies on a side of another.
@@ -311,10 +284,7 @@ fn is_neighbour_on(sheet: &[u16], c: Cell, side: Side, k: usize) -> bool
     ensures { (corner : ℕ → Corner) → result ≡ labelled_on (seen_of corner sheet.now) c side (square_cell c k) }
 {
     let at = sheet::neighbour(c, offset_of(k));
-    if is_labelled(sheet, at) {
-        return is_on_side(side, c, at);
-    }
-    false
+    is_labelled(sheet, at) && is_on_side(side, c, at)
 }
 
 // Whether a cell has a neighbour on a side, whatever the corners are: the labels settle it.
@@ -322,14 +292,7 @@ pub fn has_neighbour(sheet: &[u16], c: Cell, side: Side) -> bool
     requires { SheetCell sheet.now c }
     ensures { (corner : ℕ → Corner) → result ≡ has_neighbour (seen_of corner sheet.now) c side }
 {
-    let mut k = 0usize;
-    while k < 8 {
-        if is_neighbour_on(sheet, c, side, k) {
-            return true;
-        }
-        k += 1;
-    }
-    false
+    (0..8usize).any(|k| is_neighbour_on(sheet, c, side, k))
 }
 
 // The prediction for a cell: none where it has no neighbour, else the weighted mean over its neighbours.
@@ -338,15 +301,15 @@ pub fn predict_from_neighbours(
     sheet: &[u16],
     c: Cell,
     grid: Grid,
-) -> Prediction
+) -> Option<Position>
     requires { GivenCell sheet.now c }
     ensures { result ≡ prediction_of (seen_of (corner_in corners.now) sheet.now) grid c }
 {
     if !has_neighbour(sheet, c, Side::Any) {
-        return Prediction::NoNeighbour;
+        return None;
     }
     let sums = sum_neighbours(corners, sheet, c, grid);
-    Prediction::At(Position {
+    Some(Position {
         x: sums.x / sums.w,
         y: sums.y / sums.w,
     })
@@ -357,14 +320,8 @@ pub fn is_extrapolating(sheet: &[u16], c: Cell) -> bool
     requires { SheetCell sheet.now c }
     ensures { (corner : ℕ → Corner) → result ≡ extrapolating (seen_of corner sheet.now) c }
 {
-    if !has_neighbour(sheet, c, Side::MinusI) {
-        return true;
-    }
-    if !has_neighbour(sheet, c, Side::PlusI) {
-        return true;
-    }
-    if !has_neighbour(sheet, c, Side::MinusJ) {
-        return true;
-    }
-    !has_neighbour(sheet, c, Side::PlusJ)
+    !(has_neighbour(sheet, c, Side::MinusI)
+        && has_neighbour(sheet, c, Side::PlusI)
+        && has_neighbour(sheet, c, Side::MinusJ)
+        && has_neighbour(sheet, c, Side::PlusJ))
 }

@@ -1,11 +1,12 @@
 -- A corner attached at a cell: what is remembered of the cells that are not near it holds on the new sheet. Assumes nothing.
-use Rattle.std.specs.Prelude.{Option}
 use mathlib.Core.Path.{◌≡◌, refl, sym, ap, ◌∙◌, subst}
 use mathlib.Core.Bool.{Bool, true, false, not, cond, ◌||◌, ◌&&◌}
 use mathlib.Core.List.{List}
 use Prim.Native.Nat.{ℕ, zero, suc, ◌+◌, ◌*◌, ◌/◌, ◌%◌, ◌<◌, ◌≤◌}
+use native.Mathlib.Decide.{ℕ_discrete}
 use native.Mathlib.Omega.{arith}
-use borrow.Author.Tests.{leb-true, leb-false}
+use Rattle.std.specs.Prelude.{Option, None, Some}
+use borrow.Author.Tests.{leb-true, leb-false, ne_eqb}
 use lib.Dec.{T, leb, eqb}
 use lib.ListN.{length, get_or}
 use lib.Ieee.{Float, lt}
@@ -32,9 +33,11 @@ use Rattle.passes.specs.Grow.{tolerances_of}
 use Rattle.passes.specs.Local.{reach_of, by_reach, supports_of, pictured_as, pictured_at, LocalFit, local_fit, local_search}
 use Rattle.passes.specs.declared.LargestResidual.{LargestResidual}
 use Rattle.supports.proofs.Nearest.{Under, none, one, under_take}
-use Rattle.remembered.specs.Remembered.{fit_at, Near, near_none, near_more, SupportsWithin, IdleFit, Mapped, Undecided, KnownAt, nothing, idle, no_candidates, predicted, ambiguous, kind_of, known_of, prediction_in, limit_in, reach_in, prediction_at, limit_at, entry_of, Remembered, forgotten_word, doubted_word, Forgotten}
+use Rattle.remembered.specs.Remembered.{fit_at, Near, near_none, near_more, SupportsWithin, IdleFit, Mapped, Undecided, Found, idle, no_candidates, predicted, ambiguous, KnownAt, finding_of, known_of, aim_of, aim_at, Remembered, forgotten_word, doubted_word, Forgotten}
+use Rattle.remembered.specs.declared.Finding.{Finding}
 use Rattle.remembered.specs.declared.Known.{Known}
-use Rattle.remembered.proofs.Words.{known_nothing, known_predicted, known_ambiguous, certain_stays, far_stays, doubts}
+use Rattle.remembered.specs.declared.Aim.{Aim}
+use Rattle.remembered.specs.declared.Memory.{Memory}
 use Rattle.remembered.proofs.Supported.{Inserted, passing_inserted, under_all, under_sorted, nearest_stay}
 use Rattle.remembered.proofs.Missed.{still_missed, gathered_stays, still_ambiguous}
 use Rattle.remembered.proofs.Alike.{Alike, alike_none, alike_more, fit_alike}
@@ -127,27 +130,30 @@ module _ {sheet : List ℕ} {c : Cell} {k : ℕ} (a : Attaching sheet c k) (four
 abbrev after : List ℕ → Cell → ℕ → List ℕ
 after sheet c k = marks_cleared (attached sheet c k) c
 
--- what is left of what is known once a corner is labelled: an ambiguous choice is doubted unless the corner is far
-pub doubted : Bool → Known → Known
-doubted far Known.Nothing = Known.Nothing
-doubted far (Known.Idle r) = Known.Idle r
-doubted far (Known.NoCandidates r) = Known.NoCandidates r
-doubted far (Known.Predicted r at) = Known.Predicted r at
-doubted far (Known.Ambiguous r at limit) = cond far (Known.Ambiguous r at limit) (Known.Predicted r at)
+-- what is left of what was found once a corner is labelled: an ambiguous choice is doubted unless the corner is far
+pub doubted : Bool → Finding → Finding
+doubted far Finding.Idle = Finding.Idle
+doubted far Finding.NoCandidates = Finding.NoCandidates
+doubted far (Finding.Predicted at) = Finding.Predicted at
+doubted far (Finding.Ambiguous at limit) = cond far (Finding.Ambiguous at limit) (Finding.Predicted at)
+
+-- whether a corner is farther than a limit
+abbrev is_far : Position → Aim → Bool
+is_far corner aim = lt aim.limit (sqrt_or_nan (squared_distance corner aim.at))
 
 module _ (cs : Corners) (set : Settings) (p : LocalExtensionParams) (l : LargestResidual) {sheet : List ℕ} {c : Cell} {k : ℕ} (a : Attaching sheet c k) (four : 4 ≤ label_count sheet)
-    (small : T (finite (squared_radius (local_search set p).search_r))) where
+    (small : T (finite (squared_radius (local_search set p).search_r))) (d : Cell) {r : ℕ} (far : r < reach_of d (place_of c)) (n : SupportsWithin r sheet d) where
   -- the fit of a cell that is not near maps it to where it did
-  mapped_stays : (d : Cell) {r : ℕ} {at : Position} → r < reach_of d (place_of c) → SupportsWithin r sheet d → Mapped set p l d (fit_at cs sheet d) at → Mapped set p l d (fit_at cs (after sheet c k) d) at
-  mapped_stays d {r} {at} far n m = subst (λ (f : LocalFit). Mapped set p l d f at) (sym (fit_stays a four d n far cs)) m
+  mapped_stays : {at : Position} → Mapped set p l d (fit_at cs sheet d) at → Mapped set p l d (fit_at cs (after sheet c k) d) at
+  mapped_stays {at} m = subst (λ (f : LocalFit). Mapped set p l d f at) (sym (fit_stays a four d n far cs)) m
 
-  ambiguous_stays : (d : Cell) {r : ℕ} {at : Position} {limit : Float} → r < reach_of d (place_of c) → SupportsWithin r sheet d → Undecided cs set p l sheet d at limit
-      → (t : Bool) → lt limit (sqrt_or_nan (squared_distance (cs.corner k).position at)) ≡ t → KnownAt cs set p l (after sheet c k) d (cond t (Known.Ambiguous r at limit) (Known.Predicted r at))
-  ambiguous_stays d far n u false e = predicted (within_stays a four d n far) (mapped_stays d far n u.mapped)
-  ambiguous_stays d {r} {at} {limit} far n u true e =
-      ambiguous (within_stays a four d n far)
+  ambiguous_stays : {at : Position} {limit : Float} → Undecided cs set p l sheet d at limit
+      → (t : Bool) → lt limit (sqrt_or_nan (squared_distance (cs.corner k).position at)) ≡ t → Found cs set p l (after sheet c k) d (cond t (Finding.Ambiguous at limit) (Finding.Predicted at))
+  ambiguous_stays u false e = predicted (mapped_stays u.mapped)
+  ambiguous_stays {at} {limit} u true e =
+      ambiguous
       (record {
-        mapped = mapped_stays d far n u.mapped;
+        mapped = mapped_stays u.mapped;
         undecided = still_ambiguous cs sheet (after sheet c k) k (clear_unlabelled a) (tolerances_of set) (local_search set p) d at same u.undecided;
         last = u.last ∙ ap last_distance (sym same);
         no_shades = u.no_shades;
@@ -156,93 +162,98 @@ module _ (cs : Corners) (set : Settings) (p : LocalExtensionParams) (l : Largest
       same : gathered cs (after sheet c k) (local_search set p).search_r d at ≡ gathered cs sheet (local_search set p).search_r d at
       same = gathered_stays cs sheet (after sheet c k) k (clear_unlabelled a) (local_search set p).search_r small d at (sym (ap (λ (x : Float). lt x (sqrt_or_nan (squared_distance (cs.corner k).position at))) u.last) ∙ e)
 
-  pub known_stays : (d : Cell) (known : Known) → reach_in known < reach_of d (place_of c) → KnownAt cs set p l sheet d known
-      → KnownAt cs set p l (after sheet c k) d (doubted (lt (limit_in known) (sqrt_or_nan (squared_distance (cs.corner k).position (prediction_in known)))) known)
-  unfolding reach_in doubted limit_in prediction_in
-  known_stays d Known.Nothing far nothing = nothing
-  known_stays d (Known.Idle r) far (idle n f) = idle (within_stays a four d n far) (subst (IdleFit set p l) (sym (fit_stays a four d n far cs)) f)
-  known_stays d (Known.NoCandidates r) far (no_candidates n m) =
-      no_candidates (within_stays a four d n far)
+  found_stays : (f : Finding) → Found cs set p l sheet d f → Found cs set p l (after sheet c k) d (doubted (is_far (cs.corner k).position (aim_of f)) f)
+  unfolding doubted aim_of
+  found_stays Finding.Idle (idle f) = idle (subst (IdleFit set p l) (sym (fit_stays a four d n far cs)) f)
+  found_stays Finding.NoCandidates (no_candidates m) =
+      no_candidates
       (record {
         at = m.at;
-        mapped = mapped_stays d far n m.mapped;
+        mapped = mapped_stays m.mapped;
         missed = still_missed cs sheet (after sheet c k) (clear_used a) (tolerances_of set) (local_search set p) d m.at m.missed;
         none_over = m.none_over;
       })
-  known_stays d (Known.Predicted r at) far (predicted n m) = predicted (within_stays a four d n far) (mapped_stays d far n m)
-  known_stays d (Known.Ambiguous r at limit) far (ambiguous n u) = ambiguous_stays d far n u (lt limit (sqrt_or_nan (squared_distance (cs.corner k).position at))) refl
+  found_stays (Finding.Predicted at) (predicted m) = predicted (mapped_stays m)
+  found_stays (Finding.Ambiguous at limit) (ambiguous u) = ambiguous_stays u (lt limit (sqrt_or_nan (squared_distance (cs.corner k).position at))) refl
 
--- the reach in a word
-reach_in_word : (w : ℕ) (at : Position) (limit : Float) → reach_in (known_of w at limit) ≤ w / 8
-unfolding known_of kind_of reach_in
-reach_in_word w at limit = go (w % 8)
-  where
-    go : (n : ℕ) → reach_in (kind_of n (w / 8) at limit) ≤ w / 8
-    go zero = omega arith
-    go (suc zero) = omega arith
-    go (suc (suc zero)) = omega arith
-    go (suc (suc (suc zero))) = omega arith
-    go (suc (suc (suc (suc n)))) = omega arith
+  pub known_stays : (f : Finding) → Found cs set p l sheet d f
+      → KnownAt cs set p l (after sheet c k) d (Some (record { reach = r; finding = doubted (is_far (cs.corner k).position (aim_of f)) f }))
+  known_stays f h = (within_stays a four d n far, found_stays f h)
 
--- a word doubted says what it said, doubted
-doubted_certain : (far : Bool) (k r : ℕ) (at : Position) (limit : Float) → k < 4 → kind_of k r at limit ≡ doubted far (kind_of k r at limit)
-unfolding doubted kind_of
-doubted_certain far zero r at limit h = refl
-doubted_certain far (suc zero) r at limit h = refl
-doubted_certain far (suc (suc zero)) r at limit h = refl
-doubted_certain far (suc (suc (suc zero))) r at limit h = refl
-doubted_certain far (suc (suc (suc (suc k)))) r at limit h = absurd (omega arith)
+-- a code doubted says what it said, doubted
+doubted_certain : (far : Aim → Bool) (k : ℕ) (aim : Aim) → k < 4 → 0 < k → finding_of k aim ≡ doubted (far (aim_of (finding_of k aim))) (finding_of k aim)
+unfolding doubted finding_of
+doubted_certain far zero aim h g = absurd (omega arith)
+doubted_certain far (suc zero) aim h g = refl
+doubted_certain far (suc (suc zero)) aim h g = refl
+doubted_certain far (suc (suc (suc zero))) aim h g = refl
+doubted_certain far (suc (suc (suc (suc k)))) aim h g = absurd (omega arith)
 
-doubted_word_lem : (far : Position → Float → Bool) (w : ℕ) (at : Position) (limit : Float)
-    → known_of (doubted_word (far at limit) w) at limit ≡ doubted (far (prediction_in (known_of w at limit)) (limit_in (known_of w at limit))) (known_of w at limit)
-unfolding doubted known_of prediction_in limit_in
-doubted_word_lem far w at limit = go (leb 4 (w % 8)) refl
-  where
-    said : ℕ → Known
-    said v = known_of v at limit
+finding_ambiguous : (k : ℕ) (aim : Aim) → 4 ≤ k → finding_of k aim ≡ Finding.Ambiguous aim.at aim.limit
+unfolding finding_of
+finding_ambiguous k aim h = rw (ne_eqb k 1 (λ z. omega arith), ne_eqb k 2 (λ z. omega arith), ne_eqb k 3 (λ z. omega arith))
 
-    split : 4 ≤ w % 8 → (t : Bool) → far at limit ≡ t → said (doubted_word (far at limit) w) ≡ cond t (Known.Ambiguous (w / 8) at limit) (Known.Predicted (w / 8) at)
-    split h true e = ap said (sym (far_stays (far at limit) w e)) ∙ sym (known_ambiguous w at limit h)
-    split h false e =
-        let z : (w / 8 * 8 + 3) / 8 ≡ w / 8 = omega arith in
-        ap said (sym (doubts (far at limit) w h e)) ∙ sym (known_predicted (w / 8 * 8 + 3) at limit (omega arith)) ∙ ap (λ (r : ℕ). Known.Predicted r at) z
+module _ (far : Aim → Bool) (w : ℕ) (aim : Aim) (some : w % 8 ≡ 0 → ⊥) where
+  -- what a word says
+  pub word_says : known_of w aim ≡ Some (record { reach = w / 8; finding = finding_of (w % 8) aim })
+  unfolding known_of
+  word_says = rw (ne_eqb (w % 8) 0 some)
 
-    torn : Known.Ambiguous (w / 8) at limit ≡ said w
-        → doubted (far at limit) (Known.Ambiguous (w / 8) at limit) ≡ doubted (far (prediction_in (said w)) (limit_in (said w))) (said w)
-    torn e = ap (λ (k : Known). doubted (far (prediction_in k) (limit_in k)) k) e
+  -- a word doubted says what it said, doubted
+  pub doubted_says : known_of (doubted_word (far aim) w) aim ≡ Some (record { reach = w / 8; finding = doubted (far (aim_of (finding_of (w % 8) aim))) (finding_of (w % 8) aim) })
+  unfolding doubted_word
+  doubted_says = go (leb 4 (w % 8)) refl
+    where
+      Says : Finding → Option Known
+      Says f = Some (record { reach = w / 8; finding = f })
 
-    go : (t : Bool) → leb 4 (w % 8) ≡ t → said (doubted_word (far at limit) w) ≡ doubted (far (prediction_in (said w)) (limit_in (said w))) (said w)
-    go false e =
-        ap said (sym (certain_stays (far at limit) w (leb-false 4 (w % 8) e)))
-        ∙ doubted_certain (far (prediction_in (said w)) (limit_in (said w))) (w % 8) (w / 8) at limit (leb-false 4 (w % 8) e)
-    go true e = split (leb-true 4 (w % 8) e) (far at limit) refl ∙ torn (known_ambiguous w at limit (leb-true 4 (w % 8) e))
+      split : 4 ≤ w % 8 → (t : Bool) → far aim ≡ t → known_of (cond (true && not t) (w / 8 * 8 + 3) w) aim ≡ Says (cond t (Finding.Ambiguous aim.at aim.limit) (Finding.Predicted aim.at))
+      split h true e = word_says ∙ ap Says (finding_ambiguous (w % 8) aim h)
+      split h false e = unfold known_of finding_of in
+          let kind : (w / 8 * 8 + 3) % 8 ≡ 3 = omega arith in
+          let reach : (w / 8 * 8 + 3) / 8 ≡ w / 8 = omega arith in
+          rw (kind, reach)
+
+      torn : 4 ≤ w % 8 → doubted (far aim) (Finding.Ambiguous aim.at aim.limit) ≡ doubted (far (aim_of (finding_of (w % 8) aim))) (finding_of (w % 8) aim)
+      torn h = unfold aim_of in rw (finding_ambiguous (w % 8) aim h)
+
+      go : (t : Bool) → leb 4 (w % 8) ≡ t → known_of (cond (t && not (far aim)) (w / 8 * 8 + 3) w) aim ≡ Says (doubted (far (aim_of (finding_of (w % 8) aim))) (finding_of (w % 8) aim))
+      go false e = word_says ∙ ap Says (doubted_certain far (w % 8) aim (leb-false 4 (w % 8) e) (omega arith))
+      go true e = unfold doubted in split (leb-true 4 (w % 8) e) (far aim) refl ∙ ap Says (torn (leb-true 4 (w % 8) e))
+
+-- a word of nothing
+pub zero_says : (far : Bool) (w : ℕ) (aim : Aim) → w % 8 ≡ 0 → known_of (doubted_word far w) aim ≡ None
+unfolding doubted_word known_of
+zero_says far w aim e = rw (e, e)
 
 -- what is left is remembered on the new sheet
-pub attach_remembered : {cs : Corners} {set : Settings} {p : LocalExtensionParams} {l : LargestResidual} {sheet memory memory' : List ℕ} {predictions : List Float} {c : Cell} {k : ℕ}
-    → Attaching sheet c k → 4 ≤ label_count sheet → Remembered cs set p l sheet memory predictions → Forgotten memory predictions c (cs.corner k).position memory'
-    → Remembered cs set p l (marks_cleared (attached sheet c k) c) memory' predictions
+pub attach_remembered : {cs : Corners} {set : Settings} {p : LocalExtensionParams} {l : LargestResidual} {sheet : List ℕ} {memory memory' : Memory} {c : Cell} {k : ℕ}
+    → Attaching sheet c k → 4 ≤ label_count sheet → Remembered cs set p l sheet memory → Forgotten memory c (cs.corner k).position memory'
+    → Remembered cs set p l (marks_cleared (attached sheet c k) c) memory'
 unfolding forgotten_word
-attach_remembered {cs} {set} {p} {l} {sheet} {memory} {memory'} {predictions} {c} {k} a four m f =
-    record {
-      size = f.size ∙ m.size;
-      room = m.room;
-      at = λ b h. subst (λ (w : ℕ). Holds b (known_of w (prediction_at predictions b) (limit_at predictions b))) (sym (f.at b h)) (go b h (leb (reach_of (cell_of b) (place_of c)) (get_or memory b 0 / 8)) refl);
-      bounded = m.bounded;
-    }
+attach_remembered {cs} {set} {p} {l} {sheet} {memory} {memory'} {c} {k} a four m f =
+    record { at = λ b h. rw (f.aims_are, f.at b h) (go b h (leb (reach_of (cell_of b) (place_of c)) (get_or memory.words b 0 / 8)) refl); bounded = m.bounded }
   where
-    Holds : ℕ → Known → Type 0
+    Holds : ℕ → Option Known → Type 0
     Holds b known = KnownAt cs set p l (marks_cleared (attached sheet c k) c) (cell_of b) known
 
-    far : Position → Float → Bool
-    far at limit = lt limit (sqrt_or_nan (squared_distance (cs.corner k).position at))
+    far : Aim → Bool
+    far aim = is_far (cs.corner k).position aim
 
-    go : (b : ℕ) → b < 16384 → (t : Bool) → leb (reach_of (cell_of b) (place_of c)) (get_or memory b 0 / 8) ≡ t
-        → Holds b (known_of (doubted_word (far (prediction_at predictions b) (limit_at predictions b)) (cond t 0 (get_or memory b 0))) (prediction_at predictions b) (limit_at predictions b))
-    go b h true e =
-        subst (Holds b)
-        (known_nothing 0 (prediction_at predictions b) (limit_at predictions b) (omega arith)
-        ∙ ap (λ (w : ℕ). known_of w (prediction_at predictions b) (limit_at predictions b)) (certain_stays (far (prediction_at predictions b) (limit_at predictions b)) 0 (omega arith))) nothing
-    go b h false e =
-        subst (Holds b) (sym (doubted_word_lem far (get_or memory b 0) (prediction_at predictions b) (limit_at predictions b)))
-        (known_stays cs set p l a four m.bounded (cell_of b) (entry_of memory predictions b)
-        (omega (arith, reach_in_word (get_or memory b 0) (prediction_at predictions b) (limit_at predictions b), leb-false (reach_of (cell_of b) (place_of c)) (get_or memory b 0 / 8) e)) (m.at b h))
+    none_holds : (b : ℕ) {known : Option Known} → known ≡ None → Holds b known
+    none_holds b e = rw e tt
+
+    go : (b : ℕ) → b < 16384 → (t : Bool) → leb (reach_of (cell_of b) (place_of c)) (get_or memory.words b 0 / 8) ≡ t
+        → Holds b (known_of (doubted_word (far (aim_at memory b)) (cond t 0 (get_or memory.words b 0))) (aim_at memory b))
+    go b h true e = none_holds b (zero_says (far (aim_at memory b)) 0 (aim_at memory b) (omega arith))
+    go b h false e = by (ℕ_discrete (get_or memory.words b 0 % 8) 0)
+      where
+        w : ℕ
+        w = get_or memory.words b 0
+
+        by : Dec (w % 8 ≡ 0) → Holds b (known_of (doubted_word (far (aim_at memory b)) w) (aim_at memory b))
+        by (yes z) = none_holds b (zero_says (far (aim_at memory b)) w (aim_at memory b) z)
+        by (no z) =
+            let was = rw (word_says far w (aim_at memory b) z) at (m.at b h) in
+            rw (doubted_says far w (aim_at memory b) z)
+            (known_stays cs set p l a four m.bounded (cell_of b) (leb-false (reach_of (cell_of b) (place_of c)) (w / 8) e) was.0 (finding_of (w % 8) (aim_at memory b)) was.1)

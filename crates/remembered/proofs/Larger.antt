@@ -4,8 +4,10 @@ use mathlib.Core.Bool.{Bool, true, false, cond}
 use mathlib.Core.List.{List, [], ◌∷◌}
 use Prim.Native.Nat.{ℕ}
 use lib.Ieee.{Float, lt}
+use Rattle.std.specs.Prelude.{Option, None, Some}
 use Rattle.float_order.proofs.Order.{lt_irrefl, lt_trans}
 use Rattle.sheet.specs.Corners.{Corners}
+use Rattle.sheet.specs.Cells.{cell_of}
 use Rattle.sheet.specs.declared.Cell.{Cell}
 use Rattle.sheet.specs.declared.Position.{Position}
 use Rattle.labels.proofs.Below.{no_both}
@@ -13,8 +15,10 @@ use Rattle.arguments.specs.declared.Settings.{Settings}
 use Rattle.arguments.specs.declared.LocalExtensionParams.{LocalExtensionParams}
 use Rattle.passes.specs.Local.{LocalFit, recorded, recorded_all}
 use Rattle.passes.specs.declared.LargestResidual.{LargestResidual}
-use Rattle.remembered.specs.Remembered.{Covered, covered_none, covered_more, CoveredBy, nothing_yet, by, IdleFit, no_fit, above, Mapped, within, KnownAt, nothing, idle, no_candidates, predicted, ambiguous, Remembered}
+use Rattle.remembered.specs.Remembered.{Covered, covered_none, covered_more, CoveredBy, nothing_yet, by, IdleFit, no_fit, above, Mapped, within, Found, idle, no_candidates, predicted, ambiguous, KnownAt, entry_of, Remembered}
+use Rattle.remembered.specs.declared.Finding.{Finding}
 use Rattle.remembered.specs.declared.Known.{Known}
+use Rattle.remembered.specs.declared.Memory.{Memory}
 
 -- ---- one residual more
 
@@ -90,12 +94,15 @@ module _ {set : Settings} {p : LocalExtensionParams} {l : LargestResidual} (rs :
   mapped_all (within h g e) = within h (by_all l rs g) e
 
 module _ {cs : Corners} {set : Settings} {p : LocalExtensionParams} {l : LargestResidual} {sheet : List ℕ} (rs : List Float) where
-  pub known_all : {c : Cell} {known : Known} → KnownAt cs set p l sheet c known → KnownAt cs set p (recorded_all l rs) sheet c known
-  known_all nothing = nothing
-  known_all (idle n f) = idle n (idle_all rs f)
-  known_all (no_candidates n m) = no_candidates n (record { at = m.at; mapped = mapped_all rs m.mapped; missed = m.missed; none_over = m.none_over })
-  known_all (predicted n m) = predicted n (mapped_all rs m)
-  known_all (ambiguous n u) = ambiguous n (record { mapped = mapped_all rs u.mapped; undecided = u.undecided; last = u.last; no_shades = u.no_shades })
+  found_all : {c : Cell} {f : Finding} → Found cs set p l sheet c f → Found cs set p (recorded_all l rs) sheet c f
+  found_all (idle f) = idle (idle_all rs f)
+  found_all (no_candidates m) = no_candidates (record { at = m.at; mapped = mapped_all rs m.mapped; missed = m.missed; none_over = m.none_over })
+  found_all (predicted m) = predicted (mapped_all rs m)
+  found_all (ambiguous u) = ambiguous (record { mapped = mapped_all rs u.mapped; undecided = u.undecided; last = u.last; no_shades = u.no_shades })
 
-  pub larger : {memory : List ℕ} {predictions : List Float} → Remembered cs set p l sheet memory predictions → Remembered cs set p (recorded_all l rs) sheet memory predictions
-  larger m = record { size = m.size; room = m.room; at = λ a h. known_all (m.at a h); bounded = m.bounded }
+  pub larger : {memory : Memory} → Remembered cs set p l sheet memory → Remembered cs set p (recorded_all l rs) sheet memory
+  larger {memory} m = record { at = λ a h. go (cell_of a) (entry_of memory a) (m.at a h); bounded = m.bounded }
+    where
+      go : (c : Cell) (known : Option Known) → KnownAt cs set p l sheet c known → KnownAt cs set p (recorded_all l rs) sheet c known
+      go c None h = tt
+      go c (Some k) h = (h.0, found_all h.1)

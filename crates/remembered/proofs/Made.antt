@@ -5,6 +5,7 @@ use mathlib.Core.List.{List, [], ◌∷◌}
 use Prim.Native.Nat.{ℕ, ◌≤◌}
 use Rattle.std.specs.List.{AllByRecursion as ByRecursion}
 use Rattle.std.proofs.lemmas.List.Elements.{recursion_from_All}
+use Rattle.std.specs.Prelude.{Some}
 use lib.Ieee.{Float, binary32, of_bits, lt}
 use Rattle.sheet.specs.Corners.{Corners}
 use Rattle.sheet.specs.declared.Cell.{Cell}
@@ -21,8 +22,8 @@ use Rattle.passes.specs.declared.LargestResidual.{LargestResidual}
 use Rattle.supports.specs.Nearest.{places_of}
 use Rattle.supports.specs.declared.Support.{Support}
 use Rattle.supports.proofs.Nearest.{nth, Reached}
-use Rattle.remembered.specs.Remembered.{fit_at, Near, near_none, near_more, SupportsWithin, IdleFit, no_fit, above, Mapped, within, KnownAt, idle, no_candidates, predicted, ambiguous}
-use Rattle.remembered.specs.declared.Known.{Known}
+use Rattle.remembered.specs.Remembered.{fit_at, Near, near_none, near_more, SupportsWithin, IdleFit, no_fit, above, Mapped, within, Found, idle, no_candidates, predicted, ambiguous, KnownAt}
+use Rattle.remembered.specs.declared.Finding.{Finding}
 use Rattle.remembered.proofs.Larger.{covers}
 
 near_all : (c : Cell) (r : ℕ) (l : List ℕ) → ByRecursion (λ (q : ℕ). reach_of c q ≤ r) l → Near c r l
@@ -33,26 +34,27 @@ module _ (cs : Corners) (set : Settings) (p : LocalExtensionParams) (l : Largest
   reached : SupportsWithin (nth near 3).reach sheet c
   reached = subst (Near c (nth near 3).reach) four (near_all c (nth near 3).reach (places_of near) (recursion_from_All (λ (q : ℕ). reach_of c q ≤ (nth near 3).reach) (places_of near) far))
 
-  pub made_none : fit_at cs sheet c ≡ none → KnownAt cs set p l sheet c (Known.Idle (nth near 3).reach)
-  made_none e = idle reached (subst (IdleFit set p l) (sym e) no_fit)
+  -- there is no fit
+  pub made_none : fit_at cs sheet c ≡ none → KnownAt cs set p l sheet c (Some (record { reach = (nth near 3).reach; finding = Finding.Idle }))
+  made_none e = (reached, idle (subst (IdleFit set p l) (sym e) no_fit))
 
   pub made_above : (h rs : List Float) → fit_at cs sheet c ≡ fitted h rs → lt (gate_of set p) (worst (of_bits binary32 0) rs) ≡ true
-      → KnownAt cs set p (recorded_all l rs) sheet c (Known.Idle (nth near 3).reach)
-  made_above h rs e k = idle reached (subst (IdleFit set p (recorded_all l rs)) (sym e) (above k (covers l rs)))
+      → KnownAt cs set p (recorded_all l rs) sheet c (Some (record { reach = (nth near 3).reach; finding = Finding.Idle }))
+  made_above h rs e k = (reached, idle (subst (IdleFit set p (recorded_all l rs)) (sym e) (above k (covers l rs))))
 
   pub made_within : (h rs : List Float) → fit_at cs sheet c ≡ fitted h rs → lt (gate_of set p) (worst (of_bits binary32 0) rs) ≡ false
-      → KnownAt cs set p (recorded_all l rs) sheet c (Known.Predicted (nth near 3).reach (applied h (cell_point c)))
+      → KnownAt cs set p (recorded_all l rs) sheet c (Some (record { reach = (nth near 3).reach; finding = Finding.Predicted (applied h (cell_point c)) }))
   made_within h rs e k =
-      predicted reached (subst (λ (f : LocalFit). Mapped set p (recorded_all l rs) c f (applied h (cell_point c))) (sym e) (within k (covers l rs) refl))
+      (reached, predicted (subst (λ (f : LocalFit). Mapped set p (recorded_all l rs) c f (applied h (cell_point c))) (sym e) (within k (covers l rs) refl)))
 
 -- no candidate at the prediction, and no shade stands
-pub made_no_candidates : {cs : Corners} {set : Settings} {p : LocalExtensionParams} {l : LargestResidual} {sheet : List ℕ} {c : Cell} {r : ℕ} {at : Position}
-    → KnownAt cs set p l sheet c (Known.Predicted r at) → try_at cs sheet (tolerances_of set) (local_search set p) c at ≡ TryCellResult.NoCandidates
-    → cs.shades.any ≡ false → KnownAt cs set p l sheet c (Known.NoCandidates r)
-made_no_candidates {at = at} (predicted n m) e s = no_candidates n (record { at = at; mapped = m; missed = e; none_over = s })
+pub made_no_candidates : {cs : Corners} {set : Settings} {p : LocalExtensionParams} {l : LargestResidual} {sheet : List ℕ} {c : Cell} {at : Position}
+    → Found cs set p l sheet c (Finding.Predicted at) → try_at cs sheet (tolerances_of set) (local_search set p) c at ≡ TryCellResult.NoCandidates
+    → cs.shades.any ≡ false → Found cs set p l sheet c Finding.NoCandidates
+made_no_candidates {at = at} (predicted m) e s = no_candidates (record { at = at; mapped = m; missed = e; none_over = s })
 
 -- an ambiguous choice there
-pub made_ambiguous : {cs : Corners} {set : Settings} {p : LocalExtensionParams} {l : LargestResidual} {sheet : List ℕ} {c : Cell} {r : ℕ} {at : Position} {limit : Float}
-    → KnownAt cs set p l sheet c (Known.Predicted r at) → try_at cs sheet (tolerances_of set) (local_search set p) c at ≡ TryCellResult.Ambiguous
-    → limit ≡ last_distance (gathered cs sheet (local_search set p).search_r c at) → cs.shades.any ≡ false → KnownAt cs set p l sheet c (Known.Ambiguous r at limit)
-made_ambiguous (predicted n m) e f s = ambiguous n (record { mapped = m; undecided = e; last = f; no_shades = s })
+pub made_ambiguous : {cs : Corners} {set : Settings} {p : LocalExtensionParams} {l : LargestResidual} {sheet : List ℕ} {c : Cell} {at : Position} {limit : Float}
+    → Found cs set p l sheet c (Finding.Predicted at) → try_at cs sheet (tolerances_of set) (local_search set p) c at ≡ TryCellResult.Ambiguous
+    → limit ≡ last_distance (gathered cs sheet (local_search set p).search_r c at) → cs.shades.any ≡ false → Found cs set p l sheet c (Finding.Ambiguous at limit)
+made_ambiguous (predicted m) e f s = ambiguous (record { mapped = m; undecided = e; last = f; no_shades = s })

@@ -17,8 +17,8 @@ use Rattle.extension_common.proofs.Laws.{unmatched_bare}
 use Rattle.passes.specs.Grow.{tolerances_of}
 use Rattle.passes.specs.Local.{LocalState, supports_of, cell_point, LocalFit, none, fitted, local_fit, worst, with_residuals, with_unmatched, local_search, gate_of, local_with, local_try, local_at, local_visit}
 use Rattle.passes.specs.declared.LargestResidual.{LargestResidual}
-use Rattle.remembered.specs.Remembered.{fit_at, CoveredBy, IdleFit, no_fit, above, Mapped, within, KnownAt, idle, no_candidates, predicted, ambiguous}
-use Rattle.remembered.specs.declared.Known.{Known}
+use Rattle.remembered.specs.Remembered.{fit_at, CoveredBy, IdleFit, no_fit, above, Mapped, within, Found, idle, no_candidates, predicted, ambiguous}
+use Rattle.remembered.specs.declared.Finding.{Finding}
 use Rattle.remembered.proofs.Larger.{covered_same}
 
 -- ---- by the fit and the gate
@@ -63,15 +63,14 @@ module _ (cs : Corners) (set : Settings) (p : LocalExtensionParams) (c : Cell) (
       ap (λ (n : ℕ). local_with c (try_at cs s.sheet (tolerances_of set) (local_search set p) c at) (with_unmatched n s)) (unmatched_bare cs e s.sheet (local_search set p).search_r c at)
       ∙ ap (λ (n : ℕ). local_with c (try_at cs s.sheet (tolerances_of set) (local_search set p) c at) (record { sheet = s.sheet; made = s.made; counts = s.counts; largest = s.largest; unmatched = n })) (omega arith)
 
-  pub visit_idle : {r : ℕ} → KnownAt cs set p s.largest s.sheet c (Known.Idle r) → local_visit cs set p c s ≡ s
-  visit_idle (idle n f) = by_idle (fit_at cs s.sheet c) refl f
+  pub visit_idle : Found cs set p s.largest s.sheet c Finding.Idle → local_visit cs set p c s ≡ s
+  visit_idle (idle f) = by_idle (fit_at cs s.sheet c) refl f
 
-  pub visit_predicted : {r : ℕ} {at : Position} → KnownAt cs set p s.largest s.sheet c (Known.Predicted r at)
-      → local_visit cs set p c s ≡ local_try cs set p c at s
-  visit_predicted (predicted n m) = by_mapped (fit_at cs s.sheet c) refl m
+  pub visit_predicted : {at : Position} → Found cs set p s.largest s.sheet c (Finding.Predicted at) → local_visit cs set p c s ≡ local_try cs set p c at s
+  visit_predicted (predicted m) = by_mapped (fit_at cs s.sheet c) refl m
 
-  pub visit_no_candidates : {r : ℕ} → KnownAt cs set p s.largest s.sheet c (Known.NoCandidates r) → local_visit cs set p c s ≡ local_with c TryCellResult.NoCandidates s
-  visit_no_candidates (no_candidates n m) = by_mapped (fit_at cs s.sheet c) refl m.mapped ∙ none_over m.none_over m.at ∙ ap (λ (r : TryCellResult). local_with c r s) m.missed
+  pub visit_no_candidates : Found cs set p s.largest s.sheet c Finding.NoCandidates → local_visit cs set p c s ≡ local_with c TryCellResult.NoCandidates s
+  visit_no_candidates (no_candidates m) = by_mapped (fit_at cs s.sheet c) refl m.mapped ∙ none_over m.none_over m.at ∙ ap (λ (r : TryCellResult). local_with c r s) m.missed
 
-  pub visit_ambiguous : {r : ℕ} {at : Position} {limit : Float} → KnownAt cs set p s.largest s.sheet c (Known.Ambiguous r at limit) → local_visit cs set p c s ≡ local_with c TryCellResult.Ambiguous s
-  visit_ambiguous (ambiguous n u) = by_mapped (fit_at cs s.sheet c) refl u.mapped ∙ none_over u.no_shades _ ∙ ap (λ (r : TryCellResult). local_with c r s) u.undecided
+  pub visit_ambiguous : {at : Position} {limit : Float} → Found cs set p s.largest s.sheet c (Finding.Ambiguous at limit) → local_visit cs set p c s ≡ local_with c TryCellResult.Ambiguous s
+  visit_ambiguous (ambiguous u) = by_mapped (fit_at cs s.sheet c) refl u.mapped ∙ none_over u.no_shades _ ∙ ap (λ (r : TryCellResult). local_with c r s) u.undecided

@@ -1,5 +1,5 @@
 -- What local remembers of a cell, and when it holds (crate passes, Local, has what a visit is). Definitions only.
-use Rattle.std.specs.Prelude.{◌≡◌, Bool, true, false, not, ◌&&◌, cond, List, [], ◌∷◌, ℕ, zero, suc, ◌+◌, ◌*◌, ◌/◌, ◌%◌, ◌<◌, ◌≤◌, T, leb, length, get_or, Float}
+use Rattle.std.specs.Prelude.{◌≡◌, Bool, true, false, not, ◌&&◌, cond, List, [], ◌∷◌, ℕ, ◌+◌, ◌*◌, ◌/◌, ◌%◌, ◌<◌, ◌≤◌, T, eqb, leb, get_or, replicate, Option, None, Some, Float}
 use Rattle.std.specs.Float.{nan, binary32}
 use Rattle.std.specs.Float.Ieee.{of_bits, lt}
 use Rattle.std.specs.Float.Ieee.Scale.{finite}
@@ -18,7 +18,10 @@ use Rattle.extension_common.specs.declared.TryCellResult.{TryCellResult}
 use Rattle.passes.specs.Grow.{tolerances_of}
 use Rattle.passes.specs.Local.{reach_of, supports_of, cell_point, LocalFit, none, fitted, local_fit, worst, gate_of, local_search}
 use Rattle.passes.specs.declared.LargestResidual.{LargestResidual}
+use Rattle.remembered.specs.declared.Finding.{Finding}
 use Rattle.remembered.specs.declared.Known.{Known}
+use Rattle.remembered.specs.declared.Aim.{Aim}
+use Rattle.remembered.specs.declared.Memory.{Memory}
 
 -- ---- what a cell is remembered by
 
@@ -69,93 +72,77 @@ pub record Undecided (cs : Corners) (set : Settings) (p : LocalExtensionParams) 
   pub last : limit ≡ last_distance (gathered cs sheet (local_search set p).search_r c at)
   pub no_shades : cs.shades.any ≡ false
 
--- what is known of a cell holds
-pub data KnownAt (cs : Corners) (set : Settings) (p : LocalExtensionParams) (l : LargestResidual) (sheet : List ℕ) (c : Cell) : Known → Type 0 where
-  nothing : KnownAt cs set p l sheet c Known.Nothing
-  idle : {r : ℕ} → SupportsWithin r sheet c → IdleFit set p l (fit_at cs sheet c) → KnownAt cs set p l sheet c (Known.Idle r)
-  no_candidates : {r : ℕ} → SupportsWithin r sheet c → Missed cs set p l sheet c → KnownAt cs set p l sheet c (Known.NoCandidates r)
-  predicted : {r : ℕ} {at : Position} → SupportsWithin r sheet c → Mapped set p l c (fit_at cs sheet c) at → KnownAt cs set p l sheet c (Known.Predicted r at)
-  ambiguous : {r : ℕ} {at : Position} {limit : Float} → SupportsWithin r sheet c → Undecided cs set p l sheet c at limit → KnownAt cs set p l sheet c (Known.Ambiguous r at limit)
+-- what was found at a cell holds
+pub data Found (cs : Corners) (set : Settings) (p : LocalExtensionParams) (l : LargestResidual) (sheet : List ℕ) (c : Cell) : Finding → Type 0 where
+  idle : IdleFit set p l (fit_at cs sheet c) → Found cs set p l sheet c Finding.Idle
+  no_candidates : Missed cs set p l sheet c → Found cs set p l sheet c Finding.NoCandidates
+  predicted : {at : Position} → Mapped set p l c (fit_at cs sheet c) at → Found cs set p l sheet c (Finding.Predicted at)
+  ambiguous : {at : Position} {limit : Float} → Undecided cs set p l sheet c at limit → Found cs set p l sheet c (Finding.Ambiguous at limit)
+
+-- what is known of a cell holds, if anything is
+abbrev pub KnownAt : Corners → Settings → LocalExtensionParams → LargestResidual → List ℕ → Cell → Option Known → Type 0
+KnownAt cs set p l sheet c None = Unit {0}
+KnownAt cs set p l sheet c (Some k) = SupportsWithin k.reach sheet c × Found cs set p l sheet c k.finding
 
 -- ---- the words
 
+-- what a code says, with what is noted beside it
+unfoldable pub finding_of : ℕ → Aim → Finding
+finding_of k aim = cond (eqb k 1) Finding.Idle (cond (eqb k 2) Finding.NoCandidates (cond (eqb k 3) (Finding.Predicted aim.at) (Finding.Ambiguous aim.at aim.limit)))
+
 -- what a word says, by its last three bits: the rest of it is the reach
-unfoldable pub kind_of : ℕ → ℕ → Position → Float → Known
-kind_of zero r at limit = Known.Nothing
-kind_of (suc zero) r at limit = Known.Idle r
-kind_of (suc (suc zero)) r at limit = Known.NoCandidates r
-kind_of (suc (suc (suc zero))) r at limit = Known.Predicted r at
-kind_of (suc (suc (suc (suc k)))) r at limit = Known.Ambiguous r at limit
+unfoldable pub known_of : ℕ → Aim → Option Known
+known_of w aim = cond (eqb (w % 8) 0) None (Some (record { reach = w / 8; finding = finding_of (w % 8) aim }))
 
-unfoldable pub known_of : ℕ → Position → Float → Known
-known_of w at limit = kind_of (w % 8) (w / 8) at limit
+unfoldable pub code_of : Finding → ℕ
+code_of Finding.Idle = 1
+code_of Finding.NoCandidates = 2
+code_of (Finding.Predicted at) = 3
+code_of (Finding.Ambiguous at limit) = 4
 
-unfoldable pub known_word : Known → ℕ
-known_word Known.Nothing = 0
-known_word (Known.Idle r) = r * 8 + 1
-known_word (Known.NoCandidates r) = r * 8 + 2
-known_word (Known.Predicted r at) = r * 8 + 3
-known_word (Known.Ambiguous r at limit) = r * 8 + 4
+unfoldable pub known_word : Option Known → ℕ
+known_word None = 0
+known_word (Some k) = k.reach * 8 + code_of k.finding
 
 -- the prediction and the limit to be noted with it: any where there is none
-abbrev pub no_prediction : Position
-no_prediction = record { x = of_bits binary32 0; y = of_bits binary32 0 }
+abbrev pub no_aim : Aim
+no_aim = record { at = record { x = of_bits binary32 0; y = of_bits binary32 0 }; limit = of_bits binary32 0 }
 
-unfoldable pub prediction_in : Known → Position
-prediction_in Known.Nothing = no_prediction
-prediction_in (Known.Idle r) = no_prediction
-prediction_in (Known.NoCandidates r) = no_prediction
-prediction_in (Known.Predicted r at) = at
-prediction_in (Known.Ambiguous r at limit) = at
+unfoldable pub aim_of : Finding → Aim
+aim_of Finding.Idle = no_aim
+aim_of Finding.NoCandidates = no_aim
+aim_of (Finding.Predicted at) = record { at = at; limit = of_bits binary32 0 }
+aim_of (Finding.Ambiguous at limit) = record { at = at; limit = limit }
 
-unfoldable pub limit_in : Known → Float
-limit_in Known.Nothing = of_bits binary32 0
-limit_in (Known.Idle r) = of_bits binary32 0
-limit_in (Known.NoCandidates r) = of_bits binary32 0
-limit_in (Known.Predicted r at) = of_bits binary32 0
-limit_in (Known.Ambiguous r at limit) = limit
+unfoldable pub aim_in : Option Known → Aim
+aim_in None = no_aim
+aim_in (Some k) = aim_of k.finding
 
 -- a reach that a word holds
-unfoldable pub reach_in : Known → ℕ
-reach_in Known.Nothing = 0
-reach_in (Known.Idle r) = r
-reach_in (Known.NoCandidates r) = r
-reach_in (Known.Predicted r at) = r
-reach_in (Known.Ambiguous r at limit) = r
+abbrev pub Notable : Option Known → Type 0
+Notable None = Unit {0}
+Notable (Some k) = k.reach < 8192
 
-abbrev pub Notable : Known → Type 0
-Notable known = reach_in known < 8192
+-- what is noted beside the word of a place, and what is known of the place's cell
+abbrev pub aim_at : Memory → ℕ → Aim
+aim_at memory a = get_or memory.aims a (record { at = record { x = nan; y = nan }; limit = nan })
 
--- the prediction and the limit beside the word of a place, and what is known of the place's cell
-abbrev pub prediction_at : List Float → ℕ → Position
-prediction_at predictions a = record { x = get_or predictions (a * 3) nan; y = get_or predictions (a * 3 + 1) nan }
+abbrev pub entry_of : Memory → ℕ → Option Known
+entry_of memory a = known_of (get_or memory.words a 0) (aim_at memory a)
 
-abbrev pub limit_at : List Float → ℕ → Float
-limit_at predictions a = get_or predictions (a * 3 + 2) nan
+-- nothing is known of any cell
+abbrev pub nothing_noted : Memory
+nothing_noted = record { words = replicate place_count 0; aims = replicate place_count no_aim }
 
-abbrev pub entry_of : List ℕ → List Float → ℕ → Known
-entry_of memory predictions a = known_of (get_or memory a 0) (prediction_at predictions a) (limit_at predictions a)
-
--- a word, a prediction and a limit for each place of the sheet, and what they say holds; and the squared radius is finite
-pub record Remembered (cs : Corners) (set : Settings) (p : LocalExtensionParams) (l : LargestResidual) (sheet memory : List ℕ) (predictions : List Float) : Type 0 where
-  pub size : length memory ≡ place_count
-  pub room : length predictions ≡ 49152
-  pub at : (a : ℕ) → a < place_count → KnownAt cs set p l sheet (cell_of a) (entry_of memory predictions a)
+-- a word and what is noted with it for each place of the sheet, and what they say holds; and the squared radius is finite
+pub record Remembered (cs : Corners) (set : Settings) (p : LocalExtensionParams) (l : LargestResidual) (sheet : List ℕ) (memory : Memory) : Type 0 where
+  pub at : (a : ℕ) → a < place_count → KnownAt cs set p l sheet (cell_of a) (entry_of memory a)
   pub bounded : T (finite (squared_radius (local_search set p).search_r))
 
--- two arrays of these sizes, a cell of the sheet, and a reach that a word holds
-pub record Noting (memory : List ℕ) (predictions : List Float) (c : Cell) (known : Known) : Type 0 where
-  pub size : length memory ≡ place_count
-  pub room : length predictions ≡ 49152
-  pub on : OnSheet c
-  pub notable : Notable known
-
 -- what is known of one cell noted: the others' entries stay
-pub record Noted (memory : List ℕ) (predictions : List Float) (c : Cell) (known : Known) (memory' : List ℕ) (predictions' : List Float) : Type 0 where
-  pub size : length memory' ≡ length memory
-  pub room : length predictions' ≡ length predictions
-  pub here : entry_of memory' predictions' (place_of c) ≡ known
-  pub else : (a : ℕ) → (a ≡ place_of c → ⊥) → entry_of memory' predictions' a ≡ entry_of memory predictions a
+pub record Noted (memory : Memory) (c : Cell) (known : Option Known) (memory' : Memory) : Type 0 where
+  pub here : entry_of memory' (place_of c) ≡ known
+  pub else : (a : ℕ) → (a ≡ place_of c → ⊥) → entry_of memory' a ≡ entry_of memory a
 
 -- ---- what is forgotten
 
@@ -169,15 +156,15 @@ unfoldable pub doubted_word : Bool → ℕ → ℕ
 doubted_word far w = cond (leb 4 (w % 8) && not far) (w / 8 * 8 + 3) w
 
 -- both, for a corner that was attached to a place
-abbrev pub left_word : Cell → ℕ → Position → Position → Float → ℕ → ℕ
-left_word c q corner at limit w = doubted_word (lt limit (sqrt_or_nan (squared_distance corner at))) (forgotten_word c q w)
+abbrev pub left_word : Cell → ℕ → Position → Aim → ℕ → ℕ
+left_word c q corner aim w = doubted_word (lt aim.limit (sqrt_or_nan (squared_distance corner aim.at))) (forgotten_word c q w)
 
 -- a place of the sheet, and a cell of the sheet
 pub record Leaving (place : ℕ) (c : Cell) : Type 0 where
   pub inside : place < place_count
   pub on : OnSheet c
 
--- all words after a corner was attached to a cell
-pub record Forgotten (memory : List ℕ) (predictions : List Float) (c : Cell) (corner : Position) (memory' : List ℕ) : Type 0 where
-  pub size : length memory' ≡ length memory
-  pub at : (a : ℕ) → a < place_count → get_or memory' a 0 ≡ left_word (cell_of a) (place_of c) corner (prediction_at predictions a) (limit_at predictions a) (get_or memory a 0)
+-- all words after a corner was attached to a cell, and what is noted with them stays
+pub record Forgotten (memory : Memory) (c : Cell) (corner : Position) (memory' : Memory) : Type 0 where
+  pub aims_are : memory'.aims ≡ memory.aims
+  pub at : (a : ℕ) → a < place_count → get_or memory'.words a 0 ≡ left_word (cell_of a) (place_of c) corner (aim_at memory a) (get_or memory.words a 0)

@@ -1,144 +1,132 @@
 // What local remembers of a cell from one round to the next: a visit that attached nothing gives the same again until a label comes that is as
 // near to the cell as the fourth of its supports, or nearer, or, where the choice was ambiguous, until a corner is labelled that is no farther
 // than the second candidate. So one word is kept for each place of the sheet, and those near a new label are forgotten. A word is the reach of the
-// fourth support times 8, plus what is known; beside it three floats are kept, where the fit maps the cell to and how far that second candidate is.
+// fourth support times 8, plus what was found; beside it three floats are kept, where the fit maps the cell to and how far that second candidate is.
 
 #![tactic(auto)]
 
-ghost use Rattle.std.specs.Prelude.{◌≡◌, ◌%◌, ◌≤◌, ◌<◌, length};
+ghost use Rattle.std.specs.Prelude.{◌≡◌, ◌%◌, ◌≤◌, ◌<◌};
 ghost use Rattle.sizes.specs.Sizes.{place_count};
 ghost use Rattle.sheet.specs.Cells.{OnSheet, place_of, cell_of};
-ghost use Rattle.sheet.specs.declared.Position.{Position};
 ghost use Rattle.passes.specs.Local.{reach_of};
 ghost use Rattle.std.specs.Float.Ieee.{lt};
 ghost use Rattle.binary32.specs.Sqrt.{sqrt_or_nan};
 ghost use Rattle.sheet.specs.Corners.{squared_distance};
-ghost use Rattle.remembered.specs.Remembered.{known_of, known_word, no_prediction, prediction_in, limit_in, prediction_at, limit_at, forgotten_word, doubted_word, left_word, entry_of, Notable, Noting, Noted, Leaving, Forgotten};
+ghost use Rattle.remembered.specs.Remembered.{finding_of, known_of, code_of, known_word, no_aim, aim_of, aim_in, Notable, nothing_noted, forgotten_word, doubted_word, left_word, aim_at, entry_of, Noted, Leaving, Forgotten};
 
 use sheet::{Cell, Position};
 use sizes::PLACES;
 
-// What is known of a cell: nothing; or how far its fourth support is, and that its visit changes nothing (no fit, or a residual above the gate),
-// that there is no candidate where the fit maps it to, where the fit maps it to, or also that the choice there is ambiguous, and how far the last of
-// the first two candidates is.
+// What a visit of a cell found: that it changes nothing (no fit, or a residual above the gate), that there is no candidate where the fit maps it
+// to, where the fit maps it to, or also that the choice there is ambiguous, and how far the last of the first two candidates is.
 #[derive(Clone, Copy)]
-pub enum Known {
-    Nothing,
-    Idle(u32),
-    NoCandidates(u32),
-    Predicted(u32, Position),
-    Ambiguous(u32, Position, f32),
+pub enum Finding {
+    Idle,
+    NoCandidates,
+    Predicted(Position),
+    Ambiguous(Position, f32),
 }
 
-// What a word says, with the prediction and the limit beside it.
-fn known_of(word: u16, at: Position, limit: f32) -> Known
-    ensures { (result ≡ known_of word at limit) × Notable result }
-{
-    let kind = word % 8;
-    let reach = (word / 8) as u32;
-    if kind == 0 {
-        return Known::Nothing;
-    }
-    if kind == 1 {
-        return Known::Idle(reach);
-    }
-    if kind == 2 {
-        return Known::NoCandidates(reach);
-    }
-    if kind == 3 {
-        return Known::Predicted(reach, at);
-    }
-    Known::Ambiguous(reach, at, limit)
+// What is known of a cell: how far its fourth support is, and what was found.
+#[derive(Clone, Copy)]
+pub struct Known {
+    pub reach: u32,
+    pub finding: Finding,
 }
 
-// The prediction beside the word of a place.
-fn prediction_at(predictions: &[f32; 3 * PLACES], place: usize) -> Position
-    requires { place < place_count }
-    ensures { result ≡ prediction_at predictions.now place }
+// Where the fit maps a cell to, and how far the last of the first two candidates is; what is not found is 0, and not read.
+#[derive(Clone, Copy)]
+pub struct Aim {
+    pub at: Position,
+    pub limit: f32,
+}
+
+const NO_AIM: Aim = Aim {
+    at: Position { x: 0.0, y: 0.0 },
+    limit: 0.0,
+};
+
+// What is known of the cells: a word for each place of the sheet, 0 where nothing is known, and what is noted with it.
+#[derive(Drop)]
+pub struct Memory {
+    pub words: [u16; PLACES],
+    pub aims: [Aim; PLACES],
+}
+
+// What a code says, with what is noted beside it.
+#[tactic(auto, unfolding(crate::specs::Remembered::finding_of))]
+fn finding_of(code: u16, aim: Aim) -> Finding
+    ensures { result ≡ finding_of code aim }
 {
-    Position {
-        x: predictions[place * 3],
-        y: predictions[place * 3 + 1],
+    match code {
+        1 => Finding::Idle,
+        2 => Finding::NoCandidates,
+        3 => Finding::Predicted(aim.at),
+        _ => Finding::Ambiguous(aim.at, aim.limit),
     }
 }
 
-// The limit beside the word of a place.
-fn limit_at(predictions: &[f32; 3 * PLACES], place: usize) -> f32
-    requires { place < place_count }
-    ensures { result ≡ limit_at predictions.now place }
+// What a word says, with what is noted beside it.
+#[tactic(auto, unfolding(crate::specs::Remembered::known_of))]
+fn known_of(word: u16, aim: Aim) -> Option<Known>
+    ensures said { result ≡ known_of word aim }
+    ensures notable { Notable result }
 {
-    predictions[place * 3 + 2]
+    if word % 8 == 0 {
+        return None;
+    }
+    Some(Known {
+        reach: u32::from(word / 8),
+        finding: finding_of(word % 8, aim),
+    })
 }
 
-// What is known of a cell of the sheet.
-pub fn recall(memory: &[u16; PLACES], predictions: &[f32; 3 * PLACES], c: Cell) -> Known
-    requires { OnSheet c }
-    ensures { (result ≡ entry_of memory.now predictions.now (place_of c)) × Notable result }
+// The code of what was found, from 1 on.
+#[tactic(auto, unfolding(crate::specs::Remembered::code_of))]
+fn code_of(finding: Finding) -> u16
+    ensures { result ≡ code_of finding }
 {
-    let place = sheet::place_of(c);
-    let at = prediction_at(predictions, place);
-    known_of(memory[place], at, limit_at(predictions, place))
+    match finding {
+        Finding::Idle => 1,
+        Finding::NoCandidates => 2,
+        Finding::Predicted(_) => 3,
+        Finding::Ambiguous(_, _) => 4,
+    }
 }
 
 // The word for what is known.
-fn word_of(known: Known) -> u16
+#[tactic(auto, unfolding(crate::specs::Remembered::known_word, crate::specs::Remembered::code_of))]
+fn word_of(known: Option<Known>) -> u16
     requires { Notable known }
     ensures { result ≡ known_word known }
 {
     match known {
-        Known::Nothing => 0,
-        Known::Idle(reach) => (reach * 8 + 1) as u16,
-        Known::NoCandidates(reach) => (reach * 8 + 2) as u16,
-        Known::Predicted(reach, _) => (reach * 8 + 3) as u16,
-        Known::Ambiguous(reach, _, _) => (reach * 8 + 4) as u16,
+        None => 0,
+        Some(known) => known.reach as u16 * 8 + code_of(known.finding),
     }
 }
 
-// Nowhere in particular.
-fn nowhere() -> Position
-    ensures { result ≡ no_prediction }
+// What is noted with it.
+#[tactic(auto, unfolding(crate::specs::Remembered::aim_of))]
+fn aim_of(finding: Finding) -> Aim
+    ensures { result ≡ aim_of finding }
 {
-    Position { x: 0.0, y: 0.0 }
+    match finding {
+        Finding::Idle | Finding::NoCandidates => NO_AIM,
+        Finding::Predicted(at) => Aim { at, limit: 0.0 },
+        Finding::Ambiguous(at, limit) => Aim { at, limit },
+    }
 }
 
-// The prediction that is noted with it; where there is none, one that is not read.
-fn prediction_in(known: Known) -> Position
-    ensures { result ≡ prediction_in known }
+// What is noted with what is known.
+#[tactic(auto, unfolding(crate::specs::Remembered::aim_in))]
+fn aim_in(known: Option<Known>) -> Aim
+    ensures { result ≡ aim_in known }
 {
     match known {
-        Known::Nothing => nowhere(),
-        Known::Idle(_) => nowhere(),
-        Known::NoCandidates(_) => nowhere(),
-        Known::Predicted(_, at) => at,
-        Known::Ambiguous(_, at, _) => at,
+        None => NO_AIM,
+        Some(known) => aim_of(known.finding),
     }
-}
-
-// The limit that is noted with it; where there is none, one that is not read.
-fn limit_in(known: Known) -> f32
-    ensures { result ≡ limit_in known }
-{
-    match known {
-        Known::Nothing => 0.0,
-        Known::Idle(_) => 0.0,
-        Known::NoCandidates(_) => 0.0,
-        Known::Predicted(_, _) => 0.0,
-        Known::Ambiguous(_, _, limit) => limit,
-    }
-}
-
-// Notes what is known of a cell of the sheet, in place of what was known of it.
-pub fn note(memory: &mut [u16; PLACES], predictions: &mut [f32; 3 * PLACES], c: Cell, known: Known)
-    requires { Noting memory.old predictions.old c known }
-    ensures { Noted memory.old predictions.old c known memory.new predictions.new }
-{
-    let place = sheet::place_of(c);
-    let at = prediction_in(known);
-    let limit = limit_in(known);
-    memory[place] = word_of(known);
-    predictions[place * 3] = at.x;
-    predictions[place * 3 + 1] = at.y;
-    predictions[place * 3 + 2] = limit;
 }
 
 // How far a cell lies from the cell of a place: |di| + |dj|.
@@ -151,62 +139,90 @@ fn reach_of(place: usize, c: Cell) -> u32
 }
 
 // What is left of a place's word once a cell is labelled: nothing if the fourth support of the place's cell is as far as that cell, or farther.
+#[tactic(auto, unfolding(crate::specs::Remembered::forgotten_word))]
 fn forget_if_near(word: u16, place: usize, c: Cell) -> u16
     requires { (place < place_count) × OnSheet c }
     ensures { result ≡ forgotten_word (cell_of place) (place_of c) word }
 {
-    let reach = (word / 8) as u32;
-    if reach_of(place, c) <= reach {
-        return 0;
+    if reach_of(place, c) <= u32::from(word / 8) {
+        0
+    } else {
+        word
     }
-    word
 }
 
 // What is left of the word of an ambiguous choice once a corner is labelled: the prediction alone, unless the corner is farther than the limit.
-fn doubt_if_near(word: u16, at: Position, limit: f32, corner: Position) -> u16
+#[tactic(auto, unfolding(crate::specs::Remembered::doubted_word))]
+fn doubt_if_near(word: u16, aim: Aim, corner: Position) -> u16
     requires { 4 ≤ word % 8 }
-    ensures { result ≡ doubted_word (lt limit (sqrt_or_nan (squared_distance corner at))) word }
+    ensures { result ≡ doubted_word (lt aim.limit (sqrt_or_nan (squared_distance corner aim.at))) word }
 {
-    if limit < candidates::distance(corner, at) {
-        return word;
+    if aim.limit < candidates::distance(corner, aim.at) {
+        word
+    } else {
+        word / 8 * 8 + 3
     }
-    word / 8 * 8 + 3
 }
 
 // What is left of a place's word once a corner is attached to a cell. Few choices are ambiguous.
-fn left_of(
-    word: u16,
-    predictions: &[f32; 3 * PLACES],
-    place: usize,
-    c: Cell,
-    corner: Position,
-) -> u16
+#[tactic(auto, unfolding(crate::specs::Remembered::doubted_word))]
+fn left_of(word: u16, aim: Aim, place: usize, c: Cell, corner: Position) -> u16
     requires { Leaving place c }
-    ensures { result ≡ left_word (cell_of place) (place_of c) corner (prediction_at predictions.now place) (limit_at predictions.now place) word }
+    ensures { result ≡ left_word (cell_of place) (place_of c) corner aim word }
 {
     let kept = forget_if_near(word, place, c);
     if kept % 8 < 4 {
-        return kept;
+        kept
+    } else {
+        doubt_if_near(kept, aim, corner)
     }
-    let at = prediction_at(predictions, place);
-    let limit = limit_at(predictions, place);
-    doubt_if_near(kept, at, limit, corner)
 }
 
-// Forgets what may be another once a corner is attached to a cell: what is known of every cell whose fourth support is as far as that cell, or
-// farther, and every ambiguous choice where the corner may have been one of the first two candidates. Places of which nothing is known are passed over.
-pub fn forget_near(
-    memory: &mut [u16; PLACES],
-    predictions: &[f32; 3 * PLACES],
-    c: Cell,
-    corner: Position,
-)
-    requires { (length memory.old ≡ place_count) × OnSheet c }
-    ensures { Forgotten memory.old predictions.now c corner memory.new }
-{
-    let mut place = sheet::next_written(memory, 0);
-    while place < PLACES {
-        memory[place] = left_of(memory[place], predictions, place, c, corner);
-        place = sheet::next_written(memory, place + 1);
+impl Memory {
+    // Nothing is known yet.
+    pub fn new() -> Memory
+        ensures { result ≡ nothing_noted }
+    {
+        Memory {
+            words: [0; PLACES],
+            aims: [NO_AIM; PLACES],
+        }
+    }
+
+    // What is known of a cell of the sheet.
+    #[tactic(auto, using(sheet::proofs::Laws::place_in))]
+    pub fn recall(&self, c: Cell) -> Option<Known>
+        requires { OnSheet c }
+        ensures said { result ≡ entry_of self.now (place_of c) }
+        ensures notable { Notable result }
+    {
+        let place = sheet::place_of(c);
+        known_of(self.words[place], self.aims[place])
+    }
+
+    // Notes what is known of a cell of the sheet, in place of what was known of it.
+    #[tactic(auto, using(sheet::proofs::Laws::place_in))]
+    pub fn note(&mut self, c: Cell, known: Option<Known>)
+        requires on { OnSheet c }
+        requires notable { Notable known }
+        ensures { Noted self.old c known self.new }
+    {
+        let place = sheet::place_of(c);
+        self.words[place] = word_of(known);
+        self.aims[place] = aim_in(known);
+    }
+
+    // Forgets what may be another once a corner is attached to a cell: what is known of every cell whose fourth support is as far as that cell, or
+    // farther, and every ambiguous choice where the corner may have been one of the first two candidates. Places of which nothing is known are
+    // passed over.
+    pub fn forget_near(&mut self, c: Cell, corner: Position)
+        requires { OnSheet c }
+        ensures { Forgotten self.old c corner self.new }
+    {
+        let mut place = sheet::next_written(&self.words, 0);
+        while place < PLACES {
+            self.words[place] = left_of(self.words[place], self.aims[place], place, c, corner);
+            place = sheet::next_written(&self.words, place + 1);
+        }
     }
 }

@@ -1,4 +1,5 @@
 -- What the two calls answer and leave, by what the check of what they are lent says. Assumes nothing.
+use Rattle.std.specs.Prelude.{Ok, Err}
 use mathlib.Core.Path.{◌≡◌, sym, ap, ap₂, ◌∙◌}
 use mathlib.Core.Bool.{false, ◌||◌}
 use mathlib.Core.List.{List}
@@ -7,7 +8,6 @@ use borrow.Author.Tests.{ltb-false}
 use lib.Dec.{ltb}
 use lib.ListN.{length}
 use Rattle.refusal.specs.declared.Refusal.{Refusal}
-use Rattle.arguments.specs.declared.Checked.{Checked}
 use Rattle.arguments.proofs.Chains.{or_false_both, not_refused}
 use Rattle.line_form.specs.Written.{Wrote}
 use Rattle.report_line.specs.Result.{line_count, Piece}
@@ -23,6 +23,7 @@ use Rattle.report.proofs.Laws.{from_the_start}
 use Rattle.report.proofs.Short.{all_tame}
 use Rattle.report.proofs.Checking.{all_lent}
 use Rattle.report.proofs.Said.{text_promised, piece_promised}
+use Rattle.arguments.specs.Arguments.{Checked}
 
 module _ (l : TextLent) where
   sound : input_short l ≡ false → wild l ≡ false → Sound l.passes l.words l.sheet
@@ -35,7 +36,7 @@ module _ (l : TextLent) where
   -- ---- the whole text
 
   module _ (out : List ℕ) where
-    pub text_asked : checked_text l (length out) ≡ Checked.Fine → AllAsked l.passes l.words l.sheet out
+    pub text_asked : checked_text l (length out) ≡ Ok tt → AllAsked l.passes l.words l.sheet out
     unfolding checked_text checked_rest
     text_asked e =
         let seven = not_refused (input_short l || ltb (length out) (length (text_of l))) _ _ e in
@@ -48,11 +49,11 @@ module _ (l : TextLent) where
     abbrev TextPromised : TextOut → Type 0
     TextPromised t = (t ≡ writes_text l out) × (text_said t.answer ≡ text_due l out)
 
-    pub text_refused : (r : Refusal) → checked_text l (length out) ≡ Checked.Refused r → TextPromised (text_out (TextAnswer.Refused r) out)
+    pub text_refused : (r : Refusal) → checked_text l (length out) ≡ Err r → TextPromised (text_out (TextAnswer.Refused r) out)
     unfolding writes_text
     text_refused r e = text_promised l out (sym (ap (λ (c : Checked). text_leaves c l out) e))
 
-    pub text_written_lem : (n : ℕ) (new : List ℕ) → checked_text l (length out) ≡ Checked.Fine → Wrote (text_from l.passes l.words l.sheet 0) out new n
+    pub text_written_lem : (n : ℕ) (new : List ℕ) → checked_text l (length out) ≡ Ok tt → Wrote (text_from l.passes l.words l.sheet 0) out new n
         → TextPromised (text_out (TextAnswer.Written n) new)
     unfolding writes_text
     text_written_lem n new e w =
@@ -63,7 +64,7 @@ module _ (l : TextLent) where
   -- ---- a piece
 
   module _ (from : ℕ) (out : List ℕ) where
-    pub piece_asked : checked_piece l from (length out) ≡ Checked.Fine → SomeAsked l.passes l.words l.sheet from
+    pub piece_asked : checked_piece l from (length out) ≡ Ok tt → SomeAsked l.passes l.words l.sheet from
     unfolding checked_piece
     piece_asked e =
         let seven = not_refused (input_short l || ltb (length out) 128) _ _ e in
@@ -77,11 +78,11 @@ module _ (l : TextLent) where
     abbrev PiecePromised : PieceOut → Type 0
     PiecePromised t = (t ≡ writes_piece l from out) × (piece_said t.answer ≡ piece_due l from out)
 
-    pub piece_refused : (r : Refusal) → checked_piece l from (length out) ≡ Checked.Refused r → PiecePromised (piece_out (PieceAnswer.Refused r) out)
+    pub piece_refused : (r : Refusal) → checked_piece l from (length out) ≡ Err r → PiecePromised (piece_out (PieceAnswer.Refused r) out)
     unfolding writes_piece
     piece_refused r e = piece_promised l from out (sym (ap (λ (c : Checked). piece_leaves c (piece_in l from (length out)) out) e))
 
-    pub piece_written_lem : (r : PieceEnd) (new : List ℕ) → checked_piece l from (length out) ≡ Checked.Fine
+    pub piece_written_lem : (r : PieceEnd) (new : List ℕ) → checked_piece l from (length out) ≡ Ok tt
         → WrotePiece (piece_from l.passes l.words l.sheet from (length out)) out new r → PiecePromised (piece_out (PieceAnswer.Written r.at r.next) new)
     unfolding writes_piece piece_from
     piece_written_lem r new e w =

@@ -1,14 +1,13 @@
 -- What the tests of a call say, one after the other. Assumes nothing.
+use Rattle.std.specs.Prelude.{Err}
 use mathlib.Core.Path.{◌≡◌, refl, sym, ap, ◌∙◌}
-use mathlib.Core.Bool.{Bool, true, false, ◌||◌}
+use mathlib.Core.Bool.{true, false, ◌||◌}
 use mathlib.Core.List.{List}
-use Prim.Native.Nat.{ℕ, ◌*◌, ◌/◌, ◌≤◌, ◌<◌}
-use native.Mathlib.Omega.{arith}
-use borrow.Author.Tests.{lt-ltb, le-ltb, ltb-true, ltb-false}
+use Prim.Native.Nat.{ℕ, ◌*◌, ◌≤◌, ◌<◌}
+use borrow.Author.Tests.{lt-ltb, le-ltb, ltb-false}
 use lib.Dec.{ltb}
 use lib.ListN.{length}
 use Rattle.refusal.specs.declared.Refusal.{Refusal}
-use Rattle.arguments.specs.declared.Checked.{Checked}
 use Rattle.arguments.proofs.Tests.{holds, fails}
 use Rattle.arguments.proofs.Chains.{or_false, or_false_both, refused, passed}
 use Rattle.report_line.specs.Result.{line_count}
@@ -18,27 +17,9 @@ use Rattle.sizes.specs.Sizes.{outcome_size}
 use Rattle.report.specs.Asked.{AllLent, text_from, CornersAsked, corners_checked}
 use Rattle.report.proofs.Laws.{from_the_start}
 
--- ---- 7: eleven words an outcome, by a division that cannot overflow
-
-pub shorter : (n passes : ℕ) → ltb (n / outcome_size) passes ≡ ltb n (outcome_size * passes)
-shorter n passes = go (ltb n (outcome_size * passes)) refl
-  where
-    go : (t : Bool) → ltb n (outcome_size * passes) ≡ t → ltb (n / outcome_size) passes ≡ t
-    go true e = let h = ltb-true n (outcome_size * passes) e in lt-ltb (n / outcome_size) passes (omega arith)
-    go false e = let h = ltb-false n (outcome_size * passes) e in le-ltb (n / outcome_size) passes (omega arith)
-
 -- ---- one refusal after the other
 
 module _ (l : TextLent) where
-  -- 7, by its two tests
-  pub words_short : length l.words / outcome_size < l.passes → true ≡ input_short l
-  unfolding input_short
-  words_short h = holds _ _ (sym (shorter (length l.words) l.passes) ∙ lt-ltb _ _ h)
-
-  pub sheet_short : l.passes ≤ length l.words / outcome_size → ltb (length l.sheet) 16384 ≡ input_short l
-  unfolding input_short
-  sheet_short h = fails _ _ _ (sym (shorter (length l.words) l.passes) ∙ le-ltb _ _ h) refl
-
   pub all_lent : input_short l ≡ false → AllLent l.passes l.words l.sheet
   unfolding input_short
   all_lent e =
@@ -58,12 +39,12 @@ module _ (l : TextLent) where
     unfolding text_from
     same_text = ap (λ (t : List ℕ). ltb room (length t)) (from_the_start (stats_in l.passes l.words) l.sheet)
 
-    pub text_7 : input_short l ≡ true → Checked.Refused Refusal.BufferTooShort ≡ checked_text l room
+    pub text_7 : input_short l ≡ true → Err Refusal.BufferTooShort ≡ checked_text l room
     unfolding checked_text
     text_7 e = refused _ _ _ (sym (holds _ _ e))
 
     module _ (a : input_short l ≡ false) where
-      pub text_7_too : ltb room (length (text_from l.passes l.words l.sheet 0)) ≡ true → Checked.Refused Refusal.BufferTooShort ≡ checked_text l room
+      pub text_7_too : ltb room (length (text_from l.passes l.words l.sheet 0)) ≡ true → Err Refusal.BufferTooShort ≡ checked_text l room
       unfolding checked_text
       text_7_too e = refused _ _ _ (sym (fails _ _ _ a (sym (sym same_text ∙ e))))
 
@@ -71,12 +52,12 @@ module _ (l : TextLent) where
         long : (input_short l || ltb room (length (text_of l))) ≡ false
         long = or_false _ _ a (sym same_text ∙ b)
 
-        pub text_2 : over_limit l ≡ true → Checked.Refused Refusal.OverLimit ≡ checked_text l room
+        pub text_2 : over_limit l ≡ true → Err Refusal.OverLimit ≡ checked_text l room
         unfolding checked_text checked_rest
         text_2 e = passed _ _ _ _ long (refused _ _ _ e)
 
         module _ (c : over_limit l ≡ false) where
-          pub text_3 : wild l ≡ true → Checked.Refused Refusal.OutOfRange ≡ checked_text l room
+          pub text_3 : wild l ≡ true → Err Refusal.OutOfRange ≡ checked_text l room
           unfolding checked_text checked_rest
           text_3 e = passed _ _ _ _ long (passed _ _ _ _ c (refused _ _ _ e))
 
@@ -86,12 +67,12 @@ module _ (l : TextLent) where
 
   -- a piece
   module _ (from room : ℕ) where
-    pub piece_7 : input_short l ≡ true → Checked.Refused Refusal.BufferTooShort ≡ checked_piece l from room
+    pub piece_7 : input_short l ≡ true → Err Refusal.BufferTooShort ≡ checked_piece l from room
     unfolding checked_piece
     piece_7 e = refused _ _ _ (sym (holds _ _ e))
 
     module _ (a : input_short l ≡ false) where
-      pub piece_7_too : room < 128 → Checked.Refused Refusal.BufferTooShort ≡ checked_piece l from room
+      pub piece_7_too : room < 128 → Err Refusal.BufferTooShort ≡ checked_piece l from room
       unfolding checked_piece
       piece_7_too h = refused _ _ _ (sym (fails _ _ _ a (sym (lt-ltb _ _ h))))
 
@@ -99,17 +80,17 @@ module _ (l : TextLent) where
         wide : (input_short l || ltb room 128) ≡ false
         wide = or_false _ _ a (le-ltb _ _ b)
 
-        pub piece_2 : over_limit l ≡ true → Checked.Refused Refusal.OverLimit ≡ checked_piece l from room
+        pub piece_2 : over_limit l ≡ true → Err Refusal.OverLimit ≡ checked_piece l from room
         unfolding checked_piece
         piece_2 e = passed _ _ _ _ wide (refused _ _ _ e)
 
         module _ (c : over_limit l ≡ false) where
-          pub piece_3 : wild l ≡ true → Checked.Refused Refusal.OutOfRange ≡ checked_piece l from room
+          pub piece_3 : wild l ≡ true → Err Refusal.OutOfRange ≡ checked_piece l from room
           unfolding checked_piece
           piece_3 e = passed _ _ _ _ wide (passed _ _ _ _ c (refused _ _ _ (sym (holds _ _ e))))
 
           module _ (d : wild l ≡ false) where
-            pub piece_3_too : line_count l.passes < from → Checked.Refused Refusal.OutOfRange ≡ checked_piece l from room
+            pub piece_3_too : line_count l.passes < from → Err Refusal.OutOfRange ≡ checked_piece l from room
             unfolding checked_piece
             piece_3_too h = passed _ _ _ _ wide (passed _ _ _ _ c (refused _ _ _ (sym (fails _ _ _ d (sym (lt-ltb _ _ h))))))
 

@@ -1,7 +1,6 @@
 -- What the inner functions ask of what is lent, and the lines of a result by what is lent. Definitions only.
-use Rattle.std.specs.Prelude.{◌≡◌, Bool, true, false, cond, List, [], ℕ, ◌+◌, ◌-◌, ◌*◌, ◌%◌, ◌≤◌, ◌<◌, length, get_or, eqb, leb}
-use Rattle.arguments.specs.Arguments.{refused_if, unknown_corner, doubled_corner}
-use Rattle.arguments.specs.declared.Checked.{Checked}
+use Rattle.std.specs.Prelude.{◌≡◌, Bool, true, false, cond, List, [], ℕ, ◌+◌, ◌-◌, ◌*◌, ◌%◌, ◌≤◌, ◌<◌, length, get_or, eqb, leb, Ok}
+use Rattle.arguments.specs.Arguments.{Checked, refused_if, unknown_corner, doubled_corner}
 use Rattle.refusal.specs.declared.Refusal.{Refusal}
 use Rattle.report_line.specs.Result.{pass_line, result_line, line_count, result_from, Piece, result_piece}
 use Rattle.sizes.specs.Sizes.{place_count, corner_limit, outcome_size}
@@ -87,4 +86,4 @@ pub record CornersAsked (corners : ℕ) (sheet : List ℕ) : Type 0 where
 
 abbrev pub corners_checked : ℕ → List ℕ → Checked
 corners_checked corners sheet =
-    refused_if (unknown_corner corners sheet) Refusal.UnknownCorner (refused_if (doubled_corner sheet) Refusal.Duplicate Checked.Fine)
+    refused_if (unknown_corner corners sheet) Refusal.UnknownCorner (refused_if (doubled_corner sheet) Refusal.Duplicate (Ok tt))

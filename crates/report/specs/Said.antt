@@ -1,12 +1,12 @@
 -- What the answers of the calls that write a result's text say, in document 01's numbers and values. Definitions only.
-use Rattle.std.specs.Prelude.{List, [], ◌∷◌, ℕ, length}
+use Rattle.std.specs.Prelude.{List, [], ◌∷◌, ℕ, length, Ok, Err}
 use Rattle.refusal.specs.Refusal.{number_of}
 use Rattle.refusal.specs.Said.{Value, whole, Said, number, values}
-use Rattle.arguments.specs.declared.Checked.{Checked}
 use Rattle.report_line.specs.Result.{Piece}
 use Rattle.report.specs.WriteResult.{TextLent, text_of, checked_text, piece_in, checked_piece}
 use Rattle.report.specs.declared.TextAnswer.{TextAnswer}
 use Rattle.report.specs.declared.PieceAnswer.{PieceAnswer}
+use Rattle.arguments.specs.Arguments.{Checked}
 
 -- ---- each answer by its cases
 
@@ -23,8 +23,8 @@ piece_said (PieceAnswer.Written bytes next) = values (whole bytes ∷ whole next
 -- ---- what an answer is due to say: the number of the refusal that the check of what is lent gives, or values
 
 unfoldable pub checked_due : Checked → List Value → Said
-checked_due (Checked.Refused r) vs = number (number_of r)
-checked_due Checked.Fine vs = values vs
+checked_due (Err r) vs = number (number_of r)
+checked_due (Ok tt) vs = values vs
 
 unfoldable pub text_due : TextLent → List ℕ → Said
 text_due l out = checked_due (checked_text l (length out)) (whole (length (text_of l)) ∷ [])

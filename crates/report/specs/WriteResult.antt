@@ -1,10 +1,9 @@
 -- The library calls that write a result's text (document 01, "Frame and result": "Needed are .. for a text its whole length. The library tries 7, 2,
 -- 3, 5, 6; a refusal changes no buffer"). The outcomes of the passes are lent as words. Definitions only.
-use Rattle.std.specs.Prelude.{Bool, ◌||◌, List, ℕ, ◌*◌, ltb, length}
+use Rattle.std.specs.Prelude.{Bool, ◌||◌, List, ℕ, ◌*◌, ltb, length, Ok, Err}
 use Rattle.refusal.specs.declared.Refusal.{Refusal}
 use Rattle.labels.specs.Labelled.{any_below}
-use Rattle.arguments.specs.Arguments.{refused_if, unknown_corner, doubled_corner}
-use Rattle.arguments.specs.declared.Checked.{Checked}
+use Rattle.arguments.specs.Arguments.{Checked, refused_if, unknown_corner, doubled_corner}
 use Rattle.report_line.specs.Result.{result_text, Piece, result_piece, line_count}
 use Rattle.sizes.specs.Sizes.{place_count, corner_limit, pass_limit, outcome_size}
 use Rattle.report_line.specs.Sizes.{line_room}
@@ -45,7 +44,7 @@ checked_rest l =
     refused_if (over_limit l) Refusal.OverLimit
     (refused_if (wild l) Refusal.OutOfRange
     (refused_if (unknown_corner l.corners l.sheet) Refusal.UnknownCorner
-    (refused_if (doubled_corner l.sheet) Refusal.Duplicate Checked.Fine)))
+    (refused_if (doubled_corner l.sheet) Refusal.Duplicate (Ok tt))))
 
 -- ---- the whole text
 
@@ -61,8 +60,8 @@ abbrev pub text_out : TextAnswer → List ℕ → TextOut
 text_out r out = record { answer = r; out = out }
 
 abbrev pub text_leaves : Checked → TextLent → List ℕ → TextOut
-text_leaves Checked.Fine l out = text_out (TextAnswer.Written (length (text_of l))) (over (text_of l) out)
-text_leaves (Checked.Refused r) l out = text_out (TextAnswer.Refused r) out
+text_leaves (Ok tt) l out = text_out (TextAnswer.Written (length (text_of l))) (over (text_of l) out)
+text_leaves (Err r) l out = text_out (TextAnswer.Refused r) out
 
 unfoldable pub writes_text : TextLent → List ℕ → TextOut
 writes_text l out = text_leaves (checked_text l (length out)) l out
@@ -79,7 +78,7 @@ checked_piece l from room =
     (refused_if (over_limit l) Refusal.OverLimit
     (refused_if (wild l || ltb (line_count l.passes) from) Refusal.OutOfRange
     (refused_if (unknown_corner l.corners l.sheet) Refusal.UnknownCorner
-    (refused_if (doubled_corner l.sheet) Refusal.Duplicate Checked.Fine))))
+    (refused_if (doubled_corner l.sheet) Refusal.Duplicate (Ok tt)))))
 
 pub record PieceOut : Type 0 where
   pub answer : PieceAnswer
@@ -89,8 +88,8 @@ abbrev pub piece_out : PieceAnswer → List ℕ → PieceOut
 piece_out r out = record { answer = r; out = out }
 
 abbrev pub piece_leaves : Checked → Piece → List ℕ → PieceOut
-piece_leaves Checked.Fine p out = piece_out (PieceAnswer.Written (length p.text) p.next) (over p.text out)
-piece_leaves (Checked.Refused r) p out = piece_out (PieceAnswer.Refused r) out
+piece_leaves (Ok tt) p out = piece_out (PieceAnswer.Written (length p.text) p.next) (over p.text out)
+piece_leaves (Err r) p out = piece_out (PieceAnswer.Refused r) out
 
 unfoldable pub writes_piece : TextLent → ℕ → List ℕ → PieceOut
 writes_piece l from out = piece_leaves (checked_piece l from (length out)) (piece_in l from (length out)) out

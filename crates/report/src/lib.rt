@@ -9,7 +9,6 @@ ghost use Rattle.std.specs.Prelude.{◌≡◌};
 ghost use Rattle.report.specs.WriteResult.{text_lent, text_out, writes_text, piece_out, writes_piece};
 ghost use Rattle.report.specs.Said.{text_said, text_due, piece_said, piece_due};
 
-use arguments::Checked;
 use refusal::Refusal;
 
 // How many bytes were written, or why nothing was.
@@ -40,8 +39,8 @@ pub fn write_result(
 {
     let checked = tests::check_text(corners, passes, words, sheet, out.len());
     match checked {
-        Checked::Refused(r) => TextAnswer::Refused(r),
-        Checked::Fine => TextAnswer::Written(lines::write_all(passes, words, sheet, out)),
+        Err(r) => TextAnswer::Refused(r),
+        Ok(()) => TextAnswer::Written(lines::write_all(passes, words, sheet, out)),
     }
 }
 
@@ -58,7 +57,7 @@ pub fn write_result_piece(
     ensures said { piece_said result ≡ piece_due (text_lent corners passes words.now sheet.now) from out.old }
 {
     let checked = tests::check_piece(corners, passes, words, sheet, from, out.len());
-    if let Checked::Refused(r) = checked {
+    if let Err(r) = checked {
         return PieceAnswer::Refused(r);
     }
     let end = lines::write_some(passes, words, sheet, from, out);

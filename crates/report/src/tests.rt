@@ -4,7 +4,6 @@ ghost use Rattle.sizes.specs.Sizes.{outcome_size};
 ghost use Rattle.report.specs.WriteResult.{text_lent, input_short, over_limit, wild, checked_rest, checked_text, checked_piece};
 ghost use Rattle.report.specs.Asked.{CornersAsked, corners_checked};
 
-use arguments::Checked;
 use refusal::Refusal;
 use report_line::line_sizes::{LINE_ROOM, LINES};
 use sizes::{CORNERS, OUTCOME_WORDS, PASSES, PLACES};
@@ -34,17 +33,17 @@ fn is_wild(corners: usize, passes: usize, words: &[u32], sheet: &[u16]) -> bool
 }
 
 // 5 and 6: the corners that the sheet names.
-fn check_corners(corners: usize, sheet: &[u16]) -> Checked
+fn check_corners(corners: usize, sheet: &[u16]) -> Result<(), Refusal>
     requires { CornersAsked corners sheet.now }
     ensures { result ≡ corners_checked corners sheet.now }
 {
     if arguments::unknown_corner(corners, sheet) {
-        return Checked::Refused(Refusal::UnknownCorner);
+        return Err(Refusal::UnknownCorner);
     }
     if arguments::doubled_corner(sheet) {
-        return Checked::Refused(Refusal::Duplicate);
+        return Err(Refusal::Duplicate);
     }
-    Checked::Fine
+    Ok(())
 }
 
 // Whether a call that writes the whole text is refused, and why.
@@ -54,20 +53,19 @@ pub fn check_text(
     words: &[u32],
     sheet: &[u16],
     room: usize,
-) -> Checked
+) -> Result<(), Refusal>
     ensures { result ≡ checked_text (text_lent corners passes words.now sheet.now) room }
 {
-    if input_short(corners, passes, words, sheet) {
-        return Checked::Refused(Refusal::BufferTooShort);
-    }
-    if super::lines::text_short(passes, words, sheet, room) {
-        return Checked::Refused(Refusal::BufferTooShort);
+    if input_short(corners, passes, words, sheet)
+        || super::lines::text_short(passes, words, sheet, room)
+    {
+        return Err(Refusal::BufferTooShort);
     }
     if over_limit(corners, passes, words, sheet) {
-        return Checked::Refused(Refusal::OverLimit);
+        return Err(Refusal::OverLimit);
     }
     if is_wild(corners, passes, words, sheet) {
-        return Checked::Refused(Refusal::OutOfRange);
+        return Err(Refusal::OutOfRange);
     }
     check_corners(corners, sheet)
 }
@@ -80,23 +78,17 @@ pub fn check_piece(
     sheet: &[u16],
     from: usize,
     room: usize,
-) -> Checked
+) -> Result<(), Refusal>
     ensures { result ≡ checked_piece (text_lent corners passes words.now sheet.now) from room }
 {
-    if input_short(corners, passes, words, sheet) {
-        return Checked::Refused(Refusal::BufferTooShort);
-    }
-    if room < LINE_ROOM {
-        return Checked::Refused(Refusal::BufferTooShort);
+    if input_short(corners, passes, words, sheet) || room < LINE_ROOM {
+        return Err(Refusal::BufferTooShort);
     }
     if over_limit(corners, passes, words, sheet) {
-        return Checked::Refused(Refusal::OverLimit);
+        return Err(Refusal::OverLimit);
     }
-    if is_wild(corners, passes, words, sheet) {
-        return Checked::Refused(Refusal::OutOfRange);
-    }
-    if passes + LINES < from {
-        return Checked::Refused(Refusal::OutOfRange);
+    if is_wild(corners, passes, words, sheet) || passes + LINES < from {
+        return Err(Refusal::OutOfRange);
     }
     check_corners(corners, sheet)
 }

@@ -1,5 +1,5 @@
 -- Black and white corners (document 02, 1/14): a corner's shade, the kind that a cell takes, and which corners it takes. Definitions only.
-use Rattle.std.specs.Prelude.{Bool, false, not, ◌||◌, cond, List, ℕ, ◌+◌, ◌%◌, ◌*◌, eqb, ltb, ◌+ℤ◌, nat_abs, get_or, Float, Option, Some, None}
+use Rattle.std.specs.Prelude.{Bool, false, not, ◌||◌, cond, List, ℕ, ◌+◌, ◌%◌, ◌*◌, eqb, ltb, ◌+ℤ◌, nat_abs, get_or, Float}
 use Rattle.std.specs.Float.{nan, binary32}
 use Rattle.std.specs.Float.Ieee.{of_bits, eq}
 use Rattle.sizes.specs.Sizes.{corner_limit}
@@ -47,10 +47,6 @@ shade_held e = cond (eq e one) (kind 0) (cond (eq e two) (kind 1) bare)
 
 unfoldable pub shade_in : List Float → ℕ → Shade
 shade_in held k = cond (ltb k corner_limit) (shade_held (get_or held (k + 3 * corner_limit) nan)) bare
-
--- the kind that an entry holds, if any
-abbrev pub kind_held : Float → Option ℕ
-kind_held e = cond (eq e one) (Some 0) (cond (eq e two) (Some 1) None)
 
 -- the first entry is 0 exactly if no shade stands
 unfoldable pub any_in : List Float → Bool

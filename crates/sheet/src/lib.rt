@@ -7,7 +7,7 @@ ghost use Rattle.binary32.specs.Sqrt.{sqrt_or_nan};
 ghost use Rattle.sizes.specs.Sizes.{place_count, corner_limit};
 ghost use Rattle.sheet.specs.Cells.{on_sheet, OnSheet, place_of, cell_of, moved, difference_of, magnitude_of, Within, NearSheet};
 ghost use Rattle.sheet.specs.Words.{label_of, hole_of, ambiguous_of, with_label, with_hole, with_ambiguous, without_marks, label_at, attached, hole_marked, ambiguous_marked, marks_cleared, SheetCell, word_at};
-ghost use Rattle.sheet.specs.Shades.{any_in, shades_in, kind_at, kind_held, takes_kind};
+ghost use Rattle.sheet.specs.Shades.{any_in, shades_in, kind_at, takes_kind};
 ghost use Rattle.sheet.specs.Corners.{corner_in, seen_of, finite_position, squared_distance, Given};
 ghost use Rattle.sheet.specs.Blank.{all_blank, BlankRun, BlankPlaces, NextWritten};
 
@@ -280,26 +280,22 @@ pub fn kind_at(c: Cell) -> usize
     (c.i + c.j).rem_euclid(2) as usize
 }
 
-// The kind that an entry holds, as 1 or 2; anything else is that of a corner without a shade.
-fn kind_held(entry: f32) -> Option<usize>
-    ensures { result ≡ kind_held entry }
-{
-    if entry == 1.0 {
-        Some(0)
-    } else if entry == 2.0 {
-        Some(1)
-    } else {
-        None
-    }
-}
-
-// Whether a cell of a kind takes a corner: any corner if no shade stands, else those of its kind.
+// Whether a cell of a kind takes a corner: any corner if no shade stands, else those of its kind. A kind is held as 1 or 2, and anything else is
+// that of a corner without a shade.
 #[tactic(auto, unfolding(crate::specs::Shades::takes_kind, crate::specs::Shades::is_kind, crate::specs::Shades::shade_in, crate::specs::Shades::shade_held))]
 pub fn is_taken(corners: &[f32; 4 * CORNERS], kind: usize, k: usize) -> bool
     requires { k < corner_limit }
     ensures { result ≡ takes_kind (shades_in corners.now) kind k }
 {
-    !is_shaded(corners) || kind_held(corners[k + 3 * CORNERS]) == Some(kind)
+    if !is_shaded(corners) {
+        return true;
+    }
+    let entry = corners[k + 3 * CORNERS];
+    if entry == 1.0 {
+        kind == 0
+    } else {
+        entry == 2.0 && kind == 1
+    }
 }
 
 // What is seen at a cell: the corner of its label, or nothing where it has none or is off the sheet.

@@ -41,6 +41,7 @@ impl Iterator for Written<'_> {
 
     ghost remaining = { item_count written_rest };
 
+    #[inline(always)]
     fn next(&mut self) -> Option<(usize, u16)> {
         let place = crate::next_written(self.sheet, self.from);
         if place == PLACES {

@@ -29,7 +29,6 @@ use Rattle.passed_over.specs.PassedOver.{passed_over}
 use Rattle.positions_policy.specs.Edge.{cardinal_offsets, verdict_of, passes}
 use Rattle.positions_policy.specs.declared.Tolerances.{Tolerances}
 use Rattle.predict.specs.Predict.{prediction_of, extrapolating}
-use Rattle.predict.specs.declared.Prediction.{Prediction}
 use Rattle.arguments.specs.declared.Settings.{Settings}
 use Rattle.arguments.specs.declared.GrowParams.{GrowParams}
 use Rattle.arguments.specs.declared.FillParams.{FillParams}
@@ -136,18 +135,18 @@ grow_with_rises c TryCellResult.EdgeRejected s h = rise_put s.sheet (place_of c)
 grow_with_rises c (TryCellResult.Attached k) s h = rise_put s.sheet (place_of c) _ h
 
 module _ (cs : Corners) (set : Settings) (p : GrowParams) where
-  grow_at_so : (c : Cell) (at : Prediction) (s : GrowStateIn) → Rise 0 s.sheet → grow_at cs set p c at (grow_state_of s) ≡ grow_state_of (grow_at_in cs set p c at s)
+  grow_at_so : (c : Cell) (at : Option Position) (s : GrowStateIn) → Rise 0 s.sheet → grow_at cs set p c at (grow_state_of s) ≡ grow_state_of (grow_at_in cs set p c at s)
   unfolding grow_at grow_at_in
-  grow_at_so c Prediction.NoNeighbour s h = missed_so c s
-  grow_at_so c (Prediction.At at) s h =
+  grow_at_so c None s h = missed_so c s
+  grow_at_so c (Some at) s h =
       ap (λ (seen : Cell → Option Corner). grow_with c (try_at cs (sheet_with s.sheet) (tolerances_of set) (search_of set p (extrapolating seen c)) c at) (grow_state_of s)) (seen_so s.sheet cs.corner)
       ∙ ap (λ (r : TryCellResult). grow_with c r (grow_state_of s)) (try_so cs s.sheet h (tolerances_of set) (search_of set p (extrapolating (seen_in cs.corner s.sheet) c)) c at)
       ∙ grow_with_so c (try_in cs s.sheet (tolerances_of set) (search_of set p (extrapolating (seen_in cs.corner s.sheet) c)) c at) s
 
-  grow_at_rises : (c : Cell) (at : Prediction) (s : GrowStateIn) → Rise 0 s.sheet → Rise 0 (grow_at_in cs set p c at s).sheet
+  grow_at_rises : (c : Cell) (at : Option Position) (s : GrowStateIn) → Rise 0 s.sheet → Rise 0 (grow_at_in cs set p c at s).sheet
   unfolding grow_at_in
-  grow_at_rises c Prediction.NoNeighbour s h = rise_put s.sheet (place_of c) _ h
-  grow_at_rises c (Prediction.At at) s h =
+  grow_at_rises c None s h = rise_put s.sheet (place_of c) _ h
+  grow_at_rises c (Some at) s h =
       grow_with_rises c (try_in cs s.sheet (tolerances_of set) (search_of set p (extrapolating (seen_in cs.corner s.sheet) c)) c at) s h
 
   grow_visit_so : (c : Cell) (s : GrowStateIn) → Rise 0 s.sheet → grow_visit cs set p c (grow_state_of s) ≡ grow_state_of (grow_visit_in cs set p c s)
@@ -247,17 +246,17 @@ fill_with_rises c TryCellResult.EdgeRejected s h = h
 fill_with_rises c (TryCellResult.Attached k) s h = rise_put s.sheet (place_of c) _ h
 
 module _ (cs : Corners) (set : Settings) (p : FillParams) where
-  fill_at_so : (c : Cell) (at : Prediction) (s : FillStateIn) → Rise 0 s.sheet → fill_at cs set p c at (fill_state_of s) ≡ fill_state_of (fill_at_in cs set p c at s)
+  fill_at_so : (c : Cell) (at : Option Position) (s : FillStateIn) → Rise 0 s.sheet → fill_at cs set p c at (fill_state_of s) ≡ fill_state_of (fill_at_in cs set p c at s)
   unfolding fill_at fill_at_in
-  fill_at_so c Prediction.NoNeighbour s h = refl
-  fill_at_so c (Prediction.At at) s h =
+  fill_at_so c None s h = refl
+  fill_at_so c (Some at) s h =
       ap (λ (r : TryCellResult). fill_with c r (fill_state_of s)) (try_so cs s.sheet h (tolerances_of set) (fill_search set p) c at)
       ∙ fill_with_so c (try_in cs s.sheet (tolerances_of set) (fill_search set p) c at) s
 
-  fill_at_rises : (c : Cell) (at : Prediction) (s : FillStateIn) → Rise 0 s.sheet → Rise 0 (fill_at_in cs set p c at s).sheet
+  fill_at_rises : (c : Cell) (at : Option Position) (s : FillStateIn) → Rise 0 s.sheet → Rise 0 (fill_at_in cs set p c at s).sheet
   unfolding fill_at_in
-  fill_at_rises c Prediction.NoNeighbour s h = h
-  fill_at_rises c (Prediction.At at) s h = fill_with_rises c (try_in cs s.sheet (tolerances_of set) (fill_search set p) c at) s h
+  fill_at_rises c None s h = h
+  fill_at_rises c (Some at) s h = fill_with_rises c (try_in cs s.sheet (tolerances_of set) (fill_search set p) c at) s h
 
   fill_visit_so : (c : Cell) (s : FillStateIn) → Rise 0 s.sheet → fill_visit cs set p c (fill_state_of s) ≡ fill_state_of (fill_visit_in cs set p c s)
   unfolding fill_visit fill_visit_in

@@ -1,6 +1,6 @@
 -- The passes on a sheet of which only the written places are kept: each definition is that of the crate `passes` or `extension_common` of the same name
 -- without the ending, its sheet kept so. `proofs/Passes.antt` shows that the passes do the same. Definitions only.
-use Rattle.std.specs.Prelude.{Bool, true, false, not, ◌&&◌, cond, List, [], ◌∷◌, ◌++◌, map, ℕ, zero, suc, ◌+◌, ◌*◌, ltb, length, get_or, take, Some, None, Float}
+use Rattle.std.specs.Prelude.{Bool, true, false, not, ◌&&◌, cond, List, [], ◌∷◌, ◌++◌, map, ℕ, zero, suc, ◌+◌, ◌*◌, ltb, length, get_or, take, Some, None, Float, Option}
 use Rattle.std.specs.Float.{binary32}
 use Rattle.std.specs.Float.Ieee.{of_bits, lt}
 use Rattle.binary32.specs.Ranges.{is_finite}
@@ -22,7 +22,6 @@ use Rattle.passed_over.specs.PassedOver.{passed_over}
 use Rattle.positions_policy.specs.Edge.{cardinal_offsets, verdict_of, passes}
 use Rattle.positions_policy.specs.declared.Tolerances.{Tolerances}
 use Rattle.predict.specs.Predict.{prediction_of, extrapolating}
-use Rattle.predict.specs.declared.Prediction.{Prediction}
 use Rattle.arguments.specs.declared.Settings.{Settings}
 use Rattle.arguments.specs.declared.GrowParams.{GrowParams}
 use Rattle.arguments.specs.declared.FillParams.{FillParams}
@@ -126,9 +125,9 @@ grow_with_in c (TryCellResult.Attached k) s = record {
   counts = one_more (TryCellResult.Attached k) s.counts;
 }
 
-unfoldable pub grow_at_in : Corners → Settings → GrowParams → Cell → Prediction → GrowStateIn → GrowStateIn
-grow_at_in cs set p c Prediction.NoNeighbour s = missed_in c s
-grow_at_in cs set p c (Prediction.At at) s =
+unfoldable pub grow_at_in : Corners → Settings → GrowParams → Cell → Option Position → GrowStateIn → GrowStateIn
+grow_at_in cs set p c None s = missed_in c s
+grow_at_in cs set p c (Some at) s =
     grow_with_in c (try_in cs s.sheet (tolerances_of set) (search_of set p (extrapolating (seen_in cs.corner s.sheet) c)) c at) s
 
 unfoldable pub grow_visit_in : Corners → Settings → GrowParams → Cell → GrowStateIn → GrowStateIn
@@ -167,9 +166,9 @@ fill_with_in c TryCellResult.Ambiguous s = s
 fill_with_in c TryCellResult.EdgeRejected s = s
 fill_with_in c (TryCellResult.Attached k) s = record { sheet = attached_in s.sheet c k; made = s.made ++ (place_of c ∷ []) }
 
-unfoldable pub fill_at_in : Corners → Settings → FillParams → Cell → Prediction → FillStateIn → FillStateIn
-fill_at_in cs set p c Prediction.NoNeighbour s = s
-fill_at_in cs set p c (Prediction.At at) s = fill_with_in c (try_in cs s.sheet (tolerances_of set) (fill_search set p) c at) s
+unfoldable pub fill_at_in : Corners → Settings → FillParams → Cell → Option Position → FillStateIn → FillStateIn
+fill_at_in cs set p c None s = s
+fill_at_in cs set p c (Some at) s = fill_with_in c (try_in cs s.sheet (tolerances_of set) (fill_search set p) c at) s
 
 unfoldable pub fill_visit_in : Corners → Settings → FillParams → Cell → FillStateIn → FillStateIn
 fill_visit_in cs set p c s = fill_at_in cs set p c (prediction_of (seen_in cs.corner s.sheet) set.grid c) s

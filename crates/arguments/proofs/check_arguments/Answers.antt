@@ -8,7 +8,7 @@ use Rattle.arguments.specs.Accepted.{LongEnough}
 use Rattle.arguments.proofs.Laws.{long_enough, known, known_more}
 use Rattle.arguments.proofs.Tests.{holds, fails, refused_7, refused_2, refused_3, refused_5, refused_6, refused_none}
 use Rattle.arguments.proofs.check_arguments.Goals as goal
-use Rattle.arguments.proofs.check_arguments.Goals.{Else-pass_outside, Else-settings_outside, Else-some_corner_outside, Else-too_short, Else-unknown_corner, Else-xs-gt-CORNERS, Start}
+use Rattle.arguments.proofs.check_arguments.Goals.{Else-pass_outside, Else-settings_outside, Else-some_corner_outside, Else-too_short, Else-unknown_corner, Else-xs-gt-CORNERS, Start, then-some_corner_outside-via-then-some_corner_outside, then-some_corner_outside-via-else-some_corner_outside+then-settings_outside, then-some_corner_outside-via-else-some_corner_outside+else-settings_outside+then-pass_outside}
 
 -- what is lent, and what each test that did not refuse says of it
 abbrev at : Start → Lent
@@ -52,19 +52,16 @@ some_corner_outside-requires c =
 
 pub returns-then-some_corner_outside : goal.returns-then-some_corner_outside
 unfolding out_of_range
-returns-then-some_corner_outside c = refused_3 _ _ _ (passed_7 (goal.at.returns-then-some_corner_outside c).Else-too_short) (passed_2 (goal.at.returns-then-some_corner_outside c).Else-xs-gt-CORNERS) (holds _ _ (sym c.some_corner_outside.ensures ∙ c.if-some_corner_outside.true))
-
-pub returns-then-settings_outside : goal.returns-then-settings_outside
-unfolding out_of_range
-returns-then-settings_outside c =
-    refused_3 _ _ _ (passed_7 (goal.at.returns-then-settings_outside c).Else-too_short) (passed_2 (goal.at.returns-then-settings_outside c).Else-xs-gt-CORNERS)
-    (fails _ _ _ (corners_passed (goal.at.returns-then-settings_outside c).Else-some_corner_outside) (holds _ _ (sym c.settings_outside.ensures ∙ c.if-settings_outside.true)))
-
-pub returns-then-pass_outside : goal.returns-then-pass_outside
-unfolding out_of_range
-returns-then-pass_outside c =
-    refused_3 _ _ _ (passed_7 (goal.at.returns-then-pass_outside c).Else-too_short) (passed_2 (goal.at.returns-then-pass_outside c).Else-xs-gt-CORNERS)
-    (fails _ _ _ (corners_passed (goal.at.returns-then-pass_outside c).Else-some_corner_outside) (fails _ _ _ (settings_passed (goal.at.returns-then-pass_outside c).Else-settings_outside) (sym c.if-pass_outside.true ∙ c.pass_outside.ensures)))
+returns-then-some_corner_outside c =
+    refused_3 _ _ _ (passed_7 (goal.at.returns-then-some_corner_outside c).Else-too_short) (passed_2 (goal.at.returns-then-some_corner_outside c).Else-xs-gt-CORNERS)
+    (elim c.then-some_corner_outside.branch [
+      | then-some_corner_outside-via-then-some_corner_outside w ↦ holds _ _ (sym c.some_corner_outside.ensures ∙ w.if-some_corner_outside.true)
+      | then-some_corner_outside-via-else-some_corner_outside+then-settings_outside w ↦
+          fails _ _ _ (sym c.some_corner_outside.ensures ∙ w.if-some_corner_outside.false) (holds _ _ (sym w.settings_outside.ensures ∙ w.if-settings_outside.true))
+      | then-some_corner_outside-via-else-some_corner_outside+else-settings_outside+then-pass_outside w ↦
+          fails _ _ _ (sym c.some_corner_outside.ensures ∙ w.if-some_corner_outside.false)
+          (fails _ _ _ (sym w.settings_outside.ensures ∙ w.if-settings_outside.false) (sym w.if-pass_outside.true ∙ w.pass_outside.ensures))
+    ])
 
 pub unknown_corner-requires : goal.unknown_corner-requires
 unknown_corner-requires c = (long (goal.at.unknown_corner-requires c).Else-too_short).sheet_long

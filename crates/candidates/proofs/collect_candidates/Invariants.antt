@@ -1,12 +1,12 @@
--- `collect_candidates` meets its contract. The loop's invariant: corner k is the next within the limit or there is none left, what was found is the
--- first two of the candidates before it, and the limit is right for them. The measure is what is left of the corners. Assumes nothing.
+-- `collect_candidates` meets its contract. The loop's invariant: what was found is the first two of the candidates before the corner at hand, and the
+-- limit is right for them. The measure is what is left of the corners. Assumes nothing.
 use Prim.Native.Nat.{◌-◌}
 use Rattle.candidates.specs.Candidates.{eligible_in}
-use Rattle.candidates.proofs.Scan.{Scanned}
+use Rattle.candidates.proofs.Scanning.{Scanned}
 use Rattle.candidates.proofs.collect_candidates.Given as goal
 
 abbrev pub invariant-loop-k : goal.invariant-loop-k
-invariant-loop-k l = Scanned l.corners (eligible_in l.corners l.used l.kind) l.count l.prediction l.search_r l.found l.k
+invariant-loop-k l = Scanned l.corners (eligible_in l.corners l.used l.kind) l.count l.fn.prediction l.search_r l.found l.from
 
 abbrev pub decreases-loop-k : goal.decreases-loop-k
-decreases-loop-k l = l.count - l.k
+decreases-loop-k l = l.count - l.from

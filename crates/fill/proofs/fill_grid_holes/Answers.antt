@@ -3,10 +3,10 @@ use Rattle.sheet.specs.Corners.{corner_lists}
 use Rattle.fill.proofs.Rounds.{call_refused, call_accepted, call_done}
 use Rattle.fill.proofs.fill_grid_holes.Goals as goal
 
-pub returns-in-Refused : goal.returns-in-Refused
-returns-in-Refused c = let a = c.args in
+pub returns-in-Err : goal.returns-in-Err
+returns-in-Err c = let a = c.args in
     let both_clauses =
-    call_refused (corner_lists a.xs.now a.ys.now a.pitches.now) a.shades.now a.sheet.now a.attached.now a.settings a.params _ c.check_arguments-checked.ensures _ c.in-Refused.is in
+    call_refused (corner_lists a.xs.now a.ys.now a.pitches.now) a.shades.now a.sheet.now a.attached.now a.settings a.params _ c.check_arguments-checked.ensures _ c.in-Err.is in
     record { attached_after = both_clauses.0; said = both_clauses.1 }
 
 pub fill_accepted-requires : goal.fill_accepted-requires

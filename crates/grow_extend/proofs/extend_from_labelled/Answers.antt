@@ -6,18 +6,18 @@ use Rattle.grow_extend.proofs.extend_from_labelled.Goals as goal
 pub extend-requires : goal.extend-requires
 extend-requires c =
     let a = c.args in
-    call_accepted (corner_lists a.xs.now a.ys.now a.pitches.now) a.settings a.params a.shades.now a.sheet.now a.queue.now a.attached.now c.check_arguments-checked.ensures c.in-Fine.is
+    call_accepted (corner_lists a.xs.now a.ys.now a.pitches.now) a.settings a.params a.shades.now a.sheet.now a.queue.now a.attached.now c.check_arguments-checked.ensures c.in-Ok.is
 
-pub returns-in-Refused : goal.returns-in-Refused
-returns-in-Refused c =
+pub returns-in-Err : goal.returns-in-Err
+returns-in-Err c =
     let a = c.args in
     let both_clauses =
-    call_refused (corner_lists a.xs.now a.ys.now a.pitches.now) a.settings a.params a.shades.now a.sheet.now a.queue.now a.attached.now c.check_arguments-checked.ensures c.in-Refused.is in
+    call_refused (corner_lists a.xs.now a.ys.now a.pitches.now) a.settings a.params a.shades.now a.sheet.now a.queue.now a.attached.now c.check_arguments-checked.ensures c.in-Err.is in
     record { attached_after = both_clauses.0; said = both_clauses.1 }
 
-pub returns-in-Fine : goal.returns-in-Fine
-returns-in-Fine c =
+pub returns-in-Ok : goal.returns-in-Ok
+returns-in-Ok c =
     let a = c.args in
     let both_clauses =
-    call_done (corner_lists a.xs.now a.ys.now a.pitches.now) a.settings a.params a.shades.now a.sheet.now a.queue.now a.attached.now c.check_arguments-checked.ensures c.in-Fine.is c.extend.ensures in
+    call_done (corner_lists a.xs.now a.ys.now a.pitches.now) a.settings a.params a.shades.now a.sheet.now a.queue.now a.attached.now c.check_arguments-checked.ensures c.in-Ok.is c.extend.ensures in
     record { attached_after = both_clauses.0; said = both_clauses.1 }

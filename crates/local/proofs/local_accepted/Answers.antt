@@ -2,7 +2,6 @@
 use Prim.Native.Nat.{ℕ}
 use native.Mathlib.Omega.{arith}
 use lib.ListN.{length, length-replicate}
-use lib.Ieee.{Float, of_bits, binary32}
 use Rattle.sheet.specs.Corners.{corner_lists, corners_in}
 use Rattle.passes.specs.declared.LargestResidual.{LargestResidual}
 use Rattle.remembered.proofs.Notes.{started}
@@ -12,9 +11,6 @@ use Rattle.local.proofs.Depth.{depth_in}
 use Rattle.local.proofs.Rounds.{accepted_gatherable, accepted_radius, accepted_asked, pass_few, pass_done}
 use Rattle.local.proofs.local_accepted.Goals as goal
 
-pub any_shade-shaded-requires : goal.any_shade-shaded-requires
-any_shade-shaded-requires c = c.requires.shades_long
-
 pub gather_labelled-labels-requires : goal.gather_labelled-labels-requires
 gather_labelled-labels-requires c = let a = c.args in accepted_gatherable (corner_lists a.xs.now a.ys.now a.pitches.now) a.shades.now a.sheet.now a.attached.now a.settings a.params c.requires (length-replicate {A = ℕ} 1024 0)
 
@@ -22,17 +18,20 @@ pub rim_reached-requires : goal.rim_reached-requires
 rim_reached-requires c = record { long = c.requires.given.long; shallow = rw c.depth_of-depth.ensures (depth_in c.args.params c.requires.pass_inside.depth) }
 
 pub returns-then-labels-lt4 : goal.returns-then-labels-lt4
-returns-then-labels-lt4 c = let a = c.args in pass_few (corner_lists a.xs.now a.ys.now a.pitches.now) a.shades.now a.sheet.now a.attached.now a.settings a.params c.gather_labelled-labels.ensures.count_is c.depth_of-depth.ensures c.any_shade-shaded.ensures c.if-labels-lt4.true c.no_progress.ensures c.rim_reached.ensures c.stats_of.ensures
+returns-then-labels-lt4 c = let a = c.args in pass_few (corner_lists a.xs.now a.ys.now a.pitches.now) a.shades.now a.sheet.now a.attached.now a.settings a.params c.gather_labelled-labels.ensures.count_is c.depth_of-depth.ensures c.any_shade-shaded.ensures c.if-labels-lt4.true c.no_progress-progress.ensures c.rim_reached.ensures c.stats_of.ensures
 
 pub hold_corners-requires : goal.hold_corners-requires
 hold_corners-requires c = let s = c.requires in
     (holdable _ s.listed s.few, two_kinds _ _ _ s)
 
-pub local_rounds-rounds-requires : goal.local_rounds-rounds-requires
-local_rounds-rounds-requires c = let a = c.args in (accepted_asked (corner_lists a.xs.now a.ys.now a.pitches.now) a.shades.now a.sheet.now a.attached.now a.settings a.params c.requires (length-replicate {A = ℕ} 1024 0) c.gather_labelled-labels.ensures c.if-labels-lt4.false c.mark_used-used.ensures, record { remembered = started (corners_in _ (length a.xs.now)) a.settings a.params LargestResidual.Nothing a.sheet.now (length-replicate {A = Float} 49152 (of_bits binary32 0)) (accepted_radius (corner_lists a.xs.now a.ys.now a.pitches.now) a.shades.now a.sheet.now a.attached.now a.settings a.params c.requires); unmatched_few = omega arith })
+pub local_rounds-rounds-requires-clause-asked : goal.local_rounds-rounds-requires-clause-asked
+local_rounds-rounds-requires-clause-asked c = let a = c.args in accepted_asked (corner_lists a.xs.now a.ys.now a.pitches.now) a.shades.now a.sheet.now a.attached.now a.settings a.params c.requires (length-replicate {A = ℕ} 1024 0) c.gather_labelled-labels.ensures c.if-labels-lt4.false c.mark_used.ensures c.no_progress-progress.ensures
+
+pub local_rounds-rounds-requires-clause-recalls : goal.local_rounds-rounds-requires-clause-recalls
+local_rounds-rounds-requires-clause-recalls c = let a = c.args in rw (c.no_progress-progress.ensures, c.new.ensures) (record { remembered = started (corners_in _ (length a.xs.now)) a.settings a.params LargestResidual.Nothing a.sheet.now (accepted_radius (corner_lists a.xs.now a.ys.now a.pitches.now) a.shades.now a.sheet.now a.attached.now a.settings a.params c.requires); unmatched_few = omega arith })
 
 pub rim_reached-requires-2 : goal.rim_reached-requires-2
-rim_reached-requires-2 c = record { long = c.local_rounds-rounds.ensures.0.left.extending.given.long; shallow = rw c.depth_of-depth.ensures (depth_in c.args.params c.requires.pass_inside.depth) }
+rim_reached-requires-2 c = record { long = c.local_rounds-rounds.ensures.left.left.extending.given.long; shallow = rw c.depth_of-depth.ensures (depth_in c.args.params c.requires.pass_inside.depth) }
 
 pub returns : goal.returns
-returns c = let a = c.args in pass_done (corner_lists a.xs.now a.ys.now a.pitches.now) a.shades.now a.sheet.now a.attached.now a.settings a.params c.gather_labelled-labels.ensures.count_is c.depth_of-depth.ensures c.any_shade-shaded.ensures _ c.hold_corners.ensures c.if-labels-lt4.false c.local_rounds-rounds.ensures.0 c.rim_reached-2.ensures c.stats_of-2.ensures
+returns c = let a = c.args in pass_done (corner_lists a.xs.now a.ys.now a.pitches.now) a.shades.now a.sheet.now a.attached.now a.settings a.params c.gather_labelled-labels.ensures.count_is c.depth_of-depth.ensures c.any_shade-shaded.ensures _ c.hold_corners.ensures c.if-labels-lt4.false c.no_progress-progress.ensures c.local_rounds-rounds.ensures.left c.rim_reached-2.ensures c.stats_of-2.ensures

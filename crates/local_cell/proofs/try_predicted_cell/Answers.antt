@@ -1,14 +1,21 @@
 -- `local_cell::try_predicted_cell` meets its contract: what is passed over is counted, and the cell is tried. Assumes nothing.
+use mathlib.Core.Path.{◌≡◌, refl}
+use Rattle.sheet.specs.Corners.{corners_in}
+use Rattle.extension_common.specs.TryCell.{unmatched}
+use Rattle.passes.specs.Local.{local_search}
 use Rattle.local_cell.proofs.Visit.{unmatched_is}
-use Rattle.local_cell.proofs.Memory.{passed_fits, passed_left}
+use Rattle.local_cell.proofs.Memory.{passed_fits, passed_left, passed_recalls}
 use Rattle.local_cell.proofs.try_predicted_cell.Goals as goal
+use Rattle.local_cell.proofs.try_predicted_cell.Goals.{After-try_candidates_of}
 
-pub with_unmatched-requires : goal.with_unmatched-requires
-with_unmatched-requires c =
-    passed_fits _ _ _ _ _ _ c.requires.0 c.requires.1.0 c.try_candidates_of-next.ensures.0 c.try_candidates_of-next.ensures.1
-    (unmatched_is _ _ _ c.requires.0 c.count_unmatched-passed.ensures)
+passed : (c : After-try_candidates_of) → let a = c.args in c.count_unmatched-passed.result ≡ unmatched (corners_in a.corners.now a.setup.count) a.sheet.now (local_search a.setup.settings a.setup.params).search_r a.target.cell a.target.prediction
+passed c = unmatched_is _ _ _ c.requires.trying c.count_unmatched-passed.ensures
 
-pub returns : goal.returns
-returns c =
-    passed_left _ _ _ _ _ _ c.requires.0 c.requires.1.0 c.try_candidates_of-next.ensures.0 c.try_candidates_of-next.ensures.1
-    (unmatched_is _ _ _ c.requires.0 c.count_unmatched-passed.ensures) c.with_unmatched.ensures
+pub pass_over-requires : goal.pass_over-requires
+pass_over-requires c = passed_fits _ _ _ _ _ c.requires.trying c.requires.recalls c.try_candidates_of.ensures.left (passed (goal.at.pass_over-requires c).After-try_candidates_of)
+
+pub returns-clause-left : goal.returns-clause-left
+returns-clause-left c = passed_left _ _ _ _ _ c.requires.trying c.requires.recalls c.try_candidates_of.ensures.left (passed (goal.at.returns-clause-left c).After-try_candidates_of) refl refl c.pass_over.ensures
+
+pub returns-clause-recalls : goal.returns-clause-recalls
+returns-clause-recalls c = passed_recalls _ _ _ _ _ c.requires.trying c.requires.recalls c.try_candidates_of.ensures.left (passed (goal.at.returns-clause-recalls c).After-try_candidates_of) refl refl c.pass_over.ensures c.try_candidates_of.ensures.recalls refl

@@ -1,6 +1,6 @@
 -- `positions_policy::any_cardinal_edge_ok` meets its contract. The loop's invariant: no edge is accepted so far, and what was found,
--- followed by the edges that are left, is the verdict. The measure is how many are left. Assumes nothing.
-use Prim.Native.Nat.{◌-◌, ◌<◌}
+-- followed by the edges that are left, is the verdict. Assumes nothing.
+use Prim.Native.Nat.{◌<◌}
 use native.Mathlib.Omega.{arith}
 use Rattle.positions_policy.specs.Edge.{verdict_of}
 use Rattle.positions_policy.proofs.Search.{opened, ended, passed, refused, stopped}
@@ -10,27 +10,27 @@ use Rattle.positions_policy.proofs.any_cardinal_edge_ok.Goals.{in-Refused, in-No
 pub loop-k-init : goal.loop-k-init
 loop-k-init c = opened _
 
-pub cardinal_edge-edge-requires : goal.cardinal_edge-edge-requires
-cardinal_edge-edge-requires c =
+pub cardinal_edge-requires : goal.cardinal_edge-requires
+cardinal_edge-requires c =
     (c.requires.0, (c.requires.1, omega arith))
 
 pub loop-k-preserved : goal.loop-k-preserved
 loop-k-preserved c =
     let so_far = c.loop-k.invariant in
     let more : c.loop-k.k < 4 = omega arith in
-    let is = c.cardinal_edge-edge.ensures in
-    elim c.match-edge.branch [
+    let is = c.cardinal_edge.ensures in
+    elim c.match-cardinal_edge.branch [
       | in-Refused w ↦ rw w.verdict-is (refused _ so_far more is w.in-Refused.is)
       | in-NonePresent w ↦ rw w.verdict-is (passed _ so_far more is w.in-NonePresent.is)
     ]
 
-pub returns-after-loop-k : goal.returns-after-loop-k
+pub returns : goal.returns
 unfolding verdict_of
-returns-after-loop-k c = ended _ c.loop-k.invariant (omega arith)
+returns c = ended _ c.loop-k.invariant (omega arith)
 
 pub returns-in-Accepted : goal.returns-in-Accepted
 unfolding verdict_of
 returns-in-Accepted c =
     stopped _ c.loop-k.invariant (omega arith)
-    c.cardinal_edge-edge.ensures
+    c.cardinal_edge.ensures
     c.in-Accepted.is

@@ -1,6 +1,5 @@
 -- `positions_policy::any_cardinal_edge_ok` meets its contract. The loop's invariant: no edge is accepted so far, and what was found,
--- followed by the edges that are left, is the verdict. The measure is how many are left. Assumes nothing.
-use Prim.Native.Nat.{◌-◌}
+-- followed by the edges that are left, is the verdict. Assumes nothing.
 use Rattle.sheet.specs.Corners.{corner_in, seen_of}
 use Rattle.positions_policy.specs.Edge.{edge_at}
 use Rattle.positions_policy.proofs.Search.{Open}
@@ -9,6 +8,3 @@ use Rattle.positions_policy.proofs.any_cardinal_edge_ok.Given as goal
 abbrev pub invariant-loop-k : goal.invariant-loop-k
 invariant-loop-k l =
     Open (edge_at (seen_of (corner_in l.corners) l.sheet) l.tol l.c l.candidate) l.verdict l.k
-
-abbrev pub decreases-loop-k : goal.decreases-loop-k
-decreases-loop-k l = 4 - l.k

@@ -1,44 +1,54 @@
--- `predict::is_extrapolating` meets its contract, by the first side that has no neighbour. Assumes nothing.
-use mathlib.Core.Path.{◌≡◌, sym, ◌∙◌, ap}
-use mathlib.Core.Bool.{true, not}
+-- `predict::is_extrapolating` meets its contract: the four sides, one after the other. Assumes nothing.
+use mathlib.Core.Path.{◌≡◌, refl, sym, ap, ◌∙◌}
+use mathlib.Core.Bool.{Bool, true, false, not, ◌&&◌}
 use Prim.Native.Nat.{ℕ}
-use borrow.Author.Tests.{not-true, not-false}
-use Rattle.sheet.specs.Corners.{seen_of}
 use Rattle.sheet.specs.declared.Corner.{Corner}
+use Rattle.sheet.specs.Corners.{seen_of}
 use Rattle.predict.specs.Predict.{has_neighbour, extrapolating}
 use Rattle.predict.specs.declared.Side.{Side}
 use Rattle.predict.proofs.is_extrapolating.Goals as goal
-use Rattle.predict.proofs.is_extrapolating.Goals.{Else-not-has_neighbour, Else-not-has_neighbour-2, Else-not-has_neighbour-3, Start}
+use Rattle.predict.proofs.is_extrapolating.Goals.{Start, Joined-has_neighbour-3, then-has_neighbour, else-has_neighbour, then-has_neighbour-2, else-has_neighbour-2, then-has_neighbour-3, else-has_neighbour-3}
 
--- the sides that were passed have a neighbour
-abbrev has : Start → (ℕ → Corner) → Side → Type 0
-has s corner side = has_neighbour (seen_of corner s.args.sheet.now) s.args.c side ≡ true
+-- a test more after one that passed, and after one that did not
+more : {r s x a b : Bool} → s ≡ a → s ≡ true → r ≡ x → x ≡ b → r ≡ (a && b)
+more p q e f = e ∙ f ∙ rw (sym p ∙ q)
 
-minus_i : (c : Else-not-has_neighbour) (corner : ℕ → Corner) → has (goal.at.Else-not-has_neighbour c).Start corner Side.MinusI
-minus_i c corner = sym (c.has_neighbour.ensures corner) ∙ not-false _ (ap not c.if-not-has_neighbour.false)
+less : {r s a : Bool} (b : Bool) → s ≡ a → s ≡ false → r ≡ s → r ≡ (a && b)
+less b p q e = e ∙ q ∙ rw (sym p ∙ q)
 
-plus_i : (c : Else-not-has_neighbour-2) (corner : ℕ → Corner) → has (goal.at.Else-not-has_neighbour-2 c).Start corner Side.PlusI
-plus_i c corner = sym (c.has_neighbour-2.ensures corner) ∙ not-false _ (ap not c.if-not-has_neighbour-2.false)
+regroup : (a b c d : Bool) → (((a && b) && c) && d) ≡ (a && b && c && d)
+regroup true b c d = and_then b
+  where
+    and_then : (b : Bool) → ((b && c) && d) ≡ (b && c && d)
+    and_then true = refl
+    and_then false = refl
+regroup false b c d = refl
 
-minus_j : (c : Else-not-has_neighbour-3) (corner : ℕ → Corner) → has (goal.at.Else-not-has_neighbour-3 c).Start corner Side.MinusJ
-minus_j c corner = sym (c.has_neighbour-3.ensures corner) ∙ not-false _ (ap not c.if-not-has_neighbour-3.false)
+module _ (c : Joined-has_neighbour-3) (corner : ℕ → Corner) where
+  abbrev on : Side → Bool
+  on side = has_neighbour (seen_of corner c.args.sheet.now) c.args.c side
 
-pub returns-then-not-has_neighbour : goal.returns-then-not-has_neighbour
-unfolding extrapolating
-returns-then-not-has_neighbour c = λ corner. rw (sym (c.has_neighbour.ensures corner) ∙ not-true _ (ap not c.if-not-has_neighbour.true))
+  two : c.if-has_neighbour.value ≡ (on Side.MinusI && on Side.PlusI)
+  two = elim c.if-has_neighbour.branch [
+    | then-has_neighbour w ↦ more (c.has_neighbour.ensures corner) w.if-has_neighbour.true w.value-is (w.has_neighbour-then-has_neighbour.ensures corner)
+    | else-has_neighbour w ↦ less _ (c.has_neighbour.ensures corner) w.if-has_neighbour.false w.value-is
+  ]
 
-pub returns-then-not-has_neighbour-2 : goal.returns-then-not-has_neighbour-2
-unfolding extrapolating
-returns-then-not-has_neighbour-2 c = λ corner. rw (minus_i (goal.at.returns-then-not-has_neighbour-2 c).Else-not-has_neighbour corner, sym (c.has_neighbour-2.ensures corner) ∙ not-true _ (ap not c.if-not-has_neighbour-2.true))
+  three : c.if-has_neighbour-2.value ≡ ((on Side.MinusI && on Side.PlusI) && on Side.MinusJ)
+  three = elim c.if-has_neighbour-2.branch [
+    | then-has_neighbour-2 w ↦ more two w.if-has_neighbour-2.true w.value-is (w.has_neighbour-then-has_neighbour-2.ensures corner)
+    | else-has_neighbour-2 w ↦ less _ two w.if-has_neighbour-2.false w.value-is
+  ]
 
-pub returns-then-not-has_neighbour-3 : goal.returns-then-not-has_neighbour-3
-unfolding extrapolating
-returns-then-not-has_neighbour-3 c =
-    λ corner.
-    rw (minus_i (goal.at.returns-then-not-has_neighbour-3 c).Else-not-has_neighbour corner, plus_i (goal.at.returns-then-not-has_neighbour-3 c).Else-not-has_neighbour-2 corner, sym (c.has_neighbour-3.ensures corner) ∙ not-true _ (ap not c.if-not-has_neighbour-3.true))
+  four : c.if-has_neighbour-3.result ≡ (((on Side.MinusI && on Side.PlusI) && on Side.MinusJ) && on Side.PlusJ)
+  four = elim c.if-has_neighbour-3.branch [
+    | then-has_neighbour-3 w ↦ more three w.if-has_neighbour-3.true w.result-is (w.has_neighbour-then-has_neighbour-3.ensures corner)
+    | else-has_neighbour-3 w ↦ less _ three w.if-has_neighbour-3.false w.result-is
+  ]
+
+  all : c.if-has_neighbour-3.result ≡ (on Side.MinusI && on Side.PlusI && on Side.MinusJ && on Side.PlusJ)
+  all = four ∙ regroup (on Side.MinusI) (on Side.PlusI) (on Side.MinusJ) (on Side.PlusJ)
 
 pub returns : goal.returns
 unfolding extrapolating
-returns c =
-    λ corner.
-    rw (minus_i (goal.at.returns c).Else-not-has_neighbour corner, plus_i (goal.at.returns c).Else-not-has_neighbour-2 corner, minus_j (goal.at.returns c).Else-not-has_neighbour-3 corner, c.has_neighbour-4.ensures corner)
+returns c = λ corner. ap not (all c corner)

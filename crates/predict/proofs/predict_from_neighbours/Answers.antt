@@ -4,7 +4,7 @@ use mathlib.Core.Path.{sym, ap, ◌∙◌}
 use borrow.Author.Tests.{not-true, not-false}
 use Rattle.predict.specs.Predict.{mean_of}
 use Rattle.predict.specs.declared.Sums.{Sums}
-use Rattle.predict.specs.declared.Prediction.{Prediction}
+use Rattle.std.specs.Prelude.{Some}
 use Rattle.predict.proofs.Laws.{predicted_none, predicted_some}
 use Rattle.predict.proofs.predict_from_neighbours.Goals as goal
 
@@ -14,5 +14,5 @@ returns-then-not-has_neighbour c = sym (predicted_none _ _ _ (sym (c.has_neighbo
 pub returns : goal.returns
 unfolding mean_of
 returns c =
-    ap (λ (s : Sums). Prediction.At (mean_of s)) c.sum_neighbours-sums.ensures
+    ap (λ (s : Sums). Some (mean_of s)) c.sum_neighbours-sums.ensures
     ∙ sym (predicted_some _ _ _ (sym (c.has_neighbour.ensures _) ∙ not-false _ (ap not c.if-not-has_neighbour.false)))

@@ -1,22 +1,19 @@
--- `predict::sum_neighbours` meets its contract. The loop's invariant: the sums so far, run on from the k-th cell, are all the sums. Assumes nothing.
-use mathlib.Core.Path.{refl, sym, ◌∙◌}
-use Prim.Native.Nat.{◌-◌}
-use native.Mathlib.Omega.{arith}
-use Rattle.predict.specs.Predict.{neighbours_of, no_sums, sums_of}
-use Rattle.predict.proofs.Laws.{sums_next, sums_end}
+-- `predict::sum_neighbours` meets its contract: the cells of the square, one after the other. Assumes nothing.
+use mathlib.Core.Path.{◌∙◌}
+use Prim.Native.Nat.{ℕ}
+use Rattle.std.proofs.Common.{rules, arith}
+use Rattle.std.proofs.lemmas.Iterator.{YieldsList-from_range}
+use Rattle.std.proofs.lemmas.Iterator.Consumers.{fold_from_yields_List}
+use Rattle.sheet.specs.Corners.{corner_in, seen_of}
+use Rattle.predict.specs.Predict.{with_cell, square_cell, no_sums, sums_of}
+use Rattle.predict.specs.declared.Sums.{Sums}
+use Rattle.predict.proofs.Laws.{sums_all}
 use Rattle.predict.proofs.sum_neighbours.Goals as goal
 
-pub loop-k-init : goal.loop-k-init
-unfolding neighbours_of no_sums sums_of
-loop-k-init c = (omega arith, refl)
-
-pub add_if_labelled-more-requires : goal.add_if_labelled-more-requires
-add_if_labelled-more-requires c =
-    record { given = c.requires.given; on = c.requires.on; small = omega arith }
-
-pub loop-k-preserved : goal.loop-k-preserved
-loop-k-preserved c =
-    (omega arith, rw c.add_if_labelled-more.ensures (sym (sums_next _ _ _ _ _ c.loop-k-test.true) ∙ c.loop-k.invariant.1))
-
 pub returns : goal.returns
-returns c = sym (sums_end _ _ _ _ _ c.loop-k.invariant.0 c.loop-k-test.false) ∙ c.loop-k.invariant.1
+unfolding no_sums sums_of
+returns c =
+    let a = c.args in
+    fold_from_yields_List _ (λ (s : Sums) (k : ℕ). with_cell (seen_of (corner_in a.corners.now) a.sheet.now) a.grid a.c s (square_cell a.c k)) _ c.fold.result c.fold.ensures.ran
+    (YieldsList-from_range 0 8 8 (cc) (omega arith)) (λ s x b q k. search rules)
+    ∙ sums_all (seen_of (corner_in a.corners.now) a.sheet.now) a.c a.grid _

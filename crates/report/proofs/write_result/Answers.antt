@@ -5,16 +5,16 @@ use Rattle.report.proofs.Answers.{text_asked, text_refused, text_written_lem}
 use Rattle.report.proofs.write_result.Goals as goal
 
 pub write_all-requires : goal.write_all-requires
-write_all-requires c = text_asked (text_lent c.args.corners c.args.passes c.args.words.now c.args.sheet.now) c.args.out.now (sym c.check_text-checked.ensures ∙ c.in-Fine.is)
+write_all-requires c = text_asked (text_lent c.args.corners c.args.passes c.args.words.now c.args.sheet.now) c.args.out.now (sym c.check_text-checked.ensures ∙ c.in-Ok.is)
 
-pub returns-in-Refused : goal.returns-in-Refused
-returns-in-Refused c =
+pub returns-in-Err : goal.returns-in-Err
+returns-in-Err c =
     let both_clauses =
-    text_refused (text_lent c.args.corners c.args.passes c.args.words.now c.args.sheet.now) c.args.out.now _ (sym c.check_text-checked.ensures ∙ c.in-Refused.is) in
+    text_refused (text_lent c.args.corners c.args.passes c.args.words.now c.args.sheet.now) c.args.out.now _ (sym c.check_text-checked.ensures ∙ c.in-Err.is) in
     record { out_after = both_clauses.0; said = both_clauses.1 }
 
-pub returns-in-Fine : goal.returns-in-Fine
-returns-in-Fine c =
+pub returns-in-Ok : goal.returns-in-Ok
+returns-in-Ok c =
     let both_clauses =
-    text_written_lem (text_lent c.args.corners c.args.passes c.args.words.now c.args.sheet.now) c.args.out.now _ _ (sym c.check_text-checked.ensures ∙ c.in-Fine.is) c.write_all.ensures in
+    text_written_lem (text_lent c.args.corners c.args.passes c.args.words.now c.args.sheet.now) c.args.out.now _ _ (sym c.check_text-checked.ensures ∙ c.in-Ok.is) c.write_all.ensures in
     record { out_after = both_clauses.0; said = both_clauses.1 }

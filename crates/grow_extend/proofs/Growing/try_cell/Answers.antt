@@ -7,8 +7,8 @@ use Rattle.grow_extend.specs.Grow.{held}
 use Rattle.grow_extend.proofs.Laws.{found_none, found_at_lem}
 use Rattle.grow_extend.proofs.Growing.try_cell.Goals as goal
 
-pub returns-in-NoNeighbour : goal.returns-in-NoNeighbour
-returns-in-NoNeighbour c = found_none _ _ _ _ _ c.predict_from_neighbours-prediction.ensures c.in-NoNeighbour.is
+pub returns-in-None : goal.returns-in-None
+returns-in-None c = found_none _ _ _ _ _ c.predict_from_neighbours-prediction.ensures c.in-None.is
 
-pub returns-in-At : goal.returns-in-At
-returns-in-At c = found_at_lem _ _ _ _ _ c.predict_from_neighbours-prediction.ensures c.in-At.is (c.is_extrapolating.ensures (corner_in c.args.self.now.corners.now)) c.search.ensures (c.try_attach_at_cell.ensures ∙ ap (λ (t : Tolerances). try_at (held c.args.self.now) c.args.self.now.sheet.now t c.search.result c.args.c c.in-At.at) c.tolerances.ensures)
+pub returns-in-Some : goal.returns-in-Some
+returns-in-Some c = found_at_lem _ _ _ _ _ c.predict_from_neighbours-prediction.ensures c.in-Some.is (c.is_extrapolating.ensures (corner_in c.args.self.now.corners.now)) c.search.ensures (c.try_attach_at_cell.ensures ∙ ap (λ (t : Tolerances). try_at (held c.args.self.now) c.args.self.now.sheet.now t c.search.result c.args.c c.in-Some.at) c.tolerances.ensures)

@@ -3,15 +3,18 @@ use mathlib.Core.Path.{sym, ◌∙◌}
 use Rattle.report.specs.WriteResult.{text_lent}
 use Rattle.report.proofs.Checking.{all_lent, corners_asked, text_7, text_7_too, text_2, text_3, text_rest}
 use Rattle.report.proofs.tests.check_text.Goals as goal
+use Rattle.report.proofs.tests.check_text.Goals.{then-input_short-via-then-input_short, then-input_short-via-else-input_short+then-text_short}
 
 pub returns-then-input_short : goal.returns-then-input_short
-returns-then-input_short c = text_7 (text_lent c.args.corners c.args.passes c.args.words.now c.args.sheet.now) c.args.room (sym c.input_short.ensures ∙ c.if-input_short.true)
+returns-then-input_short c =
+    elim c.then-input_short.branch [
+      | then-input_short-via-then-input_short w ↦ text_7 (text_lent c.args.corners c.args.passes c.args.words.now c.args.sheet.now) c.args.room (sym c.input_short.ensures ∙ w.if-input_short.true)
+      | then-input_short-via-else-input_short+then-text_short w ↦
+          text_7_too (text_lent c.args.corners c.args.passes c.args.words.now c.args.sheet.now) c.args.room (sym c.input_short.ensures ∙ w.if-input_short.false) (sym w.text_short.ensures ∙ w.if-text_short.true)
+    ]
 
 pub text_short-requires : goal.text_short-requires
 text_short-requires c = all_lent (text_lent c.args.corners c.args.passes c.args.words.now c.args.sheet.now) (sym c.input_short.ensures ∙ c.if-input_short.false)
-
-pub returns-then-text_short : goal.returns-then-text_short
-returns-then-text_short c = text_7_too (text_lent c.args.corners c.args.passes c.args.words.now c.args.sheet.now) c.args.room (sym c.input_short.ensures ∙ c.if-input_short.false) (sym c.text_short.ensures ∙ c.if-text_short.true)
 
 pub returns-then-over_limit : goal.returns-then-over_limit
 returns-then-over_limit c = text_2 (text_lent c.args.corners c.args.passes c.args.words.now c.args.sheet.now) c.args.room (sym c.input_short.ensures ∙ c.if-input_short.false) (sym c.text_short.ensures ∙ c.if-text_short.false) (sym c.over_limit.ensures ∙ c.if-over_limit.true)
