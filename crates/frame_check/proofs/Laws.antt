@@ -1,10 +1,19 @@
 -- Laws of the checks in order: what is fine, checks that say the same, a label that can be written, and a shade's corner. Assumes nothing.
-use Rattle.std.specs.Prelude.{Ok}
-use mathlib.Core.Path.{◌≡◌, refl, ap}
-use mathlib.Core.Bool.{Bool, true, false}
-use Prim.Native.Nat.{ℕ, ◌<◌}
+use Rattle.std.specs.Prelude.{Ok, Err}
+use mathlib.Core.Path.{◌≡◌, refl, ap, ap₂, ◌∙◌}
+use mathlib.Core.Bool.{Bool, true, false, ◌||◌}
+use mathlib.Core.List.{List}
+use Prim.Native.Nat.{ℕ, zero, suc, ◌+◌, ◌<◌, ◌≤◌}
 use native.Mathlib.Omega.{arith}
-use lib.ListN.{get_or}
+use lib.Dec.{eqb}
+use lib.ListN.{length, get_or, take, drop, length-drop}
+use Rattle.std.specs.List.{list_any}
+use Rattle.std.proofs.Math.Bool.{or_comm, or-false}
+use Rattle.std.proofs.Math.Seq.{take-suc}
+use Rattle.std.proofs.lemmas.List.{get_or-drop}
+use Rattle.std.proofs.lemmas.List.Folds.{list_any-append}
+use Rattle.labels.specs.Labelled.{any_below}
+use Rattle.labels.proofs.Below.{any_ext}
 use Rattle.refusal.specs.declared.Refusal.{Refusal}
 use Rattle.arguments.specs.Arguments.{Checked, refused_if}
 use Rattle.arguments.proofs.Chains.{not_refused}
@@ -16,7 +25,16 @@ use Rattle.frame_line.specs.declared.Sort.{Sort}
 use Rattle.frame_line.proofs.Shapes.{row_of, row_of_lem}
 use Rattle.frame_line.proofs.Words.{label_on, corner_known}
 use Rattle.sizes.specs.Sizes.{corner_limit}
-use Rattle.frame_check.specs.Checks.{checks_in_order, LabelFits, SetFits, NumbersFine}
+use Rattle.frame_check.specs.Checks.{checks_in_order, has_place, LabelFits, NumbersFine}
+
+-- a check that holds refuses, whatever comes behind it, and one that does not is passed
+pub refused_here : (b : Bool) (r : Refusal) (rest : Checked) {x y : Refusal} → x ≡ y → Err y ≡ refused_if b r (Ok tt) → Err x ≡ refused_if b r rest
+refused_here true r rest d e = ap Err d ∙ e
+refused_here false r rest d e = absurd (let z : ◌≡◌ {A = ℕ} 0 1 = cc in omega arith)
+
+pub passed : (b : Bool) (r : Refusal) (rest : Checked) → Ok tt ≡ refused_if b r (Ok tt) → rest ≡ refused_if b r rest
+passed true r rest e = absurd (let z : ◌≡◌ {A = ℕ} 0 1 = cc in omega arith)
+passed false r rest e = refl
 
 -- what all checks found of a line that is fine
 pub record AllFine (outside : ℕ → Bool) (over twice : Bool) : Type 0 where
@@ -62,6 +80,22 @@ checks_alike f g over twice twice' e t =
     refused_alike (f 5) (g 5) Refusal.UnknownCorner _ _ (e 5)
     (λ known. ap (λ (x : Bool). refused_if x Refusal.Duplicate (Ok tt)) (t on known))))))
 
+-- ---- a place among those of the second set
+
+listed : (f : ℕ → Bool) (xs : List ℕ) (n : ℕ) → n ≤ length xs → list_any f (take n xs) ≡ any_below n (λ i. f (get_or xs i 0))
+unfolding any_below
+listed f xs zero h = refl
+listed f xs (suc n) h =
+    let k : n < length xs = omega arith in
+    rw (take-suc xs n 0 k, list_any-append f (take n xs))
+    (ap₂ ◌||◌ (listed f xs n (omega arith)) (or-false (f (get_or xs n 0))) ∙ or_comm (any_below n (λ i. f (get_or xs i 0))) (f (get_or xs n 0)))
+
+pub place_among : (second : List ℕ) (n m place : ℕ) → corner_limit + n ≤ length second → m ≡ n → list_any (λ y. eqb y place) (take m (drop corner_limit second)) ≡ any_below n (has_place second place)
+place_among second n m place h e =
+    rw e
+    (listed (λ y. eqb y place) (drop corner_limit second) n (omega (arith, length-drop corner_limit second))
+    ∙ any_ext _ _ n (λ i l. ap (λ (x : ℕ). eqb x place) (get_or-drop corner_limit second i 0)))
+
 -- ---- a label and a shade
 
 -- the corner of either has an entry
@@ -73,9 +107,6 @@ pub label_fits : (n m : ℕ) (line : HeldLine) → NumbersFine n m line → kind
 unfolding sort_at sort_of row_at rows
 label_fits n m line f e =
     record { on = label_on n line (row_of_lem line.row Kind.Label f.fits.row_fits e) f.on; entry = corner_fits n m line f Kind.Label e refl }
-
-pub set_fits : (n m : ℕ) (line : HeldLine) → NumbersFine n m line → kind_at line.row ≡ Kind.Label → SetFits m (label_in line.values)
-set_fits n m line f e = record { few = f.fits.labels_few; label = label_fits n m line f e }
 
 pub shade_fits : (n m : ℕ) (line : HeldLine) → NumbersFine n m line → kind_at line.row ≡ Kind.Shade → (shade_in line.values).corner < corner_limit
 unfolding sort_at sort_of row_at rows

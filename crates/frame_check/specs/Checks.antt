@@ -83,11 +83,6 @@ pub record LabelFits (l : HeldLabel) : Type 0 where
   pub on : OnSheet l.cell
   pub entry : l.corner < corner_limit
 
--- a label, and n labels of the second set
-pub record SetFits (n : ℕ) (l : HeldLabel) : Type 0 where
-  pub few : n ≤ corner_limit
-  pub label : LabelFits l
-
 -- n corners, and m labels of the second set
 pub record LineFits (n m : ℕ) (line : HeldLine) : Type 0 where
   pub few : n ≤ corner_limit

@@ -2,136 +2,128 @@
 
 #![tactic(auto)]
 
-ghost use Rattle.std.specs.Prelude.{◌≡◌, ◌<◌, ◌≤◌};
+ghost use Rattle.std.specs.Prelude.{◌≡◌, ◌<◌, ◌≤◌, Ok};
 ghost use Rattle.labels.specs.Labelled.{any_below};
 ghost use Rattle.frame_line.specs.Table.{row_count, kind_at};
 ghost use Rattle.sizes.specs.Sizes.{corner_limit};
-ghost use Rattle.frame_check.specs.Checks.{over_limit, first_twice, has_place, second_twice, label_twice, shade_twice, twice_held, checked_held, LabelFits, SetFits, LineFits, NumbersFine};
+ghost use Rattle.arguments.specs.Arguments.{refused_if};
+ghost use Rattle.frame_check.specs.Checks.{over_limit, first_twice, has_place, second_twice, label_twice, shade_twice, twice_held, checked_held, LabelFits, LineFits, NumbersFine};
 
 use frame_line::{HeldLabel, HeldLine, HeldShade, Kind};
-use frame_number::has_refusal;
 use refusal::Refusal;
 use sizes::{CORNERS, PASSES, PLACES, SECOND, USED};
 
 // 2: whether there are as many corners or passes already as there may be.
+#[tactic(auto, unfolding(crate::specs::Checks::over_limit))]
 fn over_limit(corners: usize, passes: usize, row: usize) -> bool
     requires { row < row_count }
     ensures { result ≡ over_limit corners passes (kind_at row) }
 {
-    let kind = frame_line::kind_of(row);
-    match kind {
-        Kind::Opening(_) => false,
+    match frame_line::kind_of(row) {
         Kind::Corner => CORNERS <= corners,
-        Kind::Label => false,
-        Kind::Patch => false,
-        Kind::Shade => false,
         Kind::Pass(_) => PASSES <= passes,
+        Kind::Opening(_) | Kind::Label | Kind::Patch | Kind::Shade => false,
     }
 }
 
-// 6 of a label of the first set: whether its cell or its corner has a label already.
-fn first_twice(sheet: &[u16; PLACES], used: &[u8; USED], label: HeldLabel) -> bool
-    requires { LabelFits label }
-    ensures { result ≡ first_twice sheet.now used.now label }
+// Refuses what holds.
+fn refuse_if(holds: bool, refusal: Refusal) -> Result<(), Refusal>
+    ensures { result ≡ refused_if holds refusal (Ok tt) }
 {
-    let place = sheet::place_of(label.cell);
-    if sheet[place] != 0 {
-        return true;
-    }
-    let corner = label.corner;
-    used[corner] != 0
+    if holds { Err(refusal) } else { Ok(()) }
 }
 
-// Whether one of the first n labels of the second set has this place.
-fn place_taken(second: &[u16; SECOND], n: usize, place: u16) -> bool
-    requires { n ≤ corner_limit }
-    ensures { result ≡ any_below n (has_place second.now place) }
-{
-    let mut i = 0usize;
-    while i < n {
-        if second[CORNERS + i] == place {
-            return true;
-        }
-        i += 1;
-    }
-    false
-}
-
-// 6 of a label of the second set, which has n labels: whether one of them has its cell or its corner.
-fn second_twice(used: &[u8; USED], second: &[u16; SECOND], n: usize, label: HeldLabel) -> bool
-    requires { SetFits n label }
-    ensures { result ≡ second_twice used.now second.now n label }
-{
-    let place = sheet::place_of(label.cell);
-    if place_taken(second, n, place as u16) {
-        return true;
-    }
-    let corner = label.corner;
-    used[CORNERS + corner] != 0
-}
-
-// 6 of a label, in the set that is open: the second once the patch line stands.
-fn label_twice(
-    patched: bool,
-    sheet: &[u16; PLACES],
-    used: &[u8; USED],
-    second: &[u16; SECOND],
-    n: usize,
-    label: HeldLabel,
-) -> bool
-    requires { SetFits n label }
-    ensures { result ≡ label_twice patched sheet.now used.now second.now n label }
-{
-    if patched {
-        return second_twice(used, second, n, label);
-    }
-    first_twice(sheet, used, label)
-}
-
-// 6 of a shade: whether its corner has a shade already.
-fn shade_twice(shades: &[u8; CORNERS], shade: HeldShade) -> bool
-    requires { shade.corner < corner_limit }
-    ensures { result ≡ shade_twice shades.now shade }
-{
-    let corner = shade.corner;
-    shades[corner] != 0
-}
-
-// 6: a label's, a shade's, and none of any other line.
-fn is_twice(
+// What the lines before said that a line is checked against: how many corners and passes there are, whether the patch line stands, the shades (0 where
+// none stands yet), the sheet of the first set, the corners used, and the labels of the second set, of which there are `labels`.
+#[derive(Clone, Copy)]
+struct Said<'a> {
     corners: usize,
+    passes: usize,
     patched: bool,
-    shades: &[u8; CORNERS],
-    sheet: &[u16; PLACES],
-    used: &[u8; USED],
-    second: &[u16; SECOND],
+    shades: &'a [u8; CORNERS],
+    sheet: &'a [u16; PLACES],
+    used: &'a [u8; USED],
+    second: &'a [u16; SECOND],
     labels: usize,
-    line: HeldLine,
-) -> bool
-    requires { NumbersFine corners labels line }
-    ensures { result ≡ twice_held patched shades.now sheet.now used.now second.now labels line }
-{
-    let kind = frame_line::kind_of(line.row);
-    match kind {
-        Kind::Opening(_) => false,
-        Kind::Corner => false,
-        Kind::Label => {
-            let values = line.values;
-            label_twice(
-                patched,
-                sheet,
-                used,
-                second,
-                labels,
-                frame_number::label_of(values),
-            )
+    ghost few: { corners ≤ corner_limit },
+    ghost labels_few: { labels ≤ corner_limit },
+}
+
+impl<'a> Said<'a> {
+    // 6 of a label of the first set: whether its cell or its corner has a label already.
+    fn first_twice(&self, label: HeldLabel) -> bool
+        requires { LabelFits label }
+        ensures { result ≡ first_twice self.now.sheet.now self.now.used.now label }
+    {
+        self.sheet[sheet::place_of(label.cell)] != 0 || self.used[label.corner] != 0
+    }
+
+    // Whether one of the labels of the second set has this place.
+    fn place_taken(&self, place: u16) -> bool
+        ensures { result ≡ any_below self.now.labels (has_place self.now.second.now place) }
+    {
+        let second = self.second;
+        second[CORNERS..CORNERS + self.labels].contains(&place)
+    }
+
+    // 6 of a label of the second set: whether one of them has its cell or its corner.
+    fn second_twice(&self, label: HeldLabel) -> bool
+        requires { LabelFits label }
+        ensures { result ≡ second_twice self.now.used.now self.now.second.now self.now.labels label }
+    {
+        self.place_taken(sheet::place_of(label.cell) as u16)
+            || self.used[CORNERS + label.corner] != 0
+    }
+
+    // 6 of a label, in the set that is open: the second once the patch line stands.
+    fn label_twice(&self, label: HeldLabel) -> bool
+        requires { LabelFits label }
+        ensures { result ≡ label_twice self.now.patched self.now.sheet.now self.now.used.now self.now.second.now self.now.labels label }
+    {
+        if self.patched {
+            self.second_twice(label)
+        } else {
+            self.first_twice(label)
         }
-        Kind::Patch => false,
-        Kind::Shade => {
-            let values = line.values;
-            shade_twice(shades, frame_number::shade_of(values))
+    }
+
+    // 6 of a shade: whether its corner has a shade already.
+    fn shade_twice(&self, shade: HeldShade) -> bool
+        requires { shade.corner < corner_limit }
+        ensures { result ≡ shade_twice self.now.shades.now shade }
+    {
+        self.shades[shade.corner] != 0
+    }
+
+    // 6: a label's, a shade's, and none of any other line.
+    #[tactic(auto, unfolding(crate::specs::Checks::twice_of))]
+    fn is_twice(&self, line: HeldLine) -> bool
+        requires { NumbersFine self.now.corners self.now.labels line }
+        ensures { result ≡ twice_held self.now.patched self.now.shades.now self.now.sheet.now self.now.used.now self.now.second.now self.now.labels line }
+    {
+        match frame_line::kind_of(line.row) {
+            Kind::Label => self.label_twice(frame_number::label_of(line.values)),
+            Kind::Shade => self.shade_twice(frame_number::shade_of(line.values)),
+            Kind::Opening(_) | Kind::Corner | Kind::Patch | Kind::Pass(_) => false,
         }
-        Kind::Pass(_) => false,
+    }
+
+    // All checks of a line, in order.
+    fn check(&self, line: HeldLine) -> Result<(), Refusal>
+        requires { line.row < row_count }
+        ensures { result ≡ checked_held self.now.corners self.now.passes self.now.patched self.now.shades.now self.now.sheet.now self.now.used.now
+            self.now.second.now self.now.labels line }
+    {
+        let found = frame_number::refusals_of(self.corners as u32, line);
+        refuse_if(found.malformed, Refusal::Malformed)?;
+        refuse_if(
+            over_limit(self.corners, self.passes, line.row),
+            Refusal::OverLimit,
+        )?;
+        refuse_if(found.out_of_range, Refusal::OutOfRange)?;
+        refuse_if(found.off_sheet, Refusal::OffSheet)?;
+        refuse_if(found.unknown_corner, Refusal::UnknownCorner)?;
+        refuse_if(self.is_twice(line), Refusal::Duplicate)
     }
 }
 
@@ -152,25 +144,15 @@ pub fn check_line(
     ensures { result ≡ checked_held corners passes patched shades.now sheet.now used.now second.now labels
         line }
 {
-    let given = corners as u32;
-    let found = frame_number::refusals_of(given, line);
-    if has_refusal(found, 1) {
-        return Err(Refusal::Malformed);
-    }
-    if over_limit(corners, passes, line.row) {
-        return Err(Refusal::OverLimit);
-    }
-    if has_refusal(found, 3) {
-        return Err(Refusal::OutOfRange);
-    }
-    if has_refusal(found, 4) {
-        return Err(Refusal::OffSheet);
-    }
-    if has_refusal(found, 5) {
-        return Err(Refusal::UnknownCorner);
-    }
-    if is_twice(corners, patched, shades, sheet, used, second, labels, line) {
-        return Err(Refusal::Duplicate);
-    }
-    Ok(())
+    let said = Said {
+        corners,
+        passes,
+        patched,
+        shades,
+        sheet,
+        used,
+        second,
+        labels,
+    };
+    said.check(line)
 }

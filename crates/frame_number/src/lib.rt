@@ -2,13 +2,12 @@
 
 #![tactic(auto)]
 
-ghost use Rattle.std.specs.Prelude.{◌≡◌, cond, ◌<◌, ◌≤◌, ◌*◌, min};
+ghost use Rattle.std.specs.Prelude.{◌≡◌, ◌<◌, ◌≤◌};
+ghost use Rattle.std.specs.Option.{unwrap_or};
 ghost use Rattle.sizes.specs.Sizes.{corner_limit};
-ghost use Rattle.labels.specs.Labelled.{any_below};
-ghost use Rattle.line_form.specs.Integers.{offset};
 ghost use Rattle.frame_line.specs.Table.{row_count, sort_of};
 ghost use Rattle.frame_line.specs.Checks.{wild_bits};
-ghost use Rattle.frame_line.specs.Held.{count_in, cell_in, label_in, shade_in, beyond, refusal_in, refusals_in, is_refusal};
+ghost use Rattle.frame_line.specs.Held.{count_in, cell_in, label_in, shade_in, beyond, refusal_in, outside_held};
 
 use binary32::ranges::Quantity;
 use frame_line::{HeldLabel, HeldLine, HeldShade, Sort};
@@ -34,6 +33,7 @@ const LARGEST: u32 = 2 * OFFSET;
 const ZERO: i32 = OFFSET as i32;
 
 // What a letter of the table stands for.
+#[tactic(auto, unfolding(frame_line::specs::Table::sort_of))]
 fn sort_of(letter: u8) -> Sort
     ensures { result ≡ sort_of letter }
 {
@@ -55,108 +55,82 @@ fn sort_of(letter: u8) -> Sort
 }
 
 // Whether the float of a pattern is not in the range of its quantity. What is not finite is in none.
+#[tactic(auto, unfolding(frame_line::specs::Checks::wild_bits, arguments::specs::Arguments::outside), using(frame_line::proofs::Checking::wild_infinite))]
 fn is_wild(q: Quantity, bits: u32) -> bool
     ensures { result ≡ wild_bits q bits }
 {
-    if 0x7f80_0000 <= bits % 0x8000_0000 {
-        return true;
-    }
-    let x = f32::from_bits(bits);
-    !binary32::ranges::in_range(q, x)
+    0x7f80_0000 <= bits % 0x8000_0000 || !binary32::ranges::in_range(q, f32::from_bits(bits))
 }
 
 // Whether an integer as it is held is not from low to high.
 fn is_beyond(low: u32, high: u32, word: u32) -> bool
     ensures { result ≡ beyond low high word }
 {
-    if word < low {
-        return true;
-    }
-    high < word
+    word < low || high < word
 }
 
-// A refusal, or 0 where it does not hold.
-fn refusal_if(holds: bool, refusal: u32) -> u32
-    ensures { result ≡ cond holds refusal 0 }
-{
-    if holds {
-        return refusal;
-    }
-    0
-}
-
-// The refusal of a number, 0 where it has none.
-fn refusal_of(corners: u32, sort: Sort, word: u32) -> u32
+// The refusal of a number, if it has one. A sort has its refusal by number (crate frame_line).
+#[tactic(auto, unfolding(frame_line::specs::Held::refusal_in))]
+fn refusal_of(corners: u32, sort: Sort, word: u32) -> Option<u32>
     requires { corners ≤ corner_limit }
-    ensures { result ≡ refusal_in corners sort word }
+    ensures { unwrap_or result 0 ≡ refusal_in corners sort word }
 {
     match sort {
-        Sort::Nothing => 0,
-        Sort::Float(q) => refusal_if(is_wild(q, word), 3),
-        Sort::Whole(refusal, low, high) => refusal_if(is_beyond(low, high, word), refusal),
-        Sort::Corner => refusal_if(is_beyond(OFFSET, MINUS_ONE + corners, word), 5),
+        Sort::Nothing => None,
+        Sort::Float(q) => is_wild(q, word).then_some(3),
+        Sort::Whole(refusal, low, high) => is_beyond(low, high, word).then_some(refusal),
+        Sort::Corner => is_beyond(OFFSET, MINUS_ONE + corners, word).then_some(5),
     }
+}
+
+// Which refusals some number of a line has.
+#[derive(Clone, Copy)]
+pub struct NumberRefusals {
+    pub malformed: bool,
+    pub out_of_range: bool,
+    pub off_sheet: bool,
+    pub unknown_corner: bool,
 }
 
 // The refusals of a line's numbers, by the letters of its row.
-pub fn refusals_of(corners: u32, line: HeldLine) -> [u32; 5]
+pub fn refusals_of(corners: u32, line: HeldLine) -> NumberRefusals
     requires { (line.row < row_count) × (corners ≤ corner_limit) }
-    ensures { result ≡ refusals_in corners line }
+    ensures malformed { result.malformed ≡ outside_held 1 corners line }
+    ensures out_of_range { result.out_of_range ≡ outside_held 3 corners line }
+    ensures off_sheet { result.off_sheet ≡ outside_held 4 corners line }
+    ensures unknown_corner { result.unknown_corner ≡ outside_held 5 corners line }
 {
     let letters = frame_line::letters_of(line.row);
     let v = line.values;
-    [
+    let found = [
         refusal_of(corners, sort_of(letters[0]), v[0]),
         refusal_of(corners, sort_of(letters[1]), v[1]),
         refusal_of(corners, sort_of(letters[2]), v[2]),
         refusal_of(corners, sort_of(letters[3]), v[3]),
         refusal_of(corners, sort_of(letters[4]), v[4]),
-    ]
-}
-
-// Whether a refusal is among those of a line's numbers.
-pub fn has_refusal(found: [u32; 5], number: u32) -> bool
-    ensures { result ≡ any_below 5 (is_refusal found number) }
-{
-    let mut m = 0usize;
-    while m < 5 {
-        if number == found[m] {
-            return true;
-        }
-        m += 1;
+    ];
+    NumberRefusals {
+        malformed: found.contains(&Some(1)),
+        out_of_range: found.contains(&Some(3)),
+        off_sheet: found.contains(&Some(4)),
+        unknown_corner: found.contains(&Some(5)),
     }
-    false
-}
-
-// A word cut to LARGEST.
-fn capped(word: u32) -> u32
-    ensures { result ≡ min (2 * offset) word }
-{
-    if word < LARGEST {
-        return word;
-    }
-    LARGEST
 }
 
 // The count that a word holds: OFFSET less, or OFFSET where that is below 0.
 pub fn count_of(word: u32) -> u32
     ensures { result ≡ count_in word }
 {
-    if word < OFFSET {
-        return OFFSET;
-    }
-    word - OFFSET
+    if word < OFFSET { OFFSET } else { word - OFFSET }
 }
 
 // The cell whose numbers two words hold.
 fn cell_of(i: u32, j: u32) -> Cell
     ensures { result ≡ cell_in i j }
 {
-    let i = capped(i) as i32;
-    let j = capped(j) as i32;
     Cell {
-        i: i - ZERO,
-        j: j - ZERO,
+        i: i.min(LARGEST) as i32 - ZERO,
+        j: j.min(LARGEST) as i32 - ZERO,
     }
 }
 

@@ -1,0 +1,2 @@
+-- Laws of the refusals of a line's numbers.
+pub mod Laws
