@@ -1,5 +1,6 @@
 -- Local's run is the same on both frames, through the pairing, where its factor is above 1: paired sheets, and the same new cells, counts,
 -- rounds, largest residual and corners passed over. Assumes nothing.
+use Rattle.std.specs.Prelude.{Option, None}
 use mathlib.Core.Path.{◌≡◌, refl, sym, ap, ap₂, subst}
 use mathlib.Core.Bool.{Bool, true, false, cond}
 use mathlib.Core.List.{List, [], ◌∷◌, ◌++◌}
@@ -35,7 +36,6 @@ use Rattle.passes.specs.Counting.{no_counts}
 use Rattle.passes.specs.Rounds.{rounds_from}
 use Rattle.passes.specs.Grow.{tolerances_of}
 use Rattle.passes.specs.Local.{depth_of, local_region, local_cells, by_reach, supports_of, cell_point, LocalFit, none, fitted, local_fit, LocalState, worst, recorded_all, with_residuals, with_unmatched, local_search, gate_of, local_with, local_try, local_at, local_visit, local_pass, local_from, local_limit, local_run}
-use Rattle.passes.specs.declared.LargestResidual.{LargestResidual}
 use Rattle.passes.specs.History.{begun}
 use Rattle.passes.proofs.Rounds.{Alike, SameRounds, rounds_same}
 use Rattle.invariants.specs.Kept.{Sound}
@@ -79,7 +79,7 @@ recorded_same same rs =
       sheet = same.sheet;
       made = same.made;
       counts = same.counts;
-      largest = ap (λ (m : LargestResidual). recorded_all m rs) same.largest;
+      largest = ap (λ (m : Option Float). recorded_all m rs) same.largest;
       unmatched = same.unmatched;
     }
 
@@ -175,10 +175,10 @@ module _ (l l' : CornerLists) (corners : PairedCorners l l') (shades shades' : L
     local_same first' paired = rw (paired_count paired) (record { state = both.state.1; rounds = both.rounds })
       where
         start : LocalState
-        start = record { sheet = first; made = []; counts = no_counts; largest = LargestResidual.Nothing; unmatched = 0 }
+        start = record { sheet = first; made = []; counts = no_counts; largest = None; unmatched = 0 }
 
         start' : LocalState
-        start' = record { sheet = first'; made = []; counts = no_counts; largest = LargestResidual.Nothing; unmatched = 0 }
+        start' = record { sheet = first'; made = []; counts = no_counts; largest = None; unmatched = 0 }
 
         both : SameRounds (Both [])
             (rounds_from (local_pass (corners_of l shades) set params) (local_limit (label_count first) params.max_iters) (record { state = start; rounds = 0 }))

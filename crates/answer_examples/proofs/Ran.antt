@@ -1,4 +1,5 @@
 -- What each pass of the first frame does, computed from the definitions on the written places of its sheet. Assumes nothing.
+use Rattle.std.specs.Prelude.{None, Some}
 use mathlib.Core.Path.{◌≡◌, refl}
 use mathlib.Core.Bool.{false}
 use mathlib.Core.List.{List, [], ◌∷◌}
@@ -30,8 +31,6 @@ use Rattle.passes.specs.Rounds.{walk, one_round, rounds_from}
 use Rattle.passes.specs.Fill.{cells_of, fill_search, fill_limit}
 use Rattle.passes.specs.Local.{depth_of, row_among, column_among, local_region, nearer, placed, by_reach, cell_point, pictured_at, residual_of, residuals_of, trusted, worst, recorded, recorded_all, local_search, local_limit, unmatched_if}
 use Rattle.passes.specs.Run.{PassStats, grow_stats, fill_stats, local_stats}
-use Rattle.passes.specs.declared.LargestResidual.{LargestResidual}
-use Rattle.passes.specs.declared.Unmatched.{Unmatched}
 use Rattle.frame_line.specs.Table.{kind_at}
 use Rattle.frame_line.specs.Lines.{PassLine, bits_at, whole_at, pass_line_of}
 use Rattle.frame.specs.Frame.{Frame, opened, adding, parts_from, parts_of, given_of, join_of}
@@ -54,9 +53,9 @@ local_left =
           (record {
             counts = record { attached = 1; rejected_no_candidate = 10; rejected_ambiguous = 1; rejected_edge = 0 };
             iterations = 1;
-            residual = LargestResidual.Residual (of_bits binary32 0x3635_04f3);
+            residual = Some (of_bits binary32 0x3635_04f3);
             rim = false;
-            unmatched = Unmatched.NoShades;
+            unmatched = None;
           });
       sheet = written 8256 1 ∷ written 8257 3 ∷ written 8384 2 ∷ written 8385 4 ∷ written 8512 5 ∷ [];
       attached = 8512 ∷ [];

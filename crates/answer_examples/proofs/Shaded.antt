@@ -1,4 +1,5 @@
 -- The two texts with shades are read, run and printed by the definitions, and meet what demand 3 asks, so it speaks of them. Assumes nothing.
+use Rattle.std.specs.Prelude.{Some}
 use mathlib.Core.Path.{◌≡◌, refl, subst, sym, ap, ◌∙◌}
 use mathlib.Core.Bool.{false}
 use mathlib.Core.List.{List, [], ◌∷◌}
@@ -37,8 +38,6 @@ use Rattle.passes.specs.Rounds.{walk, one_round, rounds_from}
 use Rattle.passes.specs.Fill.{cells_of}
 use Rattle.passes.specs.Local.{depth_of, row_among, column_among, local_region, nearer, placed, by_reach, cell_point, pictured_at, residual_of, residuals_of, trusted, worst, recorded, recorded_all, local_search, local_limit, unmatched_if}
 use Rattle.passes.specs.Run.{PassStats, grow_stats, local_stats, run}
-use Rattle.passes.specs.declared.LargestResidual.{LargestResidual}
-use Rattle.passes.specs.declared.Unmatched.{Unmatched}
 use Rattle.passes.specs.Outcome.{Outcome, done}
 use Rattle.agreement.specs.Agreement.{FactorsAbove, no_more, ran}
 use Rattle.line_form.specs.Integers.{digits_after, read_positive, read_integer, decimal_up_to, decimal, integer_text}
@@ -123,9 +122,9 @@ local_left =
           (record {
             counts = record { attached = 1; rejected_no_candidate = 11; rejected_ambiguous = 0; rejected_edge = 0 };
             iterations = 1;
-            residual = LargestResidual.Residual (of_bits binary32 0x3680_0000);
+            residual = Some (of_bits binary32 0x3680_0000);
             rim = false;
-            unmatched = Unmatched.Count 2;
+            unmatched = Some 2;
           });
       sheet = written 8256 1 ∷ written 8257 3 ∷ written 8384 2 ∷ written 8385 4 ∷ written 8512 6 ∷ [];
       attached = 8512 ∷ [];

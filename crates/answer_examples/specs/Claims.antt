@@ -1,12 +1,11 @@
 -- What is claimed of the two texts: they meet all that demand 3 asks of two frames, and so demand 3 speaks of them; and of a list of calls from them, one of
 -- which is refused. `proofs/Pair.antt` proves `Met` and `Agreed`. Definitions only.
-use Rattle.std.specs.Prelude.{◌≡◌, List, [], ◌∷◌, map, ℕ, ◌<◌, pos, get_or}
+use Rattle.std.specs.Prelude.{◌≡◌, List, [], ◌∷◌, map, ℕ, ◌<◌, pos, get_or, Option, Some, Float}
 use Rattle.std.specs.Float.{binary32}
 use Rattle.std.specs.Float.Ieee.{of_bits}
 use Rattle.refusal.specs.Refusal.{number_of}
 use Rattle.passes.specs.Outcome.{Outcome, refused, done}
 use Rattle.passes.specs.Run.{Call, PassStats, grow_stats, fill_stats, local_stats, run}
-use Rattle.passes.specs.declared.LargestResidual.{LargestResidual}
 use Rattle.agreement.specs.Agreement.{Agree, FactorsAbove}
 use Rattle.frame_line.specs.Lines.{PassLine, grow, fill, local, bare_grow}
 use Rattle.frame.specs.Frame.{Frame, read_frame, accepted}
@@ -41,7 +40,7 @@ calls = calls_from first_frame
 pub data Told : Type 0 where
   was_refused : ℕ → Told
   grow_attached fill_added : ℕ → Told
-  local_attached : ℕ → LargestResidual → Told
+  local_attached : ℕ → Option Float → Told
 
 abbrev pub told_by : PassStats → Told
 told_by (grow_stats s) = grow_attached s.counts.attached
@@ -65,7 +64,7 @@ pub record Met : Type 0 where
   pub equal_lines : corner_line first_frame 7 ≡ corner_line first_frame 6
   pub factors : FactorsAbove (calls_of first_frame) (run (frame_corners first_frame) (sheet_of first_frame) (calls_of first_frame))
   pub outcomes : map told_of (run (frame_corners first_frame) (sheet_of first_frame) calls)
-      ≡ local_attached 1 (LargestResidual.Residual (of_bits binary32 0x3635_04f3)) ∷ was_refused 3 ∷ grow_attached 1 ∷ fill_added 1 ∷ []
+      ≡ local_attached 1 (Some (of_bits binary32 0x3635_04f3)) ∷ was_refused 3 ∷ grow_attached 1 ∷ fill_added 1 ∷ []
   pub list_factors : FactorsAbove calls (run (frame_corners first_frame) (sheet_of first_frame) calls)
 
 -- So demand 3 holds of them: the runs of both frames are alike, those of the list of calls agree, and the answers differ only in the corner numbers of

@@ -7,7 +7,7 @@ use native.Mathlib.Nat.{add-mul, mul_assoc, mod-eq_of_lt, mul-add-div_right, not
 use native.Mathlib.Decide.{dec_le}
 use native.Mathlib.Numerals.{add-one}
 use native.Mathlib.Omega.{arith}
-use borrow.Author.Tests.{lt-ltb, le-ltb, le-leb, lt-leb, eq-eqb, ne_eqb, eqb-false}
+use borrow.Author.Tests.{lt-ltb, le-ltb, le-leb, lt-leb, eq-eqb, ne_eqb, eqb-true, eqb-false}
 use lib.Arith.{mod-mul, digits_div, digits_lt}
 use lib.Dec.{T, eqb}
 use lib.ListN.{length, get_or, take, drop, set, length-append, length-take, length-drop}
@@ -17,11 +17,10 @@ use lib.Ieee.{Float, nan, inf, fin, binary32, of_bits, to_bits, fits, is_nan}
 use lib.Ieee.Bits.{of_bits-to_bits, to_bits-of_bits, to_bits-lt}
 use Rattle.refusal.specs.declared.Refusal.{Refusal}
 use Rattle.refusal.specs.declared.Refusal.TheVariants.{Malformed, OutOfRange}
-use Rattle.binary32.specs.declared.hex.Bits.{Bits}
-use Rattle.binary32.specs.declared.hex.Bits.TheVariants.{Number, Broken}
-use Rattle.binary32.specs.declared.hex.FloatRead.TheVariants.{Float as Finite, Refused}
+use Rattle.std.proofs.Common.{Option, None, Some, Ok, Err}
+use Rattle.std.proofs.lemmas.Option.{none-some, same_Some}
 use Rattle.binary32.specs.Ranges.{is_finite}
-use Rattle.binary32.specs.Hex.{digit_of, digits, hex_text, digit_value, read_digits, read_bits, float_of, float_of_bits, read_float}
+use Rattle.binary32.specs.Hex.{digit_of, digits, hex_text, digit_value, digit_read, read_digits, read_bits, float_of, float_of_bits, read_float}
 
 -- ---- one digit
 
@@ -83,55 +82,93 @@ sum m d r p = simp (add-mul, mul_assoc) (omega arith)
 
 -- eight digits, of which i are read, making n
 pub record Reading (text : List ℕ) (n i : ℕ) : Type 0 where
-  pub within : i ≤ 8
+  pub eight : length text ≡ 8
   pub small : n < 2 ^ (4 * i)
   pub rest : read_digits (8 - i) n (drop i text) ≡ read_bits text
+
+pub started : (text : List ℕ) → length text ≡ 8 → Reading text 0 0
+started text e = record { eight = e; small = omega arith; rest = refl }
 
 one_left : (i : ℕ) → i < 8 → 8 - i ≡ suc (8 - (i + 1))
 one_left i h = omega arith
 
 turn : (text : List ℕ) (n i : ℕ) → i < 8 → i < length text
-    → read_digits (8 - i) n (drop i text) ≡ cond (eqb (digit_value (get_or text i 0)) 16) Broken (read_digits (8 - (i + 1)) (n * 16 + digit_value (get_or text i 0)) (drop (i + 1) text))
+    → read_digits (8 - i) n (drop i text) ≡ cond (eqb (digit_value (get_or text i 0)) 16) None (read_digits (8 - (i + 1)) (n * 16 + digit_value (get_or text i 0)) (drop (i + 1) text))
 unfolding read_digits
 turn text n i h l = rw (one_left i h, drop-cons text i 0 l, ← add-one i)
 
-module _ (text : List ℕ) (n i : ℕ) (r : Reading text n i) (h : i < 8) where
-  pub short : length text ≤ i → Broken ≡ read_bits text
-  unfolding read_digits
-  short l = rw (one_left i h, gone text i l) at r.rest
-    where
-      gone : (s : List ℕ) (i : ℕ) → length s ≤ i → drop i s ≡ []
-      gone [] zero l = refl
-      gone [] (suc i) l = refl
-      gone (b ∷ s) zero l = absurd (not-suc-le-zero l)
-      gone (b ∷ s) (suc i) l = gone s i (le_of_suc-le-suc l)
+-- what a byte is read as
+record ReadAs (b v : ℕ) : Type 0 where
+  pub value : v ≡ digit_value b
+  pub some : digit_value b ≡ 16 → ⊥
 
-  module _ (l : i < length text) where
-    pub no_digit : digit_value (get_or text i 0) ≡ 16 → Broken ≡ read_bits text
-    no_digit e = rw (turn text n i h l, eq-eqb (digit_value (get_or text i 0)) 16 e) at r.rest
-
-    pub fits_more : (v : ℕ) → v < 16 → n * 16 + v < 2 ^ (4 * (i + 1))
-    fits_more v k = rw (add-one i, power i) (omega (arith, r.small))
-
-    pub one_more : (digit_value (get_or text i 0) ≡ 16 → ⊥) → Reading text (n * 16 + digit_value (get_or text i 0)) (i + 1)
-    one_more f = record {
-      within = omega arith;
-      small = fits_more (digit_value (get_or text i 0)) (digit (get_or text i 0) f).small;
-      rest = rw (turn text n i h l, ne_eqb (digit_value (get_or text i 0)) 16 f) at r.rest;
-    }
-
-pub in_word : (n i : ℕ) → i < 8 → n < 2 ^ (4 * i) → n < 2 ^ 28
-in_word n i h k = lt_of_lt_of_le k (pow_mono (most i h))
+digit_some : (b v : ℕ) → Some v ≡ digit_read b → ReadAs b v
+unfolding digit_read
+digit_some b v e = go (eqb (digit_value b) 16) refl e
   where
-    most : (i : ℕ) → i < 8 → 4 * i ≤ 28
-    most i h = omega arith
+    go : (t : Bool) → eqb (digit_value b) 16 ≡ t → Some v ≡ cond t None (Some (digit_value b)) → ReadAs b v
+    go true h e = absurd (none-some v (sym e))
+    go false h e = record { value = same_Some v (digit_value b) e; some = eqb-false (digit_value b) 16 h }
 
-pub started : (text : List ℕ) → Reading text 0 0
-started text = record { within = omega arith; small = omega arith; rest = refl }
+digit_none : (b : ℕ) → None ≡ digit_read b → digit_value b ≡ 16
+unfolding digit_read
+digit_none b e = go (eqb (digit_value b) 16) refl e
+  where
+    go : (t : Bool) → eqb (digit_value b) 16 ≡ t → None ≡ cond t None (Some (digit_value b)) → digit_value b ≡ 16
+    go true h e = eqb-true (digit_value b) 16 h
+    go false h e = absurd (none-some (digit_value b) e)
 
-pub ended : (text : List ℕ) (n i : ℕ) → Reading text n i → 8 ≤ i → Number n ≡ read_bits text
+pub digit_small : (b v : ℕ) → Some v ≡ digit_read b → v < 16
+digit_small b v e = let d = digit_some b v e in rw d.value (digit b d.some).small
+
+module _ {text : List ℕ} {n i : ℕ} (r : Reading text n i) where
+  module _ (l : i < length text) where
+    pub in_word : n < 2 ^ 28
+    in_word = lt_of_lt_of_le r.small (pow_mono (most i (rw r.eight at l)))
+      where
+        most : (i : ℕ) → i < 8 → 4 * i ≤ 28
+        most i h = omega arith
+
+    pub no_digit : None ≡ digit_read (get_or text i 0) → None ≡ read_bits text
+    no_digit e = rw (turn text n i (rw r.eight at l) l, eq-eqb (digit_value (get_or text i 0)) 16 (digit_none (get_or text i 0) e)) at r.rest
+
+    pub one_more : (v : ℕ) → Some v ≡ digit_read (get_or text i 0) → Reading text (n * 16 + v) (i + 1)
+    one_more v e =
+        let b = get_or text i 0 in
+        let d = digit_some b v e in
+        record {
+          eight = r.eight;
+          small = rw (add-one i, power i) (omega (arith, r.small, digit_small b v e));
+          rest = rw d.value (rw (turn text n i (rw r.eight at l) l, ne_eqb (digit_value b) 16 d.some) at r.rest);
+        }
+
+  pub ended : length text ≤ i → Some n ≡ read_bits text
+  unfolding read_digits
+  ended h = let e : 8 - i ≡ 0 = omega (arith, r.eight) in rw e at r.rest
+
+-- what stands behind the digits is not read
+front_only : (k n : ℕ) (text : List ℕ) → read_digits k n (take k text) ≡ read_digits k n text
 unfolding read_digits
-ended text n i r h = let e : 8 - i ≡ 0 = omega arith in rw e at r.rest
+front_only zero n text = refl
+front_only (suc k) n [] = refl
+front_only (suc k) n (b ∷ text) = ap (λ (r : Option ℕ). cond (eqb (digit_value b) 16) None r) (front_only k (n * 16 + digit_value b) text)
+
+pub first_eight : (text : List ℕ) → read_bits (take 8 text) ≡ read_bits text
+first_eight text = front_only 8 0 text
+
+-- and too few are none
+few : (k n : ℕ) (text : List ℕ) → length text < k → None ≡ read_digits k n text
+unfolding read_digits
+few zero n text h = absurd (not-suc-le-zero h)
+few (suc k) n [] h = refl
+few (suc k) n (b ∷ text) h = go (eqb (digit_value b) 16) (few k (n * 16 + digit_value b) text (le_of_suc-le-suc h))
+  where
+    go : (t : Bool) {r : Option ℕ} → None ≡ r → None ≡ cond t None r
+    go true e = refl
+    go false e = e
+
+pub too_few : (text : List ℕ) → length text < 8 → None ≡ read_bits text
+too_few text h = few 8 0 text h
 
 -- ---- the writer's loop: a list whose first i are another's
 
@@ -198,16 +235,16 @@ module _ (n : ℕ) (old out : List ℕ) (i : ℕ) (w : Writing n old out i) wher
 
 -- ---- what was written is read back
 
-read_digits_lem : (k n m : ℕ) (rest : List ℕ) → read_digits k m (digits k n ++ rest) ≡ Number (m * 2 ^ (4 * k) + n % 2 ^ (4 * k))
+read_digits_lem : (k n m : ℕ) (rest : List ℕ) → read_digits k m (digits k n ++ rest) ≡ Some (m * 2 ^ (4 * k) + n % 2 ^ (4 * k))
 unfolding read_digits digits
-read_digits_lem zero n m rest = ap Number (none n m)
+read_digits_lem zero n m rest = ap Some (none n m)
   where
     none : (n m : ℕ) → m ≡ m * 2 ^ (4 * 0) + n % 2 ^ (4 * 0)
     none n m = omega arith
 read_digits_lem (suc k) n m rest =
     let d = n / 2 ^ (4 * k) % 16 in
     let small : d < 16 = mod-lt (n / 2 ^ (4 * k)) (omega arith) in
-    rw (value_digit d small, ne_eqb d 16 (less d small)) (read_digits_lem k n (m * 16 + d) rest ∙ ap Number (sum m d (n % 2 ^ (4 * k)) (2 ^ (4 * k)) ∙ ap₂ (λ (p q : ℕ). m * p + q) (sym (power k)) (sym (ap (λ (p : ℕ). n % p) (power k) ∙ mod-mul n (omega arith) (pow_pos (4 * k))))))
+    rw (value_digit d small, ne_eqb d 16 (less d small)) (read_digits_lem k n (m * 16 + d) rest ∙ ap Some (sum m d (n % 2 ^ (4 * k)) (2 ^ (4 * k)) ∙ ap₂ (λ (p q : ℕ). m * p + q) (sym (power k)) (sym (ap (λ (p : ℕ). n % p) (power k) ∙ mod-mul n (omega arith) (pow_pos (4 * k))))))
   where
     less : (d : ℕ) → d < 16 → d ≡ 16 → ⊥
     less d h e = omega arith
@@ -233,7 +270,7 @@ pub record Written (text : List ℕ) (k m b : ℕ) : Type 0 where
   pub value : b ≡ m * 2 ^ (4 * k) + n
   pub whole : text ≡ digits k n ++ drop k text
 
-no_number : (b : ℕ) → Broken ≡ Number b → ⊥
+no_number : (b : ℕ) → None ≡ Some b → ⊥
 no_number b h = let z : ◌≡◌ {A = ℕ} 0 1 = cc in omega arith
 
 -- one digit more in front
@@ -254,24 +291,24 @@ module _ (k m b c : ℕ) (text : List ℕ) (f : digit_value c ≡ 16 → ⊥) (w
             (w.whole ∙ ap (λ (s : List ℕ). s ++ drop k text) (sym (digits_past k w.n v)));
       }
 
-written : (k m b : ℕ) (text : List ℕ) → read_digits k m text ≡ Number b → Written text k m b
+written : (k m b : ℕ) (text : List ℕ) → read_digits k m text ≡ Some b → Written text k m b
 unfolding read_digits digits
 written zero m b text h = record { n = 0; small = omega arith; value = same m b h; whole = refl }
   where
-    same : (m b : ℕ) → Number m ≡ Number b → b ≡ m * 2 ^ (4 * 0) + 0
+    same : (m b : ℕ) → Some m ≡ Some b → b ≡ m * 2 ^ (4 * 0) + 0
     same m b h = let e : m ≡ b = cc in omega arith
 written (suc k) m b [] h = absurd (no_number b h)
 written (suc k) m b (c ∷ text) h = go (eqb (digit_value c) 16) refl (λ g. written k (m * 16 + digit_value c) b text g)
   where
-    go : (t : Bool) → eqb (digit_value c) 16 ≡ t → (read_digits k (m * 16 + digit_value c) text ≡ Number b → Written text k (m * 16 + digit_value c) b) → Written (c ∷ text) (suc k) m b
+    go : (t : Bool) → eqb (digit_value c) 16 ≡ t → (read_digits k (m * 16 + digit_value c) text ≡ Some b → Written text k (m * 16 + digit_value c) b) → Written (c ∷ text) (suc k) m b
     go true e on = absurd (no_number b (rw e at h))
     go false e on = longer k m b c text (eqb-false (digit_value c) 16 e) (on (rw e at h))
 
 -- ---- whole patterns
 
 -- reading what was written gives the pattern back, whatever follows
-pub bits_read_written : (b : ℕ) (rest : List ℕ) → b < 2 ^ 32 → read_bits (hex_text b ++ rest) ≡ Number b
-bits_read_written b rest h = read_digits_lem 8 b 0 rest ∙ ap Number (whole b h)
+pub bits_read_written : (b : ℕ) (rest : List ℕ) → b < 2 ^ 32 → read_bits (hex_text b ++ rest) ≡ Some b
+bits_read_written b rest h = read_digits_lem 8 b 0 rest ∙ ap Some (whole b h)
   where
     whole : (b : ℕ) → b < 2 ^ 32 → 0 * 2 ^ (4 * 8) + b % 2 ^ (4 * 8) ≡ b
     whole b h = omega arith
@@ -281,7 +318,7 @@ pub record BitsRead (text : List ℕ) (b : ℕ) : Type 0 where
   pub again : text ≡ hex_text b ++ drop 8 text
 
 -- writing what was read gives the bytes back
-pub bits_written_read : (b : ℕ) (text : List ℕ) → read_bits text ≡ Number b → BitsRead text b
+pub bits_written_read : (b : ℕ) (text : List ℕ) → read_bits text ≡ Some b → BitsRead text b
 bits_written_read b text e =
     let w = written 8 0 b text e in
     let same : w.n ≡ b = value b w.n w.value in
@@ -296,13 +333,13 @@ bits_written_read b text e =
 -- ---- whole floats
 
 -- reading what was written gives the value back, whatever follows
-pub read_written : (x : Float) (rest : List ℕ) → T (fits binary32 x) → is_finite x ≡ true → read_float (hex_text (to_bits binary32 x) ++ rest) ≡ Finite x
+pub read_written : (x : Float) (rest : List ℕ) → T (fits binary32 x) → is_finite x ≡ true → read_float (hex_text (to_bits binary32 x) ++ rest) ≡ Ok x
 unfolding float_of_bits float_of
 read_written x rest f h =
     let b = to_bits binary32 x in
     ap float_of_bits (bits_read_written b rest (to_bits-lt binary32 x f)) ∙ rw (of_bits-to_bits binary32 x f, h)
 
-no_float : (r : Refusal) (x : Float) → Refused r ≡ Finite x → ⊥
+no_float : (r : Refusal) (x : Float) → Err r ≡ Ok x → ⊥
 no_float r x h = let z : ◌≡◌ {A = ℕ} 0 1 = cc in omega arith
 
 finite_no_nan : (x : Float) → is_finite x ≡ true → T (not (is_nan x))
@@ -312,24 +349,24 @@ finite_no_nan (inf s) h = tt
 finite_no_nan (fin s m e) h = tt
 
 -- the bits that were read are those of the float
-bits_of : (b : ℕ) (x : Float) → b < 2 ^ 32 → float_of b ≡ Finite x → to_bits binary32 x ≡ b
+bits_of : (b : ℕ) (x : Float) → b < 2 ^ 32 → float_of b ≡ Ok x → to_bits binary32 x ≡ b
 unfolding float_of
 bits_of b x l h = go (is_finite (of_bits binary32 b)) refl
   where
     go : (t : Bool) → is_finite (of_bits binary32 b) ≡ t → to_bits binary32 x ≡ b
     go true e =
-        let same : Finite (of_bits binary32 b) ≡ Finite x = rw e at h in
+        let same : Ok (of_bits binary32 b) ≡ Ok x = rw e at h in
         let v : of_bits binary32 b ≡ x = cc in
         ap (to_bits binary32) (sym v) ∙ to_bits-of_bits binary32 b l (finite_no_nan (of_bits binary32 b) e)
     go false e = absurd (no_float OutOfRange x (rw e at h))
 
 -- writing what was read gives the bytes back
-pub written_read : (x : Float) (text : List ℕ) → read_float text ≡ Finite x → text ≡ hex_text (to_bits binary32 x) ++ drop 8 text
+pub written_read : (x : Float) (text : List ℕ) → read_float text ≡ Ok x → text ≡ hex_text (to_bits binary32 x) ++ drop 8 text
 unfolding float_of_bits
 written_read x text h = go (read_bits text) refl h
   where
-    go : (b : Bits) → read_bits text ≡ b → float_of_bits b ≡ Finite x → text ≡ hex_text (to_bits binary32 x) ++ drop 8 text
-    go Broken e k = absurd (no_float Malformed x k)
-    go (Number b) e k =
+    go : (b : Option ℕ) → read_bits text ≡ b → float_of_bits b ≡ Ok x → text ≡ hex_text (to_bits binary32 x) ++ drop 8 text
+    go None e k = absurd (no_float Malformed x k)
+    go (Some b) e k =
         let w = bits_written_read b text e in
         w.again ∙ ap (λ (n : ℕ). hex_text n ++ drop 8 text) (sym (bits_of b x w.small k))

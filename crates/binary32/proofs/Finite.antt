@@ -1,4 +1,4 @@
--- Finite values: by comparison with the infinities, and by the pattern; what lies in a range is finite, and either zero lies where the other does.
+-- Finite values: as std has them, and by the pattern; what lies in a range is finite, and either zero lies where the other does.
 -- Assumes nothing.
 use Prim.Native.Nat.{ℕ, ◌%◌, ◌^◌, ◌≤◌, ◌<◌}
 use mathlib.Core.Path.{◌≡◌, refl, sym, ap, ◌∙◌}
@@ -8,6 +8,7 @@ use lib.Dec.{leb}
 use lib.IntN.{pos}
 use lib.Ieee.{Float, nan, inf, fin, binary32, of_bits, of_int, lt, le, eq}
 use lib.Ieee.Exact.{HasValue}
+use Rattle.std.specs.Float.{float_is_finite}
 use Rattle.binary32.specs.Sqrt.{units_of}
 use Rattle.binary32.specs.Ranges.{is_finite, ends_of, between, in_range}
 use Rattle.binary32.specs.declared.ranges.Ends.{Ends}
@@ -15,19 +16,12 @@ use Rattle.binary32.proofs.Patterns.{value, beyond}
 use Rattle.binary32.specs.declared.ranges.Quantity.{Quantity}
 use Rattle.binary32.specs.declared.ranges.Quantity.TheVariants.{Position, Pitch, CellSize, AxisPart, Band, Multiple, Factor}
 
-pub below_top : (x : Float) → lt (inf true) x ≡ true → lt x (inf false) ≡ is_finite x
-unfolding lt is_finite
-below_top nan h = refl
-below_top (inf true) h = absurd (true≢false (sym h))
-below_top (inf false) h = refl
-below_top (fin s m e) h = refl
-
-pub not_above_bottom : (x : Float) → lt (inf true) x ≡ false → false ≡ is_finite x
-unfolding lt is_finite
-not_above_bottom nan h = refl
-not_above_bottom (inf true) h = refl
-not_above_bottom (inf false) h = absurd (true≢false h)
-not_above_bottom (fin s m e) h = absurd (true≢false h)
+-- `x.is_finite()`
+pub finite_said : (x : Float) → float_is_finite x ≡ is_finite x
+unfolding float_is_finite is_finite
+finite_said nan = refl
+finite_said (inf s) = refl
+finite_said (fin s m e) = refl
 
 -- ---- by the pattern
 

@@ -7,11 +7,13 @@ use native.Mathlib.Decide.{dec_le}
 use native.Mathlib.Omega.{arith}
 use borrow.Author.Tests.{lt-ltb, le-ltb}
 use native.Mathlib.Nat.{le_of_lt}
-use lib.Ieee.{Float, nan, inf, fin, binary32, of_bits, to_bits}
-use Rattle.binary32.specs.declared.root.Rooted.{Rooted}
-use Rattle.binary32.specs.declared.root.Rooted.TheVariants.{Root}
+use lib.Ieee.{Float, nan, inf, fin, binary32, of_bits, to_bits, is_nan}
+use Rattle.std.proofs.Common.{Result, Ok, Err}
+use Rattle.refusal.specs.declared.Refusal.{Refusal}
+use Rattle.refusal.specs.declared.Refusal.TheVariants.{OutOfRange}
 use Rattle.binary32.specs.Sqrt.{square, units_of, RootOf, Answers, reaches, climb, rooted}
 use Rattle.binary32.specs.Said.{root_said, takes_root, root_due}
+use Rattle.binary32.proofs.Answered.{at_nan}
 use Rattle.binary32.proofs.Unique.{mono}
 
 -- the midpoints go up with the patterns
@@ -45,14 +47,14 @@ module _ (b r : ℕ) (k : RootOf b r) where
       go on (yes m) = rw (low_reaches (s + 2 ^ j) m) (on (s + 2 ^ j) m (omega (arith, pow-suc 2 j)))
       go on (no m) = rw (high_fails (s + 2 ^ j) (omega arith)) (on s l (omega arith))
 
-pub agrees : (x : Float) (a : Rooted) → Answers x a → a ≡ rooted x
+pub agrees : (x : Float) (a : Result Float Refusal) → Answers x a → a ≡ rooted x
 unfolding Answers rooted
 agrees nan a h = h
 agrees (inf s) a h = h
 agrees (fin s zero e) a h = h
 agrees (fin true (suc m) e) a h = h
 agrees (fin false (suc m) e) a h =
-    h.1 ∙ ap (λ (r : ℕ). Root (of_bits binary32 r)) (sym (climbs (to_bits binary32 (fin false (suc m) e)) h.0 h.2 31 0 (omega arith) (below h.0 h.2.finite)))
+    h.1 ∙ ap (λ (r : ℕ). Ok (of_bits binary32 r)) (sym (climbs (to_bits binary32 (fin false (suc m) e)) h.0 h.2 31 0 (omega arith) (below h.0 h.2.finite)))
   where
     below : (r : ℕ) → r < 0x7f80_0000 → r < 0 + 2 ^ 31
     below r h = omega arith
@@ -65,6 +67,13 @@ root_said_lem (fin s zero e) = refl
 root_said_lem (fin true (suc m) e) = refl
 root_said_lem (fin false (suc m) e) = refl
 
+-- at a NaN
+pub nan_rooted : (x : Float) → is_nan x ≡ true → ◌≡◌ {A = Result Float Refusal} (Err OutOfRange) (rooted x)
+nan_rooted x t = agrees x (Err OutOfRange) (at_nan x t)
+
+pub nan_said : (x : Float) → is_nan x ≡ true → root_said (Err OutOfRange) ≡ root_due x
+nan_said x t = ap root_said (nan_rooted x t) ∙ root_said_lem x
+
 -- all promises of `sqrt` at once
-pub promised : (x : Float) (a : Rooted) → Answers x a → Answers x a × ((a ≡ rooted x) × (root_said a ≡ root_due x))
+pub promised : (x : Float) (a : Result Float Refusal) → Answers x a → Answers x a × ((a ≡ rooted x) × (root_said a ≡ root_due x))
 promised x a h = (h, (agrees x a h, ap root_said (agrees x a h) ∙ root_said_lem x))

@@ -1,13 +1,13 @@
 -- The root rounded down, from its first guess on, and rounded to the nearest whole number. Assumes nothing.
-use Prim.Native.Nat.{ℕ, ◌+◌, ◌-◌, ◌*◌, ◌/◌, ◌^◌, ◌≤◌, ◌<◌}
+use Prim.Native.Nat.{ℕ, ◌+◌, ◌-◌, ◌*◌, ◌/◌, ◌^◌, ◌≤◌, ◌<◌, min}
 use mathlib.Core.Path.{◌≡◌}
 use native.Mathlib.Nat.{div-lt_iff_lt-mul, mul-add, add-mul, mul-one, one-mul, mul-le-mul, lt_of_not-le, add-sub_cancel, mul-lt-mul_of_pos_right, mul-le-mul_left, lt_of_lt_of_le, lt_of_le_of_lt}
+use native.Mathlib.Decide.{dec_le}
 use native.Mathlib.Omega.{arith}
 use Rattle.root_table.specs.Whole.{WholePart}
-use Rattle.root_table.specs.Roots.{entry}
 use Rattle.root_table.proofs.Rule.{square_less}
 use Rattle.binary32.specs.Sqrt.{square}
-use Rattle.binary32.specs.Steps.{Near, Asked, Enclosed, FromTable, WholeRoot}
+use Rattle.binary32.specs.Steps.{Near, Asked, Enclosed, WholeRoot}
 
 pub odd_square : (s : ℕ) → square (s + (s + 1)) ≡ 4 * square s + 4 * s + 1
 odd_square s = simp (mul-add, add-mul, mul-one, one-mul) (omega arith)
@@ -48,20 +48,22 @@ module _ (n t : ℕ) (a : Asked n) (w : WholePart (1024 * (n / 2 ^ 38)) t) where
   above_the_root : n < square ((t + 2) * 0x4000)
   above_the_root = rw (scaled_square (t + 2), next_square t) (omega (arith, t_least, w.to))
 
-  pub table_encloses : t < 1023 → Enclosed n (t * 0x4000) ((t + 2) * 0x4000)
-  table_encloses h = record { from = at_most_the_root; to = above_the_root; least = omega (arith, t_least); most = omega arith }
-
   -- no root that is asked reaches 2 ^ 24
-  pub table_encloses_last : Enclosed n (t * 0x4000) (2 ^ 24)
-  table_encloses_last = record { from = at_most_the_root; to = a.most; least = omega (arith, t_least); most = omega arith }
-
--- what `first_guess` answers is the table's guess
-module _ (n t : ℕ) (e : t ≡ entry (n / 2 ^ 38)) where
-  pub from_table : t < 1023 → FromTable n (t * 0x4000) ((t + 2) * 0x4000)
-  from_table h = record { lower = omega (arith, e); upper = omega (arith, e, h) }
-
-  pub from_table_last : 1023 ≤ t → FromTable n (t * 0x4000) (2 ^ 24)
-  from_table_last h = record { lower = omega (arith, e); upper = omega (arith, e, h) }
+  pub table_encloses : Enclosed n (t * 0x4000) (min ((t + 2) * 0x4000) (2 ^ 24))
+  table_encloses =
+      record {
+        from = at_most_the_root;
+        to = lesser ((t + 2) * 0x4000) (2 ^ 24) above_the_root a.most;
+        least = omega (arith, t_least);
+        most = omega arith;
+      }
+    where
+      lesser : (b c : ℕ) → n < square b → n < square c → n < square (min b c)
+      lesser b c h k = go (dec_le b c)
+        where
+          go : Dec (b ≤ c) → n < square (min b c)
+          go (yes l) = let e : min b c ≡ b = omega arith in rw e h
+          go (no f) = let e : min b c ≡ c = omega arith in rw e k
 
 -- ---- Newton's steps, and the test of what they lead to
 

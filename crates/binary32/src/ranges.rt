@@ -3,7 +3,7 @@ ghost use Rattle.std.specs.Prelude.{◌≡◌};
 ghost use Rattle.binary32.specs.Ranges.{is_finite, ends_of, in_range};
 
 // What a float of a frame or of a call stands for.
-#[derive(Clone, Copy)]
+#[derive(Clone, Copy, Debug, PartialEq, Eq)]
 pub enum Quantity {
     // a corner's x or y
     Position,
@@ -18,21 +18,18 @@ pub enum Quantity {
 }
 
 // The two ends of a range, which belong to it.
-#[derive(Clone, Copy)]
+#[derive(Clone, Copy, Debug, PartialEq)]
 pub struct Ends {
     pub low: f32,
     pub high: f32,
 }
 
 // Whether x is neither an infinity nor a NaN.
+#[tactic(auto, using(crate::proofs::Finite::finite_said))]
 pub fn is_finite(x: f32) -> bool
     ensures { result ≡ is_finite x }
 {
-    let infinity = f32::from_bits(0x7f80_0000);
-    if -infinity < x {
-        return x < infinity;
-    }
-    false
+    x.is_finite()
 }
 
 // The ends of a quantity's range.
@@ -76,8 +73,5 @@ pub fn in_range(q: Quantity, x: f32) -> bool
     ensures { result ≡ in_range q x }
 {
     let e = ends_of(q);
-    if e.low <= x {
-        return x <= e.high;
-    }
-    false
+    e.low <= x && x <= e.high
 }

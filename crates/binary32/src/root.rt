@@ -6,13 +6,6 @@ ghost use Rattle.binary32.specs.Steps.{Normalized, Near, Asked, Enclosed, FromTa
 
 use refusal::Refusal;
 
-// The root, or refusal number 3 (01: "any other gets number 3").
-#[derive(Clone, Copy)]
-pub enum Rooted {
-    Root(f32),
-    Refused(Refusal),
-}
-
 // A significand of 24 digits, and the exponent of two that it counts.
 #[derive(Clone, Copy)]
 struct Parts {
@@ -40,16 +33,10 @@ fn first_guess(n: u64) -> Guess
     ensures enclosed { Enclosed n result.low result.high }
     ensures listed { FromTable n result.low result.high }
 {
-    let t = root_table::whole_root((n / 0x40_0000_0000) as usize) as u64;
-    if t < 1023 {
-        return Guess {
-            low: t * 0x4000,
-            high: (t + 2) * 0x4000,
-        };
-    }
+    let t = u64::from(root_table::whole_root((n / 0x40_0000_0000) as usize));
     Guess {
         low: t * 0x4000,
-        high: 0x100_0000,
+        high: ((t + 2) * 0x4000).min(0x100_0000),
     }
 }
 
@@ -58,10 +45,7 @@ fn tested(n: u64, s: u64, guess: Guess) -> Guess
     requires { Enclosed n guess.low guess.high × (s < 2 ^ 28) }
     ensures { Enclosed n result.low result.high }
 {
-    if n < s * s {
-        return guess;
-    }
-    if (s + 1) * (s + 1) <= n {
+    if n < s * s || (s + 1) * (s + 1) <= n {
         return guess;
     }
     Guess {
@@ -89,6 +73,7 @@ fn refine(n: u64, guess: Guess) -> u64
 {
     let mut lo = guess.low;
     let mut hi = guess.high;
+    // a while: what lies between is halved, and no index is counted
     while lo + 1 < hi {
         let mid = (lo + hi) / 2;
         if mid * mid <= n {
@@ -121,7 +106,7 @@ fn split(b: u32) -> Parts
     let field = b / 0x80_0000;
     let digits = b % 0x80_0000;
     if field == 0 {
-        let k = u32::leading_zeros(digits) - 8;
+        let k = digits.leading_zeros() - 8;
         Parts {
             m: digits << k,
             e: 149 - k,
@@ -140,7 +125,7 @@ fn root_bits(b: u32) -> u32
     ensures { RootOf b result }
 {
     let p = split(b);
-    let m = p.m as u64;
+    let m = u64::from(p.m);
     let e = p.e;
     let g = (e - 23) / 2;
     if e % 2 == 0 {
@@ -153,34 +138,25 @@ fn root_bits(b: u32) -> u32
 // The square root of any non-negative finite float, rounded to nearest even; either zero gives itself; any other float is
 // refused with number 3. The promise is made three times: as the relation that is read beside 01, as the computable `rooted`, and as the number or value
 // that the answer says.
-pub fn sqrt(x: f32) -> Rooted
+#[tactic(auto, using(crate::proofs::Answered::at_nan, crate::proofs::Rooting::nan_rooted, crate::proofs::Rooting::nan_said))]
+pub fn sqrt(x: f32) -> Result<f32, Refusal>
     ensures rounded { Answers x result }
     ensures computed { result ≡ rooted x }
     ensures said { root_said result ≡ root_due x }
 {
-    if x != x {
-        return Rooted::Refused(Refusal::OutOfRange);
+    if x.is_nan() {
+        return Err(Refusal::OutOfRange);
     }
-    let b = f32::to_bits(x);
-    if b == 0 {
-        return Rooted::Root(0.0);
+    match f32::to_bits(x) {
+        0 | 0x8000_0000 => Ok(x),
+        0x7f80_0000.. => Err(Refusal::OutOfRange),
+        b => Ok(f32::from_bits(root_bits(b))),
     }
-    if b == 0x8000_0000 {
-        return Rooted::Root(-0.0);
-    }
-    if b >= 0x7f80_0000 {
-        return Rooted::Refused(Refusal::OutOfRange);
-    }
-    let r = f32::from_bits(root_bits(b));
-    Rooted::Root(r)
 }
 
 // The root for formulas: where `sqrt` refuses, a NaN.
 pub fn sqrt_or_nan(x: f32) -> f32
     ensures { result ≡ sqrt_or_nan x }
 {
-    match sqrt(x) {
-        Rooted::Root(r) => r,
-        Rooted::Refused(_) => 0.0 / 0.0,
-    }
+    sqrt(x).unwrap_or(f32::NAN)
 }

@@ -5,7 +5,7 @@
 
 use arguments::Pass;
 use call_text::number_at;
-use passes::{Counts, FillStats, GrowStats, LargestResidual, LocalStats, PassAnswer, Unmatched};
+use passes::{Counts, FillStats, GrowStats, LocalStats, PassAnswer};
 use refusal::Refusal;
 use std::{fmt, io};
 
@@ -147,18 +147,18 @@ fn print_float(rt: &impl Print, x: f32) -> io::Result<()> {
     rt.write_all(&text)
 }
 
-fn print_residual(rt: &impl Print, residual: LargestResidual) -> io::Result<()> {
+fn print_residual(rt: &impl Print, residual: Option<f32>) -> io::Result<()> {
     match residual {
-        LargestResidual::Nothing => print!(rt; "none"),
-        LargestResidual::Residual(x) => print_float(rt, x),
+        None => print!(rt; "none"),
+        Some(x) => print_float(rt, x),
     }
 }
 
 // Local's line of the corners that it passed over, where a shade stands.
-fn print_unmatched(rt: &impl Print, unmatched: Unmatched) -> io::Result<()> {
+fn print_unmatched(rt: &impl Print, unmatched: Option<usize>) -> io::Result<()> {
     match unmatched {
-        Unmatched::NoShades => Ok(()),
-        Unmatched::Count(count) => println!(rt; "(unmatched {count})"),
+        None => Ok(()),
+        Some(count) => println!(rt; "(unmatched {count})"),
     }
 }
 

@@ -6,7 +6,6 @@ ghost use Rattle.std.specs.Prelude.{◌≡◌, ◌≤◌, ◌<◌, length};
 ghost use Rattle.sizes.specs.Sizes.{place_count};
 
 use arguments::{FillParams, GrowParams, LocalExtensionParams, Pass, Settings};
-use binary32::hex::{Bits, FloatRead};
 use predict::{Grid, Vector};
 use sizes::PLACES;
 
@@ -24,8 +23,8 @@ pub fn number_at(text: &[u8], k: usize) -> usize {
         return 0;
     };
     match binary32::hex::read_bits(rest) {
-        Bits::Number(bits) => bits as usize,
-        Bits::Broken => 0,
+        Some(bits) => bits as usize,
+        None => 0,
     }
 }
 
@@ -44,8 +43,8 @@ fn float_at(text: &[u8], k: usize) -> f32 {
         return 0.0;
     };
     match binary32::hex::read_float(rest) {
-        FloatRead::Float(x) => x,
-        FloatRead::Refused(_) => not_finite(number_at(text, k)),
+        Ok(x) => x,
+        Err(_) => not_finite(number_at(text, k)),
     }
 }
 

@@ -1,4 +1,5 @@
 -- What a call that is not refused says is small: its counts, its rounds, its residual, which is finite, and what it passed over. Assumes nothing.
+use Rattle.std.specs.Prelude.{Option, None, Some}
 use Rattle.sheet.specs.declared.Corner.{Corner}
 use mathlib.Core.Path.{◌≡◌, refl, sym, ap, subst}
 use mathlib.Core.Bool.{Bool, true, false, cond, ◌&&◌}
@@ -27,7 +28,6 @@ use Rattle.arguments.specs.declared.LocalExtensionParams.{LocalExtensionParams}
 use Rattle.extension_common.specs.declared.TryCellResult.{TryCellResult}
 use Rattle.arguments.specs.declared.Pass.{Pass}
 use Rattle.passes.specs.declared.Counts.{Counts}
-use Rattle.passes.specs.declared.LargestResidual.{LargestResidual}
 use Rattle.passes.specs.Grow.{no_counts, grow_run, grow_after}
 use Rattle.passes.specs.Fill.{FillState, fill_round, FillRounds, fill_from, fill_limit, fill_run, fill_after}
 use Rattle.passes.specs.Local.{depth_of, local_cells, supports_of, cell_point, pictured_at, residual_of, residuals_of, LocalFit, none, fitted, trusted, local_fit, LocalState, recorded, recorded_all, worst, with_residuals, with_unmatched, gate_of, local_with, local_try, local_at, local_visit, local_all, local_round, LocalRounds, local_from, local_limit, local_run, unmatched_if, local_after}
@@ -83,16 +83,16 @@ trusted_finite seen ps (Some g) h rs e = go (all_finite (residuals_of seen g ps)
     go true f q = let same : residuals_of seen g ps ≡ rs = cc in subst Finites same (residuals_finite seen g ps f)
     go false f q = absurd (none_fitted q)
 
-recorded_finite : (l : LargestResidual) (x : Float) → FiniteResidual l → FiniteFloat x → FiniteResidual (recorded l x)
+recorded_finite : (l : Option Float) (x : Float) → FiniteResidual l → FiniteFloat x → FiniteResidual (recorded l x)
 unfolding recorded
-recorded_finite LargestResidual.Nothing x w f = f
-recorded_finite (LargestResidual.Residual m) x w f = go (lt m x)
+recorded_finite None x w f = f
+recorded_finite (Some m) x w f = go (lt m x)
   where
     go : (t : Bool) → FiniteFloat (cond t x m)
     go true = f
     go false = w
 
-all_finite_lem : (l : LargestResidual) (rs : List Float) → FiniteResidual l → Finites rs → FiniteResidual (recorded_all l rs)
+all_finite_lem : (l : Option Float) (rs : List Float) → FiniteResidual l → Finites rs → FiniteResidual (recorded_all l rs)
 unfolding recorded_all
 all_finite_lem l [] w fs = w
 all_finite_lem l (r ∷ rs) w fs = all_finite_lem (recorded l r) rs (recorded_finite l r w fs.0) fs.1
@@ -182,7 +182,7 @@ small l sheet c w = go c.pass w.pass_inside (let r = call_ran l sheet c w in ome
         let m = fill_limit (label_count sheet) p.max_iters in
         small_fill {s = (fill_after cs set p sheet).answer} (omega (arith, a)) (omega (arith, fill_from_lem cs set p m first, limit_few (label_count sheet) p.max_iters i.rounds))
     go (Pass.Local p) i a =
-        let first : LocalRounds = record { state = record { sheet = sheet; made = []; counts = no_counts; largest = LargestResidual.Nothing; unmatched = 0 }; rounds = 0 } in
+        let first : LocalRounds = record { state = record { sheet = sheet; made = []; counts = no_counts; largest = None; unmatched = 0 }; rounds = 0 } in
         let m = local_limit (label_count sheet) p.max_iters in
         let t = local_from_lem cs set p m first in
         let k = local_limit_few (label_count sheet) p.max_iters i.rounds in

@@ -1,6 +1,6 @@
 -- How large the numbers of a pass line can get (document 01, "Frame and result": rounds 0 to 64; the sheet has 16,384 cells; at most 1,024 corners), and
 -- of local's line of unmatched corners (document 02, 1/14). Definitions only.
-use Rattle.std.specs.Prelude.{◌≡◌, true, List, ℕ, ◌≤◌, T, Float}
+use Rattle.std.specs.Prelude.{◌≡◌, true, List, ℕ, ◌≤◌, T, Float, Option, None, Some}
 use Rattle.std.specs.Float.{binary32}
 use Rattle.std.specs.Float.Ieee.{fits}
 use Rattle.sheet.specs.Corners.{CornerLists}
@@ -10,8 +10,6 @@ use Rattle.passes.specs.declared.Counts.{Counts}
 use Rattle.passes.specs.declared.GrowStats.{GrowStats}
 use Rattle.passes.specs.declared.FillStats.{FillStats}
 use Rattle.passes.specs.declared.LocalStats.{LocalStats}
-use Rattle.passes.specs.declared.LargestResidual.{LargestResidual}
-use Rattle.passes.specs.declared.Unmatched.{Unmatched}
 use Rattle.passes.specs.Step.{lent_of}
 use Rattle.passes.specs.Run.{Call, PassStats, grow_stats, fill_stats, local_stats}
 use Rattle.invariants.specs.Calls.{after_call}
@@ -29,14 +27,14 @@ pub record FiniteFloat (x : Float) : Type 0 where
   pub fit : T (fits binary32 x)
 
 -- a largest residual is finite, if there is one
-abbrev pub FiniteResidual : LargestResidual → Type 0
-FiniteResidual LargestResidual.Nothing = Unit {0}
-FiniteResidual (LargestResidual.Residual x) = FiniteFloat x
+abbrev pub FiniteResidual : Option Float → Type 0
+FiniteResidual None = Unit {0}
+FiniteResidual (Some x) = FiniteFloat x
 
 -- at most m corners were passed over, if any shade stands
-abbrev pub FewUnmatched : ℕ → Unmatched → Type 0
-FewUnmatched m Unmatched.NoShades = Unit {0}
-FewUnmatched m (Unmatched.Count n) = n ≤ m
+abbrev pub FewUnmatched : ℕ → Option ℕ → Type 0
+FewUnmatched m None = Unit {0}
+FewUnmatched m (Some n) = n ≤ m
 
 -- what a pass says: at most 64 rounds of 16,384 cells, a finite residual, and at most 1,024 corners passed over at each of these cells
 pub data Small : PassStats → Type 0 where

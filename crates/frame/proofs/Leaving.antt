@@ -20,7 +20,6 @@ use Rattle.frame_state.specs.declared.Progress.{Progress}
 use Rattle.frame.specs.Reading.{Holds, FrameDone, ReadAs, held_as, LongEnough}
 use Rattle.frame.specs.Frame.{Frame, parts_of, FrameRead, refused_at, accepted, read_frame}
 use Rattle.frame.specs.ReadFrame.{xs_of, ys_of, pitches_of, shaded, shades_of, settings_of, Buffers, frame_out, too_short, leaves, read_into, unless_short}
-use Rattle.frame.specs.declared.FrameAnswer.{FrameAnswer}
 use Rattle.std.proofs.Common.{Ok}
 use Rattle.frame.specs.Said.{head_values, frame_said, line_values, read_due, frame_due}
 
@@ -82,7 +81,7 @@ module _ {f : FrameRead} {p : Progress} {a : Arrays} (w : Accepting f p a) where
       → pitches ≡ over (take p.corners a.pitches) b.pitches → shades ≡ over (take p.corners a.shades) b.shades
       → sheet ≡ over a.sheet b.sheet
       → passes ≡ over (take (pass_size * p.passes) a.passes) b.passes
-      → frame_out (FrameAnswer.Accepted (record { settings = p.settings; corners = p.corners; passes = p.passes })) xs ys pitches shades sheet passes
+      → frame_out (Ok (record { settings = p.settings; corners = p.corners; passes = p.passes })) xs ys pitches shades sheet passes
       ≡ leaves f b
   unfolding settings_of xs_of ys_of pitches_of
   text_accepted b xs ys pitches shades sheet passes x y z d s q =

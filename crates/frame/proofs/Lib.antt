@@ -3,3 +3,4 @@ pub mod Sets
 pub mod Adding
 pub mod Turn
 pub mod Leaving
+pub mod Mapped

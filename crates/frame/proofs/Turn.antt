@@ -26,7 +26,7 @@ use Rattle.line_form.proofs.Lines.{lines_from, no_lines}
 use Rattle.frame_line.specs.Table.{row_count, turn_at, may_end}
 use Rattle.frame_line.specs.Lines.{Line, LineRead, ill_formed, line, read_line}
 use Rattle.frame_line.specs.Held.{held_line, held_read}
-use Rattle.frame_line.specs.declared.Turn.{Turn}
+use Rattle.std.proofs.Common.{Option, None, Some}
 use Rattle.frame_line.specs.declared.HeldLine.{HeldLine}
 use Rattle.frame_line.proofs.Laws.{line_prints_back}
 use Rattle.frame_line.proofs.Checking.{no_row}
@@ -36,7 +36,7 @@ use Rattle.frame_state.specs.State.{Arrays, arrays, State, state, Addable, adds}
 use Rattle.frame_state.specs.declared.Progress.{Progress}
 use Rattle.frame.specs.Frame.{Frame, Parts, added, parts_from, no_parts, parts_of, checked_line, placed, first_set, second_set, join_if, join_of, labels_in, given_of, patch_line, FrameRead, refused_at, Step, stopped, onward, step_by, step_with, step_line, finish_by, finish, at_end, going, read_lines}
 use Rattle.frame.specs.ReadFrame.{sheet_of}
-use Rattle.frame.specs.Reading.{FrameHeld, Room, Went, went, held_by, held_step, Finishable, Finished, finished, finished_by, finish_on, FrameDone, ReadAs, refused_as, held_as}
+use Rattle.frame.specs.Reading.{on_sheet_of, FrameHeld, Room, Went, went, held_by, held_step, Finishable, Finished, finished, finished_by, finish_on, FrameDone, ReadAs, refused_as, held_as}
 use Rattle.frame.specs.declared.FrameRefusal.{FrameRefusal}
 use Rattle.std.proofs.Common.{Result, min}
 use Rattle.std.specs.List.{IsFirstMatchOrLen}
@@ -85,10 +85,10 @@ module _ (f : Frame) (s : State) (g : FrameHeld (parts_of f) s) (text : List ℕ
       (sym (checks_agree (parts_of f) s g l (line_prints_back text l e).proper))
       (go (turn_at s.progress.stage l.row) (checked_line (parts_of f) l) refl)
     where
-      go : (u : Turn) (c : Checked) → checked_line (parts_of f) l ≡ c → LedAs (step_by u c (f ++ (l ∷ []))) (held_by u c (adds (held_line l) s) s.held)
-      go Turn.No c h = refl
-      go (Turn.To to) (Err r) h = refl
-      go (Turn.To to) (Ok tt) h =
+      go : (u : Option ℕ) (c : Checked) → checked_line (parts_of f) l ≡ c → LedAs (step_by u c (f ++ (l ∷ []))) (held_by u c (adds (held_line l) s) s.held)
+      go None c h = refl
+      go (Some to) (Err r) h = refl
+      go (Some to) (Ok tt) h =
           let held = line_held (parts_of f) s g l (line_prints_back text l e).proper h in
           record { frame = f ++ (l ∷ []); step_is = refl; holds = rw parts_more (restaged (added (parts_of f) l) (adds (held_line l) s) to held) }
 
@@ -103,21 +103,17 @@ module _ (f : Frame) (s : State) (g : FrameHeld (parts_of f) s) (text : List ℕ
 -- ---- the code's step, from its parts
 
 -- a line that has a turn has a row
-pub step_row : (stage row to : ℕ) (turn : Turn) → turn ≡ turn_at stage row → turn ≡ Turn.To to → row < row_count
+pub step_row : (stage row to : ℕ) (turn : Option ℕ) → turn ≡ turn_at stage row → turn ≡ Some to → row < row_count
 step_row stage row to turn t e =
     ⊎_elim (λ h. h) (λ h. let n = no_row stage row h in absurd (let z : ◌≡◌ {A = ℕ} 0 1 = cc in omega arith)) (below_or_not row row_count)
 
 -- and it can be added where nothing is wrong with it
-pub step_addable : (p : Progress) (a : Arrays) (found : HeldLine) (turn : Turn) → turn ≡ turn_at p.stage found.row → (to : ℕ) → turn ≡ Turn.To to → (checked : Checked)
+pub step_addable : (p : Progress) (a : Arrays) (found : HeldLine) (turn : Option ℕ) → turn ≡ turn_at p.stage found.row → (to : ℕ) → turn ≡ Some to → (checked : Checked)
     → checked ≡ checked_held p.corners p.passes p.patched a.shades a.sheet a.used a.second p.second found → Room p a → checked ≡ Ok tt → Addable p a found
 step_addable p a found turn t to e checked c g h =
     record { fine = sym c ∙ h; fits = record { few = g.few; labels_few = g.second_few; row_fits = step_row p.stage found.row to turn t e }; long = g.long; counted = g.counted }
 
 -- ---- after the last line
-
--- the arrays with another sheet
-abbrev pub on_sheet_of : Arrays → List ℕ → Arrays
-on_sheet_of a sheet = arrays a.xs a.ys a.pitches a.shades sheet a.used a.second a.passes
 
 module _ (f : Frame) (p : Progress) (a : Arrays) (g : FrameHeld (parts_of f) (state p a)) where
   -- the sheet of the first set

@@ -14,7 +14,7 @@ use Rattle.frame_line.specs.Lines.{Line, kind_of, bits_at, Axes, axes_line_of, C
 use Rattle.frame_line.specs.Checks.{outside_line}
 use Rattle.frame_line.specs.declared.Kind.{Kind}
 use Rattle.frame_line.specs.declared.OpeningKind.{OpeningKind}
-use Rattle.frame_line.specs.declared.Turn.{Turn}
+use Rattle.std.specs.Prelude.{Option, None, Some}
 use Rattle.frame_check.specs.Checks.{checks_in_order, over_limit, twice_of}
 use Rattle.arguments.specs.Arguments.{Checked}
 
@@ -247,10 +247,10 @@ pub data Step : Type 0 where
   onward : ℕ → Frame → Step
 
 -- 1, bent: "line missing, out of order or ill-formed"; then the other checks
-abbrev pub step_by : Turn → Checked → Frame → Step
-step_by Turn.No checked f = stopped Refusal.Malformed
-step_by (Turn.To stage) (Ok tt) f = onward stage f
-step_by (Turn.To stage) (Err r) f = stopped r
+abbrev pub step_by : Option ℕ → Checked → Frame → Step
+step_by None checked f = stopped Refusal.Malformed
+step_by (Some stage) (Ok tt) f = onward stage f
+step_by (Some stage) (Err r) f = stopped r
 
 abbrev pub step_with : ℕ → Frame → LineRead → Step
 step_with stage f ill_formed = stopped Refusal.Malformed

@@ -1,6 +1,6 @@
 -- What the library call that reads a frame leaves (document 01, "Frame and result"), and the corners, shades, sheet, settings and passes that a
 -- frame gives. Definitions only.
-use Rattle.std.specs.Prelude.{Bool, true, false, ◌||◌, List, [], ◌∷◌, ◌++◌, map, ℕ, ◌+◌, nat_abs, ltb, length, set, replicate, Float}
+use Rattle.std.specs.Prelude.{Bool, true, false, ◌||◌, List, [], ◌∷◌, ◌++◌, map, ℕ, ◌+◌, nat_abs, ltb, length, set, replicate, Float, Result, Ok, Err}
 use Rattle.std.specs.Float.{binary32}
 use Rattle.std.specs.Float.Ieee.{of_bits}
 use Rattle.refusal.specs.declared.Refusal.{Refusal}
@@ -12,7 +12,8 @@ use Rattle.frame_line.specs.Lines.{ShadeLine, PassLine, bare_grow_holds, grow, b
 use Rattle.arguments.specs.Front.{over}
 use Rattle.sizes.specs.Sizes.{corner_limit, place_count, all_pass_words}
 use Rattle.frame.specs.Frame.{Frame, Opening, parts_of, given_of, FrameRead, refused_at, accepted, read_frame}
-use Rattle.frame.specs.declared.FrameAnswer.{FrameAnswer}
+use Rattle.frame.specs.declared.FrameHead.{FrameHead}
+use Rattle.frame.specs.declared.FrameRefusal.{FrameRefusal}
 
 -- ---- what a frame gives
 
@@ -119,10 +120,10 @@ pub record Buffers : Type 0 where
 
 -- the call's answer, and the buffers after it
 pub record FrameOut : Type 0 where
-  pub answer : FrameAnswer
+  pub answer : Result FrameHead FrameRefusal
   pub buffers : Buffers
 
-abbrev pub frame_out : FrameAnswer → List Float → List Float → List Float → List ℕ → List ℕ → List ℕ → FrameOut
+abbrev pub frame_out : Result FrameHead FrameRefusal → List Float → List Float → List Float → List ℕ → List ℕ → List ℕ → FrameOut
 frame_out r xs ys pitches shades sheet passes =
     record { answer = r; buffers = record { xs = xs; ys = ys; pitches = pitches; shades = shades; sheet = sheet; passes = passes } }
 
@@ -138,10 +139,10 @@ too_short b =
 
 -- only an accepted frame writes: the corners, their shades and the passes at the front of their buffers, and all 16,384 places of the sheet
 abbrev pub leaves : FrameRead → Buffers → FrameOut
-leaves (refused_at r n) b = record { answer = FrameAnswer.Refused r n; buffers = b }
+leaves (refused_at r n) b = record { answer = Err (record { refusal = r; line = n }); buffers = b }
 leaves (accepted f) b =
     record {
-      answer = FrameAnswer.Accepted (record { settings = settings_of f; corners = length (parts_of f).corners; passes = length (parts_of f).passes });
+      answer = Ok (record { settings = settings_of f; corners = length (parts_of f).corners; passes = length (parts_of f).passes });
       buffers =
           record {
             xs = over (xs_of f) b.xs;

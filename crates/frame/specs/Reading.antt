@@ -11,11 +11,10 @@ use Rattle.join.specs.Rule.{Placed, All}
 use Rattle.join.specs.Join.{same_cell}
 use Rattle.join.specs.Sheets.{labelled}
 use Rattle.join_sheet.specs.Held.{held_labels, HeldSecond, HeldSets, Outcome, join_on}
-use Rattle.join_sheet.specs.declared.Joining.{Joining}
 use Rattle.frame_line.specs.Lines.{CornerLine, LabelLine, ShadeLine, PassLine}
 use Rattle.frame_line.specs.Table.{turn_at}
 use Rattle.frame_line.specs.declared.HeldLine.{HeldLine}
-use Rattle.frame_line.specs.declared.Turn.{Turn}
+use Rattle.std.specs.Prelude.{Option, None, Some}
 use Rattle.frame_check.specs.Checks.{is_set, has_place, checked_held}
 use Rattle.sizes.specs.Sizes.{corner_limit, place_count, used_count, second_count, pass_size, all_pass_words}
 use Rattle.frame_state.specs.State.{Counted, at_stage, Arrays, arrays, State, adds}
@@ -41,6 +40,10 @@ ys_in cs = map (λ c. float_of c.y) cs
 
 abbrev pub pitches_in : List CornerLine → List Float
 pitches_in cs = map (λ c. float_of c.pitch) cs
+
+-- the same with another sheet
+abbrev pub on_sheet_of : Arrays → List ℕ → Arrays
+on_sheet_of a sheet = arrays a.xs a.ys a.pitches a.shades sheet a.used a.second a.passes
 
 -- an array of so many entries holds these at its front, n of them
 pub record Holds {A : Type 0} (size n : ℕ) (entries these : List A) : Type 0 where
@@ -133,10 +136,10 @@ pub record Went : Type 0 where
 abbrev pub went : Result Progress Refusal → Arrays → Went
 went r a = record { answer = r; held = a }
 
-abbrev pub held_by : Turn → Checked → State → Arrays → Went
-held_by Turn.No checked s a = went (Err Refusal.Malformed) a
-held_by (Turn.To stage) (Ok tt) s a = went (Ok (at_stage s.progress stage)) s.held
-held_by (Turn.To stage) (Err r) s a = went (Err r) a
+abbrev pub held_by : Option ℕ → Checked → State → Arrays → Went
+held_by None checked s a = went (Err Refusal.Malformed) a
+held_by (Some stage) (Ok tt) s a = went (Ok (at_stage s.progress stage)) s.held
+held_by (Some stage) (Err r) s a = went (Err r) a
 
 -- the line is checked in its turn, and added if it is fine
 unfoldable pub held_step : HeldLine → State → Went
@@ -161,9 +164,9 @@ pub record Finished : Type 0 where
 abbrev pub finished : List ℕ → Result Progress FrameRefusal → Finished
 finished sheet r = record { sheet = sheet; answer = r }
 
-abbrev pub finished_as : Progress → Joining → Result Progress FrameRefusal
-finished_as p Joining.Fine = Ok p
-finished_as p (Joining.Refused r) = Err (record { refusal = r; line = 5 + p.corners + p.labels })
+abbrev pub finished_as : Progress → Result (Unit {0}) Refusal → Result Progress FrameRefusal
+finished_as p (Ok u) = Ok p
+finished_as p (Err r) = Err (record { refusal = r; line = 5 + p.corners + p.labels })
 
 abbrev pub finished_by : Progress → Outcome → Finished
 finished_by p o = finished o.sheet (finished_as p o.answer)

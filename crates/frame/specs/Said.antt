@@ -1,12 +1,12 @@
 -- What the answer of the reader says, in document 01's numbers and values: a refusal's number and line, or what the frame's lines give, in the order
 -- of the lines. Definitions only.
-use Rattle.std.specs.Prelude.{cond, List, [], ◌∷◌, ℕ, length}
+use Rattle.std.specs.Prelude.{cond, List, [], ◌∷◌, ℕ, length, Result, Ok, Err}
 use Rattle.refusal.specs.Refusal.{number_of}
 use Rattle.refusal.specs.Said.{Value, whole, float, Said, number_and_line, values}
 use Rattle.frame.specs.Frame.{Parts, parts_of, FrameRead, refused_at, accepted, read_frame}
 use Rattle.frame.specs.ReadFrame.{float_of, Buffers, too_short}
 use Rattle.frame.specs.declared.FrameHead.{FrameHead}
-use Rattle.frame.specs.declared.FrameAnswer.{FrameAnswer}
+use Rattle.frame.specs.declared.FrameRefusal.{FrameRefusal}
 
 -- ---- the answer by its cases
 
@@ -23,9 +23,9 @@ head_values h =
     ∷ whole h.passes
     ∷ []
 
-unfoldable pub frame_said : FrameAnswer → Said
-frame_said (FrameAnswer.Refused r line) = number_and_line (number_of r) line
-frame_said (FrameAnswer.Accepted h) = values (head_values h)
+unfoldable pub frame_said : Result FrameHead FrameRefusal → Said
+frame_said (Err e) = number_and_line (number_of e.refusal) e.line
+frame_said (Ok h) = values (head_values h)
 
 -- ---- what an answer is due to say
 

@@ -1,17 +1,17 @@
 -- A frame printed, which frames are within 01's limits, and the laws between reading and printing (document 01, "Frame and result"; demand 1).
 -- Definitions only; the laws are proved in the crate frame_laws.
-use Rattle.std.specs.Prelude.{◌≡◌, Bool, true, false, List, [], ◌∷◌, ◌++◌, ℕ, suc, ◌<◌, ◌≤◌, length, get_or, take, pos}
+use Rattle.std.specs.Prelude.{◌≡◌, Bool, true, false, List, [], ◌∷◌, ◌++◌, ℕ, suc, ◌<◌, ◌≤◌, length, get_or, take, pos, Err}
 use Rattle.refusal.specs.declared.Refusal.{Refusal}
 use Rattle.sheet.specs.Cells.{OnSheet}
 use Rattle.sheet.specs.declared.Offset.{Offset}
 use Rattle.join.specs.Rule.{Placed, Shared, Shift, Meaning, All, AllDiffer}
-use Rattle.join.specs.declared.Verdict.{Verdict}
+use Rattle.join.specs.declared.Unjoinable.{Unjoinable}
 use Rattle.line_form.specs.Forms.{bytes}
 use Rattle.line_form.specs.Lines.{lines_of}
 use Rattle.frame_line.specs.Table.{turn_at, may_end}
 use Rattle.frame_line.specs.Lines.{Line, kind_of, Proper, line_text, LabelLine, ShadeLine, LineRead, ill_formed, line, read_line}
 use Rattle.frame_line.specs.Checks.{outside_line}
-use Rattle.frame_line.specs.declared.Turn.{Turn}
+use Rattle.std.specs.Prelude.{None, Some}
 use Rattle.sizes.specs.Sizes.{corner_limit, pass_limit, byte_limit}
 use Rattle.frame.specs.Frame.{Frame, parts_of, first_set, second_set, outside_in, over_in, twice_in, onward, step_line, refused_at, accepted, read_frame}
 
@@ -26,7 +26,7 @@ frame_text (l ∷ ls) = line_text l ++ frame_text ls
 -- "Lines, in order": each in its turn, and a frame may end after the last
 pub data InOrder : ℕ → List Line → Type 0 where
   ends : {stage : ℕ} → may_end stage ≡ true → InOrder stage []
-  next : {stage to : ℕ} {ls : List Line} (l : Line) → turn_at stage l.row ≡ Turn.To to → InOrder to ls → InOrder stage (l ∷ ls)
+  next : {stage to : ℕ} {ls : List Line} (l : Line) → turn_at stage l.row ≡ Some to → InOrder to ls → InOrder stage (l ∷ ls)
 
 -- a line of the table, none of whose numbers has a refusal, with n corners given: each is in its range, a shade's kind is 0 or 1, a label is on
 -- the sheet, and the corner of a label or a shade is given
@@ -115,8 +115,8 @@ pub data FirstCheck (outside : ℕ → Bool) (over twice : Bool) : Refusal → T
 -- the first check that fails on a line, in order 1 to 6; a line that has no form, or is not in its turn, fails the first
 pub data FirstFault (stage : ℕ) (f : Frame) : LineRead → Refusal → Type 0 where
   has_no_form : FirstFault stage f ill_formed Refusal.Malformed
-  not_its_turn : {l : Line} → turn_at stage l.row ≡ Turn.No → FirstFault stage f (line l) Refusal.Malformed
-  fails : {l : Line} {to : ℕ} {r : Refusal} → turn_at stage l.row ≡ Turn.To to
+  not_its_turn : {l : Line} → turn_at stage l.row ≡ None → FirstFault stage f (line l) Refusal.Malformed
+  fails : {l : Line} {to : ℕ} {r : Refusal} → turn_at stage l.row ≡ Some to
       → FirstCheck (outside_in (parts_of f) l) (over_in (parts_of f) (kind_of l)) (twice_in (parts_of f) (kind_of l) l.numbers) r
       → FirstFault stage f (line l) r
 
@@ -129,9 +129,9 @@ pub data Passed : ℕ → Frame → List (List ℕ) → ℕ → Frame → Type 0
 -- "8 if no corner is in both sets, 9 if no shift gives every shared corner one cell and every cell one corner, then 4 if that shift takes a label off
 -- the sheet": what each means is the rule's `Meaning` (crate join)
 pub data Unjoined (first second : List Placed) : Refusal → Type 0 where
-  are_apart : Meaning first second Verdict.Apart → Unjoined first second Refusal.NoSharedCorner
-  do_clash : Meaning first second Verdict.Clash → Unjoined first second Refusal.PatchesClash
-  goes_off : Meaning first second Verdict.Off → Unjoined first second Refusal.OffSheet
+  are_apart : Meaning first second (Err Unjoinable.Apart) → Unjoined first second Refusal.NoSharedCorner
+  do_clash : Meaning first second (Err Unjoinable.Clash) → Unjoined first second Refusal.PatchesClash
+  goes_off : Meaning first second (Err Unjoinable.Off) → Unjoined first second Refusal.OffSheet
 
 -- Why a text is refused at a line: too many bytes, line 0; or the lines before it pass and it fails, that number being the first check that
 -- fails on it; or all lines pass, and one of the first four is missing after the last; or all lines pass and the text may end there, this line is the

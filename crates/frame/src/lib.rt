@@ -12,14 +12,12 @@ ghost use Rattle.join_sheet.specs.Held.{held_labels};
 ghost use Rattle.frame_state.specs.State.{nothing_said, state};
 ghost use Rattle.arguments.specs.Front.{over};
 ghost use Rattle.frame.specs.Frame.{no_parts, read_lines};
-ghost use Rattle.frame.specs.ReadFrame.{frame_out, too_short, leaves, read_into};
+ghost use Rattle.frame.specs.ReadFrame.{frame_out, leaves, read_into};
 ghost use Rattle.frame.specs.Said.{frame_said, frame_due};
-ghost use Rattle.frame.specs.Reading.{arrays_in, FrameHeld, Room, went, held_step, Finishable, finished, finish_on, ReadAs, buffers, LongEnough};
+ghost use Rattle.frame.specs.Reading.{arrays_in, on_sheet_of, FrameHeld, Room, went, held_step, Finishable, finished, finish_on, ReadAs, buffers, LongEnough};
 
 use arguments::Settings;
-use frame_line::Turn;
 use frame_state::Progress;
-use join_sheet::Joining;
 use refusal::Refusal;
 use sizes::{ALL_PASS_WORDS, BYTES, CORNERS, PASS_WORDS, PLACES, SECOND, USED};
 
@@ -29,13 +27,6 @@ pub struct FrameHead {
     pub settings: Settings,
     pub corners: usize,
     pub passes: usize,
-}
-
-// An accepted frame, or one refusal with its line.
-#[derive(Clone, Copy)]
-pub enum FrameAnswer {
-    Accepted(FrameHead),
-    Refused(Refusal, usize),
 }
 
 // A refusal with its line, 0 where it is about no line.
@@ -67,8 +58,8 @@ fn step_line(p: Progress, held: &mut Held, line: &[u8]) -> Result<Progress, Refu
 {
     let found = frame_line::read_line(line);
     match frame_line::turn_at(p.stage, found.row) {
-        Turn::No => Err(Refusal::Malformed),
-        Turn::To(stage) => {
+        None => Err(Refusal::Malformed),
+        Some(stage) => {
             match frame_check::check_line(
                 p.corners,
                 p.passes,
@@ -103,21 +94,18 @@ fn step_line(p: Progress, held: &mut Held, line: &[u8]) -> Result<Progress, Refu
 
 // After the last line: the second set is joined to the first where the patch line stands. A refusal is reported at the patch line, which stands
 // behind the first four lines, the corners and the labels of the first set.
-fn finish(
-    p: Progress,
-    sheet: &mut [u16; PLACES],
-    used: &[u8; USED],
-    second: &[u16; SECOND],
-) -> Result<Progress, FrameRefusal>
-    requires { Finishable p sheet.old used.now second.now }
-    ensures { finished sheet.new result ≡ finish_on p.patched p sheet.old (held_labels second.now p.second) }
+fn finish(p: Progress, held: &mut Held) -> Result<Progress, FrameRefusal>
+    requires { Finishable p held.old.sheet held.old.used held.old.second }
+    ensures sheet { finished held.new.sheet result
+        ≡ finish_on p.patched p held.old.sheet (held_labels held.old.second p.second) }
+    ensures others { arrays_in held.new ≡ on_sheet_of (arrays_in held.old) held.new.sheet }
 {
     if !p.patched {
         return Ok(p);
     }
-    match join_sheet::join_sets(sheet, used, second, p.second) {
-        Joining::Fine => Ok(p),
-        Joining::Refused(refusal) => Err(FrameRefusal {
+    match join_sheet::join_sets(&mut held.sheet, &held.used, &held.second, p.second) {
+        Ok(()) => Ok(p),
+        Err(refusal) => Err(FrameRefusal {
             refusal,
             line: 5 + p.corners + p.labels,
         }),
@@ -141,7 +129,7 @@ fn read_lines(text: &[u8], held: &mut Held) -> Result<Progress, FrameRefusal>
             line: n,
         });
     }
-    finish(p, &mut held.sheet, &held.used, &held.second)
+    finish(p, held)
 }
 
 // Entries are copied to the front of a buffer.
@@ -152,26 +140,8 @@ fn copy_front<T: Copy>(from: &[T], to: &mut [T])
     to[..from.len()].copy_from_slice(from);
 }
 
-// 7: whether a lent buffer is too short.
-fn too_short(
-    xs: &[f32],
-    ys: &[f32],
-    pitches: &[f32],
-    shades: &[u8],
-    sheet: &[u16],
-    passes: &[u32],
-) -> bool
-    ensures { result ≡ too_short (buffers xs.now ys.now pitches.now shades.now sheet.now passes.now) }
-{
-    xs.len() < CORNERS
-        || ys.len() < CORNERS
-        || pitches.len() < CORNERS
-        || shades.len() < CORNERS
-        || sheet.len() < PLACES
-        || passes.len() < ALL_PASS_WORDS
-}
-
 // A text that is not too long, with buffers that are long enough.
+// Each buffer is lent by itself, as the C interface lends it.
 fn read_text(
     text: &[u8],
     xs: &mut [f32],
@@ -180,7 +150,7 @@ fn read_text(
     shades: &mut [u8],
     sheet: &mut [u16],
     passes: &mut [u32],
-) -> FrameAnswer
+) -> Result<FrameHead, FrameRefusal>
     requires { LongEnough (buffers xs.old ys.old pitches.old shades.old sheet.old passes.old) }
     ensures { frame_out result xs.new ys.new pitches.new shades.new sheet.new passes.new
         ≡ leaves (read_lines 1 0 [] (lines_of text.now)) (buffers xs.old ys.old pitches.old shades.old
@@ -196,28 +166,25 @@ fn read_text(
         second: [0; SECOND],
         passes: [0; ALL_PASS_WORDS],
     };
-    match read_lines(text, &mut held) {
-        Err(refused) => FrameAnswer::Refused(refused.refusal, refused.line),
-        Ok(p) => {
-            copy_front(&held.xs[..p.corners], xs);
-            copy_front(&held.ys[..p.corners], ys);
-            copy_front(&held.pitches[..p.corners], pitches);
-            copy_front(&held.shades[..p.corners], shades);
-            copy_front(&held.sheet, sheet);
-            copy_front(&held.passes[..PASS_WORDS * p.passes], passes);
-            FrameAnswer::Accepted(FrameHead {
-                settings: p.settings,
-                corners: p.corners,
-                passes: p.passes,
-            })
-        }
-    }
+    let p = read_lines(text, &mut held)?;
+    copy_front(&held.xs[..p.corners], xs);
+    copy_front(&held.ys[..p.corners], ys);
+    copy_front(&held.pitches[..p.corners], pitches);
+    copy_front(&held.shades[..p.corners], shades);
+    copy_front(&held.sheet, sheet);
+    copy_front(&held.passes[..PASS_WORDS * p.passes], passes);
+    Ok(FrameHead {
+        settings: p.settings,
+        corners: p.corners,
+        passes: p.passes,
+    })
 }
 
 // Reads a frame. An accepted one is written to the buffers: its corners to the front of the first three, their shades to the front of the fourth,
 // a byte each (0 none, 1 kind 0, 2 kind 1), the sheet of its given labels, joined where there are two sets, to the first 16,384 places of the
 // fifth, and its passes, six words each, to the front of the last; the rest of them stays. A refused one writes nothing, and the answer has the
 // refusal and the line, 0 where it is about no line. `said` is the same answer in 01's number with the line, or values.
+// Each buffer is lent by itself, as the C interface lends it.
 #[tactic(auto, using(crate::proofs::Leaving::long_enough, crate::proofs::Leaving::due_said), unfolding(crate::specs::ReadFrame::read_into, crate::specs::Frame::read_frame))]
 pub fn read_frame(
     text: &[u8],
@@ -227,18 +194,30 @@ pub fn read_frame(
     shades: &mut [u8],
     sheet: &mut [u16],
     passes: &mut [u32],
-) -> FrameAnswer
+) -> Result<FrameHead, FrameRefusal>
     ensures passes_after { frame_out result xs.new ys.new pitches.new shades.new sheet.new passes.new
         ≡ read_into text.now
         (buffers xs.old ys.old pitches.old shades.old sheet.old passes.old) }
     ensures said { frame_said result ≡ frame_due text.now
         (buffers xs.old ys.old pitches.old shades.old sheet.old passes.old) }
 {
-    if too_short(xs, ys, pitches, shades, sheet, passes) {
-        return FrameAnswer::Refused(Refusal::BufferTooShort, 0);
+    if xs.len() < CORNERS
+        || ys.len() < CORNERS
+        || pitches.len() < CORNERS
+        || shades.len() < CORNERS
+        || sheet.len() < PLACES
+        || passes.len() < ALL_PASS_WORDS
+    {
+        return Err(FrameRefusal {
+            refusal: Refusal::BufferTooShort,
+            line: 0,
+        });
     }
     if BYTES < text.len() {
-        return FrameAnswer::Refused(Refusal::OverLimit, 0);
+        return Err(FrameRefusal {
+            refusal: Refusal::OverLimit,
+            line: 0,
+        });
     }
     read_text(text, xs, ys, pitches, shades, sheet, passes)
 }

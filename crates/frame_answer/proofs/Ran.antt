@@ -1,6 +1,6 @@
 -- What is left when the passes of an accepted frame have run: the sheet and the outcomes of the definition, and nothing that the printer refuses.
 -- Assumes nothing.
-use Rattle.std.specs.Prelude.{Ok, Err}
+use Rattle.std.specs.Prelude.{Ok, Err, Option, None, Some, Float}
 use mathlib.Core.Path.{◌≡◌, refl, sym, ap, ◌∙◌, subst}
 use mathlib.Core.Bool.{Bool, true, false, not, ◌&&◌, ◌||◌, cond}
 use mathlib.Core.List.{List, [], ◌∷◌, ◌++◌, append_assoc, append-nil, map}
@@ -16,12 +16,10 @@ use lib.Ieee.{binary32, of_bits}
 use lib.Ieee.Bits.{of_bits-to_bits}
 use Rattle.refusal.specs.declared.Refusal.{Refusal}
 use Rattle.binary32.specs.Ranges.{is_finite}
-use Rattle.arguments.specs.declared.Pass.{Pass}
+use Rattle.arguments.specs.Arguments.{Checked}
 use Rattle.arguments.proofs.Laws.{not_unknown, not_doubled}
 use Rattle.passes.specs.declared.Counts.{Counts}
 use Rattle.passes.specs.declared.LocalStats.{LocalStats}
-use Rattle.passes.specs.declared.LargestResidual.{LargestResidual}
-use Rattle.passes.specs.declared.Unmatched.{Unmatched}
 use Rattle.passes.specs.Outcome.{After, Outcome, refused, done}
 use Rattle.passes.specs.Step.{unless}
 use Rattle.passes.specs.Run.{Call, PassStats, grow_stats, fill_stats, local_stats, step, sheet_after, run, sheet_of as sheetAfterAll}
@@ -40,7 +38,7 @@ use Rattle.count_bounds.proofs.Small.{small}
 use Rattle.sheet.specs.Corners.{CornerLists}
 use Rattle.sheet.specs.Words.{bit_of}
 use Rattle.report_words.specs.Outcomes.{residual_words, unmatched_words, outcome_words, word_at, stats_from, stats_in, largest_count, largest_unmatched, wild_counts, wild_residual, wild_unmatched, wild_outcome}
-use Rattle.report_words.specs.Asked.{Tame, put, with_outcome, shade_flag, unmatched_word, FloatOrNone, IsFloat}
+use Rattle.report_words.specs.Asked.{Tame, with_outcome, shade_flag, unmatched_word, FloatOrNone, IsFloat}
 use Rattle.report_words.proofs.Putting.{put_last}
 use Rattle.arguments.specs.Front.{over}
 use Rattle.frame_passes.specs.Running.{pass_at, call_at, Left, left, noted, left_by, left_by_all}
@@ -138,16 +136,16 @@ not_wild words k t =
     go false e = refl
 
 -- the two words of the corners passed over
-few_shades : (u : Unmatched) → FewUnmatched 1073741824 u → (shade_flag u ≤ 1) × ((unmatched_word u ≤ largest_unmatched) × (shade_flag u ≡ 0 → unmatched_word u ≡ 0))
-few_shades Unmatched.NoShades h = (omega arith, (omega arith, λ e. refl))
-few_shades (Unmatched.Count n) h = (omega arith, (h, λ e. absurd (omega arith)))
+few_shades : (u : Option ℕ) → FewUnmatched 1073741824 u → (shade_flag u ≤ 1) × ((unmatched_word u ≤ largest_unmatched) × (shade_flag u ≡ 0 → unmatched_word u ≡ 0))
+few_shades None h = (omega arith, (omega arith, λ e. refl))
+few_shades (Some n) h = (omega arith, (h, λ e. absurd (omega arith)))
 
 module _ (words : List ℕ) (k : ℕ) where
   tame_counts : (c : Counts) (rounds : ℕ) (kind : ℕ) (b : Bool) → FewCounts 1048576 c → rounds ≤ 64 → kind ≤ 2
       → word_at words k 0 ≡ kind → word_at words k 1 ≡ c.attached → word_at words k 2 ≡ c.rejected_no_candidate
       → word_at words k 3 ≡ c.rejected_ambiguous → word_at words k 4 ≡ c.rejected_edge → word_at words k 5 ≡ rounds
       → word_at words k 6 ≤ 1 → (word_at words k 6 ≡ 1 → is_finite (of_bits binary32 (word_at words k 7)) ≡ true) → word_at words k 8 ≡ bit_of b
-      → (u : Unmatched) → FewUnmatched 1073741824 u → word_at words k 9 ≡ shade_flag u → word_at words k 10 ≡ unmatched_word u → (shade_flag u ≡ 1 → kind ≡ 2)
+      → (u : Option ℕ) → FewUnmatched 1073741824 u → word_at words k 9 ≡ shade_flag u → word_at words k 10 ≡ unmatched_word u → (shade_flag u ≡ 1 → kind ≡ 2)
       → Tame words k
   tame_counts c rounds kind b w r q e0 e1 e2 e3 e4 e5 l6 f7 e8 u v e9 e10 local =
       record {
@@ -166,49 +164,49 @@ module _ (words : List ℕ) (k : ℕ) where
         local_alone = λ h. e0 ∙ local (sym e9 ∙ h);
       }
 
-abbrev local_words : LocalStats → LargestResidual → Unmatched → List ℕ
+abbrev local_words : LocalStats → Option Float → Option ℕ → List ℕ
 local_words s x u =
     2 ∷ s.counts.attached ∷ s.counts.rejected_no_candidate ∷ s.counts.rejected_ambiguous ∷ s.counts.rejected_edge ∷ s.iterations
     ∷ residual_words x (bit_of s.rim ∷ unmatched_words u)
 
 module _ (before after : List ℕ) (k : ℕ) (long : length before ≡ 11 * k) where
-  local_tame : (s : LocalStats) (x : LargestResidual) (u : Unmatched) → FewCounts 1048576 s.counts → s.iterations ≤ 64 → FiniteResidual x → FewUnmatched 1073741824 u
+  local_tame : (s : LocalStats) (x : Option Float) (u : Option ℕ) → FewCounts 1048576 s.counts → s.iterations ≤ 64 → FiniteResidual x → FewUnmatched 1073741824 u
       → Tame (before ++ (local_words s x u ++ after)) k
   local_tame s x u w r q v = by x u q v
     where
-      at : (x : LargestResidual) (u : Unmatched) (m : ℕ) → word_at (before ++ (local_words s x u ++ after)) k m ≡ get_or (local_words s x u ++ after) m 0
+      at : (x : Option Float) (u : Option ℕ) (m : ℕ) → word_at (before ++ (local_words s x u ++ after)) k m ≡ get_or (local_words s x u ++ after) m 0
       at x u m = behind before (local_words s x u ++ after) (11 * k) m long
 
-      by : (x : LargestResidual) (u : Unmatched) → FiniteResidual x → FewUnmatched 1073741824 u → Tame (before ++ (local_words s x u ++ after)) k
-      by LargestResidual.Nothing Unmatched.NoShades q v =
-          tame_counts _ k s.counts s.iterations 2 s.rim w r (omega arith) (at LargestResidual.Nothing Unmatched.NoShades 0) (at LargestResidual.Nothing Unmatched.NoShades 1) (at LargestResidual.Nothing Unmatched.NoShades 2) (at LargestResidual.Nothing Unmatched.NoShades 3) (at LargestResidual.Nothing Unmatched.NoShades 4) (at LargestResidual.Nothing Unmatched.NoShades 5)
-          (omega (arith, at LargestResidual.Nothing Unmatched.NoShades 6)) (λ h. absurd (omega (arith, h, at LargestResidual.Nothing Unmatched.NoShades 6))) (at LargestResidual.Nothing Unmatched.NoShades 8)
-          Unmatched.NoShades v (at LargestResidual.Nothing Unmatched.NoShades 9) (at LargestResidual.Nothing Unmatched.NoShades 10) (λ e. refl)
-      by LargestResidual.Nothing (Unmatched.Count n) q v =
-          tame_counts _ k s.counts s.iterations 2 s.rim w r (omega arith) (at LargestResidual.Nothing (Unmatched.Count n) 0) (at LargestResidual.Nothing (Unmatched.Count n) 1) (at LargestResidual.Nothing (Unmatched.Count n) 2) (at LargestResidual.Nothing (Unmatched.Count n) 3) (at LargestResidual.Nothing (Unmatched.Count n) 4) (at LargestResidual.Nothing (Unmatched.Count n) 5)
-          (omega (arith, at LargestResidual.Nothing (Unmatched.Count n) 6)) (λ h. absurd (omega (arith, h, at LargestResidual.Nothing (Unmatched.Count n) 6))) (at LargestResidual.Nothing (Unmatched.Count n) 8)
-          (Unmatched.Count n) v (at LargestResidual.Nothing (Unmatched.Count n) 9) (at LargestResidual.Nothing (Unmatched.Count n) 10) (λ e. refl)
-      by (LargestResidual.Residual x) Unmatched.NoShades q v =
-          tame_counts _ k s.counts s.iterations 2 s.rim w r (omega arith) (at (LargestResidual.Residual x) Unmatched.NoShades 0) (at (LargestResidual.Residual x) Unmatched.NoShades 1) (at (LargestResidual.Residual x) Unmatched.NoShades 2) (at (LargestResidual.Residual x) Unmatched.NoShades 3) (at (LargestResidual.Residual x) Unmatched.NoShades 4) (at (LargestResidual.Residual x) Unmatched.NoShades 5)
-          (omega (arith, at (LargestResidual.Residual x) Unmatched.NoShades 6)) (λ h. rw (at (LargestResidual.Residual x) Unmatched.NoShades 7, of_bits-to_bits binary32 x q.fit) q.finite) (at (LargestResidual.Residual x) Unmatched.NoShades 8)
-          Unmatched.NoShades v (at (LargestResidual.Residual x) Unmatched.NoShades 9) (at (LargestResidual.Residual x) Unmatched.NoShades 10) (λ e. refl)
-      by (LargestResidual.Residual x) (Unmatched.Count n) q v =
-          tame_counts _ k s.counts s.iterations 2 s.rim w r (omega arith) (at (LargestResidual.Residual x) (Unmatched.Count n) 0) (at (LargestResidual.Residual x) (Unmatched.Count n) 1) (at (LargestResidual.Residual x) (Unmatched.Count n) 2) (at (LargestResidual.Residual x) (Unmatched.Count n) 3) (at (LargestResidual.Residual x) (Unmatched.Count n) 4) (at (LargestResidual.Residual x) (Unmatched.Count n) 5)
-          (omega (arith, at (LargestResidual.Residual x) (Unmatched.Count n) 6)) (λ h. rw (at (LargestResidual.Residual x) (Unmatched.Count n) 7, of_bits-to_bits binary32 x q.fit) q.finite) (at (LargestResidual.Residual x) (Unmatched.Count n) 8)
-          (Unmatched.Count n) v (at (LargestResidual.Residual x) (Unmatched.Count n) 9) (at (LargestResidual.Residual x) (Unmatched.Count n) 10) (λ e. refl)
+      by : (x : Option Float) (u : Option ℕ) → FiniteResidual x → FewUnmatched 1073741824 u → Tame (before ++ (local_words s x u ++ after)) k
+      by None None q v =
+          tame_counts _ k s.counts s.iterations 2 s.rim w r (omega arith) (at None None 0) (at None None 1) (at None None 2) (at None None 3) (at None None 4) (at None None 5)
+          (omega (arith, at None None 6)) (λ h. absurd (omega (arith, h, at None None 6))) (at None None 8)
+          None v (at None None 9) (at None None 10) (λ e. refl)
+      by None (Some n) q v =
+          tame_counts _ k s.counts s.iterations 2 s.rim w r (omega arith) (at None (Some n) 0) (at None (Some n) 1) (at None (Some n) 2) (at None (Some n) 3) (at None (Some n) 4) (at None (Some n) 5)
+          (omega (arith, at None (Some n) 6)) (λ h. absurd (omega (arith, h, at None (Some n) 6))) (at None (Some n) 8)
+          (Some n) v (at None (Some n) 9) (at None (Some n) 10) (λ e. refl)
+      by (Some x) None q v =
+          tame_counts _ k s.counts s.iterations 2 s.rim w r (omega arith) (at (Some x) None 0) (at (Some x) None 1) (at (Some x) None 2) (at (Some x) None 3) (at (Some x) None 4) (at (Some x) None 5)
+          (omega (arith, at (Some x) None 6)) (λ h. rw (at (Some x) None 7, of_bits-to_bits binary32 x q.fit) q.finite) (at (Some x) None 8)
+          None v (at (Some x) None 9) (at (Some x) None 10) (λ e. refl)
+      by (Some x) (Some n) q v =
+          tame_counts _ k s.counts s.iterations 2 s.rim w r (omega arith) (at (Some x) (Some n) 0) (at (Some x) (Some n) 1) (at (Some x) (Some n) 2) (at (Some x) (Some n) 3) (at (Some x) (Some n) 4) (at (Some x) (Some n) 5)
+          (omega (arith, at (Some x) (Some n) 6)) (λ h. rw (at (Some x) (Some n) 7, of_bits-to_bits binary32 x q.fit) q.finite) (at (Some x) (Some n) 8)
+          (Some n) v (at (Some x) (Some n) 9) (at (Some x) (Some n) 10) (λ e. refl)
 
   outcome_tame : (s : PassStats) → Small s → Tame (before ++ (outcome_words s ++ after)) k
   unfolding outcome_words
   outcome_tame (grow_stats s) (small_grow w) =
       tame_counts _ k s.counts 0 0 s.rim w (omega arith) (omega arith) (at 0) (at 1) (at 2) (at 3) (at 4) (at 5) (omega (arith, at 6)) (λ h. absurd (omega (arith, h, at 6))) (at 8)
-      Unmatched.NoShades tt (at 9) (at 10) (λ e. absurd (omega arith))
+      None tt (at 9) (at 10) (λ e. absurd (omega arith))
     where
       at : (m : ℕ) → word_at (before ++ (outcome_words (grow_stats s) ++ after)) k m ≡ get_or (outcome_words (grow_stats s) ++ after) m 0
       at m = behind before (outcome_words (grow_stats s) ++ after) (11 * k) m long
   outcome_tame (fill_stats s) (small_fill w r) =
       tame_counts _ k (record { attached = s.added; rejected_no_candidate = 0; rejected_ambiguous = 0; rejected_edge = 0 }) s.iterations 1 s.rim
       (record { attached = w; no_candidate = omega arith; ambiguous = omega arith; edge = omega arith }) r (omega arith) (at 0) (at 1) (at 2) (at 3) (at 4) (at 5) (omega (arith, at 6)) (λ h. absurd (omega (arith, h, at 6))) (at 8)
-      Unmatched.NoShades tt (at 9) (at 10) (λ e. absurd (omega arith))
+      None tt (at 9) (at 10) (λ e. absurd (omega arith))
     where
       at : (m : ℕ) → word_at (before ++ (outcome_words (fill_stats s) ++ after)) k m ≡ get_or (outcome_words (fill_stats s) ++ after) m 0
       at m = behind before (outcome_words (fill_stats s) ++ after) (11 * k) m long
@@ -220,20 +218,20 @@ eleven_words (grow_stats s) = refl
 eleven_words (fill_stats s) = refl
 eleven_words (local_stats s) = go s.residual s.unmatched
   where
-    go : (x : LargestResidual) (u : Unmatched) → length (local_words s x u) ≡ 11
-    go LargestResidual.Nothing Unmatched.NoShades = refl
-    go LargestResidual.Nothing (Unmatched.Count n) = refl
-    go (LargestResidual.Residual x) Unmatched.NoShades = refl
-    go (LargestResidual.Residual x) (Unmatched.Count n) = refl
+    go : (x : Option Float) (u : Option ℕ) → length (local_words s x u) ≡ 11
+    go None None = refl
+    go None (Some n) = refl
+    go (Some x) None = refl
+    go (Some x) (Some n) = refl
 
 is_float : (s : PassStats) → Small s → IsFloat s
 is_float (grow_stats s) w = tt
 is_float (fill_stats s) w = tt
 is_float (local_stats s) (small_local w r q u) = go s.residual q
   where
-    go : (x : LargestResidual) → FiniteResidual x → FloatOrNone x
-    go LargestResidual.Nothing h = tt
-    go (LargestResidual.Residual x) h = h.fit
+    go : (x : Option Float) → FiniteResidual x → FloatOrNone x
+    go None h = tt
+    go (Some x) h = h.fit
 
 -- ---- an outcome put at its place
 

@@ -1,14 +1,12 @@
 -- What reading a frame and running its passes comes to. Assumes nothing.
 use mathlib.Core.Path.{◌≡◌, refl, sym, ap, ◌∙◌, subst}
-use mathlib.Core.Bool.{Bool, true, false, ◌||◌}
-use mathlib.Core.List.{List, [], ◌∷◌, ◌++◌, append-nil, map}
-use Prim.Native.Nat.{ℕ, zero, suc, ◌+◌, ◌*◌, ◌≤◌, ◌<◌}
+use mathlib.Core.Bool.{Bool, false}
+use mathlib.Core.List.{List, [], ◌∷◌, append-nil, map}
+use Prim.Native.Nat.{ℕ, ◌*◌, ◌≤◌}
 use native.Mathlib.Omega.{arith}
 use borrow.Author.Tests.{le-ltb}
-use lib.Dec.{ltb}
-use lib.ListN.{length, take, drop, set, length-append, length-drop, length-map}
+use lib.ListN.{length, take, set, length-append, length-drop, length-map, drop_of_length-le}
 use lib.Ieee.{Float}
-use Rattle.refusal.specs.declared.Refusal.{Refusal}
 use Rattle.arguments.specs.declared.Settings.{Settings}
 use Rattle.frame.specs.Frame.{Frame, parts_of, given_of, FrameRead, refused_at, accepted, read_frame}
 use Rattle.frame.specs.Text.{WithinLimits}
@@ -16,11 +14,12 @@ use Rattle.frame.specs.ReadFrame.{float_of, xs_of, ys_of, pitches_of, shades_of,
 use Rattle.frame_line.specs.Lines.{CornerLine, PassLine}
 use Rattle.sheet.specs.Corners.{CornerLists, corner_lists}
 use Rattle.sheet.specs.Words.{empty_sheet}
-use Rattle.sizes.specs.Sizes.{all_outcome_words}
 use Rattle.sheet.proofs.Words.{empty_length}
 use Rattle.frame.specs.declared.FrameHead.{FrameHead}
-use Rattle.frame.specs.declared.FrameAnswer.{FrameAnswer}
-use Rattle.frame_laws.specs.Calls.{frame_corners, calls_of}
+use Rattle.frame.specs.declared.FrameRefusal.{FrameRefusal}
+use Rattle.std.proofs.Common.{Result, Ok, Err}
+use Rattle.std.proofs.lemmas.List.{take_at}
+use Rattle.frame_laws.specs.Calls.{frame_corners}
 use Rattle.join.proofs.Sets.{labelled_length}
 use Rattle.frame_laws.proofs.Shades.{shades_long}
 use Rattle.frame_laws.proofs.Back.{frame_prints_back}
@@ -28,21 +27,11 @@ use Rattle.arguments.specs.Front.{over}
 use Rattle.frame_passes.specs.Running.{call_at, Left, left, left_by_all, PassWords, AtFront}
 use Rattle.frame_answer.specs.Room.{FrameRoom, PassRoom}
 use Rattle.frame_answer.specs.Answer.{Recorded, Lent, lent_as, Recovers, recovers_not, recovers}
-use Rattle.frame_answer.specs.declared.Recovered.{Recovered}
 use Rattle.frame_answer.proofs.Ran.{recorded}
-
-drop_all : (l : List ℕ) → drop (length l) l ≡ []
-drop_all [] = refl
-drop_all (a ∷ l) = drop_all l
 
 -- a list read again from the front of a buffer
 take_over : {A : Type 0} (written buffer : List A) → take (length written) (over written buffer) ≡ written
-take_over [] buffer = refl
-take_over (w ∷ written) buffer = ap (λ (l : List _). w ∷ l) (take_front written (drop (suc (length written)) buffer))
-  where
-    take_front : {A : Type 0} (a b : List A) → take (length a) (a ++ b) ≡ a
-    take_front [] b = refl
-    take_front (x ∷ a) b = ap (λ (l : List _). x ∷ l) (take_front a b)
+take_over written buffer = take_at written _ (length written) refl
 
 over_long : {A : Type 0} (written buffer : List A) → length written ≤ length buffer → length (over written buffer) ≡ length buffer
 over_long written buffer h = simp (length-append, length-drop) (omega (arith, h))
@@ -53,7 +42,7 @@ front f l buffer = rw (sym (length-map l f)) (take_over (map f l) buffer)
 
 -- a buffer as long as what is put into it
 over_whole : (written buffer : List ℕ) → length written ≡ length buffer → over written buffer ≡ written
-over_whole written buffer e = rw (e, drop_all buffer) (append-nil written)
+over_whole written buffer e = let h : length buffer ≤ length written = omega arith in rw (drop_of_length-le buffer h) (append-nil written)
 
 -- each pass has six words
 words_length : (ps : List PassLine) → length (all_words ps) ≡ 6 * length ps
@@ -90,24 +79,24 @@ module _ (text : List ℕ) (xs ys pitches : List Float) (shades sheet passes : L
   unfolding read_into
   into = ap (λ (b : Bool). unless_short b text lent) long_enough
 
-  module _ (answer : FrameAnswer) (xs' ys' pitches' : List Float) (shades' sheet' passes' : List ℕ)
-      (e : frame_out answer xs' ys' pitches' shades' sheet' passes' ≡ read_into text lent) where
-    read_refused : (r : Refusal) (n : ℕ) → answer ≡ FrameAnswer.Refused r n → read_frame text ≡ refused_at r n
-    read_refused r n t = go (read_frame text) (e ∙ into)
+  module _ (xs' ys' pitches' : List Float) (shades' sheet' passes' : List ℕ) where
+    -- a refused frame leaves all as it was
+    pub recovered_not : (q : FrameRefusal) → frame_out (Err q) xs' ys' pitches' shades' sheet' passes' ≡ read_into text lent → (queue places words : List ℕ)
+        → Recovers text (lent_as xs ys pitches shades sheet passes queue places words) (lent_as xs' ys' pitches' shades' sheet' passes' queue places words) (Err q)
+    recovered_not q e queue places words = go (read_frame text) refl (e ∙ into)
       where
-        go : (a : FrameRead) → frame_out answer xs' ys' pitches' shades' sheet' passes' ≡ leaves a lent → a ≡ refused_at r n
-        go (refused_at r' n') w = let s : answer ≡ FrameAnswer.Refused r' n' = ap (λ (o : FrameOut). o.answer) w in cc
-        go (accepted f) w =
-            absurd (let s : answer ≡ FrameAnswer.Accepted (record { settings = settings_of f; corners = length (parts_of f).corners; passes = length (parts_of f).passes }) = ap (λ (o : FrameOut). o.answer) w in
-            let z : ◌≡◌ {A = ℕ} 0 1 = cc in omega arith)
+        after : Buffers → Lent
+        after b = record { frame = b; queue = queue; attached = places; words = words }
 
-    -- so a refused frame leaves all as it was
-    pub recovered_not : (r : Refusal) (n : ℕ) → answer ≡ FrameAnswer.Refused r n → (queue places words : List ℕ) → Recovers text (lent_as xs ys pitches shades sheet passes queue places words)
-        (lent_as xs' ys' pitches' shades' sheet' passes' queue places words) (Recovered.Refused r n)
-    recovered_not r n t queue places words =
-        let q = read_refused r n t in
-        let w : frame_out answer xs' ys' pitches' shades' sheet' passes' ≡ leaves (refused_at r n) lent = e ∙ into ∙ ap (λ (a : FrameRead). leaves a lent) q in
-        recovers_not r n q (ap (λ (o : FrameOut). record { frame = o.buffers; queue = queue; attached = places; words = words }) w)
+        go : (a : FrameRead) → read_frame text ≡ a → frame_out (Err q) xs' ys' pitches' shades' sheet' passes' ≡ leaves a lent
+            → Recovers text (after lent) (lent_as xs' ys' pitches' shades' sheet' passes' queue places words) (Err q)
+        go (refused_at r n) f w =
+            let s : ◌≡◌ {A = Result FrameHead FrameRefusal} (Err q) (Err (record { refusal = r; line = n })) = ap (λ (o : FrameOut). o.answer) w in
+            let d : q ≡ record { refusal = r; line = n } = cc in
+            rw d (recovers_not r n f (ap (λ (o : FrameOut). after o.buffers) w))
+        go (accepted f) h w =
+            let s : ◌≡◌ {A = Result FrameHead FrameRefusal} (Err q) (Ok (record { settings = settings_of f; corners = length (parts_of f).corners; passes = length (parts_of f).passes })) = ap (λ (o : FrameOut). o.answer) w in
+            absurd (cc)
 
     -- what an accepted frame leaves
     pub record Read (head : FrameHead) : Type 0 where
@@ -122,14 +111,14 @@ module _ (text : List ℕ) (xs ys pitches : List Float) (shades sheet passes : L
       pub sheet_so : sheet' ≡ over (sheet_of frame) sheet
       pub passes_so : passes' ≡ over (all_words (parts_of frame).passes) passes
 
-    read_accepted : (head : FrameHead) → answer ≡ FrameAnswer.Accepted head → Read head
-    read_accepted head t = go (read_frame text) refl (e ∙ into)
+    pub read_accepted : (head : FrameHead) → frame_out (Ok head) xs' ys' pitches' shades' sheet' passes' ≡ read_into text lent → Read head
+    read_accepted head e = go (read_frame text) refl (e ∙ into)
       where
-        go : (a : FrameRead) → read_frame text ≡ a → frame_out answer xs' ys' pitches' shades' sheet' passes' ≡ leaves a lent → Read head
+        go : (a : FrameRead) → read_frame text ≡ a → frame_out (Ok head) xs' ys' pitches' shades' sheet' passes' ≡ leaves a lent → Read head
         go (refused_at r n) q w =
-            absurd (let s : answer ≡ FrameAnswer.Refused r n = ap (λ (o : FrameOut). o.answer) w in let z : ◌≡◌ {A = ℕ} 0 1 = cc in omega arith)
+            let s : ◌≡◌ {A = Result FrameHead FrameRefusal} (Ok head) (Err (record { refusal = r; line = n })) = ap (λ (o : FrameOut). o.answer) w in absurd (cc)
         go (accepted f) q w =
-            let s : answer ≡ FrameAnswer.Accepted (record { settings = settings_of f; corners = length (parts_of f).corners; passes = length (parts_of f).passes }) = ap (λ (o : FrameOut). o.answer) w in
+            let s : ◌≡◌ {A = Result FrameHead FrameRefusal} (Ok head) (Ok (record { settings = settings_of f; corners = length (parts_of f).corners; passes = length (parts_of f).passes })) = ap (λ (o : FrameOut). o.answer) w in
             record {
               frame = f;
               is_accepted = q;
@@ -144,13 +133,13 @@ module _ (text : List ℕ) (xs ys pitches : List Float) (shades sheet passes : L
             }
 
     -- what running the passes of the accepted frame asks
-    passes_ready : (head : FrameHead) → Read head → PassWords head.passes passes'
+    pub passes_ready : (head : FrameHead) → Read head → PassWords head.passes passes'
     passes_ready head w =
         let lengths : length passes' ≡ length passes = ap length w.passes_so ∙ over_long (all_words (parts_of w.frame).passes) passes (omega (arith, words_length (parts_of w.frame).passes, w.within.passes, room.passes_long)) in
         let count : head.passes ≡ length (parts_of w.frame).passes = ap (λ (h : FrameHead). h.passes) w.head_so in
         record { few = omega (arith, count, w.within.passes); long = omega (arith, lengths, room.passes_long) }
 
-    corners_ready : (head : FrameHead) → Read head → AtFront head.corners xs' ys' pitches' shades'
+    pub corners_ready : (head : FrameHead) → Read head → AtFront head.corners xs' ys' pitches' shades'
     unfolding xs_of ys_of pitches_of
     corners_ready head w =
         let f = w.frame in
@@ -192,9 +181,9 @@ module _ (text : List ℕ) (xs ys pitches : List Float) (shades sheet passes : L
     same words l set k q a ps m s = λ t. left_by_all (l t) (call_at (set t) (k t) (q t) (a t) (ps t)) (m t) 0 (left (s t) words)
 
     -- what it leads to
-    recovered : (head : FrameHead) → Read head → (queue places words : List ℕ) → PassRoom queue places words → (before after : Lent)
+    pub recovered : (head : FrameHead) → Read head → (queue places words : List ℕ) → PassRoom queue places words → (before after : Lent)
         → left after.frame.sheet after.words ≡ left_by_all (corner_lists (take head.corners xs') (take head.corners ys') (take head.corners pitches')) (call_at head.settings (take head.corners shades') (length queue) (length places) passes') head.passes 0 (left sheet' words)
-        → Recovers text before after (Recovered.Done head.corners head.passes)
+        → Recovers text before after (Ok (record { corners = head.corners; passes = head.passes }))
     recovered head w queue places words r before after g =
         recovers f head.corners head.passes w.is_accepted
         (subst (λ (n : ℕ). Recorded f n head.passes after.frame.sheet after.words) (sym corners_so)
@@ -218,14 +207,3 @@ module _ (text : List ℕ) (xs ys pitches : List Float) (shades sheet passes : L
         so =
             g
             ∙ same words (corners_read head w) settings_so (shades_read head w) r.queue_whole r.attached_whole w.passes_so passes_count (sheet_read head w)
-
-    -- the same, from what the reader answers
-    module _ (head : FrameHead) (t : answer ≡ FrameAnswer.Accepted head) where
-      pub frame_ready : (queue places words : List ℕ) → PassRoom queue places words
-          → PassWords head.passes passes' × (AtFront head.corners xs' ys' pitches' shades' × (all_outcome_words ≤ length words))
-      frame_ready queue places words r = let w = read_accepted head t in (passes_ready head w, (corners_ready head w, r.words_long))
-
-      pub recovered_done : (queue places words : List ℕ) → PassRoom queue places words → (before after : Lent)
-          → left after.frame.sheet after.words ≡ left_by_all (corner_lists (take head.corners xs') (take head.corners ys') (take head.corners pitches')) (call_at head.settings (take head.corners shades') (length queue) (length places) passes') head.passes 0 (left sheet' words)
-          → Recovers text before after (Recovered.Done head.corners head.passes)
-      recovered_done queue places words r before after g = recovered head (read_accepted head t) queue places words r before after g

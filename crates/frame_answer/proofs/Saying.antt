@@ -1,19 +1,19 @@
 -- What is held after a run says the answer. Assumes nothing.
-use mathlib.Core.Path.{◌≡◌, refl, sym, ap, ◌∙◌, subst}
+use mathlib.Core.Path.{refl, sym, ap, ◌∙◌}
 use mathlib.Core.List.{List}
-use Prim.Native.Nat.{ℕ, ◌≤◌}
+use Prim.Native.Nat.{ℕ}
 use native.Mathlib.Omega.{arith}
 use lib.ListN.{length}
-use Rattle.frame.specs.Frame.{Frame, FrameRead, refused_at, accepted, read_frame}
 use Rattle.passes.specs.Run.{PassStats}
-use Rattle.report_line.specs.Result.{result_piece, line_count}
-use Rattle.report_words.specs.Outcomes.{stats_from}
+use Rattle.report_line.specs.Result.{line_count}
 use Rattle.report_words.proofs.Outcomes.{stats_length}
-use Rattle.frame_answer.specs.Answer.{frame_stats, Recorded, Lent, Recovers, recovers_not, recovers, answer_lines, answer_piece, held_lines, held_piece, CanSay, FewPasses, Says}
+use Rattle.frame_answer.specs.Answer.{Lent, Recovers, recovers_not, recovers, answer_lines, answer_piece, held_lines, held_piece, CanSay, FewPasses, Says}
+use Rattle.frame.specs.declared.FrameRefusal.{FrameRefusal}
 use Rattle.frame_answer.specs.declared.Recovered.{Recovered}
+use Rattle.std.proofs.Common.{Result}
 use Rattle.frame_laws.proofs.Refusing.{refused_line_lem}
 
-pub says : (text : List ℕ) (before after : Lent) (r : Recovered) → Recovers text before after r → Says text after.frame.sheet after.words r
+pub says : (text : List ℕ) (before after : Lent) (r : Result Recovered FrameRefusal) → Recovers text before after r → Says text after.frame.sheet after.words r
 unfolding CanSay held_lines held_piece answer_lines answer_piece
 says text before after _ (recovers_not r line e kept) =
     record {
@@ -29,9 +29,9 @@ says text before after _ (recovers f corners passes e w) =
     }
 
 -- so it can be said
-pub can_say : (text : List ℕ) (before after : Lent) (r : Recovered) → Recovers text before after r → CanSay r after.words after.frame.sheet × FewPasses r
+pub can_say : (text : List ℕ) (before after : Lent) (r : Result Recovered FrameRefusal) → Recovers text before after r → CanSay r after.words after.frame.sheet × FewPasses r
 can_say text before after r w = ((says text before after r w).can_say, few w)
   where
-    few : {r : Recovered} → Recovers text before after r → FewPasses r
+    few : {r : Result Recovered FrameRefusal} → Recovers text before after r → FewPasses r
     few (recovers_not r line e kept) = tt
     few (recovers f corners passes e w) = w.few_passes

@@ -1,19 +1,20 @@
 -- What is answered to a text (document 01, "Frame and result"): the result of an accepted frame, or `(refused number line)` alone; and the same
 -- answer piece by piece. Definitions only.
-use Rattle.std.specs.Prelude.{◌≡◌, Bool, true, false, List, [], ◌∷◌, ◌++◌, ℕ, zero, suc, ◌+◌, ◌*◌, ◌<◌, ◌≤◌, ltb, length, Float}
+use Rattle.std.specs.Prelude.{◌≡◌, Bool, true, false, List, [], ◌∷◌, ◌++◌, ℕ, zero, suc, ◌*◌, ◌<◌, ◌≤◌, ltb, length, Float, Result, Ok, Err}
 use Rattle.refusal.specs.declared.Refusal.{Refusal}
 use Rattle.arguments.specs.Arguments.{unknown_corner, doubled_corner}
-use Rattle.passes.specs.Outcome.{After, Outcome, refused, done}
+use Rattle.passes.specs.Outcome.{Outcome, refused, done}
 use Rattle.passes.specs.Run.{PassStats, run, sheet_of as sheetAfterAll}
 use Rattle.frame.specs.Frame.{Frame, parts_of, FrameRead, refused_at, accepted, read_frame}
 use Rattle.frame.specs.ReadFrame.{sheet_of, Buffers}
 use Rattle.frame_laws.specs.Calls.{frame_corners, calls_of}
 use Rattle.report_line.specs.Refused.{refused_text}
-use Rattle.report_line.specs.Result.{result_text, result_from, Piece, result_piece, line_count}
+use Rattle.report_line.specs.Result.{result_text, Piece, result_piece, line_count}
 use Rattle.sizes.specs.Sizes.{place_count, corner_limit, pass_limit, outcome_size}
 use Rattle.report_line.specs.Sizes.{line_room}
 use Rattle.report_words.specs.Outcomes.{stats_in, wild_outcome}
 use Rattle.line_form.specs.Written.{Wrote}
+use Rattle.frame.specs.declared.FrameRefusal.{FrameRefusal}
 use Rattle.frame_answer.specs.declared.Recovered.{Recovered}
 use Rattle.frame_answer.specs.declared.PieceWritten.{PieceWritten}
 
@@ -73,9 +74,9 @@ lent_as xs ys pitches shades sheet passes queue attached words =
 
 -- the answer to a text, with the buffers before and after: a refused frame changes none of them, and after an accepted one the sheet and the
 -- words go with the answer
-pub data Recovers (text : List ℕ) (before after : Lent) : Recovered → Type 0 where
-  recovers_not : (r : Refusal) (line : ℕ) → read_frame text ≡ refused_at r line → after ≡ before → Recovers text before after (Recovered.Refused r line)
-  recovers : (f : Frame) (corners passes : ℕ) → read_frame text ≡ accepted f → Recorded f corners passes after.frame.sheet after.words → Recovers text before after (Recovered.Done corners passes)
+pub data Recovers (text : List ℕ) (before after : Lent) : Result Recovered FrameRefusal → Type 0 where
+  recovers_not : (r : Refusal) (line : ℕ) → read_frame text ≡ refused_at r line → after ≡ before → Recovers text before after (Err (record { refusal = r; line = line }))
+  recovers : (f : Frame) (corners passes : ℕ) → read_frame text ≡ accepted f → Recorded f corners passes after.frame.sheet after.words → Recovers text before after (Ok (record { corners = corners; passes = passes }))
 
 -- ---- piece by piece
 
@@ -116,17 +117,17 @@ PiecesJoin = (text : List ℕ) (room : ℕ) → line_room ≤ room → joined (p
 
 -- ---- the same from what a run holds: the answer, the words of the outcomes and the sheet
 
-unfoldable pub held_lines : Recovered → ℕ
-held_lines (Recovered.Refused r line) = 1
-held_lines (Recovered.Done corners passes) = line_count passes
+unfoldable pub held_lines : Result Recovered FrameRefusal → ℕ
+held_lines (Err e) = 1
+held_lines (Ok r) = line_count r.passes
 
-unfoldable pub held_piece : Recovered → List ℕ → List ℕ → ℕ → ℕ → Piece
-held_piece (Recovered.Refused r line) words sheet k room = refused_piece k (refused_text r line)
-held_piece (Recovered.Done corners passes) words sheet k room = result_piece (stats_in passes words) sheet k room
+unfoldable pub held_piece : Result Recovered FrameRefusal → List ℕ → List ℕ → ℕ → ℕ → Piece
+held_piece (Err e) words sheet k room = refused_piece k (refused_text e.refusal e.line)
+held_piece (Ok r) words sheet k room = result_piece (stats_in r.passes words) sheet k room
 
-abbrev pub FewPasses : Recovered → Type 0
-FewPasses (Recovered.Refused r line) = Unit {0}
-FewPasses (Recovered.Done corners passes) = passes ≤ pass_limit
+abbrev pub FewPasses : Result Recovered FrameRefusal → Type 0
+FewPasses (Err e) = Unit {0}
+FewPasses (Ok r) = r.passes ≤ pass_limit
 
 -- what the printer asks of words and sheet
 pub record Printable (corners passes : ℕ) (words sheet : List ℕ) : Type 0 where
@@ -138,12 +139,12 @@ pub record Printable (corners passes : ℕ) (words sheet : List ℕ) : Type 0 wh
   pub known : unknown_corner corners sheet ≡ false
   pub once : doubled_corner sheet ≡ false
 
-unfoldable pub CanSay : Recovered → List ℕ → List ℕ → Type 0
-CanSay (Recovered.Refused r line) words sheet = line ≤ 10000000
-CanSay (Recovered.Done corners passes) words sheet = Printable corners passes words sheet
+unfoldable pub CanSay : Result Recovered FrameRefusal → List ℕ → List ℕ → Type 0
+CanSay (Err e) words sheet = e.line ≤ 10000000
+CanSay (Ok r) words sheet = Printable r.corners r.passes words sheet
 
 -- what is held after a run of a text says the answer to it, piece by piece
-pub record Says (text sheet words : List ℕ) (r : Recovered) : Type 0 where
+pub record Says (text sheet words : List ℕ) (r : Result Recovered FrameRefusal) : Type 0 where
   pub can_say : CanSay r words sheet
   pub lines_so : held_lines r ≡ answer_lines (read_frame text)
   pub piece_so : (k room : ℕ) → held_piece r words sheet k room ≡ answer_piece (read_frame text) k room

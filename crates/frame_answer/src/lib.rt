@@ -8,22 +8,22 @@ ghost use Rattle.frame_answer.specs.Answer.{Recovers, lent_as, held_lines, held_
 ghost use Rattle.report_line.specs.Result.{line_count};
 ghost use Rattle.report_line.specs.Sizes.{line_room};
 
-use frame::FrameAnswer;
-use refusal::Refusal;
-use report::PieceAnswer;
+use frame::FrameRefusal;
+use report::PieceEnd;
 use report_line::line_sizes::SHEET_LINES;
 
-// A refusal with its line, or the number of corners and of passes of a frame whose passes have run.
+// A frame whose passes have run: how many corners and passes it has.
 #[derive(Clone, Copy)]
-pub enum Recovered {
-    Refused(Refusal, usize),
-    Done(usize, usize),
+pub struct Recovered {
+    pub corners: usize,
+    pub passes: usize,
 }
 
 // ---- a frame
 
 // Reads a frame and runs its passes in order on one sheet: then the sheet and the words of the outcomes say what the result has to say.
 // A refused frame changes none of the buffers.
+// Each buffer is lent by itself, as the C interface lends it.
 pub fn recover_frame(
     text: &[u8],
     xs: &mut [f32],
@@ -35,7 +35,7 @@ pub fn recover_frame(
     queue: &mut [u16],
     attached: &mut [u16],
     words: &mut [u32],
-) -> Recovered
+) -> Result<Recovered, FrameRefusal>
     requires frame_room { FrameRoom xs.old ys.old pitches.old shades.old sheet.old passes.old }
     requires pass_room { PassRoom queue.old attached.old words.old }
     ensures { Recovers text.now (lent_as xs.old ys.old pitches.old shades.old
@@ -43,28 +43,27 @@ pub fn recover_frame(
         (lent_as xs.new ys.new pitches.new shades.new sheet.new passes.new
         queue.new attached.new words.new) result }
 {
-    let answer = frame::read_frame(text, xs, ys, pitches, shades, sheet, passes);
-    match answer {
-        FrameAnswer::Refused(refusal, line) => Recovered::Refused(refusal, line),
-        FrameAnswer::Accepted(head) => {
-            frame_passes::run_frame(
-                passes, xs, ys, pitches, shades, sheet, queue, attached, head, words,
-            );
-            Recovered::Done(head.corners, head.passes)
-        }
-    }
+    let head = frame::read_frame(text, xs, ys, pitches, shades, sheet, passes)?;
+    frame_passes::run_frame(
+        passes, xs, ys, pitches, shades, sheet, queue, attached, head, words,
+    );
+    Ok(Recovered {
+        corners: head.corners,
+        passes: head.passes,
+    })
 }
 
 // ---- the answer
 
 // How many lines the answer has, empty ones included.
-pub fn answer_lines(answer: Recovered) -> usize
+#[tactic(auto, unfolding(crate::specs::Answer::held_lines))]
+pub fn answer_lines(answer: Result<Recovered, FrameRefusal>) -> usize
     requires { FewPasses answer }
     ensures { result ≡ held_lines answer }
 {
     match answer {
-        Recovered::Refused(_, _) => 1,
-        Recovered::Done(_, passes) => 1 + passes + SHEET_LINES,
+        Ok(recovered) => 1 + recovered.passes + SHEET_LINES,
+        Err(_) => 1,
     }
 }
 
@@ -75,46 +74,10 @@ pub struct PieceWritten {
     pub next: usize,
 }
 
-// The only piece of a refusal.
-fn refused_piece(refusal: Refusal, line: usize, out: &mut [u8]) -> PieceWritten
-    requires line_bound { line ≤ 10000000 }
-    requires line_room_in_bounds { line_room ≤ length out.old }
-    ensures wrote_piece { WrotePiece (held_piece (Recovered.Refused refusal line) [] [] 0 (length out.old)) out.old out.new result }
-    ensures moves { Moves 0 (length out.old) result }
-{
-    let bytes = report_line::line::write_refused(refusal, line, out);
-    PieceWritten { bytes, next: 1 }
-}
-
-// The piece of a result from a line on.
-fn result_piece(
-    corners: usize,
-    passes: usize,
-    words: &[u32],
-    sheet: &[u16],
-    from: usize,
-    out: &mut [u8],
-) -> PieceWritten
-    requires printable { Printable corners passes words.now sheet.now }
-    requires from_bound { from < line_count passes }
-    requires line_room_in_bounds { line_room ≤ length out.old }
-    ensures wrote_piece { WrotePiece (held_piece (Recovered.Done corners passes) words.now sheet.now from (length out.old)) out.old out.new result }
-    ensures moves { Moves from (length out.old) result }
-{
-    let answer = report::write_result_piece(corners, passes, words, sheet, from, out);
-    match answer {
-        PieceAnswer::Written(bytes, next) => PieceWritten { bytes, next },
-        PieceAnswer::Refused(_) => PieceWritten {
-            bytes: 0,
-            next: from,
-        },
-    }
-}
-
 // Writes the piece of the answer from a line on to the front of the output buffer, and leaves the rest of it as it was: whole lines, as long
 // as 128 bytes are left before each.
 pub fn answer_piece(
-    answer: Recovered,
+    answer: Result<Recovered, FrameRefusal>,
     words: &[u32],
     sheet: &[u16],
     from: usize,
@@ -127,9 +90,15 @@ pub fn answer_piece(
     ensures moves { Moves from (length out.old) result }
 {
     match answer {
-        Recovered::Refused(refusal, line) => refused_piece(refusal, line, out),
-        Recovered::Done(corners, passes) => {
-            result_piece(corners, passes, words, sheet, from, out)
+        Ok(Recovered { corners, passes }) => {
+            match report::write_result_piece(corners, passes, words, sheet, from, out) {
+                Ok(PieceEnd { at, next }) => PieceWritten { bytes: at, next },
+                Err(_) => unreachable!(),
+            }
         }
+        Err(FrameRefusal { refusal, line }) => PieceWritten {
+            bytes: report_line::line::write_refused(refusal, line, out),
+            next: 1,
+        },
     }
 }

@@ -7,24 +7,11 @@ ghost use Rattle.labels.specs.Labelled.{any_below};
 ghost use Rattle.frame_line.specs.Table.{row_count, kind_at};
 ghost use Rattle.sizes.specs.Sizes.{corner_limit};
 ghost use Rattle.arguments.specs.Arguments.{refused_if};
-ghost use Rattle.frame_check.specs.Checks.{over_limit, first_twice, has_place, second_twice, label_twice, shade_twice, twice_held, checked_held, LabelFits, LineFits, NumbersFine};
+ghost use Rattle.frame_check.specs.Checks.{over_limit, has_place, label_twice, shade_twice, twice_held, checked_held, LabelFits, LineFits, NumbersFine};
 
 use frame_line::{HeldLabel, HeldLine, HeldShade, Kind};
 use refusal::Refusal;
 use sizes::{CORNERS, PASSES, PLACES, SECOND, USED};
-
-// 2: whether there are as many corners or passes already as there may be.
-#[tactic(auto, unfolding(crate::specs::Checks::over_limit))]
-fn over_limit(corners: usize, passes: usize, row: usize) -> bool
-    requires { row < row_count }
-    ensures { result ≡ over_limit corners passes (kind_at row) }
-{
-    match frame_line::kind_of(row) {
-        Kind::Corner => CORNERS <= corners,
-        Kind::Pass(_) => PASSES <= passes,
-        Kind::Opening(_) | Kind::Label | Kind::Patch | Kind::Shade => false,
-    }
-}
 
 // Refuses what holds.
 fn refuse_if(holds: bool, refusal: Refusal) -> Result<(), Refusal>
@@ -50,12 +37,16 @@ struct Said<'a> {
 }
 
 impl<'a> Said<'a> {
-    // 6 of a label of the first set: whether its cell or its corner has a label already.
-    fn first_twice(&self, label: HeldLabel) -> bool
-        requires { LabelFits label }
-        ensures { result ≡ first_twice self.now.sheet.now self.now.used.now label }
+    // 2: whether there are as many corners or passes already as there may be.
+    #[tactic(auto, unfolding(crate::specs::Checks::over_limit))]
+    fn over_limit(&self, kind: Kind) -> bool
+        ensures { result ≡ over_limit self.now.corners self.now.passes kind }
     {
-        self.sheet[sheet::place_of(label.cell)] != 0 || self.used[label.corner] != 0
+        match kind {
+            Kind::Corner => CORNERS <= self.corners,
+            Kind::Pass(_) => PASSES <= self.passes,
+            Kind::Opening(_) | Kind::Label | Kind::Patch | Kind::Shade => false,
+        }
     }
 
     // Whether one of the labels of the second set has this place.
@@ -66,24 +57,16 @@ impl<'a> Said<'a> {
         second[CORNERS..CORNERS + self.labels].contains(&place)
     }
 
-    // 6 of a label of the second set: whether one of them has its cell or its corner.
-    fn second_twice(&self, label: HeldLabel) -> bool
-        requires { LabelFits label }
-        ensures { result ≡ second_twice self.now.used.now self.now.second.now self.now.labels label }
-    {
-        self.place_taken(sheet::place_of(label.cell) as u16)
-            || self.used[CORNERS + label.corner] != 0
-    }
-
-    // 6 of a label, in the set that is open: the second once the patch line stands.
+    // 6 of a label: whether its cell or its corner has a label already in the set that is open, the second once the patch line stands.
     fn label_twice(&self, label: HeldLabel) -> bool
         requires { LabelFits label }
         ensures { result ≡ label_twice self.now.patched self.now.sheet.now self.now.used.now self.now.second.now self.now.labels label }
     {
+        let place = sheet::place_of(label.cell);
         if self.patched {
-            self.second_twice(label)
+            self.place_taken(place as u16) || self.used[CORNERS + label.corner] != 0
         } else {
-            self.first_twice(label)
+            self.sheet[place] != 0 || self.used[label.corner] != 0
         }
     }
 
@@ -117,7 +100,7 @@ impl<'a> Said<'a> {
         let found = frame_number::refusals_of(self.corners as u32, line);
         refuse_if(found.malformed, Refusal::Malformed)?;
         refuse_if(
-            over_limit(self.corners, self.passes, line.row),
+            self.over_limit(frame_line::kind_of(line.row)),
             Refusal::OverLimit,
         )?;
         refuse_if(found.out_of_range, Refusal::OutOfRange)?;

@@ -17,7 +17,7 @@ use Rattle.frame_line.specs.Table.{rows, row_count, row_at, form_at, turn_at, ma
 use Rattle.frame_line.specs.Lines.{Line, kind_of, Proper, line_text, LineRead}
 use Rattle.frame_line.specs.Checks.{outside_line}
 use Rattle.frame_line.specs.declared.Kind.{Kind}
-use Rattle.frame_line.specs.declared.Turn.{Turn}
+use Rattle.std.proofs.Common.{Option, Some}
 use Rattle.frame_line.proofs.Laws.{line_reads_back, line_prints_back}
 use Rattle.frame_line.proofs.Words.{counts_alike}
 use Rattle.frame_check.proofs.Laws.{all_fine}
@@ -57,7 +57,7 @@ lines_text (l ∷ ls) = ap (λ (t : List ℕ). line_text l ++ t) (lines_text ls)
 
 pub data Passing : ℕ → Parts → List Line → Type 0 where
   end_here : {stage : ℕ} {p : Parts} → may_end stage ≡ true → Passing stage p []
-  pass_on : {stage to : ℕ} {p : Parts} {ls : List Line} (l : Line) → Proper l → turn_at stage l.row ≡ Turn.To to → checked_line p l ≡ Ok tt
+  pass_on : {stage to : ℕ} {p : Parts} {ls : List Line} (l : Line) → Proper l → turn_at stage l.row ≡ Some to → checked_line p l ≡ Ok tt
       → Passing to (added p l) ls
       → Passing stage p (l ∷ ls)
 
@@ -68,7 +68,7 @@ passing_read n f is (end_here e) = rw e (ap finish (sym (append-nil f)))
 passing_read n {stage} f is (pass_on {to = to} {ls = ls} l p t c more) =
     let on : ℕ → Frame → FrameRead = λ stage' g. read_lines (suc n) stage' g (map line_text ls) in
     ap (λ (r : LineRead). going n (step_with stage f r) on) (line_reads_back l p)
-    ∙ ap₂ (λ (u : Turn) (w : Checked). going n (step_by u w (f ++ (l ∷ []))) on) t (ap (λ (q : Parts). checked_line q l) (sym is) ∙ c)
+    ∙ ap₂ (λ (u : Option ℕ) (w : Checked). going n (step_by u w (f ++ (l ∷ []))) on) t (ap (λ (q : Parts). checked_line q l) (sym is) ∙ c)
     ∙ passing_read (suc n) (f ++ (l ∷ [])) (ap (λ (q : Parts). added q l) is ∙ sym (parts_more f l)) more
     ∙ ap finish (append_assoc f (l ∷ []) ls)
 
@@ -95,7 +95,7 @@ read_passing {stage} {last} {f} {g} (one_more {stage' = to} {f' = next-frame} {t
           all_are = b.all_are ∙ ap (λ (x : Frame). x ++ b.lines) (sym frame) ∙ append_assoc f (l ∷ []) b.lines;
           texts_again = ap₂ ◌∷◌ said.text_again b.texts_again;
           passing =
-              pass_on l said.proper (p ∙ ap Turn.To there) q
+              pass_on l said.proper (p ∙ ap Some there) q
               (subst (λ (x : Parts). Passing to x b.lines) (ap parts_of (sym frame) ∙ parts_more f l) b.passing);
         }
 
@@ -110,7 +110,7 @@ rows_of (end_here e) = tt
 rows_of (pass_on l p t c more) = (p.few, rows_of more)
 
 -- the corners before a line that asks for one are all corners
-counted_all : (s t : ℕ) (p : Parts) (l : Line) (ls : List Line) → turn_at s l.row ≡ Turn.To t → All (λ m. m.row < row_count) (l ∷ ls) → InOrder t ls → (r : ℕ)
+counted_all : (s t : ℕ) (p : Parts) (l : Line) (ls : List Line) → turn_at s l.row ≡ Some t → All (λ m. m.row < row_count) (l ∷ ls) → InOrder t ls → (r : ℕ)
     → outside_line r (length p.corners) l ≡ outside_line r (length (parts_from p (l ∷ ls)).corners) l
 unfolding outside_line
 counted_all s t p l ls e rs o r =

@@ -14,7 +14,7 @@ use Rattle.line_form.proofs.Every.{first_true, second_true, every_below, every_a
 use Rattle.frame_line.specs.Table.{rows, row_count, stage_count, letters_from, row_at, kind_at, turn_at, may_end, sort_of, sort_at}
 use Rattle.frame_line.specs.declared.Kind.{Kind}
 use Rattle.frame_line.specs.declared.Sort.{Sort}
-use Rattle.frame_line.specs.declared.Turn.{Turn}
+use Rattle.std.proofs.Common.{Option, None, Some}
 use Rattle.frame_line.proofs.Checking.{no_stage}
 use Rattle.frame.specs.Frame.{part_of}
 use Rattle.frame.proofs.Adding.{below_or_not}
@@ -49,14 +49,14 @@ asks_one k m e =
 
 -- ---- rules of the table: what holds of every stage, row and next stage
 
-abbrev by_turn : (ℕ → Bool) → Turn → Bool
-by_turn g Turn.No = true
-by_turn g (Turn.To t) = g t
+abbrev by_turn : (ℕ → Bool) → Option ℕ → Bool
+by_turn g None = true
+by_turn g (Some t) = g t
 
 abbrev pub rule : (ℕ → ℕ → ℕ → Bool) → Bool
 rule f = every_below stage_count (λ s. every_below row_count (λ k. by_turn (f s k) (turn_at s k)))
 
-pub ruled : (f : ℕ → ℕ → ℕ → Bool) → rule f ≡ true → (s k t : ℕ) → k < row_count → turn_at s k ≡ Turn.To t → f s k t ≡ true
+pub ruled : (f : ℕ → ℕ → ℕ → Bool) → rule f ≡ true → (s k t : ℕ) → k < row_count → turn_at s k ≡ Some t → f s k t ≡ true
 ruled f r s k t few e =
     ap (by_turn (f s k)) (sym e)
     ∙ every_at (λ j. by_turn (f s j) (turn_at s j)) row_count (every_at (λ i. every_below row_count (λ j. by_turn (f i j) (turn_at i j))) stage_count r s inside) k few
@@ -80,7 +80,7 @@ corner_no_more_lem : rule corner_no_more ≡ true
 unfolding corner_no_more asks any_below kind_at turn_at sort_at sort_of row_at rows
 corner_no_more_lem = refl
 
-module _ (s k t : ℕ) (few : k < row_count) (e : turn_at s k ≡ Turn.To t) where
+module _ (s k t : ℕ) (few : k < row_count) (e : turn_at s k ≡ Some t) where
   pub comes : s < 4 → (k ≡ s) × (t ≡ suc s)
   unfolding opening_rule
   comes h =

@@ -19,7 +19,7 @@ use Rattle.frame_line.specs.Lines.{Line, kind_of, CornerLine, corner_line_of, La
 use Rattle.frame_line.specs.declared.Kind.{Kind}
 use Rattle.frame_line.specs.declared.PassKind.{PassKind}
 use Rattle.frame_line.specs.declared.Sort.{Sort}
-use Rattle.frame_line.specs.declared.Turn.{Turn}
+use Rattle.std.proofs.Common.{Some}
 use Rattle.frame_line.proofs.Said.{CornerTame, PassTame, corner_said, label_exact, shade_corner, shade_kind, pass_said}
 use Rattle.frame_check.specs.Checks.{over_limit, twice_of}
 use Rattle.sizes.specs.Sizes.{corner_limit, pass_limit, byte_limit}
@@ -126,7 +126,7 @@ corners_kept s p ls h r (next {to = t} {ls = rest} l e o) =
     corners_kept t (added p l) rest n.0 r.1 o ∙ (kept (kind_of l) l.numbers p).1 n.1
 
 -- a line that asks for a corner comes after all corners
-pub all_given : (s t : ℕ) (p : Parts) (l : Line) (ls : List Line) → turn_at s l.row ≡ Turn.To t → All (λ m. m.row < row_count) (l ∷ ls) → InOrder t ls
+pub all_given : (s t : ℕ) (p : Parts) (l : Line) (ls : List Line) → turn_at s l.row ≡ Some t → All (λ m. m.row < row_count) (l ∷ ls) → InOrder t ls
     → (m : ℕ) → sort_at l.row m ≡ Sort.Corner → length p.corners ≡ length (parts_from p (l ∷ ls)).corners
 unfolding parts_from
 all_given s t p l ls e r o m c =

@@ -21,7 +21,7 @@ use Rattle.binary32.specs.Hex.{digit_value, read_digits}
 use Rattle.frame_line.specs.Table.{rows, row_count, row_at, kind_at, form_at, turn_at, may_end}
 use Rattle.frame_line.specs.Lines.{Line, kind_of, Proper, line_text, label_line_of, LineRead, line, first_fit, read_line}
 use Rattle.frame_line.specs.declared.Kind.{Kind}
-use Rattle.frame_line.specs.declared.Turn.{Turn}
+use Rattle.std.proofs.Common.{Some}
 use Rattle.frame_line.proofs.Shapes.{row_of_lem}
 use Rattle.frame_line.proofs.Laws.{line_reads_back}
 use Rattle.sizes.specs.Sizes.{byte_limit}
@@ -96,7 +96,7 @@ patch_rule_lem : rule patch_rule ≡ true
 unfolding patch_rule kind_at turn_at row_at rows
 patch_rule_lem = refl
 
-module _ (s k t : ℕ) (few : k < row_count) (e : turn_at s k ≡ Turn.To t) where
+module _ (s k t : ℕ) (few : k < row_count) (e : turn_at s k ≡ Some t) where
   by_rule : patch_rule s k t ≡ true
   by_rule = ruled patch_rule patch_rule_lem s k t few e
 

@@ -10,7 +10,7 @@ use Rattle.refusal.specs.declared.Refusal.{Refusal}
 use Rattle.arguments.specs.Arguments.{Checked, refused_if}
 use Rattle.frame_line.specs.Table.{turn_at, may_end}
 use Rattle.frame_line.specs.Lines.{Line, kind_of, LineRead, ill_formed, line, read_line}
-use Rattle.frame_line.specs.declared.Turn.{Turn}
+use Rattle.std.proofs.Common.{Option, None, Some}
 use Rattle.frame_check.specs.Checks.{checks_in_order}
 use Rattle.frame.specs.Frame.{outside_in, over_in, twice_in, Frame, parts_of, first_set, second_set, patch_line, checked_line, Step, stopped, onward, step_by, step_with, step_line, FrameRead, refused_at, accepted, finish, at_end, going, read_lines}
 use Rattle.frame.specs.Text.{FirstCheck, is_first, too_many, is_wild, is_off_sheet, is_unknown, is_doubled, FirstFault, has_no_form, not_its_turn, fails, Joinable, Unjoined, Passed, none_yet, one_more}
@@ -51,18 +51,18 @@ module _ (stage : ℕ) (f : Frame) where
   -- where a line leads, and why
   pub data Stepping (text : List ℕ) : Step → Type 0 where
     stops : (r : Refusal) → FirstFault stage f (read_line text) r → Stepping text (stopped r)
-    goes : (l : Line) (to : ℕ) → read_line text ≡ line l → turn_at stage l.row ≡ Turn.To to → checked_line (parts_of f) l ≡ Ok tt
+    goes : (l : Line) (to : ℕ) → read_line text ≡ line l → turn_at stage l.row ≡ Some to → checked_line (parts_of f) l ≡ Ok tt
         → Stepping text (onward to (f ++ (l ∷ [])))
 
   pub stepping : (text : List ℕ) → Stepping text (step_line stage f text)
   unfolding step_line checked_line
   stepping text = go (read_line text) refl
     where
-      by : (l : Line) (u : Turn) (c : Checked) → read_line text ≡ line l → turn_at stage l.row ≡ u → checked_line (parts_of f) l ≡ c
+      by : (l : Line) (u : Option ℕ) (c : Checked) → read_line text ≡ line l → turn_at stage l.row ≡ u → checked_line (parts_of f) l ≡ c
           → Stepping text (step_by u c (f ++ (l ∷ [])))
-      by l Turn.No c r p q = stops Refusal.Malformed (rw r (not_its_turn p))
-      by l (Turn.To to) (Ok tt) r p q = goes l to r p q
-      by l (Turn.To to) (Err s) r p q = stops s (rw r (fails p (first_check _ _ _ s q)))
+      by l None c r p q = stops Refusal.Malformed (rw r (not_its_turn p))
+      by l (Some to) (Ok tt) r p q = goes l to r p q
+      by l (Some to) (Err s) r p q = stops s (rw r (fails p (first_check _ _ _ s q)))
 
       go : (r : LineRead) → read_line text ≡ r → Stepping text (step_with stage f r)
       go ill_formed r = stops Refusal.Malformed (rw r has_no_form)

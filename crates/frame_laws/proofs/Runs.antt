@@ -25,7 +25,7 @@ use Rattle.invariants.proofs.Run.{standing_step, fit_accepts, never_refused, inv
 use Rattle.frame_line.specs.Table.{kind_at, turn_at}
 use Rattle.frame_line.specs.Lines.{Line, kind_of, PassLine, bare_grow_holds, grow, bare_fill, fill, local}
 use Rattle.frame_line.specs.Checks.{wild_bits, wild_whole}
-use Rattle.frame_line.specs.declared.Turn.{Turn}
+use Rattle.std.proofs.Common.{Some}
 use Rattle.frame_line.proofs.Words.{counted}
 use Rattle.frame_line.proofs.Said.{AxesTame, PassTame, cell_said, axes_said, band_said}
 use Rattle.sizes.specs.Sizes.{corner_limit}
@@ -82,7 +82,7 @@ module _ (n : ℕ) (l : Line) (r : InRange n l) (p : Parts) where
       rw e (record { cell = λ k. t.cell (omega arith); axes = λ k. t.axes (omega arith); band = λ k. band_said n l r.proper r.ranges (ap kind_at e) })
   said_at (suc (suc (suc (suc s)))) h e t = absurd (omega arith)
 
-  said_on : (s to : ℕ) → turn_at s l.row ≡ Turn.To to → OpeningTame s p.opening → OpeningTame to (added p l).opening
+  said_on : (s to : ℕ) → turn_at s l.row ≡ Some to → OpeningTame s p.opening → OpeningTame to (added p l).opening
   said_on s to e t = ⊎_elim early late (below_or_not s 4)
     where
       early : s < 4 → OpeningTame to (added p l).opening

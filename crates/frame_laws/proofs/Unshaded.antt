@@ -11,7 +11,7 @@ use lib.ListN.{length, length-append}
 use Rattle.line_form.proofs.Every.{first_true, second_true}
 use Rattle.frame_line.specs.Table.{rows, row_count, row_at, kind_at, turn_at, may_end}
 use Rattle.frame_line.specs.Lines.{Line, kind_of, line_text}
-use Rattle.frame_line.specs.declared.Turn.{Turn}
+use Rattle.std.proofs.Common.{Option, None, Some}
 use Rattle.invariants.specs.Unshaded.{NoShade}
 use Rattle.invariants.proofs.Unshaded.{as_before, calls_as_before}
 use Rattle.frame.specs.Frame.{Frame, no_parts, parts_of}
@@ -36,13 +36,13 @@ unshaded_frame f e = let w = no_shade f e in record { lent = calls_as_before (fr
 -- ---- the shade lines taken out: the order of the others
 
 -- the turn is to the stage t
-abbrev goes : ℕ → Turn → Bool
-goes t Turn.No = false
-goes t (Turn.To u) = eqb u t
+abbrev goes : ℕ → Option ℕ → Bool
+goes t None = false
+goes t (Some u) = eqb u t
 
-goes_to : (t : ℕ) (turn : Turn) → goes t turn ≡ true → turn ≡ Turn.To t
-goes_to t Turn.No e = cc
-goes_to t (Turn.To u) e = ap Turn.To (eqb-true u t e)
+goes_to : (t : ℕ) (turn : Option ℕ) → goes t turn ≡ true → turn ≡ Some t
+goes_to t None e = cc
+goes_to t (Some u) e = ap Some (eqb-true u t e)
 
 -- a shade line comes at stage 4, 5, 6 or 7 and leads to 7; where another comes at 7, it leads from 4, from 5 and from 6 to the same stage
 shade_rule : ℕ → ℕ → ℕ → Bool
@@ -65,7 +65,7 @@ data Before (s' : ℕ) : Type 0 where
 abbrev Behind : ℕ → ℕ → Type 0
 Behind s' s = (s' ≡ s) ⊎ ((s ≡ 7) × Before s')
 
-module _ (s k t : ℕ) (few : k < row_count) (e : turn_at s k ≡ Turn.To t) where
+module _ (s k t : ℕ) (few : k < row_count) (e : turn_at s k ≡ Some t) where
   by_rule : shade_rule s k t ≡ true
   by_rule = ruled shade_rule shade_rule_lem s k t few e
 
@@ -89,7 +89,7 @@ module _ (s k t : ℕ) (few : k < row_count) (e : turn_at s k ≡ Turn.To t) whe
       go (inl m) false p false q false r h = inl (m ∙ eqb-true s 7 h ∙ sym seven)
 
   -- another line kept
-  kept_on : (s' : ℕ) → is_shade (kind_at k) ≡ false → Behind s' s → turn_at s' k ≡ Turn.To t
+  kept_on : (s' : ℕ) → is_shade (kind_at k) ≡ false → Behind s' s → turn_at s' k ≡ Some t
   unfolding shade_rule
   kept_on s' other (inl m) = ap (λ (i : ℕ). turn_at i k) m ∙ e
   kept_on s' other (inr m) = go m.1
@@ -100,10 +100,10 @@ module _ (s k t : ℕ) (few : k < row_count) (e : turn_at s k ≡ Turn.To t) whe
       later : cond (goes t (turn_at 5 k)) (goes t (turn_at 6 k)) false ≡ true
       later = second_true (goes t (turn_at 4 k)) _ here
 
-      from : (i : ℕ) → s' ≡ i → goes t (turn_at i k) ≡ true → turn_at s' k ≡ Turn.To t
+      from : (i : ℕ) → s' ≡ i → goes t (turn_at i k) ≡ true → turn_at s' k ≡ Some t
       from i q h = ap (λ (j : ℕ). turn_at j k) q ∙ goes_to t (turn_at i k) h
 
-      go : Before s' → turn_at s' k ≡ Turn.To t
+      go : Before s' → turn_at s' k ≡ Some t
       go (at_corners q) = from 4 q (first_true (goes t (turn_at 4 k)) _ here)
       go (at_labels q) = from 5 q (first_true (goes t (turn_at 5 k)) _ later)
       go (at_second q) = from 6 q (second_true (goes t (turn_at 5 k)) _ later)

@@ -19,15 +19,15 @@ use Rattle.frame_line.specs.Checks.{wild_bits, refusal_of}
 use Rattle.frame_line.specs.Held.{wild_word, outside_word, outside_at, outside_held, refusal_in, refusal_at, refusals_in, is_refusal}
 use Rattle.frame_line.specs.declared.HeldLine.{HeldLine}
 use Rattle.frame_line.specs.declared.Sort.{Sort}
-use Rattle.frame_line.specs.declared.Turn.{Turn}
+use Rattle.std.proofs.Common.{None}
 use Rattle.frame_line.proofs.Rows.{rows_long}
 
-pub no_row : (stage k : ℕ) → row_count ≤ k → Turn.No ≡ turn_at stage k
+pub no_row : (stage k : ℕ) → row_count ≤ k → None ≡ turn_at stage k
 unfolding turn_at row_at
 no_row stage k h =
     ap (λ (r : List ℕ). turn_by (get_or (take stage_count r) stage 46)) (sym (get_or-eq_default rows [] {n = k} (subst (λ (n : ℕ). n ≤ k) (sym rows_long) h)))
 
-pub no_stage : (stage k : ℕ) → stage_count ≤ stage → Turn.No ≡ turn_at stage k
+pub no_stage : (stage k : ℕ) → stage_count ≤ stage → None ≡ turn_at stage k
 unfolding turn_at
 no_stage stage k h = ap turn_by (sym (get_or-eq_default (take stage_count (row_at k)) 46 {n = stage} (simp length-take (omega arith))))
 

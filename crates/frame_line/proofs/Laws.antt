@@ -1,20 +1,19 @@
 -- Laws of a line by the table: a line that is printed is read back, and a line that was read is what would be printed of it. Proved once, over
 -- the rules of the rows. Assumes nothing.
 use mathlib.Core.Path.{◌≡◌, refl, sym, ap, ◌∙◌, subst}
-use mathlib.Core.Bool.{true, false, true≢false}
 use mathlib.Core.List.{List, []}
 use Prim.Native.Nat.{ℕ, zero, suc, ◌+◌, ◌<◌, ◌≤◌}
 use native.Mathlib.Numerals.{add-one}
 use native.Mathlib.Omega.{arith}
 use lib.ListN.{drop}
 use lib.Seq.{drop-cons}
-use Rattle.line_form.specs.Forms.{Number, Fitted, misfit, fitted, fit_of, PrintsBack}
-use Rattle.line_form.specs.Held.{held_fit}
-use Rattle.line_form.specs.declared.read.LineFit.{LineFit}
+use Rattle.line_form.specs.Forms.{Number, Fitted, misfit, fitted, fit_of}
+use Rattle.line_form.specs.Held.{held_up_to, held_fit}
+use Rattle.std.proofs.Common.{None, Some}
 use Rattle.line_form.proofs.Laws.{reads_back, prints_back}
 use Rattle.line_form.proofs.Told.{told_misfits}
 use Rattle.frame_line.specs.Table.{rows, row_count, row_at, form_at}
-use Rattle.frame_line.specs.Lines.{Line, line_text, LineRead, ill_formed, line, or_else, first_fit, read_line, LineReadsBack, LinePrintsBack}
+use Rattle.frame_line.specs.Lines.{Line, line_text, ill_formed, line, or_else, first_fit, read_line, LineReadsBack, LinePrintsBack}
 use Rattle.frame_line.specs.Held.{held_read}
 use Rattle.frame_line.proofs.Rows.{rows_long, apart_at, told_at}
 
@@ -45,22 +44,21 @@ module _ {text : List ℕ} {k : ℕ} (g : Looking text k) where
     pub looking_more : fit_of (form_at k) text ≡ misfit → Looking text (k + 1)
     looking_more e = record { upto = omega arith; rest = rw add-one (sym (rw e at turn)) }
 
-    module _ (f : LineFit) (is : f ≡ held_fit (fit_of (form_at k) text)) where
-      pub held_hit : f.found ≡ true → record { row = k; values = f.values } ≡ held_read (read_line text)
-      unfolding held_fit held_read
-      held_hit t = go (fit_of (form_at k) text) refl
-        where
-          go : (it : Fitted) → fit_of (form_at k) text ≡ it → record { row = k; values = f.values } ≡ held_read (read_line text)
-          go misfit p = absurd (true≢false (sym t ∙ ap (λ (x : LineFit). x.found) (is ∙ ap held_fit p)))
-          go (fitted ns) p = rw (is ∙ ap held_fit p, looking_hit p)
+    pub held_hit : (vs : List ℕ) → Some vs ≡ held_fit (fit_of (form_at k) text) → record { row = k; values = vs } ≡ held_read (read_line text)
+    unfolding held_fit held_read
+    held_hit vs e = go (fit_of (form_at k) text) refl e
+      where
+        go : (it : Fitted) → fit_of (form_at k) text ≡ it → Some vs ≡ held_fit it → record { row = k; values = vs } ≡ held_read (read_line text)
+        go misfit p e = absurd cc
+        go (fitted ns) p e = let v : vs ≡ held_up_to 5 ns = cc in rw (v, looking_hit p)
 
-      pub held_more : f.found ≡ false → Looking text (k + 1)
-      unfolding held_fit
-      held_more t = go (fit_of (form_at k) text) refl
-        where
-          go : (it : Fitted) → fit_of (form_at k) text ≡ it → Looking text (k + 1)
-          go misfit p = looking_more p
-          go (fitted ns) p = absurd (true≢false (sym (ap (λ (x : LineFit). x.found) (is ∙ ap held_fit p)) ∙ t))
+    pub held_more : None ≡ held_fit (fit_of (form_at k) text) → Looking text (k + 1)
+    unfolding held_fit
+    held_more e = go (fit_of (form_at k) text) refl e
+      where
+        go : (it : Fitted) → fit_of (form_at k) text ≡ it → None ≡ held_fit it → Looking text (k + 1)
+        go misfit p e = looking_more p
+        go (fitted ns) p e = absurd cc
 
 -- ---- the laws
 
@@ -79,7 +77,7 @@ unfolding line_text
 line_prints_back text l e = from row_count 0 refl (looking_start text)
   where
     from : (n k : ℕ) → k + n ≡ row_count → Looking text k → LinePrintsBack text l
-    from zero k s g = absurd (let i = looking_end g (omega arith) in let z : ◌≡◌ {A = ℕ} 0 1 = cc in omega arith)
+    from zero k s g = absurd (let i = looking_end g (omega arith) in cc)
     from (suc n) k s g = go (fit_of (form_at k) text) refl (λ t. from n (k + 1) (omega arith) t)
       where
         go : (f : Fitted) → fit_of (form_at k) text ≡ f → (Looking text (k + 1) → LinePrintsBack text l) → LinePrintsBack text l

@@ -20,7 +20,7 @@ use Rattle.line_form.specs.Written.{unheld_whole}
 use Rattle.line_form.proofs.Every.{every_at}
 use Rattle.frame_line.specs.Table.{rows, row_count, row_at, kind_at, form_at, letters_at, sort_of, sort_at}
 use Rattle.frame_line.specs.Lines.{Line, kind_of, Proper, bits_at, whole_at}
-use Rattle.frame_line.specs.Checks.{wild_whole, wild, number_outside, some_outside, outside_line}
+use Rattle.frame_line.specs.Checks.{wild_whole, number_outside, some_outside, outside_line}
 use Rattle.frame_line.specs.Held.{held_line, beyond, outside_word, outside_held}
 use Rattle.frame_line.specs.declared.Kind.{Kind}
 use Rattle.frame_line.specs.declared.OpeningKind.{OpeningKind}

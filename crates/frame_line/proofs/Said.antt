@@ -18,9 +18,9 @@ use Rattle.line_form.specs.Forms.{Number, bits, whole}
 use Rattle.line_form.specs.Held.{held_whole, held_up_to}
 use Rattle.line_form.specs.Written.{unheld_whole}
 use Rattle.frame_line.specs.Table.{rows, row_at, form_at, sort_of, sort_at}
-use Rattle.frame_line.specs.Lines.{Line, kind_of, Proper, bits_at, whole_at, Axes, axes_line_of, CornerLine, corner_line_of, LabelLine, label_line_of, ShadeLine, shade_line_of}
+use Rattle.frame_line.specs.Lines.{Line, kind_of, Proper, bits_at, whole_at, Axes, axes_line_of, CornerLine, corner_line_of, LabelLine, label_line_of, shade_line_of}
 use Rattle.frame_line.specs.Lines.{PassLine, bare_grow_holds, grow, bare_fill, fill, local, pass_line_of}
-use Rattle.frame_line.specs.Checks.{wild_bits, wild_whole, wild, number_outside, some_outside, outside_line}
+use Rattle.frame_line.specs.Checks.{wild_bits, wild_whole, number_outside, some_outside, outside_line}
 use Rattle.frame_line.specs.Held.{held_line, count_in, label_in, shade_in, beyond, outside_word, outside_at, outside_held}
 use Rattle.frame_line.specs.declared.Kind.{Kind}
 use Rattle.frame_line.specs.declared.OpeningKind.{OpeningKind}

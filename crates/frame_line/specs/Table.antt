@@ -1,5 +1,5 @@
 -- The kinds of a frame's lines by one table (document 01, "Frame and result"): a kind is a row. Definitions only.
-use Rattle.std.specs.Prelude.{Bool, true, false, cond, List, [], ◌∷◌, ℕ, ◌+◌, ◌-◌, ltb, eqb, get_or, take, drop}
+use Rattle.std.specs.Prelude.{Bool, true, false, cond, List, [], ◌∷◌, ℕ, ◌+◌, ◌-◌, ltb, eqb, get_or, take, drop, Option, None, Some}
 use Rattle.binary32.specs.declared.ranges.Quantity.{Quantity}
 use Rattle.line_form.specs.Integers.{offset}
 use Rattle.line_form.specs.Forms.{bytes}
@@ -7,7 +7,6 @@ use Rattle.frame_line.specs.declared.Kind.{Kind}
 use Rattle.frame_line.specs.declared.OpeningKind.{OpeningKind}
 use Rattle.frame_line.specs.declared.PassKind.{PassKind}
 use Rattle.frame_line.specs.declared.Sort.{Sort}
-use Rattle.frame_line.specs.declared.Turn.{Turn}
 
 -- "Lines, in order: frame, cell, axes (of i, then of j), band, corners (position, pitch; numbered from 0), labels (corner, cell), passes"; and of
 -- document 02, 1/14: "After the labels a frame may hold lines `(shade n k)`, corner n having kind k, 0 or 1", and 3/14: "A line `(patch)` before the
@@ -75,10 +74,10 @@ form_at k = drop form_from (row_at k)
 -- ---- the order of lines
 
 -- byte 46 is . and 48 is the digit 0
-abbrev pub turn_by : ℕ → Turn
-turn_by b = cond (ltb b 48) Turn.No (Turn.To (b - 48))
+abbrev pub turn_by : ℕ → Option ℕ
+turn_by b = cond (ltb b 48) None (Some (b - 48))
 
-unfoldable pub turn_at : ℕ → ℕ → Turn
+unfoldable pub turn_at : ℕ → ℕ → Option ℕ
 turn_at stage k = turn_by (get_or (take stage_count (row_at k)) stage 46)
 
 -- "The first four lines must stand; the others may be none"

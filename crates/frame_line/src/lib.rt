@@ -5,16 +5,16 @@
 
 ghost use Rattle.std.specs.Prelude.{◌≡◌, ◌<◌};
 ghost use Rattle.line_form.specs.Forms.{second_is};
-ghost use Rattle.frame_line.specs.Table.{row_count, kind_at, letters_at, turn_by, turn_at, may_end};
+ghost use Rattle.frame_line.specs.Table.{row_count, kind_at, form_at, letters_at, turn_by, turn_at, may_end};
 ghost use Rattle.frame_line.specs.Lines.{read_line};
 ghost use Rattle.frame_line.specs.Held.{held_read};
 
 use binary32::ranges::Quantity;
-use line_form::read::{LineFit, fit_line};
+use line_form::read::fit_line;
 use sheet::Cell;
 
 // A line of the opening: those that must stand.
-#[derive(Clone, Copy)]
+#[derive(Clone, Copy, Debug, PartialEq, Eq)]
 pub enum OpeningKind {
     Frame,
     CellSize,
@@ -23,7 +23,7 @@ pub enum OpeningKind {
 }
 
 // A pass line: bare, or with its own numbers.
-#[derive(Clone, Copy)]
+#[derive(Clone, Copy, Debug, PartialEq, Eq)]
 pub enum PassKind {
     BareGrow,
     Grow,
@@ -33,7 +33,7 @@ pub enum PassKind {
 }
 
 // A kind of line, by the part of a frame that it belongs to.
-#[derive(Clone, Copy)]
+#[derive(Clone, Copy, Debug, PartialEq, Eq)]
 pub enum Kind {
     Opening(OpeningKind),
     Corner,
@@ -44,7 +44,7 @@ pub enum Kind {
 }
 
 // What a number of a line is.
-#[derive(Clone, Copy)]
+#[derive(Clone, Copy, Debug, PartialEq, Eq)]
 pub enum Sort {
     // the form has no such number
     Nothing,
@@ -56,15 +56,8 @@ pub enum Sort {
     Corner,
 }
 
-// Where a line leads to: it may not come here, or the stage behind it.
-#[derive(Clone, Copy)]
-pub enum Turn {
-    No,
-    To(usize),
-}
-
 // A line: its row, and its numbers as they are held (crate line_form). A text that has none of the forms has the row ROWS.
-#[derive(Clone, Copy)]
+#[derive(Clone, Copy, Debug, PartialEq, Eq)]
 pub struct HeldLine {
     pub row: usize,
     pub values: [u32; 5],
@@ -79,7 +72,7 @@ pub struct HeldLabel {
 }
 
 // A shade's corner and kind, both held as a label's corner is.
-#[derive(Clone, Copy)]
+#[derive(Clone, Copy, Debug, PartialEq, Eq)]
 pub struct HeldShade {
     pub corner: usize,
     pub kind: u32,
@@ -91,62 +84,95 @@ const STAGES: usize = 9;
 // How many rows there are.
 const ROWS: usize = 13;
 
-// How long the front of a row is, and where the letters of its numbers start.
-const FRONT: usize = STAGES + 7;
+// A row of the table: the kind of line, the stage behind the line for each stage before it (. where it may not come), a letter for each of its numbers,
+// and its form.
+#[derive(Clone, Copy)]
+struct Row {
+    kind: Kind,
+    turns: [u8; STAGES],
+    letters: [u8; 5],
+    form: &'static [u8],
+}
 
-const LETTERS: usize = STAGES + 1;
-
-// The table, in two columns. The front of a row has the stage behind the line for each stage before it (. where it may not come), and a
-// letter for each of its numbers.
-const FRONTS: [u8; ROWS * FRONT] = *b"\
-1........ ..... \
-.2....... c.... \
-..3...... aaaa. \
-...4..... b.... \
-....4.... xxp.. \
-....556.. nii.. \
-....88888 ..... \
-....88888 mfm.. \
-....88888 ..... \
-....88888 mfr.. \
-....88888 mfrmd \
-....7777. nk... \
-....66... ..... ";
-
-// Its form.
-const FORMS: [u8; 158] = *b"\
-(frame 1)\n\
-(cell %)\n\
-(axes (% %) (% %))\n\
-(band %)\n\
-(corner (% %) %)\n\
-(label # (# #))\n\
-(grow)\n\
-(grow % % %)\n\
-(fill)\n\
-(fill % % #)\n\
-(local % % # % #)\n\
-(shade # #)\n\
-(patch)\n";
-
-// Where each form starts, and the end.
-const STARTS: [usize; ROWS + 1] = [0, 10, 19, 38, 47, 64, 80, 87, 100, 107, 120, 138, 150, 158];
-
-// The kinds of the rows.
-const KINDS: [Kind; ROWS] = [
-    Kind::Opening(OpeningKind::Frame),
-    Kind::Opening(OpeningKind::CellSize),
-    Kind::Opening(OpeningKind::Axes),
-    Kind::Opening(OpeningKind::Band),
-    Kind::Corner,
-    Kind::Label,
-    Kind::Pass(PassKind::BareGrow),
-    Kind::Pass(PassKind::Grow),
-    Kind::Pass(PassKind::BareFill),
-    Kind::Pass(PassKind::Fill),
-    Kind::Pass(PassKind::Local),
-    Kind::Shade,
-    Kind::Patch,
+static TABLE: [Row; ROWS] = [
+    Row {
+        kind: Kind::Opening(OpeningKind::Frame),
+        turns: *b"1........",
+        letters: *b".....",
+        form: b"(frame 1)\n",
+    },
+    Row {
+        kind: Kind::Opening(OpeningKind::CellSize),
+        turns: *b".2.......",
+        letters: *b"c....",
+        form: b"(cell %)\n",
+    },
+    Row {
+        kind: Kind::Opening(OpeningKind::Axes),
+        turns: *b"..3......",
+        letters: *b"aaaa.",
+        form: b"(axes (% %) (% %))\n",
+    },
+    Row {
+        kind: Kind::Opening(OpeningKind::Band),
+        turns: *b"...4.....",
+        letters: *b"b....",
+        form: b"(band %)\n",
+    },
+    Row {
+        kind: Kind::Corner,
+        turns: *b"....4....",
+        letters: *b"xxp..",
+        form: b"(corner (% %) %)\n",
+    },
+    Row {
+        kind: Kind::Label,
+        turns: *b"....556..",
+        letters: *b"nii..",
+        form: b"(label # (# #))\n",
+    },
+    Row {
+        kind: Kind::Pass(PassKind::BareGrow),
+        turns: *b"....88888",
+        letters: *b".....",
+        form: b"(grow)\n",
+    },
+    Row {
+        kind: Kind::Pass(PassKind::Grow),
+        turns: *b"....88888",
+        letters: *b"mfm..",
+        form: b"(grow % % %)\n",
+    },
+    Row {
+        kind: Kind::Pass(PassKind::BareFill),
+        turns: *b"....88888",
+        letters: *b".....",
+        form: b"(fill)\n",
+    },
+    Row {
+        kind: Kind::Pass(PassKind::Fill),
+        turns: *b"....88888",
+        letters: *b"mfr..",
+        form: b"(fill % % #)\n",
+    },
+    Row {
+        kind: Kind::Pass(PassKind::Local),
+        turns: *b"....88888",
+        letters: *b"mfrmd",
+        form: b"(local % % # % #)\n",
+    },
+    Row {
+        kind: Kind::Shade,
+        turns: *b"....7777.",
+        letters: *b"nk...",
+        form: b"(shade # #)\n",
+    },
+    Row {
+        kind: Kind::Patch,
+        turns: *b"....66...",
+        letters: *b".....",
+        form: b"(patch)\n",
+    },
 ];
 
 // The stages at which a frame may end.
@@ -157,39 +183,36 @@ pub fn kind_of(row: usize) -> Kind
     requires { row < row_count }
     ensures { result ≡ kind_at row }
 {
-    KINDS[row]
+    TABLE[row].kind
+}
+
+// The form of a row.
+fn form_of(row: usize) -> &'static [u8]
+    requires { row < row_count }
+    ensures { result.now ≡ form_at row }
+{
+    TABLE[row].form
 }
 
 // Whether the second byte of a line is this one.
 fn has_second(b: u8, line: &[u8]) -> bool
     ensures { result ≡ second_is b line.now }
 {
-    if line.len() < 2 {
-        return false;
-    }
-    line[1] == b
+    matches!(line, [_, second, ..] if *second == b)
 }
 
 // The line of a text, by the first row whose form it has. A form whose second byte is another is not tried.
 pub fn read_line(line: &[u8]) -> HeldLine
     ensures { result ≡ held_read (read_line line.now) }
 {
-    let forms = FORMS;
-    let starts = STARTS;
-    let mut row = 0usize;
-    while row < ROWS {
-        let from = starts[row];
-        let to = starts[row + 1];
-        if !has_second(forms[from + 1], line) {
-            row += 1;
+    for row in 0..ROWS {
+        let form = form_of(row);
+        if !has_second(form[1], line) {
             continue;
         }
-        let fit = fit_line(&forms[from..to], line);
-        if fit.found {
-            let values = fit.values;
+        if let Some(values) = fit_line(form, line) {
             return HeldLine { row, values };
         }
-        row += 1;
     }
     HeldLine {
         row: ROWS,
@@ -198,36 +221,27 @@ pub fn read_line(line: &[u8]) -> HeldLine
 }
 
 // Where a byte of the table leads: a digit is the stage behind the line.
-fn turn_by(to: u8) -> Turn
+fn turn_by(to: u8) -> Option<usize>
     ensures { result ≡ turn_by to }
 {
-    if to < 48 {
-        return Turn::No;
-    }
-    Turn::To((to - 48) as usize)
+    to.checked_sub(b'0').map(usize::from)
 }
 
-// Where a line of this row leads from a stage.
-pub fn turn_at(stage: usize, row: usize) -> Turn
+// The stage that a line of this row leads to from a stage; it may not come there where there is none.
+pub fn turn_at(stage: usize, row: usize) -> Option<usize>
     ensures { result ≡ turn_at stage row }
 {
-    if ROWS <= row {
-        return Turn::No;
+    if ROWS <= row || STAGES <= stage {
+        return None;
     }
-    if STAGES <= stage {
-        return Turn::No;
-    }
-    turn_by(FRONTS[row * FRONT + stage])
+    turn_by(TABLE[row].turns[stage])
 }
 
 // Whether a frame may end at a stage.
 pub fn may_end(stage: usize) -> bool
     ensures { result ≡ may_end stage }
 {
-    if STAGES <= stage {
-        return false;
-    }
-    ENDS[stage]
+    ENDS.get(stage).copied().unwrap_or(false)
 }
 
 // The letters of a row's numbers.
@@ -235,13 +249,5 @@ pub fn letters_of(row: usize) -> [u8; 5]
     requires { row < row_count }
     ensures { result ≡ letters_at row }
 {
-    let fronts = FRONTS;
-    let at = row * FRONT + LETTERS;
-    [
-        fronts[at],
-        fronts[at + 1],
-        fronts[at + 2],
-        fronts[at + 3],
-        fronts[at + 4],
-    ]
+    TABLE[row].letters
 }

@@ -1,4 +1,5 @@
 -- What a pass leaves of the sheet and of the outcomes' words. Assumes nothing.
+use Rattle.std.specs.Prelude.{Option, None, Some}
 use mathlib.Core.Path.{◌≡◌, refl, sym, ap, ◌∙◌}
 use mathlib.Core.List.{List}
 use Prim.Native.Nat.{ℕ, suc, ◌-◌, ◌<◌, ◌≤◌}
@@ -9,7 +10,6 @@ use Rattle.passes.specs.Outcome.{Outcome, refused, done}
 use Rattle.passes.specs.Run.{Call, PassStats, grow_stats, fill_stats, local_stats, step, sheet_after}
 use Rattle.passes.specs.declared.Counts.{Counts}
 use Rattle.passes.specs.declared.PassAnswer.{PassAnswer}
-use Rattle.passes.specs.declared.Unmatched.{Unmatched}
 use Rattle.count_bounds.specs.Bounds.{FewCounts, FewUnmatched, small_grow, small_fill, small_local}
 use Rattle.pass_call.specs.Call.{done_answer, PassOut, pass_out, pass_leaves, SmallAnswer}
 use Rattle.report_words.specs.Asked.{with_outcome, CountsFit, UnmatchedFits, AnswerFits, with_answer}
@@ -20,9 +20,9 @@ use Rattle.frame_passes.specs.Running.{noted, Left, left, left_by, left_by_all}
 few : {c : Counts} → FewCounts 1048576 c → CountsFit c
 few f = record { attached = omega (arith, f.attached); no_candidate = omega (arith, f.no_candidate); ambiguous = omega (arith, f.ambiguous); edge = omega (arith, f.edge) }
 
-few_passed : (u : Unmatched) → FewUnmatched 1073741824 u → UnmatchedFits u
-few_passed Unmatched.NoShades h = tt
-few_passed (Unmatched.Count n) h = omega arith
+few_passed : (u : Option ℕ) → FewUnmatched 1073741824 u → UnmatchedFits u
+few_passed None h = tt
+few_passed (Some n) h = omega arith
 
 pub small_fits : (r : PassAnswer) → SmallAnswer r → AnswerFits r
 small_fits (PassAnswer.Grow s) (small_grow f) = few f

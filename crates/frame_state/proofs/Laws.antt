@@ -1,16 +1,13 @@
 -- A line that can be added: what its checks say of it, kind by kind. Assumes nothing.
-use mathlib.Core.Path.{◌≡◌, refl, sym, ap, subst, ◌∙◌}
-use mathlib.Core.Bool.{Bool, true, false, ◌||◌, or-true, or-false}
+use mathlib.Core.Path.{◌≡◌, refl, sym, ap, ◌∙◌}
+use mathlib.Core.Bool.{Bool, false, ◌||◌, or-true, or-false}
 use Prim.Native.Nat.{ℕ, ◌+◌, ◌<◌}
 use native.Mathlib.Omega.{arith}
 use borrow.Author.Tests.{leb-false, eq-eqb, ne_eqb}
 use lib.Dec.{eqb}
-use mathlib.Core.List.{List}
 use lib.ListN.{get_or}
-use lib.Ieee.{Float}
 use Rattle.sheet.specs.Cells.{place_of}
 use Rattle.binary32.specs.declared.ranges.Quantity.{Quantity}
-use Rattle.arguments.specs.declared.Settings.{Settings}
 use Rattle.binary32.proofs.Answered.{pattern}
 use Rattle.labels.specs.Labelled.{any_below}
 use Rattle.labels.specs.Count.{how_many}
@@ -23,7 +20,6 @@ use Rattle.frame_line.specs.declared.Kind.{Kind}
 use Rattle.frame_line.specs.declared.OpeningKind.{OpeningKind}
 use Rattle.frame_line.specs.declared.PassKind.{PassKind}
 use Rattle.frame_line.specs.declared.Sort.{Sort}
-use Rattle.frame_line.specs.declared.HeldLabel.{HeldLabel}
 use Rattle.frame_line.specs.declared.HeldLine.{HeldLine}
 use Rattle.frame_line.proofs.Shapes.{row_of, row_of_lem}
 use Rattle.frame_line.proofs.Checking.{tame_finite}
@@ -31,9 +27,8 @@ use Rattle.frame_line.proofs.Words.{word_tame, kind_known}
 use Rattle.frame_check.specs.Checks.{is_set, has_place, over_limit, label_twice, twice_of, twice_as, twice_held, checked_held, NumbersFine}
 use Rattle.frame_check.proofs.Laws.{AllFine, fine_all, label_fits, shade_fits}
 use Rattle.sizes.specs.Sizes.{corner_limit, pass_limit}
-use Rattle.frame_state.specs.State.{Tame, TameOpening, with_label, with_second, CornerFits, LabelRoom, LabelPut, SecondPut, LabelsRoom, Labels, labels_after, label_added, ShadeFits, Arrays, arrays, state, Addable, adds_as}
+use Rattle.frame_state.specs.State.{Tame, TameOpening, CornerFits, LabelsRoom, ShadeFits, Arrays, Addable}
 use Rattle.frame_state.specs.declared.Progress.{Progress}
-use Rattle.frame_state.specs.declared.PassWords.{PassWords}
 
 -- where a number below n does not pass, fewer than n do
 pub many_room : (f : ℕ → Bool) (n k : ℕ) → k < n → f k ≡ false → how_many f n < n
@@ -83,7 +78,7 @@ module _ {p : Progress} {a : Arrays} {line : HeldLine} (f : Addable p a line) wh
   numbers_fine = record { fits = f.fits; on = fine.on; known = fine.known }
 
   -- a label that is not doubled finds room in its set, since each label of it uses another corner
-  pub labels_room : kind_at line.row ≡ Kind.Label → LabelsRoom p a.sheet (label_in line.values)
+  pub labels_room : kind_at line.row ≡ Kind.Label → LabelsRoom p (label_in line.values)
   unfolding twice_of
   labels_room e =
       let fits = label_fits p.corners p.second line numbers_fine e in
@@ -97,7 +92,7 @@ module _ {p : Progress} {a : Arrays} {line : HeldLine} (f : Addable p a line) wh
         second = λ q.
             let free = (or_false_both (any_below p.second (has_place a.second (place_of (label_in line.values).cell))) (is_set a.used (corner_limit + k)) (rw q at once)).1 in
             omega (arith, f.counted.second, many_room (λ j. is_set a.used (corner_limit + j)) corner_limit k fits.entry free);
-        label = record { long = f.long; fits = fits };
+        label = fits;
       }
 
   pub shade_room : kind_at line.row ≡ Kind.Shade → ShadeFits (shade_in line.values)
@@ -110,28 +105,3 @@ module _ {p : Progress} {a : Arrays} {line : HeldLine} (f : Addable p a line) wh
   pub pass_fits : (k : PassKind) → kind_at line.row ≡ Kind.Pass k → p.passes < pass_limit
   unfolding over_limit
   pass_fits k e = leb-false pass_limit p.passes (sym (ap (over_limit p.corners p.passes) e) ∙ fine.room)
-
--- ---- a label of the set that is open
-
-module _ (p r : Progress) (l : HeldLabel) (sheet used second : List ℕ) where
-  pub to_second : p.patched ≡ true → r ≡ with_second p → {used' second' : List ℕ} → SecondPut p.second l used second used' second'
-      → labels_after r sheet used' second' ≡ label_added p.patched l (labels_after p sheet used second)
-  to_second e f {used'} {second'} w =
-      subst (λ (t : Bool). labels_after r sheet used' second' ≡ label_added t l (labels_after p sheet used second)) (sym e)
-      (λ t. labels_after (f t) sheet (w.used_is t) (w.second_is t))
-
-  pub to_first : p.patched ≡ false → r ≡ with_label p → {sheet' used' : List ℕ} → LabelPut l sheet used sheet' used'
-      → labels_after r sheet' used' second ≡ label_added p.patched l (labels_after p sheet used second)
-  to_first e f {sheet'} {used'} w =
-      subst (λ (t : Bool). labels_after r sheet' used' second ≡ label_added t l (labels_after p sheet used second)) (sym e)
-      (λ t. labels_after (f t) (w.sheet_is t) (w.used_is t) second)
-
--- a label added to its set is the line added
-pub label_added_lem : (p : Progress) (xs ys pitches : List Float) (shades sheet used second passes v : List ℕ) {l : HeldLabel} → l ≡ label_in v → {b : Labels}
-    → b ≡ label_added p.patched l (labels_after p sheet used second)
-    → state b.progress (arrays xs ys pitches shades b.sheet b.used b.second passes)
-    ≡ adds_as Kind.Label v (state p (arrays xs ys pitches shades sheet used second passes))
-unfolding adds_as
-label_added_lem p xs ys pitches shades sheet used second passes v e d =
-    ap (λ (b : Labels). state b.progress (arrays xs ys pitches shades b.sheet b.used b.second passes))
-    (d ∙ ap (λ (m : HeldLabel). label_added p.patched m (labels_after p sheet used second)) e)

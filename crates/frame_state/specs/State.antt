@@ -6,8 +6,6 @@ use Rattle.std.specs.Float.Ieee.{of_bits, nan_bits}
 use Rattle.sizes.specs.Sizes.{place_count, corner_limit, pass_size}
 use Rattle.sheet.specs.Cells.{place_of}
 use Rattle.sheet.specs.Words.{attached}
-use Rattle.predict.specs.declared.Grid.{Grid}
-use Rattle.predict.specs.declared.Vector.{Vector}
 use Rattle.arguments.specs.declared.Settings.{Settings}
 use Rattle.frame_line.specs.Table.{kind_at}
 use Rattle.frame_line.specs.Lines.{bare_grow}
@@ -172,38 +170,19 @@ pub record CornerFits (n : ℕ) (v : List ℕ) : Type 0 where
   pub y : Tame (get_or v 1 0)
   pub pitch : Tame (get_or v 2 0)
 
-pub record CornerPut (n : ℕ) (v : List ℕ) (xs ys pitches xs' ys' pitches' : List Float) : Type 0 where
-  pub xs_are : xs' ≡ set xs n (float_of (get_or v 0 0))
-  pub ys_are : ys' ≡ set ys n (float_of (get_or v 1 0))
-  pub pitches_are : pitches' ≡ set pitches n (float_of (get_or v 2 0))
-
--- ---- a label of the first set
-
-pub record LabelRoom (sheet : List ℕ) (l : HeldLabel) : Type 0 where
-  pub long : length sheet ≡ place_count
-  pub fits : LabelFits l
-
-pub record LabelPut (l : HeldLabel) (sheet used sheet' used' : List ℕ) : Type 0 where
-  pub sheet_is : sheet' ≡ attached sheet l.cell l.corner
-  pub used_is : used' ≡ set used l.corner 1
-
 -- ---- a label of the second set, the n-th
 
 pub record SecondRoom (n : ℕ) (l : HeldLabel) : Type 0 where
   pub room : n < corner_limit
   pub fits : LabelFits l
 
-pub record SecondPut (n : ℕ) (l : HeldLabel) (used second used' second' : List ℕ) : Type 0 where
-  pub used_is : used' ≡ set used (corner_limit + l.corner) 1
-  pub second_is : second' ≡ set (set second n l.corner) (corner_limit + n) (place_of l.cell)
-
 -- ---- a label of the set that is open
 
 -- there is room for it in the set that is open
-pub record LabelsRoom (p : Progress) (sheet : List ℕ) (l : HeldLabel) : Type 0 where
+pub record LabelsRoom (p : Progress) (l : HeldLabel) : Type 0 where
   pub first : p.patched ≡ false → p.labels < corner_limit
   pub second : p.patched ≡ true → p.second < corner_limit
-  pub label : LabelRoom sheet l
+  pub label : LabelFits l
 
 -- what a label changes
 pub record Labels : Type 0 where
@@ -275,12 +254,43 @@ abbrev pub arrays : List Float → List Float → List Float → List ℕ → Li
 arrays xs ys pitches shades sheet used second passes =
     record { xs = xs; ys = ys; pitches = pitches; shades = shades; sheet = sheet; used = used; second = second; passes = passes }
 
+-- ---- what is written for a line
+
+-- the corner n
+abbrev pub corner_put : ℕ → List ℕ → Arrays → Arrays
+corner_put n v a =
+    arrays (set a.xs n (float_of (get_or v 0 0))) (set a.ys n (float_of (get_or v 1 0))) (set a.pitches n (float_of (get_or v 2 0))) a.shades a.sheet a.used
+    a.second a.passes
+
+-- a label of the first set
+abbrev pub label_put : HeldLabel → Arrays → Arrays
+label_put l a = arrays a.xs a.ys a.pitches a.shades (attached a.sheet l.cell l.corner) (set a.used l.corner 1) a.second a.passes
+
+-- a label of the second set, the n-th
+abbrev pub second_put : ℕ → HeldLabel → Arrays → Arrays
+second_put n l a =
+    arrays a.xs a.ys a.pitches a.shades a.sheet (set a.used (corner_limit + l.corner) 1) (set (set a.second n l.corner) (corner_limit + n) (place_of l.cell))
+    a.passes
+
+abbrev pub with_shades : Arrays → List ℕ → Arrays
+with_shades a shades = arrays a.xs a.ys a.pitches shades a.sheet a.used a.second a.passes
+
+abbrev pub with_passes : Arrays → List ℕ → Arrays
+with_passes a passes = arrays a.xs a.ys a.pitches a.shades a.sheet a.used a.second passes
+
 pub record State : Type 0 where
   pub progress : Progress
   pub held : Arrays
 
 abbrev pub state : Progress → Arrays → State
 state p a = record { progress = p; held = a }
+
+-- a label, to the set that is open
+abbrev pub label_to : Bool → HeldLabel → State → State
+label_to patched l s =
+    let h = s.held in
+    let b = label_added patched l (labels_after s.progress h.sheet h.used h.second) in
+    state b.progress (arrays h.xs h.ys h.pitches h.shades b.sheet b.used b.second h.passes)
 
 -- the labels of each set are as many as the corners that it uses
 pub record Counted (p : Progress) (used : List ℕ) : Type 0 where

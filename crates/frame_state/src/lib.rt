@@ -4,8 +4,10 @@
 #![tactic(auto)]
 
 ghost use Rattle.std.specs.Prelude.{◌≡◌, ◌<◌};
-ghost use Rattle.sizes.specs.Sizes.{corner_limit, pass_limit};
-ghost use Rattle.frame_state.specs.State.{Tame, TameAxes, nothing_said, at_stage, with_cell_size, with_axes, with_band, TameOpening, with_opening, with_settings, with_corner, with_label, with_patch, with_second, with_pass, CornerFits, CornerPut, LabelRoom, LabelPut, SecondRoom, SecondPut, LabelsRoom, labels_after, label_added, ShadeFits, shade_put, grow_words, fill_words, local_words, words_in, words_put, arrays, state, Addable, adds};
+ghost use Rattle.sizes.specs.Sizes.{pass_limit};
+ghost use Rattle.frame_check.specs.Checks.{LabelFits};
+ghost use Rattle.frame_state.specs.State.{nothing_said, at_stage, TameOpening, with_opening, CornerFits, SecondRoom, LabelsRoom, ShadeFits, shade_put, grow_words, fill_words, local_words, words_in, words_put, with_shades, with_passes, corner_put, label_put, second_put, label_to, arrays, state, Addable, adds};
+ghost use Rattle.frame_state.specs.Parts.{held, SameParts};
 
 use arguments::Settings;
 use frame_line::{HeldLabel, HeldLine, HeldShade, Kind, OpeningKind, PassKind};
@@ -27,6 +29,7 @@ pub struct Progress {
 }
 
 // A pass as six words: kind (0 grow, 1 fill, 2 local), search, factor, boundary or residual, rounds, depth; 0 for what the pass has not.
+// The kind is a number, since the C interface lends passes as words.
 #[derive(Clone, Copy)]
 pub struct PassWords {
     pub kind: u32,
@@ -66,251 +69,47 @@ pub fn start() -> Progress
 pub fn at_stage(p: Progress, stage: usize) -> Progress
     ensures { result ≡ at_stage p stage }
 {
-    let settings = p.settings;
-    Progress {
-        settings,
-        corners: p.corners,
-        labels: p.labels,
-        patched: p.patched,
-        second: p.second,
-        passes: p.passes,
-        stage,
-    }
+    Progress { stage, ..p }
 }
 
-// The cell size is said.
-fn with_cell_size(s: Settings, bits: u32) -> Settings
-    requires { Tame bits }
-    ensures { result ≡ with_cell_size s bits }
-{
-    let before = s.grid;
-    let axis_i = before.axis_i;
-    let axis_j = before.axis_j;
-    let grid = Grid {
-        axis_i,
-        axis_j,
-        cell_size: f32::from_bits(bits),
-    };
-    Settings {
-        grid,
-        edge_length_tol: s.edge_length_tol,
-    }
-}
-
-// The axes are said.
-fn with_axes(s: Settings, v: [u32; 5]) -> Settings
-    requires { TameAxes v }
-    ensures { result ≡ with_axes s v }
-{
-    let before = s.grid;
-    let axis_i = Vector {
-        x: f32::from_bits(v[0]),
-        y: f32::from_bits(v[1]),
-    };
-    let axis_j = Vector {
-        x: f32::from_bits(v[2]),
-        y: f32::from_bits(v[3]),
-    };
-    let grid = Grid {
-        axis_i,
-        axis_j,
-        cell_size: before.cell_size,
-    };
-    Settings {
-        grid,
-        edge_length_tol: s.edge_length_tol,
-    }
-}
-
-// The band is said.
-fn with_band(s: Settings, bits: u32) -> Settings
-    requires { Tame bits }
-    ensures { result ≡ with_band s bits }
+// A line of the opening is said: cell size, axes or band.
+fn with_opening(s: Settings, kind: OpeningKind, v: [u32; 5]) -> Settings
+    requires { TameOpening kind v }
+    ensures { result ≡ with_opening kind s v }
 {
     let grid = s.grid;
-    Settings {
-        grid,
-        edge_length_tol: f32::from_bits(bits),
-    }
-}
-
-// A line of the opening is said.
-fn with_opening(s: Settings, kind: OpeningKind, values: [u32; 5]) -> Settings
-    requires { TameOpening kind values }
-    ensures { result ≡ with_opening kind s values }
-{
     match kind {
         OpeningKind::Frame => s,
-        OpeningKind::CellSize => with_cell_size(s, values[0]),
-        OpeningKind::Axes => with_axes(s, values),
-        OpeningKind::Band => with_band(s, values[0]),
+        OpeningKind::CellSize => {
+            let cell_size = f32::from_bits(v[0]);
+            Settings {
+                grid: Grid { cell_size, ..grid },
+                ..s
+            }
+        }
+        OpeningKind::Axes => {
+            let axis_i = Vector {
+                x: f32::from_bits(v[0]),
+                y: f32::from_bits(v[1]),
+            };
+            let axis_j = Vector {
+                x: f32::from_bits(v[2]),
+                y: f32::from_bits(v[3]),
+            };
+            Settings {
+                grid: Grid {
+                    axis_i,
+                    axis_j,
+                    ..grid
+                },
+                ..s
+            }
+        }
+        OpeningKind::Band => Settings {
+            edge_length_tol: f32::from_bits(v[0]),
+            ..s
+        },
     }
-}
-
-// Cell size, axes and band are these.
-fn with_settings(p: Progress, settings: Settings) -> Progress
-    ensures { result ≡ with_settings p settings }
-{
-    Progress {
-        settings,
-        corners: p.corners,
-        labels: p.labels,
-        patched: p.patched,
-        second: p.second,
-        passes: p.passes,
-        stage: p.stage,
-    }
-}
-
-// One corner more.
-fn with_corner(p: Progress) -> Progress
-    requires { p.corners < corner_limit }
-    ensures { result ≡ with_corner p }
-{
-    let settings = p.settings;
-    Progress {
-        settings,
-        corners: p.corners + 1,
-        labels: p.labels,
-        patched: p.patched,
-        second: p.second,
-        passes: p.passes,
-        stage: p.stage,
-    }
-}
-
-// One label of the first set more.
-fn with_label(p: Progress) -> Progress
-    requires { p.labels < corner_limit }
-    ensures { result ≡ with_label p }
-{
-    let settings = p.settings;
-    Progress {
-        settings,
-        corners: p.corners,
-        labels: p.labels + 1,
-        patched: p.patched,
-        second: p.second,
-        passes: p.passes,
-        stage: p.stage,
-    }
-}
-
-// The patch line stands.
-fn with_patch(p: Progress) -> Progress
-    ensures { result ≡ with_patch p }
-{
-    let settings = p.settings;
-    Progress {
-        settings,
-        corners: p.corners,
-        labels: p.labels,
-        patched: true,
-        second: p.second,
-        passes: p.passes,
-        stage: p.stage,
-    }
-}
-
-// One label of the second set more.
-fn with_second(p: Progress) -> Progress
-    requires { p.second < corner_limit }
-    ensures { result ≡ with_second p }
-{
-    let settings = p.settings;
-    Progress {
-        settings,
-        corners: p.corners,
-        labels: p.labels,
-        patched: p.patched,
-        second: p.second + 1,
-        passes: p.passes,
-        stage: p.stage,
-    }
-}
-
-// One pass more.
-fn with_pass(p: Progress) -> Progress
-    requires { p.passes < pass_limit }
-    ensures { result ≡ with_pass p }
-{
-    let settings = p.settings;
-    Progress {
-        settings,
-        corners: p.corners,
-        labels: p.labels,
-        patched: p.patched,
-        second: p.second,
-        passes: p.passes + 1,
-        stage: p.stage,
-    }
-}
-
-// The corner n is written.
-fn put_corner(
-    xs: &mut [f32; CORNERS],
-    ys: &mut [f32; CORNERS],
-    pitches: &mut [f32; CORNERS],
-    n: usize,
-    v: [u32; 5],
-)
-    requires { CornerFits n v }
-    ensures { CornerPut n v xs.old ys.old pitches.old xs.new ys.new pitches.new }
-{
-    xs[n] = f32::from_bits(v[0]);
-    ys[n] = f32::from_bits(v[1]);
-    pitches[n] = f32::from_bits(v[2]);
-}
-
-// A label of the first set is written: its corner to the sheet, and that the corner is used.
-fn put_label(sheet: &mut [u16; PLACES], used: &mut [u8; USED], label: HeldLabel)
-    requires { LabelRoom sheet.old label }
-    ensures { LabelPut label sheet.old used.old sheet.new used.new }
-{
-    let corner = label.corner;
-    sheet::attach(sheet, label.cell, corner);
-    used[corner] = 1;
-}
-
-// The label n of the second set is written: its corner and its place, and that the set uses the corner.
-fn put_second(used: &mut [u8; USED], second: &mut [u16; SECOND], n: usize, label: HeldLabel)
-    requires { SecondRoom n label }
-    ensures { SecondPut n label used.old second.old used.new second.new }
-{
-    let corner = label.corner;
-    let place = sheet::place_of(label.cell);
-    second[n] = corner as u16;
-    second[CORNERS + n] = place as u16;
-    used[CORNERS + corner] = 1;
-}
-
-// A label is written to the set that is open: the second once the patch line stands.
-fn add_label(
-    p: Progress,
-    sheet: &mut [u16; PLACES],
-    used: &mut [u8; USED],
-    second: &mut [u16; SECOND],
-    label: HeldLabel,
-) -> Progress
-    requires { LabelsRoom p sheet.old label }
-    ensures { labels_after result sheet.new used.new second.new ≡ label_added p.patched label
-        (labels_after p sheet.old used.old second.old) }
-{
-    if p.patched {
-        put_second(used, second, p.second, label);
-        return with_second(p);
-    }
-    put_label(sheet, used, label);
-    with_label(p)
-}
-
-// A shade is written: 1 more than its kind to the entry of its corner.
-fn put_shade(shades: &mut [u8; CORNERS], shade: HeldShade)
-    requires { ShadeFits shade }
-    ensures { shades.new ≡ shade_put shade shades.old }
-{
-    let corner = shade.corner;
-    shades[corner] = (shade.kind + 1) as u8;
 }
 
 // The numbers of bare grow, 0.35, 1.5 and 1.25, and of bare fill, 0.35, 1.5 and 1, as they are held.
@@ -370,18 +169,132 @@ fn words_of(kind: PassKind, v: [u32; 5]) -> PassWords
     }
 }
 
-// The words of the pass m are written.
-fn put_pass(passes: &mut [u32; ALL_PASS_WORDS], m: usize, words: PassWords)
-    requires { m < pass_limit }
-    ensures { passes.new ≡ words_put m words passes.old }
-{
-    let at = PASS_WORDS * m;
-    passes[at] = words.kind;
-    passes[at + 1] = words.search;
-    passes[at + 2] = words.factor;
-    passes[at + 3] = words.reach;
-    passes[at + 4] = words.rounds;
-    passes[at + 5] = words.depth;
+// The arrays that the lines are held in.
+#[derive(Drop)]
+pub struct Parts<'a> {
+    pub xs: &'a mut [f32; CORNERS],
+    pub ys: &'a mut [f32; CORNERS],
+    pub pitches: &'a mut [f32; CORNERS],
+    pub shades: &'a mut [u8; CORNERS],
+    pub sheet: &'a mut [u16; PLACES],
+    pub used: &'a mut [u8; USED],
+    pub second: &'a mut [u16; SECOND],
+    pub passes: &'a mut [u32; ALL_PASS_WORDS],
+}
+
+impl<'a> Parts<'a> {
+    // The corner n is written.
+    fn put_corner(&mut self, n: usize, v: [u32; 5])
+        requires { CornerFits n v }
+        ensures same { SameParts self.old self.new }
+        ensures put { held self.new ≡ corner_put n v (held self.old) }
+    {
+        self.xs[n] = f32::from_bits(v[0]);
+        self.ys[n] = f32::from_bits(v[1]);
+        self.pitches[n] = f32::from_bits(v[2]);
+    }
+
+    // A label of the first set is written: its corner to the sheet, and that the corner is used.
+    fn put_label(&mut self, label: HeldLabel)
+        requires { LabelFits label }
+        ensures same { SameParts self.old self.new }
+        ensures put { held self.new ≡ label_put label (held self.old) }
+    {
+        sheet::attach(self.sheet, label.cell, label.corner);
+        self.used[label.corner] = 1;
+    }
+
+    // The label n of the second set is written: its corner and its place, and that the set uses the corner.
+    fn put_second(&mut self, n: usize, label: HeldLabel)
+        requires { SecondRoom n label }
+        ensures same { SameParts self.old self.new }
+        ensures put { held self.new ≡ second_put n label (held self.old) }
+    {
+        self.second[n] = label.corner as u16;
+        self.second[CORNERS + n] = sheet::place_of(label.cell) as u16;
+        self.used[CORNERS + label.corner] = 1;
+    }
+
+    // A label is written to the set that is open: the second once the patch line stands.
+    fn add_label(&mut self, p: Progress, label: HeldLabel) -> Progress
+        requires { LabelsRoom p label }
+        ensures same { SameParts self.old self.new }
+        ensures put { state result (held self.new) ≡ label_to p.patched label (state p (held self.old)) }
+    {
+        if p.patched {
+            self.put_second(p.second, label);
+            Progress {
+                second: p.second + 1,
+                ..p
+            }
+        } else {
+            self.put_label(label);
+            Progress {
+                labels: p.labels + 1,
+                ..p
+            }
+        }
+    }
+
+    // A shade is written: 1 more than its kind to the entry of its corner.
+    fn put_shade(&mut self, shade: HeldShade)
+        requires { ShadeFits shade }
+        ensures same { SameParts self.old self.new }
+        ensures put { held self.new ≡ with_shades (held self.old) (shade_put shade self.old.shades.now) }
+    {
+        self.shades[shade.corner] = (shade.kind + 1) as u8;
+    }
+
+    // The words of the pass m are written.
+    fn put_pass(&mut self, m: usize, words: PassWords)
+        requires { m < pass_limit }
+        ensures same { SameParts self.old self.new }
+        ensures put { held self.new ≡ with_passes (held self.old) (words_put m words self.old.passes.now) }
+    {
+        let at = PASS_WORDS * m;
+        self.passes[at] = words.kind;
+        self.passes[at + 1] = words.search;
+        self.passes[at + 2] = words.factor;
+        self.passes[at + 3] = words.reach;
+        self.passes[at + 4] = words.rounds;
+        self.passes[at + 5] = words.depth;
+    }
+
+    // A line that passed its checks is added.
+    #[tactic(auto, unfolding(crate::specs::State::adds_as))]
+    pub fn add(&mut self, p: Progress, line: HeldLine) -> Progress
+        requires { Addable p (held self.old) line }
+        ensures same { SameParts self.old self.new }
+        ensures added { state result (held self.new) ≡ adds line (state p (held self.old)) }
+    {
+        let v = line.values;
+        match frame_line::kind_of(line.row) {
+            Kind::Opening(opening) => Progress {
+                settings: with_opening(p.settings, opening, v),
+                ..p
+            },
+            Kind::Corner => {
+                self.put_corner(p.corners, v);
+                Progress {
+                    corners: p.corners + 1,
+                    ..p
+                }
+            }
+            Kind::Label => self.add_label(p, frame_number::label_of(v)),
+            Kind::Patch => Progress { patched: true, ..p },
+            Kind::Shade => {
+                self.put_shade(frame_number::shade_of(v));
+                p
+            }
+            Kind::Pass(pass) => {
+                self.put_pass(p.passes, words_of(pass, v));
+                Progress {
+                    passes: p.passes + 1,
+                    ..p
+                }
+            }
+        }
+    }
 }
 
 // A line that passed its checks is added.
@@ -402,26 +315,15 @@ pub fn add_line(
         second.new passes.new) ≡ adds line (state p (arrays xs.old ys.old pitches.old shades.old
         sheet.old used.old second.old passes.old)) }
 {
-    let kind = frame_line::kind_of(line.row);
-    let v = line.values;
-    match kind {
-        Kind::Opening(opening) => {
-            let before = p.settings;
-            with_settings(p, with_opening(before, opening, v))
-        }
-        Kind::Corner => {
-            put_corner(xs, ys, pitches, p.corners, v);
-            with_corner(p)
-        }
-        Kind::Label => add_label(p, sheet, used, second, frame_number::label_of(v)),
-        Kind::Patch => with_patch(p),
-        Kind::Shade => {
-            put_shade(shades, frame_number::shade_of(v));
-            p
-        }
-        Kind::Pass(pass) => {
-            put_pass(passes, p.passes, words_of(pass, v));
-            with_pass(p)
-        }
-    }
+    let mut parts = Parts {
+        xs,
+        ys,
+        pitches,
+        shades,
+        sheet,
+        used,
+        second,
+        passes,
+    };
+    parts.add(p, line)
 }

@@ -8,9 +8,8 @@ use Rattle.arguments.specs.declared.Settings.{Settings}
 use Rattle.arguments.specs.declared.GrowParams.{GrowParams}
 use Rattle.arguments.specs.declared.FillParams.{FillParams}
 use Rattle.arguments.specs.declared.LocalExtensionParams.{LocalExtensionParams}
-use Rattle.passes.specs.Outcome.{After, Outcome, refused, done}
+use Rattle.passes.specs.Outcome.{Outcome, refused, done}
 use Rattle.passes.specs.Run.{PassStats, step}
-use Rattle.passes.specs.declared.PassAnswer.{PassAnswer}
 use Rattle.pass_call.specs.Call.{call_of}
 use Rattle.sizes.specs.Sizes.{outcome_size}
 use Rattle.report_words.specs.Asked.{with_outcome}
@@ -63,10 +62,3 @@ pass_unless false o sheet queue attached out = pass_told o sheet queue attached 
 unfoldable pub pass_exported : CornerLists → List ℕ → Settings → Pass → List ℕ → List ℕ → List ℕ → List ℕ → PassLeft
 pass_exported l shades set p sheet queue attached out =
     pass_unless (ltb (length out) outcome_size) (step l sheet (call_of set shades (length queue) (length attached) p)) sheet queue attached out
-
--- what is answered, by what the pass answers
-abbrev pub answer_number : PassAnswer → ℕ
-answer_number (PassAnswer.Grow s) = 0
-answer_number (PassAnswer.Fill s) = 0
-answer_number (PassAnswer.Local s) = 0
-answer_number (PassAnswer.Refused r) = number_of r

@@ -5,6 +5,7 @@ ghost use Rattle.grid_words.specs.Frames.{frame_left, frame_exported};
 
 // Reads a frame. `shades` takes a byte for each corner, `settings` cell size, axes and band, `out` the numbers of corners and passes. A refusal's answer
 // is its number plus 16 times the line, so that a refused call changes no buffer.
+// The C interface passes each number and lends each buffer by itself.
 #[unsafe(no_mangle)]
 pub extern "C" fn projective_grid_read_frame(
     text: &[u8],
@@ -22,7 +23,8 @@ pub extern "C" fn projective_grid_read_frame(
         (buffers xs.old ys.old pitches.old shades.old sheet.old passes.old)
         settings.old out.old }
 {
-    grid_words::frame_calls::read_or_short(
+    let outcome = grid_words::frame_calls::read_or_short(
         text, xs, ys, pitches, shades, sheet, passes, settings, out,
-    )
+    );
+    grid_words::frame_calls::answered(outcome)
 }

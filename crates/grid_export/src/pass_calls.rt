@@ -1,18 +1,18 @@
 // The passes: their numbers as settings and params, 7 where there is no room for eleven words, else the pass, and its outcome as eleven words.
-ghost use Rattle.std.specs.Prelude.{◌≡◌, ◌≤◌, length, []};
+ghost use Rattle.std.specs.Prelude.{◌≡◌, []};
 ghost use Rattle.sheet.specs.Corners.{corner_lists};
 ghost use Rattle.arguments.specs.declared.Pass.{Pass};
-ghost use Rattle.passes.specs.Run.{step};
-ghost use Rattle.pass_call.specs.Call.{call_of};
-ghost use Rattle.sizes.specs.Sizes.{outcome_size};
-ghost use Rattle.grid_export.specs.Passes.{settings_of, grow_params, fill_params, local_params, answer_number, pass_left, pass_told, pass_exported};
+ghost use Rattle.grid_words.specs.Words.{answered};
+ghost use Rattle.grid_export.specs.Passes.{settings_of, grow_params, fill_params, local_params, pass_left, pass_exported};
 
 use arguments::{FillParams, GrowParams, LocalExtensionParams, Pass, Settings};
 use passes::PassAnswer;
 use predict::{Grid, Vector};
+use refusal::Refusal;
 use sizes::OUTCOME_WORDS;
 
 // Cell size, axes and band.
+// The C interface passes each number and lends each buffer by itself.
 fn settings_of(
     cell_size: f32,
     axis_i_x: f32,
@@ -23,64 +23,25 @@ fn settings_of(
 ) -> Settings
     ensures { result ≡ settings_of cell_size axis_i_x axis_i_y axis_j_x axis_j_y edge_length_tol }
 {
-    let axis_i = Vector {
-        x: axis_i_x,
-        y: axis_i_y,
-    };
-    let axis_j = Vector {
-        x: axis_j_x,
-        y: axis_j_y,
-    };
-    let grid = Grid {
-        axis_i,
-        axis_j,
-        cell_size,
-    };
     Settings {
-        grid,
+        grid: Grid {
+            axis_i: Vector {
+                x: axis_i_x,
+                y: axis_i_y,
+            },
+            axis_j: Vector {
+                x: axis_j_x,
+                y: axis_j_y,
+            },
+            cell_size,
+        },
         edge_length_tol,
     }
 }
 
-// A pass, with room for eleven words: its outcome is put, and its refusal's number or 0 answered.
-fn run_pass(
-    xs: &[f32],
-    ys: &[f32],
-    pitches: &[f32],
-    shades: &[u8],
-    sheet: &mut [u16],
-    queue: &mut [u16],
-    attached: &mut [u16],
-    settings: Settings,
-    pass: Pass,
-    out: &mut [u32],
-) -> u32
-    requires { outcome_size ≤ length out.old }
-    ensures { pass_left result sheet.new queue.new attached.new out.new
-        ≡ pass_told (step (corner_lists xs.now ys.now pitches.now) sheet.old
-        (call_of settings shades.now (length queue.old) (length attached.old) pass))
-        sheet.old queue.old attached.old out.old }
-{
-    let answer = pass_call::call_pass(
-        xs, ys, pitches, shades, sheet, queue, attached, settings, pass,
-    );
-    report_words::put::put_outcome(out, 0, answer);
-    answer_number(answer)
-}
-
-// What a call answers: 0, or the number of the refusal.
-fn answer_number(answer: PassAnswer) -> u32
-    ensures { result ≡ answer_number answer }
-{
-    match answer {
-        PassAnswer::Grow(_) => 0,
-        PassAnswer::Fill(_) => 0,
-        PassAnswer::Local(_) => 0,
-        PassAnswer::Refused(refusal) => grid_words::words::number_of(refusal),
-    }
-}
-
-// A pass, or 7.
+// A pass, with room for eleven words, in which its outcome is put.
+// Each buffer is lent by itself, as the C interface lends it.
+#[tactic(auto, unfolding(crate::specs::Passes::pass_exported))]
 fn pass_or_short(
     xs: &[f32],
     ys: &[f32],
@@ -92,20 +53,26 @@ fn pass_or_short(
     settings: Settings,
     pass: Pass,
     out: &mut [u32],
-) -> u32
-    ensures { pass_left result sheet.new queue.new attached.new out.new
+) -> Result<(), Refusal>
+    ensures { pass_left (answered result) sheet.new queue.new attached.new out.new
         ≡ pass_exported (corner_lists xs.now ys.now pitches.now) shades.now settings pass
         sheet.old queue.old attached.old out.old }
 {
     if out.len() < OUTCOME_WORDS {
-        return 7;
+        return Err(Refusal::BufferTooShort);
     }
-    run_pass(
-        xs, ys, pitches, shades, sheet, queue, attached, settings, pass, out,
-    )
+    let answer = pass_call::call_pass(
+        xs, ys, pitches, shades, sheet, queue, attached, settings, pass,
+    );
+    report_words::put::put_outcome(out, 0, answer);
+    match answer {
+        PassAnswer::Refused(refusal) => Err(refusal),
+        _ => Ok(()),
+    }
 }
 
 // Grow. `out` takes the eleven words of its outcome.
+// The C interface passes each number and lends each buffer by itself.
 #[unsafe(no_mangle)]
 pub extern "C" fn projective_grid_extend_from_labelled(
     xs: &[f32],
@@ -145,7 +112,7 @@ pub extern "C" fn projective_grid_extend_from_labelled(
         attach_ambiguity_factor,
         boundary_search_factor,
     };
-    pass_or_short(
+    let outcome = pass_or_short(
         xs,
         ys,
         pitches,
@@ -156,10 +123,12 @@ pub extern "C" fn projective_grid_extend_from_labelled(
         settings,
         Pass::Grow(params),
         out,
-    )
+    );
+    grid_words::words::answered(outcome)
 }
 
 // Fill, which is lent no queue. `out` takes the eleven words of its outcome.
+// The C interface passes each number and lends each buffer by itself.
 #[unsafe(no_mangle)]
 pub extern "C" fn projective_grid_fill_grid_holes(
     xs: &[f32],
@@ -199,7 +168,7 @@ pub extern "C" fn projective_grid_fill_grid_holes(
         attach_ambiguity_factor,
         max_iters,
     };
-    pass_or_short(
+    let outcome = pass_or_short(
         xs,
         ys,
         pitches,
@@ -210,10 +179,12 @@ pub extern "C" fn projective_grid_fill_grid_holes(
         settings,
         Pass::Fill(params),
         out,
-    )
+    );
+    grid_words::words::answered(outcome)
 }
 
 // Local, which is lent no queue. `out` takes the eleven words of its outcome.
+// The C interface passes each number and lends each buffer by itself.
 #[unsafe(no_mangle)]
 pub extern "C" fn projective_grid_extend_via_local_homography(
     xs: &[f32],
@@ -257,7 +228,7 @@ pub extern "C" fn projective_grid_extend_via_local_homography(
         max_residual_rel,
         extend_depth,
     };
-    pass_or_short(
+    let outcome = pass_or_short(
         xs,
         ys,
         pitches,
@@ -268,5 +239,6 @@ pub extern "C" fn projective_grid_extend_via_local_homography(
         settings,
         Pass::Local(params),
         out,
-    )
+    );
+    grid_words::words::answered(outcome)
 }

@@ -4,6 +4,7 @@ ghost use Rattle.report.specs.WriteResult.{text_lent};
 ghost use Rattle.grid_words.specs.Texts.{text_left, text_exported, piece_exported};
 
 // Writes the whole text of a result to the front of `text`. `out` takes its length.
+// The C interface passes each number and lends each buffer by itself.
 #[unsafe(no_mangle)]
 pub extern "C" fn projective_grid_write_result(
     corners: usize,
@@ -15,10 +16,12 @@ pub extern "C" fn projective_grid_write_result(
 ) -> u32
     ensures { text_left result text.new out.new ≡ text_exported (text_lent corners passes words.now sheet.now) text.old out.old }
 {
-    grid_words::text_calls::text_or_short(corners, passes, words, sheet, text, out)
+    let outcome = grid_words::text_calls::text_or_short(corners, passes, words, sheet, text, out);
+    grid_words::words::answered(outcome)
 }
 
 // Writes a piece of it: whole lines from line `from` on, as long as 128 bytes are left before each. `out` takes its length and the next line.
+// The C interface passes each number and lends each buffer by itself.
 #[unsafe(no_mangle)]
 pub extern "C" fn projective_grid_write_result_piece(
     corners: usize,
@@ -31,5 +34,8 @@ pub extern "C" fn projective_grid_write_result_piece(
 ) -> u32
     ensures { text_left result text.new out.new ≡ piece_exported (text_lent corners passes words.now sheet.now) from text.old out.old }
 {
-    grid_words::text_calls::piece_or_short(corners, passes, words, sheet, from, text, out)
+    let outcome = grid_words::text_calls::piece_or_short(
+        corners, passes, words, sheet, from, text, out,
+    );
+    grid_words::words::answered(outcome)
 }

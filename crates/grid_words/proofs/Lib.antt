@@ -1,4 +1,3 @@
 -- Laws of the reader and the writers as functions for other languages. Assumes nothing.
-pub mod Entering
 pub mod Frames
 pub mod Texts

@@ -1,12 +1,12 @@
 -- The reader for another language: beside the buffers of a frame, six lent floats for what its head says and two lent words for the numbers
 -- of corners and passes. Definitions only.
-use Rattle.std.specs.Prelude.{Bool, true, false, ◌||◌, List, ◌∷◌, ℕ, ◌+◌, ◌*◌, ◌<◌, ◌≤◌, ltb, length, drop, Float}
+use Rattle.std.specs.Prelude.{Bool, true, false, ◌||◌, List, ◌∷◌, ℕ, ◌+◌, ◌*◌, ◌<◌, ◌≤◌, ltb, length, drop, Float, Result, Ok, Err}
 use Rattle.refusal.specs.declared.Refusal.{Refusal}
 use Rattle.refusal.specs.Refusal.{number_of}
 use Rattle.arguments.specs.declared.Settings.{Settings}
 use Rattle.frame.specs.ReadFrame.{Buffers, FrameOut, read_into}
 use Rattle.frame.specs.declared.FrameHead.{FrameHead}
-use Rattle.frame.specs.declared.FrameAnswer.{FrameAnswer}
+use Rattle.frame.specs.declared.FrameRefusal.{FrameRefusal}
 
 -- a number as a word
 abbrev pub Word : ℕ → Type 0
@@ -28,6 +28,11 @@ counts_entered corners passes out = corners ∷ passes ∷ drop 2 out
 abbrev pub refused_answer : Refusal → ℕ → ℕ
 refused_answer r line = number_of r + 16 * line
 
+-- 0 where the frame is accepted, else that
+abbrev pub frame_answered : Result (Unit {0}) FrameRefusal → ℕ
+frame_answered (Ok u) = 0
+frame_answered (Err e) = refused_answer e.refusal e.line
+
 pub record Told : Type 0 where
   pub answer : ℕ
   pub settings : List Float
@@ -36,9 +41,9 @@ pub record Told : Type 0 where
 abbrev pub told : ℕ → List Float → List ℕ → Told
 told answer settings out = record { answer = answer; settings = settings; out = out }
 
-abbrev pub frame_told : FrameAnswer → List Float → List ℕ → Told
-frame_told (FrameAnswer.Refused r line) settings out = told (refused_answer r line) settings out
-frame_told (FrameAnswer.Accepted h) settings out = told 0 (settings_entered h.settings settings) (counts_entered h.corners h.passes out)
+abbrev pub frame_told : Result FrameHead FrameRefusal → List Float → List ℕ → Told
+frame_told (Err e) settings out = told (refused_answer e.refusal e.line) settings out
+frame_told (Ok h) settings out = told 0 (settings_entered h.settings settings) (counts_entered h.corners h.passes out)
 
 -- ---- the call
 
@@ -69,13 +74,8 @@ frame_unless false text b settings out = frame_read (read_into text b) settings 
 unfoldable pub frame_exported : List ℕ → Buffers → List Float → List ℕ → FrameLeft
 frame_exported text b settings out = frame_unless (head_short settings out) text b settings out
 
--- ---- what the inner functions ask
+-- ---- what an answer has to say fits into words
 
-pub record HeadRoom (settings : List Float) (out : List ℕ) : Type 0 where
-  pub floats : 6 ≤ length settings
-  pub words : 2 ≤ length out
-
--- what an answer has to say fits into words
-abbrev pub Sayable : FrameAnswer → Type 0
-Sayable (FrameAnswer.Refused r line) = line ≤ 10000000
-Sayable (FrameAnswer.Accepted h) = Word h.corners × Word h.passes
+abbrev pub Sayable : Result FrameHead FrameRefusal → Type 0
+Sayable (Err e) = e.line ≤ 10000000
+Sayable (Ok h) = Word h.corners × Word h.passes

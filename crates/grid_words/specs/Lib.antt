@@ -1,3 +1,4 @@
 -- The reader and the writers of a result's text as functions for other languages. Definitions only.
+pub mod Words
 pub mod Frames
 pub mod Texts

@@ -1,5 +1,5 @@
-// The reader and the writers of a result's text for programs in other languages, before they are exported (crate `grid_export`): a number out, and what
-// a call that is done says beside that as floats and words in its last slices.
+// The reader and the writers of a result's text for programs in other languages, before they are exported (crate `grid_export`): a refusal as an error, and
+// what a call that is done says as floats and words in its last slices. `answered` makes a number of either.
 
 #![tactic(auto)]
 

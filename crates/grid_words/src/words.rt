@@ -1,15 +1,26 @@
-// An answer's number, and a number entered as a word.
+// An answer as a number, and a number entered as a word.
 ghost use Rattle.std.specs.Prelude.{◌≡◌, ◌<◌, length, set};
 ghost use Rattle.refusal.specs.Refusal.{number_of};
+ghost use Rattle.grid_words.specs.Words.{answered};
 ghost use Rattle.grid_words.specs.Frames.{Word};
 
 use refusal::Refusal;
 
-// A refusal as an answer: its number.
+// A refusal as an answer: its number, by which the C interface tells it.
 pub fn number_of(refusal: Refusal) -> u32
     ensures { result ≡ number_of refusal }
 {
     refusal::number(refusal) as u32
+}
+
+// The answer as a number: 0, or the number of a refusal.
+pub fn answered(outcome: Result<(), Refusal>) -> u32
+    ensures { result ≡ answered outcome }
+{
+    match outcome {
+        Ok(()) => 0,
+        Err(refusal) => number_of(refusal),
+    }
 }
 
 // Enters a number at a place of a buffer of words.

@@ -1,5 +1,6 @@
 -- Local's run is a history: the cells listed at a round's start are unlabelled until their own turn, and clearing a cell's marks keeps every
 -- label; and local counts its new cells. Assumes nothing.
+use Rattle.std.specs.Prelude.{Option, None}
 use mathlib.Core.Path.{◌≡◌, refl}
 use mathlib.Core.Bool.{Bool, true, false, cond}
 use mathlib.Core.List.{List, [], ◌∷◌}
@@ -23,7 +24,6 @@ use Rattle.passes.specs.Grow.{tolerances_of, no_counts}
 use Rattle.passes.specs.Local.{depth_of, local_region, local_cells, supports_of, LocalFit, none, fitted, local_fit, LocalState, worst, with_residuals, with_unmatched, gate_of, local_with, local_try, local_at, local_visit, local_pass, local_from, local_limit, local_run}
 use Rattle.passes.specs.History.{Attaches, History, begun, marked, attaches}
 use Rattle.passes.specs.declared.Counts.{Counts}
-use Rattle.passes.specs.declared.LargestResidual.{LargestResidual}
 use Rattle.passes.proofs.Rounds.{rounds_keep}
 use Rattle.invariants.specs.Kept.{Sound}
 use Rattle.invariants.proofs.Extended.{extended_attached}
@@ -48,7 +48,7 @@ module _ {cs : Corners} {first : List ℕ} (few : cs.count ≤ 1024) (begins : S
 
   module _ {tol : Tolerances} (p : ℕ) (ps : List ℕ) (s : LocalState) (g : Trying cs tol first (p ∷ ps) s) where
     -- nothing was attached, whatever was counted or recorded
-    trying_next : (n : Counts) (largest : LargestResidual) (unmatched : ℕ) → n.attached ≡ s.counts.attached
+    trying_next : (n : Counts) (largest : Option Float) (unmatched : ℕ) → n.attached ≡ s.counts.attached
         → Trying cs tol first ps (record { sheet = s.sheet; made = s.made; counts = n; largest = largest; unmatched = unmatched })
     trying_next n largest unmatched e = record { history = g.history; counted = rw e g.counted; waiting = others_wait g.waiting }
 
@@ -98,5 +98,5 @@ module _ {cs : Corners} {first : List ℕ} (few : cs.count ≤ 1024) (begins : S
     local_history =
         rounds_keep (local_pass cs set params) (Trying cs (tolerances_of set) first) trying_begins trying_visit
         (local_limit (label_count first) params.max_iters)
-        (record { state = record { sheet = first; made = []; counts = no_counts; largest = LargestResidual.Nothing; unmatched = 0 }; rounds = 0 })
+        (record { state = record { sheet = first; made = []; counts = no_counts; largest = None; unmatched = 0 }; rounds = 0 })
         (record { history = begun; counted = refl; waiting = waiting_none first })

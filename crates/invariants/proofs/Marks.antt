@@ -1,5 +1,6 @@
 -- What each pass does to the marks, from what one visit does: grow only sets marks, fill changes none, local clears those of its new cells; and what
 -- follows for a list of calls. Assumes nothing.
+use Rattle.std.specs.Prelude.{None}
 use mathlib.Core.Path.{◌≡◌, refl, sym, ap, ◌∙◌}
 use mathlib.Core.Bool.{Bool, true, false, cond, ◌||◌}
 use mathlib.Core.List.Memᴰ
@@ -33,7 +34,6 @@ use Rattle.passes.specs.Rounds.{RoundPass, Rounds, rounds_from}
 use Rattle.passes.specs.Fill.{FillState, fill_with, fill_at, fill_visit, fill_pass, fill_from, fill_limit, fill_run}
 use Rattle.passes.specs.Local.{depth_of, supports_of, LocalFit, none, fitted, local_fit, LocalState, worst, with_residuals, with_unmatched, gate_of, local_with, local_try, local_at, local_visit, local_pass, local_from, local_limit, local_run}
 use Rattle.passes.specs.Changes.{sets_hole, sets_ambiguous, SameMarks, NoMarks, MarksSet, FillVisit, LocalVisit}
-use Rattle.passes.specs.declared.LargestResidual.{LargestResidual}
 use Rattle.passes.proofs.Changes.{same_marks, marks_then, visits}
 use Rattle.passes.proofs.Rounds.{rounds_keep}
 use Rattle.invariants.specs.Marks.{MarksStand, FillMarks, LocalMarks}
@@ -220,7 +220,7 @@ module _ (cs : Corners) (few : cs.count ≤ 1024) (first : List ℕ) (set : Sett
   local_marks long =
       (rounds_on (local_pass cs set params) (LocalKeeps first) (λ s. (local_cells_listed (depth_of params) s.sheet).on) local_visit_lem
       (local_limit (label_count first) params.max_iters)
-      (record { state = record { sheet = first; made = []; counts = no_counts; largest = LargestResidual.Nothing; unmatched = 0 }; rounds = 0 })
+      (record { state = record { sheet = first; made = []; counts = no_counts; largest = None; unmatched = 0 }; rounds = 0 })
       (record {
         long = long;
         marks = record { cleared = λ p m. absurd (Memᴰ.not-nil m); others = λ c n. same_marks first c; none_new = λ c. stand_same (same_marks first c) };

@@ -1,5 +1,6 @@
 -- Where no shade stands: every cell is tried as if there were no kinds, local passes over nothing, and a call does the same whatever bytes without a
 -- shade it is lent. Assumes nothing.
+use Rattle.std.specs.Prelude.{None}
 use mathlib.Core.Path.{◌≡◌, refl, sym, ap, ap₂, ◌∙◌, fun_ext}
 use mathlib.Core.Bool.{Bool, true, false, cond}
 use mathlib.Core.List.{List, []}
@@ -29,7 +30,6 @@ use Rattle.passes.specs.Fill.{fill_after}
 use Rattle.passes.specs.Local.{supports_of, LocalFit, none, fitted, local_fit, LocalState, worst, with_residuals, gate_of, local_with, local_try, local_at, local_visit, local_pass, local_from, local_limit, local_run, unmatched_if, local_after}
 use Rattle.passes.specs.Step.{unless}
 use Rattle.passes.specs.Run.{PassStats, grow_stats, fill_stats, local_stats}
-use Rattle.passes.specs.declared.LargestResidual.{LargestResidual}
 use Rattle.passes.proofs.Rounds.{rounds_keep}
 use Rattle.invariants.specs.Calls.{answering, after_pass, lent_shades, ShadesInside}
 use Rattle.invariants.specs.Unshaded.{try_any, AsBefore, unshaded, NoShade, CallsAsBefore}
@@ -68,7 +68,7 @@ module _ (cs : Corners) (absent : cs.shades.any ≡ false) (set : Settings) (p :
   run_unmatched sheet =
       rounds_keep (local_pass cs set p) (λ qs s. s.unmatched ≡ 0) (λ s e. e) (λ q qs s e. visit_unmatched _ s ∙ e)
       (local_limit (label_count sheet) p.max_iters)
-      (record { state = record { sheet = sheet; made = []; counts = no_counts; largest = LargestResidual.Nothing; unmatched = 0 }; rounds = 0 }) refl
+      (record { state = record { sheet = sheet; made = []; counts = no_counts; largest = None; unmatched = 0 }; rounds = 0 }) refl
 
 pub as_before : AsBefore
 unfolding try_at try_any local_after unmatched_if

@@ -1,6 +1,6 @@
 -- Document 02, 1/14: "If any stands". Where no shade does, the passes do what document 01 says: every unlabelled corner within the radius is a candidate,
 -- and nothing is passed over. `proofs/Unshaded.antt` proves `AsBefore` and `CallsAsBefore`. Definitions only.
-use Rattle.std.specs.Prelude.{◌≡◌, false, List, ℕ, ◌≤◌, length}
+use Rattle.std.specs.Prelude.{◌≡◌, false, List, ℕ, ◌≤◌, length, None}
 use Rattle.sheet.specs.Shades.{bare}
 use Rattle.sheet.specs.Corners.{Corners, CornerLists, corner_of}
 use Rattle.sheet.specs.declared.Cell.{Cell}
@@ -15,7 +15,6 @@ use Rattle.extension_common.specs.declared.Search.{Search}
 use Rattle.extension_common.specs.declared.TryCellResult.{TryCellResult}
 use Rattle.passes.specs.Local.{LocalState, local_visit, local_run, local_after}
 use Rattle.passes.specs.Run.{Call, step}
-use Rattle.passes.specs.declared.Unmatched.{Unmatched}
 use Rattle.invariants.specs.Calls.{lent_shades}
 
 -- what trying a cell finds where every unlabelled corner within the radius is a candidate, of whatever kind (document 01, "Candidates and choice")
@@ -32,7 +31,7 @@ pub record Unshaded (cs : Corners) : Type 0 where
       → try_at cs sheet tol search c at ≡ try_any cs sheet tol search c at
   pub visited : (set : Settings) (p : LocalExtensionParams) (c : Cell) (s : LocalState) → (local_visit cs set p c s).unmatched ≡ s.unmatched
   pub run : (set : Settings) (p : LocalExtensionParams) (sheet : List ℕ) → (local_run cs set p sheet).state.unmatched ≡ 0
-  pub answered : (set : Settings) (p : LocalExtensionParams) (sheet : List ℕ) → (local_after cs set p sheet).answer.unmatched ≡ Unmatched.NoShades
+  pub answered : (set : Settings) (p : LocalExtensionParams) (sheet : List ℕ) → (local_after cs set p sheet).answer.unmatched ≡ None
 
 abbrev pub AsBefore : Type 0
 AsBefore = (cs : Corners) → cs.shades.any ≡ false → Unshaded cs

@@ -1,11 +1,12 @@
 -- The join by the rule: refused with 8, 9 or 4, or the union by the shift onto the sheet, each exactly when said. Users of `joined` need nothing of
 -- how it is found. Assumes nothing.
+use Rattle.std.specs.Prelude.{Ok, Err}
 use mathlib.Core.Path.{◌≡◌, refl, sym, ap, ◌∙◌, subst}
 use mathlib.Core.List.{List}
-use Rattle.join.specs.Rule.{Placed, NoShift, Meaning, All, Once, UnionBy}
+use Rattle.join.specs.declared.Unjoinable.{Unjoinable}
+use Rattle.join.specs.Rule.{Verdict, Placed, NoShift, Meaning, All, Once, UnionBy}
 use Rattle.join.specs.Join.{verdict, union, Joined, apart, clash, off, union_of, joined_by, joined, ByShift, JoinMeaning, JoinExactlyIf, Refused, RefusedExactlyIf}
 use Rattle.join.specs.Sheets.{Holdable}
-use Rattle.join.specs.declared.Verdict.{Verdict}
 use Rattle.join.proofs.Meaning.{verdict_means, exactly}
 use Rattle.join.proofs.Union.{union_is, union_holdable}
 
@@ -18,19 +19,19 @@ module _ (first second : List Placed) where
   joined_so = go (verdict first second) (verdict_means first second)
     where
       go : (v : Verdict) → Meaning first second v → JoinMeaning first second (joined_by first second v)
-      go Verdict.Apart m = m
-      go Verdict.Clash m = m
-      go Verdict.Off m = m
-      go (Verdict.By d) m = record { shared = m.0; shift = d; onto = m.1; is_union = refl }
+      go (Err Unjoinable.Apart) m = m
+      go (Err Unjoinable.Clash) m = m
+      go (Err Unjoinable.Off) m = m
+      go (Ok d) m = record { shared = m.0; shift = d; onto = m.1; is_union = refl }
 
   -- what holds the join says
   pub so_joined : (j : Joined) → JoinMeaning first second j → joined first second ≡ j
   unfolding joined joined_by
-  so_joined apart m = ap (joined_by first second) (exactly first second Verdict.Apart m)
-  so_joined clash m = ap (joined_by first second) (exactly first second Verdict.Clash m)
-  so_joined off m = ap (joined_by first second) (exactly first second Verdict.Off m)
+  so_joined apart m = ap (joined_by first second) (exactly first second (Err Unjoinable.Apart) m)
+  so_joined clash m = ap (joined_by first second) (exactly first second (Err Unjoinable.Clash) m)
+  so_joined off m = ap (joined_by first second) (exactly first second (Err Unjoinable.Off) m)
   so_joined (union_of u) m =
-      ap (joined_by first second) (exactly first second (Verdict.By m.shift) (m.shared, m.onto)) ∙ ap union_of (sym m.is_union)
+      ap (joined_by first second) (exactly first second (Ok m.shift) (m.shared, m.onto)) ∙ ap union_of (sym m.is_union)
 
   pub means : (j : Joined) → joined first second ≡ j → JoinMeaning first second j
   means j e = subst (JoinMeaning first second) e joined_so

@@ -1,4 +1,5 @@
 -- The verdict says what the rule says, and nothing else does: each of the four cases exactly when its meaning holds. Assumes nothing.
+use Rattle.std.specs.Prelude.{Option, Some, None, Ok, Err}
 use mathlib.Core.Path.{◌≡◌, refl, sym, ap, ◌∙◌, subst}
 use mathlib.Core.Bool.{Bool, true, false, cond, not}
 use mathlib.Core.List.Memᴰ
@@ -13,11 +14,9 @@ use Rattle.sheet.specs.declared.Cell.{Cell}
 use Rattle.sheet.specs.declared.Offset.{Offset}
 use Rattle.sheet.proofs.Words.{yes}
 use Rattle.labels.proofs.Below.{no_both}
-use Rattle.join.specs.Rule.{Placed, shifted_by, Shared, Fits, OntoSheet, Shift, OneShift, FitsOff, Meaning}
+use Rattle.join.specs.declared.Unjoinable.{Unjoinable}
+use Rattle.join.specs.Rule.{Verdict, Placed, shifted_by, Shared, Fits, OntoSheet, Shift, OneShift, FitsOff, Meaning}
 use Rattle.join.specs.Join.{every, cell_in, asks, asked, same_cell, agree, agrees_in, tested, told, verdict, VerdictExactlyIf}
-use Rattle.join.specs.declared.Verdict.{Verdict}
-use Rattle.join.specs.declared.Found.{Found}
-use Rattle.join.specs.declared.Asked.{Asked}
 use Rattle.join.proofs.Lists.{every_yes, every_all, same_cell_lem, cell_same, difference_moved}
 
 -- ---- two labels that agree
@@ -91,24 +90,24 @@ pub record CellOf (l : List Placed) (k : ℕ) (c : Cell) : Type 0 where
   pub its_corner : label.corner ≡ k
   pub its_cell : label.cell ≡ c
 
-pub cell_found : (l : List Placed) (k : ℕ) (c : Cell) → cell_in l k ≡ Found.At c → CellOf l k c
+pub cell_found : (l : List Placed) (k : ℕ) (c : Cell) → cell_in l k ≡ Some c → CellOf l k c
 unfolding cell_in
 cell_found [] k c e = absurd (let z : ◌≡◌ {A = ℕ} 0 1 = cc in omega arith)
 cell_found (a ∷ l) k c e = go (cell_found l k c) (eqb a.corner k) refl e
   where
-    go : (cell_in l k ≡ Found.At c → CellOf l k c) → (t : Bool) → eqb a.corner k ≡ t
-        → cond t (Found.At a.cell) (cell_in l k) ≡ Found.At c → CellOf (a ∷ l) k c
+    go : (cell_in l k ≡ Some c → CellOf l k c) → (t : Bool) → eqb a.corner k ≡ t
+        → cond t (Some a.cell) (cell_in l k) ≡ Some c → CellOf (a ∷ l) k c
     go w true f h = record { label = a; listed = Memᴰ.head refl; its_corner = eqb-true a.corner k f; its_cell = cc }
     go w false f h =
         let r = w h in record { label = r.label; listed = Memᴰ.tail r.listed; its_corner = r.its_corner; its_cell = r.its_cell }
 
-pub not_found : (l : List Placed) (k : ℕ) → cell_in l k ≡ Found.Nowhere → (a : Placed) → Memᴰ a l → a.corner ≡ k → ⊥
+pub not_found : (l : List Placed) (k : ℕ) → cell_in l k ≡ None → (a : Placed) → Memᴰ a l → a.corner ≡ k → ⊥
 unfolding cell_in
 not_found [] k e a m d = Memᴰ.not-nil m
 not_found (b ∷ l) k e a m d = go (λ h n. not_found l k h a n d) (eqb b.corner k) refl e (Memᴰ.cases_cons m)
   where
-    go : (cell_in l k ≡ Found.Nowhere → Memᴰ a l → ⊥) → (t : Bool) → eqb b.corner k ≡ t
-        → cond t (Found.At b.cell) (cell_in l k) ≡ Found.Nowhere → (a ≡ b) ⊎ Memᴰ a l → ⊥
+    go : (cell_in l k ≡ None → Memᴰ a l → ⊥) → (t : Bool) → eqb b.corner k ≡ t
+        → cond t (Some b.cell) (cell_in l k) ≡ None → (a ≡ b) ⊎ Memᴰ a l → ⊥
     go w true f h n = let z : ◌≡◌ {A = ℕ} 0 1 = cc in omega arith
     go w false f h (inl p) = eqb-false b.corner k f (sym (ap (λ (x : Placed). x.corner) p) ∙ d)
     go w false f h (inr n) = w h n
@@ -119,7 +118,7 @@ record Asks (first second : List Placed) (d : Offset) : Type 0 where
   its_shift : d ≡ difference_of shared.here.cell shared.there.cell
 
 module _ (first : List Placed) where
-  asked_for : (second : List Placed) (d : Offset) → asked (cell_in first) second ≡ Asked.For d → Asks first second d
+  asked_for : (second : List Placed) (d : Offset) → asked (cell_in first) second ≡ Some d → Asks first second d
   unfolding asked asks
   asked_for [] d e = absurd (let z : ◌≡◌ {A = ℕ} 0 1 = cc in omega arith)
   asked_for (b ∷ bs) d e = go (asked_for bs d) (cell_in first b.corner) refl e
@@ -128,11 +127,11 @@ module _ (first : List Placed) where
       later s =
           record { here = s.here; there = s.there; in_first = s.in_first; in_second = Memᴰ.tail s.in_second; same_corner_holds = s.same_corner_holds }
 
-      go : (asked (cell_in first) bs ≡ Asked.For d → Asks first bs d) → (f : Found) → cell_in first b.corner ≡ f
-          → asks f b.cell (asked (cell_in first) bs) ≡ Asked.For d → Asks first (b ∷ bs) d
-      go w Found.Nowhere p h =
+      go : (asked (cell_in first) bs ≡ Some d → Asks first bs d) → (f : Option Cell) → cell_in first b.corner ≡ f
+          → asks f b.cell (asked (cell_in first) bs) ≡ Some d → Asks first (b ∷ bs) d
+      go w None p h =
           let r = w h in record { shared = later r.shared; its_shift = r.its_shift }
-      go w (Found.At c) p h =
+      go w (Some c) p h =
           let r = cell_found first b.corner c p in
           let q : difference_of c b.cell ≡ d = cc in
           record {
@@ -140,16 +139,16 @@ module _ (first : List Placed) where
             its_shift = sym q ∙ ap (λ (x : Cell). difference_of x b.cell) (sym r.its_cell);
           }
 
-  asked_none : (second : List Placed) → asked (cell_in first) second ≡ Asked.Nothing → Shared first second → ⊥
+  asked_none : (second : List Placed) → asked (cell_in first) second ≡ None → Shared first second → ⊥
   unfolding asked asks
   asked_none [] e s = Memᴰ.not-nil s.in_second
   asked_none (b ∷ bs) e s = go (asked_none bs) (cell_in first b.corner) refl e (Memᴰ.cases_cons s.in_second)
     where
-      go : (asked (cell_in first) bs ≡ Asked.Nothing → Shared first bs → ⊥) → (f : Found) → cell_in first b.corner ≡ f
-          → asks f b.cell (asked (cell_in first) bs) ≡ Asked.Nothing → (s.there ≡ b) ⊎ Memᴰ s.there bs → ⊥
-      go w (Found.At c) p h m = let z : ◌≡◌ {A = ℕ} 0 1 = cc in omega arith
-      go w Found.Nowhere p h (inl q) = not_found first b.corner p s.here s.in_first (s.same_corner_holds ∙ ap (λ (x : Placed). x.corner) q)
-      go w Found.Nowhere p h (inr m) =
+      go : (asked (cell_in first) bs ≡ None → Shared first bs → ⊥) → (f : Option Cell) → cell_in first b.corner ≡ f
+          → asks f b.cell (asked (cell_in first) bs) ≡ None → (s.there ≡ b) ⊎ Memᴰ s.there bs → ⊥
+      go w (Some c) p h m = let z : ◌≡◌ {A = ℕ} 0 1 = cc in omega arith
+      go w None p h (inl q) = not_found first b.corner p s.here s.in_first (s.same_corner_holds ∙ ap (λ (x : Placed). x.corner) q)
+      go w None p h (inr m) =
           w h (record { here = s.here; there = s.there; in_first = s.in_first; in_second = m; same_corner_holds = s.same_corner_holds })
 
 -- ---- the shift is the only one
@@ -177,7 +176,7 @@ unfolding verdict told tested
 verdict_means first second = go (asked (cell_in first) second) refl
   where
     test : (d : Offset) → Asks first second d → (t u : Bool) → fit first second d ≡ t → onto second d ≡ u
-        → Meaning first second (cond t (cond u (Verdict.By d) Verdict.Off) Verdict.Clash)
+        → Meaning first second (cond t (cond u (Ok d) (Err Unjoinable.Off)) (Err Unjoinable.Clash))
     test d a true true p q = (a.shared, record { fits = test_fits first second d p; onto = test_onto first second d q })
     test d a true false p q = (
       a.shared,
@@ -188,9 +187,9 @@ verdict_means first second = go (asked (cell_in first) second) refl
       λ e f. no_both (fit first second d) (fits_test first second d (subst (Fits first second) (sym (asks_fit a.shared e f) ∙ sym a.its_shift) f)) p,
     )
 
-    go : (r : Asked) → asked (cell_in first) second ≡ r → Meaning first second (told (agrees_in first) second r)
-    go Asked.Nothing e = asked_none first second e
-    go (Asked.For d) e = test d (asked_for first second d e) (fit first second d) (onto second d) refl refl
+    go : (r : Option Offset) → asked (cell_in first) second ≡ r → Meaning first second (told (agrees_in first) second r)
+    go None e = asked_none first second e
+    go (Some d) e = test d (asked_for first second d e) (fit first second d) (onto second d) refl refl
 
 -- the only shift does not go onto the sheet and off it
 on_and_off : {first second : List Placed} → Shared first second → FitsOff first second → (d : Offset) → Shift first second d → ⊥
@@ -198,22 +197,22 @@ on_and_off {first} {second} s o d h = o.leaves (subst (OntoSheet second) (one_sh
 
 -- no two cases mean the same
 pub one_verdict : (first second : List Placed) (v w : Verdict) → Meaning first second v → Meaning first second w → v ≡ w
-one_verdict first second Verdict.Apart Verdict.Apart m n = refl
-one_verdict first second Verdict.Apart Verdict.Clash m n = absurd (m n.0)
-one_verdict first second Verdict.Apart Verdict.Off m n = absurd (m n.0)
-one_verdict first second Verdict.Apart (Verdict.By e) m n = absurd (m n.0)
-one_verdict first second Verdict.Clash Verdict.Apart m n = absurd (n m.0)
-one_verdict first second Verdict.Clash Verdict.Clash m n = refl
-one_verdict first second Verdict.Clash Verdict.Off m n = absurd (m.1 n.1.shift n.1.fits)
-one_verdict first second Verdict.Clash (Verdict.By e) m n = absurd (m.1 e n.1.fits)
-one_verdict first second Verdict.Off Verdict.Apart m n = absurd (n m.0)
-one_verdict first second Verdict.Off Verdict.Clash m n = absurd (n.1 m.1.shift m.1.fits)
-one_verdict first second Verdict.Off Verdict.Off m n = refl
-one_verdict first second Verdict.Off (Verdict.By e) m n = absurd (on_and_off m.0 m.1 e n.1)
-one_verdict first second (Verdict.By d) Verdict.Apart m n = absurd (n m.0)
-one_verdict first second (Verdict.By d) Verdict.Clash m n = absurd (n.1 d m.1.fits)
-one_verdict first second (Verdict.By d) Verdict.Off m n = absurd (on_and_off m.0 n.1 d m.1)
-one_verdict first second (Verdict.By d) (Verdict.By e) m n = ap Verdict.By (one_shift first second m.0 d e m.1.fits n.1.fits)
+one_verdict first second (Err Unjoinable.Apart) (Err Unjoinable.Apart) m n = refl
+one_verdict first second (Err Unjoinable.Apart) (Err Unjoinable.Clash) m n = absurd (m n.0)
+one_verdict first second (Err Unjoinable.Apart) (Err Unjoinable.Off) m n = absurd (m n.0)
+one_verdict first second (Err Unjoinable.Apart) (Ok e) m n = absurd (m n.0)
+one_verdict first second (Err Unjoinable.Clash) (Err Unjoinable.Apart) m n = absurd (n m.0)
+one_verdict first second (Err Unjoinable.Clash) (Err Unjoinable.Clash) m n = refl
+one_verdict first second (Err Unjoinable.Clash) (Err Unjoinable.Off) m n = absurd (m.1 n.1.shift n.1.fits)
+one_verdict first second (Err Unjoinable.Clash) (Ok e) m n = absurd (m.1 e n.1.fits)
+one_verdict first second (Err Unjoinable.Off) (Err Unjoinable.Apart) m n = absurd (n m.0)
+one_verdict first second (Err Unjoinable.Off) (Err Unjoinable.Clash) m n = absurd (n.1 m.1.shift m.1.fits)
+one_verdict first second (Err Unjoinable.Off) (Err Unjoinable.Off) m n = refl
+one_verdict first second (Err Unjoinable.Off) (Ok e) m n = absurd (on_and_off m.0 m.1 e n.1)
+one_verdict first second (Ok d) (Err Unjoinable.Apart) m n = absurd (n m.0)
+one_verdict first second (Ok d) (Err Unjoinable.Clash) m n = absurd (n.1 d m.1.fits)
+one_verdict first second (Ok d) (Err Unjoinable.Off) m n = absurd (on_and_off m.0 n.1 d m.1)
+one_verdict first second (Ok d) (Ok e) m n = ap Ok (one_shift first second m.0 d e m.1.fits n.1.fits)
 
 -- "8 if no corner is in both sets, 9 if no shift gives every shared corner one cell and every cell one corner, then 4 if that shift takes a
 -- label off the sheet"

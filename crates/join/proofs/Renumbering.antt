@@ -1,4 +1,5 @@
 -- "Corner order still decides nothing": the join of two sets with the corners numbered otherwise, refusals included. Assumes nothing.
+use Rattle.std.specs.Prelude.{Option, Ok, Err}
 use mathlib.Core.Path.{◌≡◌, refl, sym, ap, ◌∙◌, subst}
 use mathlib.Core.Bool.{Bool, true, false, cond, not}
 use mathlib.Core.List.Memᴰ
@@ -8,10 +9,10 @@ use borrow.Author.Tests.{eq-eqb, ne_eqb, eqb-true, eqb-false}
 use lib.Dec.{eqb}
 use Rattle.sheet.specs.Cells.{OnSheet, moved}
 use Rattle.sheet.specs.declared.Offset.{Offset}
-use Rattle.join.specs.Rule.{Placed, shifted_by, Shared, Fits, OntoSheet, Meaning, renamed, Renumbered}
+use Rattle.sheet.specs.declared.Cell.{Cell}
+use Rattle.join.specs.declared.Unjoinable.{Unjoinable}
+use Rattle.join.specs.Rule.{Verdict, Placed, shifted_by, Shared, Fits, OntoSheet, Meaning, renamed, Renumbered}
 use Rattle.join.specs.Join.{kept, cell_in, verdict, is_found, new_by, union, Joined, joined_by, joined, join_renamed, CornerOrderAlike}
-use Rattle.join.specs.declared.Verdict.{Verdict}
-use Rattle.join.specs.declared.Found.{Found}
 use Rattle.join.proofs.Meaning.{verdict_means, exactly}
 
 -- ---- the rule carries over
@@ -67,13 +68,13 @@ module _ (ren : ℕ → ℕ) (first second first' second' : List Placed) (r : Re
   onto_from d o = record { on = λ b n. o.on (renamed ren b) (r.second_to b n) }
 
   meaning_to : (v : Verdict) → Meaning first second v → Meaning first' second' v
-  meaning_to Verdict.Apart m = λ s. m (shared_from s)
-  meaning_to Verdict.Clash m = (shared_to m.0, λ d f. m.1 d (fits_from d f))
-  meaning_to Verdict.Off m = (
+  meaning_to (Err Unjoinable.Apart) m = λ s. m (shared_from s)
+  meaning_to (Err Unjoinable.Clash) m = (shared_to m.0, λ d f. m.1 d (fits_from d f))
+  meaning_to (Err Unjoinable.Off) m = (
     shared_to m.0,
     record { shift = m.1.shift; fits = fits_to m.1.shift m.1.fits; leaves = λ o. m.1.leaves (onto_from m.1.shift o) },
   )
-  meaning_to (Verdict.By d) m = (shared_to m.0, record { fits = fits_to d m.1.fits; onto = onto_to d m.1.onto })
+  meaning_to (Ok d) m = (shared_to m.0, record { fits = fits_to d m.1.fits; onto = onto_to d m.1.onto })
 
   -- the verdict is the same: 8, 9, 4, and the shift
   pub same_verdict : verdict first' second' ≡ verdict first second
@@ -132,7 +133,7 @@ module _ (ren : ℕ → ℕ) where
           ap (λ (l : List Placed). map (renamed ren) first ++ l)
           (ap (kept (new_to (map (renamed ren) first))) (map-map (shifted_by d) (renamed ren) second ∙ sym (map-map (renamed ren) (shifted_by d) second))
           ∙ kept_map (renamed ren) (new_to (map (renamed ren) first)) (new_to first) (map (shifted_by d) second)
-          (λ l m. ap (λ (x : Found). not (is_found x)) (same l (Memᴰ.of_map (shifted_by d) second m))))
+          (λ l m. ap (λ (x : Option Cell). not (is_found x)) (same l (Memᴰ.of_map (shifted_by d) second m))))
           ∙ sym (map-append (renamed ren) first _)
         where
           same : (l : Placed) → (b : Placed) × Memᴰ b second × (shifted_by d b ≡ l)
@@ -147,10 +148,10 @@ module _ (ren : ℕ → ℕ) where
           ap (joined_by (map (renamed ren) first) (map (renamed ren) second)) (same_verdict ren first second _ _ mapped) ∙ go (verdict first second)
         where
           go : (v : Verdict) → joined_by (map (renamed ren) first) (map (renamed ren) second) v ≡ join_renamed ren (joined_by first second v)
-          go Verdict.Apart = refl
-          go Verdict.Clash = refl
-          go Verdict.Off = refl
-          go (Verdict.By d) = ap Joined.union_of (union_renamed d)
+          go (Err Unjoinable.Apart) = refl
+          go (Err Unjoinable.Clash) = refl
+          go (Err Unjoinable.Off) = refl
+          go (Ok d) = ap Joined.union_of (union_renamed d)
 
 -- "Corner order still decides nothing."
 pub joined_renamed : CornerOrderAlike

@@ -1,5 +1,6 @@
 -- The union: each label of the first set at its cell, each of the second at its moved cell, nothing else, each corner once and each cell
 -- once; and a sheet can hold it. Assumes nothing.
+use Rattle.std.specs.Prelude.{Option, Some, None}
 use mathlib.Core.Path.{◌≡◌, refl, sym, ap, ◌∙◌, subst}
 use mathlib.Core.Bool.{Bool, true, false, cond, not}
 use mathlib.Core.List.Memᴰ
@@ -8,10 +9,10 @@ use mathlib.Core.Logic.{⊎_elim}
 use Rattle.sheet.specs.Cells.{moved}
 use Rattle.sheet.specs.declared.Offset.{Offset}
 use Rattle.labels.proofs.Below.{no_both}
+use Rattle.sheet.specs.declared.Cell.{Cell}
 use Rattle.join.specs.Rule.{Placed, shifted_by, Fits, OntoSheet, All, Differ, Once, OneOf, of_first, of_second, UnionBy}
 use Rattle.join.specs.Join.{kept, cell_in, is_found, new_by, union, UnionOfBoth}
 use Rattle.join.specs.Sheets.{Holdable}
-use Rattle.join.specs.declared.Found.{Found}
 use Rattle.join.proofs.Lists.{kept_in, in_kept, moved_one}
 use Rattle.join.proofs.Meaning.{cell_found, not_found}
 
@@ -59,26 +60,26 @@ module _ (first second : List Placed) (d : Offset) (f : Fits first second d) whe
   new : Placed → Bool
   new l = not (is_found (cell_in first l.corner))
 
-  is_new : (l : Placed) → cell_in first l.corner ≡ Found.Nowhere → new l ≡ true
+  is_new : (l : Placed) → cell_in first l.corner ≡ None → new l ≡ true
   unfolding new is_found
   is_new l e = rw e
 
-  new_is : (l : Placed) → new l ≡ true → cell_in first l.corner ≡ Found.Nowhere
+  new_is : (l : Placed) → new l ≡ true → cell_in first l.corner ≡ None
   unfolding new is_found
   new_is l e = go (cell_in first l.corner) e
     where
-      go : (x : Found) → not (is_found x) ≡ true → x ≡ Found.Nowhere
-      go Found.Nowhere h = refl
-      go (Found.At c) h = absurd (no_both false h refl)
+      go : (x : Option Cell) → not (is_found x) ≡ true → x ≡ None
+      go None h = refl
+      go (Some c) h = absurd (no_both false h refl)
 
   second_there : (b : Placed) → Memᴰ b second → Memᴰ (shifted_by d b) (union first second d)
   unfolding union new_by new
   second_there b m = go (cell_in first b.corner) refl
     where
-      go : (x : Found) → cell_in first b.corner ≡ x → Memᴰ (shifted_by d b) (first ++ kept new (map (shifted_by d) second))
-      go Found.Nowhere e =
+      go : (x : Option Cell) → cell_in first b.corner ≡ x → Memᴰ (shifted_by d b) (first ++ kept new (map (shifted_by d) second))
+      go None e =
           Memᴰ.append_right first (in_kept new (map (shifted_by d) second) (shifted_by d b) (Memᴰ.map (shifted_by d) m) (is_new (shifted_by d b) e))
-      go (Found.At c) e =
+      go (Some c) e =
           let r = cell_found first b.corner c e in
           let p : r.label.cell ≡ moved b.cell d = f.one_cell r.label b r.listed m r.its_corner in
           Memᴰ.append_left _ (Memᴰ.cast (λ t. record { corner = sym r.its_corner t; cell = sym p t }) r.listed)

@@ -1,15 +1,13 @@
 -- The join computed: the shift that the first shared label of the second set asks for, tested; and what it says by the rule. Definitions only.
-use Rattle.std.specs.Prelude.{◌≡◌, Bool, true, false, cond, not, ◌&&◌, ◌↔◌, ℕ, eqb}
+use Rattle.std.specs.Prelude.{◌≡◌, Bool, true, false, cond, not, ◌&&◌, ◌↔◌, ℕ, eqb, Option, Some, None, Ok, Err}
 use mathlib.Core.List.{List, [], ◌∷◌, ◌++◌, map, Memᴰ}
 use Rattle.sheet.specs.Cells.{on_sheet, difference_of, eq_z}
 use Rattle.sheet.specs.declared.Cell.{Cell}
 use Rattle.sheet.specs.declared.Offset.{Offset}
-use Rattle.join.specs.Rule.{Placed, shifted_by, Shared, Fits, Shift, NoShift, Meaning, Once, UnionBy, renamed}
-use Rattle.join.specs.declared.Verdict.{Verdict}
-use Rattle.join.specs.declared.Found.{Found}
-use Rattle.join.specs.declared.Asked.{Asked}
+use Rattle.join.specs.declared.Unjoinable.{Unjoinable}
+use Rattle.join.specs.Rule.{Verdict, Placed, shifted_by, Shared, Fits, Shift, NoShift, Meaning, Once, UnionBy, renamed}
 
--- ---- lists
+-- ---- lists: what std has as `list_all` and `filter`, under the names that the crates above unfold
 
 unfoldable pub every : {A : Type 0} → (A → Bool) → List A → Bool
 every f [] = true
@@ -22,18 +20,18 @@ kept f (a ∷ rest) = cond (f a) (a ∷ kept f rest) (kept f rest)
 -- ---- the shift asked for
 
 -- where a set has a corner
-unfoldable pub cell_in : List Placed → ℕ → Found
-cell_in [] k = Found.Nowhere
-cell_in (a ∷ rest) k = cond (eqb a.corner k) (Found.At a.cell) (cell_in rest k)
+unfoldable pub cell_in : List Placed → ℕ → Option Cell
+cell_in [] k = None
+cell_in (a ∷ rest) k = cond (eqb a.corner k) (Some a.cell) (cell_in rest k)
 
 -- what a label asks for: from its cell to the cell that the first set has for its corner; where it has none, what the others ask for
-unfoldable pub asks : Found → Cell → Asked → Asked
-asks Found.Nowhere c rest = rest
-asks (Found.At a) c rest = Asked.For (difference_of a c)
+unfoldable pub asks : Option Cell → Cell → Option Offset → Option Offset
+asks None c rest = rest
+asks (Some a) c rest = Some (difference_of a c)
 
 -- the shift that the first shared label of the second set asks for; `find` says where the first set has a corner
-unfoldable pub asked : (ℕ → Found) → List Placed → Asked
-asked find [] = Asked.Nothing
+unfoldable pub asked : (ℕ → Option Cell) → List Placed → Option Offset
+asked find [] = None
 asked find (b ∷ bs) = asks (find b.corner) b.cell (asked find bs)
 
 -- ---- its test
@@ -51,15 +49,15 @@ agrees_in first b = every (λ a. agree a b) first
 -- `agrees` says whether a label, moved, agrees with the first set
 unfoldable pub tested : (Placed → Bool) → List Placed → Offset → Verdict
 tested agrees second d =
-    cond (every agrees (map (shifted_by d) second)) (cond (every (λ l. on_sheet l.cell) (map (shifted_by d) second)) (Verdict.By d) Verdict.Off) Verdict.Clash
+    cond (every agrees (map (shifted_by d) second)) (cond (every (λ l. on_sheet l.cell) (map (shifted_by d) second)) (Ok d) (Err Unjoinable.Off)) (Err Unjoinable.Clash)
 
 -- ---- the verdict
 
-unfoldable pub told : (Placed → Bool) → List Placed → Asked → Verdict
-told agrees second Asked.Nothing = Verdict.Apart
-told agrees second (Asked.For d) = tested agrees second d
+unfoldable pub told : (Placed → Bool) → List Placed → Option Offset → Verdict
+told agrees second None = Err Unjoinable.Apart
+told agrees second (Some d) = tested agrees second d
 
-abbrev pub verdict_by : (ℕ → Found) → (Placed → Bool) → List Placed → Verdict
+abbrev pub verdict_by : (ℕ → Option Cell) → (Placed → Bool) → List Placed → Verdict
 verdict_by find agrees second = told agrees second (asked find second)
 
 unfoldable pub verdict : List Placed → List Placed → Verdict
@@ -67,12 +65,12 @@ verdict first second = verdict_by (cell_in first) (agrees_in first) second
 
 -- ---- the union
 
-unfoldable pub is_found : Found → Bool
-is_found Found.Nowhere = false
-is_found (Found.At c) = true
+unfoldable pub is_found : Option Cell → Bool
+is_found None = false
+is_found (Some c) = true
 
 -- the labels of the second set whose corners the first has not, moved
-unfoldable pub new_by : (ℕ → Found) → List Placed → Offset → List Placed
+unfoldable pub new_by : (ℕ → Option Cell) → List Placed → Offset → List Placed
 new_by find second d = kept (λ l. not (is_found (find l.corner))) (map (shifted_by d) second)
 
 unfoldable pub union : List Placed → List Placed → Offset → List Placed
@@ -85,10 +83,10 @@ pub data Joined : Type 0 where
   union_of : List Placed → Joined
 
 unfoldable pub joined_by : List Placed → List Placed → Verdict → Joined
-joined_by first second Verdict.Apart = apart
-joined_by first second Verdict.Clash = clash
-joined_by first second Verdict.Off = off
-joined_by first second (Verdict.By d) = union_of (union first second d)
+joined_by first second (Err Unjoinable.Apart) = apart
+joined_by first second (Err Unjoinable.Clash) = clash
+joined_by first second (Err Unjoinable.Off) = off
+joined_by first second (Ok d) = union_of (union first second d)
 
 unfoldable pub joined : List Placed → List Placed → Joined
 joined first second = joined_by first second (verdict first second)
@@ -117,9 +115,9 @@ pub record ByShift (first second u : List Placed) : Type 0 where
 
 -- what each join means
 abbrev pub JoinMeaning : List Placed → List Placed → Joined → Type 0
-JoinMeaning first second apart = Meaning first second Verdict.Apart
-JoinMeaning first second clash = Meaning first second Verdict.Clash
-JoinMeaning first second off = Meaning first second Verdict.Off
+JoinMeaning first second apart = Meaning first second (Err Unjoinable.Apart)
+JoinMeaning first second clash = Meaning first second (Err Unjoinable.Clash)
+JoinMeaning first second off = Meaning first second (Err Unjoinable.Off)
 JoinMeaning first second (union_of u) = ByShift first second u
 
 abbrev pub JoinExactlyIf : Type 0

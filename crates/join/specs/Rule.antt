@@ -1,11 +1,15 @@
 -- The rule of the join, without an algorithm: "The join shifts the second set so that every shared corner has one cell and every cell one
 -- corner" (change request 3/14). Definitions only.
-use Rattle.std.specs.Prelude.{◌≡◌, ℕ}
+use Rattle.std.specs.Prelude.{◌≡◌, ℕ, Result, Ok, Err}
 use mathlib.Core.List.{List, [], ◌∷◌, Memᴰ}
 use Rattle.sheet.specs.Cells.{OnSheet, moved}
 use Rattle.sheet.specs.declared.Cell.{Cell}
 use Rattle.sheet.specs.declared.Offset.{Offset}
-use Rattle.join.specs.declared.Verdict.{Verdict}
+use Rattle.join.specs.declared.Unjoinable.{Unjoinable}
+
+-- what the test of two sets of labels says
+abbrev pub Verdict : Type 0
+Verdict = Result Offset Unjoinable
 
 -- a label: a corner at a cell
 pub record Placed : Type 0 where
@@ -54,10 +58,10 @@ pub record FitsOff (first second : List Placed) : Type 0 where
 -- "8 if no corner is in both sets, 9 if no shift gives every shared corner one cell and every cell one corner, then 4 if that shift takes a
 -- label off the sheet"; else the sets are joined by a shift onto the sheet
 abbrev pub Meaning : List Placed → List Placed → Verdict → Type 0
-Meaning first second Verdict.Apart = Shared first second → ⊥
-Meaning first second Verdict.Clash = Shared first second × ((d : Offset) → Fits first second d → ⊥)
-Meaning first second Verdict.Off = Shared first second × FitsOff first second
-Meaning first second (Verdict.By d) = Shared first second × Shift first second d
+Meaning first second (Err Unjoinable.Apart) = Shared first second → ⊥
+Meaning first second (Err Unjoinable.Clash) = Shared first second × ((d : Offset) → Fits first second d → ⊥)
+Meaning first second (Err Unjoinable.Off) = Shared first second × FitsOff first second
+Meaning first second (Ok d) = Shared first second × Shift first second d
 
 -- ---- sets as lists
 

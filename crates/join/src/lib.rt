@@ -3,31 +3,18 @@
 
 #![tactic(auto)]
 
-use sheet::{Cell, Offset};
+use sheet::Offset;
 
-// What the test of two sets of labels says.
+// Why two sets of labels are not joined.
 #[derive(Clone, Copy)]
-pub enum Verdict {
+pub enum Unjoinable {
     // 8: no corner is in both sets
     Apart,
     // 9: no shift gives every shared corner one cell and every cell one corner
     Clash,
     // 4: that shift takes a label off the sheet
     Off,
-    // the sets are joined by this shift
-    By(Offset),
 }
 
-// The shift that the first shared label asks for.
-#[derive(Clone, Copy)]
-pub enum Asked {
-    Nothing,
-    For(Offset),
-}
-
-// Where a set has a corner.
-#[derive(Clone, Copy)]
-pub enum Found {
-    Nowhere,
-    At(Cell),
-}
+// What the test of two sets of labels says: the shift that joins them, or why they are not joined.
+pub type Verdict = Result<Offset, Unjoinable>;

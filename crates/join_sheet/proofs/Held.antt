@@ -1,5 +1,5 @@
 -- The join as the code has it is the join of the lists. Assumes nothing.
-use Rattle.std.specs.Prelude.{Option, Some, None}
+use Rattle.std.specs.Prelude.{Option, Some, None, Ok, Err}
 use mathlib.Core.Path.{◌≡◌, refl, sym, ap, ◌∙◌, subst}
 use mathlib.Core.Bool.{Bool, true, false, ◌||◌}
 use mathlib.Core.List.{List, ◌++◌, Memᴰ}
@@ -21,40 +21,38 @@ use Rattle.labels.specs.Used.{used_on}
 use Rattle.labels.proofs.Below.{no_both, any_no}
 use Rattle.labels.proofs.Labelled.{label_of_place}
 use Rattle.labels.proofs.Used.{names_it, it_names, used_yes, used_there}
-use Rattle.join.specs.Rule.{Placed}
+use Rattle.join.specs.declared.Unjoinable.{Unjoinable}
+use Rattle.join.specs.Rule.{Verdict, Placed}
 use Rattle.join.specs.Join.{every, cell_in, agree, agrees_in, verdict_by, verdict, is_found, new_by, union, joined_by, joined}
 use Rattle.join.specs.Sheets.{labelled, HoldsSet}
 use Rattle.join_sheet.specs.Held.{or_at, found_below, holds_at, cell_on, agrees_with, agrees_on, outcome_of, verdict_on, join_on, concluded}
-use Rattle.join.specs.declared.Verdict.{Verdict}
-use Rattle.join.specs.declared.Found.{Found}
-use Rattle.join_sheet.specs.declared.Joining.{Joining}
 use Rattle.join.proofs.Lists.{every_yes, every_all}
 use Rattle.join.proofs.Meaning.{agree_cells, agree_corners, agrees, cell_found, not_found}
 use Rattle.join.proofs.Sets.{labelled_append, once_one}
 
 -- ---- the first place that passes
 
-pub none_found : (f : ℕ → Bool) (n : ℕ) → any_below n f ≡ false → found_below f n ≡ Found.Nowhere
+pub none_found : (f : ℕ → Bool) (n : ℕ) → any_below n f ≡ false → found_below f n ≡ None
 unfolding found_below or_at any_below
 none_found f zero e = refl
 none_found f (suc n) e = go (f n) refl e (none_found f n)
   where
-    go : (t : Bool) → f n ≡ t → (t || any_below n f) ≡ false → (any_below n f ≡ false → found_below f n ≡ Found.Nowhere)
-        → or_at (found_below f n) t n ≡ Found.Nowhere
+    go : (t : Bool) → f n ≡ t → (t || any_below n f) ≡ false → (any_below n f ≡ false → found_below f n ≡ None)
+        → or_at (found_below f n) t n ≡ None
     go true p h w = absurd (no_both true refl h)
     go false p h w = rw (w h)
 
-pub first_found : (f : ℕ → Bool) (n p : ℕ) → p < n → any_below p f ≡ false → f p ≡ true → found_below f n ≡ Found.At (cell_of p)
+pub first_found : (f : ℕ → Bool) (n p : ℕ) → p < n → any_below p f ≡ false → f p ≡ true → found_below f n ≡ Some (cell_of p)
 unfolding found_below or_at
 first_found f zero p h a e = absurd (omega arith)
 first_found f (suc n) p h a e = go (ℕ_discrete p n) (λ k. first_found f n p k a e)
   where
-    go : Dec (p ≡ n) → (p < n → found_below f n ≡ Found.At (cell_of p)) → or_at (found_below f n) (f n) n ≡ Found.At (cell_of p)
-    go (yes d) w = rw (none_found f n (ap (λ (m : ℕ). any_below m f) (sym d) ∙ a), sym (ap f d) ∙ e) (ap (λ (m : ℕ). Found.At (cell_of m)) (sym d))
+    go : Dec (p ≡ n) → (p < n → found_below f n ≡ Some (cell_of p)) → or_at (found_below f n) (f n) n ≡ Some (cell_of p)
+    go (yes d) w = rw (none_found f n (ap (λ (m : ℕ). any_below m f) (sym d) ∙ a), sym (ap f d) ∙ e) (ap (λ (m : ℕ). Some (cell_of m)) (sym d))
     go (no d) w = rw (w (omega arith))
 
 -- the only place that passes
-only_found : (f : ℕ → Bool) (n p : ℕ) → p < n → f p ≡ true → ((q : ℕ) → q < n → f q ≡ true → q ≡ p) → found_below f n ≡ Found.At (cell_of p)
+only_found : (f : ℕ → Bool) (n p : ℕ) → p < n → f p ≡ true → ((q : ℕ) → q < n → f q ≡ true → q ≡ p) → found_below f n ≡ Some (cell_of p)
 only_found f n p h e one = first_found f n p h (any_no f p (λ q l. go q l (f q) refl)) e
   where
     go : (q : ℕ) → q < p → (t : Bool) → f q ≡ t → t ≡ false
@@ -66,28 +64,28 @@ unfolding found_below or_at any_below is_found
 found_any f zero = refl
 found_any f (suc n) = go (found_below f n) (f n) (any_below n f) (found_any f n)
   where
-    go : (x : Found) (t u : Bool) → is_found x ≡ u → is_found (or_at x t n) ≡ (t || u)
-    go Found.Nowhere true u e = refl
-    go Found.Nowhere false u e = e
-    go (Found.At c) true u e = refl
-    go (Found.At c) false u e = e
+    go : (x : Option Cell) (t u : Bool) → is_found x ≡ u → is_found (or_at x t n) ≡ (t || u)
+    go None true u e = refl
+    go None false u e = e
+    go (Some c) true u e = refl
+    go (Some c) false u e = e
 
 -- a sheet has a corner somewhere exactly if it is used
 pub found_used : (sheet : List ℕ) (k : ℕ) → is_found (cell_on sheet k) ≡ used_on sheet k
 unfolding cell_on used_on
 found_used sheet k = found_any (holds_at sheet k) place_count
 
-found_on : (f : ℕ → Bool) (n : ℕ) → n ≤ place_count → (c : Cell) → found_below f n ≡ Found.At c → OnSheet c
+found_on : (f : ℕ → Bool) (n : ℕ) → n ≤ place_count → (c : Cell) → found_below f n ≡ Some c → OnSheet c
 unfolding found_below or_at
 found_on f zero h c e = absurd (let z : ◌≡◌ {A = ℕ} 0 1 = cc in omega arith)
 found_on f (suc n) h c e = go (found_below f n) (f n) e (found_on f n (omega arith) c)
   where
-    go : (x : Found) (t : Bool) → or_at x t n ≡ Found.At c → (x ≡ Found.At c → OnSheet c) → OnSheet c
-    go Found.Nowhere true k w = let d : cell_of n ≡ c = cc in subst OnSheet d (cell_on_lem n (omega arith))
-    go Found.Nowhere false k w = absurd (let z : ◌≡◌ {A = ℕ} 0 1 = cc in omega arith)
-    go (Found.At a) t k w = w k
+    go : (x : Option Cell) (t : Bool) → or_at x t n ≡ Some c → (x ≡ Some c → OnSheet c) → OnSheet c
+    go None true k w = let d : cell_of n ≡ c = cc in subst OnSheet d (cell_on_lem n (omega arith))
+    go None false k w = absurd (let z : ◌≡◌ {A = ℕ} 0 1 = cc in omega arith)
+    go (Some a) t k w = w k
 
-pub cell_found_on : (sheet : List ℕ) (k : ℕ) (c : Cell) → cell_on sheet k ≡ Found.At c → OnSheet c
+pub cell_found_on : (sheet : List ℕ) (k : ℕ) (c : Cell) → cell_on sheet k ≡ Some c → OnSheet c
 unfolding cell_on
 cell_found_on sheet k c e = found_on (holds_at sheet k) place_count (omega arith) c e
 
@@ -116,20 +114,20 @@ module _ {first : List Placed} {sheet : List ℕ} (h : HoldsSet first sheet) whe
       there : (q : ℕ) → q < place_count → holds_at sheet k q ≡ true → Memᴰ (record { corner = k; cell = cell_of q }) first
       there q l e = h.only (cell_of q) k (label_of_place sheet q l ∙ it_names k (label_of (get_or sheet q 0)) e)
 
-      none : cell_in first k ≡ Found.Nowhere → (q : ℕ) → q < place_count → (t : Bool) → holds_at sheet k q ≡ t → t ≡ false
+      none : cell_in first k ≡ None → (q : ℕ) → q < place_count → (t : Bool) → holds_at sheet k q ≡ t → t ≡ false
       none e q l false p = refl
       none e q l true p = absurd (not_found first k e _ (there q l p) refl)
 
-      go : (x : Found) → cell_in first k ≡ x → found_below (holds_at sheet k) place_count ≡ x
-      go Found.Nowhere e = none_found (holds_at sheet k) place_count (any_no (holds_at sheet k) place_count (λ q l. none e q l (holds_at sheet k q) refl))
-      go (Found.At c) e =
+      go : (x : Option Cell) → cell_in first k ≡ x → found_below (holds_at sheet k) place_count ≡ x
+      go None e = none_found (holds_at sheet k) place_count (any_no (holds_at sheet k) place_count (λ q l. none e q l (holds_at sheet k q) refl))
+      go (Some c) e =
           let r = cell_found first k c e in
           let on = on_first r.label r.listed in
           let p = place_of r.label.cell in
           only_found (holds_at sheet k) place_count p (place_in r.label.cell on)
           (names_it k (label_of (get_or sheet p 0)) (holds_first r.label r.listed ∙ ap Some r.its_corner))
           (λ q l m. sym (place_cell q l) ∙ ap place_of (cells_one _ r.label (there q l m) r.listed (sym r.its_corner)))
-          ∙ ap Found.At (cell_place r.label.cell on ∙ r.its_cell)
+          ∙ ap Some (cell_place r.label.cell on ∙ r.its_cell)
 
   -- a label agrees with the sheet exactly if it agrees with the set
   agrees_same : (l : Placed) → agrees_on sheet l ≡ agrees_in first l
@@ -179,7 +177,7 @@ module _ {first : List Placed} {sheet : List ℕ} (h : HoldsSet first sheet) whe
           (λ t. labelled (h.is_sheet t) (new_by (λ k. cell_same k t) second d)) ∙ sym (labelled_append first (new_by (cell_in first) second d) empty_sheet)
 
       go : (v : Verdict) → outcome_of sheet second v ≡ concluded sheet (joined_by first second v)
-      go Verdict.Apart = refl
-      go Verdict.Clash = refl
-      go Verdict.Off = refl
-      go (Verdict.By d) = λ t. record { sheet = written d t; answer = Joining.Fine }
+      go (Err Unjoinable.Apart) = refl
+      go (Err Unjoinable.Clash) = refl
+      go (Err Unjoinable.Off) = refl
+      go (Ok d) = λ t. record { sheet = written d t; answer = (Ok tt) }

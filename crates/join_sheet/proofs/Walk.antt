@@ -1,38 +1,41 @@
 -- Laws for the code of the join: a walk over the second set's array, where the sheet has a corner, what a label asks for, what is attached.
 -- Assumes nothing.
-use Rattle.std.specs.Prelude.{Option, Some, None}
+use Rattle.std.specs.Prelude.{Option, Some, None, Result, Ok, Err}
 use mathlib.Core.Path.{◌≡◌, refl, sym, ap, ◌∙◌, subst}
-use mathlib.Core.Bool.{Bool, true, false, cond, not}
+use mathlib.Core.Bool.{Bool, true, false, cond, not, ◌&&◌}
 use mathlib.Core.List.Memᴰ
 use mathlib.Core.List.{List, [], ◌∷◌, map, Memᴰ}
 use Prim.Native.Nat.{ℕ, zero, suc, ◌+◌, ◌-◌, ◌<◌, ◌≤◌}
 use native.Mathlib.Decide.{ℕ_discrete}
 use native.Mathlib.Numerals.{add-one}
 use native.Mathlib.Omega.{arith}
-use borrow.Author.Tests.{eq-eqb, ne_eqb, not-true, not-false}
+use borrow.Author.Tests.{eqb-true, eq-eqb}
 use lib.Dec.{T, eqb}
 use lib.ListN.{get_or}
+use Rattle.std.specs.List.{list_all, find, range_with_len}
+use Rattle.std.specs.Option.{option_map, IsSomeAnd}
+use Rattle.std.specs.declared.ops.Range.{Range}
+use Rattle.std.specs.Iterator.Runs.{Run, ItemsCountUp, AllItems, AllItemsBelow}
+use Rattle.std.proofs.iter.Yields.{nat_range_steps}
+use Rattle.std.proofs.iter.runs.Sources.{range_runs}
 use Rattle.sizes.specs.Sizes.{place_count, corner_limit}
-use Rattle.sheet.specs.Cells.{on_sheet, OnSheet, cell_of, moved, difference_of, Within}
-use Rattle.sheet.specs.Words.{label_at, attached}
-use Rattle.sheet.specs.Blank.{NextWritten}
+use Rattle.sheet.specs.Cells.{on_sheet, OnSheet, cell_of, moved, difference_of, Within, NearSheet}
+use Rattle.sheet.specs.Words.{label_of, attached}
+use Rattle.sheet.specs.Blank.{written_in, written_from}
 use Rattle.sheet.specs.declared.Cell.{Cell}
 use Rattle.sheet.specs.declared.Offset.{Offset}
-use Rattle.sheet.proofs.Laws.{cell_on_lem, line_i, line_j, abs_sub}
+use Rattle.sheet.proofs.Laws.{cell_on_lem, line_i, line_j, abs_sub, on_near}
 use Rattle.sheet.proofs.Blank.{blank_label}
 use Rattle.labels.specs.Used.{names}
-use Rattle.labels.proofs.Below.{no_both, Searching, searching_end, searching_skips}
+use Rattle.labels.proofs.Below.{no_both}
 use Rattle.refusal.specs.declared.Refusal.{Refusal}
-use Rattle.join.specs.Rule.{Placed, shifted_by}
+use Rattle.join.specs.declared.Unjoinable.{Unjoinable}
+use Rattle.join.specs.Rule.{Verdict, Placed, shifted_by}
 use Rattle.join.specs.Join.{every, kept, asks, asked, tested, told, is_found, new_by}
 use Rattle.join.specs.Sheets.{labelled}
-use Rattle.join_sheet.specs.Held.{held_at, held_from, held_labels, holds_at, cell_on, agrees_with, agrees_on, new_put, new_held, outcome, outcome_of, verdict_on, join_on, HeldSecond, Unused, HeldSets, WriteAsked}
-use Rattle.join.specs.declared.Verdict.{Verdict}
-use Rattle.join.specs.declared.Found.{Found}
-use Rattle.join.specs.declared.Asked.{Asked}
-use Rattle.join_sheet.specs.declared.Joining.{Joining}
+use Rattle.join_sheet.specs.Held.{held_at, held_from, held_labels, or_at, found_below, holds_at, cell_on, agrees_on, new_put, new_held, refusal_of, outcome, outcome_of, verdict_on, join_on, HeldSecond, Unused, HeldSets, WriteAsked}
 use Rattle.join.proofs.Lists.{every_yes}
-use Rattle.join_sheet.proofs.Held.{none_found, first_found, found_used, cell_found_on}
+use Rattle.join_sheet.proofs.Held.{found_used, cell_found_on}
 
 -- ---- a walk over the array: what is left of it gives the total
 
@@ -45,97 +48,164 @@ unfolding held_from
 one_more second count i h = let e : count - i ≡ suc (count - suc i) = omega arith in ap (held_from second i) e
 
 module _ {A : Type 0} (second : List ℕ) (count : ℕ) where
-  pub rest_start : (f : List Placed → A) → Rest second count 0 f (f (held_labels second count))
-  rest_start f = record { upto = omega arith; rest = ap (λ (n : ℕ). f (held_from second 0 n)) (omega arith) }
-
   pub rest_more : {i : ℕ} {f : List Placed → A} {total : A} (g : List Placed → A) → Rest second count i f total → i < count
       → ((l : List Placed) → f (held_at second i ∷ l) ≡ g l) → Rest second count (i + 1) g total
   rest_more {i} {f} g r h e =
       record { upto = omega arith; rest = rw add-one (sym (e _) ∙ ap f (sym (one_more second count i h)) ∙ r.rest) }
 
-  pub rest_stop : {i : ℕ} {f : List Placed → A} {total : A} (x : A) → Rest second count i f total → i < count
-      → ((l : List Placed) → f (held_at second i ∷ l) ≡ x) → x ≡ total
-  rest_stop {i} {f} x r h e = sym (e _) ∙ ap f (sym (one_more second count i h)) ∙ r.rest
-
   pub rest_end : {i : ℕ} {f : List Placed → A} {total : A} → Rest second count i f total → count ≤ i → f [] ≡ total
   unfolding held_from
   rest_end {i} {f} r h = let e : count - i ≡ 0 = omega arith in ap (λ (n : ℕ). f (held_from second i n)) (sym e) ∙ r.rest
 
--- a test of every label, moved
-module _ (t : Placed → Bool) (d : Offset) (b : Placed) where
-  pub test_yes : (r : Bool) → r ≡ t (shifted_by d b) → not r ≡ false → (l : List Placed) → every t (map (shifted_by d) (b ∷ l)) ≡ every t (map (shifted_by d) l)
-  unfolding every
-  test_yes r e n l = rw (sym e ∙ not-false r n)
+-- a test of every label, moved, by the labels' numbers
+module _ (second : List ℕ) (d : Offset) (t : Placed → Bool) where
+  every_from : (i n : ℕ) → list_all (λ j. t (shifted_by d (held_at second j))) (range_with_len i n) ≡ every t (map (shifted_by d) (held_from second i n))
+  unfolding every held_from
+  every_from i zero = refl
+  every_from i (suc n) =
+      ap (λ (u : Bool). t (shifted_by d (held_at second i)) && u)
+      (ap (λ (m : ℕ). list_all (λ j. t (shifted_by d (held_at second j))) (range_with_len m n)) (add-one i) ∙ every_from (suc i) n)
 
-  pub test_no : (r : Bool) → r ≡ t (shifted_by d b) → not r ≡ true → (l : List Placed) → every t (map (shifted_by d) (b ∷ l)) ≡ false
-  unfolding every
-  test_no r e n l = rw (sym e ∙ not-true r n)
+  pub every_walked : (count : ℕ) → list_all (λ j. t (shifted_by d (held_at second j))) (range_with_len 0 count) ≡ every t (map (shifted_by d) (held_labels second count))
+  every_walked count = every_from 0 count
 
-pub test_all : (t : Placed → Bool) → every t [] ≡ true
-unfolding every
-test_all t = refl
+-- ---- what came of the numbers below a number, in a run of calls over them
+
+module _ (p : Run nat_range_steps) (n : ℕ) (from : p.from ≡ record { start = 0; end = n }) where
+  up : ItemsCountUp p 0 n
+  up = subst (λ (s : Range ℕ). ItemsCountUp p s.start s.end) from (range_runs p p.seen)
+
+  came : (j : ℕ) → j < p.len → p.at j ≡ Some j
+  came j h = go (p.at j) (up.3 j h)
+    where
+      go : (r : Option ℕ) → option_map (λ y. y) r ≡ Some (0 + j) → r ≡ Some j
+      go None e = absurd (let z : ◌≡◌ {A = ℕ} 0 1 = cc in omega arith)
+      go (Some y) e = let d : y ≡ 0 + j = cc in ap Some (omega arith)
+
+  pub each_came : (P : ℕ → Type 0) → p.whole ≡ true → AllItems p P → (j : ℕ) → j < n → P j
+  each_came P w h j l = rw (came j (omega (arith, up.1 w))) at (h j)
+
+  pub one_came : (P : ℕ → Type 0) (j : ℕ) → j < p.len → IsSomeAnd (p.at j) P → P j
+  one_came P j l h = rw (came j l) at h
+
+  pub before_came : (P : ℕ → Type 0) (i : ℕ) → i ≤ p.len → AllItemsBelow p i P → (j : ℕ) → j < i → P j
+  before_came P i l h j k = rw (came j (omega arith)) at (h j k)
+
+  pub few_came : p.len ≤ n
+  few_came = omega (arith, up.0)
 
 -- ---- where the sheet has a corner
 
 module _ (sheet : List ℕ) (k : ℕ) where
-  blank_holds : (p : ℕ) → get_or sheet p 0 ≡ 0 → holds_at sheet k p ≡ false
-  unfolding names
-  blank_holds p e = ap (names k) (blank_label e)
+  or_found : Option Cell → Option Cell → Option Cell
+  or_found None c = c
+  or_found (Some b) c = Some b
 
-  pub holds_skips : {p r : ℕ} → Searching (holds_at sheet k) place_count p → NextWritten sheet p r → Searching (holds_at sheet k) place_count r
-  holds_skips s w = searching_skips sheet (holds_at sheet k) blank_holds s w
+  found_at : List (ℕ × ℕ) → Option Cell
+  found_at l = option_map (λ e. cell_of e.0) (find (λ e. names k (label_of e.1)) l)
 
-  pub holds_hit : (p : ℕ) → Searching (holds_at sheet k) place_count p → p < place_count → holds_at sheet k p ≡ true → Found.At (cell_of p) ≡ cell_on sheet k
-  unfolding cell_on
-  holds_hit p s h e = sym (first_found (holds_at sheet k) place_count p h s.so_far e)
+  found_from : (from n : ℕ) → found_below (holds_at sheet k) (from + n) ≡ or_found (found_below (holds_at sheet k) from) (found_at (written_in sheet from n))
+  unfolding found_below or_at or_found found_at written_in names
+  found_from from zero = let z : from + 0 ≡ from = omega arith in ap (found_below (holds_at sheet k)) z ∙ last (found_below (holds_at sheet k) from)
+    where
+      last : (c : Option Cell) → c ≡ or_found c None
+      last None = refl
+      last (Some b) = refl
+  found_from from (suc n) =
+      let z : from + suc n ≡ suc from + n = omega arith in
+      ap (found_below (holds_at sheet k)) z ∙ found_from (suc from) n ∙ go (found_below (holds_at sheet k) from) (eqb (get_or sheet from 0) 0) refl
+    where
+      rest : List (ℕ × ℕ)
+      rest = written_in sheet (suc from) n
 
-  pub holds_none : (p : ℕ) → Searching (holds_at sheet k) place_count p → place_count ≤ p → Found.Nowhere ≡ cell_on sheet k
-  unfolding cell_on
-  holds_none p s h = sym (none_found (holds_at sheet k) place_count (sym (searching_end (holds_at sheet k) place_count p s h)))
+      taken : (u : Bool) → or_found (or_at None u from) (found_at rest) ≡ option_map (λ e. cell_of e.0) (cond u (Some (from, get_or sheet from 0)) (find (λ e. names k (label_of e.1)) rest))
+      taken true = refl
+      taken false = refl
+
+      go : (c : Option Cell) (t : Bool) → eqb (get_or sheet from 0) 0 ≡ t
+          → or_found (or_at c (holds_at sheet k from) from) (found_at rest) ≡ or_found c (found_at (cond t rest ((from, get_or sheet from 0) ∷ rest)))
+      go (Some b) t e = refl
+      go None true e = rw (ap (names k) (blank_label (eqb-true (get_or sheet from 0) 0 e))) refl
+      go None false e = taken (holds_at sheet k from)
+
+  none_first : found_below (holds_at sheet k) 0 ≡ None
+  unfolding found_below
+  none_first = refl
+
+  pub found_walked : option_map (λ e. cell_of e.0) (find (λ e. names k (label_of e.1)) (written_from sheet 0)) ≡ cell_on sheet k
+  unfolding cell_on or_found found_at
+  found_walked = sym (found_from 0 16384 ∙ ap (λ (c : Option Cell). or_found c (found_at (written_from sheet 0))) none_first)
 
   -- by the array
   pub entry_found : (used : List ℕ) → Unused sheet used → k < corner_limit → eqb (get_or used k 0) 0 ≡ not (is_found (cell_on sheet k))
   entry_found used t h = t.free k h ∙ ap not (sym (found_used sheet k))
 
-  pub entry_nowhere : (used : List ℕ) → Unused sheet used → k < corner_limit → get_or used k 0 ≡ 0 → cell_on sheet k ≡ Found.Nowhere
+  pub entry_nowhere : (used : List ℕ) → Unused sheet used → k < corner_limit → get_or used k 0 ≡ 0 → cell_on sheet k ≡ None
   unfolding is_found
   entry_nowhere used t h e = go (cell_on sheet k) (sym (eq-eqb (get_or used k 0) 0 e) ∙ entry_found used t h)
     where
-      go : (x : Found) → true ≡ not (is_found x) → x ≡ Found.Nowhere
-      go Found.Nowhere p = refl
-      go (Found.At c) p = absurd (no_both false (sym p) refl)
+      go : (x : Option Cell) → true ≡ not (is_found x) → x ≡ None
+      go None p = refl
+      go (Some c) p = absurd (no_both false (sym p) refl)
+
+-- a cell at which the sheet has a corner is near it
+pub cell_near : (sheet : List ℕ) (k : ℕ) (c : Cell) → cell_on sheet k ≡ Some c → NearSheet c
+cell_near sheet k c e = on_near c (cell_found_on sheet k c e)
 
 -- ---- what a label asks for
 
-pub asks_nothing : (x : Found) (c : Cell) → x ≡ Found.Nowhere → Asked.Nothing ≡ asks x c Asked.Nothing
-unfolding asks
-asks_nothing x c e = rw e
-
-pub asks_for : (x : Found) (c a : Cell) (d : Offset) → x ≡ Found.At a → d ≡ difference_of a c → Asked.For d ≡ asks x c Asked.Nothing
-unfolding asks
-asks_for x c a d e f = rw (e, f)
-
-module _ (find : ℕ → Found) (b : Placed) where
-  pub asked_on : (r : Asked) → r ≡ asks (find b.corner) b.cell Asked.Nothing → r ≡ Asked.Nothing → (l : List Placed) → asked find (b ∷ l) ≡ asked find l
+module _ (find : ℕ → Option Cell) (b : Placed) where
+  pub asked_on : (r : Option Offset) → r ≡ asks (find b.corner) b.cell None → r ≡ None → (l : List Placed) → asked find (b ∷ l) ≡ asked find l
   unfolding asked asks
   asked_on r e n l = go (find b.corner) (sym e ∙ n)
     where
-      go : (x : Found) → asks x b.cell Asked.Nothing ≡ Asked.Nothing → asks x b.cell (asked find l) ≡ asked find l
-      go Found.Nowhere h = refl
-      go (Found.At a) h = absurd (let z : ◌≡◌ {A = ℕ} 0 1 = cc in omega arith)
+      go : (x : Option Cell) → asks x b.cell None ≡ None → asks x b.cell (asked find l) ≡ asked find l
+      go None h = refl
+      go (Some a) h = absurd (let z : ◌≡◌ {A = ℕ} 0 1 = cc in omega arith)
 
-  pub asked_here : (r : Asked) (d : Offset) → r ≡ asks (find b.corner) b.cell Asked.Nothing → r ≡ Asked.For d
-      → (l : List Placed) → asked find (b ∷ l) ≡ Asked.For d
+  pub asked_here : (r : Option Offset) (d : Offset) → r ≡ asks (find b.corner) b.cell None → r ≡ Some d
+      → (l : List Placed) → asked find (b ∷ l) ≡ Some d
   unfolding asked asks
   asked_here r d e n l = go (find b.corner) (sym e ∙ n)
     where
-      go : (x : Found) → asks x b.cell Asked.Nothing ≡ Asked.For d → asks x b.cell (asked find l) ≡ Asked.For d
-      go Found.Nowhere h = absurd (let z : ◌≡◌ {A = ℕ} 0 1 = cc in omega arith)
-      go (Found.At a) h = h
+      go : (x : Option Cell) → asks x b.cell None ≡ Some d → asks x b.cell (asked find l) ≡ Some d
+      go None h = absurd (let z : ◌≡◌ {A = ℕ} 0 1 = cc in omega arith)
+      go (Some a) h = h
 
-pub asked_end : (find : ℕ → Found) → asked find [] ≡ Asked.Nothing
+pub asked_end : (find : ℕ → Option Cell) → asked find [] ≡ None
 unfolding asked
 asked_end find = refl
+
+-- what the labels ask for, by their numbers
+module _ (find : ℕ → Option Cell) (second : List ℕ) where
+  abbrev pub asked_one : ℕ → Option Offset
+  asked_one i = asks (find (held_at second i).corner) (held_at second i).cell None
+
+  asked_none : (i n : ℕ) → ((j : ℕ) → i ≤ j → j < i + n → asked_one j ≡ None) → asked find (held_from second i n) ≡ None
+  unfolding held_from
+  asked_none i zero h = asked_end find
+  asked_none i (suc n) h =
+      asked_on find (held_at second i) (asked_one i) refl (h i (omega arith) (omega arith)) (held_from second (suc i) n)
+      ∙ asked_none (suc i) n (λ j a b. h j (omega arith) (omega arith))
+
+  asked_some : (i n j : ℕ) (d : Offset) → i ≤ j → j < i + n → asked_one j ≡ Some d → ((k : ℕ) → i ≤ k → k < j → asked_one k ≡ None) → asked find (held_from second i n) ≡ Some d
+  unfolding held_from
+  asked_some i zero j d a b e h = absurd (omega arith)
+  asked_some i (suc n) j d a b e h = go (ℕ_discrete j i) (λ l. asked_some (suc i) n j d l (omega arith) e (λ k p q. h k (omega arith) q))
+    where
+      go : Dec (j ≡ i) → (suc i ≤ j → asked find (held_from second (suc i) n) ≡ Some d) → asked find (held_at second i ∷ held_from second (suc i) n) ≡ Some d
+      go (yes q) w = asked_here find (held_at second i) (asked_one i) d refl (ap asked_one (sym q) ∙ e) (held_from second (suc i) n)
+      go (no q) w =
+          asked_on find (held_at second i) (asked_one i) refl (h i (omega arith) (omega (arith, q))) (held_from second (suc i) n) ∙ w (omega (arith, q))
+
+  pub asked_walked : (count : ℕ) (r : Option Offset)
+      → (r ≡ None → (j : ℕ) → j < count → asked_one j ≡ None)
+      → ((d : Offset) → r ≡ Some d → (j : ℕ) × (j < count) × (asked_one j ≡ Some d) × ((k : ℕ) → k < j → asked_one k ≡ None))
+      → r ≡ asked find (held_labels second count)
+  asked_walked count None f g = sym (asked_none 0 count (λ j a b. f refl j (omega arith)))
+  asked_walked count (Some d) f g =
+      let h = g d refl in
+      sym (asked_some 0 count h.0 d (omega arith) (omega (arith, h.1)) h.2 (λ k a b. h.3 k b))
 
 -- a shift asked for by labels on the sheet is at most 128 each way
 within : (a c : Cell) → OnSheet a → OnSheet c → Within 128 (difference_of a c)
@@ -148,81 +218,24 @@ within a c h k =
 
 module _ (sheet second : List ℕ) where
   held_within : (n i : ℕ) → ((j : ℕ) → i ≤ j → j < i + n → get_or second (corner_limit + j) 0 < place_count)
-      → (d : Offset) → asked (cell_on sheet) (held_from second i n) ≡ Asked.For d → Within 128 d
+      → (d : Offset) → asked (cell_on sheet) (held_from second i n) ≡ Some d → Within 128 d
   unfolding held_from asked asks
   held_within zero i on d e = absurd (let z : ◌≡◌ {A = ℕ} 0 1 = cc in omega arith)
   held_within (suc n) i on d e = go (held_within n (suc i) (λ j p q. on j (omega arith) (omega arith)) d) (cell_on sheet (get_or second i 0)) refl e
     where
-      go : (asked (cell_on sheet) (held_from second (suc i) n) ≡ Asked.For d → Within 128 d) → (x : Found) → cell_on sheet (get_or second i 0) ≡ x
-          → asks x (cell_of (get_or second (corner_limit + i) 0)) (asked (cell_on sheet) (held_from second (suc i) n)) ≡ Asked.For d → Within 128 d
-      go w Found.Nowhere p h = w h
-      go w (Found.At a) p h =
+      go : (asked (cell_on sheet) (held_from second (suc i) n) ≡ Some d → Within 128 d) → (x : Option Cell) → cell_on sheet (get_or second i 0) ≡ x
+          → asks x (cell_of (get_or second (corner_limit + i) 0)) (asked (cell_on sheet) (held_from second (suc i) n)) ≡ Some d → Within 128 d
+      go w None p h = w h
+      go w (Some a) p h =
           let q : difference_of a (cell_of (get_or second (corner_limit + i) 0)) ≡ d = cc in
           subst (Within 128) q
           (within a (cell_of (get_or second (corner_limit + i) 0)) (cell_found_on sheet (get_or second i 0) a p)
           (cell_on_lem (get_or second (corner_limit + i) 0) (on i (omega arith) (omega arith))))
 
-  pub asked_within : (count : ℕ) → HeldSecond second count → (d : Offset) → asked (cell_on sheet) (held_labels second count) ≡ Asked.For d → Within 128 d
+  pub asked_within : (count : ℕ) → HeldSecond second count → (d : Offset) → asked (cell_on sheet) (held_labels second count) ≡ Some d → Within 128 d
   asked_within count s d e = held_within count 0 (λ j p q. s.place_on j (omega arith)) d e
 
--- ---- a label that agrees
-
-module _ (sheet used : List ℕ) (t : Unused sheet used) (k : ℕ) (h : k < corner_limit) (c : Cell) (x : Option ℕ) (e : x ≡ label_at sheet c) where
-  pub agrees_bare : x ≡ None → eqb (get_or used k 0) 0 ≡ agrees_on sheet (record { corner = k; cell = c })
-  unfolding agrees_on agrees_with
-  agrees_bare f = t.free k h ∙ rw (sym e ∙ f)
-
-  pub agrees_corner : (j : ℕ) → x ≡ Some j → eqb j k ≡ agrees_on sheet (record { corner = k; cell = c })
-  unfolding agrees_on agrees_with
-  agrees_corner j f = rw (sym e ∙ f)
-
--- ---- a word that names a corner
-
-pub names_none : (k : ℕ) (x l : Option ℕ) → x ≡ l → x ≡ None → false ≡ names k l
-unfolding names
-names_none k x l e f = rw (sym e ∙ f)
-
-pub names_one : (k j : ℕ) (x l : Option ℕ) → x ≡ l → x ≡ Some j → eqb j k ≡ names k l
-unfolding names
-names_one k j x l e f = rw (sym e ∙ f)
-
--- ---- the verdict
-
-module _ (t : Placed → Bool) (second : List Placed) (d : Offset) where
-  pub tested_clash : (r : Bool) → r ≡ every t (map (shifted_by d) second) → not r ≡ true → Verdict.Clash ≡ tested t second d
-  unfolding tested
-  tested_clash r e n = rw (sym e ∙ not-true r n)
-
-  module _
-      (r : Bool) (e : r ≡ every t (map (shifted_by d) second)) (y : not r ≡ false)
-      (s : Bool) (f : s ≡ every (λ l. on_sheet l.cell) (map (shifted_by d) second))
-    where
-      pub tested_off : not s ≡ true → Verdict.Off ≡ tested t second d
-      unfolding tested
-      tested_off n = rw (sym e ∙ not-false r y, sym f ∙ not-true s n)
-
-      pub tested_by : not s ≡ false → Verdict.By d ≡ tested t second d
-      unfolding tested
-      tested_by n = rw (sym e ∙ not-false r y, sym f ∙ not-false s n)
-
-module _ (sheet : List ℕ) (second : List Placed) (r : Asked) (e : r ≡ asked (cell_on sheet) second) where
-  pub verdict_apart : r ≡ Asked.Nothing → Verdict.Apart ≡ verdict_on sheet second
-  unfolding verdict_on told
-  verdict_apart f = rw (sym e ∙ f)
-
-  pub verdict_tested : (d : Offset) (v : Verdict) → r ≡ Asked.For d → v ≡ tested (agrees_on sheet) second d → v ≡ verdict_on sheet second
-  unfolding verdict_on told
-  verdict_tested d v f g = rw (sym e ∙ f) g
-
 -- ---- what is attached
-
-pub put_new : (entry : ℕ) (sheet : List ℕ) (c : Cell) (k : ℕ) → entry ≡ 0 → attached sheet c k ≡ new_put entry sheet c k
-unfolding new_put
-put_new entry sheet c k e = rw (eq-eqb entry 0 e)
-
-pub put_old : (entry : ℕ) (sheet : List ℕ) (c : Cell) (k : ℕ) → (entry ≡ 0 → ⊥) → sheet ≡ new_put entry sheet c k
-unfolding new_put
-put_old entry sheet c k e = rw (ne_eqb entry 0 e)
 
 -- one label more is attached, if its entry is 0
 pub write_more : (used sheet after : List ℕ) (d : Offset) (b : Placed) → after ≡ new_put (get_or used b.corner 0) sheet (moved b.cell d) b.corner
@@ -270,21 +283,14 @@ module _ (sheet used second : List ℕ) (count : ℕ) (s : HeldSets sheet used s
       (λ j a b. entry_found sheet (get_or second j 0) used s.unused (s.second.corner_small j (omega arith)))
 
   module _ (v : Verdict) (e : v ≡ verdict_on sheet (held_labels second count)) where
-    pub join_apart : v ≡ Verdict.Apart → outcome sheet (Joining.Refused Refusal.NoSharedCorner) ≡ join_on sheet (held_labels second count)
+    -- the refusal of what the verdict says
+    pub join_refused : (m : Result (Unit {0}) Refusal) (u : Unjoinable) → v ≡ Err u → m ≡ Err (refusal_of u) → outcome sheet m ≡ join_on sheet (held_labels second count)
     unfolding join_on outcome_of
-    join_apart f = rw (sym e ∙ f)
+    join_refused m u f h = rw (sym e ∙ f, h)
 
-    pub join_clash : v ≡ Verdict.Clash → outcome sheet (Joining.Refused Refusal.PatchesClash) ≡ join_on sheet (held_labels second count)
-    unfolding join_on outcome_of
-    join_clash f = rw (sym e ∙ f)
-
-    pub join_off : v ≡ Verdict.Off → outcome sheet (Joining.Refused Refusal.OffSheet) ≡ join_on sheet (held_labels second count)
-    unfolding join_on outcome_of
-    join_off f = rw (sym e ∙ f)
-
-    module _ (d : Offset) (f : v ≡ Verdict.By d) where
+    module _ (d : Offset) (f : v ≡ Ok d) where
       pub join_by : (after : List ℕ) → after ≡ labelled sheet (new_held used (held_labels second count) d)
-          → outcome after Joining.Fine ≡ join_on sheet (held_labels second count)
+          → outcome after (Ok tt) ≡ join_on sheet (held_labels second count)
       unfolding join_on outcome_of
       join_by after g = rw (sym e ∙ f, g, new_same d) refl
 
@@ -299,10 +305,10 @@ module _ (sheet used second : List ℕ) (count : ℕ) (s : HeldSets sheet used s
           onto : Offset → Bool
           onto a = every (λ l. on_sheet l.cell) (map (shifted_by a) held)
 
-          by_one : (a : Offset) → Verdict.By a ≡ Verdict.By d → a ≡ d
+          by_one : (a : Offset) → ◌≡◌ {A = Verdict} (Ok a) (Ok d) → a ≡ d
           by_one a h = cc
 
-          write : (a : Offset) → asked (cell_on sheet) held ≡ Asked.For a → onto a ≡ true → a ≡ d → WriteAsked second count d
+          write : (a : Offset) → asked (cell_on sheet) held ≡ Some a → onto a ≡ true → a ≡ d → WriteAsked second count d
           write a p t h =
               subst (WriteAsked second count) h
               (record {
@@ -314,12 +320,14 @@ module _ (sheet used second : List ℕ) (count : ℕ) (s : HeldSets sheet used s
               listed : (i : ℕ) → i < count → Memᴰ (held_at second i) held
               listed i l = held_in second count 0 i (omega arith) (omega arith)
 
-          test : (a : Offset) → asked (cell_on sheet) held ≡ Asked.For a → (t u : Bool) → onto a ≡ u
-              → cond t (cond u (Verdict.By a) Verdict.Off) Verdict.Clash ≡ Verdict.By d → WriteAsked second count d
+          test : (a : Offset) → asked (cell_on sheet) held ≡ Some a → (t u : Bool) → onto a ≡ u
+              → cond t (cond u (Ok a) (Err Unjoinable.Off)) (Err Unjoinable.Clash) ≡ Ok d → WriteAsked second count d
           test a p true true q h = write a p q (by_one a h)
           test a p true false q h = absurd (let z : ◌≡◌ {A = ℕ} 0 1 = cc in omega arith)
           test a p false u q h = absurd (let z : ◌≡◌ {A = ℕ} 0 1 = cc in omega arith)
 
-          go : (r : Asked) → asked (cell_on sheet) held ≡ r → told (agrees_on sheet) held r ≡ Verdict.By d → WriteAsked second count d
-          go Asked.Nothing p h = absurd (let z : ◌≡◌ {A = ℕ} 0 1 = cc in omega arith)
-          go (Asked.For a) p h = test a p (every (agrees_on sheet) (map (shifted_by a) held)) _ refl h
+          go : (r : Option Offset) → asked (cell_on sheet) held ≡ r → told (agrees_on sheet) held r ≡ Ok d → WriteAsked second count d
+          go None p h = absurd (let z : ◌≡◌ {A = ℕ} 0 1 = cc in omega arith)
+          go (Some a) p h = test a p (every (agrees_on sheet) (map (shifted_by a) held)) _ refl h
+
+-- ---- the shift asked for, by the labels' numbers

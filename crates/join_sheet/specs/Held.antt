@@ -1,6 +1,6 @@
 -- The join as the code has it: the first set is a sheet, the second an array of its corners and places in the order of the lines. Definitions
 -- only. `proofs/Held.antt` shows that it is the join of the two lists.
-use Rattle.std.specs.Prelude.{◌≡◌, Bool, cond, not, List, [], ◌∷◌, map, ℕ, zero, suc, ◌+◌, ◌<◌, ◌≤◌, eqb, length, get_or, Option, Some, None}
+use Rattle.std.specs.Prelude.{◌≡◌, Bool, cond, not, List, [], ◌∷◌, map, ℕ, zero, suc, ◌+◌, ◌<◌, ◌≤◌, eqb, length, get_or, Option, Some, None, Result, Ok, Err}
 use Rattle.sizes.specs.Sizes.{place_count, corner_limit}
 use Rattle.sheet.specs.Cells.{cell_of, OnSheet, moved, Within}
 use Rattle.sheet.specs.Words.{label_of, label_at, attached, empty_sheet}
@@ -8,12 +8,10 @@ use Rattle.sheet.specs.declared.Cell.{Cell}
 use Rattle.sheet.specs.declared.Offset.{Offset}
 use Rattle.labels.specs.Used.{names, used_on}
 use Rattle.refusal.specs.declared.Refusal.{Refusal}
-use Rattle.join.specs.Rule.{Placed, shifted_by}
+use Rattle.join.specs.declared.Unjoinable.{Unjoinable}
+use Rattle.join.specs.Rule.{Verdict, Placed, shifted_by}
 use Rattle.join.specs.Join.{kept, new_by, verdict_by, Joined, apart, clash, off, union_of}
 use Rattle.join.specs.Sheets.{labelled}
-use Rattle.join.specs.declared.Found.{Found}
-use Rattle.join.specs.declared.Verdict.{Verdict}
-use Rattle.join_sheet.specs.declared.Joining.{Joining}
 
 -- ---- the second set: n labels of an array, from one on; their corners stand from 0 on, their places from 1,024 on
 
@@ -30,19 +28,19 @@ held_labels second count = held_from second 0 count
 -- ---- the first set: a sheet
 
 -- the cell of the first place below n that passes
-unfoldable pub or_at : Found → Bool → ℕ → Found
-or_at Found.Nowhere t p = cond t (Found.At (cell_of p)) Found.Nowhere
-or_at (Found.At c) t p = Found.At c
+unfoldable pub or_at : Option Cell → Bool → ℕ → Option Cell
+or_at None t p = cond t (Some (cell_of p)) None
+or_at (Some c) t p = Some c
 
-unfoldable pub found_below : (ℕ → Bool) → ℕ → Found
-found_below f zero = Found.Nowhere
+unfoldable pub found_below : (ℕ → Bool) → ℕ → Option Cell
+found_below f zero = None
 found_below f (suc n) = or_at (found_below f n) (f n) n
 
 abbrev pub holds_at : List ℕ → ℕ → ℕ → Bool
 holds_at sheet k p = names k (label_of (get_or sheet p 0))
 
 -- where the sheet has a corner
-unfoldable pub cell_on : List ℕ → ℕ → Found
+unfoldable pub cell_on : List ℕ → ℕ → Option Cell
 cell_on sheet k = found_below (holds_at sheet k) place_count
 
 -- a label agrees with a sheet: its cell there has this corner, or none, and then no other cell has it
@@ -65,16 +63,20 @@ new_held used second d = kept (λ l. eqb (get_or used l.corner 0) 0) (map (shift
 
 pub record Outcome : Type 0 where
   pub sheet : List ℕ
-  pub answer : Joining
+  pub answer : Result (Unit {0}) Refusal
 
-abbrev pub outcome : List ℕ → Joining → Outcome
+abbrev pub outcome : List ℕ → Result (Unit {0}) Refusal → Outcome
 outcome sheet r = record { sheet = sheet; answer = r }
 
+-- the refusal of two sets that are not joined
+abbrev pub refusal_of : Unjoinable → Refusal
+refusal_of Unjoinable.Apart = Refusal.NoSharedCorner
+refusal_of Unjoinable.Clash = Refusal.PatchesClash
+refusal_of Unjoinable.Off = Refusal.OffSheet
+
 unfoldable pub outcome_of : List ℕ → List Placed → Verdict → Outcome
-outcome_of sheet second Verdict.Apart = outcome sheet (Joining.Refused Refusal.NoSharedCorner)
-outcome_of sheet second Verdict.Clash = outcome sheet (Joining.Refused Refusal.PatchesClash)
-outcome_of sheet second Verdict.Off = outcome sheet (Joining.Refused Refusal.OffSheet)
-outcome_of sheet second (Verdict.By d) = outcome (labelled sheet (new_by (cell_on sheet) second d)) Joining.Fine
+outcome_of sheet second (Err u) = outcome sheet (Err (refusal_of u))
+outcome_of sheet second (Ok d) = outcome (labelled sheet (new_by (cell_on sheet) second d)) (Ok tt)
 
 unfoldable pub verdict_on : List ℕ → List Placed → Verdict
 verdict_on sheet second = verdict_by (cell_on sheet) (agrees_on sheet) second
@@ -110,7 +112,7 @@ pub record WriteAsked (array : List ℕ) (count : ℕ) (d : Offset) : Type 0 whe
 
 -- the join of the lists, as the sheet and the answer
 unfoldable pub concluded : List ℕ → Joined → Outcome
-concluded sheet apart = outcome sheet (Joining.Refused Refusal.NoSharedCorner)
-concluded sheet clash = outcome sheet (Joining.Refused Refusal.PatchesClash)
-concluded sheet off = outcome sheet (Joining.Refused Refusal.OffSheet)
-concluded sheet (union_of u) = outcome (labelled empty_sheet u) Joining.Fine
+concluded sheet apart = outcome sheet (Err Refusal.NoSharedCorner)
+concluded sheet clash = outcome sheet (Err Refusal.PatchesClash)
+concluded sheet off = outcome sheet (Err Refusal.OffSheet)
+concluded sheet (union_of u) = outcome (labelled empty_sheet u) (Ok tt)

@@ -3,7 +3,7 @@
 
 #![tactic(auto)]
 
-ghost use Rattle.std.specs.Prelude.{◌≡◌, map, ◌+◌, ◌<◌, ◌≤◌, length, get_or};
+ghost use Rattle.std.specs.Prelude.{◌≡◌, map, ◌+◌, ◌<◌, ◌≤◌, length, get_or, Result, None, Ok};
 ghost use Rattle.sizes.specs.Sizes.{place_count, corner_limit};
 ghost use Rattle.sheet.specs.Cells.{cell_of, on_sheet, moved, OnSheet, Within};
 ghost use Rattle.sheet.specs.Words.{label_of};
@@ -11,179 +11,151 @@ ghost use Rattle.labels.specs.Used.{names};
 ghost use Rattle.join.specs.Rule.{Placed, shifted_by};
 ghost use Rattle.join.specs.Join.{every, asks, asked, tested};
 ghost use Rattle.join.specs.Sheets.{labelled};
-ghost use Rattle.join_sheet.specs.Held.{held_labels, cell_on, agrees_on, new_put, new_held, outcome, verdict_on, join_on, HeldSecond, Unused, HeldSets, WriteAsked};
+ghost use Rattle.join_sheet.specs.Held.{held_labels, cell_on, agrees_on, new_put, new_held, refusal_of, outcome, verdict_on, join_on, HeldSecond, Unused, HeldSets, WriteAsked};
 
-use join::{Asked, Found, Verdict};
+use join::{Unjoinable, Verdict};
 use refusal::Refusal;
-use sheet::{Cell, Offset};
+use sheet::{Cell, Offset, Written};
 use sizes::{CORNERS, PLACES, SECOND, USED};
 
-// What the join answers.
+// The first set: a sheet, and the array that says which corners it has not.
 #[derive(Clone, Copy)]
-pub enum Joining {
-    Fine,
-    Refused(Refusal),
+struct First<'a> {
+    sheet: &'a [u16],
+    used: &'a [u8; USED],
+    ghost long: { place_count ≤ length sheet.now },
+    ghost unused: { Unused sheet.now used.now },
 }
 
-fn wide(x: u16) -> usize
-    ensures { result ≡ x }
-{
-    x as usize
+// The second set: the first labels of an array.
+#[derive(Clone, Copy)]
+struct Second<'a> {
+    array: &'a [u16; SECOND],
+    count: usize,
+    ghost held: { HeldSecond array.now count },
 }
 
 // Whether a word names a corner.
+#[tactic(auto, unfolding(labels::specs::Used::names))]
 fn word_names(word: u16, corner: usize) -> bool
     ensures { result ≡ names corner (label_of word) }
 {
-    let label = sheet::label_of(word);
-    match label {
-        None => false,
-        Some(k) => k == corner,
-    }
+    matches!(sheet::label_of(word), Some(k) if k == corner)
 }
 
-// The cell at which the sheet has a corner.
-fn cell_with(sheet: &[u16], corner: usize) -> Found
-    requires { place_count ≤ length sheet.now }
-    ensures { result ≡ cell_on sheet.now corner }
-{
-    let mut place = sheet::next_written(sheet, 0);
-    while place < PLACES {
-        if word_names(sheet[place], corner) {
-            return Found::At(sheet::cell_of(place));
+impl First<'_> {
+    // The cell at which the sheet has a corner.
+    fn cell_with(&self, corner: usize) -> Option<Cell>
+        ensures { result ≡ cell_on self.now.sheet.now corner }
+    {
+        Written::new(self.sheet)
+            .find(|(_, word)| word_names(*word, corner))
+            .map(|(place, _)| sheet::cell_of(place))
+    }
+
+    // The shift that a label asks for. The sheet is searched only where the array says that it has the corner.
+    #[tactic(auto, using(crate::proofs::Walk::entry_nowhere, crate::proofs::Walk::cell_near, sheet::proofs::Laws::on_near), unfolding(join::specs::Join::asks))]
+    fn asked_by(&self, corner: usize, c: Cell) -> Option<Offset>
+        requires { (corner < corner_limit) × OnSheet c }
+        ensures { result ≡ asks (cell_on self.now.sheet.now corner) c None }
+    {
+        if self.used[corner] == 0 {
+            return None;
         }
-        place = sheet::next_written(sheet, place + 1);
+        self.cell_with(corner).map(|a| sheet::difference(a, c))
     }
-    Found::Nowhere
+
+    // Whether a label agrees with the set.
+    #[tactic(auto, unfolding(crate::specs::Held::agrees_on, crate::specs::Held::agrees_with))]
+    fn agrees(&self, corner: usize, c: Cell) -> bool
+        requires { corner < corner_limit }
+        ensures { result ≡ agrees_on self.now.sheet.now (record { corner = corner; cell = c }) }
+    {
+        match sheet::label_at(self.sheet, c) {
+            None => self.used[corner] == 0,
+            Some(k) => k == corner,
+        }
+    }
 }
 
-// The shift that a label asks for. The sheet is searched only where the array says that it has the corner.
-fn asked_by(sheet: &[u16], used: &[u8; USED], corner: usize, c: Cell) -> Asked
-    requires { (place_count ≤ length sheet.now) × (Unused sheet.now used.now × ((corner < corner_limit) × OnSheet c)) }
-    ensures { result ≡ asks (cell_on sheet.now corner) c Asked.Nothing }
-{
-    if used[corner] == 0 {
-        return Asked::Nothing;
+impl Second<'_> {
+    // The corner of a label.
+    fn corner(&self, i: usize) -> usize
+        requires { i < self.now.count }
+        ensures value { result ≡ get_or self.now.array.now i 0 }
+        ensures small { result < corner_limit }
+    {
+        usize::from(self.array[i])
     }
-    let found = cell_with(sheet, corner);
-    match found {
-        Found::Nowhere => Asked::Nothing,
-        Found::At(a) => Asked::For(sheet::difference(a, c)),
+
+    // The cell of a label.
+    #[tactic(auto, using(sheet::proofs::Laws::cell_on_lem))]
+    fn cell(&self, i: usize) -> Cell
+        requires { i < self.now.count }
+        ensures value { result ≡ cell_of (get_or self.now.array.now (corner_limit + i) 0) }
+        ensures on { OnSheet result }
+    {
+        sheet::cell_of(usize::from(self.array[CORNERS + i]))
+    }
+
+    // The cell of a label, moved.
+    fn moved_cell(&self, i: usize, d: Offset) -> Cell
+        requires { (i < self.now.count) × Within 128 d }
+        ensures { result ≡ moved (cell_of (get_or self.now.array.now (corner_limit + i) 0)) d }
+    {
+        sheet::neighbour(self.cell(i), d)
+    }
+
+    // Whether every label, moved, is on the sheet.
+    fn all_on(&self, d: Offset) -> bool
+        requires { Within 128 d }
+        ensures { result ≡ every (λ l. on_sheet l.cell) (map (shifted_by d) (held_labels self.now.array.now self.now.count)) }
+    {
+        (0..self.count).all(|i| sheet::on_sheet(self.moved_cell(i, d)))
     }
 }
 
 // The shift that the first shared label asks for.
-fn asked_shift(sheet: &[u16], used: &[u8; USED], second: &[u16; SECOND], count: usize) -> Asked
-    requires { HeldSets sheet.now used.now second.now count }
-    ensures { result ≡ asked (cell_on sheet.now) (held_labels second.now count) }
+fn asked_shift(first: &First, second: &Second) -> Option<Offset>
+    ensures { result ≡ asked (cell_on first.now.sheet.now) (held_labels second.now.array.now second.now.count) }
 {
-    let mut i = 0usize;
-    while i < count {
-        let corner = wide(second[i]);
-        let place = wide(second[CORNERS + i]);
-        let asked = asked_by(sheet, used, corner, sheet::cell_of(place));
-        match asked {
-            Asked::For(d) => {
-                return Asked::For(d);
-            }
-            Asked::Nothing => {}
-        }
-        i += 1;
-    }
-    Asked::Nothing
-}
-
-// The cell of a label of the second set, moved.
-fn moved_cell(second: &[u16; SECOND], i: usize, d: Offset) -> Cell
-    requires { (i < corner_limit) × ((get_or second.now (corner_limit + i) 0 < place_count) × Within 128 d) }
-    ensures { result ≡ moved (cell_of (get_or second.now (corner_limit + i) 0)) d }
-{
-    let place = wide(second[CORNERS + i]);
-    sheet::neighbour(sheet::cell_of(place), d)
-}
-
-// Whether a label agrees with the first set.
-fn agrees(sheet: &[u16], used: &[u8; USED], corner: usize, c: Cell) -> bool
-    requires { (place_count ≤ length sheet.now) × (Unused sheet.now used.now × (corner < corner_limit)) }
-    ensures { result ≡ agrees_on sheet.now (record { corner = corner; cell = c }) }
-{
-    let label = sheet::label_at(sheet, c);
-    match label {
-        None => used[corner] == 0,
-        Some(k) => k == corner,
-    }
+    (0..second.count).find_map(|i| first.asked_by(second.corner(i), second.cell(i)))
 }
 
 // Whether every label of the second set, moved, agrees with the first.
-fn all_agree(
-    sheet: &[u16],
-    used: &[u8; USED],
-    second: &[u16; SECOND],
-    count: usize,
-    d: Offset,
-) -> bool
-    requires { HeldSets sheet.now used.now second.now count × Within 128 d }
-    ensures { result ≡ every (agrees_on sheet.now) (map (shifted_by d) (held_labels second.now count)) }
+fn all_agree(first: &First, second: &Second, d: Offset) -> bool
+    requires { Within 128 d }
+    ensures { result ≡ every (agrees_on first.now.sheet.now) (map (shifted_by d) (held_labels second.now.array.now second.now.count)) }
 {
-    let mut i = 0usize;
-    while i < count {
-        let corner = wide(second[i]);
-        if !agrees(sheet, used, corner, moved_cell(second, i, d)) {
-            return false;
-        }
-        i += 1;
-    }
-    true
-}
-
-// Whether every label of the second set, moved, is on the sheet.
-fn all_on(second: &[u16; SECOND], count: usize, d: Offset) -> bool
-    requires { HeldSecond second.now count × Within 128 d }
-    ensures { result ≡ every (λ l. on_sheet l.cell) (map (shifted_by d) (held_labels second.now count)) }
-{
-    let mut i = 0usize;
-    while i < count {
-        if !sheet::on_sheet(moved_cell(second, i, d)) {
-            return false;
-        }
-        i += 1;
-    }
-    true
+    (0..second.count).all(|i| first.agrees(second.corner(i), second.moved_cell(i, d)))
 }
 
 // The test of a shift: 9 before 4.
-fn test_shift(
-    sheet: &[u16],
-    used: &[u8; USED],
-    second: &[u16; SECOND],
-    count: usize,
-    d: Offset,
-) -> Verdict
-    requires { HeldSets sheet.now used.now second.now count × Within 128 d }
-    ensures { result ≡ tested (agrees_on sheet.now) (held_labels second.now count) d }
+#[tactic(auto, unfolding(join::specs::Join::tested))]
+fn test_shift(first: &First, second: &Second, d: Offset) -> Verdict
+    requires { Within 128 d }
+    ensures { result ≡ tested (agrees_on first.now.sheet.now) (held_labels second.now.array.now second.now.count) d }
 {
-    if !all_agree(sheet, used, second, count, d) {
-        return Verdict::Clash;
+    if !all_agree(first, second, d) {
+        return Err(Unjoinable::Clash);
     }
-    if !all_on(second, count, d) {
-        return Verdict::Off;
+    if !second.all_on(d) {
+        return Err(Unjoinable::Off);
     }
-    Verdict::By(d)
+    Ok(d)
 }
 
 // The verdict on two sets: 8 before 9 before 4.
-fn verdict_of(sheet: &[u16], used: &[u8; USED], second: &[u16; SECOND], count: usize) -> Verdict
-    requires { HeldSets sheet.now used.now second.now count }
-    ensures { result ≡ verdict_on sheet.now (held_labels second.now count) }
+#[tactic(auto, using(crate::proofs::Walk::asked_within), unfolding(crate::specs::Held::verdict_on, join::specs::Join::told))]
+fn verdict_of(first: &First, second: &Second) -> Verdict
+    ensures { result ≡ verdict_on first.now.sheet.now (held_labels second.now.array.now second.now.count) }
 {
-    let asked = asked_shift(sheet, used, second, count);
-    match asked {
-        Asked::Nothing => Verdict::Apart,
-        Asked::For(d) => test_shift(sheet, used, second, count, d),
-    }
+    let d = asked_shift(first, second).ok_or(Unjoinable::Apart)?;
+    test_shift(first, second, d)
 }
 
 // A label whose corner the first set has not is attached.
+#[tactic(auto, unfolding(crate::specs::Held::new_put))]
 fn put_new(sheet: &mut [u16; PLACES], used: &[u8; USED], corner: usize, c: Cell)
     requires { OnSheet c × (corner < corner_limit) }
     ensures { sheet.new ≡ new_put (get_or used.now corner 0) sheet.old c corner }
@@ -194,21 +166,23 @@ fn put_new(sheet: &mut [u16; PLACES], used: &[u8; USED], corner: usize, c: Cell)
 }
 
 // The labels of the second set whose corners the first has not are attached, moved.
-fn write_new(
-    sheet: &mut [u16; PLACES],
-    used: &[u8; USED],
-    second: &[u16; SECOND],
-    count: usize,
-    d: Offset,
-)
-    requires { WriteAsked second.now count d }
-    ensures { sheet.new ≡ labelled sheet.old (new_held used.now (held_labels second.now count) d) }
+fn write_new(sheet: &mut [u16; PLACES], used: &[u8; USED], second: &Second, d: Offset)
+    requires { WriteAsked second.now.array.now second.now.count d }
+    ensures { sheet.new ≡ labelled sheet.old (new_held used.now (held_labels second.now.array.now second.now.count) d) }
 {
-    let mut i = 0usize;
-    while i < count {
-        let corner = wide(second[i]);
-        put_new(sheet, used, corner, moved_cell(second, i, d));
-        i += 1;
+    for i in 0..second.count {
+        put_new(sheet, used, second.corner(i), second.moved_cell(i, d));
+    }
+}
+
+// The refusal of two sets that are not joined.
+fn refusal_of(unjoinable: Unjoinable) -> Refusal
+    ensures { result ≡ refusal_of unjoinable }
+{
+    match unjoinable {
+        Unjoinable::Apart => Refusal::NoSharedCorner,
+        Unjoinable::Clash => Refusal::PatchesClash,
+        Unjoinable::Off => Refusal::OffSheet,
     }
 }
 
@@ -218,18 +192,16 @@ pub fn join_sets(
     used: &[u8; USED],
     second: &[u16; SECOND],
     count: usize,
-) -> Joining
+) -> Result<(), Refusal>
     requires { HeldSets sheet.old used.now second.now count }
     ensures { outcome sheet.new result ≡ join_on sheet.old (held_labels second.now count) }
 {
-    let verdict = verdict_of(sheet, used, second, count);
-    match verdict {
-        Verdict::Apart => Joining::Refused(Refusal::NoSharedCorner),
-        Verdict::Clash => Joining::Refused(Refusal::PatchesClash),
-        Verdict::Off => Joining::Refused(Refusal::OffSheet),
-        Verdict::By(d) => {
-            write_new(sheet, used, second, count, d);
-            Joining::Fine
-        }
-    }
+    let second = Second {
+        array: second,
+        count,
+    };
+    let first = First { sheet, used };
+    let d = verdict_of(&first, &second).map_err(refusal_of)?;
+    write_new(sheet, used, &second, d);
+    Ok(())
 }

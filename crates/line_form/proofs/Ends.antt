@@ -60,7 +60,7 @@ first_over (whole (pos n) ∷ ns) text = decimal_over (suc n) n text
 first_over (whole (negsuc n) ∷ ns) text = over 45 _ (omega arith) ∙ decimal_over (suc (suc n)) (suc n) text
 
 slot_no_end : (c : ℕ) → is_slot c ≡ true → eqb c 10 ≡ true → ⊥
-slot_no_end c e h = let s : is_slot 10 ≡ true = subst (λ (d : ℕ). is_slot d ≡ true) (eqb-true c 10 h) e in let z : ◌≡◌ {A = ℕ} 0 1 = cc in omega arith
+slot_no_end c e h = let s : is_slot 10 ≡ true = subst (λ (d : ℕ). is_slot d ≡ true) (eqb-true c 10 h) e in cc
 
 -- a form ends with its only LF, and so does what is printed from it
 pub printed_ends : (form : List ℕ) (ns : List Number) → ends_once form ≡ true → ends_once (printed form ns) ≡ true
@@ -73,20 +73,20 @@ printed_ends (c ∷ form) ns e = go (is_slot c) (eqb c 10) refl refl form ns (λ
     go true true p q form ns ih h = absurd (slot_no_end c p q)
     go true false p q form ns ih h = first_over ns (printed form (drop 1 ns)) ∙ ih (drop 1 ns) h
     go false true p q [] ns ih h = rw q
-    go false true p q (d ∷ form) ns ih h = absurd (let z : ◌≡◌ {A = ℕ} 0 1 = cc in omega arith)
+    go false true p q (d ∷ form) ns ih h = absurd cc
     go false false p q form ns ih h = rw q (ih ns h)
 
 -- ---- the lines of a text
 
 pub first_line : (text rest : List ℕ) → ends_once text ≡ true → lines_of (text ++ rest) ≡ text ∷ lines_of rest
 unfolding ends_once is_none lines_of
-first_line [] rest e = absurd (let z : ◌≡◌ {A = ℕ} 0 1 = cc in omega arith)
+first_line [] rest e = absurd cc
 first_line (b ∷ text) rest e = go (eqb b 10) refl text (λ h. first_line text rest h) e
   where
     go : (x : Bool) → eqb b 10 ≡ x → (text : List ℕ) → (ends_once text ≡ true → lines_of (text ++ rest) ≡ text ∷ lines_of rest) → cond x (is_none text) (ends_once text) ≡ true
         → onto b (lines_of (text ++ rest)) ≡ (b ∷ text) ∷ lines_of rest
     go true p [] ih h = rw p
-    go true p (c ∷ text) ih h = absurd (let z : ◌≡◌ {A = ℕ} 0 1 = cc in omega arith)
+    go true p (c ∷ text) ih h = absurd cc
     go false p text ih h = rw p (ap (longer b) (ih h))
 
 -- texts one after the other

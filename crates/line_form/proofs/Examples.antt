@@ -1,12 +1,12 @@
 -- Lines read and printed by the definitions.
 use mathlib.Core.Path.{◌≡◌, refl}
-use mathlib.Core.Bool.{true, false}
 use mathlib.Core.List.{List, [], ◌∷◌}
 use Prim.Native.Nat.{ℕ}
 use lib.IntN.{pos, negsuc}
 use Rattle.binary32.specs.Hex.{digits, digit_value, read_digits}
 use Rattle.line_form.specs.Integers.{decimal_up_to, decimal, integer_text, digits_after, read_positive, read_integer}
-use Rattle.line_form.specs.Forms.{bytes, bits, whole, number_text, printed, piece_of, Fitted, misfit, fitted, fit_of}
+use Rattle.line_form.specs.Forms.{bytes, bits, whole, number_text, printed, piece_of, misfit, fitted, fit_of}
+use Rattle.std.proofs.Common.{Some}
 use Rattle.line_form.specs.Held.{held_whole, held, held_up_to, held_fit}
 use Rattle.line_form.specs.Written.{unheld_whole, unheld_number, unheld, form_text}
 
@@ -51,7 +51,7 @@ seven_digits = refl
 
 -- integers are cut where they are held
 integers_held : held_fit (fit_of (bytes "# # # #") (bytes "999999 99999999999999999999 -999999 -1000001"))
-    ≡ record { found = true; values = 1999999 ∷ 2000000 ∷ 1 ∷ 0 ∷ 0 ∷ [] }
+    ≡ Some (1999999 ∷ 2000000 ∷ 1 ∷ 0 ∷ 0 ∷ [])
 unfolding fit_of piece_of read_integer read_positive digits_after held_fit held_up_to held held_whole
 integers_held = refl
 

@@ -3,7 +3,7 @@
 use mathlib.Core.Path.{◌≡◌, refl, sym, ap, ◌∙◌, subst}
 use mathlib.Core.Bool.{Bool, true, false, ◌||◌, cond}
 use mathlib.Core.List.{List, [], ◌∷◌, ◌++◌}
-use Prim.Native.Nat.{ℕ, suc, ◌+◌, ◌-◌, ◌*◌, ◌/◌, ◌%◌, ◌≤◌, ◌<◌}
+use Prim.Native.Nat.{ℕ, suc, ◌+◌, ◌*◌, ◌/◌, ◌%◌, ◌≤◌, ◌<◌}
 use native.Mathlib.Omega.{arith}
 use borrow.Author.Tests.{lt-leb, le-leb, ltb-true, ltb-false, eq-eqb, eqb-true}
 use lib.Dec.{ltb, eqb}
@@ -11,8 +11,7 @@ use lib.IntN.{ℤ, nat_abs}
 use lib.ListN.{length, drop, length-append}
 use lib.Seq.{drop_at}
 use Rattle.binary32.specs.Hex.{hex_text, read_bits}
-use Rattle.binary32.specs.declared.hex.Bits.{Bits}
-use Rattle.binary32.specs.declared.hex.Bits.TheVariants.{Number as EightDigits, Broken}
+use Rattle.std.proofs.Common.{Option, None, Some}
 use Rattle.binary32.proofs.Digits.{digits_length, bits_read_written, bits_written_read}
 use Rattle.line_form.specs.Integers.{decimal, integer_text, Front, broken, front, is_digit, read_integer}
 use Rattle.line_form.specs.Forms.{Number, bits, whole, number_text, is_slot, first_text, printed, no_piece, same, bits_piece, whole_piece, byte_piece, piece_of, Fitted, misfit, fitted, before, then, fit_of, Suits, none_left, a_float, an_integer, a_byte, ends_first, apart, ReadsBack, PrintsBack}
@@ -45,8 +44,8 @@ unfolding piece_of
 piece_byte c text e = go (eqb c 37) (eqb c 35) e
   where
     go : (s t : Bool) → (s || t) ≡ false → cond s (bits_piece (read_bits text) (drop 8 text)) (cond t (whole_piece (read_integer text)) (byte_piece c text)) ≡ byte_piece c text
-    go true t p = absurd (let z : ◌≡◌ {A = ℕ} 0 1 = cc in omega arith)
-    go false true p = absurd (let z : ◌≡◌ {A = ℕ} 0 1 = cc in omega arith)
+    go true t p = absurd cc
+    go false true p = absurd cc
     go false false p = refl
 
 -- ---- reading what was printed
@@ -70,16 +69,16 @@ byte_printed c form ns e = rw e
 
 -- a byte that ends an integer is printed as itself, and is no digit
 end_printed : (form : List ℕ) (ns : List Number) → ends_first form ≡ true → Ended (printed form ns)
-end_printed [] ns e = absurd (let z : ◌≡◌ {A = ℕ} 0 1 = cc in omega arith)
+end_printed [] ns e = absurd cc
 end_printed (c ∷ form) ns e = go (is_slot c) refl e
   where
     no_digit : (s t : Bool) → ltb c 48 ≡ s → ltb 57 c ≡ t → (s || t) ≡ true → is_digit c ≡ false
     no_digit true t p q h = rw (lt-leb 48 c (ltb-true c 48 p))
     no_digit false true p q h = rw (le-leb 48 c (ltb-false c 48 p), lt-leb c 57 (ltb-true 57 c q))
-    no_digit false false p q h = absurd (let z : ◌≡◌ {A = ℕ} 0 1 = cc in omega arith)
+    no_digit false false p q h = absurd cc
 
     go : (s : Bool) → is_slot c ≡ s → cond s false (ltb c 48 || ltb 57 c) ≡ true → Ended (printed (c ∷ form) ns)
-    go true p h = absurd (let z : ◌≡◌ {A = ℕ} 0 1 = cc in omega arith)
+    go true p h = absurd cc
     go false p h = rw (byte_printed c form ns p) (no_digit (ltb c 48) (ltb 57 c) refl refl h)
 
 -- after an integer of a form that keeps its integers apart
@@ -93,15 +92,15 @@ after_whole form e = go (ends_first form) refl e
   where
     go : (s : Bool) → ends_first form ≡ s → cond s (apart form) false ≡ true → Apart form
     go true p h = record { ends = p; rest = h }
-    go false p h = absurd (let z : ◌≡◌ {A = ℕ} 0 1 = cc in omega arith)
+    go false p h = absurd cc
 
 after_byte : (c : ℕ) (form : List ℕ) → is_slot c ≡ false → apart (c ∷ form) ≡ true → apart form ≡ true
 unfolding apart
 after_byte c form e h = go (eqb c 37) (eqb c 35) e h
   where
     go : (s t : Bool) → (s || t) ≡ false → cond t (cond (ends_first form) (apart form) false) (apart form) ≡ true → apart form ≡ true
-    go true t p k = absurd (let z : ◌≡◌ {A = ℕ} 0 1 = cc in omega arith)
-    go false true p k = absurd (let z : ◌≡◌ {A = ℕ} 0 1 = cc in omega arith)
+    go true t p k = absurd cc
+    go false true p k = absurd cc
     go false false p k = k
 
 read_all : {form : List ℕ} {ns : List Number} → Suits form ns → apart form ≡ true → fit_of form (printed form ns) ≡ fitted ns
@@ -121,18 +120,18 @@ reads_back form ns h s = read_all s h
 -- ---- printing what was read
 
 no_fit : (ns : List Number) → misfit ≡ fitted ns → ⊥
-no_fit ns h = let z : ◌≡◌ {A = ℕ} 0 1 = cc in omega arith
+no_fit ns h = cc
 
 -- a number before the rest
 abbrev Back : List ℕ → Type 0
 Back form = (text : List ℕ) (ns : List Number) → fit_of form text ≡ fitted ns → PrintsBack form text ns
 
-float_back : (form line : List ℕ) (ns : List Number) (got : Bits) (rest : Fitted) → read_bits line ≡ got → fit_of form (drop 8 line) ≡ rest → Back form
+float_back : (form line : List ℕ) (ns : List Number) (got : Option ℕ) (rest : Fitted) → read_bits line ≡ got → fit_of form (drop 8 line) ≡ rest → Back form
     → then (bits_piece got (drop 8 line)) (λ text. fit_of form text) ≡ fitted ns → PrintsBack (37 ∷ form) line ns
 unfolding printed number_text
-float_back form line ns Broken rest p q ih h = absurd (no_fit ns h)
-float_back form line ns (EightDigits b) misfit p q ih h = absurd (no_fit ns (rw q at h))
-float_back form line ns (EightDigits b) (fitted ms) p q ih h =
+float_back form line ns None rest p q ih h = absurd (no_fit ns h)
+float_back form line ns (Some b) misfit p q ih h = absurd (no_fit ns (rw q at h))
+float_back form line ns (Some b) (fitted ms) p q ih h =
     let r = ih (drop 8 line) ms q in
     let w = bits_written_read b line p in
     let all : fitted (bits b ∷ ms) ≡ fitted ns = rw q at h in

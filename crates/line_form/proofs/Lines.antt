@@ -4,11 +4,14 @@ use mathlib.Core.Bool.{Bool, true, false, cond}
 use mathlib.Core.List.{List, [], ◌∷◌}
 use Prim.Native.Nat.{ℕ, suc, ◌+◌, ◌-◌, ◌<◌, ◌≤◌}
 use native.Mathlib.Omega.{arith}
-use native.Mathlib.Numerals.{add-one}
-use borrow.Author.Tests.{eq-eqb, ne_eqb}
 use lib.Dec.{eqb}
-use lib.ListN.{length, get_or, take, drop, length-drop, drop_of_length-le}
-use lib.Seq.{drop-cons, drop-drop}
+use lib.ListN.{length, take, drop, length-drop, drop_of_length-le}
+use lib.Seq.{drop-drop}
+use Rattle.std.proofs.Common.{Option, None, Some}
+use Rattle.std.specs.Option.{MatchOption}
+use Rattle.std.specs.List.{position_from, position}
+use Rattle.std.proofs.lemmas.Iterator.Adapters.{position_from-zero}
+use Rattle.line_form.proofs.Reading.{part}
 use Rattle.line_form.specs.Lines.{longer, lines_of, line_length}
 
 -- ---- the first line
@@ -61,26 +64,25 @@ pub no_lines : (text : List ℕ) (at : ℕ) → length text ≤ at → lines_of 
 unfolding lines_of
 no_lines text at h = ap lines_of (drop_of_length-le text h)
 
--- ---- the search for a line's end
+-- ---- the search for a line's end: behind its LF, or behind the text
 
-pub record Seeking (text : List ℕ) (at i : ℕ) : Type 0 where
-  pub inside : i ≤ length text
-  pub same : i + line_length (drop i text) ≡ at + line_length (drop at text)
+seek : (n : ℕ) (text : List ℕ) → MatchOption (position_from (λ b. eqb b 10) n text) (length text ≡ line_length text) (λ i. i + 1 ≡ n + line_length text)
+unfolding line_length
+seek n [] = refl
+seek n (b ∷ text) = go (eqb b 10) (position_from (λ b. eqb b 10) (n + 1) text) (seek (n + 1) text)
+  where
+    go : (t : Bool) (r : Option ℕ) → MatchOption r (length text ≡ line_length text) (λ i. i + 1 ≡ n + 1 + line_length text)
+        → MatchOption (cond t (Some n) r) (suc (length text) ≡ cond t 1 (suc (line_length text))) (λ i. i + 1 ≡ n + cond t 1 (suc (line_length text)))
+    go true r h = refl
+    go false None h = ap suc h
+    go false (Some i) h = omega arith
 
-module _ {text : List ℕ} {at i : ℕ} (g : Seeking text at i) where
-  module _ (h : i < length text) where
-    here : line_length (drop i text) ≡ cond (eqb (get_or text i 0) 10) 1 (suc (line_length (drop (suc i) text)))
-    unfolding line_length
-    here = ap line_length (drop-cons text i 0 h)
+sought : (text : List ℕ) (r : Option ℕ) → r ≡ position (λ b. eqb b 10) text → MatchOption r (length text ≡ line_length text) (λ i. i + 1 ≡ 0 + line_length text)
+sought text r e = rw (e, position_from-zero) (seek 0 text)
 
-    pub seek_found : get_or text i 0 ≡ 10 → i + 1 ≡ at + line_length (drop at text)
-    seek_found e = let k : line_length (drop i text) ≡ 1 = here ∙ ap (λ (t : Bool). cond t 1 (suc (line_length (drop (suc i) text)))) (eq-eqb (get_or text i 0) 10 e) in omega (arith, g.same)
+module _ (text : List ℕ) (at : ℕ) where
+  pub line_found : (i : ℕ) → Some i ≡ position (λ b. eqb b 10) (take (length text - at) (drop at text)) → at + i + 1 ≡ at + line_length (drop at text)
+  line_found i e = let h = sought (drop at text) (Some i) (rw part at e) in omega (arith, h)
 
-    pub seek_more : (get_or text i 0 ≡ 10 → ⊥) → Seeking text at (i + 1)
-    seek_more f =
-        let k : line_length (drop i text) ≡ suc (line_length (drop (suc i) text)) = here ∙ ap (λ (t : Bool). cond t 1 (suc (line_length (drop (suc i) text)))) (ne_eqb (get_or text i 0) 10 f) in
-        record { inside = omega arith; same = rw add-one (omega (arith, g.same)) }
-
-  pub seek_end : length text ≤ i → i ≡ at + line_length (drop at text)
-  unfolding line_length
-  seek_end h = let k : line_length (drop i text) ≡ 0 = ap line_length (drop_of_length-le text h) in omega (arith, g.same)
+  pub line_last : at ≤ length text → None ≡ position (λ b. eqb b 10) (take (length text - at) (drop at text)) → length text ≡ at + line_length (drop at text)
+  line_last l e = let h = sought (drop at text) None (rw part at e) in omega (arith, h, length-drop at text)

@@ -5,22 +5,20 @@ use mathlib.Core.List.{List, [], ◌∷◌, ◌++◌}
 use Prim.Native.Nat.{ℕ, zero, suc, ◌+◌, ◌-◌, ◌*◌, ◌≤◌, ◌<◌, min}
 use native.Mathlib.Numerals.{add-one}
 use native.Mathlib.Omega.{arith}
-use borrow.Author.Tests.{le-leb, lt-leb, leb-true, le-ltb, eq-eqb, ne_eqb}
+use borrow.Author.Tests.{le-leb, leb-true, le-ltb, eq-eqb, ne_eqb}
 use lib.Dec.{leb, eqb}
 use lib.IntN.{ℤ, pos}
 use lib.ListN.{length, get_or, take, drop, replicate, length-append, length-drop, drop_of_length-le}
 use lib.Seq.{drop-cons, drop-drop, drop_at, take_all}
 use Rattle.binary32.specs.Hex.{hex_text, read_bits}
-use Rattle.binary32.specs.declared.hex.Bits.{Bits}
-use Rattle.binary32.specs.declared.hex.Bits.TheVariants.{Number as EightDigits, Broken}
+use Rattle.std.proofs.Common.{Option, None, Some}
 use Rattle.binary32.proofs.Digits.{digits_length, bits_written_read}
 use Rattle.line_form.specs.Integers.{Front, broken, front, is_digit, digits_after, read_positive, negated, mapped, read_integer}
 use Rattle.line_form.specs.Forms.{Number, bits, whole, number_text, Piece, no_piece, same, number, bits_piece, whole_piece, byte_piece, piece_of, Fitted, misfit, fitted, before, then, fit_of}
-use Rattle.line_form.specs.Held.{held_whole, held, held_up_to, held_fit, held_piece, held_digits, starts_positive, kept}
-use Rattle.line_form.specs.declared.read.LineFit.{LineFit}
+use Rattle.line_form.specs.Held.{held_whole, held, held_up_to, held_fit, held_piece, held_digits, held_positive, kept}
 use Rattle.line_form.specs.declared.read.Digits.{Digits}
 use Rattle.line_form.specs.declared.read.Taken.{Taken}
-use Rattle.line_form.specs.declared.read.Taken.TheVariants.{Nothing, Byte, Number as Word}
+use Rattle.line_form.specs.declared.read.Taken.TheVariants.{Byte, Number as Word}
 use Rattle.line_form.proofs.Decimal.{integer_told}
 
 -- a part of a text to its end
@@ -32,24 +30,6 @@ pub front_of : (text : List ℕ) (i : ℕ) → i < length text → drop i text �
 front_of text i h = rw (add-one, drop-cons text i 0)
 
 -- ---- digits
-
-pub digit_low : (b : ℕ) → b < 48 → false ≡ is_digit b
-digit_low b h = rw (lt-leb 48 b h)
-
-pub digit_else : (b : ℕ) → 48 ≤ b → leb b 57 ≡ is_digit b
-digit_else b h = rw (le-leb 48 b h)
-
-pub record InDigits (b : ℕ) : Type 0 where
-  pub low : 48 ≤ b
-  pub high : b ≤ 57
-
-pub in_digits : (b : ℕ) → is_digit b ≡ true → InDigits b
-in_digits b e = go (leb 48 b) (leb b 57) refl refl e
-  where
-    go : (s t : Bool) → leb 48 b ≡ s → leb b 57 ≡ t → (s && t) ≡ true → InDigits b
-    go true true p q h = record { low = leb-true 48 b p; high = leb-true b 57 q }
-    go true false p q h = absurd (let z : ◌≡◌ {A = ℕ} 0 1 = cc in omega arith)
-    go false t p q h = absurd (let z : ◌≡◌ {A = ℕ} 0 1 = cc in omega arith)
 
 -- digits are held alike after two numbers that are cut alike
 pub alike : (u v : ℕ) (text : List ℕ) → min 1000000 u ≡ min 1000000 v → held_digits (digits_after u text) ≡ held_digits (digits_after v text)
@@ -67,9 +47,6 @@ pub record Counting (text : List ℕ) (v i : ℕ) : Type 0 where
   pub within : i ≤ length text
   pub small : v ≤ 1000000
   pub rest : held_digits (digits_after v (drop i text)) ≡ held_digits (digits_after 0 text)
-
-pub none_counted : (text : List ℕ) → Counting text 0 0
-none_counted text = record { within = omega arith; small = omega arith; rest = refl }
 
 digit_turn : (text : List ℕ) (v i : ℕ) → i < length text → is_digit (get_or text i 0) ≡ true
     → digits_after (v * 10 + (get_or text i 0 - 48)) (drop (i + 1) text) ≡ digits_after v (drop i text)
@@ -105,124 +82,133 @@ module _ (text : List ℕ) (v i : ℕ) (g : Counting text v i) where
 
 -- ---- integers
 
-pub starts_none : (text : List ℕ) → length text ≡ 0 → false ≡ starts_positive text
-unfolding starts_positive
-starts_none [] h = refl
-starts_none (b ∷ text) h = absurd (omega arith)
-
-pub starts_low : (text : List ℕ) → (length text ≡ 0 → ⊥) → get_or text 0 0 < 49 → false ≡ starts_positive text
-unfolding starts_positive
-starts_low [] h k = absurd (h refl)
-starts_low (b ∷ text) h k = rw (lt-leb 49 b k)
-
-pub starts_else : (text : List ℕ) → (length text ≡ 0 → ⊥) → 49 ≤ get_or text 0 0 → leb (get_or text 0 0) 57 ≡ starts_positive text
-unfolding starts_positive
-starts_else [] h k = absurd (h refl)
-starts_else (b ∷ text) h k = rw (le-leb 49 b k)
-
-not_positive : (text : List ℕ) → starts_positive text ≡ false → read_positive text ≡ broken
-unfolding starts_positive read_positive
-not_positive [] e = refl
-not_positive (b ∷ text) e = rw e
-
-positive : (text : List ℕ) → starts_positive text ≡ true → read_positive text ≡ digits_after 0 text
-unfolding starts_positive read_positive digits_after
-positive [] e = absurd (let z : ◌≡◌ {A = ℕ} 0 1 = cc in omega arith)
-positive (b ∷ text) e = go (leb 49 b) (leb b 57) refl refl e
-  where
-    go : (s t : Bool) → leb 49 b ≡ s → leb b 57 ≡ t → (s && t) ≡ true
-        → cond (s && t) (digits_after (b - 48) text) broken ≡ cond (leb 48 b && t) (digits_after (0 * 10 + (b - 48)) text) (front 0 (b ∷ text))
-    go true true p q h = let l = leb-true 49 b p in let k : 0 * 10 + (b - 48) ≡ b - 48 = omega arith in rw (le-leb 48 b (omega arith), k)
-    go true false p q h = absurd (let z : ◌≡◌ {A = ℕ} 0 1 = cc in omega arith)
-    go false t p q h = absurd (let z : ◌≡◌ {A = ℕ} 0 1 = cc in omega arith)
-
 -- digits are never broken: there may be none
 some_digits : (v : ℕ) (text : List ℕ) → digits_after v text ≡ broken → ⊥
 unfolding digits_after
-some_digits v [] e = let z : ◌≡◌ {A = ℕ} 0 1 = cc in omega arith
+some_digits v [] e = cc
 some_digits v (b ∷ text) e = go (is_digit b) (λ h. some_digits (v * 10 + (b - 48)) text h) e
   where
     go : (t : Bool) → (digits_after (v * 10 + (b - 48)) text ≡ broken → ⊥) → cond t (digits_after (v * 10 + (b - 48)) text) (front v (b ∷ text)) ≡ broken → ⊥
     go true f h = f h
-    go false f h = let z : ◌≡◌ {A = ℕ} 0 1 = cc in omega arith
+    go false f h = cc
 
 pub digits_small : (d : Digits) (got : Front ℕ) → d ≡ held_digits got → d.value ≤ 1000000
 unfolding held_digits
 digits_small d broken e = rw e (omega arith)
 digits_small d (front n text) e = rw e (omega arith)
 
-pub sign_none : (f : ℕ → ℤ) (text : List ℕ) → starts_positive text ≡ false → Nothing ≡ held_piece (whole_piece (mapped f (read_positive text)))
-unfolding held_piece
-sign_none f text e = rw (not_positive text e)
+positive_held : (got : Front ℕ) → (got ≡ broken → ⊥) → Some (held_digits got) ≡ held_positive got
+unfolding held_positive
+positive_held broken h = absurd (h refl)
+positive_held (front n text) h = refl
 
-above_held : (got : Front ℕ) → (got ≡ broken → ⊥) → Word (1000000 + (held_digits got).value) (held_digits got).left ≡ held_piece (whole_piece (mapped pos got))
-unfolding held_digits held_piece held held_whole
-above_held broken h = absurd (h refl)
-above_held (front n text) h = refl
+pub positive_some : (text : List ℕ) (d : Digits) → 1 ≤ length text → 49 ≤ get_or text 0 0 → get_or text 0 0 ≤ 57 → d ≡ held_digits (digits_after 0 text)
+    → Some d ≡ held_positive (read_positive text)
+unfolding read_positive digits_after
+positive_some [] d n l m e = absurd (omega arith)
+positive_some (b ∷ text) d n l m e =
+    let k : 0 * 10 + (b - 48) ≡ b - 48 = omega arith in
+    rw (le-leb 49 b l, le-leb b 57 m)
+    (ap (λ (x : Digits). Some x) (rw (le-leb 48 b (omega arith), le-leb b 57 m, k) at e) ∙ positive_held (digits_after (b - 48) text) (some_digits (b - 48) text))
 
-below_held : (got : Front ℕ) → (got ≡ broken → ⊥) → Word (1000000 - (held_digits got).value) (held_digits got).left ≡ held_piece (whole_piece (mapped negated got))
-unfolding held_digits held_piece held held_whole
-below_held broken h = absurd (h refl)
-below_held (front zero text) h = refl
-below_held (front (suc n) text) h = let e : 1000000 - min 1000000 (suc n) ≡ 1000000 - suc n = omega arith in ap (λ (w : ℕ). Word w (length text)) e
+pub positive_none : (text : List ℕ) → (1 ≤ length text → 49 ≤ get_or text 0 0 → 57 < get_or text 0 0) → None ≡ held_positive (read_positive text)
+unfolding read_positive held_positive
+positive_none [] f = refl
+positive_none (b ∷ text) f = go (leb 49 b) (leb b 57) refl refl
+  where
+    go : (s t : Bool) → leb 49 b ≡ s → leb b 57 ≡ t → None ≡ held_positive (cond (s && t) (digits_after (b - 48) text) broken)
+    go true true p q = absurd (omega (arith, f (omega arith) (leb-true 49 b p), leb-true b 57 q))
+    go true false p q = refl
+    go false t p q = refl
 
-pub above_read : (text : List ℕ) (d : Digits) → starts_positive text ≡ true → d ≡ held_digits (digits_after 0 text)
-    → Word (1000000 + d.value) d.left ≡ held_piece (whole_piece (mapped pos (read_positive text)))
-above_read text d e k = rw (k, positive text e) (above_held (digits_after 0 text) (some_digits 0 text))
+pub positive_small : (d : Digits) (text : List ℕ) → Some d ≡ held_positive (read_positive text) → d.value ≤ 1000000
+unfolding held_positive
+positive_small d text e = go (read_positive text) e
+  where
+    go : (got : Front ℕ) → Some d ≡ held_positive got → d.value ≤ 1000000
+    go broken e = absurd cc
+    go (front n text) e = digits_small d (front n text) cc
 
-pub below_read : (text : List ℕ) (d : Digits) → starts_positive text ≡ true → d ≡ held_digits (digits_after 0 text)
-    → Word (1000000 - d.value) d.left ≡ held_piece (whole_piece (mapped negated (read_positive text)))
-below_read text d e k = rw (k, positive text e) (below_held (digits_after 0 text) (some_digits 0 text))
+-- a number above 0, and one below
+abbrev pub plus : Option Digits → Option Taken
+plus None = None
+plus (Some d) = Some (Word (1000000 + d.value) d.left)
 
-pub integer_none : (text : List ℕ) → length text ≡ 0 → Nothing ≡ held_piece (whole_piece (read_integer text))
-unfolding read_integer held_piece
-integer_none [] h = refl
-integer_none (b ∷ text) h = absurd (omega arith)
+abbrev pub minus : Option Digits → Option Taken
+minus None = None
+minus (Some d) = Some (Word (1000000 - d.value) d.left)
 
-pub integer_zero : (text : List ℕ) → (length text ≡ 0 → ⊥) → get_or text 0 0 ≡ 48 → Word 1000000 (length text - 1) ≡ held_piece (whole_piece (read_integer text))
-unfolding read_integer held_piece held held_whole
-integer_zero [] h k = absurd (h refl)
-integer_zero (b ∷ text) h k = let e : length (b ∷ text) - 1 ≡ length text = omega arith in rw (eq-eqb b 48 k, e)
+plus_held : (got : Front ℕ) → plus (held_positive got) ≡ held_piece (whole_piece (mapped pos got))
+unfolding held_positive held_digits held_piece held held_whole
+plus_held broken = refl
+plus_held (front n text) = refl
 
-pub integer_minus : (text : List ℕ) → (length text ≡ 0 → ⊥) → (get_or text 0 0 ≡ 48 → ⊥) → get_or text 0 0 ≡ 45
-    → held_piece (whole_piece (mapped negated (read_positive (take (length text - 1) (drop 1 text))))) ≡ held_piece (whole_piece (read_integer text))
-unfolding read_integer
-integer_minus [] h k l = absurd (h refl)
-integer_minus (b ∷ text) h k l = rw (ne_eqb b 48 k, eq-eqb b 45 l, part (b ∷ text) 1)
+minus_held : (got : Front ℕ) → minus (held_positive got) ≡ held_piece (whole_piece (mapped negated got))
+unfolding held_positive held_digits held_piece held held_whole
+minus_held broken = refl
+minus_held (front zero text) = refl
+minus_held (front (suc n) text) = let e : 1000000 - min 1000000 (suc n) ≡ 1000000 - suc n = omega arith in ap (λ (w : ℕ). Some (Word w (length text))) e
 
-pub integer_plus : (text : List ℕ) → (length text ≡ 0 → ⊥) → (get_or text 0 0 ≡ 48 → ⊥) → (get_or text 0 0 ≡ 45 → ⊥)
-    → held_piece (whole_piece (mapped pos (read_positive text))) ≡ held_piece (whole_piece (read_integer text))
-unfolding read_integer
-integer_plus [] h k l = absurd (h refl)
-integer_plus (b ∷ text) h k l = rw (ne_eqb b 48 k, ne_eqb b 45 l)
+module _ (text : List ℕ) where
+  pub integer_zero : 1 ≤ length text → get_or text 0 0 ≡ 48 → Some (Word 1000000 (length (take (length text - 1) (drop 1 text)))) ≡ held_piece (whole_piece (read_integer text))
+  unfolding read_integer held_piece held held_whole
+  integer_zero h k = rw (part text 1) (go text h k)
+    where
+      go : (text : List ℕ) → 1 ≤ length text → get_or text 0 0 ≡ 48 → Some (Word 1000000 (length (drop 1 text))) ≡ held_piece (whole_piece (read_integer text))
+      go [] h k = absurd (omega arith)
+      go (b ∷ text) h k = rw (eq-eqb b 48 k)
+
+  pub integer_minus : 1 ≤ length text → get_or text 0 0 ≡ 45 → minus (held_positive (read_positive (take (length text - 1) (drop 1 text)))) ≡ held_piece (whole_piece (read_integer text))
+  unfolding read_integer
+  integer_minus h k = rw (part text 1) (minus_held (read_positive (drop 1 text)) ∙ ap (λ (p : Front ℤ). held_piece (whole_piece p)) (go text h k))
+    where
+      go : (text : List ℕ) → 1 ≤ length text → get_or text 0 0 ≡ 45 → mapped negated (read_positive (drop 1 text)) ≡ read_integer text
+      go [] h k = absurd (omega arith)
+      go (b ∷ text) h k = rw (ne_eqb b 48 (omega arith), eq-eqb b 45 k)
+
+  pub integer_plus : 1 ≤ length text → (get_or text 0 0 ≡ 48 → ⊥) → (get_or text 0 0 ≡ 45 → ⊥) → plus (held_positive (read_positive text)) ≡ held_piece (whole_piece (read_integer text))
+  unfolding read_integer
+  integer_plus h k l = plus_held (read_positive text) ∙ ap (λ (p : Front ℤ). held_piece (whole_piece p)) (go text h k l)
+    where
+      go : (text : List ℕ) → 1 ≤ length text → (get_or text 0 0 ≡ 48 → ⊥) → (get_or text 0 0 ≡ 45 → ⊥) → mapped pos (read_positive text) ≡ read_integer text
+      go [] h k l = absurd (omega arith)
+      go (b ∷ text) h k l = rw (ne_eqb b 48 k, ne_eqb b 45 l)
+
+  pub integer_none : length text < 1 → None ≡ held_piece (whole_piece (read_integer text))
+  unfolding read_integer held_piece
+  integer_none h = go text h
+    where
+      go : (text : List ℕ) → length text < 1 → None ≡ held_piece (whole_piece (read_integer text))
+      go [] h = refl
+      go (b ∷ text) h = absurd (omega arith)
 
 -- ---- floats and bytes
 
-pub float_none : (text : List ℕ) (r : Bits) → r ≡ read_bits text → r ≡ Broken → Nothing ≡ held_piece (bits_piece (read_bits text) (drop 8 text))
+pub float_none : (text : List ℕ) → None ≡ read_bits text → None ≡ held_piece (bits_piece (read_bits text) (drop 8 text))
 unfolding held_piece
-float_none text r e k = rw (← e, k)
+float_none text e = rw (← e) refl
 
-pub float_room : (text : List ℕ) (r : Bits) (b : ℕ) → r ≡ read_bits text → r ≡ EightDigits b → 8 ≤ length text
-float_room text r b e k = omega (arith, ap length (bits_written_read b text (sym e ∙ k)).again, length-append (hex_text b) (drop 8 text), digits_length 8 b)
+pub float_room : (text : List ℕ) (b : ℕ) → Some b ≡ read_bits text → 8 ≤ length text
+float_room text b e = omega (arith, ap length (bits_written_read b text (sym e)).again, length-append (hex_text b) (drop 8 text), digits_length 8 b)
 
-pub float_read : (text : List ℕ) (r : Bits) (b : ℕ) → r ≡ read_bits text → r ≡ EightDigits b → Word b (length text - 8) ≡ held_piece (bits_piece (read_bits text) (drop 8 text))
+pub float_read : (text : List ℕ) (b : ℕ) → Some b ≡ read_bits text → Some (Word b (length text - 8)) ≡ held_piece (bits_piece (read_bits text) (drop 8 text))
 unfolding held_piece held
-float_read text r b e k = rw (← e, k, length-drop 8 text)
+float_read text b e = rw (← e, length-drop 8 text) refl
 
-pub byte_none : (c : ℕ) (text : List ℕ) → length text ≡ 0 → Nothing ≡ held_piece (byte_piece c text)
+pub byte_none : (c : ℕ) (text : List ℕ) → length text < 1 → None ≡ held_piece (byte_piece c text)
 unfolding held_piece
 byte_none c [] h = refl
 byte_none c (b ∷ text) h = absurd (omega arith)
 
-pub byte_same : (c : ℕ) (text : List ℕ) → (length text ≡ 0 → ⊥) → get_or text 0 0 ≡ c → Byte ≡ held_piece (byte_piece c text)
+pub byte_same : (c : ℕ) (text : List ℕ) → 1 ≤ length text → get_or text 0 0 ≡ c → Some Byte ≡ held_piece (byte_piece c text)
 unfolding held_piece
-byte_same c [] h k = absurd (h refl)
+byte_same c [] h k = absurd (omega arith)
 byte_same c (b ∷ text) h k = rw (eq-eqb b c k)
 
-pub byte_other : (c : ℕ) (text : List ℕ) → (length text ≡ 0 → ⊥) → (get_or text 0 0 ≡ c → ⊥) → Nothing ≡ held_piece (byte_piece c text)
+pub byte_other : (c : ℕ) (text : List ℕ) → (get_or text 0 0 ≡ c → ⊥) → None ≡ held_piece (byte_piece c text)
 unfolding held_piece
-byte_other c [] h k = absurd (h refl)
-byte_other c (b ∷ text) h k = rw (ne_eqb b c k)
+byte_other c [] k = refl
+byte_other c (b ∷ text) k = rw (ne_eqb b c k)
 
 -- ---- one byte of a form
 
@@ -239,33 +225,33 @@ module _ (c : ℕ) (text : List ℕ) where
   unfolding piece_of
   of_byte h k = rw (ne_eqb c 37 h, ne_eqb c 35 k)
 
-  of_part : (n : ℕ) (r : Taken) → r ≡ held_piece (piece_of c (take (length text - n) (drop n text))) → r ≡ held_piece (piece_of c (drop n text))
+  of_part : (n : ℕ) (r : Option Taken) → r ≡ held_piece (piece_of c (take (length text - n) (drop n text))) → r ≡ held_piece (piece_of c (drop n text))
   of_part n r e = e ∙ ap (λ (s : List ℕ). held_piece (piece_of c s)) (part text n)
 
 -- what stands before the rest of a text is the number's text
-float_told : (text : List ℕ) (got : Bits) (n : Number) (rest : List ℕ) → read_bits text ≡ got → bits_piece got (drop 8 text) ≡ number n rest → text ≡ number_text n ++ rest
+float_told : (text : List ℕ) (got : Option ℕ) (n : Number) (rest : List ℕ) → read_bits text ≡ got → bits_piece got (drop 8 text) ≡ number n rest → text ≡ number_text n ++ rest
 unfolding number_text
-float_told text Broken n rest p h = absurd (let z : ◌≡◌ {A = ℕ} 0 1 = cc in omega arith)
-float_told text (EightDigits b) n rest p h =
+float_told text None n rest p h = absurd cc
+float_told text (Some b) n rest p h =
     let a : bits b ≡ n = cc in
     let d : drop 8 text ≡ rest = cc in
     rw (← a, ← d) (bits_written_read b text p).again
 
 whole_told : (text : List ℕ) (got : Front ℤ) (n : Number) (rest : List ℕ) → read_integer text ≡ got → whole_piece got ≡ number n rest → text ≡ number_text n ++ rest
 unfolding number_text
-whole_told text broken n rest p h = absurd (let z : ◌≡◌ {A = ℕ} 0 1 = cc in omega arith)
+whole_told text broken n rest p h = absurd cc
 whole_told text (front z more) n rest p h =
     let a : whole z ≡ n = cc in
     let d : more ≡ rest = cc in
     rw (← a, ← d) (integer_told text z more p)
 
 byte_number : (c : ℕ) (text : List ℕ) (n : Number) (rest : List ℕ) → byte_piece c text ≡ number n rest → ⊥
-byte_number c [] n rest h = let z : ◌≡◌ {A = ℕ} 0 1 = cc in omega arith
+byte_number c [] n rest h = cc
 byte_number c (b ∷ text) n rest h = go (eqb b c) h
   where
     go : (t : Bool) → cond t (same text) no_piece ≡ number n rest → ⊥
-    go true k = let z : ◌≡◌ {A = ℕ} 0 1 = cc in omega arith
-    go false k = let z : ◌≡◌ {A = ℕ} 0 1 = cc in omega arith
+    go true k = cc
+    go false k = cc
 
 number_told : (c : ℕ) (text : List ℕ) (n : Number) (rest : List ℕ) → piece_of c text ≡ number n rest → text ≡ number_text n ++ rest
 unfolding piece_of
@@ -277,25 +263,25 @@ number_told c text n rest h = go (eqb c 37) (eqb c 35) h
     go false false k = absurd (byte_number c text n rest k)
 
 -- a byte that stands for itself
-float_same : (got : Bits) (text rest : List ℕ) → bits_piece got text ≡ same rest → ⊥
-float_same Broken text rest h = let z : ◌≡◌ {A = ℕ} 0 1 = cc in omega arith
-float_same (EightDigits b) text rest h = let z : ◌≡◌ {A = ℕ} 0 1 = cc in omega arith
+float_same : (got : Option ℕ) (text rest : List ℕ) → bits_piece got text ≡ same rest → ⊥
+float_same None text rest h = cc
+float_same (Some b) text rest h = cc
 
 whole_same : (got : Front ℤ) (rest : List ℕ) → whole_piece got ≡ same rest → ⊥
-whole_same broken rest h = let z : ◌≡◌ {A = ℕ} 0 1 = cc in omega arith
-whole_same (front n text) rest h = let z : ◌≡◌ {A = ℕ} 0 1 = cc in omega arith
+whole_same broken rest h = cc
+whole_same (front n text) rest h = cc
 
 record OneByte (text rest : List ℕ) : Type 0 where
   pub some : 0 < length text
   pub behind : drop 1 text ≡ rest
 
 byte_told : (c : ℕ) (text rest : List ℕ) → byte_piece c text ≡ same rest → OneByte text rest
-byte_told c [] rest h = absurd (let z : ◌≡◌ {A = ℕ} 0 1 = cc in omega arith)
+byte_told c [] rest h = absurd cc
 byte_told c (b ∷ text) rest h = go (eqb b c) h
   where
     go : (t : Bool) → cond t (same text) no_piece ≡ same rest → OneByte (b ∷ text) rest
     go true k = record { some = omega arith; behind = cc }
-    go false k = absurd (let z : ◌≡◌ {A = ℕ} 0 1 = cc in omega arith)
+    go false k = absurd cc
 
 same_told : (c : ℕ) (text rest : List ℕ) → piece_of c text ≡ same rest → OneByte text rest
 unfolding piece_of
@@ -313,9 +299,9 @@ unfoldable pub put_all : List ℕ → ℕ → List Number → List ℕ
 put_all vs k [] = vs
 put_all vs k (n ∷ ns) = put_all (kept vs k (held n)) (k + 1) ns
 
-unfoldable pub onward : List ℕ → ℕ → Fitted → LineFit
+unfoldable pub onward : List ℕ → ℕ → Fitted → Option (List ℕ)
 onward vs k misfit = held_fit misfit
-onward vs k (fitted ns) = record { found = true; values = put_all vs k ns }
+onward vs k (fitted ns) = Some (put_all vs k ns)
 
 put_past : (vs : List ℕ) (k : ℕ) (ns : List Number) → 5 ≤ k → put_all vs k ns ≡ vs
 unfolding put_all kept
@@ -341,7 +327,7 @@ pub record Fitting (form line vs : List ℕ) (i at k : ℕ) : Type 0 where
 start : (f : Fitted) → onward (replicate 5 0) 0 f ≡ held_fit f
 unfolding onward held_fit
 start misfit = refl
-start (fitted ns) = ap (λ (vs : List ℕ). record { found = true; values = vs }) (put_five ns)
+start (fitted ns) = ap (λ (vs : List ℕ). Some vs) (put_five ns)
 
 pub begun : (form line : List ℕ) → Fitting form line (replicate 5 0) 0 0 0
 begun form line = record { within = omega arith; inside = omega arith; few = omega arith; rest = start (fit_of form line) }
@@ -351,17 +337,17 @@ unfolding fit_of
 form_turn form text i h = rw (front_of form i h)
 
 -- what a held piece says of the piece
-nothing_held : (p : Piece) → Nothing ≡ held_piece p → p ≡ no_piece
+nothing_held : (p : Piece) → None ≡ held_piece p → p ≡ no_piece
 unfolding held_piece
 nothing_held no_piece e = refl
-nothing_held (same text) e = absurd (let z : ◌≡◌ {A = ℕ} 0 1 = cc in omega arith)
-nothing_held (number n text) e = absurd (let z : ◌≡◌ {A = ℕ} 0 1 = cc in omega arith)
+nothing_held (same text) e = absurd cc
+nothing_held (number n text) e = absurd cc
 
-byte_held : (p : Piece) → Byte ≡ held_piece p → (text : List ℕ) × (p ≡ same text)
+byte_held : (p : Piece) → Some Byte ≡ held_piece p → (text : List ℕ) × (p ≡ same text)
 unfolding held_piece
-byte_held no_piece e = absurd (let z : ◌≡◌ {A = ℕ} 0 1 = cc in omega arith)
+byte_held no_piece e = absurd cc
 byte_held (same text) e = (text, refl)
-byte_held (number n text) e = absurd (let z : ◌≡◌ {A = ℕ} 0 1 = cc in omega arith)
+byte_held (number n text) e = absurd cc
 
 record HeldNumber (p : Piece) (v left : ℕ) : Type 0 where
   pub n : Number
@@ -370,10 +356,10 @@ record HeldNumber (p : Piece) (v left : ℕ) : Type 0 where
   pub value : v ≡ held n
   pub behind : left ≡ length text
 
-number_held : (p : Piece) (v left : ℕ) → Word v left ≡ held_piece p → HeldNumber p v left
+number_held : (p : Piece) (v left : ℕ) → Some (Word v left) ≡ held_piece p → HeldNumber p v left
 unfolding held_piece
-number_held no_piece v left e = absurd (let z : ◌≡◌ {A = ℕ} 0 1 = cc in omega arith)
-number_held (same text) v left e = absurd (let z : ◌≡◌ {A = ℕ} 0 1 = cc in omega arith)
+number_held no_piece v left e = absurd cc
+number_held (same text) v left e = absurd cc
 number_held (number n text) v left e = record { n = n; text = text; is = refl; value = cc; behind = cc }
 
 one_put : (vs : List ℕ) (k : ℕ) (n : Number) (f : Fitted) → onward vs k (before n f) ≡ onward (kept vs k (held n)) (k + 1) f
@@ -381,80 +367,77 @@ unfolding onward put_all
 one_put vs k n misfit = refl
 one_put vs k n (fitted ns) = refl
 
-module _ (form line vs : List ℕ) (i at k : ℕ) (g : Fitting form line vs i at k) where
+module _ {form line vs : List ℕ} {i at k : ℕ} (g : Fitting form line vs i at k) where
   module _ (h : i < length form) where
-    pub missed : Nothing ≡ held_piece (piece_of (get_or form i 0) (take (length line - at) (drop at line))) → held_fit misfit ≡ held_fit (fit_of form line)
-    unfolding onward
+    pub missed : None ≡ held_piece (piece_of (get_or form i 0) (take (length line - at) (drop at line))) → None ≡ held_fit (fit_of form line)
+    unfolding onward held_fit
     missed e =
-        let q : fit_of (drop i form) (drop at line) ≡ misfit = rw (form_turn form (drop at line) i h, nothing_held (piece_of (get_or form i 0) (drop at line)) (of_part (get_or form i 0) line at Nothing e)) in
+        let q : fit_of (drop i form) (drop at line) ≡ misfit = rw (form_turn form (drop at line) i h, nothing_held (piece_of (get_or form i 0) (drop at line)) (of_part (get_or form i 0) line at None e)) in
         rw q at g.rest
 
-    module _ (e : Byte ≡ held_piece (piece_of (get_or form i 0) (take (length line - at) (drop at line)))) where
-      here : List ℕ
-      here = (byte_held (piece_of (get_or form i 0) (drop at line)) (of_part (get_or form i 0) line at Byte e)).0
+    module _ {t : Taken} (p : Some t ≡ held_piece (piece_of (get_or form i 0) (take (length line - at) (drop at line)))) where
+      module _ (e : t ≡ Byte) where
+        here : (text : List ℕ) × (piece_of (get_or form i 0) (drop at line) ≡ same text)
+        here = byte_held (piece_of (get_or form i 0) (drop at line)) (of_part (get_or form i 0) line at (Some Byte) (rw e at p))
 
-      is_here : piece_of (get_or form i 0) (drop at line) ≡ same here
-      unfolding here
-      is_here = (byte_held (piece_of (get_or form i 0) (drop at line)) (of_part (get_or form i 0) line at Byte e)).1
+        one : OneByte (drop at line) here.0
+        one = same_told (get_or form i 0) (drop at line) here.0 here.1
 
-      one : OneByte (drop at line) here
-      one = same_told (get_or form i 0) (drop at line) here is_here
+        pub byte_room : at < length line
+        byte_room = omega (arith, one.some, length-drop at line)
 
-      pub byte_room : at < length line
-      byte_room = omega (arith, one.some, length-drop at line)
+        pub byte_passed : Fitting form line vs (i + 1) (at + 1) k
+        byte_passed =
+            let q : fit_of (drop i form) (drop at line) ≡ fit_of (drop (i + 1) form) (drop (at + 1) line) =
+            form_turn form (drop at line) i h ∙ ap (λ (p : Piece). then p (λ t. fit_of (drop (i + 1) form) t)) here.1
+            ∙ ap (fit_of (drop (i + 1) form)) (sym one.behind ∙ drop-drop 1 at line) in
+            record {
+              within = omega arith;
+              inside = omega (arith, byte_room);
+              few = omega (arith, g.few);
+              rest = ap (onward vs k) (sym q) ∙ g.rest;
+            }
 
-      pub byte_passed : Fitting form line vs (i + 1) (at + 1) k
-      byte_passed =
-          let q : fit_of (drop i form) (drop at line) ≡ fit_of (drop (i + 1) form) (drop (at + 1) line) =
-          form_turn form (drop at line) i h ∙ ap (λ (p : Piece). then p (λ t. fit_of (drop (i + 1) form) t)) is_here
-          ∙ ap (fit_of (drop (i + 1) form)) (sym one.behind ∙ drop-drop 1 at line) in
-          record {
-            within = omega arith;
-            inside = omega (arith, byte_room);
-            few = omega (arith, g.few);
-            rest = ap (onward vs k) (sym q) ∙ g.rest;
-          }
+      module _ {v left : ℕ} (e : t ≡ Word v left) where
+        found : HeldNumber (piece_of (get_or form i 0) (drop at line)) v left
+        found = number_held (piece_of (get_or form i 0) (drop at line)) v left (of_part (get_or form i 0) line at (Some (Word v left)) (rw e at p))
 
-    module _ (v left : ℕ) (e : Word v left ≡ held_piece (piece_of (get_or form i 0) (take (length line - at) (drop at line)))) where
-      found : HeldNumber (piece_of (get_or form i 0) (drop at line)) v left
-      found = number_held (piece_of (get_or form i 0) (drop at line)) v left (of_part (get_or form i 0) line at (Word v left) e)
+        told : drop at line ≡ number_text found.n ++ found.text
+        told = number_told (get_or form i 0) (drop at line) found.n found.text found.is
 
-      told : drop at line ≡ number_text found.n ++ found.text
-      told = number_told (get_or form i 0) (drop at line) found.n found.text found.is
+        lengths : length line - at ≡ length (number_text found.n) + left
+        lengths = sym (length-drop at line) ∙ ap length told ∙ length-append (number_text found.n) found.text ∙ ap (λ (m : ℕ). length (number_text found.n) + m) (sym found.behind)
 
-      lengths : length line - at ≡ length (number_text found.n) + left
-      lengths = sym (length-drop at line) ∙ ap length told ∙ length-append (number_text found.n) found.text ∙ ap (λ (m : ℕ). length (number_text found.n) + m) (sym found.behind)
+        pub number_room : left ≤ length line
+        number_room = omega (arith, lengths)
 
-      pub number_room : left ≤ length line
-      number_room = omega (arith, lengths)
+        behind : drop (length line - left) line ≡ found.text
+        behind =
+            let m = length (number_text found.n) in
+            let q : length line - left ≡ at + m = omega (arith, lengths, g.inside) in
+            ap (λ (j : ℕ). drop j line) q ∙ sym (drop-drop m at line) ∙ ap (drop m) told ∙ drop_at (number_text found.n) found.text m refl
 
-      behind : drop (length line - left) line ≡ found.text
-      behind =
-          let m = length (number_text found.n) in
-          let q : length line - left ≡ at + m = omega (arith, lengths, g.inside) in
-          ap (λ (j : ℕ). drop j line) q ∙ sym (drop-drop m at line) ∙ ap (drop m) told ∙ drop_at (number_text found.n) found.text m refl
-
-      pub number_passed : (ws : List ℕ) → ws ≡ kept vs k v → Fitting form line ws (i + 1) (length line - left) (k + 1)
-      number_passed ws w =
-          let q : fit_of (drop i form) (drop at line) ≡ before found.n (fit_of (drop (i + 1) form) (drop (length line - left) line)) =
-          form_turn form (drop at line) i h ∙ ap (λ (p : Piece). then p (λ t. fit_of (drop (i + 1) form) t)) found.is
-          ∙ ap (λ (t : List ℕ). before found.n (fit_of (drop (i + 1) form) t)) (sym behind) in
-          record {
-            within = omega arith;
-            inside = omega arith;
-            few = omega (arith, g.few);
-            rest =
-                ap (λ (us : List ℕ). onward us (k + 1) (fit_of (drop (i + 1) form) (drop (length line - left) line))) (w ∙ ap (kept vs k) found.value)
-                ∙ sym (one_put vs k found.n (fit_of (drop (i + 1) form) (drop (length line - left) line)))
-                ∙ ap (onward vs k) (sym q)
-                ∙ g.rest;
-          }
+        pub number_passed : Fitting form line (kept vs k v) (i + 1) (length line - left) (k + 1)
+        number_passed =
+            let q : fit_of (drop i form) (drop at line) ≡ before found.n (fit_of (drop (i + 1) form) (drop (length line - left) line)) =
+            form_turn form (drop at line) i h ∙ ap (λ (p : Piece). then p (λ t. fit_of (drop (i + 1) form) t)) found.is
+            ∙ ap (λ (t : List ℕ). before found.n (fit_of (drop (i + 1) form) t)) (sym behind) in
+            record {
+              within = omega arith;
+              inside = omega arith;
+              few = omega (arith, g.few);
+              rest =
+                  ap (λ (us : List ℕ). onward us (k + 1) (fit_of (drop (i + 1) form) (drop (length line - left) line))) (ap (kept vs k) found.value)
+                  ∙ sym (one_put vs k found.n (fit_of (drop (i + 1) form) (drop (length line - left) line)))
+                  ∙ ap (onward vs k) (sym q)
+                  ∙ g.rest;
+            }
 
   module _ (h : length form ≤ i) where
-    pub all_read : length line ≤ at → record { found = true; values = vs } ≡ held_fit (fit_of form line)
+    pub all_read : length line ≤ at → Some vs ≡ held_fit (fit_of form line)
     unfolding fit_of onward put_all
     all_read l = rw (drop_of_length-le form h, drop_of_length-le line l) at g.rest
 
-    pub more_left : at < length line → held_fit misfit ≡ held_fit (fit_of form line)
-    unfolding fit_of onward
+    pub more_left : at < length line → None ≡ held_fit (fit_of form line)
+    unfolding fit_of onward held_fit
     more_left l = rw (drop_of_length-le form h, front_of line at l) at g.rest

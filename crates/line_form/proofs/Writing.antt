@@ -2,19 +2,21 @@
 use mathlib.Core.Path.{◌≡◌, refl, sym, ap, ap₂, ◌∙◌}
 use mathlib.Core.Bool.{Bool, true, false, cond}
 use mathlib.Core.List.{List, [], ◌∷◌, ◌++◌, append_assoc, append-nil}
-use Prim.Native.Nat.{ℕ, zero, suc, ◌+◌, ◌-◌, ◌/◌, ◌%◌, ◌^◌, ◌≤◌, ◌<◌}
-use native.Mathlib.Nat.{not-suc-le-zero, add-zero}
+use Prim.Native.Nat.{ℕ, zero, suc, ◌+◌, ◌-◌, ◌*◌, ◌/◌, ◌%◌, ◌^◌, ◌≤◌, ◌<◌}
+use native.Mathlib.Nat.{not-suc-le-zero, add-zero, pow-suc}
 use native.Mathlib.Numerals.{add-one}
 use native.Mathlib.Omega.{arith}
 use borrow.Author.Tests.{lt-ltb, le-ltb, ltb-true, ltb-false, eq-eqb, ne_eqb}
 use borrow.Rule.Slice.PartMut.{put_mid}
 use lib.Dec.{ltb}
 use lib.ListN.{length, get_or, take, drop, set, length-append, length-take, length-drop, length-set, take-append-drop, drop_of_length-le}
-use lib.Seq.{drop-cons, drop-drop, drop_at, take_at, drop-set-lt, get_or-set_same, get_or-drop, take_all, length-take-le}
+use lib.Seq.{drop-cons, drop-drop, drop_at, take_at, drop-set-lt, get_or-set_same, get_or-drop, length-take-le}
 use Rattle.binary32.specs.Hex.{hex_text}
 use Rattle.binary32.proofs.Digits.{digits_length}
+use Rattle.std.proofs.Common.{Option, None, Some}
+use Rattle.std.specs.Option.{MatchOption, IfNone, IfSome}
 use Rattle.line_form.specs.Integers.{decimal, integer_text, negated}
-use Rattle.line_form.specs.Forms.{whole, number_text, is_slot, first_text, printed}
+use Rattle.line_form.specs.Forms.{number_text, is_slot, first_text, printed}
 use Rattle.line_form.specs.Lengths.{DigitCount}
 use Rattle.line_form.specs.Written.{unheld_whole, unheld_number, unheld, form_text, piece_text, Wrote}
 use Rattle.line_form.proofs.Decimal.{one_digit, more_digits, decimal_length}
@@ -28,30 +30,27 @@ one_length n h = ap length (one_digit n h)
 more_length : (n : ℕ) → 10 ≤ n → length (decimal n) ≡ length (decimal (n / 10)) + 1
 more_length n h = ap length (more_digits n h) ∙ length-append (decimal (n / 10)) ((48 + n % 10) ∷ [])
 
-some_length : (n : ℕ) → 0 < length (decimal n)
-some_length n = go (ltb n 10) refl
+power_pos : (k : ℕ) → 0 < 10 ^ k
+power_pos zero = omega arith
+power_pos (suc k) = omega (arith, pow-suc 10 k, power_pos k)
+
+-- a number from 10 ^ k up and below 10 times that has k + 1 digits
+length_by_power : (k n : ℕ) → 10 ^ k ≤ n → n < 10 * 10 ^ k → length (decimal n) ≡ k + 1
+length_by_power zero n l h = one_length n (omega (arith, h))
+length_by_power (suc k) n l h =
+    more_length n (omega (arith, l, pow-suc 10 k, power_pos k)) ∙ ap (λ (m : ℕ). m + 1) (length_by_power k (n / 10) (omega (arith, l, pow-suc 10 k)) (omega (arith, h, pow-suc 10 k)) ∙ omega arith)
+
+pub counted : (n r : ℕ) (power : Option ℕ) → n < 2 ^ 64 → IfNone power (n ≡ 0) → IfSome power (λ k. 10 ^ k ≤ n) → IfSome power (λ k. n < 10 * 10 ^ k)
+    → MatchOption power (r ≡ 1) (λ k. r ≡ k + 1) → DigitCount n r
+counted n r power s z l h e = record { is = is; few = omega (arith, is, decimal_length 19 n (omega (arith, s))) }
   where
-    go : (t : Bool) → ltb n 10 ≡ t → 0 < length (decimal n)
-    go true e = omega (arith, one_length n (ltb-true n 10 e))
-    go false e = omega (arith, more_length n (ltb-false n 10 e))
+    go : (power : Option ℕ) → IfNone power (n ≡ 0) → IfSome power (λ k. 10 ^ k ≤ n) → IfSome power (λ k. n < 10 * 10 ^ k) → MatchOption power (r ≡ 1) (λ k. r ≡ k + 1)
+        → r ≡ length (decimal n)
+    go None z l h e = e ∙ sym (one_length n (omega (arith, z)))
+    go (Some k) z l h e = e ∙ sym (length_by_power k n l h)
 
--- the digits of n, counted up to those of m
-pub record Counted (n m count : ℕ) : Type 0 where
-  pub small : n < 2 ^ 64
-  pub sum : count + length (decimal m) ≡ length (decimal n) + 1
-
-pub count_begun : (n : ℕ) → n < 2 ^ 64 → Counted n n 1
-count_begun n h = record { small = h; sum = omega arith }
-
-module _ (n m count : ℕ) (g : Counted n m count) where
-  pub count_room : count ≤ 20
-  count_room = omega (arith, g.sum, some_length m, decimal_length 19 n (omega (arith, g.small)))
-
-  pub one_more_digit : 10 ≤ m → Counted n (m / 10) (count + 1)
-  one_more_digit h = record { small = g.small; sum = omega (arith, g.sum, more_length m h) }
-
-  pub all_counted : m < 10 → DigitCount n count
-  all_counted h = record { is = omega (arith, g.sum, one_length m h); few = count_room }
+    is : r ≡ length (decimal n)
+    is = go power z l h e
 
 -- ---- the digits, the last first
 
@@ -140,15 +139,6 @@ above_text w h = rw (le-ltb w 1000000 h)
 -- ---- one byte of a form
 
 module _ (c : ℕ) where
-  pub takes_float : c ≡ 37 → ◌≡◌ {A = ℕ} 1 (cond (is_slot c) 1 0)
-  takes_float h = rw (eq-eqb c 37 h)
-
-  pub takes_integer : (c ≡ 37 → ⊥) → c ≡ 35 → ◌≡◌ {A = ℕ} 1 (cond (is_slot c) 1 0)
-  takes_integer h k = rw (ne_eqb c 37 h, eq-eqb c 35 k)
-
-  pub takes_none : (c ≡ 37 → ⊥) → (c ≡ 35 → ⊥) → ◌≡◌ {A = ℕ} 0 (cond (is_slot c) 1 0)
-  takes_none h k = rw (ne_eqb c 37 h, ne_eqb c 35 k)
-
   float_text : (w : ℕ) → c ≡ 37 → piece_text c w ≡ hex_text w
   unfolding piece_text unheld_number number_text
   float_text w h = rw (eq-eqb c 37 h)
@@ -288,9 +278,6 @@ module _ (form ws old out : List ℕ) (i at k : ℕ) (g : Filling form ws old ou
     piece_room =
         omega
         (arith, g.room, g.sized, g.inside, ap length g.done, length-append (take at out) (form_text (drop i form) (drop k ws)), length-take at out, ap length split, length-append piece later)
-
-    pub word_room : (m : ℕ) → m ≡ cond (is_slot (get_or form i 0)) 1 0 → k + m ≤ length form
-    word_room m e = omega (arith, g.few, one_word (is_slot (get_or form i 0)) m e)
 
     pub piece_part : length piece ≤ length (take (length out - at) (drop at out))
     piece_part = rw (part out at, length-drop at out) (omega (arith, piece_room))

@@ -1,11 +1,9 @@
 -- Lines that have a form (document 01, "Frame and result"). A form is a text in which the byte % stands for a float, # for an integer, and
 -- every other byte for itself; "One space between parts, LF after each line": both stand in the form. Definitions only.
-use Rattle.std.specs.Prelude.{◌≡◌, Bool, true, false, ◌&&◌, ◌||◌, cond, List, [], ◌∷◌, ◌++◌, ℕ, ◌+◌, ◌<◌, ◌≤◌, ℤ, pos, negsuc, ltb, leb, eqb, length, get_or, drop}
+use Rattle.std.specs.Prelude.{◌≡◌, Bool, true, false, ◌&&◌, ◌||◌, cond, List, [], ◌∷◌, ◌++◌, ℕ, ◌<◌, ℤ, ltb, leb, eqb, length, get_or, drop, Option, None, Some}
 use Prim.Native.Char.{code}
 use Prim.Native.String.{String, [] as []ˢ, ◌∷◌ as ◌∷ˢ◌}
 use Rattle.binary32.specs.Hex.{hex_text, read_bits}
-use Rattle.binary32.specs.declared.hex.Bits.{Bits}
-use Rattle.binary32.specs.declared.hex.Bits.TheVariants.{Number as EightDigits, Broken}
 use Rattle.line_form.specs.Integers.{integer_text, Front, broken, front, read_integer}
 
 -- a form as it is written here, byte by byte
@@ -45,9 +43,9 @@ pub data Piece : Type 0 where
   same : List ℕ → Piece
   number : Number → List ℕ → Piece
 
-abbrev pub bits_piece : Bits → List ℕ → Piece
-bits_piece (EightDigits b) text = number (bits b) text
-bits_piece Broken text = no_piece
+abbrev pub bits_piece : Option ℕ → List ℕ → Piece
+bits_piece (Some b) text = number (bits b) text
+bits_piece None text = no_piece
 
 abbrev pub whole_piece : Front ℤ → Piece
 whole_piece broken = no_piece

@@ -1,11 +1,10 @@
 -- Numbers of a line as the code holds them, one word of 32 bits each. Definitions only.
-use Rattle.std.specs.Prelude.{Bool, true, false, ◌&&◌, cond, List, [], ◌∷◌, ℕ, zero, suc, ◌+◌, ◌-◌, min, ℤ, pos, negsuc, ltb, leb, length, replicate, set}
+use Rattle.std.specs.Prelude.{cond, List, [], ◌∷◌, ℕ, zero, suc, ◌+◌, ◌-◌, min, ℤ, pos, negsuc, ltb, length, set, Option, None, Some}
 use Rattle.line_form.specs.Integers.{offset, Front, broken, front}
 use Rattle.line_form.specs.Forms.{Number, bits, whole, Piece, no_piece, same, number, Fitted, misfit, fitted}
-use Rattle.line_form.specs.declared.read.LineFit.{LineFit}
 use Rattle.line_form.specs.declared.read.Digits.{Digits}
 use Rattle.line_form.specs.declared.read.Taken.{Taken}
-use Rattle.line_form.specs.declared.read.Taken.TheVariants.{Nothing, Byte, Number as Word}
+use Rattle.line_form.specs.declared.read.Taken.TheVariants.{Byte, Number as Word}
 
 -- 1,000,000 + z, cut to 0 .. 2,000,000: so an integer of any length is held, and those beyond 1,000,000 either way are alike
 unfoldable pub held_whole : ℤ → ℕ
@@ -24,27 +23,27 @@ held_up_to (suc k) [] = 0 ∷ held_up_to k []
 held_up_to (suc k) (n ∷ ns) = held n ∷ held_up_to k ns
 
 -- what `fit_line` answers: a line has up to five numbers
-unfoldable pub held_fit : Fitted → LineFit
-held_fit misfit = record { found = false; values = replicate 5 0 }
-held_fit (fitted ns) = record { found = true; values = held_up_to 5 ns }
+unfoldable pub held_fit : Fitted → Option (List ℕ)
+held_fit misfit = None
+held_fit (fitted ns) = Some (held_up_to 5 ns)
 
 -- ---- what the steps of `fit_line` hand on
 
 -- a piece at the front of a text: a number with how many bytes stand behind it
-unfoldable pub held_piece : Piece → Taken
-held_piece no_piece = Nothing
-held_piece (same text) = Byte
-held_piece (number n text) = Word (held n) (length text)
+unfoldable pub held_piece : Piece → Option Taken
+held_piece no_piece = None
+held_piece (same text) = Some Byte
+held_piece (number n text) = Some (Word (held n) (length text))
 
 -- digits at the front of a text: their number, cut to 1,000,000, and how many bytes stand behind them
 unfoldable pub held_digits : Front ℕ → Digits
 held_digits broken = record { value = 0; left = 0 }
 held_digits (front n text) = record { value = min offset n; left = length text }
 
--- the first byte is a digit that is not 0
-unfoldable pub starts_positive : List ℕ → Bool
-starts_positive [] = false
-starts_positive (b ∷ text) = leb 49 b && leb b 57
+-- the same of a number above 0, or none
+unfoldable pub held_positive : Front ℕ → Option Digits
+held_positive broken = None
+held_positive (front n text) = Some (held_digits (front n text))
 
 -- a number at place k, if there is one
 unfoldable pub kept : List ℕ → ℕ → ℕ → List ℕ

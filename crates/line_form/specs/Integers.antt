@@ -1,6 +1,6 @@
 -- Integers in text (document 01, "Frame and result"): "Integers are decimal, of any length, no leading zero, minus only before non-zero".
 -- Definitions only. `proofs/` shows that reading what was written gives the integer back, and that writing what was read gives the bytes back.
-use Rattle.std.specs.Prelude.{Bool, true, false, ◌&&◌, cond, List, [], ◌∷◌, ◌++◌, ℕ, zero, suc, ◌+◌, ◌-◌, ◌*◌, ◌/◌, ◌%◌, ℤ, pos, negsuc, ltb, leb, eqb}
+use Rattle.std.specs.Prelude.{Bool, ◌&&◌, cond, List, [], ◌∷◌, ◌++◌, ℕ, zero, suc, ◌+◌, ◌-◌, ◌*◌, ◌/◌, ◌%◌, ℤ, pos, negsuc, ltb, leb, eqb}
 
 -- integers are held as words that are this much higher
 abbrev pub offset : ℕ

@@ -12,20 +12,14 @@ use binary32::hex::write_bits;
 pub fn digit_count(n: usize) -> usize
     ensures { DigitCount n result }
 {
-    let mut m = n;
-    let mut count = 1usize;
-    while 10 <= m {
-        m = m / 10;
-        count += 1;
-    }
-    count
+    n.checked_ilog10().map_or(1, |d| d as usize + 1)
 }
 
 // The last digit of a number.
 fn last_digit(n: u32) -> u8
     ensures { result ≡ 48 + n % 10 }
 {
-    48 + (n % 10) as u8
+    b'0' + (n % 10) as u8
 }
 
 // Writes the digits of a number, the last first.
@@ -35,11 +29,9 @@ fn write_decimal(n: u32, out: &mut [u8]) -> usize
 {
     let count = digit_count(n as usize);
     let mut m = n;
-    let mut i = count;
-    while 0 < i {
-        i -= 1;
+    for i in (0..count).rev() {
         out[i] = last_digit(m);
-        m = m / 10;
+        m /= 10;
     }
     count
 }
@@ -50,7 +42,7 @@ fn write_integer(w: u32, out: &mut [u8]) -> usize
     ensures { Wrote (integer_text (unheld_whole w)) out.old out.new result }
 {
     if w < OFFSET {
-        out[0] = 45;
+        out[0] = b'-';
         let n = write_decimal(OFFSET - w, &mut out[1..]);
         return n + 1;
     }
@@ -62,38 +54,31 @@ fn write_piece(c: u8, w: u32, out: &mut [u8]) -> usize
     requires { length (piece_text c w) ≤ length out.old }
     ensures { Wrote (piece_text c w) out.old out.new result }
 {
-    if c == 37 {
-        write_bits(w, out);
-        return 8;
+    match c {
+        b'%' => {
+            write_bits(w, out);
+            8
+        }
+        b'#' => write_integer(w, out),
+        _ => {
+            out[0] = c;
+            1
+        }
     }
-    if c == 35 {
-        return write_integer(w, out);
-    }
-    out[0] = c;
-    1
 }
 
 // How many words a byte of a form takes.
 fn words_of(c: u8) -> usize
     ensures { result ≡ cond (is_slot c) 1 0 }
 {
-    if c == 37 {
-        return 1;
-    }
-    if c == 35 {
-        return 1;
-    }
-    0
+    usize::from(matches!(c, b'%' | b'#'))
 }
 
 // A word, and 0 where it is wanting.
 fn word_at(words: &[u32], k: usize) -> u32
     ensures { result ≡ get_or words.now k 0 }
 {
-    if k < words.len() {
-        return words[k];
-    }
-    0
+    words.get(k).copied().unwrap_or(0)
 }
 
 // Writes a form with its numbers to the front of a part, and leaves the rest of it as it was; how many bytes it wrote.
@@ -101,16 +86,11 @@ pub fn write_form(form: &[u8], words: &[u32], out: &mut [u8]) -> usize
     requires { length (form_text form.now words.now) ≤ length out.old }
     ensures { Wrote (form_text form.now words.now) out.old out.new result }
 {
-    let mut i = 0usize;
     let mut at = 0usize;
     let mut k = 0usize;
-    while i < form.len() {
-        let c = form[i];
-        let w = word_at(words, k);
-        let n = write_piece(c, w, &mut out[at..]);
-        at += n;
-        k += words_of(c);
-        i += 1;
+    for c in form {
+        at += write_piece(*c, word_at(words, k), &mut out[at..]);
+        k += words_of(*c);
     }
     at
 }

@@ -1,5 +1,5 @@
 -- What local's functions of a round and of all rounds ask and leave, in the terms of local's definition (crate passes, Local). Definitions only.
-use Rattle.std.specs.Prelude.{◌≡◌, Bool, true, false, not, ◌&&◌, List, ℕ, ◌<◌, ◌≤◌, length, get_or}
+use Rattle.std.specs.Prelude.{◌≡◌, Bool, true, false, not, ◌&&◌, List, ℕ, ◌<◌, ◌≤◌, length, get_or, None}
 use Rattle.sizes.specs.Sizes.{place_count}
 use Rattle.sheet.specs.Corners.{Corners}
 use Rattle.labels.specs.Labelled.{is_labelled}
@@ -7,7 +7,6 @@ use Rattle.arguments.specs.declared.Settings.{Settings}
 use Rattle.arguments.specs.declared.LocalExtensionParams.{LocalExtensionParams}
 use Rattle.passes.specs.Counting.{no_counts, visits}
 use Rattle.passes.specs.Local.{depth_of, LocalState, LocalRounds, local_visit, unmatched_if}
-use Rattle.passes.specs.declared.LargestResidual.{LargestResidual}
 use Rattle.passes.specs.declared.LocalStats.{LocalStats}
 use Rattle.region.specs.Region.{Region, RegionFound, region_of, region_at}
 use Rattle.region.specs.Small.{SmallBox}
@@ -64,7 +63,7 @@ pub record RoundAsked (n : ℕ) (sheet list : List ℕ) (work : LocalWork) (p : 
 
 -- nothing done yet
 abbrev pub no_progress : ℕ → LocalProgress
-no_progress labels = record { counts = no_counts; residual = LargestResidual.Nothing; labels = labels; unmatched = 0 }
+no_progress labels = record { counts = no_counts; residual = None; labels = labels; unmatched = 0 }
 
 abbrev pub start_of : List ℕ → List ℕ → LocalProgress → LocalRounds
 start_of sheet list at = record { state = state_of sheet list at; rounds = 0 }

@@ -21,7 +21,7 @@ ghost use Rattle.local.specs.Rounds.{region_in, RoundOf, tried_at, Tellable, Nex
 use arguments::{LocalExtensionParams, Pass, Settings};
 use labels::Bounds;
 use local_cell::{LocalProgress, LocalSetup, LocalWork};
-use passes::{Counts, LargestResidual, LocalAnswer, LocalStats, Unmatched};
+use passes::{Counts, LocalAnswer, LocalStats};
 use region::Window;
 use remembered::Memory;
 use sizes::{CORNERS, PLACES};
@@ -123,7 +123,7 @@ fn no_progress(labels: usize) -> LocalProgress
             rejected_ambiguous: 0,
             rejected_edge: 0,
         },
-        residual: LargestResidual::Nothing,
+        residual: None,
         labels,
         unmatched: 0,
     }
@@ -156,14 +156,10 @@ fn local_rounds(
 
 // How many corners were passed over, if any shade stands.
 #[tactic(auto, unfolding(passes::specs::Local::unmatched_if))]
-fn unmatched_of(shaded: bool, unmatched: usize) -> Unmatched
+fn unmatched_of(shaded: bool, unmatched: usize) -> Option<usize>
     ensures { result ≡ unmatched_if shaded unmatched }
 {
-    if shaded {
-        Unmatched::Count(unmatched)
-    } else {
-        Unmatched::NoShades
-    }
+    if shaded { Some(unmatched) } else { None }
 }
 
 // What the answer says of the rounds and of the rim, and of the corners passed over.

@@ -1,6 +1,6 @@
 -- One cell of local: what a visit does to the state, by the fit and by what trying the cell finds; and what the code has written when it has
 -- attached a corner. Assumes nothing.
-use Rattle.std.specs.Prelude.{None}
+use Rattle.std.specs.Prelude.{None, Option}
 use mathlib.Core.Path.{◌≡◌, refl, sym, ap, ap₂, ◌∙◌}
 use mathlib.Core.Bool.{Bool, true, false, cond}
 use mathlib.Core.List.{List, [], ◌∷◌, ◌++◌}
@@ -36,7 +36,6 @@ use Rattle.passes.specs.Counting.{one_more, visits}
 use Rattle.passes.specs.Grow.{tolerances_of}
 use Rattle.passes.specs.Local.{LocalState, supports_of, by_reach, cell_point, LocalFit, none, fitted, local_fit, worst, recorded_all, with_residuals, with_unmatched, local_search, gate_of, local_with, local_try, local_at, local_visit}
 use Rattle.passes.specs.declared.Counts.{Counts}
-use Rattle.passes.specs.declared.LargestResidual.{LargestResidual}
 use Rattle.passes.proofs.Over.{over_own, over_more, over_read, over_length}
 use Rattle.passes.proofs.Free.{labels_few, labels_fewer}
 use Rattle.supports.specs.Nearest.{Nearby, Gatherable, Gathered, places_of}
@@ -51,9 +50,9 @@ use Rattle.local_cell.specs.declared.LocalWork.{LocalWork}
 -- ---- what a visit does: no label changes, or it attaches a corner that may be attached; and it counts at most one cell
 
 pub data Tried (cs : Corners) (tol : Tolerances) (c : Cell) (s : LocalState) : LocalState → Type 0 where
-  passed : (n : Counts) (l : LargestResidual) (u : ℕ) → visits n ≤ visits s.counts + 1
+  passed : (n : Counts) (l : Option Float) (u : ℕ) → visits n ≤ visits s.counts + 1
       → Tried cs tol c s (record { sheet = s.sheet; made = s.made; counts = n; largest = l; unmatched = u })
-  attaches : (n : Counts) (l : LargestResidual) (u : ℕ) (k : ℕ) → visits n ≤ visits s.counts + 1 → Attachable cs s.sheet tol c k
+  attaches : (n : Counts) (l : Option Float) (u : ℕ) (k : ℕ) → visits n ≤ visits s.counts + 1 → Attachable cs s.sheet tol c k
       → Tried cs tol c s (record { sheet = attached_clear s.sheet c k; made = s.made ++ (place_of c ∷ []); counts = n; largest = l; unmatched = u })
 
 pub tried : (cs : Corners) (set : Settings) (p : LocalExtensionParams) (c : Cell) (s : LocalState) → Tried cs (tolerances_of set) c s (local_visit cs set p c s)

@@ -19,7 +19,7 @@ ghost use Rattle.local_cell.specs.Extending.{cell_counted, residuals_recorded, u
 
 use arguments::{LocalExtensionParams, Settings};
 use extension_common::{ChoiceRule, Search, TryCellResult};
-use passes::{Counts, LargestResidual};
+use passes::Counts;
 use positions_policy::Tolerances;
 use remembered::{Finding, Known, Memory};
 use sheet::{Cell, Position};
@@ -29,7 +29,7 @@ use sizes::CORNERS;
 #[derive(Clone, Copy)]
 pub struct LocalProgress {
     pub counts: Counts,
-    pub residual: LargestResidual,
+    pub residual: Option<f32>,
     pub labels: usize,
     pub unmatched: usize,
 }

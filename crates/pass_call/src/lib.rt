@@ -42,6 +42,7 @@ fn of_local(answer: LocalAnswer) -> PassAnswer
 
 // Runs a pass: its answer, and every lent buffer, are those of the step that it is. Fill and local leave the queue as it was. `small`: what it
 // says is small enough for the words of an outcome.
+// Each buffer is lent by itself, as the C interface lends it.
 pub fn call_pass(
     xs: &[f32],
     ys: &[f32],

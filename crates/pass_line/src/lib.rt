@@ -7,7 +7,7 @@ ghost use Rattle.report_line.specs.Result.{grow_line, fill_line, local_line, unm
 ghost use Rattle.report_line.specs.Written.{GrowAsked, FillAsked, LocalAsked, LocalLineAsked, BareAsked, FullAsked, UnmatchedAsked, bare_local_text, full_local_text};
 
 use line_form::write::write_form;
-use passes::{FillStats, GrowStats, LargestResidual, LocalStats, Unmatched};
+use passes::{FillStats, GrowStats, LocalStats};
 use report_line::line::held;
 
 // Grow's line: attached, no candidate, ambiguous, edge, rim.
@@ -84,21 +84,20 @@ fn write_local_line(s: LocalStats, out: &mut [u8]) -> usize
     requires { LocalLineAsked s out.old }
     ensures { Wrote (local_line s) out.old out.new result }
 {
-    let residual = s.residual;
-    match residual {
-        LargestResidual::Nothing => write_bare_local(s, out),
-        LargestResidual::Residual(x) => write_full_local(s, x, out),
+    match s.residual {
+        None => write_bare_local(s, out),
+        Some(x) => write_full_local(s, x, out),
     }
 }
 
 // The line behind local's: how many corners were passed over; nothing where no shade stands.
-fn write_unmatched(unmatched: Unmatched, out: &mut [u8]) -> usize
+fn write_unmatched(unmatched: Option<usize>, out: &mut [u8]) -> usize
     requires { UnmatchedAsked unmatched out.old }
     ensures { Wrote (unmatched_line unmatched) out.old out.new result }
 {
     match unmatched {
-        Unmatched::NoShades => 0,
-        Unmatched::Count(n) => {
+        None => 0,
+        Some(n) => {
             let words = [held(n)];
             write_form(b"(unmatched #)\n", &words, out)
         }

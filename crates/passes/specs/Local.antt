@@ -28,9 +28,7 @@ use Rattle.passes.specs.Counting.{no_counts, one_more}
 use Rattle.passes.specs.Grow.{tolerances_of}
 use Rattle.passes.specs.Fill.{near_i, near_j, cells_of}
 use Rattle.passes.specs.declared.Counts.{Counts}
-use Rattle.passes.specs.declared.LargestResidual.{LargestResidual}
 use Rattle.passes.specs.declared.LocalStats.{LocalStats}
-use Rattle.passes.specs.declared.Unmatched.{Unmatched}
 
 -- "Depth 0 acts as 1", for the rim too
 unfoldable pub depth_of : LocalExtensionParams → ℕ
@@ -132,7 +130,7 @@ pub record LocalState : Type 0 where
   pub sheet : List ℕ
   pub made : List ℕ
   pub counts : Counts
-  pub largest : LargestResidual
+  pub largest : Option Float
   pub unmatched : ℕ
 
 -- the largest of some residuals, from 0 on
@@ -141,11 +139,11 @@ worst m [] = m
 worst m (r ∷ rs) = worst (cond (lt m r) r m) rs
 
 -- one residual more, and some
-unfoldable pub recorded : LargestResidual → Float → LargestResidual
-recorded LargestResidual.Nothing r = LargestResidual.Residual r
-recorded (LargestResidual.Residual m) r = LargestResidual.Residual (cond (lt m r) r m)
+unfoldable pub recorded : Option Float → Float → Option Float
+recorded None r = Some r
+recorded (Some m) r = Some (cond (lt m r) r m)
 
-unfoldable pub recorded_all : LargestResidual → List Float → LargestResidual
+unfoldable pub recorded_all : Option Float → List Float → Option Float
 recorded_all l [] = l
 recorded_all l (r ∷ rs) = recorded_all (recorded l r) rs
 
@@ -230,12 +228,12 @@ local_limit labels limit = cond (ltb labels 4) 0 limit
 unfoldable pub local_run : Corners → Settings → LocalExtensionParams → List ℕ → LocalRounds
 local_run cs set p sheet =
     local_from cs set p (local_limit (label_count sheet) p.max_iters)
-    (record { state = record { sheet = sheet; made = []; counts = no_counts; largest = LargestResidual.Nothing; unmatched = 0 }; rounds = 0 })
+    (record { state = record { sheet = sheet; made = []; counts = no_counts; largest = None; unmatched = 0 }; rounds = 0 })
 
 -- "if any shade stands", how many
-unfoldable pub unmatched_if : Bool → ℕ → Unmatched
-unmatched_if false n = Unmatched.NoShades
-unmatched_if true n = Unmatched.Count n
+unfoldable pub unmatched_if : Bool → ℕ → Option ℕ
+unmatched_if false n = None
+unmatched_if true n = Some n
 
 abbrev pub local_left : Bool → ℕ → LocalRounds → After LocalStats
 local_left shaded depth r = record {

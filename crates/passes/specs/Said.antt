@@ -1,6 +1,6 @@
 -- What the answers of the passes say, in document 01's numbers and values ("Frame and result": "Grow: attached, no candidate, ambiguous, edge, rim.
 -- Fill: added, rounds, rim. Local: grow's four, rounds, largest residual or `none`, rim."; document 02, 1/14: unmatched). Definitions only.
-use Rattle.std.specs.Prelude.{List, [], ◌∷◌}
+use Rattle.std.specs.Prelude.{List, [], ◌∷◌, Option, None, Some, ℕ, Float}
 use Rattle.refusal.specs.Refusal.{number_of}
 use Rattle.refusal.specs.Said.{Value, whole, float, yes_or_no, none, Said, number, values}
 use Rattle.passes.specs.Outcome.{Outcome, refused, done}
@@ -9,9 +9,7 @@ use Rattle.passes.specs.declared.GrowStats.{GrowStats}
 use Rattle.passes.specs.declared.GrowAnswer.{GrowAnswer}
 use Rattle.passes.specs.declared.FillStats.{FillStats}
 use Rattle.passes.specs.declared.FillAnswer.{FillAnswer}
-use Rattle.passes.specs.declared.LargestResidual.{LargestResidual}
 use Rattle.passes.specs.declared.LocalStats.{LocalStats}
-use Rattle.passes.specs.declared.Unmatched.{Unmatched}
 use Rattle.passes.specs.declared.LocalAnswer.{LocalAnswer}
 
 -- ---- the values of a pass that was run
@@ -41,14 +39,14 @@ fill_values s =
     ∷ []
 
 -- "largest residual or `none`"
-abbrev pub residual_value : LargestResidual → Value
-residual_value LargestResidual.Nothing = none
-residual_value (LargestResidual.Residual x) = float x
+abbrev pub residual_value : Option Float → Value
+residual_value None = none
+residual_value (Some x) = float x
 
 -- how many were passed over, or none where no shade stands
-abbrev pub unmatched_value : Unmatched → Value
-unmatched_value Unmatched.NoShades = none
-unmatched_value (Unmatched.Count n) = whole n
+abbrev pub unmatched_value : Option ℕ → Value
+unmatched_value None = none
+unmatched_value (Some n) = whole n
 
 -- grow's four, rounds, largest residual or `none`, rim; and unmatched
 unfoldable pub local_values : LocalStats → List Value

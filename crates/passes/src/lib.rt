@@ -73,28 +73,16 @@ pub enum FillAnswer {
     Refused(Refusal),
 }
 
-// The largest residual that local recorded, or none.
-#[derive(Clone, Copy)]
-pub enum LargestResidual {
-    Nothing,
-    Residual(f32),
-}
-
-// How many corners local passed over for their kind, each time that it gathered; or that no shade stands, so that none could be.
-#[derive(Clone, Copy)]
-pub enum Unmatched {
-    NoShades,
-    Count(usize),
-}
-
 // Local's pass line: grow's four counts, rounds, largest residual or none, rim; and the corners passed over.
 #[derive(Clone, Copy)]
 pub struct LocalStats {
     pub counts: Counts,
     pub iterations: usize,
-    pub residual: LargestResidual,
+    // the largest residual that was recorded, if any was
+    pub residual: Option<f32>,
     pub rim: bool,
-    pub unmatched: Unmatched,
+    // how many corners were passed over for their kind, each time that it gathered; none where no shade stands, so that none could be
+    pub unmatched: Option<usize>,
 }
 
 // What the public call of local answers.

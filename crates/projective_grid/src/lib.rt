@@ -4,22 +4,19 @@
 #![tactic(auto)]
 
 // the square root (01, "Number")
-pub use binary32::root::{Rooted, sqrt};
+pub use binary32::root::sqrt;
 
 // the passes (01, "Sheet")
 pub use arguments::{FillParams, GrowParams, LocalExtensionParams, Settings};
 pub use fill::fill_grid_holes;
 pub use grow_extend::extend_from_labelled;
 pub use local::extend_via_local_homography;
-pub use passes::{
-    Counts, FillAnswer, FillStats, GrowAnswer, GrowStats, LargestResidual, LocalAnswer, LocalStats,
-    Unmatched,
-};
+pub use passes::{Counts, FillAnswer, FillStats, GrowAnswer, GrowStats, LocalAnswer, LocalStats};
 pub use predict::{Grid, Vector};
 
 // the reader and the result's text (01, "Frame and result")
-pub use frame::{FrameAnswer, FrameHead, read_frame};
-pub use report::{PieceAnswer, TextAnswer, write_result, write_result_piece};
+pub use frame::{FrameHead, FrameRefusal, read_frame};
+pub use report::{PieceEnd, write_result, write_result_piece};
 
 // the refusals, and their numbers
 pub use refusal::{Refusal, number};

@@ -7,39 +7,31 @@ use Prim.Native.Nat.{ℕ, zero, suc, ◌+◌, ◌<◌, ◌≤◌}
 use native.Mathlib.Numerals.{add-one}
 use native.Mathlib.Omega.{arith}
 use lib.ListN.{length, take}
-use Rattle.std.proofs.Common.{Option}
+use Rattle.std.proofs.Common.{Result, Ok, Err}
 use lib.Seq.{take_at}
 use borrow.Author.Count.{below_more}
 use Rattle.report_line.specs.Result.{Piece}
 use Rattle.frame_answer.specs.Answer.{answer_lines, held_lines, held_piece, FewPasses, Lent, Recovers, WrotePiece, Moves}
+use Rattle.frame.specs.declared.FrameRefusal.{FrameRefusal}
 use Rattle.frame_answer.specs.declared.Recovered.{Recovered}
 use Rattle.frame_answer.specs.declared.PieceWritten.{PieceWritten}
 use Rattle.frame_answer.proofs.Saying.{says}
 use Rattle.frame.specs.Frame.{read_frame}
-use Rattle.recover_say.specs.Said.{line_after, SaidOf, Told, held_from, piece_from, ToldOf, PieceText, put_of, PutSo, Telling, WroteText, WrotePut}
+use Rattle.recover_say.specs.Said.{line_after, SaidOf, Told, held_from, piece_from, ToldOf, PieceText, SaidAs, said_of, Telling}
 use Rattle.recover_say.specs.declared.Said.{Said}
+use Rattle.recover_say.specs.declared.CutOff.{CutOff}
 
-pub begun : (answer : Recovered) (words sheet out : List ℕ) → 4096 ≡ length out → Telling answer words sheet out 0 0
+pub begun : (answer : Result Recovered FrameRefusal) (words sheet out : List ℕ) → 4096 ≡ length out → Telling answer words sheet out 0 0
 unfolding line_after
 begun answer words sheet out h = record { whole = h; reached = refl; behind = omega arith; few = omega arith; started = λ k l. absurd (omega (arith, l)) }
 
 -- an answer has few lines, empty ones included
-pub few_lines : (answer : Recovered) → FewPasses answer → held_lines answer ≤ 49169
+pub few_lines : (answer : Result Recovered FrameRefusal) → FewPasses answer → held_lines answer ≤ 49169
 unfolding held_lines
-few_lines (Recovered.Refused r line) h = omega arith
-few_lines (Recovered.Done corners passes) h = omega (arith, h)
+few_lines (Err e) h = omega arith
+few_lines (Ok r) h = omega (arith, h)
 
--- one more, if it was written
-pub put_so : (n : ℕ) (written : Bool) → PutSo n (put_of written n)
-put_so n true = refl
-put_so n false = tt
-
--- and it was written
-pub wrote_put : (before after : Option (List ℕ)) (text : List ℕ) (n : ℕ) (written : Bool) → WroteText before after text written → WrotePut before after text (put_of written n)
-wrote_put before after text n true w = w
-wrote_put before after text n false w = w
-
-module _ (answer : Recovered) (words sheet : List ℕ) {out old new : List ℕ} {n from : ℕ} {piece : PieceWritten} (t : Telling answer words sheet out n from)
+module _ (answer : Result Recovered FrameRefusal) (words sheet : List ℕ) {out old new : List ℕ} {n from : ℕ} {piece : PieceWritten} (t : Telling answer words sheet out n from)
     (w : WrotePiece (held_piece answer words sheet from (length out)) old new piece) where
   -- the piece from the line that was reached, into the whole buffer
   this_piece : held_piece answer words sheet from (length out) ≡ held_from answer words sheet (line_after (held_from answer words sheet) n)
@@ -52,20 +44,19 @@ module _ (answer : Recovered) (words sheet : List ℕ) {out old new : List ℕ} 
       ∙ take_at (held_piece answer words sheet from (length out)).text _ piece.bytes (sym w.wrote.count)
       ∙ ap (λ (p : Piece). p.text) this_piece
 
-  pub one_more : (room more : ℕ) → from < held_lines answer → Moves from room piece → 4096 ≡ length new → more ≡ n + 1 → Telling answer words sheet new more piece.next
+  pub one_more : from < held_lines answer → from < piece.next → 4096 ≡ length new → Telling answer words sheet new (n + 1) piece.next
   unfolding line_after
-  one_more room more h m e one =
-      rw one
-      (record {
+  one_more h later e =
+      record {
         whole = e;
         reached = w.next_so ∙ ap (λ (p : Piece). p.next) this_piece ∙ rw add-one refl;
-        behind = omega (arith, m.later, t.behind);
+        behind = omega (arith, later, t.behind);
         few = omega (arith, t.behind, h);
         started = below_more (λ k. line_after (held_from answer words sheet) k < held_lines answer) n t.started (rw (← t.reached) h);
-      })
+      }
 
-pub told_of : (answer : Recovered) (words sheet : List ℕ) {out : List ℕ} {n from lines : ℕ} → Telling answer words sheet out n from → lines ≡ held_lines answer
-    → ToldOf answer words sheet (record { pieces = n; next = from; lines = lines })
+pub told_of : (answer : Result Recovered FrameRefusal) (words sheet : List ℕ) {out : List ℕ} {r : Said} → Telling answer words sheet out r.pieces r.next → r.lines ≡ held_lines answer
+    → ToldOf answer words sheet r
 told_of answer words sheet t e = record { lines_so = e; next_so = t.reached; few = t.few; started = t.started }
 
 -- the same pieces reach the same line
@@ -74,7 +65,7 @@ unfolding line_after
 same_after f g e zero = refl
 same_after f g e (suc n) = ap (λ (p : Piece). p.next) (e (line_after f n)) ∙ ap (λ (k : ℕ). (g k).next) (same_after f g e n)
 
-pub told : (text : List ℕ) (before after : Lent) (answer : Recovered) {r : Said} → Recovers text before after answer → ToldOf answer after.words after.frame.sheet r → Told text r
+pub told : (text : List ℕ) (before after : Lent) (answer : Result Recovered FrameRefusal) {r : Said} → Recovers text before after answer → ToldOf answer after.words after.frame.sheet r → Told text r
 told text before after answer {r} w t =
     let s = says text before after answer w in
     let same : (n : ℕ) → line_after (held_from answer after.words after.frame.sheet) n ≡ line_after (piece_from text) n = same_after _ _ (λ k. s.piece_so k 4096) in
@@ -84,3 +75,13 @@ told text before after answer {r} w t =
       few = omega (arith, t.few, s.lines_so);
       started = λ k h. omega (arith, t.started k h, same k, s.lines_so);
     }
+
+-- the same whether all was said or it was cut off
+pub told_as : (text : List ℕ) (before after : Lent) (answer : Result Recovered FrameRefusal) (r : Result Said CutOff) → Recovers text before after answer
+    → SaidAs (ToldOf answer after.words after.frame.sheet) r → SaidAs (Told text) r
+told_as text before after answer (Ok r) w s = (told text before after answer w s.0, s.1)
+told_as text before after answer (Err e) w s = (told text before after answer w s.0, s.1)
+
+pub said_so : (T : Said → Type 0) (r : Result Said CutOff) → SaidAs T r → T (said_of r)
+said_so T (Ok r) s = s.0
+said_so T (Err e) s = s.0

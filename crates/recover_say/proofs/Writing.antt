@@ -1,5 +1,5 @@
 -- What a writer took of a text, of pieces and of an answer. Assumes nothing.
-use Rattle.std.proofs.Common.{◌≡◌, ℕ, zero, suc, ◌+◌, ◌-◌, ◌<◌, ◌≤◌, List, [], ◌++◌, append_assoc, append-nil, false, Option, arith, refl, sym, ap, ◌∙◌, subst, length, take, drop, length-drop, take_all, ⊎_elim}
+use Rattle.std.proofs.Common.{Result, ◌≡◌, ℕ, zero, suc, ◌+◌, ◌-◌, ◌<◌, ◌≤◌, List, [], ◌++◌, append_assoc, append-nil, false, Option, arith, add-one, refl, sym, ap, ◌∙◌, subst, length, take, drop, length-drop, take_all, take-append-drop, ⊎_elim}
 use Rattle.std.proofs.lemmas.Bool.{cases_lt}
 use lib.Seq.{take-add}
 use Rattle.std.specs.Io.KnownBytes.{Appends}
@@ -8,6 +8,7 @@ use borrow.Author.Count.{below_more}
 use Rattle.frame.specs.Frame.{read_frame}
 use Rattle.report_line.specs.Result.{Piece}
 use Rattle.frame_answer.specs.Answer.{answer_lines, answer_text, Lent, Recovers}
+use Rattle.frame.specs.declared.FrameRefusal.{FrameRefusal}
 use Rattle.frame_answer.specs.declared.Recovered.{Recovered}
 use Rattle.frame_answer.proofs.Saying.{says}
 use Rattle.recover_say.specs.Said.{line_after, text_after, Told, piece_from, held_from, WroteText, WroteOf, WroteAnswer}
@@ -17,29 +18,17 @@ use Rattle.recover_say.proofs.Printing.{told_prints}
 
 -- ---- a text
 
-module _ (a b c : Option (List ℕ)) (text : List ℕ) (done n : ℕ) (h : done < length text) (fits : n ≤ length (take (length text - done) (drop done text)))
-    (before : Appends a b (take done text)) (more : Appends b c (take n (take (length text - done) (drop done text)))) where
-  rest : take (length text - done) (drop done text) ≡ drop done text
-  rest = take_all (length text - done) (drop done text) (omega (arith, length-drop done text))
-
-  pub in_text : done + n ≤ length text
-  in_text = omega (arith, fits, ap length rest, length-drop done text)
-
-  pub some_more : Appends a c (take (done + n) text)
-  some_more = subst (Appends a c) (ap (λ xs. take done text ++ take n xs) rest ∙ sym (take-add done n text)) (Appends-trans a b c _ _ before more)
-
-  pub none_more : n ≡ 0 → Appends a c (take done text)
-  none_more e =
-      let same : done + n ≡ done = omega (arith, e) in
-      subst (λ k. Appends a c (take k text)) same some_more
+-- a front part of a text, and of the rest of it one more
+pub one_part : (text front rest : List ℕ) (n : ℕ) → front ++ rest ≡ text → n ≤ length rest → (front ++ take n rest) ++ take (length rest - n) (drop n rest) ≡ text
+one_part text front rest n e h =
+    append_assoc front (take n rest) _ ∙ ap (λ (xs : List ℕ). front ++ (take n rest ++ xs)) (take_all (length rest - n) (drop n rest) (omega (arith, length-drop n rest)))
+    ∙ ap (λ (xs : List ℕ). front ++ xs) (take-append-drop n rest) ∙ e
 
 -- ---- pieces
 
-text_more : (piece : ℕ → Piece) (n more : ℕ) → more ≡ n + 1 → text_after piece more ≡ text_after piece n ++ (piece (line_after piece n)).text
+text_more : (piece : ℕ → Piece) (n : ℕ) → text_after piece (n + 1) ≡ text_after piece n ++ (piece (line_after piece n)).text
 unfolding text_after
-text_more piece n more one =
-    let e : suc n ≡ more = omega (arith, one) in
-    subst (λ k. text_after piece k ≡ text_after piece n ++ (piece (line_after piece n)).text) e refl
+text_more piece n = rw add-one refl
 
 -- none at first
 pub no_piece : (a : Option (List ℕ)) (piece : ℕ → Piece) → Appends a a (text_after piece 0)
@@ -48,10 +37,9 @@ no_piece a piece = Appends-nil a
 
 module _ (a b c : Option (List ℕ)) (piece : ℕ → Piece) where
   -- one more was written
-  pub wrote_more : (n more : ℕ) (text : List ℕ) → text ≡ (piece (line_after piece n)).text → Appends a b (text_after piece n) → Appends b c text → more ≡ n + 1
-      → Appends a c (text_after piece more)
-  wrote_more n more text is before now one =
-      subst (Appends a c) (ap (λ xs. text_after piece n ++ xs) is ∙ sym (text_more piece n more one)) (Appends-trans a b c _ _ before now)
+  pub wrote_more : (n : ℕ) (text : List ℕ) → text ≡ (piece (line_after piece n)).text → Appends a b (text_after piece n) → Appends b c text → Appends a c (text_after piece (n + 1))
+  wrote_more n text is before now =
+      subst (Appends a c) (ap (λ xs. text_after piece n ++ xs) is ∙ sym (text_more piece n)) (Appends-trans a b c _ _ before now)
 
   -- one could not be
   pub wrote_part : (r : Said) (text : List ℕ) → text ≡ (piece (line_after piece r.pieces)).text → Appends a b (text_after piece r.pieces) → WroteText b c text false
@@ -126,7 +114,7 @@ module _ (text : List ℕ) (a b : Option (List ℕ)) (r : Said) (t : Told text r
             append_assoc said w.part (w.rest ++ further.rest)
             ∙ ap (λ (xs : List ℕ). said ++ xs) (sym (append_assoc w.part w.rest further.rest) ∙ ap (λ (xs : List ℕ). xs ++ further.rest) (w.of_next left).1)
             ∙ sym (append_assoc said (piece (line_after piece r.pieces)).text further.rest)
-            ∙ ap (λ (xs : List ℕ). xs ++ further.rest) (sym (text_more piece r.pieces (r.pieces + 1) refl))
+            ∙ ap (λ (xs : List ℕ). xs ++ further.rest) (sym (text_more piece r.pieces))
             ∙ further.front;
         whole = λ l. absurd (omega (arith, l, left));
       }
@@ -134,7 +122,7 @@ module _ (text : List ℕ) (a b : Option (List ℕ)) (r : Said) (t : Told text r
   pub wrote_answer : WroteAnswer a b text r
   wrote_answer = ⊎_elim part_of all_of (cases_lt r.next r.lines)
 
-pub wrote : (text : List ℕ) (before after : Lent) (answer : Recovered) (a b : Option (List ℕ)) (r : Said) → Recovers text before after answer → Told text r
+pub wrote : (text : List ℕ) (before after : Lent) (answer : Result Recovered FrameRefusal) (a b : Option (List ℕ)) (r : Said) → Recovers text before after answer → Told text r
     → WroteOf a b (held_from answer after.words after.frame.sheet) r → WroteAnswer a b text r
 wrote text before after answer a b r w t h =
     let s = says text before after answer w in

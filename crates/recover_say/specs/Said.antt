@@ -1,12 +1,13 @@
 -- How far an answer was said: how many pieces were written, which line comes after them, and what they are of the answer. What the written bytes
 -- do outside the program is no part of this; of a writer whose bytes are known it is said what it took. Definitions only.
-use Rattle.std.specs.Prelude.{◌≡◌, Bool, true, false, List, [], ◌++◌, ℕ, zero, suc, ◌+◌, ◌<◌, ◌≤◌, length, Option}
+use Rattle.std.specs.Prelude.{◌≡◌, Bool, true, false, List, [], ◌++◌, ℕ, zero, suc, ◌+◌, ◌<◌, ◌≤◌, length, Option, Result, Ok, Err}
 use Rattle.std.specs.Io.KnownBytes.{Appends}
 use Rattle.frame.specs.Frame.{read_frame}
 use Rattle.report_line.specs.Result.{Piece}
 use Rattle.frame_answer.specs.Answer.{answer_lines, answer_piece, answer_text, held_lines, held_piece}
+use Rattle.frame.specs.declared.FrameRefusal.{FrameRefusal}
 use Rattle.frame_answer.specs.declared.Recovered.{Recovered}
-use Rattle.recover_say.specs.declared.Put.{Put}
+use Rattle.recover_say.specs.declared.CutOff.{CutOff}
 use Rattle.recover_say.specs.declared.Said.{Said}
 
 -- ---- pieces in order, each given by the line that it starts from
@@ -27,6 +28,16 @@ pub record SaidOf (lines : ℕ) (piece : ℕ → Piece) (r : Said) : Type 0 wher
   pub next_so : r.next ≡ line_after piece r.pieces
   pub few : r.pieces ≤ lines
   pub started : (k : ℕ) → k < r.pieces → line_after piece k < lines
+
+-- how far it was said, whether all of it was or it was cut off
+abbrev pub said_of : Result Said CutOff → Said
+said_of (Ok r) = r
+said_of (Err e) = e.said
+
+-- all was said where the line after the last piece is past the last line, and else it was cut off
+abbrev pub SaidAs : (Said → Type 0) → Result Said CutOff → Type 0
+SaidAs Told (Ok r) = Told r × (r.lines ≤ r.next)
+SaidAs Told (Err e) = Told e.said × (e.said.next < e.said.lines)
 
 -- ---- the answer to a text
 
@@ -51,29 +62,19 @@ ToldPrints = (text : List ℕ) (r : Said) → Told text r → Prints text r
 -- ---- the same from what a run holds
 
 -- the pieces of what is held
-abbrev pub held_from : Recovered → List ℕ → List ℕ → ℕ → Piece
+abbrev pub held_from : Result Recovered FrameRefusal → List ℕ → List ℕ → ℕ → Piece
 held_from answer words sheet k = held_piece answer words sheet k 4096
 
 -- how far it was said
-abbrev pub ToldOf : Recovered → List ℕ → List ℕ → Said → Type 0
+abbrev pub ToldOf : Result Recovered FrameRefusal → List ℕ → List ℕ → Said → Type 0
 ToldOf answer words sheet r = SaidOf (held_lines answer) (held_from answer words sheet) r
 
 -- the text of a piece by its number, no more and no less
-abbrev pub PieceText : Recovered → List ℕ → List ℕ → ℕ → List ℕ → Type 0
+abbrev pub PieceText : Result Recovered FrameRefusal → List ℕ → List ℕ → ℕ → List ℕ → Type 0
 PieceText answer words sheet n text = text ≡ (held_from answer words sheet (line_after (held_from answer words sheet) n)).text
 
--- what became of a piece, by whether it was written, and n before it
-abbrev pub put_of : Bool → ℕ → Put
-put_of true n = Put.Written (n + 1)
-put_of false n = Put.Failed
-
--- a piece that was written is one more
-abbrev pub PutSo : ℕ → Put → Type 0
-PutSo n (Put.Written more) = more ≡ n + 1
-PutSo n Put.Failed = Unit {0}
-
 -- so many pieces are written, which end before a line, and the buffer is whole
-pub record Telling (answer : Recovered) (words sheet out : List ℕ) (n from : ℕ) : Type 0 where
+pub record Telling (answer : Result Recovered FrameRefusal) (words sheet out : List ℕ) (n from : ℕ) : Type 0 where
   pub whole : 4096 ≡ length out
   pub reached : from ≡ line_after (held_from answer words sheet) n
   pub behind : n ≤ from
@@ -86,11 +87,6 @@ pub record Telling (answer : Recovered) (words sheet out : List ℕ) (n from : �
 abbrev pub WroteText : Option (List ℕ) → Option (List ℕ) → List ℕ → Bool → Type 0
 WroteText before after text true = Appends before after text
 WroteText before after text false = (part : List ℕ) × (rest : List ℕ) × (part ++ rest ≡ text) × Appends before after part
-
--- the same by what became of a piece
-abbrev pub WrotePut : Option (List ℕ) → Option (List ℕ) → List ℕ → Put → Type 0
-WrotePut before after text (Put.Written more) = WroteText before after text true
-WrotePut before after text Put.Failed = WroteText before after text false
 
 -- so many pieces, and of the next one a part, if it could not be written
 pub record WroteOf (before after : Option (List ℕ)) (piece : ℕ → Piece) (r : Said) : Type 0 where

@@ -8,86 +8,75 @@
 
 ghost use Rattle.std.specs.Prelude.{◌≤◌};
 
-use binary32::hex::Bits;
+use std::fmt;
 use std::io::{Read, Write};
 
-// Says what is wrong; nothing can follow.
-fn stops(rt: &impl Eprint, why: &str) -> bool {
-    let _ = eprintln!(rt; "recover_vectors: {why}");
-    false
+// Why no text can follow.
+#[derive(Clone, Copy)]
+enum Fault {
+    NotRead,
+    LengthEnds,
+    NoLineFeed,
+    NoDigits,
+    TooLong,
+    TextEnds,
+    // a read failed within a text, which then ends too early: both are said
+    TextNotRead,
+    NotWritten,
 }
 
-// How many bytes of the buffer were filled; where a read failed, none.
-fn filled<R: Read>(rt: &impl Eprint, source: &mut R, buffer: &mut [u8]) -> usize {
-    match recover_read::read_input(source, buffer) {
-        Ok(n) => n,
-        Err(_) => {
-            stops(rt, "standard input cannot be read");
-            0
-        }
+impl fmt::Display for Fault {
+    fn fmt<W: fmt::Write>(&self, f: &mut fmt::Formatter<W>) -> fmt::Result {
+        f.write_str(match self {
+            Fault::NotRead => "standard input cannot be read",
+            Fault::LengthEnds => "a length line ends too early",
+            Fault::NoLineFeed => "a length is not eight digits and a line feed",
+            Fault::NoDigits => "a length is not eight digits",
+            Fault::TooLong => "a length is above 65537",
+            Fault::TextEnds => "a text ends too early",
+            Fault::TextNotRead => {
+                "standard input cannot be read\nrecover_vectors: a text ends too early"
+            }
+            Fault::NotWritten => "standard output cannot be written",
+        })
     }
-}
-
-// Reads a text that fills the buffer, and answers it. Whether another text may follow.
-fn answer_filled<R: Read, W: Write>(
-    rt: &impl Eprint,
-    source: &mut R,
-    out: &mut W,
-    buffer: &mut [u8],
-) -> bool {
-    let got = filled(rt, source, buffer);
-    if got < buffer.len() {
-        return stops(rt, "a text ends too early");
-    }
-    let said = recover_say::answer(out, buffer);
-    if said.next < said.lines {
-        return stops(rt, "standard output cannot be written");
-    }
-    true
 }
 
 // Reads a text of n bytes and answers it.
-fn answer_text<R: Read, W: Write>(rt: &impl Eprint, source: &mut R, out: &mut W, n: usize) -> bool
+fn answer_text<R: Read, W: Write>(source: &mut R, out: &mut W, n: usize) -> Result<(), Fault>
     requires { n ≤ 65537 }
 {
     let mut buffer = recover_say::text_buffer();
-    answer_filled(rt, source, out, &mut buffer[..n])
-}
-
-// Answers the text of the length that a line says.
-fn answer_line<R: Read, W: Write>(
-    rt: &impl Eprint,
-    source: &mut R,
-    out: &mut W,
-    line: &[u8],
-) -> bool {
-    let read = binary32::hex::read_bits(line);
-    match read {
-        Bits::Broken => stops(rt, "a length is not eight digits"),
-        Bits::Number(bits) => {
-            let n = bits as usize;
-            if 65537 < n {
-                return stops(rt, "a length is above 65537");
-            }
-            answer_text(rt, source, out, n)
-        }
+    let text = &mut buffer[..n];
+    match recover_read::read_input(source, text) {
+        Ok(got) if got == n => {}
+        Ok(_) => return Err(Fault::TextEnds),
+        Err(_) => return Err(Fault::TextNotRead),
+    }
+    match recover_say::answer(out, text) {
+        Ok(_) => Ok(()),
+        Err(_) => Err(Fault::NotWritten),
     }
 }
 
-// Answers the next text. Whether another may follow: not at the end of the input.
-fn answer_next<R: Read, W: Write>(rt: &impl Eprint, source: &mut R, out: &mut W) -> bool {
+// Answers the next text. Whether there was one: not at the end of the input.
+fn answer_next<R: Read, W: Write>(source: &mut R, out: &mut W) -> Result<bool, Fault> {
     let mut line = [0u8; 9];
-    let got = filled(rt, source, &mut line);
-    if got == 0 {
-        return false;
-    }
-    if got < 9 {
-        return stops(rt, "a length line ends too early");
+    match recover_read::read_input(source, &mut line) {
+        Ok(9) => {}
+        Ok(0) => return Ok(false),
+        Ok(_) => return Err(Fault::LengthEnds),
+        Err(_) => return Err(Fault::NotRead),
     }
     if line[8] != b'\n' {
-        return stops(rt, "a length is not eight digits and a line feed");
+        return Err(Fault::NoLineFeed);
     }
-    answer_line(rt, source, out, &line)
+    let n = binary32::hex::read_bits(&line).ok_or(Fault::NoDigits)? as usize;
+    if 65537 < n {
+        return Err(Fault::TooLong);
+    }
+    answer_text(source, out, n)?;
+    Ok(true)
 }
 
 // A proved loop has to end, and nothing says that the input does: so the loop has a last turn, which no run reaches.
@@ -95,8 +84,13 @@ fn main(rt: HostRuntime) {
     let mut source = rt.stdin();
     let mut out = rt.stdout();
     for _ in 0..u64::MAX {
-        if !answer_next(&rt, &mut source, &mut out) {
-            return;
+        match answer_next(&mut source, &mut out) {
+            Ok(true) => {}
+            Ok(false) => return,
+            Err(fault) => {
+                let _ = eprintln!(rt; "recover_vectors: {fault}");
+                return;
+            }
         }
     }
 }

@@ -31,7 +31,6 @@ use Rattle.candidates.specs.Candidates.{squared_radius, last_distance}
 use Rattle.extension_common.specs.TryCell.{unlabelled_on, gathered}
 use Rattle.passes.specs.Grow.{tolerances_of}
 use Rattle.passes.specs.Local.{reach_of, by_reach, supports_of, pictured_as, pictured_at, LocalFit, local_fit, local_search}
-use Rattle.passes.specs.declared.LargestResidual.{LargestResidual}
 use Rattle.supports.proofs.Nearest.{Under, none, one, under_take}
 use Rattle.remembered.specs.Remembered.{fit_at, Near, near_none, near_more, SupportsWithin, IdleFit, Mapped, Undecided, Found, idle, no_candidates, predicted, ambiguous, KnownAt, finding_of, known_of, aim_of, aim_at, Remembered, forgotten_word, doubted_word, Forgotten}
 use Rattle.remembered.specs.declared.Finding.{Finding}
@@ -141,7 +140,7 @@ doubted far (Finding.Ambiguous at limit) = cond far (Finding.Ambiguous at limit)
 abbrev is_far : Position → Aim → Bool
 is_far corner aim = lt aim.limit (sqrt_or_nan (squared_distance corner aim.at))
 
-module _ (cs : Corners) (set : Settings) (p : LocalExtensionParams) (l : LargestResidual) {sheet : List ℕ} {c : Cell} {k : ℕ} (a : Attaching sheet c k) (four : 4 ≤ label_count sheet)
+module _ (cs : Corners) (set : Settings) (p : LocalExtensionParams) (l : Option Float) {sheet : List ℕ} {c : Cell} {k : ℕ} (a : Attaching sheet c k) (four : 4 ≤ label_count sheet)
     (small : T (finite (squared_radius (local_search set p).search_r))) (d : Cell) {r : ℕ} (far : r < reach_of d (place_of c)) (n : SupportsWithin r sheet d) where
   -- the fit of a cell that is not near maps it to where it did
   mapped_stays : {at : Position} → Mapped set p l d (fit_at cs sheet d) at → Mapped set p l d (fit_at cs (after sheet c k) d) at
@@ -227,7 +226,7 @@ unfolding doubted_word known_of
 zero_says far w aim e = rw (e, e)
 
 -- what is left is remembered on the new sheet
-pub attach_remembered : {cs : Corners} {set : Settings} {p : LocalExtensionParams} {l : LargestResidual} {sheet : List ℕ} {memory memory' : Memory} {c : Cell} {k : ℕ}
+pub attach_remembered : {cs : Corners} {set : Settings} {p : LocalExtensionParams} {l : Option Float} {sheet : List ℕ} {memory memory' : Memory} {c : Cell} {k : ℕ}
     → Attaching sheet c k → 4 ≤ label_count sheet → Remembered cs set p l sheet memory → Forgotten memory c (cs.corner k).position memory'
     → Remembered cs set p l (marks_cleared (attached sheet c k) c) memory'
 unfolding forgotten_word

@@ -14,7 +14,6 @@ use Rattle.labels.proofs.Below.{no_both}
 use Rattle.arguments.specs.declared.Settings.{Settings}
 use Rattle.arguments.specs.declared.LocalExtensionParams.{LocalExtensionParams}
 use Rattle.passes.specs.Local.{LocalFit, recorded, recorded_all}
-use Rattle.passes.specs.declared.LargestResidual.{LargestResidual}
 use Rattle.remembered.specs.Remembered.{Covered, covered_none, covered_more, CoveredBy, nothing_yet, by, IdleFit, no_fit, above, Mapped, within, Found, idle, no_candidates, predicted, ambiguous, KnownAt, entry_of, Remembered}
 use Rattle.remembered.specs.declared.Finding.{Finding}
 use Rattle.remembered.specs.declared.Known.{Known}
@@ -46,14 +45,14 @@ covered_step : (m r : Float) {rs : List Float} → Covered m rs → Covered (con
 covered_step m r covered_none = covered_none
 covered_step m r (covered_more h g) = covered_more (not_above m r _ h) (covered_step m r g)
 
-by_step : (l : LargestResidual) (r : Float) {rs : List Float} → CoveredBy l rs → CoveredBy (recorded l r) rs
+by_step : (l : Option Float) (r : Float) {rs : List Float} → CoveredBy l rs → CoveredBy (recorded l r) rs
 unfolding recorded
-by_step LargestResidual.Nothing r nothing_yet = by covered_none
-by_step (LargestResidual.Residual m) r (by g) = by (covered_step m r g)
+by_step None r nothing_yet = by covered_none
+by_step (Some m) r (by g) = by (covered_step m r g)
 
 -- ---- some more
 
-pub by_all : (l : LargestResidual) (more : List Float) {rs : List Float} → CoveredBy l rs → CoveredBy (recorded_all l more) rs
+pub by_all : (l : Option Float) (more : List Float) {rs : List Float} → CoveredBy l rs → CoveredBy (recorded_all l more) rs
 unfolding recorded_all
 by_all l [] g = g
 by_all l (r ∷ more) g = by_all (recorded l r) more (by_step l r g)
@@ -61,31 +60,31 @@ by_all l (r ∷ more) g = by_all (recorded l r) more (by_step l r g)
 -- ---- recorded residuals are not above the largest
 
 -- some that are not, and then one that is not
-put_on : (l : LargestResidual) {r : Float} {rs : List Float} → CoveredBy l (r ∷ []) → CoveredBy l rs → CoveredBy l (r ∷ rs)
-put_on (LargestResidual.Residual m) (by (covered_more h covered_none)) (by g) = by (covered_more h g)
-put_on LargestResidual.Nothing {r = r} {rs = rs} x'' _ = elim x'' [ ]
+put_on : (l : Option Float) {r : Float} {rs : List Float} → CoveredBy l (r ∷ []) → CoveredBy l rs → CoveredBy l (r ∷ rs)
+put_on (Some m) (by (covered_more h covered_none)) (by g) = by (covered_more h g)
+put_on None {r = r} {rs = rs} x'' _ = elim x'' [ ]
 
-own : (l : LargestResidual) (r : Float) → CoveredBy (recorded l r) (r ∷ [])
+own : (l : Option Float) (r : Float) → CoveredBy (recorded l r) (r ∷ [])
 unfolding recorded
-own LargestResidual.Nothing r = by (covered_more (lt_irrefl r) covered_none)
-own (LargestResidual.Residual m) r = by (covered_more (not_own m r) covered_none)
+own None r = by (covered_more (lt_irrefl r) covered_none)
+own (Some m) r = by (covered_more (not_own m r) covered_none)
 
-pub covers : (l : LargestResidual) (rs : List Float) → CoveredBy (recorded_all l rs) rs
+pub covers : (l : Option Float) (rs : List Float) → CoveredBy (recorded_all l rs) rs
 unfolding recorded_all
-covers LargestResidual.Nothing [] = nothing_yet
-covers (LargestResidual.Residual m) [] = by covered_none
+covers None [] = nothing_yet
+covers (Some m) [] = by covered_none
 covers l (r ∷ rs) = put_on (recorded_all (recorded l r) rs) (by_all (recorded l r) rs (own l r)) (covers (recorded l r) rs)
 
 -- and recording them again changes nothing
-pub covered_same : (l : LargestResidual) {rs : List Float} → CoveredBy l rs → recorded_all l rs ≡ l
+pub covered_same : (l : Option Float) {rs : List Float} → CoveredBy l rs → recorded_all l rs ≡ l
 unfolding recorded_all recorded
-covered_same LargestResidual.Nothing nothing_yet = refl
-covered_same (LargestResidual.Residual m) (by covered_none) = refl
-covered_same (LargestResidual.Residual m) (by (covered_more h g)) = rw h (covered_same (LargestResidual.Residual m) (by g))
+covered_same None nothing_yet = refl
+covered_same (Some m) (by covered_none) = refl
+covered_same (Some m) (by (covered_more h g)) = rw h (covered_same (Some m) (by g))
 
 -- ---- what is known stays known
 
-module _ {set : Settings} {p : LocalExtensionParams} {l : LargestResidual} (rs : List Float) where
+module _ {set : Settings} {p : LocalExtensionParams} {l : Option Float} (rs : List Float) where
   idle_all : {f : LocalFit} → IdleFit set p l f → IdleFit set p (recorded_all l rs) f
   idle_all no_fit = no_fit
   idle_all (above h g) = above h (by_all l rs g)
@@ -93,7 +92,7 @@ module _ {set : Settings} {p : LocalExtensionParams} {l : LargestResidual} (rs :
   mapped_all : {c : Cell} {f : LocalFit} {at : Position} → Mapped set p l c f at → Mapped set p (recorded_all l rs) c f at
   mapped_all (within h g e) = within h (by_all l rs g) e
 
-module _ {cs : Corners} {set : Settings} {p : LocalExtensionParams} {l : LargestResidual} {sheet : List ℕ} (rs : List Float) where
+module _ {cs : Corners} {set : Settings} {p : LocalExtensionParams} {l : Option Float} {sheet : List ℕ} (rs : List Float) where
   found_all : {c : Cell} {f : Finding} → Found cs set p l sheet c f → Found cs set p (recorded_all l rs) sheet c f
   found_all (idle f) = idle (idle_all rs f)
   found_all (no_candidates m) = no_candidates (record { at = m.at; mapped = mapped_all rs m.mapped; missed = m.missed; none_over = m.none_over })

@@ -6,7 +6,7 @@ use native.Mathlib.Decide.{ℕ_discrete}
 use lib.ListN.{get_or-replicate}
 use lib.Dec.{T}
 use lib.Ieee.Scale.{finite}
-use Rattle.std.specs.Prelude.{Option}
+use Rattle.std.specs.Prelude.{Option, Float}
 use Rattle.sheet.specs.Corners.{Corners}
 use Rattle.sheet.specs.Cells.{OnSheet, place_of, cell_of}
 use Rattle.sheet.specs.declared.Cell.{Cell}
@@ -15,18 +15,17 @@ use Rattle.arguments.specs.declared.Settings.{Settings}
 use Rattle.arguments.specs.declared.LocalExtensionParams.{LocalExtensionParams}
 use Rattle.candidates.specs.Candidates.{squared_radius}
 use Rattle.passes.specs.Local.{local_search}
-use Rattle.passes.specs.declared.LargestResidual.{LargestResidual}
 use Rattle.remembered.specs.Remembered.{KnownAt, known_of, entry_of, nothing_noted, Remembered, Noted}
 use Rattle.remembered.specs.declared.Known.{Known}
 use Rattle.remembered.specs.declared.Memory.{Memory}
 
 -- nothing is known yet
-pub started : (cs : Corners) (set : Settings) (p : LocalExtensionParams) (l : LargestResidual) (sheet : List ℕ)
+pub started : (cs : Corners) (set : Settings) (p : LocalExtensionParams) (l : Option Float) (sheet : List ℕ)
     → T (finite (squared_radius (local_search set p).search_r)) → Remembered cs set p l sheet nothing_noted
 unfolding known_of
 started cs set p l sheet small = record { at = λ a h. rw (get_or-replicate {A = ℕ} 16384 a 0 0 h) tt; bounded = small }
 
-module _ {cs : Corners} {set : Settings} {p : LocalExtensionParams} {l : LargestResidual} {sheet : List ℕ} {memory : Memory} {known : Option Known}
+module _ {cs : Corners} {set : Settings} {p : LocalExtensionParams} {l : Option Float} {sheet : List ℕ} {memory : Memory} {known : Option Known}
     (m : Remembered cs set p l sheet memory) (c : Cell) (on : OnSheet c) where
   -- what is recalled holds
   pub recalled : known ≡ entry_of memory (place_of c) → KnownAt cs set p l sheet c known

@@ -1,4 +1,5 @@
 -- What a visit of a cell does by what is known of the cell. Assumes nothing.
+use Rattle.std.specs.Prelude.{Option}
 use mathlib.Core.Path.{◌≡◌, refl, ap, ◌∙◌}
 use mathlib.Core.Bool.{true, false}
 use mathlib.Core.List.{List}
@@ -16,7 +17,6 @@ use Rattle.extension_common.specs.declared.TryCellResult.{TryCellResult}
 use Rattle.extension_common.proofs.Laws.{unmatched_bare}
 use Rattle.passes.specs.Grow.{tolerances_of}
 use Rattle.passes.specs.Local.{LocalState, supports_of, cell_point, LocalFit, none, fitted, local_fit, worst, with_residuals, with_unmatched, local_search, gate_of, local_with, local_try, local_at, local_visit}
-use Rattle.passes.specs.declared.LargestResidual.{LargestResidual}
 use Rattle.remembered.specs.Remembered.{fit_at, CoveredBy, IdleFit, no_fit, above, Mapped, within, Found, idle, no_candidates, predicted, ambiguous}
 use Rattle.remembered.specs.declared.Finding.{Finding}
 use Rattle.remembered.proofs.Larger.{covered_same}
@@ -42,7 +42,7 @@ module _ (cs : Corners) (set : Settings) (p : LocalExtensionParams) (c : Cell) (
 
 -- residuals that were recorded
 same_state : (s : LocalState) {rs : List Float} → CoveredBy s.largest rs → with_residuals rs s ≡ s
-same_state s g = ap (λ (l : LargestResidual). record { sheet = s.sheet; made = s.made; counts = s.counts; largest = l; unmatched = s.unmatched }) (covered_same s.largest g)
+same_state s g = ap (λ (l : Option Float). record { sheet = s.sheet; made = s.made; counts = s.counts; largest = l; unmatched = s.unmatched }) (covered_same s.largest g)
 
 module _ (cs : Corners) (set : Settings) (p : LocalExtensionParams) (c : Cell) (s : LocalState) where
   by_idle : (f : LocalFit) → f ≡ fit_at cs s.sheet c → IdleFit set p s.largest f → local_visit cs set p c s ≡ s

@@ -17,7 +17,6 @@ use Rattle.extension_common.specs.TryCell.{gathered, try_at}
 use Rattle.extension_common.specs.declared.TryCellResult.{TryCellResult}
 use Rattle.passes.specs.Grow.{tolerances_of}
 use Rattle.passes.specs.Local.{reach_of, supports_of, cell_point, LocalFit, none, fitted, local_fit, worst, gate_of, local_search}
-use Rattle.passes.specs.declared.LargestResidual.{LargestResidual}
 use Rattle.remembered.specs.declared.Finding.{Finding}
 use Rattle.remembered.specs.declared.Known.{Known}
 use Rattle.remembered.specs.declared.Aim.{Aim}
@@ -43,44 +42,44 @@ pub data Covered (m : Float) : List Float → Type 0 where
   covered_none : Covered m []
   covered_more : {r : Float} {rs : List Float} → lt m r ≡ false → Covered m rs → Covered m (r ∷ rs)
 
-pub data CoveredBy : LargestResidual → List Float → Type 0 where
-  nothing_yet : CoveredBy LargestResidual.Nothing []
-  by : {m : Float} {rs : List Float} → Covered m rs → CoveredBy (LargestResidual.Residual m) rs
+pub data CoveredBy : Option Float → List Float → Type 0 where
+  nothing_yet : CoveredBy None []
+  by : {m : Float} {rs : List Float} → Covered m rs → CoveredBy (Some m) rs
 
 -- a visit by this fit changes nothing: there is none, or its residuals are above the gate and were recorded
-pub data IdleFit (set : Settings) (p : LocalExtensionParams) (l : LargestResidual) : LocalFit → Type 0 where
+pub data IdleFit (set : Settings) (p : LocalExtensionParams) (l : Option Float) : LocalFit → Type 0 where
   no_fit : IdleFit set p l none
   above : {h rs : List Float} → lt (gate_of set p) (worst (of_bits binary32 0) rs) ≡ true → CoveredBy l rs → IdleFit set p l (fitted h rs)
 
 -- a visit by this fit tries the cell at a prediction: its residuals are within the gate and were recorded
-pub data Mapped (set : Settings) (p : LocalExtensionParams) (l : LargestResidual) (c : Cell) : LocalFit → Position → Type 0 where
+pub data Mapped (set : Settings) (p : LocalExtensionParams) (l : Option Float) (c : Cell) : LocalFit → Position → Type 0 where
   within : {h rs : List Float} {at : Position} → lt (gate_of set p) (worst (of_bits binary32 0) rs) ≡ false → CoveredBy l rs → at ≡ applied h (cell_point c)
       → Mapped set p l c (fitted h rs) at
 
 -- Such a visit finds no candidate, and passes over none, since no shade stands: where one does, what is passed over changes with every corner that is
 -- labelled, so a cell is gathered anew at each visit.
-pub record Missed (cs : Corners) (set : Settings) (p : LocalExtensionParams) (l : LargestResidual) (sheet : List ℕ) (c : Cell) : Type 0 where
+pub record Missed (cs : Corners) (set : Settings) (p : LocalExtensionParams) (l : Option Float) (sheet : List ℕ) (c : Cell) : Type 0 where
   pub at : Position
   pub mapped : Mapped set p l c (fit_at cs sheet c) at
   pub missed : try_at cs sheet (tolerances_of set) (local_search set p) c at ≡ TryCellResult.NoCandidates
   pub none_over : cs.shades.any ≡ false
 
 -- such a visit finds the choice ambiguous, and so far lies the last of the first two candidates; no shade stands
-pub record Undecided (cs : Corners) (set : Settings) (p : LocalExtensionParams) (l : LargestResidual) (sheet : List ℕ) (c : Cell) (at : Position) (limit : Float) : Type 0 where
+pub record Undecided (cs : Corners) (set : Settings) (p : LocalExtensionParams) (l : Option Float) (sheet : List ℕ) (c : Cell) (at : Position) (limit : Float) : Type 0 where
   pub mapped : Mapped set p l c (fit_at cs sheet c) at
   pub undecided : try_at cs sheet (tolerances_of set) (local_search set p) c at ≡ TryCellResult.Ambiguous
   pub last : limit ≡ last_distance (gathered cs sheet (local_search set p).search_r c at)
   pub no_shades : cs.shades.any ≡ false
 
 -- what was found at a cell holds
-pub data Found (cs : Corners) (set : Settings) (p : LocalExtensionParams) (l : LargestResidual) (sheet : List ℕ) (c : Cell) : Finding → Type 0 where
+pub data Found (cs : Corners) (set : Settings) (p : LocalExtensionParams) (l : Option Float) (sheet : List ℕ) (c : Cell) : Finding → Type 0 where
   idle : IdleFit set p l (fit_at cs sheet c) → Found cs set p l sheet c Finding.Idle
   no_candidates : Missed cs set p l sheet c → Found cs set p l sheet c Finding.NoCandidates
   predicted : {at : Position} → Mapped set p l c (fit_at cs sheet c) at → Found cs set p l sheet c (Finding.Predicted at)
   ambiguous : {at : Position} {limit : Float} → Undecided cs set p l sheet c at limit → Found cs set p l sheet c (Finding.Ambiguous at limit)
 
 -- what is known of a cell holds, if anything is
-abbrev pub KnownAt : Corners → Settings → LocalExtensionParams → LargestResidual → List ℕ → Cell → Option Known → Type 0
+abbrev pub KnownAt : Corners → Settings → LocalExtensionParams → Option Float → List ℕ → Cell → Option Known → Type 0
 KnownAt cs set p l sheet c None = Unit {0}
 KnownAt cs set p l sheet c (Some k) = SupportsWithin k.reach sheet c × Found cs set p l sheet c k.finding
 
@@ -135,7 +134,7 @@ abbrev pub nothing_noted : Memory
 nothing_noted = record { words = replicate place_count 0; aims = replicate place_count no_aim }
 
 -- a word and what is noted with it for each place of the sheet, and what they say holds; and the squared radius is finite
-pub record Remembered (cs : Corners) (set : Settings) (p : LocalExtensionParams) (l : LargestResidual) (sheet : List ℕ) (memory : Memory) : Type 0 where
+pub record Remembered (cs : Corners) (set : Settings) (p : LocalExtensionParams) (l : Option Float) (sheet : List ℕ) (memory : Memory) : Type 0 where
   pub at : (a : ℕ) → a < place_count → KnownAt cs set p l sheet (cell_of a) (entry_of memory a)
   pub bounded : T (finite (squared_radius (local_search set p).search_r))
 

@@ -16,8 +16,6 @@ use Rattle.report.specs.WriteResult.{TextLent, text_of, input_short, over_limit,
 use Rattle.report_words.specs.Outcomes.{stats_in}
 use Rattle.report.specs.Said.{text_said, text_due, piece_said, piece_due}
 use Rattle.report.specs.Asked.{Sound, text_from, piece_from, AllAsked, SomeAsked, WrotePiece}
-use Rattle.report.specs.declared.TextAnswer.{TextAnswer}
-use Rattle.report.specs.declared.PieceAnswer.{PieceAnswer}
 use Rattle.report.specs.declared.lines.PieceEnd.{PieceEnd}
 use Rattle.report.proofs.Laws.{from_the_start}
 use Rattle.report.proofs.Short.{all_tame}
@@ -49,16 +47,16 @@ module _ (l : TextLent) where
     abbrev TextPromised : TextOut → Type 0
     TextPromised t = (t ≡ writes_text l out) × (text_said t.answer ≡ text_due l out)
 
-    pub text_refused : (r : Refusal) → checked_text l (length out) ≡ Err r → TextPromised (text_out (TextAnswer.Refused r) out)
+    pub text_refused : (r : Refusal) → checked_text l (length out) ≡ Err r → TextPromised (text_out (Err r) out)
     unfolding writes_text
     text_refused r e = text_promised l out (sym (ap (λ (c : Checked). text_leaves c l out) e))
 
     pub text_written_lem : (n : ℕ) (new : List ℕ) → checked_text l (length out) ≡ Ok tt → Wrote (text_from l.passes l.words l.sheet 0) out new n
-        → TextPromised (text_out (TextAnswer.Written n) new)
+        → TextPromised (text_out (Ok n) new)
     unfolding writes_text
     text_written_lem n new e w =
         text_promised l out
-        (ap₂ (λ (m : ℕ) (b : List ℕ). text_out (TextAnswer.Written m) b) (w.count ∙ ap length same_text) (w.part ∙ ap (λ (t : List ℕ). over t out) same_text)
+        (ap₂ (λ (m : ℕ) (b : List ℕ). text_out (Ok m) b) (w.count ∙ ap length same_text) (w.part ∙ ap (λ (t : List ℕ). over t out) same_text)
         ∙ sym (ap (λ (c : Checked). text_leaves c l out) e))
 
   -- ---- a piece
@@ -78,12 +76,12 @@ module _ (l : TextLent) where
     abbrev PiecePromised : PieceOut → Type 0
     PiecePromised t = (t ≡ writes_piece l from out) × (piece_said t.answer ≡ piece_due l from out)
 
-    pub piece_refused : (r : Refusal) → checked_piece l from (length out) ≡ Err r → PiecePromised (piece_out (PieceAnswer.Refused r) out)
+    pub piece_refused : (r : Refusal) → checked_piece l from (length out) ≡ Err r → PiecePromised (piece_out (Err r) out)
     unfolding writes_piece
     piece_refused r e = piece_promised l from out (sym (ap (λ (c : Checked). piece_leaves c (piece_in l from (length out)) out) e))
 
     pub piece_written_lem : (r : PieceEnd) (new : List ℕ) → checked_piece l from (length out) ≡ Ok tt
-        → WrotePiece (piece_from l.passes l.words l.sheet from (length out)) out new r → PiecePromised (piece_out (PieceAnswer.Written r.at r.next) new)
+        → WrotePiece (piece_from l.passes l.words l.sheet from (length out)) out new r → PiecePromised (piece_out (Ok r) new)
     unfolding writes_piece piece_from
     piece_written_lem r new e w =
         piece_promised l from out
@@ -91,5 +89,5 @@ module _ (l : TextLent) where
         ∙ sym (ap (λ (c : Checked). piece_leaves c (piece_in l from (length out)) out) e))
       where
         leaves : (n next : ℕ) (p : Piece) → Wrote p.text out new n → next ≡ p.next
-            → piece_out (PieceAnswer.Written n next) new ≡ piece_out (PieceAnswer.Written (length p.text) p.next) (over p.text out)
+            → piece_out (Ok (record { at = n; next = next })) new ≡ piece_out (Ok (record { at = length p.text; next = p.next })) (over p.text out)
         leaves n next p w e = rw (w.count, e, w.part)

@@ -3,22 +3,20 @@ use Rattle.std.specs.Prelude.{List, [], ◌∷◌, ℕ, length, Ok, Err}
 use Rattle.refusal.specs.Refusal.{number_of}
 use Rattle.refusal.specs.Said.{Value, whole, Said, number, values}
 use Rattle.report_line.specs.Result.{Piece}
-use Rattle.report.specs.WriteResult.{TextLent, text_of, checked_text, piece_in, checked_piece}
-use Rattle.report.specs.declared.TextAnswer.{TextAnswer}
-use Rattle.report.specs.declared.PieceAnswer.{PieceAnswer}
+use Rattle.report.specs.WriteResult.{TextAnswer, PieceAnswer, TextLent, text_of, checked_text, piece_in, checked_piece}
 use Rattle.arguments.specs.Arguments.{Checked}
 
 -- ---- each answer by its cases
 
 -- of a text its length in bytes
 unfoldable pub text_said : TextAnswer → Said
-text_said (TextAnswer.Refused r) = number (number_of r)
-text_said (TextAnswer.Written bytes) = values (whole bytes ∷ [])
+text_said (Err r) = number (number_of r)
+text_said (Ok bytes) = values (whole bytes ∷ [])
 
 -- of a piece its length in bytes, and the next line
 unfoldable pub piece_said : PieceAnswer → Said
-piece_said (PieceAnswer.Refused r) = number (number_of r)
-piece_said (PieceAnswer.Written bytes next) = values (whole bytes ∷ whole next ∷ [])
+piece_said (Err r) = number (number_of r)
+piece_said (Ok end) = values (whole end.at ∷ whole end.next ∷ [])
 
 -- ---- what an answer is due to say: the number of the refusal that the check of what is lent gives, or values
 

@@ -1,6 +1,6 @@
 -- The library calls that write a result's text (document 01, "Frame and result": "Needed are .. for a text its whole length. The library tries 7, 2,
 -- 3, 5, 6; a refusal changes no buffer"). The outcomes of the passes are lent as words. Definitions only.
-use Rattle.std.specs.Prelude.{Bool, ◌||◌, List, ℕ, ◌*◌, ltb, length, Ok, Err}
+use Rattle.std.specs.Prelude.{Bool, ◌||◌, List, ℕ, ◌*◌, ltb, length, Ok, Err, Result}
 use Rattle.refusal.specs.declared.Refusal.{Refusal}
 use Rattle.labels.specs.Labelled.{any_below}
 use Rattle.arguments.specs.Arguments.{Checked, refused_if, unknown_corner, doubled_corner}
@@ -9,8 +9,7 @@ use Rattle.sizes.specs.Sizes.{place_count, corner_limit, pass_limit, outcome_siz
 use Rattle.report_line.specs.Sizes.{line_room}
 use Rattle.arguments.specs.Front.{over}
 use Rattle.report_words.specs.Outcomes.{stats_in, wild_outcome}
-use Rattle.report.specs.declared.TextAnswer.{TextAnswer}
-use Rattle.report.specs.declared.PieceAnswer.{PieceAnswer}
+use Rattle.report.specs.declared.lines.PieceEnd.{PieceEnd}
 
 -- ---- what is lent: how many corners and passes, the outcomes' words, the sheet, and how long the buffer for the text is
 
@@ -52,6 +51,10 @@ checked_rest l =
 unfoldable pub checked_text : TextLent → ℕ → Checked
 checked_text l room = refused_if (input_short l || ltb room (length (text_of l))) Refusal.BufferTooShort (checked_rest l)
 
+-- how many bytes were written, or why nothing was
+abbrev pub TextAnswer : Type 0
+TextAnswer = Result ℕ Refusal
+
 pub record TextOut : Type 0 where
   pub answer : TextAnswer
   pub out : List ℕ
@@ -60,8 +63,8 @@ abbrev pub text_out : TextAnswer → List ℕ → TextOut
 text_out r out = record { answer = r; out = out }
 
 abbrev pub text_leaves : Checked → TextLent → List ℕ → TextOut
-text_leaves (Ok tt) l out = text_out (TextAnswer.Written (length (text_of l))) (over (text_of l) out)
-text_leaves (Err r) l out = text_out (TextAnswer.Refused r) out
+text_leaves (Ok tt) l out = text_out (Ok (length (text_of l))) (over (text_of l) out)
+text_leaves (Err r) l out = text_out (Err r) out
 
 unfoldable pub writes_text : TextLent → List ℕ → TextOut
 writes_text l out = text_leaves (checked_text l (length out)) l out
@@ -80,6 +83,10 @@ checked_piece l from room =
     (refused_if (unknown_corner l.corners l.sheet) Refusal.UnknownCorner
     (refused_if (doubled_corner l.sheet) Refusal.Duplicate (Ok tt)))))
 
+-- how many bytes were written and which line comes next, or why nothing was
+abbrev pub PieceAnswer : Type 0
+PieceAnswer = Result PieceEnd Refusal
+
 pub record PieceOut : Type 0 where
   pub answer : PieceAnswer
   pub out : List ℕ
@@ -88,8 +95,8 @@ abbrev pub piece_out : PieceAnswer → List ℕ → PieceOut
 piece_out r out = record { answer = r; out = out }
 
 abbrev pub piece_leaves : Checked → Piece → List ℕ → PieceOut
-piece_leaves (Ok tt) p out = piece_out (PieceAnswer.Written (length p.text) p.next) (over p.text out)
-piece_leaves (Err r) p out = piece_out (PieceAnswer.Refused r) out
+piece_leaves (Ok tt) p out = piece_out (Ok (record { at = length p.text; next = p.next })) (over p.text out)
+piece_leaves (Err r) p out = piece_out (Err r) out
 
 unfoldable pub writes_piece : TextLent → ℕ → List ℕ → PieceOut
 writes_piece l from out = piece_leaves (checked_piece l from (length out)) (piece_in l from (length out)) out

@@ -9,23 +9,10 @@ ghost use Rattle.std.specs.Prelude.{◌≡◌};
 ghost use Rattle.report.specs.WriteResult.{text_lent, text_out, writes_text, piece_out, writes_piece};
 ghost use Rattle.report.specs.Said.{text_said, text_due, piece_said, piece_due};
 
+pub use lines::PieceEnd;
 use refusal::Refusal;
 
-// How many bytes were written, or why nothing was.
-#[derive(Clone, Copy)]
-pub enum TextAnswer {
-    Written(usize),
-    Refused(Refusal),
-}
-
-// How many bytes were written and which line comes next, or why nothing was.
-#[derive(Clone, Copy)]
-pub enum PieceAnswer {
-    Written(usize, usize),
-    Refused(Refusal),
-}
-
-// Writes the whole text of a result to the front of a buffer, and leaves the rest of it as it was. It is lent the outcomes of the passes as words,
+// Writes the whole text of a result to the front of a buffer, and leaves the rest of it as it was: how many bytes were written, or why nothing was. It is lent the outcomes of the passes as words,
 // eleven for each, and the sheet, and told how many passes and corners there are. `said` is the same answer in 01's number or values.
 pub fn write_result(
     corners: usize,
@@ -33,18 +20,15 @@ pub fn write_result(
     words: &[u32],
     sheet: &[u16],
     out: &mut [u8],
-) -> TextAnswer
+) -> Result<usize, Refusal>
     ensures out_after { text_out result out.new ≡ writes_text (text_lent corners passes words.now sheet.now) out.old }
     ensures said { text_said result ≡ text_due (text_lent corners passes words.now sheet.now) out.old }
 {
-    let checked = tests::check_text(corners, passes, words, sheet, out.len());
-    match checked {
-        Err(r) => TextAnswer::Refused(r),
-        Ok(()) => TextAnswer::Written(lines::write_all(passes, words, sheet, out)),
-    }
+    tests::check_text(corners, passes, words, sheet, out.len())?;
+    Ok(lines::write_all(passes, words, sheet, out))
 }
 
-// Writes a piece of it: whole lines from a line on, as long as 128 bytes are left before each. `said` is the same answer in 01's number or values.
+// Writes a piece of it: whole lines from a line on, as long as 128 bytes are left before each; how far it goes, or why nothing was written. `said` is the same answer in 01's number or values.
 pub fn write_result_piece(
     corners: usize,
     passes: usize,
@@ -52,14 +36,10 @@ pub fn write_result_piece(
     sheet: &[u16],
     from: usize,
     out: &mut [u8],
-) -> PieceAnswer
+) -> Result<PieceEnd, Refusal>
     ensures out_after { piece_out result out.new ≡ writes_piece (text_lent corners passes words.now sheet.now) from out.old }
     ensures said { piece_said result ≡ piece_due (text_lent corners passes words.now sheet.now) from out.old }
 {
-    let checked = tests::check_piece(corners, passes, words, sheet, from, out.len());
-    if let Err(r) = checked {
-        return PieceAnswer::Refused(r);
-    }
-    let end = lines::write_some(passes, words, sheet, from, out);
-    PieceAnswer::Written(end.at, end.next)
+    tests::check_piece(corners, passes, words, sheet, from, out.len())?;
+    Ok(lines::write_some(passes, words, sheet, from, out))
 }

@@ -1,4 +1,5 @@
 -- A text written behind another, into the unfilled rest of a buffer. Assumes nothing.
+use Rattle.std.specs.Prelude.{Option, None, Some}
 use mathlib.Core.Path.{◌≡◌, sym, ap, ap₂, ◌∙◌}
 use mathlib.Core.List.{List, [], ◌++◌, append_assoc}
 use Prim.Native.Nat.{ℕ, ◌+◌, ◌-◌, ◌≤◌}
@@ -10,7 +11,6 @@ use Rattle.line_form.specs.Written.{Wrote}
 use Rattle.line_form.proofs.Reading.{part}
 use Rattle.line_form.proofs.Writing.{put_back}
 use Rattle.passes.specs.declared.LocalStats.{LocalStats}
-use Rattle.passes.specs.declared.Unmatched.{Unmatched}
 use Rattle.report_line.specs.Result.{local_line, unmatched_line, local_lines}
 use Rattle.report_line.specs.Written.{largest_held, LocalLineAsked, UnmatchedAsked, LocalAsked}
 
@@ -59,13 +59,13 @@ module _ (first second old mid : List ℕ) (a : ℕ) (room : length (first ++ se
 
 -- ---- what stands behind local's line
 
-module _ (u : Unmatched) where
-  pub no_line : u ≡ Unmatched.NoShades → unmatched_line u ≡ []
+module _ (u : Option ℕ) where
+  pub no_line : u ≡ None → unmatched_line u ≡ []
   unfolding unmatched_line
   no_line e = ap unmatched_line e
 
-  module _ (n : ℕ) (e : u ≡ Unmatched.Count n) where
-    pub count_line : unmatched_line (Unmatched.Count n) ≡ unmatched_line u
+  module _ (n : ℕ) (e : u ≡ Some n) where
+    pub count_line : unmatched_line (Some n) ≡ unmatched_line u
     count_line = ap unmatched_line (sym e)
 
     pub count_held : (out : List ℕ) → UnmatchedAsked u out → n ≤ largest_held

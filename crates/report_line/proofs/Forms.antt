@@ -1,5 +1,5 @@
 -- The lines of a result from their forms and the words that hold their numbers. Assumes nothing.
-use Rattle.std.specs.Prelude.{Some, None}
+use Rattle.std.specs.Prelude.{Option, None, Some}
 use mathlib.Core.Path.{◌≡◌, refl, sym, ap, ◌∙◌}
 use mathlib.Core.Bool.{Bool, true, false, not}
 use mathlib.Core.List.{List, [], ◌∷◌}
@@ -23,8 +23,6 @@ use Rattle.passes.specs.declared.Counts.{Counts}
 use Rattle.passes.specs.declared.GrowStats.{GrowStats}
 use Rattle.passes.specs.declared.FillStats.{FillStats}
 use Rattle.passes.specs.declared.LocalStats.{LocalStats}
-use Rattle.passes.specs.declared.LargestResidual.{LargestResidual}
-use Rattle.passes.specs.declared.Unmatched.{Unmatched}
 use Rattle.report_line.specs.Result.{count, grow_form, fill_form, local_form, bare_local_form, four_counts, grow_line, fill_line, local_line_with, local_line, unmatched_line, cell_numbers, label_line, cell_line, hole_line, ambiguous_line, sheet_line, heading}
 use Rattle.report_line.specs.Written.{bare_local_text, full_local_text, BareAsked, FullAsked, LocalLineAsked, cell_text, CornerAsked, PlaceAsked, mark_line, TwoWholes, LineAsked}
 use Rattle.report_line.proofs.Short.{corner_small}
@@ -123,7 +121,7 @@ module _ (s : LocalStats) (a b c d f : ℕ)
     unfolding form_text unheld unheld_number
     full_no e = ap (printed (local_form false)) (five (bits (to_bits binary32 x) ∷ [])) ∙ full_rim false e
 
-pub unmatched_form : (n a : ℕ) → unheld_whole a ≡ pos n → form_text (bytes "(unmatched #)\n") (a ∷ []) ≡ unmatched_line (Unmatched.Count n)
+pub unmatched_form : (n a : ℕ) → unheld_whole a ≡ pos n → form_text (bytes "(unmatched #)\n") (a ∷ []) ≡ unmatched_line (Some n)
 unfolding form_text unheld unheld_number unmatched_line
 unmatched_form n a e = rw e refl
 
@@ -212,19 +210,19 @@ module _ (c : Cell) (on : OnSheet c) where
 -- ---- a local line by its residual
 
 module _ (s : LocalStats) (out : List ℕ) where
-  pub bare_line : s.residual ≡ LargestResidual.Nothing → bare_local_text s ≡ local_line s
+  pub bare_line : s.residual ≡ None → bare_local_text s ≡ local_line s
   unfolding local_line
-  bare_line e = ap (λ (x : LargestResidual). local_line_with x s) (sym e)
+  bare_line e = ap (λ (x : Option Float). local_line_with x s) (sym e)
 
-  pub bare_asked : LocalLineAsked s out → s.residual ≡ LargestResidual.Nothing → BareAsked s out
+  pub bare_asked : LocalLineAsked s out → s.residual ≡ None → BareAsked s out
   bare_asked a e = record { few = a.few; rounds = a.rounds; room = same_room _ _ out (bare_line e) a.room }
 
   module _ (x : Float) where
-    pub full_line : s.residual ≡ LargestResidual.Residual x → full_local_text s x ≡ local_line s
+    pub full_line : s.residual ≡ Some x → full_local_text s x ≡ local_line s
     unfolding local_line
-    full_line e = ap (λ (y : LargestResidual). local_line_with y s) (sym e)
+    full_line e = ap (λ (y : Option Float). local_line_with y s) (sym e)
 
-    pub full_asked : LocalLineAsked s out → s.residual ≡ LargestResidual.Residual x → FullAsked s x out
+    pub full_asked : LocalLineAsked s out → s.residual ≡ Some x → FullAsked s x out
     full_asked a e = record { few = a.few; rounds = a.rounds; finite = a.finite x e; room = same_room _ _ out (full_line e) a.room }
 
 -- ---- the line of a place, by what the place holds

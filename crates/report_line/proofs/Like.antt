@@ -1,4 +1,5 @@
 -- Lines with numbers of as many digits are as long, and their writers take them. Assumes nothing.
+use Rattle.std.specs.Prelude.{Option, None, Some}
 use mathlib.Core.Path.{◌≡◌, refl, sym, ap, ◌∙◌}
 use mathlib.Core.Bool.{Bool, true, false, cond}
 use mathlib.Core.List.{List, [], ◌∷◌, ◌++◌}
@@ -15,8 +16,6 @@ use Rattle.passes.specs.declared.Counts.{Counts}
 use Rattle.passes.specs.declared.GrowStats.{GrowStats}
 use Rattle.passes.specs.declared.FillStats.{FillStats}
 use Rattle.passes.specs.declared.LocalStats.{LocalStats}
-use Rattle.passes.specs.declared.LargestResidual.{LargestResidual}
-use Rattle.passes.specs.declared.Unmatched.{Unmatched}
 use Rattle.report_line.specs.Result.{count, grow_form, fill_form, local_form, bare_local_form, four_counts, grow_line, fill_line, local_line_with, local_line, unmatched_line, local_lines}
 use Rattle.report_line.specs.Written.{largest_held, Few, GrowAsked, FillAsked, LocalAsked}
 use Rattle.report_line.specs.Like.{Like, CountsLike, ResidualLike, UnmatchedLike, GrowLike, FillLike, LocalLike}
@@ -109,19 +108,19 @@ module _ (s r : LocalStats) (l : LocalLike s r) where
       five : (ns ms : List Number) → SameLengths ms ns → SameLengths (four_counts r.counts (count r.iterations ∷ ms)) (four_counts s.counts (count s.iterations ∷ ns))
       five ns ms h = like_four s.counts r.counts (count s.iterations ∷ ns) (count r.iterations ∷ ms) l.counts (like_count l.rounds, h)
 
-      go : (x y : LargestResidual) → ResidualLike x y → length (local_line_with y r) ≡ length (local_line_with x s)
-      go LargestResidual.Nothing LargestResidual.Nothing h = rw l.rim (same_printed (bare_local_form s.rim) _ _ (five [] [] tt))
-      go LargestResidual.Nothing (LargestResidual.Residual y) h = absurd h
-      go (LargestResidual.Residual x) LargestResidual.Nothing h = absurd h
-      go (LargestResidual.Residual x) (LargestResidual.Residual y) h =
+      go : (x y : Option Float) → ResidualLike x y → length (local_line_with y r) ≡ length (local_line_with x s)
+      go None None h = rw l.rim (same_printed (bare_local_form s.rim) _ _ (five [] [] tt))
+      go None (Some y) h = absurd h
+      go (Some x) None h = absurd h
+      go (Some x) (Some y) h =
           rw l.rim (same_printed (local_form s.rim) _ _ (five (bits (to_bits binary32 x) ∷ []) (bits (to_bits binary32 y) ∷ []) (like_bits (to_bits binary32 y) (to_bits binary32 x), tt)))
 
-  unmatched_like : (a b : Unmatched) → UnmatchedLike a b → length (unmatched_line b) ≡ length (unmatched_line a)
+  unmatched_like : (a b : Option ℕ) → UnmatchedLike a b → length (unmatched_line b) ≡ length (unmatched_line a)
   unfolding unmatched_line
-  unmatched_like Unmatched.NoShades Unmatched.NoShades h = refl
-  unmatched_like Unmatched.NoShades (Unmatched.Count m) h = absurd h
-  unmatched_like (Unmatched.Count n) Unmatched.NoShades h = absurd h
-  unmatched_like (Unmatched.Count n) (Unmatched.Count m) h = same_printed (bytes "(unmatched #)\n") (count m ∷ []) (count n ∷ []) (like_count h, tt)
+  unmatched_like None None h = refl
+  unmatched_like None (Some m) h = absurd h
+  unmatched_like (Some n) None h = absurd h
+  unmatched_like (Some n) (Some m) h = same_printed (bytes "(unmatched #)\n") (count m ∷ []) (count n ∷ []) (like_count h, tt)
 
   pub local_like : length (local_lines r) ≡ length (local_lines s)
   unfolding local_lines
@@ -129,11 +128,11 @@ module _ (s r : LocalStats) (l : LocalLike s r) where
       length-append (local_line r) (unmatched_line r.unmatched)
       ∙ omega (arith, length-append (local_line s) (unmatched_line s.unmatched), line_like, unmatched_like s.unmatched r.unmatched l.unmatched)
 
-  unmatched_held : (a b : Unmatched) → UnmatchedLike a b → (n : ℕ) → b ≡ Unmatched.Count n → n ≤ largest_held
-  unmatched_held Unmatched.NoShades Unmatched.NoShades h n e = let z : ◌≡◌ {A = ℕ} 0 1 = cc in absurd (omega arith)
-  unmatched_held Unmatched.NoShades (Unmatched.Count m) h n e = absurd h
-  unmatched_held (Unmatched.Count a) Unmatched.NoShades h n e = absurd h
-  unmatched_held (Unmatched.Count a) (Unmatched.Count m) h n e = let same : m ≡ n = cc in rw (← same) h.held
+  unmatched_held : (a b : Option ℕ) → UnmatchedLike a b → (n : ℕ) → b ≡ Some n → n ≤ largest_held
+  unmatched_held None None h n e = let z : ◌≡◌ {A = ℕ} 0 1 = cc in absurd (omega arith)
+  unmatched_held None (Some m) h n e = absurd h
+  unmatched_held (Some a) None h n e = absurd h
+  unmatched_held (Some a) (Some m) h n e = let same : m ≡ n = cc in rw (← same) h.held
 
   pub local_like_asked : (out : List ℕ) → 128 ≤ length out → LocalAsked r out
   local_like_asked out h =
@@ -145,8 +144,8 @@ module _ (s r : LocalStats) (l : LocalLike s r) where
         room = omega (arith, local_short r (few l.counts) l.rounds.held (unmatched_held s.unmatched r.unmatched l.unmatched), h);
       }
     where
-      go : (a b : LargestResidual) → ResidualLike a b → (x : Float) → b ≡ LargestResidual.Residual x → is_finite x ≡ true
-      go LargestResidual.Nothing LargestResidual.Nothing h x e = let z : ◌≡◌ {A = ℕ} 0 1 = cc in absurd (omega arith)
-      go LargestResidual.Nothing (LargestResidual.Residual y) h x e = absurd h
-      go (LargestResidual.Residual a) LargestResidual.Nothing h x e = absurd h
-      go (LargestResidual.Residual a) (LargestResidual.Residual y) h x e = let same : y ≡ x = cc in rw (← same) h
+      go : (a b : Option Float) → ResidualLike a b → (x : Float) → b ≡ Some x → is_finite x ≡ true
+      go None None h x e = let z : ◌≡◌ {A = ℕ} 0 1 = cc in absurd (omega arith)
+      go None (Some y) h x e = absurd h
+      go (Some a) None h x e = absurd h
+      go (Some a) (Some y) h x e = let same : y ≡ x = cc in rw (← same) h

@@ -1,4 +1,5 @@
 -- Each pass line prints the values that the answer of its pass says. Assumes nothing.
+use Rattle.std.specs.Prelude.{Option, None, Some, Float}
 use mathlib.Core.Path.{◌≡◌, refl, sym, ap, ◌∙◌}
 use mathlib.Core.Bool.{Bool, true, false}
 use mathlib.Core.List.{List, [], ◌∷◌, ◌++◌, append-nil}
@@ -7,9 +8,7 @@ use lib.ListN.{drop}
 use Rattle.refusal.specs.Said.{whole, yes_or_no}
 use Rattle.line_form.specs.Forms.{bytes, number_text, printed}
 use Rattle.passes.specs.declared.Counts.{Counts}
-use Rattle.passes.specs.declared.LargestResidual.{LargestResidual}
 use Rattle.passes.specs.declared.LocalStats.{LocalStats}
-use Rattle.passes.specs.declared.Unmatched.{Unmatched}
 use Rattle.passes.specs.Said.{grows_four, grow_values, fill_values, residual_value, unmatched_value, local_values}
 use Rattle.report_line.specs.Result.{count, grow_form, fill_form, four_counts, grow_line, fill_line, local_line_with, local_line, unmatched_line, local_lines}
 use Rattle.report_line.specs.Said.{value_text, values_text, LinesSay}
@@ -25,29 +24,29 @@ unfolding printed number_text value_text values_text
 fill_says added rounds true = refl
 fill_says added rounds false = refl
 
-local_says : (c : Counts) (rounds : ℕ) (r : LargestResidual) (rim : Bool) (u : Unmatched)
+local_says : (c : Counts) (rounds : ℕ) (r : Option Float) (rim : Bool) (u : Option ℕ)
     → local_line_with r (record { counts = c; iterations = rounds; residual = r; rim = rim; unmatched = u })
     ≡ bytes "(local" ++ values_text (grows_four c (whole rounds ∷ residual_value r ∷ yes_or_no rim ∷ []))
 unfolding printed number_text value_text values_text
-local_says c rounds LargestResidual.Nothing true u = refl
-local_says c rounds LargestResidual.Nothing false u = refl
-local_says c rounds (LargestResidual.Residual x) true u = refl
-local_says c rounds (LargestResidual.Residual x) false u = refl
+local_says c rounds None true u = refl
+local_says c rounds None false u = refl
+local_says c rounds (Some x) true u = refl
+local_says c rounds (Some x) false u = refl
 
 -- what stands behind local's line
-count_says : (n : ℕ) → unmatched_line (Unmatched.Count n) ≡ bytes "(unmatched" ++ values_text (whole n ∷ [])
+count_says : (n : ℕ) → unmatched_line (Some n) ≡ bytes "(unmatched" ++ values_text (whole n ∷ [])
 unfolding unmatched_line printed number_text value_text values_text
 count_says n = refl
 
-unmatched_says : (s : LocalStats) (n : ℕ) → s.unmatched ≡ Unmatched.Count n → local_lines s ≡ local_line s ++ (bytes "(unmatched" ++ values_text (drop 7 (local_values s)))
+unmatched_says : (s : LocalStats) (n : ℕ) → s.unmatched ≡ Some n → local_lines s ≡ local_line s ++ (bytes "(unmatched" ++ values_text (drop 7 (local_values s)))
 unfolding local_lines local_values
 unmatched_says s n e =
-    ap (λ (u : Unmatched). local_line s ++ unmatched_line u) e
-    ∙ ap (λ (t : List ℕ). local_line s ++ t) (count_says n ∙ ap (λ (u : Unmatched). bytes "(unmatched" ++ values_text (unmatched_value u ∷ [])) (sym e))
+    ap (λ (u : Option ℕ). local_line s ++ unmatched_line u) e
+    ∙ ap (λ (t : List ℕ). local_line s ++ t) (count_says n ∙ ap (λ (u : Option ℕ). bytes "(unmatched" ++ values_text (unmatched_value u ∷ [])) (sym e))
 
-none_says : (s : LocalStats) → s.unmatched ≡ Unmatched.NoShades → local_lines s ≡ local_line s
+none_says : (s : LocalStats) → s.unmatched ≡ None → local_lines s ≡ local_line s
 unfolding local_lines unmatched_line
-none_says s e = ap (λ (u : Unmatched). local_line s ++ unmatched_line u) e ∙ append-nil (local_line s)
+none_says s e = ap (λ (u : Option ℕ). local_line s ++ unmatched_line u) e ∙ append-nil (local_line s)
 
 pub lines_say : LinesSay
 unfolding grow_line fill_line local_line grow_values fill_values local_values

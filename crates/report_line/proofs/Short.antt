@@ -20,8 +20,6 @@ use Rattle.passes.specs.declared.Counts.{Counts}
 use Rattle.passes.specs.declared.GrowStats.{GrowStats}
 use Rattle.passes.specs.declared.FillStats.{FillStats}
 use Rattle.passes.specs.declared.LocalStats.{LocalStats}
-use Rattle.passes.specs.declared.LargestResidual.{LargestResidual}
-use Rattle.passes.specs.declared.Unmatched.{Unmatched}
 use Rattle.report_line.specs.Written.{largest_held, Few}
 use Rattle.report_line.proofs.Wide.{Wide, printed_wide, count_wide, bits_wide}
 use Rattle.report_line.specs.Result.{count, grow_form, fill_form, local_form, bare_local_form, four_counts, grow_line, fill_line, local_line_with, local_line, unmatched_line, local_lines, cell_numbers, label_line, cell_line, hole_line, ambiguous_line, sheet_line}
@@ -66,19 +64,19 @@ local_line_short s h r = go s.residual s.rim
     full_wide : (x : Float) → Wide (full x)
     full_wide x = four_wide s.counts (count s.iterations ∷ bits (to_bits binary32 x) ∷ []) h (count_wide _ r, (bits_wide (to_bits binary32 x), tt))
 
-    go : (x : LargestResidual) (t : Bool) → length (local_line_with x (record { counts = s.counts; iterations = s.iterations; residual = x; rim = t; unmatched = s.unmatched })) ≤ 78
-    go LargestResidual.Nothing true = let l : _ ≤ 27 + 9 * 5 = printed_wide (bare_local_form true) bare bare_wide in omega arith
-    go LargestResidual.Nothing false = let l : _ ≤ 26 + 9 * 5 = printed_wide (bare_local_form false) bare bare_wide in omega arith
-    go (LargestResidual.Residual x) true = let l : _ ≤ 24 + 9 * 6 = printed_wide (local_form true) (full x) (full_wide x) in omega arith
-    go (LargestResidual.Residual x) false = let l : _ ≤ 23 + 9 * 6 = printed_wide (local_form false) (full x) (full_wide x) in omega arith
+    go : (x : Option Float) (t : Bool) → length (local_line_with x (record { counts = s.counts; iterations = s.iterations; residual = x; rim = t; unmatched = s.unmatched })) ≤ 78
+    go None true = let l : _ ≤ 27 + 9 * 5 = printed_wide (bare_local_form true) bare bare_wide in omega arith
+    go None false = let l : _ ≤ 26 + 9 * 5 = printed_wide (bare_local_form false) bare bare_wide in omega arith
+    go (Some x) true = let l : _ ≤ 24 + 9 * 6 = printed_wide (local_form true) (full x) (full_wide x) in omega arith
+    go (Some x) false = let l : _ ≤ 23 + 9 * 6 = printed_wide (local_form false) (full x) (full_wide x) in omega arith
 
-unmatched_short : (u : Unmatched) → ((n : ℕ) → u ≡ Unmatched.Count n → n ≤ largest_held) → length (unmatched_line u) ≤ 23
+unmatched_short : (u : Option ℕ) → ((n : ℕ) → u ≡ Some n → n ≤ largest_held) → length (unmatched_line u) ≤ 23
 unfolding unmatched_line slots
-unmatched_short Unmatched.NoShades h = omega arith
-unmatched_short (Unmatched.Count n) h = let l : _ ≤ 14 + 9 * 1 = printed_wide (bytes "(unmatched #)\n") (count n ∷ []) (count_wide n (h n refl), tt) in omega arith
+unmatched_short None h = omega arith
+unmatched_short (Some n) h = let l : _ ≤ 14 + 9 * 1 = printed_wide (bytes "(unmatched #)\n") (count n ∷ []) (count_wide n (h n refl), tt) in omega arith
 
 -- the two together
-pub local_short : (s : LocalStats) → Few s.counts → s.iterations ≤ largest_held → ((n : ℕ) → s.unmatched ≡ Unmatched.Count n → n ≤ largest_held)
+pub local_short : (s : LocalStats) → Few s.counts → s.iterations ≤ largest_held → ((n : ℕ) → s.unmatched ≡ Some n → n ≤ largest_held)
     → length (local_lines s) ≤ 127
 unfolding local_lines
 local_short s h r u = omega (arith, length-append (local_line s) (unmatched_line s.unmatched), local_line_short s h r, unmatched_short s.unmatched u)

@@ -1,13 +1,11 @@
 -- Lines that are as long as others: with numbers that a line can hold, each of as many digits. Definitions only; `proofs/Like.antt` has the laws.
-use Rattle.std.specs.Prelude.{◌≡◌, true, ℕ, ◌≤◌, length}
+use Rattle.std.specs.Prelude.{◌≡◌, true, ℕ, ◌≤◌, length, Option, None, Some, Float}
 use Rattle.binary32.specs.Ranges.{is_finite}
 use Rattle.line_form.specs.Integers.{decimal}
 use Rattle.passes.specs.declared.Counts.{Counts}
 use Rattle.passes.specs.declared.GrowStats.{GrowStats}
 use Rattle.passes.specs.declared.FillStats.{FillStats}
 use Rattle.passes.specs.declared.LocalStats.{LocalStats}
-use Rattle.passes.specs.declared.LargestResidual.{LargestResidual}
-use Rattle.passes.specs.declared.Unmatched.{Unmatched}
 use Rattle.report_line.specs.Written.{largest_held}
 
 -- a number that a line can hold, of as many digits as n
@@ -22,18 +20,18 @@ pub record CountsLike (c r : Counts) : Type 0 where
   pub edge : Like c.rejected_edge r.rejected_edge
 
 -- a finite residual for a residual, and none for none
-abbrev pub ResidualLike : LargestResidual → LargestResidual → Type 0
-ResidualLike LargestResidual.Nothing LargestResidual.Nothing = Unit {0}
-ResidualLike LargestResidual.Nothing (LargestResidual.Residual y) = ⊥
-ResidualLike (LargestResidual.Residual x) LargestResidual.Nothing = ⊥
-ResidualLike (LargestResidual.Residual x) (LargestResidual.Residual y) = is_finite y ≡ true
+abbrev pub ResidualLike : Option Float → Option Float → Type 0
+ResidualLike None None = Unit {0}
+ResidualLike None (Some y) = ⊥
+ResidualLike (Some x) None = ⊥
+ResidualLike (Some x) (Some y) = is_finite y ≡ true
 
 -- a count for a count, and none for none
-abbrev pub UnmatchedLike : Unmatched → Unmatched → Type 0
-UnmatchedLike Unmatched.NoShades Unmatched.NoShades = Unit {0}
-UnmatchedLike Unmatched.NoShades (Unmatched.Count m) = ⊥
-UnmatchedLike (Unmatched.Count n) Unmatched.NoShades = ⊥
-UnmatchedLike (Unmatched.Count n) (Unmatched.Count m) = Like n m
+abbrev pub UnmatchedLike : Option ℕ → Option ℕ → Type 0
+UnmatchedLike None None = Unit {0}
+UnmatchedLike None (Some m) = ⊥
+UnmatchedLike (Some n) None = ⊥
+UnmatchedLike (Some n) (Some m) = Like n m
 
 pub record GrowLike (s r : GrowStats) : Type 0 where
   pub counts : CountsLike s.counts r.counts

@@ -1,6 +1,6 @@
 -- The text of a result (document 01, "Frame and result": `(result 1)`, "After the first line stand the pass lines as run. .. Then cells (cell,
 -- corner), holes, `(ambiguous (i j))`, each by i, then j."; document 02, 1/14: `(unmatched count)` behind local's line). Definitions only.
-use Rattle.std.specs.Prelude.{Bool, true, false, cond, List, [], ◌∷◌, ◌++◌, ℕ, zero, suc, ◌+◌, ◌-◌, pos, ltb, length, get_or, Option, Some, None}
+use Rattle.std.specs.Prelude.{Bool, true, false, cond, List, [], ◌∷◌, ◌++◌, ℕ, zero, suc, ◌+◌, ◌-◌, pos, ltb, length, get_or, Option, None, Some, Float}
 use Rattle.std.specs.Float.{binary32}
 use Rattle.std.specs.Float.Ieee.{to_bits}
 use Rattle.sheet.specs.Cells.{cell_of}
@@ -11,8 +11,6 @@ use Rattle.passes.specs.declared.Counts.{Counts}
 use Rattle.passes.specs.declared.GrowStats.{GrowStats}
 use Rattle.passes.specs.declared.FillStats.{FillStats}
 use Rattle.passes.specs.declared.LocalStats.{LocalStats}
-use Rattle.passes.specs.declared.LargestResidual.{LargestResidual}
-use Rattle.passes.specs.declared.Unmatched.{Unmatched}
 use Rattle.passes.specs.Run.{PassStats, grow_stats, fill_stats, local_stats}
 use Rattle.sizes.specs.Sizes.{place_count}
 use Rattle.report_line.specs.Sizes.{sheet_lines, first_ambiguous, line_room}
@@ -52,17 +50,17 @@ unfoldable pub fill_line : FillStats → List ℕ
 fill_line s = printed (fill_form s.rim) (count s.added ∷ count s.iterations ∷ [])
 
 -- "Local: grow's four, rounds, largest residual or `none`, rim."
-abbrev pub local_line_with : LargestResidual → LocalStats → List ℕ
-local_line_with LargestResidual.Nothing s = printed (bare_local_form s.rim) (four_counts s.counts (count s.iterations ∷ []))
-local_line_with (LargestResidual.Residual x) s = printed (local_form s.rim) (four_counts s.counts (count s.iterations ∷ bits (to_bits binary32 x) ∷ []))
+abbrev pub local_line_with : Option Float → LocalStats → List ℕ
+local_line_with None s = printed (bare_local_form s.rim) (four_counts s.counts (count s.iterations ∷ []))
+local_line_with (Some x) s = printed (local_form s.rim) (four_counts s.counts (count s.iterations ∷ bits (to_bits binary32 x) ∷ []))
 
 unfoldable pub local_line : LocalStats → List ℕ
 local_line s = local_line_with s.residual s
 
 -- "if any shade stands, prints `(unmatched count)` after its line" (document 02, 1/14)
-unfoldable pub unmatched_line : Unmatched → List ℕ
-unmatched_line Unmatched.NoShades = []
-unmatched_line (Unmatched.Count n) = printed (bytes "(unmatched #)\n") (count n ∷ [])
+unfoldable pub unmatched_line : Option ℕ → List ℕ
+unmatched_line None = []
+unmatched_line (Some n) = printed (bytes "(unmatched #)\n") (count n ∷ [])
 
 -- local's line, and behind it that of unmatched: together they count as one line
 unfoldable pub local_lines : LocalStats → List ℕ

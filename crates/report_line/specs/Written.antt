@@ -1,6 +1,6 @@
 -- What the line writers ask: numbers that a line of a result can have, and room for the line. What they leave is line_form's `Wrote`: the line at the
 -- front of the part, and the rest untouched. Definitions only.
-use Rattle.std.specs.Prelude.{◌≡◌, Bool, true, cond, List, [], ◌∷◌, ℕ, ◌≤◌, ◌<◌, length, Float, Some}
+use Rattle.std.specs.Prelude.{◌≡◌, Bool, true, cond, List, [], ◌∷◌, ℕ, ◌≤◌, ◌<◌, length, Float, Option, None, Some}
 use Rattle.binary32.specs.Ranges.{is_finite}
 use Rattle.sheet.specs.Cells.{OnSheet, cell_of}
 use Rattle.sheet.specs.declared.Cell.{Cell}
@@ -10,8 +10,6 @@ use Rattle.passes.specs.declared.Counts.{Counts}
 use Rattle.passes.specs.declared.GrowStats.{GrowStats}
 use Rattle.passes.specs.declared.FillStats.{FillStats}
 use Rattle.passes.specs.declared.LocalStats.{LocalStats}
-use Rattle.passes.specs.declared.LargestResidual.{LargestResidual}
-use Rattle.passes.specs.declared.Unmatched.{Unmatched}
 use Rattle.sizes.specs.Sizes.{place_count}
 use Rattle.report_line.specs.Sizes.{sheet_lines}
 use Rattle.report_line.specs.Result.{grow_line, fill_line, local_line_with, local_line, unmatched_line, local_lines, cell_numbers, label_line}
@@ -40,10 +38,10 @@ pub record FillAsked (s : FillStats) (out : List ℕ) : Type 0 where
 
 -- a local line by its residual
 abbrev pub bare_local_text : LocalStats → List ℕ
-bare_local_text s = local_line_with LargestResidual.Nothing s
+bare_local_text s = local_line_with None s
 
 abbrev pub full_local_text : LocalStats → Float → List ℕ
-full_local_text s x = local_line_with (LargestResidual.Residual x) s
+full_local_text s x = local_line_with (Some x) s
 
 pub record BareAsked (s : LocalStats) (out : List ℕ) : Type 0 where
   pub few : Few s.counts
@@ -59,19 +57,19 @@ pub record FullAsked (s : LocalStats) (x : Float) (out : List ℕ) : Type 0 wher
 pub record LocalLineAsked (s : LocalStats) (out : List ℕ) : Type 0 where
   pub few : Few s.counts
   pub rounds : s.iterations ≤ largest_held
-  pub finite : (x : Float) → s.residual ≡ LargestResidual.Residual x → is_finite x ≡ true
+  pub finite : (x : Float) → s.residual ≡ Some x → is_finite x ≡ true
   pub room : length (local_line s) ≤ length out
 
-pub record UnmatchedAsked (u : Unmatched) (out : List ℕ) : Type 0 where
-  pub held : (n : ℕ) → u ≡ Unmatched.Count n → n ≤ largest_held
+pub record UnmatchedAsked (u : Option ℕ) (out : List ℕ) : Type 0 where
+  pub held : (n : ℕ) → u ≡ Some n → n ≤ largest_held
   pub room : length (unmatched_line u) ≤ length out
 
 -- local's line and that of unmatched
 pub record LocalAsked (s : LocalStats) (out : List ℕ) : Type 0 where
   pub few : Few s.counts
   pub rounds : s.iterations ≤ largest_held
-  pub finite : (x : Float) → s.residual ≡ LargestResidual.Residual x → is_finite x ≡ true
-  pub unmatched : (n : ℕ) → s.unmatched ≡ Unmatched.Count n → n ≤ largest_held
+  pub finite : (x : Float) → s.residual ≡ Some x → is_finite x ≡ true
+  pub unmatched : (n : ℕ) → s.unmatched ≡ Some n → n ≤ largest_held
   pub room : length (local_lines s) ≤ length out
 
 -- ---- the sheet's lines

@@ -1,4 +1,5 @@
 -- Outcomes as words: what the check of them says, the outcomes from a number on, and that reading what was put gives the outcome back. Assumes nothing.
+use Rattle.std.specs.Prelude.{Option, None, Some}
 use mathlib.Core.Path.{◌≡◌, refl, sym, ap, ◌∙◌}
 use mathlib.Core.Bool.{Bool, true, false, not, ◌&&◌, ◌||◌, cond}
 use mathlib.Core.List.{List, [], ◌∷◌, ◌++◌}
@@ -19,8 +20,6 @@ use Rattle.labels.proofs.Below.{no_both}
 use Rattle.passes.specs.declared.GrowStats.{GrowStats}
 use Rattle.passes.specs.declared.FillStats.{FillStats}
 use Rattle.passes.specs.declared.LocalStats.{LocalStats}
-use Rattle.passes.specs.declared.LargestResidual.{LargestResidual}
-use Rattle.passes.specs.declared.Unmatched.{Unmatched}
 use Rattle.passes.specs.Run.{PassStats, grow_stats, fill_stats, local_stats}
 use Rattle.arguments.proofs.Chains.{or_false_both}
 use Rattle.report_line.specs.Result.{pass_line, pass_line_at}
@@ -119,13 +118,13 @@ module _ (words : List ℕ) (k : ℕ) where
   unfolding stats_at
   local_said_lem s e0 e1 e2 e3 e4 e5 er e8 eu = rw (e0, er, eu, e1, e2, e3, e4, e5, e8, bit_read s.rim)
 
-  residual_said : (x : LargestResidual) → FloatOrNone x → word_at words k 6 ≡ flag_of x → word_at words k 7 ≡ bits_of x → residual_at words k ≡ x
-  residual_said LargestResidual.Nothing f e6 e7 = rw e6
-  residual_said (LargestResidual.Residual x) f e6 e7 = rw (e6, e7, of_bits-to_bits binary32 x f)
+  residual_said : (x : Option Float) → FloatOrNone x → word_at words k 6 ≡ flag_of x → word_at words k 7 ≡ bits_of x → residual_at words k ≡ x
+  residual_said None f e6 e7 = rw e6
+  residual_said (Some x) f e6 e7 = rw (e6, e7, of_bits-to_bits binary32 x f)
 
-  unmatched_said : (u : Unmatched) → word_at words k 9 ≡ shade_flag u → word_at words k 10 ≡ unmatched_word u → unmatched_at words k ≡ u
-  unmatched_said Unmatched.NoShades e9 e10 = rw e9
-  unmatched_said (Unmatched.Count n) e9 e10 = rw (e9, e10)
+  unmatched_said : (u : Option ℕ) → word_at words k 9 ≡ shade_flag u → word_at words k 10 ≡ unmatched_word u → unmatched_at words k ≡ u
+  unmatched_said None e9 e10 = rw e9
+  unmatched_said (Some n) e9 e10 = rw (e9, e10)
 
 -- what stands at an outcome's place
 there : (before after : List ℕ) (k m : ℕ) → length before ≡ outcome_size * k → word_at (before ++ after) k m ≡ get_or after m 0
@@ -141,11 +140,11 @@ local_listed s =
     ap (λ (l : List ℕ). 2 ∷ s.counts.attached ∷ s.counts.rejected_no_candidate ∷ s.counts.rejected_ambiguous ∷ s.counts.rejected_edge ∷ s.iterations ∷ l)
     (go s.residual s.unmatched)
   where
-    go : (x : LargestResidual) (u : Unmatched) → residual_words x (bit_of s.rim ∷ unmatched_words u) ≡ flag_of x ∷ bits_of x ∷ bit_of s.rim ∷ shade_flag u ∷ unmatched_word u ∷ []
-    go LargestResidual.Nothing Unmatched.NoShades = refl
-    go LargestResidual.Nothing (Unmatched.Count n) = refl
-    go (LargestResidual.Residual x) Unmatched.NoShades = refl
-    go (LargestResidual.Residual x) (Unmatched.Count n) = refl
+    go : (x : Option Float) (u : Option ℕ) → residual_words x (bit_of s.rim ∷ unmatched_words u) ≡ flag_of x ∷ bits_of x ∷ bit_of s.rim ∷ shade_flag u ∷ unmatched_word u ∷ []
+    go None None = refl
+    go None (Some n) = refl
+    go (Some x) None = refl
+    go (Some x) (Some n) = refl
 
 -- reading what was put gives the outcome back; a residual is to be a value of binary32
 pub decode_encode : (before after : List ℕ) (k : ℕ) (s : PassStats) → length before ≡ outcome_size * k → IsFloat s → stats_at (before ++ (outcome_words s ++ after)) k ≡ s
@@ -198,10 +197,10 @@ module _ (words : List ℕ) (k : ℕ) where
           go (no d) = omega arith
 
 -- and it is finite
-pub residual_finite : (words : List ℕ) (k : ℕ) → Tame words k → (x : Float) → residual_at words k ≡ LargestResidual.Residual x → is_finite x ≡ true
+pub residual_finite : (words : List ℕ) (k : ℕ) → Tame words k → (x : Float) → residual_at words k ≡ Some x → is_finite x ≡ true
 residual_finite words k w x e = go (eqb (word_at words k 6) 0) refl e
   where
-    go : (t : Bool) → eqb (word_at words k 6) 0 ≡ t → cond (not t) (LargestResidual.Residual (of_bits binary32 (word_at words k 7))) LargestResidual.Nothing ≡ LargestResidual.Residual x
+    go : (t : Bool) → eqb (word_at words k 6) 0 ≡ t → cond (not t) (Some (of_bits binary32 (word_at words k 7))) None ≡ Some x
         → is_finite x ≡ true
     go true p q = absurd (let z : ◌≡◌ {A = ℕ} 0 1 = cc in omega arith)
     go false p q =
@@ -212,16 +211,16 @@ residual_finite words k w x e = go (eqb (word_at words k 6) 0) refl e
 
 -- ---- a finite residual for a residual, and none for none
 
-pub like_some : (words : List ℕ) (k : ℕ) (x : Float) → is_finite x ≡ true → yes_at words k 6 ≡ true → ResidualLike (residual_at words k) (LargestResidual.Residual x)
+pub like_some : (words : List ℕ) (k : ℕ) (x : Float) → is_finite x ≡ true → yes_at words k 6 ≡ true → ResidualLike (residual_at words k) (Some x)
 like_some words k x f e = rw e f
 
 -- ---- unmatched
 
 -- unmatched of an outcome that passes the check
-pub unmatched_few : (words : List ℕ) (k : ℕ) → Tame words k → (n : ℕ) → unmatched_at words k ≡ Unmatched.Count n → n ≤ largest_unmatched
+pub unmatched_few : (words : List ℕ) (k : ℕ) → Tame words k → (n : ℕ) → unmatched_at words k ≡ Some n → n ≤ largest_unmatched
 unmatched_few words k w n e = go (eqb (word_at words k 9) 0) refl e
   where
-    go : (t : Bool) → eqb (word_at words k 9) 0 ≡ t → cond (not t) (Unmatched.Count (word_at words k 10)) Unmatched.NoShades ≡ Unmatched.Count n → n ≤ largest_unmatched
+    go : (t : Bool) → eqb (word_at words k 9) 0 ≡ t → cond (not t) (Some (word_at words k 10)) None ≡ Some n → n ≤ largest_unmatched
     go true p q = absurd (let z : ◌≡◌ {A = ℕ} 0 1 = cc in omega arith)
     go false p q =
         let low = w.shades in

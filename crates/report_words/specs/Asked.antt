@@ -1,5 +1,5 @@
 -- What the functions on an outcome's words ask, and outcomes put at their places. Definitions only.
-use Rattle.std.specs.Prelude.{◌≡◌, true, List, ◌++◌, ℕ, ◌+◌, ◌*◌, ◌≤◌, ◌<◌, length, take, drop, T}
+use Rattle.std.specs.Prelude.{◌≡◌, true, List, ◌++◌, ℕ, ◌+◌, ◌*◌, ◌≤◌, ◌<◌, length, take, drop, T, Option, None, Some, Float}
 use Rattle.std.specs.Float.{binary32}
 use Rattle.std.specs.Float.Ieee.{of_bits, to_bits, fits}
 use Rattle.binary32.specs.Ranges.{is_finite}
@@ -7,8 +7,6 @@ use Rattle.passes.specs.declared.Counts.{Counts}
 use Rattle.passes.specs.declared.GrowStats.{GrowStats}
 use Rattle.passes.specs.declared.FillStats.{FillStats}
 use Rattle.passes.specs.declared.LocalStats.{LocalStats}
-use Rattle.passes.specs.declared.LargestResidual.{LargestResidual}
-use Rattle.passes.specs.declared.Unmatched.{Unmatched}
 use Rattle.passes.specs.declared.PassAnswer.{PassAnswer}
 use Rattle.passes.specs.Run.{PassStats, grow_stats, fill_stats, local_stats}
 use Rattle.sizes.specs.Sizes.{outcome_size}
@@ -61,22 +59,22 @@ abbrev pub with_outcome : List ℕ → ℕ → PassStats → List ℕ
 with_outcome words k s = put words k (outcome_words s)
 
 -- the two words of a residual
-abbrev pub flag_of : LargestResidual → ℕ
-flag_of LargestResidual.Nothing = 0
-flag_of (LargestResidual.Residual x) = 1
+abbrev pub flag_of : Option Float → ℕ
+flag_of None = 0
+flag_of (Some x) = 1
 
-abbrev pub bits_of : LargestResidual → ℕ
-bits_of LargestResidual.Nothing = 0
-bits_of (LargestResidual.Residual x) = to_bits binary32 x
+abbrev pub bits_of : Option Float → ℕ
+bits_of None = 0
+bits_of (Some x) = to_bits binary32 x
 
 -- the two words of unmatched
-abbrev pub shade_flag : Unmatched → ℕ
-shade_flag Unmatched.NoShades = 0
-shade_flag (Unmatched.Count n) = 1
+abbrev pub shade_flag : Option ℕ → ℕ
+shade_flag None = 0
+shade_flag (Some n) = 1
 
-abbrev pub unmatched_word : Unmatched → ℕ
-unmatched_word Unmatched.NoShades = 0
-unmatched_word (Unmatched.Count n) = n
+abbrev pub unmatched_word : Option ℕ → ℕ
+unmatched_word None = 0
+unmatched_word (Some n) = n
 
 -- a count as a word
 abbrev pub FitsWord : ℕ → Type 0
@@ -92,9 +90,9 @@ pub record FillFits (s : FillStats) : Type 0 where
   pub added : FitsWord s.added
   pub rounds : FitsWord s.iterations
 
-abbrev pub UnmatchedFits : Unmatched → Type 0
-UnmatchedFits Unmatched.NoShades = Unit {0}
-UnmatchedFits (Unmatched.Count n) = FitsWord n
+abbrev pub UnmatchedFits : Option ℕ → Type 0
+UnmatchedFits None = Unit {0}
+UnmatchedFits (Some n) = FitsWord n
 
 pub record LocalFits (s : LocalStats) : Type 0 where
   pub counts : CountsFit s.counts
@@ -116,9 +114,9 @@ with_answer words k (PassAnswer.Local s) = with_outcome words k (local_stats s)
 with_answer words k (PassAnswer.Refused r) = words
 
 -- a residual, if there is one, is a value of binary32
-abbrev pub FloatOrNone : LargestResidual → Type 0
-FloatOrNone LargestResidual.Nothing = Unit {0}
-FloatOrNone (LargestResidual.Residual x) = T (fits binary32 x)
+abbrev pub FloatOrNone : Option Float → Type 0
+FloatOrNone None = Unit {0}
+FloatOrNone (Some x) = T (fits binary32 x)
 
 abbrev pub IsFloat : PassStats → Type 0
 IsFloat (grow_stats s) = Unit {0}

@@ -1,25 +1,23 @@
 -- Outcomes of passes as words, as they are lent to the calls that write a result's text. Definitions only.
-use Rattle.std.specs.Prelude.{Bool, not, ◌&&◌, ◌||◌, cond, List, [], ◌∷◌, ℕ, zero, suc, ◌+◌, ◌*◌, ltb, eqb, get_or}
+use Rattle.std.specs.Prelude.{Bool, not, ◌&&◌, ◌||◌, cond, List, [], ◌∷◌, ℕ, zero, suc, ◌+◌, ◌*◌, ltb, eqb, get_or, Option, None, Some, Float}
 use Rattle.std.specs.Float.{binary32}
 use Rattle.std.specs.Float.Ieee.{to_bits, of_bits}
 use Rattle.binary32.specs.Ranges.{is_finite}
 use Rattle.sheet.specs.Words.{bit_of}
 use Rattle.passes.specs.declared.Counts.{Counts}
-use Rattle.passes.specs.declared.LargestResidual.{LargestResidual}
-use Rattle.passes.specs.declared.Unmatched.{Unmatched}
 use Rattle.passes.specs.Run.{PassStats, grow_stats, fill_stats, local_stats}
 use Rattle.sizes.specs.Sizes.{outcome_size}
 
 -- ---- an outcome as eleven words: kind (0 grow, 1 fill, 2 local), attached or added, no candidate, ambiguous, edge, rounds, 1 if there is a residual
 -- and else 0, its bits, 1 for rim yes and 0 for no, 1 if any shade stands and else 0, unmatched; 0 for what the pass has not
 
-abbrev pub residual_words : LargestResidual → List ℕ → List ℕ
-residual_words LargestResidual.Nothing rest = 0 ∷ 0 ∷ rest
-residual_words (LargestResidual.Residual x) rest = 1 ∷ to_bits binary32 x ∷ rest
+abbrev pub residual_words : Option Float → List ℕ → List ℕ
+residual_words None rest = 0 ∷ 0 ∷ rest
+residual_words (Some x) rest = 1 ∷ to_bits binary32 x ∷ rest
 
-abbrev pub unmatched_words : Unmatched → List ℕ
-unmatched_words Unmatched.NoShades = 0 ∷ 0 ∷ []
-unmatched_words (Unmatched.Count n) = 1 ∷ n ∷ []
+abbrev pub unmatched_words : Option ℕ → List ℕ
+unmatched_words None = 0 ∷ 0 ∷ []
+unmatched_words (Some n) = 1 ∷ n ∷ []
 
 unfoldable pub outcome_words : PassStats → List ℕ
 outcome_words (grow_stats s) =
@@ -41,11 +39,11 @@ counts_at words k =
 abbrev pub yes_at : List ℕ → ℕ → ℕ → Bool
 yes_at words k m = not (eqb (word_at words k m) 0)
 
-abbrev pub residual_at : List ℕ → ℕ → LargestResidual
-residual_at words k = cond (yes_at words k 6) (LargestResidual.Residual (of_bits binary32 (word_at words k 7))) LargestResidual.Nothing
+abbrev pub residual_at : List ℕ → ℕ → Option Float
+residual_at words k = cond (yes_at words k 6) (Some (of_bits binary32 (word_at words k 7))) None
 
-abbrev pub unmatched_at : List ℕ → ℕ → Unmatched
-unmatched_at words k = cond (yes_at words k 9) (Unmatched.Count (word_at words k 10)) Unmatched.NoShades
+abbrev pub unmatched_at : List ℕ → ℕ → Option ℕ
+unmatched_at words k = cond (yes_at words k 9) (Some (word_at words k 10)) None
 
 -- what outcome k says
 unfoldable pub stats_at : List ℕ → ℕ → PassStats

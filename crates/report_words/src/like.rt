@@ -7,7 +7,7 @@ ghost use Rattle.report_words.specs.Outcomes.{word_at, counts_at, residual_at, u
 ghost use Rattle.report_words.specs.Asked.{HasOutcome, grow_at, fill_at, local_at};
 
 use super::read::{word_at, yes_at};
-use passes::{Counts, FillStats, GrowStats, LargestResidual, LocalStats, Unmatched};
+use passes::{Counts, FillStats, GrowStats, LocalStats};
 
 // Word m of outcome k.
 fn like_at(words: &[u32], k: usize, m: usize) -> usize
@@ -31,26 +31,22 @@ fn counts_like(words: &[u32], k: usize) -> Counts
 }
 
 // The residual of an outcome.
-fn residual_like(words: &[u32], k: usize) -> LargestResidual
+fn residual_like(words: &[u32], k: usize) -> Option<f32>
     requires { HasOutcome words.now k }
     ensures { ResidualLike (residual_at words.now k) result }
 {
-    if yes_at(words, k, 6) {
-        LargestResidual::Residual(0.0)
-    } else {
-        LargestResidual::Nothing
-    }
+    if yes_at(words, k, 6) { Some(0.0) } else { None }
 }
 
 // How many corners were passed over, in an outcome.
-fn unmatched_like(words: &[u32], k: usize) -> Unmatched
+fn unmatched_like(words: &[u32], k: usize) -> Option<usize>
     requires { HasOutcome words.now k }
     ensures { UnmatchedLike (unmatched_at words.now k) result }
 {
     if yes_at(words, k, 9) {
-        Unmatched::Count(like_at(words, k, 10))
+        Some(like_at(words, k, 10))
     } else {
-        Unmatched::NoShades
+        None
     }
 }
 

@@ -8,7 +8,7 @@ ghost use Rattle.report_words.specs.Outcomes.{outcome_words};
 ghost use Rattle.report_words.specs.Asked.{HasOutcome, flag_of, bits_of, shade_flag, unmatched_word, put};
 ghost use Rattle.report_words.specs.Asked.{CountsFit, FillFits, UnmatchedFits, LocalFits, AnswerFits, with_answer};
 
-use passes::{FillStats, GrowStats, LargestResidual, LocalStats, PassAnswer, Unmatched};
+use passes::{FillStats, GrowStats, LocalStats, PassAnswer};
 use sizes::OUTCOME_WORDS;
 
 // Yes or no as a word.
@@ -16,16 +16,6 @@ fn bit(b: bool) -> u32
     ensures { result ≡ bit_of b }
 {
     u32::from(b)
-}
-
-// Whether there is a residual, as a word.
-fn residual_flag(x: LargestResidual) -> u32
-    ensures { result ≡ flag_of x }
-{
-    match x {
-        LargestResidual::Nothing => 0,
-        LargestResidual::Residual(_) => 1,
-    }
 }
 
 // A float's bits. Any NaN is put as 7fc00000.
@@ -36,34 +26,21 @@ fn float_bits(x: f32) -> u32
 }
 
 // The bits of a residual, and 0 where there is none.
-fn residual_bits(x: LargestResidual) -> u32
+fn residual_bits(x: Option<f32>) -> u32
     ensures { result ≡ bits_of x }
 {
     match x {
-        LargestResidual::Nothing => 0,
-        LargestResidual::Residual(r) => float_bits(r),
-    }
-}
-
-// Whether a shade stands, as a word.
-fn shade_flag(u: Unmatched) -> u32
-    ensures { result ≡ shade_flag u }
-{
-    match u {
-        Unmatched::NoShades => 0,
-        Unmatched::Count(_) => 1,
+        None => 0,
+        Some(r) => float_bits(r),
     }
 }
 
 // How many corners were passed over, and 0 where no shade stands.
-fn unmatched_word(u: Unmatched) -> u32
+fn unmatched_word(u: Option<usize>) -> u32
     requires { UnmatchedFits u }
     ensures { result ≡ unmatched_word u }
 {
-    match u {
-        Unmatched::NoShades => 0,
-        Unmatched::Count(n) => n as u32,
-    }
+    u.unwrap_or(0) as u32
 }
 
 // Puts eleven words at the place of outcome k.
@@ -125,8 +102,6 @@ fn local_words(s: LocalStats) -> [u32; OUTCOME_WORDS]
     ensures { result ≡ outcome_words (local_stats s) }
 {
     let c = s.counts;
-    let residual = s.residual;
-    let unmatched = s.unmatched;
     [
         2u32,
         c.attached as u32,
@@ -134,11 +109,11 @@ fn local_words(s: LocalStats) -> [u32; OUTCOME_WORDS]
         c.rejected_ambiguous as u32,
         c.rejected_edge as u32,
         s.iterations as u32,
-        residual_flag(residual),
-        residual_bits(residual),
+        bit(s.residual.is_some()),
+        residual_bits(s.residual),
         bit(s.rim),
-        shade_flag(unmatched),
-        unmatched_word(unmatched),
+        bit(s.unmatched.is_some()),
+        unmatched_word(s.unmatched),
     ]
 }
 

@@ -4,7 +4,7 @@ ghost use Rattle.sizes.specs.Sizes.{outcome_size};
 ghost use Rattle.report_words.specs.Outcomes.{word_at, counts_at, yes_at, residual_at, unmatched_at};
 ghost use Rattle.report_words.specs.Asked.{HasOutcome, TameOutcome, grow_at, fill_at, local_at};
 
-use passes::{Counts, FillStats, GrowStats, LargestResidual, LocalStats, Unmatched};
+use passes::{Counts, FillStats, GrowStats, LocalStats};
 use sizes::OUTCOME_WORDS;
 
 // Word m of outcome k.
@@ -62,26 +62,26 @@ pub fn fill_at(words: &[u32], k: usize) -> FillStats
 }
 
 // The residual of an outcome of local that passes the check.
-fn residual_at(words: &[u32], k: usize) -> LargestResidual
+fn residual_at(words: &[u32], k: usize) -> Option<f32>
     requires { TameOutcome words.now k }
     ensures { result ≡ residual_at words.now k }
 {
     if yes_at(words, k, 6) {
-        LargestResidual::Residual(f32::from_bits(words[OUTCOME_WORDS * k + 7]))
+        Some(f32::from_bits(words[OUTCOME_WORDS * k + 7]))
     } else {
-        LargestResidual::Nothing
+        None
     }
 }
 
 // How many corners were passed over, in an outcome of local.
-fn unmatched_at(words: &[u32], k: usize) -> Unmatched
+fn unmatched_at(words: &[u32], k: usize) -> Option<usize>
     requires { HasOutcome words.now k }
     ensures { result ≡ unmatched_at words.now k }
 {
     if yes_at(words, k, 9) {
-        Unmatched::Count(word_at(words, k, 10))
+        Some(word_at(words, k, 10))
     } else {
-        Unmatched::NoShades
+        None
     }
 }
 

@@ -6,7 +6,6 @@
 
 ghost use Rattle.std.specs.Prelude.{◌≤◌, ◌%◌};
 
-use binary32::root::Rooted;
 use std::io;
 
 // Where the sweep stands: the next pattern, and the sum over the block so far.
@@ -18,8 +17,7 @@ struct Sweep {
 
 // The next pattern: a linear congruence modulo 2 ^ 32.
 fn next(pattern: u32) -> u32 {
-    let wide = (pattern as u64) * 1664525 + 1013904223;
-    (wide % 0x1_0000_0000) as u32
+    pattern.wrapping_mul(1664525).wrapping_add(1013904223)
 }
 
 // The pattern, or the infinity's in place of a NaN's.
@@ -27,38 +25,32 @@ fn without_nan(pattern: u32) -> u32
     ensures { result % 0x8000_0000 ≤ 0x7f80_0000 }
 {
     if 0x7f80_0000 < pattern % 0x8000_0000 {
-        return 0x7f80_0000;
+        0x7f80_0000
+    } else {
+        pattern
     }
-    pattern
 }
 
 // The bits of a pattern's root, or the refusal's number.
+#[tactic(auto, using(binary32::proofs::Answered::answer_no_nan, binary32::proofs::Answered::pattern))]
 fn answer(pattern: u32) -> u32 {
-    let bits = without_nan(pattern);
-    let x = f32::from_bits(bits);
-    let root = binary32::root::sqrt(x);
-    match root {
-        Rooted::Root(r) => f32::to_bits(r),
-        Rooted::Refused(refusal) => refusal::number(refusal) as u32,
+    let x = f32::from_bits(without_nan(pattern));
+    match binary32::root::sqrt(x) {
+        Ok(r) => f32::to_bits(r),
+        Err(refusal) => u32::from(refusal::number(refusal)),
     }
 }
 
 fn add_answer(s: Sweep) -> Sweep {
-    let p = s.pattern;
-    let wide = (s.sum as u64) * 31 + (answer(p) as u64);
     Sweep {
-        pattern: next(p),
-        sum: (wide % 0x1_0000_0000) as u32,
+        pattern: next(s.pattern),
+        sum: s.sum.wrapping_mul(31).wrapping_add(answer(s.pattern)),
     }
 }
 
 // The sum over 1,024 patterns, and the pattern after them.
 fn block(pattern: u32) -> Sweep {
-    let mut s = Sweep { pattern, sum: 0 };
-    for _ in 0..1024 {
-        s = add_answer(s);
-    }
-    s
+    (0..1024u32).fold(Sweep { pattern, sum: 0 }, |s, _| add_answer(s))
 }
 
 fn print_block(rt: &impl Print, i: u32, s: Sweep) -> io::Result<()> {

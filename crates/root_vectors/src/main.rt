@@ -4,10 +4,8 @@
 
 #![tactic(auto)]
 
-ghost use Rattle.std.specs.Prelude.{◌≡◌, ◌≤◌, length, IfOk};
+ghost use Rattle.std.specs.Prelude.{◌≡◌, ◌≤◌, length};
 
-use binary32::hex::FloatRead;
-use binary32::root::Rooted;
 use refusal::Refusal;
 use std::io;
 use std::io::Read;
@@ -17,66 +15,58 @@ use std::io::Read;
 struct Line {
     bytes: [u8; 9],
     len: usize,
+    ghost short: { len ≤ 9 },
 }
+
+// A line of which nothing is read yet.
+const EMPTY: Line = Line {
+    bytes: [0; 9],
+    len: 0,
+};
 
 fn print_refused(rt: &impl Print, refusal: Refusal) -> io::Result<()> {
     let number = refusal::number(refusal);
     println!(rt; "(refused {number})")
 }
 
-fn print_root(rt: &impl Print, x: f32) -> io::Result<()> {
-    let root = binary32::root::sqrt(x);
-    match root {
-        Rooted::Root(r) => {
-            let mut text = [0u8; 9];
-            binary32::hex::write_float(r, &mut text);
-            text[8] = b'\n';
-            rt.write_all(&text)
-        }
-        Rooted::Refused(refusal) => print_refused(rt, refusal),
+fn print_float(rt: &impl Print, x: f32) -> io::Result<()> {
+    let mut text = [b'\n'; 9];
+    binary32::hex::write_float(x, &mut text);
+    rt.write_all(&text)
+}
+
+// The root of the float that a line stands for.
+fn root_of(line: Line) -> Result<f32, Refusal> {
+    if line.len != 8 {
+        return Err(Refusal::Malformed);
+    }
+    binary32::root::sqrt(binary32::hex::read_float(&line.bytes)?)
+}
+
+fn answer(rt: &impl Print, line: Line) -> io::Result<()> {
+    match root_of(line) {
+        Ok(root) => print_float(rt, root),
+        Err(refusal) => print_refused(rt, refusal),
     }
 }
 
-fn answer(rt: &impl Print, bytes: [u8; 9], len: usize) -> io::Result<()> {
-    if len != 8 {
-        return print_refused(rt, Refusal::Malformed);
-    }
-    let read = binary32::hex::read_float(&bytes);
-    match read {
-        FloatRead::Float(x) => print_root(rt, x),
-        FloatRead::Refused(refusal) => print_refused(rt, refusal),
-    }
-}
-
-// The line with one byte more; at its end it is answered, and the next one begins.
-fn take_byte(rt: &impl Print, line: Line, b: u8) -> io::Result<Line>
-    requires { line.len ≤ 9 }
-    ensures { IfOk result (λ l. l.len ≤ 9) }
-{
-    let mut next = line;
-    let at = line.len;
+// One byte more for the line; at its end it is answered, and the next one begins.
+fn take_byte(rt: &impl Print, line: &mut Line, b: u8) -> io::Result<()> {
     if b == b'\n' {
-        let bytes = line.bytes;
-        answer(rt, bytes, at)?;
-        next.len = 0;
-        return Ok(next);
+        answer(rt, *line)?;
+        *line = EMPTY;
+    } else if line.len < 9 {
+        line.bytes[line.len] = b;
+        line.len += 1;
     }
-    if at < 9 {
-        next.bytes[at] = b;
-        next.len = at + 1;
-    }
-    Ok(next)
+    Ok(())
 }
 
-fn take_bytes(rt: &impl Print, line: Line, part: &[u8]) -> io::Result<Line>
-    requires { line.len ≤ 9 }
-    ensures { IfOk result (λ l. l.len ≤ 9) }
-{
-    let mut l = line;
+fn take_bytes(rt: &impl Print, line: &mut Line, part: &[u8]) -> io::Result<()> {
     for b in part {
-        l = take_byte(rt, l, *b)?;
+        take_byte(rt, line, *b)?;
     }
-    Ok(l)
+    Ok(())
 }
 
 fn large_buffer() -> [u8; 65536]
@@ -85,28 +75,14 @@ fn large_buffer() -> [u8; 65536]
     [0; 65536]
 }
 
-// The line after one more read, and whether anything was read.
-#[derive(Clone, Copy)]
-struct Turn {
-    line: Line,
-    more: bool,
-}
-
-fn read_once<R: Read>(rt: &impl Print, source: &mut R, line: Line) -> io::Result<Turn>
-    requires { line.len ≤ 9 }
-    ensures { IfOk result (λ t. t.line.len ≤ 9) }
-{
+// Whether one more read gave anything.
+fn read_once<R: Read>(rt: &impl Print, source: &mut R, line: &mut Line) -> io::Result<bool> {
     let mut buffer = large_buffer();
     match recover_read::read_input(source, &mut buffer) {
+        Ok(0) => Ok(false),
         Ok(n) => {
-            if n == 0 {
-                return Ok(Turn { line, more: false });
-            }
-            let l = take_bytes(rt, line, &buffer[..n])?;
-            Ok(Turn {
-                line: l,
-                more: true,
-            })
+            take_bytes(rt, line, &buffer[..n])?;
+            Ok(true)
         }
         Err(_) => Err(io::Error::other("standard input cannot be read")),
     }
@@ -115,14 +91,9 @@ fn read_once<R: Read>(rt: &impl Print, source: &mut R, line: Line) -> io::Result
 // A proved loop has to end, and nothing says that the input does: so the loop has a last turn, which no run reaches.
 fn main(rt: HostRuntime) -> io::Result<()> {
     let mut source = rt.stdin();
-    let mut line = Line {
-        bytes: [0u8; 9],
-        len: 0,
-    };
+    let mut line = EMPTY;
     for _ in 0..u64::MAX {
-        let t = read_once(&rt, &mut source, line)?;
-        line = t.line;
-        if !t.more {
+        if !read_once(&rt, &mut source, &mut line)? {
             break;
         }
     }

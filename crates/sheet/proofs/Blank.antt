@@ -9,11 +9,12 @@ use native.Mathlib.Decide.{dec_lt}
 use native.Mathlib.Numerals.{add-one}
 use native.Mathlib.Omega.{arith}
 use borrow.Author.Tests.{eqb-true, eqb-false, eq-eqb, ne_eqb}
+use borrow.Author.Rules.{rules}
 use lib.Bits.{bit_or, and_le_l, and_le_r, or_add_and}
 use lib.Dec.{eqb}
 use lib.ListN.{length, get_or, take, drop, length-drop}
 use lib.Seq.{take-length}
-use Rattle.std.specs.List.{fold, slice_range}
+use Rattle.std.specs.List.{fold, slice_range, All}
 use Rattle.std.specs.Iterator.{YieldsFirst}
 use Rattle.std.specs.Iterator.Runs.{YieldsInOrder}
 use Rattle.std.proofs.iter.runs.Sources.{from_front, as_is}
@@ -220,6 +221,20 @@ module _ (sheet : List ℕ) where
       go : (t : Bool) (l : List (ℕ × ℕ)) → length l ≤ n → length (cond t l ((from, get_or sheet from 0) ∷ l)) ≤ suc n
       go true l h = omega arith
       go false l h = omega arith
+
+  pub written_all : (from n : ℕ) → from + n ≤ 16384 → All (λ e. e.0 < 16384) (written_in sheet from n)
+  unfolding written_in
+  written_all from zero h = λ k d l. absurd (omega arith)
+  written_all from (suc n) h = go (eqb (get_or sheet from 0) 0) (written_all (suc from) n (omega arith))
+    where
+      go : (t : Bool) → All (λ e. e.0 < 16384) (written_in sheet (suc from) n)
+          → All (λ e. e.0 < 16384) (cond t (written_in sheet (suc from) n) ((from, get_or sheet from 0) ∷ written_in sheet (suc from) n))
+      go true a = a
+      go false a = λ k d l. one k d l
+        where
+          one : (k : ℕ) (d : ℕ × ℕ) → k < suc (length (written_in sheet (suc from) n)) → (get_or ((from, get_or sheet from 0) ∷ written_in sheet (suc from) n) k d).0 < 16384
+          one zero d l = omega arith
+          one (suc k) d l = a k d (omega arith)
 
   written_below : (from n : ℕ) (e : ℕ × ℕ) (l : List (ℕ × ℕ)) → written_in sheet from n ≡ e ∷ l → e.0 < from + n
   unfolding written_in

@@ -1,4 +1,5 @@
 -- Residuals, one after the other: the largest of them, all of them recorded, and whether all are finite. Assumes nothing.
+use Rattle.std.specs.Prelude.{Option}
 use mathlib.Core.Path.{◌≡◌, refl, ap}
 use mathlib.Core.Bool.{cond, ◌&&◌}
 use mathlib.Core.List.{List, [], ◌∷◌}
@@ -6,14 +7,13 @@ use lib.Ieee.{Float, lt}
 use Rattle.std.specs.List.{fold, list_all}
 use Rattle.binary32.specs.Ranges.{is_finite, all_finite}
 use Rattle.passes.specs.Local.{worst, recorded, recorded_all}
-use Rattle.passes.specs.declared.LargestResidual.{LargestResidual}
 
 pub worst_is : (m : Float) (rs : List Float) → worst m rs ≡ fold (λ (m r : Float). cond (lt m r) r m) m rs
 unfolding worst
 worst_is m [] = refl
 worst_is m (r ∷ rs) = worst_is (cond (lt m r) r m) rs
 
-pub recorded_is : (l : LargestResidual) (rs : List Float) → recorded_all l rs ≡ fold recorded l rs
+pub recorded_is : (l : Option Float) (rs : List Float) → recorded_all l rs ≡ fold recorded l rs
 unfolding recorded_all
 recorded_is l [] = refl
 recorded_is l (r ∷ rs) = recorded_is (recorded l r) rs

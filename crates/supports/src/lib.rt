@@ -14,7 +14,6 @@ ghost use Rattle.binary32.specs.Ranges.{all_finite};
 ghost use Rattle.supports.specs.Nearest.{Listable, MoreListed, Gatherable, Gathered, support_at, SplitsAt, InOrder, Kept, MoreKept, EarlierKept, places_of, nearest_among, Along, Nearby, Keeping};
 ghost use Rattle.supports.specs.Fitted.{support_fit_of, points_fit, Pictured};
 
-use passes::LargestResidual;
 use sheet::{Cell, Position};
 use sizes::{CORNERS, PLACES};
 
@@ -44,6 +43,7 @@ fn list_place(places: &mut [u16; CORNERS], count: usize, word: u16, place: usize
 }
 
 // Lists the labelled places of a sheet in rising order at the front of the array, whose rest stays. Answers how many there are.
+// An array and a number, not a Vec: the library has fixed memory. What is listed is read as a slice.
 pub fn gather_labelled(sheet: &[u16], places: &mut [u16; CORNERS]) -> usize
     requires { Gatherable sheet.now places.old }
     ensures { Gathered sheet.now places.old places.new result }
@@ -285,17 +285,17 @@ pub fn worst_of(residuals: [f32; 4]) -> f32
 }
 
 // One residual more is recorded.
-fn record_residual(largest: LargestResidual, r: f32) -> LargestResidual
+fn record_residual(largest: Option<f32>, r: f32) -> Option<f32>
     ensures { result ≡ recorded largest r }
 {
     match largest {
-        LargestResidual::Nothing => LargestResidual::Residual(r),
-        LargestResidual::Residual(m) => LargestResidual::Residual(larger(m, r)),
+        None => Some(r),
+        Some(m) => Some(larger(m, r)),
     }
 }
 
 // Four residuals are recorded.
-pub fn record_residuals(largest: LargestResidual, residuals: [f32; 4]) -> LargestResidual
+pub fn record_residuals(largest: Option<f32>, residuals: [f32; 4]) -> Option<f32>
     ensures { result ≡ recorded_all largest residuals }
 {
     residuals

@@ -3,10 +3,10 @@ use Prim.Native.Nat.{ℕ}
 use mathlib.Core.Path.{◌≡◌, refl, ap, ◌∙◌, subst}
 use mathlib.Core.List.{List, [], ◌∷◌}
 use lib.ListN.{length}
-use lib.Ieee.{binary32, of_bits, to_bits, add, sub, mul, div, lt, le}
+use lib.Ieee.{Float, binary32, of_bits, to_bits, add, sub, mul, div, lt, le}
 use lib.Ieee.Bits.{of_bits-fits}
-use Rattle.binary32.specs.declared.root.Rooted.{Rooted}
-use Rattle.binary32.specs.declared.root.Rooted.TheVariants.{Root}
+use Rattle.std.proofs.Common.{Result, Ok}
+use Rattle.refusal.specs.declared.Refusal.{Refusal}
 use Rattle.binary32.specs.Sqrt.{units_of, Answers, reaches, climb, rooted}
 use Rattle.binary32.proofs.Exists.{answered}
 use Rattle.candidates.specs.Choice.{choose_unambiguous, choose_with_floor}
@@ -24,8 +24,8 @@ use Rattle.worked_examples.specs.Table.{Right, Claims, root, f32, at, labelled, 
 use Rattle.worked_examples.proofs.Walks.{with_labels_in, labelled_so, labelled_rises}
 
 -- a root that is computed meets the relation too
-holds : (x r : ℕ) → rooted (f32 x) ≡ Root (f32 r) → Claims (root x r)
-holds x r e = (subst (λ (a : Rooted). Answers (f32 x) a) e (answered (f32 x) (of_bits-fits binary32 x)), e)
+holds : (x r : ℕ) → rooted (f32 x) ≡ Ok (f32 r) → Claims (root x r)
+holds x r e = (subst (λ (a : Result Float Refusal). Answers (f32 x) a) e (answered (f32 x) (of_bits-fits binary32 x)), e)
 
 -- ---- the labels (0,0) and (2,0)
 

@@ -1,13 +1,12 @@
 -- The examples that document 01 marks M, as a table. `proofs/Examples.antt` proves `Right table`. Definitions only.
 -- Numbers are given by their binary32 bits.
-use Rattle.std.specs.Prelude.{ℕ, ◌+◌, ◌≡◌, Bool, true, false, List, [], ◌∷◌, length, pos, Float}
+use Rattle.std.specs.Prelude.{ℕ, ◌+◌, ◌≡◌, Bool, true, false, List, [], ◌∷◌, length, pos, Float, Ok}
 use Rattle.std.specs.Float.{binary32}
 use Rattle.std.specs.Float.Ieee.{of_bits}
 use Rattle.sheet.specs.Words.{attached, empty_sheet}
 use Rattle.sheet.specs.declared.Cell.{Cell}
 use Rattle.passes.specs.Fill.{fill_cells}
 use Rattle.passes.specs.Local.{local_cells}
-use Rattle.binary32.specs.declared.root.Rooted.TheVariants.{Root}
 use Rattle.binary32.specs.Sqrt.{Answers, rooted}
 use Rattle.candidates.specs.Choice.{choose_unambiguous, choose_with_floor}
 use Rattle.candidates.specs.declared.Candidates.{Candidates}
@@ -54,7 +53,7 @@ labelled cells = with_labels empty_sheet 0 cells
 
 -- what an example claims, of the definitions that the contracts cite
 abbrev pub Claims : Example → Type 0
-Claims (root x r) = Answers (f32 x) (Root (f32 r)) × (rooted (f32 x) ≡ Root (f32 r))
+Claims (root x r) = Answers (f32 x) (Ok (f32 r)) × (rooted (f32 x) ≡ Ok (f32 r))
 Claims (grows first second factor c) = choose_unambiguous (two_at first second) (f32 factor) ≡ choice_of c
 Claims (fills first second factor c) = choose_with_floor (two_at first second) (f32 factor) ≡ choice_of c
 Claims (edge edgeLength expectation band b) = in_band (f32 edgeLength) (f32 expectation) (f32 band) ≡ b

@@ -1,4 +1,5 @@
 -- Each pass on the sheet of some written places does what its definition on these places says, and the places still rise. Assumes nothing.
+use Rattle.std.specs.Prelude.{None}
 use Rattle.labels.specs.declared.Bounds.{Bounds}
 use Rattle.sheet.specs.declared.Corner.{Corner}
 use mathlib.Core.Path.{◌≡◌, refl, sym, ap, ap₂, ◌∙◌, fun_ext}
@@ -42,7 +43,6 @@ use Rattle.passes.specs.Rounds.{RoundPass, Rounds, rounds_from}
 use Rattle.passes.specs.Grow.{GrowState, tolerances_of, no_counts, member, wanted, enqueued, enqueued_at, spread, seeded_from, start_of, search_of, missed, grow_with, grow_at, grow_visit, grow_from, grow_run, grow_left, grow_after}
 use Rattle.passes.specs.Fill.{FillRounds, box_and_strips, cells_of, fill_cells, fill_search, fill_with, fill_at, fill_visit, fill_pass, fill_from, fill_limit, fill_run, fill_left, fill_after}
 use Rattle.passes.specs.Local.{LocalState, LocalFit, none, fitted, LocalRounds, depth_of, local_region, local_cells, by_reach, supports_of, cell_point, pictured_at, trusted, local_fit, worst, with_unmatched, local_search, gate_of, local_with, local_try, local_at, local_visit, local_pass, local_from, local_limit, local_run, unmatched_if, local_left, local_after}
-use Rattle.passes.specs.declared.LargestResidual.{LargestResidual}
 use Rattle.passes.proofs.Rounds.{Alike, rounds_same}
 use Rattle.written_places.specs.Written.{Written, Rise, sheet_with, seen_in, places_in, attached_in, cleared_in}
 use Rattle.written_places.specs.Passes.{after_of, unlabelled_in, gathered_by, gathered_in, unmatched_by, unmatched_in, edges_in, result_in, try_in, GrowStateIn, grow_state_of, enqueued_in, enqueued_at_in, spread_in, seeded_from_in, missed_in, grow_with_in, grow_at_in, grow_visit_in, grow_from_in, grow_run_in, grow_after_in, FillStateIn, fill_state_of, fill_cells_in, fill_with_in, fill_at_in, fill_visit_in, fill_pass_in, fill_after_in, sound_answers, quick_fit_with, quick_fit_from, quick_fit, LocalStateIn, local_state_of, local_cells_in, supports_in, local_fit_in, with_residuals_in, with_unmatched_in, local_with_in, local_try_in, local_at_in, local_visit_in, local_pass_in, local_after_in}
@@ -378,7 +378,7 @@ module _ (cs : Corners) (set : Settings) (p : LocalExtensionParams) where
   local_rounds_of r = record { state = local_state_of r.state; rounds = r.rounds }
 
   abbrev local_start : List Written → Rounds LocalStateIn
-  local_start w = record { state = record { sheet = w; made = []; counts = no_counts; largest = LargestResidual.Nothing; unmatched = 0 }; rounds = 0 }
+  local_start w = record { state = record { sheet = w; made = []; counts = no_counts; largest = None; unmatched = 0 }; rounds = 0 }
 
   abbrev local_run_in : List Written → Rounds LocalStateIn
   local_run_in w = rounds_from (local_pass_in cs set p) (local_limit (length (places_in w)) p.max_iters) (local_start w)

@@ -39,7 +39,6 @@ use Rattle.passes.specs.Local.{worst, recorded_all, local_search, gate_of, local
 use Rattle.passes.specs.declared.Counts.{Counts}
 use Rattle.passes.specs.declared.GrowStats.{GrowStats}
 use Rattle.passes.specs.declared.FillStats.{FillStats}
-use Rattle.passes.specs.declared.LargestResidual.{LargestResidual}
 use Rattle.passes.specs.declared.LocalStats.{LocalStats}
 use Rattle.written_places.specs.Written.{Written, sheet_with, labelled_in, seen_in, places_in, used_in, rim_in, attached_in, hole_in, ambiguous_in, cleared_in}
 
@@ -212,7 +211,7 @@ pub record LocalStateIn : Type 0 where
   pub sheet : List Written
   pub made : List ℕ
   pub counts : Counts
-  pub largest : LargestResidual
+  pub largest : Option Float
   pub unmatched : ℕ
 
 abbrev pub local_state_of : LocalStateIn → LocalState
@@ -286,4 +285,4 @@ unfoldable pub local_after_in : Corners → Settings → LocalExtensionParams �
 local_after_in cs set p w =
     local_left_in cs.shades.any (depth_of p)
     (rounds_from (local_pass_in cs set p) (local_limit (length (places_in w)) p.max_iters)
-    (record { state = record { sheet = w; made = []; counts = no_counts; largest = LargestResidual.Nothing; unmatched = 0 }; rounds = 0 }))
+    (record { state = record { sheet = w; made = []; counts = no_counts; largest = None; unmatched = 0 }; rounds = 0 }))

@@ -3,6 +3,7 @@ use Rattle.std.proofs.Common.{◌≡◌, refl, sym, ap, ◌∙◌, rules, arith,
 use Rattle.std.specs.Result.{IsErrAnd}
 use Rattle.std.proofs.lemmas.Fn.{always_returns_same}
 use Rattle.std.proofs.lemmas.Result.{err_from_is_err_and}
+use Rattle.frame.proofs.Mapped.{mapped_err, mapped_ok}
 use Rattle.frame.proofs.Turn.{FirstLine, first_line, turning_start, turn_room, turn_stopped, turn_onward, end_missing, finishable, end_finished}
 use Rattle.frame.proofs.read_lines.Goals as goal
 use Rattle.frame.proofs.read_lines.Goals.{In-Some}
@@ -12,18 +13,6 @@ first : (c : In-Some) → FirstLine c.loop-line.line-iterator.rest.now c.in-Some
 first c =
     let s = c.in-Some.ensures.steps in
     first_line _ _ _ s.1.0 s.0 s.1.1 (s.1.2 (λ b. eqb b 10) (always_returns_same _ _ _ (λ a r f k. search rules))).1 s.2
-
--- an error that was mapped, and a value that was not
-mapped_err : {T E D : Type 0} (r : Result T E) (m : Result T D) (P : E → D → Type 0) → MatchResult r (λ x. m ≡ Ok x) (λ e. IsErrAnd m (P e)) → (d : D) → m ≡ Err d
-    → (e : E) × (r ≡ Err e) × P e d
-mapped_err (Ok x) m P h d w = absurd (cc)
-mapped_err (Err e) (Ok x) P h d w = absurd h
-mapped_err (Err e) (Err d') P h d w = let same : d' ≡ d = cc in (e, refl, rw (sym same) h)
-
-mapped_ok : {T E D : Type 0} (r : Result T E) (m : Result T D) (P : E → D → Type 0) → MatchResult r (λ x. m ≡ Ok x) (λ e. IsErrAnd m (P e)) → (x : T) → m ≡ Ok x → r ≡ Ok x
-mapped_ok (Ok y) m P h x w = cc
-mapped_ok (Err e) (Ok y) P h x w = absurd h
-mapped_ok (Err e) (Err d) P h x w = cc
 
 pub loop-line-init : goal.loop-line-init
 loop-line-init c =
@@ -55,4 +44,6 @@ pub finish-requires : goal.finish-requires
 finish-requires c = finishable _ _ _ c.loop-line.invariant.holds
 
 pub returns : goal.returns
-returns c = end_finished c.loop-line.invariant c.in-None.ensures.steps.0 (sym c.may_end.ensures ∙ c.if-not-may_end.false) c.finish.result c.finish.new.sheet c.finish.ensures
+returns c =
+    rw c.finish.ensures.others
+    (end_finished c.loop-line.invariant c.in-None.ensures.steps.0 (sym c.may_end.ensures ∙ c.if-not-may_end.false) _ _ c.finish.ensures.sheet)

@@ -6,7 +6,7 @@ use Rattle.frame.proofs.read_text.Goals as goal
 pub read_lines-requires : goal.read_lines-requires
 read_lines-requires c = nothing_held _
 
-pub returns-in-Ok : goal.returns-in-Ok
-returns-in-Ok c =
-    text_accepted (whole_read c.in-Ok.ensures) _ _ _ _ _ _ _ c.copy_front.ensures c.copy_front-in-Ok.ensures
-    c.copy_front-in-Ok-2.ensures c.copy_front-in-Ok-3.ensures c.copy_front-in-Ok-4.ensures c.copy_front-in-Ok-5.ensures
+pub returns : goal.returns
+returns c =
+    text_accepted (whole_read c.in_ok-p.ensures) _ _ _ _ _ _ _ c.copy_front.ensures c.copy_front-2.ensures
+    c.copy_front-3.ensures c.copy_front-4.ensures c.copy_front-5.ensures c.copy_front-6.ensures

@@ -1,25 +1,39 @@
--- `answer_piece` meets its contract. Assumes nothing.
-use Rattle.frame_answer.proofs.Printing.{case_refused, case_done, case_below, case_wrote, case_first}
-use Rattle.frame_answer.proofs.answer_piece.Reads as reads
-use Rattle.frame_answer.proofs.answer_piece.Lts as lts
-use Rattle.frame_answer.proofs.refused_piece.Reads as refused-piece-reads
-use Rattle.frame_answer.proofs.result_piece.Reads as result-piece-reads
+-- `answer_piece` meets its contract: the piece of a result is not refused, and goes on by a line at least. Assumes nothing.
+use Rattle.std.proofs.Common.{◌<◌, ◌≤◌, arith}
+use Rattle.report_line.specs.Result.{line_count}
+use Rattle.frame_answer.specs.Answer.{held_lines, held_piece, CanSay, Printable}
+use Rattle.frame_answer.proofs.Printing.{wrote_piece, not_refused, room_for, moves_result, wrote_refused}
 use Rattle.frame_answer.proofs.answer_piece.Goals as goal
 
-pub refused_piece-requires : goal.refused_piece-requires
-refused_piece-requires c =
-    record { line_bound = case_refused c.args.answer c.args.words.now c.args.sheet.now c.requires.can_say c.args.from c.requires.from_bound _ _ c.in-Refused.is; line_room_in_bounds = c.requires.line_room_in_bounds }
+pub unreachable-requires : goal.unreachable-requires
+unfolding CanSay held_lines
+unreachable-requires c =
+    let q = c.requires in
+    let r = c.in-Ok.field-0 in
+    let can : Printable r.corners r.passes c.args.words.now c.args.sheet.now = rw c.in-Ok.is at q.can_say in
+    let below : c.args.from < line_count r.passes = rw c.in-Ok.is at q.from_bound in
+    not_refused _ _ _ _ can _ below _ q.line_room_in_bounds c.in-Err-write_result_piece.ensures.out_after
 
-pub result_piece-requires : goal.result_piece-requires
-result_piece-requires c =
-    record { printable = case_done c.args.answer c.args.words.now c.args.sheet.now c.requires.can_say c.args.from c.requires.from_bound _ _ c.in-Done.is; from_bound = case_below c.args.answer c.args.words.now c.args.sheet.now c.requires.can_say c.args.from c.requires.from_bound _ _ c.in-Done.is; line_room_in_bounds = c.requires.line_room_in_bounds }
+pub write_refused-requires-clause-line_bound : goal.write_refused-requires-clause-line_bound
+unfolding CanSay
+write_refused-requires-clause-line_bound c = let bound : c.in-Err.field-0.line ≤ 10000000 = rw c.in-Err.is at c.requires.can_say in bound
 
-pub returns-in-Refused : goal.returns-in-Refused
-returns-in-Refused c =
-    let both_clauses =
-    case_first c.args.answer c.args.words.now c.args.sheet.now c.requires.can_say c.args.from c.requires.from_bound _ _ c.in-Refused.is _ _ _ _ c.refused_piece.ensures.wrote_piece c.refused_piece.ensures.moves in
-    record { wrote_piece = both_clauses.0; moves = both_clauses.1 }
+pub returns-in-Ok-write_result_piece : goal.returns-in-Ok-write_result_piece
+unfolding CanSay held_lines held_piece
+returns-in-Ok-write_result_piece c =
+    let q = c.requires in
+    let r = c.in-Ok.field-0 in
+    let can : Printable r.corners r.passes c.args.words.now c.args.sheet.now = rw c.in-Ok.is at q.can_say in
+    let below : c.args.from < line_count r.passes = rw c.in-Ok.is at q.from_bound in
+    let w = wrote_piece _ _ _ _ can _ below _ q.line_room_in_bounds c.in-Ok-write_result_piece.ensures.out_after in
+    record { wrote_piece = rw c.in-Ok.is w; moves = moves_result _ _ _ below q.line_room_in_bounds w c.write_result_piece.auto.out }
 
-pub returns-in-Done : goal.returns-in-Done
-returns-in-Done c =
-    record { wrote_piece = case_wrote c.args.answer c.args.words.now c.args.sheet.now c.requires.can_say c.args.from c.requires.from_bound _ c.in-Done.is _ _ _ _ c.result_piece.ensures.wrote_piece; moves = c.result_piece.ensures.moves }
+pub returns-in-Err : goal.returns-in-Err
+unfolding held_lines held_piece
+returns-in-Err c =
+    let e = c.in-Err.field-0 in
+    let first : c.args.from < 1 = rw c.in-Err.is at c.requires.from_bound in
+    record {
+      wrote_piece = rw c.in-Err.is (wrote_refused e.refusal e.line c.args.from first c.write_refused.ensures);
+      moves = record { in_room = room_for c.write_refused.ensures c.write_refused.auto.out; later = omega arith };
+    }

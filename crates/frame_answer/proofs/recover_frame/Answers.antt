@@ -1,29 +1,24 @@
--- `recover_frame` meets its contract. Assumes nothing.
-use Rattle.frame_answer.proofs.Recovering.{recovered_not, frame_ready, recovered_done}
+-- `recover_frame` meets its contract: a refused frame changes nothing, and the passes of an accepted one have run. Assumes nothing.
+use Rattle.std.proofs.lemmas.Result.{err_from_is_err_and}
+use Rattle.frame_answer.proofs.Recovering.{recovered_not, read_accepted, passes_ready, corners_ready, recovered}
 use Rattle.frame_answer.proofs.recover_frame.Goals as goal
 
-pub run_frame-requires : goal.run_frame-requires
-run_frame-requires c =
-    let a = c.args in
-    let ready =
-    frame_ready a.text.now a.xs.now a.ys.now a.pitches.now a.shades.now a.sheet.now a.passes.now c.requires.frame_room _
-    c.read_frame-answer.new.xs c.read_frame-answer.new.ys c.read_frame-answer.new.pitches c.read_frame-answer.new.shades
-    c.read_frame-answer.new.sheet c.read_frame-answer.new.passes c.read_frame-answer.ensures.passes_after _ c.in-Accepted.is a.queue.now a.attached.now a.words.now c.requires.pass_room in
-    record { pass_words = ready.0; at_front = ready.1.0; all_outcome_words_in_bounds = ready.1.1 }
+pub returns-in_err-head : goal.returns-in_err-head
+returns-in_err-head c =
+    let p = err_from_is_err_and c.from_residual.result c.from_residual.ensures.1 in
+    rw (p.1, p.2) (recovered_not _ _ _ _ _ _ _ c.requires.frame_room _ _ _ _ _ _ _ (rw c.in_err-head.was at c.read_frame.ensures.passes_after) _ _ _)
 
-pub returns-in-Refused : goal.returns-in-Refused
-returns-in-Refused c =
-    let a = c.args in
-    recovered_not a.text.now a.xs.now a.ys.now a.pitches.now a.shades.now a.sheet.now a.passes.now c.requires.frame_room _
-    c.read_frame-answer.new.xs c.read_frame-answer.new.ys c.read_frame-answer.new.pitches c.read_frame-answer.new.shades
-    c.read_frame-answer.new.sheet c.read_frame-answer.new.passes c.read_frame-answer.ensures.passes_after _ _ c.in-Refused.is a.queue.now a.attached.now a.words.now
+pub run_frame-requires-clause-pass_words : goal.run_frame-requires-clause-pass_words
+run_frame-requires-clause-pass_words c =
+    let room = c.requires.frame_room in
+    passes_ready _ _ _ _ _ _ _ room _ _ _ _ _ _ _ (read_accepted _ _ _ _ _ _ _ room _ _ _ _ _ _ _ c.in_ok-head.ensures.passes_after)
 
-pub shape_of-xs-in-Accepted : goal.shape_of-xs-in-Accepted
-shape_of-xs-in-Accepted c = c.read_frame-answer.auto.xs
+pub run_frame-requires-clause-at_front : goal.run_frame-requires-clause-at_front
+run_frame-requires-clause-at_front c =
+    let room = c.requires.frame_room in
+    corners_ready _ _ _ _ _ _ _ room _ _ _ _ _ _ _ (read_accepted _ _ _ _ _ _ _ room _ _ _ _ _ _ _ c.in_ok-head.ensures.passes_after)
 
-pub returns-in-Accepted : goal.returns-in-Accepted
-returns-in-Accepted c =
-    let a = c.args in
-    recovered_done a.text.now a.xs.now a.ys.now a.pitches.now a.shades.now a.sheet.now a.passes.now c.requires.frame_room _
-    c.read_frame-answer.new.xs c.read_frame-answer.new.ys c.read_frame-answer.new.pitches c.read_frame-answer.new.shades
-    c.read_frame-answer.new.sheet c.read_frame-answer.new.passes c.read_frame-answer.ensures.passes_after _ c.in-Accepted.is a.queue.now a.attached.now a.words.now c.requires.pass_room _ _ c.run_frame.ensures
+pub returns : goal.returns
+returns c =
+    let room = c.requires.frame_room in
+    recovered _ _ _ _ _ _ _ room _ _ _ _ _ _ _ (read_accepted _ _ _ _ _ _ _ room _ _ _ _ _ _ _ c.in_ok-head.ensures.passes_after) _ _ _ c.requires.pass_room _ _ c.run_frame.ensures

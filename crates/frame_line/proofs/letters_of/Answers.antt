@@ -1,8 +1,9 @@
--- `frame_line::letters_of` meets its contract: the bytes of the table. Assumes nothing.
+-- `frame_line::letters_of` meets its contract: the table's rows have the letters. Assumes nothing.
+use Rattle.std.proofs.Common.{rules}
 use Rattle.frame_line.specs.Table.{rows}
-use Rattle.frame_line.proofs.Rows.{letters_are}
+use Rattle.frame_line.proofs.Rows.{letters_held}
 use Rattle.frame_line.proofs.letters_of.Goals as goal
 
 pub returns : goal.returns
 unfolding rows
-returns c = letters_are c.args.row c.requires
+returns c = search (rules, letters_held)

@@ -1,20 +1,25 @@
 -- `join_sheet::join_sets` meets its contract: a refusal leaves the sheet, a shift writes the union. Assumes nothing.
-use Rattle.join_sheet.proofs.Walk.{join_apart, join_clash, join_off, join_by, join_write}
+use mathlib.Core.Path.{◌≡◌}
+use borrow.Author.Rules.{rules}
+use Rattle.std.specs.Prelude.{Result, Ok, Err}
+use Rattle.refusal.specs.declared.Refusal.{Refusal}
+use Rattle.join.specs.declared.Unjoinable.{Unjoinable}
+use Rattle.join_sheet.specs.Held.{refusal_of}
+use Rattle.join.specs.Rule.{Verdict}
+use Rattle.join_sheet.proofs.Walk.{join_refused, join_by, join_write}
 use Rattle.join_sheet.proofs.join_sets.Goals as goal
 
 pub write_new-requires : goal.write_new-requires
 write_new-requires c =
-    join_write _ _ _ _ c.requires _ c.verdict_of-verdict.ensures _ c.in-By.is
+    let e : ◌≡◌ {A = Verdict} c.verdict_of.result (Ok c.in_ok-d.d) = search rules in
+    join_write _ _ _ _ c.requires _ c.verdict_of.ensures _ e
 
-pub returns-in-Apart : goal.returns-in-Apart
-returns-in-Apart c = join_apart _ _ _ _ c.requires _ c.verdict_of-verdict.ensures c.in-Apart.is
+pub returns : goal.returns
+returns c =
+    let e : ◌≡◌ {A = Verdict} c.verdict_of.result (Ok c.in_ok-d.d) = search rules in
+    join_by _ _ _ _ c.requires _ c.verdict_of.ensures _ e _ c.write_new.ensures
 
-pub returns-in-Clash : goal.returns-in-Clash
-returns-in-Clash c = join_clash _ _ _ _ c.requires _ c.verdict_of-verdict.ensures c.in-Clash.is
-
-pub returns-in-Off : goal.returns-in-Off
-returns-in-Off c = join_off _ _ _ _ c.requires _ c.verdict_of-verdict.ensures c.in-Off.is
-
-pub returns-in-By : goal.returns-in-By
-returns-in-By c =
-    join_by _ _ _ _ c.requires _ c.verdict_of-verdict.ensures _ c.in-By.is _ c.write_new.ensures
+pub returns-in_err-d : goal.returns-in_err-d
+returns-in_err-d c =
+    let u : (u : Unjoinable) × ◌≡◌ {A = Verdict} c.verdict_of.result (Err u) × ◌≡◌ {A = Result (Unit {0}) Refusal} c.from_residual.result (Err (refusal_of u)) = search rules in
+    join_refused _ _ _ _ c.requires _ c.verdict_of.ensures _ u.0 u.1 u.2

@@ -1,5 +1,4 @@
 -- `join_sheet::write_new` meets its contract: what is left of the array gives the whole sheet. Assumes nothing.
-use Prim.Native.Nat.{◌-◌}
 use Rattle.join.specs.Sheets.{labelled}
 use Rattle.join_sheet.specs.Held.{held_labels, new_held}
 use Rattle.join_sheet.proofs.Walk.{Rest}
@@ -7,7 +6,5 @@ use Rattle.join_sheet.proofs.write_new.Given as goal
 
 abbrev pub invariant-loop-i : goal.invariant-loop-i
 invariant-loop-i l =
-    Rest l.second l.count l.i (λ m. labelled l.sheet (new_held l.used m l.d)) (labelled l.initial.sheet (new_held l.used (held_labels l.second l.count) l.d))
-
-abbrev pub decreases-loop-i : goal.decreases-loop-i
-decreases-loop-i l = l.count - l.i
+    Rest l.second.array.now l.second.count l.i (λ k. labelled l.sheet (new_held l.used k l.d))
+    (labelled l.initial.sheet (new_held l.used (held_labels l.second.array.now l.second.count) l.d))

@@ -1,9 +1,9 @@
 -- `local::local_accepted` meets its contract: under four labels nothing is done, else what the rounds leave, where at first nothing is remembered. Assumes nothing.
+use Rattle.std.specs.Prelude.{None}
 use Prim.Native.Nat.{ℕ}
 use native.Mathlib.Omega.{arith}
 use lib.ListN.{length, length-replicate}
 use Rattle.sheet.specs.Corners.{corner_lists, corners_in}
-use Rattle.passes.specs.declared.LargestResidual.{LargestResidual}
 use Rattle.remembered.proofs.Notes.{started}
 use Rattle.arguments.proofs.Holding.{holdable}
 use Rattle.arguments.proofs.HoldingShades.{two_kinds}
@@ -28,7 +28,7 @@ pub local_rounds-rounds-requires-clause-asked : goal.local_rounds-rounds-require
 local_rounds-rounds-requires-clause-asked c = let a = c.args in accepted_asked (corner_lists a.xs.now a.ys.now a.pitches.now) a.shades.now a.sheet.now a.attached.now a.settings a.params c.requires (length-replicate {A = ℕ} 1024 0) c.gather_labelled-labels.ensures c.if-labels-lt4.false c.mark_used.ensures c.no_progress-progress.ensures
 
 pub local_rounds-rounds-requires-clause-recalls : goal.local_rounds-rounds-requires-clause-recalls
-local_rounds-rounds-requires-clause-recalls c = let a = c.args in rw (c.no_progress-progress.ensures, c.new.ensures) (record { remembered = started (corners_in _ (length a.xs.now)) a.settings a.params LargestResidual.Nothing a.sheet.now (accepted_radius (corner_lists a.xs.now a.ys.now a.pitches.now) a.shades.now a.sheet.now a.attached.now a.settings a.params c.requires); unmatched_few = omega arith })
+local_rounds-rounds-requires-clause-recalls c = let a = c.args in rw (c.no_progress-progress.ensures, c.new.ensures) (record { remembered = started (corners_in _ (length a.xs.now)) a.settings a.params None a.sheet.now (accepted_radius (corner_lists a.xs.now a.ys.now a.pitches.now) a.shades.now a.sheet.now a.attached.now a.settings a.params c.requires); unmatched_few = omega arith })
 
 pub rim_reached-requires-2 : goal.rim_reached-requires-2
 rim_reached-requires-2 c = record { long = c.local_rounds-rounds.ensures.left.left.extending.given.long; shallow = rw c.depth_of-depth.ensures (depth_in c.args.params c.requires.pass_inside.depth) }

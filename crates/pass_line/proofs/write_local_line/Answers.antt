@@ -5,13 +5,13 @@ use Rattle.report_line.specs.Written.{bare_local_text}
 use Rattle.pass_line.proofs.write_local_line.Goals as goal
 
 pub write_bare_local-requires : goal.write_bare_local-requires
-write_bare_local-requires c = bare_asked c.args.s c.args.out.now c.requires c.in-Nothing.is
+write_bare_local-requires c = bare_asked c.args.s c.args.out.now c.requires c.in-None.is
 
 pub write_full_local-requires : goal.write_full_local-requires
-write_full_local-requires c = full_asked c.args.s c.args.out.now _ c.requires c.in-Residual.is
+write_full_local-requires c = full_asked c.args.s c.args.out.now _ c.requires c.in-Some.is
 
-pub returns-in-Nothing : goal.returns-in-Nothing
-returns-in-Nothing c = same_wrote (bare_local_text c.args.s) (local_line c.args.s) _ _ _ (bare_line c.args.s c.args.out.now c.in-Nothing.is) c.write_bare_local.ensures
+pub returns-in-None : goal.returns-in-None
+returns-in-None c = same_wrote (bare_local_text c.args.s) (local_line c.args.s) _ _ _ (bare_line c.args.s c.args.out.now c.in-None.is) c.write_bare_local.ensures
 
-pub returns-in-Residual : goal.returns-in-Residual
-returns-in-Residual c = same_wrote _ (local_line c.args.s) _ _ _ (full_line c.args.s c.args.out.now _ c.in-Residual.is) c.write_full_local.ensures
+pub returns-in-Some : goal.returns-in-Some
+returns-in-Some c = same_wrote _ (local_line c.args.s) _ _ _ (full_line c.args.s c.args.out.now _ c.in-Some.is) c.write_full_local.ensures

@@ -5,13 +5,13 @@ use mathlib.Core.Path.{◌∙◌}
 use Rattle.pass_line.proofs.write_unmatched.Goals as goal
 
 pub held-requires : goal.held-requires
-held-requires c = count_held c.args.unmatched _ c.in-Count.is c.args.out.now c.requires
+held-requires c = count_held c.args.unmatched _ c.in-Some.is c.args.out.now c.requires
 
 pub write_form-requires : goal.write_form-requires
-write_form-requires c = same_room _ _ c.args.out.now (unmatched_form _ _ c.held.ensures ∙ count_line c.args.unmatched _ c.in-Count.is) c.requires.room
+write_form-requires c = same_room _ _ c.args.out.now (unmatched_form _ _ c.held.ensures ∙ count_line c.args.unmatched _ c.in-Some.is) c.requires.room
 
-pub returns-in-NoShades : goal.returns-in-NoShades
-returns-in-NoShades c = nothing_written _ c.args.out.now (no_line c.args.unmatched c.in-NoShades.is)
+pub returns-in-None : goal.returns-in-None
+returns-in-None c = nothing_written _ c.args.out.now (no_line c.args.unmatched c.in-None.is)
 
-pub returns-in-Count : goal.returns-in-Count
-returns-in-Count c = same_wrote _ _ _ _ _ (unmatched_form _ _ c.held.ensures ∙ count_line c.args.unmatched _ c.in-Count.is) c.write_form.ensures
+pub returns-in-Some : goal.returns-in-Some
+returns-in-Some c = same_wrote _ _ _ _ _ (unmatched_form _ _ c.held.ensures ∙ count_line c.args.unmatched _ c.in-Some.is) c.write_form.ensures

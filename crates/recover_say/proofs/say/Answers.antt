@@ -1,74 +1,53 @@
 -- `recover_say::say` meets its contract: the pieces before each line are written, and each is lent whole. Assumes nothing.
-use Prim.Native.Nat.{◌-◌}
-use native.Mathlib.Omega.{arith}
-use mathlib.Core.Path.{sym, ◌∙◌}
-use lib.ListN.{length-take}
-use Rattle.recover_say.specs.Said.{PutSo, WrotePut}
-use Rattle.recover_say.specs.declared.Put.{Put}
+use Rattle.std.proofs.Common.{refl, sym, ◌∙◌, arith, rules, false, ◌≡◌, ◌<◌, ◌≤◌}
+use Rattle.std.proofs.lemmas.Result.{err_from_is_err_and}
+use Rattle.frame.proofs.Mapped.{mapped_err, mapped_ok}
+use Rattle.recover_say.specs.Said.{WroteText}
 use Rattle.recover_say.proofs.Telling.{begun, few_lines, text_so, one_more, told_of}
 use Rattle.recover_say.proofs.Writing.{no_piece, wrote_more, wrote_part, wrote_all}
 use Rattle.recover_say.proofs.say.Goals as goal
 
-pub answer_lines-lines-requires : goal.answer_lines-lines-requires
-answer_lines-lines-requires g c = c.requires.few_passes
+pub loop-said-init : goal.loop-said-init
+loop-said-init g c = (begun _ _ _ _ refl, refl, no_piece _ _)
 
-pub loop-from-init : goal.loop-from-init
-loop-from-init g c = (begun _ _ _ _ c.out_buffer-buffer.ensures, no_piece _ _)
+pub put_piece-requires : goal.put_piece-requires
+put_piece-requires g c = text_so _ _ _ c.loop-said.invariant.0 c.answer_piece-piece.ensures.wrote_piece
 
-pub slice_bounds-answer_piece-end : goal.slice_bounds-answer_piece-end
-slice_bounds-answer_piece-end g c = c.loop-from.invariant.0.whole
+pub returns-in_err-map_err : goal.returns-in_err-map_err
+returns-in_err-map_err g c =
+    let l = c.loop-said in
+    let p = err_from_is_err_and c.from_residual.result c.from_residual.ensures.1 in
+    let is = text_so _ _ _ l.invariant.0 c.answer_piece-piece.ensures.wrote_piece in
+    let q = mapped_err c.put_piece.result c.map_err.result _ c.map_err.ensures.cases _ c.in_err-map_err.was in
+    let e : c.in_err-map_err.field-0.0 ≡ record { said = l.said } = search rules in
+    let w : WroteText _ _ _ false = rw q.1 at c.put_piece.ensures in
+    let left : l.said.next < l.said.lines = omega (arith, c.loop-said-test.true, l.invariant.1) in
+    rw (p.1, p.2, e)
+    (record {
+      told = (told_of _ _ _ l.invariant.0 (l.invariant.1 ∙ c.answer_lines-lines.ensures), left);
+      wrote = wrote_part _ _ _ _ _ _ is l.invariant.2 w left (omega (arith, l.invariant.0.behind, left));
+    })
 
-pub answer_piece-piece-requires : goal.answer_piece-piece-requires
-answer_piece-piece-requires g c =
-    record {
-      can_say = c.requires.can_say;
-      from_bound = omega (arith, c.loop-from-test.true, c.answer_lines-lines.ensures);
-      line_room_in_bounds = omega (arith, c.loop-from.invariant.0.whole);
-    }
+pub overflow_add-said : goal.overflow_add-said
+overflow_add-said g c =
+    let i = c.loop-said.invariant.0 in
+    omega (arith, i.behind, c.loop-said-test.true, c.answer_lines-lines.ensures, few_lines c.args.answer c.requires.few_passes)
 
-pub slice_bounds-buffer-end : goal.slice_bounds-buffer-end
-slice_bounds-buffer-end g c = omega (arith, c.answer_piece-piece.ensures.moves.in_room, c.loop-from.invariant.0.whole)
-
-pub slice_bounds-put_piece-end : goal.slice_bounds-put_piece-end
-slice_bounds-put_piece-end g c = simp length-take (omega (arith, c.answer_piece-piece.ensures.moves.in_room, c.loop-from.invariant.0.whole))
-
-pub put_piece-put-requires : goal.put_piece-put-requires
-put_piece-put-requires g c =
-    let l = c.loop-from in
+pub loop-said-preserved : goal.loop-said-preserved
+loop-said-preserved g c =
+    let l = c.loop-said in
     let p = c.answer_piece-piece in
-    record {
-      piece_text = text_so _ _ _ l.invariant.0 p.ensures.wrote_piece;
-      pieces_bound = omega (arith, l.invariant.0.behind, c.loop-from-test.true, c.answer_lines-lines.ensures, few_lines c.args.answer c.requires.few_passes);
-    }
-
-pub returns-in-Failed : goal.returns-in-Failed
-returns-in-Failed g c =
-    let l = c.loop-from in
-    let p = c.answer_piece-piece in
-    let is = text_so _ _ _ l.invariant.0 p.ensures.wrote_piece in
-    let w : WrotePut _ _ _ Put.Failed = rw c.in-Failed.is at c.put_piece-put.ensures.wrote in
-    record {
-      told = told_of _ _ _ l.invariant.0 c.answer_lines-lines.ensures;
-      wrote = wrote_part _ _ _ _ _ _ is l.invariant.1 w c.loop-from-test.true (omega (arith, l.invariant.0.behind, c.loop-from-test.true));
-    }
-
-pub loop-from-smaller : goal.loop-from-smaller
-loop-from-smaller g c = omega (arith, c.answer_piece-piece.ensures.moves.later, c.loop-from-test.true)
-
-pub loop-from-preserved : goal.loop-from-preserved
-loop-from-preserved g c =
-    let l = c.loop-from in
-    let p = c.answer_piece-piece in
-    let is = text_so _ _ _ l.invariant.0 p.ensures.wrote_piece in
-    let more : PutSo l.pieces (Put.Written c.in-Written.more) = rw c.in-Written.is at c.put_piece-put.ensures.put_so in
-    let w : WrotePut _ _ _ (Put.Written c.in-Written.more) = rw c.in-Written.is at c.put_piece-put.ensures.wrote in (
-      one_more _ _ _ l.invariant.0 p.ensures.wrote_piece _ _ (omega (arith, c.loop-from-test.true, c.answer_lines-lines.ensures)) p.ensures.moves (l.invariant.0.whole ∙ sym p.auto.out) more,
-      wrote_more _ _ _ _ _ _ _ is l.invariant.1 w more,
+    let is = text_so _ _ _ l.invariant.0 p.ensures.wrote_piece in (
+      one_more _ _ _ l.invariant.0 p.ensures.wrote_piece (omega (arith, c.loop-said-test.true, c.answer_lines-lines.ensures)) p.ensures.moves.later (l.invariant.0.whole ∙ sym p.auto.out),
+      refl,
+      wrote_more _ _ _ _ _ _ is l.invariant.2 (rw (mapped_ok c.put_piece.result c.map_err.result _ c.map_err.ensures.cases _ c.in_ok-map_err.was) at c.put_piece.ensures),
     )
 
 pub returns : goal.returns
 returns g c =
+    let i = c.loop-said.invariant in
+    let past : c.loop-said.said.lines ≤ c.loop-said.said.next = omega (arith, c.loop-said-test.false, i.1) in
     record {
-      told = told_of _ _ _ c.loop-from.invariant.0 c.answer_lines-lines.ensures;
-      wrote = wrote_all _ _ _ _ c.loop-from.invariant.1 (omega (arith, c.loop-from-test.false));
+      told = (told_of _ _ _ i.0 (i.1 ∙ c.answer_lines-lines.ensures), past);
+      wrote = wrote_all _ _ _ _ i.2 past;
     }

@@ -2,10 +2,10 @@
 use Rattle.passes.specs.Local.{recorded}
 use Rattle.supports.proofs.record_residual.Goals as goal
 
-pub returns-in-Nothing : goal.returns-in-Nothing
+pub returns-in-None : goal.returns-in-None
 unfolding recorded
-returns-in-Nothing c = rw c.in-Nothing.is
+returns-in-None c = rw c.in-None.is
 
-pub returns-in-Residual : goal.returns-in-Residual
+pub returns-in-Some : goal.returns-in-Some
 unfolding recorded
-returns-in-Residual c = rw (c.in-Residual.is, c.larger.ensures)
+returns-in-Some c = rw (c.in-Some.is, c.larger.ensures)

@@ -1,10 +1,6 @@
 -- `hex::write_bits` meets its contract. The invariant: the first i bytes are the first i digits, and the rest is as it was. Assumes nothing.
-use Prim.Native.Nat.{◌-◌}
 use Rattle.binary32.proofs.Digits.{Writing}
 use Rattle.binary32.proofs.hex.write_bits.Given as goal
 
 abbrev pub invariant-loop-i : goal.invariant-loop-i
 invariant-loop-i l = Writing l.bits l.initial.out l.out l.i
-
-abbrev pub decreases-loop-i : goal.decreases-loop-i
-decreases-loop-i l = 8 - l.i

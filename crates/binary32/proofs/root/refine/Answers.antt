@@ -1,5 +1,5 @@
 -- `root::refine` meets its contract. The root lies from lo up and below hi, and each turn halves what is between. Assumes nothing.
-use Prim.Native.Nat.{ℕ, ◌+◌, ◌-◌, ◌*◌, ◌/◌, ◌<◌}
+use Prim.Native.Nat.{ℕ, ◌+◌, ◌*◌, ◌/◌, ◌<◌}
 use mathlib.Core.Path.{◌≡◌}
 use native.Mathlib.Omega.{arith}
 use Rattle.binary32.proofs.Squares.{square_small, enclosed_apart}

@@ -1,13 +1,15 @@
--- `frame_calls::read_or_short` meets its contract: no room for the head, or the reader. Assumes nothing.
-use mathlib.Core.Path.{◌∙◌}
-use Rattle.grid_words.proofs.Frames.{head_room, read_short, read_room}
+-- `frame_calls::read_or_short` meets its contract: what the reader says fits into words. Assumes nothing.
+use Rattle.std.proofs.lemmas.Result.{err_from_is_err_and}
+use Rattle.grid_words.proofs.Frames.{sayable}
 use Rattle.grid_words.proofs.frame_calls.read_or_short.Goals as goal
 
-pub returns-then-head_short : goal.returns-then-head_short
-returns-then-head_short c = read_short c.args.settings.now c.args.out.now _ c.head_short.ensures c.args.text.now c.args.xs.now c.args.ys.now c.args.pitches.now c.args.shades.now c.args.sheet.now c.args.passes.now c.if-head_short.true
+pub returns-in_err-head-clause-line : goal.returns-in_err-head-clause-line
+returns-in_err-head-clause-line c =
+    let p = err_from_is_err_and c.from_residual.result c.from_residual.ensures.1 in
+    rw (p.1, p.2) (sayable _ _ c.in_err-head.ensures.passes_after)
 
-pub run_read-requires : goal.run_read-requires
-run_read-requires c = head_room c.args.settings.now c.args.out.now _ c.head_short.ensures c.if-head_short.false
+pub enter-requires-clause-word : goal.enter-requires-clause-word
+enter-requires-clause-word c = (sayable _ _ c.in_ok-head.ensures.passes_after).0
 
-pub returns : goal.returns
-returns c = c.run_read.ensures ∙ read_room c.args.settings.now c.args.out.now _ c.head_short.ensures c.args.text.now c.args.xs.now c.args.ys.now c.args.pitches.now c.args.shades.now c.args.sheet.now c.args.passes.now c.if-head_short.false
+pub enter-requires-2-clause-word : goal.enter-requires-2-clause-word
+enter-requires-2-clause-word c = (sayable _ _ c.in_ok-head.ensures.passes_after).1

@@ -1,10 +1,9 @@
--- `text_calls::piece_or_short` meets its contract: no room for two words, or a piece. Assumes nothing.
-use mathlib.Core.Path.{◌∙◌}
-use Rattle.grid_words.proofs.Texts.{piece_short, piece_room}
+-- `text_calls::piece_or_short` meets its contract: the length of the piece and the next line fit into words. Assumes nothing.
+use Rattle.grid_words.proofs.Texts.{piece_words}
 use Rattle.grid_words.proofs.text_calls.piece_or_short.Goals as goal
 
-pub returns-then-out-lt2 : goal.returns-then-out-lt2
-returns-then-out-lt2 c = piece_short _ c.args.from c.args.text.now c.args.out.now c.if-out-lt2.true
+pub enter-requires-clause-word : goal.enter-requires-clause-word
+enter-requires-clause-word c = (piece_words _ _ _ _ c.in_ok-at.ensures.out_after).0
 
-pub returns : goal.returns
-returns c = c.run_piece.ensures ∙ piece_room _ c.args.from c.args.text.now c.args.out.now c.if-out-lt2.false
+pub enter-requires-2-clause-word : goal.enter-requires-2-clause-word
+enter-requires-2-clause-word c = (piece_words _ _ _ _ c.in_ok-at.ensures.out_after).1

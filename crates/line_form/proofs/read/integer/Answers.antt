@@ -1,16 +1,29 @@
 -- `read::integer` meets its contract: one law for each way out. Assumes nothing.
-use mathlib.Core.Path.{◌∙◌}
-use Rattle.line_form.proofs.Reading.{integer_none, integer_zero, integer_minus, integer_plus}
+use mathlib.Core.Path.{◌∙◌, ap}
+use native.Mathlib.Omega.{arith}
+use Rattle.line_form.proofs.Reading.{positive_small, plus, minus, integer_zero, integer_minus, integer_plus, integer_none}
 use Rattle.line_form.proofs.read.integer.Goals as goal
 
-pub returns-then-text-eq0 : goal.returns-then-text-eq0
-returns-then-text-eq0 c = integer_none c.args.text.now c.if-text-eq0.true
+pub returns-in-48 : goal.returns-in-48
+returns-in-48 c = integer_zero _ (omega arith) (omega arith)
 
-pub returns-then-b-eq48 : goal.returns-then-b-eq48
-returns-then-b-eq48 c = integer_zero c.args.text.now c.if-text-eq0.false c.if-b-eq48.true
+pub returns-in_err-d-in-45 : goal.returns-in_err-d-in-45
+returns-in_err-d-in-45 c = c.from_residual.ensures ∙ ap minus c.in_err-d-in-45.ensures ∙ integer_minus _ (omega arith) (omega arith)
 
-pub returns-then-b-eq45 : goal.returns-then-b-eq45
-returns-then-b-eq45 c = c.below.ensures ∙ integer_minus c.args.text.now c.if-text-eq0.false c.if-b-eq48.false c.if-b-eq45.true
+pub overflow_sub-result : goal.overflow_sub-result
+overflow_sub-result c = positive_small _ _ c.in_ok-d-in-45.ensures
 
-pub returns : goal.returns
-returns c = c.above.ensures ∙ integer_plus c.args.text.now c.if-text-eq0.false c.if-b-eq48.false c.if-b-eq45.false
+pub returns-in_ok-d-in-45 : goal.returns-in_ok-d-in-45
+returns-in_ok-d-in-45 c = ap minus c.in_ok-d-in-45.ensures ∙ integer_minus _ (omega arith) (omega arith)
+
+pub returns-in_err-d-in-len1-up : goal.returns-in_err-d-in-len1-up
+returns-in_err-d-in-len1-up c = c.from_residual-in_err-d-in-len1-up.ensures ∙ ap plus c.in_err-d-in-len1-up.ensures ∙ integer_plus _ (omega arith) (λ e. omega arith) (λ e. omega arith)
+
+pub overflow_add-result : goal.overflow_add-result
+overflow_add-result c = omega (arith, positive_small _ _ c.in_ok-d-in-len1-up.ensures)
+
+pub returns-in_ok-d-in-len1-up : goal.returns-in_ok-d-in-len1-up
+returns-in_ok-d-in-len1-up c = ap plus c.in_ok-d-in-len1-up.ensures ∙ integer_plus _ (omega arith) (λ e. omega arith) (λ e. omega arith)
+
+pub returns-in-empty : goal.returns-in-empty
+returns-in-empty c = integer_none _ (omega arith)

@@ -4,6 +4,3 @@ use Rattle.line_form.proofs.write.write_decimal.Given as goal
 
 abbrev pub invariant-loop-i : goal.invariant-loop-i
 invariant-loop-i l = Placing l.n l.initial.out l.out l.m l.i
-
-abbrev pub decreases-loop-i : goal.decreases-loop-i
-decreases-loop-i l = l.i

@@ -1,2 +1,0 @@
--- Laws of the exported functions. Assumes nothing.
-pub mod Passes
