@@ -28,7 +28,8 @@ use Rattle.passes.specs.Grow.{grow_after}
 use Rattle.passes.specs.Fill.{fill_after}
 use Rattle.passes.specs.Local.{depth_of, unmatched_if, local_after}
 use Rattle.passes.specs.Step.{Rooms, lent_of, unless, grow_step, fill_step, local_step}
-use Rattle.passes.specs.Run.{Call, PassStats, grow_stats, fill_stats, local_stats, step, sheet_after, run}
+use Rattle.passes.specs.Run.{Call, step, sheet_after, run}
+use Rattle.passes.specs.declared.PassStats.{PassStats}
 use Rattle.invariants.specs.Calls.{Standing, checked_call, answering, after_pass, after_call, lent_shades}
 use Rattle.invariants.proofs.Run.{step_as_lem, call_accepted, standing_step, invariants}
 use Rattle.invariants.proofs.Unshaded.{byte_nought}
@@ -130,9 +131,9 @@ module _ (l l' : CornerLists) (corners : PairedCorners l l') (sheet sheet' : Lis
           }
 
       pass_same : (p : Pass) → PassInside p → lt one (factor_of p) ≡ true → SameAfter corners.pairs (after_pass l shades sheet set p) (after_pass l' shades' sheet' set p)
-      pass_same (Pass.Grow p) numbers above = answering_same grow_stats (grow_after_same p numbers above)
-      pass_same (Pass.Fill p) numbers above = answering_same fill_stats (fill_after_same p numbers above)
-      pass_same (Pass.Local p) numbers above = answering_same local_stats (local_after_same p numbers above)
+      pass_same (Pass.Grow p) numbers above = answering_same PassStats.Grow (grow_after_same p numbers above)
+      pass_same (Pass.Fill p) numbers above = answering_same PassStats.Fill (fill_after_same p numbers above)
+      pass_same (Pass.Local p) numbers above = answering_same PassStats.Local (local_after_same p numbers above)
 
     -- the calls of grow, of fill and of local, as their contracts have them
     pub grow_step_same : (set : Settings) (p : GrowParams) (rooms : Rooms) → lt one p.attach_ambiguity_factor ≡ true

@@ -8,7 +8,8 @@ use Rattle.sheet.specs.Pairing.{Shuffle, PairedCorners, PairedSheets}
 use Rattle.arguments.specs.Shades.{any_shade, PairedShades}
 use Rattle.arguments.specs.declared.Pass.{Pass}
 use Rattle.passes.specs.Outcome.{After, Outcome, refused, done}
-use Rattle.passes.specs.Run.{Call, PassStats, sheet_after, run}
+use Rattle.passes.specs.Run.{Call, sheet_after, run}
+use Rattle.passes.specs.declared.PassStats.{PassStats}
 use Rattle.invariants.specs.Calls.{Standing, Invariant}
 use Rattle.binary32.specs.Numbers.{one}
 

@@ -5,7 +5,8 @@ use Prim.Native.Nat.{ℕ}
 use Rattle.sheet.specs.Corners.{CornerLists}
 use Rattle.sheet.specs.Words.{label_of, label_of_number}
 use Rattle.passes.specs.Outcome.{Outcome}
-use Rattle.passes.specs.Run.{Call, PassStats, run, sheet_of as sheetAfterAll}
+use Rattle.passes.specs.Run.{Call, run, sheet_of as sheetAfterAll}
+use Rattle.passes.specs.declared.PassStats.{PassStats}
 use Rattle.invariants.specs.Calls.{Standing, CallInside}
 use Rattle.frame.specs.Frame.{Frame, parts_of, given_of, read_frame, accepted}
 use Rattle.join.specs.Rule.{Placed, All}

@@ -15,7 +15,8 @@ use Rattle.arguments.specs.Arguments.{Checked, queue_needed, too_short, over_lim
 use Rattle.arguments.proofs.Laws.{not_short}
 use Rattle.passes.specs.Outcome.{Outcome, refused, done}
 use Rattle.passes.specs.Step.{lent_of, unless}
-use Rattle.passes.specs.Run.{Call, PassStats, step, run}
+use Rattle.passes.specs.Run.{Call, step, run}
+use Rattle.passes.specs.declared.PassStats.{PassStats}
 use Rattle.invariants.specs.Calls.{Standing, checked_call, after_call, CallInside}
 use Rattle.invariants.proofs.Run.{step_as_lem}
 use Rattle.agreement.specs.Agreement.{no_call, relisted, AboveOne, FactorsAbove, no_more, was_refused as was-not-run, ran}

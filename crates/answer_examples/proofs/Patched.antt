@@ -25,7 +25,8 @@ use Rattle.arguments.specs.Shades.{shade_of, stands, any_shade, shade_at}
 use Rattle.arguments.specs.Arguments.{outside}
 use Rattle.extension_common.specs.TryCell.{choice_by}
 use Rattle.passes.specs.Grow.{member, radius_of, search_of}
-use Rattle.passes.specs.Run.{PassStats, grow_stats, run}
+use Rattle.passes.specs.Run.{run}
+use Rattle.passes.specs.declared.PassStats.{PassStats}
 use Rattle.passes.specs.Outcome.{Outcome, done}
 use Rattle.agreement.specs.Agreement.{FactorsAbove, no_more, ran}
 use Rattle.line_form.specs.Integers.{digits_after, read_positive, read_integer, decimal_up_to, decimal, integer_text}
@@ -124,7 +125,7 @@ abbrev grow_left : AfterIn PassStats
 grow_left =
     record {
       answer =
-          grow_stats (record { counts = record { attached = 1; rejected_no_candidate = 10; rejected_ambiguous = 0; rejected_edge = 0 }; rim = false });
+          PassStats.Grow (record { counts = record { attached = 1; rejected_no_candidate = 10; rejected_ambiguous = 0; rejected_edge = 0 }; rim = false });
       sheet =
           written 8128 16384
           ∷ written 8255 16384

@@ -30,7 +30,7 @@ use Rattle.passes.specs.Grow.{member, radius_of, search_of}
 use Rattle.passes.specs.Rounds.{walk, one_round, rounds_from}
 use Rattle.passes.specs.Fill.{cells_of, fill_search, fill_limit}
 use Rattle.passes.specs.Local.{depth_of, row_among, column_among, local_region, nearer, placed, by_reach, cell_point, pictured_at, residual_of, residuals_of, trusted, worst, recorded, recorded_all, local_search, local_limit, unmatched_if}
-use Rattle.passes.specs.Run.{PassStats, grow_stats, fill_stats, local_stats}
+use Rattle.passes.specs.declared.PassStats.{PassStats}
 use Rattle.frame_line.specs.Table.{kind_at}
 use Rattle.frame_line.specs.Lines.{PassLine, bits_at, whole_at, pass_line_of}
 use Rattle.frame.specs.Frame.{Frame, opened, adding, parts_from, parts_of, given_of, join_of}
@@ -49,7 +49,7 @@ abbrev pub local_left : AfterIn PassStats
 local_left =
     record {
       answer =
-          local_stats
+          PassStats.Local
           (record {
             counts = record { attached = 1; rejected_no_candidate = 10; rejected_ambiguous = 1; rejected_edge = 0 };
             iterations = 1;
@@ -87,7 +87,7 @@ abbrev pub grow_left : AfterIn PassStats
 grow_left =
     record {
       answer =
-          grow_stats (record { counts = record { attached = 1; rejected_no_candidate = 8; rejected_ambiguous = 2; rejected_edge = 0 }; rim = false });
+          PassStats.Grow (record { counts = record { attached = 1; rejected_no_candidate = 8; rejected_ambiguous = 2; rejected_edge = 0 }; rim = false });
       sheet = marked 32768;
       attached = 8258 ∷ [];
       visited = 8128 ∷ 8255 ∷ 8129 ∷ 8258 ∷ 8383 ∷ 8513 ∷ 8386 ∷ 8640 ∷ 8511 ∷ 8130 ∷ 8259 ∷ [];
@@ -96,7 +96,7 @@ grow_left =
 abbrev pub fill_left : AfterIn PassStats
 fill_left =
     record {
-      answer = fill_stats (record { added = 1; iterations = 1; rim = false });
+      answer = PassStats.Fill (record { added = 1; iterations = 1; rim = false });
       sheet = marked 32777;
       attached = 8640 ∷ [];
       visited = [];

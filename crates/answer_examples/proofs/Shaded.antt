@@ -37,7 +37,8 @@ use Rattle.passes.specs.Grow.{member, radius_of, search_of}
 use Rattle.passes.specs.Rounds.{walk, one_round, rounds_from}
 use Rattle.passes.specs.Fill.{cells_of}
 use Rattle.passes.specs.Local.{depth_of, row_among, column_among, local_region, nearer, placed, by_reach, cell_point, pictured_at, residual_of, residuals_of, trusted, worst, recorded, recorded_all, local_search, local_limit, unmatched_if}
-use Rattle.passes.specs.Run.{PassStats, grow_stats, local_stats, run}
+use Rattle.passes.specs.Run.{run}
+use Rattle.passes.specs.declared.PassStats.{PassStats}
 use Rattle.passes.specs.Outcome.{Outcome, done}
 use Rattle.agreement.specs.Agreement.{FactorsAbove, no_more, ran}
 use Rattle.line_form.specs.Integers.{digits_after, read_positive, read_integer, decimal_up_to, decimal, integer_text}
@@ -118,7 +119,7 @@ abbrev local_left : AfterIn PassStats
 local_left =
     record {
       answer =
-          local_stats
+          PassStats.Local
           (record {
             counts = record { attached = 1; rejected_no_candidate = 11; rejected_ambiguous = 0; rejected_edge = 0 };
             iterations = 1;
@@ -135,7 +136,7 @@ abbrev grow_left : AfterIn PassStats
 grow_left =
     record {
       answer =
-          grow_stats (record { counts = record { attached = 1; rejected_no_candidate = 10; rejected_ambiguous = 0; rejected_edge = 0 }; rim = false });
+          PassStats.Grow (record { counts = record { attached = 1; rejected_no_candidate = 10; rejected_ambiguous = 0; rejected_edge = 0 }; rim = false });
       sheet =
           written 8128 16384
           ∷ written 8129 16384

@@ -3,7 +3,7 @@
 use Rattle.std.specs.Prelude.{List, [], ◌∷◌, ◌++◌, map, ℕ}
 use Rattle.sheet.specs.Cells.{cell_of}
 use Rattle.sheet.specs.Words.{label_of}
-use Rattle.passes.specs.Run.{PassStats}
+use Rattle.passes.specs.declared.PassStats.{PassStats}
 use Rattle.join.specs.Rule.{Placed}
 use Rattle.frame.specs.Frame.{Frame, parts_of, given_of}
 use Rattle.frame_laws.specs.Calls.{frame_corners, calls_of}

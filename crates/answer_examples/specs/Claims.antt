@@ -5,7 +5,8 @@ use Rattle.std.specs.Float.{binary32}
 use Rattle.std.specs.Float.Ieee.{of_bits}
 use Rattle.refusal.specs.Refusal.{number_of}
 use Rattle.passes.specs.Outcome.{Outcome, refused, done}
-use Rattle.passes.specs.Run.{Call, PassStats, grow_stats, fill_stats, local_stats, run}
+use Rattle.passes.specs.Run.{Call, run}
+use Rattle.passes.specs.declared.PassStats.{PassStats}
 use Rattle.agreement.specs.Agreement.{Agree, FactorsAbove}
 use Rattle.frame_line.specs.Lines.{PassLine, grow, fill, local, bare_grow}
 use Rattle.frame.specs.Frame.{Frame, read_frame, accepted}
@@ -43,9 +44,9 @@ pub data Told : Type 0 where
   local_attached : ℕ → Option Float → Told
 
 abbrev pub told_by : PassStats → Told
-told_by (grow_stats s) = grow_attached s.counts.attached
-told_by (fill_stats s) = fill_added s.added
-told_by (local_stats s) = local_attached s.counts.attached s.residual
+told_by (PassStats.Grow s) = grow_attached s.counts.attached
+told_by (PassStats.Fill s) = fill_added s.added
+told_by (PassStats.Local s) = local_attached s.counts.attached s.residual
 
 abbrev pub told_of : Outcome PassStats → Told
 told_of (refused r) = was_refused (number_of r)

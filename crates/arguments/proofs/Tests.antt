@@ -1,19 +1,25 @@
 -- Laws of the tests, for the functions that make them: a chain of tests of which one is enough, a chain of refusals, a
 -- label's corner, and the corners seen place by place. Assumes nothing.
 use Rattle.std.specs.Prelude.{Ok, Err, Option, Some, None}
-use mathlib.Core.Path.{◌≡◌, refl, sym, ap, ◌∙◌}
-use mathlib.Core.Bool.{Bool, true, false, not, ◌||◌}
-use mathlib.Core.List.{List}
-use Prim.Native.Nat.{ℕ, ◌+◌, ◌<◌, ◌≤◌}
+use mathlib.Core.Path.{◌≡◌, refl, sym, ap, subst, ◌∙◌}
+use mathlib.Core.Bool.{Bool, true, false, not, cond, ◌||◌}
+use mathlib.Core.List.{List, [], ◌∷◌}
+use Prim.Native.Nat.{ℕ, zero, suc, ◌+◌, ◌<◌, ◌≤◌}
+use native.Mathlib.Numerals.{add-one}
+use native.Mathlib.Omega.{arith}
+use borrow.Author.Tests.{eqb-true}
 use lib.Dec.{eqb}
 use lib.ListN.{get_or, set}
+use Rattle.std.specs.List.{All, list_any}
+use Rattle.std.proofs.lemmas.List.Elements.{All-cons}
 use Rattle.refusal.specs.declared.Refusal.{Refusal}
 use Rattle.sheet.specs.Words.{bit_of, label_of}
-use Rattle.sheet.specs.Blank.{NextWritten}
-use Rattle.sheet.proofs.Blank.{skips, blank_label}
+use Rattle.sheet.specs.Blank.{written_in, written_from}
+use Rattle.sheet.proofs.Blank.{blank_label}
 use Rattle.labels.specs.Labelled.{any_below}
-use Rattle.labels.specs.Used.{names}
-use Rattle.labels.proofs.Below.{any_no, Searching, searching_start, searching_more, searching_hit, searching_end, searching_skips}
+use Rattle.labels.specs.Used.{names, noted}
+use Rattle.labels.proofs.Below.{any_no, Searching, searching_start, searching_more, searching_hit, searching_end}
+use Rattle.labels.proofs.Written.{written_any}
 use Rattle.labels.proofs.Used.{Marking, marking_start, marking_more, noted_none, noted_entry}
 use Rattle.arguments.specs.Arguments.{Lent, corner_count, too_short, over_limit, out_of_range, unknown, unknown_at, unknown_corner, same_corner, doubled_at, doubled_corner, checked}
 use Rattle.arguments.specs.Asked.{HasEntry, HasEntries, seen_before, Noted, Unseen}
@@ -117,12 +123,88 @@ module _ (seen : List ℕ) (label : Option ℕ) where
   unfolding seen_before
   note_corner k e h = record { said = rw e; written = noted_entry seen label k e h }
 
--- ---- places that hold nothing
+-- ---- a walk over the places that hold something
 
--- the search for a corner from n on, and the walk that notes the corners, are at the next place that holds something where they were
-pub unknown_skips : (n : ℕ) (sheet : List ℕ) {p r : ℕ} → Searching (unknown_at n sheet) 16384 p → NextWritten sheet p r → Searching (unknown_at n sheet) 16384 r
-unfolding unknown_at unknown
-unknown_skips n sheet g w = searching_skips sheet (unknown_at n sheet) (λ q e. ap (unknown n) (blank_label e)) g w
+-- a word that names a corner from n on; the walk over the sheet finds one exactly if there is one
+abbrev pub holds_unknown : ℕ → ℕ × ℕ → Bool
+holds_unknown n e = unknown n (label_of e.1)
 
-pub seeing_skips : (sheet seen : List ℕ) {p r : ℕ} → Seeing sheet seen p → NextWritten sheet p r → Seeing sheet seen r
-seeing_skips sheet seen g w = skips sheet (Seeing sheet seen) (λ q h e s. seeing_more sheet seen q s h seen false (note_none seen _ (blank_label e)) refl) w g
+pub unknown_walked : (n : ℕ) (sheet : List ℕ) → list_any (holds_unknown n) (written_from sheet 0) ≡ unknown_corner n sheet
+unfolding unknown_corner unknown_at unknown
+unknown_walked n sheet = written_any sheet (holds_unknown n) (λ p. ap (unknown n) (blank_label refl))
+
+-- whether one of these words names a corner that was seen, or that one before it names
+pub twice : List ℕ → List (ℕ × ℕ) → Bool
+twice seen [] = false
+twice seen (e ∷ es) = seen_before seen (label_of e.1) || twice (noted seen (label_of e.1)) es
+
+-- the walk with these words left: each that names a corner names one that has an entry, and what is said of them is said of the sheet
+pub record Left (sheet seen : List ℕ) (rest : List (ℕ × ℕ)) : Type 0 where
+  pub entries : All (λ e. HasEntry (label_of e.1)) rest
+  pub said : twice seen rest ≡ doubled_corner sheet
+
+module _ (sheet : List ℕ) where
+  all_entries : HasEntries sheet → (from n : ℕ) → from + n ≡ 16384 → All (λ e. HasEntry (label_of e.1)) (written_in sheet from n)
+  unfolding written_in
+  all_entries h from zero e = λ k d l. absurd (omega arith)
+  all_entries h from (suc n) e = go (eqb (get_or sheet from 0) 0) (all_entries h (suc from) n (omega arith))
+    where
+      go : (t : Bool) → All (λ e. HasEntry (label_of e.1)) (written_in sheet (suc from) n)
+          → All (λ e. HasEntry (label_of e.1)) (cond t (written_in sheet (suc from) n) ((from, get_or sheet from 0) ∷ written_in sheet (suc from) n))
+      go true rest = rest
+      go false rest = All-cons (λ (e : ℕ × ℕ). HasEntry (label_of e.1)) (from, get_or sheet from 0) (written_in sheet (suc from) n) (record { entry = λ k l. h.known.known from k (omega arith) l }) rest
+
+  twice_said : (seen : List ℕ) (from n : ℕ) → Seeing sheet seen from → from + n ≡ 16384 → twice seen (written_in sheet from n) ≡ doubled_corner sheet
+  unfolding twice written_in
+  twice_said seen from zero s e = seeing_end sheet seen from s (omega arith)
+  twice_said seen from (suc n) s e =
+      go (eqb (get_or sheet from 0) 0) refl
+      (λ after t. twice_said after (suc from) n (subst (Seeing sheet after) (add-one from) t) (omega arith))
+    where
+      here : from < 16384
+      here = omega arith
+
+      after : List ℕ
+      after = noted seen (label_of (get_or sheet from 0))
+
+      by : (u : Bool) → seen_before seen (label_of (get_or sheet from 0)) ≡ u
+          → ((next : List ℕ) → Seeing sheet next (from + 1) → twice next (written_in sheet (suc from) n) ≡ doubled_corner sheet)
+          → (u || twice after (written_in sheet (suc from) n)) ≡ doubled_corner sheet
+      by true d on = seeing_hit sheet seen from s here after true (record { said = sym d; written = refl }) refl
+      by false d on = on after (seeing_more sheet seen from s here after false (record { said = sym d; written = refl }) refl)
+
+      go : (t : Bool) → eqb (get_or sheet from 0) 0 ≡ t
+          → ((next : List ℕ) → Seeing sheet next (from + 1) → twice next (written_in sheet (suc from) n) ≡ doubled_corner sheet)
+          → twice seen (cond t (written_in sheet (suc from) n) ((from, get_or sheet from 0) ∷ written_in sheet (suc from) n)) ≡ doubled_corner sheet
+      go true b on = on seen (seeing_more sheet seen from s here seen false (note_none seen _ (blank_label (eqb-true _ 0 b))) refl)
+      go false b on = by (seen_before seen (label_of (get_or sheet from 0))) refl on
+
+  pub twice_start : (seen : List ℕ) → Unseen sheet seen → (rest : List (ℕ × ℕ)) → rest ≡ written_from sheet 0 → Left sheet seen rest
+  twice_start seen u rest e =
+      rw e (record { entries = all_entries u.entries 0 16384 refl; said = twice_said seen 0 16384 (seeing_start sheet seen u) refl })
+
+  module _ {seen : List ℕ} {rest next : List (ℕ × ℕ)} {e : ℕ × ℕ} (l : Left sheet seen rest) (is : rest ≡ e ∷ next) where
+    pub twice_entry : HasEntry (label_of e.1)
+    twice_entry = (rw is at l.entries) 0 e (omega arith)
+
+    module _ {after : List ℕ} {r : Bool} (w : Noted seen (label_of e.1) after r) where
+      pub twice_hit : r ≡ true → true ≡ doubled_corner sheet
+      unfolding twice
+      twice_hit h =
+          let same : seen_before seen (label_of e.1) ≡ true = sym w.said ∙ h in
+          sym (ap (λ (b : Bool). b || twice (noted seen (label_of e.1)) next) same) ∙ sym (ap (twice seen) is) ∙ l.said
+
+      pub twice_more : r ≡ false → Left sheet after next
+      unfolding twice
+      twice_more h =
+          let same : seen_before seen (label_of e.1) ≡ false = sym w.said ∙ h in
+          record {
+            entries = λ k d g. (rw is at l.entries) (suc k) d (omega arith);
+            said =
+                ap (λ (a : List ℕ). twice a next) w.written
+                ∙ sym (ap (λ (b : Bool). b || twice (noted seen (label_of e.1)) next) same) ∙ sym (ap (twice seen) is) ∙ l.said;
+          }
+
+  pub twice_end : {seen : List ℕ} {rest : List (ℕ × ℕ)} → Left sheet seen rest → rest ≡ [] → false ≡ doubled_corner sheet
+  unfolding twice
+  twice_end {seen} l is = sym (ap (twice seen) is) ∙ l.said

@@ -14,8 +14,9 @@ ghost use Rattle.arguments.specs.Asked.{HasCorner, AllShaded, NoKinds, Holdable,
 use binary32::ranges::Quantity;
 use predict::{Grid, Vector};
 use refusal::Refusal;
-use sheet::{Corner, Position};
+use sheet::{Corner, Position, Written};
 use sizes::{CORNERS, PLACES};
+use std::mem;
 
 // The numbers of a grow pass: search, factor and boundary in 01's words.
 #[derive(Clone, Copy)]
@@ -262,10 +263,7 @@ fn pass_outside(pass: Pass) -> bool
 fn is_unknown(n: usize, label: Option<usize>) -> bool
     ensures { result ≡ unknown n label }
 {
-    match label {
-        None => false,
-        Some(k) => n <= k,
-    }
+    label.is_some_and(|k| n <= k)
 }
 
 // 5: whether the sheet names a corner from n on.
@@ -273,15 +271,7 @@ pub fn unknown_corner(n: usize, sheet: &[u16]) -> bool
     requires { place_count ≤ length sheet.now }
     ensures { result ≡ unknown_corner n sheet.now }
 {
-    // No chain over all places: most hold nothing, and are passed over by rows, at 3,400 instructions for 144,000 of a sheet with two labels.
-    let mut place = sheet::next_written(sheet, 0);
-    while place < PLACES {
-        if is_unknown(n, sheet::label_of(sheet[place])) {
-            return true;
-        }
-        place = sheet::next_written(sheet, place + 1);
-    }
-    false
+    Written::new(sheet).any(|(_, word)| is_unknown(n, sheet::label_of(word)))
 }
 
 // Notes the corner of a label as seen; true if it was seen before.
@@ -292,9 +282,7 @@ fn note(seen: &mut [u8; CORNERS], label: Option<usize>) -> bool
     let Some(k) = label else {
         return false;
     };
-    let before = seen[k];
-    seen[k] = 1;
-    before != 0
+    mem::replace(&mut seen[k], 1) != 0
 }
 
 // Whether the sheet names a corner at two places; none is seen at the start.
@@ -302,13 +290,10 @@ fn seen_twice(sheet: &[u16], seen: &mut [u8; CORNERS]) -> bool
     requires { Unseen sheet.now seen.old }
     ensures { result ≡ doubled_corner sheet.now }
 {
-    // Passed over by rows, as in `unknown_corner`.
-    let mut place = sheet::next_written(sheet, 0);
-    while place < PLACES {
-        if note(seen, sheet::label_of(sheet[place])) {
+    for (_, word) in Written::new(sheet) {
+        if note(seen, sheet::label_of(word)) {
             return true;
         }
-        place = sheet::next_written(sheet, place + 1);
     }
     false
 }

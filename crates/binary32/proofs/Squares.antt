@@ -2,7 +2,7 @@
 use Prim.Native.Nat.{ℕ, ◌+◌, ◌-◌, ◌*◌, ◌/◌, ◌^◌, ◌≤◌, ◌<◌, min}
 use mathlib.Core.Path.{◌≡◌}
 use native.Mathlib.Nat.{div-lt_iff_lt-mul, mul-add, add-mul, mul-one, one-mul, mul-le-mul, lt_of_not-le, add-sub_cancel, mul-lt-mul_of_pos_right, mul-le-mul_left, lt_of_lt_of_le, lt_of_le_of_lt}
-use native.Mathlib.Decide.{dec_le}
+use native.Mathlib.Decide.{dec_lt}
 use native.Mathlib.Omega.{arith}
 use Rattle.root_table.specs.Whole.{WholePart}
 use Rattle.root_table.proofs.Rule.{square_less}
@@ -48,22 +48,20 @@ module _ (n t : ℕ) (a : Asked n) (w : WholePart (1024 * (n / 2 ^ 38)) t) where
   above_the_root : n < square ((t + 2) * 0x4000)
   above_the_root = rw (scaled_square (t + 2), next_square t) (omega (arith, t_least, w.to))
 
+  pub table_encloses : t < 1023 → Enclosed n (t * 0x4000) ((t + 2) * 0x4000)
+  table_encloses h = record { from = at_most_the_root; to = above_the_root; least = omega (arith, t_least); most = omega arith }
+
   -- no root that is asked reaches 2 ^ 24
-  pub table_encloses : Enclosed n (t * 0x4000) (min ((t + 2) * 0x4000) (2 ^ 24))
-  table_encloses =
-      record {
-        from = at_most_the_root;
-        to = lesser ((t + 2) * 0x4000) (2 ^ 24) above_the_root a.most;
-        least = omega (arith, t_least);
-        most = omega arith;
-      }
+  pub table_encloses_last : Enclosed n (t * 0x4000) (2 ^ 24)
+  table_encloses_last = record { from = at_most_the_root; to = a.most; least = omega (arith, t_least); most = omega arith }
+
+  -- so the lesser of the two is above the root
+  pub lesser_encloses : Enclosed n (t * 0x4000) (min ((t + 2) * 0x4000) (2 ^ 24))
+  lesser_encloses = go (dec_lt t 1023)
     where
-      lesser : (b c : ℕ) → n < square b → n < square c → n < square (min b c)
-      lesser b c h k = go (dec_le b c)
-        where
-          go : Dec (b ≤ c) → n < square (min b c)
-          go (yes l) = let e : min b c ≡ b = omega arith in rw e h
-          go (no f) = let e : min b c ≡ c = omega arith in rw e k
+      go : Dec (t < 1023) → Enclosed n (t * 0x4000) (min ((t + 2) * 0x4000) (2 ^ 24))
+      go (yes l) = let e : min ((t + 2) * 0x4000) (2 ^ 24) ≡ (t + 2) * 0x4000 = omega (arith, l) in rw e (table_encloses l)
+      go (no f) = let e : min ((t + 2) * 0x4000) (2 ^ 24) ≡ 2 ^ 24 = omega (arith, f) in rw e table_encloses_last
 
 -- ---- Newton's steps, and the test of what they lead to
 

@@ -31,6 +31,7 @@ pub fn read_bits(text: &[u8]) -> Option<u32>
     ensures { result ≡ read_bits text.now }
 {
     let mut bits = 0u32;
+    // Stays: it goes over the bytes and counts no index; `try_fold` would hide the `?` of both tests in a closure (d).
     for b in text.get(..8)? {
         bits = bits * 16 + digit_value(*b)?;
     }
@@ -63,6 +64,7 @@ pub fn write_bits(bits: u32, out: &mut [u8])
     requires { 8 ≤ length out.old }
     ensures { out.new ≡ hex_text bits ++ drop 8 out.old }
 {
+    // Stays: an array made by `from_fn` needs two clauses on its closure and a copy, and is longer (d).
     for i in 0..8usize {
         out[i] = digit_of(((bits >> (28 - 4 * (i as u32))) % 16) as u8);
     }

@@ -13,11 +13,13 @@ struct Parts {
     e: u32,
 }
 
-// Two whole numbers that enclose a root: low is at most the root, and high is above it.
+// Two whole numbers that enclose the root of n: low is at most the root, and high is above it.
 #[derive(Clone, Copy)]
 struct Guess {
+    n: u64,
     low: u64,
     high: u64,
+    ghost enclosed: { Enclosed n low high },
 }
 
 // The first guess at the whole root of n: the table's. All that comes after it uses only that it encloses the root, so the answers do not depend on it. With
@@ -30,59 +32,64 @@ struct Guess {
 // 1,023 the upper end is 2^24 in place of 2^24 + 2^14, since no root that is asked reaches 2^24.
 fn first_guess(n: u64) -> Guess
     requires { Asked n }
-    ensures enclosed { Enclosed n result.low result.high }
+    ensures of { result.n ≡ n }
     ensures listed { FromTable n result.low result.high }
 {
     let t = u64::from(root_table::whole_root((n / 0x40_0000_0000) as usize));
     Guess {
+        n,
         low: t * 0x4000,
         high: ((t + 2) * 0x4000).min(0x100_0000),
     }
 }
 
-// The guess s and s + 1 if these enclose the root of n, else the guess that is given.
-fn tested(n: u64, s: u64, guess: Guess) -> Guess
-    requires { Enclosed n guess.low guess.high × (s < 2 ^ 28) }
-    ensures { Enclosed n result.low result.high }
-{
-    if n < s * s || (s + 1) * (s + 1) <= n {
-        return guess;
-    }
-    Guess {
-        low: s,
-        high: s + 1,
-    }
-}
-
-// A guess made narrower. Two of Newton's steps from the middle of the table's guess lead to the whole root, or for 41 of the 2^24 numbers that are asked
-// to the next above it (tools/root_all counts them). What they lead to is tested, so that nothing has to be proved of where that is.
-fn narrowed(n: u64, guess: Guess) -> Guess
-    requires { Enclosed n guess.low guess.high }
-    ensures { Enclosed n result.low result.high }
-{
-    let middle = (guess.low + guess.high) / 2;
-    let once = (middle + n / middle) / 2;
-    let twice = (once + n / once) / 2;
-    tested(n, twice, guess)
-}
-
-// The largest s with s * s <= n, by halving what lies between the two numbers of a guess.
-fn refine(n: u64, guess: Guess) -> u64
-    requires { Enclosed n guess.low guess.high }
-    ensures { WholeRoot n result }
-{
-    let mut lo = guess.low;
-    let mut hi = guess.high;
-    // a while: what lies between is halved, and no index is counted
-    while lo + 1 < hi {
-        let mid = (lo + hi) / 2;
-        if mid * mid <= n {
-            lo = mid;
-        } else {
-            hi = mid;
+impl Guess {
+    // The guess s and s + 1 if these enclose the root, else this guess.
+    fn tested(self, s: u64) -> Guess
+        requires { s < 2 ^ 28 }
+        ensures { result.n ≡ self.n }
+    {
+        let n = self.n;
+        if n < s * s || (s + 1) * (s + 1) <= n {
+            return self;
+        }
+        Guess {
+            n,
+            low: s,
+            high: s + 1,
         }
     }
-    lo
+
+    // The guess made narrower. Two of Newton's steps from the middle of the table's guess lead to the whole root, or for 41 of the 2^24 numbers that are
+    // asked to the next above it (tools/root_all counts them). What they lead to is tested, so that nothing has to be proved of where that is.
+    fn narrowed(self) -> Guess
+        ensures { result.n ≡ self.n }
+    {
+        let n = self.n;
+        let middle = (self.low + self.high) / 2;
+        let once = (middle + n / middle) / 2;
+        let twice = (once + n / once) / 2;
+        self.tested(twice)
+    }
+
+    // The largest s with s * s <= n, by halving what lies between the two numbers.
+    fn refine(self) -> u64
+        ensures { WholeRoot self.n result }
+    {
+        let n = self.n;
+        let mut lo = self.low;
+        let mut hi = self.high;
+        // Stays: what lies between is halved, and no index is counted, so that there is nothing for a `for` to go over (d).
+        while lo + 1 < hi {
+            let mid = (lo + hi) / 2;
+            if mid * mid <= n {
+                lo = mid;
+            } else {
+                hi = mid;
+            }
+        }
+        lo
+    }
 }
 
 // The root of n to the nearest whole number. There is no tie: n would lie a quarter above a whole number.
@@ -90,7 +97,7 @@ fn nearest_root(n: u64) -> u32
     requires { (2 ^ 46 ≤ n) × (n ≤ 2 ^ 48 - 2 ^ 24) }
     ensures { Near n result }
 {
-    let s = refine(n, narrowed(n, first_guess(n)));
+    let s = first_guess(n).narrowed().refine();
     if n - s * s <= s {
         s as u32
     } else {

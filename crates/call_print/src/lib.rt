@@ -5,7 +5,7 @@
 
 use arguments::Pass;
 use call_text::number_at;
-use passes::{Counts, FillStats, GrowStats, LocalStats, PassAnswer};
+use passes::{Counts, FillStats, GrowStats, LocalStats, PassStats};
 use refusal::Refusal;
 use std::{fmt, io};
 
@@ -202,23 +202,23 @@ fn print_queue(rt: &impl Print, text: &[u8], counts: Counts, queue: &[u16]) -> i
 pub fn print_answer(
     rt: &impl Print,
     text: &[u8],
-    answer: PassAnswer,
+    answer: Result<PassStats, Refusal>,
     sheet: &[u16],
     queue: &[u16],
     attached: &[u16],
 ) -> io::Result<()> {
     match answer {
-        PassAnswer::Refused(refusal) => print_refused(rt, refusal),
-        PassAnswer::Grow(stats) => {
+        Err(refusal) => print_refused(rt, refusal),
+        Ok(PassStats::Grow(stats)) => {
             print_grow(rt, stats)?;
             print_queue(rt, text, stats.counts, queue)?;
             print_attached(rt, sheet, attached, stats.counts.attached)
         }
-        PassAnswer::Fill(stats) => {
+        Ok(PassStats::Fill(stats)) => {
             print_fill(rt, stats)?;
             print_attached(rt, sheet, attached, stats.added)
         }
-        PassAnswer::Local(stats) => {
+        Ok(PassStats::Local(stats)) => {
             print_local(rt, stats)?;
             print_attached(rt, sheet, attached, stats.counts.attached)
         }

@@ -7,6 +7,7 @@ ghost use Rattle.std.specs.Prelude.{◌≡◌, ◌+◌, ◌≤◌, ◌<◌};
 ghost use Rattle.sizes.specs.Sizes.{corner_limit};
 ghost use Rattle.binary32.specs.Sqrt.{sqrt_or_nan};
 ghost use Rattle.sheet.specs.Corners.{squared_distance};
+ghost use Rattle.sheet.specs.Shades.{takes_kind, shades_in};
 ghost use Rattle.candidates.specs.Candidates.{positions_in, eligible_in, candidates_at, first_two, last_distance};
 ghost use Rattle.candidates.specs.Choice.{by_quotient, choose_unambiguous, raised, choose_with_floor};
 ghost use Rattle.candidates.specs.Steps.{IsNext, is_near, is_within, count_from, measured, two_found, narrowed};
@@ -40,6 +41,7 @@ struct Found {
 }
 
 // The choice at one cell.
+// Stays: these are the specification's three outcomes of a choice, and each is counted for itself.
 #[derive(Clone, Copy)]
 pub enum CandidateChoice {
     Nothing,
@@ -126,40 +128,56 @@ pub fn position_of(corners: &[f32; 4 * CORNERS], k: usize) -> Position
     }
 }
 
-// What a scan goes through: the corners, how many they are, which are labelled, the kind that the cell takes, and the prediction.
+// The corners as the passes hold them, how many they are, and which are labelled: one is unlabelled if its mark is 0.
+// Stays: the xs, the ys, the pitches and the kinds stand in one array of fixed size, so that no slice of it is the corners that there are.
 #[derive(Clone, Copy)]
-struct Scan<'a> {
-    corners: &'a [f32; 4 * CORNERS],
-    count: usize,
-    used: &'a [u8; CORNERS],
-    kind: usize,
-    prediction: Position,
+pub struct HeldCorners<'a> {
+    pub corners: &'a [f32; 4 * CORNERS],
+    pub count: usize,
+    pub used: &'a [u8; CORNERS],
     ghost few: { count ≤ corner_limit },
+}
+
+// A scan of them, for a cell of a kind that has a prediction.
+#[derive(Clone, Copy)]
+pub struct Scan<'a> {
+    pub held: HeldCorners<'a>,
+    // Stays: a kind is the remainder of i + j by 2, and `sheet` answers and takes that number.
+    pub kind: usize,
+    pub prediction: Position,
 }
 
 impl<'a> Scan<'a> {
     // Whether corner k, labelled or not, lies within the limit: its squared distance is at most that. No root is taken for it.
-    fn is_near(&self, k: usize, limit: f32) -> bool
+    pub fn is_near(&self, k: usize, limit: f32) -> bool
         requires { k < corner_limit }
-        ensures { result ≡ is_near (positions_in self.now.corners.now) self.now.prediction limit k }
+        ensures { result ≡ is_near (positions_in self.now.held.corners.now) self.now.prediction limit k }
     {
-        position_of(self.corners, k).squared_distance(self.prediction) <= limit
+        position_of(self.held.corners, k).squared_distance(self.prediction) <= limit
+    }
+
+    // Whether a cell of the kind takes corner k, labelled or not.
+    pub fn is_taken(&self, k: usize) -> bool
+        requires { k < corner_limit }
+        ensures { result ≡ takes_kind (shades_in self.now.held.corners.now) self.now.kind k }
+    {
+        sheet::is_taken(self.held.corners, self.kind, k)
     }
 
     // Whether corner k is unlabelled and within the limit, and a cell of the kind takes it.
     fn is_within(&self, k: usize, limit: f32) -> bool
         requires { k < corner_limit }
-        ensures { result ≡ is_within (positions_in self.now.corners.now) (eligible_in self.now.corners.now self.now.used.now self.now.kind)
-            self.now.prediction limit k }
+        ensures { result ≡ is_within (positions_in self.now.held.corners.now)
+            (eligible_in self.now.held.corners.now self.now.held.used.now self.now.kind) self.now.prediction limit k }
     {
-        self.used[k] == 0 && self.is_near(k, limit) && sheet::is_taken(self.corners, self.kind, k)
+        self.held.used[k] == 0 && self.is_near(k, limit) && self.is_taken(k)
     }
 
     // How many of the 32 corners from this one on, labelled or not, lie within the limit. No corner ends the loop early, so that the
     // compiler tests several at once.
     fn count_near(&self, from: usize, limit: f32) -> u32
         requires { from + 32 ≤ corner_limit }
-        ensures { result ≡ count_from (is_near (positions_in self.now.corners.now) self.now.prediction limit) from 32 }
+        ensures { result ≡ count_from (is_near (positions_in self.now.held.corners.now) self.now.prediction limit) from 32 }
     {
         (0..32)
             .map(|k| u32::from(self.is_near(from + k, limit)))
@@ -168,12 +186,12 @@ impl<'a> Scan<'a> {
 
     // The number of the next corner within the limit from this one on, if there is one. Each is tested.
     fn next_tested(&self, from: usize, limit: f32) -> Option<usize>
-        requires { from ≤ self.now.count }
-        ensures { IsNext (is_within (positions_in self.now.corners.now) (eligible_in self.now.corners.now self.now.used.now self.now.kind)
-            self.now.prediction limit) self.now.count from result }
+        requires { from ≤ self.now.held.count }
+        ensures { IsNext (is_within (positions_in self.now.held.corners.now)
+            (eligible_in self.now.held.corners.now self.now.held.used.now self.now.kind) self.now.prediction limit) self.now.held.count from result }
     {
-        // `find` on the range takes 1 in 100 instructions more.
-        for k in from..self.count {
+        // Stays: `find` on the range takes 1 in 100 instructions more.
+        for k in from..self.held.count {
             if self.is_within(k, limit) {
                 return Some(k);
             }
@@ -183,12 +201,13 @@ impl<'a> Scan<'a> {
 
     // The same, 32 corners at once as long as none of them lies within the limit.
     fn next_within(&self, from: usize, limit: f32) -> Option<usize>
-        requires { from ≤ self.now.count }
-        ensures { IsNext (is_within (positions_in self.now.corners.now) (eligible_in self.now.corners.now self.now.used.now self.now.kind)
-            self.now.prediction limit) self.now.count from result }
+        requires { from ≤ self.now.held.count }
+        ensures { IsNext (is_within (positions_in self.now.held.corners.now)
+            (eligible_in self.now.held.corners.now self.now.held.used.now self.now.kind) self.now.prediction limit) self.now.held.count from result }
     {
         let mut k = from;
-        while k + 32 <= self.count && self.count_near(k, limit) == 0 {
+        // Stays: its step is 32, and it ends at the first 32 of which one lies within the limit, at a number that is used after it.
+        while k + 32 <= self.held.count && self.count_near(k, limit) == 0 {
             k += 32;
         }
         self.next_tested(k, limit)
@@ -197,53 +216,39 @@ impl<'a> Scan<'a> {
     // Corner k as one more candidate, with the root of its squared distance.
     fn keep_corner(&self, found: Found, k: usize) -> Found
         requires { k < corner_limit }
-        ensures { result ≡ narrowed found (measured (positions_in self.now.corners.now) self.now.prediction k)
-            (squared_distance (positions_in self.now.corners.now k) self.now.prediction) }
+        ensures { result ≡ narrowed found (measured (positions_in self.now.held.corners.now) self.now.prediction k)
+            (squared_distance (positions_in self.now.held.corners.now k) self.now.prediction) }
     {
-        let d2 = position_of(self.corners, k).squared_distance(self.prediction);
+        let d2 = position_of(self.held.corners, k).squared_distance(self.prediction);
         let c = Candidate {
             number: k,
             distance: binary32::root::sqrt_or_nan(d2),
         };
         keep(found, c, d2)
     }
-}
 
-// The first two of the candidates at the prediction, in order of distance and then corner number: all unlabelled corners that a cell of the kind
-// takes and whose squared distance is at most the squared radius, and none if the prediction is not finite.
-pub fn collect_candidates(
-    corners: &[f32; 4 * CORNERS],
-    count: usize,
-    used: &[u8; CORNERS],
-    kind: usize,
-    prediction: Position,
-    search_r: f32,
-) -> Candidates
-    requires { count ≤ corner_limit }
-    ensures { result ≡ first_two (candidates_at (positions_in corners.now) (eligible_in corners.now used.now kind) count
-        prediction search_r) }
-{
-    if !prediction.is_finite() {
-        return Candidates::Empty;
+    // The first two of the candidates at the prediction, in order of distance and then corner number: all unlabelled corners that a cell of the
+    // kind takes and whose squared distance is at most the squared radius, and none if the prediction is not finite.
+    pub fn collect_candidates(&self, search_r: f32) -> Candidates
+        ensures { result ≡ first_two (candidates_at (positions_in self.now.held.corners.now)
+            (eligible_in self.now.held.corners.now self.now.held.used.now self.now.kind) self.now.held.count self.now.prediction search_r) }
+    {
+        if !self.prediction.is_finite() {
+            return Candidates::Empty;
+        }
+        let mut found = Found {
+            candidates: Candidates::Empty,
+            square: 0.0,
+            limit: search_r * search_r,
+        };
+        let mut from = 0usize;
+        // Stays: what was found so far gives the limit within which the next is looked for.
+        while let Some(k) = self.next_within(from, found.limit) {
+            found = self.keep_corner(found, k);
+            from = k + 1;
+        }
+        found.candidates
     }
-    let scan = Scan {
-        corners,
-        count,
-        used,
-        kind,
-        prediction,
-    };
-    let mut found = Found {
-        candidates: Candidates::Empty,
-        square: 0.0,
-        limit: search_r * search_r,
-    };
-    let mut from = 0usize;
-    while let Some(k) = scan.next_within(from, found.limit) {
-        found = scan.keep_corner(found, k);
-        from = k + 1;
-    }
-    found.candidates
 }
 
 // The quotient of the two first distances: ambiguous if second/first is below the factor, else the first corner.
@@ -276,6 +281,7 @@ pub fn choose_unambiguous(candidates: Candidates, ambiguity_factor: f32) -> Cand
 }
 
 // A distance, raised to at least 2^-23.
+// Stays: of two equal numbers `max` promises either, and two equal floats are not known to be the same value.
 fn raise(d: f32) -> f32
     ensures { result ≡ raised d }
 {

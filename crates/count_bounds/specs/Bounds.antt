@@ -11,7 +11,8 @@ use Rattle.passes.specs.declared.GrowStats.{GrowStats}
 use Rattle.passes.specs.declared.FillStats.{FillStats}
 use Rattle.passes.specs.declared.LocalStats.{LocalStats}
 use Rattle.passes.specs.Step.{lent_of}
-use Rattle.passes.specs.Run.{Call, PassStats, grow_stats, fill_stats, local_stats}
+use Rattle.passes.specs.Run.{Call}
+use Rattle.passes.specs.declared.PassStats.{PassStats}
 use Rattle.invariants.specs.Calls.{after_call}
 
 -- no count is above m
@@ -38,10 +39,10 @@ FewUnmatched m (Some n) = n ≤ m
 
 -- what a pass says: at most 64 rounds of 16,384 cells, a finite residual, and at most 1,024 corners passed over at each of these cells
 pub data Small : PassStats → Type 0 where
-  small_grow : {s : GrowStats} → FewCounts 1048576 s.counts → Small (grow_stats s)
-  small_fill : {s : FillStats} → s.added ≤ 1048576 → s.iterations ≤ 64 → Small (fill_stats s)
+  small_grow : {s : GrowStats} → FewCounts 1048576 s.counts → Small (PassStats.Grow s)
+  small_fill : {s : FillStats} → s.added ≤ 1048576 → s.iterations ≤ 64 → Small (PassStats.Fill s)
   small_local : {s : LocalStats} → FewCounts 1048576 s.counts → s.iterations ≤ 64 → FiniteResidual s.residual → FewUnmatched 1073741824 s.unmatched
-      → Small (local_stats s)
+      → Small (PassStats.Local s)
 
 -- so it is for every call that is not refused
 abbrev pub SmallAnswers : Type 0

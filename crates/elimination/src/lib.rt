@@ -13,7 +13,8 @@ ghost use Rattle.elimination.specs.Tables.{every};
 ghost use Rattle.elimination.specs.Rounded.{magnitude};
 ghost use Rattle.elimination.specs.Solve.{entry, largest, pivoted, gained, cleared, eliminated, right_sides, carried, answered, nonzero_diagonal, finite_matrix, finite_answers, solved};
 
-// A value without its sign: what is below zero is negated. `abs` would make 0 of -0.
+// A value without its sign: what is below zero is negated.
+// Stays: `abs` would make 0 of -0, and so give a pivot of -0 another sign than 01's fit has.
 pub fn magnitude(x: f32) -> f32
     ensures { result ≡ magnitude x }
 {
@@ -33,7 +34,7 @@ fn pivot(m: &[[f32; 9]; 8], k: usize) -> usize
     ensures { (result ≡ largest m.now k (7 - k)) × (result < 8) }
 {
     let mut b = k;
-    // A `fold` would have to show of its own that row b is one of the eight.
+    // Stays: a `fold` would have to show of its own that row b is one of the eight, by clauses on its closure that are longer than the loop.
     for i in k + 1..8usize {
         b = larger(b, m[b][k], i, m[i][k]);
     }
@@ -45,7 +46,7 @@ fn gain(r: &mut [f32; 9], p: &[f32; 9], w: f32, k: usize)
     requires { k < 8 }
     ensures { r.new ≡ gained r.old p.now w k }
 {
-    // By index: of what is written through `iter_mut` a proof knows no element.
+    // Stays: by index, since of what is written through `iter_mut` a proof knows no element.
     for j in k + 1..9usize {
         r[j] = r[j] + w * (-p[j]);
     }
@@ -58,7 +59,7 @@ fn clear(m: &mut [[f32; 9]; 8], k: usize)
 {
     let p = m[k];
     let w = 1.0 / p[k];
-    // By index, as in `gain`.
+    // Stays: by index, as in `gain`.
     for i in k + 1..8usize {
         let x = m[i][k] * w;
         gain(&mut m[i], &p, x, k);
@@ -71,7 +72,7 @@ fn column(m: &mut [[f32; 9]; 8], k: usize)
     ensures { m.new ≡ cleared (pivoted m.old k) k }
 {
     let b = pivot(m, k);
-    // The slice's `swap` takes 50 instructions more a fit.
+    // Stays: the slice's `swap` takes 50 instructions more a fit.
     let r = m[k];
     let t = m[b];
     m[k] = t;
@@ -79,8 +80,8 @@ fn column(m: &mut [[f32; 9]; 8], k: usize)
     clear(m, k);
 }
 
-// All eight columns, one after the other. They are written out so that the compiler has each with its number: as a loop a fit takes 3,900
-// instructions and not 2,700.
+// All eight columns, one after the other.
+// Stays: they are written out so that the compiler has each with its number; as a loop a fit takes 3,900 instructions and not 2,700.
 fn eliminate(m: &mut [[f32; 9]; 8])
     ensures { m.new ≡ eliminated 8 m.old }
 {
@@ -111,7 +112,7 @@ fn carry(m: &[[f32; 9]; 8], b: &mut [f32; 8], k: usize)
     ensures { b.new ≡ carried m.now b.old k }
 {
     let x = b[k] / m[k][k];
-    // By index, as in `gain`.
+    // Stays: by index, as in `gain`.
     for i in 0..k {
         b[i] = b[i] + (-x) * m[i][k];
     }
@@ -123,6 +124,7 @@ fn substitute(m: &[[f32; 9]; 8]) -> [f32; 8]
     ensures { result ≡ answered 8 m.now }
 {
     let mut b = right_sides(m);
+    // Stays: each answer is carried into the rows above it by its number; a chain would only be this `for` as a `for_each`.
     for k in (0..8usize).rev() {
         carry(m, &mut b, k);
     }

@@ -9,9 +9,7 @@ use native.Mathlib.Omega.{arith}
 use lib.Ieee.{Float}
 use Rattle.sheet.specs.Shades.{kind_at, takes_kind, takes, shades_in}
 use Rattle.sheet.proofs.Shades.{takes_every}
-use Rattle.sheet.specs.Corners.{Corners, corners_in, seen_of, Given}
-use Rattle.sheet.specs.Cells.{OnSheet}
-use Rattle.sheet.proofs.Corners.{given_more}
+use Rattle.sheet.specs.Corners.{Corners, corners_in, seen_of}
 use Rattle.sheet.specs.declared.Cell.{Cell}
 use Rattle.sheet.specs.declared.Corner.{Corner}
 use Rattle.sheet.specs.declared.Position.{Position}
@@ -92,17 +90,12 @@ chosen ChoiceRule.WithFloor cs sheet radius factor c p k e =
     chosen_with_floor (λ k. (cs.corner k).position) (eligible (unlabelled_on sheet) (takes cs.shades c)) cs.count p radius factor k e
 
 -- what was gathered is a choice among the corners that are held
-pub choosable : (cs : Corners) (sheet : List ℕ) (c : Cell) (search : Search) (p : Position) (candidates : Candidates) → cs.count ≤ 1024 → Given cs.count sheet → OnSheet c
-    → candidates ≡ gathered cs sheet search.search_r c p → Choosable sheet c search candidates
-choosable cs sheet c search p candidates few given on are =
-    record {
-      given = given_more few given;
-      on = on;
-      there =
-          λ k e.
-          let g = chosen search.rule cs sheet search.search_r search.ambiguity_factor c p k (subst (λ (g : Candidates). choice_by search.rule g search.ambiguity_factor ≡ CandidateChoice.Unique k) are e) in
-          lt_of_lt_of_le g.there few;
-    }
+pub choosable : (cs : Corners) (sheet : List ℕ) (c : Cell) (search : Search) (p : Position) (candidates : Candidates) → cs.count ≤ 1024
+    → candidates ≡ gathered cs sheet search.search_r c p → Choosable search candidates
+choosable cs sheet c search p candidates few are =
+    λ k e.
+    let g = chosen search.rule cs sheet search.search_r search.ambiguity_factor c p k (subst (λ (g : Candidates). choice_by search.rule g search.ambiguity_factor ≡ CandidateChoice.Unique k) are e) in
+    lt_of_lt_of_le g.there few
 
 both_true : (unlabelled taken : ℕ → Bool) (k : ℕ) → eligible unlabelled taken k ≡ true → (unlabelled k ≡ true) × (taken k ≡ true)
 unfolding eligible

@@ -1,13 +1,12 @@
 -- What trying a cell at a prediction finds, for all three passes (document 01, "Candidates and choice" and "Edge"). Definitions only.
-use Rattle.std.specs.Prelude.{◌≡◌, Bool, not, cond, List, ℕ, ◌≤◌, ◌<◌, Float}
+use Rattle.std.specs.Prelude.{◌≡◌, Bool, not, cond, List, ℕ, ◌<◌, Float}
 use Rattle.sizes.specs.Sizes.{corner_limit}
-use Rattle.sheet.specs.Cells.{OnSheet}
 use Rattle.sheet.specs.Shades.{takes}
-use Rattle.sheet.specs.Corners.{Corners, seen_of, Given}
+use Rattle.sheet.specs.Corners.{Corners, seen_of}
 use Rattle.sheet.specs.declared.Cell.{Cell}
 use Rattle.sheet.specs.declared.Corner.{Corner}
 use Rattle.sheet.specs.declared.Position.{Position}
-use Rattle.labels.specs.Used.{used_on, Tied}
+use Rattle.labels.specs.Used.{used_on}
 use Rattle.candidates.specs.Candidates.{eligible, candidates_at, first_two}
 use Rattle.candidates.specs.Choice.{choose_unambiguous, choose_with_floor}
 use Rattle.candidates.specs.declared.Candidates.{Candidates}
@@ -55,21 +54,6 @@ try_at cs sheet tol search c prediction =
 
 -- ---- what the functions ask
 
--- at most 1,024 corners, a sheet that names no other, an array that says which are used, and a cell of the sheet
-pub record Ready (n : ℕ) (sheet used : List ℕ) (c : Cell) : Type 0 where
-  pub given : Given n sheet
-  pub few : n ≤ corner_limit
-  pub tied : Tied sheet used
-  pub on : OnSheet c
-
--- candidates of which none but a corner that is held can be chosen, for a cell of the sheet
-pub record Choosable (sheet : List ℕ) (c : Cell) (search : Search) (candidates : Candidates) : Type 0 where
-  pub given : Given corner_limit sheet
-  pub on : OnSheet c
-  pub there : (k : ℕ) → choice_by search.rule candidates search.ambiguity_factor ≡ CandidateChoice.Unique k → k < corner_limit
-
--- a corner that was chosen among those held, at a cell of the sheet
-pub record Chosen (sheet : List ℕ) (c : Cell) (k : ℕ) : Type 0 where
-  pub given : Given corner_limit sheet
-  pub on : OnSheet c
-  pub there : k < corner_limit
+-- candidates of which none but a corner that is held can be chosen
+abbrev pub Choosable : Search → Candidates → Type 0
+Choosable search candidates = (k : ℕ) → choice_by search.rule candidates search.ambiguity_factor ≡ CandidateChoice.Unique k → k < corner_limit

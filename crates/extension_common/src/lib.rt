@@ -3,20 +3,35 @@
 
 #![tactic(auto)]
 
-ghost use Rattle.std.specs.Prelude.{◌≡◌};
-ghost use Rattle.sheet.specs.Corners.{corner_in, corners_in};
-ghost use Rattle.extension_common.specs.TryCell.{try_at, Ready, Choosable, Chosen, edges_of, choice_by, result_of};
+ghost use Rattle.std.specs.Prelude.{◌≡◌, ◌<◌};
+ghost use Rattle.sizes.specs.Sizes.{corner_limit};
+ghost use Rattle.sheet.specs.Cells.{OnSheet};
+ghost use Rattle.sheet.specs.Corners.{corner_in, corners_in, Given};
+ghost use Rattle.labels.specs.Used.{Tied};
+ghost use Rattle.extension_common.specs.TryCell.{gathered, try_at, Choosable, edges_of, choice_by, result_of};
 
-use candidates::{CandidateChoice, Candidates};
+use candidates::{CandidateChoice, Candidates, HeldCorners, Scan};
 use positions_policy::Tolerances;
 use sheet::{Cell, Position};
-use sizes::CORNERS;
 
 // Which rule of choice: grow's, or fill's and local's.
 #[derive(Clone, Copy)]
 pub enum ChoiceRule {
     Unambiguous,
     WithFloor,
+}
+
+impl ChoiceRule {
+    // The choice among candidates, by this rule.
+    #[tactic(auto, unfolding(crate::specs::TryCell::choice_by))]
+    pub fn choose(self, candidates: Candidates, factor: f32) -> CandidateChoice
+        ensures { result ≡ choice_by self candidates factor }
+    {
+        match self {
+            ChoiceRule::Unambiguous => candidates::choose_unambiguous(candidates, factor),
+            ChoiceRule::WithFloor => candidates::choose_with_floor(candidates, factor),
+        }
+    }
 }
 
 // How a cell is searched: the radius, the ambiguity factor, and the rule of choice.
@@ -28,6 +43,7 @@ pub struct Search {
 }
 
 // What trying a cell finds.
+// Stays: these are the specification's four outcomes of a cell, and each is counted for itself.
 #[derive(Clone, Copy)]
 pub enum TryCellResult {
     NoCandidates,
@@ -37,74 +53,72 @@ pub enum TryCellResult {
     Attached(usize),
 }
 
-// The choice among candidates, by either rule.
-#[tactic(auto, unfolding(crate::specs::TryCell::choice_by))]
-pub fn choose(rule: ChoiceRule, candidates: Candidates, factor: f32) -> CandidateChoice
-    ensures { result ≡ choice_by rule candidates factor }
-{
-    match rule {
-        ChoiceRule::Unambiguous => candidates::choose_unambiguous(candidates, factor),
-        ChoiceRule::WithFloor => candidates::choose_with_floor(candidates, factor),
-    }
+// A cell that is tried: the corners that are held, the sheet whose labels name them, how the cell is searched, and its edges' tolerances.
+#[derive(Clone, Copy)]
+pub struct Trial<'a> {
+    pub held: HeldCorners<'a>,
+    pub sheet: &'a [u16],
+    pub c: Cell,
+    pub search: Search,
+    pub tol: Tolerances,
+    ghost given: { Given corner_limit sheet.now },
+    ghost on: { OnSheet c },
 }
 
-// Tries a cell at a prediction: no candidate, an ambiguous choice, edges that refuse the chosen corner, or the corner to attach.
-pub fn try_attach_at_cell(
-    corners: &[f32; 4 * CORNERS],
-    count: usize,
-    sheet: &[u16],
-    used: &[u8; CORNERS],
-    c: Cell,
-    prediction: Position,
-    search: Search,
-    tol: Tolerances,
-) -> TryCellResult
-    requires { Ready count sheet.now used.now c }
-    ensures { result ≡ try_at (corners_in corners.now count) sheet.now tol search c prediction }
-{
-    let radius = search.search_r;
-    let kind = sheet::kind_at(c);
-    let candidates = candidates::collect_candidates(corners, count, used, kind, prediction, radius);
-    try_candidates(corners, sheet, c, candidates, search, tol)
-}
-
-// Tries a cell with the candidates that were gathered at its prediction.
-pub fn try_candidates(
-    corners: &[f32; 4 * CORNERS],
-    sheet: &[u16],
-    c: Cell,
-    candidates: Candidates,
-    search: Search,
-    tol: Tolerances,
-) -> TryCellResult
-    requires { Choosable sheet.now c search candidates }
-    ensures { result ≡ result_of (corner_in corners.now) sheet.now tol c
-        (choice_by search.rule candidates search.ambiguity_factor) }
-{
-    let rule = search.rule;
-    let choice = choose(rule, candidates, search.ambiguity_factor);
-    match choice {
-        CandidateChoice::Nothing => TryCellResult::NoCandidates,
-        CandidateChoice::Ambiguous => TryCellResult::Ambiguous,
-        CandidateChoice::Unique(k) => try_edges(corners, sheet, c, k, tol),
+impl<'a> Trial<'a> {
+    // The candidates at a prediction: those corners that no cell holds and that the cell takes.
+    pub fn gather(&self, prediction: Position) -> Candidates
+        requires { Tied self.now.sheet.now self.now.held.used.now }
+        ensures { result ≡ gathered (corners_in self.now.held.corners.now self.now.held.count) self.now.sheet.now self.now.search.search_r self.now.c
+            prediction }
+    {
+        let scan = Scan {
+            held: self.held,
+            kind: sheet::kind_at(self.c),
+            prediction,
+        };
+        scan.collect_candidates(self.search.search_r)
     }
-}
 
-// The edges of a chosen corner: it does not pass, or it is to be attached.
-fn try_edges(
-    corners: &[f32; 4 * CORNERS],
-    sheet: &[u16],
-    c: Cell,
-    k: usize,
-    tol: Tolerances,
-) -> TryCellResult
-    requires { Chosen sheet.now c k }
-    ensures { result ≡ edges_of (corner_in corners.now) sheet.now tol c k }
-{
-    let candidate = sheet::corner_at(corners, k);
-    let verdict = positions_policy::any_cardinal_edge_ok(corners, sheet, c, candidate, tol);
-    if !positions_policy::passes(verdict) {
-        return TryCellResult::EdgeRejected;
+    // Tries the cell at a prediction: no candidate, an ambiguous choice, edges that refuse the chosen corner, or the corner to attach.
+    pub fn try_attach_at_cell(&self, prediction: Position) -> TryCellResult
+        requires { Tied self.now.sheet.now self.now.held.used.now }
+        ensures { result ≡ try_at (corners_in self.now.held.corners.now self.now.held.count) self.now.sheet.now self.now.tol self.now.search self.now.c
+            prediction }
+    {
+        let candidates = self.gather(prediction);
+        self.try_candidates(candidates)
     }
-    TryCellResult::Attached(k)
+
+    // Tries the cell with the candidates that were gathered at its prediction.
+    pub fn try_candidates(&self, candidates: Candidates) -> TryCellResult
+        requires { Choosable self.now.search candidates }
+        ensures { result ≡ result_of (corner_in self.now.held.corners.now) self.now.sheet.now self.now.tol self.now.c
+            (choice_by self.now.search.rule candidates self.now.search.ambiguity_factor) }
+    {
+        let search = self.search;
+        let choice = search.rule.choose(candidates, search.ambiguity_factor);
+        match choice {
+            CandidateChoice::Nothing => TryCellResult::NoCandidates,
+            CandidateChoice::Ambiguous => TryCellResult::Ambiguous,
+            CandidateChoice::Unique(k) => self.try_edges(k),
+        }
+    }
+
+    // The edges of a chosen corner: it does not pass, or it is to be attached.
+    fn try_edges(&self, k: usize) -> TryCellResult
+        requires { k < corner_limit }
+        ensures { result ≡ edges_of (corner_in self.now.held.corners.now) self.now.sheet.now self.now.tol self.now.c k }
+    {
+        let corners = self.held.corners;
+        let candidate = sheet::corner_at(corners, k);
+        let verdict = positions_policy::any_cardinal_edge_ok(
+            corners, self.sheet, self.c, candidate, self.tol,
+        );
+        if positions_policy::passes(verdict) {
+            TryCellResult::Attached(k)
+        } else {
+            TryCellResult::EdgeRejected
+        }
+    }
 }

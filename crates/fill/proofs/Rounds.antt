@@ -20,7 +20,6 @@ use Rattle.passes.specs.Outcome.{done}
 use Rattle.passes.specs.Fill.{FillState, FillRounds, fill_pass, fill_round, fill_from, fill_limit, fill_run, fill_after}
 use Rattle.passes.specs.Step.{FillOut, fill_step, fill_out, fill_leaves, lent_of, rooms}
 use Rattle.passes.specs.Said.{fill_values, fill_said, outcome_due}
-use Rattle.passes.specs.declared.FillAnswer.{FillAnswer}
 use Rattle.passes.proofs.Rounds.{Remaining, remaining_all, remaining_none, remaining_last, remaining_more}
 use Rattle.passes.proofs.Said.{fill_said_lem}
 use Rattle.passes.specs.declared.FillStats.{FillStats}
@@ -91,7 +90,7 @@ module _ (corners : CornerLists) (shades sheet list : List ℕ) (set : Settings)
   pub pass_done : {before after : Filling} → held before ≡ corners_of corners shades → before.setup.settings ≡ set → before.setup.params ≡ p → before.sheet.now ≡ sheet → before.attached.now ≡ list → before.made ≡ 0
       → {limit rounds : ℕ} → limit ≡ fill_limit (label_count sheet) p.max_iters → RoundsLeft before after rounds (fill_from (held before) before.setup.settings before.setup.params limit (start_of before))
       → {stats : FillStats} → stats ≡ stats_of after rounds → {s l : List ℕ} → s ≡ after.sheet.now → l ≡ after.attached.now
-      → fill_out (FillAnswer.Done stats) s l ≡ fill_leaves (done (fill_after (corners_of corners shades) set p sheet)) sheet list
+      → fill_out (Ok stats) s l ≡ fill_leaves (done (fill_after (corners_of corners shades) set p sheet)) sheet list
   unfolding fill_after fill_run
   pass_done {before} {after} cs e m sh li z {limit} {rounds} lim l st es el =
       let run : fill_from (held before) before.setup.settings before.setup.params limit (start_of before) ≡ fill_run (corners_of corners shades) set p sheet = rw (cs, e, m, sh, li, z, lim) in
@@ -111,12 +110,12 @@ module _ (corners : CornerLists) (shades sheet list : List ℕ) (set : Settings)
   -- its check refuses it, or lets it pass
   module _ (check : Checked) (is : check ≡ checked (lent_of corners shades sheet (rooms 0 (length list))) set (Pass.Fill p)) where
     leaves_refused : (r : Refusal) → check ≡ Err r
-        → fill_out (FillAnswer.Refused r) sheet list
+        → fill_out (Err r) sheet list
         ≡ fill_leaves (fill_step corners shades sheet set p (rooms 0 (length list))) sheet list
     unfolding fill_step
     leaves_refused r e = rw (← is, e)
 
-    pub call_refused : (r : Refusal) → check ≡ Err r → Promised (fill_out (FillAnswer.Refused r) sheet list)
+    pub call_refused : (r : Refusal) → check ≡ Err r → Promised (fill_out (Err r) sheet list)
     call_refused r e = promised (leaves_refused r e)
 
     module _ (e : check ≡ Ok tt) where

@@ -3,7 +3,7 @@
 
 #![tactic(auto)]
 
-ghost use Rattle.std.specs.Prelude.{◌≡◌, ◌≤◌, ◌&&◌, length};
+ghost use Rattle.std.specs.Prelude.{◌≡◌, ◌≤◌, ◌&&◌, length, Ok};
 ghost use Rattle.sizes.specs.Sizes.{corner_limit};
 ghost use Rattle.sheet.specs.Corners.{Given, corner_lists};
 ghost use Rattle.labels.specs.Labelled.{label_count};
@@ -18,10 +18,12 @@ ghost use Rattle.passes.specs.Said.{fill_values, fill_said, outcome_due};
 ghost use Rattle.region.specs.Small.{SmallBounds, SmallBox};
 
 use arguments::{FillParams, Pass, Settings};
-use extension_common::{ChoiceRule, Search, TryCellResult};
+use candidates::HeldCorners;
+use extension_common::{ChoiceRule, Search, Trial, TryCellResult};
 use labels::Bounds;
-use passes::{FillAnswer, FillStats};
+use passes::FillStats;
 use positions_policy::Tolerances;
+use refusal::Refusal;
 use sheet::Cell;
 use sizes::{CORNERS, PLACES};
 
@@ -128,16 +130,20 @@ impl<'a> Filling<'a> {
         );
         match prediction {
             None => TryCellResult::NoCandidates,
-            Some(at) => extension_common::try_attach_at_cell(
-                self.corners,
-                self.count,
-                self.sheet,
-                &self.used,
-                c,
-                at,
-                setup.search(),
-                setup.tolerances(),
-            ),
+            Some(at) => {
+                let trial = Trial {
+                    held: HeldCorners {
+                        corners: self.corners,
+                        count: self.count,
+                        used: &self.used,
+                    },
+                    sheet: self.sheet,
+                    c,
+                    search: setup.search(),
+                    tol: setup.tolerances(),
+                };
+                trial.try_attach_at_cell(at)
+            }
         }
     }
 
@@ -201,6 +207,7 @@ impl<'a> Filling<'a> {
         ensures { RoundsLeft self.old self.new result
             (fill_from (held self.old) self.old.setup.settings self.old.setup.params limit (start_of self.old)) }
     {
+        // Stays: a round that attaches nothing ends the walk, and the number of rounds is the answer.
         for walked in 0..limit {
             let before = self.made;
             self.fill_round();
@@ -236,7 +243,7 @@ fn fill_accepted(
 ) -> FillStats
     requires { Accepted (lent_of (corner_lists xs.now ys.now pitches.now) shades.now sheet.old (rooms 0 (length attached.old)))
         settings (Pass.Fill params) }
-    ensures { fill_out (FillAnswer.Done result) sheet.new attached.new
+    ensures { fill_out (Ok result) sheet.new attached.new
         ≡ fill_leaves (done (fill_after (corners_of (corner_lists xs.now ys.now pitches.now) shades.now)
         settings params sheet.old)) sheet.old attached.old }
 {
@@ -262,6 +269,7 @@ fn fill_accepted(
 // corner of the cell's kind where one is found; a round that attaches nothing is the last. The attached list holds the new cells' places in order at its front,
 // its rest untouched; no mark changes. The answer has the number of new cells, the number of rounds, and the rim. A refused call changes
 // nothing and answers why. `said` is the same answer in 01's number or values.
+// Stays: the public calls of the passes lend slice by slice, as 01 has it and as the C interface does.
 pub fn fill_grid_holes(
     xs: &[f32],
     ys: &[f32],
@@ -271,14 +279,14 @@ pub fn fill_grid_holes(
     attached: &mut [u16],
     settings: Settings,
     params: FillParams,
-) -> FillAnswer
+) -> Result<FillStats, Refusal>
     ensures attached_after { fill_out result sheet.new attached.new
         ≡ fill_leaves (fill_step (corner_lists xs.now ys.now pitches.now) shades.now sheet.old
         settings params (rooms 0 (length attached.old))) sheet.old attached.old }
     ensures said { fill_said result ≡ outcome_due fill_values (fill_step (corner_lists xs.now ys.now pitches.now)
         shades.now sheet.old settings params (rooms 0 (length attached.old))) }
 {
-    let checked = arguments::check_arguments(
+    arguments::check_arguments(
         xs,
         ys,
         pitches,
@@ -288,9 +296,6 @@ pub fn fill_grid_holes(
         attached.len(),
         settings,
         Pass::Fill(params),
-    );
-    if let Err(refusal) = checked {
-        return FillAnswer::Refused(refusal);
-    }
-    FillAnswer::Done(fill_accepted(xs, ys, pitches, shades, sheet, attached, settings, params))
+    )?;
+    Ok(fill_accepted(xs, ys, pitches, shades, sheet, attached, settings, params))
 }

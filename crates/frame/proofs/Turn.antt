@@ -32,7 +32,7 @@ use Rattle.frame_line.proofs.Laws.{line_prints_back}
 use Rattle.frame_line.proofs.Checking.{no_row}
 use Rattle.sizes.specs.Sizes.{corner_limit, place_count}
 use Rattle.frame_check.specs.Checks.{is_set, checked_held}
-use Rattle.frame_state.specs.State.{Arrays, arrays, State, state, Addable, adds}
+use Rattle.frame_state.specs.State.{Arrays, State, state, Addable, adds}
 use Rattle.frame_state.specs.declared.Progress.{Progress}
 use Rattle.frame.specs.Frame.{Frame, Parts, added, parts_from, no_parts, parts_of, checked_line, placed, first_set, second_set, join_if, join_of, labels_in, given_of, patch_line, FrameRead, refused_at, Step, stopped, onward, step_by, step_with, step_line, finish_by, finish, at_end, going, read_lines}
 use Rattle.frame.specs.ReadFrame.{sheet_of}

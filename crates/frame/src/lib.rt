@@ -9,7 +9,8 @@ ghost use Rattle.frame_line.specs.Lines.{read_line};
 ghost use Rattle.frame_line.specs.Held.{held_read};
 ghost use Rattle.line_form.specs.Lines.{lines_of};
 ghost use Rattle.join_sheet.specs.Held.{held_labels};
-ghost use Rattle.frame_state.specs.State.{nothing_said, state};
+ghost use Rattle.frame_check.specs.Checks.{checked_held, LineFits};
+ghost use Rattle.frame_state.specs.State.{nothing_said, state, Addable, adds};
 ghost use Rattle.arguments.specs.Front.{over};
 ghost use Rattle.frame.specs.Frame.{no_parts, read_lines};
 ghost use Rattle.frame.specs.ReadFrame.{frame_out, leaves, read_into};
@@ -17,6 +18,8 @@ ghost use Rattle.frame.specs.Said.{frame_said, frame_due};
 ghost use Rattle.frame.specs.Reading.{arrays_in, on_sheet_of, FrameHeld, Room, went, held_step, Finishable, finished, finish_on, ReadAs, buffers, LongEnough};
 
 use arguments::Settings;
+use frame_check::Said;
+use frame_line::HeldLine;
 use frame_state::Progress;
 use refusal::Refusal;
 use sizes::{ALL_PASS_WORDS, BYTES, CORNERS, PASS_WORDS, PLACES, SECOND, USED};
@@ -49,6 +52,44 @@ struct Held {
     passes: [u32; ALL_PASS_WORDS],
 }
 
+impl Held {
+    // All checks of a line in its turn, against what was said before it.
+    fn check(&self, p: Progress, line: HeldLine) -> Result<(), Refusal>
+        requires { LineFits p.corners p.second line }
+        ensures { result ≡ checked_held p.corners p.passes p.patched self.now.shades self.now.sheet self.now.used self.now.second p.second line }
+    {
+        let said = Said {
+            corners: p.corners,
+            passes: p.passes,
+            patched: p.patched,
+            shades: &self.shades,
+            sheet: &self.sheet,
+            used: &self.used,
+            second: &self.second,
+            labels: p.second,
+        };
+        said.check_line(line)
+    }
+
+    // A line that passed its checks is added.
+    fn add(&mut self, p: Progress, line: HeldLine) -> Progress
+        requires { Addable p (arrays_in self.old) line }
+        ensures { state result (arrays_in self.new) ≡ adds line (state p (arrays_in self.old)) }
+    {
+        let mut parts = frame_state::Parts {
+            xs: &mut self.xs,
+            ys: &mut self.ys,
+            pitches: &mut self.pitches,
+            shades: &mut self.shades,
+            sheet: &mut self.sheet,
+            used: &mut self.used,
+            second: &mut self.second,
+            passes: &mut self.passes,
+        };
+        parts.add_line(p, line)
+    }
+}
+
 // One line is read and checked in its turn, and added if it is fine.
 #[tactic(auto, using(crate::proofs::Turn::step_row, crate::proofs::Turn::step_addable), unfolding(crate::specs::Reading::held_step))]
 fn step_line(p: Progress, held: &mut Held, line: &[u8]) -> Result<Progress, Refusal>
@@ -59,36 +100,10 @@ fn step_line(p: Progress, held: &mut Held, line: &[u8]) -> Result<Progress, Refu
     let found = frame_line::read_line(line);
     match frame_line::turn_at(p.stage, found.row) {
         None => Err(Refusal::Malformed),
-        Some(stage) => {
-            match frame_check::check_line(
-                p.corners,
-                p.passes,
-                p.patched,
-                &held.shades,
-                &held.sheet,
-                &held.used,
-                &held.second,
-                p.second,
-                found,
-            ) {
-                Err(refusal) => Err(refusal),
-                Ok(()) => {
-                    let next = frame_state::add_line(
-                        p,
-                        &mut held.xs,
-                        &mut held.ys,
-                        &mut held.pitches,
-                        &mut held.shades,
-                        &mut held.sheet,
-                        &mut held.used,
-                        &mut held.second,
-                        &mut held.passes,
-                        found,
-                    );
-                    Ok(frame_state::at_stage(next, stage))
-                }
-            }
-        }
+        Some(stage) => match held.check(p, found) {
+            Err(refusal) => Err(refusal),
+            Ok(()) => Ok(frame_state::at_stage(held.add(p, found), stage)),
+        },
     }
 }
 
@@ -141,7 +156,7 @@ fn copy_front<T: Copy>(from: &[T], to: &mut [T])
 }
 
 // A text that is not too long, with buffers that are long enough.
-// Each buffer is lent by itself, as the C interface lends it.
+// Stays: each buffer is lent by itself, as the C interface lends it (a).
 fn read_text(
     text: &[u8],
     xs: &mut [f32],
@@ -184,7 +199,7 @@ fn read_text(
 // a byte each (0 none, 1 kind 0, 2 kind 1), the sheet of its given labels, joined where there are two sets, to the first 16,384 places of the
 // fifth, and its passes, six words each, to the front of the last; the rest of them stays. A refused one writes nothing, and the answer has the
 // refusal and the line, 0 where it is about no line. `said` is the same answer in 01's number with the line, or values.
-// Each buffer is lent by itself, as the C interface lends it.
+// Stays: each buffer is lent by itself, as the C interface lends it (a).
 #[tactic(auto, using(crate::proofs::Leaving::long_enough, crate::proofs::Leaving::due_said), unfolding(crate::specs::ReadFrame::read_into, crate::specs::Frame::read_frame))]
 pub fn read_frame(
     text: &[u8],

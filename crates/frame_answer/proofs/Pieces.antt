@@ -8,7 +8,7 @@ use borrow.Author.Tests.{ltb-true, ltb-false}
 use lib.Dec.{ltb}
 use lib.ListN.{length}
 use Rattle.refusal.specs.declared.Refusal.{Refusal}
-use Rattle.passes.specs.Run.{PassStats}
+use Rattle.passes.specs.declared.PassStats.{PassStats}
 use Rattle.frame.specs.Frame.{Frame, FrameRead, refused_at, accepted, read_frame}
 use Rattle.report_line.specs.Result.{lines_from, result_line, line_count, result_from, result_piece}
 use Rattle.report.proofs.Laws.{from_the_start, piece_joins, piece_moves}

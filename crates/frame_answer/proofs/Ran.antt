@@ -22,7 +22,8 @@ use Rattle.passes.specs.declared.Counts.{Counts}
 use Rattle.passes.specs.declared.LocalStats.{LocalStats}
 use Rattle.passes.specs.Outcome.{After, Outcome, refused, done}
 use Rattle.passes.specs.Step.{unless}
-use Rattle.passes.specs.Run.{Call, PassStats, grow_stats, fill_stats, local_stats, step, sheet_after, run, sheet_of as sheetAfterAll}
+use Rattle.passes.specs.Run.{Call, step, sheet_after, run, sheet_of as sheetAfterAll}
+use Rattle.passes.specs.declared.PassStats.{PassStats}
 use Rattle.invariants.specs.Calls.{Standing, checked_call, after_call}
 use Rattle.invariants.proofs.Run.{step_as_lem, call_accepted, standing_after_lem}
 use Rattle.frame_line.specs.Lines.{PassLine}
@@ -197,26 +198,26 @@ module _ (before after : List ℕ) (k : ℕ) (long : length before ≡ 11 * k) w
 
   outcome_tame : (s : PassStats) → Small s → Tame (before ++ (outcome_words s ++ after)) k
   unfolding outcome_words
-  outcome_tame (grow_stats s) (small_grow w) =
+  outcome_tame (PassStats.Grow s) (small_grow w) =
       tame_counts _ k s.counts 0 0 s.rim w (omega arith) (omega arith) (at 0) (at 1) (at 2) (at 3) (at 4) (at 5) (omega (arith, at 6)) (λ h. absurd (omega (arith, h, at 6))) (at 8)
       None tt (at 9) (at 10) (λ e. absurd (omega arith))
     where
-      at : (m : ℕ) → word_at (before ++ (outcome_words (grow_stats s) ++ after)) k m ≡ get_or (outcome_words (grow_stats s) ++ after) m 0
-      at m = behind before (outcome_words (grow_stats s) ++ after) (11 * k) m long
-  outcome_tame (fill_stats s) (small_fill w r) =
+      at : (m : ℕ) → word_at (before ++ (outcome_words (PassStats.Grow s) ++ after)) k m ≡ get_or (outcome_words (PassStats.Grow s) ++ after) m 0
+      at m = behind before (outcome_words (PassStats.Grow s) ++ after) (11 * k) m long
+  outcome_tame (PassStats.Fill s) (small_fill w r) =
       tame_counts _ k (record { attached = s.added; rejected_no_candidate = 0; rejected_ambiguous = 0; rejected_edge = 0 }) s.iterations 1 s.rim
       (record { attached = w; no_candidate = omega arith; ambiguous = omega arith; edge = omega arith }) r (omega arith) (at 0) (at 1) (at 2) (at 3) (at 4) (at 5) (omega (arith, at 6)) (λ h. absurd (omega (arith, h, at 6))) (at 8)
       None tt (at 9) (at 10) (λ e. absurd (omega arith))
     where
-      at : (m : ℕ) → word_at (before ++ (outcome_words (fill_stats s) ++ after)) k m ≡ get_or (outcome_words (fill_stats s) ++ after) m 0
-      at m = behind before (outcome_words (fill_stats s) ++ after) (11 * k) m long
-  outcome_tame (local_stats s) (small_local w r q u) = local_tame s s.residual s.unmatched w r q u
+      at : (m : ℕ) → word_at (before ++ (outcome_words (PassStats.Fill s) ++ after)) k m ≡ get_or (outcome_words (PassStats.Fill s) ++ after) m 0
+      at m = behind before (outcome_words (PassStats.Fill s) ++ after) (11 * k) m long
+  outcome_tame (PassStats.Local s) (small_local w r q u) = local_tame s s.residual s.unmatched w r q u
 
 eleven_words : (s : PassStats) → length (outcome_words s) ≡ 11
 unfolding outcome_words
-eleven_words (grow_stats s) = refl
-eleven_words (fill_stats s) = refl
-eleven_words (local_stats s) = go s.residual s.unmatched
+eleven_words (PassStats.Grow s) = refl
+eleven_words (PassStats.Fill s) = refl
+eleven_words (PassStats.Local s) = go s.residual s.unmatched
   where
     go : (x : Option Float) (u : Option ℕ) → length (local_words s x u) ≡ 11
     go None None = refl
@@ -225,9 +226,9 @@ eleven_words (local_stats s) = go s.residual s.unmatched
     go (Some x) (Some n) = refl
 
 is_float : (s : PassStats) → Small s → IsFloat s
-is_float (grow_stats s) w = tt
-is_float (fill_stats s) w = tt
-is_float (local_stats s) (small_local w r q u) = go s.residual q
+is_float (PassStats.Grow s) w = tt
+is_float (PassStats.Fill s) w = tt
+is_float (PassStats.Local s) (small_local w r q u) = go s.residual q
   where
     go : (x : Option Float) → FiniteResidual x → FloatOrNone x
     go None h = tt

@@ -4,7 +4,7 @@ use mathlib.Core.List.{List}
 use Prim.Native.Nat.{ℕ}
 use native.Mathlib.Omega.{arith}
 use lib.ListN.{length}
-use Rattle.passes.specs.Run.{PassStats}
+use Rattle.passes.specs.declared.PassStats.{PassStats}
 use Rattle.report_line.specs.Result.{line_count}
 use Rattle.report_words.proofs.Outcomes.{stats_length}
 use Rattle.frame_answer.specs.Answer.{Lent, Recovers, recovers_not, recovers, answer_lines, answer_piece, held_lines, held_piece, CanSay, FewPasses, Says}

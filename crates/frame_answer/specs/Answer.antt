@@ -4,7 +4,8 @@ use Rattle.std.specs.Prelude.{◌≡◌, Bool, true, false, List, [], ◌∷◌,
 use Rattle.refusal.specs.declared.Refusal.{Refusal}
 use Rattle.arguments.specs.Arguments.{unknown_corner, doubled_corner}
 use Rattle.passes.specs.Outcome.{Outcome, refused, done}
-use Rattle.passes.specs.Run.{PassStats, run, sheet_of as sheetAfterAll}
+use Rattle.passes.specs.Run.{run, sheet_of as sheetAfterAll}
+use Rattle.passes.specs.declared.PassStats.{PassStats}
 use Rattle.frame.specs.Frame.{Frame, parts_of, FrameRead, refused_at, accepted, read_frame}
 use Rattle.frame.specs.ReadFrame.{sheet_of, Buffers}
 use Rattle.frame_laws.specs.Calls.{frame_corners, calls_of}

@@ -7,7 +7,7 @@ ghost use Rattle.labels.specs.Labelled.{any_below};
 ghost use Rattle.frame_line.specs.Table.{row_count, kind_at};
 ghost use Rattle.sizes.specs.Sizes.{corner_limit};
 ghost use Rattle.arguments.specs.Arguments.{refused_if};
-ghost use Rattle.frame_check.specs.Checks.{over_limit, has_place, label_twice, shade_twice, twice_held, checked_held, LabelFits, LineFits, NumbersFine};
+ghost use Rattle.frame_check.specs.Checks.{over_limit, has_place, label_twice, shade_twice, twice_held, checked_held, LabelFits, NumbersFine};
 
 use frame_line::{HeldLabel, HeldLine, HeldShade, Kind};
 use refusal::Refusal;
@@ -23,17 +23,18 @@ fn refuse_if(holds: bool, refusal: Refusal) -> Result<(), Refusal>
 // What the lines before said that a line is checked against: how many corners and passes there are, whether the patch line stands, the shades (0 where
 // none stands yet), the sheet of the first set, the corners used, and the labels of the second set, of which there are `labels`.
 #[derive(Clone, Copy)]
-struct Said<'a> {
-    corners: usize,
-    passes: usize,
-    patched: bool,
-    shades: &'a [u8; CORNERS],
-    sheet: &'a [u16; PLACES],
-    used: &'a [u8; USED],
-    second: &'a [u16; SECOND],
-    labels: usize,
-    ghost few: { corners ≤ corner_limit },
-    ghost labels_few: { labels ≤ corner_limit },
+pub struct Said<'a> {
+    pub corners: usize,
+    pub passes: usize,
+    // Stays: the count of the second set is read where no patch line stands too, as 0 (d).
+    pub patched: bool,
+    pub shades: &'a [u8; CORNERS],
+    pub sheet: &'a [u16; PLACES],
+    pub used: &'a [u8; USED],
+    pub second: &'a [u16; SECOND],
+    pub labels: usize,
+    pub ghost few: { corners ≤ corner_limit },
+    pub ghost labels_few: { labels ≤ corner_limit },
 }
 
 impl<'a> Said<'a> {
@@ -91,8 +92,8 @@ impl<'a> Said<'a> {
         }
     }
 
-    // All checks of a line, in order.
-    fn check(&self, line: HeldLine) -> Result<(), Refusal>
+    // All checks of a line in its turn, in order.
+    pub fn check_line(&self, line: HeldLine) -> Result<(), Refusal>
         requires { line.row < row_count }
         ensures { result ≡ checked_held self.now.corners self.now.passes self.now.patched self.now.shades.now self.now.sheet.now self.now.used.now
             self.now.second.now self.now.labels line }
@@ -108,34 +109,4 @@ impl<'a> Said<'a> {
         refuse_if(found.unknown_corner, Refusal::UnknownCorner)?;
         refuse_if(self.is_twice(line), Refusal::Duplicate)
     }
-}
-
-// All checks of a line in its turn, with the number of corners and of passes, whether the patch line stands, and the shades, the sheet of the first
-// set, the corners used and the labels of the second set, of which there are so many, so far. An entry of the shades is 0 where no shade stands yet.
-pub fn check_line(
-    corners: usize,
-    passes: usize,
-    patched: bool,
-    shades: &[u8; CORNERS],
-    sheet: &[u16; PLACES],
-    used: &[u8; USED],
-    second: &[u16; SECOND],
-    labels: usize,
-    line: HeldLine,
-) -> Result<(), Refusal>
-    requires { LineFits corners labels line }
-    ensures { result ≡ checked_held corners passes patched shades.now sheet.now used.now second.now labels
-        line }
-{
-    let said = Said {
-        corners,
-        passes,
-        patched,
-        shades,
-        sheet,
-        used,
-        second,
-        labels,
-    };
-    said.check(line)
 }

@@ -19,7 +19,8 @@ use Rattle.arguments.specs.Arguments.{outside, queue_needed}
 use Rattle.arguments.specs.declared.Pass.{Pass}
 use Rattle.arguments.specs.Accepted.{CornerInside, SettingsInside, PassInside}
 use Rattle.passes.specs.Outcome.{Outcome}
-use Rattle.passes.specs.Run.{Call, PassStats, step, sheet_after, run}
+use Rattle.passes.specs.Run.{Call, step, sheet_after, run}
+use Rattle.passes.specs.declared.PassStats.{PassStats}
 use Rattle.invariants.specs.Calls.{Standing, CallInside}
 use Rattle.invariants.proofs.Run.{standing_step, fit_accepts, never_refused, invariants}
 use Rattle.frame_line.specs.Table.{kind_at, turn_at}

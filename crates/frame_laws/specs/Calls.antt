@@ -9,7 +9,8 @@ use Rattle.sheet.specs.declared.Cell.{Cell}
 use Rattle.sheet.specs.declared.Offset.{Offset}
 use Rattle.passes.specs.Outcome.{Outcome, refused, done}
 use Rattle.passes.specs.Step.{Rooms}
-use Rattle.passes.specs.Run.{Call, PassStats, run, sheet_of as sheetLeft}
+use Rattle.passes.specs.Run.{Call, run, sheet_of as sheetLeft}
+use Rattle.passes.specs.declared.PassStats.{PassStats}
 use Rattle.arguments.specs.Shades.{corners_of}
 use Rattle.invariants.specs.Calls.{Standing, Invariant, CallInside, Accepts}
 use Rattle.invariants.specs.Unshaded.{Unshaded, CallsUnshaded}

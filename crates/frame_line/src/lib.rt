@@ -44,6 +44,7 @@ pub enum Kind {
 }
 
 // What a number of a line is.
+// Stays: the table of refusals that is read beside the definitions has them by number, and so has `Whole` (d).
 #[derive(Clone, Copy, Debug, PartialEq, Eq)]
 pub enum Sort {
     // the form has no such number
@@ -59,6 +60,7 @@ pub enum Sort {
 // A line: its row, and its numbers as they are held (crate line_form). A text that has none of the forms has the row ROWS.
 #[derive(Clone, Copy, Debug, PartialEq, Eq)]
 pub struct HeldLine {
+    // Stays: a row is an index of the table, and ROWS comes in no turn of it, so that it needs no case of its own (d).
     pub row: usize,
     pub values: [u32; 5],
 }
@@ -75,6 +77,7 @@ pub struct HeldLabel {
 #[derive(Clone, Copy, Debug, PartialEq, Eq)]
 pub struct HeldShade {
     pub corner: usize,
+    // Stays: a number that is no kind is held too, until it is refused (d).
     pub kind: u32,
 }
 
@@ -205,6 +208,7 @@ fn has_second(b: u8, line: &[u8]) -> bool
 pub fn read_line(line: &[u8]) -> HeldLine
     ensures { result ≡ held_read (read_line line.now) }
 {
+    // Stays: a row is known by its number, which the answer has and which the definitions ask for (d).
     for row in 0..ROWS {
         let form = form_of(row);
         if !has_second(form[1], line) {

@@ -1,17 +1,17 @@
 -- What a pass leaves of the sheet and of the outcomes' words. Assumes nothing.
-use Rattle.std.specs.Prelude.{Option, None, Some}
+use Rattle.std.specs.Prelude.{Option, None, Some, Ok, Err}
 use mathlib.Core.Path.{◌≡◌, refl, sym, ap, ◌∙◌}
 use mathlib.Core.List.{List}
 use Prim.Native.Nat.{ℕ, suc, ◌-◌, ◌<◌, ◌≤◌}
 use native.Mathlib.Omega.{arith}
 use native.Mathlib.Nat.{sub-zero}
 use Rattle.sheet.specs.Corners.{CornerLists}
-use Rattle.passes.specs.Outcome.{Outcome, refused, done}
-use Rattle.passes.specs.Run.{Call, PassStats, grow_stats, fill_stats, local_stats, step, sheet_after}
+use Rattle.passes.specs.Outcome.{Outcome, refused, done, Answer}
+use Rattle.passes.specs.Run.{Call, step, sheet_after}
+use Rattle.passes.specs.declared.PassStats.{PassStats}
 use Rattle.passes.specs.declared.Counts.{Counts}
-use Rattle.passes.specs.declared.PassAnswer.{PassAnswer}
 use Rattle.count_bounds.specs.Bounds.{FewCounts, FewUnmatched, small_grow, small_fill, small_local}
-use Rattle.pass_call.specs.Call.{done_answer, PassOut, pass_out, pass_leaves, SmallAnswer}
+use Rattle.pass_call.specs.Call.{PassOut, pass_out, pass_leaves, SmallAnswer}
 use Rattle.report_words.specs.Asked.{with_outcome, CountsFit, UnmatchedFits, AnswerFits, with_answer}
 use Rattle.frame_passes.specs.Running.{noted, Left, left, left_by, left_by_all}
 
@@ -24,19 +24,13 @@ few_passed : (u : Option ℕ) → FewUnmatched 1073741824 u → UnmatchedFits u
 few_passed None h = tt
 few_passed (Some n) h = omega arith
 
-pub small_fits : (r : PassAnswer) → SmallAnswer r → AnswerFits r
-small_fits (PassAnswer.Grow s) (small_grow f) = few f
-small_fits (PassAnswer.Fill s) (small_fill a b) = record { added = omega arith; rounds = omega arith }
-small_fits (PassAnswer.Local s) (small_local f i r u) = record { counts = few f; rounds = omega arith; unmatched = few_passed s.unmatched u }
-small_fits (PassAnswer.Refused r) h = tt
+pub small_fits : (r : Answer PassStats) → SmallAnswer r → AnswerFits r
+small_fits (Ok (PassStats.Grow s)) (small_grow f) = few f
+small_fits (Ok (PassStats.Fill s)) (small_fill a b) = record { added = omega arith; rounds = omega arith }
+small_fits (Ok (PassStats.Local s)) (small_local f i r u) = record { counts = few f; rounds = omega arith; unmatched = few_passed s.unmatched u }
+small_fits (Err r) h = tt
 
--- what is noted of a call is what its outcome says
-pub noted_answer : (words : List ℕ) (k : ℕ) (s : PassStats) → with_answer words k (done_answer s) ≡ with_outcome words k s
-noted_answer words k (grow_stats s) = refl
-noted_answer words k (fill_stats s) = refl
-noted_answer words k (local_stats s) = refl
-
-pub pass_left_lem : (l : CornerLists) (c : Call) (sheet queue attached sheet' queue' attached' : List ℕ) (k : ℕ) (words words' : List ℕ) (r : PassAnswer)
+pub pass_left_lem : (l : CornerLists) (c : Call) (sheet queue attached sheet' queue' attached' : List ℕ) (k : ℕ) (words words' : List ℕ) (r : Answer PassStats)
     → pass_out r sheet' queue' attached' ≡ pass_leaves (step l sheet c) sheet queue attached → words' ≡ with_answer words k r
     → left sheet' words' ≡ left_by l c k (left sheet words)
 unfolding left_by
@@ -46,7 +40,7 @@ pass_left_lem l c sheet queue attached sheet' queue' attached' k words words' r 
     go (refused s) w = let sheets : sheet' ≡ sheet = ap (λ (o : PassOut). o.sheet) w in rw (sheets, f, ap (λ (o : PassOut). o.answer) w) refl
     go (done a) w =
         let sheets : sheet' ≡ a.sheet = ap (λ (o : PassOut). o.sheet) w in
-        rw (sheets, f, ap (λ (o : PassOut). o.answer) w, noted_answer words k a.answer) refl
+        rw (sheets, f, ap (λ (o : PassOut). o.answer) w) refl
 
 -- ---- one pass after the other
 

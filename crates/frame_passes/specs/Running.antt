@@ -4,7 +4,8 @@ use Rattle.sheet.specs.Corners.{CornerLists}
 use Rattle.arguments.specs.declared.Pass.{Pass}
 use Rattle.arguments.specs.declared.Settings.{Settings}
 use Rattle.passes.specs.Outcome.{Outcome, refused, done}
-use Rattle.passes.specs.Run.{Call, PassStats, step, sheet_after}
+use Rattle.passes.specs.Run.{Call, step, sheet_after}
+use Rattle.passes.specs.declared.PassStats.{PassStats}
 use Rattle.pass_call.specs.Call.{call_of}
 use Rattle.frame.specs.ReadFrame.{grow_of, fill_of, local_of}
 use Rattle.sizes.specs.Sizes.{pass_limit, pass_size, all_pass_words}

@@ -45,7 +45,7 @@ fn pass_at(passes: &[u32], k: usize) -> Pass
 }
 
 // Runs the passes of a frame in order on one sheet, and notes their outcomes. Its corners stand at the front of their buffers.
-// Each buffer is lent by itself, as the C interface lends it.
+// Stays: each buffer is lent by itself, as the C interface lends it.
 pub fn run_frame(
     passes: &[u32],
     xs: &[f32],
@@ -68,7 +68,7 @@ pub fn run_frame(
         (left sheet.old words.old) }
 {
     let corners = head.corners;
-    // the number of a pass says where its words stand, and where its outcome's words are put
+    // Stays: the number of a pass says where its words stand, and where its outcome's words are put.
     for k in 0..head.passes {
         let pass = pass_at(passes, k);
         let answer = pass_call::call_pass(

@@ -22,6 +22,7 @@ pub struct Progress {
     pub settings: Settings,
     pub corners: usize,
     pub labels: usize,
+    // Stays: the count of the second set is read where no patch line stands too, as 0 (d).
     pub patched: bool,
     pub second: usize,
     pub passes: usize,
@@ -29,9 +30,9 @@ pub struct Progress {
 }
 
 // A pass as six words: kind (0 grow, 1 fill, 2 local), search, factor, boundary or residual, rounds, depth; 0 for what the pass has not.
-// The kind is a number, since the C interface lends passes as words.
 #[derive(Clone, Copy)]
 pub struct PassWords {
+    // Stays: the kind is a number, since the C interface lends passes as words (a).
     pub kind: u32,
     pub search: u32,
     pub factor: u32,
@@ -262,7 +263,7 @@ impl<'a> Parts<'a> {
 
     // A line that passed its checks is added.
     #[tactic(auto, unfolding(crate::specs::State::adds_as))]
-    pub fn add(&mut self, p: Progress, line: HeldLine) -> Progress
+    pub fn add_line(&mut self, p: Progress, line: HeldLine) -> Progress
         requires { Addable p (held self.old) line }
         ensures same { SameParts self.old self.new }
         ensures added { state result (held self.new) ≡ adds line (state p (held self.old)) }
@@ -295,35 +296,4 @@ impl<'a> Parts<'a> {
             }
         }
     }
-}
-
-// A line that passed its checks is added.
-pub fn add_line(
-    p: Progress,
-    xs: &mut [f32; CORNERS],
-    ys: &mut [f32; CORNERS],
-    pitches: &mut [f32; CORNERS],
-    shades: &mut [u8; CORNERS],
-    sheet: &mut [u16; PLACES],
-    used: &mut [u8; USED],
-    second: &mut [u16; SECOND],
-    passes: &mut [u32; ALL_PASS_WORDS],
-    line: HeldLine,
-) -> Progress
-    requires { Addable p (arrays xs.old ys.old pitches.old shades.old sheet.old used.old second.old passes.old) line }
-    ensures { state result (arrays xs.new ys.new pitches.new shades.new sheet.new used.new
-        second.new passes.new) ≡ adds line (state p (arrays xs.old ys.old pitches.old shades.old
-        sheet.old used.old second.old passes.old)) }
-{
-    let mut parts = Parts {
-        xs,
-        ys,
-        pitches,
-        shades,
-        sheet,
-        used,
-        second,
-        passes,
-    };
-    parts.add(p, line)
 }

@@ -9,7 +9,8 @@ use Rattle.arguments.specs.declared.GrowParams.{GrowParams}
 use Rattle.arguments.specs.declared.FillParams.{FillParams}
 use Rattle.arguments.specs.declared.LocalExtensionParams.{LocalExtensionParams}
 use Rattle.passes.specs.Outcome.{Outcome, refused, done}
-use Rattle.passes.specs.Run.{PassStats, step}
+use Rattle.passes.specs.Run.{step}
+use Rattle.passes.specs.declared.PassStats.{PassStats}
 use Rattle.pass_call.specs.Call.{call_of}
 use Rattle.sizes.specs.Sizes.{outcome_size}
 use Rattle.report_words.specs.Asked.{with_outcome}

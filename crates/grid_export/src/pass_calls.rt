@@ -6,13 +6,12 @@ ghost use Rattle.grid_words.specs.Words.{answered};
 ghost use Rattle.grid_export.specs.Passes.{settings_of, grow_params, fill_params, local_params, pass_left, pass_exported};
 
 use arguments::{FillParams, GrowParams, LocalExtensionParams, Pass, Settings};
-use passes::PassAnswer;
 use predict::{Grid, Vector};
 use refusal::Refusal;
 use sizes::OUTCOME_WORDS;
 
 // Cell size, axes and band.
-// The C interface passes each number and lends each buffer by itself.
+// Stays: the C interface passes each number and lends each buffer by itself.
 fn settings_of(
     cell_size: f32,
     axis_i_x: f32,
@@ -40,7 +39,7 @@ fn settings_of(
 }
 
 // A pass, with room for eleven words, in which its outcome is put.
-// Each buffer is lent by itself, as the C interface lends it.
+// Stays: each buffer is lent by itself, as the C interface lends it.
 #[tactic(auto, unfolding(crate::specs::Passes::pass_exported))]
 fn pass_or_short(
     xs: &[f32],
@@ -66,13 +65,13 @@ fn pass_or_short(
     );
     report_words::put::put_outcome(out, 0, answer);
     match answer {
-        PassAnswer::Refused(refusal) => Err(refusal),
-        _ => Ok(()),
+        Err(refusal) => Err(refusal),
+        Ok(_) => Ok(()),
     }
 }
 
 // Grow. `out` takes the eleven words of its outcome.
-// The C interface passes each number and lends each buffer by itself.
+// Stays: the C interface passes each number and lends each buffer by itself.
 #[unsafe(no_mangle)]
 pub extern "C" fn projective_grid_extend_from_labelled(
     xs: &[f32],
@@ -128,7 +127,7 @@ pub extern "C" fn projective_grid_extend_from_labelled(
 }
 
 // Fill, which is lent no queue. `out` takes the eleven words of its outcome.
-// The C interface passes each number and lends each buffer by itself.
+// Stays: the C interface passes each number and lends each buffer by itself.
 #[unsafe(no_mangle)]
 pub extern "C" fn projective_grid_fill_grid_holes(
     xs: &[f32],
@@ -184,7 +183,7 @@ pub extern "C" fn projective_grid_fill_grid_holes(
 }
 
 // Local, which is lent no queue. `out` takes the eleven words of its outcome.
-// The C interface passes each number and lends each buffer by itself.
+// Stays: the C interface passes each number and lends each buffer by itself.
 #[unsafe(no_mangle)]
 pub extern "C" fn projective_grid_extend_via_local_homography(
     xs: &[f32],

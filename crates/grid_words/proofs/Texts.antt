@@ -11,7 +11,7 @@ use lib.Dec.{ltb}
 use lib.ListN.{length, length-append}
 use Rattle.arguments.specs.Arguments.{Checked}
 use Rattle.arguments.proofs.Chains.{or_false_both, not_refused}
-use Rattle.passes.specs.Run.{PassStats}
+use Rattle.passes.specs.declared.PassStats.{PassStats}
 use Rattle.report_line.specs.Result.{lines_from, result_line, line_count, result_from}
 use Rattle.report.specs.WriteResult.{TextLent, text_of, input_short, over_limit, wild, checked_rest, checked_text, TextOut, text_out, text_leaves, writes_text, piece_in, checked_piece, PieceOut, piece_out, piece_leaves, writes_piece}
 use Rattle.report_words.specs.Outcomes.{stats_in}

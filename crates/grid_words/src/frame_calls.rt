@@ -24,7 +24,7 @@ fn enter_settings(floats: &mut [f32], settings: Settings)
 }
 
 // Reads a frame, with room for six floats and two words that say what its head says.
-// Each buffer is lent by itself, as the C interface lends it.
+// Stays: each buffer is lent by itself, as the C interface lends it (a).
 #[tactic(auto, unfolding(crate::specs::Frames::frame_exported, crate::specs::Frames::head_short))]
 pub fn read_or_short(
     text: &[u8],

@@ -8,7 +8,7 @@ use refusal::Refusal;
 use report::PieceEnd;
 
 // Writes the whole text, with room for one word.
-// Each buffer is lent by itself, as the C interface lends it.
+// Stays: each buffer is lent by itself, as the C interface lends it (a).
 #[tactic(auto, unfolding(crate::specs::Texts::text_exported))]
 pub fn text_or_short(
     corners: usize,
@@ -30,7 +30,7 @@ pub fn text_or_short(
 }
 
 // Writes a piece, with room for two words.
-// Each buffer is lent by itself, as the C interface lends it.
+// Stays: each buffer is lent by itself, as the C interface lends it (a).
 #[tactic(auto, unfolding(crate::specs::Texts::piece_exported))]
 pub fn piece_or_short(
     corners: usize,

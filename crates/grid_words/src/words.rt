@@ -6,7 +6,8 @@ ghost use Rattle.grid_words.specs.Frames.{Word};
 
 use refusal::Refusal;
 
-// A refusal as an answer: its number, by which the C interface tells it.
+// A refusal as an answer: its number.
+// Stays: the C interface tells a refusal by its number (a).
 pub fn number_of(refusal: Refusal) -> u32
     ensures { result ≡ number_of refusal }
 {

@@ -34,13 +34,12 @@ use Rattle.arguments.specs.declared.Settings.{Settings}
 use Rattle.extension_common.specs.TryCell.{try_at}
 use Rattle.extension_common.specs.declared.Search.{Search}
 use Rattle.extension_common.specs.declared.TryCellResult.{TryCellResult}
-use Rattle.passes.specs.Outcome.{done}
+use Rattle.passes.specs.Outcome.{done, Answer}
 use Rattle.passes.specs.Counting.{one_more}
 use Rattle.passes.specs.Grow.{GrowState, no_counts, tolerances_of, search_of, spread, start_of, grow_with, grow_at, grow_visit, grow_from, grow_run, grow_after}
 use Rattle.passes.specs.Step.{grow_step, GrowOut, grow_out, grow_leaves, lent_of, rooms}
 use Rattle.passes.specs.Said.{grow_values, grow_said, outcome_due}
 use Rattle.passes.specs.declared.Counts.{Counts}
-use Rattle.passes.specs.declared.GrowAnswer.{GrowAnswer}
 use Rattle.passes.specs.declared.GrowStats.{GrowStats}
 use Rattle.passes.proofs.Over.{over_length, over_at, over_read, over_own, over_put, over_over}
 use Rattle.passes.proofs.Queue.{more_length, spread_longer}
@@ -402,7 +401,7 @@ module _ (corners : CornerLists) (set : Settings) (p : GrowParams) (shades sheet
     -- the pass done
     pub call_left : {before after : Growing} {q next : Queue} {stats : GrowStats} → held before ≡ corners_of corners shades → before.setup.settings ≡ set → before.setup.params ≡ p → before.sheet.now ≡ sheet
         → q.places.now ≡ queue → before.attached.now ≡ news → Left before q after next (grow_run (held before) before.setup.settings before.setup.params before.sheet.now) → stats ≡ stats_of after
-        → {s q' n : List ℕ} → s ≡ after.sheet.now → q' ≡ next.places.now → n ≡ after.attached.now → grow_out (GrowAnswer.Done stats) s q' n ≡ grow_leaves (done (grow_after (corners_of corners shades) set p sheet)) sheet queue news
+        → {s q' n : List ℕ} → s ≡ after.sheet.now → q' ≡ next.places.now → n ≡ after.attached.now → grow_out (Ok stats) s q' n ≡ grow_leaves (done (grow_after (corners_of corners shades) set p sheet)) sheet queue news
     unfolding grow_after
     call_left {before} {after} cs s m sh q n l e es eq en =
         let run : grow_run (held before) before.setup.settings before.setup.params before.sheet.now ≡ grow_run (corners_of corners shades) set p sheet = rw (cs, s, m, sh) in
@@ -420,11 +419,11 @@ module _ (corners : CornerLists) (set : Settings) (p : GrowParams) (shades sheet
   -- by what the check of the arguments finds
   module _ {found : Checked} (is : found ≡ checked (lent_of corners shades sheet (rooms (length queue) (length news))) set (Pass.Grow p)) where
     leaves_refused : {r : Refusal} → found ≡ Err r
-        → grow_out (GrowAnswer.Refused r) sheet queue news ≡ grow_leaves (grow_step corners shades sheet set p (rooms (length queue) (length news))) sheet queue news
+        → grow_out (Err r) sheet queue news ≡ grow_leaves (grow_step corners shades sheet set p (rooms (length queue) (length news))) sheet queue news
     unfolding grow_step
     leaves_refused e = rw (← is, e)
 
-    pub call_refused : {r : Refusal} → found ≡ Err r → Promised (grow_out (GrowAnswer.Refused r) sheet queue news)
+    pub call_refused : {r : Refusal} → found ≡ Err r → Promised (grow_out (Err r) sheet queue news)
     call_refused e = promised (leaves_refused e)
 
     pub call_accepted : found ≡ Ok tt → Accepted (lent_of corners shades sheet (rooms (length queue) (length news))) set (Pass.Grow p)
@@ -435,6 +434,6 @@ module _ (corners : CornerLists) (set : Settings) (p : GrowParams) (shades sheet
     unfolding grow_step
     leaves_done e h = rw (← is, e) h
 
-    pub call_done : found ≡ Ok tt → {r : GrowAnswer} {s q n : List ℕ} → grow_out r s q n ≡ grow_leaves (done (grow_after (corners_of corners shades) set p sheet)) sheet queue news
+    pub call_done : found ≡ Ok tt → {r : Answer GrowStats} {s q n : List ℕ} → grow_out r s q n ≡ grow_leaves (done (grow_after (corners_of corners shades) set p sheet)) sheet queue news
         → Promised (grow_out r s q n)
     call_done e h = promised (leaves_done e h)

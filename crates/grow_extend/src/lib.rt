@@ -4,7 +4,7 @@
 
 #![tactic(auto)]
 
-ghost use Rattle.std.specs.Prelude.{◌≡◌, ◌≤◌, length};
+ghost use Rattle.std.specs.Prelude.{◌≡◌, ◌≤◌, length, Ok};
 ghost use Rattle.sizes.specs.Sizes.{corner_limit};
 ghost use Rattle.sheet.specs.Corners.{Given, corner_lists};
 ghost use Rattle.labels.specs.Used.{Tied};
@@ -16,10 +16,12 @@ ghost use Rattle.passes.specs.Step.{grow_step, grow_out, grow_leaves, lent_of, r
 ghost use Rattle.passes.specs.Said.{grow_values, grow_said, outcome_due};
 
 use arguments::{GrowParams, Pass, Settings};
-use extension_common::{ChoiceRule, Search, TryCellResult};
+use candidates::HeldCorners;
+use extension_common::{ChoiceRule, Search, Trial, TryCellResult};
 use grow_queue::Queue;
-use passes::{Counts, GrowAnswer, GrowStats};
+use passes::{Counts, GrowStats};
 use positions_policy::Tolerances;
+use refusal::Refusal;
 use sheet::Cell;
 use sizes::CORNERS;
 
@@ -103,16 +105,20 @@ impl<'a> Growing<'a> {
         );
         match prediction {
             None => TryCellResult::NoCandidates,
-            Some(at) => extension_common::try_attach_at_cell(
-                self.corners,
-                self.count,
-                self.sheet,
-                &self.used,
-                c,
-                at,
-                setup.search(predict::is_extrapolating(self.sheet, c)),
-                setup.tolerances(),
-            ),
+            Some(at) => {
+                let trial = Trial {
+                    held: HeldCorners {
+                        corners: self.corners,
+                        count: self.count,
+                        used: &self.used,
+                    },
+                    sheet: self.sheet,
+                    c,
+                    search: setup.search(predict::is_extrapolating(self.sheet, c)),
+                    tol: setup.tolerances(),
+                };
+                trial.try_attach_at_cell(at)
+            }
         }
     }
 
@@ -166,6 +172,7 @@ impl<'a> Growing<'a> {
     {
         let sheet = &mut *self.sheet;
         queue.seed(sheet);
+        // Stays: a visit queues more cells, so that no iterator can hold the queue meanwhile.
         while let Some(c) = queue.pop() {
             self.visit(queue, c);
         }
@@ -196,7 +203,7 @@ fn extend(
 ) -> GrowStats
     requires { Accepted (lent_of (corner_lists xs.now ys.now pitches.now) shades.now sheet.old (rooms (length queue.old)
         (length attached.old))) settings (Pass.Grow params) }
-    ensures { grow_out (GrowAnswer.Done result) sheet.new queue.new attached.new
+    ensures { grow_out (Ok result) sheet.new queue.new attached.new
         ≡ grow_leaves (Outcome.done (grow_after (corners_of (corner_lists xs.now ys.now pitches.now) shades.now)
         settings params sheet.old)) sheet.old queue.old attached.old }
 {
@@ -226,6 +233,7 @@ fn extend(
 // Grow on the corners, their shades and the sheet that are lent. A refusal says why and changes nothing. Else the sheet holds what grow
 // left, the queue holds the visited cells in order, the attached list the new cells in order, the rest of both untouched, and the answer
 // has the counts and the rim. `said` is the same answer in 01's number or values.
+// Stays: the public calls of the passes lend slice by slice, as 01 has it and as the C interface does.
 pub fn extend_from_labelled(
     xs: &[f32],
     ys: &[f32],
@@ -236,7 +244,7 @@ pub fn extend_from_labelled(
     attached: &mut [u16],
     settings: Settings,
     params: GrowParams,
-) -> GrowAnswer
+) -> Result<GrowStats, Refusal>
     ensures attached_after { grow_out result sheet.new queue.new attached.new
         ≡ grow_leaves (grow_step (corner_lists xs.now ys.now pitches.now) shades.now sheet.old
         settings params (rooms (length queue.old) (length attached.old))) sheet.old queue.old
@@ -244,7 +252,7 @@ pub fn extend_from_labelled(
     ensures said { grow_said result ≡ outcome_due grow_values (grow_step (corner_lists xs.now ys.now pitches.now)
         shades.now sheet.old settings params (rooms (length queue.old) (length attached.old))) }
 {
-    let checked = arguments::check_arguments(
+    arguments::check_arguments(
         xs,
         ys,
         pitches,
@@ -254,11 +262,8 @@ pub fn extend_from_labelled(
         attached.len(),
         settings,
         Pass::Grow(params),
-    );
-    match checked {
-        Err(refusal) => GrowAnswer::Refused(refusal),
-        Ok(()) => GrowAnswer::Done(extend(
-            xs, ys, pitches, shades, sheet, queue, attached, settings, params,
-        )),
-    }
+    )?;
+    Ok(extend(
+        xs, ys, pitches, shades, sheet, queue, attached, settings, params,
+    ))
 }

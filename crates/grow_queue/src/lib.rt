@@ -92,6 +92,7 @@ impl<'a> Queue<'a> {
         requires { Room 4 sheet.now self.old × OnSheet c }
         ensures { QueueHeld self.old self.new (spread sheet.now c (queued self.old)) }
     {
+        // Stays: the four cardinal cells are given by their number, in the order of 01.
         for k in 0..4 {
             self.enqueue(
                 sheet,

@@ -29,7 +29,8 @@ use Rattle.passes.specs.Grow.{tolerances_of, grow_after}
 use Rattle.passes.specs.Fill.{fill_after}
 use Rattle.passes.specs.Local.{local_after}
 use Rattle.passes.specs.Step.{lent_of, unless, grow_step, fill_step, local_step}
-use Rattle.passes.specs.Run.{Call, PassStats, grow_stats, fill_stats, local_stats, renamed, step_as, step, sheet_after, run, sheet_of}
+use Rattle.passes.specs.Run.{Call, renamed, step_as, step, sheet_after, run, sheet_of}
+use Rattle.passes.specs.declared.PassStats.{PassStats}
 use Rattle.passes.specs.History.{History}
 use Rattle.passes.specs.Changes.{NoMarks}
 use Rattle.passes.proofs.Changes.{same_marks}
@@ -57,9 +58,9 @@ step_as_lem l sheet c = go c.pass
     under f (Err r) a = refl
 
     go : (p : Pass) → step_as l c.shades sheet c.settings c.rooms p ≡ unless (checked (lent_of l c.shades sheet c.rooms) c.settings p) (after_pass l c.shades sheet c.settings p)
-    go (Pass.Grow p) = under grow_stats (checked (lent_of l c.shades sheet c.rooms) c.settings (Pass.Grow p)) (grow_after (corners_of l c.shades) c.settings p sheet)
-    go (Pass.Fill p) = under fill_stats (checked (lent_of l c.shades sheet c.rooms) c.settings (Pass.Fill p)) (fill_after (corners_of l c.shades) c.settings p sheet)
-    go (Pass.Local p) = under local_stats (checked (lent_of l c.shades sheet c.rooms) c.settings (Pass.Local p)) (local_after (corners_of l c.shades) c.settings p sheet)
+    go (Pass.Grow p) = under PassStats.Grow (checked (lent_of l c.shades sheet c.rooms) c.settings (Pass.Grow p)) (grow_after (corners_of l c.shades) c.settings p sheet)
+    go (Pass.Fill p) = under PassStats.Fill (checked (lent_of l c.shades sheet c.rooms) c.settings (Pass.Fill p)) (fill_after (corners_of l c.shades) c.settings p sheet)
+    go (Pass.Local p) = under PassStats.Local (checked (lent_of l c.shades sheet c.rooms) c.settings (Pass.Local p)) (local_after (corners_of l c.shades) c.settings p sheet)
 
 pub standing_sound : {l : CornerLists} {sheet : List ℕ} → Standing l sheet → Sound (length l.xs) sheet
 standing_sound s = record { long = s.given.long; known = record { known = s.given.known }; one_cell = s.one_cell }

@@ -29,7 +29,7 @@ use Rattle.passes.specs.Grow.{grow_after}
 use Rattle.passes.specs.Fill.{fill_after}
 use Rattle.passes.specs.Local.{supports_of, LocalFit, none, fitted, local_fit, LocalState, worst, with_residuals, gate_of, local_with, local_try, local_at, local_visit, local_pass, local_from, local_limit, local_run, unmatched_if, local_after}
 use Rattle.passes.specs.Step.{unless}
-use Rattle.passes.specs.Run.{PassStats, grow_stats, fill_stats, local_stats}
+use Rattle.passes.specs.declared.PassStats.{PassStats}
 use Rattle.passes.proofs.Rounds.{rounds_keep}
 use Rattle.invariants.specs.Calls.{answering, after_pass, lent_shades, ShadesInside}
 use Rattle.invariants.specs.Unshaded.{try_any, AsBefore, unshaded, NoShade, CallsAsBefore}
@@ -110,9 +110,9 @@ module _ {l : CornerLists} {shades : List ℕ} (w : NoShade l shades) where
   shades_inside = record { long = w.long; inside = λ k h. omega (arith, byte_nought shades (length l.xs) w.none k h) }
 
 pass_alike : (l : CornerLists) (shades shades' sheet : List ℕ) (set : Settings) → corners_of l shades' ≡ corners_of l shades → (p : Pass) → after_pass l shades' sheet set p ≡ after_pass l shades sheet set p
-pass_alike l shades shades' sheet set e (Pass.Grow p) = ap (λ (cs : Corners). answering grow_stats (grow_after cs set p sheet)) e
-pass_alike l shades shades' sheet set e (Pass.Fill p) = ap (λ (cs : Corners). answering fill_stats (fill_after cs set p sheet)) e
-pass_alike l shades shades' sheet set e (Pass.Local p) = ap (λ (cs : Corners). answering local_stats (local_after cs set p sheet)) e
+pass_alike l shades shades' sheet set e (Pass.Grow p) = ap (λ (cs : Corners). answering PassStats.Grow (grow_after cs set p sheet)) e
+pass_alike l shades shades' sheet set e (Pass.Fill p) = ap (λ (cs : Corners). answering PassStats.Fill (fill_after cs set p sheet)) e
+pass_alike l shades shades' sheet set e (Pass.Local p) = ap (λ (cs : Corners). answering PassStats.Local (local_after cs set p sheet)) e
 
 pub calls_as_before : CallsAsBefore
 calls_as_before l shades w =

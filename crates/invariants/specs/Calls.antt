@@ -18,7 +18,8 @@ use Rattle.passes.specs.Grow.{tolerances_of, grow_after}
 use Rattle.passes.specs.Fill.{fill_after}
 use Rattle.passes.specs.Local.{local_after}
 use Rattle.passes.specs.Step.{lent_of}
-use Rattle.passes.specs.Run.{Call, PassStats, grow_stats, fill_stats, local_stats, step, run, sheet_of}
+use Rattle.passes.specs.Run.{Call, step, run, sheet_of}
+use Rattle.passes.specs.declared.PassStats.{PassStats}
 use Rattle.passes.specs.History.{History}
 use Rattle.invariants.specs.Kept.{Kept, Extended, AttachedAt, AttachedInTurn}
 use Rattle.invariants.specs.Marks.{PassMarks, MarksOver}
@@ -38,18 +39,18 @@ abbrev pub answering : {A B : Type 0} → (A → B) → After A → After B
 answering f a = record { answer = f a.answer; sheet = a.sheet; attached = a.attached; visited = a.visited }
 
 abbrev pub after_pass : CornerLists → List ℕ → List ℕ → Settings → Pass → After PassStats
-after_pass l shades sheet set (Pass.Grow p) = answering grow_stats (grow_after (corners_of l shades) set p sheet)
-after_pass l shades sheet set (Pass.Fill p) = answering fill_stats (fill_after (corners_of l shades) set p sheet)
-after_pass l shades sheet set (Pass.Local p) = answering local_stats (local_after (corners_of l shades) set p sheet)
+after_pass l shades sheet set (Pass.Grow p) = answering PassStats.Grow (grow_after (corners_of l shades) set p sheet)
+after_pass l shades sheet set (Pass.Fill p) = answering PassStats.Fill (fill_after (corners_of l shades) set p sheet)
+after_pass l shades sheet set (Pass.Local p) = answering PassStats.Local (local_after (corners_of l shades) set p sheet)
 
 abbrev pub after_call : CornerLists → List ℕ → Call → After PassStats
 after_call l sheet c = after_pass l c.shades sheet c.settings c.pass
 
 -- how many corners a pass says that it attached
 abbrev pub attached_count : PassStats → ℕ
-attached_count (grow_stats s) = s.counts.attached
-attached_count (fill_stats s) = s.added
-attached_count (local_stats s) = s.counts.attached
+attached_count (PassStats.Grow s) = s.counts.attached
+attached_count (PassStats.Fill s) = s.added
+attached_count (PassStats.Local s) = s.counts.attached
 
 -- ---- a list of calls
 

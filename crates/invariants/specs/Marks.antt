@@ -9,7 +9,8 @@ use Rattle.extension_common.specs.declared.TryCellResult.{TryCellResult}
 use Rattle.arguments.specs.declared.Pass.{Pass}
 use Rattle.passes.specs.Outcome.{After, Outcome, refused, done}
 use Rattle.passes.specs.Grow.{no_counts}
-use Rattle.passes.specs.Run.{Call, PassStats, grow_stats, fill_stats, local_stats}
+use Rattle.passes.specs.Run.{Call}
+use Rattle.passes.specs.declared.PassStats.{PassStats}
 use Rattle.passes.specs.Changes.{is_attached, is_no_candidate, is_ambiguous, is_edge_refusal, SameMarks, NoMarks, MarksSet}
 use Rattle.passes.specs.declared.Counts.{Counts}
 
@@ -71,9 +72,9 @@ pub record LocalMarks (first made last : List ℕ) : Type 0 where
 
 -- the four counts that a pass says; fill has none
 abbrev pub counts_said : PassStats → Counts
-counts_said (grow_stats s) = s.counts
-counts_said (fill_stats s) = no_counts
-counts_said (local_stats s) = s.counts
+counts_said (PassStats.Grow s) = s.counts
+counts_said (PassStats.Fill s) = no_counts
+counts_said (PassStats.Local s) = s.counts
 
 -- what a call that ran did to the marks, by its pass
 abbrev pub PassMarks : Pass → List ℕ → After PassStats → Type 0

@@ -99,6 +99,7 @@ impl Second<'_> {
     }
 
     // The cell of a label, moved.
+    // Stays: a shift is an offset of `sheet`, and a struct of its own for the bound would be made from one at each call (d).
     fn moved_cell(&self, i: usize, d: Offset) -> Cell
         requires { (i < self.now.count) × Within 128 d }
         ensures { result ≡ moved (cell_of (get_or self.now.array.now (corner_limit + i) 0)) d }
@@ -170,6 +171,7 @@ fn write_new(sheet: &mut [u16; PLACES], used: &[u8; USED], second: &Second, d: O
     requires { WriteAsked second.now.array.now second.now.count d }
     ensures { sheet.new ≡ labelled sheet.old (new_held used.now (held_labels second.now.array.now second.now.count) d) }
 {
+    // Stays: a label has only its number, by which its corner and its cell stand in two parts of one array (d).
     for i in 0..second.count {
         put_new(sheet, used, second.corner(i), second.moved_cell(i, d));
     }
@@ -187,6 +189,7 @@ fn refusal_of(unjoinable: Unjoinable) -> Refusal
 }
 
 // The join: the union is written to the sheet, or the sheet stays as it is and the refusal is answered.
+// Stays: corners and places stand in two parts of one array, so that no slice of it is the first `count` labels (d).
 pub fn join_sets(
     sheet: &mut [u16; PLACES],
     used: &[u8; USED],

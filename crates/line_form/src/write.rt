@@ -29,6 +29,7 @@ fn write_decimal(n: u32, out: &mut [u8]) -> usize
 {
     let count = digit_count(n as usize);
     let mut m = n;
+    // Stays: the proof knows no element of what is written through an adapter of `iter_mut` (c).
     for i in (0..count).rev() {
         out[i] = last_digit(m);
         m /= 10;

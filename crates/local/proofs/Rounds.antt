@@ -29,7 +29,6 @@ use Rattle.passes.specs.Local.{depth_of, local_search, LocalState, LocalRounds, 
 use Rattle.passes.specs.Step.{LocalOut, local_step, local_out, local_leaves, lent_of, rooms}
 use Rattle.passes.specs.Said.{local_values, local_said, outcome_due}
 use Rattle.passes.specs.declared.LocalStats.{LocalStats}
-use Rattle.passes.specs.declared.LocalAnswer.{LocalAnswer}
 use Rattle.passes.proofs.Free.{labels_few}
 use Rattle.passes.proofs.Rounds.{Remaining, remaining_all, remaining_none, remaining_last, remaining_more}
 use Rattle.passes.proofs.Said.{local_said_lem}
@@ -154,14 +153,14 @@ module _ (corners : CornerLists) (shades sheet list : List ℕ) (set : Settings)
       (any : shaded ≡ any_shade shades (length corners.xs)) where
     -- under four labels
     pub pass_few : {at : LocalProgress} → labels < 4 → at ≡ no_progress labels → edge ≡ rim depth sheet → stats ≡ stats_of at 0 edge shaded
-        → local_out (LocalAnswer.Done stats) sheet list ≡ local_leaves (done (local_after (corners_of corners shades) set p sheet)) sheet list
+        → local_out (Ok stats) sheet list ≡ local_leaves (done (local_after (corners_of corners shades) set p sheet)) sheet list
     unfolding local_after local_run local_limit local_from
     pass_few h g f e = rw (← counted, lt-ltb labels 4 h, e, g, f, deep, any)
 
     -- all rounds done
     pub pass_done : (cs : Corners) → cs ≡ corners_of corners shades → {sheet' list' : List ℕ} {at : LocalProgress} {work : LocalWork} {rounds : ℕ} → 4 ≤ labels → at ≡ no_progress labels
         → RoundsLeft (local_from cs set p p.max_iters (start_of sheet list at)) cs.count list sheet' list' work rounds → edge ≡ rim depth sheet'
-        → stats ≡ stats_of work.progress rounds edge shaded → local_out (LocalAnswer.Done stats) sheet' list' ≡ local_leaves (done (local_after (corners_of corners shades) set p sheet)) sheet list
+        → stats ≡ stats_of work.progress rounds edge shaded → local_out (Ok stats) sheet' list' ≡ local_leaves (done (local_after (corners_of corners shades) set p sheet)) sheet list
     unfolding local_after local_run local_limit
     pass_done cs held h m l' f e =
         let l = rw m at l' in
@@ -195,12 +194,12 @@ module _ (corners : CornerLists) (shades sheet list : List ℕ) (set : Settings)
   -- its check refuses it, or lets it pass
   module _ (check : Checked) (is : check ≡ checked (lent_of corners shades sheet (rooms 0 (length list))) set (Pass.Local p)) where
     leaves_refused : (r : Refusal) → check ≡ Err r
-        → local_out (LocalAnswer.Refused r) sheet list
+        → local_out (Err r) sheet list
         ≡ local_leaves (local_step corners shades sheet set p (rooms 0 (length list))) sheet list
     unfolding local_step
     leaves_refused r e = rw (← is, e)
 
-    pub call_refused : (r : Refusal) → check ≡ Err r → Promised (local_out (LocalAnswer.Refused r) sheet list)
+    pub call_refused : (r : Refusal) → check ≡ Err r → Promised (local_out (Err r) sheet list)
     call_refused r e = promised (leaves_refused r e)
 
     module _ (e : check ≡ Ok tt) where

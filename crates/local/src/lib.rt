@@ -4,7 +4,7 @@
 
 #![tactic(auto)]
 
-ghost use Rattle.std.specs.Prelude.{◌≡◌, ◌≤◌, length};
+ghost use Rattle.std.specs.Prelude.{◌≡◌, ◌≤◌, length, Ok};
 ghost use Rattle.sizes.specs.Sizes.{place_count};
 ghost use Rattle.sheet.specs.Corners.{corner_lists, corners_in};
 ghost use Rattle.arguments.specs.Shades.{corners_of};
@@ -21,7 +21,8 @@ ghost use Rattle.local.specs.Rounds.{region_in, RoundOf, tried_at, Tellable, Nex
 use arguments::{LocalExtensionParams, Pass, Settings};
 use labels::Bounds;
 use local_cell::{LocalProgress, LocalSetup, LocalWork};
-use passes::{Counts, LocalAnswer, LocalStats};
+use passes::{Counts, LocalStats};
+use refusal::Refusal;
 use region::Window;
 use remembered::Memory;
 use sizes::{CORNERS, PLACES};
@@ -62,6 +63,7 @@ impl Round {
         ensures { NextTried (tried_at self.now.depth (region_in self.now) sheet.now) from result }
     {
         let mut place = region::next_inside(self.window, from);
+        // Stays: the places between two lines of the window are passed over, so that the step is not 1.
         while place < PLACES {
             if self.is_tried(sheet, place) {
                 return place;
@@ -106,6 +108,7 @@ fn local_round(
 {
     let round = round_of(sheet, &work.places[..work.progress.labels], setup.params);
     let mut place = round.next_tried(sheet, 0);
+    // Stays: which place is tried next hangs on the sheet, which is written on the way, so that no iterator may hold it.
     while place < PLACES {
         local_cell::try_local_cell(corners, sheet, attached, work, sheet::cell_of(place), setup);
         place = round.next_tried(sheet, place + 1);
@@ -144,6 +147,7 @@ fn local_rounds(
     ensures recalls { Recalls setup.settings setup.params (corners_in corners.now setup.count) sheet.new work.new }
 {
     let limit = setup.params.max_iters as usize;
+    // Stays: no chain, whose closure would write the sheet: a proof knows nothing of what a closure of a chain has written.
     for rounds in 0..limit {
         let before = work.progress.counts.attached;
         local_round(corners, sheet, attached, work, setup);
@@ -159,7 +163,7 @@ fn local_rounds(
 fn unmatched_of(shaded: bool, unmatched: usize) -> Option<usize>
     ensures { result ≡ unmatched_if shaded unmatched }
 {
-    if shaded { Some(unmatched) } else { None }
+    shaded.then_some(unmatched)
 }
 
 // What the answer says of the rounds and of the rim, and of the corners passed over.
@@ -176,6 +180,7 @@ fn stats_of(progress: LocalProgress, rounds: usize, rim: bool, shaded: bool) -> 
 }
 
 // The pass itself, on arguments that are not refused: all rounds if there are four labels, else none, and what the answer says of them.
+// Stays: the lists are those of the public call.
 fn local_accepted(
     xs: &[f32],
     ys: &[f32],
@@ -188,7 +193,7 @@ fn local_accepted(
 ) -> LocalStats
     requires { Accepted (lent_of (corner_lists xs.now ys.now pitches.now) shades.now sheet.old (rooms 0 (length attached.old)))
         settings (Pass.Local params) }
-    ensures { local_out (LocalAnswer.Done result) sheet.new attached.new
+    ensures { local_out (Ok result) sheet.new attached.new
         ≡ local_leaves (done (local_after (corners_of (corner_lists xs.now ys.now pitches.now) shades.now)
         settings params sheet.old)) sheet.old attached.old }
 {
@@ -229,6 +234,7 @@ fn local_accepted(
 // is the last, and under four labels there is none. The attached list holds the new cells' places in order at its front, its rest untouched; no other mark
 // changes. The answer has the four counts, the number of rounds, the largest residual recorded, the rim, and, if any shade stands, how many
 // corners were passed over for their kind. A refused call changes nothing and answers why. `said` is the same answer in 01's number or values.
+// Stays: the C interface lends these lists, and each pass has its own settings and answer.
 pub fn extend_via_local_homography(
     xs: &[f32],
     ys: &[f32],
@@ -238,7 +244,7 @@ pub fn extend_via_local_homography(
     attached: &mut [u16],
     settings: Settings,
     params: LocalExtensionParams,
-) -> LocalAnswer
+) -> Result<LocalStats, Refusal>
     ensures attached_after { local_out result sheet.new attached.new
         ≡ local_leaves (local_step (corner_lists xs.now ys.now pitches.now) shades.now sheet.old
         settings params (rooms 0 (length attached.old))) sheet.old attached.old }
@@ -246,7 +252,7 @@ pub fn extend_via_local_homography(
         (corner_lists xs.now ys.now pitches.now) shades.now
         sheet.old settings params (rooms 0 (length attached.old))) }
 {
-    let checked = arguments::check_arguments(
+    arguments::check_arguments(
         xs,
         ys,
         pitches,
@@ -256,9 +262,6 @@ pub fn extend_via_local_homography(
         attached.len(),
         settings,
         Pass::Local(params),
-    );
-    if let Err(refusal) = checked {
-        return LocalAnswer::Refused(refusal);
-    }
-    LocalAnswer::Done(local_accepted(xs, ys, pitches, shades, sheet, attached, settings, params))
+    )?;
+    Ok(local_accepted(xs, ys, pitches, shades, sheet, attached, settings, params))
 }

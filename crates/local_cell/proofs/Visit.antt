@@ -11,7 +11,7 @@ use lib.Seq.{length-take-le}
 use lib.Ieee.{Float, of_bits, binary32, lt}
 use Rattle.sheet.specs.Cells.{OnSheet, place_of}
 use Rattle.sheet.specs.Words.{label_at, attached, marks_cleared}
-use Rattle.sheet.specs.Shades.{kind_at, takes, shades_in}
+use Rattle.sheet.specs.Shades.{takes, shades_in}
 use Rattle.sheet.specs.Corners.{Corners, corners_in, Given, seen_of}
 use Rattle.sheet.specs.declared.Cell.{Cell}
 use Rattle.sheet.specs.declared.Position.{Position}
@@ -24,13 +24,12 @@ use Rattle.labels.proofs.Used.{tied_attached, tied_cleared, one_attached, one_cl
 use Rattle.positions_policy.specs.declared.Tolerances.{Tolerances}
 use Rattle.arguments.specs.declared.Settings.{Settings}
 use Rattle.arguments.specs.declared.LocalExtensionParams.{LocalExtensionParams}
-use Rattle.candidates.specs.Candidates.{positions_in, unmarked, eligible_in, candidates_at, first_two}
-use Rattle.candidates.specs.declared.Candidates.{Candidates}
+use Rattle.candidates.specs.Candidates.{positions_in, unmarked}
 use Rattle.passed_over.specs.PassedOver.{passed_over}
-use Rattle.extension_common.specs.TryCell.{gathered, unmatched, try_at}
+use Rattle.extension_common.specs.TryCell.{unmatched, try_at}
 use Rattle.extension_common.specs.declared.Search.{Search}
 use Rattle.extension_common.specs.declared.TryCellResult.{TryCellResult}
-use Rattle.extension_common.proofs.Laws.{gathered_tied, unmatched_tied, Attachable, attachable}
+use Rattle.extension_common.proofs.Laws.{unmatched_tied, Attachable, attachable}
 use Rattle.homography.specs.Fit.{applied}
 use Rattle.passes.specs.Counting.{one_more, visits}
 use Rattle.passes.specs.Grow.{tolerances_of}
@@ -291,14 +290,7 @@ pub found_is : (cs : Corners) (sheet : List ℕ) (c : Cell) (prediction : Positi
     → r ≡ try_at cs sheet tol' search' c prediction → r ≡ try_at cs sheet tol search c prediction
 found_is cs sheet c prediction s t e = e ∙ rw (t, s)
 
--- what was gathered by the array of used corners
-pub gathered_is : (held : List Float) {n : ℕ} {sheet list : List ℕ} {work : LocalWork} {c : Cell} {candidates : Candidates} (radius : Float) (prediction : Position)
-    → Trying n sheet list work c → {kind : ℕ} → kind ≡ kind_at c
-    → candidates ≡ first_two (candidates_at (positions_in held) (eligible_in held work.used kind) n prediction radius)
-    → candidates ≡ gathered (corners_in held n) sheet radius c prediction
-gathered_is held {n} {sheet} {work = work} {c = c} radius prediction t k e = e ∙ gathered_tied held n sheet work.used radius c prediction t.extending.few t.extending.tied k
-
--- and passed over
+-- what was passed over, by the array of used corners
 pub unmatched_is : (held : List Float) {n : ℕ} {sheet list : List ℕ} {work : LocalWork} {c : Cell} {passed : ℕ} (radius : Float) (prediction : Position)
     → Trying n sheet list work c → passed ≡ passed_over (positions_in held) (unmarked work.used) (takes (shades_in held) c) n prediction radius
     → passed ≡ unmatched (corners_in held n) sheet radius c prediction

@@ -18,7 +18,8 @@ ghost use Rattle.remembered.specs.Remembered.{Forgotten};
 ghost use Rattle.local_cell.specs.Extending.{cell_counted, residuals_recorded, unmatched_counted, state_of, Left, Recalls, Foretold, Trying, Writable, Wrote, NotedIfBare};
 
 use arguments::{LocalExtensionParams, Settings};
-use extension_common::{ChoiceRule, Search, TryCellResult};
+use candidates::{HeldCorners, Scan};
+use extension_common::{ChoiceRule, Search, Trial, TryCellResult};
 use passes::Counts;
 use positions_policy::Tolerances;
 use remembered::{Finding, Known, Memory};
@@ -74,6 +75,7 @@ impl Target {
 
 impl LocalSetup {
     // How local searches a cell: search times cell size as the radius, and fill's and local's rule of choice.
+    // Stays: fill's `search` reads other fields of another struct; what the two share is one product.
     #[tactic(auto, unfolding(passes::specs::Local::local_search))]
     fn search(self) -> Search
         ensures { result ≡ local_search self.settings self.params }
@@ -182,23 +184,19 @@ fn try_candidates_of(
     ensures recalls { Recalls setup.settings setup.params (corners_in corners.now setup.count) sheet.new work.new }
 {
     let c = target.cell;
-    let search = setup.search();
-    let candidates = candidates::collect_candidates(
-        corners,
-        setup.count,
-        &work.used,
-        sheet::kind_at(c),
-        target.prediction,
-        search.search_r,
-    );
-    let found = extension_common::try_candidates(
-        corners,
+    let trial = Trial {
+        held: HeldCorners {
+            corners,
+            count: setup.count,
+            used: &work.used,
+        },
         sheet,
         c,
-        candidates,
-        search,
-        setup.tolerances(),
-    );
+        search: setup.search(),
+        tol: setup.tolerances(),
+    };
+    let candidates = trial.gather(target.prediction);
+    let found = trial.try_candidates(candidates);
     match found {
         TryCellResult::NoCandidates => {
             let known = target.known(Finding::NoCandidates);
@@ -230,9 +228,16 @@ fn count_unmatched(
     ensures { result ≡ passed_over (positions_in corners.now) (unmarked used.now) (takes (shades_in corners.now)
         target.cell) setup.count target.prediction (local_search setup.settings setup.params).search_r }
 {
-    let kind = sheet::kind_at(target.cell);
-    let radius = setup.search().search_r;
-    passed_over::count_passed_over(corners, setup.count, used, kind, target.prediction, radius)
+    let scan = Scan {
+        held: HeldCorners {
+            corners,
+            count: setup.count,
+            used,
+        },
+        kind: sheet::kind_at(target.cell),
+        prediction: target.prediction,
+    };
+    passed_over::count_passed_over(&scan, setup.search().search_r)
 }
 
 // Gathers at an unlabelled cell where a fit maps it to: what is passed over is counted, and the cell is tried.

@@ -1,6 +1,7 @@
 -- What a call leaves, by the pass that it is of; and that what it says is small. Assumes nothing.
 use Rattle.std.specs.Prelude.{Ok, Err}
-use mathlib.Core.Path.{◌≡◌, refl, sym, ap, ◌∙◌, subst}
+use Rattle.std.specs.Result.{MatchResult, IsOkAnd}
+use mathlib.Core.Path.{◌≡◌, refl, sym, ap, subst}
 use mathlib.Core.List.{List, []}
 use Prim.Native.Nat.{ℕ}
 use native.Mathlib.Omega.{arith}
@@ -14,21 +15,19 @@ use Rattle.arguments.specs.declared.Settings.{Settings}
 use Rattle.arguments.specs.declared.GrowParams.{GrowParams}
 use Rattle.arguments.specs.declared.FillParams.{FillParams}
 use Rattle.arguments.specs.declared.LocalExtensionParams.{LocalExtensionParams}
-use Rattle.passes.specs.Outcome.{Outcome, refused, done}
+use Rattle.passes.specs.Outcome.{Outcome, refused, done, Answer}
 use Rattle.passes.specs.Fill.{fill_after}
 use Rattle.passes.specs.Local.{local_after}
 use Rattle.passes.specs.Step.{lent_of, rooms, unless, grow_step, GrowOut, grow_out, grow_leaves, fill_step, FillOut, fill_out, fill_leaves, local_step, LocalOut, local_out, local_leaves}
-use Rattle.passes.specs.Run.{Call, PassStats, grow_stats, fill_stats, local_stats, renamed, step}
+use Rattle.passes.specs.Run.{Call, renamed, step}
+use Rattle.passes.specs.declared.PassStats.{PassStats}
 use Rattle.passes.specs.declared.GrowStats.{GrowStats}
-use Rattle.passes.specs.declared.GrowAnswer.{GrowAnswer}
-use Rattle.passes.specs.declared.FillAnswer.{FillAnswer}
-use Rattle.passes.specs.declared.LocalAnswer.{LocalAnswer}
-use Rattle.passes.specs.declared.PassAnswer.{PassAnswer}
+use Rattle.passes.specs.declared.LocalStats.{LocalStats}
+use Rattle.passes.specs.declared.FillStats.{FillStats}
 use Rattle.invariants.specs.Calls.{checked_call, after_call}
 use Rattle.invariants.proofs.Run.{step_as_lem, call_accepted}
-use Rattle.count_bounds.specs.Bounds.{Small}
 use Rattle.count_bounds.proofs.Small.{small}
-use Rattle.pass_call.specs.Call.{call_of, grow_answered, fill_answered, local_answered, done_answer, PassOut, pass_out, pass_leaves, SmallAnswer}
+use Rattle.pass_call.specs.Call.{call_of, answered, PassOut, pass_out, pass_leaves, SmallAnswer}
 
 -- fill and local are lent no queue: how long one is changes nothing
 no_queue : (l : CornerLists) (shades sheet : List ℕ) (queue attached : ℕ) (set : Settings) (p : Pass) → ((n : ℕ) → queue_needed p n ≡ 0)
@@ -36,20 +35,26 @@ no_queue : (l : CornerLists) (shades sheet : List ℕ) (queue attached : ℕ) (s
 unfolding checked too_short over_limit out_of_range
 no_queue l shades sheet queue attached set p none = rw (none (length l.xs), le-ltb queue 0 (omega arith)) refl
 
+-- an answer as an answer of any of the three
+pub mapped : {A : Type 0} (f : A → PassStats) (a : Answer A) (r : Answer PassStats) → MatchResult a (λ x. IsOkAnd r (λ y. y ≡ f x)) (λ e. r ≡ Err e) → r ≡ answered f a
+mapped f (Ok s) (Ok y) h = ap Ok h
+mapped f (Ok s) (Err e) h = absurd h
+mapped f (Err e) r h = h
+
 -- ---- what it leaves
 
-module _ (l : CornerLists) (set : Settings) (shades sheet queue attached sheet' attached' : List ℕ) (pass : Pass) (r : PassAnswer) where
-  pub grow_left_lem : (p : GrowParams) → pass ≡ Pass.Grow p → (queue' : List ℕ) (answer : GrowAnswer) → r ≡ grow_answered answer
+module _ (l : CornerLists) (set : Settings) (shades sheet queue attached sheet' attached' : List ℕ) (pass : Pass) (r : Answer PassStats) where
+  pub grow_left_lem : (p : GrowParams) → pass ≡ Pass.Grow p → (queue' : List ℕ) (answer : Answer GrowStats) → r ≡ answered PassStats.Grow answer
       → grow_out answer sheet' queue' attached' ≡ grow_leaves (grow_step l shades sheet set p (rooms (length queue) (length attached))) sheet queue attached
       → pass_out r sheet' queue' attached' ≡ pass_leaves (step l sheet (call_of set shades (length queue) (length attached) pass)) sheet queue attached
   unfolding step
   grow_left_lem p t queue' answer q e = rw (t, q) (go (grow_step l shades sheet set p (rooms (length queue) (length attached))) e)
     where
       told : GrowOut → PassOut
-      told o = pass_out (grow_answered o.answer) o.sheet o.queue o.attached
+      told o = pass_out (answered PassStats.Grow o.answer) o.sheet o.queue o.attached
 
       go : (o : Outcome GrowStats) → grow_out answer sheet' queue' attached' ≡ grow_leaves o sheet queue attached
-          → pass_out (grow_answered answer) sheet' queue' attached' ≡ pass_leaves (renamed grow_stats o) sheet queue attached
+          → pass_out (answered PassStats.Grow answer) sheet' queue' attached' ≡ pass_leaves (renamed PassStats.Grow o) sheet queue attached
       go (refused s) w = ap told w
       go (done a) w = ap told w
 
@@ -63,8 +68,8 @@ unfolding local_after
 local_visits_none l set p shades sheet = refl
 
 -- so how long a queue is changes nothing, and it stays as it was
-module _ (l : CornerLists) (set : Settings) (shades sheet queue attached sheet' attached' : List ℕ) (pass : Pass) (r : PassAnswer) where
-  pub fill_left_lem : (p : FillParams) → pass ≡ Pass.Fill p → (answer : FillAnswer) → r ≡ fill_answered answer
+module _ (l : CornerLists) (set : Settings) (shades sheet queue attached sheet' attached' : List ℕ) (pass : Pass) (r : Answer PassStats) where
+  pub fill_left_lem : (p : FillParams) → pass ≡ Pass.Fill p → (answer : Answer FillStats) → r ≡ answered PassStats.Fill answer
       → fill_out answer sheet' attached' ≡ fill_leaves (fill_step l shades sheet set p (rooms 0 (length attached))) sheet attached
       → pass_out r sheet' queue attached' ≡ pass_leaves (step l sheet (call_of set shades (length queue) (length attached) pass)) sheet queue attached
   unfolding step fill_step queue_needed
@@ -72,15 +77,15 @@ module _ (l : CornerLists) (set : Settings) (shades sheet queue attached sheet' 
       rw (t, q, no_queue l shades sheet (length queue) (length attached) set (Pass.Fill p) (λ n. refl)) (go (checked (lent_of l shades sheet (rooms 0 (length attached))) set (Pass.Fill p)) e)
     where
       told : FillOut → PassOut
-      told o = pass_out (fill_answered o.answer) o.sheet queue o.attached
+      told o = pass_out (answered PassStats.Fill o.answer) o.sheet queue o.attached
 
       go : (k : Checked) → fill_out answer sheet' attached' ≡ fill_leaves (unless k (fill_after (corners_of l shades) set p sheet)) sheet attached
-          → pass_out (fill_answered answer) sheet' queue attached'
-          ≡ pass_leaves (renamed fill_stats (unless k (fill_after (corners_of l shades) set p sheet))) sheet queue attached
+          → pass_out (answered PassStats.Fill answer) sheet' queue attached'
+          ≡ pass_leaves (renamed PassStats.Fill (unless k (fill_after (corners_of l shades) set p sheet))) sheet queue attached
       go (Err s) w = ap told w
       go (Ok tt) w = rw (fill_visits_none l set p shades sheet) (ap told w)
 
-  pub local_left_lem : (p : LocalExtensionParams) → pass ≡ Pass.Local p → (answer : LocalAnswer) → r ≡ local_answered answer
+  pub local_left_lem : (p : LocalExtensionParams) → pass ≡ Pass.Local p → (answer : Answer LocalStats) → r ≡ answered PassStats.Local answer
       → local_out answer sheet' attached' ≡ local_leaves (local_step l shades sheet set p (rooms 0 (length attached))) sheet attached
       → pass_out r sheet' queue attached' ≡ pass_leaves (step l sheet (call_of set shades (length queue) (length attached) pass)) sheet queue attached
   unfolding step local_step queue_needed
@@ -88,35 +93,30 @@ module _ (l : CornerLists) (set : Settings) (shades sheet queue attached sheet' 
       rw (t, q, no_queue l shades sheet (length queue) (length attached) set (Pass.Local p) (λ n. refl)) (go (checked (lent_of l shades sheet (rooms 0 (length attached))) set (Pass.Local p)) e)
     where
       told : LocalOut → PassOut
-      told o = pass_out (local_answered o.answer) o.sheet queue o.attached
+      told o = pass_out (answered PassStats.Local o.answer) o.sheet queue o.attached
 
       go : (k : Checked) → local_out answer sheet' attached' ≡ local_leaves (unless k (local_after (corners_of l shades) set p sheet)) sheet attached
-          → pass_out (local_answered answer) sheet' queue attached'
-          ≡ pass_leaves (renamed local_stats (unless k (local_after (corners_of l shades) set p sheet))) sheet queue attached
+          → pass_out (answered PassStats.Local answer) sheet' queue attached'
+          ≡ pass_leaves (renamed PassStats.Local (unless k (local_after (corners_of l shades) set p sheet))) sheet queue attached
       go (Err s) w = ap told w
       go (Ok tt) w = rw (local_visits_none l set p shades sheet) (ap told w)
 
 -- ---- what it says is small
-
-small_done : (s : PassStats) → Small s → SmallAnswer (done_answer s)
-small_done (grow_stats s) h = h
-small_done (fill_stats s) h = h
-small_done (local_stats s) h = h
 
 pub call_small : (l : CornerLists) (sheet : List ℕ) (c : Call) (queue attached : List ℕ) → SmallAnswer (pass_leaves (step l sheet c) sheet queue attached).answer
 call_small l sheet c queue attached = rw (step_as_lem l sheet c) (go (checked_call l sheet c) refl)
   where
     go : (k : Checked) → checked_call l sheet c ≡ k → SmallAnswer (pass_leaves (unless k (after_call l sheet c)) sheet queue attached).answer
     go (Err r) e = tt
-    go (Ok tt) e = small_done (after_call l sheet c).answer (small l sheet c (call_accepted l sheet c e))
+    go (Ok tt) e = small l sheet c (call_accepted l sheet c e)
 
-pub answer_small : (l : CornerLists) (sheet : List ℕ) (c : Call) (queue attached sheet' queue' attached' : List ℕ) (r : PassAnswer)
+pub answer_small : (l : CornerLists) (sheet : List ℕ) (c : Call) (queue attached sheet' queue' attached' : List ℕ) (r : Answer PassStats)
     → pass_out r sheet' queue' attached' ≡ pass_leaves (step l sheet c) sheet queue attached → SmallAnswer r
 answer_small l sheet c queue attached sheet' queue' attached' r e =
     subst SmallAnswer (sym (ap (λ (o : PassOut). o.answer) e)) (call_small l sheet c queue attached)
 
 -- both promises of a call at once
-pub both : (l : CornerLists) (sheet : List ℕ) (c : Call) (queue attached sheet' queue' attached' : List ℕ) (r : PassAnswer)
+pub both : (l : CornerLists) (sheet : List ℕ) (c : Call) (queue attached sheet' queue' attached' : List ℕ) (r : Answer PassStats)
     → pass_out r sheet' queue' attached' ≡ pass_leaves (step l sheet c) sheet queue attached
     → (pass_out r sheet' queue' attached' ≡ pass_leaves (step l sheet c) sheet queue attached) × SmallAnswer r
 both l sheet c queue attached sheet' queue' attached' r e = (e, answer_small l sheet c queue attached sheet' queue' attached' r e)

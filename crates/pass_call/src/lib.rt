@@ -5,44 +5,15 @@
 ghost use Rattle.std.specs.Prelude.{◌≡◌, length};
 ghost use Rattle.sheet.specs.Corners.{corner_lists};
 ghost use Rattle.passes.specs.Run.{step};
-ghost use Rattle.pass_call.specs.Call.{grow_answered, fill_answered, local_answered, pass_out, pass_leaves, call_of, SmallAnswer};
+ghost use Rattle.pass_call.specs.Call.{pass_out, pass_leaves, call_of, SmallAnswer};
 
 use arguments::{Pass, Settings};
-use passes::{FillAnswer, GrowAnswer, LocalAnswer, PassAnswer};
-
-// Grow's answer.
-fn of_grow(answer: GrowAnswer) -> PassAnswer
-    ensures { result ≡ grow_answered answer }
-{
-    match answer {
-        GrowAnswer::Done(stats) => PassAnswer::Grow(stats),
-        GrowAnswer::Refused(refusal) => PassAnswer::Refused(refusal),
-    }
-}
-
-// Fill's answer.
-fn of_fill(answer: FillAnswer) -> PassAnswer
-    ensures { result ≡ fill_answered answer }
-{
-    match answer {
-        FillAnswer::Done(stats) => PassAnswer::Fill(stats),
-        FillAnswer::Refused(refusal) => PassAnswer::Refused(refusal),
-    }
-}
-
-// Local's answer.
-fn of_local(answer: LocalAnswer) -> PassAnswer
-    ensures { result ≡ local_answered answer }
-{
-    match answer {
-        LocalAnswer::Done(stats) => PassAnswer::Local(stats),
-        LocalAnswer::Refused(refusal) => PassAnswer::Refused(refusal),
-    }
-}
+use passes::PassStats;
+use refusal::Refusal;
 
 // Runs a pass: its answer, and every lent buffer, are those of the step that it is. Fill and local leave the queue as it was. `small`: what it
 // says is small enough for the words of an outcome.
-// Each buffer is lent by itself, as the C interface lends it.
+// Stays: each buffer is lent by itself, as the C interface lends it.
 pub fn call_pass(
     xs: &[f32],
     ys: &[f32],
@@ -53,7 +24,7 @@ pub fn call_pass(
     attached: &mut [u16],
     settings: Settings,
     pass: Pass,
-) -> PassAnswer
+) -> Result<PassStats, Refusal>
     ensures attached_after { pass_out result sheet.new queue.new attached.new
         ≡ pass_leaves (step (corner_lists xs.now ys.now pitches.now) sheet.old
         (call_of settings shades.now (length queue.old) (length attached.old) pass))
@@ -61,14 +32,14 @@ pub fn call_pass(
     ensures small { SmallAnswer result }
 {
     match pass {
-        Pass::Grow(p) => of_grow(grow_extend::extend_from_labelled(
+        Pass::Grow(p) => grow_extend::extend_from_labelled(
             xs, ys, pitches, shades, sheet, queue, attached, settings, p,
-        )),
-        Pass::Fill(p) => of_fill(fill::fill_grid_holes(
+        ).map(PassStats::Grow),
+        Pass::Fill(p) => fill::fill_grid_holes(
             xs, ys, pitches, shades, sheet, attached, settings, p,
-        )),
-        Pass::Local(p) => of_local(local::extend_via_local_homography(
+        ).map(PassStats::Fill),
+        Pass::Local(p) => local::extend_via_local_homography(
             xs, ys, pitches, shades, sheet, attached, settings, p,
-        )),
+        ).map(PassStats::Local),
     }
 }

@@ -4,7 +4,8 @@ use mathlib.Core.List.{List, [], ◌∷◌, ◌++◌}
 use Prim.Native.Nat.{ℕ}
 use Rattle.sheet.specs.Corners.{CornerLists}
 use Rattle.passes.specs.Outcome.{Outcome}
-use Rattle.passes.specs.Run.{Call, PassStats, step, sheet_after, run, sheet_of}
+use Rattle.passes.specs.Run.{Call, step, sheet_after, run, sheet_of}
+use Rattle.passes.specs.declared.PassStats.{PassStats}
 
 pub run_then : (l : CornerLists) (sheet : List ℕ) (cs ds : List Call) → run l sheet (cs ++ ds) ≡ run l sheet cs ++ run l (sheet_of l sheet cs) ds
 unfolding run sheet_of

@@ -7,9 +7,7 @@ use Rattle.arguments.specs.declared.Pass.{Pass}
 use Rattle.arguments.specs.declared.Settings.{Settings}
 use Rattle.passes.specs.Outcome.{After, Outcome, refused, done}
 use Rattle.passes.specs.Step.{Rooms, grow_step, fill_step, local_step}
-use Rattle.passes.specs.declared.GrowStats.{GrowStats}
-use Rattle.passes.specs.declared.FillStats.{FillStats}
-use Rattle.passes.specs.declared.LocalStats.{LocalStats}
+use Rattle.passes.specs.declared.PassStats.{PassStats}
 
 -- one call: which pass with its numbers, cell size, axes and band, the shades that it is lent, and the lengths of the other lent buffers
 pub record Call : Type 0 where
@@ -18,12 +16,6 @@ pub record Call : Type 0 where
   pub shades : List ℕ
   pub rooms : Rooms
 
--- what a pass answers
-pub data PassStats : Type 0 where
-  grow_stats : GrowStats → PassStats
-  fill_stats : FillStats → PassStats
-  local_stats : LocalStats → PassStats
-
 -- an outcome with another answer
 abbrev pub renamed : {A B : Type 0} → (A → B) → Outcome A → Outcome B
 renamed f (refused r) = refused r
@@ -31,9 +23,9 @@ renamed f (done a) = done (record { answer = f a.answer; sheet = a.sheet; attach
 
 -- what a call does
 abbrev pub step_as : CornerLists → List ℕ → List ℕ → Settings → Rooms → Pass → Outcome PassStats
-step_as l shades sheet set r (Pass.Grow p) = renamed grow_stats (grow_step l shades sheet set p r)
-step_as l shades sheet set r (Pass.Fill p) = renamed fill_stats (fill_step l shades sheet set p r)
-step_as l shades sheet set r (Pass.Local p) = renamed local_stats (local_step l shades sheet set p r)
+step_as l shades sheet set r (Pass.Grow p) = renamed PassStats.Grow (grow_step l shades sheet set p r)
+step_as l shades sheet set r (Pass.Fill p) = renamed PassStats.Fill (fill_step l shades sheet set p r)
+step_as l shades sheet set r (Pass.Local p) = renamed PassStats.Local (local_step l shades sheet set p r)
 
 unfoldable pub step : CornerLists → List ℕ → Call → Outcome PassStats
 step l sheet c = step_as l c.shades sheet c.settings c.rooms c.pass

@@ -1,16 +1,13 @@
 -- What the answers of the passes say, in document 01's numbers and values ("Frame and result": "Grow: attached, no candidate, ambiguous, edge, rim.
 -- Fill: added, rounds, rim. Local: grow's four, rounds, largest residual or `none`, rim."; document 02, 1/14: unmatched). Definitions only.
-use Rattle.std.specs.Prelude.{List, [], ◌∷◌, Option, None, Some, ℕ, Float}
+use Rattle.std.specs.Prelude.{List, [], ◌∷◌, Option, None, Some, ℕ, Float, Ok, Err}
 use Rattle.refusal.specs.Refusal.{number_of}
 use Rattle.refusal.specs.Said.{Value, whole, float, yes_or_no, none, Said, number, values}
-use Rattle.passes.specs.Outcome.{Outcome, refused, done}
+use Rattle.passes.specs.Outcome.{Outcome, refused, done, Answer}
 use Rattle.passes.specs.declared.Counts.{Counts}
 use Rattle.passes.specs.declared.GrowStats.{GrowStats}
-use Rattle.passes.specs.declared.GrowAnswer.{GrowAnswer}
 use Rattle.passes.specs.declared.FillStats.{FillStats}
-use Rattle.passes.specs.declared.FillAnswer.{FillAnswer}
 use Rattle.passes.specs.declared.LocalStats.{LocalStats}
-use Rattle.passes.specs.declared.LocalAnswer.{LocalAnswer}
 
 -- ---- the values of a pass that was run
 
@@ -60,17 +57,17 @@ local_values s =
 
 -- ---- each answer by its cases
 
-unfoldable pub grow_said : GrowAnswer → Said
-grow_said (GrowAnswer.Refused r) = number (number_of r)
-grow_said (GrowAnswer.Done s) = values (grow_values s)
+unfoldable pub grow_said : Answer GrowStats → Said
+grow_said (Err r) = number (number_of r)
+grow_said (Ok s) = values (grow_values s)
 
-unfoldable pub fill_said : FillAnswer → Said
-fill_said (FillAnswer.Refused r) = number (number_of r)
-fill_said (FillAnswer.Done s) = values (fill_values s)
+unfoldable pub fill_said : Answer FillStats → Said
+fill_said (Err r) = number (number_of r)
+fill_said (Ok s) = values (fill_values s)
 
-unfoldable pub local_said : LocalAnswer → Said
-local_said (LocalAnswer.Refused r) = number (number_of r)
-local_said (LocalAnswer.Done s) = values (local_values s)
+unfoldable pub local_said : Answer LocalStats → Said
+local_said (Err r) = number (number_of r)
+local_said (Ok s) = values (local_values s)
 
 -- ---- what an answer is due to say: the number of the refusal that the definition of the call gives, or the values of the pass
 

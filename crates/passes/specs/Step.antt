@@ -10,16 +10,13 @@ use Rattle.arguments.specs.declared.GrowParams.{GrowParams}
 use Rattle.arguments.specs.declared.FillParams.{FillParams}
 use Rattle.arguments.specs.declared.LocalExtensionParams.{LocalExtensionParams}
 use Rattle.arguments.specs.Front.{over}
-use Rattle.passes.specs.Outcome.{After, Outcome, refused, done}
+use Rattle.passes.specs.Outcome.{After, Outcome, refused, done, Answer}
 use Rattle.passes.specs.Grow.{grow_after}
 use Rattle.passes.specs.Fill.{fill_after}
 use Rattle.passes.specs.Local.{local_after}
 use Rattle.passes.specs.declared.GrowStats.{GrowStats}
-use Rattle.passes.specs.declared.GrowAnswer.{GrowAnswer}
 use Rattle.passes.specs.declared.FillStats.{FillStats}
-use Rattle.passes.specs.declared.FillAnswer.{FillAnswer}
 use Rattle.passes.specs.declared.LocalStats.{LocalStats}
-use Rattle.passes.specs.declared.LocalAnswer.{LocalAnswer}
 
 -- the lengths of the other lent buffers; fill and local are lent no queue
 pub record Rooms : Type 0 where
@@ -51,38 +48,38 @@ local_step l shades sheet set p r = unless (checked (lent_of l shades sheet r) s
 -- ---- what a call leaves in the buffers that it is lent: all of it untouched where it is refused
 
 pub record GrowOut : Type 0 where
-  pub answer : GrowAnswer
+  pub answer : Answer GrowStats
   pub sheet : List ℕ
   pub queue : List ℕ
   pub attached : List ℕ
 
-abbrev pub grow_out : GrowAnswer → List ℕ → List ℕ → List ℕ → GrowOut
+abbrev pub grow_out : Answer GrowStats → List ℕ → List ℕ → List ℕ → GrowOut
 grow_out r s q a = record { answer = r; sheet = s; queue = q; attached = a }
 
 abbrev pub grow_leaves : Outcome GrowStats → List ℕ → List ℕ → List ℕ → GrowOut
-grow_leaves (refused r) sheet queue attached = grow_out (GrowAnswer.Refused r) sheet queue attached
-grow_leaves (done a) sheet queue attached = grow_out (GrowAnswer.Done a.answer) a.sheet (over a.visited queue) (over a.attached attached)
+grow_leaves (refused r) sheet queue attached = grow_out (Err r) sheet queue attached
+grow_leaves (done a) sheet queue attached = grow_out (Ok a.answer) a.sheet (over a.visited queue) (over a.attached attached)
 
 pub record FillOut : Type 0 where
-  pub answer : FillAnswer
+  pub answer : Answer FillStats
   pub sheet : List ℕ
   pub attached : List ℕ
 
-abbrev pub fill_out : FillAnswer → List ℕ → List ℕ → FillOut
+abbrev pub fill_out : Answer FillStats → List ℕ → List ℕ → FillOut
 fill_out r s a = record { answer = r; sheet = s; attached = a }
 
 abbrev pub fill_leaves : Outcome FillStats → List ℕ → List ℕ → FillOut
-fill_leaves (refused r) sheet attached = fill_out (FillAnswer.Refused r) sheet attached
-fill_leaves (done a) sheet attached = fill_out (FillAnswer.Done a.answer) a.sheet (over a.attached attached)
+fill_leaves (refused r) sheet attached = fill_out (Err r) sheet attached
+fill_leaves (done a) sheet attached = fill_out (Ok a.answer) a.sheet (over a.attached attached)
 
 pub record LocalOut : Type 0 where
-  pub answer : LocalAnswer
+  pub answer : Answer LocalStats
   pub sheet : List ℕ
   pub attached : List ℕ
 
-abbrev pub local_out : LocalAnswer → List ℕ → List ℕ → LocalOut
+abbrev pub local_out : Answer LocalStats → List ℕ → List ℕ → LocalOut
 local_out r s a = record { answer = r; sheet = s; attached = a }
 
 abbrev pub local_leaves : Outcome LocalStats → List ℕ → List ℕ → LocalOut
-local_leaves (refused r) sheet attached = local_out (LocalAnswer.Refused r) sheet attached
-local_leaves (done a) sheet attached = local_out (LocalAnswer.Done a.answer) a.sheet (over a.attached attached)
+local_leaves (refused r) sheet attached = local_out (Err r) sheet attached
+local_leaves (done a) sheet attached = local_out (Ok a.answer) a.sheet (over a.attached attached)

@@ -8,7 +8,6 @@ ghost use Rattle.std.specs.Prelude.{◌≡◌, ◌<◌};
 ghost use Rattle.passes.specs.Counting.{one_more, visits};
 
 use extension_common::TryCellResult;
-use refusal::Refusal;
 
 // The counts of grow, and of local.
 #[derive(Clone, Copy)]
@@ -59,20 +58,6 @@ pub struct FillStats {
     pub rim: bool,
 }
 
-// What the public call of grow answers.
-#[derive(Clone, Copy)]
-pub enum GrowAnswer {
-    Done(GrowStats),
-    Refused(Refusal),
-}
-
-// What the public call of fill answers.
-#[derive(Clone, Copy)]
-pub enum FillAnswer {
-    Done(FillStats),
-    Refused(Refusal),
-}
-
 // Local's pass line: grow's four counts, rounds, largest residual or none, rim; and the corners passed over.
 #[derive(Clone, Copy)]
 pub struct LocalStats {
@@ -85,18 +70,10 @@ pub struct LocalStats {
     pub unmatched: Option<usize>,
 }
 
-// What the public call of local answers.
+// What any of the three says.
 #[derive(Clone, Copy)]
-pub enum LocalAnswer {
-    Done(LocalStats),
-    Refused(Refusal),
-}
-
-// What a call of any of the three answers.
-#[derive(Clone, Copy)]
-pub enum PassAnswer {
+pub enum PassStats {
     Grow(GrowStats),
     Fill(FillStats),
     Local(LocalStats),
-    Refused(Refusal),
 }

@@ -121,6 +121,7 @@ pub fn any_cardinal_edge_ok(
     ensures { result ≡ verdict_of (seen_of (corner_in corners.now) sheet.now) tol c candidate }
 {
     let mut verdict = EdgeVerdict::NonePresent;
+    // Stays: the specification asks for a loop over the four cardinal cells, in their order, that stops at the first accepted edge.
     for k in 0..4usize {
         match cardinal_edge(corners, sheet, c, candidate, tol, k) {
             EdgeVerdict::Accepted => return EdgeVerdict::Accepted,

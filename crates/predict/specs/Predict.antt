@@ -15,6 +15,7 @@ use Rattle.sheet.specs.declared.Position.{Position}
 use Rattle.binary32.specs.Numbers.{nought, half, one}
 use Rattle.predict.specs.declared.Neighbour.{Neighbour}
 use Rattle.predict.specs.declared.Direction.{Direction}
+use Rattle.predict.specs.declared.LocalStep.{LocalStep}
 use Rattle.predict.specs.declared.Vector.{Vector}
 use Rattle.predict.specs.declared.Grid.{Grid}
 use Rattle.predict.specs.declared.Sums.{Sums}
@@ -62,27 +63,28 @@ backward_of Direction.I = offset minus_one (pos 0)
 backward_of Direction.J = offset (pos 0) minus_one
 
 -- the difference of two positions, and half of it
-abbrev pub one_sided : Position → Position → Vector
-one_sided f b = record { x = sub binary32 f.x b.x; y = sub binary32 f.y b.y }
+abbrev pub one_sided : Position → Position → LocalStep
+one_sided f b = LocalStep.Own (sub binary32 f.x b.x) (sub binary32 f.y b.y)
 
-abbrev pub both_sided : Position → Position → Vector
-both_sided f b = record { x = mul binary32 (sub binary32 f.x b.x) half; y = mul binary32 (sub binary32 f.y b.y) half }
+abbrev pub both_sided : Position → Position → LocalStep
+both_sided f b = LocalStep.Own (mul binary32 (sub binary32 f.x b.x) half) (mul binary32 (sub binary32 f.y b.y) half)
 
--- a step by what is seen forward and backward: half the difference of both sides' positions, or the one-sided difference, or none
-abbrev pub step_between : Position → Option Corner → Option Corner → Option Vector
-step_between here (Some f) (Some b) = Some (both_sided f.position b.position)
-step_between here (Some f) None = Some (one_sided f.position here)
-step_between here None (Some b) = Some (one_sided here b.position)
-step_between here None None = None
+-- a step by what is seen forward and backward: half the difference of both sides' positions, or the one-sided difference, or
+-- else the axis
+abbrev pub step_between : Position → Option Corner → Option Corner → LocalStep
+step_between here (Some f) (Some b) = both_sided f.position b.position
+step_between here (Some f) None = one_sided f.position here
+step_between here None (Some b) = one_sided here b.position
+step_between here None None = LocalStep.Axis
 
--- the step of its own at a neighbour along i or j
-unfoldable pub step_at : (Cell → Option Corner) → Neighbour → Direction → Option Vector
+-- the step at a neighbour along i or j
+unfoldable pub step_at : (Cell → Option Corner) → Neighbour → Direction → LocalStep
 step_at seen n d = step_between n.position (seen (moved n.at (forward_of d))) (seen (moved n.at (backward_of d)))
 
--- a step of its own, or else axis times cell size
-abbrev pub vector_of : Vector → Float → Option Vector → Vector
-vector_of axis size (Some step) = step
-vector_of axis size None = record { x = mul binary32 axis.x size; y = mul binary32 axis.y size }
+-- a step as a vector: its own pair, or axis times cell size
+abbrev pub vector_of : Vector → Float → LocalStep → Vector
+vector_of axis size (LocalStep.Own x y) = record { x = x; y = y }
+vector_of axis size LocalStep.Axis = record { x = mul binary32 axis.x size; y = mul binary32 axis.y size }
 
 -- the axis of i, or of j
 abbrev pub axis_of : Grid → Direction → Vector
@@ -196,19 +198,7 @@ pub record GivenCell (sheet : List ℕ) (c : Cell) : Type 0 where
   pub given : Given corner_limit sheet
   pub on : OnSheet c
 
--- two such cells
-pub record GivenCells (sheet : List ℕ) (c d : Cell) : Type 0 where
-  pub given : Given corner_limit sheet
-  pub on : OnSheet c
-  pub on_too : OnSheet d
-
--- a cell of the square around a cell, by its number
-pub record GivenSquare (sheet : List ℕ) (c : Cell) (k : ℕ) : Type 0 where
-  pub given : Given corner_limit sheet
-  pub on : OnSheet c
-  pub small : k < 8
-
--- the same, where the labels alone are looked at
+-- a cell of the square around a cell, by its number, where the labels alone are looked at
 pub record SheetSquare (sheet : List ℕ) (c : Cell) (k : ℕ) : Type 0 where
   pub long : place_count ≤ length sheet
   pub on : OnSheet c

@@ -4,11 +4,11 @@
 #![tactic(auto)]
 
 ghost use Rattle.std.specs.Prelude.{◌≡◌, ℕ, ◌<◌, ◌≤◌, length};
-ghost use Rattle.sizes.specs.Sizes.{place_count};
-ghost use Rattle.sheet.specs.Cells.{Within};
+ghost use Rattle.sizes.specs.Sizes.{place_count, corner_limit};
+ghost use Rattle.sheet.specs.Cells.{OnSheet, Within};
 ghost use Rattle.sheet.specs.Words.{SheetCell};
-ghost use Rattle.sheet.specs.Corners.{corner_in, seen_of};
-ghost use Rattle.predict.specs.Predict.{forward_of, backward_of, one_sided, both_sided, step_between, step_at, vector_of, axis_of, step_vector, weighed, with_neighbour, sums_of, prediction_of, on_side, has_neighbour, extrapolating, square_offset, square_cell, is_seen, labelled_on, with_cell, GivenCell, GivenCells, GivenSquare, SheetSquare};
+ghost use Rattle.sheet.specs.Corners.{corner_in, seen_of, Given};
+ghost use Rattle.predict.specs.Predict.{forward_of, backward_of, one_sided, both_sided, step_between, step_at, vector_of, axis_of, weighed, prediction_of, on_side, has_neighbour, extrapolating, square_offset, square_cell, is_seen, labelled_on, GivenCell, SheetSquare};
 
 use sheet::{Cell, Corner, Offset, Position};
 use sizes::CORNERS;
@@ -25,6 +25,14 @@ pub struct Neighbour {
 pub enum Direction {
     I,
     J,
+}
+
+// A step at a cell: its own pair, or axis times cell size.
+// Stays: the specification describes the step as an enum of these two cases.
+#[derive(Clone, Copy)]
+pub enum LocalStep {
+    Own(f32, f32),
+    Axis,
 }
 
 // A vector in the picture.
@@ -102,44 +110,39 @@ fn backward(d: Direction) -> Offset
 }
 
 // The difference of two positions.
-fn one_sided(f: Position, b: Position) -> Vector
+fn one_sided(f: Position, b: Position) -> LocalStep
     ensures { result ≡ one_sided f b }
 {
-    Vector {
-        x: f.x - b.x,
-        y: f.y - b.y,
-    }
+    LocalStep::Own(f.x - b.x, f.y - b.y)
 }
 
 // Half the difference of two positions.
-fn both_sided(f: Position, b: Position) -> Vector
+fn both_sided(f: Position, b: Position) -> LocalStep
     ensures { result ≡ both_sided f b }
 {
-    Vector {
-        x: (f.x - b.x) * 0.5,
-        y: (f.y - b.y) * 0.5,
-    }
+    LocalStep::Own((f.x - b.x) * 0.5, (f.y - b.y) * 0.5)
 }
 
-// The step at a position by what is seen forward and backward of it, if anything is.
-fn step_between(here: Position, f: Option<Corner>, b: Option<Corner>) -> Option<Vector>
+// The step at a position by what is seen forward and backward of it.
+fn step_between(here: Position, f: Option<Corner>, b: Option<Corner>) -> LocalStep
     ensures { result ≡ step_between here f b }
 {
     match (f, b) {
-        (Some(f), Some(b)) => Some(both_sided(f.position, b.position)),
-        (Some(f), None) => Some(one_sided(f.position, here)),
-        (None, Some(b)) => Some(one_sided(here, b.position)),
-        (None, None) => None,
+        (Some(f), Some(b)) => both_sided(f.position, b.position),
+        (Some(f), None) => one_sided(f.position, here),
+        (None, Some(b)) => one_sided(here, b.position),
+        (None, None) => LocalStep::Axis,
     }
 }
 
-// The step of its own that a neighbour has along i or j: half the difference of both sides' positions, or the one-sided difference. (The Rust looks the neighbour's own position up again; here the neighbour has it.)
+// The step at a neighbour along i or j: half the difference of both sides' positions, or the one-sided difference, or else the
+// axis. (The Rust looks the neighbour's own position up again; here the neighbour has it.)
 pub fn local_step_at(
     corners: &[f32; 4 * CORNERS],
     sheet: &[u16],
     n: Neighbour,
     d: Direction,
-) -> Option<Vector>
+) -> LocalStep
     requires { GivenCell sheet.now n.at }
     ensures { result ≡ step_at (seen_of (corner_in corners.now) sheet.now) n d }
 {
@@ -148,14 +151,17 @@ pub fn local_step_at(
     step_between(n.position, f, b)
 }
 
-// A step of its own, or axis times cell size.
-fn vector_of(axis: Vector, cell_size: f32, step: Option<Vector>) -> Vector
+// A step as a vector: its own pair, or axis times cell size.
+fn vector_of(axis: Vector, cell_size: f32, step: LocalStep) -> Vector
     ensures { result ≡ vector_of axis cell_size step }
 {
-    step.unwrap_or(Vector {
-        x: axis.x * cell_size,
-        y: axis.y * cell_size,
-    })
+    match step {
+        LocalStep::Own(x, y) => Vector { x, y },
+        LocalStep::Axis => Vector {
+            x: axis.x * cell_size,
+            y: axis.y * cell_size,
+        },
+    }
 }
 
 // The axis of i, or of j.
@@ -166,21 +172,6 @@ fn axis_of(grid: Grid, d: Direction) -> Vector
         Direction::I => grid.axis_i,
         Direction::J => grid.axis_j,
     }
-}
-
-// The step at a neighbour along i or j, as a vector.
-fn step_vector(
-    corners: &[f32; 4 * CORNERS],
-    sheet: &[u16],
-    grid: Grid,
-    n: Neighbour,
-    d: Direction,
-) -> Vector
-    requires { GivenCell sheet.now n.at }
-    ensures { result ≡ step_vector (seen_of (corner_in corners.now) sheet.now) grid n d }
-{
-    let step = local_step_at(corners, sheet, n, d);
-    vector_of(axis_of(grid, d), grid.cell_size, step)
 }
 
 // The sums with one neighbour more, by the offset from it to the cell, its position and its steps along i and j. The Rust's
@@ -202,59 +193,72 @@ fn weigh(sums: Sums, o: Offset, p: Position, i_step: Vector, j_step: Vector) -> 
     }
 }
 
-// A neighbour's part in the sums for a cell.
-fn add_neighbour(
-    corners: &[f32; 4 * CORNERS],
-    sheet: &[u16],
+// A cell that is predicted, and what it is predicted from: the corners, the sheet whose labels name them, the axes and the cell size.
+#[derive(Clone, Copy)]
+struct Predicting<'a> {
+    corners: &'a [f32; 4 * CORNERS],
+    sheet: &'a [u16],
     grid: Grid,
     c: Cell,
-    sums: Sums,
-    n: Neighbour,
-) -> Sums
-    requires { GivenCells sheet.now c n.at }
-    ensures { result ≡ with_neighbour (seen_of (corner_in corners.now) sheet.now) grid c sums n }
-{
-    let i_step = step_vector(corners, sheet, grid, n, Direction::I);
-    let j_step = step_vector(corners, sheet, grid, n, Direction::J);
-    weigh(sums, sheet::difference(c, n.at), n.position, i_step, j_step)
+    ghost given: { Given corner_limit sheet.now },
+    ghost on: { OnSheet c },
 }
 
-// The sums with the k-th cell of the square, if it is labelled.
-fn add_if_labelled(
-    corners: &[f32; 4 * CORNERS],
-    sheet: &[u16],
-    grid: Grid,
-    c: Cell,
-    sums: Sums,
-    k: usize,
-) -> Sums
-    requires { GivenSquare sheet.now c k }
-    ensures { result ≡ with_cell (seen_of (corner_in corners.now) sheet.now) grid c sums (square_cell c k) }
-{
-    let at = sheet::neighbour(c, offset_of(k));
-    let seen = sheet::seen_at(corners, sheet, at);
-    match seen {
-        None => sums,
-        Some(corner) => {
-            let position = corner.position;
-            add_neighbour(corners, sheet, grid, c, sums, Neighbour { at, position })
+impl<'a> Predicting<'a> {
+    ghost use Rattle.predict.specs.Predict.{step_vector, with_neighbour, with_cell, sums_of};
+
+    // The step at a neighbour along i or j, as a vector.
+    fn step_vector(&self, n: Neighbour, d: Direction) -> Vector
+        requires { OnSheet n.at }
+        ensures { result ≡ step_vector (seen_of (corner_in self.now.corners.now) self.now.sheet.now) self.now.grid n d }
+    {
+        let step = local_step_at(self.corners, self.sheet, n, d);
+        vector_of(axis_of(self.grid, d), self.grid.cell_size, step)
+    }
+
+    // A neighbour's part in the sums for a cell.
+    fn add_neighbour(&self, sums: Sums, n: Neighbour) -> Sums
+        requires { OnSheet n.at }
+        ensures { result ≡ with_neighbour (seen_of (corner_in self.now.corners.now) self.now.sheet.now) self.now.grid self.now.c sums n }
+    {
+        let i_step = self.step_vector(n, Direction::I);
+        let j_step = self.step_vector(n, Direction::J);
+        weigh(
+            sums,
+            sheet::difference(self.c, n.at),
+            n.position,
+            i_step,
+            j_step,
+        )
+    }
+
+    // The sums with the k-th cell of the square, if it is labelled.
+    fn add_if_labelled(&self, sums: Sums, k: usize) -> Sums
+        requires { k < 8 }
+        ensures { result ≡ with_cell (seen_of (corner_in self.now.corners.now) self.now.sheet.now) self.now.grid self.now.c sums (square_cell self.now.c k) }
+    {
+        let at = sheet::neighbour(self.c, offset_of(k));
+        let seen = sheet::seen_at(self.corners, self.sheet, at);
+        match seen {
+            None => sums,
+            Some(corner) => {
+                let position = corner.position;
+                self.add_neighbour(sums, Neighbour { at, position })
+            }
         }
     }
-}
 
-// The sums over all neighbours, in their order.
-fn sum_neighbours(corners: &[f32; 4 * CORNERS], sheet: &[u16], c: Cell, grid: Grid) -> Sums
-    requires { GivenCell sheet.now c }
-    ensures { result ≡ sums_of (seen_of (corner_in corners.now) sheet.now) grid c }
-{
-    let none = Sums {
-        x: 0.0,
-        y: 0.0,
-        w: 0.0,
-    };
-    (0..8usize).fold(none, |sums, k| {
-        add_if_labelled(corners, sheet, grid, c, sums, k)
-    })
+    // The sums over all neighbours, in their order.
+    fn sum_neighbours(&self) -> Sums
+        ensures { result ≡ sums_of (seen_of (corner_in self.now.corners.now) self.now.sheet.now) self.now.grid self.now.c }
+    {
+        let none = Sums {
+            x: 0.0,
+            y: 0.0,
+            w: 0.0,
+        };
+        (0..8usize).fold(none, |sums, k| self.add_if_labelled(sums, k))
+    }
 }
 
 // Whether a cell is labelled, that is, whether a corner is seen at it, whatever the corners are.
@@ -308,7 +312,13 @@ pub fn predict_from_neighbours(
     if !has_neighbour(sheet, c, Side::Any) {
         return None;
     }
-    let sums = sum_neighbours(corners, sheet, c, grid);
+    let predicting = Predicting {
+        corners,
+        sheet,
+        grid,
+        c,
+    };
+    let sums = predicting.sum_neighbours();
     Some(Position {
         x: sums.x / sums.w,
         y: sums.y / sums.w,

@@ -11,7 +11,7 @@ pub use arguments::{FillParams, GrowParams, LocalExtensionParams, Settings};
 pub use fill::fill_grid_holes;
 pub use grow_extend::extend_from_labelled;
 pub use local::extend_via_local_homography;
-pub use passes::{Counts, FillAnswer, FillStats, GrowAnswer, GrowStats, LocalAnswer, LocalStats};
+pub use passes::{Counts, FillStats, GrowStats, LocalStats};
 pub use predict::{Grid, Vector};
 
 // the reader and the result's text (01, "Frame and result")

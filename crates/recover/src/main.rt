@@ -5,8 +5,9 @@
 
 ghost use Rattle.std.specs.Prelude.{◌≡◌};
 ghost use Rattle.recover.specs.Program.{Ran, Answered};
-ghost use Rattle.recover.specs.declared.Fault.TheVariants.{Output};
+ghost use Rattle.recover.specs.declared.Fault.TheVariants.{Input, Output};
 
+use recover_read::ReadFailed;
 use recover_say::{CutOff, Said};
 use std::fmt;
 use std::io::{Read, Write};
@@ -16,6 +17,14 @@ use std::io::{Read, Write};
 enum Fault {
     Input,
     Output(CutOff),
+}
+
+impl From<ReadFailed> for Fault {
+    ghost from_gives = { λ failed e. e ≡ Input };
+
+    fn from(_failed: ReadFailed) -> Fault {
+        Fault::Input
+    }
 }
 
 impl From<CutOff> for Fault {
@@ -42,14 +51,9 @@ fn run<R: Read, W: Write>(source: &mut R, out: &mut W) -> Result<Said, Fault>
         (W.contents out.old) (W.contents out.new) result }
 {
     let mut buffer = recover_say::text_buffer();
-    let input = recover_read::read_input(source, &mut buffer);
-    match input {
-        Ok(n) => {
-            let said = recover_say::answer(out, &buffer[..n])?;
-            Ok(said)
-        }
-        Err(_) => Err(Fault::Input),
-    }
+    let n = recover_read::read_input(source, &mut buffer)?;
+    let said = recover_say::answer(out, &buffer[..n])?;
+    Ok(said)
 }
 
 // Says on standard error what went wrong. Where that cannot be written either, nothing is left to do.

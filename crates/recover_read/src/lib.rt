@@ -42,6 +42,7 @@ fn meaning(answer: io::Result<usize>) -> Result<usize, NoAnswer>
 }
 
 // One read into the unfilled rest of the buffer; what stands before it is kept.
+// Stays: the contract speaks of the whole buffer, and says that what stands before the rest is kept (d).
 #[tactic(auto, unfolding(crate::specs::Reading::got_of))]
 fn read_rest<R: Read>(input: &mut R, buffer: &mut [u8], at: usize) -> Result<usize, NoAnswer>
     requires { at < length buffer.old }
@@ -84,6 +85,7 @@ pub fn read_input<R: Read>(input: &mut R, buffer: &mut [u8]) -> Result<usize, Re
 {
     let mut at = 0usize;
     let mut tries = 1000usize;
+    // Stays: a read gives as many bytes as it will, so that the step is not 1 (d).
     while at < buffer.len() {
         match read_on(at, tries, read_rest(input, buffer, at)) {
             ControlFlow::Break(answer) => return answer,

@@ -48,6 +48,7 @@ fn write_text<W: Write>(out: &mut W, text: &[u8]) -> io::Result<()>
     ensures { WroteText (W.contents out.old) (W.contents out.new) text.now (is_ok result) }
 {
     let mut rest = text;
+    // Stays: a write takes as many bytes as it will, so that the step is not 1 (d).
     while !rest.is_empty() {
         let n = out.write(rest)?;
         if n == 0 {
@@ -58,8 +59,8 @@ fn write_text<W: Write>(out: &mut W, text: &[u8]) -> io::Result<()>
     Ok(())
 }
 
-// Writes a piece of an answer: its number is how many were written before it. The answer, the words and the sheet say in the
-// contract which piece that is.
+// Writes a piece of an answer: its number is how many were written before it.
+// Stays: the answer, the words and the sheet are lent for the contract, which says by them which piece that is (d).
 fn put_piece<W: Write>(
     out: &mut W,
     answer: Result<Recovered, FrameRefusal>,
@@ -94,6 +95,7 @@ fn say<W: Write>(
         next: 0,
         lines,
     };
+    // Stays: a piece has as many lines as there is room for, so that the step is not 1 (d).
     while said.next < lines {
         let piece = frame_answer::answer_piece(answer, words, sheet, said.next, &mut buffer);
         let text = &buffer[..piece.bytes];

@@ -83,6 +83,7 @@ fn answer_next<R: Read, W: Write>(source: &mut R, out: &mut W) -> Result<bool, F
 fn main(rt: HostRuntime) {
     let mut source = rt.stdin();
     let mut out = rt.stdout();
+    // Stays: a loop with no end needs a handle that the project is not allowed (a).
     for _ in 0..u64::MAX {
         match answer_next(&mut source, &mut out) {
             Ok(true) => {}

@@ -82,16 +82,19 @@ pub fn is_local_cell(
     requires { Telling (region_of around rows.now columns.now) place depth }
     ensures { result ≡ region_at depth (region_of around rows.now columns.now) place }
 {
-    let Some(b) = around else {
-        return false;
-    };
     let c = sheet::cell_of(place);
-    if is_near_i(b, 0, c) && is_near_j(b, 0, c) {
-        return true;
+    match around {
+        None => false,
+        Some(b) => {
+            let in_i = is_near_i(b, 0, c);
+            let in_j = is_near_j(b, 0, c);
+            let past_i = !in_i && is_near_i(b, depth, c);
+            let past_j = !in_j && is_near_j(b, depth, c);
+            in_i && in_j
+                || past_i && (past_j || rows[place % 128])
+                || past_j && columns[place / 128]
+        }
     }
-    let past_i = is_near_i(b, depth, c) && !is_near_i(b, 0, c);
-    let past_j = is_near_j(b, depth, c) && !is_near_j(b, 0, c);
-    past_i && (past_j || rows[place % 128]) || past_j && columns[place / 128]
 }
 
 // The lines of the sheet within which a round walks, as numbers from 0 to 127: from the start up to the end, which is not one of them.

@@ -5,7 +5,7 @@ use Rattle.std.specs.Float.Ieee.{of_bits, lt}
 use Rattle.std.specs.Float.Ieee.Scale.{finite}
 use Rattle.sizes.specs.Sizes.{place_count}
 use Rattle.binary32.specs.Sqrt.{sqrt_or_nan}
-use Rattle.sheet.specs.Cells.{OnSheet, place_of, cell_of}
+use Rattle.sheet.specs.Cells.{place_of, cell_of}
 use Rattle.sheet.specs.Corners.{Corners, seen_of, squared_distance}
 use Rattle.sheet.specs.declared.Cell.{Cell}
 use Rattle.sheet.specs.declared.Position.{Position}
@@ -157,11 +157,6 @@ doubted_word far w = cond (leb 4 (w % 8) && not far) (w / 8 * 8 + 3) w
 -- both, for a corner that was attached to a place
 abbrev pub left_word : Cell → ℕ → Position → Aim → ℕ → ℕ
 left_word c q corner aim w = doubted_word (lt aim.limit (sqrt_or_nan (squared_distance corner aim.at))) (forgotten_word c q w)
-
--- a place of the sheet, and a cell of the sheet
-pub record Leaving (place : ℕ) (c : Cell) : Type 0 where
-  pub inside : place < place_count
-  pub on : OnSheet c
 
 -- all words after a corner was attached to a cell, and what is noted with them stays
 pub record Forgotten (memory : Memory) (c : Cell) (corner : Position) (memory' : Memory) : Type 0 where

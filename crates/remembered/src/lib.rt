@@ -12,7 +12,7 @@ ghost use Rattle.passes.specs.Local.{reach_of};
 ghost use Rattle.std.specs.Float.Ieee.{lt};
 ghost use Rattle.binary32.specs.Sqrt.{sqrt_or_nan};
 ghost use Rattle.sheet.specs.Corners.{squared_distance};
-ghost use Rattle.remembered.specs.Remembered.{finding_of, known_of, code_of, known_word, no_aim, aim_of, aim_in, Notable, nothing_noted, forgotten_word, doubted_word, left_word, aim_at, entry_of, Noted, Leaving, Forgotten};
+ghost use Rattle.remembered.specs.Remembered.{finding_of, known_of, code_of, known_word, no_aim, aim_of, aim_in, Notable, nothing_noted, forgotten_word, doubted_word, left_word, aim_at, entry_of, Noted, Forgotten};
 
 use sheet::{Cell, Position};
 use sizes::PLACES;
@@ -47,7 +47,7 @@ const NO_AIM: Aim = Aim {
 };
 
 // What is known of the cells: a word for each place of the sheet, 0 where nothing is known, and what is noted with it.
-// Words, not an array of Option<Known>: a walk over all places looks at many words at once, and a place takes 14 bytes in place of 24.
+// Stays: words, not an array of Option<Known>, since a walk over all places looks at many words at once, and a place takes 14 bytes in place of 24.
 #[derive(Drop)]
 pub struct Memory {
     pub words: [u16; PLACES],
@@ -55,6 +55,7 @@ pub struct Memory {
 }
 
 // What a code says, with what is noted beside it.
+// Stays: the kind of what was found is a number here, since one word holds it and the reach (fixed memory).
 #[tactic(auto, unfolding(crate::specs::Remembered::finding_of))]
 fn finding_of(code: u16, aim: Aim) -> Finding
     ensures { result ≡ finding_of code aim }
@@ -83,6 +84,7 @@ fn known_of(word: u16, aim: Aim) -> Option<Known>
 }
 
 // The code of what was found, from 1 on.
+// Stays: the number is what the word holds in its last three bits (fixed memory).
 #[tactic(auto, unfolding(crate::specs::Remembered::code_of))]
 fn code_of(finding: Finding) -> u16
     ensures { result ≡ code_of finding }
@@ -130,52 +132,62 @@ fn aim_in(known: Option<Known>) -> Aim
     }
 }
 
-// How far a cell lies from the cell of a place: |di| + |dj|.
-fn reach_of(place: usize, c: Cell) -> u32
-    requires { (place < place_count) × OnSheet c }
-    ensures { result ≡ reach_of (cell_of place) (place_of c) }
-{
-    let o = sheet::difference(c, sheet::cell_of(place));
-    sheet::magnitude(o)
+// A corner that was attached to a cell of the sheet: the cell, and where the corner is pictured.
+#[derive(Clone, Copy)]
+struct NewLabel {
+    cell: Cell,
+    corner: Position,
+    ghost on: { OnSheet cell },
 }
 
-// What is left of a place's word once a cell is labelled: nothing if the fourth support of the place's cell is as far as that cell, or farther.
-#[tactic(auto, unfolding(crate::specs::Remembered::forgotten_word))]
-fn forget_if_near(word: u16, place: usize, c: Cell) -> u16
-    requires { (place < place_count) × OnSheet c }
-    ensures { result ≡ forgotten_word (cell_of place) (place_of c) word }
-{
-    if reach_of(place, c) <= u32::from(word / 8) {
-        0
-    } else {
-        word
+impl NewLabel {
+    // How far the cell lies from the cell of a place: |di| + |dj|.
+    fn reach_of(self, place: usize) -> u32
+        requires { place < place_count }
+        ensures { result ≡ reach_of (cell_of place) (place_of self.cell) }
+    {
+        let o = sheet::difference(self.cell, sheet::cell_of(place));
+        sheet::magnitude(o)
     }
-}
 
-// What is left of the word of an ambiguous choice once a corner is labelled: the prediction alone, unless the corner is farther than the limit.
-#[tactic(auto, unfolding(crate::specs::Remembered::doubted_word))]
-fn doubt_if_near(word: u16, aim: Aim, corner: Position) -> u16
-    requires { 4 ≤ word % 8 }
-    ensures { result ≡ doubted_word (lt aim.limit (sqrt_or_nan (squared_distance corner aim.at))) word }
-{
-    if aim.limit < candidates::distance(corner, aim.at) {
-        word
-    } else {
-        word / 8 * 8 + 3
+    // What is left of a place's word: nothing if the fourth support of the place's cell is as far as the labelled cell, or farther.
+    #[tactic(auto, unfolding(crate::specs::Remembered::forgotten_word))]
+    fn forget_if_near(self, word: u16, place: usize) -> u16
+        requires { place < place_count }
+        ensures { result ≡ forgotten_word (cell_of place) (place_of self.cell) word }
+    {
+        if self.reach_of(place) <= u32::from(word / 8) {
+            0
+        } else {
+            word
+        }
     }
-}
 
-// What is left of a place's word once a corner is attached to a cell. Few choices are ambiguous.
-#[tactic(auto, unfolding(crate::specs::Remembered::doubted_word))]
-fn left_of(word: u16, aim: Aim, place: usize, c: Cell, corner: Position) -> u16
-    requires { Leaving place c }
-    ensures { result ≡ left_word (cell_of place) (place_of c) corner aim word }
-{
-    let kept = forget_if_near(word, place, c);
-    if kept % 8 < 4 {
-        kept
-    } else {
-        doubt_if_near(kept, aim, corner)
+    // What is left of the word of an ambiguous choice: the prediction alone, unless the corner is farther than the limit.
+    #[tactic(auto, unfolding(crate::specs::Remembered::doubted_word))]
+    fn doubt_if_near(self, word: u16, aim: Aim) -> u16
+        requires { 4 ≤ word % 8 }
+        ensures { result ≡ doubted_word (lt aim.limit (sqrt_or_nan (squared_distance self.corner aim.at))) word }
+    {
+        if aim.limit < candidates::distance(self.corner, aim.at) {
+            word
+        } else {
+            word / 8 * 8 + 3
+        }
+    }
+
+    // What is left of a place's word. Few choices are ambiguous.
+    #[tactic(auto, unfolding(crate::specs::Remembered::doubted_word))]
+    fn left_of(self, word: u16, aim: Aim, place: usize) -> u16
+        requires { place < place_count }
+        ensures { result ≡ left_word (cell_of place) (place_of self.cell) self.corner aim word }
+    {
+        let kept = self.forget_if_near(word, place);
+        if kept % 8 < 4 {
+            kept
+        } else {
+            self.doubt_if_near(kept, aim)
+        }
     }
 }
 
@@ -191,6 +203,7 @@ impl Memory {
     }
 
     // What is known of a cell of the sheet.
+    // Stays: a public call takes 01's plain cell; who calls has walked to it, and knows that it is on the sheet.
     #[tactic(auto, using(sheet::proofs::Laws::place_in))]
     pub fn recall(&self, c: Cell) -> Option<Known>
         requires { OnSheet c }
@@ -220,9 +233,11 @@ impl Memory {
         requires { OnSheet c }
         ensures { Forgotten self.old c corner self.new }
     {
+        let label = NewLabel { cell: c, corner };
         let mut place = sheet::next_written(&self.words, 0);
+        // Stays: the words that are walked over are written on the way, so that no iterator may hold them.
         while place < PLACES {
-            self.words[place] = left_of(self.words[place], self.aims[place], place, c, corner);
+            self.words[place] = label.left_of(self.words[place], self.aims[place], place);
             place = sheet::next_written(&self.words, place + 1);
         }
     }

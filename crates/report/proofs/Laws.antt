@@ -6,7 +6,7 @@ use Prim.Native.Nat.{ℕ, suc, ◌+◌, ◌-◌, ◌≤◌, ◌<◌}
 use native.Mathlib.Omega.{arith}
 use borrow.Author.Tests.{lt-ltb, le-ltb}
 use lib.ListN.{length}
-use Rattle.passes.specs.Run.{PassStats}
+use Rattle.passes.specs.declared.PassStats.{PassStats}
 use Rattle.report_line.specs.Result.{pass_line, pass_lines, cell_line, hole_line, ambiguous_line, lines_from, all_places, heading, result_text, pass_line_at, sheet_line, after_heading, result_line, line_count, result_from, Piece, result_piece}
 use Rattle.report.specs.WriteResult.{TextLent, wild}
 use Rattle.report_words.specs.Outcomes.{stats_in}

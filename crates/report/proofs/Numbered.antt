@@ -6,6 +6,7 @@ use Prim.Native.Nat.{ℕ, suc, ◌+◌, ◌-◌, ◌≤◌, ◌<◌}
 use native.Mathlib.Omega.{arith}
 use borrow.Author.Tests.{lt-ltb, le-ltb, ltb-true, ltb-false, eq-eqb, ne_eqb}
 use lib.Dec.{ltb}
+use Rattle.std.specs.Prelude.{Option, None, Some, SomeIff}
 use lib.ListN.{length, length-append}
 use Rattle.passes.specs.declared.GrowStats.{GrowStats}
 use Rattle.passes.specs.declared.FillStats.{FillStats}
@@ -107,7 +108,7 @@ module _ (passes : ℕ) (words sheet : List ℕ) (room left k : ℕ) (m : Measur
     longer : length (text_from passes words sheet k) ≡ n + length (text_from passes words sheet (suc k))
     longer = ap length (text_more passes words sheet k h) ∙ length-append (line_at passes words sheet k) _ ∙ ap (λ (a : ℕ). a + length (text_from passes words sheet (suc k))) (sym e)
 
-    pub measuring_more : n ≤ left → Measuring passes words sheet room (left - n) (k + 1)
+    measuring_more : n ≤ left → Measuring passes words sheet room (left - n) (k + 1)
     measuring_more l =
         let d : k + 1 ≡ suc k = omega arith in
         record { upto = omega arith; same = rw d (go (ltb left (n + length (text_from passes words sheet (suc k)))) refl ∙ ap (ltb left) (sym longer) ∙ m.same) }
@@ -116,8 +117,17 @@ module _ (passes : ℕ) (words sheet : List ℕ) (room left k : ℕ) (m : Measur
         go true q = let b = ltb-true left _ q in lt-ltb (left - n) (length (text_from passes words sheet (suc k))) (omega arith) ∙ sym q
         go false q = let b = ltb-false left _ q in le-ltb (left - n) (length (text_from passes words sheet (suc k))) (omega arith) ∙ sym q
 
-    pub measuring_short : left < n → true ≡ ltb room (length (text_from passes words sheet 0))
+    measuring_short : left < n → true ≡ ltb room (length (text_from passes words sheet 0))
     measuring_short l = let q = longer in sym (lt-ltb left (length (text_from passes words sheet k)) (omega arith)) ∙ m.same
+
+    -- a line's length comes off what is left, or the room is too short
+    pub measuring_on : (r : Option ℕ) (l : ℕ) → SomeIff r (n ≤ left) (left - n) → r ≡ Some l → Measuring passes words sheet room l (k + 1)
+    measuring_on None l f q = absurd (let z : ◌≡◌ {A = ℕ} 0 1 = cc in omega arith)
+    measuring_on (Some x) l f q = let same : ◌≡◌ {A = ℕ} x l = cc in rw (← same, f.1) (measuring_more f.0)
+
+    pub measuring_off : (r : Option ℕ) → SomeIff r (n ≤ left) (left - n) → r ≡ None → true ≡ ltb room (length (text_from passes words sheet 0))
+    measuring_off None f q = measuring_short (omega (arith, f))
+    measuring_off (Some x) f q = absurd (let z : ◌≡◌ {A = ℕ} 0 1 = cc in omega arith)
 
   pub measuring_end : line_count passes ≤ k → false ≡ ltb room (length (text_from passes words sheet 0))
   measuring_end h = sym (le-ltb left (length (text_from passes words sheet k)) (rw (text_ends passes words sheet k h) (omega arith))) ∙ m.same

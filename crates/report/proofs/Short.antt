@@ -9,7 +9,7 @@ use lib.Dec.{ltb, eqb}
 use lib.ListN.{length}
 use Rattle.labels.proofs.Below.{any_none}
 use Rattle.report_line.specs.Result.{pass_line, sheet_line, pass_line_at, result_line, line_count}
-use Rattle.passes.specs.Run.{grow_stats, fill_stats, local_stats}
+use Rattle.passes.specs.declared.PassStats.{PassStats}
 use Rattle.report.specs.WriteResult.{TextLent, wild}
 use Rattle.report_words.specs.Outcomes.{wild_outcome, word_at, counts_at, stats_at, stats_in}
 use Rattle.report_line.specs.Written.{Few}
@@ -31,7 +31,7 @@ pass_short words k h = go (eqb (word_at words k 0) 0) (eqb (word_at words k 0) 1
     few : Few (counts_at words k)
     few = record { attached = omega (arith, h.attached); no_candidate = omega (arith, h.no_candidate); ambiguous = omega (arith, h.ambiguous); edge = omega (arith, h.edge) }
 
-    go : (a b : Bool) → length (pass_line (cond a (grow_stats (grow_at words k)) (cond b (fill_stats (fill_at words k)) (local_stats (local_at words k))))) ≤ 127
+    go : (a b : Bool) → length (pass_line (cond a (PassStats.Grow (grow_at words k)) (cond b (PassStats.Fill (fill_at words k)) (PassStats.Local (local_at words k))))) ≤ 127
     go true b = grow_short _ few
     go false true = fill_short _ (omega (arith, h.attached)) (omega (arith, h.rounds))
     go false false = local_short _ few (omega (arith, h.rounds)) (λ n e. omega (arith, unmatched_few words k h n e))

@@ -10,10 +10,12 @@ ghost use Rattle.report.specs.WriteResult.{text_lent, text_out, writes_text, pie
 ghost use Rattle.report.specs.Said.{text_said, text_due, piece_said, piece_due};
 
 pub use lines::PieceEnd;
+use lines::Source;
 use refusal::Refusal;
 
 // Writes the whole text of a result to the front of a buffer, and leaves the rest of it as it was: how many bytes were written, or why nothing was. It is lent the outcomes of the passes as words,
 // eleven for each, and the sheet, and told how many passes and corners there are. `said` is the same answer in 01's number or values.
+// Stays: each is lent by itself, as the C interface lends it (a).
 pub fn write_result(
     corners: usize,
     passes: usize,
@@ -25,10 +27,16 @@ pub fn write_result(
     ensures said { text_said result ≡ text_due (text_lent corners passes words.now sheet.now) out.old }
 {
     tests::check_text(corners, passes, words, sheet, out.len())?;
-    Ok(lines::write_all(passes, words, sheet, out))
+    let source = Source {
+        passes,
+        words,
+        sheet,
+    };
+    Ok(source.write_all(out))
 }
 
 // Writes a piece of it: whole lines from a line on, as long as 128 bytes are left before each; how far it goes, or why nothing was written. `said` is the same answer in 01's number or values.
+// Stays: each is lent by itself, as the C interface lends it (a).
 pub fn write_result_piece(
     corners: usize,
     passes: usize,
@@ -41,5 +49,10 @@ pub fn write_result_piece(
     ensures said { piece_said result ≡ piece_due (text_lent corners passes words.now sheet.now) from out.old }
 {
     tests::check_piece(corners, passes, words, sheet, from, out.len())?;
-    Ok(lines::write_some(passes, words, sheet, from, out))
+    let source = Source {
+        passes,
+        words,
+        sheet,
+    };
+    Ok(source.write_some(from, out))
 }

@@ -1,11 +1,14 @@
 // What the calls check of what they are lent: refusals 7, 2, 3, 5 and 6, tried in this order, before anything is written.
-ghost use Rattle.std.specs.Prelude.{◌≡◌, ◌*◌, ◌≤◌, length};
+ghost use Rattle.std.specs.Prelude.{◌≡◌, ◌*◌, ◌≤◌, ltb, length};
 ghost use Rattle.sizes.specs.Sizes.{outcome_size};
+ghost use Rattle.report_words.specs.Asked.{HasOutcome};
 ghost use Rattle.report.specs.WriteResult.{text_lent, input_short, over_limit, wild, checked_rest, checked_text, checked_piece};
-ghost use Rattle.report.specs.Asked.{CornersAsked, corners_checked};
+ghost use Rattle.report.specs.Asked.{AllLent, CornersAsked, corners_checked, text_from};
 
+use super::lines::Source;
 use refusal::Refusal;
 use report_line::line_sizes::{LINE_ROOM, LINES};
+use report_words::read::Outcome;
 use sizes::{CORNERS, OUTCOME_WORDS, PASSES, PLACES};
 
 // 7: whether the words or the sheet are not all there.
@@ -29,7 +32,11 @@ fn is_wild(corners: usize, passes: usize, words: &[u32], sheet: &[u16]) -> bool
     requires { outcome_size * passes ≤ length words.now }
     ensures { result ≡ wild (text_lent corners passes words.now sheet.now) }
 {
-    (0..passes).any(|k| report_words::wild::wild_outcome(words, k))
+    (0..passes).any(
+        |k|
+            requires { HasOutcome words.now k }
+        { Outcome { words, k }.wild_outcome() },
+    )
 }
 
 // 5 and 6: the corners that the sheet names.
@@ -46,6 +53,19 @@ fn check_corners(corners: usize, sheet: &[u16]) -> Result<(), Refusal>
     Ok(())
 }
 
+// 7 of the whole text: whether a buffer is shorter than it.
+fn text_short(passes: usize, words: &[u32], sheet: &[u16], room: usize) -> bool
+    requires { AllLent passes words.now sheet.now }
+    ensures { result ≡ ltb room (length (text_from passes words.now sheet.now 0)) }
+{
+    let source = Source {
+        passes,
+        words,
+        sheet,
+    };
+    source.text_short(room)
+}
+
 // Whether a call that writes the whole text is refused, and why.
 pub fn check_text(
     corners: usize,
@@ -56,9 +76,7 @@ pub fn check_text(
 ) -> Result<(), Refusal>
     ensures { result ≡ checked_text (text_lent corners passes words.now sheet.now) room }
 {
-    if input_short(corners, passes, words, sheet)
-        || super::lines::text_short(passes, words, sheet, room)
-    {
+    if input_short(corners, passes, words, sheet) || text_short(passes, words, sheet, room) {
         return Err(Refusal::BufferTooShort);
     }
     if over_limit(corners, passes, words, sheet) {

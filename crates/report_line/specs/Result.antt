@@ -11,7 +11,7 @@ use Rattle.passes.specs.declared.Counts.{Counts}
 use Rattle.passes.specs.declared.GrowStats.{GrowStats}
 use Rattle.passes.specs.declared.FillStats.{FillStats}
 use Rattle.passes.specs.declared.LocalStats.{LocalStats}
-use Rattle.passes.specs.Run.{PassStats, grow_stats, fill_stats, local_stats}
+use Rattle.passes.specs.declared.PassStats.{PassStats}
 use Rattle.sizes.specs.Sizes.{place_count}
 use Rattle.report_line.specs.Sizes.{sheet_lines, first_ambiguous, line_room}
 
@@ -67,9 +67,9 @@ unfoldable pub local_lines : LocalStats → List ℕ
 local_lines s = local_line s ++ unmatched_line s.unmatched
 
 unfoldable pub pass_line : PassStats → List ℕ
-pass_line (grow_stats s) = grow_line s
-pass_line (fill_stats s) = fill_line s
-pass_line (local_stats s) = local_lines s
+pass_line (PassStats.Grow s) = grow_line s
+pass_line (PassStats.Fill s) = fill_line s
+pass_line (PassStats.Local s) = local_lines s
 
 unfoldable pub pass_lines : List PassStats → List ℕ
 pass_lines [] = []

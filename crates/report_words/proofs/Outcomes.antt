@@ -1,5 +1,6 @@
 -- Outcomes as words: what the check of them says, the outcomes from a number on, and that reading what was put gives the outcome back. Assumes nothing.
 use Rattle.std.specs.Prelude.{Option, None, Some}
+use Rattle.std.specs.Bool.{then_some}
 use mathlib.Core.Path.{◌≡◌, refl, sym, ap, ◌∙◌}
 use mathlib.Core.Bool.{Bool, true, false, not, ◌&&◌, ◌||◌, cond}
 use mathlib.Core.List.{List, [], ◌∷◌, ◌++◌}
@@ -20,7 +21,7 @@ use Rattle.labels.proofs.Below.{no_both}
 use Rattle.passes.specs.declared.GrowStats.{GrowStats}
 use Rattle.passes.specs.declared.FillStats.{FillStats}
 use Rattle.passes.specs.declared.LocalStats.{LocalStats}
-use Rattle.passes.specs.Run.{PassStats, grow_stats, fill_stats, local_stats}
+use Rattle.passes.specs.declared.PassStats.{PassStats}
 use Rattle.arguments.proofs.Chains.{or_false_both}
 use Rattle.report_line.specs.Result.{pass_line, pass_line_at}
 use Rattle.report_line.specs.Like.{ResidualLike}
@@ -103,18 +104,18 @@ bit_read false = refl
 module _ (words : List ℕ) (k : ℕ) where
   grow_said_lem : (s : GrowStats) → word_at words k 0 ≡ 0 → word_at words k 1 ≡ s.counts.attached → word_at words k 2 ≡ s.counts.rejected_no_candidate
       → word_at words k 3 ≡ s.counts.rejected_ambiguous → word_at words k 4 ≡ s.counts.rejected_edge → word_at words k 8 ≡ bit_of s.rim
-      → stats_at words k ≡ grow_stats s
+      → stats_at words k ≡ PassStats.Grow s
   unfolding stats_at
   grow_said_lem s e0 e1 e2 e3 e4 e8 = rw (e0, e1, e2, e3, e4, e8, bit_read s.rim)
 
   fill_said_lem : (s : FillStats) → word_at words k 0 ≡ 1 → word_at words k 1 ≡ s.added → word_at words k 5 ≡ s.iterations → word_at words k 8 ≡ bit_of s.rim
-      → stats_at words k ≡ fill_stats s
+      → stats_at words k ≡ PassStats.Fill s
   unfolding stats_at
   fill_said_lem s e0 e1 e5 e8 = rw (e0, e1, e5, e8, bit_read s.rim)
 
   local_said_lem : (s : LocalStats) → word_at words k 0 ≡ 2 → word_at words k 1 ≡ s.counts.attached → word_at words k 2 ≡ s.counts.rejected_no_candidate
       → word_at words k 3 ≡ s.counts.rejected_ambiguous → word_at words k 4 ≡ s.counts.rejected_edge → word_at words k 5 ≡ s.iterations
-      → residual_at words k ≡ s.residual → word_at words k 8 ≡ bit_of s.rim → unmatched_at words k ≡ s.unmatched → stats_at words k ≡ local_stats s
+      → residual_at words k ≡ s.residual → word_at words k 8 ≡ bit_of s.rim → unmatched_at words k ≡ s.unmatched → stats_at words k ≡ PassStats.Local s
   unfolding stats_at
   local_said_lem s e0 e1 e2 e3 e4 e5 er e8 eu = rw (e0, er, eu, e1, e2, e3, e4, e5, e8, bit_read s.rim)
 
@@ -132,7 +133,7 @@ there before after k m e = rw (← e) (get_or-append-add before after m 0)
 
 -- local's words one by one
 pub local_listed : (s : LocalStats)
-    → outcome_words (local_stats s)
+    → outcome_words (PassStats.Local s)
     ≡ 2 ∷ s.counts.attached ∷ s.counts.rejected_no_candidate ∷ s.counts.rejected_ambiguous ∷ s.counts.rejected_edge ∷ s.iterations
     ∷ flag_of s.residual ∷ bits_of s.residual ∷ bit_of s.rim ∷ shade_flag s.unmatched ∷ unmatched_word s.unmatched ∷ []
 unfolding outcome_words
@@ -149,19 +150,19 @@ local_listed s =
 -- reading what was put gives the outcome back; a residual is to be a value of binary32
 pub decode_encode : (before after : List ℕ) (k : ℕ) (s : PassStats) → length before ≡ outcome_size * k → IsFloat s → stats_at (before ++ (outcome_words s ++ after)) k ≡ s
 unfolding outcome_words
-decode_encode before after k (grow_stats s) e f = grow_said_lem _ k s (at 0) (at 1) (at 2) (at 3) (at 4) (at 8)
+decode_encode before after k (PassStats.Grow s) e f = grow_said_lem _ k s (at 0) (at 1) (at 2) (at 3) (at 4) (at 8)
   where
-    at : (m : ℕ) → word_at (before ++ (outcome_words (grow_stats s) ++ after)) k m ≡ get_or (outcome_words (grow_stats s) ++ after) m 0
-    at m = there before (outcome_words (grow_stats s) ++ after) k m e
-decode_encode before after k (fill_stats s) e f = fill_said_lem _ k s (at 0) (at 1) (at 5) (at 8)
+    at : (m : ℕ) → word_at (before ++ (outcome_words (PassStats.Grow s) ++ after)) k m ≡ get_or (outcome_words (PassStats.Grow s) ++ after) m 0
+    at m = there before (outcome_words (PassStats.Grow s) ++ after) k m e
+decode_encode before after k (PassStats.Fill s) e f = fill_said_lem _ k s (at 0) (at 1) (at 5) (at 8)
   where
-    at : (m : ℕ) → word_at (before ++ (outcome_words (fill_stats s) ++ after)) k m ≡ get_or (outcome_words (fill_stats s) ++ after) m 0
-    at m = there before (outcome_words (fill_stats s) ++ after) k m e
-decode_encode before after k (local_stats s) e f =
+    at : (m : ℕ) → word_at (before ++ (outcome_words (PassStats.Fill s) ++ after)) k m ≡ get_or (outcome_words (PassStats.Fill s) ++ after) m 0
+    at m = there before (outcome_words (PassStats.Fill s) ++ after) k m e
+decode_encode before after k (PassStats.Local s) e f =
     local_said_lem _ k s (at 0) (at 1) (at 2) (at 3) (at 4) (at 5) (residual_said words k s.residual f (at 6) (at 7)) (at 8) (unmatched_said words k s.unmatched (at 9) (at 10))
   where
     words : List ℕ
-    words = before ++ (outcome_words (local_stats s) ++ after)
+    words = before ++ (outcome_words (PassStats.Local s) ++ after)
 
     listed : List ℕ
     listed =
@@ -169,7 +170,7 @@ decode_encode before after k (local_stats s) e f =
         ∷ flag_of s.residual ∷ bits_of s.residual ∷ bit_of s.rim ∷ shade_flag s.unmatched ∷ unmatched_word s.unmatched ∷ []
 
     at : (m : ℕ) → word_at words k m ≡ get_or (listed ++ after) m 0
-    at m = there before (outcome_words (local_stats s) ++ after) k m e ∙ ap (λ (l : List ℕ). get_or (l ++ after) m 0) (local_listed s)
+    at m = there before (outcome_words (PassStats.Local s) ++ after) k m e ∙ ap (λ (l : List ℕ). get_or (l ++ after) m 0) (local_listed s)
 
 -- ---- a residual by its pattern
 
@@ -211,8 +212,9 @@ residual_finite words k w x e = go (eqb (word_at words k 6) 0) refl e
 
 -- ---- a finite residual for a residual, and none for none
 
-pub like_some : (words : List ℕ) (k : ℕ) (x : Float) → is_finite x ≡ true → yes_at words k 6 ≡ true → ResidualLike (residual_at words k) (Some x)
-like_some words k x f e = rw e f
+pub like_cond : (b : Bool) (x y : Float) → is_finite y ≡ true → ResidualLike (cond b (Some x) None) (then_some b y)
+like_cond true x y f = f
+like_cond false x y f = tt
 
 -- ---- unmatched
 

@@ -5,7 +5,7 @@ use Prim.Native.Nat.{ℕ, zero, suc, ◌+◌, ◌*◌, ◌≤◌, ◌<◌}
 use native.Mathlib.Omega.{arith}
 use lib.ListN.{take, drop, get_or-append}
 use lib.Seq.{length-take-le, get_or-take}
-use Rattle.passes.specs.Run.{PassStats}
+use Rattle.passes.specs.declared.PassStats.{PassStats}
 use Rattle.sizes.specs.Sizes.{outcome_size}
 use Rattle.report_words.specs.Outcomes.{outcome_words, word_at, stats_at, stats_from, stats_in}
 use Rattle.report_words.specs.Asked.{HasOutcome, with_outcome, IsFloat}

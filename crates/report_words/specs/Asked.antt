@@ -1,5 +1,5 @@
 -- What the functions on an outcome's words ask, and outcomes put at their places. Definitions only.
-use Rattle.std.specs.Prelude.{◌≡◌, true, List, ◌++◌, ℕ, ◌+◌, ◌*◌, ◌≤◌, ◌<◌, length, take, drop, T, Option, None, Some, Float}
+use Rattle.std.specs.Prelude.{◌≡◌, true, List, ◌++◌, ℕ, ◌+◌, ◌*◌, ◌≤◌, ◌<◌, length, take, drop, T, Option, None, Some, Float, Ok, Err}
 use Rattle.std.specs.Float.{binary32}
 use Rattle.std.specs.Float.Ieee.{of_bits, to_bits, fits}
 use Rattle.binary32.specs.Ranges.{is_finite}
@@ -7,8 +7,8 @@ use Rattle.passes.specs.declared.Counts.{Counts}
 use Rattle.passes.specs.declared.GrowStats.{GrowStats}
 use Rattle.passes.specs.declared.FillStats.{FillStats}
 use Rattle.passes.specs.declared.LocalStats.{LocalStats}
-use Rattle.passes.specs.declared.PassAnswer.{PassAnswer}
-use Rattle.passes.specs.Run.{PassStats, grow_stats, fill_stats, local_stats}
+use Rattle.passes.specs.declared.PassStats.{PassStats}
+use Rattle.passes.specs.Outcome.{Answer}
 use Rattle.sizes.specs.Sizes.{outcome_size}
 use Rattle.report_words.specs.Outcomes.{outcome_words, word_at, counts_at, yes_at, residual_at, unmatched_at, largest_count, largest_unmatched}
 
@@ -100,18 +100,16 @@ pub record LocalFits (s : LocalStats) : Type 0 where
   pub unmatched : UnmatchedFits s.unmatched
 
 -- what a pass answers has counts that are words
-abbrev pub AnswerFits : PassAnswer → Type 0
-AnswerFits (PassAnswer.Grow s) = CountsFit s.counts
-AnswerFits (PassAnswer.Fill s) = FillFits s
-AnswerFits (PassAnswer.Local s) = LocalFits s
-AnswerFits (PassAnswer.Refused r) = Unit {0}
+abbrev pub AnswerFits : Answer PassStats → Type 0
+AnswerFits (Ok (PassStats.Grow s)) = CountsFit s.counts
+AnswerFits (Ok (PassStats.Fill s)) = FillFits s
+AnswerFits (Ok (PassStats.Local s)) = LocalFits s
+AnswerFits (Err r) = Unit {0}
 
 -- the words with the outcome of an answer; a refused call has none
-abbrev pub with_answer : List ℕ → ℕ → PassAnswer → List ℕ
-with_answer words k (PassAnswer.Grow s) = with_outcome words k (grow_stats s)
-with_answer words k (PassAnswer.Fill s) = with_outcome words k (fill_stats s)
-with_answer words k (PassAnswer.Local s) = with_outcome words k (local_stats s)
-with_answer words k (PassAnswer.Refused r) = words
+abbrev pub with_answer : List ℕ → ℕ → Answer PassStats → List ℕ
+with_answer words k (Ok s) = with_outcome words k s
+with_answer words k (Err r) = words
 
 -- a residual, if there is one, is a value of binary32
 abbrev pub FloatOrNone : Option Float → Type 0
@@ -119,6 +117,6 @@ FloatOrNone None = Unit {0}
 FloatOrNone (Some x) = T (fits binary32 x)
 
 abbrev pub IsFloat : PassStats → Type 0
-IsFloat (grow_stats s) = Unit {0}
-IsFloat (fill_stats s) = Unit {0}
-IsFloat (local_stats s) = FloatOrNone s.residual
+IsFloat (PassStats.Grow s) = Unit {0}
+IsFloat (PassStats.Fill s) = Unit {0}
+IsFloat (PassStats.Local s) = FloatOrNone s.residual

@@ -5,7 +5,7 @@ use Rattle.std.specs.Float.Ieee.{to_bits, of_bits}
 use Rattle.binary32.specs.Ranges.{is_finite}
 use Rattle.sheet.specs.Words.{bit_of}
 use Rattle.passes.specs.declared.Counts.{Counts}
-use Rattle.passes.specs.Run.{PassStats, grow_stats, fill_stats, local_stats}
+use Rattle.passes.specs.declared.PassStats.{PassStats}
 use Rattle.sizes.specs.Sizes.{outcome_size}
 
 -- ---- an outcome as eleven words: kind (0 grow, 1 fill, 2 local), attached or added, no candidate, ambiguous, edge, rounds, 1 if there is a residual
@@ -20,11 +20,11 @@ unmatched_words None = 0 ∷ 0 ∷ []
 unmatched_words (Some n) = 1 ∷ n ∷ []
 
 unfoldable pub outcome_words : PassStats → List ℕ
-outcome_words (grow_stats s) =
+outcome_words (PassStats.Grow s) =
     0 ∷ s.counts.attached ∷ s.counts.rejected_no_candidate ∷ s.counts.rejected_ambiguous ∷ s.counts.rejected_edge ∷ 0 ∷ 0 ∷ 0 ∷ bit_of s.rim
     ∷ 0 ∷ 0 ∷ []
-outcome_words (fill_stats s) = 1 ∷ s.added ∷ 0 ∷ 0 ∷ 0 ∷ s.iterations ∷ 0 ∷ 0 ∷ bit_of s.rim ∷ 0 ∷ 0 ∷ []
-outcome_words (local_stats s) =
+outcome_words (PassStats.Fill s) = 1 ∷ s.added ∷ 0 ∷ 0 ∷ 0 ∷ s.iterations ∷ 0 ∷ 0 ∷ bit_of s.rim ∷ 0 ∷ 0 ∷ []
+outcome_words (PassStats.Local s) =
     2 ∷ s.counts.attached ∷ s.counts.rejected_no_candidate ∷ s.counts.rejected_ambiguous ∷ s.counts.rejected_edge ∷ s.iterations
     ∷ residual_words s.residual (bit_of s.rim ∷ unmatched_words s.unmatched)
 
@@ -48,9 +48,9 @@ unmatched_at words k = cond (yes_at words k 9) (Some (word_at words k 10)) None
 -- what outcome k says
 unfoldable pub stats_at : List ℕ → ℕ → PassStats
 stats_at words k =
-    cond (eqb (word_at words k 0) 0) (grow_stats (record { counts = counts_at words k; rim = yes_at words k 8 }))
-    (cond (eqb (word_at words k 0) 1) (fill_stats (record { added = word_at words k 1; iterations = word_at words k 5; rim = yes_at words k 8 }))
-    (local_stats
+    cond (eqb (word_at words k 0) 0) (PassStats.Grow (record { counts = counts_at words k; rim = yes_at words k 8 }))
+    (cond (eqb (word_at words k 0) 1) (PassStats.Fill (record { added = word_at words k 1; iterations = word_at words k 5; rim = yes_at words k 8 }))
+    (PassStats.Local
     (record { counts = counts_at words k; iterations = word_at words k 5; residual = residual_at words k; rim = yes_at words k 8; unmatched = unmatched_at words k })))
 
 -- the outcomes from number k on, n of them

@@ -1,95 +1,90 @@
 // An outcome whose line is as long, whatever its words are: a number that no line can hold becomes the largest that one can, which has as many digits,
 // and a residual becomes 0.
-ghost use Rattle.std.specs.Prelude.{◌+◌, ◌*◌, ◌<◌, length};
 ghost use Rattle.report_line.specs.Like.{Like, CountsLike, ResidualLike, UnmatchedLike, GrowLike, FillLike, LocalLike};
-ghost use Rattle.sizes.specs.Sizes.{outcome_size};
-ghost use Rattle.report_words.specs.Outcomes.{word_at, counts_at, residual_at, unmatched_at};
-ghost use Rattle.report_words.specs.Asked.{HasOutcome, grow_at, fill_at, local_at};
+ghost use Rattle.report_words.specs.Outcomes.{residual_at};
+ghost use Rattle.report_words.specs.Asked.{FitsWord, CountsFit, UnmatchedFits, grow_at, fill_at, local_at};
 
-use super::read::{word_at, yes_at};
+use super::read::Outcome;
 use passes::{Counts, FillStats, GrowStats, LocalStats};
 
-// Word m of outcome k.
-fn like_at(words: &[u32], k: usize, m: usize) -> usize
-    requires { outcome_size * k + m < length words.now }
-    ensures { Like (word_at words.now k m) result }
+// A number that a line can hold, of as many digits.
+fn like(n: usize) -> usize
+    requires { FitsWord n }
+    ensures { Like n result }
 {
-    word_at(words, k, m).min(4293967295)
+    n.min(4293967295)
 }
 
-// The four counts of an outcome.
-fn counts_like(words: &[u32], k: usize) -> Counts
-    requires { HasOutcome words.now k }
-    ensures { CountsLike (counts_at words.now k) result }
+// Four counts that a line can hold.
+fn counts_like(c: Counts) -> Counts
+    requires { CountsFit c }
+    ensures { CountsLike c result }
 {
     Counts {
-        attached: like_at(words, k, 1),
-        rejected_no_candidate: like_at(words, k, 2),
-        rejected_ambiguous: like_at(words, k, 3),
-        rejected_edge: like_at(words, k, 4),
+        attached: like(c.attached),
+        rejected_no_candidate: like(c.rejected_no_candidate),
+        rejected_ambiguous: like(c.rejected_ambiguous),
+        rejected_edge: like(c.rejected_edge),
     }
 }
 
-// The residual of an outcome.
-fn residual_like(words: &[u32], k: usize) -> Option<f32>
-    requires { HasOutcome words.now k }
-    ensures { ResidualLike (residual_at words.now k) result }
+// How many corners were passed over, as a line can hold it.
+fn unmatched_like(unmatched: Option<usize>) -> Option<usize>
+    requires { UnmatchedFits unmatched }
+    ensures { UnmatchedLike unmatched result }
 {
-    if yes_at(words, k, 6) { Some(0.0) } else { None }
-}
-
-// How many corners were passed over, in an outcome.
-fn unmatched_like(words: &[u32], k: usize) -> Option<usize>
-    requires { HasOutcome words.now k }
-    ensures { UnmatchedLike (unmatched_at words.now k) result }
-{
-    if yes_at(words, k, 9) {
-        Some(like_at(words, k, 10))
-    } else {
-        None
+    match unmatched {
+        None => None,
+        Some(n) => Some(like(n)),
     }
 }
 
-// An outcome of grow.
-pub fn grow_like(words: &[u32], k: usize) -> GrowStats
-    requires { HasOutcome words.now k }
-    ensures { GrowLike (grow_at words.now k) result }
-{
-    let counts = counts_like(words, k);
-    let rim = yes_at(words, k, 8);
-    GrowStats { counts, rim }
-}
-
-// An outcome of fill.
-pub fn fill_like(words: &[u32], k: usize) -> FillStats
-    requires { HasOutcome words.now k }
-    ensures { FillLike (fill_at words.now k) result }
-{
-    let added = like_at(words, k, 1);
-    let iterations = like_at(words, k, 5);
-    let rim = yes_at(words, k, 8);
-    FillStats {
-        added,
-        iterations,
-        rim,
+impl Outcome<'_> {
+    // The residual of an outcome of local.
+    fn residual_like(&self) -> Option<f32>
+        ensures { ResidualLike (residual_at self.now.words.now self.now.k) result }
+    {
+        self.yes_at(6).then_some(0.0)
     }
-}
 
-// An outcome of local.
-pub fn local_like(words: &[u32], k: usize) -> LocalStats
-    requires { HasOutcome words.now k }
-    ensures { LocalLike (local_at words.now k) result }
-{
-    let counts = counts_like(words, k);
-    let iterations = like_at(words, k, 5);
-    let residual = residual_like(words, k);
-    let rim = yes_at(words, k, 8);
-    let unmatched = unmatched_like(words, k);
-    LocalStats {
-        counts,
-        iterations,
-        residual,
-        rim,
-        unmatched,
+    // An outcome of grow.
+    pub fn grow_like(&self) -> GrowStats
+        ensures { GrowLike (grow_at self.now.words.now self.now.k) result }
+    {
+        let counts = counts_like(self.counts_at());
+        let rim = self.yes_at(8);
+        GrowStats { counts, rim }
+    }
+
+    // An outcome of fill.
+    pub fn fill_like(&self) -> FillStats
+        ensures { FillLike (fill_at self.now.words.now self.now.k) result }
+    {
+        let added = like(self.count_at(1));
+        let iterations = like(self.count_at(5));
+        let rim = self.yes_at(8);
+        FillStats {
+            added,
+            iterations,
+            rim,
+        }
+    }
+
+    // An outcome of local.
+    pub fn local_like(&self) -> LocalStats
+        ensures { LocalLike (local_at self.now.words.now self.now.k) result }
+    {
+        let counts = counts_like(self.counts_at());
+        let iterations = like(self.count_at(5));
+        let residual = self.residual_like();
+        let rim = self.yes_at(8);
+        let unmatched = unmatched_like(self.unmatched_at());
+        LocalStats {
+            counts,
+            iterations,
+            residual,
+            rim,
+            unmatched,
+        }
     }
 }

@@ -2,13 +2,14 @@
 ghost use Rattle.std.specs.Prelude.{◌≡◌};
 ghost use Rattle.std.specs.Float.{binary32};
 ghost use Rattle.std.specs.Float.Ieee.{to_bits};
-ghost use Rattle.passes.specs.Run.{grow_stats, fill_stats, local_stats};
+ghost use Rattle.passes.specs.declared.PassStats.{PassStats};
 ghost use Rattle.sheet.specs.Words.{bit_of};
 ghost use Rattle.report_words.specs.Outcomes.{outcome_words};
 ghost use Rattle.report_words.specs.Asked.{HasOutcome, flag_of, bits_of, shade_flag, unmatched_word, put};
 ghost use Rattle.report_words.specs.Asked.{CountsFit, FillFits, UnmatchedFits, LocalFits, AnswerFits, with_answer};
 
-use passes::{FillStats, GrowStats, LocalStats, PassAnswer};
+use passes::{FillStats, GrowStats, LocalStats, PassStats};
+use refusal::Refusal;
 use sizes::OUTCOME_WORDS;
 
 // Yes or no as a word.
@@ -56,7 +57,7 @@ fn put_words(words: &mut [u32], k: usize, outcome: [u32; OUTCOME_WORDS])
 #[tactic(auto, unfolding(crate::specs::Outcomes::outcome_words))]
 fn grow_words(s: GrowStats) -> [u32; OUTCOME_WORDS]
     requires { CountsFit s.counts }
-    ensures { result ≡ outcome_words (grow_stats s) }
+    ensures { result ≡ outcome_words (PassStats.Grow s) }
 {
     let c = s.counts;
     [
@@ -78,7 +79,7 @@ fn grow_words(s: GrowStats) -> [u32; OUTCOME_WORDS]
 #[tactic(auto, unfolding(crate::specs::Outcomes::outcome_words))]
 fn fill_words(s: FillStats) -> [u32; OUTCOME_WORDS]
     requires { FillFits s }
-    ensures { result ≡ outcome_words (fill_stats s) }
+    ensures { result ≡ outcome_words (PassStats.Fill s) }
 {
     [
         1u32,
@@ -99,7 +100,7 @@ fn fill_words(s: FillStats) -> [u32; OUTCOME_WORDS]
 #[tactic(auto, unfolding(crate::specs::Outcomes::outcome_words))]
 fn local_words(s: LocalStats) -> [u32; OUTCOME_WORDS]
     requires { LocalFits s }
-    ensures { result ≡ outcome_words (local_stats s) }
+    ensures { result ≡ outcome_words (PassStats.Local s) }
 {
     let c = s.counts;
     [
@@ -118,15 +119,15 @@ fn local_words(s: LocalStats) -> [u32; OUTCOME_WORDS]
 }
 
 // Puts the outcome that a pass answers at place k; the other words stay. A refused call has no outcome, and all words stay.
-pub fn put_outcome(words: &mut [u32], k: usize, answer: PassAnswer)
+pub fn put_outcome(words: &mut [u32], k: usize, answer: Result<PassStats, Refusal>)
     requires has_outcome { HasOutcome words.old k }
     requires answer_fits { AnswerFits answer }
     ensures { words.new ≡ with_answer words.old k answer }
 {
     match answer {
-        PassAnswer::Grow(s) => put_words(words, k, grow_words(s)),
-        PassAnswer::Fill(s) => put_words(words, k, fill_words(s)),
-        PassAnswer::Local(s) => put_words(words, k, local_words(s)),
-        PassAnswer::Refused(_) => {}
+        Ok(PassStats::Grow(s)) => put_words(words, k, grow_words(s)),
+        Ok(PassStats::Fill(s)) => put_words(words, k, fill_words(s)),
+        Ok(PassStats::Local(s)) => put_words(words, k, local_words(s)),
+        Err(_) => {}
     }
 }

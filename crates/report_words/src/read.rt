@@ -1,105 +1,122 @@
 // Outcomes read from their words.
-ghost use Rattle.std.specs.Prelude.{◌≡◌, ◌+◌, ◌*◌, ◌<◌, length};
+ghost use Rattle.std.specs.Prelude.{◌≡◌, ◌<◌};
 ghost use Rattle.sizes.specs.Sizes.{outcome_size};
 ghost use Rattle.report_words.specs.Outcomes.{word_at, counts_at, yes_at, residual_at, unmatched_at};
-ghost use Rattle.report_words.specs.Asked.{HasOutcome, TameOutcome, grow_at, fill_at, local_at};
+ghost use Rattle.report_words.specs.Asked.{HasOutcome, Tame, FitsWord, CountsFit, UnmatchedFits, grow_at, fill_at, local_at};
 
 use passes::{Counts, FillStats, GrowStats, LocalStats};
 use sizes::OUTCOME_WORDS;
 
-// Word m of outcome k.
-pub fn word_at(words: &[u32], k: usize, m: usize) -> usize
-    requires { outcome_size * k + m < length words.now }
-    ensures { result ≡ word_at words.now k m }
-{
-    words[OUTCOME_WORDS * k + m] as usize
+// Outcome k among the words of outcomes, whose eleven are there.
+#[derive(Clone, Copy)]
+pub struct Outcome<'a> {
+    pub words: &'a [u32],
+    pub k: usize,
+    pub ghost there: { HasOutcome words.now k },
 }
 
-// Whether word m of outcome k says yes.
-pub fn yes_at(words: &[u32], k: usize, m: usize) -> bool
-    requires { outcome_size * k + m < length words.now }
-    ensures { result ≡ yes_at words.now k m }
-{
-    word_at(words, k, m) != 0
-}
-
-// The four counts of an outcome.
-pub fn counts_at(words: &[u32], k: usize) -> Counts
-    requires { HasOutcome words.now k }
-    ensures { result ≡ counts_at words.now k }
-{
-    Counts {
-        attached: word_at(words, k, 1),
-        rejected_no_candidate: word_at(words, k, 2),
-        rejected_ambiguous: word_at(words, k, 3),
-        rejected_edge: word_at(words, k, 4),
+impl Outcome<'_> {
+    // Word m.
+    pub fn word_at(&self, m: usize) -> u32
+        requires { m < outcome_size }
+        ensures { result ≡ word_at self.now.words.now self.now.k m }
+    {
+        self.words[OUTCOME_WORDS * self.k + m]
     }
-}
 
-// An outcome of grow.
-pub fn grow_at(words: &[u32], k: usize) -> GrowStats
-    requires { HasOutcome words.now k }
-    ensures { result ≡ grow_at words.now k }
-{
-    let counts = counts_at(words, k);
-    let rim = yes_at(words, k, 8);
-    GrowStats { counts, rim }
-}
-
-// An outcome of fill.
-pub fn fill_at(words: &[u32], k: usize) -> FillStats
-    requires { HasOutcome words.now k }
-    ensures { result ≡ fill_at words.now k }
-{
-    let added = word_at(words, k, 1);
-    let iterations = word_at(words, k, 5);
-    let rim = yes_at(words, k, 8);
-    FillStats {
-        added,
-        iterations,
-        rim,
+    // Word m as a count.
+    pub fn count_at(&self, m: usize) -> usize
+        requires { m < outcome_size }
+        ensures value { result ≡ word_at self.now.words.now self.now.k m }
+        ensures fits { FitsWord result }
+    {
+        self.word_at(m) as usize
     }
-}
 
-// The residual of an outcome of local that passes the check.
-fn residual_at(words: &[u32], k: usize) -> Option<f32>
-    requires { TameOutcome words.now k }
-    ensures { result ≡ residual_at words.now k }
-{
-    if yes_at(words, k, 6) {
-        Some(f32::from_bits(words[OUTCOME_WORDS * k + 7]))
-    } else {
-        None
+    // Whether word m says yes.
+    pub fn yes_at(&self, m: usize) -> bool
+        requires { m < outcome_size }
+        ensures { result ≡ yes_at self.now.words.now self.now.k m }
+    {
+        self.word_at(m) != 0
     }
-}
 
-// How many corners were passed over, in an outcome of local.
-fn unmatched_at(words: &[u32], k: usize) -> Option<usize>
-    requires { HasOutcome words.now k }
-    ensures { result ≡ unmatched_at words.now k }
-{
-    if yes_at(words, k, 9) {
-        Some(word_at(words, k, 10))
-    } else {
-        None
+    // The four counts.
+    pub fn counts_at(&self) -> Counts
+        ensures value { result ≡ counts_at self.now.words.now self.now.k }
+        ensures fits { CountsFit result }
+    {
+        Counts {
+            attached: self.count_at(1),
+            rejected_no_candidate: self.count_at(2),
+            rejected_ambiguous: self.count_at(3),
+            rejected_edge: self.count_at(4),
+        }
     }
-}
 
-// An outcome of local that passes the check.
-pub fn local_at(words: &[u32], k: usize) -> LocalStats
-    requires { TameOutcome words.now k }
-    ensures { result ≡ local_at words.now k }
-{
-    let counts = counts_at(words, k);
-    let iterations = word_at(words, k, 5);
-    let residual = residual_at(words, k);
-    let rim = yes_at(words, k, 8);
-    let unmatched = unmatched_at(words, k);
-    LocalStats {
-        counts,
-        iterations,
-        residual,
-        rim,
-        unmatched,
+    // An outcome of grow.
+    pub fn grow_at(&self) -> GrowStats
+        ensures { result ≡ grow_at self.now.words.now self.now.k }
+    {
+        let counts = self.counts_at();
+        let rim = self.yes_at(8);
+        GrowStats { counts, rim }
+    }
+
+    // An outcome of fill.
+    pub fn fill_at(&self) -> FillStats
+        ensures { result ≡ fill_at self.now.words.now self.now.k }
+    {
+        let added = self.count_at(1);
+        let iterations = self.count_at(5);
+        let rim = self.yes_at(8);
+        FillStats {
+            added,
+            iterations,
+            rim,
+        }
+    }
+
+    // The residual of an outcome of local that passes the check.
+    fn residual_at(&self) -> Option<f32>
+        requires { Tame self.now.words.now self.now.k }
+        ensures { result ≡ residual_at self.now.words.now self.now.k }
+    {
+        if self.yes_at(6) {
+            Some(f32::from_bits(self.word_at(7)))
+        } else {
+            None
+        }
+    }
+
+    // How many corners were passed over, in an outcome of local.
+    pub fn unmatched_at(&self) -> Option<usize>
+        ensures value { result ≡ unmatched_at self.now.words.now self.now.k }
+        ensures fits { UnmatchedFits result }
+    {
+        if self.yes_at(9) {
+            Some(self.count_at(10))
+        } else {
+            None
+        }
+    }
+
+    // An outcome of local that passes the check.
+    pub fn local_at(&self) -> LocalStats
+        requires { Tame self.now.words.now self.now.k }
+        ensures { result ≡ local_at self.now.words.now self.now.k }
+    {
+        let counts = self.counts_at();
+        let iterations = self.count_at(5);
+        let residual = self.residual_at();
+        let rim = self.yes_at(8);
+        let unmatched = self.unmatched_at();
+        LocalStats {
+            counts,
+            iterations,
+            residual,
+            rim,
+            unmatched,
+        }
     }
 }

@@ -10,7 +10,8 @@ use Rattle.sheet.specs.Cells.{cell_of}
 use Rattle.sheet.specs.Words.{label_of}
 use Rattle.sheet.specs.Pairing.{Shuffle, paired_label, PairedSheets}
 use Rattle.passes.specs.Outcome.{Outcome}
-use Rattle.passes.specs.Run.{Call, PassStats, step, sheet_after, run, sheet_of as sheetAfterAll}
+use Rattle.passes.specs.Run.{Call, step, sheet_after, run, sheet_of as sheetAfterAll}
+use Rattle.passes.specs.declared.PassStats.{PassStats}
 use Rattle.agreement.specs.Agreement.{both_refused, both_done, Agree, agree_end, agree_call}
 use Rattle.frame.specs.Frame.{Frame, read_frame, accepted}
 use Rattle.frame.specs.ReadFrame.{sheet_of}

@@ -4,7 +4,8 @@ use Rattle.std.specs.Prelude.{◌≡◌, List, ◌++◌, ℕ, ◌<◌, get_or, O
 use Rattle.sizes.specs.Sizes.{place_count}
 use Rattle.sheet.specs.Cells.{cell_of}
 use Rattle.sheet.specs.Words.{label_of}
-use Rattle.passes.specs.Run.{PassStats, run}
+use Rattle.passes.specs.Run.{run}
+use Rattle.passes.specs.declared.PassStats.{PassStats}
 use Rattle.agreement.specs.Agreement.{FactorsAbove}
 use Rattle.frame.specs.Frame.{Frame, read_frame, accepted}
 use Rattle.frame.specs.ReadFrame.{sheet_of}

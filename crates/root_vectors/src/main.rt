@@ -29,6 +29,8 @@ fn print_refused(rt: &impl Print, refusal: Refusal) -> io::Result<()> {
     println!(rt; "(refused {number})")
 }
 
+// A float's eight digits on a line.
+// Stays: a crate for these three lines, with two programs above it, is no plainer (d).
 fn print_float(rt: &impl Print, x: f32) -> io::Result<()> {
     let mut text = [b'\n'; 9];
     binary32::hex::write_float(x, &mut text);
@@ -92,6 +94,7 @@ fn read_once<R: Read>(rt: &impl Print, source: &mut R, line: &mut Line) -> io::R
 fn main(rt: HostRuntime) -> io::Result<()> {
     let mut source = rt.stdin();
     let mut line = EMPTY;
+    // Stays: a loop with no end needs a handle that the project is not allowed (a).
     for _ in 0..u64::MAX {
         if !read_once(&rt, &mut source, &mut line)? {
             break;

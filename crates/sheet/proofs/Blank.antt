@@ -9,7 +9,6 @@ use native.Mathlib.Decide.{dec_lt}
 use native.Mathlib.Numerals.{add-one}
 use native.Mathlib.Omega.{arith}
 use borrow.Author.Tests.{eqb-true, eqb-false, eq-eqb, ne_eqb}
-use borrow.Author.Rules.{rules}
 use lib.Bits.{bit_or, and_le_l, and_le_r, or_add_and}
 use lib.Dec.{eqb}
 use lib.ListN.{length, get_or, take, drop, length-drop}

@@ -39,6 +39,7 @@ pub fn on_sheet(c: Cell) -> bool
 }
 
 // The place of a cell that is on the sheet.
+// Stays: a cell is 01's plain struct by value, and may lie off the sheet; that it is on the sheet each caller proves at the call.
 #[tactic(auto, using(crate::proofs::Laws::line_i, crate::proofs::Laws::line_j), unfolding(crate::specs::Cells::place_of))]
 pub fn place_of(c: Cell) -> usize
     requires { OnSheet c }
@@ -174,6 +175,7 @@ fn change<F: FnOnce(u16) -> u16>(sheet: &mut [u16], c: Cell, f: F)
 }
 
 // Attaches a corner to a cell; its marks stay, and so do all other places.
+// Stays: the sheet is a lent slice and the cell a plain struct (01), so that the cell's place is in the slice is asked at each call.
 #[tactic(auto, unfolding(crate::specs::Words::attached))]
 pub fn attach(sheet: &mut [u16], c: Cell, corner: usize)
     requires { SheetCell sheet.old c × (corner < 16383) }
@@ -272,6 +274,7 @@ pub fn is_shaded(corners: &[f32; 4 * CORNERS]) -> bool
 }
 
 // The kind that a cell takes: the parity of i + j, by the remainder that has no sign.
+// Stays: 01 has the kinds as 0 and 1; an enum would be made from this number here, and back to one where a corner's kind is read.
 #[tactic(auto, using(crate::proofs::Laws::line_i, crate::proofs::Laws::line_j), unfolding(crate::specs::Shades::kind_at))]
 pub fn kind_at(c: Cell) -> usize
     requires { OnSheet c }
@@ -282,20 +285,19 @@ pub fn kind_at(c: Cell) -> usize
 
 // Whether a cell of a kind takes a corner: any corner if no shade stands, else those of its kind. A kind is held as 1 or 2, and anything else is
 // that of a corner without a shade.
+// Stays: the kind is the number that `kind_at` gives, which each caller passes on.
 #[tactic(auto, unfolding(crate::specs::Shades::takes_kind, crate::specs::Shades::is_kind, crate::specs::Shades::shade_in, crate::specs::Shades::shade_held))]
 pub fn is_taken(corners: &[f32; 4 * CORNERS], kind: usize, k: usize) -> bool
     requires { k < corner_limit }
     ensures { result ≡ takes_kind (shades_in corners.now) kind k }
 {
-    if !is_shaded(corners) {
-        return true;
-    }
     let entry = corners[k + 3 * CORNERS];
-    if entry == 1.0 {
+    let is_its_own = if entry == 1.0 {
         kind == 0
     } else {
         entry == 2.0 && kind == 1
-    }
+    };
+    !is_shaded(corners) || is_its_own
 }
 
 // What is seen at a cell: the corner of its label, or nothing where it has none or is off the sheet.
@@ -343,6 +345,7 @@ pub fn next_written(sheet: &[u16], from: usize) -> usize
     ensures { NextWritten sheet.now from result }
 {
     let mut place = from;
+    // Stays: the step is a run of places that hold nothing, and how many they are is found at each.
     while place < PLACES && sheet[place] == 0 {
         place += blank_places(sheet, place);
     }

@@ -1,25 +1,15 @@
 -- The labelled places as an array holds them, and the four kept supports: "Supports are the 4 nearest by |di|+|dj|, then i, then j" (document 01,
 -- "Sheet"; what it says of them is `supports_of` of crate passes, Local). Definitions only.
-use Rattle.std.specs.Prelude.{◌≡◌, Bool, true, false, cond, List, [], ◌∷◌, ◌++◌, map, ℕ, ◌<◌, ◌≤◌, ltb, leb, length, set, take, replicate, All}
+use Rattle.std.specs.Prelude.{◌≡◌, Bool, true, false, cond, List, [], ◌∷◌, ◌++◌, map, ℕ, ◌<◌, ◌≤◌, ltb, leb, length, take, replicate, All}
 use Rattle.sizes.specs.Sizes.{place_count, corner_limit}
 use Rattle.sheet.specs.Cells.{OnSheet}
 use Rattle.sheet.specs.declared.Cell.{Cell}
-use Rattle.labels.specs.Labelled.{Rising, is_labelled, counted, labelled_places, label_count}
+use Rattle.labels.specs.Labelled.{Rising, labelled_places, label_count}
 use Rattle.passes.specs.Local.{reach_of, by_reach}
 use Rattle.arguments.specs.Front.{over}
 use Rattle.supports.specs.declared.Support.{Support}
 
 -- ---- the labelled places
-
--- a place of the sheet, for which the list has room if it is labelled
-pub record Listable (count word place : ℕ) : Type 0 where
-  pub below : place < place_count
-  pub room : is_labelled word ≡ true → count < corner_limit
-
--- one more place looked at: it is listed if its word is labelled
-pub record MoreListed (places : List ℕ) (count word place : ℕ) (places' : List ℕ) (count' : ℕ) : Type 0 where
-  pub count_is : count' ≡ counted count word
-  pub places_are : places' ≡ cond (is_labelled word) (set places count place) places
 
 -- a sheet that is long enough and has at most 1,024 labels, and an array for their places
 pub record Gatherable (sheet places : List ℕ) : Type 0 where

@@ -11,11 +11,11 @@ ghost use Rattle.sheet.specs.Cells.{OnSheet, place_of, cell_of};
 ghost use Rattle.sheet.specs.Corners.{corner_in, seen_of, Given};
 ghost use Rattle.passes.specs.Local.{cell_point, pictured_at, residual_of, local_fit, worst, recorded, recorded_all};
 ghost use Rattle.binary32.specs.Ranges.{all_finite};
-ghost use Rattle.supports.specs.Nearest.{Listable, MoreListed, Gatherable, Gathered, support_at, SplitsAt, InOrder, Kept, MoreKept, EarlierKept, places_of, nearest_among, Along, Nearby, Keeping};
+ghost use Rattle.supports.specs.Nearest.{Gatherable, Gathered, support_at, SplitsAt, InOrder, Kept, MoreKept, EarlierKept, places_of, nearest_among, Along, Nearby, Keeping};
 ghost use Rattle.supports.specs.Fitted.{support_fit_of, points_fit, Pictured};
 
-use sheet::{Cell, Position};
-use sizes::{CORNERS, PLACES};
+use sheet::{Cell, Position, Written};
+use sizes::CORNERS;
 
 // A labelled place, and how far its cell lies from the cell whose supports are looked for: |di| + |dj|.
 #[derive(Clone, Copy)]
@@ -30,35 +30,22 @@ const NOT_FOUND: Support = Support {
     reach: 1000,
 };
 
-// One more place of the sheet, which holds this word: listed if it is labelled. Answers how many are listed.
-fn list_place(places: &mut [u16; CORNERS], count: usize, word: u16, place: usize) -> usize
-    requires { Listable count word place }
-    ensures { MoreListed places.old count word place places.new result }
-{
-    if labels::is_labelled(word) {
-        places[count] = place as u16;
-        return count + 1;
-    }
-    count
-}
-
 // Lists the labelled places of a sheet in rising order at the front of the array, whose rest stays. Answers how many there are.
-// An array and a number, not a Vec: the library has fixed memory. What is listed is read as a slice.
+// Stays: an array and a number, not a Vec, since the library has fixed memory; what is listed is read as a slice.
 pub fn gather_labelled(sheet: &[u16], places: &mut [u16; CORNERS]) -> usize
     requires { Gatherable sheet.now places.old }
     ensures { Gathered sheet.now places.old places.new result }
 {
     let mut count = 0usize;
-    let mut place = sheet::next_written(sheet, 0);
-    while place < PLACES {
-        let next = list_place(places, count, sheet[place], place);
-        count = next;
-        place = sheet::next_written(sheet, place + 1);
+    for (place, _) in Written::new(sheet).filter(|(_, word)| labels::is_labelled(*word)) {
+        places[count] = place as u16;
+        count += 1;
     }
     count
 }
 
 // A place, with its reach from a cell.
+// Stays: a cell is 01's plain struct by value; that it is on the sheet is proved where the supports are looked for.
 fn support_of(place: usize, c: Cell) -> Support
     requires { (place < place_count) × OnSheet c }
     ensures { result ≡ support_at c place }
@@ -233,7 +220,7 @@ fn fit_points(cells: [Position; 4], corners: [Position; 4]) -> Option<SupportFit
     let Some(h) = homography::homography_from_4pt(cells, corners) else {
         return None;
     };
-    // Four calls, not one `map` of an array: no lemma of the library says what a list that it gives is.
+    // Stays: four calls, not one `from_fn`, whose closure would need clauses on both arrays and be longer.
     let residuals = [
         residual_of(h, cells[0], corners[0]),
         residual_of(h, cells[1], corners[1]),
@@ -254,7 +241,7 @@ pub fn local_fit(corners: &[f32; 4 * CORNERS], sheet: &[u16], s: [Support; 4]) -
     ensures { result ≡ support_fit_of (local_fit (seen_of (corner_in corners.now) sheet.now) (places_of s)) }
 {
     let [a, b, c, d] = s;
-    // Four calls, not one `map` of an array: no lemma of the library says what a list that it gives is.
+    // Stays: four calls twice, not two `map`s, each of whose closures would need a clause on the place and be as long.
     let cells = [
         place_point(a.place),
         place_point(b.place),
@@ -271,6 +258,7 @@ pub fn local_fit(corners: &[f32; 4 * CORNERS], sheet: &[u16], s: [Support; 4]) -
 }
 
 // The larger of two numbers.
+// Stays: std's `max` gives the other number where one is NaN, and either of two zeros; here the first stays unless it is less.
 fn larger(m: f32, r: f32) -> f32
     ensures { result ≡ cond (lt m r) r m }
 {

@@ -7,7 +7,8 @@ use Rattle.arguments.specs.Shades.{corners_of}
 use Rattle.arguments.specs.declared.Settings.{Settings}
 use Rattle.arguments.specs.declared.Pass.{Pass}
 use Rattle.passes.specs.Outcome.{done}
-use Rattle.passes.specs.Run.{Call, grow_stats, fill_stats, local_stats, step, sheet_after, run, sheet_of}
+use Rattle.passes.specs.Run.{Call, step, sheet_after, run, sheet_of}
+use Rattle.passes.specs.declared.PassStats.{PassStats}
 use Rattle.invariants.specs.Calls.{Standing, CallInside, answering, after_pass}
 use Rattle.invariants.proofs.Run.{standing_step, fit_accepts}
 use Rattle.written_places.specs.Written.{Written, Rise, sheet_with}
@@ -18,9 +19,9 @@ use Rattle.written_places.proofs.Passes.{grow_so, grow_rises, fill_so, fill_rise
 module _ (l : CornerLists) (shades : List ℕ) (w : List Written) (h : Rise 0 w) (set : Settings) where
   after_so : (p : Pass) → after_pass l shades (sheet_with w) set p ≡ after_of (after_pass_in l shades w set p)
   unfolding after_pass_in
-  after_so (Pass.Grow p) = ap (answering grow_stats) (grow_so (corners_of l shades) set p w h)
-  after_so (Pass.Fill p) = ap (answering fill_stats) (fill_so (corners_of l shades) set p w h)
-  after_so (Pass.Local p) = ap (answering local_stats) (local_so (corners_of l shades) set p w h)
+  after_so (Pass.Grow p) = ap (answering PassStats.Grow) (grow_so (corners_of l shades) set p w h)
+  after_so (Pass.Fill p) = ap (answering PassStats.Fill) (fill_so (corners_of l shades) set p w h)
+  after_so (Pass.Local p) = ap (answering PassStats.Local) (local_so (corners_of l shades) set p w h)
 
   after_rises : (p : Pass) → Rise 0 (after_pass_in l shades w set p).sheet
   unfolding after_pass_in

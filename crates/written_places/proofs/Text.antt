@@ -2,7 +2,7 @@
 use mathlib.Core.Path.{◌≡◌, refl}
 use mathlib.Core.List.{List, ◌++◌}
 use Rattle.sheet.specs.Words.{label_of, label_of_number, hole_of, ambiguous_of}
-use Rattle.passes.specs.Run.{PassStats}
+use Rattle.passes.specs.declared.PassStats.{PassStats}
 use Rattle.report_line.specs.Result.{pass_lines, cell_line, hole_line, ambiguous_line, all_places, heading, result_text}
 use Rattle.written_places.specs.Written.{Written, Rise, sheet_with, told}
 use Rattle.written_places.specs.Text.{cell_says, hole_says, ambiguous_says, text_in}

@@ -6,7 +6,8 @@ use Rattle.arguments.specs.Shades.{corners_of}
 use Rattle.arguments.specs.declared.Settings.{Settings}
 use Rattle.arguments.specs.declared.Pass.{Pass}
 use Rattle.passes.specs.Outcome.{Outcome, refused, done}
-use Rattle.passes.specs.Run.{Call, PassStats, grow_stats, fill_stats, local_stats, step}
+use Rattle.passes.specs.Run.{Call, step}
+use Rattle.passes.specs.declared.PassStats.{PassStats}
 use Rattle.invariants.specs.Calls.{Standing, CallInside}
 use Rattle.written_places.specs.Written.{Written}
 use Rattle.written_places.specs.Passes.{AfterIn, after_of, grow_after_in, fill_after_in, local_after_in}
@@ -16,9 +17,9 @@ answering_in f a = record { answer = f a.answer; sheet = a.sheet; attached = a.a
 
 -- what a call does that is not refused
 unfoldable pub after_pass_in : CornerLists → List ℕ → List Written → Settings → Pass → AfterIn PassStats
-after_pass_in l shades w set (Pass.Grow p) = answering_in grow_stats (grow_after_in (corners_of l shades) set p w)
-after_pass_in l shades w set (Pass.Fill p) = answering_in fill_stats (fill_after_in (corners_of l shades) set p w)
-after_pass_in l shades w set (Pass.Local p) = answering_in local_stats (local_after_in (corners_of l shades) set p w)
+after_pass_in l shades w set (Pass.Grow p) = answering_in PassStats.Grow (grow_after_in (corners_of l shades) set p w)
+after_pass_in l shades w set (Pass.Fill p) = answering_in PassStats.Fill (fill_after_in (corners_of l shades) set p w)
+after_pass_in l shades w set (Pass.Local p) = answering_in PassStats.Local (local_after_in (corners_of l shades) set p w)
 
 -- a call that runs, and one that is refused
 pub data Asked : Type 0 where

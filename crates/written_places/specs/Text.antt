@@ -3,7 +3,7 @@ use Rattle.std.specs.Prelude.{cond, List, [], ◌++◌, ℕ}
 use Rattle.sheet.specs.Cells.{cell_of}
 use Rattle.sheet.specs.Words.{label_of, hole_of, ambiguous_of}
 use Rattle.line_form.specs.Forms.{bytes, printed}
-use Rattle.passes.specs.Run.{PassStats}
+use Rattle.passes.specs.declared.PassStats.{PassStats}
 use Rattle.report_line.specs.Result.{cell_numbers, label_line, pass_lines, heading}
 use Rattle.written_places.specs.Written.{Written, told}
 

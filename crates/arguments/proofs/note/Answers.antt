@@ -8,8 +8,5 @@ returns-in_default c = note_none _ _ c.in_default.is
 pub bounds-seen-k : goal.bounds-seen-k
 bounds-seen-k c = c.requires.entry _ c.in-Some.is
 
-pub bounds-seen-k-2 : goal.bounds-seen-k-2
-bounds-seen-k-2 c = c.requires.entry _ c.in-Some.is
-
 pub returns : goal.returns
-returns c = note_corner _ _ _ c.in-Some.is (c.requires.entry _ c.in-Some.is)
+returns c = rw (c.replace.ensures.after, c.replace.ensures.value) (note_corner _ _ _ c.in-Some.is (c.requires.entry _ c.in-Some.is))

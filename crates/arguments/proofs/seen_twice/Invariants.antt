@@ -1,10 +1,7 @@
--- `arguments::seen_twice` meets its contract: a search from the first place on that stops at a hit. Assumes nothing.
-use Prim.Native.Nat.{◌-◌}
-use Rattle.arguments.proofs.Tests.{Seeing}
+-- `arguments::seen_twice` meets its contract: whether a corner is seen twice in what is left is whether one is on the sheet. Assumes nothing.
+use Rattle.sheet.specs.Blank.{written_rest}
+use Rattle.arguments.proofs.Tests.{Left}
 use Rattle.arguments.proofs.seen_twice.Given as goal
 
-abbrev pub invariant-loop-place : goal.invariant-loop-place
-invariant-loop-place l = Seeing l.sheet l.seen l.place
-
-abbrev pub decreases-loop-place : goal.decreases-loop-place
-decreases-loop-place l = 16384 - l.place
+abbrev pub invariant-loop-word : goal.invariant-loop-word
+invariant-loop-word l = Left l.sheet l.seen (written_rest l.word-iterator)

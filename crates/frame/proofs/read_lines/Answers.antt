@@ -1,6 +1,5 @@
 -- `frame::read_lines` meets its contract: a line a turn, and what is left leads where the whole text does. Assumes nothing.
-use Rattle.std.proofs.Common.{◌≡◌, refl, sym, ap, ◌∙◌, rules, arith, eqb, Result, Ok, Err, MatchResult}
-use Rattle.std.specs.Result.{IsErrAnd}
+use Rattle.std.proofs.Common.{◌≡◌, sym, ap, ◌∙◌, rules, arith, eqb}
 use Rattle.std.proofs.lemmas.Fn.{always_returns_same}
 use Rattle.std.proofs.lemmas.Result.{err_from_is_err_and}
 use Rattle.frame.proofs.Mapped.{mapped_err, mapped_ok}

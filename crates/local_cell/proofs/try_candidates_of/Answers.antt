@@ -7,29 +7,25 @@ use Rattle.extension_common.proofs.Laws.{choosable, tried_with}
 use Rattle.passes.specs.Grow.{tolerances_of}
 use Rattle.passes.specs.Local.{local_search}
 use Rattle.local_cell.specs.Extending.{Taking}
-use Rattle.local_cell.proofs.Visit.{gathered_is, found_is, taking, taking_writable, taking_fits, found_none, found_ambiguous, found_refused, found_corner}
+use Rattle.local_cell.proofs.Visit.{found_is, taking, taking_writable, taking_fits, found_none, found_ambiguous, found_refused, found_corner}
 use Rattle.local_cell.proofs.Memory.{recalls_attached, recalls_missed, recalls_ambiguous}
 use Rattle.local_cell.proofs.try_candidates_of.Goals as goal
-use Rattle.local_cell.proofs.try_candidates_of.Goals.{After-collect_candidates-candidates, After-try_candidates-found, In-Attached}
+use Rattle.local_cell.proofs.try_candidates_of.Goals.{After-gather-candidates, After-try_candidates-found, In-Attached}
 
--- what was gathered is what the definition gathers
-held : (c : After-collect_candidates-candidates) → let a = c.args in c.collect_candidates-candidates.result ≡ gathered (corners_in a.corners.now a.setup.count) a.sheet.now c.search-search.result.search_r a.target.cell a.target.prediction
-held c = gathered_is _ _ _ c.requires.trying c.kind_at.ensures c.collect_candidates-candidates.ensures
-
--- by the search of the definition
-candidates : (c : After-collect_candidates-candidates) → let a = c.args in c.collect_candidates-candidates.result ≡ gathered (corners_in a.corners.now a.setup.count) a.sheet.now (local_search a.setup.settings a.setup.params).search_r a.target.cell a.target.prediction
-candidates c = let a = c.args in held c ∙ ap (λ (s : Search). gathered (corners_in a.corners.now a.setup.count) a.sheet.now s.search_r a.target.cell a.target.prediction) c.search-search.ensures
+-- what was gathered is what the definition gathers, by the search of the definition
+candidates : (c : After-gather-candidates) → let a = c.args in c.gather-candidates.result ≡ gathered (corners_in a.corners.now a.setup.count) a.sheet.now (local_search a.setup.settings a.setup.params).search_r a.target.cell a.target.prediction
+candidates c = let a = c.args in c.gather-candidates.ensures ∙ ap (λ (s : Search). gathered (corners_in a.corners.now a.setup.count) a.sheet.now s.search_r a.target.cell a.target.prediction) c.search.ensures
 
 -- what was found is what the definition finds
 found : (c : After-try_candidates-found) → let a = c.args in c.try_candidates-found.result ≡ try_at (corners_in a.corners.now a.setup.count) a.sheet.now (tolerances_of a.setup.settings) (local_search a.setup.settings a.setup.params) a.target.cell a.target.prediction
-found c = found_is _ _ _ _ c.search-search.ensures c.tolerances.ensures (tried_with _ _ _ _ _ _ (held (goal.at.After-try_candidates-found c).After-collect_candidates-candidates) c.try_candidates-found.ensures)
+found c = found_is _ _ _ _ c.search.ensures c.tolerances.ensures (tried_with _ _ _ _ _ _ c.gather-candidates.ensures c.try_candidates-found.ensures)
 
 -- the corner to attach
 attach_this : (c : In-Attached) → let a = c.args in Taking a.setup.count a.sheet.now a.attached.now a.work.now a.target.cell c.in-Attached.k
 attach_this c = taking _ _ _ _ c.requires.trying (found (goal.at.In-Attached c).After-try_candidates-found) c.in-Attached.is
 
 pub try_candidates-found-requires : goal.try_candidates-found-requires
-try_candidates-found-requires c = choosable _ _ _ _ _ _ c.requires.trying.extending.few c.requires.trying.extending.given c.requires.trying.on (held (goal.at.try_candidates-found-requires c).After-collect_candidates-candidates)
+try_candidates-found-requires c = choosable _ _ _ _ _ _ c.requires.trying.extending.few c.gather-candidates.ensures
 
 pub corner_at-taken-requires : goal.corner_at-taken-requires
 corner_at-taken-requires c = taking_fits (attach_this (goal.at.corner_at-taken-requires c).In-Attached)
@@ -47,7 +43,7 @@ pub returns-in-Ambiguous-clause-left : goal.returns-in-Ambiguous-clause-left
 returns-in-Ambiguous-clause-left c = found_ambiguous _ (found (goal.at.returns-in-Ambiguous-clause-left c).After-try_candidates-found) c.requires.trying.extending refl refl c.count_cell-in-Ambiguous.ensures c.in-Ambiguous.is
 
 pub returns-in-Ambiguous-clause-recalls : goal.returns-in-Ambiguous-clause-recalls
-returns-in-Ambiguous-clause-recalls c = recalls_ambiguous c.requires.recalls _ c.requires.trying c.requires.foretold (candidates (goal.at.returns-in-Ambiguous-clause-recalls c).After-collect_candidates-candidates) c.last_distance-limit.ensures (found (goal.at.returns-in-Ambiguous-clause-recalls c).After-try_candidates-found) c.in-Ambiguous.is c.count_cell-in-Ambiguous.ensures (rw c.known-known-in-Ambiguous.ensures at c.note_if_bare-in-Ambiguous.ensures)
+returns-in-Ambiguous-clause-recalls c = recalls_ambiguous c.requires.recalls _ c.requires.trying c.requires.foretold (candidates (goal.at.returns-in-Ambiguous-clause-recalls c).After-gather-candidates) c.last_distance-limit.ensures (found (goal.at.returns-in-Ambiguous-clause-recalls c).After-try_candidates-found) c.in-Ambiguous.is c.count_cell-in-Ambiguous.ensures (rw c.known-known-in-Ambiguous.ensures at c.note_if_bare-in-Ambiguous.ensures)
 
 pub returns-in-EdgeRejected-clause-left : goal.returns-in-EdgeRejected-clause-left
 returns-in-EdgeRejected-clause-left c = found_refused _ (found (goal.at.returns-in-EdgeRejected-clause-left c).After-try_candidates-found) c.requires.trying.extending refl refl c.count_cell-in-EdgeRejected.ensures c.in-EdgeRejected.is

@@ -1,6 +1,7 @@
 -- `call_pass` meets its contract, by the pass that is asked for. Assumes nothing.
 use Rattle.sheet.specs.Corners.{corner_lists}
-use Rattle.pass_call.proofs.Calling.{grow_left_lem, fill_left_lem, local_left_lem, both}
+use Rattle.pass_call.proofs.Calling.{mapped, grow_left_lem, fill_left_lem, local_left_lem, both}
+use Rattle.passes.specs.declared.PassStats.{PassStats}
 use Rattle.pass_call.specs.Call.{call_of}
 use lib.ListN.{length}
 use Rattle.pass_call.proofs.call_pass.Goals as goal
@@ -12,9 +13,9 @@ returns-in-Grow c =
     let l = corner_lists a.xs.now a.ys.now a.pitches.now in
     let both_clauses =
     both l a.sheet.now (call_of a.settings a.shades.now (length a.queue.now) (length a.attached.now) a.pass)
-    a.queue.now a.attached.now o.new.sheet o.new.queue o.new.attached c.of_grow.result
+    a.queue.now a.attached.now o.new.sheet o.new.queue o.new.attached c.map.result
     (grow_left_lem l a.settings a.shades.now a.sheet.now a.queue.now a.attached.now o.new.sheet o.new.attached
-    a.pass c.of_grow.result _ c.in-Grow.is o.new.queue _ c.of_grow.ensures o.ensures.attached_after) in
+    a.pass c.map.result _ c.in-Grow.is o.new.queue _ (mapped PassStats.Grow _ _ c.map.ensures.cases) o.ensures.attached_after) in
     record { attached_after = both_clauses.0; small = both_clauses.1 }
 
 pub returns-in-Fill : goal.returns-in-Fill
@@ -24,9 +25,9 @@ returns-in-Fill c =
     let l = corner_lists a.xs.now a.ys.now a.pitches.now in
     let both_clauses =
     both l a.sheet.now (call_of a.settings a.shades.now (length a.queue.now) (length a.attached.now) a.pass)
-    a.queue.now a.attached.now o.new.sheet a.queue.now o.new.attached c.of_fill.result
+    a.queue.now a.attached.now o.new.sheet a.queue.now o.new.attached c.map-in-Fill.result
     (fill_left_lem l a.settings a.shades.now a.sheet.now a.queue.now a.attached.now o.new.sheet o.new.attached
-    a.pass c.of_fill.result _ c.in-Fill.is _ c.of_fill.ensures o.ensures.attached_after) in
+    a.pass c.map-in-Fill.result _ c.in-Fill.is _ (mapped PassStats.Fill _ _ c.map-in-Fill.ensures.cases) o.ensures.attached_after) in
     record { attached_after = both_clauses.0; small = both_clauses.1 }
 
 pub returns-in-Local : goal.returns-in-Local
@@ -36,7 +37,7 @@ returns-in-Local c =
     let l = corner_lists a.xs.now a.ys.now a.pitches.now in
     let both_clauses =
     both l a.sheet.now (call_of a.settings a.shades.now (length a.queue.now) (length a.attached.now) a.pass)
-    a.queue.now a.attached.now o.new.sheet a.queue.now o.new.attached c.of_local.result
+    a.queue.now a.attached.now o.new.sheet a.queue.now o.new.attached c.map-in-Local.result
     (local_left_lem l a.settings a.shades.now a.sheet.now a.queue.now a.attached.now o.new.sheet o.new.attached
-    a.pass c.of_local.result _ c.in-Local.is _ c.of_local.ensures o.ensures.attached_after) in
+    a.pass c.map-in-Local.result _ c.in-Local.is _ (mapped PassStats.Local _ _ c.map-in-Local.ensures.cases) o.ensures.attached_after) in
     record { attached_after = both_clauses.0; small = both_clauses.1 }

@@ -10,10 +10,6 @@ use Rattle.positions_policy.proofs.any_cardinal_edge_ok.Goals.{in-Refused, in-No
 pub loop-k-init : goal.loop-k-init
 loop-k-init c = opened _
 
-pub cardinal_edge-requires : goal.cardinal_edge-requires
-cardinal_edge-requires c =
-    (c.requires.0, (c.requires.1, omega arith))
-
 pub loop-k-preserved : goal.loop-k-preserved
 loop-k-preserved c =
     let so_far = c.loop-k.invariant in

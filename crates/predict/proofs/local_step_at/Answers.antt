@@ -7,24 +7,15 @@ use Rattle.sheet.specs.declared.Offset.{Offset}
 use Rattle.predict.specs.Predict.{forward_of, backward_of, step_between, step_at}
 use Rattle.predict.specs.declared.Neighbour.{Neighbour}
 use Rattle.predict.specs.declared.Direction.{Direction}
-use Rattle.predict.specs.declared.Vector.{Vector}
+use Rattle.predict.specs.declared.LocalStep.{LocalStep}
 use Rattle.std.specs.Prelude.{Option}
-use Rattle.predict.proofs.Laws.{forward_within, backward_within}
 use Rattle.predict.proofs.local_step_at.Goals as goal
 
 -- the step from what is seen at the two cells that were reached
-settled : (seen : Cell → Option Corner) (n : Neighbour) (d : Direction) {r : Option Vector} {f b : Option Corner} {fc bc : Cell} {fo bo : Offset} → r ≡ step_between n.position f b
+settled : (seen : Cell → Option Corner) (n : Neighbour) (d : Direction) {r : LocalStep} {f b : Option Corner} {fc bc : Cell} {fo bo : Offset} → r ≡ step_between n.position f b
     → f ≡ seen fc → fc ≡ moved n.at fo → fo ≡ forward_of d → b ≡ seen bc → bc ≡ moved n.at bo → bo ≡ backward_of d → r ≡ step_at seen n d
 unfolding step_at
 settled seen n d e f fc fo b bc bo = e ∙ rw (f, fc, fo, b, bc, bo)
-
-pub neighbour-requires : goal.neighbour-requires
-neighbour-requires c =
-    (c.requires.on, rw c.forward.ensures (forward_within c.args.d))
-
-pub neighbour-requires-2 : goal.neighbour-requires-2
-neighbour-requires-2 c =
-    (c.requires.on, rw c.backward.ensures (backward_within c.args.d))
 
 pub returns : goal.returns
 returns c =

@@ -4,18 +4,7 @@ use mir.Val.{SFits}
 use mir.Facts.{to_z-of_z}
 use borrow.Author.Rules.{rules}
 use Rattle.predict.specs.Predict.{weighed}
-use Rattle.predict.proofs.Laws.{small_float}
 use Rattle.predict.proofs.weigh.Goals as goal
-
-pub int_to_float-di : goal.int_to_float-di
-int_to_float-di c =
-    let f : SFits w32 c.args.o.di = search rules in
-    rw (to_z-of_z f) (small_float c.args.o.di c.requires.di_small)
-
-pub int_to_float-dj : goal.int_to_float-dj
-int_to_float-dj c =
-    let f : SFits w32 c.args.o.dj = search rules in
-    rw (to_z-of_z f) (small_float c.args.o.dj c.requires.dj_small)
 
 pub returns : goal.returns
 unfolding weighed

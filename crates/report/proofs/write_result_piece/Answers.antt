@@ -20,3 +20,6 @@ returns c =
     let both_clauses =
     piece_written_lem (text_lent c.args.corners c.args.passes c.args.words.now c.args.sheet.now) c.args.from c.args.out.now _ _ (sym c.check_piece.ensures ∙ c.in_ok-check_piece.was) c.write_some.ensures in
     record { out_after = both_clauses.0; said = both_clauses.1 }
+
+pub invariant_of-source : goal.invariant_of-source
+invariant_of-source c = record { all = (piece_asked (text_lent c.args.corners c.args.passes c.args.words.now c.args.sheet.now) c.args.from c.args.out.now (sym c.check_piece.ensures ∙ c.in_ok-check_piece.was)).sound.all }

@@ -1,25 +1,43 @@
--- `supports::gather_labelled` meets its contract: at each place the labelled ones before it are listed. Assumes nothing.
+-- `supports::gather_labelled` meets its contract: the places that have come so far are listed. Assumes nothing.
+use mathlib.Core.Path.{sym, ◌∙◌}
+use mathlib.Core.List.{◌∷◌, []}
+use Prim.Native.Nat.{ℕ, ◌<◌}
+use lib.ListN.{length-append}
 use native.Mathlib.Omega.{arith}
-use Rattle.supports.proofs.Listing.{listing_start, listing_room, listing_more, listing_skips, listing_end}
+use Rattle.std.proofs.Common.{rules, tests}
+use Rattle.std.specs.List.{filter}
+use Rattle.std.proofs.lemmas.List.{map-id}
+use Rattle.std.proofs.lemmas.Iterator.{YieldsList}
+use Rattle.std.proofs.lemmas.Iterator.Consumers.{YieldsList-at, YieldsList-from_first, YieldsList-from_filter, YieldsList-turn, YieldsList-end}
+use Rattle.sheet.specs.Blank.{written_rest, written_from}
+use Rattle.labels.specs.Labelled.{is_labelled}
+use Rattle.labels.proofs.Labelled.{count_walked}
+use Rattle.supports.proofs.Listing.{listed_more, listed_all}
+use Rattle.supports.proofs.gather_labelled.Given as given
 use Rattle.supports.proofs.gather_labelled.Goals as goal
+use Rattle.supports.proofs.gather_labelled.Goals.{After-into_iter-place-iterator, In-Some}
 
-pub next_written-place-requires : goal.next_written-place-requires
-next_written-place-requires c = (omega arith, omega arith)
+road : (c : After-into_iter-place-iterator) → YieldsList (given.iterator-loop-place).next_gives (λ e. e) c.into_iter-place-iterator.result (filter (λ (e : ℕ × ℕ). is_labelled e.1) (written_from c.args.sheet.now 0))
+road c =
+    YieldsList-at c.into_iter-place-iterator.ensures.into_iter_gives
+    (YieldsList-from_filter _ (λ e. is_labelled e.1) (YieldsList-at c.filter-place-items.ensures.source (YieldsList-from_first (λ e. e) written_rest _ c.new.ensures.rest)) c.filter-place-items.ensures.closure (λ x b q k. search (rules, tests)))
 
-pub loop-place-init : goal.loop-place-init
-loop-place-init c = listing_skips _ _ _ _ c.requires (listing_start _ _) c.next_written-place.ensures
+room : (c : In-Some) → c.loop-place.count < 1024
+room c =
+    let turn = YieldsList-turn (road (goal.at.In-Some c).After-into_iter-place-iterator) c.loop-place.yielded c.loop-place.place-iterator c.loop-place.yielded_by _ c.next.new.self _ c.in-Some.is c.next.ensures.steps in
+    omega (arith, turn.0, count_walked c.args.sheet.now, c.requires.few, c.loop-place.invariant.0)
 
-pub list_place-next-requires : goal.list_place-next-requires
-list_place-next-requires c = record { below = c.loop-place-test.true; room = listing_room _ _ _ _ _ c.requires c.loop-place.invariant c.loop-place-test.true }
-
-pub next_written-place-requires-in-loop-place : goal.next_written-place-requires-in-loop-place
-next_written-place-requires-in-loop-place c = (omega arith, omega arith)
-
-pub loop-place-smaller : goal.loop-place-smaller
-loop-place-smaller c = let l = c.next_written-place-in-loop-place.ensures.passed.start in omega arith
+pub bounds-places-count : goal.bounds-places-count
+bounds-places-count c = room (goal.at.bounds-places-count c).In-Some
 
 pub loop-place-preserved : goal.loop-place-preserved
-loop-place-preserved c = listing_skips _ _ _ _ c.requires (listing_more _ _ _ _ _ c.requires c.loop-place.invariant c.loop-place-test.true _ _ c.list_place-next.ensures) c.next_written-place-in-loop-place.ensures
+loop-place-preserved c =
+    let h = room (goal.at.loop-place-preserved c).In-Some in (
+      omega (arith, c.loop-place.invariant.0, length-append c.loop-place.yielded ((c.in-Some.place, c.in-Some.field-0-1) ∷ [])),
+      listed_more _ _ c.loop-place.yielded _ _ c.loop-place.invariant.0 c.loop-place.invariant.1 (omega (arith, h, c.requires.size)),
+    )
 
 pub returns : goal.returns
-returns c = listing_end _ _ _ _ _ c.requires c.loop-place.invariant c.loop-place-test.false
+returns c =
+    let end = YieldsList-end (road (goal.at.returns c).After-into_iter-place-iterator) c.loop-place.yielded c.loop-place.place-iterator c.loop-place.yielded_by _ c.next.new.self c.in-None.is c.next.ensures.steps in
+    listed_all _ _ _ _ _ c.loop-place.invariant.0 c.loop-place.invariant.1 (sym (map-id _) ∙ end.0)

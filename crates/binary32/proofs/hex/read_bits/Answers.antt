@@ -1,14 +1,11 @@
 -- `hex::read_bits` meets its contract. The invariant: what is left to read, after the digits that made `bits`, gives the answer. Assumes nothing.
 use Rattle.std.proofs.Common.{arith, ◌∙◌, ap}
 use Rattle.binary32.specs.Hex.{read_bits}
-use Rattle.binary32.proofs.Digits.{started, digit_small, no_digit, one_more, in_word, ended, first_eight, too_few}
+use Rattle.binary32.proofs.Digits.{digit_small, no_digit, one_more, in_word, ended, first_eight, too_few}
 use Rattle.binary32.proofs.hex.read_bits.Goals as goal
 
 pub returns-in_err-b-items : goal.returns-in_err-b-items
 returns-in_err-b-items c = c.from_residual.ensures ∙ too_few c.args.text.now (omega (arith, c.in_err-b-items.ensures.lookup))
-
-pub loop-b-init : goal.loop-b-init
-loop-b-init c = started _ (omega (arith, c.in_ok-b-items.ensures.lookup))
 
 pub overflow_mul-bits : goal.overflow_mul-bits
 overflow_mul-bits c = omega (arith, in_word c.loop-b.invariant c.loop-b-test.true)

@@ -13,12 +13,6 @@ count c = lifted (c.args.b % 0x80_0000) (omega arith) (omega arith)
 pub overflow_sub-k : goal.overflow_sub-k
 overflow_sub-k c = (count c).eight
 
-pub overflow_shl-result : goal.overflow_shl-result
-overflow_shl-result c = omega (arith, count c)
-
-pub overflow_sub-result : goal.overflow_sub-result
-overflow_sub-result c = omega (arith, count c)
-
 pub returns-then-field-eq0 : goal.returns-then-field-eq0
 returns-then-field-eq0 c = subnormal c.args.b _ (omega arith) (count c)
 

@@ -14,7 +14,7 @@ use Rattle.candidates.proofs.Scan.count_near.Goals.{Start}
 
 -- whether a corner is near
 abbrev near : Start → ℕ → Bool
-near c = is_near (positions_in c.args.self.now.corners.now) c.args.self.now.prediction c.args.limit
+near c = is_near (positions_in c.args.self.now.held.corners.now) c.args.self.now.prediction c.args.limit
 
 pub sum-requires-clause-fits : goal.sum-requires-clause-fits
 sum-requires-clause-fits c =

@@ -15,7 +15,7 @@ never e f g = true≢false (sym e ∙ f ∙ g)
 
 -- the corner's kind
 abbrev kinds : Start → ℕ → Bool
-kinds c = takes_kind (shades_in c.args.self.now.corners.now) c.args.self.now.kind
+kinds c = takes_kind (shades_in c.args.self.now.held.corners.now) c.args.self.now.kind
 
 pub returns-then-is_near : goal.returns-then-is_near
 returns-then-is_near c =
@@ -23,7 +23,7 @@ returns-then-is_near c =
     elim c.if-self-k-eq0.branch [
       | then-self-k-eq0 w ↦
           c.is_taken.ensures
-          ∙ by_kind (positions_in s.corners.now) (unmarked s.used.now) (kinds (goal.at.returns-then-is_near c).Start) s.prediction c.args.limit c.args.k
+          ∙ by_kind (positions_in s.held.corners.now) (unmarked s.held.used.now) (kinds (goal.at.returns-then-is_near c).Start) s.prediction c.args.limit c.args.k
           (eq-eqb _ 0 w.if-self-k-eq0.true) (sym (w.value-is ∙ w.is_near.ensures) ∙ c.if-is_near.true)
       | else-self-k-eq0 w ↦ absurd (never c.if-is_near.true w.value-is (ne_eqb _ 0 w.if-self-k-eq0.false))
     ]
@@ -34,7 +34,7 @@ returns-else-is_near c =
     c.if-is_near.false
     ∙ elim c.if-self-k-eq0.branch [
       | then-self-k-eq0 w ↦
-          far (positions_in s.corners.now) (unmarked s.used.now) (kinds (goal.at.returns-else-is_near c).Start) s.prediction c.args.limit c.args.k
+          far (positions_in s.held.corners.now) (unmarked s.held.used.now) (kinds (goal.at.returns-else-is_near c).Start) s.prediction c.args.limit c.args.k
           (sym (w.value-is ∙ w.is_near.ensures) ∙ c.if-is_near.false)
-      | else-self-k-eq0 w ↦ labelled (positions_in s.corners.now) (unmarked s.used.now) (kinds (goal.at.returns-else-is_near c).Start) s.prediction c.args.limit c.args.k (ne_eqb _ 0 w.if-self-k-eq0.false)
+      | else-self-k-eq0 w ↦ labelled (positions_in s.held.corners.now) (unmarked s.held.used.now) (kinds (goal.at.returns-else-is_near c).Start) s.prediction c.args.limit c.args.k (ne_eqb _ 0 w.if-self-k-eq0.false)
     ]

@@ -6,4 +6,4 @@ use Rattle.candidates.proofs.Scan.next_tested.Given as goal
 abbrev pub invariant-loop-k : goal.invariant-loop-k
 invariant-loop-k l =
     let s = l.self in
-    NoneBefore (positions_in s.corners.now) (eligible_in s.corners.now s.used.now s.kind) s.prediction l.limit l.from l.k
+    NoneBefore (positions_in s.held.corners.now) (eligible_in s.held.corners.now s.held.used.now s.kind) s.prediction l.limit l.from l.k

@@ -1,7 +1,7 @@
 -- `write::write_integer` meets its contract: a minus and the digits, or the digits. Assumes nothing.
 use native.Mathlib.Omega.{arith}
 use lib.ListN.{length-set}
-use Rattle.line_form.proofs.Writing.{wrote_length, minus_room, minus_part, minus_written, plus_room, plus_written}
+use Rattle.line_form.proofs.Writing.{minus_room, minus_part, minus_written, plus_room, plus_written}
 use Rattle.line_form.proofs.write.write_integer.Goals as goal
 
 pub bounds-out-0 : goal.bounds-out-0
@@ -15,12 +15,6 @@ slice_bounds-write_decimal-start c = simp length-set (omega (arith, minus_room c
 
 pub write_decimal-n-requires : goal.write_decimal-n-requires
 write_decimal-n-requires c = minus_part c.args.w c.args.out.now c.requires c.if-w-lt-OFFSET.true
-
-pub overflow_add-result : goal.overflow_add-result
-overflow_add-result c = omega (arith, c.write_decimal-n.ensures.count, minus_room c.args.w c.args.out.now c.requires c.if-w-lt-OFFSET.true)
-
-pub shape_of-out-then-w-lt-OFFSET : goal.shape_of-out-then-w-lt-OFFSET
-shape_of-out-then-w-lt-OFFSET c = wrote_length _ _ _ _ (minus_written c.args.w c.args.out.now c.requires c.if-w-lt-OFFSET.true _ _ c.write_decimal-n.ensures) c.requires
 
 pub returns-then-w-lt-OFFSET : goal.returns-then-w-lt-OFFSET
 returns-then-w-lt-OFFSET c = minus_written c.args.w c.args.out.now c.requires c.if-w-lt-OFFSET.true _ _ c.write_decimal-n.ensures

@@ -1,5 +1,4 @@
 -- `put::local_words` meets its contract, word by word. Assumes nothing.
-use mathlib.Core.List.{List, [], ◌∷◌}
 use mathlib.Core.Path.{◌≡◌, refl, sym, ap, ◌∙◌}
 use Prim.Native.Nat.{ℕ}
 use lib.Ieee.{Float}

@@ -1,0 +1,19 @@
+-- `Predicting::sum_neighbours` meets its contract: the cells of the square, one after the other. Assumes nothing.
+use mathlib.Core.Path.{◌∙◌}
+use Prim.Native.Nat.{ℕ}
+use Rattle.std.proofs.Common.{rules, arith}
+use Rattle.std.proofs.lemmas.Iterator.{YieldsList-from_range}
+use Rattle.std.proofs.lemmas.Iterator.Consumers.{fold_from_yields_List}
+use Rattle.sheet.specs.Corners.{corner_in, seen_of}
+use Rattle.predict.specs.Predict.{with_cell, square_cell, no_sums, sums_of}
+use Rattle.predict.specs.declared.Sums.{Sums}
+use Rattle.predict.proofs.Laws.{sums_all}
+use Rattle.predict.proofs.Predicting.sum_neighbours.Goals as goal
+
+pub returns : goal.returns
+unfolding no_sums sums_of
+returns c =
+    let a = c.args in
+    fold_from_yields_List _ (λ (s : Sums) (k : ℕ). with_cell (seen_of (corner_in a.self.now.corners.now) a.self.now.sheet.now) a.self.now.grid a.self.now.c s (square_cell a.self.now.c k)) _ c.fold.result c.fold.ensures.ran
+    (YieldsList-from_range 0 8 8 (cc) (omega arith)) (λ s x b q k. search rules)
+    ∙ sums_all (seen_of (corner_in a.self.now.corners.now) a.self.now.sheet.now) a.self.now.c a.self.now.grid _

@@ -1,0 +1,25 @@
+-- `lines::Source::write_line` meets its contract, by which line has the number. Assumes nothing.
+use mathlib.Core.Path.{refl}
+use Rattle.report_line.proofs.Forms.{same_room, same_wrote}
+use Rattle.report.specs.Asked.{line_at}
+use Rattle.report.proofs.Numbered.{pass_line_holds, sheet_line_lem}
+use Rattle.report.proofs.Writing.{heading_is, pass_asked, sheet_asked}
+use Rattle.report.proofs.lines.Source.write_line.Goals as goal
+
+pub write_heading-requires : goal.write_heading-requires
+write_heading-requires c = same_room _ _ c.args.out.now (heading_is c.args.self.now.passes c.args.self.now.words.now c.args.self.now.sheet.now c.args.k c.if-k-eq0.true) c.requires.room
+
+pub returns-then-k-eq0 : goal.returns-then-k-eq0
+returns-then-k-eq0 c = same_wrote _ (line_at c.args.self.now.passes c.args.self.now.words.now c.args.self.now.sheet.now c.args.k) _ _ _ (heading_is c.args.self.now.passes c.args.self.now.words.now c.args.self.now.sheet.now c.args.k c.if-k-eq0.true) c.write_heading.ensures
+
+pub write_pass-requires : goal.write_pass-requires
+write_pass-requires c = pass_asked c.args.self.now.passes c.args.self.now.words.now c.args.self.now.sheet.now c.args.k c.args.out.now c.requires _ refl c.if-k-eq0.false c.if-k-self.true
+
+pub returns-then-k-self : goal.returns-then-k-self
+returns-then-k-self c = same_wrote _ (line_at c.args.self.now.passes c.args.self.now.words.now c.args.self.now.sheet.now c.args.k) _ _ _ (pass_line_holds c.args.self.now.passes c.args.self.now.words.now c.args.self.now.sheet.now c.args.k _ c.if-k-eq0.false refl c.if-k-self.true) c.write_pass.ensures
+
+pub write_sheet_line-requires : goal.write_sheet_line-requires
+write_sheet_line-requires c = sheet_asked c.args.self.now.passes c.args.self.now.words.now c.args.self.now.sheet.now c.args.k c.args.out.now c.requires _ refl c.if-k-eq0.false c.if-k-self.false
+
+pub returns : goal.returns
+returns c = same_wrote _ (line_at c.args.self.now.passes c.args.self.now.words.now c.args.self.now.sheet.now c.args.k) _ _ _ (sheet_line_lem c.args.self.now.passes c.args.self.now.words.now c.args.self.now.sheet.now c.args.k _ c.if-k-eq0.false refl c.if-k-self.false) c.write_sheet_line.ensures

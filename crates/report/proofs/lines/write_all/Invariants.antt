@@ -1,6 +1,0 @@
--- `lines::write_all` meets its contract: the lines before line k stand at the front, and what comes after them completes the text. Assumes nothing.
-use Rattle.report.proofs.Writing.{Filling}
-use Rattle.report.proofs.lines.write_all.Given as goal
-
-abbrev pub invariant-loop-k : goal.invariant-loop-k
-invariant-loop-k l = Filling l.passes l.words l.sheet l.initial.out l.out l.at l.k

@@ -1,0 +1,7 @@
+-- `read::Outcome::residual_at` meets its contract: the bits of a residual that passes the check are no NaN's. Assumes nothing.
+use mathlib.Core.Path.{sym, ◌∙◌}
+use Rattle.report_words.proofs.Outcomes.{residual_plain}
+use Rattle.report_words.proofs.read.Outcome.residual_at.Goals as goal
+
+pub float_from_bits-result : goal.float_from_bits-result
+float_from_bits-result c = rw c.word_at.ensures (residual_plain c.args.self.now.words.now c.args.self.now.k c.requires (sym c.yes_at.ensures ∙ c.if-yes_at.true))

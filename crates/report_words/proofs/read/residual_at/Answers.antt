@@ -1,7 +1,0 @@
--- `read::residual_at` meets its contract: the bits of a residual that passes the check are no NaN's. Assumes nothing.
-use mathlib.Core.Path.{sym, ◌∙◌}
-use Rattle.report_words.proofs.Outcomes.{residual_plain}
-use Rattle.report_words.proofs.read.residual_at.Goals as goal
-
-pub float_from_bits-result : goal.float_from_bits-result
-float_from_bits-result c = residual_plain c.args.words.now c.args.k c.requires.tame (sym c.yes_at.ensures ∙ c.if-yes_at.true)
