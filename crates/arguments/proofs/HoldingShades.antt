@@ -12,11 +12,11 @@ use lib.ListN.{length, get_or, set, length-set}
 use lib.Seq.{get_or-set_same, get_or-set_other}
 use lib.Ieee.{Float, nan, of_bits, eq}
 use Rattle.binary32.specs.Numbers.{nought}
-use Rattle.sheet.specs.Shades.{bare, two, shade_held, shade_in, any_in, shades_in}
-use Rattle.sheet.specs.Corners.{CornerLists, corner_of, corner_in, corners_in}
+use Rattle.sheet.specs.Shades.{bare, shade_held, shade_in, any_in, shades_in}
+use Rattle.sheet.specs.Corners.{corner_in}
 use Rattle.sheet.proofs.Corners.{held_corner}
 use Rattle.labels.proofs.Below.{any_none}
-use Rattle.arguments.specs.Shades.{shade_of, stands, any_shade, shade_at, shades_of, corners_of}
+use Rattle.arguments.specs.Shades.{shade_of, stands, any_shade, shade_at, shades_of}
 use Rattle.arguments.specs.Arguments.{Lent}
 use Rattle.arguments.specs.Accepted.{Accepted}
 use Rattle.arguments.specs.declared.Pass.{Pass}
@@ -38,13 +38,6 @@ pub stands_if : (b : ℕ) → not (eqb b 0) ≡ stands (shade_of b)
 unfolding stands shade_of
 stands_if zero = refl
 stands_if (suc k) = ap not (ne_eqb (suc k) 0 (λ e. omega arith))
-
--- any byte but 0 and 1
-pub entry_other : (b : ℕ) → (b ≡ 0 → ⊥) → (b ≡ 1 → ⊥) → two ≡ entry_of b
-unfolding entry_of
-entry_other zero h g = absurd (h refl)
-entry_other (suc zero) h g = absurd (g refl)
-entry_other (suc (suc k)) h g = refl
 
 -- no entry is 0
 entry_not_nought : (b : ℕ) → eq (entry_of b) nought ≡ false
@@ -188,13 +181,6 @@ module _ {shades : List ℕ} {n : ℕ} {before held : List Float} {k : ℕ} (two
 
     pub shading_corners : corner_in (set held 3072 nought) ≡ corner_in before
     shading_corners = (λ t m. corner_kept held 3072 nought m (omega arith) t) ∙ g.corners
-
--- ---- both
-
--- an array with the corners of the lists, and one with the same corners and the shades: the corners that are lent
-pub held_corners : (l : CornerLists) (shades : List ℕ) (held before : List Float) → corner_in before ≡ corner_of l → corner_in held ≡ corner_in before
-    → shades_in held ≡ shades_of shades (length l.xs) → corners_in held (length l.xs) ≡ corners_of l shades
-held_corners l shades held before e f g = λ t. record { count = length l.xs; corner = (f ∙ e) t; shades = g t }
 
 -- a call that is not refused
 pub two_kinds : (l : Lent) (settings : Settings) (pass : Pass) → Accepted l settings pass → TwoKinds l.shades (length l.corners.xs)

@@ -184,9 +184,6 @@ module _ (sheet : List ℕ) where
       rw e (record { entries = all_entries u.entries 0 16384 refl; said = twice_said seen 0 16384 (seeing_start sheet seen u) refl })
 
   module _ {seen : List ℕ} {rest next : List (ℕ × ℕ)} {e : ℕ × ℕ} (l : Left sheet seen rest) (is : rest ≡ e ∷ next) where
-    pub twice_entry : HasEntry (label_of e.1)
-    twice_entry = (rw is at l.entries) 0 e (omega arith)
-
     module _ {after : List ℕ} {r : Bool} (w : Noted seen (label_of e.1) after r) where
       pub twice_hit : r ≡ true → true ≡ doubled_corner sheet
       unfolding twice

@@ -4,9 +4,14 @@ use Rattle.std.specs.Float.{nan}
 use Rattle.sizes.specs.Sizes.{place_count, corner_limit}
 use Rattle.binary32.specs.Numbers.{one}
 use Rattle.sheet.specs.Shades.{two}
-use Rattle.sheet.specs.Corners.{no_corner, CornerLists, corner_in, AllListed}
+use Rattle.sheet.specs.Corners.{no_corner, CornerLists, corner_lists, corner_in, AllListed}
 use Rattle.labels.specs.Used.{noted}
 use Rattle.arguments.specs.Accepted.{Known}
+use Rattle.arguments.specs.declared.LentCorners.{LentCorners}
+
+-- the lists of the corners that are lent
+abbrev pub lists_of : LentCorners → CornerLists
+lists_of l = corner_lists l.xs.now l.ys.now l.pitches.now
 
 -- corners that are all there, with a number of one
 pub record HasCorner (l : CornerLists) (k : ℕ) : Type 0 where

@@ -9,7 +9,7 @@ ghost use Rattle.sheet.specs.Shades.{shades_in};
 ghost use Rattle.sheet.specs.Corners.{corner_lists, corner_of, corner_in, corners_in};
 ghost use Rattle.arguments.specs.Shades.{any_shade, shades_of, corners_of};
 ghost use Rattle.arguments.specs.Arguments.{lent, queue_needed, too_short, outside, corner_outside, some_corner_outside, axis_outside, settings_outside, grow_outside, fill_outside, local_outside, pass_outside, unknown, unknown_corner, doubled_corner, checked};
-ghost use Rattle.arguments.specs.Asked.{HasCorner, AllShaded, NoKinds, Holdable, TwoKinds, entry_of, HasEntry, HasEntries, Noted, Unseen};
+ghost use Rattle.arguments.specs.Asked.{lists_of, HasCorner, AllShaded, NoKinds, Holdable, TwoKinds, entry_of, HasEntry, HasEntries, Noted, Unseen};
 
 use binary32::ranges::Quantity;
 use predict::{Grid, Vector};
@@ -71,29 +71,6 @@ fn queue_short(queue: usize, n: usize, pass: Pass) -> bool
     }
 }
 
-// 7: whether a lent buffer is too short.
-#[tactic(auto, unfolding(crate::specs::Arguments::too_short))]
-fn too_short(
-    xs: &[f32],
-    ys: &[f32],
-    pitches: &[f32],
-    shades: &[u8],
-    sheet: &[u16],
-    queue: usize,
-    attached: usize,
-    pass: Pass,
-) -> bool
-    ensures { result ≡ too_short (lent xs.now ys.now pitches.now shades.now sheet.now
-        queue attached) pass }
-{
-    ys.len() < xs.len()
-        || pitches.len() < xs.len()
-        || shades.len() < xs.len()
-        || sheet.len() < PLACES
-        || queue_short(queue, xs.len(), pass)
-        || attached < xs.len()
-}
-
 // Whether a float is not in the range of its quantity.
 #[tactic(auto, unfolding(crate::specs::Arguments::outside))]
 fn is_outside(q: Quantity, x: f32) -> bool
@@ -112,32 +89,8 @@ fn corner_outside(c: Corner) -> bool
         || is_outside(Quantity::Pitch, c.pitch)
 }
 
-// The corner of a number, out of the lists that are lent.
-fn listed_corner(xs: &[f32], ys: &[f32], pitches: &[f32], k: usize) -> Corner
-    requires { HasCorner (corner_lists xs.now ys.now pitches.now) k }
-    ensures { result ≡ corner_of (corner_lists xs.now ys.now pitches.now) k }
-{
-    let x = xs[k];
-    let y = ys[k];
-    let pitch = pitches[k];
-    let position = Position { x, y };
-    Corner { position, pitch }
-}
-
-// The positions and pitches that are lent, put into the array in which the passes hold the corners. It holds none before: a corner that there is not
-// has a NaN in each of its three places.
-fn hold_positions(xs: &[f32], ys: &[f32], pitches: &[f32], held: &mut [f32; 4 * CORNERS])
-    requires { Holdable (corner_lists xs.now ys.now pitches.now) held.old }
-    ensures { (corner_in held.new ≡ corner_of (corner_lists xs.now ys.now pitches.now))
-        × NoKinds held.new }
-{
-    let n = xs.len();
-    held[..n].copy_from_slice(xs);
-    held[CORNERS..CORNERS + n].copy_from_slice(&ys[..n]);
-    held[2 * CORNERS..2 * CORNERS + n].copy_from_slice(&pitches[..n]);
-}
-
 // Whether any shade stands among the first n corners.
+// Stays: the passes' public calls lend each list by itself, as the specification and the C interface do, and count the corners by the xs.
 pub fn any_shade(shades: &[u8], n: usize) -> bool
     requires { n ≤ length shades.now }
     ensures { result ≡ any_shade shades.now n }
@@ -157,20 +110,80 @@ fn entry_of(shade: u8) -> f32
     }
 }
 
-// The shades of n corners, put into that array; where none stands, the first of the kinds is 0.
-fn hold_shades(shades: &[u8], n: usize, held: &mut [f32; 4 * CORNERS])
-    requires { TwoKinds shades.now n × NoKinds held.old }
-    ensures { (corner_in held.new ≡ corner_in held.old) × (shades_in held.new ≡ shades_of shades.now n) }
-{
-    for (k, shade) in shades[..n].iter().enumerate() {
-        held[k + 3 * CORNERS] = entry_of(*shade);
+// The corners that are lent to a call: their xs, ys and pitches, and their shades, a byte each. There are as many as there are xs.
+#[derive(Clone, Copy)]
+struct LentCorners<'a> {
+    xs: &'a [f32],
+    ys: &'a [f32],
+    pitches: &'a [f32],
+    shades: &'a [u8],
+}
+
+impl LentCorners<'_> {
+    // 7: whether a lent buffer is too short.
+    #[tactic(auto, unfolding(crate::specs::Arguments::too_short))]
+    fn too_short(&self, sheet: &[u16], queue: usize, attached: usize, pass: Pass) -> bool
+        ensures { result ≡ too_short (lent self.now.xs.now self.now.ys.now self.now.pitches.now self.now.shades.now sheet.now
+            queue attached) pass }
+    {
+        self.ys.len() < self.xs.len()
+            || self.pitches.len() < self.xs.len()
+            || self.shades.len() < self.xs.len()
+            || sheet.len() < PLACES
+            || queue_short(queue, self.xs.len(), pass)
+            || attached < self.xs.len()
     }
-    if !any_shade(shades, n) {
-        held[3 * CORNERS] = 0.0;
+
+    // The corner of a number.
+    fn corner(&self, k: usize) -> Corner
+        requires { HasCorner (lists_of self.now) k }
+        ensures { result ≡ corner_of (lists_of self.now) k }
+    {
+        let x = self.xs[k];
+        let y = self.ys[k];
+        let pitch = self.pitches[k];
+        let position = Position { x, y };
+        Corner { position, pitch }
+    }
+
+    // Whether some corner's x, y or pitch is out of range, or its shade neither none nor one of the two kinds.
+    fn some_corner_outside(&self) -> bool
+        requires { AllShaded (lists_of self.now) self.now.shades.now }
+        ensures { result ≡ some_corner_outside (lists_of self.now) self.now.shades.now }
+    {
+        (0..self.xs.len()).any(|k| corner_outside(self.corner(k)) || 2 < self.shades[k])
+    }
+
+    // Puts the positions and pitches into the array in which the passes hold the corners. It holds none before: a corner that there is not has a
+    // NaN in each of its three places.
+    fn hold_positions(&self, held: &mut [f32; 4 * CORNERS])
+        requires { Holdable (lists_of self.now) held.old }
+        ensures { (corner_in held.new ≡ corner_of (lists_of self.now)) × NoKinds held.new }
+    {
+        let n = self.xs.len();
+        held[..n].copy_from_slice(self.xs);
+        held[CORNERS..CORNERS + n].copy_from_slice(&self.ys[..n]);
+        held[2 * CORNERS..2 * CORNERS + n].copy_from_slice(&self.pitches[..n]);
+    }
+
+    // Puts the shades into that array; where none stands, the first of the kinds is 0.
+    fn hold_shades(&self, held: &mut [f32; 4 * CORNERS])
+        requires { TwoKinds self.now.shades.now (length self.now.xs.now) × NoKinds held.old }
+        ensures { (corner_in held.new ≡ corner_in held.old)
+            × (shades_in held.new ≡ shades_of self.now.shades.now (length self.now.xs.now)) }
+    {
+        let n = self.xs.len();
+        for (k, shade) in self.shades[..n].iter().enumerate() {
+            held[k + 3 * CORNERS] = entry_of(*shade);
+        }
+        if !any_shade(self.shades, n) {
+            held[3 * CORNERS] = 0.0;
+        }
     }
 }
 
 // The corners that are lent, with their shades, put into the array in which the passes hold them. It holds none before.
+// Stays: the passes' public calls lend each list by itself, as the specification and the C interface do.
 pub fn hold_corners(
     xs: &[f32],
     ys: &[f32],
@@ -182,16 +195,14 @@ pub fn hold_corners(
     ensures { corners_in held.new (length xs.now)
         ≡ corners_of (corner_lists xs.now ys.now pitches.now) shades.now }
 {
-    hold_positions(xs, ys, pitches, held);
-    hold_shades(shades, xs.len(), held);
-}
-
-// Whether some corner's x, y or pitch is out of range, or its shade neither none nor one of the two kinds.
-fn some_corner_outside(xs: &[f32], ys: &[f32], pitches: &[f32], shades: &[u8]) -> bool
-    requires { AllShaded (corner_lists xs.now ys.now pitches.now) shades.now }
-    ensures { result ≡ some_corner_outside (corner_lists xs.now ys.now pitches.now) shades.now }
-{
-    (0..xs.len()).any(|k| corner_outside(listed_corner(xs, ys, pitches, k)) || 2 < shades[k])
+    let corners = LentCorners {
+        xs,
+        ys,
+        pitches,
+        shades,
+    };
+    corners.hold_positions(held);
+    corners.hold_shades(held);
 }
 
 // Whether a part of an axis is out of range.
@@ -279,13 +290,14 @@ fn note(seen: &mut [u8; CORNERS], label: Option<usize>) -> bool
     requires { HasEntry label }
     ensures { Noted seen.old label seen.new result }
 {
-    let Some(k) = label else {
-        return false;
-    };
-    mem::replace(&mut seen[k], 1) != 0
+    match label {
+        Some(k) => mem::replace(&mut seen[k], 1) != 0,
+        None => false,
+    }
 }
 
 // Whether the sheet names a corner at two places; none is seen at the start.
+// Stays: with `any` the closure writes to `seen` and needs a clause of its own, which is no plainer (d).
 fn seen_twice(sheet: &[u16], seen: &mut [u8; CORNERS]) -> bool
     requires { Unseen sheet.now seen.old }
     ensures { result ≡ doubled_corner sheet.now }
@@ -309,6 +321,7 @@ pub fn doubled_corner(sheet: &[u16]) -> bool
 
 // Whether a call with these arguments is refused, and why: 7, 2, 3, 5 and 6 are tried in this order. The queue and the
 // attached list are given by their lengths.
+// Stays: the passes' public calls lend each list by itself, as the specification and the C interface do.
 pub fn check_arguments(
     xs: &[f32],
     ys: &[f32],
@@ -323,16 +336,19 @@ pub fn check_arguments(
     ensures { result ≡ checked (lent xs.now ys.now pitches.now shades.now sheet.now
         queue attached) settings pass }
 {
-    if too_short(xs, ys, pitches, shades, sheet, queue, attached, pass) {
+    let corners = LentCorners {
+        xs,
+        ys,
+        pitches,
+        shades,
+    };
+    if corners.too_short(sheet, queue, attached, pass) {
         return Err(Refusal::BufferTooShort);
     }
     if CORNERS < xs.len() {
         return Err(Refusal::OverLimit);
     }
-    if some_corner_outside(xs, ys, pitches, shades)
-        || settings_outside(settings)
-        || pass_outside(pass)
-    {
+    if corners.some_corner_outside() || settings_outside(settings) || pass_outside(pass) {
         return Err(Refusal::OutOfRange);
     }
     if unknown_corner(xs.len(), sheet) {

@@ -48,14 +48,6 @@ fn print_corner(rt: &impl Print, word: u16) -> io::Result<()> {
     }
 }
 
-fn print_visited(rt: &impl Print, list: &[u16], count: usize) -> io::Result<()> {
-    for place in list.iter().take(count) {
-        let place = Place(*place as usize);
-        println!(rt; "visited {place}")?;
-    }
-    Ok(())
-}
-
 fn print_one_attached(rt: &impl Print, sheet: &[u16], place: usize) -> io::Result<()> {
     let cell = Place(place);
     print!(rt; "attached {cell}")?;
@@ -63,13 +55,6 @@ fn print_one_attached(rt: &impl Print, sheet: &[u16], place: usize) -> io::Resul
         print_corner(rt, *word)?;
     }
     println!(rt; "")
-}
-
-fn print_attached(rt: &impl Print, sheet: &[u16], list: &[u16], count: usize) -> io::Result<()> {
-    for place in list.iter().take(count) {
-        print_one_attached(rt, sheet, *place as usize)?;
-    }
-    Ok(())
 }
 
 // The labelled places, each with its corner.
@@ -190,41 +175,6 @@ fn visited_by(counts: Counts) -> usize {
 
 // ---- calls
 
-// Grow's visited cells, where they are asked for.
-fn print_queue(rt: &impl Print, text: &[u8], counts: Counts, queue: &[u16]) -> io::Result<()> {
-    if number_at(text, 3) != 0 {
-        print_visited(rt, queue, visited_by(counts))?;
-    }
-    Ok(())
-}
-
-// What a call answers, and the cells that it attached.
-pub fn print_answer(
-    rt: &impl Print,
-    text: &[u8],
-    answer: Result<PassStats, Refusal>,
-    sheet: &[u16],
-    queue: &[u16],
-    attached: &[u16],
-) -> io::Result<()> {
-    match answer {
-        Err(refusal) => print_refused(rt, refusal),
-        Ok(PassStats::Grow(stats)) => {
-            print_grow(rt, stats)?;
-            print_queue(rt, text, stats.counts, queue)?;
-            print_attached(rt, sheet, attached, stats.counts.attached)
-        }
-        Ok(PassStats::Fill(stats)) => {
-            print_fill(rt, stats)?;
-            print_attached(rt, sheet, attached, stats.added)
-        }
-        Ok(PassStats::Local(stats)) => {
-            print_local(rt, stats)?;
-            print_attached(rt, sheet, attached, stats.counts.attached)
-        }
-    }
-}
-
 // One place more in a sum over a buffer: each place counts by its number and what it holds.
 fn summed(sum: u64, i: usize, v: u16) -> u64 {
     (sum % 0x1_0000_0000 * 31 + (i % 65536) as u64 + v as u64) % 0x1_0000_0000
@@ -238,13 +188,68 @@ fn print_sum(rt: &impl Print, name: &str, list: &[u16]) -> io::Result<()> {
     println!(rt; "{name} {sum:08x}")
 }
 
-// Where they are asked for: sums over the whole queue and the whole attached list, so that it is seen what a call left in them.
-pub fn print_sums(rt: &impl Print, text: &[u8], queue: &[u16], attached: &[u16]) -> io::Result<()> {
-    if number_at(text, 3) != 2 {
-        return Ok(());
+// What a call leaves in the buffers that it was lent, and the text of the list that it is of.
+#[derive(Clone, Copy)]
+pub struct Left<'a> {
+    pub text: &'a [u8],
+    pub sheet: &'a [u16],
+    pub queue: &'a [u16],
+    pub attached: &'a [u16],
+}
+
+impl Left<'_> {
+    // Grow's visited cells, where they are asked for.
+    fn print_queue(self, rt: &impl Print, counts: Counts) -> io::Result<()> {
+        if number_at(self.text, 3) == 0 {
+            return Ok(());
+        }
+        for place in self.queue.iter().take(visited_by(counts)) {
+            let cell = Place(*place as usize);
+            println!(rt; "visited {cell}")?;
+        }
+        Ok(())
     }
-    print_sum(rt, "queue", queue)?;
-    print_sum(rt, "list", attached)
+
+    // The first cells of the attached list, each with its corner.
+    fn print_attached(self, rt: &impl Print, count: usize) -> io::Result<()> {
+        for place in self.attached.iter().take(count) {
+            print_one_attached(rt, self.sheet, *place as usize)?;
+        }
+        Ok(())
+    }
+
+    // What a call answers, and the cells that it attached.
+    pub fn print_answer(
+        self,
+        rt: &impl Print,
+        answer: Result<PassStats, Refusal>,
+    ) -> io::Result<()> {
+        match answer {
+            Err(refusal) => print_refused(rt, refusal),
+            Ok(PassStats::Grow(stats)) => {
+                print_grow(rt, stats)?;
+                self.print_queue(rt, stats.counts)?;
+                self.print_attached(rt, stats.counts.attached)
+            }
+            Ok(PassStats::Fill(stats)) => {
+                print_fill(rt, stats)?;
+                self.print_attached(rt, stats.added)
+            }
+            Ok(PassStats::Local(stats)) => {
+                print_local(rt, stats)?;
+                self.print_attached(rt, stats.counts.attached)
+            }
+        }
+    }
+
+    // Where they are asked for: sums over the whole queue and the whole attached list, so that it is seen what a call left in them.
+    pub fn print_sums(self, rt: &impl Print) -> io::Result<()> {
+        if number_at(self.text, 3) != 2 {
+            return Ok(());
+        }
+        print_sum(rt, "queue", self.queue)?;
+        print_sum(rt, "list", self.attached)
+    }
 }
 
 // A call's number and its kind.

@@ -105,6 +105,7 @@ pub fn read_labels(text: &[u8], from: usize, m: usize) -> [u16; PLACES]
     ensures { place_count ≡ length result }
 {
     let mut sheet = [0u16; PLACES];
+    // Stays: a label is two numbers of the text, so that every second number begins one.
     for at in (from..from + 2 * m).step_by(2) {
         sheet[place_at(text, at + 1)] = label_word(text, at);
     }

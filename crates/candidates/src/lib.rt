@@ -49,9 +49,6 @@ pub enum CandidateChoice {
     Unique(usize),
 }
 
-// 2^-23, the first distance up to which two candidates are ambiguous for grow, and to which fill and local raise it.
-const EPSILON: f32 = 1.1920929e-7;
-
 // The squared distance of a corner from the prediction, each operation rounded.
 pub fn squared_distance(corner: Position, prediction: Position) -> f32
     ensures { result ≡ squared_distance corner prediction }
@@ -262,7 +259,7 @@ fn by_quotient(number: usize, first: f32, second: f32, factor: f32) -> Candidate
     }
 }
 
-// Grow's choice. Of two or more: a first distance of at most 2^-23 is ambiguous, and else the quotient decides.
+// Grow's choice. Of two or more: a first distance of at most 2^-23, which is `f32::EPSILON`, is ambiguous, and else the quotient decides.
 #[tactic(auto, unfolding(crate::specs::Choice::choose_unambiguous))]
 pub fn choose_unambiguous(candidates: Candidates, ambiguity_factor: f32) -> CandidateChoice
     ensures { result ≡ choose_unambiguous candidates ambiguity_factor }
@@ -271,7 +268,7 @@ pub fn choose_unambiguous(candidates: Candidates, ambiguity_factor: f32) -> Cand
         Candidates::Empty => CandidateChoice::Nothing,
         Candidates::One(a) => CandidateChoice::Unique(a.number),
         Candidates::Several(a, second) => {
-            if a.distance <= EPSILON {
+            if a.distance <= f32::EPSILON {
                 CandidateChoice::Ambiguous
             } else {
                 by_quotient(a.number, a.distance, second, ambiguity_factor)
@@ -285,7 +282,7 @@ pub fn choose_unambiguous(candidates: Candidates, ambiguity_factor: f32) -> Cand
 fn raise(d: f32) -> f32
     ensures { result ≡ raised d }
 {
-    if EPSILON <= d { d } else { EPSILON }
+    if f32::EPSILON <= d { d } else { f32::EPSILON }
 }
 
 // Fill's and local's choice. Of two or more: the first distance is raised to at least 2^-23, then the same quotient decides.

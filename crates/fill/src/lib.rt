@@ -11,7 +11,6 @@ ghost use Rattle.labels.specs.Used.{OneCell, Tied};
 ghost use Rattle.arguments.specs.Shades.{corners_of};
 ghost use Rattle.arguments.specs.Accepted.{Accepted};
 ghost use Rattle.passes.specs.Outcome.{done};
-ghost use Rattle.passes.specs.Grow.{tolerances_of};
 ghost use Rattle.passes.specs.Fill.{near_i, near_j, box_and_strips, fill_search, fill_limit, fill_after};
 ghost use Rattle.passes.specs.Step.{fill_step, fill_out, fill_leaves, lent_of, rooms};
 ghost use Rattle.passes.specs.Said.{fill_values, fill_said, outcome_due};
@@ -22,7 +21,6 @@ use candidates::HeldCorners;
 use extension_common::{ChoiceRule, Search, Trial, TryCellResult};
 use labels::Bounds;
 use passes::FillStats;
-use positions_policy::Tolerances;
 use refusal::Refusal;
 use sheet::Cell;
 use sizes::{CORNERS, PLACES};
@@ -40,10 +38,10 @@ fn is_fill_cell(around: Option<Bounds>, c: Cell) -> bool
     requires { SmallBox around }
     ensures { result ≡ box_and_strips around c }
 {
-    let Some(b) = around else {
-        return false;
-    };
-    is_near(b, 0, 1, c) || is_near(b, 1, 0, c)
+    match around {
+        None => false,
+        Some(b) => is_near(b, 0, 1, c) || is_near(b, 1, 0, c),
+    }
 }
 
 // How many rounds there may be: none where no cell is labelled, else the limit, where 0 acts as 1.
@@ -75,16 +73,6 @@ impl FillSetup {
             search_r: self.params.attach_search_rel * self.settings.grid.cell_size,
             ambiguity_factor: self.params.attach_ambiguity_factor,
             rule: ChoiceRule::WithFloor,
-        }
-    }
-
-    // The edge's tolerances: cell size and band.
-    fn tolerances(self) -> Tolerances
-        ensures { result ≡ tolerances_of self.settings }
-    {
-        Tolerances {
-            cell_size: self.settings.grid.cell_size,
-            edge_length_tol: self.settings.edge_length_tol,
         }
     }
 }
@@ -140,7 +128,7 @@ impl<'a> Filling<'a> {
                     sheet: self.sheet,
                     c,
                     search: setup.search(),
-                    tol: setup.tolerances(),
+                    tol: passes::tolerances_of(setup.settings),
                 };
                 trial.try_attach_at_cell(at)
             }
@@ -194,8 +182,8 @@ impl<'a> Filling<'a> {
     {
         let around = self.label_box();
         let window = region::window_of(around, 1);
-        // Not a range: the places between two lines of the window are passed over.
         let mut place = region::next_inside(window, 0);
+        // Stays: the sheet is written on the way, and the places between two lines of the window are passed over.
         while place < PLACES {
             self.fill_place(around, place);
             place = region::next_inside(window, place + 1);
@@ -231,6 +219,7 @@ impl<'a> Filling<'a> {
 }
 
 // The pass itself, on arguments that are not refused: all rounds, and what the answer says of them.
+// Stays: the public call lends each list by itself, as the specification and the C interface do.
 fn fill_accepted(
     xs: &[f32],
     ys: &[f32],

@@ -1,12 +1,17 @@
 -- What the answer of the reader says, in document 01's numbers and values: a refusal's number and line, or what the frame's lines give, in the order
 -- of the lines. Definitions only.
 use Rattle.std.specs.Prelude.{cond, List, [], ◌∷◌, ℕ, length, Result, Ok, Err}
+use Rattle.refusal.specs.declared.Refusal.{Refusal}
 use Rattle.refusal.specs.Refusal.{number_of}
 use Rattle.refusal.specs.Said.{Value, whole, float, Said, number_and_line, values}
 use Rattle.frame.specs.Frame.{Parts, parts_of, FrameRead, refused_at, accepted, read_frame}
 use Rattle.frame.specs.ReadFrame.{float_of, Buffers, too_short}
 use Rattle.frame.specs.declared.FrameHead.{FrameHead}
 use Rattle.frame.specs.declared.FrameRefusal.{FrameRefusal}
+
+-- a refusal that is about no line
+abbrev pub about_no_line : Refusal → FrameRefusal
+about_no_line r = record { refusal = r; line = 0 }
 
 -- ---- the answer by its cases
 

@@ -14,7 +14,7 @@ ghost use Rattle.frame_state.specs.State.{nothing_said, state, Addable, adds};
 ghost use Rattle.arguments.specs.Front.{over};
 ghost use Rattle.frame.specs.Frame.{no_parts, read_lines};
 ghost use Rattle.frame.specs.ReadFrame.{frame_out, leaves, read_into};
-ghost use Rattle.frame.specs.Said.{frame_said, frame_due};
+ghost use Rattle.frame.specs.Said.{about_no_line, frame_said, frame_due};
 ghost use Rattle.frame.specs.Reading.{arrays_in, on_sheet_of, FrameHeld, Room, went, held_step, Finishable, finished, finish_on, ReadAs, buffers, LongEnough};
 
 use arguments::Settings;
@@ -37,6 +37,15 @@ pub struct FrameHead {
 pub struct FrameRefusal {
     pub refusal: Refusal,
     pub line: usize,
+}
+
+impl From<Refusal> for FrameRefusal {
+    // A refusal that is about no line.
+    ghost from_gives = { λ refusal e. e ≡ about_no_line refusal };
+
+    fn from(refusal: Refusal) -> FrameRefusal {
+        FrameRefusal { refusal, line: 0 }
+    }
 }
 
 // The arrays in which a frame is held until it is accepted.
@@ -98,13 +107,9 @@ fn step_line(p: Progress, held: &mut Held, line: &[u8]) -> Result<Progress, Refu
         ≡ held_step (held_read (read_line line.now)) (state p (arrays_in held.old)) }
 {
     let found = frame_line::read_line(line);
-    match frame_line::turn_at(p.stage, found.row) {
-        None => Err(Refusal::Malformed),
-        Some(stage) => match held.check(p, found) {
-            Err(refusal) => Err(refusal),
-            Ok(()) => Ok(frame_state::at_stage(held.add(p, found), stage)),
-        },
-    }
+    let stage = frame_line::turn_at(p.stage, found.row).ok_or(Refusal::Malformed)?;
+    held.check(p, found)?;
+    Ok(frame_state::at_stage(held.add(p, found), stage))
 }
 
 // After the last line: the second set is joined to the first where the patch line stands. A refusal is reported at the patch line, which stands
@@ -118,13 +123,13 @@ fn finish(p: Progress, held: &mut Held) -> Result<Progress, FrameRefusal>
     if !p.patched {
         return Ok(p);
     }
-    match join_sheet::join_sets(&mut held.sheet, &held.used, &held.second, p.second) {
-        Ok(()) => Ok(p),
-        Err(refusal) => Err(FrameRefusal {
+    join_sheet::join_sets(&mut held.sheet, &held.used, &held.second, p.second).map_err(
+        |refusal| FrameRefusal {
             refusal,
             line: 5 + p.corners + p.labels,
-        }),
-    }
+        },
+    )?;
+    Ok(p)
 }
 
 // All lines, from the top. A line that is missing counts as the one after the last.
@@ -134,6 +139,7 @@ fn read_lines(text: &[u8], held: &mut Held) -> Result<Progress, FrameRefusal>
 {
     let mut p = frame_state::start();
     let mut n = 1usize;
+    // Stays: the number is read behind the loop too, for a line that is missing; a `zip` with the numbers would count the lines once more there (d).
     for line in text.split_inclusive(|b| *b == b'\n') {
         p = step_line(p, held, line).map_err(|refusal| FrameRefusal { refusal, line: n })?;
         n += 1;
@@ -156,7 +162,7 @@ fn copy_front<T: Copy>(from: &[T], to: &mut [T])
 }
 
 // A text that is not too long, with buffers that are long enough.
-// Stays: each buffer is lent by itself, as the C interface lends it (a).
+// Stays: `read_frame` is lent each buffer by itself, and lends them on; a struct of them would be made for this one call (d).
 fn read_text(
     text: &[u8],
     xs: &mut [f32],
@@ -223,16 +229,10 @@ pub fn read_frame(
         || sheet.len() < PLACES
         || passes.len() < ALL_PASS_WORDS
     {
-        return Err(FrameRefusal {
-            refusal: Refusal::BufferTooShort,
-            line: 0,
-        });
+        return Err(FrameRefusal::from(Refusal::BufferTooShort));
     }
     if BYTES < text.len() {
-        return Err(FrameRefusal {
-            refusal: Refusal::OverLimit,
-            line: 0,
-        });
+        return Err(FrameRefusal::from(Refusal::OverLimit));
     }
     read_text(text, xs, ys, pitches, shades, sheet, passes)
 }

@@ -23,7 +23,7 @@ pub struct Recovered {
 
 // Reads a frame and runs its passes in order on one sheet: then the sheet and the words of the outcomes say what the result has to say.
 // A refused frame changes none of the buffers.
-// Stays: each buffer is lent by itself, as `frame` and the C interface lend it (a).
+// Stays: the buffers are lent on to `read_frame` and to the passes, whose public calls lend each list by itself (d).
 pub fn recover_frame(
     text: &[u8],
     xs: &mut [f32],

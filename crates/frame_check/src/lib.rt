@@ -26,7 +26,7 @@ fn refuse_if(holds: bool, refusal: Refusal) -> Result<(), Refusal>
 pub struct Said<'a> {
     pub corners: usize,
     pub passes: usize,
-    // Stays: the count of the second set is read where no patch line stands too, as 0 (d).
+    // Stays: the definitions of a line's checks and of what it adds have this and the count apart, and hold of the count 0 as well (d).
     pub patched: bool,
     pub shades: &'a [u8; CORNERS],
     pub sheet: &'a [u16; PLACES],

@@ -44,7 +44,7 @@ pub enum Kind {
 }
 
 // What a number of a line is.
-// Stays: the table of refusals that is read beside the definitions has them by number, and so has `Whole` (d).
+// Stays: the definitions ask for a number's sort by these four cases, and compare the refusal of `Whole` by its number (d).
 #[derive(Clone, Copy, Debug, PartialEq, Eq)]
 pub enum Sort {
     // the form has no such number
@@ -60,7 +60,7 @@ pub enum Sort {
 // A line: its row, and its numbers as they are held (crate line_form). A text that has none of the forms has the row ROWS.
 #[derive(Clone, Copy, Debug, PartialEq, Eq)]
 pub struct HeldLine {
-    // Stays: a row is an index of the table, and ROWS comes in no turn of it, so that it needs no case of its own (d).
+    // Stays: `held_read` has the row 13 for a text that has none of the forms, and `turn_at` is none there, as for a line out of its turn (d).
     pub row: usize,
     pub values: [u32; 5],
 }
@@ -208,7 +208,7 @@ fn has_second(b: u8, line: &[u8]) -> bool
 pub fn read_line(line: &[u8]) -> HeldLine
     ensures { result ≡ held_read (read_line line.now) }
 {
-    // Stays: a row is known by its number, which the answer has and which the definitions ask for (d).
+    // Stays: a row's form is asked by its number, of `form_of`, whose clause has the definition's form; an entry of `enumerate` has no clause (d).
     for row in 0..ROWS {
         let form = form_of(row);
         if !has_second(form[1], line) {
@@ -232,6 +232,7 @@ fn turn_by(to: u8) -> Option<usize>
 }
 
 // The stage that a line of this row leads to from a stage; it may not come there where there is none.
+// Stays: with `get` and `?` for the row and the stage it did not close that the byte found is the definition's turn (c).
 pub fn turn_at(stage: usize, row: usize) -> Option<usize>
     ensures { result ≡ turn_at stage row }
 {

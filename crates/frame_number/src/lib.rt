@@ -66,7 +66,7 @@ fn is_wild(q: Quantity, bits: u32) -> bool
 fn is_beyond(low: u32, high: u32, word: u32) -> bool
     ensures { result ≡ beyond low high word }
 {
-    word < low || high < word
+    !(low..=high).contains(&word)
 }
 
 // The refusal of a number, if it has one. A sort has its refusal by number (crate frame_line).
@@ -121,7 +121,7 @@ pub fn refusals_of(corners: u32, line: HeldLine) -> NumberRefusals
 pub fn count_of(word: u32) -> u32
     ensures { result ≡ count_in word }
 {
-    if word < OFFSET { OFFSET } else { word - OFFSET }
+    word.checked_sub(OFFSET).unwrap_or(OFFSET)
 }
 
 // The cell whose numbers two words hold.

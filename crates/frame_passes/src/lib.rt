@@ -45,7 +45,7 @@ fn pass_at(passes: &[u32], k: usize) -> Pass
 }
 
 // Runs the passes of a frame in order on one sheet, and notes their outcomes. Its corners stand at the front of their buffers.
-// Stays: each buffer is lent by itself, as the C interface lends it.
+// Stays: the buffers are lent on to the passes, whose public calls lend each list by itself (d).
 pub fn run_frame(
     passes: &[u32],
     xs: &[f32],

@@ -22,7 +22,7 @@ pub struct Progress {
     pub settings: Settings,
     pub corners: usize,
     pub labels: usize,
-    // Stays: the count of the second set is read where no patch line stands too, as 0 (d).
+    // Stays: the definitions of a line's checks and of what it adds have this and the count apart, and hold of the count 0 as well (d).
     pub patched: bool,
     pub second: usize,
     pub passes: usize,
@@ -247,6 +247,7 @@ impl<'a> Parts<'a> {
     }
 
     // The words of the pass m are written.
+    // Stays: with `copy_from_slice` it did not close that the six entries are the six `set`s of `words_put` (c).
     fn put_pass(&mut self, m: usize, words: PassWords)
         requires { m < pass_limit }
         ensures same { SameParts self.old self.new }

@@ -64,10 +64,8 @@ fn pass_or_short(
         xs, ys, pitches, shades, sheet, queue, attached, settings, pass,
     );
     report_words::put::put_outcome(out, 0, answer);
-    match answer {
-        Err(refusal) => Err(refusal),
-        Ok(_) => Ok(()),
-    }
+    answer?;
+    Ok(())
 }
 
 // Grow. `out` takes the eleven words of its outcome.

@@ -44,10 +44,7 @@ pub fn read_or_short(
     ensures line { IfErr result (λ e. e.line ≤ 10000000) }
 {
     if settings.len() < 6 || out.len() < 2 {
-        return Err(FrameRefusal {
-            refusal: Refusal::BufferTooShort,
-            line: 0,
-        });
+        return Err(FrameRefusal::from(Refusal::BufferTooShort));
     }
     let head = frame::read_frame(text, xs, ys, pitches, shades, sheet, passes)?;
     enter_settings(settings, head.settings);

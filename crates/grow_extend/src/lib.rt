@@ -11,7 +11,7 @@ ghost use Rattle.labels.specs.Used.{Tied};
 ghost use Rattle.arguments.specs.Shades.{corners_of};
 ghost use Rattle.arguments.specs.Accepted.{Accepted};
 ghost use Rattle.passes.specs.Outcome.{Outcome};
-ghost use Rattle.passes.specs.Grow.{radius_of, search_of, tolerances_of, grow_after};
+ghost use Rattle.passes.specs.Grow.{radius_of, search_of, grow_after};
 ghost use Rattle.passes.specs.Step.{grow_step, grow_out, grow_leaves, lent_of, rooms};
 ghost use Rattle.passes.specs.Said.{grow_values, grow_said, outcome_due};
 
@@ -20,7 +20,6 @@ use candidates::HeldCorners;
 use extension_common::{ChoiceRule, Search, Trial, TryCellResult};
 use grow_queue::Queue;
 use passes::{Counts, GrowStats};
-use positions_policy::Tolerances;
 use refusal::Refusal;
 use sheet::Cell;
 use sizes::CORNERS;
@@ -55,16 +54,6 @@ impl GrowSetup {
             search_r: self.radius(extrapolating),
             ambiguity_factor: self.params.attach_ambiguity_factor,
             rule: ChoiceRule::Unambiguous,
-        }
-    }
-
-    // The edge's tolerances: cell size and band.
-    fn tolerances(self) -> Tolerances
-        ensures { result ≡ tolerances_of self.settings }
-    {
-        Tolerances {
-            cell_size: self.settings.grid.cell_size,
-            edge_length_tol: self.settings.edge_length_tol,
         }
     }
 }
@@ -115,7 +104,7 @@ impl<'a> Growing<'a> {
                     sheet: self.sheet,
                     c,
                     search: setup.search(predict::is_extrapolating(self.sheet, c)),
-                    tol: setup.tolerances(),
+                    tol: passes::tolerances_of(setup.settings),
                 };
                 trial.try_attach_at_cell(at)
             }
@@ -190,6 +179,7 @@ impl<'a> Growing<'a> {
 }
 
 // The pass on arguments that are accepted: which corners are used, the seeds, the run, and the rim at its end.
+// Stays: the public call lends each list by itself, as the specification and the C interface do.
 fn extend(
     xs: &[f32],
     ys: &[f32],

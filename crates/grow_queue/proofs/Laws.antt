@@ -1,9 +1,12 @@
 -- Laws of the queue as the code holds it: a place queued, a cell taken; the four neighbours, one after the other; the seeds, a place at a
 -- time. Assumes nothing.
 use mathlib.Core.Path.{◌≡◌, refl, sym, ap, ◌∙◌, subst}
-use mathlib.Core.Bool.{Bool, true, false, cond, not, ◌&&◌, ◌||◌}
-use mathlib.Core.List.{List, [], ◌∷◌, ◌++◌}
-use Prim.Native.Nat.{ℕ, zero, suc, ◌+◌, ◌*◌, ◌<◌, ◌≤◌}
+use mathlib.Core.Bool.{Bool, true, false, not, ◌&&◌, ◌||◌}
+use mathlib.Core.List.{List, [], ◌∷◌, ◌++◌, map}
+use Rattle.std.specs.List.{filter}
+use Rattle.std.proofs.lemmas.List.{length-map, map-append}
+use Rattle.sheet.specs.Blank.{written_from}
+use Prim.Native.Nat.{ℕ, ◌+◌, ◌*◌, ◌<◌, ◌≤◌}
 use native.Mathlib.Decide.{ℕ_discrete}
 use native.Mathlib.Numerals.{add-one}
 use native.Mathlib.Omega.{arith}
@@ -16,20 +19,18 @@ use Rattle.sheet.specs.Cells.{on_sheet, OnSheet, place_of, cell_of, moved}
 use Rattle.sheet.specs.Words.{label_at}
 use Rattle.sheet.specs.declared.Cell.{Cell}
 use Rattle.sheet.specs.declared.Offset.{Offset}
-use Rattle.sheet.specs.Blank.{NextWritten}
-use Rattle.sheet.proofs.Blank.{skips}
 use Rattle.sheet.proofs.Laws.{place_in}
 use Rattle.sheet.proofs.Words.{label_on}
-use Rattle.labels.specs.Labelled.{passing, names_corner, is_labelled, labelled_below, labelled_places, label_count}
-use Rattle.labels.proofs.Below.{both, passing_none, passing_hit, passing_miss}
-use Rattle.labels.proofs.Labelled.{blank_unlabelled}
+use Rattle.labels.specs.Labelled.{names_corner, is_labelled, label_count}
+use Rattle.labels.proofs.Below.{both}
+use Rattle.labels.proofs.Labelled.{labels_walked}
 use Rattle.positions_policy.specs.Edge.{cardinal_offsets, cardinal_at}
 use Rattle.passes.specs.Grow.{member, wanted, enqueued, enqueued_at, spread, seeded_from}
 use Rattle.passes.proofs.Over.{over_length, over_read, over_own, over_over}
 use Rattle.passes.proofs.Queue.{member_more, last_at, older_at, enqueued_longer, seeded_longer, spread_longer}
 use Rattle.arguments.specs.Front.{over}
 use Rattle.grow_queue.specs.Places.{so_far, Flagged, OnPlaces}
-use Rattle.grow_queue.specs.Queue.{queued, Room, QueueHeld, seeded_at, seeded, SeedRoom, Unqueued}
+use Rattle.grow_queue.specs.Queue.{queued, Room, QueueHeld, seeded, Unqueued}
 use Rattle.grow_queue.specs.declared.Queue.{Queue}
 
 -- ---- a place more
@@ -171,89 +172,29 @@ unfolding seeded_from
 seeded_more sheet [] p queued = refl
 seeded_more sheet (q ∷ ps) p queued = seeded_more sheet ps p (spread sheet (cell_of q) queued)
 
--- those of the first p places
-abbrev seeded_below : List ℕ → ℕ → List ℕ
-seeded_below sheet p = seeded_from sheet (labelled_below sheet p) []
-
-seeded_step : (sheet : List ℕ) (p : ℕ) → seeded_at sheet p (seeded_below sheet p) ≡ seeded_below sheet (p + 1)
-unfolding seeded_at
-seeded_step sheet p = go (is_labelled (get_or sheet p 0)) refl
-  where
-    go : (t : Bool) → is_labelled (get_or sheet p 0) ≡ t → cond t (spread sheet (cell_of p) (seeded_below sheet p)) (seeded_below sheet p) ≡ seeded_below sheet (p + 1)
-    go true e = sym (seeded_more sheet (labelled_below sheet p) p []) ∙ ap (λ (ps : List ℕ). seeded_from sheet ps []) (sym (passing_hit (λ q. is_labelled (get_or sheet q 0)) p e))
-    go false e = ap (λ (ps : List ℕ). seeded_from sheet ps []) (sym (passing_miss (λ q. is_labelled (get_or sheet q 0)) p e))
-
-seeded_rises : (sheet : List ℕ) (p : ℕ) → length (seeded_below sheet p) ≤ length (seeded_below sheet (p + 1))
-unfolding seeded_at
-seeded_rises sheet p = rw (← seeded_step sheet p) (go (is_labelled (get_or sheet p 0)))
-  where
-    go : (t : Bool) → length (seeded_below sheet p) ≤ length (cond t (spread sheet (cell_of p) (seeded_below sheet p)) (seeded_below sheet p))
-    go true = (spread_longer sheet (cell_of p) (seeded_below sheet p)).more
-    go false = omega arith
-
-passing_up : (f : ℕ → Bool) (n m : ℕ) → n ≤ m → length (passing f n) ≤ length (passing f m)
-unfolding passing
-passing_up f n zero h = let e : n ≡ 0 = omega arith in rw e (omega arith)
-passing_up f n (suc m) h = go (ℕ_discrete n (suc m)) (passing_up f n m)
-  where
-    go : Dec (n ≡ suc m) → (n ≤ m → length (passing f n) ≤ length (passing f m)) → length (passing f n) ≤ length (passing f (suc m))
-    go (yes e) w = rw e (omega arith)
-    go (no e) w = rw (length-append (passing f m)) (let l = w (omega arith) in omega arith)
-
--- before the place p: the neighbours of the labelled cells before it are queued
-pub record Seeding (sheet : List ℕ) (before after : Queue) (p : ℕ) : Type 0 where
-  pub upto : p ≤ 16384
-  pub holds : QueueHeld before after (seeded_from sheet (labelled_below sheet p) [])
+-- the cells queued for some places with their words
+abbrev pub seeds : List ℕ → List (ℕ × ℕ) → List ℕ
+seeds sheet es = seeded_from sheet (map (λ e. e.0) es) []
 
 module _ {sheet : List ℕ} {q : Queue} (w : Unqueued sheet q) where
-  pub seeding_start : Seeding sheet q q 0
+  pub seeding_start : QueueHeld q q (seeds sheet [])
   unfolding seeded_from
-  seeding_start = record { upto = omega arith; holds = rw (passing_none (λ p. is_labelled (get_or sheet p 0))) (record { same_buffer = refl; written = refl; count = w.none; head_same = refl }) }
+  seeding_start = record { same_buffer = refl; written = refl; count = w.none; head_same = refl }
 
-  module _ {after : Queue} {p : ℕ} (s : Seeding sheet q after p) where
-    -- at most four cells a labelled one
-    few : length (seeded_below sheet p) ≤ 4 * length (labelled_below sheet p)
-    few = omega (arith, (seeded_longer sheet (labelled_below sheet p) []).few)
+  module _ {after : Queue} (es : List (ℕ × ℕ)) (s : QueueHeld q after (seeds sheet es)) (some : length es < label_count sheet) where
+    few : length (seeds sheet es) ≤ 4 * length es
+    few = omega (arith, (seeded_longer sheet (map (λ e. e.0) es) []).few, length-map es (λ e. e.0))
 
-    few_here : length (seeded_below sheet p) ≤ length q.places.now
-    unfolding label_count labelled_places
-    few_here = omega (arith, few, w.room, passing_up (λ q. is_labelled (get_or sheet q 0)) p 16384 s.upto)
+    pub seeding_room : Room 4 sheet after
+    seeding_room = record { long = w.long; room = omega (arith, holds_length s (omega (arith, few, w.room)), s.count, few, w.room) }
 
-    pub seeding_length : length after.places.now ≡ length q.places.now
-    seeding_length = holds_length s.holds few_here
+    pub seeding_more : (e : ℕ × ℕ) {c : Cell} {next : Queue} → c ≡ cell_of e.0 → QueueHeld after next (spread sheet c (queued after)) → QueueHeld q next (seeds sheet (es ++ (e ∷ [])))
+    seeding_more e {c} {next} is m =
+        let a : QueueHeld after next (spread sheet (cell_of e.0) (seeds sheet es)) = rw (is, holds_read s) at m in
+        let l = spread_longer sheet (cell_of e.0) (seeds sheet es) in
+        let t : seeds sheet (es ++ (e ∷ [])) ≡ spread sheet (cell_of e.0) (seeds sheet es) =
+        ap (λ ps. seeded_from sheet ps []) (map-append (λ d. d.0) es (e ∷ [])) ∙ seeded_more sheet (map (λ d. d.0) es) e.0 [] in
+        rw t (holds_then s a l.more)
 
-    -- and four more for this one, if it is labelled
-    few_next : p < 16384 → is_labelled (get_or sheet p 0) ≡ true → length (seeded_below sheet p) + 4 ≤ length q.places.now
-    unfolding label_count labelled_places
-    few_next h e =
-        let a = passing_up (λ q. is_labelled (get_or sheet q 0)) (p + 1) 16384 (omega arith) in
-        let b = ap length (passing_hit (λ q. is_labelled (get_or sheet q 0)) p e) in
-        omega (arith, few, w.room, a, b, length-append (labelled_below sheet p) (p ∷ []))
-
-    pub seeding_room : p < 16384 → SeedRoom sheet after p
-    seeding_room h = record { long = w.long; place = h; room = λ e. omega (arith, seeding_length, s.holds.count, few_next h e) }
-
-    pub seeding_more : p < 16384 → {next : Queue} → QueueHeld after next (seeded_at sheet p (queued after)) → Seeding sheet q next (p + 1)
-    seeding_more h {next} m =
-        let a : QueueHeld after next (seeded_below sheet (p + 1)) = rw (holds_read s.holds, seeded_step sheet p) at m in
-        record { upto = omega arith; holds = holds_then s.holds a (seeded_rises sheet p) }
-
-    pub seeding_end : 16384 ≤ p → QueueHeld q after (seeded sheet)
-    unfolding labelled_places
-    seeding_end h = let e : p ≡ 16384 = omega (arith, s.upto) in rw (← e) s.holds
-
--- one place, by both ways
-module _ (sheet : List ℕ) (q : Queue) (p : ℕ) where
-  pub seed_labelled : is_labelled (get_or sheet p 0) ≡ true → {c : Cell} {after : Queue} → c ≡ cell_of p → QueueHeld q after (spread sheet c (queued q)) → QueueHeld q after (seeded_at sheet p (queued q))
-  unfolding seeded_at
-  seed_labelled e is h = rw e (rw is at h)
-
-  pub seed_bare : is_labelled (get_or sheet p 0) ≡ false → QueueHeld q q (seeded_at sheet p (queued q))
-  unfolding seeded_at
-  seed_bare e = rw e (holds_own q)
-
--- ---- places that hold nothing
-
-pub seeding_skips : {sheet : List ℕ} {q after : Queue} → Unqueued sheet q → {p r : ℕ} → Seeding sheet q after p → NextWritten sheet p r → Seeding sheet q after r
-seeding_skips {sheet} {q} {after} w s n =
-    skips sheet (λ p. Seeding sheet q after p) (λ p h e g. seeding_more w g h (seed_bare sheet after p (blank_unlabelled e))) n s
+  pub seeding_end : {after : Queue} (es : List (ℕ × ℕ)) → QueueHeld q after (seeds sheet es) → es ≡ filter (λ e. is_labelled e.1) (written_from sheet 0) → QueueHeld q after (seeded sheet)
+  seeding_end {after} es s is = subst (λ ps. QueueHeld q after (seeded_from sheet ps [])) (ap (map (λ e. e.0)) is ∙ labels_walked sheet) s

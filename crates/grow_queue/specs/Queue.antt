@@ -1,10 +1,10 @@
 -- Grow's queue as the code holds it: what is queued, what its functions ask, and what they leave. Definitions only.
-use Rattle.std.specs.Prelude.{◌≡◌, true, false, cond, List, [], ℕ, ◌+◌, ◌*◌, ◌<◌, ◌≤◌, length, get_or, Option, None, Some}
+use Rattle.std.specs.Prelude.{◌≡◌, false, List, [], ℕ, ◌+◌, ◌*◌, ◌<◌, ◌≤◌, length, get_or, Option, None, Some}
 use Rattle.sizes.specs.Sizes.{place_count}
 use Rattle.sheet.specs.Cells.{cell_of}
 use Rattle.sheet.specs.declared.Cell.{Cell}
-use Rattle.labels.specs.Labelled.{is_labelled, labelled_places, label_count}
-use Rattle.passes.specs.Grow.{member, spread, seeded_from}
+use Rattle.labels.specs.Labelled.{labelled_places, label_count}
+use Rattle.passes.specs.Grow.{member, seeded_from}
 use Rattle.arguments.specs.Front.{over}
 use Rattle.grow_queue.specs.Places.{so_far}
 use Rattle.grow_queue.specs.declared.Queue.{Queue}
@@ -51,19 +51,9 @@ pub record Taken (before after : Queue) (r : Option Cell) : Type 0 where
 
 -- ---- the seeds
 
--- a queue with the neighbours of one place's cell, if it is labelled
-unfoldable pub seeded_at : List ℕ → ℕ → List ℕ → List ℕ
-seeded_at sheet p queued = cond (is_labelled (get_or sheet p 0)) (spread sheet (cell_of p) queued) queued
-
 -- the queue at grow's start
 abbrev pub seeded : List ℕ → List ℕ
 seeded sheet = seeded_from sheet (labelled_places sheet) []
-
--- room in the queue for four cells more, if the place is labelled
-pub record SeedRoom (sheet : List ℕ) (q : Queue) (p : ℕ) : Type 0 where
-  pub long : place_count ≤ length sheet
-  pub place : p < place_count
-  pub room : is_labelled (get_or sheet p 0) ≡ true → q.tail + 4 ≤ length q.places.now
 
 -- room in the queue for four cells a labelled cell, and nothing queued
 pub record Unqueued (sheet : List ℕ) (q : Queue) : Type 0 where

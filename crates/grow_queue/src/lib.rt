@@ -6,7 +6,7 @@
 ghost use Rattle.std.specs.Prelude.{◌≤◌, length};
 ghost use Rattle.grow_queue.specs.Places.{so_far, Flagged, OnPlaces};
 
-use sheet::Cell;
+use sheet::{Cell, Written};
 use sizes::PLACES;
 
 // The queue, in a lent buffer of places: its first `tail` places are the cells queued so far, and of these the first `head` are taken.
@@ -28,7 +28,7 @@ impl<'a> Queue<'a> {
     ghost use Rattle.sizes.specs.Sizes.{place_count};
     ghost use Rattle.sheet.specs.Cells.{OnSheet};
     ghost use Rattle.passes.specs.Grow.{wanted, enqueued, spread};
-    ghost use Rattle.grow_queue.specs.Queue.{queued, Empty, Fresh, Room, QueueHeld, SeedRoom, Unqueued, seeded_at, seeded, Taken};
+    ghost use Rattle.grow_queue.specs.Queue.{queued, Empty, Fresh, Room, QueueHeld, Unqueued, seeded, Taken};
 
     // A queue of no cell.
     pub fn new(places: &'a mut [u16]) -> Queue<'a>
@@ -101,26 +101,13 @@ impl<'a> Queue<'a> {
         }
     }
 
-    // Queues the neighbours of a place's cell, if it is labelled.
-    fn seed_at(&mut self, sheet: &[u16], place: usize)
-        requires { SeedRoom sheet.now self.old place }
-        ensures { QueueHeld self.old self.new (seeded_at sheet.now place (queued self.old)) }
-    {
-        if labels::is_labelled(sheet[place]) {
-            self.enqueue_cardinal_neighbours(sheet, sheet::cell_of(place));
-        }
-    }
-
     // Queues the neighbours of all labelled cells, by i, then j.
     pub fn seed(&mut self, sheet: &[u16])
         requires { Unqueued sheet.now self.old }
         ensures { QueueHeld self.old self.new (seeded sheet.now) }
     {
-        // Not a range: the places that hold nothing are passed over.
-        let mut place = sheet::next_written(sheet, 0);
-        while place < PLACES {
-            self.seed_at(sheet, place);
-            place = sheet::next_written(sheet, place + 1);
+        for (place, _) in Written::new(sheet).filter(|(_, word)| labels::is_labelled(*word)) {
+            self.enqueue_cardinal_neighbours(sheet, sheet::cell_of(place));
         }
     }
 }

@@ -5,6 +5,7 @@ use mathlib.Core.List.{List, ◌++◌}
 use Prim.Native.Nat.{ℕ}
 use lib.ListN.{get_or}
 use Rattle.std.specs.Prelude.{Option, Some, None}
+use Rattle.std.specs.Bool.{then_some}
 use lib.Ieee.{Float, nan, binary32}
 use Rattle.binary32.specs.Ranges.{is_finite, all_finite}
 use Rattle.elimination.specs.Rounded.{◌⊘◌}
@@ -49,6 +50,10 @@ module _ (h q : List Float) (t : Bool) (s : small h ≡ false) (eq : q ≡ quoti
   pub scaled_fit : t ≡ true → Some q ≡ scaled_of h
   unfolding scaled_of
   scaled_fit e = rw (s, ← quotients_finite h, ← eq, ← et, e)
+
+pub scaled_is : (h q : List Float) (t : Bool) → small h ≡ false → q ≡ quotients h → t ≡ finite_entries q → then_some t q ≡ scaled_of h
+scaled_is h q true s eq et = scaled_fit h q true s eq et refl
+scaled_is h q false s eq et = scaled_wild h q false s eq et refl
 
 -- ---- the whole
 

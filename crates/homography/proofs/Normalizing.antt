@@ -6,6 +6,7 @@ use mathlib.Core.List.{List, [], ◌∷◌, ◌++◌}
 use Prim.Native.Nat.{ℕ, zero, suc, ◌<◌}
 use native.Mathlib.Omega.{arith}
 use Rattle.std.specs.Prelude.{Some, None, fold}
+use Rattle.std.specs.Bool.{then_some}
 use lib.ListN.{length, get_or}
 use lib.Ieee.{Float, nan, inf, fin, binary32, neg, lt, of_bits, to_bits}
 use Rattle.binary32.specs.Ranges.{is_finite, all_finite}
@@ -254,3 +255,10 @@ module _ (ps : List Position) {cx cy d s : Float} {xs ys ds m : List Float} {qs 
 
   pub normalized_none : ok ≡ false → None ≡ normalized_of ps
   normalized_none e = rw (← ok_is, e)
+
+  pub normalized_is : then_some ok (record { points = qs; by = record { scale = s; cx = cx; cy = cy } }) ≡ normalized_of ps
+  normalized_is = go ok refl
+    where
+      go : (t : Bool) → ok ≡ t → then_some t (record { points = qs; by = record { scale = s; cx = cx; cy = cy } }) ≡ normalized_of ps
+      go true e = normalized_some e
+      go false e = normalized_none e

@@ -106,11 +106,7 @@ pub fn normalize_points4(pts: [Position; 4]) -> Option<Normalized>
     let by = Normalization { scale, cx, cy };
     let t = forward(by);
     let points = pts.map(|p| moved(t, p));
-    if steps_finite(mean_dist, points) {
-        Some(Normalized { points, by })
-    } else {
-        None
-    }
+    steps_finite(mean_dist, points).then_some(Normalized { points, by })
 }
 
 // One of the eight equations: the first of two of a point p that goes to q where i is even, else the second.
@@ -203,11 +199,7 @@ pub fn scaled(h: [f32; 9]) -> Option<[f32; 9]>
         return None;
     }
     let q = divided(h);
-    if elimination::values_finite(&q) {
-        Some(q)
-    } else {
-        None
-    }
+    elimination::values_finite(&q).then_some(q)
 }
 
 // The fit that takes four cells to their pictured corners, its nine entries row by row. There is none where a pivot is zero, where the last

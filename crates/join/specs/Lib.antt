@@ -1,4 +1,5 @@
--- The definitions of the join of two patches: the rule, the join of two lists, the sheet of a set. Definitions only.
+-- The definitions of the join of two patches: the rule, the join of two lists, the sheet of a set, the refusals. Definitions only.
 pub mod Rule
 pub mod Join
 pub mod Sheets
+pub mod Refused

@@ -33,7 +33,8 @@ use Rattle.join.specs.declared.Unjoinable.{Unjoinable}
 use Rattle.join.specs.Rule.{Verdict, Placed, shifted_by}
 use Rattle.join.specs.Join.{every, kept, asks, asked, tested, told, is_found, new_by}
 use Rattle.join.specs.Sheets.{labelled}
-use Rattle.join_sheet.specs.Held.{held_at, held_from, held_labels, or_at, found_below, holds_at, cell_on, agrees_on, new_put, new_held, refusal_of, outcome, outcome_of, verdict_on, join_on, HeldSecond, Unused, HeldSets, WriteAsked}
+use Rattle.join.specs.Refused.{refusal_of}
+use Rattle.join_sheet.specs.Held.{held_at, held_from, held_labels, or_at, found_below, holds_at, cell_on, agrees_on, new_put, new_held, outcome, outcome_of, verdict_on, join_on, HeldSecond, Unused, HeldSets, WriteAsked}
 use Rattle.join.proofs.Lists.{every_yes}
 use Rattle.join_sheet.proofs.Held.{found_used, cell_found_on}
 
@@ -329,5 +330,3 @@ module _ (sheet used second : List ℕ) (count : ℕ) (s : HeldSets sheet used s
           go : (r : Option Offset) → asked (cell_on sheet) held ≡ r → told (agrees_on sheet) held r ≡ Ok d → WriteAsked second count d
           go None p h = absurd (let z : ◌≡◌ {A = ℕ} 0 1 = cc in omega arith)
           go (Some a) p h = test a p (every (agrees_on sheet) (map (shifted_by a) held)) _ refl h
-
--- ---- the shift asked for, by the labels' numbers

@@ -8,10 +8,10 @@ use Rattle.sheet.specs.declared.Cell.{Cell}
 use Rattle.sheet.specs.declared.Offset.{Offset}
 use Rattle.labels.specs.Used.{names, used_on}
 use Rattle.refusal.specs.declared.Refusal.{Refusal}
-use Rattle.join.specs.declared.Unjoinable.{Unjoinable}
 use Rattle.join.specs.Rule.{Verdict, Placed, shifted_by}
 use Rattle.join.specs.Join.{kept, new_by, verdict_by, Joined, apart, clash, off, union_of}
 use Rattle.join.specs.Sheets.{labelled}
+use Rattle.join.specs.Refused.{refusal_of}
 
 -- ---- the second set: n labels of an array, from one on; their corners stand from 0 on, their places from 1,024 on
 
@@ -67,12 +67,6 @@ pub record Outcome : Type 0 where
 
 abbrev pub outcome : List ℕ → Result (Unit {0}) Refusal → Outcome
 outcome sheet r = record { sheet = sheet; answer = r }
-
--- the refusal of two sets that are not joined
-abbrev pub refusal_of : Unjoinable → Refusal
-refusal_of Unjoinable.Apart = Refusal.NoSharedCorner
-refusal_of Unjoinable.Clash = Refusal.PatchesClash
-refusal_of Unjoinable.Off = Refusal.OffSheet
 
 unfoldable pub outcome_of : List ℕ → List Placed → Verdict → Outcome
 outcome_of sheet second (Err u) = outcome sheet (Err (refusal_of u))

@@ -11,7 +11,7 @@ ghost use Rattle.labels.specs.Used.{names};
 ghost use Rattle.join.specs.Rule.{Placed, shifted_by};
 ghost use Rattle.join.specs.Join.{every, asks, asked, tested};
 ghost use Rattle.join.specs.Sheets.{labelled};
-ghost use Rattle.join_sheet.specs.Held.{held_labels, cell_on, agrees_on, new_put, new_held, refusal_of, outcome, verdict_on, join_on, HeldSecond, Unused, HeldSets, WriteAsked};
+ghost use Rattle.join_sheet.specs.Held.{held_labels, cell_on, agrees_on, new_put, new_held, outcome, verdict_on, join_on, HeldSecond, Unused, HeldSets, WriteAsked};
 
 use join::{Unjoinable, Verdict};
 use refusal::Refusal;
@@ -33,6 +33,13 @@ struct Second<'a> {
     array: &'a [u16; SECOND],
     count: usize,
     ghost held: { HeldSecond array.now count },
+}
+
+// A shift of the second set: an offset of at most 128 each way.
+#[derive(Clone, Copy)]
+struct Shift {
+    offset: Offset,
+    ghost near: { Within 128 offset },
 }
 
 // Whether a word names a corner.
@@ -99,18 +106,16 @@ impl Second<'_> {
     }
 
     // The cell of a label, moved.
-    // Stays: a shift is an offset of `sheet`, and a struct of its own for the bound would be made from one at each call (d).
-    fn moved_cell(&self, i: usize, d: Offset) -> Cell
-        requires { (i < self.now.count) × Within 128 d }
-        ensures { result ≡ moved (cell_of (get_or self.now.array.now (corner_limit + i) 0)) d }
+    fn moved_cell(&self, i: usize, d: Shift) -> Cell
+        requires { i < self.now.count }
+        ensures { result ≡ moved (cell_of (get_or self.now.array.now (corner_limit + i) 0)) d.offset }
     {
-        sheet::neighbour(self.cell(i), d)
+        sheet::neighbour(self.cell(i), d.offset)
     }
 
     // Whether every label, moved, is on the sheet.
-    fn all_on(&self, d: Offset) -> bool
-        requires { Within 128 d }
-        ensures { result ≡ every (λ l. on_sheet l.cell) (map (shifted_by d) (held_labels self.now.array.now self.now.count)) }
+    fn all_on(&self, d: Shift) -> bool
+        ensures { result ≡ every (λ l. on_sheet l.cell) (map (shifted_by d.offset) (held_labels self.now.array.now self.now.count)) }
     {
         (0..self.count).all(|i| sheet::on_sheet(self.moved_cell(i, d)))
     }
@@ -124,18 +129,16 @@ fn asked_shift(first: &First, second: &Second) -> Option<Offset>
 }
 
 // Whether every label of the second set, moved, agrees with the first.
-fn all_agree(first: &First, second: &Second, d: Offset) -> bool
-    requires { Within 128 d }
-    ensures { result ≡ every (agrees_on first.now.sheet.now) (map (shifted_by d) (held_labels second.now.array.now second.now.count)) }
+fn all_agree(first: &First, second: &Second, d: Shift) -> bool
+    ensures { result ≡ every (agrees_on first.now.sheet.now) (map (shifted_by d.offset) (held_labels second.now.array.now second.now.count)) }
 {
     (0..second.count).all(|i| first.agrees(second.corner(i), second.moved_cell(i, d)))
 }
 
 // The test of a shift: 9 before 4.
 #[tactic(auto, unfolding(join::specs::Join::tested))]
-fn test_shift(first: &First, second: &Second, d: Offset) -> Verdict
-    requires { Within 128 d }
-    ensures { result ≡ tested (agrees_on first.now.sheet.now) (held_labels second.now.array.now second.now.count) d }
+fn test_shift(first: &First, second: &Second, d: Shift) -> Verdict
+    ensures { result ≡ tested (agrees_on first.now.sheet.now) (held_labels second.now.array.now second.now.count) d.offset }
 {
     if !all_agree(first, second, d) {
         return Err(Unjoinable::Clash);
@@ -143,7 +146,7 @@ fn test_shift(first: &First, second: &Second, d: Offset) -> Verdict
     if !second.all_on(d) {
         return Err(Unjoinable::Off);
     }
-    Ok(d)
+    Ok(d.offset)
 }
 
 // The verdict on two sets: 8 before 9 before 4.
@@ -151,8 +154,8 @@ fn test_shift(first: &First, second: &Second, d: Offset) -> Verdict
 fn verdict_of(first: &First, second: &Second) -> Verdict
     ensures { result ≡ verdict_on first.now.sheet.now (held_labels second.now.array.now second.now.count) }
 {
-    let d = asked_shift(first, second).ok_or(Unjoinable::Apart)?;
-    test_shift(first, second, d)
+    let offset = asked_shift(first, second).ok_or(Unjoinable::Apart)?;
+    test_shift(first, second, Shift { offset })
 }
 
 // A label whose corner the first set has not is attached.
@@ -167,24 +170,13 @@ fn put_new(sheet: &mut [u16; PLACES], used: &[u8; USED], corner: usize, c: Cell)
 }
 
 // The labels of the second set whose corners the first has not are attached, moved.
-fn write_new(sheet: &mut [u16; PLACES], used: &[u8; USED], second: &Second, d: Offset)
-    requires { WriteAsked second.now.array.now second.now.count d }
-    ensures { sheet.new ≡ labelled sheet.old (new_held used.now (held_labels second.now.array.now second.now.count) d) }
+fn write_new(sheet: &mut [u16; PLACES], used: &[u8; USED], second: &Second, d: Shift)
+    requires { WriteAsked second.now.array.now second.now.count d.offset }
+    ensures { sheet.new ≡ labelled sheet.old (new_held used.now (held_labels second.now.array.now second.now.count) d.offset) }
 {
     // Stays: a label has only its number, by which its corner and its cell stand in two parts of one array (d).
     for i in 0..second.count {
         put_new(sheet, used, second.corner(i), second.moved_cell(i, d));
-    }
-}
-
-// The refusal of two sets that are not joined.
-fn refusal_of(unjoinable: Unjoinable) -> Refusal
-    ensures { result ≡ refusal_of unjoinable }
-{
-    match unjoinable {
-        Unjoinable::Apart => Refusal::NoSharedCorner,
-        Unjoinable::Clash => Refusal::PatchesClash,
-        Unjoinable::Off => Refusal::OffSheet,
     }
 }
 
@@ -204,7 +196,7 @@ pub fn join_sets(
         count,
     };
     let first = First { sheet, used };
-    let d = verdict_of(&first, &second).map_err(refusal_of)?;
-    write_new(sheet, used, &second, d);
+    let offset = verdict_of(&first, &second)?;
+    write_new(sheet, used, &second, Shift { offset });
     Ok(())
 }

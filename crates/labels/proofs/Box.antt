@@ -284,7 +284,11 @@ unfolding widened
 boxed_all [] = refl
 boxed_all (c ∷ cells) = sym (boxed_behind cells (bounds_of c))
 
-pub box_walked : (sheet : List ℕ) (r : Option Bounds) → reduce bounds_joined (map bounds_of (filter_map labelled_cell (written_from sheet 0))) ≡ r → boxed r ≡ box_of sheet
+boxed_same : (r : Option Bounds) → boxed r ≡ r
+boxed_same None = refl
+boxed_same (Some b) = refl
+
+pub box_walked : (sheet : List ℕ) (r : Option Bounds) → reduce bounds_joined (map bounds_of (filter_map labelled_cell (written_from sheet 0))) ≡ r → r ≡ box_of sheet
 unfolding box_of
 box_walked sheet r e =
-    sym (ap boxed e) ∙ boxed_all (filter_map labelled_cell (written_from sheet 0)) ∙ cells_walked (written_from sheet 0) None ∙ ap box_around (labels_walked sheet)
+    sym (boxed_same r) ∙ sym (ap boxed e) ∙ boxed_all (filter_map labelled_cell (written_from sheet 0)) ∙ cells_walked (written_from sheet 0) None ∙ ap box_around (labels_walked sheet)

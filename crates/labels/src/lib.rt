@@ -93,14 +93,10 @@ pub fn label_box(sheet: &[u16]) -> Option<Bounds>
     requires { place_count ≤ length sheet.now }
     ensures { result ≡ box_of sheet.now }
 {
-    let bounds = Written::new(sheet)
+    Written::new(sheet)
         .filter_map(labelled_cell)
         .map(Bounds::of)
-        .reduce(Bounds::join);
-    match bounds {
-        None => None,
-        Some(b) => Some(b),
-    }
+        .reduce(Bounds::join)
 }
 
 // Whether i or j lies in the outermost `depth` lines on either side.

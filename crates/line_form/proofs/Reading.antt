@@ -15,10 +15,9 @@ use Rattle.std.proofs.Common.{Option, None, Some}
 use Rattle.binary32.proofs.Digits.{digits_length, bits_written_read}
 use Rattle.line_form.specs.Integers.{Front, broken, front, is_digit, digits_after, read_positive, negated, mapped, read_integer}
 use Rattle.line_form.specs.Forms.{Number, bits, whole, number_text, Piece, no_piece, same, number, bits_piece, whole_piece, byte_piece, piece_of, Fitted, misfit, fitted, before, then, fit_of}
-use Rattle.line_form.specs.Held.{held_whole, held, held_up_to, held_fit, held_piece, held_digits, held_positive, kept}
+use Rattle.line_form.specs.Held.{held_whole, held, held_up_to, held_fit, held_piece, held_digits, held_positive, plain, word, kept}
 use Rattle.line_form.specs.declared.read.Digits.{Digits}
 use Rattle.line_form.specs.declared.read.Taken.{Taken}
-use Rattle.line_form.specs.declared.read.Taken.TheVariants.{Byte, Number as Word}
 use Rattle.line_form.proofs.Decimal.{integer_told}
 
 -- a part of a text to its end
@@ -132,11 +131,11 @@ positive_small d text e = go (read_positive text) e
 -- a number above 0, and one below
 abbrev pub plus : Option Digits → Option Taken
 plus None = None
-plus (Some d) = Some (Word (1000000 + d.value) d.left)
+plus (Some d) = Some (word (1000000 + d.value) d.left)
 
 abbrev pub minus : Option Digits → Option Taken
 minus None = None
-minus (Some d) = Some (Word (1000000 - d.value) d.left)
+minus (Some d) = Some (word (1000000 - d.value) d.left)
 
 plus_held : (got : Front ℕ) → plus (held_positive got) ≡ held_piece (whole_piece (mapped pos got))
 unfolding held_positive held_digits held_piece held held_whole
@@ -147,14 +146,14 @@ minus_held : (got : Front ℕ) → minus (held_positive got) ≡ held_piece (who
 unfolding held_positive held_digits held_piece held held_whole
 minus_held broken = refl
 minus_held (front zero text) = refl
-minus_held (front (suc n) text) = let e : 1000000 - min 1000000 (suc n) ≡ 1000000 - suc n = omega arith in ap (λ (w : ℕ). Some (Word w (length text))) e
+minus_held (front (suc n) text) = let e : 1000000 - min 1000000 (suc n) ≡ 1000000 - suc n = omega arith in ap (λ (w : ℕ). Some (word w (length text))) e
 
 module _ (text : List ℕ) where
-  pub integer_zero : 1 ≤ length text → get_or text 0 0 ≡ 48 → Some (Word 1000000 (length (take (length text - 1) (drop 1 text)))) ≡ held_piece (whole_piece (read_integer text))
+  pub integer_zero : 1 ≤ length text → get_or text 0 0 ≡ 48 → Some (word 1000000 (length (take (length text - 1) (drop 1 text)))) ≡ held_piece (whole_piece (read_integer text))
   unfolding read_integer held_piece held held_whole
   integer_zero h k = rw (part text 1) (go text h k)
     where
-      go : (text : List ℕ) → 1 ≤ length text → get_or text 0 0 ≡ 48 → Some (Word 1000000 (length (drop 1 text))) ≡ held_piece (whole_piece (read_integer text))
+      go : (text : List ℕ) → 1 ≤ length text → get_or text 0 0 ≡ 48 → Some (word 1000000 (length (drop 1 text))) ≡ held_piece (whole_piece (read_integer text))
       go [] h k = absurd (omega arith)
       go (b ∷ text) h k = rw (eq-eqb b 48 k)
 
@@ -191,7 +190,7 @@ float_none text e = rw (← e) refl
 pub float_room : (text : List ℕ) (b : ℕ) → Some b ≡ read_bits text → 8 ≤ length text
 float_room text b e = omega (arith, ap length (bits_written_read b text (sym e)).again, length-append (hex_text b) (drop 8 text), digits_length 8 b)
 
-pub float_read : (text : List ℕ) (b : ℕ) → Some b ≡ read_bits text → Some (Word b (length text - 8)) ≡ held_piece (bits_piece (read_bits text) (drop 8 text))
+pub float_read : (text : List ℕ) (b : ℕ) → Some b ≡ read_bits text → Some (word b (length text - 8)) ≡ held_piece (bits_piece (read_bits text) (drop 8 text))
 unfolding held_piece held
 float_read text b e = rw (← e, length-drop 8 text) refl
 
@@ -200,10 +199,13 @@ unfolding held_piece
 byte_none c [] h = refl
 byte_none c (b ∷ text) h = absurd (omega arith)
 
-pub byte_same : (c : ℕ) (text : List ℕ) → 1 ≤ length text → get_or text 0 0 ≡ c → Some Byte ≡ held_piece (byte_piece c text)
+pub byte_same : (c : ℕ) (text : List ℕ) → 1 ≤ length text → get_or text 0 0 ≡ c → Some (plain (length (take (length text - 1) (drop 1 text)))) ≡ held_piece (byte_piece c text)
 unfolding held_piece
-byte_same c [] h k = absurd (omega arith)
-byte_same c (b ∷ text) h k = rw (eq-eqb b c k)
+byte_same c text h k = rw (part text 1) (go text h k)
+  where
+    go : (text : List ℕ) → 1 ≤ length text → get_or text 0 0 ≡ c → Some (plain (length (drop 1 text))) ≡ held_piece (byte_piece c text)
+    go [] h k = absurd (omega arith)
+    go (b ∷ text) h k = rw (eq-eqb b c k)
 
 pub byte_other : (c : ℕ) (text : List ℕ) → (get_or text 0 0 ≡ c → ⊥) → None ≡ held_piece (byte_piece c text)
 unfolding held_piece
@@ -343,11 +345,21 @@ nothing_held no_piece e = refl
 nothing_held (same text) e = absurd cc
 nothing_held (number n text) e = absurd cc
 
-byte_held : (p : Piece) → Some Byte ≡ held_piece p → (text : List ℕ) × (p ≡ same text)
+record HeldByte (p : Piece) (left : ℕ) : Type 0 where
+  pub text : List ℕ
+  pub is : p ≡ same text
+  pub behind : left ≡ length text
+
+byte_held : (p : Piece) (t : Taken) → Some t ≡ held_piece p → t.value ≡ None → HeldByte p t.left
 unfolding held_piece
-byte_held no_piece e = absurd cc
-byte_held (same text) e = (text, refl)
-byte_held (number n text) e = absurd cc
+byte_held no_piece t e v = absurd cc
+byte_held (same text) t e v =
+    let q : t ≡ plain (length text) = cc in
+    record { text = text; is = refl; behind = ap (λ (t : Taken). t.left) q }
+byte_held (number n text) t e v =
+    let q : t ≡ word (held n) (length text) = cc in
+    let w : t.value ≡ Some (held n) = ap (λ (t : Taken). t.value) q in
+    absurd cc
 
 record HeldNumber (p : Piece) (v left : ℕ) : Type 0 where
   pub n : Number
@@ -356,11 +368,17 @@ record HeldNumber (p : Piece) (v left : ℕ) : Type 0 where
   pub value : v ≡ held n
   pub behind : left ≡ length text
 
-number_held : (p : Piece) (v left : ℕ) → Some (Word v left) ≡ held_piece p → HeldNumber p v left
+number_held : (p : Piece) (t : Taken) (v : ℕ) → Some t ≡ held_piece p → t.value ≡ Some v → HeldNumber p v t.left
 unfolding held_piece
-number_held no_piece v left e = absurd cc
-number_held (same text) v left e = absurd cc
-number_held (number n text) v left e = record { n = n; text = text; is = refl; value = cc; behind = cc }
+number_held no_piece t v e f = absurd cc
+number_held (same text) t v e f =
+    let q : t ≡ plain (length text) = cc in
+    let w : t.value ≡ None = ap (λ (t : Taken). t.value) q in
+    absurd cc
+number_held (number n text) t v e f =
+    let q : t ≡ word (held n) (length text) = cc in
+    let w : t.value ≡ Some (held n) = ap (λ (t : Taken). t.value) q in
+    record { n = n; text = text; is = refl; value = cc; behind = ap (λ (t : Taken). t.left) q }
 
 one_put : (vs : List ℕ) (k : ℕ) (n : Number) (f : Fitted) → onward vs k (before n f) ≡ onward (kept vs k (held n)) (k + 1) f
 unfolding onward put_all
@@ -376,21 +394,29 @@ module _ {form line vs : List ℕ} {i at k : ℕ} (g : Fitting form line vs i at
         rw q at g.rest
 
     module _ {t : Taken} (p : Some t ≡ held_piece (piece_of (get_or form i 0) (take (length line - at) (drop at line)))) where
-      module _ (e : t ≡ Byte) where
-        here : (text : List ℕ) × (piece_of (get_or form i 0) (drop at line) ≡ same text)
-        here = byte_held (piece_of (get_or form i 0) (drop at line)) (of_part (get_or form i 0) line at (Some Byte) (rw e at p))
+      held_here : Some t ≡ held_piece (piece_of (get_or form i 0) (drop at line))
+      held_here = of_part (get_or form i 0) line at (Some t) p
 
-        one : OneByte (drop at line) here.0
-        one = same_told (get_or form i 0) (drop at line) here.0 here.1
+      module _ (e : t.value ≡ None) where
+        here : HeldByte (piece_of (get_or form i 0) (drop at line)) t.left
+        here = byte_held (piece_of (get_or form i 0) (drop at line)) t held_here e
 
-        pub byte_room : at < length line
+        one : OneByte (drop at line) here.text
+        one = same_told (get_or form i 0) (drop at line) here.text here.is
+
+        lefts : t.left ≡ length line - (at + 1)
+        lefts = here.behind ∙ ap length (sym one.behind ∙ drop-drop 1 at line) ∙ length-drop (at + 1) line
+
+        byte_room : at < length line
         byte_room = omega (arith, one.some, length-drop at line)
 
-        pub byte_passed : Fitting form line vs (i + 1) (at + 1) k
+        pub byte_passed : Fitting form line vs (i + 1) (length line - t.left) k
         byte_passed =
             let q : fit_of (drop i form) (drop at line) ≡ fit_of (drop (i + 1) form) (drop (at + 1) line) =
-            form_turn form (drop at line) i h ∙ ap (λ (p : Piece). then p (λ t. fit_of (drop (i + 1) form) t)) here.1
+            form_turn form (drop at line) i h ∙ ap (λ (p : Piece). then p (λ t. fit_of (drop (i + 1) form) t)) here.is
             ∙ ap (fit_of (drop (i + 1) form)) (sym one.behind ∙ drop-drop 1 at line) in
+            let so : length line - t.left ≡ at + 1 = omega (arith, lefts, byte_room) in
+            rw so
             record {
               within = omega arith;
               inside = omega (arith, byte_room);
@@ -398,28 +424,28 @@ module _ {form line vs : List ℕ} {i at k : ℕ} (g : Fitting form line vs i at
               rest = ap (onward vs k) (sym q) ∙ g.rest;
             }
 
-      module _ {v left : ℕ} (e : t ≡ Word v left) where
-        found : HeldNumber (piece_of (get_or form i 0) (drop at line)) v left
-        found = number_held (piece_of (get_or form i 0) (drop at line)) v left (of_part (get_or form i 0) line at (Some (Word v left)) (rw e at p))
+      module _ {v : ℕ} (e : t.value ≡ Some v) where
+        found : HeldNumber (piece_of (get_or form i 0) (drop at line)) v t.left
+        found = number_held (piece_of (get_or form i 0) (drop at line)) t v held_here e
 
         told : drop at line ≡ number_text found.n ++ found.text
         told = number_told (get_or form i 0) (drop at line) found.n found.text found.is
 
-        lengths : length line - at ≡ length (number_text found.n) + left
+        lengths : length line - at ≡ length (number_text found.n) + t.left
         lengths = sym (length-drop at line) ∙ ap length told ∙ length-append (number_text found.n) found.text ∙ ap (λ (m : ℕ). length (number_text found.n) + m) (sym found.behind)
 
-        pub number_room : left ≤ length line
+        number_room : t.left ≤ length line
         number_room = omega (arith, lengths)
 
-        behind : drop (length line - left) line ≡ found.text
+        behind : drop (length line - t.left) line ≡ found.text
         behind =
             let m = length (number_text found.n) in
-            let q : length line - left ≡ at + m = omega (arith, lengths, g.inside) in
+            let q : length line - t.left ≡ at + m = omega (arith, lengths, g.inside) in
             ap (λ (j : ℕ). drop j line) q ∙ sym (drop-drop m at line) ∙ ap (drop m) told ∙ drop_at (number_text found.n) found.text m refl
 
-        pub number_passed : Fitting form line (kept vs k v) (i + 1) (length line - left) (k + 1)
+        pub number_passed : Fitting form line (kept vs k v) (i + 1) (length line - t.left) (k + 1)
         number_passed =
-            let q : fit_of (drop i form) (drop at line) ≡ before found.n (fit_of (drop (i + 1) form) (drop (length line - left) line)) =
+            let q : fit_of (drop i form) (drop at line) ≡ before found.n (fit_of (drop (i + 1) form) (drop (length line - t.left) line)) =
             form_turn form (drop at line) i h ∙ ap (λ (p : Piece). then p (λ t. fit_of (drop (i + 1) form) t)) found.is
             ∙ ap (λ (t : List ℕ). before found.n (fit_of (drop (i + 1) form) t)) (sym behind) in
             record {
@@ -427,11 +453,19 @@ module _ {form line vs : List ℕ} {i at k : ℕ} (g : Fitting form line vs i at
               inside = omega arith;
               few = omega (arith, g.few);
               rest =
-                  ap (λ (us : List ℕ). onward us (k + 1) (fit_of (drop (i + 1) form) (drop (length line - left) line))) (ap (kept vs k) found.value)
-                  ∙ sym (one_put vs k found.n (fit_of (drop (i + 1) form) (drop (length line - left) line)))
+                  ap (λ (us : List ℕ). onward us (k + 1) (fit_of (drop (i + 1) form) (drop (length line - t.left) line))) (ap (kept vs k) found.value)
+                  ∙ sym (one_put vs k found.n (fit_of (drop (i + 1) form) (drop (length line - t.left) line)))
                   ∙ ap (onward vs k) (sym q)
                   ∙ g.rest;
             }
+
+      -- it lies in the line
+      pub taken_room : t.left ≤ length line
+      taken_room = go t.value refl
+        where
+          go : (v : Option ℕ) → t.value ≡ v → t.left ≤ length line
+          go None e = omega (arith, lefts e)
+          go (Some v) e = number_room e
 
   module _ (h : length form ≤ i) where
     pub all_read : length line ≤ at → Some vs ≡ held_fit (fit_of form line)

@@ -4,7 +4,6 @@ use Rattle.line_form.specs.Integers.{offset, Front, broken, front}
 use Rattle.line_form.specs.Forms.{Number, bits, whole, Piece, no_piece, same, number, Fitted, misfit, fitted}
 use Rattle.line_form.specs.declared.read.Digits.{Digits}
 use Rattle.line_form.specs.declared.read.Taken.{Taken}
-use Rattle.line_form.specs.declared.read.Taken.TheVariants.{Byte, Number as Word}
 
 -- 1,000,000 + z, cut to 0 .. 2,000,000: so an integer of any length is held, and those beyond 1,000,000 either way are alike
 unfoldable pub held_whole : ℤ → ℕ
@@ -29,11 +28,18 @@ held_fit (fitted ns) = Some (held_up_to 5 ns)
 
 -- ---- what the steps of `fit_line` hand on
 
--- a piece at the front of a text: a number with how many bytes stand behind it
+-- a byte that stands for itself, and a number that is held as v, each with how many bytes stand behind it
+abbrev pub plain : ℕ → Taken
+plain left = record { value = None; left = left }
+
+abbrev pub word : ℕ → ℕ → Taken
+word v left = record { value = Some v; left = left }
+
+-- a piece at the front of a text
 unfoldable pub held_piece : Piece → Option Taken
 held_piece no_piece = None
-held_piece (same text) = Some Byte
-held_piece (number n text) = Some (Word (held n) (length text))
+held_piece (same text) = Some (plain (length text))
+held_piece (number n text) = Some (word (held n) (length text))
 
 -- digits at the front of a text: their number, cut to 1,000,000, and how many bytes stand behind them
 unfoldable pub held_digits : Front ℕ → Digits

@@ -3,20 +3,22 @@ ghost use Rattle.std.specs.Prelude.{◌≡◌, true, ◌+◌, ◌-◌, ◌*◌, 
 ghost use Rattle.binary32.specs.Hex.{read_bits};
 ghost use Rattle.line_form.specs.Integers.{offset, is_digit, digits_after, read_positive, read_integer};
 ghost use Rattle.line_form.specs.Forms.{bits_piece, whole_piece, byte_piece, piece_of, fit_of};
-ghost use Rattle.line_form.specs.Held.{held_fit, held_piece, held_digits, held_positive, kept};
+ghost use Rattle.line_form.specs.Held.{held_fit, held_piece, held_digits, held_positive, word, kept};
 
 use super::OFFSET;
 use binary32::hex::read_bits;
 
-// What stands at the front of a text for one byte of a form.
+// What stands at the front of a text for one byte of a form: the number as it is held, or none where the byte stands for itself, and how many bytes
+// stand behind it.
+// Stays: with the rest as a slice the answer would be no equation with its definition: two slices with one text may lie at two places.
 #[derive(Clone, Copy, Debug, PartialEq, Eq)]
-pub enum Taken {
-    Byte,
-    // the number as it is held, and how many bytes stand behind it
-    Number(u32, usize),
+pub struct Taken {
+    pub value: Option<u32>,
+    pub left: usize,
 }
 
 // The number of some digits, cut to OFFSET, and how many bytes stand behind them.
+// Stays: with the rest as a slice the answer would be no equation with its definition, as for `Taken`.
 #[derive(Clone, Copy, Debug, PartialEq, Eq)]
 pub struct Digits {
     pub value: u32,
@@ -58,19 +60,29 @@ fn positive(text: &[u8]) -> Option<Digits>
     }
 }
 
+// A number that was read.
+fn number(value: u32, left: usize) -> Taken
+    ensures { result ≡ word value left }
+{
+    Taken {
+        value: Some(value),
+        left,
+    }
+}
+
 // An integer: 0, or a minus and a number above 0, or a number above 0.
 fn integer(text: &[u8]) -> Option<Taken>
     ensures { result ≡ held_piece (whole_piece (read_integer text.now)) }
 {
     match text {
-        [b'0', rest @ ..] => Some(Taken::Number(OFFSET, rest.len())),
+        [b'0', rest @ ..] => Some(number(OFFSET, rest.len())),
         [b'-', rest @ ..] => {
             let d = positive(rest)?;
-            Some(Taken::Number(OFFSET - d.value, d.left))
+            Some(number(OFFSET - d.value, d.left))
         }
         [_, ..] => {
             let d = positive(text)?;
-            Some(Taken::Number(OFFSET + d.value, d.left))
+            Some(number(OFFSET + d.value, d.left))
         }
         [] => None,
     }
@@ -81,7 +93,7 @@ fn float(text: &[u8]) -> Option<Taken>
     ensures { result ≡ held_piece (bits_piece (read_bits text.now) (drop 8 text.now)) }
 {
     let bits = read_bits(text)?;
-    Some(Taken::Number(bits, text.len() - 8))
+    Some(number(bits, text.len() - 8))
 }
 
 // A byte that stands for itself.
@@ -90,7 +102,10 @@ fn byte(c: u8, text: &[u8]) -> Option<Taken>
     ensures { result ≡ held_piece (byte_piece c text.now) }
 {
     match text {
-        [b, ..] if *b == c => Some(Taken::Byte),
+        [b, rest @ ..] if *b == c => Some(Taken {
+            value: None,
+            left: rest.len(),
+        }),
         _ => None,
     }
 }
@@ -124,14 +139,13 @@ pub fn fit_line(form: &[u8], line: &[u8]) -> Option<[u32; 5]>
     let mut values = [0u32; 5];
     let mut at = 0usize;
     let mut k = 0usize;
+    // Stays: neither goes a step at each byte of the form: `at` goes past what was taken, and `k` on at a number alone.
     for c in form {
-        match piece(*c, &line[at..])? {
-            Taken::Byte => at += 1,
-            Taken::Number(v, left) => {
-                put(&mut values, k, v);
-                k += 1;
-                at = line.len() - left;
-            }
+        let taken = piece(*c, &line[at..])?;
+        at = line.len() - taken.left;
+        if let Some(v) = taken.value {
+            put(&mut values, k, v);
+            k += 1;
         }
     }
     if at < line.len() {

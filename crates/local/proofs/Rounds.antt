@@ -33,86 +33,85 @@ use Rattle.passes.proofs.Free.{labels_few}
 use Rattle.passes.proofs.Rounds.{Remaining, remaining_all, remaining_none, remaining_last, remaining_more}
 use Rattle.passes.proofs.Said.{local_said_lem}
 use Rattle.supports.specs.Nearest.{Gatherable, Gathered}
-use Rattle.local_cell.specs.Extending.{state_of, Left}
+use Rattle.local_cell.specs.Extending.{Extending}
+use Rattle.local_cell.specs.Work.{state_in, Left}
 use Rattle.local_cell.specs.declared.LocalProgress.{LocalProgress}
 use Rattle.local_cell.specs.declared.LocalWork.{LocalWork}
 use Rattle.local_cell.proofs.Visit.{gathered_front, gathered_size, stands, left_as}
-use Rattle.local.specs.Rounds.{RoundAsked, no_progress, start_of, RoundsAsked, RoundsLeft, stats_of}
+use Rattle.local.specs.Rounds.{RoundAsked, no_progress, start_of, start_in, RoundsAsked, RoundsLeft, stats_of}
 use Rattle.local.proofs.Walk.{holds_state, left_then, round_grows, round_counted}
 
 -- ---- the loop over the rounds
 
 -- the same rounds by another expression
-rounds_left_as : {r after : LocalRounds} {n : ℕ} {before sheet list : List ℕ} {work : LocalWork} {rounds : ℕ} → after ≡ r
-    → RoundsLeft r n before sheet list work rounds → RoundsLeft after n before sheet list work rounds
+rounds_left_as : {r after : LocalRounds} {before work : LocalWork} {rounds : ℕ} → after ≡ r
+    → RoundsLeft before work rounds r → RoundsLeft before work rounds after
 rounds_left_as e l = rw e l
 
-pub record Rounding (set : Settings) (p : LocalExtensionParams) (limit : ℕ) (cs : Corners) (sheet₀ list₀ : List ℕ) (at₀ : LocalProgress) (sheet list : List ℕ) (work : LocalWork) (rounds : ℕ) : Type 0 where
-  pub remaining : Remaining (local_pass cs set p) limit (state_of sheet₀ list₀ at₀) (state_of sheet list work.progress) rounds
+pub record Rounding (set : Settings) (p : LocalExtensionParams) (limit : ℕ) (cs : Corners) (before work : LocalWork) (rounds : ℕ) : Type 0 where
+  pub remaining : Remaining (local_pass cs set p) limit (state_in before) (state_in work) rounds
   pub few : limit ≤ 64
   pub shallow : p.extend_depth ≤ 4
-  pub same_sheet : length sheet ≡ length sheet₀
-  pub same_list_holds : length list ≡ length list₀
   pub counted : visits work.progress.counts ≤ 16384 * rounds
-  pub left : Left (state_of sheet list work.progress) cs.count list₀ sheet list work
+  pub left : Left before work (state_in work)
 
-module _ {set : Settings} {p : LocalExtensionParams} {limit : ℕ} {cs : Corners} {sheet₀ list₀ : List ℕ} where
-  pub rounding_start : {work : LocalWork} → limit ≡ p.max_iters → RoundsAsked cs.count sheet₀ list₀ work p → Rounding set p limit cs sheet₀ list₀ work.progress sheet₀ list₀ work 0
-  rounding_start {work} e f =
+module _ {set : Settings} {p : LocalExtensionParams} {limit : ℕ} {cs : Corners} {before : LocalWork} where
+  pub rounding_start : p ≡ before.setup.params → limit ≡ p.max_iters → RoundsAsked before → Rounding set p limit cs before before 0
+  rounding_start q e f =
       record {
-        remaining = remaining_all (local_pass cs set p) limit (state_of sheet₀ list₀ work.progress);
-        few = omega (arith, f.rounds_few);
-        shallow = f.shallow;
-        same_sheet = refl;
-        same_list_holds = refl;
+        remaining = remaining_all (local_pass cs set p) limit (state_in before);
+        few = omega (arith, e, ap (λ (x : LocalExtensionParams). x.max_iters) q, f.rounds_few);
+        shallow = rw q f.shallow;
         counted = omega (arith, ap (λ (at : LocalProgress). visits at.counts) f.unstarted);
-        left = record { holds = stands f.extending; extending = f.extending };
+        left = stands before.extending;
       }
 
-  module _ {at₀ : LocalProgress} {sheet list : List ℕ} {work : LocalWork} {rounds : ℕ} (g : Rounding set p limit cs sheet₀ list₀ at₀ sheet list work rounds) where
-    pub rounding_asked : rounds < limit → RoundAsked cs.count sheet list work p
-    rounding_asked h = record { extending = g.left.extending; shallow = g.shallow; countable = omega (arith, g.counted, g.few) }
+  module _ {work : LocalWork} {rounds : ℕ} (g : Rounding set p limit cs before work rounds) where
+    pub rounding_asked : rounds < limit → work.setup.params ≡ p → RoundAsked work
+    rounding_asked h e = record { shallow = rw e g.shallow; countable = omega (arith, g.counted, g.few) }
 
-    pub rounding_end : limit ≤ rounds → rounds ≤ limit → RoundsLeft (local_from cs set p limit (start_of sheet₀ list₀ at₀)) cs.count list₀ sheet list work limit
+    pub rounding_end : limit ≤ rounds → rounds ≤ limit → RoundsLeft before work limit (local_from cs set p limit (start_in before))
     unfolding local_from
     rounding_end h k =
-        rounds_left_as (remaining_none (local_pass cs set p) limit (state_of sheet₀ list₀ at₀) g.remaining h)
+        rounds_left_as (remaining_none (local_pass cs set p) limit (state_in before) g.remaining h)
         (record { left = g.left; rounds_are = omega arith })
 
-    module _ {sheet' list' : List ℕ} {next : LocalWork} (h : rounds < limit)
-        (l : Left (local_round cs set p (state_of sheet list work.progress)) cs.count list sheet' list' next) where
+    module _ (next : LocalWork) (h : rounds < limit)
+        (l : Left work next (local_round cs set p (state_in work))) where
       -- the state after the round, with the list's rest as it was at the start
-      whole : Left (local_round cs set p (state_of sheet list work.progress)) cs.count list₀ sheet' list' next
-      whole = left_then g.left.holds (round_grows cs set p (state_of sheet list work.progress)) l
+      whole : Left before next (local_round cs set p (state_in work))
+      whole = left_then g.left (round_grows cs set p (state_in work)) l
 
       pub rounding_last : next.progress.counts.attached ≡ work.progress.counts.attached
-          → RoundsLeft (local_from cs set p limit (start_of sheet₀ list₀ at₀)) cs.count list₀ sheet' list' next (rounds + 1)
+          → RoundsLeft before next (rounds + 1) (local_from cs set p limit (start_in before))
       unfolding local_from
       rounding_last e =
-          rounds_left_as (remaining_last (local_pass cs set p) limit (state_of sheet₀ list₀ at₀)
-          g.remaining h (sym l.holds.made_is ∙ e ∙ g.left.holds.made_is))
+          rounds_left_as (remaining_last (local_pass cs set p) limit (state_in before)
+          g.remaining h (sym l.made_is ∙ e ∙ g.left.made_is))
           (record { left = whole; rounds_are = refl })
 
-      pub rounding_more : (next.progress.counts.attached ≡ work.progress.counts.attached → ⊥) → length sheet' ≡ length sheet → length list' ≡ length list
-          → Rounding set p limit cs sheet₀ list₀ at₀ sheet' list' next (rounds + 1)
+      pub rounding_more : (next.progress.counts.attached ≡ work.progress.counts.attached → ⊥)
+          → Rounding set p limit cs before next (rounds + 1)
       unfolding local_round
-      rounding_more e a b =
+      rounding_more e =
           record {
             remaining =
-                subst (λ (s : LocalState). Remaining (local_pass cs set p) limit (state_of sheet₀ list₀ at₀)
+                subst (λ (s : LocalState). Remaining (local_pass cs set p) limit (state_in before)
                 s (rounds + 1))
-                (sym (holds_state l.holds))
-                (remaining_more (local_pass cs set p) limit (state_of sheet₀ list₀ at₀)
-                g.remaining h (λ d. e (l.holds.made_is ∙ d ∙ sym g.left.holds.made_is)));
+                (sym (holds_state l))
+                (remaining_more (local_pass cs set p) limit (state_in before)
+                g.remaining h (λ d. e (l.made_is ∙ d ∙ sym g.left.made_is)));
             few = g.few;
             shallow = g.shallow;
-            same_sheet = a ∙ g.same_sheet;
-            same_list_holds = b ∙ g.same_list_holds;
-            counted = omega (arith, g.counted, ap visits l.holds.counts_are, round_counted cs set p (state_of sheet list work.progress));
-            left = left_as (holds_state l.holds) whole;
+            counted = omega (arith, g.counted, ap visits l.counts_are, round_counted cs set p (state_in work));
+            left = left_as (holds_state l) whole;
           }
 
 -- ---- the pass
+
+-- the same start
+start_is : {sheet sheet' list list' : List ℕ} {at at' : LocalProgress} → sheet ≡ sheet' → list ≡ list' → at ≡ at' → start_of sheet list at ≡ start_of sheet' list' at'
+start_is s l e = rw (s, l, e)
 
 module _ (corners : CornerLists) (shades sheet list : List ℕ) (set : Settings) (p : LocalExtensionParams) where
   -- arguments that are not refused
@@ -125,27 +124,30 @@ module _ (corners : CornerLists) (shades sheet list : List ℕ) (set : Settings)
     unfolding local_search
     accepted_radius = search_radius p.search_rel set.grid.cell_size a.pass_inside.search a.settings_inside.cell_size
 
-    pub accepted_asked : {work : LocalWork} {before : List ℕ} {labels : ℕ} → length before ≡ 1024 → Gathered sheet before work.places labels → 4 ≤ labels → Tied sheet work.used
-        → work.progress ≡ no_progress labels → RoundsAsked (length corners.xs) sheet list work p
-    accepted_asked n w h t e =
-        let k = ap (λ (at : LocalProgress). at.labels) e in
+    -- the pass may go on
+    pub accepted_extending : {before places used : List ℕ} {labels : ℕ} {at : LocalProgress} → length before ≡ 1024 → Gathered sheet before places labels → 4 ≤ labels → Tied sheet used
+        → at ≡ no_progress labels → Extending (length corners.xs) sheet list used places at
+    accepted_extending n w h t e =
+        let k = ap (λ (x : LocalProgress). x.labels) e in
         record {
-          extending =
-              record {
-                given = a.given;
-                few = a.few;
-                one_cell = a.one_cell;
-                tied = t;
-                list_long = a.attached_long;
-                room = omega (arith, ap (λ (at : LocalProgress). at.counts.attached) e);
-                four = omega (arith, w.count_is);
-                labels_are = k ∙ w.count_is;
-                places_are = rw k (gathered_front w);
-                size = gathered_size n (omega (arith, labels_few a.given a.one_cell, a.few)) w;
-              };
-          unstarted = e ∙ ap no_progress (sym k);
-          shallow = a.pass_inside.depth;
-          rounds_few = a.pass_inside.rounds;
+          given = a.given;
+          few = a.few;
+          one_cell = a.one_cell;
+          tied = t;
+          list_long = a.attached_long;
+          room = omega (arith, ap (λ (x : LocalProgress). x.counts.attached) e);
+          four = omega (arith, w.count_is);
+          labels_are = k ∙ w.count_is;
+          places_are = rw k (gathered_front w);
+          size = gathered_size n (omega (arith, labels_few a.given a.one_cell, a.few)) w;
+        }
+
+    pub accepted_asked : {work : LocalWork} {labels : ℕ} → work.setup.params ≡ p → work.progress ≡ no_progress labels → RoundsAsked work
+    accepted_asked q e =
+        record {
+          unstarted = e ∙ ap no_progress (sym (ap (λ (x : LocalProgress). x.labels) e));
+          shallow = rw q a.pass_inside.depth;
+          rounds_few = rw q a.pass_inside.rounds;
         }
 
   -- what the answer says of the rim, and of the rounds
@@ -158,13 +160,16 @@ module _ (corners : CornerLists) (shades sheet list : List ℕ) (set : Settings)
     pass_few h g f e = rw (← counted, lt-ltb labels 4 h, e, g, f, deep, any)
 
     -- all rounds done
-    pub pass_done : (cs : Corners) → cs ≡ corners_of corners shades → {sheet' list' : List ℕ} {at : LocalProgress} {work : LocalWork} {rounds : ℕ} → 4 ≤ labels → at ≡ no_progress labels
-        → RoundsLeft (local_from cs set p p.max_iters (start_of sheet list at)) cs.count list sheet' list' work rounds → edge ≡ rim depth sheet'
-        → stats ≡ stats_of work.progress rounds edge shaded → local_out (Ok stats) sheet' list' ≡ local_leaves (done (local_after (corners_of corners shades) set p sheet)) sheet list
+    pub pass_done : (cs : Corners) → cs ≡ corners_of corners shades → {before work : LocalWork} {rounds : ℕ} → 4 ≤ labels → before.progress ≡ no_progress labels
+        → before.sheet.now ≡ sheet → before.attached.now ≡ list → RoundsLeft before work rounds (local_from cs set p p.max_iters (start_in before)) → edge ≡ rim depth work.sheet.now
+        → stats ≡ stats_of work.progress rounds edge shaded → {sheet' list' : List ℕ} → sheet' ≡ work.sheet.now → list' ≡ work.attached.now → local_out (Ok stats) sheet' list' ≡ local_leaves (done (local_after (corners_of corners shades) set p sheet)) sheet list
     unfolding local_after local_run local_limit
-    pass_done cs held h m l' f e =
-        let l = rw m at l' in
+    pass_done cs held h m sh li l' f e es el =
+        let l = l' in
+        let run = ap (local_from cs set p p.max_iters) (start_is sh li m) in
         rw (
+          es,
+          el,
           ← held,
           ← counted,
           le-ltb labels 4 h,
@@ -173,11 +178,13 @@ module _ (corners : CornerLists) (shades sheet list : List ℕ) (set : Settings)
           deep,
           any,
           l.rounds_are,
-          l.left.holds.counts_are,
-          l.left.holds.largest_is,
-          l.left.holds.unmatched_is,
-          l.left.holds.sheet_is,
-          l.left.holds.list_is,
+          l.left.counts_are,
+          l.left.largest_is,
+          l.left.unmatched_is,
+          l.left.sheet_is,
+          l.left.list_is,
+          run,
+          li,
         )
 
   -- ---- the call

@@ -35,7 +35,8 @@ use Rattle.region.proofs.Places as places
 use Rattle.region.proofs.Places.{Elsewhere, walked_all, walked_start, walked_most, looked, looked_out, looked_labelled, looked_bare, looked_grows, looked_most, walk_grows}
 use Rattle.remembered.proofs.Attach.{clear_same, clear_else}
 use Rattle.arguments.specs.Front.{over}
-use Rattle.local_cell.specs.Extending.{state_of, Extending, Trying, Holds, Left}
+use Rattle.local_cell.specs.Extending.{state_of, Holds}
+use Rattle.local_cell.specs.Work.{state_in, SamePass, Left, Trying}
 use Rattle.local_cell.specs.declared.LocalProgress.{LocalProgress}
 use Rattle.local_cell.specs.declared.LocalWork.{LocalWork}
 use Rattle.local_cell.proofs.Visit.{Tried, passed, attaches, tried, tried_grows, tried_counted, attaching, untouched, left_as}
@@ -159,121 +160,117 @@ holds_state {s} {before} h =
       unmatched = h.unmatched_is t;
     }
 
--- one function after another: the rest of the list is as it was before the first
-pub left_then : {s after : LocalState} {n : ℕ} {before sheet list sheet' list' : List ℕ} {at : LocalProgress} {work' : LocalWork} → Holds s before sheet list at
-    → length s.made ≤ length after.made → Left after n list sheet' list' work' → Left after n before sheet' list' work'
+-- one function after another: it is the same pass
+pub same_then : {a b c : LocalWork} → SamePass a b → SamePass b c → SamePass a c
+same_then l m = record { same_setup = m.same_setup ∙ l.same_setup; same_sheet = m.same_sheet ∙ l.same_sheet; same_list = m.same_list ∙ l.same_list }
+
+-- the rest of the list is as it was before the first
+pub left_then : {s after : LocalState} {before sheet list sheet' list' : List ℕ} {at at' : LocalProgress} → Holds s before sheet list at
+    → length s.made ≤ length after.made → Holds after list sheet' list' at' → Holds after before sheet' list' at'
 left_then {s} {after} {before = before} h g l =
     record {
-      holds =
-          record {
-            sheet_is = l.holds.sheet_is;
-            list_is = l.holds.list_is ∙ ap (over after.made) h.list_is ∙ over_over s.made after.made before g;
-            made_is = l.holds.made_is;
-            counts_are = l.holds.counts_are;
-            largest_is = l.holds.largest_is;
-            unmatched_is = l.holds.unmatched_is;
-          };
-      extending = l.extending;
+      sheet_is = l.sheet_is;
+      list_is = l.list_is ∙ ap (over after.made) h.list_is ∙ over_over s.made after.made before g;
+      made_is = l.made_is;
+      counts_are = l.counts_are;
+      largest_is = l.largest_is;
+      unmatched_is = l.unmatched_is;
     }
 
 -- the loop over the places of a round: n of them have been looked at
-pub record Walking (set : Settings) (p : LocalExtensionParams) (cs : Corners) (sheet₀ list₀ : List ℕ) (work₀ : LocalWork) (sheet list : List ℕ) (work : LocalWork) (n : ℕ) : Type 0 where
+pub record Walking (set : Settings) (p : LocalExtensionParams) (cs : Corners) (before work : LocalWork) (n : ℕ) : Type 0 where
   pub upto : n ≤ 16384
-  pub long : 16384 ≤ length sheet₀
-  pub same_sheet : length sheet ≡ length sheet₀
-  pub same_list_holds : length list ≡ length list₀
-  pub counted : visits work.progress.counts ≤ visits work₀.progress.counts + n
-  pub left : Left (walked_to cs set p (state_of sheet₀ list₀ work₀.progress) n) cs.count list₀ sheet list work
+  pub long : 16384 ≤ length before.sheet.now
+  pub few : cs.count ≤ 1024
+  pub counted : visits work.progress.counts ≤ visits before.progress.counts + n
+  pub left : Left before work (walked_to cs set p (state_in before) n)
 
-module _ {set : Settings} {p : LocalExtensionParams} {cs : Corners} {sheet₀ list₀ : List ℕ} {work₀ : LocalWork} where
-  pub walking_start : Extending cs.count sheet₀ list₀ work₀ → Walking set p cs sheet₀ list₀ work₀ sheet₀ list₀ work₀ 0
-  walking_start f =
+module _ {set : Settings} {p : LocalExtensionParams} {cs : Corners} {before : LocalWork} where
+  pub walking_start : cs.count ≤ 1024 → Walking set p cs before before 0
+  walking_start few =
       record {
         upto = omega arith;
-        long = f.given.long;
-        same_sheet = refl;
-        same_list_holds = refl;
+        long = before.extending.given.long;
+        few = few;
         counted = omega arith;
         left =
-            untouched f (walked_start (local_visit cs set p) (λ t. t.sheet) (round_region p sheet₀) (state_of sheet₀ list₀ work₀.progress));
+            untouched before.extending (walked_start (local_visit cs set p) (λ t. t.sheet) (round_region p before.sheet.now) (state_in before));
       }
 
-  module _ {sheet list : List ℕ} {work : LocalWork} {n : ℕ} (w : Walking set p cs sheet₀ list₀ work₀ sheet list work n) where
-    walking_more : {region : Region} {sheet' list' : List ℕ} {work' : LocalWork} → n < 16384 → RegionFound sheet₀ region → length sheet' ≡ length sheet → length list' ≡ length list
-        → Left (looked_at cs set p region n (state_of sheet list work.progress)) cs.count list sheet' list' work'
-        → Walking set p cs sheet₀ list₀ work₀ sheet' list' work' (n + 1)
-    walking_more {region} {sheet'} {list'} {work'} h f e g l =
+  module _ {work : LocalWork} {n : ℕ} (w : Walking set p cs before work n) where
+    walking_more : {region : Region} {work' : LocalWork} → n < 16384 → RegionFound before.sheet.now region
+        → Left work work' (looked_at cs set p region n (state_in work))
+        → Walking set p cs before work' (n + 1)
+    walking_more {region} {work'} h f l =
         record {
           upto = omega arith;
           long = w.long;
-          same_sheet = e ∙ w.same_sheet;
-          same_list_holds = g ∙ w.same_list_holds;
+          few = w.few;
           counted =
               omega (
                 arith,
                 w.counted,
-                ap visits l.holds.counts_are,
+                ap visits l.counts_are,
                 looked_most (local_visit cs set p) (λ t. t.sheet) (λ t. visits t.counts)
-                    (visit_counted cs set p) (region_at (depth_of p) region n) n (state_of sheet list work.progress),
+                    (visit_counted cs set p) (region_at (depth_of p) region n) n (state_in work),
               );
           left =
               rw next at
-              (left_then w.left.holds
-              (rw (holds_state w.left.holds)
+              (left_then w.left
+              (rw (holds_state w.left)
               (looked_grows (local_visit cs set p) (λ t. length t.made) (visit_grows cs set p)
               (λ t. t.sheet) (region_at (depth_of p) region n) n (walked_to cs set p s n)))
               l);
         }
       where
         s : LocalState
-        s = state_of sheet₀ list₀ work₀.progress
+        s = state_in before
 
-        next : looked_at cs set p region n (state_of sheet list work.progress) ≡ walked_to cs set p s (n + 1)
+        next : looked_at cs set p region n (state_in work) ≡ walked_to cs set p s (n + 1)
         next =
-            ap (looked_at cs set p region n) (holds_state w.left.holds)
-            ∙ looked (local_visit cs set p) (λ t. t.sheet) (visit_else cs w.left.extending.few set p) (round_region p sheet₀) s w.long n h
-            (region_is (depth_of p) sheet₀ region n h f)
+            ap (looked_at cs set p region n) (holds_state w.left)
+            ∙ looked (local_visit cs set p) (λ t. t.sheet) (visit_else cs w.few set p) (round_region p before.sheet.now) s w.long n h
+            (region_is (depth_of p) before.sheet.now region n h f)
 
-    pub walking_end : 16384 ≤ n → Left (local_round cs set p (state_of sheet₀ list₀ work₀.progress)) cs.count list₀ sheet list work
+    pub walking_end : 16384 ≤ n → Left before work (local_round cs set p (state_in before))
     walking_end h =
         let e : n ≡ 16384 = omega (arith, w.upto) in
-        rw (← walked_round cs set p (state_of sheet₀ list₀ work₀.progress), ← e) w.left
+        rw (← walked_round cs set p (state_in before), ← e) w.left
 
-  module _ {round : Round} (o : RoundOf sheet₀ p round) {sheet list : List ℕ} {work : LocalWork} where
+  module _ {round : Round} (o : RoundOf before.sheet.now p round) {work : LocalWork} where
     -- to the next place that is tried: those before it change nothing
-    pub walking_skips : {n r : ℕ} → Walking set p cs sheet₀ list₀ work₀ sheet list work n → NextTried (tried_at round.depth (region_in round) sheet) n r
-        → Walking set p cs sheet₀ list₀ work₀ sheet list work r
+    pub walking_skips : {n r : ℕ} → Walking set p cs before work n → NextTried (tried_at round.depth (region_in round) work.sheet.now) n r
+        → Walking set p cs before work r
     walking_skips w t =
-        carried (Walking set p cs sheet₀ list₀ work₀ sheet list work) (λ q. tried_at round.depth (region_in round) sheet q ≡ false)
-        (λ q h e v. walking_more v h o.found refl refl (untouched v.left.extending (same q h (rw o.deep at e))))
+        carried (Walking set p cs before work) (λ q. tried_at round.depth (region_in round) work.sheet.now q ≡ false)
+        (λ q h e v. walking_more v h o.found (untouched work.extending (same q h (rw o.deep at e))))
         t.start t.upto t.passed w
       where
-        same : (q : ℕ) → q < 16384 → tried_at (depth_of p) (region_in round) sheet q ≡ false → looked_at cs set p (region_in round) q (state_of sheet list work.progress) ≡ state_of sheet list work.progress
-        same q h e = go (region_at (depth_of p) (region_in round) q) (is_labelled (get_or sheet q 0)) refl refl e
+        same : (q : ℕ) → q < 16384 → tried_at (depth_of p) (region_in round) work.sheet.now q ≡ false → looked_at cs set p (region_in round) q (state_in work) ≡ state_in work
+        same q h e = go (region_at (depth_of p) (region_in round) q) (is_labelled (get_or work.sheet.now q 0)) refl refl e
           where
-            go : (inside labelled : Bool) → region_at (depth_of p) (region_in round) q ≡ inside → is_labelled (get_or sheet q 0) ≡ labelled → (inside && not labelled) ≡ false
-                → looked_at cs set p (region_in round) q (state_of sheet list work.progress) ≡ state_of sheet list work.progress
-            go true true i l z = looked_labelled (local_visit cs set p) (λ t. t.sheet) (region_at (depth_of p) (region_in round) q) q (state_of sheet list work.progress) h i l
+            go : (inside labelled : Bool) → region_at (depth_of p) (region_in round) q ≡ inside → is_labelled (get_or work.sheet.now q 0) ≡ labelled → (inside && not labelled) ≡ false
+                → looked_at cs set p (region_in round) q (state_in work) ≡ state_in work
+            go true true i l z = looked_labelled (local_visit cs set p) (λ t. t.sheet) (region_at (depth_of p) (region_in round) q) q (state_in work) h i l
             go true false i l z = absurd (true≢false z)
-            go false labelled i l z = looked_out (local_visit cs set p) (λ t. t.sheet) (region_at (depth_of p) (region_in round) q) q (state_of sheet list work.progress) i
+            go false labelled i l z = looked_out (local_visit cs set p) (λ t. t.sheet) (region_at (depth_of p) (region_in round) q) q (state_in work) i
 
     -- a place that is tried: its cell is bare, and its visit is what the round does there
-    module _ {n : ℕ} (w : Walking set p cs sheet₀ list₀ work₀ sheet list work n) (h : n < 16384) (t : tried_at round.depth (region_in round) sheet n ≡ true) {c : Cell} (is : c ≡ cell_of n) where
-      parts : (region_at round.depth (region_in round) n ≡ true) × (is_labelled (get_or sheet n 0) ≡ false)
-      parts = tried_parts (region_at round.depth (region_in round) n) (is_labelled (get_or sheet n 0)) t
+    module _ {n : ℕ} (w : Walking set p cs before work n) (h : n < 16384) (t : tried_at round.depth (region_in round) work.sheet.now n ≡ true) {c : Cell} (is : c ≡ cell_of n) where
+      parts : (region_at round.depth (region_in round) n ≡ true) × (is_labelled (get_or work.sheet.now n 0) ≡ false)
+      parts = tried_parts (region_at round.depth (region_in round) n) (is_labelled (get_or work.sheet.now n 0)) t
 
-      pub tried_trying : visits work₀.progress.counts ≤ 4294950912 → Trying cs.count sheet list work c
+      pub tried_trying : visits before.progress.counts ≤ 4294950912 → Trying work c
       tried_trying m =
           rw is
           (record {
-            extending = w.left.extending;
             on = cell_on_lem n h;
-            bare = label_of_place sheet n h ∙ unlabelled_none (get_or sheet n 0) parts.1;
+            bare = label_of_place work.sheet.now n h ∙ unlabelled_none (get_or work.sheet.now n 0) parts.1;
             countable = omega (arith, w.counted, m);
           })
 
-      pub walking_tried : {sheet' list' : List ℕ} {work' : LocalWork} → length sheet' ≡ length sheet → length list' ≡ length list
-          → Left (local_visit cs set p c (state_of sheet list work.progress)) cs.count list sheet' list' work' → Walking set p cs sheet₀ list₀ work₀ sheet' list' work' (n + 1)
-      walking_tried e g l =
-          walking_more w h o.found e g
-          (left_as (looked_bare (local_visit cs set p) (λ t. t.sheet) (region_at (depth_of p) (region_in round) n) n (state_of sheet list work.progress) h (rw o.deep at parts).0 c is parts.1) l)
+      pub walking_tried : {work' : LocalWork}
+          → Left work work' (local_visit cs set p c (state_in work)) → Walking set p cs before work' (n + 1)
+      walking_tried l =
+          walking_more w h o.found
+          (left_as (looked_bare (local_visit cs set p) (λ t. t.sheet) (region_at (depth_of p) (region_in round) n) n (state_in work) h (rw o.deep at parts).0 c is parts.1) l)

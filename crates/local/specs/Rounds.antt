@@ -13,7 +13,8 @@ use Rattle.region.specs.Small.{SmallBox}
 use Rattle.region.specs.Windowed.{InWindow, WindowFits, Windowed}
 use Rattle.region.specs.declared.Window.{Window}
 use Rattle.region.specs.Places.{place_visited}
-use Rattle.local_cell.specs.Extending.{state_of, Extending, Left}
+use Rattle.local_cell.specs.Extending.{state_of}
+use Rattle.local_cell.specs.Work.{Left}
 use Rattle.local_cell.specs.declared.LocalProgress.{LocalProgress}
 use Rattle.local_cell.specs.declared.LocalWork.{LocalWork}
 use Rattle.local.specs.declared.Round.{Round}
@@ -54,9 +55,8 @@ abbrev pub looked_at : Corners → Settings → LocalExtensionParams → Region 
 looked_at cs set p region place s = place_visited (local_visit cs set p) (λ t. t.sheet) (region_at (depth_of p) region place) place s
 
 -- a round is to be done: the depth is that of an accepted call, and all visits can be counted
-pub record RoundAsked (n : ℕ) (sheet list : List ℕ) (work : LocalWork) (p : LocalExtensionParams) : Type 0 where
-  pub extending : Extending n sheet list work
-  pub shallow : p.extend_depth ≤ 4
+pub record RoundAsked (work : LocalWork) : Type 0 where
+  pub shallow : work.setup.params.extend_depth ≤ 4
   pub countable : visits work.progress.counts ≤ 4294950912
 
 -- ---- all rounds
@@ -68,16 +68,18 @@ no_progress labels = record { counts = no_counts; residual = None; labels = labe
 abbrev pub start_of : List ℕ → List ℕ → LocalProgress → LocalRounds
 start_of sheet list at = record { state = state_of sheet list at; rounds = 0 }
 
+abbrev pub start_in : LocalWork → LocalRounds
+start_in w = start_of w.sheet.now w.attached.now w.progress
+
 -- all rounds are to be done, and nothing is done yet: rounds and depth are those of an accepted call
-pub record RoundsAsked (n : ℕ) (sheet list : List ℕ) (work : LocalWork) (p : LocalExtensionParams) : Type 0 where
-  pub extending : Extending n sheet list work
+pub record RoundsAsked (work : LocalWork) : Type 0 where
   pub unstarted : work.progress ≡ no_progress work.progress.labels
-  pub shallow : p.extend_depth ≤ 4
-  pub rounds_few : p.max_iters ≤ 64
+  pub shallow : work.setup.params.extend_depth ≤ 4
+  pub rounds_few : work.setup.params.max_iters ≤ 64
 
 -- what some rounds leave: the buffers hold the state after them, and the answer is how many rounds there were
-pub record RoundsLeft (r : LocalRounds) (n : ℕ) (before sheet list : List ℕ) (work : LocalWork) (rounds : ℕ) : Type 0 where
-  pub left : Left r.state n before sheet list work
+pub record RoundsLeft (before after : LocalWork) (rounds : ℕ) (r : LocalRounds) : Type 0 where
+  pub left : Left before after r.state
   pub rounds_are : rounds ≡ r.rounds
 
 -- what the answer says of the rounds and of the rim, and, if any shade stands, of the corners passed over

@@ -6,7 +6,7 @@
 
 ghost use Rattle.std.specs.Prelude.{◌≡◌, ◌≤◌, length, Ok};
 ghost use Rattle.sizes.specs.Sizes.{place_count};
-ghost use Rattle.sheet.specs.Corners.{corner_lists, corners_in};
+ghost use Rattle.sheet.specs.Corners.{corner_lists};
 ghost use Rattle.arguments.specs.Shades.{corners_of};
 ghost use Rattle.passes.specs.Outcome.{done};
 ghost use Rattle.passes.specs.Local.{depth_of, local_round, local_from, unmatched_if, local_after};
@@ -14,9 +14,11 @@ ghost use Rattle.passes.specs.Step.{local_step, local_out, local_leaves, lent_of
 ghost use Rattle.passes.specs.Said.{local_values, local_said, outcome_due};
 ghost use Rattle.arguments.specs.Accepted.{Accepted};
 ghost use Rattle.labels.specs.Labelled.{labelled_places};
+ghost use Rattle.labels.specs.Rim.{rim};
 ghost use Rattle.region.specs.Region.{Telling};
-ghost use Rattle.local_cell.specs.Extending.{state_of, Left, Recalls};
-ghost use Rattle.local.specs.Rounds.{region_in, RoundOf, tried_at, Tellable, NextTried, RoundAsked, no_progress, start_of, RoundsAsked, RoundsLeft, stats_of};
+ghost use Rattle.local_cell.specs.Extending.{state_of};
+ghost use Rattle.local_cell.specs.Work.{held, state_in, SamePass, Left, RecallsIn};
+ghost use Rattle.local.specs.Rounds.{region_in, RoundOf, tried_at, Tellable, NextTried, RoundAsked, no_progress, start_in, RoundsAsked, RoundsLeft, stats_of};
 
 use arguments::{LocalExtensionParams, Pass, Settings};
 use labels::Bounds;
@@ -57,15 +59,15 @@ impl Round {
     }
 
     // The next place from one on whose cell the round tries, or 16,384 where there is none.
-    fn next_tried(&self, sheet: &[u16], from: usize) -> usize
-        requires tellable { Tellable self.now.depth (region_in self.now) self.now.window sheet.now }
+    fn next_tried(&self, work: &LocalWork, from: usize) -> usize
+        requires tellable { Tellable self.now.depth (region_in self.now) self.now.window work.now.sheet.now }
         requires start { from ≤ place_count }
-        ensures { NextTried (tried_at self.now.depth (region_in self.now) sheet.now) from result }
+        ensures { NextTried (tried_at self.now.depth (region_in self.now) work.now.sheet.now) from result }
     {
         let mut place = region::next_inside(self.window, from);
         // Stays: the places between two lines of the window are passed over, so that the step is not 1.
         while place < PLACES {
-            if self.is_tried(sheet, place) {
+            if self.is_tried(work.sheet, place) {
                 return place;
             }
             place = region::next_inside(self.window, place + 1);
@@ -74,15 +76,14 @@ impl Round {
     }
 }
 
-// What a round walks that starts with a sheet, whose labelled places are given.
-fn round_of(sheet: &[u16], labelled: &[u16], params: LocalExtensionParams) -> Round
-    requires long { place_count ≤ length sheet.now }
-    requires labelled { labelled.now ≡ labelled_places sheet.now }
-    requires shallow { params.extend_depth ≤ 4 }
-    ensures { RoundOf sheet.now params result }
+// What a round walks that starts with the sheet of now.
+fn round_of(work: &LocalWork) -> Round
+    requires { RoundAsked work.now }
+    ensures { RoundOf work.now.sheet.now work.now.setup.params result }
 {
-    let around = labels::label_box(sheet);
-    let depth = depth_of(params);
+    let labelled = &work.places[..work.progress.labels];
+    let around = labels::label_box(work.sheet);
+    let depth = depth_of(work.setup.params);
     Round {
         around,
         rows: region::rows_of(labelled),
@@ -93,25 +94,19 @@ fn round_of(sheet: &[u16], labelled: &[u16], params: LocalExtensionParams) -> Ro
 }
 
 // One round: all unlabelled cells of the region of now, by i then j.
-fn local_round(
-    corners: &[f32; 4 * CORNERS],
-    sheet: &mut [u16],
-    attached: &mut [u16],
-    work: &mut LocalWork,
-    setup: LocalSetup,
-)
-    requires asked { RoundAsked setup.count sheet.old attached.old work.old setup.params }
-    requires recalls { Recalls setup.settings setup.params (corners_in corners.now setup.count) sheet.old work.old }
-    ensures left { Left (local_round (corners_in corners.now setup.count) setup.settings setup.params
-        (state_of sheet.old attached.old work.old.progress)) setup.count attached.old sheet.new attached.new work.new }
-    ensures recalls { Recalls setup.settings setup.params (corners_in corners.now setup.count) sheet.new work.new }
+fn local_round(work: &mut LocalWork)
+    requires asked { RoundAsked work.old }
+    requires recalls { RecallsIn work.old }
+    ensures same { SamePass work.old work.new }
+    ensures recalls { RecallsIn work.new }
+    ensures left { Left work.old work.new (local_round (held work.old) work.old.setup.settings work.old.setup.params (state_in work.old)) }
 {
-    let round = round_of(sheet, &work.places[..work.progress.labels], setup.params);
-    let mut place = round.next_tried(sheet, 0);
+    let round = round_of(work);
+    let mut place = round.next_tried(work, 0);
     // Stays: which place is tried next hangs on the sheet, which is written on the way, so that no iterator may hold it.
     while place < PLACES {
-        local_cell::try_local_cell(corners, sheet, attached, work, sheet::cell_of(place), setup);
-        place = round.next_tried(sheet, place + 1);
+        work.try_local_cell(sheet::cell_of(place));
+        place = round.next_tried(work, place + 1);
     }
 }
 
@@ -133,29 +128,32 @@ fn no_progress(labels: usize) -> LocalProgress
 }
 
 // Round after round, until one attaches nothing or the limit is reached; a limit of 0 does none. Answers how many rounds there were.
-fn local_rounds(
-    corners: &[f32; 4 * CORNERS],
-    sheet: &mut [u16],
-    attached: &mut [u16],
-    work: &mut LocalWork,
-    setup: LocalSetup,
-) -> usize
-    requires asked { RoundsAsked setup.count sheet.old attached.old work.old setup.params }
-    requires recalls { Recalls setup.settings setup.params (corners_in corners.now setup.count) sheet.old work.old }
-    ensures left { RoundsLeft (local_from (corners_in corners.now setup.count) setup.settings setup.params setup.params.max_iters
-        (start_of sheet.old attached.old work.old.progress)) setup.count attached.old sheet.new attached.new work.new result }
-    ensures recalls { Recalls setup.settings setup.params (corners_in corners.now setup.count) sheet.new work.new }
+fn local_rounds(work: &mut LocalWork) -> usize
+    requires asked { RoundsAsked work.old }
+    requires recalls { RecallsIn work.old }
+    ensures same { SamePass work.old work.new }
+    ensures recalls { RecallsIn work.new }
+    ensures left { RoundsLeft work.old work.new result (local_from (held work.old) work.old.setup.settings work.old.setup.params
+        work.old.setup.params.max_iters (start_in work.old)) }
 {
-    let limit = setup.params.max_iters as usize;
+    let limit = work.setup.params.max_iters as usize;
     // Stays: no chain, whose closure would write the sheet: a proof knows nothing of what a closure of a chain has written.
     for rounds in 0..limit {
         let before = work.progress.counts.attached;
-        local_round(corners, sheet, attached, work, setup);
+        local_round(work);
         if work.progress.counts.attached == before {
             return rounds + 1;
         }
     }
     limit
+}
+
+// Whether the labels of now reach the rim.
+fn rim_of(work: &LocalWork, depth: u32) -> bool
+    requires { (place_count ≤ length work.now.sheet.now) × (depth ≤ 64) }
+    ensures { result ≡ rim depth work.now.sheet.now }
+{
+    labels::rim_reached(work.sheet, depth)
 }
 
 // How many corners were passed over, if any shade stands.
@@ -205,27 +203,27 @@ fn local_accepted(
     if labels < 4 {
         return stats_of(progress, 0, labels::rim_reached(sheet, depth), shaded);
     }
-    let mut work = LocalWork {
-        used: labels::mark_used(sheet),
-        places,
-        memory: Memory::new(),
-        progress,
-    };
     let nothing = 0.0f32 / 0.0f32;
     let mut corners = [nothing; 4 * CORNERS];
     arguments::hold_corners(xs, ys, pitches, shades, &mut corners);
     let setup = LocalSetup {
+        corners: &corners,
         count: xs.len(),
         settings,
         params,
     };
-    let rounds = local_rounds(&corners, sheet, attached, &mut work, setup);
-    stats_of(
-        work.progress,
-        rounds,
-        labels::rim_reached(sheet, depth),
-        shaded,
-    )
+    let used = labels::mark_used(sheet);
+    let mut work = LocalWork {
+        setup,
+        sheet,
+        attached,
+        used,
+        places,
+        memory: Memory::new(),
+        progress,
+    };
+    let rounds = local_rounds(&mut work);
+    stats_of(work.progress, rounds, rim_of(&work, depth), shaded)
 }
 
 // Extends the labels by local fits: each round walks, by i then j, the unlabelled cells of the label box, of strips of the depth on labelled rows

@@ -11,7 +11,7 @@ use lib.Seq.{length-take-le}
 use lib.Ieee.{Float, of_bits, binary32, lt}
 use Rattle.sheet.specs.Cells.{OnSheet, place_of}
 use Rattle.sheet.specs.Words.{label_at, attached, marks_cleared}
-use Rattle.sheet.specs.Shades.{takes, shades_in}
+use Rattle.sheet.specs.Shades.{kind_at, takes, shades_in}
 use Rattle.sheet.specs.Corners.{Corners, corners_in, Given, seen_of}
 use Rattle.sheet.specs.declared.Cell.{Cell}
 use Rattle.sheet.specs.declared.Position.{Position}
@@ -24,12 +24,13 @@ use Rattle.labels.proofs.Used.{tied_attached, tied_cleared, one_attached, one_cl
 use Rattle.positions_policy.specs.declared.Tolerances.{Tolerances}
 use Rattle.arguments.specs.declared.Settings.{Settings}
 use Rattle.arguments.specs.declared.LocalExtensionParams.{LocalExtensionParams}
-use Rattle.candidates.specs.Candidates.{positions_in, unmarked}
+use Rattle.candidates.specs.Candidates.{positions_in, unmarked, eligible_in, candidates_at, first_two}
+use Rattle.candidates.specs.declared.Candidates.{Candidates}
 use Rattle.passed_over.specs.PassedOver.{passed_over}
-use Rattle.extension_common.specs.TryCell.{unmatched, try_at}
+use Rattle.extension_common.specs.TryCell.{gathered, unmatched, try_at}
 use Rattle.extension_common.specs.declared.Search.{Search}
 use Rattle.extension_common.specs.declared.TryCellResult.{TryCellResult}
-use Rattle.extension_common.proofs.Laws.{unmatched_tied, Attachable, attachable}
+use Rattle.extension_common.proofs.Laws.{gathered_tied, unmatched_tied, Attachable, attachable}
 use Rattle.homography.specs.Fit.{applied}
 use Rattle.passes.specs.Counting.{one_more, visits}
 use Rattle.passes.specs.Grow.{tolerances_of}
@@ -42,7 +43,8 @@ use Rattle.supports.specs.declared.Support.{Support}
 use Rattle.std.specs.List.{All}
 use Rattle.std.proofs.lemmas.List.Elements.{All-from_get_or}
 use Rattle.remembered.proofs.Attach.{clear_long, clear_labels}
-use Rattle.local_cell.specs.Extending.{cell_counted, unmatched_counted, state_of, Extending, Holds, Left, Trying, Taking, attached_clear, Writable, Wrote}
+use Rattle.local_cell.specs.Extending.{cell_counted, unmatched_counted, state_of, Extending, Holds, attached_clear, Writable}
+use Rattle.local_cell.specs.Work.{held, state_in, Trying, Taking, Wrote}
 use Rattle.local_cell.specs.declared.LocalProgress.{LocalProgress}
 use Rattle.local_cell.specs.declared.LocalWork.{LocalWork}
 
@@ -146,57 +148,57 @@ module _ (sheet : List ℕ) (c : Cell) (k : ℕ) {first second : List ℕ} (e : 
 
 -- ---- the supports
 
-module _ {n : ℕ} {sheet list : List ℕ} {work : LocalWork} (f : Extending n sheet list work) where
-  pub labels_in : work.progress.labels ≤ 1024
+module _ {n : ℕ} {sheet list used places : List ℕ} {at : LocalProgress} (f : Extending n sheet list used places at) where
+  pub labels_in : at.labels ≤ 1024
   labels_in = omega (arith, f.labels_are, f.few, labels_few f.given f.one_cell)
 
-  front_long : length (take work.progress.labels work.places) ≡ work.progress.labels
-  front_long = length-take-le work.progress.labels work.places (omega (arith, labels_in, f.size))
+  front_long : length (take at.labels places) ≡ at.labels
+  front_long = length-take-le at.labels places (omega (arith, labels_in, f.size))
 
   -- the labelled places are of the sheet
-  pub listed_below : All (λ (p : ℕ). p < 16384) (take work.progress.labels work.places)
+  pub listed_below : All (λ (p : ℕ). p < 16384) (take at.labels places)
   listed_below = rw f.places_are (All-from_get_or (λ (p : ℕ). p < 16384) (labelled_places sheet) 0 (places_in_lem sheet))
 
-  pub nearby : (c : Cell) → OnSheet c → Nearby (take work.progress.labels work.places) c
+  pub nearby : (c : Cell) → OnSheet c → Nearby (take at.labels places) c
   nearby c on =
       record {
         four = omega (arith, front_long, f.labels_are, f.four);
         along = record { rising = rw f.places_are (places_rise sheet); below = listed_below; on = on };
       }
 
-  pub supports_are : (c : Cell) (s : List Support) → places_of s ≡ take 4 (by_reach c (take work.progress.labels work.places)) → places_of s ≡ supports_of c sheet
+  pub supports_are : (c : Cell) (s : List Support) → places_of s ≡ take 4 (by_reach c (take at.labels places)) → places_of s ≡ supports_of c sheet
   unfolding supports_of
   supports_are c s e = e ∙ rw f.places_are
 
 -- ---- what the code leaves
 
 -- the same state by another expression
-pub left_as : {s after : LocalState} {n : ℕ} {before sheet list : List ℕ} {work : LocalWork} → after ≡ s
-    → Left s n before sheet list work → Left after n before sheet list work
+pub left_as : {s after : LocalState} {before sheet list : List ℕ} {at : LocalProgress} → after ≡ s
+    → Holds s before sheet list at → Holds after before sheet list at
 left_as e l = rw e l
 
-module _ {n : ℕ} {sheet list : List ℕ} {work : LocalWork} (f : Extending n sheet list work) where
-  pub made_few : work.progress.counts.attached ≤ n
+module _ {n : ℕ} {sheet list used places : List ℕ} {at : LocalProgress} (f : Extending n sheet list used places at) where
+  pub made_few : at.counts.attached ≤ n
   made_few = omega (arith, f.room, labels_few f.given f.one_cell)
 
-  pub made_in : work.progress.counts.attached ≤ length list
+  pub made_in : at.counts.attached ≤ length list
   made_in = omega (arith, made_few, f.list_long)
 
   -- nothing written
-  pub stands : Holds (state_of sheet list work.progress) list sheet list work.progress
+  pub stands : Holds (state_of sheet list at) list sheet list at
   stands =
       record {
         sheet_is = refl;
-        list_is = sym (over_own list work.progress.counts.attached made_in);
-        made_is = sym (length-take-le work.progress.counts.attached list made_in);
+        list_is = sym (over_own list at.counts.attached made_in);
+        made_is = sym (length-take-le at.counts.attached list made_in);
         counts_are = refl;
         largest_is = refl;
         unmatched_is = refl;
       }
 
   -- the same buffers, with as many attached and labelled
-  pub extending_as : {work' : LocalWork} → work'.used ≡ work.used → work'.places ≡ work.places → work'.progress.counts.attached ≡ work.progress.counts.attached
-      → work'.progress.labels ≡ work.progress.labels → Extending n sheet list work'
+  pub extending_as : {used' places' : List ℕ} {at' : LocalProgress} → used' ≡ used → places' ≡ places → at'.counts.attached ≡ at.counts.attached
+      → at'.labels ≡ at.labels → Extending n sheet list used' places' at'
   extending_as u p m l =
       record {
         given = f.given;
@@ -211,76 +213,100 @@ module _ {n : ℕ} {sheet list : List ℕ} {work : LocalWork} (f : Extending n s
         size = rw p f.size;
       }
 
-pub untouched : {n : ℕ} {sheet list : List ℕ} {work : LocalWork} {after : LocalState} → Extending n sheet list work → after ≡ state_of sheet list work.progress → Left after n list sheet list work
-untouched f e = rw e (record { holds = stands f; extending = f })
+-- a place of the list written
+pub list_written : {n : ℕ} {sheet list used places : List ℕ} {at : LocalProgress} (i v : ℕ) → Extending n sheet list used places at → Extending n sheet (set list i v) used places at
+list_written i v f =
+    record {
+      given = f.given;
+      few = f.few;
+      one_cell = f.one_cell;
+      tied = f.tied;
+      list_long = rw length-set f.list_long;
+      room = f.room;
+      four = f.four;
+      labels_are = f.labels_are;
+      places_are = f.places_are;
+      size = f.size;
+    }
 
-module _ {n : ℕ} {sheet list : List ℕ} {work : LocalWork} {c : Cell} {k : ℕ} (t : Taking n sheet list work c k) where
+pub untouched : {n : ℕ} {sheet list used places : List ℕ} {at : LocalProgress} {after : LocalState} → Extending n sheet list used places at → after ≡ state_of sheet list at → Holds after list sheet list at
+untouched f e = rw e (stands f)
+
+module _ {work : LocalWork} {c : Cell} {k : ℕ} (t : Taking work c k) where
   pub taking_fits : k < 1024
-  taking_fits = omega (arith, t.there, t.trying.extending.few)
+  taking_fits = omega (arith, t.there, work.extending.few)
 
-  pub taking_attaching : Attaching sheet c k
-  taking_attaching = record { long = t.trying.extending.given.long; on = t.trying.on; bare = t.trying.bare; corner_fits = omega (arith, taking_fits) }
+  pub taking_attaching : Attaching work.sheet.now c k
+  taking_attaching = record { long = work.extending.given.long; on = t.trying.on; bare = t.trying.bare; corner_fits = omega (arith, taking_fits) }
 
-  given' : Given n (attached_clear sheet c k)
-  given' = clear_given taking_attaching t.trying.extending.given t.there
+  given' : Given work.setup.count (attached_clear work.sheet.now c k)
+  given' = clear_given taking_attaching work.extending.given t.there
 
-  one' : OneCell (attached_clear sheet c k)
-  one' = clear_one taking_attaching t.free t.trying.extending.one_cell
+  one' : OneCell (attached_clear work.sheet.now c k)
+  one' = clear_one taking_attaching t.free work.extending.one_cell
 
   -- the new labels are few
-  pub taking_few : label_count (attached_clear sheet c k) ≤ 1024
-  taking_few = omega (arith, labels_few given' one', t.trying.extending.few)
+  pub taking_few : label_count (attached_clear work.sheet.now c k) ≤ 1024
+  taking_few = omega (arith, labels_few given' one', work.extending.few)
 
   -- there is a place left in the list
-  pub taking_room : work.progress.counts.attached < length list
+  pub taking_room : work.progress.counts.attached < length work.attached.now
   taking_room =
-      let f = t.trying.extending in
+      let f = work.extending in
       omega (arith, f.room, f.list_long, labels_fewer f.given f.one_cell taking_attaching t.there t.free)
 
-  pub taking_writable : Writable sheet list work.places work.progress c k
+  pub taking_writable : Writable work.sheet.now work.attached.now work.places work.progress c k
   taking_writable =
       record {
-        sheet_cell = record { long = t.trying.extending.given.long; on = t.trying.on };
+        sheet_cell = record { long = work.extending.given.long; on = t.trying.on };
         entry = taking_fits;
         space = taking_room;
         countable = t.trying.countable;
         few = taking_few;
-        size = t.trying.extending.size;
+        size = work.extending.size;
       }
 
   -- a corner attached
-  pub took : {sheet' list' : List ℕ} {work' : LocalWork} → Wrote sheet list work c k sheet' list' work'
-      → Left (local_with c (TryCellResult.Attached k) (state_of sheet list work.progress)) n list sheet' list' work'
+  pub took : {sheet' list' : List ℕ} {work' : LocalWork} → Wrote work.sheet.now work.attached.now work c k sheet' list' work'
+      → Holds (local_with c (TryCellResult.Attached k) (state_in work)) work.attached.now sheet' list' work'.progress
   unfolding local_with
   took {sheet'} {list'} {work'} w =
-      let f = t.trying.extending in
+      let f = work.extending in
+      let list = work.attached.now in
       let at = work.progress in
       let taken : length (take at.counts.attached list) ≡ at.counts.attached = length-take-le at.counts.attached list (made_in f) in
       let m : work'.progress.counts.attached ≡ at.counts.attached + 1 = ap (λ (x : Counts). x.attached) w.counts_are in
       rw (w.sheet_is, w.list_is)
       (record {
-        holds =
-            record {
-              sheet_is = refl;
-              list_is = ap₂ (λ (l : List ℕ) (x : ℕ). set l x (place_of c)) (sym (over_own list at.counts.attached (made_in f))) (sym taken) ∙ over_more (take at.counts.attached list) list (place_of c) (omega (arith, taken, taking_room));
-              made_is = omega (arith, m, taken, length-append (take at.counts.attached list) (place_of c ∷ []));
-              counts_are = w.counts_are;
-              largest_is = w.largest_is;
-              unmatched_is = w.unmatched_is;
-            };
-        extending =
-            record {
-              given = given';
-              few = f.few;
-              one_cell = one';
-              tied = rw w.used_is (clear_tied taking_attaching taking_fits f.tied);
-              list_long = rw length-set f.list_long;
-              room = omega (arith, m, f.room, clear_count taking_attaching);
-              four = omega (arith, f.four, clear_count taking_attaching);
-              labels_are = w.places_are.count_is;
-              places_are = gathered_front w.places_are;
-              size = gathered_size f.size taking_few w.places_are;
-            };
+        sheet_is = refl;
+        list_is = ap₂ (λ (l : List ℕ) (x : ℕ). set l x (place_of c)) (sym (over_own list at.counts.attached (made_in f))) (sym taken) ∙ over_more (take at.counts.attached list) list (place_of c) (omega (arith, taken, taking_room));
+        made_is = omega (arith, m, taken, length-append (take at.counts.attached list) (place_of c ∷ []));
+        counts_are = w.counts_are;
+        largest_is = w.largest_is;
+        unmatched_is = w.unmatched_is;
+      })
+
+  -- and all may go on
+  pub took_extending : {first second places' : List ℕ} (place : ℕ) {at' : LocalProgress} → first ≡ attached work.sheet.now c k → second ≡ marks_cleared first c
+      → Gathered second work.places places' at'.labels → at'.counts ≡ one_more (TryCellResult.Attached k) work.progress.counts
+      → Extending work.setup.count second (set work.attached.now work.progress.counts.attached place) (set work.used k 1) places' at'
+  took_extending place {at' = at'} e g w h =
+      let f = work.extending in
+      let m : at'.counts.attached ≡ work.progress.counts.attached + 1 = ap (λ (x : Counts). x.attached) h in
+      let is = both_changes work.sheet.now c k e g in
+      let w' = rw is at w in
+      rw is
+      (record {
+        given = given';
+        few = f.few;
+        one_cell = one';
+        tied = clear_tied taking_attaching taking_fits f.tied;
+        list_long = rw length-set f.list_long;
+        room = omega (arith, m, f.room, clear_count taking_attaching);
+        four = omega (arith, f.four, clear_count taking_attaching);
+        labels_are = w'.count_is;
+        places_are = gathered_front w';
+        size = gathered_size f.size taking_few w';
       })
 
 -- ---- by what was found
@@ -291,41 +317,45 @@ pub found_is : (cs : Corners) (sheet : List ℕ) (c : Cell) (prediction : Positi
 found_is cs sheet c prediction s t e = e ∙ rw (t, s)
 
 -- what was passed over, by the array of used corners
-pub unmatched_is : (held : List Float) {n : ℕ} {sheet list : List ℕ} {work : LocalWork} {c : Cell} {passed : ℕ} (radius : Float) (prediction : Position)
-    → Trying n sheet list work c → passed ≡ passed_over (positions_in held) (unmarked work.used) (takes (shades_in held) c) n prediction radius
-    → passed ≡ unmatched (corners_in held n) sheet radius c prediction
-unmatched_is held {n} {sheet} {work = work} {c = c} radius prediction t e =
-    e ∙ unmatched_tied held n sheet work.used radius c prediction t.extending.few t.extending.tied refl
+pub unmatched_is : (work : LocalWork) (c : Cell) {passed : ℕ} (radius : Float) (prediction : Position)
+    → passed ≡ passed_over (positions_in work.setup.corners.now) (unmarked work.used) (takes (shades_in work.setup.corners.now) c) work.setup.count prediction radius
+    → passed ≡ unmatched (held work) work.sheet.now radius c prediction
+unmatched_is work c radius prediction e =
+    e ∙ unmatched_tied work.setup.corners.now work.setup.count work.sheet.now work.used radius c prediction work.extending.few work.extending.tied refl
 
 -- a corner that was found is to be attached
-pub taking : (cs : Corners) {sheet list : List ℕ} {work : LocalWork} {c : Cell} {k : ℕ} {r : TryCellResult} (tol : Tolerances) (search : Search) (prediction : Position)
-    → Trying cs.count sheet list work c → r ≡ try_at cs sheet tol search c prediction → r ≡ TryCellResult.Attached k
-    → Taking cs.count sheet list work c k
-taking cs {sheet} {c = c} {k} tol search prediction t e g =
-    let w = attachable cs sheet tol search c prediction k (sym e ∙ g) in
+pub taking : {work : LocalWork} {c : Cell} {k : ℕ} {r : TryCellResult} (tol : Tolerances) (search : Search) (prediction : Position)
+    → Trying work c → r ≡ try_at (held work) work.sheet.now tol search c prediction → r ≡ TryCellResult.Attached k
+    → Taking work c k
+taking {work} {c} {k} tol search prediction t e g =
+    let w = attachable (held work) work.sheet.now tol search c prediction k (sym e ∙ g) in
     record { trying = t; there = w.given; free = w.free }
 
-module _ {n : ℕ} {sheet list : List ℕ} {work : LocalWork} (c : Cell) {q r : TryCellResult} (d : r ≡ q) where
+module _ {n : ℕ} {sheet list used places : List ℕ} {at : LocalProgress} (f : Extending n sheet list used places at) {at' : LocalProgress} where
   -- no corner: the cell is counted, and nothing is written
-  module _ (f : Extending n sheet list work) {work' : LocalWork} (u : work'.used ≡ work.used) (p : work'.places ≡ work.places) (is : work'.progress ≡ cell_counted work.progress r) where
-    counted : (s : LocalState) → work'.progress.counts.attached ≡ work.progress.counts.attached → s ≡ state_of sheet list (cell_counted work.progress r) → Left s n list sheet list work'
-    counted s m e = untouched (extending_as f u p m (ap (λ (x : LocalProgress). x.labels) is)) (e ∙ ap (state_of sheet list) (sym is))
+  module _ (c : Cell) {q r : TryCellResult} (d : r ≡ q) (is : at' ≡ cell_counted at r) where
+    counted : (s : LocalState) → (cell_counted at r).counts.attached ≡ at.counts.attached → s ≡ state_of sheet list (cell_counted at r) → Holds s list sheet list at'
+    counted s m e = rw is (untouched (extending_as f refl refl m refl) e)
 
-    pub found_none : r ≡ TryCellResult.NoCandidates → Left (local_with c q (state_of sheet list work.progress)) n list sheet list work'
+    pub found_none : r ≡ TryCellResult.NoCandidates → Holds (local_with c q (state_of sheet list at)) list sheet list at'
     unfolding local_with
-    found_none g = counted _ (rw (is, g)) (rw (← d, g))
+    found_none g = counted _ (rw g) (rw (← d, g))
 
-    pub found_ambiguous : r ≡ TryCellResult.Ambiguous → Left (local_with c q (state_of sheet list work.progress)) n list sheet list work'
+    pub found_ambiguous : r ≡ TryCellResult.Ambiguous → Holds (local_with c q (state_of sheet list at)) list sheet list at'
     unfolding local_with
-    found_ambiguous g = counted _ (rw (is, g)) (rw (← d, g))
+    found_ambiguous g = counted _ (rw g) (rw (← d, g))
 
-    pub found_refused : r ≡ TryCellResult.EdgeRejected → Left (local_with c q (state_of sheet list work.progress)) n list sheet list work'
+    pub found_refused : r ≡ TryCellResult.EdgeRejected → Holds (local_with c q (state_of sheet list at)) list sheet list at'
     unfolding local_with
-    found_refused g = counted _ (rw (is, g)) (rw (← d, g))
+    found_refused g = counted _ (rw g) (rw (← d, g))
 
-  pub found_corner : {k : ℕ} {sheet' list' : List ℕ} {work' : LocalWork} → Taking n sheet list work c k → r ≡ TryCellResult.Attached k
-      → Wrote sheet list work c k sheet' list' work' → Left (local_with c q (state_of sheet list work.progress)) n list sheet' list' work'
-  found_corner t g w = rw (← d, g) (took t w)
+  -- and all may go on
+  pub counted_extending : (r : TryCellResult) → at' ≡ cell_counted at r → (one_more r at.counts).attached ≡ at.counts.attached → Extending n sheet list used places at'
+  counted_extending r is m = rw is (extending_as f refl refl m refl)
+
+pub found_corner : {work : LocalWork} (c : Cell) {q r : TryCellResult} → r ≡ q → {k : ℕ} {sheet' list' : List ℕ} {work' : LocalWork} → Taking work c k → r ≡ TryCellResult.Attached k
+    → Wrote work.sheet.now work.attached.now work c k sheet' list' work' → Holds (local_with c q (state_in work)) work.attached.now sheet' list' work'.progress
+found_corner c d t g w = rw (← d, g) (took t w)
 
 -- ---- the corners passed over
 
@@ -343,22 +373,18 @@ try_counts cs set p c at s = go (try_at cs s.sheet (tolerances_of set) (local_se
     go (TryCellResult.Attached k) n = unfold local_with in refl
 
 -- the buffers hold the state with them counted
-pub counted_left : {s : LocalState} {n : ℕ} {before sheet list : List ℕ} {work work' : LocalWork} (m : ℕ) → work'.used ≡ work.used → work'.places ≡ work.places
-    → work'.progress ≡ unmatched_counted work.progress m → Left s n before sheet list work → Left (with_unmatched m s) n before sheet list work'
-counted_left m u p e l =
-    record {
-      holds =
-          rw e
-          (record {
-            sheet_is = l.holds.sheet_is;
-            list_is = l.holds.list_is;
-            made_is = l.holds.made_is;
-            counts_are = l.holds.counts_are;
-            largest_is = l.holds.largest_is;
-            unmatched_is = ap (λ (x : ℕ). x + m) l.holds.unmatched_is;
-          });
-      extending = extending_as l.extending u p (ap (λ (x : LocalProgress). x.counts.attached) e) (ap (λ (x : LocalProgress). x.labels) e);
-    }
+pub counted_left : {s : LocalState} {before sheet list : List ℕ} {at at' : LocalProgress} (m : ℕ) → at' ≡ unmatched_counted at m
+    → Holds s before sheet list at → Holds (with_unmatched m s) before sheet list at'
+counted_left m e h =
+    rw e
+    (record {
+      sheet_is = h.sheet_is;
+      list_is = h.list_is;
+      made_is = h.made_is;
+      counts_are = h.counts_are;
+      largest_is = h.largest_is;
+      unmatched_is = ap (λ (x : ℕ). x + m) h.unmatched_is;
+    })
 
 -- a try is one visit more, and passes over none by itself
 pub visits_more : (r : TryCellResult) (n : Counts) → visits (one_more r n) ≡ visits n + 1

@@ -1,4 +1,4 @@
--- What the functions that try one cell of local ask and leave, in the terms of local's definition (crate passes, Local). Definitions only.
+-- Where the code of local stands, in the terms of local's definition (crate passes, Local). Definitions only.
 use Rattle.std.specs.Prelude.{◌≡◌, Bool, true, false, List, ℕ, ◌+◌, ◌*◌, ◌<◌, ◌≤◌, length, set, take, Some, Float, None}
 use Rattle.sizes.specs.Sizes.{corner_limit}
 use Rattle.sheet.specs.Cells.{OnSheet, place_of}
@@ -20,7 +20,6 @@ use Rattle.remembered.specs.declared.Known.{Known}
 use Rattle.remembered.specs.declared.Memory.{Memory}
 use Rattle.arguments.specs.Front.{over}
 use Rattle.local_cell.specs.declared.LocalProgress.{LocalProgress}
-use Rattle.local_cell.specs.declared.LocalWork.{LocalWork}
 
 -- ---- how far the pass has come
 
@@ -47,17 +46,17 @@ state_of sheet list at =
 -- what holds between two cells: the sheet belongs to the corners, of which there are at most 1,024, no corner is at two cells, the array says
 -- which are used, the attached list has a place for each corner, no more places of it are written than there are labels, there are four
 -- labels, and the labelled places are listed
-pub record Extending (n : ℕ) (sheet list : List ℕ) (work : LocalWork) : Type 0 where
+pub record Extending (n : ℕ) (sheet list used places : List ℕ) (at : LocalProgress) : Type 0 where
   pub given : Given n sheet
   pub few : n ≤ corner_limit
   pub one_cell : OneCell sheet
-  pub tied : Tied sheet work.used
+  pub tied : Tied sheet used
   pub list_long : n ≤ length list
-  pub room : work.progress.counts.attached ≤ label_count sheet
+  pub room : at.counts.attached ≤ label_count sheet
   pub four : 4 ≤ label_count sheet
-  pub labels_are : work.progress.labels ≡ label_count sheet
-  pub places_are : take work.progress.labels work.places ≡ labelled_places sheet
-  pub size : length work.places ≡ corner_limit
+  pub labels_are : at.labels ≡ label_count sheet
+  pub places_are : take at.labels places ≡ labelled_places sheet
+  pub size : length places ≡ corner_limit
 
 -- the buffers hold a state: its sheet, its new cells at the front of the attached list, whose rest is as it was before, its counts, its largest
 -- residual and its corners passed over
@@ -69,37 +68,7 @@ pub record Holds (s : LocalState) (before sheet list : List ℕ) (at : LocalProg
   pub largest_is : at.residual ≡ s.largest
   pub unmatched_is : at.unmatched ≡ s.unmatched
 
--- what a function leaves: the buffers hold a state, and all may go on
-pub record Left (s : LocalState) (n : ℕ) (before sheet list : List ℕ) (work : LocalWork) : Type 0 where
-  pub holds : Holds s before sheet list work.progress
-  pub extending : Extending n sheet list work
-
--- what is remembered of the cells holds, on the sheet of now and with the largest residual of now; and no more corners were passed over than 1,024
--- for each visit
-pub record Recalls (set : Settings) (p : LocalExtensionParams) (cs : Corners) (sheet : List ℕ) (work : LocalWork) : Type 0 where
-  pub remembered : Remembered cs set p work.progress.residual sheet work.memory
-  pub unmatched_few : work.progress.unmatched ≤ corner_limit * visits work.progress.counts
-
 -- ---- one cell
-
--- an unlabelled cell of the sheet is to be tried, and its visit can be counted
-pub record Trying (n : ℕ) (sheet list : List ℕ) (work : LocalWork) (c : Cell) : Type 0 where
-  pub extending : Extending n sheet list work
-  pub on : OnSheet c
-  pub bare : label_at sheet c ≡ None
-  pub countable : visits work.progress.counts < 4294967296
-
--- it is known where the fit maps the cell to
-pub record Foretold (set : Settings) (p : LocalExtensionParams) (cs : Corners) (sheet : List ℕ) (work : LocalWork) (c : Cell) (reach : ℕ)
-    (prediction : Position) : Type 0 where
-  pub known : KnownAt cs set p work.progress.residual sheet c (Some (record { reach = reach; finding = Finding.Predicted prediction }))
-  pub small : reach < 8192
-
--- a corner that no cell holds is to be attached there
-pub record Taking (n : ℕ) (sheet list : List ℕ) (work : LocalWork) (c : Cell) (k : ℕ) : Type 0 where
-  pub trying : Trying n sheet list work c
-  pub there : k < n
-  pub free : used_on sheet k ≡ false
 
 -- the sheet with a corner attached to a cell and both marks of the cell cleared
 abbrev pub attached_clear : List ℕ → Cell → ℕ → List ℕ
@@ -113,16 +82,6 @@ pub record Writable (sheet list places : List ℕ) (at : LocalProgress) (c : Cel
   pub countable : visits at.counts < 4294967296
   pub few : label_count (attached_clear sheet c k) ≤ corner_limit
   pub size : length places ≡ corner_limit
-
--- the buffers after a corner was attached: the sheet, the next place of the attached list, the corner's entry and the labelled places
-pub record Wrote (sheet list : List ℕ) (work : LocalWork) (c : Cell) (k : ℕ) (sheet' list' : List ℕ) (work' : LocalWork) : Type 0 where
-  pub sheet_is : sheet' ≡ attached_clear sheet c k
-  pub list_is : list' ≡ set list work.progress.counts.attached (place_of c)
-  pub used_is : work'.used ≡ set work.used k 1
-  pub places_are : Gathered (attached_clear sheet c k) work.places work'.places work'.progress.labels
-  pub counts_are : work'.progress.counts ≡ one_more (TryCellResult.Attached k) work.progress.counts
-  pub largest_is : work'.progress.residual ≡ work.progress.residual
-  pub unmatched_is : work'.progress.unmatched ≡ work.progress.unmatched
 
 -- what is known of one cell noted where no shade stands, and nothing where one does
 pub record NotedIfBare (shaded : Bool) (memory : Memory) (c : Cell) (known : Known) (memory' : Memory) : Type 0 where

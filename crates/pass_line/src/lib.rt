@@ -3,25 +3,33 @@
 #![tactic(auto)]
 
 ghost use Rattle.line_form.specs.Written.{Wrote};
-ghost use Rattle.report_line.specs.Result.{grow_line, fill_line, local_line, unmatched_line, local_lines};
-ghost use Rattle.report_line.specs.Written.{GrowAsked, FillAsked, LocalAsked, LocalLineAsked, BareAsked, FullAsked, UnmatchedAsked, bare_local_text, full_local_text};
+ghost use Rattle.report_line.specs.Result.{grow_line, fill_line, local_line, unmatched_line, local_lines, pass_line};
+ghost use Rattle.report_line.specs.Written.{Few, CountsHeld, GrowAsked, FillAsked, LocalAsked, StatsAsked, LocalLineAsked, BareAsked, FullAsked, UnmatchedAsked, bare_local_text, full_local_text};
 
 use line_form::write::write_form;
-use passes::{FillStats, GrowStats, LocalStats};
+use passes::{Counts, FillStats, GrowStats, LocalStats, PassStats};
 use report_line::line::held;
+
+// Grow's four counts as a form takes them.
+fn held_counts(c: Counts) -> [u32; 4]
+    requires { Few c }
+    ensures { CountsHeld c result }
+{
+    [
+        held(c.attached),
+        held(c.rejected_no_candidate),
+        held(c.rejected_ambiguous),
+        held(c.rejected_edge),
+    ]
+}
 
 // Grow's line: attached, no candidate, ambiguous, edge, rim.
 pub fn write_grow(s: GrowStats, out: &mut [u8]) -> usize
     requires { GrowAsked s out.old }
     ensures { Wrote (grow_line s) out.old out.new result }
 {
-    let c = s.counts;
-    let words = [
-        held(c.attached),
-        held(c.rejected_no_candidate),
-        held(c.rejected_ambiguous),
-        held(c.rejected_edge),
-    ];
+    let [a, b, c, d] = held_counts(s.counts);
+    let words = [a, b, c, d];
     if s.rim {
         return write_form(b"(grow # # # # yes)\n", &words, out);
     }
@@ -45,14 +53,8 @@ fn write_bare_local(s: LocalStats, out: &mut [u8]) -> usize
     requires { BareAsked s out.old }
     ensures { Wrote (bare_local_text s) out.old out.new result }
 {
-    let c = s.counts;
-    let words = [
-        held(c.attached),
-        held(c.rejected_no_candidate),
-        held(c.rejected_ambiguous),
-        held(c.rejected_edge),
-        held(s.iterations),
-    ];
+    let [a, b, c, d] = held_counts(s.counts);
+    let words = [a, b, c, d, held(s.iterations)];
     if s.rim {
         return write_form(b"(local # # # # # none yes)\n", &words, out);
     }
@@ -64,15 +66,8 @@ fn write_full_local(s: LocalStats, residual: f32, out: &mut [u8]) -> usize
     requires { FullAsked s residual out.old }
     ensures { Wrote (full_local_text s residual) out.old out.new result }
 {
-    let c = s.counts;
-    let words = [
-        held(c.attached),
-        held(c.rejected_no_candidate),
-        held(c.rejected_ambiguous),
-        held(c.rejected_edge),
-        held(s.iterations),
-        f32::to_bits(residual),
-    ];
+    let [a, b, c, d] = held_counts(s.counts);
+    let words = [a, b, c, d, held(s.iterations), residual.to_bits()];
     if s.rim {
         return write_form(b"(local # # # # # % yes)\n", &words, out);
     }
@@ -113,4 +108,17 @@ pub fn write_local(s: LocalStats, out: &mut [u8]) -> usize
     let n = write_local_line(s, out);
     let m = write_unmatched(unmatched, &mut out[n..]);
     n + m
+}
+
+// The line of what a pass answers.
+#[tactic(auto, unfolding(report_line::specs::Result::pass_line))]
+pub fn write_stats(s: PassStats, out: &mut [u8]) -> usize
+    requires { StatsAsked s out.old }
+    ensures { Wrote (pass_line s) out.old out.new result }
+{
+    match s {
+        PassStats::Grow(s) => write_grow(s, out),
+        PassStats::Fill(s) => write_fill(s, out),
+        PassStats::Local(s) => write_local(s, out),
+    }
 }

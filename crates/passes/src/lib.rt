@@ -6,8 +6,21 @@
 
 ghost use Rattle.std.specs.Prelude.{◌≡◌, ◌<◌};
 ghost use Rattle.passes.specs.Counting.{one_more, visits};
+ghost use Rattle.passes.specs.Grow.{tolerances_of};
 
+use arguments::Settings;
 use extension_common::TryCellResult;
+use positions_policy::Tolerances;
+
+// The edge's tolerances of a call: cell size and band.
+pub fn tolerances_of(settings: Settings) -> Tolerances
+    ensures { result ≡ tolerances_of settings }
+{
+    Tolerances {
+        cell_size: settings.grid.cell_size,
+        edge_length_tol: settings.edge_length_tol,
+    }
+}
 
 // The counts of grow, and of local.
 #[derive(Clone, Copy)]

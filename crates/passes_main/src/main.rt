@@ -14,109 +14,100 @@
 
 ghost use Rattle.std.specs.Prelude.{◌≡◌, ◌≤◌, ◌<◌, length, IfOk};
 
-use call_print::{print_answer, print_call, print_sheet, print_sums, print_word};
+use call_print::{Left, print_call, print_sheet, print_word};
 use call_text::{
     at_most, has_unknown_kind, header_at, lengths_at, pass_at, read_floats, read_labels,
     read_shades, settings_at,
 };
 use std::io;
 
-// One call, of one of the three kinds.
-fn call(
-    rt: &impl Print,
-    text: &[u8],
-    number: usize,
-    at: usize,
-    xs: &[f32],
-    ys: &[f32],
-    pitches: &[f32],
-    shades: &[u8],
-    sheet: &mut [u16],
-    queue: &mut [u16],
-    attached: &mut [u16],
-) -> io::Result<()>
-    requires { at ≤ 9000 }
-{
-    let pass = pass_at(text, at);
-    print_call(rt, number, pass)?;
-    let settings = settings_at(text, at + 1);
-    let answer = pass_call::call_pass(
-        xs, ys, pitches, shades, sheet, queue, attached, settings, pass,
-    );
-    print_answer(rt, text, answer, sheet, queue, attached)
+// A list's text, and its corners as a call is lent them.
+#[derive(Clone, Copy)]
+struct List<'a> {
+    text: &'a [u8],
+    xs: &'a [f32],
+    ys: &'a [f32],
+    pitches: &'a [f32],
 }
 
-// A call that is lent the front of every buffer, and the whole sheet after it.
-fn call_on(
-    rt: &impl Print,
-    text: &[u8],
-    number: usize,
-    at: usize,
-    xs: &[f32],
-    ys: &[f32],
-    pitches: &[f32],
-    sheet: &mut [u16],
-    queue: &mut [u16],
-    attached: &mut [u16],
-) -> io::Result<()>
-    requires le_number { 1 ≤ number }
-    requires at_bound { at ≤ 9000 }
-{
-    let shades = read_shades(text, 7, at_most(xs.len(), 1025), number - 1);
-    let lengths = lengths_at(text, at + 12);
-    let y = at_most(lengths.ys, ys.len());
-    let p = at_most(lengths.pitches, pitches.len());
-    let s = at_most(lengths.sheet, sheet.len());
-    let q = at_most(lengths.queue, queue.len());
-    let a = at_most(lengths.attached, attached.len());
-    let h = at_most(lengths.shades, 1025);
-    call(
-        rt,
-        text,
-        number,
-        at,
-        xs,
-        &ys[..y],
-        &pitches[..p],
-        &shades[..h],
-        &mut sheet[..s],
-        &mut queue[..q],
-        &mut attached[..a],
-    )?;
-    print_sheet(rt, sheet)?;
-    print_sums(rt, text, queue, attached)
-}
-
-fn calls(
-    rt: &impl Print,
-    text: &[u8],
-    first: usize,
-    count: usize,
-    xs: &[f32],
-    ys: &[f32],
-    pitches: &[f32],
-    sheet: &mut [u16],
-    queue: &mut [u16],
-    attached: &mut [u16],
-) -> io::Result<()>
-    requires first_bound { first ≤ 8200 }
-    requires count_bound { count ≤ 40 }
-{
-    for i in 0..count {
-        call_on(
-            rt,
-            text,
-            i + 1,
-            first + 18 * i,
-            xs,
-            ys,
-            pitches,
+impl List<'_> {
+    // One call, of one of the three kinds.
+    // Stays: the borrow checker does not cover a struct of the three lists, as a call is lent all of them at once.
+    fn call(
+        self,
+        rt: &impl Print,
+        number: usize,
+        at: usize,
+        shades: &[u8],
+        sheet: &mut [u16],
+        queue: &mut [u16],
+        attached: &mut [u16],
+    ) -> io::Result<()>
+        requires { at ≤ 9000 }
+    {
+        let text = self.text;
+        let pass = pass_at(text, at);
+        print_call(rt, number, pass)?;
+        let settings = settings_at(text, at + 1);
+        let answer = pass_call::call_pass(
+            self.xs,
+            self.ys,
+            self.pitches,
+            shades,
             sheet,
             queue,
             attached,
-        )?;
+            settings,
+            pass,
+        );
+        let left = Left {
+            text,
+            sheet,
+            queue,
+            attached,
+        };
+        left.print_answer(rt, answer)
     }
-    Ok(())
+
+    // A call that is lent the front of every buffer.
+    // Stays: the borrow checker does not cover a struct of the three lists, as a call is lent all of them at once.
+    fn call_on(
+        self,
+        rt: &impl Print,
+        number: usize,
+        at: usize,
+        sheet: &mut [u16],
+        queue: &mut [u16],
+        attached: &mut [u16],
+    ) -> io::Result<()>
+        requires le_number { 1 ≤ number }
+        requires at_bound { at ≤ 9000 }
+    {
+        let text = self.text;
+        let shades = read_shades(text, 7, at_most(self.xs.len(), 1025), number - 1);
+        let lengths = lengths_at(text, at + 12);
+        let y = at_most(lengths.ys, self.ys.len());
+        let p = at_most(lengths.pitches, self.pitches.len());
+        let s = at_most(lengths.sheet, sheet.len());
+        let q = at_most(lengths.queue, queue.len());
+        let a = at_most(lengths.attached, attached.len());
+        let h = at_most(lengths.shades, 1025);
+        let front = List {
+            text,
+            xs: self.xs,
+            ys: &self.ys[..y],
+            pitches: &self.pitches[..p],
+        };
+        front.call(
+            rt,
+            number,
+            at,
+            &shades[..h],
+            &mut sheet[..s],
+            &mut queue[..q],
+            &mut attached[..a],
+        )
+    }
 }
 
 fn queue_buffer() -> [u16; 4100]
@@ -131,7 +122,7 @@ fn attached_buffer() -> [u16; 1025]
     [43981u16; 1025]
 }
 
-// The corners and the labels, and then the calls; answers how many numbers the list has.
+// The corners and the labels, and then the calls, after each of them the whole sheet; answers how many numbers the list has.
 fn run(rt: &impl Print, text: &[u8]) -> io::Result<usize>
     ensures { IfOk result (λ numbers. (4 ≤ numbers) × (numbers ≤ 9000)) }
 {
@@ -143,24 +134,32 @@ fn run(rt: &impl Print, text: &[u8]) -> io::Result<usize>
     let mut sheet = read_labels(text, 4 + 4 * n, h.labels);
     let mut queue = queue_buffer();
     let mut attached = attached_buffer();
-    calls(
-        rt,
+    let list = List {
         text,
-        h.first,
-        h.count,
-        &xs[..n],
-        &ys,
-        &pitches,
-        &mut sheet,
-        &mut queue,
-        &mut attached,
-    )?;
+        xs: &xs[..n],
+        ys: &ys,
+        pitches: &pitches,
+    };
+    // Stays: the number of the call is printed, and says where the call begins.
+    for i in 0..h.count {
+        let at = h.first + 18 * i;
+        list.call_on(rt, i + 1, at, &mut sheet, &mut queue, &mut attached)?;
+        print_sheet(rt, &sheet)?;
+        let left = Left {
+            text,
+            sheet: &sheet,
+            queue: &queue,
+            attached: &attached,
+        };
+        left.print_sums(rt)?;
+    }
     Ok(h.all)
 }
 
 // List after list, up to the end or to one that cannot be run.
 fn run_all(rt: &impl Print, text: &[u8]) -> io::Result<()> {
     let mut rest = text;
+    // Stays: where the next list begins is known only when this one is run, and there the walk may end.
     while !rest.is_empty() {
         if has_unknown_kind(rest) {
             return print_word(rt, b"not run: a call of an unknown kind\n");

@@ -4,7 +4,7 @@
 #![tactic(auto)]
 
 ghost use Rattle.std.specs.Prelude.{◌≡◌, ◌<◌};
-ghost use Rattle.sheet.specs.Cells.{OnSheet};
+ghost use Rattle.sheet.specs.Cells.{OnSheet, Within};
 ghost use Rattle.sizes.specs.Sizes.{corner_limit};
 ghost use Rattle.sheet.specs.Corners.{corner_in, seen_of, Given};
 ghost use Rattle.positions_policy.specs.Edge.{length_of, expected_length, in_band, edge_ok, cardinal_at, edge_at, verdict_of, passes};
@@ -52,6 +52,7 @@ pub fn in_band(length: f32, expected: f32, band: f32) -> bool
     let ratio = length / expected;
     let low = 1.0 - band;
     let high = 1.0 + band;
+    // Stays: the definition is these two comparisons; the contract of `contains` speaks of `partial_cmp`, and the proof did not close (c).
     ratio >= low && ratio <= high
 }
 
@@ -82,19 +83,19 @@ pub fn cardinal_offset(k: usize) -> Offset
     CARDINALS[k]
 }
 
-// What the edge between the candidate, at the cell, and the k-th cardinal neighbour says.
+// What the edge between the candidate, at the cell, and the neighbour at an offset says.
 fn cardinal_edge(
     corners: &[f32; 4 * CORNERS],
     sheet: &[u16],
     c: Cell,
     candidate: Corner,
     tol: Tolerances,
-    k: usize,
+    o: Offset,
 ) -> EdgeVerdict
-    requires { Given corner_limit sheet.now × (OnSheet c × (k < 4)) }
-    ensures { result ≡ edge_at (seen_of (corner_in corners.now) sheet.now) tol c candidate (cardinal_at k) }
+    requires { Given corner_limit sheet.now × (OnSheet c × Within 128 o) }
+    ensures { result ≡ edge_at (seen_of (corner_in corners.now) sheet.now) tol c candidate o }
 {
-    let beside = sheet::neighbour(c, cardinal_offset(k));
+    let beside = sheet::neighbour(c, o);
     let seen = sheet::seen_at(corners, sheet, beside);
     match seen {
         None => EdgeVerdict::NonePresent,
@@ -122,8 +123,8 @@ pub fn any_cardinal_edge_ok(
 {
     let mut verdict = EdgeVerdict::NonePresent;
     // Stays: the specification asks for a loop over the four cardinal cells, in their order, that stops at the first accepted edge.
-    for k in 0..4usize {
-        match cardinal_edge(corners, sheet, c, candidate, tol, k) {
+    for o in CARDINALS {
+        match cardinal_edge(corners, sheet, c, candidate, tol, o) {
             EdgeVerdict::Accepted => return EdgeVerdict::Accepted,
             EdgeVerdict::Refused => verdict = EdgeVerdict::Refused,
             EdgeVerdict::NonePresent => {}

@@ -3,13 +3,11 @@
 use mathlib.Core.Path.{◌≡◌, refl, sym, ap, ◌∙◌}
 use mathlib.Core.Bool.{Bool, true, false, ◌&&◌, ◌||◌, true≢false}
 use mathlib.Core.List.{List, [], ◌∷◌}
-use Prim.Native.Nat.{ℕ, zero, suc, ◌+◌, ◌<◌, ◌≤◌}
+use Prim.Native.Nat.{ℕ, zero, suc, ◌<◌, ◌≤◌}
 use native.Mathlib.Omega.{arith}
-use native.Mathlib.Numerals.{add-one}
 use lib.IntN.{ℤ, pos, negsuc, nat_abs}
 use lib.Dec.{T, le→leb}
-use lib.ListN.{length, get_or, drop}
-use lib.Seq.{drop-cons}
+use lib.ListN.{length, get_or}
 use lib.Ieee.{binary32, in_float}
 use Rattle.sheet.specs.Cells.{OnSheet, moved, Within}
 use Rattle.sheet.specs.Words.{label_at}
@@ -21,14 +19,14 @@ use Rattle.sheet.proofs.Pairing.{seen_paired}
 use Rattle.sheet.specs.declared.Cell.{Cell}
 use Rattle.sheet.specs.declared.Offset.{Offset}
 use Rattle.sheet.specs.declared.Corner.{Corner}
-use Rattle.predict.specs.Predict.{offset, neighbour_offsets, put_before, labelled_among, neighbours_of, forward_of, backward_of, step_at, sums_from, sums_of, mean_of, prediction_from, prediction_of, on_side, any_on, has_neighbour, extrapolating, square_offset, square_cell, is_seen, labelled_on, with_seen, with_cell}
+use Rattle.predict.specs.Predict.{offset, neighbour_offsets, put_before, labelled_among, neighbours_of, forward_of, backward_of, step_at, sums_from, sums_of, mean_of, prediction_from, prediction_of, on_side, any_on, has_neighbour, extrapolating, is_seen, labelled_on, with_seen, with_cell}
 use Rattle.predict.specs.declared.Neighbour.{Neighbour}
 use Rattle.predict.specs.declared.Direction.{Direction}
 use Rattle.predict.specs.declared.Grid.{Grid}
 use Rattle.predict.specs.declared.Sums.{Sums}
 use Rattle.predict.specs.declared.Side.{Side}
-use Rattle.std.specs.Prelude.{Some, None, Option}
-use Rattle.std.specs.List.{range_with_len, list_any, fold}
+use Rattle.std.specs.Prelude.{Some, None, Option, is_some}
+use Rattle.std.specs.List.{list_any, fold}
 
 -- ---- small numbers
 
@@ -42,17 +40,18 @@ small_float (negsuc n) h = le→leb (suc n) 16777216 (omega arith)
 near_one : (o : Offset) → nat_abs o.di ≤ 1 → nat_abs o.dj ≤ 1 → Within 128 o
 near_one o h l = record { di_small = omega arith; dj_small = omega arith }
 
-pub square_within : (k : ℕ) → k < 8 → Within 128 (square_offset k)
+-- each offset of the square
+pub square_within : (k : ℕ) (d : Offset) → k < 8 → Within 128 (get_or neighbour_offsets k d)
 unfolding neighbour_offsets
-square_within zero h = near_one (offset (negsuc 0) (negsuc 0)) (omega arith) (omega arith)
-square_within (suc zero) h = near_one (offset (pos 0) (negsuc 0)) (omega arith) (omega arith)
-square_within (suc (suc zero)) h = near_one (offset (pos 1) (negsuc 0)) (omega arith) (omega arith)
-square_within (suc (suc (suc zero))) h = near_one (offset (negsuc 0) (pos 0)) (omega arith) (omega arith)
-square_within (suc (suc (suc (suc zero)))) h = near_one (offset (pos 1) (pos 0)) (omega arith) (omega arith)
-square_within (suc (suc (suc (suc (suc zero))))) h = near_one (offset (negsuc 0) (pos 1)) (omega arith) (omega arith)
-square_within (suc (suc (suc (suc (suc (suc zero)))))) h = near_one (offset (pos 0) (pos 1)) (omega arith) (omega arith)
-square_within (suc (suc (suc (suc (suc (suc (suc zero))))))) h = near_one (offset (pos 1) (pos 1)) (omega arith) (omega arith)
-square_within (suc (suc (suc (suc (suc (suc (suc (suc k)))))))) h = absurd (omega arith)
+square_within zero d h = near_one (offset (negsuc 0) (negsuc 0)) (omega arith) (omega arith)
+square_within (suc zero) d h = near_one (offset (pos 0) (negsuc 0)) (omega arith) (omega arith)
+square_within (suc (suc zero)) d h = near_one (offset (pos 1) (negsuc 0)) (omega arith) (omega arith)
+square_within (suc (suc (suc zero))) d h = near_one (offset (negsuc 0) (pos 0)) (omega arith) (omega arith)
+square_within (suc (suc (suc (suc zero)))) d h = near_one (offset (pos 1) (pos 0)) (omega arith) (omega arith)
+square_within (suc (suc (suc (suc (suc zero))))) d h = near_one (offset (negsuc 0) (pos 1)) (omega arith) (omega arith)
+square_within (suc (suc (suc (suc (suc (suc zero)))))) d h = near_one (offset (pos 0) (pos 1)) (omega arith) (omega arith)
+square_within (suc (suc (suc (suc (suc (suc (suc zero))))))) d h = near_one (offset (pos 1) (pos 1)) (omega arith) (omega arith)
+square_within (suc (suc (suc (suc (suc (suc (suc (suc k)))))))) d h = absurd (omega arith)
 
 pub forward_within : (d : Direction) → Within 128 (forward_of d)
 forward_within Direction.I = near_one (offset (pos 1) (pos 0)) (omega arith) (omega arith)
@@ -65,13 +64,10 @@ backward_within Direction.J = near_one (offset (pos 0) (negsuc 0)) (omega arith)
 -- ---- what is seen, by the labels
 
 module _ (corner : ℕ → Corner) (sheet : List ℕ) (c : Cell) where
-  pub not_seen : label_at sheet c ≡ None → false ≡ is_seen (seen_of corner sheet c)
+  pub seen_if : (l : Option ℕ) → label_at sheet c ≡ l → is_some l ≡ is_seen (seen_of corner sheet c)
   unfolding is_seen
-  not_seen e = sym (ap is_seen (seen_none corner sheet c e))
-
-  pub is_seen_holds : (k : ℕ) → label_at sheet c ≡ Some k → true ≡ is_seen (seen_of corner sheet c)
-  unfolding is_seen
-  is_seen_holds k e = sym (ap is_seen (seen_some corner sheet c k e))
+  seen_if None e = sym (ap is_seen (seen_none corner sheet c e))
+  seen_if (Some k) e = sym (ap is_seen (seen_some corner sheet c k e))
 
   -- a cell at which a corner is seen is on the sheet
   pub seen_on : (k : Corner) → seen_of corner sheet c ≡ Some k → OnSheet c
@@ -83,29 +79,7 @@ module _ (corner : ℕ → Corner) (sheet : List ℕ) (c : Cell) where
 
 -- ---- the square a cell at a time
 
-offsets_eight : length neighbour_offsets ≡ 8
-unfolding neighbour_offsets
-offsets_eight = refl
-
--- the neighbours from the k-th cell of the square on
-abbrev pub neighbours_from : (Cell → Option Corner) → Cell → ℕ → List Neighbour
-neighbours_from seen c k = labelled_among seen c (drop k neighbour_offsets)
-
 module _ (seen : Cell → Option Corner) (c : Cell) where
-  next_of : (os : List Offset) (o : Offset) (k : ℕ) → k < length os
-      → labelled_among seen c (drop k os) ≡ put_before (moved c (get_or os k o)) (seen (moved c (get_or os k o))) (labelled_among seen c (drop (suc k) os))
-  unfolding labelled_among
-  next_of os o k h = ap (labelled_among seen c) (drop-cons os k o h)
-
-  -- they are that cell, if it is labelled, and those from the next on
-  square_next : (k : ℕ) → k < 8 → neighbours_from seen c k ≡ put_before (square_cell c k) (seen (square_cell c k)) (neighbours_from seen c (k + 1))
-  square_next k h = rw add-one (next_of neighbour_offsets (offset (pos 0) (pos 0)) k (omega (arith, offsets_eight)))
-
-  -- past the last there is none
-  square_end : (k : ℕ) → k ≤ 8 → 8 ≤ k → neighbours_from seen c k ≡ []
-  unfolding labelled_among neighbour_offsets
-  square_end k h l = let e : k ≡ 8 = omega arith in rw e
-
   -- the sums
   module _ (grid : Grid) where
     sums_before : (s : Sums) (at : Cell) (v : Option Corner) (rest : List Neighbour) → sums_from seen grid c s (put_before at v rest) ≡ sums_from seen grid c (with_seen seen grid c s at v) rest
@@ -113,18 +87,15 @@ module _ (seen : Cell → Option Corner) (c : Cell) where
     sums_before s at None rest = refl
     sums_before s at (Some corner) rest = refl
 
-    sums_next : (s : Sums) (k : ℕ) → k < 8 → sums_from seen grid c s (neighbours_from seen c k) ≡ sums_from seen grid c (with_cell seen grid c s (square_cell c k)) (neighbours_from seen c (k + 1))
-    sums_next s k h = ap (sums_from seen grid c s) (square_next k h) ∙ sums_before s (square_cell c k) (seen (square_cell c k)) (neighbours_from seen c (k + 1))
-
-    sums_rest : (n k : ℕ) → k + n ≡ 8 → (s : Sums) → fold (λ (s : Sums) (k : ℕ). with_cell seen grid c s (square_cell c k)) s (range_with_len k n) ≡ sums_from seen grid c s (neighbours_from seen c k)
-    unfolding sums_from
-    sums_rest zero k e s = sym (ap (sums_from seen grid c s) (square_end k (omega arith) (omega arith)))
-    sums_rest (suc n) k e s = sums_rest n (k + 1) (omega arith) (with_cell seen grid c s (square_cell c k)) ∙ sym (sums_next s k (omega arith))
+    sums_listed : (os : List Offset) (s : Sums) → fold (λ (s : Sums) (o : Offset). with_cell seen grid c s (moved c o)) s os ≡ sums_from seen grid c s (labelled_among seen c os)
+    unfolding sums_from labelled_among
+    sums_listed [] s = refl
+    sums_listed (o ∷ os) s = sums_listed os (with_cell seen grid c s (moved c o)) ∙ sym (sums_before s (moved c o) (seen (moved c o)) (labelled_among seen c os))
 
     -- the sums over all eight cells
-    pub sums_all : (s : Sums) → fold (λ (s : Sums) (k : ℕ). with_cell seen grid c s (square_cell c k)) s (range_with_len 0 8) ≡ sums_from seen grid c s (neighbours_of seen c)
+    pub sums_all : (s : Sums) → fold (λ (s : Sums) (o : Offset). with_cell seen grid c s (moved c o)) s neighbour_offsets ≡ sums_from seen grid c s (neighbours_of seen c)
     unfolding neighbours_of
-    sums_all s = sums_rest 8 0 (omega arith) s
+    sums_all s = sums_listed neighbour_offsets s
 
   -- a neighbour on a side
   module _ (side : Side) where
@@ -133,18 +104,15 @@ module _ (seen : Cell → Option Corner) (c : Cell) where
     any_before at None rest = refl
     any_before at (Some corner) rest = refl
 
-    any_next : (k : ℕ) → k < 8 → any_on side c (neighbours_from seen c k) ≡ (labelled_on seen c side (square_cell c k) || any_on side c (neighbours_from seen c (k + 1)))
-    any_next k h = ap (any_on side c) (square_next k h) ∙ any_before (square_cell c k) (seen (square_cell c k)) (neighbours_from seen c (k + 1))
-
-    any_rest : (n k : ℕ) → k + n ≡ 8 → list_any (λ k. labelled_on seen c side (square_cell c k)) (range_with_len k n) ≡ any_on side c (neighbours_from seen c k)
-    unfolding any_on
-    any_rest zero k e = sym (ap (any_on side c) (square_end k (omega arith) (omega arith)))
-    any_rest (suc n) k e = ap (λ (t : Bool). labelled_on seen c side (square_cell c k) || t) (any_rest n (k + 1) (omega arith)) ∙ sym (any_next k (omega arith))
+    any_listed : (os : List Offset) → list_any (λ o. labelled_on seen c side (moved c o)) os ≡ any_on side c (labelled_among seen c os)
+    unfolding any_on labelled_among
+    any_listed [] = refl
+    any_listed (o ∷ os) = ap (λ (t : Bool). labelled_on seen c side (moved c o) || t) (any_listed os) ∙ sym (any_before (moved c o) (seen (moved c o)) (labelled_among seen c os))
 
     -- one of all eight cells
-    pub any_all : list_any (λ k. labelled_on seen c side (square_cell c k)) (range_with_len 0 8) ≡ has_neighbour seen c side
+    pub any_all : list_any (λ o. labelled_on seen c side (moved c o)) neighbour_offsets ≡ has_neighbour seen c side
     unfolding neighbours_of has_neighbour
-    any_all = any_rest 8 0 (omega arith)
+    any_all = any_listed neighbour_offsets
 
   -- ---- no neighbour, or a prediction
 

@@ -2,11 +2,11 @@
 -- the prediction, and whether it is an extrapolation. All of it is a function of `seen`, what is seen at each cell; every
 -- operation on floats is one of binary32 and stands in the order in which it is rounded. Definitions only.
 use Rattle.sheet.specs.declared.Corner.{Corner}
-use Rattle.std.specs.Prelude.{Bool, true, false, not, ◌&&◌, ◌||◌, List, [], ◌∷◌, ℕ, ◌<◌, ◌≤◌, length, get_or, ℤ, pos, negsuc, Option, Some, None, Float}
+use Rattle.std.specs.Prelude.{Bool, true, false, not, ◌&&◌, ◌||◌, List, [], ◌∷◌, ℕ, ℤ, pos, negsuc, Option, Some, None, Float}
 use Rattle.std.specs.Int.Signed.{lt_z}
 use Rattle.std.specs.Float.{binary32}
 use Rattle.std.specs.Float.Ieee.{of_int, add, sub, mul, div}
-use Rattle.sizes.specs.Sizes.{place_count, corner_limit}
+use Rattle.sizes.specs.Sizes.{corner_limit}
 use Rattle.sheet.specs.Cells.{OnSheet, moved, difference_of}
 use Rattle.sheet.specs.Corners.{Given}
 use Rattle.sheet.specs.declared.Cell.{Cell}
@@ -169,12 +169,6 @@ extrapolating seen c =
 -- ---- the square a cell at a time, as the loops go through it
 
 -- the k-th cell of the square around a cell, and its offset
-abbrev pub square_offset : ℕ → Offset
-square_offset k = get_or neighbour_offsets k (offset (pos 0) (pos 0))
-
-abbrev pub square_cell : Cell → ℕ → Cell
-square_cell c k = moved c (square_offset k)
-
 unfoldable pub is_seen : Option Corner → Bool
 is_seen None = false
 is_seen (Some corner) = true
@@ -197,9 +191,3 @@ with_cell seen grid c s at = with_seen seen grid c s at (seen at)
 pub record GivenCell (sheet : List ℕ) (c : Cell) : Type 0 where
   pub given : Given corner_limit sheet
   pub on : OnSheet c
-
--- a cell of the square around a cell, by its number, where the labels alone are looked at
-pub record SheetSquare (sheet : List ℕ) (c : Cell) (k : ℕ) : Type 0 where
-  pub long : place_count ≤ length sheet
-  pub on : OnSheet c
-  pub small : k < 8

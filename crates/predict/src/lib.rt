@@ -3,12 +3,12 @@
 
 #![tactic(auto)]
 
-ghost use Rattle.std.specs.Prelude.{◌≡◌, ℕ, ◌<◌, ◌≤◌, length};
+ghost use Rattle.std.specs.Prelude.{◌≡◌, ℕ, ◌≤◌, length};
 ghost use Rattle.sizes.specs.Sizes.{place_count, corner_limit};
-ghost use Rattle.sheet.specs.Cells.{OnSheet, Within};
+ghost use Rattle.sheet.specs.Cells.{OnSheet, Within, moved};
 ghost use Rattle.sheet.specs.Words.{SheetCell};
 ghost use Rattle.sheet.specs.Corners.{corner_in, seen_of, Given};
-ghost use Rattle.predict.specs.Predict.{forward_of, backward_of, one_sided, both_sided, step_between, step_at, vector_of, axis_of, weighed, prediction_of, on_side, has_neighbour, extrapolating, square_offset, square_cell, is_seen, labelled_on, GivenCell, SheetSquare};
+ghost use Rattle.predict.specs.Predict.{forward_of, backward_of, one_sided, both_sided, step_between, step_at, vector_of, axis_of, weighed, prediction_of, on_side, has_neighbour, extrapolating, is_seen, labelled_on, GivenCell};
 
 use sheet::{Cell, Corner, Offset, Position};
 use sizes::CORNERS;
@@ -80,15 +80,6 @@ const SQUARE: [Offset; 8] = [
     Offset { di: 1, dj: 1 },
 ];
 
-// The offset of the k-th cell of the square.
-#[tactic(auto, unfolding(crate::specs::Predict::neighbour_offsets))]
-fn offset_of(k: usize) -> Offset
-    requires { k < 8 }
-    ensures { result ≡ square_offset k }
-{
-    SQUARE[k]
-}
-
 // The offset of the cell forward along i or j.
 fn forward(d: Direction) -> Offset
     ensures { result ≡ forward_of d }
@@ -100,6 +91,7 @@ fn forward(d: Direction) -> Offset
 }
 
 // The offset of the cell backward along i or j.
+// Stays: two rows of a table; with a sign as a parameter each caller would still name its side, and the definitions are two as well.
 fn backward(d: Direction) -> Offset
     ensures { result ≡ backward_of d }
 {
@@ -232,12 +224,12 @@ impl<'a> Predicting<'a> {
         )
     }
 
-    // The sums with the k-th cell of the square, if it is labelled.
-    fn add_if_labelled(&self, sums: Sums, k: usize) -> Sums
-        requires { k < 8 }
-        ensures { result ≡ with_cell (seen_of (corner_in self.now.corners.now) self.now.sheet.now) self.now.grid self.now.c sums (square_cell self.now.c k) }
+    // The sums with the cell at an offset, if it is labelled.
+    fn add_if_labelled(&self, sums: Sums, o: Offset) -> Sums
+        requires { Within 128 o }
+        ensures { result ≡ with_cell (seen_of (corner_in self.now.corners.now) self.now.sheet.now) self.now.grid self.now.c sums (moved self.now.c o) }
     {
-        let at = sheet::neighbour(self.c, offset_of(k));
+        let at = sheet::neighbour(self.c, o);
         let seen = sheet::seen_at(self.corners, self.sheet, at);
         match seen {
             None => sums,
@@ -257,7 +249,9 @@ impl<'a> Predicting<'a> {
             y: 0.0,
             w: 0.0,
         };
-        (0..8usize).fold(none, |sums, k| self.add_if_labelled(sums, k))
+        SQUARE
+            .iter()
+            .fold(none, |sums, o| self.add_if_labelled(sums, *o))
     }
 }
 
@@ -266,7 +260,7 @@ fn is_labelled(sheet: &[u16], c: Cell) -> bool
     requires { place_count ≤ length sheet.now }
     ensures { (corner : ℕ → Corner) → result ≡ is_seen (seen_of corner sheet.now c) }
 {
-    matches!(sheet::label_at(sheet, c), Some(_))
+    sheet::label_at(sheet, c).is_some()
 }
 
 // Whether a cell lies on a side of another.
@@ -282,12 +276,12 @@ fn is_on_side(side: Side, c: Cell, at: Cell) -> bool
     }
 }
 
-// Whether the k-th cell of the square is labelled and on a side.
-fn is_neighbour_on(sheet: &[u16], c: Cell, side: Side, k: usize) -> bool
-    requires { SheetSquare sheet.now c k }
-    ensures { (corner : ℕ → Corner) → result ≡ labelled_on (seen_of corner sheet.now) c side (square_cell c k) }
+// Whether the cell at an offset is labelled and on a side.
+fn is_neighbour_on(sheet: &[u16], c: Cell, side: Side, o: Offset) -> bool
+    requires { SheetCell sheet.now c × Within 128 o }
+    ensures { (corner : ℕ → Corner) → result ≡ labelled_on (seen_of corner sheet.now) c side (moved c o) }
 {
-    let at = sheet::neighbour(c, offset_of(k));
+    let at = sheet::neighbour(c, o);
     is_labelled(sheet, at) && is_on_side(side, c, at)
 }
 
@@ -296,7 +290,7 @@ pub fn has_neighbour(sheet: &[u16], c: Cell, side: Side) -> bool
     requires { SheetCell sheet.now c }
     ensures { (corner : ℕ → Corner) → result ≡ has_neighbour (seen_of corner sheet.now) c side }
 {
-    (0..8usize).any(|k| is_neighbour_on(sheet, c, side, k))
+    SQUARE.iter().any(|o| is_neighbour_on(sheet, c, side, *o))
 }
 
 // The prediction for a cell: none where it has no neighbour, else the weighted mean over its neighbours.

@@ -60,7 +60,7 @@ fn write_text<W: Write>(out: &mut W, text: &[u8]) -> io::Result<()>
 }
 
 // Writes a piece of an answer: its number is how many were written before it.
-// Stays: the answer, the words and the sheet are lent for the contract, which says by them which piece that is (d).
+// Stays: the answer, the words and the sheet are lent for the contract, which says by them which piece that is; a caller picks a ghost value from the call's own arguments, and they would be none (d).
 fn put_piece<W: Write>(
     out: &mut W,
     answer: Result<Recovered, FrameRefusal>,

@@ -55,7 +55,7 @@ pub struct Memory {
 }
 
 // What a code says, with what is noted beside it.
-// Stays: the kind of what was found is a number here, since one word holds it and the reach (fixed memory).
+// Stays: the kind of what was found is a number here, since one word holds it and the reach: a walk looks at many words at once (b).
 #[tactic(auto, unfolding(crate::specs::Remembered::finding_of))]
 fn finding_of(code: u16, aim: Aim) -> Finding
     ensures { result ≡ finding_of code aim }
@@ -84,7 +84,7 @@ fn known_of(word: u16, aim: Aim) -> Option<Known>
 }
 
 // The code of what was found, from 1 on.
-// Stays: the number is what the word holds in its last three bits (fixed memory).
+// Stays: the number is what a word holds in its last three bits, and one word a place is what a walk can look at many of at once (b).
 #[tactic(auto, unfolding(crate::specs::Remembered::code_of))]
 fn code_of(finding: Finding) -> u16
     ensures { result ≡ code_of finding }
@@ -98,6 +98,7 @@ fn code_of(finding: Finding) -> u16
 }
 
 // The word for what is known.
+// Stays: that the reach fits is known of this value, and a closure for `map_or` would have to ask it again, in a clause of its own (d).
 #[tactic(auto, unfolding(crate::specs::Remembered::known_word, crate::specs::Remembered::code_of))]
 fn word_of(known: Option<Known>) -> u16
     requires { Notable known }
@@ -126,10 +127,7 @@ fn aim_of(finding: Finding) -> Aim
 fn aim_in(known: Option<Known>) -> Aim
     ensures { result ≡ aim_in known }
 {
-    match known {
-        None => NO_AIM,
-        Some(known) => aim_of(known.finding),
-    }
+    known.map_or(NO_AIM, |known| aim_of(known.finding))
 }
 
 // A corner that was attached to a cell of the sheet: the cell, and where the corner is pictured.

@@ -4,50 +4,15 @@ use mathlib.Core.Bool.{Bool, true, false, cond}
 use mathlib.Core.List.{List, [], ◌++◌}
 use Prim.Native.Nat.{ℕ, suc, ◌+◌, ◌-◌, ◌≤◌, ◌<◌}
 use native.Mathlib.Omega.{arith}
-use borrow.Author.Tests.{lt-ltb, le-ltb, ltb-true, ltb-false, eq-eqb, ne_eqb}
+use borrow.Author.Tests.{lt-ltb, le-ltb, ltb-true, ltb-false}
 use lib.Dec.{ltb}
 use Rattle.std.specs.Prelude.{Option, None, Some, SomeIff}
 use lib.ListN.{length, length-append}
-use Rattle.passes.specs.declared.GrowStats.{GrowStats}
-use Rattle.passes.specs.declared.FillStats.{FillStats}
-use Rattle.passes.specs.declared.LocalStats.{LocalStats}
-use Rattle.report_line.specs.Result.{grow_line, fill_line, local_lines, pass_line, pass_line_at, sheet_line, lines_from, result_line, line_count, result_from}
-use Rattle.report_line.specs.Like.{GrowLike, FillLike, LocalLike}
-use Rattle.report_line.proofs.Like.{grow_like, fill_like, local_like}
-use Rattle.line_form.specs.Written.{Wrote}
-use Rattle.report_words.specs.Outcomes.{word_at, stats_at, stats_in}
-use Rattle.report_words.specs.Asked.{grow_at, fill_at, local_at}
+use Rattle.report_line.specs.Result.{pass_line, pass_line_at, sheet_line, lines_from, result_line, line_count, result_from}
+use Rattle.report_words.specs.Outcomes.{stats_at, stats_in}
 use Rattle.report.specs.Asked.{line_at, text_from}
 use Rattle.report.proofs.Joining.{no_lines, one_line_more}
 use Rattle.report_words.proofs.Outcomes.{stats_length, pass_line_at_lem}
-
--- ---- pass lines, by the outcome's kind
-
-module _ (words : List ℕ) (k kind : ℕ) (e : kind ≡ word_at words k 0) where
-  pub grow_kind : kind ≡ 0 → grow_line (grow_at words k) ≡ pass_line (stats_at words k)
-  unfolding pass_line stats_at
-  grow_kind h = rw (eq-eqb (word_at words k 0) 0 (sym e ∙ h))
-
-  pub fill_kind : kind ≡ 1 → fill_line (fill_at words k) ≡ pass_line (stats_at words k)
-  unfolding pass_line stats_at
-  fill_kind h = rw (ne_eqb (word_at words k 0) 0 (λ z. omega arith), eq-eqb (word_at words k 0) 1 (sym e ∙ h))
-
-  pub local_kind : (kind ≡ 0 → ⊥) → (kind ≡ 1 → ⊥) → local_lines (local_at words k) ≡ pass_line (stats_at words k)
-  unfolding pass_line stats_at
-  local_kind a b = rw (ne_eqb (word_at words k 0) 0 (λ z. a (e ∙ z)), ne_eqb (word_at words k 0) 1 (λ z. b (e ∙ z)))
-
--- ---- an outcome whose line is as long, by the kind
-
-module _ (words : List ℕ) (k kind : ℕ) (e : kind ≡ word_at words k 0) where
-  pub grow_counted : (r : GrowStats) (n : ℕ) (old new : List ℕ) → GrowLike (grow_at words k) r → kind ≡ 0 → Wrote (grow_line r) old new n → n ≡ length (pass_line (stats_at words k))
-  grow_counted r n old new l h w = w.count ∙ grow_like (grow_at words k) r l ∙ ap (λ (t : List ℕ). length t) (grow_kind words k kind e h)
-
-  pub fill_counted : (r : FillStats) (n : ℕ) (old new : List ℕ) → FillLike (fill_at words k) r → kind ≡ 1 → Wrote (fill_line r) old new n → n ≡ length (pass_line (stats_at words k))
-  fill_counted r n old new l h w = w.count ∙ fill_like (fill_at words k) r l ∙ ap (λ (t : List ℕ). length t) (fill_kind words k kind e h)
-
-  pub local_counted : (r : LocalStats) (n : ℕ) (old new : List ℕ) → LocalLike (local_at words k) r → (kind ≡ 0 → ⊥) → (kind ≡ 1 → ⊥) → Wrote (local_lines r) old new n
-      → n ≡ length (pass_line (stats_at words k))
-  local_counted r n old new l h i w = w.count ∙ local_like (local_at words k) r l ∙ ap (λ (t : List ℕ). length t) (local_kind words k kind e h i)
 
 -- ---- lines by their numbers
 

@@ -1,18 +1,18 @@
 -- Lines written one after the other, each into the unfilled rest of a buffer. Assumes nothing.
 use mathlib.Core.Path.{◌≡◌, refl, sym, ap, ◌∙◌}
+use mathlib.Core.Bool.{Bool, true, false, cond}
 use mathlib.Core.List.{List, [], ◌++◌, append_assoc, append-nil}
 use Prim.Native.Nat.{ℕ, zero, suc, ◌+◌, ◌-◌, ◌≤◌, ◌<◌}
 use native.Mathlib.Omega.{arith}
 use borrow.Rule.Slice.PartMut.{put_mid}
 use borrow.Author.Tests.{lt-ltb, le-ltb}
+use lib.Dec.{eqb}
 use lib.ListN.{length, take, drop, length-append, length-drop}
-use Rattle.passes.specs.declared.GrowStats.{GrowStats}
-use Rattle.passes.specs.declared.FillStats.{FillStats}
-use Rattle.passes.specs.declared.LocalStats.{LocalStats}
+use Rattle.passes.specs.declared.PassStats.{PassStats}
 use Rattle.line_form.specs.Written.{Wrote}
 use Rattle.line_form.proofs.Reading.{part}
-use Rattle.report_line.specs.Result.{heading, grow_line, fill_line, local_lines, pass_line, sheet_line, line_count, result_line, Piece, ending, joined, piece_of, result_piece}
-use Rattle.report_line.specs.Written.{Few, GrowAsked, FillAsked, LocalAsked, LineAsked as SheetAsked}
+use Rattle.report_line.specs.Result.{heading, pass_line, sheet_line, line_count, result_line, Piece, ending, joined, piece_of, result_piece}
+use Rattle.report_line.specs.Written.{Few, StatsAsked, LineAsked as SheetAsked}
 use Rattle.report_line.proofs.Forms.{same_room}
 use Rattle.report_line.proofs.Behind.{front_length, one_more}
 use Rattle.arguments.specs.Front.{over}
@@ -20,7 +20,7 @@ use Rattle.report_words.specs.Outcomes.{word_at, counts_at, stats_at, stats_in}
 use Rattle.report_words.specs.Asked.{grow_at, fill_at, local_at, Tame}
 use Rattle.report.specs.Asked.{PassAsked, LineAsked, AllAsked, SomeAsked, WrotePiece, line_at, text_from, piece_from}
 use Rattle.report.specs.declared.lines.PieceEnd.{PieceEnd}
-use Rattle.report.proofs.Numbered.{grow_kind, fill_kind, local_kind, pass_line_holds, sheet_line_lem, text_more, text_ends}
+use Rattle.report.proofs.Numbered.{pass_line_holds, sheet_line_lem, text_more, text_ends}
 use Rattle.report_words.proofs.Outcomes.{stats_length, residual_finite, unmatched_few}
 
 -- ---- pass lines, by the outcome's kind
@@ -29,34 +29,26 @@ few : (words : List ℕ) (k : ℕ) → Tame words k → Few (counts_at words k)
 few words k t =
     record { attached = omega (arith, t.attached); no_candidate = omega (arith, t.no_candidate); ambiguous = omega (arith, t.ambiguous); edge = omega (arith, t.edge) }
 
-module _ (words : List ℕ) (k kind : ℕ) (e : kind ≡ word_at words k 0) where
-  module _ (s : GrowStats) (q : s ≡ grow_at words k) (h : kind ≡ 0) where
-    pub grow_line_lem : grow_line s ≡ pass_line (stats_at words k)
-    grow_line_lem = ap grow_line q ∙ grow_kind words k kind e h
+pub stats_asked : (words : List ℕ) (k : ℕ) (out : List ℕ) → PassAsked words k out → StatsAsked (stats_at words k) out
+unfolding stats_at pass_line
+stats_asked words k out a = go (eqb (word_at words k 0) 0) (eqb (word_at words k 0) 1) a.room
+  where
+    t : Tame words k
+    t = a.outcome.tame
 
-    pub grow_asked : (out : List ℕ) → PassAsked words k out → GrowAsked s out
-    grow_asked out a = record { few = rw q (few words k a.outcome.tame); room = same_room _ _ out grow_line_lem a.room }
+    says : Bool → Bool → PassStats
+    says b c = cond b (PassStats.Grow (grow_at words k)) (cond c (PassStats.Fill (fill_at words k)) (PassStats.Local (local_at words k)))
 
-  module _ (s : FillStats) (q : s ≡ fill_at words k) (h : kind ≡ 1) where
-    pub fill_line_lem : fill_line s ≡ pass_line (stats_at words k)
-    fill_line_lem = ap fill_line q ∙ fill_kind words k kind e h
-
-    pub fill_asked : (out : List ℕ) → PassAsked words k out → FillAsked s out
-    fill_asked out a =
-        record { few = rw q (omega (arith, a.outcome.tame.attached)); rounds = rw q (omega (arith, a.outcome.tame.rounds)); room = same_room _ _ out fill_line_lem a.room }
-
-  module _ (s : LocalStats) (q : s ≡ local_at words k) (h : kind ≡ 0 → ⊥) (i : kind ≡ 1 → ⊥) where
-    pub local_line_lem : local_lines s ≡ pass_line (stats_at words k)
-    local_line_lem = ap local_lines q ∙ local_kind words k kind e h i
-
-    pub local_asked : (out : List ℕ) → PassAsked words k out → LocalAsked s out
-    local_asked out a =
+    go : (b c : Bool) → length (pass_line (says b c)) ≤ length out → StatsAsked (says b c) out
+    go true c r = record { few = few words k t; room = r }
+    go false true r = record { few = omega (arith, t.attached); rounds = omega (arith, t.rounds); room = r }
+    go false false r =
         record {
-          few = rw q (few words k a.outcome.tame);
-          rounds = rw q (omega (arith, a.outcome.tame.rounds));
-          finite = λ x d. residual_finite words k a.outcome.tame x (ap (λ (t : LocalStats). t.residual) (sym q) ∙ d);
-          unmatched = λ n d. omega (arith, unmatched_few words k a.outcome.tame n (ap (λ (t : LocalStats). t.unmatched) (sym q) ∙ d));
-          room = same_room _ _ out local_line_lem a.room;
+          few = few words k t;
+          rounds = omega (arith, t.rounds);
+          finite = λ x d. residual_finite words k t x d;
+          unmatched = λ n d. omega (arith, unmatched_few words k t n d);
+          room = r;
         }
 
 -- ---- the whole text

@@ -2,13 +2,14 @@
 
 #![tactic(auto)]
 
+mod checks; // checks.rt: refusals 7, 2, 3, 5 and 6
 mod lines; // lines.rt: the lines by their numbers
-mod tests; // tests.rt: refusals 7, 2, 3, 5 and 6
 
 ghost use Rattle.std.specs.Prelude.{◌≡◌};
 ghost use Rattle.report.specs.WriteResult.{text_lent, text_out, writes_text, piece_out, writes_piece};
 ghost use Rattle.report.specs.Said.{text_said, text_due, piece_said, piece_due};
 
+use checks::Lent;
 pub use lines::PieceEnd;
 use lines::Source;
 use refusal::Refusal;
@@ -26,7 +27,13 @@ pub fn write_result(
     ensures out_after { text_out result out.new ≡ writes_text (text_lent corners passes words.now sheet.now) out.old }
     ensures said { text_said result ≡ text_due (text_lent corners passes words.now sheet.now) out.old }
 {
-    tests::check_text(corners, passes, words, sheet, out.len())?;
+    let lent = Lent {
+        corners,
+        passes,
+        words,
+        sheet,
+    };
+    lent.check_text(out.len())?;
     let source = Source {
         passes,
         words,
@@ -48,7 +55,13 @@ pub fn write_result_piece(
     ensures out_after { piece_out result out.new ≡ writes_piece (text_lent corners passes words.now sheet.now) from out.old }
     ensures said { piece_said result ≡ piece_due (text_lent corners passes words.now sheet.now) from out.old }
 {
-    tests::check_piece(corners, passes, words, sheet, from, out.len())?;
+    let lent = Lent {
+        corners,
+        passes,
+        words,
+        sheet,
+    };
+    lent.check_piece(from, out.len())?;
     let source = Source {
         passes,
         words,

@@ -7,7 +7,7 @@ ghost use Rattle.report_words.specs.Outcomes.{stats_at};
 ghost use Rattle.report.specs.Asked.{AllLent, PassAsked, LineAsked, AllAsked, SomeAsked};
 ghost use Rattle.report.specs.Asked.{WrotePiece, BlankLines, Skipped, line_at, text_from, piece_from};
 
-use pass_line::{write_fill, write_grow, write_local};
+use pass_line::write_stats;
 use report_line::line::{write_heading, write_sheet_line};
 use report_line::line_sizes::{LINE_ROOM, LINES, SHEET_LINES};
 use report_words::read::Outcome;
@@ -17,12 +17,7 @@ use sizes::PLACES;
 fn pass_length(outcome: &Outcome) -> usize
     ensures { result ≡ length (pass_line (stats_at outcome.now.words.now outcome.now.k)) }
 {
-    let mut line = [0u8; LINE_ROOM];
-    match outcome.word_at(0) {
-        0 => write_grow(outcome.grow_like(), &mut line),
-        1 => write_fill(outcome.fill_like(), &mut line),
-        _ => write_local(outcome.local_like(), &mut line),
-    }
+    write_stats(outcome.stats_like(), &mut [0; LINE_ROOM])
 }
 
 // Writes the pass line of an outcome to the front of a part.
@@ -30,11 +25,7 @@ fn write_pass(outcome: &Outcome, out: &mut [u8]) -> usize
     requires { PassAsked outcome.now.words.now outcome.now.k out.old }
     ensures { Wrote (pass_line (stats_at outcome.now.words.now outcome.now.k)) out.old out.new result }
 {
-    match outcome.word_at(0) {
-        0 => write_grow(outcome.grow_at(), out),
-        1 => write_fill(outcome.fill_at(), out),
-        _ => write_local(outcome.local_at(), out),
-    }
+    write_stats(outcome.stats_at(), out)
 }
 
 // How far a piece goes: how many bytes were written, and which line comes next.

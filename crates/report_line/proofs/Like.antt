@@ -16,9 +16,10 @@ use Rattle.passes.specs.declared.Counts.{Counts}
 use Rattle.passes.specs.declared.GrowStats.{GrowStats}
 use Rattle.passes.specs.declared.FillStats.{FillStats}
 use Rattle.passes.specs.declared.LocalStats.{LocalStats}
-use Rattle.report_line.specs.Result.{count, grow_form, fill_form, local_form, bare_local_form, four_counts, grow_line, fill_line, local_line_with, local_line, unmatched_line, local_lines}
-use Rattle.report_line.specs.Written.{largest_held, Few, GrowAsked, FillAsked, LocalAsked}
-use Rattle.report_line.specs.Like.{Like, CountsLike, ResidualLike, UnmatchedLike, GrowLike, FillLike, LocalLike}
+use Rattle.passes.specs.declared.PassStats.{PassStats}
+use Rattle.report_line.specs.Result.{count, grow_form, fill_form, local_form, bare_local_form, four_counts, grow_line, fill_line, local_line_with, local_line, unmatched_line, local_lines, pass_line}
+use Rattle.report_line.specs.Written.{largest_held, Few, GrowAsked, FillAsked, LocalAsked, StatsAsked}
+use Rattle.report_line.specs.Like.{Like, CountsLike, ResidualLike, UnmatchedLike, GrowLike, FillLike, LocalLike, StatsLike}
 use Rattle.report_line.proofs.Short.{grow_short, fill_short, local_short}
 
 -- ---- a number of 32 bits
@@ -149,3 +150,28 @@ module _ (s r : LocalStats) (l : LocalLike s r) where
       go None (Some y) h x e = absurd h
       go (Some a) None h x e = absurd h
       go (Some a) (Some y) h x e = let same : y ≡ x = cc in rw (← same) h
+
+-- ---- the lines of what passes answer
+
+pub stats_like : (s r : PassStats) → StatsLike s r → length (pass_line r) ≡ length (pass_line s)
+unfolding pass_line
+stats_like (PassStats.Grow s) (PassStats.Grow r) l = grow_like s r l
+stats_like (PassStats.Grow s) (PassStats.Fill r) l = absurd l
+stats_like (PassStats.Grow s) (PassStats.Local r) l = absurd l
+stats_like (PassStats.Fill s) (PassStats.Grow r) l = absurd l
+stats_like (PassStats.Fill s) (PassStats.Fill r) l = fill_like s r l
+stats_like (PassStats.Fill s) (PassStats.Local r) l = absurd l
+stats_like (PassStats.Local s) (PassStats.Grow r) l = absurd l
+stats_like (PassStats.Local s) (PassStats.Fill r) l = absurd l
+stats_like (PassStats.Local s) (PassStats.Local r) l = local_like s r l
+
+pub stats_like_asked : (s r : PassStats) → StatsLike s r → (out : List ℕ) → 128 ≤ length out → StatsAsked r out
+stats_like_asked (PassStats.Grow s) (PassStats.Grow r) l out h = grow_like_asked s r l out h
+stats_like_asked (PassStats.Grow s) (PassStats.Fill r) l out h = absurd l
+stats_like_asked (PassStats.Grow s) (PassStats.Local r) l out h = absurd l
+stats_like_asked (PassStats.Fill s) (PassStats.Grow r) l out h = absurd l
+stats_like_asked (PassStats.Fill s) (PassStats.Fill r) l out h = fill_like_asked s r l out h
+stats_like_asked (PassStats.Fill s) (PassStats.Local r) l out h = absurd l
+stats_like_asked (PassStats.Local s) (PassStats.Grow r) l out h = absurd l
+stats_like_asked (PassStats.Local s) (PassStats.Fill r) l out h = absurd l
+stats_like_asked (PassStats.Local s) (PassStats.Local r) l out h = local_like_asked s r l out h

@@ -6,6 +6,7 @@ use Rattle.passes.specs.declared.Counts.{Counts}
 use Rattle.passes.specs.declared.GrowStats.{GrowStats}
 use Rattle.passes.specs.declared.FillStats.{FillStats}
 use Rattle.passes.specs.declared.LocalStats.{LocalStats}
+use Rattle.passes.specs.declared.PassStats.{PassStats}
 use Rattle.report_line.specs.Written.{largest_held}
 
 -- a number that a line can hold, of as many digits as n
@@ -48,3 +49,15 @@ pub record LocalLike (s r : LocalStats) : Type 0 where
   pub residual : ResidualLike s.residual r.residual
   pub rim : r.rim ≡ s.rim
   pub unmatched : UnmatchedLike s.unmatched r.unmatched
+
+-- what a pass answers, of the same pass
+abbrev pub StatsLike : PassStats → PassStats → Type 0
+StatsLike (PassStats.Grow s) (PassStats.Grow r) = GrowLike s r
+StatsLike (PassStats.Grow s) (PassStats.Fill r) = ⊥
+StatsLike (PassStats.Grow s) (PassStats.Local r) = ⊥
+StatsLike (PassStats.Fill s) (PassStats.Grow r) = ⊥
+StatsLike (PassStats.Fill s) (PassStats.Fill r) = FillLike s r
+StatsLike (PassStats.Fill s) (PassStats.Local r) = ⊥
+StatsLike (PassStats.Local s) (PassStats.Grow r) = ⊥
+StatsLike (PassStats.Local s) (PassStats.Fill r) = ⊥
+StatsLike (PassStats.Local s) (PassStats.Local r) = LocalLike s r

@@ -1,6 +1,6 @@
 -- What the line writers ask: numbers that a line of a result can have, and room for the line. What they leave is line_form's `Wrote`: the line at the
 -- front of the part, and the rest untouched. Definitions only.
-use Rattle.std.specs.Prelude.{◌≡◌, Bool, true, cond, List, [], ◌∷◌, ℕ, ◌≤◌, ◌<◌, length, Float, Option, None, Some}
+use Rattle.std.specs.Prelude.{◌≡◌, Bool, true, cond, List, [], ◌∷◌, ℕ, ◌≤◌, ◌<◌, pos, length, get_or, Float, Option, None, Some}
 use Rattle.binary32.specs.Ranges.{is_finite}
 use Rattle.sheet.specs.Cells.{OnSheet, cell_of}
 use Rattle.sheet.specs.declared.Cell.{Cell}
@@ -10,6 +10,7 @@ use Rattle.passes.specs.declared.Counts.{Counts}
 use Rattle.passes.specs.declared.GrowStats.{GrowStats}
 use Rattle.passes.specs.declared.FillStats.{FillStats}
 use Rattle.passes.specs.declared.LocalStats.{LocalStats}
+use Rattle.passes.specs.declared.PassStats.{PassStats}
 use Rattle.sizes.specs.Sizes.{place_count}
 use Rattle.report_line.specs.Sizes.{sheet_lines}
 use Rattle.report_line.specs.Result.{grow_line, fill_line, local_line_with, local_line, unmatched_line, local_lines, cell_numbers, label_line}
@@ -24,6 +25,13 @@ pub record Few (c : Counts) : Type 0 where
   pub no_candidate : c.rejected_no_candidate ≤ largest_held
   pub ambiguous : c.rejected_ambiguous ≤ largest_held
   pub edge : c.rejected_edge ≤ largest_held
+
+-- four words that hold counts
+pub record CountsHeld (c : Counts) (words : List ℕ) : Type 0 where
+  pub attached : unheld_whole (get_or words 0 0) ≡ pos c.attached
+  pub no_candidate : unheld_whole (get_or words 1 0) ≡ pos c.rejected_no_candidate
+  pub ambiguous : unheld_whole (get_or words 2 0) ≡ pos c.rejected_ambiguous
+  pub edge : unheld_whole (get_or words 3 0) ≡ pos c.rejected_edge
 
 -- ---- pass lines
 
@@ -71,6 +79,12 @@ pub record LocalAsked (s : LocalStats) (out : List ℕ) : Type 0 where
   pub finite : (x : Float) → s.residual ≡ Some x → is_finite x ≡ true
   pub unmatched : (n : ℕ) → s.unmatched ≡ Some n → n ≤ largest_held
   pub room : length (local_lines s) ≤ length out
+
+-- the line of what a pass answers
+abbrev pub StatsAsked : PassStats → List ℕ → Type 0
+StatsAsked (PassStats.Grow s) out = GrowAsked s out
+StatsAsked (PassStats.Fill s) out = FillAsked s out
+StatsAsked (PassStats.Local s) out = LocalAsked s out
 
 -- ---- the sheet's lines
 

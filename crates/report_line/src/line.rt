@@ -8,17 +8,21 @@ ghost use Rattle.report_line.specs.Result.{heading, cell_line, sheet_line};
 ghost use Rattle.report_line.specs.Written.{largest_held, CornerAsked, cell_text, PlaceAsked, mark_line, MarkAsked, LineAsked};
 
 use super::line_sizes::FIRST_AMBIGUOUS;
+use line_form::OFFSET;
 use line_form::write::write_form;
 use refusal::Refusal;
 use sheet::Cell;
 use sizes::PLACES;
+
+// OFFSET as i and j are added to it.
+const OFFSET_SIGNED: i32 = OFFSET as i32;
 
 // A count as a form takes it: 1,000,000 more, so that 32 bits hold it.
 pub fn held(n: usize) -> u32
     requires { n ≤ largest_held }
     ensures { unheld_whole result ≡ pos n }
 {
-    1000000 + n as u32
+    OFFSET + n as u32
 }
 
 // A cell's i or j as a form takes it.
@@ -26,7 +30,7 @@ fn held_number(z: i32) -> u32
     requires { nat_abs z ≤ 64 }
     ensures { unheld_whole result ≡ z }
 {
-    (z + 1000000) as u32
+    (z + OFFSET_SIGNED) as u32
 }
 
 // A refusal's line: its number and the refused line.

@@ -1,11 +1,11 @@
 // An outcome whose line is as long, whatever its words are: a number that no line can hold becomes the largest that one can, which has as many digits,
 // and a residual becomes 0.
-ghost use Rattle.report_line.specs.Like.{Like, CountsLike, ResidualLike, UnmatchedLike, GrowLike, FillLike, LocalLike};
-ghost use Rattle.report_words.specs.Outcomes.{residual_at};
+ghost use Rattle.report_line.specs.Like.{Like, CountsLike, ResidualLike, UnmatchedLike, GrowLike, FillLike, LocalLike, StatsLike};
+ghost use Rattle.report_words.specs.Outcomes.{residual_at, stats_at};
 ghost use Rattle.report_words.specs.Asked.{FitsWord, CountsFit, UnmatchedFits, grow_at, fill_at, local_at};
 
 use super::read::Outcome;
-use passes::{Counts, FillStats, GrowStats, LocalStats};
+use passes::{Counts, FillStats, GrowStats, LocalStats, PassStats};
 
 // A number that a line can hold, of as many digits.
 fn like(n: usize) -> usize
@@ -33,10 +33,7 @@ fn unmatched_like(unmatched: Option<usize>) -> Option<usize>
     requires { UnmatchedFits unmatched }
     ensures { UnmatchedLike unmatched result }
 {
-    match unmatched {
-        None => None,
-        Some(n) => Some(like(n)),
-    }
+    unmatched.map(like)
 }
 
 impl Outcome<'_> {
@@ -85,6 +82,18 @@ impl Outcome<'_> {
             residual,
             rim,
             unmatched,
+        }
+    }
+
+    // What an outcome says, by its kind.
+    #[tactic(auto, unfolding(crate::specs::Outcomes::stats_at))]
+    pub fn stats_like(&self) -> PassStats
+        ensures { StatsLike (stats_at self.now.words.now self.now.k) result }
+    {
+        match self.word_at(0) {
+            0 => PassStats::Grow(self.grow_like()),
+            1 => PassStats::Fill(self.fill_like()),
+            _ => PassStats::Local(self.local_like()),
         }
     }
 }

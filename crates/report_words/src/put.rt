@@ -30,10 +30,7 @@ fn float_bits(x: f32) -> u32
 fn residual_bits(x: Option<f32>) -> u32
     ensures { result ≡ bits_of x }
 {
-    match x {
-        None => 0,
-        Some(r) => float_bits(r),
-    }
+    x.map_or(0, float_bits)
 }
 
 // How many corners were passed over, and 0 where no shade stands.

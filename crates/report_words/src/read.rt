@@ -1,10 +1,10 @@
 // Outcomes read from their words.
 ghost use Rattle.std.specs.Prelude.{◌≡◌, ◌<◌};
 ghost use Rattle.sizes.specs.Sizes.{outcome_size};
-ghost use Rattle.report_words.specs.Outcomes.{word_at, counts_at, yes_at, residual_at, unmatched_at};
+ghost use Rattle.report_words.specs.Outcomes.{word_at, counts_at, yes_at, residual_at, unmatched_at, stats_at};
 ghost use Rattle.report_words.specs.Asked.{HasOutcome, Tame, FitsWord, CountsFit, UnmatchedFits, grow_at, fill_at, local_at};
 
-use passes::{Counts, FillStats, GrowStats, LocalStats};
+use passes::{Counts, FillStats, GrowStats, LocalStats, PassStats};
 use sizes::OUTCOME_WORDS;
 
 // Outcome k among the words of outcomes, whose eleven are there.
@@ -117,6 +117,19 @@ impl Outcome<'_> {
             residual,
             rim,
             unmatched,
+        }
+    }
+
+    // What an outcome that passes the check says, by its kind.
+    #[tactic(auto, unfolding(crate::specs::Outcomes::stats_at))]
+    pub fn stats_at(&self) -> PassStats
+        requires { Tame self.now.words.now self.now.k }
+        ensures { result ≡ stats_at self.now.words.now self.now.k }
+    {
+        match self.word_at(0) {
+            0 => PassStats::Grow(self.grow_at()),
+            1 => PassStats::Fill(self.fill_at()),
+            _ => PassStats::Local(self.local_at()),
         }
     }
 }

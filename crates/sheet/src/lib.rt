@@ -252,6 +252,7 @@ pub struct Corner {
 }
 
 // The corner of a number. The corners are held in one array: all xs, then all ys, then all pitches, then all kinds, each with room for 1,024.
+// Stays: one array is one list in every contract, and its xs stand in a row for the scan (docs/DECISIONS.md, "Corners held in one array", "Kinds in the array of corners").
 #[tactic(auto, unfolding(crate::specs::Corners::corner_in))]
 pub fn corner_at(corners: &[f32; 4 * CORNERS], k: usize) -> Corner
     requires { k < corner_limit }
@@ -274,7 +275,7 @@ pub fn is_shaded(corners: &[f32; 4 * CORNERS]) -> bool
 }
 
 // The kind that a cell takes: the parity of i + j, by the remainder that has no sign.
-// Stays: 01 has the kinds as 0 and 1; an enum would be made from this number here, and back to one where a corner's kind is read.
+// Stays: 02 has the kinds as the numbers 0 and 1 (1/14), and the definition `kind_at : Cell → ℕ` answers them; an enum's model is no number.
 #[tactic(auto, using(crate::proofs::Laws::line_i, crate::proofs::Laws::line_j), unfolding(crate::specs::Shades::kind_at))]
 pub fn kind_at(c: Cell) -> usize
     requires { OnSheet c }

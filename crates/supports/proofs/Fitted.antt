@@ -7,6 +7,7 @@ use native.Mathlib.Omega.{arith}
 use lib.Dec.{T, le→leb, lt→ltb}
 use lib.IntN.{ℤ, pos, negsuc, nat_abs}
 use Rattle.std.specs.Prelude.{Option, None, Some, length}
+use Rattle.std.specs.Bool.{then_some}
 use lib.Ieee.{Float, binary32, of_bits, div, in_float, of_int}
 use mir.Syntax.{w32}
 use mir.Val.{to_z, of_z}
@@ -70,6 +71,13 @@ module _ (cells corners : List Position) {fit : Answer} (e : fit ≡ homography_
     pub points_fitted : t ≡ true → Some (record { h = h; residuals = rs }) ≡ support_fit_of (points_fit cells corners)
     unfolding points_fit trusted_points support_fit_of
     points_fitted f = rw (answer, ← are, ← said, f)
+
+    pub points_told : then_some t (record { h = h; residuals = rs }) ≡ support_fit_of (points_fit cells corners)
+    points_told = go t refl
+      where
+        go : (u : Bool) → t ≡ u → then_some u (record { h = h; residuals = rs }) ≡ support_fit_of (points_fit cells corners)
+        go true f = points_fitted f
+        go false f = points_wild f
 
 -- on the places of the supports
 module _ (seen : Cell → Option Corner) where

@@ -25,6 +25,7 @@ pub struct Support {
 }
 
 // What stands for a support that is not found yet: farther than any cell of the sheet from any other.
+// Stays: it is compared as any other, so that the four are kept in order by their reaches alone; an Option would be asked at each place of each walk.
 const NOT_FOUND: Support = Support {
     place: 0,
     reach: 1000,
@@ -200,10 +201,7 @@ fn pictured(corners: &[f32; 4 * CORNERS], sheet: &[u16], place: usize) -> Positi
 fn residual_of(h: [f32; 9], cell: Position, corner: Position) -> f32
     ensures { result ≡ residual_of h cell corner }
 {
-    let at = homography::apply(h, cell);
-    let dx = at.x - corner.x;
-    let dy = at.y - corner.y;
-    binary32::root::sqrt_or_nan(dx * dx + dy * dy)
+    homography::apply(h, cell).distance(corner)
 }
 
 // Whether all residuals are finite.
@@ -217,21 +215,13 @@ fn all_finite(residuals: &[f32]) -> bool
 fn fit_points(cells: [Position; 4], corners: [Position; 4]) -> Option<SupportFit>
     ensures { result ≡ support_fit_of (points_fit cells corners) }
 {
-    let Some(h) = homography::homography_from_4pt(cells, corners) else {
-        return None;
-    };
-    // Stays: four calls, not one `from_fn`, whose closure would need clauses on both arrays and be longer.
-    let residuals = [
-        residual_of(h, cells[0], corners[0]),
-        residual_of(h, cells[1], corners[1]),
-        residual_of(h, cells[2], corners[2]),
-        residual_of(h, cells[3], corners[3]),
-    ];
-    if all_finite(&residuals) {
-        Some(SupportFit { h, residuals })
-    } else {
-        None
-    }
+    let h = homography::homography_from_4pt(cells, corners)?;
+    let residuals = std::array::from_fn(
+        |i|
+            requires { i < 4 }
+        { residual_of(h, cells[i], corners[i]) },
+    );
+    all_finite(&residuals).then_some(SupportFit { h, residuals })
 }
 
 // The fit on the supports: what takes their cells to the pictured corners, with the residual of each. There is none where the points have no

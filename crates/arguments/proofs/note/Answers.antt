@@ -2,11 +2,8 @@
 use Rattle.arguments.proofs.Tests.{note_none, note_corner}
 use Rattle.arguments.proofs.note.Goals as goal
 
-pub returns-in_default : goal.returns-in_default
-returns-in_default c = note_none _ _ c.in_default.is
+pub returns-in-None : goal.returns-in-None
+returns-in-None c = note_none _ _ c.in-None.is
 
-pub bounds-seen-k : goal.bounds-seen-k
-bounds-seen-k c = c.requires.entry _ c.in-Some.is
-
-pub returns : goal.returns
-returns c = rw (c.replace.ensures.after, c.replace.ensures.value) (note_corner _ _ _ c.in-Some.is (c.requires.entry _ c.in-Some.is))
+pub returns-in-Some : goal.returns-in-Some
+returns-in-Some c = rw (c.replace.ensures.after, c.replace.ensures.value) (note_corner _ _ _ c.in-Some.is (c.requires.entry _ c.in-Some.is))

@@ -14,7 +14,7 @@ pub returns : goal.returns
 returns c =
     let s = c.args.second.now in
     let sheet = c.args.first.now.sheet.now in
-    all_from_yields_List (λ (i : ℕ). agrees_on sheet (shifted_by c.args.d (held_at s.array.now i))) _ _ _ c.all.ensures.ran
+    all_from_yields_List (λ (i : ℕ). agrees_on sheet (shifted_by c.args.d.offset (held_at s.array.now i))) _ _ _ c.all.ensures.ran
     (YieldsList-from_range 0 s.count s.count (cc) (omega arith))
     (λ x b q k. search (rules, tests))
-    ∙ every_walked s.array.now c.args.d (agrees_on sheet) s.count
+    ∙ every_walked s.array.now c.args.d.offset (agrees_on sheet) s.count

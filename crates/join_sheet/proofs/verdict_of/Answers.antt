@@ -7,8 +7,8 @@ use Rattle.join_sheet.specs.Held.{cell_on, held_labels}
 use Rattle.join_sheet.proofs.Walk.{asked_within}
 use Rattle.join_sheet.proofs.verdict_of.Goals as goal
 
-pub test_shift-requires : goal.test_shift-requires
-test_shift-requires c =
+pub invariant_of-test_shift : goal.invariant_of-test_shift
+invariant_of-test_shift c =
     let s = c.args.second.now in
-    let e : asked (cell_on c.args.first.now.sheet.now) (held_labels s.array.now s.count) ≡ Some c.in_ok-d.d = search rules in
-    asked_within _ _ _ s.held _ e
+    let e : asked (cell_on c.args.first.now.sheet.now) (held_labels s.array.now s.count) ≡ Some c.in_ok-offset.offset = search rules in
+    record { near = asked_within _ _ _ s.held _ e }

@@ -9,8 +9,8 @@ pub loop-i-preserved : goal.loop-i-preserved
 loop-i-preserved c =
     let l = c.loop-i in
     rest_more _ _ _ l.invariant (omega arith)
-    (write_more c.args.used.now _ _ c.args.d (held_at c.args.second.now.array.now l.i)
+    (write_more c.args.used.now _ _ c.args.d.offset (held_at c.args.second.now.array.now l.i)
     (c.put_new.ensures ∙ rw (c.moved_cell.ensures, c.corner.ensures.value)))
 
 pub returns : goal.returns
-returns c = sym (write_end c.args.used.now _ c.args.d) ∙ rest_end _ _ c.loop-i.invariant (omega arith)
+returns c = sym (write_end c.args.used.now _ c.args.d.offset) ∙ rest_end _ _ c.loop-i.invariant (omega arith)

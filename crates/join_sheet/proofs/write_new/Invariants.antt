@@ -6,5 +6,5 @@ use Rattle.join_sheet.proofs.write_new.Given as goal
 
 abbrev pub invariant-loop-i : goal.invariant-loop-i
 invariant-loop-i l =
-    Rest l.second.array.now l.second.count l.i (λ k. labelled l.sheet (new_held l.used k l.d))
-    (labelled l.initial.sheet (new_held l.used (held_labels l.second.array.now l.second.count) l.d))
+    Rest l.second.array.now l.second.count l.i (λ k. labelled l.sheet (new_held l.used k l.d.offset))
+    (labelled l.initial.sheet (new_held l.used (held_labels l.second.array.now l.second.count) l.d.offset))

@@ -3,17 +3,17 @@
 use Prim.Native.Nat.{◌-◌, ◌<◌}
 use mathlib.Core.Path.{◌≡◌}
 use mathlib.Core.Bool.{true}
-use Rattle.sheet.specs.Corners.{corners_in}
-use Rattle.local_cell.specs.Extending.{Recalls}
+use Rattle.local_cell.specs.Work.{held, SamePass, RecallsIn}
 use Rattle.local.specs.Rounds.{region_in, tried_at}
 use Rattle.local.proofs.Walk.{Walking}
 use Rattle.local.proofs.local_round.Given as goal
 
 abbrev pub invariant-loop-place : goal.invariant-loop-place
 invariant-loop-place l =
-    Walking l.setup.settings l.setup.params (corners_in l.corners l.setup.count) l.initial.sheet l.initial.attached l.initial.work l.sheet l.attached l.work l.place
-    × Recalls l.setup.settings l.setup.params (corners_in l.corners l.setup.count) l.sheet l.work
-    × (l.place < 16384 → tried_at l.round.depth (region_in l.round) l.sheet l.place ≡ true)
+    Walking l.fn.work.setup.settings l.fn.work.setup.params (held l.fn.work) l.fn.work l.work l.place
+    × RecallsIn l.work
+    × (l.place < 16384 → tried_at l.round.depth (region_in l.round) l.work.sheet.now l.place ≡ true)
+    × SamePass l.fn.work l.work
 
 abbrev pub decreases-loop-place : goal.decreases-loop-place
 decreases-loop-place l = 16384 - l.place

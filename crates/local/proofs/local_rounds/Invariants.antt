@@ -1,10 +1,10 @@
 -- `local::local_rounds` meets its contract: after each round the rounds that are left lead to the same end, and what is remembered holds. Assumes nothing.
-use Rattle.sheet.specs.Corners.{corners_in}
-use Rattle.local_cell.specs.Extending.{Recalls}
+use Rattle.local_cell.specs.Work.{held, SamePass, RecallsIn}
 use Rattle.local.proofs.Rounds.{Rounding}
 use Rattle.local.proofs.local_rounds.Given as goal
 
 abbrev pub invariant-loop-rounds : goal.invariant-loop-rounds
 invariant-loop-rounds l =
-    Rounding l.setup.settings l.setup.params l.limit (corners_in l.corners l.setup.count) l.initial.sheet l.initial.attached l.initial.work.progress l.sheet l.attached l.work l.rounds
-    × Recalls l.setup.settings l.setup.params (corners_in l.corners l.setup.count) l.sheet l.work
+    Rounding l.fn.work.setup.settings l.fn.work.setup.params l.limit (held l.fn.work) l.fn.work l.work l.rounds
+    × RecallsIn l.work
+    × SamePass l.fn.work l.work

@@ -3,13 +3,13 @@ use Rattle.report_line.proofs.Forms.{grow_yes, grow_no, same_room, same_wrote}
 use Rattle.pass_line.proofs.write_grow.Goals as goal
 
 pub write_form-requires : goal.write_form-requires
-write_form-requires c = same_room _ _ c.args.out.now (grow_yes c.args.s _ _ _ _ c.held.ensures c.held-2.ensures c.held-3.ensures c.held-4.ensures c.if-s.true) c.requires.room
+write_form-requires c = same_room _ _ c.args.out.now (grow_yes c.args.s _ _ _ _ c.held_counts.ensures.attached c.held_counts.ensures.no_candidate c.held_counts.ensures.ambiguous c.held_counts.ensures.edge c.if-s.true) c.requires.room
 
 pub returns-then-s : goal.returns-then-s
-returns-then-s c = same_wrote _ _ _ _ _ (grow_yes c.args.s _ _ _ _ c.held.ensures c.held-2.ensures c.held-3.ensures c.held-4.ensures c.if-s.true) c.write_form.ensures
+returns-then-s c = same_wrote _ _ _ _ _ (grow_yes c.args.s _ _ _ _ c.held_counts.ensures.attached c.held_counts.ensures.no_candidate c.held_counts.ensures.ambiguous c.held_counts.ensures.edge c.if-s.true) c.write_form.ensures
 
 pub write_form-requires-2 : goal.write_form-requires-2
-write_form-requires-2 c = same_room _ _ c.args.out.now (grow_no c.args.s _ _ _ _ c.held.ensures c.held-2.ensures c.held-3.ensures c.held-4.ensures c.if-s.false) c.requires.room
+write_form-requires-2 c = same_room _ _ c.args.out.now (grow_no c.args.s _ _ _ _ c.held_counts.ensures.attached c.held_counts.ensures.no_candidate c.held_counts.ensures.ambiguous c.held_counts.ensures.edge c.if-s.false) c.requires.room
 
 pub returns : goal.returns
-returns c = same_wrote _ _ _ _ _ (grow_no c.args.s _ _ _ _ c.held.ensures c.held-2.ensures c.held-3.ensures c.held-4.ensures c.if-s.false) c.write_form-2.ensures
+returns c = same_wrote _ _ _ _ _ (grow_no c.args.s _ _ _ _ c.held_counts.ensures.attached c.held_counts.ensures.no_candidate c.held_counts.ensures.ambiguous c.held_counts.ensures.edge c.if-s.false) c.write_form-2.ensures

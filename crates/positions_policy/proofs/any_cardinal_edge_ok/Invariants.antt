@@ -5,6 +5,6 @@ use Rattle.positions_policy.specs.Edge.{edge_at}
 use Rattle.positions_policy.proofs.Search.{Open}
 use Rattle.positions_policy.proofs.any_cardinal_edge_ok.Given as goal
 
-abbrev pub invariant-loop-k : goal.invariant-loop-k
-invariant-loop-k l =
-    Open (edge_at (seen_of (corner_in l.corners) l.sheet) l.tol l.c l.candidate) l.verdict l.k
+abbrev pub invariant-loop-o : goal.invariant-loop-o
+invariant-loop-o l =
+    Open (edge_at (seen_of (corner_in l.corners) l.sheet) l.tol l.c l.candidate) l.verdict l.o-index

@@ -1,26 +1,21 @@
 -- `positions_policy::cardinal_edge` meets its contract, by what is seen at the neighbour's cell. Assumes nothing.
-use mathlib.Core.Path.{◌≡◌}
+use mathlib.Core.Path.{◌≡◌, refl}
 use Rattle.sheet.specs.Cells.{moved}
 use Rattle.sheet.specs.Corners.{corner_in, seen_of}
-use Rattle.positions_policy.specs.Edge.{cardinal_at}
-use Rattle.positions_policy.proofs.Search.{cardinal_within, seen_beside, edge_none, edge_accepted, edge_refused}
+use Rattle.positions_policy.proofs.Search.{seen_beside, edge_none, edge_accepted, edge_refused}
 use Rattle.positions_policy.proofs.cardinal_edge.Goals as goal
 use Rattle.positions_policy.proofs.cardinal_edge.Goals.{After-seen_at-seen}
 
-pub neighbour-beside-requires : goal.neighbour-beside-requires
-neighbour-beside-requires c =
-    (c.requires.1.0, rw c.cardinal_offset.ensures (cardinal_within c.args.k c.requires.1.1))
-
--- what is seen is what is seen at the k-th cardinal neighbour
+-- what is seen is what is seen at the neighbour's cell
 at : (c : After-seen_at-seen)
     → let a = c.args in
-    c.seen_at-seen.result ≡ seen_of (corner_in a.corners.now) a.sheet.now (moved a.c (cardinal_at a.k))
+    c.seen_at-seen.result ≡ seen_of (corner_in a.corners.now) a.sheet.now (moved a.c a.o)
 at c =
     let a = c.args in
     seen_beside (seen_of (corner_in a.corners.now) a.sheet.now) a.c
     c.seen_at-seen.ensures
     c.neighbour-beside.ensures
-    c.cardinal_offset.ensures
+    refl
 
 pub returns-in-None : goal.returns-in-None
 returns-in-None c =

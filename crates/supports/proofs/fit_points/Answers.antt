@@ -1,12 +1,22 @@
 -- `supports::fit_points` meets its contract: by the fit and its four residuals. Assumes nothing.
-use Rattle.supports.proofs.Fitted.{points_none, points_wild, points_fitted}
+use mathlib.Core.Path.{refl, ◌∙◌}
+use Prim.Native.Nat.{ℕ}
+use lib.Ieee.{nan}
+use Rattle.std.proofs.Common.{rules}
+use Rattle.elimination.specs.Tables.{table}
+use Rattle.elimination.proofs.Made.{counted}
+use Rattle.homography.specs.Normalize.{point}
+use Rattle.passes.specs.Local.{residual_of}
+use Rattle.supports.proofs.Fitted.{points_none, points_told}
 use Rattle.supports.proofs.fit_points.Goals as goal
 
-pub returns-in_default : goal.returns-in_default
-returns-in_default c = points_none _ _ c.homography_from_4pt.ensures c.in_default.is
+pub returns-in_err-h : goal.returns-in_err-h
+returns-in_err-h c = c.from_residual.ensures ∙ points_none _ _ c.in_err-h.ensures refl
 
-pub returns-then-all_finite : goal.returns-then-all_finite
-returns-then-all_finite c = points_fitted _ _ c.homography_from_4pt.ensures c.in-Some.is (rw (c.residual_of.ensures, c.residual_of-2.ensures, c.residual_of-3.ensures, c.residual_of-4.ensures)) c.all_finite.ensures c.if-all_finite.true
-
-pub returns-else-all_finite : goal.returns-else-all_finite
-returns-else-all_finite c = points_wild _ _ c.homography_from_4pt.ensures c.in-Some.is (rw (c.residual_of.ensures, c.residual_of-2.ensures, c.residual_of-3.ensures, c.residual_of-4.ensures)) c.all_finite.ensures c.if-all_finite.false
+pub returns : goal.returns
+unfolding table
+returns c =
+    c.then_some.ensures
+    ∙ points_told _ _ c.in_ok-h.ensures refl
+    (counted _ _ (λ (i : ℕ). residual_of c.in_ok-h.h (point c.args.cells i) (point c.args.corners i)) c.from_fn-residuals.result nan 4 c.from_fn-residuals.ensures.items (λ j y q l k. search rules))
+    c.all_finite.ensures

@@ -6,4 +6,4 @@ pub returns-in-None : goal.returns-in-None
 returns-in-None c = found_none _ _ _ _ _ c.predict_from_neighbours-prediction.ensures c.in-None.is
 
 pub returns-in-Some : goal.returns-in-Some
-returns-in-Some c = found_tried _ _ _ _ _ c.predict_from_neighbours-prediction.ensures c.in-Some.is c.search.ensures c.tolerances.ensures c.try_attach_at_cell.ensures
+returns-in-Some c = found_tried _ _ _ _ _ c.predict_from_neighbours-prediction.ensures c.in-Some.is c.search.ensures c.tolerances_of.ensures c.try_attach_at_cell.ensures

@@ -14,7 +14,7 @@ use Rattle.join_sheet.proofs.Second.all_on.Goals as goal
 pub returns : goal.returns
 returns c =
     let s = c.args.self.now in
-    all_from_yields_List (λ (i : ℕ). on_sheet (shifted_by c.args.d (held_at s.array.now i)).cell) _ _ _ c.all.ensures.ran
+    all_from_yields_List (λ (i : ℕ). on_sheet (shifted_by c.args.d.offset (held_at s.array.now i)).cell) _ _ _ c.all.ensures.ran
     (YieldsList-from_range 0 s.count s.count (cc) (omega arith))
     (λ x b q k. search (rules, tests))
-    ∙ every_walked s.array.now c.args.d (λ l. on_sheet l.cell) s.count
+    ∙ every_walked s.array.now c.args.d.offset (λ l. on_sheet l.cell) s.count

@@ -5,7 +5,7 @@ use Rattle.local.proofs.Walk.{Seeking}
 use Rattle.local.proofs.Round.next_tried.Given as goal
 
 abbrev pub invariant-loop-place : goal.invariant-loop-place
-invariant-loop-place l = Seeking (tried_at l.self.depth (region_in l.self) l.sheet) l.from l.place
+invariant-loop-place l = Seeking (tried_at l.self.depth (region_in l.self) l.work.sheet.now) l.from l.place
 
 abbrev pub decreases-loop-place : goal.decreases-loop-place
 decreases-loop-place l = 16384 - l.place

@@ -1,13 +1,12 @@
 -- `Predicting::add_if_labelled` meets its contract, by what is seen at the cell that is reached; a labelled cell is on the sheet. Assumes nothing.
 use Rattle.std.specs.Prelude.{Option, Some, None}
 use mathlib.Core.Path.{◌≡◌, sym, ap, ◌∙◌}
-use Rattle.sheet.specs.Cells.{moved}
 use Rattle.sheet.specs.declared.Cell.{Cell}
 use Rattle.sheet.specs.declared.Corner.{Corner}
 use Rattle.predict.specs.Predict.{with_neighbour, with_seen}
 use Rattle.predict.specs.declared.Grid.{Grid}
 use Rattle.predict.specs.declared.Sums.{Sums}
-use Rattle.predict.proofs.Laws.{square_within, seen_on}
+use Rattle.predict.proofs.Laws.{seen_on}
 use Rattle.predict.proofs.Predicting.add_if_labelled.Goals as goal
 
 module _ (seen : Cell → Option Corner) (grid : Grid) (c : Cell) (s : Sums) {cell at : Cell} {v : Option Corner} (reached : at ≡ cell) (found : v ≡ seen at) where
@@ -22,8 +21,7 @@ module _ (seen : Cell → Option Corner) (grid : Grid) (c : Cell) (s : Sums) {ce
       ∙ sym (ap (with_seen seen grid c s cell) (sym (found ∙ ap seen reached) ∙ e))
 
 pub neighbour-at-requires : goal.neighbour-at-requires
-neighbour-at-requires c =
-    (c.args.self.now.on, rw c.offset_of.ensures (square_within c.args.k c.requires))
+neighbour-at-requires c = (c.args.self.now.on, c.requires)
 
 pub add_neighbour-requires : goal.add_neighbour-requires
 add_neighbour-requires c =
@@ -32,14 +30,14 @@ add_neighbour-requires c =
 pub returns-in-None : goal.returns-in-None
 returns-in-None c =
     passed _ _ _ _
-    (c.neighbour-at.ensures ∙ ap (moved c.args.self.now.c) c.offset_of.ensures)
+    c.neighbour-at.ensures
     c.seen_at-seen.ensures
     c.in-None.is
 
 pub returns-in-Some : goal.returns-in-Some
 returns-in-Some c =
     added _ _ _ _
-    (c.neighbour-at.ensures ∙ ap (moved c.args.self.now.c) c.offset_of.ensures)
+    c.neighbour-at.ensures
     c.seen_at-seen.ensures
     _
     c.in-Some.is

@@ -1,19 +1,20 @@
 -- `Predicting::sum_neighbours` meets its contract: the cells of the square, one after the other. Assumes nothing.
 use mathlib.Core.Path.{◌∙◌}
-use Prim.Native.Nat.{ℕ}
-use Rattle.std.proofs.Common.{rules, arith}
-use Rattle.std.proofs.lemmas.Iterator.{YieldsList-from_range}
+use Rattle.std.proofs.Common.{rules}
+use Rattle.std.proofs.lemmas.Iterator.{YieldsList-from_slice}
 use Rattle.std.proofs.lemmas.Iterator.Consumers.{fold_from_yields_List}
+use Rattle.sheet.specs.Cells.{moved}
 use Rattle.sheet.specs.Corners.{corner_in, seen_of}
-use Rattle.predict.specs.Predict.{with_cell, square_cell, no_sums, sums_of}
+use Rattle.sheet.specs.declared.Offset.{Offset}
+use Rattle.predict.specs.Predict.{neighbour_offsets, with_cell, no_sums, sums_of}
 use Rattle.predict.specs.declared.Sums.{Sums}
 use Rattle.predict.proofs.Laws.{sums_all}
 use Rattle.predict.proofs.Predicting.sum_neighbours.Goals as goal
 
 pub returns : goal.returns
-unfolding no_sums sums_of
+unfolding no_sums sums_of neighbour_offsets
 returns c =
     let a = c.args in
-    fold_from_yields_List _ (λ (s : Sums) (k : ℕ). with_cell (seen_of (corner_in a.self.now.corners.now) a.self.now.sheet.now) a.self.now.grid a.self.now.c s (square_cell a.self.now.c k)) _ c.fold.result c.fold.ensures.ran
-    (YieldsList-from_range 0 8 8 (cc) (omega arith)) (λ s x b q k. search rules)
+    fold_from_yields_List _ (λ (s : Sums) (o : Offset). with_cell (seen_of (corner_in a.self.now.corners.now) a.self.now.sheet.now) a.self.now.grid a.self.now.c s (moved a.self.now.c o)) _ c.fold.result c.fold.ensures.ran
+    (YieldsList-from_slice neighbour_offsets c.iter.ensures.rest) (λ s x b q k. search rules)
     ∙ sums_all (seen_of (corner_in a.self.now.corners.now) a.self.now.sheet.now) a.self.now.c a.self.now.grid _
