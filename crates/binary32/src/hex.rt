@@ -31,7 +31,7 @@ pub fn read_bits(text: &[u8]) -> Option<u32>
     ensures { result ≡ read_bits text.now }
 {
     let mut bits = 0u32;
-    // Stays: it goes over the bytes and counts no index; `try_fold` would hide the `?` of both tests in a closure (d).
+    // Stays: it goes over the bytes and counts no index; a `try_fold` is no shorter.
     for b in text.get(..8)? {
         bits = bits * 16 + digit_value(*b)?;
     }

@@ -13,30 +13,14 @@ pub fn print_word(rt: &impl Print, word: &[u8]) -> io::Result<()> {
     rt.write_all(word)
 }
 
-// A line of the sheet, 0 to 127, as i or j.
-#[derive(Clone, Copy)]
-struct Line(usize);
-
-impl fmt::Display for Line {
-    fn fmt<W: fmt::Write>(&self, f: &mut fmt::Formatter<W>) -> fmt::Result {
-        if self.0 < 64 {
-            let below = 64 - self.0;
-            write!(f, "-{below}")
-        } else {
-            let above = self.0 - 64;
-            write!(f, "{above}")
-        }
-    }
-}
-
 // The cell of a place.
 #[derive(Clone, Copy)]
 struct Place(usize);
 
 impl fmt::Display for Place {
     fn fmt<W: fmt::Write>(&self, f: &mut fmt::Formatter<W>) -> fmt::Result {
-        let i = Line(self.0 / 128);
-        let j = Line(self.0 % 128);
+        let i = (self.0 / 128) as i64 - 64;
+        let j = (self.0 % 128) as i64 - 64;
         write!(f, "{i} {j}")
     }
 }
@@ -177,7 +161,7 @@ fn visited_by(counts: Counts) -> usize {
 
 // One place more in a sum over a buffer: each place counts by its number and what it holds.
 fn summed(sum: u64, i: usize, v: u16) -> u64 {
-    (sum % 0x1_0000_0000 * 31 + (i % 65536) as u64 + v as u64) % 0x1_0000_0000
+    (sum % 0x1_0000_0000 * 31 + (i % 65536) as u64 + u64::from(v)) % 0x1_0000_0000
 }
 
 fn print_sum(rt: &impl Print, name: &str, list: &[u16]) -> io::Result<()> {
@@ -204,7 +188,7 @@ impl Left<'_> {
             return Ok(());
         }
         for place in self.queue.iter().take(visited_by(counts)) {
-            let cell = Place(*place as usize);
+            let cell = Place(usize::from(*place));
             println!(rt; "visited {cell}")?;
         }
         Ok(())
@@ -213,7 +197,7 @@ impl Left<'_> {
     // The first cells of the attached list, each with its corner.
     fn print_attached(self, rt: &impl Print, count: usize) -> io::Result<()> {
         for place in self.attached.iter().take(count) {
-            print_one_attached(rt, self.sheet, *place as usize)?;
+            print_one_attached(rt, self.sheet, usize::from(*place))?;
         }
         Ok(())
     }

@@ -19,13 +19,9 @@ fn text_from(text: &[u8], k: usize) -> Option<&[u8]> {
 
 // The k-th number of the text, counted from 0, and 0 where there is none.
 pub fn number_at(text: &[u8], k: usize) -> usize {
-    let Some(rest) = text_from(text, k) else {
-        return 0;
-    };
-    match binary32::hex::read_bits(rest) {
-        Some(bits) => bits as usize,
-        None => 0,
-    }
+    text_from(text, k)
+        .and_then(binary32::hex::read_bits)
+        .unwrap_or(0) as usize
 }
 
 // The float of bits that are not finite: an infinity, or a NaN.
@@ -39,13 +35,9 @@ fn not_finite(bits: usize) -> f32 {
 
 // The k-th float of the text.
 fn float_at(text: &[u8], k: usize) -> f32 {
-    let Some(rest) = text_from(text, k) else {
-        return 0.0;
-    };
-    match binary32::hex::read_float(rest) {
-        Ok(x) => x,
-        Err(_) => not_finite(number_at(text, k)),
-    }
+    text_from(text, k).map_or(0.0, |rest| {
+        binary32::hex::read_float(rest).unwrap_or_else(|_| not_finite(number_at(text, k)))
+    })
 }
 
 // A number, cut to what a buffer has.
@@ -55,17 +47,27 @@ pub fn at_most(n: usize, most: usize) -> usize
     n.min(most)
 }
 
+// The values of n corners, read from every fourth number from number `from` on; `nothing` stands behind them.
+fn column<T: Copy, F: Fn(usize) -> T>(nothing: T, from: usize, n: usize, read: F) -> [T; 1025]
+    requires from_bound { from ≤ 100 }
+    requires n_bound { n ≤ 1025 }
+    requires callable { F.IsAlwaysCallable read }
+    ensures { 1025 ≡ length result }
+{
+    let mut out = [nothing; 1025];
+    for (i, value) in out[..n].iter_mut().enumerate() {
+        *value = read(from + 4 * i);
+    }
+    out
+}
+
 // n floats, every fourth number from number `from` on.
 pub fn read_floats(text: &[u8], from: usize, n: usize) -> [f32; 1025]
     requires from_bound { from ≤ 100 }
     requires n_bound { n ≤ 1025 }
     ensures { 1025 ≡ length result }
 {
-    let mut out = [0.0f32; 1025];
-    for (i, x) in out[..n].iter_mut().enumerate() {
-        *x = float_at(text, from + 4 * i);
-    }
-    out
+    column(0.0, from, n, |k| float_at(text, k))
 }
 
 // The byte that is lent to call `call`, counted from 0, for a corner: two bits of the word that the corner has for all calls of a list, the
@@ -80,11 +82,7 @@ pub fn read_shades(text: &[u8], from: usize, n: usize, call: usize) -> [u8; 1025
     requires n_bound { n ≤ 1025 }
     ensures { 1025 ≡ length result }
 {
-    let mut out = [0u8; 1025];
-    for (i, shade) in out[..n].iter_mut().enumerate() {
-        *shade = shade_of(number_at(text, from + 4 * i), call);
-    }
-    out
+    column(0, from, n, |k| shade_of(number_at(text, k), call))
 }
 
 // The word of a label's corner.

@@ -41,7 +41,7 @@ struct Found {
 }
 
 // The choice at one cell.
-// Stays: these are the specification's three outcomes of a choice, and each is counted for itself.
+// Stays: the Rust's enum of a choice: no candidate, two that are too alike, or one; none of the three is the failure of another.
 #[derive(Clone, Copy)]
 pub enum CandidateChoice {
     Nothing,

@@ -10,6 +10,7 @@ use borrow.Author.Tests.{eq-eqb, ne_eqb, lt-ltb, le-ltb, ltb-true}
 use lib.Dec.{eqb, ltb}
 use lib.ListN.{get_or}
 use lib.Ieee.{Float, nan, binary32, neg, lt, eq}
+use Rattle.std.specs.Bool.{then_some}
 use Rattle.binary32.specs.Ranges.{is_finite, all_finite}
 use Rattle.binary32.specs.Numbers.{nought}
 use Rattle.elimination.specs.Rounded.{◌⊗◌, magnitude}
@@ -311,3 +312,11 @@ module _ (a m : Matrix) (b : Row) (t : Bool) (em : m ≡ eliminated 8 a) (eb : b
 
   pub solved_none : t ≡ false → None ≡ solved a
   solved_none e = rw (← sound_is a m b t em eb et, e)
+
+  -- so it is the answers where they count
+  pub solved_by_count : then_some t b ≡ solved a
+  solved_by_count = go t refl
+    where
+      go : (u : Bool) → t ≡ u → then_some u b ≡ solved a
+      go true e = solved_some e
+      go false e = solved_none e

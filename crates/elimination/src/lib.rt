@@ -14,7 +14,7 @@ ghost use Rattle.elimination.specs.Rounded.{magnitude};
 ghost use Rattle.elimination.specs.Solve.{entry, largest, pivoted, gained, cleared, eliminated, right_sides, carried, answered, nonzero_diagonal, finite_matrix, finite_answers, solved};
 
 // A value without its sign: what is below zero is negated.
-// Stays: `abs` would make 0 of -0, and so give a pivot of -0 another sign than 01's fit has.
+// Stays: it is promised as the definition has it, which leaves -0 and a NaN as they are, and `abs` does not.
 pub fn magnitude(x: f32) -> f32
     ensures { result ≡ magnitude x }
 {
@@ -46,7 +46,7 @@ fn gain(r: &mut [f32; 9], p: &[f32; 9], w: f32, k: usize)
     requires { k < 8 }
     ensures { r.new ≡ gained r.old p.now w k }
 {
-    // Stays: by index, since of what is written through `iter_mut` a proof knows no element.
+    // Stays: two rows are walked together, and of what is written through an adapter of `iter_mut` a proof knows no element.
     for j in k + 1..9usize {
         r[j] = r[j] + w * (-p[j]);
     }
@@ -59,7 +59,7 @@ fn clear(m: &mut [[f32; 9]; 8], k: usize)
 {
     let p = m[k];
     let w = 1.0 / p[k];
-    // Stays: by index, as in `gain`.
+    // Stays: the rows are cleared by their number, as the definition has them.
     for i in k + 1..8usize {
         let x = m[i][k] * w;
         gain(&mut m[i], &p, x, k);
@@ -112,7 +112,7 @@ fn carry(m: &[[f32; 9]; 8], b: &mut [f32; 8], k: usize)
     ensures { b.new ≡ carried m.now b.old k }
 {
     let x = b[k] / m[k][k];
-    // Stays: by index, as in `gain`.
+    // Stays: the answers and a column are walked together, as the rows in `gain`.
     for i in 0..k {
         b[i] = b[i] + (-x) * m[i][k];
     }
@@ -171,5 +171,5 @@ pub fn solve(a: [[f32; 9]; 8]) -> Option<[f32; 8]>
     let mut m = a;
     eliminate(&mut m);
     let x = substitute(&m);
-    if counts(&m, &x) { Some(x) } else { None }
+    counts(&m, &x).then_some(x)
 }

@@ -43,7 +43,7 @@ pub struct Search {
 }
 
 // What trying a cell finds.
-// Stays: these are the specification's four outcomes of a cell, and each is counted for itself.
+// Stays: the Rust's enum of what a cell comes to; each of the four is counted, so that none of them stands apart as an error.
 #[derive(Clone, Copy)]
 pub enum TryCellResult {
     NoCandidates,

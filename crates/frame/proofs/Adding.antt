@@ -44,7 +44,7 @@ use Rattle.frame_line.proofs.Words.{tame_count}
 use Rattle.frame_check.specs.Checks.{checks_in_order, over_limit, label_twice, shade_twice, twice_of, has_place, checked_held, is_set}
 use Rattle.frame_check.proofs.Laws.{checks_alike, AllFine, fine_all}
 use Rattle.sizes.specs.Sizes.{corner_limit, pass_limit, place_count, used_count, second_count, all_pass_words}
-use Rattle.frame_state.specs.State.{with_opening, labels_after, label_added, shade_put, words_in, words_put, State, adds_as, adds, at_stage, nothing_said, arrays, state}
+use Rattle.frame_state.specs.State.{patched_of, second_of, with_opening, labels_after, label_added, shade_put, words_in, words_put, State, adds_as, adds, at_stage, nothing_said, arrays, state}
 use Rattle.frame_state.specs.declared.PassWords.{PassWords}
 use Rattle.frame_state.proofs.Laws.{many_room}
 use Rattle.frame.specs.Frame.{outside_in, over_in, twice_in, Parts, some_of, doubled, open_labels, placed, shaded_before, checked_line, opened, adding, added, no_parts}
@@ -93,7 +93,7 @@ twice_alike (Kind.Pass p) h i = refl
 module _ (f : Parts) (s : State) (g : FrameHeld f s) (l : Line) (p : Proper l) where
   -- whether a label is doubled in the set that is open, t being whether that is the second
   set_twice : (m : LabelLine) → OnSheet m.cell → m.corner ≡ pos (nat_abs m.corner) → nat_abs m.corner < corner_limit → (t : Bool)
-      → label_twice t s.held.sheet s.held.used s.held.second s.progress.second (record { corner = nat_abs m.corner; cell = m.cell })
+      → label_twice t s.held.sheet s.held.used s.held.second (second_of s.progress) (record { corner = nat_abs m.corner; cell = m.cell })
       ≡ (cell_taken (cond t f.second f.labels) m.cell || corner_taken (cond t f.second f.labels) m.corner)
   set_twice m on is small true =
       ap₂ ◌||◌ (g.second.cells m.cell on) (g.second.uses.corners (nat_abs m.corner) small ∙ ap (corner_taken f.second) (sym is))
@@ -101,11 +101,11 @@ module _ (f : Parts) (s : State) (g : FrameHeld f s) (l : Line) (p : Proper l) w
       ap₂ ◌||◌ (g.labels.cells m.cell on) (g.labels.uses.corners (nat_abs m.corner) small ∙ ap (corner_taken f.labels) (sym is))
 
   twice : outside_line 4 s.progress.corners l ≡ false → outside_line 5 s.progress.corners l ≡ false → kind_of l ≡ Kind.Label
-      → label_twice s.progress.patched s.held.sheet s.held.used s.held.second s.progress.second (label_in (held_up_to 5 l.numbers)) ≡ doubled (open_labels f) (label_line_of l.numbers)
+      → label_twice (patched_of s.progress) s.held.sheet s.held.used s.held.second (second_of s.progress) (label_in (held_up_to 5 l.numbers)) ≡ doubled (open_labels f) (label_line_of l.numbers)
   twice off known k =
       let h = label_exact s.progress.corners l p k g.corners.xs_held.some off known in
       let m = label_line_of l.numbers in
-      ap₂ (λ (t : Bool) (x : HeldLabel). label_twice t s.held.sheet s.held.used s.held.second s.progress.second x) g.patched h.held_so
+      ap₂ (λ (t : Bool) (x : HeldLabel). label_twice t s.held.sheet s.held.used s.held.second (second_of s.progress) x) g.patched h.held_so
       ∙ set_twice m h.on_sheet_holds h.is_corner_holds (omega (arith, h.given, g.corners.xs_held.some)) f.patched
       ∙ sym (some_either (λ k. same_cell k.cell m.cell) (λ k. eq_z k.corner m.corner) (open_labels f))
 
@@ -119,8 +119,8 @@ module _ (f : Parts) (s : State) (g : FrameHeld f s) (l : Line) (p : Proper l) w
 
   -- all checks
   pub checks_agree :
-      checked_held s.progress.corners s.progress.passes s.progress.patched s.held.shades s.held.sheet s.held.used s.held.second
-      s.progress.second (held_line l)
+      checked_held s.progress.corners s.progress.passes (patched_of s.progress) s.held.shades s.held.sheet s.held.used s.held.second
+      (second_of s.progress) (held_line l)
       ≡ checked_line f l
   unfolding checked_held checked_line
   checks_agree =
@@ -411,7 +411,7 @@ module _ (f : Parts) (s : State) (g : FrameHeld f s) (l : Line) (p : Proper l) (
       rw (b 0 (omega arith) refl, b 1 (omega arith) refl, b 3 (omega arith) refl, rounds, depth)
 
   -- the room for a label of the second set: each label of it uses another corner
-  second_room : {k : ℕ} → NewLabel f.second (label_line_of l.numbers) k → s.progress.second < corner_limit
+  second_room : {k : ℕ} → NewLabel f.second (label_line_of l.numbers) k → second_of s.progress < corner_limit
   second_room {k} n = more_room g.second.uses n
 
   -- a label is added to the set that is open, t being whether that is the second
@@ -434,20 +434,20 @@ module _ (f : Parts) (s : State) (g : FrameHeld f s) (l : Line) (p : Proper l) (
       let b = label_added t x (labels_after s.progress h.sheet h.used h.second) in
       state b.progress (arrays h.xs h.ys h.pitches h.shades b.sheet b.used b.second h.passes)
 
-  label_in_lem : (t : Bool) (k : ℕ) → NewLabel (cond t f.second f.labels) (label_line_of l.numbers) k
+  label_in_lem : (t : Bool) (k : ℕ) → f.patched ≡ t → NewLabel (cond t f.second f.labels) (label_line_of l.numbers) k
       → FrameHeld (parts_with t) (state_with t (record { corner = k; cell = (label_line_of l.numbers).cell }))
-  label_in_lem true k n =
+  label_in_lem true k stands n =
       record {
         settings_are = g.settings_are;
         corners = g.corners;
         used_long = length-set s.held.used (corner_limit + k) 1 ∙ g.used_long;
         labels = label_kept n s.held.used g.used_long g.labels;
-        patched = g.patched;
+        patched = sym stands;
         second = second_held n s.held.used g.used_long g.second (second_room n);
         shades = g.shades;
         passes = g.passes;
       }
-  label_in_lem false k n =
+  label_in_lem false k stands n =
       record {
         settings_are = g.settings_are;
         corners = g.corners;
@@ -460,10 +460,10 @@ module _ (f : Parts) (s : State) (g : FrameHeld f s) (l : Line) (p : Proper l) (
       }
 
   label_by : {x : HeldLabel} {k : ℕ} → x ≡ record { corner = k; cell = (label_line_of l.numbers).cell }
-      → NewLabel (open_labels f) (label_line_of l.numbers) k → FrameHeld (parts_with f.patched) (state_with s.progress.patched x)
+      → NewLabel (open_labels f) (label_line_of l.numbers) k → FrameHeld (parts_with f.patched) (state_with (patched_of s.progress) x)
   label_by {x} {k} e n =
       subst (λ (t : Bool). FrameHeld (parts_with f.patched) (state_with t x)) (sym g.patched)
-      (subst (λ (y : HeldLabel). FrameHeld (parts_with f.patched) (state_with f.patched y)) (sym e) (label_in_lem f.patched k n))
+      (subst (λ (y : HeldLabel). FrameHeld (parts_with f.patched) (state_with f.patched y)) (sym e) (label_in_lem f.patched k refl n))
 
   -- a line of a kind changes its own part
   by_kind : (kind : Kind) → kind_of l ≡ kind → FrameHeld (adding kind l.numbers f) (adds_as kind (held_up_to 5 l.numbers) s)

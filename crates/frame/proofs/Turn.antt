@@ -32,7 +32,7 @@ use Rattle.frame_line.proofs.Laws.{line_prints_back}
 use Rattle.frame_line.proofs.Checking.{no_row}
 use Rattle.sizes.specs.Sizes.{corner_limit, place_count}
 use Rattle.frame_check.specs.Checks.{is_set, checked_held}
-use Rattle.frame_state.specs.State.{Arrays, State, state, Addable, adds}
+use Rattle.frame_state.specs.State.{patched_of, second_of, Arrays, State, state, Addable, adds}
 use Rattle.frame_state.specs.declared.Progress.{Progress}
 use Rattle.frame.specs.Frame.{Frame, Parts, added, parts_from, no_parts, parts_of, checked_line, placed, first_set, second_set, join_if, join_of, labels_in, given_of, patch_line, FrameRead, refused_at, Step, stopped, onward, step_by, step_with, step_line, finish_by, finish, at_end, going, read_lines}
 use Rattle.frame.specs.ReadFrame.{sheet_of}
@@ -109,7 +109,7 @@ step_row stage row to turn t e =
 
 -- and it can be added where nothing is wrong with it
 pub step_addable : (p : Progress) (a : Arrays) (found : HeldLine) (turn : Option ℕ) → turn ≡ turn_at p.stage found.row → (to : ℕ) → turn ≡ Some to → (checked : Checked)
-    → checked ≡ checked_held p.corners p.passes p.patched a.shades a.sheet a.used a.second p.second found → Room p a → checked ≡ Ok tt → Addable p a found
+    → checked ≡ checked_held p.corners p.passes (patched_of p) a.shades a.sheet a.used a.second (second_of p) found → Room p a → checked ≡ Ok tt → Addable p a found
 step_addable p a found turn t to e checked c g h =
     record { fine = sym c ∙ h; fits = record { few = g.few; labels_few = g.second_few; row_fits = step_row p.stage found.row to turn t e }; long = g.long; counted = g.counted }
 
@@ -179,7 +179,7 @@ module _ (f : Frame) (p : Progress) (a : Arrays) (g : FrameHeld (parts_of f) (st
       subst (λ (j : Joined). ReadAs (finish_by j f) o.answer (on_sheet_of a o.sheet)) (sym is)
       (by_join (joined (first_set (parts_of f)) (second_set (parts_of f))) is o (w ∙ ap (finished_by p) (joins_as first_held (second_set (parts_of f)))))
 
-  finishes : (r : Result Progress FrameRefusal) (sheet : List ℕ) → finished sheet r ≡ finish_on p.patched p a.sheet (held_labels a.second p.second)
+  finishes : (r : Result Progress FrameRefusal) (sheet : List ℕ) → finished sheet r ≡ finish_on (patched_of p) p a.sheet (held_labels a.second (second_of p))
       → ReadAs (finish f) r (on_sheet_of a sheet)
   finishes r sheet w =
       by_patch (parts_of f).patched refl (finished sheet r)
@@ -281,5 +281,5 @@ module _ {text rest : List ℕ} {p : Progress} {n : ℕ} {a : Arrays} (g : Turni
     end_missing e = subst (λ (x : FrameRead). ReadAs x (Err (record { refusal = Refusal.Malformed; line = n })) a) (sym (at_the_end false e)) (refused_as Refusal.Malformed n)
 
     pub end_finished : may_end p.stage ≡ true → (r : Result Progress FrameRefusal) (sheet : List ℕ)
-        → finished sheet r ≡ finish_on p.patched p a.sheet (held_labels a.second p.second) → ReadAs (read_lines 1 0 [] (lines_of text)) r (on_sheet_of a sheet)
+        → finished sheet r ≡ finish_on (patched_of p) p a.sheet (held_labels a.second (second_of p)) → ReadAs (read_lines 1 0 [] (lines_of text)) r (on_sheet_of a sheet)
     end_finished e r sheet w = subst (λ (x : FrameRead). ReadAs x r (on_sheet_of a sheet)) (sym (at_the_end true e)) (finishes g.frame p a g.holds r sheet w)

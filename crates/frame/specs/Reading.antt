@@ -17,7 +17,7 @@ use Rattle.frame_line.specs.declared.HeldLine.{HeldLine}
 use Rattle.std.specs.Prelude.{Option, None, Some}
 use Rattle.frame_check.specs.Checks.{is_set, has_place, checked_held}
 use Rattle.sizes.specs.Sizes.{corner_limit, place_count, used_count, second_count, pass_size, all_pass_words}
-use Rattle.frame_state.specs.State.{Counted, at_stage, Arrays, arrays, State, adds}
+use Rattle.frame_state.specs.State.{patched_of, second_of, Counted, at_stage, Arrays, arrays, State, adds}
 use Rattle.frame_state.specs.declared.Progress.{Progress}
 use Rattle.frame.specs.Frame.{Frame, Parts, parts_of, some_of, placed, FrameRead, refused_at, accepted}
 use Rattle.frame.specs.Text.{Sound, Apart}
@@ -114,8 +114,8 @@ pub record FrameHeld (f : Parts) (s : State) : Type 0 where
   pub corners : HoldsCorners f.corners s.progress.corners s.held.xs s.held.ys s.held.pitches
   pub used_long : length s.held.used ≡ used_count
   pub labels : HoldsLabels f.labels s.progress.labels s.held.sheet s.held.used
-  pub patched : s.progress.patched ≡ f.patched
-  pub second : HoldsSecond f.second s.progress.second s.held.used s.held.second
+  pub patched : patched_of s.progress ≡ f.patched
+  pub second : HoldsSecond f.second (second_of s.progress) s.held.used s.held.second
   pub shades : HoldsShades f.shades s.held.shades
   pub passes : HoldsPasses f.passes s.progress.passes s.held.passes
 
@@ -124,7 +124,7 @@ pub record FrameHeld (f : Parts) (s : State) : Type 0 where
 -- room for one more line
 pub record Room (p : Progress) (a : Arrays) : Type 0 where
   pub few : p.corners ≤ corner_limit
-  pub second_few : p.second ≤ corner_limit
+  pub second_few : second_of p ≤ corner_limit
   pub long : length a.sheet ≡ place_count
   pub counted : Counted p a.used
 
@@ -145,14 +145,14 @@ held_by (Some stage) (Err r) s a = went (Err r) a
 unfoldable pub held_step : HeldLine → State → Went
 held_step line s =
     held_by (turn_at s.progress.stage line.row)
-    (checked_held s.progress.corners s.progress.passes s.progress.patched s.held.shades s.held.sheet s.held.used s.held.second
-    s.progress.second line) (adds line s) s.held
+    (checked_held s.progress.corners s.progress.passes (patched_of s.progress) s.held.shades s.held.sheet s.held.used s.held.second
+    (second_of s.progress) line) (adds line s) s.held
 
 -- ---- after the last line
 
 -- both sets are held, and the number of the patch line is small
 pub record Finishable (p : Progress) (sheet used second : List ℕ) : Type 0 where
-  pub sets : HeldSets sheet used second p.second
+  pub sets : HeldSets sheet used second (second_of p)
   pub few : p.corners ≤ corner_limit
   pub labels_few : p.labels ≤ corner_limit
 

@@ -10,7 +10,7 @@ ghost use Rattle.frame_line.specs.Held.{held_read};
 ghost use Rattle.line_form.specs.Lines.{lines_of};
 ghost use Rattle.join_sheet.specs.Held.{held_labels};
 ghost use Rattle.frame_check.specs.Checks.{checked_held, LineFits};
-ghost use Rattle.frame_state.specs.State.{nothing_said, state, Addable, adds};
+ghost use Rattle.frame_state.specs.State.{patched_of, second_of, nothing_said, state, Addable, adds};
 ghost use Rattle.arguments.specs.Front.{over};
 ghost use Rattle.frame.specs.Frame.{no_parts, read_lines};
 ghost use Rattle.frame.specs.ReadFrame.{frame_out, leaves, read_into};
@@ -64,13 +64,12 @@ struct Held {
 impl Held {
     // All checks of a line in its turn, against what was said before it.
     fn check(&self, p: Progress, line: HeldLine) -> Result<(), Refusal>
-        requires { LineFits p.corners p.second line }
-        ensures { result ≡ checked_held p.corners p.passes p.patched self.now.shades self.now.sheet self.now.used self.now.second p.second line }
+        requires { LineFits p.corners (second_of p) line }
+        ensures { result ≡ checked_held p.corners p.passes (patched_of p) self.now.shades self.now.sheet self.now.used self.now.second (second_of p) line }
     {
         let said = Said {
             corners: p.corners,
             passes: p.passes,
-            patched: p.patched,
             shades: &self.shades,
             sheet: &self.sheet,
             used: &self.used,
@@ -117,13 +116,13 @@ fn step_line(p: Progress, held: &mut Held, line: &[u8]) -> Result<Progress, Refu
 fn finish(p: Progress, held: &mut Held) -> Result<Progress, FrameRefusal>
     requires { Finishable p held.old.sheet held.old.used held.old.second }
     ensures sheet { finished held.new.sheet result
-        ≡ finish_on p.patched p held.old.sheet (held_labels held.old.second p.second) }
+        ≡ finish_on (patched_of p) p held.old.sheet (held_labels held.old.second (second_of p)) }
     ensures others { arrays_in held.new ≡ on_sheet_of (arrays_in held.old) held.new.sheet }
 {
-    if !p.patched {
+    let Some(n) = p.second else {
         return Ok(p);
-    }
-    join_sheet::join_sets(&mut held.sheet, &held.used, &held.second, p.second).map_err(
+    };
+    join_sheet::join_sets(&mut held.sheet, &held.used, &held.second, n).map_err(
         |refusal| FrameRefusal {
             refusal,
             line: 5 + p.corners + p.labels,

@@ -2,7 +2,7 @@
 
 #![tactic(auto)]
 
-ghost use Rattle.std.specs.Prelude.{◌≡◌, ◌<◌, ◌≤◌, Ok};
+ghost use Rattle.std.specs.Prelude.{◌≡◌, ◌<◌, ◌≤◌, Ok, is_some, unwrap_or};
 ghost use Rattle.labels.specs.Labelled.{any_below};
 ghost use Rattle.frame_line.specs.Table.{row_count, kind_at};
 ghost use Rattle.sizes.specs.Sizes.{corner_limit};
@@ -20,21 +20,19 @@ fn refuse_if(holds: bool, refusal: Refusal) -> Result<(), Refusal>
     if holds { Err(refusal) } else { Ok(()) }
 }
 
-// What the lines before said that a line is checked against: how many corners and passes there are, whether the patch line stands, the shades (0 where
-// none stands yet), the sheet of the first set, the corners used, and the labels of the second set, of which there are `labels`.
+// What the lines before said that a line is checked against: how many corners and passes there are, the shades (0 where none stands yet), the sheet of
+// the first set, the corners used, and the labels of the second set, of which there are `labels`, None where no patch line stands.
 #[derive(Clone, Copy)]
 pub struct Said<'a> {
     pub corners: usize,
     pub passes: usize,
-    // Stays: the definitions of a line's checks and of what it adds have this and the count apart, and hold of the count 0 as well (d).
-    pub patched: bool,
     pub shades: &'a [u8; CORNERS],
     pub sheet: &'a [u16; PLACES],
     pub used: &'a [u8; USED],
     pub second: &'a [u16; SECOND],
-    pub labels: usize,
+    pub labels: Option<usize>,
     pub ghost few: { corners ≤ corner_limit },
-    pub ghost labels_few: { labels ≤ corner_limit },
+    pub ghost labels_few: { unwrap_or labels 0 ≤ corner_limit },
 }
 
 impl<'a> Said<'a> {
@@ -50,24 +48,26 @@ impl<'a> Said<'a> {
         }
     }
 
-    // Whether one of the labels of the second set has this place.
-    fn place_taken(&self, place: u16) -> bool
-        ensures { result ≡ any_below self.now.labels (has_place self.now.second.now place) }
+    // Whether one of n labels of the second set has this place.
+    fn place_taken(&self, n: usize, place: u16) -> bool
+        requires { n ≤ corner_limit }
+        ensures { result ≡ any_below n (has_place self.now.second.now place) }
     {
         let second = self.second;
-        second[CORNERS..CORNERS + self.labels].contains(&place)
+        second[CORNERS..CORNERS + n].contains(&place)
     }
 
     // 6 of a label: whether its cell or its corner has a label already in the set that is open, the second once the patch line stands.
     fn label_twice(&self, label: HeldLabel) -> bool
         requires { LabelFits label }
-        ensures { result ≡ label_twice self.now.patched self.now.sheet.now self.now.used.now self.now.second.now self.now.labels label }
+        ensures { result ≡ label_twice (is_some self.now.labels) self.now.sheet.now self.now.used.now self.now.second.now (unwrap_or self.now.labels 0) label }
     {
         let place = sheet::place_of(label.cell);
-        if self.patched {
-            self.place_taken(place as u16) || self.used[CORNERS + label.corner] != 0
-        } else {
-            self.sheet[place] != 0 || self.used[label.corner] != 0
+        match self.labels {
+            Some(n) => {
+                self.place_taken(n, place as u16) || self.used[CORNERS + label.corner] != 0
+            }
+            None => self.sheet[place] != 0 || self.used[label.corner] != 0,
         }
     }
 
@@ -82,8 +82,8 @@ impl<'a> Said<'a> {
     // 6: a label's, a shade's, and none of any other line.
     #[tactic(auto, unfolding(crate::specs::Checks::twice_of))]
     fn is_twice(&self, line: HeldLine) -> bool
-        requires { NumbersFine self.now.corners self.now.labels line }
-        ensures { result ≡ twice_held self.now.patched self.now.shades.now self.now.sheet.now self.now.used.now self.now.second.now self.now.labels line }
+        requires { NumbersFine self.now.corners (unwrap_or self.now.labels 0) line }
+        ensures { result ≡ twice_held (is_some self.now.labels) self.now.shades.now self.now.sheet.now self.now.used.now self.now.second.now (unwrap_or self.now.labels 0) line }
     {
         match frame_line::kind_of(line.row) {
             Kind::Label => self.label_twice(frame_number::label_of(line.values)),
@@ -95,8 +95,8 @@ impl<'a> Said<'a> {
     // All checks of a line in its turn, in order.
     pub fn check_line(&self, line: HeldLine) -> Result<(), Refusal>
         requires { line.row < row_count }
-        ensures { result ≡ checked_held self.now.corners self.now.passes self.now.patched self.now.shades.now self.now.sheet.now self.now.used.now
-            self.now.second.now self.now.labels line }
+        ensures { result ≡ checked_held self.now.corners self.now.passes (is_some self.now.labels) self.now.shades.now self.now.sheet.now self.now.used.now
+            self.now.second.now (unwrap_or self.now.labels 0) line }
     {
         let found = frame_number::refusals_of(self.corners as u32, line);
         refuse_if(found.malformed, Refusal::Malformed)?;

@@ -11,6 +11,7 @@ use lib.Dec.{eqb, ltb, leb}
 use lib.IntN.{ℤ, pos, negsuc}
 use lib.Signed.{le_z, lt_z}
 use lib.ListN.{get_or}
+use Rattle.refusal.specs.Refusal.{number_of}
 use Rattle.labels.specs.Labelled.{any_below}
 use Rattle.labels.proofs.Below.{both}
 use Rattle.arguments.proofs.Chains.{or_false_both}
@@ -104,7 +105,7 @@ module _ (r n : ℕ) (few : eqb r 5 ≡ true → n ≤ 1024) where
   unfolding outside_word number_outside
   whole_word Sort.Nothing z e = refl
   whole_word (Sort.Float q) z e = no_sort e
-  whole_word (Sort.Whole refusal low high) z e = ap (λ (t : Bool). eqb r refusal && t) (beyond_is low high z e)
+  whole_word (Sort.Whole refusal low high) z e = ap (λ (t : Bool). eqb r (number_of refusal) && t) (beyond_is low high z e)
   whole_word Sort.Corner z e = go (eqb r 5) refl
     where
       go : (t : Bool) → eqb r 5 ≡ t → (t && beyond 1000000 (999999 + n) (held_whole z)) ≡ (t && not (le_z (pos 0) z && lt_z z (pos n)))

@@ -10,6 +10,8 @@ use lib.Dec.{T, eqb, ltb, leb}
 use lib.IntN.{ℤ, pos, negsuc, nat_abs, ◌-ℤ◌}
 use lib.ListN.{get_or}
 use Rattle.binary32.specs.declared.ranges.Quantity.{Quantity}
+use Rattle.refusal.specs.Refusal.{number_of}
+use Rattle.refusal.specs.declared.Refusal.{Refusal}
 use Rattle.sheet.specs.Cells.{in_range, on_sheet, OnSheet}
 use Rattle.sheet.proofs.Laws.{sub_lo, sub_hi}
 use Rattle.labels.proofs.Below.{both, any_none}
@@ -106,7 +108,7 @@ module _ (n : ℕ) (line : HeldLine) where
     corner_known e = let b = corner_word e in rw (le-ltb (word_of line 0) 1000000 b.0) (omega arith)
 
   module _ (row_is : line.row ≡ row_of Kind.Label) where
-    side_word : (m : ℕ) → m < 5 → sort_at 5 m ≡ Sort.Whole 4 999936 1000063 → outside_held 4 n line ≡ false → Between 999936 1000063 (word_of line m)
+    side_word : (m : ℕ) → m < 5 → sort_at 5 m ≡ Sort.Whole Refusal.OffSheet 999936 1000063 → outside_held 4 n line ≡ false → Between 999936 1000063 (word_of line m)
     unfolding outside_word
     side_word m h is e = between 4 m 999936 1000063 _ h (ap (λ (k : ℕ). sort_at k m) row_is ∙ is) e (λ f. f)
 
@@ -117,7 +119,7 @@ module _ (n : ℕ) (line : HeldLine) where
   pub kind_known : line.row ≡ row_of Kind.Shade → outside_held 1 n line ≡ false → (shade_in line.values).kind ≤ 1
   unfolding outside_word sort_at sort_of row_at rows
   kind_known row_is e =
-      let b = between 1 1 1000000 1000001 (Sort.Whole 1 1000000 1000001) (omega arith) (ap (λ (k : ℕ). sort_at k 1) row_is) e (λ f. f) in
+      let b = between 1 1 1000000 1000001 (Sort.Whole Refusal.Malformed 1000000 1000001) (omega arith) (ap (λ (k : ℕ). sort_at k 1) row_is) e (λ f. f) in
       rw (le-ltb (word_of line 1) 1000000 b.0) (omega arith)
 
 -- ---- how many corners are given is asked only of a corner's number
@@ -168,12 +170,12 @@ module _
   sort_is : {s : Sort} → sort_at (row_of kind) m ≡ s → sort_at l.row m ≡ s
   sort_is is = ap (λ (k : ℕ). sort_at k m) (row_of_lem l.row kind p.few e) ∙ is
 
-  count_at : (high : ℕ) → ranged 1000000 high ≡ true → sort_at (row_of kind) m ≡ Sort.Whole r 1000000 high
+  count_at : (q : Refusal) → r ≡ number_of q → (high : ℕ) → ranged 1000000 high ≡ true → sort_at (row_of kind) m ≡ Sort.Whole q 1000000 high
       → get_or (slots_of (form_at (row_of kind))) m true ≡ false → wild_whole (pos 0) (unheld_whole high) (whole_at m l.numbers) ≡ false
   unfolding outside_word unheld_whole
-  count_at high g s slot =
+  count_at q same high g s slot =
       sym (beyond_is 1000000 high (whole_at m l.numbers) g) ∙ sym (ap (beyond 1000000 high) (whole_held l p kind e m h slot))
-      ∙ (rw (eq-eqb r r refl) at (fine_word n (held_line l) r m (Sort.Whole r 1000000 high) held_fine h (sort_is s)))
+      ∙ (rw (eq-eqb r (number_of q) same) at (fine_word n (held_line l) r m (Sort.Whole q 1000000 high) held_fine h (sort_is s)))
 
 module _ (n : ℕ) (l : Line) (p : Proper l) (fine : outside_line 3 n l ≡ false) where
   module _ (kind : Kind) (e : kind_of l ≡ kind) (m : ℕ) (h : m < 5) where
@@ -182,9 +184,9 @@ module _ (n : ℕ) (l : Line) (p : Proper l) (fine : outside_line 3 n l ≡ fals
         sym (ap (wild_bits q) (bits_held l p kind e m h slot))
         ∙ word_tame n (held_line l) (held_fine n l p 3 refl fine kind e m h) m h q (sort_is n l p 3 refl fine kind e m h s)
 
-    count : (high : ℕ) → ranged 1000000 high ≡ true → sort_at (row_of kind) m ≡ Sort.Whole 3 1000000 high → get_or (slots_of (form_at (row_of kind))) m true ≡ false
+    count : (high : ℕ) → ranged 1000000 high ≡ true → sort_at (row_of kind) m ≡ Sort.Whole Refusal.OutOfRange 1000000 high → get_or (slots_of (form_at (row_of kind))) m true ≡ false
         → wild_whole (pos 0) (unheld_whole high) (whole_at m l.numbers) ≡ false
-    count = count_at n l p 3 refl fine kind e m h
+    count = count_at n l p 3 refl fine kind e m h Refusal.OutOfRange refl
 
   pub cell_said : kind_of l ≡ Kind.Opening OpeningKind.CellSize → Tame Quantity.CellSize (bits_at 0 l.numbers)
   unfolding sort_at sort_of slots_of form_at row_at rows
@@ -308,7 +310,7 @@ pub shade_kind : (n : ℕ) (l : Line) → Proper l → kind_of l ≡ Kind.Shade 
 unfolding slots_of form_at sort_at sort_of row_at rows unheld_whole
 shade_kind n l p e first =
     let z = whole_at 1 l.numbers in
-    let tame = count_at n l p 1 refl first Kind.Shade e 1 (omega arith) 1000001 refl refl refl in
+    let tame = count_at n l p 1 refl first Kind.Shade e 1 (omega arith) Refusal.Malformed refl 1000001 refl refl refl in
     let c = counted 1 z tame in
     record {
       is_kind_holds = c.is ∙ ap pos (sym (ap nat_abs c.is));

@@ -4,6 +4,7 @@ use Rattle.std.specs.Int.Signed.{le_z, lt_z}
 use Rattle.std.specs.Float.{binary32}
 use Rattle.std.specs.Float.Ieee.{of_bits}
 use Rattle.binary32.specs.declared.ranges.Quantity.{Quantity}
+use Rattle.refusal.specs.Refusal.{number_of}
 use Rattle.arguments.specs.Arguments.{outside}
 use Rattle.line_form.specs.Forms.{Number, bits, whole}
 use Rattle.line_form.specs.Written.{unheld_whole}
@@ -24,7 +25,7 @@ wild_whole low high z = not (le_z low z && le_z z high)
 abbrev pub refusal_of : Sort → ℕ
 refusal_of Sort.Nothing = 0
 refusal_of (Sort.Float q) = 3
-refusal_of (Sort.Whole refusal low high) = refusal
+refusal_of (Sort.Whole refusal low high) = number_of refusal
 refusal_of Sort.Corner = 5
 
 -- with n corners given, a number is not what its sort asks for

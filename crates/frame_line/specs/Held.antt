@@ -1,6 +1,8 @@
 -- A line as the code holds it: its row and a word for each number, an integer `offset` higher and cut to a size that a word has room for
 -- (crate line_form, Held). Definitions only.
-use Rattle.std.specs.Prelude.{Bool, false, ◌&&◌, ◌||◌, cond, List, [], ◌∷◌, ℕ, ◌+◌, ◌-◌, ◌*◌, min, ltb, eqb, pos, ◌-ℤ◌, get_or, replicate}
+use Rattle.std.specs.Prelude.{Bool, false, ◌&&◌, ◌||◌, cond, List, [], ◌∷◌, ℕ, ◌+◌, ◌-◌, ◌*◌, min, ltb, eqb, pos, ◌-ℤ◌, get_or, replicate, Option, None, Some}
+use Rattle.refusal.specs.declared.Refusal.{Refusal}
+use Rattle.refusal.specs.Refusal.{number_of}
 use Rattle.sheet.specs.declared.Cell.{Cell}
 use Rattle.labels.specs.Labelled.{any_below}
 use Rattle.line_form.specs.Integers.{offset}
@@ -58,6 +60,11 @@ outside_held r n l = any_below 5 (outside_at r n l)
 -- the refusal of each number, 0 where it has none
 unfoldable pub refusal_in : ℕ → Sort → ℕ → ℕ
 refusal_in n s w = cond (wild_word n s w) (refusal_of s) 0
+
+-- the number of a refusal, 0 for none
+abbrev pub number_or_0 : Option Refusal → ℕ
+number_or_0 None = 0
+number_or_0 (Some r) = number_of r
 
 abbrev pub refusal_at : ℕ → HeldLine → ℕ → ℕ
 refusal_at n l m = refusal_in n (sort_at l.row m) (get_or l.values m 0)

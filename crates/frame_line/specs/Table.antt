@@ -1,6 +1,7 @@
 -- The kinds of a frame's lines by one table (document 01, "Frame and result"): a kind is a row. Definitions only.
 use Rattle.std.specs.Prelude.{Bool, true, false, cond, List, [], ◌∷◌, ℕ, ◌+◌, ◌-◌, ltb, eqb, get_or, take, drop, Option, None, Some}
 use Rattle.binary32.specs.declared.ranges.Quantity.{Quantity}
+use Rattle.refusal.specs.declared.Refusal.{Refusal}
 use Rattle.line_form.specs.Integers.{offset}
 use Rattle.line_form.specs.Forms.{bytes}
 use Rattle.frame_line.specs.declared.Kind.{Kind}
@@ -100,14 +101,14 @@ sorts =
     Sort.Float Quantity.AxisPart
     ∷ Sort.Float Quantity.Band
     ∷ Sort.Float Quantity.CellSize
-    ∷ Sort.Whole 3 offset (offset + 4)
+    ∷ Sort.Whole Refusal.OutOfRange offset (offset + 4)
     ∷ Sort.Float Quantity.Factor
-    ∷ Sort.Whole 4 (offset - 64) (offset + 63)
-    ∷ Sort.Whole 1 offset (offset + 1)
+    ∷ Sort.Whole Refusal.OffSheet (offset - 64) (offset + 63)
+    ∷ Sort.Whole Refusal.Malformed offset (offset + 1)
     ∷ Sort.Float Quantity.Multiple
     ∷ Sort.Corner
     ∷ Sort.Float Quantity.Pitch
-    ∷ Sort.Whole 3 offset (offset + 64)
+    ∷ Sort.Whole Refusal.OutOfRange offset (offset + 64)
     ∷ Sort.Float Quantity.Position
     ∷ []
 

@@ -11,6 +11,7 @@ ghost use Rattle.frame_line.specs.Held.{held_read};
 
 use binary32::ranges::Quantity;
 use line_form::read::fit_line;
+use refusal::Refusal;
 use sheet::Cell;
 
 // A line of the opening: those that must stand.
@@ -44,7 +45,7 @@ pub enum Kind {
 }
 
 // What a number of a line is.
-// Stays: the definitions ask for a number's sort by these four cases, and compare the refusal of `Whole` by its number (d).
+// Stays: the definitions tell a number's sort by these four cases, and that a form has no such number is one of them (d).
 #[derive(Clone, Copy, Debug, PartialEq, Eq)]
 pub enum Sort {
     // the form has no such number
@@ -52,7 +53,7 @@ pub enum Sort {
     // a float in the range of a quantity, else refusal 3
     Float(Quantity),
     // the refusal for an integer that is not from the second number to the third, both as they are held
-    Whole(u32, u32, u32),
+    Whole(Refusal, u32, u32),
     // a corner's number: one of those given, else refusal 5
     Corner,
 }

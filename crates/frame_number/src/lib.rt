@@ -3,15 +3,15 @@
 #![tactic(auto)]
 
 ghost use Rattle.std.specs.Prelude.{◌≡◌, ◌<◌, ◌≤◌};
-ghost use Rattle.std.specs.Option.{unwrap_or};
 ghost use Rattle.sizes.specs.Sizes.{corner_limit};
 ghost use Rattle.frame_line.specs.Table.{row_count, sort_of};
 ghost use Rattle.frame_line.specs.Checks.{wild_bits};
-ghost use Rattle.frame_line.specs.Held.{count_in, cell_in, label_in, shade_in, beyond, refusal_in, outside_held};
+ghost use Rattle.frame_line.specs.Held.{count_in, cell_in, label_in, shade_in, beyond, refusal_in, number_or_0, outside_held};
 
 use binary32::ranges::Quantity;
 use frame_line::{HeldLabel, HeldLine, HeldShade, Sort};
 use line_form::OFFSET;
+use refusal::Refusal;
 use sheet::Cell;
 
 // Integers as they are held: OFFSET is 0. The limits of a depth, of rounds, of a shade's kind and of a cell's i and j; -1; the largest that is held;
@@ -41,14 +41,14 @@ fn sort_of(letter: u8) -> Sort
         b'a' => Sort::Float(Quantity::AxisPart),
         b'b' => Sort::Float(Quantity::Band),
         b'c' => Sort::Float(Quantity::CellSize),
-        b'd' => Sort::Whole(3, OFFSET, MOST_DEPTH),
+        b'd' => Sort::Whole(Refusal::OutOfRange, OFFSET, MOST_DEPTH),
         b'f' => Sort::Float(Quantity::Factor),
-        b'i' => Sort::Whole(4, LEAST_SIDE, MOST_SIDE),
-        b'k' => Sort::Whole(1, OFFSET, MOST_KIND),
+        b'i' => Sort::Whole(Refusal::OffSheet, LEAST_SIDE, MOST_SIDE),
+        b'k' => Sort::Whole(Refusal::Malformed, OFFSET, MOST_KIND),
         b'm' => Sort::Float(Quantity::Multiple),
         b'n' => Sort::Corner,
         b'p' => Sort::Float(Quantity::Pitch),
-        b'r' => Sort::Whole(3, OFFSET, MOST_ROUNDS),
+        b'r' => Sort::Whole(Refusal::OutOfRange, OFFSET, MOST_ROUNDS),
         b'x' => Sort::Float(Quantity::Position),
         _ => Sort::Nothing,
     }
@@ -69,17 +69,19 @@ fn is_beyond(low: u32, high: u32, word: u32) -> bool
     !(low..=high).contains(&word)
 }
 
-// The refusal of a number, if it has one. A sort has its refusal by number (crate frame_line).
+// The refusal of a number, if it has one.
 #[tactic(auto, unfolding(frame_line::specs::Held::refusal_in))]
-fn refusal_of(corners: u32, sort: Sort, word: u32) -> Option<u32>
+fn refusal_of(corners: u32, sort: Sort, word: u32) -> Option<Refusal>
     requires { corners ≤ corner_limit }
-    ensures { unwrap_or result 0 ≡ refusal_in corners sort word }
+    ensures { number_or_0 result ≡ refusal_in corners sort word }
 {
     match sort {
         Sort::Nothing => None,
-        Sort::Float(q) => is_wild(q, word).then_some(3),
+        Sort::Float(q) => is_wild(q, word).then_some(Refusal::OutOfRange),
         Sort::Whole(refusal, low, high) => is_beyond(low, high, word).then_some(refusal),
-        Sort::Corner => is_beyond(OFFSET, MINUS_ONE + corners, word).then_some(5),
+        Sort::Corner => is_beyond(OFFSET, MINUS_ONE + corners, word).then_some(
+            Refusal::UnknownCorner,
+        ),
     }
 }
 
@@ -110,10 +112,10 @@ pub fn refusals_of(corners: u32, line: HeldLine) -> NumberRefusals
         refusal_of(corners, sort_of(letters[4]), v[4]),
     ];
     NumberRefusals {
-        malformed: found.contains(&Some(1)),
-        out_of_range: found.contains(&Some(3)),
-        off_sheet: found.contains(&Some(4)),
-        unknown_corner: found.contains(&Some(5)),
+        malformed: found.contains(&Some(Refusal::Malformed)),
+        out_of_range: found.contains(&Some(Refusal::OutOfRange)),
+        off_sheet: found.contains(&Some(Refusal::OffSheet)),
+        unknown_corner: found.contains(&Some(Refusal::UnknownCorner)),
     }
 }
 

@@ -27,7 +27,7 @@ use Rattle.frame_line.proofs.Words.{word_tame, kind_known}
 use Rattle.frame_check.specs.Checks.{is_set, has_place, over_limit, label_twice, twice_of, twice_as, twice_held, checked_held, NumbersFine}
 use Rattle.frame_check.proofs.Laws.{AllFine, fine_all, label_fits, shade_fits}
 use Rattle.sizes.specs.Sizes.{corner_limit, pass_limit}
-use Rattle.frame_state.specs.State.{Tame, TameOpening, CornerFits, LabelsRoom, ShadeFits, Arrays, Addable}
+use Rattle.frame_state.specs.State.{patched_of, second_of, Tame, TameOpening, CornerFits, LabelsRoom, ShadeFits, Arrays, Addable}
 use Rattle.frame_state.specs.declared.Progress.{Progress}
 
 -- where a number below n does not pass, fewer than n do
@@ -39,7 +39,7 @@ many_room f n k h e =
 module _ {p : Progress} {a : Arrays} {line : HeldLine} (f : Addable p a line) where
   fine :
       AllFine (λ r. outside_held r p.corners line) (over_limit p.corners p.passes (kind_at line.row))
-      (twice_held p.patched a.shades a.sheet a.used a.second p.second line)
+      (twice_held (patched_of p) a.shades a.sheet a.used a.second (second_of p) line)
   unfolding checked_held
   fine = fine_all (λ r. outside_held r p.corners line) _ _ f.fine
 
@@ -74,23 +74,23 @@ module _ {p : Progress} {a : Arrays} {line : HeldLine} (f : Addable p a line) wh
         pitch = tame_at Kind.Corner e 2 Quantity.Pitch (omega arith) refl;
       }
 
-  numbers_fine : NumbersFine p.corners p.second line
+  numbers_fine : NumbersFine p.corners (second_of p) line
   numbers_fine = record { fits = f.fits; on = fine.on; known = fine.known }
 
   -- a label that is not doubled finds room in its set, since each label of it uses another corner
   pub labels_room : kind_at line.row ≡ Kind.Label → LabelsRoom p (label_in line.values)
   unfolding twice_of
   labels_room e =
-      let fits = label_fits p.corners p.second line numbers_fine e in
+      let fits = label_fits p.corners (second_of p) line numbers_fine e in
       let k = (label_in line.values).corner in
-      let once : label_twice p.patched a.sheet a.used a.second p.second (label_in line.values) ≡ false =
-      sym (ap (twice_as p.patched a.shades a.sheet a.used a.second p.second line) e) ∙ fine.once in
+      let once : label_twice (patched_of p) a.sheet a.used a.second (second_of p) (label_in line.values) ≡ false =
+      sym (ap (twice_as (patched_of p) a.shades a.sheet a.used a.second (second_of p) line) e) ∙ fine.once in
       record {
         first = λ q.
             let free = (or_false_both (is_set a.sheet (place_of (label_in line.values).cell)) (is_set a.used k) (rw q at once)).1 in
             omega (arith, f.counted.first, many_room (is_set a.used) corner_limit k fits.entry free);
         second = λ q.
-            let free = (or_false_both (any_below p.second (has_place a.second (place_of (label_in line.values).cell))) (is_set a.used (corner_limit + k)) (rw q at once)).1 in
+            let free = (or_false_both (any_below (second_of p) (has_place a.second (place_of (label_in line.values).cell))) (is_set a.used (corner_limit + k)) (rw q at once)).1 in
             omega (arith, f.counted.second, many_room (λ j. is_set a.used (corner_limit + j)) corner_limit k fits.entry free);
         label = fits;
       }
@@ -98,7 +98,7 @@ module _ {p : Progress} {a : Arrays} {line : HeldLine} (f : Addable p a line) wh
   pub shade_room : kind_at line.row ≡ Kind.Shade → ShadeFits (shade_in line.values)
   shade_room e =
       record {
-        entry = shade_fits p.corners p.second line numbers_fine e;
+        entry = shade_fits p.corners (second_of p) line numbers_fine e;
         small = kind_known p.corners line (row_of_lem line.row Kind.Shade f.fits.row_fits e) fine.first;
       }
 

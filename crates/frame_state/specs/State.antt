@@ -1,6 +1,6 @@
 -- What a frame's lines have said so far as the code holds it, and one line added to it. Definitions only; crate frame shows that it is what
 -- the definition of a frame says.
-use Rattle.std.specs.Prelude.{◌≡◌, Bool, true, false, not, List, [], ◌∷◌, ℕ, ◌+◌, ◌*◌, ◌<◌, ◌≤◌, T, length, get_or, set, Float, Ok}
+use Rattle.std.specs.Prelude.{◌≡◌, Bool, true, false, not, List, [], ◌∷◌, ℕ, ◌+◌, ◌*◌, ◌<◌, ◌≤◌, T, length, get_or, set, Float, Ok, None, Some, is_some, unwrap_or}
 use Rattle.std.specs.Float.{binary32}
 use Rattle.std.specs.Float.Ieee.{of_bits, nan_bits}
 use Rattle.sizes.specs.Sizes.{place_count, corner_limit, pass_size}
@@ -37,6 +37,14 @@ pub record TameAxes (v : List ℕ) : Type 0 where
 
 -- ---- cell size, axes and band, the numbers of corners, labels and passes, whether the patch line stands, and the stage
 
+-- whether the patch line stands
+abbrev pub patched_of : Progress → Bool
+patched_of p = is_some p.second
+
+-- how many labels the second set has, 0 where no patch line stands
+abbrev pub second_of : Progress → ℕ
+second_of p = unwrap_or p.second 0
+
 -- before the first line
 abbrev pub nothing_said : Progress
 nothing_said =
@@ -53,15 +61,14 @@ nothing_said =
           };
       corners = 0;
       labels = 0;
-      patched = false;
-      second = 0;
+      second = None;
       passes = 0;
       stage = 0;
     }
 
 abbrev pub at_stage : Progress → ℕ → Progress
 at_stage p stage =
-    record { settings = p.settings; corners = p.corners; labels = p.labels; patched = p.patched; second = p.second; passes = p.passes; stage = stage }
+    record { settings = p.settings; corners = p.corners; labels = p.labels; second = p.second; passes = p.passes; stage = stage }
 
 abbrev pub with_cell_size : Settings → ℕ → Settings
 with_cell_size s b =
@@ -100,7 +107,7 @@ with_opening OpeningKind.Band s v = with_band s (get_or v 0 0)
 
 abbrev pub with_settings : Progress → Settings → Progress
 with_settings p s =
-    record { settings = s; corners = p.corners; labels = p.labels; patched = p.patched; second = p.second; passes = p.passes; stage = p.stage }
+    record { settings = s; corners = p.corners; labels = p.labels; second = p.second; passes = p.passes; stage = p.stage }
 
 abbrev pub with_corner : Progress → Progress
 with_corner p =
@@ -108,7 +115,6 @@ with_corner p =
       settings = p.settings;
       corners = p.corners + 1;
       labels = p.labels;
-      patched = p.patched;
       second = p.second;
       passes = p.passes;
       stage = p.stage;
@@ -120,7 +126,6 @@ with_label p =
       settings = p.settings;
       corners = p.corners;
       labels = p.labels + 1;
-      patched = p.patched;
       second = p.second;
       passes = p.passes;
       stage = p.stage;
@@ -132,8 +137,7 @@ with_patch p =
       settings = p.settings;
       corners = p.corners;
       labels = p.labels;
-      patched = true;
-      second = p.second;
+      second = Some (second_of p);
       passes = p.passes;
       stage = p.stage;
     }
@@ -144,8 +148,7 @@ with_second p =
       settings = p.settings;
       corners = p.corners;
       labels = p.labels;
-      patched = p.patched;
-      second = p.second + 1;
+      second = Some (second_of p + 1);
       passes = p.passes;
       stage = p.stage;
     }
@@ -156,7 +159,6 @@ with_pass p =
       settings = p.settings;
       corners = p.corners;
       labels = p.labels;
-      patched = p.patched;
       second = p.second;
       passes = p.passes + 1;
       stage = p.stage;
@@ -180,8 +182,8 @@ pub record SecondRoom (n : ℕ) (l : HeldLabel) : Type 0 where
 
 -- there is room for it in the set that is open
 pub record LabelsRoom (p : Progress) (l : HeldLabel) : Type 0 where
-  pub first : p.patched ≡ false → p.labels < corner_limit
-  pub second : p.patched ≡ true → p.second < corner_limit
+  pub first : patched_of p ≡ false → p.labels < corner_limit
+  pub second : patched_of p ≡ true → second_of p < corner_limit
   pub label : LabelFits l
 
 -- what a label changes
@@ -197,7 +199,7 @@ labels_after p sheet used second = record { progress = p; sheet = sheet; used = 
 -- to the second set once the patch line stands, else to the first
 abbrev pub label_added : Bool → HeldLabel → Labels → Labels
 label_added true l b =
-    let n = b.progress.second in
+    let n = second_of b.progress in
     labels_after (with_second b.progress) b.sheet (set b.used (corner_limit + l.corner) 1)
     (set (set b.second n l.corner) (corner_limit + n) (place_of l.cell))
 label_added false l b = labels_after (with_label b.progress) (attached b.sheet l.cell l.corner) (set b.used l.corner 1) b.second
@@ -295,12 +297,12 @@ label_to patched l s =
 -- the labels of each set are as many as the corners that it uses
 pub record Counted (p : Progress) (used : List ℕ) : Type 0 where
   pub first : how_many (is_set used) corner_limit ≡ p.labels
-  pub second : how_many (λ k. is_set used (corner_limit + k)) corner_limit ≡ p.second
+  pub second : how_many (λ k. is_set used (corner_limit + k)) corner_limit ≡ second_of p
 
 -- a line can be added: it passed its checks, the corners before it are few enough, and the labels are counted
 pub record Addable (p : Progress) (a : Arrays) (line : HeldLine) : Type 0 where
-  pub fine : checked_held p.corners p.passes p.patched a.shades a.sheet a.used a.second p.second line ≡ Ok tt
-  pub fits : LineFits p.corners p.second line
+  pub fine : checked_held p.corners p.passes (patched_of p) a.shades a.sheet a.used a.second (second_of p) line ≡ Ok tt
+  pub fits : LineFits p.corners (second_of p) line
   pub long : length a.sheet ≡ place_count
   pub counted : Counted p a.used
 
@@ -315,7 +317,7 @@ adds_as Kind.Corner v s =
     h.used h.second h.passes)
 adds_as Kind.Label v s =
     let h = s.held in
-    let b = label_added s.progress.patched (label_in v) (labels_after s.progress h.sheet h.used h.second) in
+    let b = label_added (patched_of s.progress) (label_in v) (labels_after s.progress h.sheet h.used h.second) in
     state b.progress (arrays h.xs h.ys h.pitches h.shades b.sheet b.used b.second h.passes)
 adds_as Kind.Patch v s = state (with_patch s.progress) s.held
 adds_as Kind.Shade v s =

@@ -6,7 +6,7 @@
 ghost use Rattle.std.specs.Prelude.{◌≡◌, ◌<◌};
 ghost use Rattle.sizes.specs.Sizes.{pass_limit};
 ghost use Rattle.frame_check.specs.Checks.{LabelFits};
-ghost use Rattle.frame_state.specs.State.{nothing_said, at_stage, TameOpening, with_opening, CornerFits, SecondRoom, LabelsRoom, ShadeFits, shade_put, grow_words, fill_words, local_words, words_in, words_put, with_shades, with_passes, corner_put, label_put, second_put, label_to, arrays, state, Addable, adds};
+ghost use Rattle.frame_state.specs.State.{patched_of, nothing_said, at_stage, TameOpening, with_opening, CornerFits, SecondRoom, LabelsRoom, ShadeFits, shade_put, grow_words, fill_words, local_words, words_in, words_put, with_shades, with_passes, corner_put, label_put, second_put, label_to, arrays, state, Addable, adds};
 ghost use Rattle.frame_state.specs.Parts.{held, SameParts};
 
 use arguments::Settings;
@@ -15,16 +15,14 @@ use frame_number::count_of;
 use predict::{Grid, Vector};
 use sizes::{ALL_PASS_WORDS, CORNERS, PASS_WORDS, PLACES, SECOND, USED};
 
-// Cell size, axes and band, how many corners, labels of the first set, labels of the second and passes there are, whether the patch line stands, and
-// the stage that the lines have come to.
+// Cell size, axes and band, how many corners, labels of the first set, labels of the second, None where no patch line stands, and passes there are,
+// and the stage that the lines have come to.
 #[derive(Clone, Copy)]
 pub struct Progress {
     pub settings: Settings,
     pub corners: usize,
     pub labels: usize,
-    // Stays: the definitions of a line's checks and of what it adds have this and the count apart, and hold of the count 0 as well (d).
-    pub patched: bool,
-    pub second: usize,
+    pub second: Option<usize>,
     pub passes: usize,
     pub stage: usize,
 }
@@ -59,8 +57,7 @@ pub fn start() -> Progress
         settings,
         corners: 0,
         labels: 0,
-        patched: false,
-        second: 0,
+        second: None,
         passes: 0,
         stage: 0,
     }
@@ -220,19 +217,22 @@ impl<'a> Parts<'a> {
     fn add_label(&mut self, p: Progress, label: HeldLabel) -> Progress
         requires { LabelsRoom p label }
         ensures same { SameParts self.old self.new }
-        ensures put { state result (held self.new) ≡ label_to p.patched label (state p (held self.old)) }
+        ensures put { state result (held self.new) ≡ label_to (patched_of p) label (state p (held self.old)) }
     {
-        if p.patched {
-            self.put_second(p.second, label);
-            Progress {
-                second: p.second + 1,
-                ..p
+        match p.second {
+            Some(n) => {
+                self.put_second(n, label);
+                Progress {
+                    second: Some(n + 1),
+                    ..p
+                }
             }
-        } else {
-            self.put_label(label);
-            Progress {
-                labels: p.labels + 1,
-                ..p
+            None => {
+                self.put_label(label);
+                Progress {
+                    labels: p.labels + 1,
+                    ..p
+                }
             }
         }
     }
@@ -283,7 +283,10 @@ impl<'a> Parts<'a> {
                 }
             }
             Kind::Label => self.add_label(p, frame_number::label_of(v)),
-            Kind::Patch => Progress { patched: true, ..p },
+            Kind::Patch => Progress {
+                second: Some(p.second.unwrap_or(0)),
+                ..p
+            },
             Kind::Shade => {
                 self.put_shade(frame_number::shade_of(v));
                 p

@@ -6,6 +6,7 @@
 ghost use Rattle.std.specs.Prelude.{◌≤◌, length};
 ghost use Rattle.grow_queue.specs.Places.{so_far, Flagged, OnPlaces};
 
+use positions_policy::CARDINALS;
 use sheet::{Cell, Written};
 use sizes::PLACES;
 
@@ -92,12 +93,8 @@ impl<'a> Queue<'a> {
         requires { Room 4 sheet.now self.old × OnSheet c }
         ensures { QueueHeld self.old self.new (spread sheet.now c (queued self.old)) }
     {
-        // Stays: the four cardinal cells are given by their number, in the order of 01.
-        for k in 0..4 {
-            self.enqueue(
-                sheet,
-                sheet::neighbour(c, positions_policy::cardinal_offset(k)),
-            );
+        for offset in CARDINALS {
+            self.enqueue(sheet, sheet::neighbour(c, offset));
         }
     }
 

@@ -67,7 +67,7 @@ pub fn edge_ok(candidate: Corner, neighbour: Corner, cell_size: f32, band: f32) 
 }
 
 // The cardinal neighbours, in the order +i, -i, +j, -j.
-const CARDINALS: [Offset; 4] = [
+pub const CARDINALS: [Offset; 4] = [
     Offset { di: 1, dj: 0 },
     Offset { di: -1, dj: 0 },
     Offset { di: 0, dj: 1 },

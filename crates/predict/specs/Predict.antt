@@ -168,7 +168,7 @@ extrapolating seen c =
 
 -- ---- the square a cell at a time, as the loops go through it
 
--- the k-th cell of the square around a cell, and its offset
+-- whether a corner is seen
 unfoldable pub is_seen : Option Corner → Bool
 is_seen None = false
 is_seen (Some corner) = true

@@ -42,7 +42,7 @@ fn meaning(answer: io::Result<usize>) -> Result<usize, NoAnswer>
 }
 
 // One read into the unfilled rest of the buffer; what stands before it is kept.
-// Stays: the contract speaks of the whole buffer, and says that what stands before the rest is kept (d).
+// Stays: lent `&mut buffer[at..]` alone, the reading would have to put both parts together again for what it says of the whole buffer (d).
 #[tactic(auto, unfolding(crate::specs::Reading::got_of))]
 fn read_rest<R: Read>(input: &mut R, buffer: &mut [u8], at: usize) -> Result<usize, NoAnswer>
     requires { at < length buffer.old }

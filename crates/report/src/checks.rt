@@ -20,7 +20,21 @@ pub struct Lent<'a> {
     pub sheet: &'a [u16],
 }
 
-impl Lent<'_> {
+impl<'a> Lent<'a> {
+    // What the lines are written from.
+    pub fn source(&self) -> Source<'a>
+        requires { AllLent self.now.passes self.now.words.now self.now.sheet.now }
+        ensures passes { result.passes ≡ self.now.passes }
+        ensures words { result.words.now ≡ self.now.words.now }
+        ensures sheet { result.sheet.now ≡ self.now.sheet.now }
+    {
+        Source {
+            passes: self.passes,
+            words: self.words,
+            sheet: self.sheet,
+        }
+    }
+
     // 7: whether the words or the sheet are not all there.
     #[tactic(auto, unfolding(crate::specs::WriteResult::input_short))]
     fn input_short(&self) -> bool
@@ -69,12 +83,7 @@ impl Lent<'_> {
         requires { AllLent self.now.passes self.now.words.now self.now.sheet.now }
         ensures { result ≡ ltb room (length (text_from self.now.passes self.now.words.now self.now.sheet.now 0)) }
     {
-        let source = Source {
-            passes: self.passes,
-            words: self.words,
-            sheet: self.sheet,
-        };
-        source.text_short(room)
+        self.source().text_short(room)
     }
 
     // Whether a call that writes the whole text is refused, and why.

@@ -11,7 +11,6 @@ ghost use Rattle.report.specs.Said.{text_said, text_due, piece_said, piece_due};
 
 use checks::Lent;
 pub use lines::PieceEnd;
-use lines::Source;
 use refusal::Refusal;
 
 // Writes the whole text of a result to the front of a buffer, and leaves the rest of it as it was: how many bytes were written, or why nothing was. It is lent the outcomes of the passes as words,
@@ -34,12 +33,7 @@ pub fn write_result(
         sheet,
     };
     lent.check_text(out.len())?;
-    let source = Source {
-        passes,
-        words,
-        sheet,
-    };
-    Ok(source.write_all(out))
+    Ok(lent.source().write_all(out))
 }
 
 // Writes a piece of it: whole lines from a line on, as long as 128 bytes are left before each; how far it goes, or why nothing was written. `said` is the same answer in 01's number or values.
@@ -62,10 +56,5 @@ pub fn write_result_piece(
         sheet,
     };
     lent.check_piece(from, out.len())?;
-    let source = Source {
-        passes,
-        words,
-        sheet,
-    };
-    Ok(source.write_some(from, out))
+    Ok(lent.source().write_some(from, out))
 }

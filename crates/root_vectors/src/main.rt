@@ -11,6 +11,7 @@ use std::io;
 use std::io::Read;
 
 // A line so far: its first nine bytes, and how many bytes it has, where nine stands for nine and more.
+// Stays: the bytes are kept in fixed memory, so that how many there are stands beside them (a).
 #[derive(Clone, Copy)]
 struct Line {
     bytes: [u8; 9],
@@ -30,7 +31,7 @@ fn print_refused(rt: &impl Print, refusal: Refusal) -> io::Result<()> {
 }
 
 // A float's eight digits on a line.
-// Stays: a crate for these three lines, with two programs above it, is no plainer (d).
+// Stays: to share them with `call_print`, this program would have to name the passes' crates for these lines (d).
 fn print_float(rt: &impl Print, x: f32) -> io::Result<()> {
     let mut text = [b'\n'; 9];
     binary32::hex::write_float(x, &mut text);

@@ -1,9 +1,7 @@
 -- `elimination::solve` meets its contract. Assumes nothing.
-use Rattle.elimination.proofs.Sound.{solved_some, solved_none}
+use mathlib.Core.Path.{◌∙◌}
+use Rattle.elimination.proofs.Sound.{solved_by_count}
 use Rattle.elimination.proofs.solve.Goals as goal
 
-pub returns-then-counts : goal.returns-then-counts
-returns-then-counts c = solved_some _ _ _ _ c.eliminate.ensures c.substitute-x.ensures c.counts.ensures c.if-counts.true
-
-pub returns-else-counts : goal.returns-else-counts
-returns-else-counts c = solved_none _ _ _ _ c.eliminate.ensures c.substitute-x.ensures c.counts.ensures c.if-counts.false
+pub returns : goal.returns
+returns c = c.then_some.ensures ∙ solved_by_count _ _ _ _ c.eliminate.ensures c.substitute-x.ensures c.counts.ensures

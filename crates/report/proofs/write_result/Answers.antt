@@ -12,14 +12,14 @@ returns-in_err-check_text c =
     text_refused (text_lent c.args.corners c.args.passes c.args.words.now c.args.sheet.now) c.args.out.now _ (sym c.check_text.ensures ∙ c.in_err-check_text.was) in
     record { out_after = rw (p.1, p.2) both_clauses.0; said = rw (p.1, p.2) both_clauses.1 }
 
+pub source-requires : goal.source-requires
+source-requires c = (text_asked (text_lent c.args.corners c.args.passes c.args.words.now c.args.sheet.now) c.args.out.now (sym c.check_text.ensures ∙ c.in_ok-check_text.was)).sound.all
+
 pub write_all-requires : goal.write_all-requires
-write_all-requires c = text_asked (text_lent c.args.corners c.args.passes c.args.words.now c.args.sheet.now) c.args.out.now (sym c.check_text.ensures ∙ c.in_ok-check_text.was)
+write_all-requires c = rw (c.source.ensures.passes, c.source.ensures.words, c.source.ensures.sheet) (text_asked (text_lent c.args.corners c.args.passes c.args.words.now c.args.sheet.now) c.args.out.now (sym c.check_text.ensures ∙ c.in_ok-check_text.was))
 
 pub returns : goal.returns
 returns c =
     let both_clauses =
-    text_written_lem (text_lent c.args.corners c.args.passes c.args.words.now c.args.sheet.now) c.args.out.now _ _ (sym c.check_text.ensures ∙ c.in_ok-check_text.was) c.write_all.ensures in
+    text_written_lem (text_lent c.args.corners c.args.passes c.args.words.now c.args.sheet.now) c.args.out.now _ _ (sym c.check_text.ensures ∙ c.in_ok-check_text.was) (rw (← c.source.ensures.passes, ← c.source.ensures.words, ← c.source.ensures.sheet) c.write_all.ensures) in
     record { out_after = both_clauses.0; said = both_clauses.1 }
-
-pub invariant_of-source : goal.invariant_of-source
-invariant_of-source c = record { all = (text_asked (text_lent c.args.corners c.args.passes c.args.words.now c.args.sheet.now) c.args.out.now (sym c.check_text.ensures ∙ c.in_ok-check_text.was)).sound.all }

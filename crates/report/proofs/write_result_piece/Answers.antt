@@ -12,14 +12,14 @@ returns-in_err-check_piece c =
     piece_refused (text_lent c.args.corners c.args.passes c.args.words.now c.args.sheet.now) c.args.from c.args.out.now _ (sym c.check_piece.ensures ∙ c.in_err-check_piece.was) in
     record { out_after = rw (p.1, p.2) both_clauses.0; said = rw (p.1, p.2) both_clauses.1 }
 
+pub source-requires : goal.source-requires
+source-requires c = (piece_asked (text_lent c.args.corners c.args.passes c.args.words.now c.args.sheet.now) c.args.from c.args.out.now (sym c.check_piece.ensures ∙ c.in_ok-check_piece.was)).sound.all
+
 pub write_some-requires : goal.write_some-requires
-write_some-requires c = piece_asked (text_lent c.args.corners c.args.passes c.args.words.now c.args.sheet.now) c.args.from c.args.out.now (sym c.check_piece.ensures ∙ c.in_ok-check_piece.was)
+write_some-requires c = rw (c.source.ensures.passes, c.source.ensures.words, c.source.ensures.sheet) (piece_asked (text_lent c.args.corners c.args.passes c.args.words.now c.args.sheet.now) c.args.from c.args.out.now (sym c.check_piece.ensures ∙ c.in_ok-check_piece.was))
 
 pub returns : goal.returns
 returns c =
     let both_clauses =
-    piece_written_lem (text_lent c.args.corners c.args.passes c.args.words.now c.args.sheet.now) c.args.from c.args.out.now _ _ (sym c.check_piece.ensures ∙ c.in_ok-check_piece.was) c.write_some.ensures in
+    piece_written_lem (text_lent c.args.corners c.args.passes c.args.words.now c.args.sheet.now) c.args.from c.args.out.now _ _ (sym c.check_piece.ensures ∙ c.in_ok-check_piece.was) (rw (← c.source.ensures.passes, ← c.source.ensures.words, ← c.source.ensures.sheet) c.write_some.ensures) in
     record { out_after = both_clauses.0; said = both_clauses.1 }
-
-pub invariant_of-source : goal.invariant_of-source
-invariant_of-source c = record { all = (piece_asked (text_lent c.args.corners c.args.passes c.args.words.now c.args.sheet.now) c.args.from c.args.out.now (sym c.check_piece.ensures ∙ c.in_ok-check_piece.was)).sound.all }

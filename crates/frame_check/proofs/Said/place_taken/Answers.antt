@@ -8,4 +8,4 @@ use Rattle.frame_check.proofs.Said.place_taken.Goals as goal
 pub returns : goal.returns
 returns c =
     let s = c.args.self.now in
-    c.contains.ensures.value ∙ place_among s.second.now s.labels (1024 + s.labels - 1024) c.args.place (omega (arith, s.labels_few)) (omega arith)
+    c.contains.ensures.value ∙ place_among s.second.now c.args.n (1024 + c.args.n - 1024) c.args.place (omega (arith, c.requires)) (omega arith)

@@ -3,5 +3,5 @@
 use Rattle.grow_queue.proofs.Laws.{Spreading}
 use Rattle.grow_queue.proofs.Queue.enqueue_cardinal_neighbours.Given as goal
 
-abbrev pub invariant-loop-k : goal.invariant-loop-k
-invariant-loop-k l = Spreading l.sheet l.c l.initial.self l.self l.k
+abbrev pub invariant-loop-offset : goal.invariant-loop-offset
+invariant-loop-offset l = Spreading l.sheet l.c l.initial.self l.self l.offset-index
