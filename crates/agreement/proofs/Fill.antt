@@ -21,15 +21,14 @@ use Rattle.labels.proofs.Pairing.{paired_box, paired_count}
 use Rattle.candidates.specs.Candidates.{squared_radius}
 use Rattle.candidates.proofs.Radius.{search_radius}
 use Rattle.predict.specs.Predict.{prediction_of}
-use Rattle.std.specs.Prelude.{Option, Some, None}
+use Rattle.std.specs.Prelude.{Option, Some, None, Ok, Err}
 use Rattle.sheet.specs.declared.Position.{Position}
 use Rattle.predict.proofs.Laws.{prediction_paired}
 use Rattle.arguments.specs.Shades.{corners_of, PairedShades}
 use Rattle.arguments.specs.Accepted.{SettingsInside, FillInside}
 use Rattle.arguments.specs.declared.Settings.{Settings}
 use Rattle.arguments.specs.declared.FillParams.{FillParams}
-use Rattle.extension_common.specs.TryCell.{try_at}
-use Rattle.extension_common.specs.declared.TryCellResult.{TryCellResult}
+use Rattle.extension_common.specs.TryCell.{TryCellResult, try_at}
 use Rattle.extension_common.proofs.Laws.{attachable}
 use Rattle.passes.specs.Grow.{tolerances_of}
 use Rattle.passes.specs.Rounds.{rounds_from}
@@ -58,12 +57,10 @@ fill_cells_same {sheet} {sheet'} paired = cells_same paired (box_and_strips (box
 -- ---- one cell
 
 with_same : {n : ℕ} {s : Shuffle n} {a a' : FillState} → SameFill s a a' → 16384 ≤ length a.sheet → (c : Cell) → OnSheet c → n ≤ 1024
-    → (r : TryCellResult) → ((k : ℕ) → r ≡ TryCellResult.Attached k → k < n) → SameFill s (fill_with c r a) (fill_with c (paired_result s.to r) a')
+    → (r : TryCellResult) → ((k : ℕ) → r ≡ Ok k → k < n) → SameFill s (fill_with c r a) (fill_with c (paired_result s.to r) a')
 unfolding fill_with paired_result
-with_same same long c on few TryCellResult.NoCandidates given = same
-with_same same long c on few TryCellResult.Ambiguous given = same
-with_same same long c on few TryCellResult.EdgeRejected given = same
-with_same {s = s} same long c on few (TryCellResult.Attached k) given =
+with_same same long c on few (Err e) given = same
+with_same {s = s} same long c on few (Ok k) given =
     let h = given k refl in
     record {
       sheet = paired_attached same.sheet c long on k (omega arith) (omega (arith, s.to_in k h));

@@ -23,7 +23,7 @@ use Rattle.labels.proofs.Pairing.{paired_places}
 use Rattle.candidates.specs.Candidates.{squared_radius}
 use Rattle.candidates.proofs.Radius.{search_radius, boundary_radius}
 use Rattle.predict.specs.Predict.{prediction_of, extrapolating}
-use Rattle.std.specs.Prelude.{Option, Some, None}
+use Rattle.std.specs.Prelude.{Option, Some, None, Ok, Err}
 use Rattle.sheet.specs.declared.Position.{Position}
 use Rattle.predict.proofs.Laws.{prediction_paired, extrapolating_paired}
 use Rattle.positions_policy.specs.Edge.{cardinal_offsets}
@@ -31,8 +31,8 @@ use Rattle.arguments.specs.Shades.{corners_of, PairedShades}
 use Rattle.arguments.specs.Accepted.{SettingsInside, GrowInside}
 use Rattle.arguments.specs.declared.Settings.{Settings}
 use Rattle.arguments.specs.declared.GrowParams.{GrowParams}
-use Rattle.extension_common.specs.TryCell.{try_at}
-use Rattle.extension_common.specs.declared.TryCellResult.{TryCellResult}
+use Rattle.extension_common.specs.TryCell.{TryCellResult, try_at}
+use Rattle.extension_common.specs.declared.NotAttached.{NotAttached}
 use Rattle.extension_common.proofs.Laws.{attachable}
 use Rattle.passes.specs.Counting.{one_more}
 use Rattle.passes.specs.Grow.{tolerances_of, GrowState, member, wanted, enqueued, enqueued_at, spread, seeded_from, start_of, radius_of, search_of, missed, grow_with, grow_at, grow_visit, grow_from, grow_run}
@@ -98,34 +98,34 @@ module _ {n : ℕ} {s : Shuffle n} {a a' : GrowState} (same : SameGrow s a a') (
         sheet = paired_hole_marked same.sheet c long on;
         queued = same.queued;
         made = same.made;
-        counts = ap (one_more TryCellResult.NoCandidates) same.counts;
+        counts = ap (one_more (Err NotAttached.NoCandidates)) same.counts;
       }
 
-  with_same : n ≤ 1024 → (r : TryCellResult) → ((k : ℕ) → r ≡ TryCellResult.Attached k → k < n) → SameGrow s (grow_with c r a) (grow_with c (paired_result s.to r) a')
+  with_same : n ≤ 1024 → (r : TryCellResult) → ((k : ℕ) → r ≡ Ok k → k < n) → SameGrow s (grow_with c r a) (grow_with c (paired_result s.to r) a')
   unfolding grow_with paired_result
-  with_same few TryCellResult.NoCandidates given = missed_same
-  with_same few TryCellResult.Ambiguous given =
+  with_same few (Err NotAttached.NoCandidates) given = missed_same
+  with_same few (Err NotAttached.Ambiguous) given =
       record {
         sheet = paired_ambiguous_marked same.sheet c long on;
         queued = same.queued;
         made = same.made;
-        counts = ap (one_more TryCellResult.Ambiguous) same.counts;
+        counts = ap (one_more (Err NotAttached.Ambiguous)) same.counts;
       }
-  with_same few TryCellResult.EdgeRejected given =
+  with_same few (Err NotAttached.EdgeRejected) given =
       record {
         sheet = paired_hole_marked same.sheet c long on;
         queued = same.queued;
         made = same.made;
-        counts = ap (one_more TryCellResult.EdgeRejected) same.counts;
+        counts = ap (one_more (Err NotAttached.EdgeRejected)) same.counts;
       }
-  with_same few (TryCellResult.Attached k) given =
+  with_same few (Ok k) given =
       let h = given k refl in
       let now = paired_attached same.sheet c long on k (omega arith) (omega (arith, s.to_in k h)) in
       record {
         sheet = now;
         queued = spread_same now c a'.queued ∙ ap (spread (attached a.sheet c k) c) same.queued;
         made = ap (λ (l : List ℕ). l ++ (place_of c ∷ [])) same.made;
-        counts = ap (one_more (TryCellResult.Attached k)) same.counts;
+        counts = ap (one_more (Ok k)) same.counts;
       }
 
 -- ---- the run

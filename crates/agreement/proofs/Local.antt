@@ -1,6 +1,6 @@
 -- Local's run is the same on both frames, through the pairing, where its factor is above 1: paired sheets, and the same new cells, counts,
 -- rounds, largest residual and corners passed over. Assumes nothing.
-use Rattle.std.specs.Prelude.{Option, None}
+use Rattle.std.specs.Prelude.{Option, None, Ok, Err}
 use mathlib.Core.Path.{◌≡◌, refl, sym, ap, ap₂, subst}
 use mathlib.Core.Bool.{Bool, true, false, cond}
 use mathlib.Core.List.{List, [], ◌∷◌, ◌++◌}
@@ -29,8 +29,7 @@ use Rattle.arguments.specs.Shades.{corners_of, PairedShades}
 use Rattle.arguments.specs.Accepted.{SettingsInside, LocalInside}
 use Rattle.arguments.specs.declared.Settings.{Settings}
 use Rattle.arguments.specs.declared.LocalExtensionParams.{LocalExtensionParams}
-use Rattle.extension_common.specs.TryCell.{try_at}
-use Rattle.extension_common.specs.declared.TryCellResult.{TryCellResult}
+use Rattle.extension_common.specs.TryCell.{TryCellResult, try_at}
 use Rattle.extension_common.proofs.Laws.{attachable}
 use Rattle.passes.specs.Counting.{no_counts}
 use Rattle.passes.specs.Rounds.{rounds_from}
@@ -88,12 +87,10 @@ passed_same : {n : ℕ} {s : Shuffle n} {a a' : LocalState} → SameLocal s a a'
 passed_same same e = record { sheet = same.sheet; made = same.made; counts = same.counts; largest = same.largest; unmatched = ap₂ (λ (x y : ℕ). x + y) same.unmatched e }
 
 with_same : {n : ℕ} {s : Shuffle n} {a a' : LocalState} → SameLocal s a a' → 16384 ≤ length a.sheet → (c : Cell) → OnSheet c → n ≤ 1024
-    → (r : TryCellResult) → ((k : ℕ) → r ≡ TryCellResult.Attached k → k < n) → SameLocal s (local_with c r a) (local_with c (paired_result s.to r) a')
+    → (r : TryCellResult) → ((k : ℕ) → r ≡ Ok k → k < n) → SameLocal s (local_with c r a) (local_with c (paired_result s.to r) a')
 unfolding local_with paired_result
-with_same same long c on few TryCellResult.NoCandidates given = record { sheet = same.sheet; made = same.made; counts = rw same.counts; largest = same.largest; unmatched = same.unmatched }
-with_same same long c on few TryCellResult.Ambiguous given = record { sheet = same.sheet; made = same.made; counts = rw same.counts; largest = same.largest; unmatched = same.unmatched }
-with_same same long c on few TryCellResult.EdgeRejected given = record { sheet = same.sheet; made = same.made; counts = rw same.counts; largest = same.largest; unmatched = same.unmatched }
-with_same {s = s} {a = a} same long c on few (TryCellResult.Attached k) given =
+with_same same long c on few (Err e) given = record { sheet = same.sheet; made = same.made; counts = rw same.counts; largest = same.largest; unmatched = same.unmatched }
+with_same {s = s} {a = a} same long c on few (Ok k) given =
     let h = given k refl in
     let fits : k < 16383 = omega arith in
     let now : 16384 ≤ length (attached a.sheet c k) = rw (attached_changes a.sheet c long on k fits).same_length long in

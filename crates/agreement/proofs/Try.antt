@@ -7,6 +7,7 @@ use lib.Dec.{T}
 use lib.ListN.{length}
 use lib.Ieee.{Float, lt}
 use lib.Ieee.Scale.{finite}
+use Rattle.std.specs.Prelude.{Ok, Err}
 use Rattle.sheet.specs.Shades.{kind_at, takes}
 use Rattle.sheet.specs.Corners.{CornerLists, corner_of, seen_of, Given}
 use Rattle.sheet.specs.Pairing.{PairedCorners, PairedSheets}
@@ -15,8 +16,7 @@ use Rattle.sheet.specs.declared.Corner.{Corner}
 use Rattle.sheet.specs.declared.Position.{Position}
 use Rattle.labels.proofs.Pairing.{paired_used}
 use Rattle.candidates.specs.Candidates.{squared_radius, eligible, candidates_at, first_two}
-use Rattle.candidates.specs.Choice.{renumbered}
-use Rattle.candidates.specs.declared.CandidateChoice.{CandidateChoice}
+use Rattle.candidates.specs.Choice.{CandidateChoice, renumbered}
 use Rattle.candidates.proofs.Pairing.{paired_unambiguous, paired_with_floor}
 use Rattle.positions_policy.specs.Edge.{verdict_of, passes}
 use Rattle.positions_policy.specs.declared.Tolerances.{Tolerances}
@@ -24,19 +24,17 @@ use Rattle.positions_policy.proofs.Laws.{verdict_paired}
 use Rattle.arguments.specs.Shades.{shades_of, corners_of, PairedShades}
 use Rattle.arguments.proofs.Pairing.{paired_takes}
 use Rattle.passed_over.proofs.Laws.{paired_passed_over}
-use Rattle.extension_common.specs.TryCell.{unlabelled_on, gathered, unmatched, choice_by, edges_of, result_of, try_at}
+use Rattle.extension_common.specs.TryCell.{TryCellResult, unlabelled_on, gathered, unmatched, choice_by, edges_of, result_of, try_at}
 use Rattle.extension_common.specs.declared.ChoiceRule.{ChoiceRule}
 use Rattle.extension_common.specs.declared.Search.{Search}
-use Rattle.extension_common.specs.declared.TryCellResult.{TryCellResult}
+use Rattle.extension_common.specs.declared.NotAttached.{NotAttached}
 use Rattle.extension_common.proofs.Laws.{chosen}
 use Rattle.binary32.specs.Numbers.{one}
 
 -- what is found, with the paired corner
 unfoldable pub paired_result : (ℕ → ℕ) → TryCellResult → TryCellResult
-paired_result to TryCellResult.NoCandidates = TryCellResult.NoCandidates
-paired_result to TryCellResult.Ambiguous = TryCellResult.Ambiguous
-paired_result to TryCellResult.EdgeRejected = TryCellResult.EdgeRejected
-paired_result to (TryCellResult.Attached k) = TryCellResult.Attached (to k)
+paired_result to (Err e) = Err e
+paired_result to (Ok k) = Ok (to k)
 
 module _ (l l' : CornerLists) (corners : PairedCorners l l') (shades shades' : List ℕ) (kinds : PairedShades corners.pairs shades shades')
     (long : length l.xs ≤ length shades) (sheet sheet' : List ℕ) (paired : PairedSheets corners.pairs sheet sheet') (given : Given (length l.xs) sheet) where
@@ -98,7 +96,7 @@ module _ (l l' : CornerLists) (corners : PairedCorners l l') (shades shades' : L
   unfolding edges_of paired_result
   edges_paired tol c k h = rw (verdict_paired corners paired given tol c k h) (go (passes (verdict_of (seen_of (corner_of l) sheet) tol c (corner_of l k))))
     where
-      go : (t : Bool) → cond t (TryCellResult.Attached (corners.pairs.to k)) TryCellResult.EdgeRejected ≡ paired_result corners.pairs.to (cond t (TryCellResult.Attached k) TryCellResult.EdgeRejected)
+      go : (t : Bool) → cond t (Ok (corners.pairs.to k)) (Err NotAttached.EdgeRejected) ≡ paired_result corners.pairs.to (cond t (Ok k) (Err NotAttached.EdgeRejected))
       go true = refl
       go false = refl
 
@@ -112,7 +110,6 @@ module _ (l l' : CornerLists) (corners : PairedCorners l l') (shades shades' : L
     where
       go : (choice : CandidateChoice) → choice_by search.rule (gathered (corners_of l shades) sheet search.search_r c p) search.ambiguity_factor ≡ choice
           → result_of (corner_of l') sheet' tol c (renumbered corners.pairs.to choice) ≡ paired_result corners.pairs.to (result_of (corner_of l) sheet tol c choice)
-      go CandidateChoice.Nothing e = refl
-      go CandidateChoice.Ambiguous e = refl
-      go (CandidateChoice.Unique k) e =
+      go (Err unchosen) e = refl
+      go (Ok k) e =
           edges_paired tol c k (chosen search.rule (corners_of l shades) sheet search.search_r search.ambiguity_factor c p k e).there

@@ -10,7 +10,7 @@ use Rattle.binary32.specs.Hex.{digit_value, read_digits}
 use Rattle.binary32.specs.Ranges.{ends_of}
 use Rattle.sheet.specs.Pairing.{Shuffle}
 use Rattle.arguments.specs.Arguments.{outside}
-use Rattle.arguments.specs.Shades.{shade_of}
+use Rattle.sheet.specs.Shades.{shade_of}
 use Rattle.line_form.specs.Integers.{digits_after, read_positive, read_integer}
 use Rattle.line_form.specs.Forms.{piece_of, fit_of}
 use Rattle.line_form.specs.Lines.{lines_of}

@@ -15,7 +15,8 @@ use Rattle.candidates.specs.Candidates.{insert, ordered, candidates_at, first_tw
 use Rattle.candidates.specs.Choice.{choose_unambiguous}
 use Rattle.positions_policy.specs.Edge.{length_of, mean_pitch, expected_length, in_band, edge_ok, cardinal_offsets, edge_to, followed_by, tried, verdict_of, passes}
 use Rattle.predict.specs.Predict.{neighbour_offsets, put_before, labelled_among, neighbours_of, step_at, step_vector, weighed, with_neighbour, sums_from, no_sums, sums_of, mean_of, prediction_from, prediction_of, on_side, any_on, has_neighbour, extrapolating}
-use Rattle.arguments.specs.Shades.{shade_of, stands, any_shade}
+use Rattle.sheet.specs.Shades.{shade_of}
+use Rattle.arguments.specs.Shades.{stands, any_shade}
 use Rattle.extension_common.specs.TryCell.{choice_by}
 use Rattle.passes.specs.Grow.{member, radius_of, search_of}
 use Rattle.line_form.specs.Integers.{decimal_up_to, decimal, integer_text}

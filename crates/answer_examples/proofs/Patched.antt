@@ -13,7 +13,7 @@ use Rattle.sheet.specs.Cells.{on_sheet, place_of, cell_of}
 use Rattle.sheet.specs.Words.{label_of_number, number_of_label, bit_of, label_of, hole_of, ambiguous_of, word_of}
 use Rattle.sheet.specs.Corners.{corner_of, seen_through, squared_distance}
 use Rattle.sheet.specs.Pairing.{Shuffle}
-use Rattle.sheet.specs.Shades.{is_kind, takes_kind, kind_at as kindTaken}
+use Rattle.sheet.specs.Shades.{shade_of, is_kind, takes_kind, kind_at as kindTaken}
 use Rattle.labels.specs.Labelled.{any_below, names_corner, is_labelled}
 use Rattle.labels.specs.Used.{names}
 use Rattle.labels.specs.Rim.{on_rim, rim_at}
@@ -21,7 +21,7 @@ use Rattle.candidates.specs.Candidates.{insert, ordered, candidates_at, first_tw
 use Rattle.candidates.specs.Choice.{choose_unambiguous}
 use Rattle.positions_policy.specs.Edge.{length_of, mean_pitch, expected_length, in_band, edge_ok, cardinal_offsets, edge_to, followed_by, tried, verdict_of, passes}
 use Rattle.predict.specs.Predict.{neighbour_offsets, put_before, labelled_among, neighbours_of, step_at, step_vector, weighed, with_neighbour, sums_from, no_sums, sums_of, mean_of, prediction_from, prediction_of, on_side, any_on, has_neighbour, extrapolating}
-use Rattle.arguments.specs.Shades.{shade_of, stands, any_shade, shade_at}
+use Rattle.arguments.specs.Shades.{stands, any_shade, shade_at}
 use Rattle.arguments.specs.Arguments.{outside}
 use Rattle.extension_common.specs.TryCell.{choice_by}
 use Rattle.passes.specs.Grow.{member, radius_of, search_of}

@@ -1,14 +1,10 @@
 -- Black and white corners (document 02, 1/14) as they are lent to a call, a byte for each corner; and the corners with their shades. Definitions only.
-use Rattle.std.specs.Prelude.{◌≡◌, Bool, true, false, cond, List, ℕ, zero, suc, ◌<◌, ◌≤◌, ltb, length, get_or}
+use Rattle.std.specs.Prelude.{◌≡◌, Bool, true, false, cond, List, ℕ, ◌<◌, ◌≤◌, ltb, length, get_or}
 use Rattle.sheet.specs.Shades.{Shade, bare, kind, Shades}
+pub use Rattle.sheet.specs.Shades.{shade_of}
 use Rattle.sheet.specs.Corners.{Corners, CornerLists, corner_of}
 use Rattle.sheet.specs.Pairing.{Shuffle}
 use Rattle.labels.specs.Labelled.{any_below}
-
--- a byte: 0 is no shade, and 1 + k the kind k
-unfoldable pub shade_of : ℕ → Shade
-shade_of zero = bare
-shade_of (suc k) = kind k
 
 -- a shade stands
 unfoldable pub stands : Shade → Bool

@@ -5,16 +5,15 @@
 
 ghost use Rattle.std.specs.Prelude.{◌≡◌, ◌≤◌, ltb, length};
 ghost use Rattle.sizes.specs.Sizes.{place_count};
-ghost use Rattle.sheet.specs.Shades.{shades_in};
-ghost use Rattle.sheet.specs.Corners.{corner_lists, corner_of, corner_in, corners_in};
-ghost use Rattle.arguments.specs.Shades.{any_shade, shades_of, corners_of};
+ghost use Rattle.sheet.specs.Corners.{corner_of, corner_in, corners_in};
+ghost use Rattle.arguments.specs.Shades.{any_shade, corners_of};
 ghost use Rattle.arguments.specs.Arguments.{lent, queue_needed, too_short, outside, corner_outside, some_corner_outside, axis_outside, settings_outside, grow_outside, fill_outside, local_outside, pass_outside, unknown, unknown_corner, doubled_corner, checked};
-ghost use Rattle.arguments.specs.Asked.{lists_of, HasCorner, AllShaded, NoKinds, Holdable, TwoKinds, entry_of, HasEntry, HasEntries, Noted, Unseen};
+ghost use Rattle.arguments.specs.Asked.{lists_of, HasCorner, AllShaded, Holdable, HasEntry, HasEntries, Noted, Unseen};
 
 use binary32::ranges::Quantity;
 use predict::{Grid, Vector};
 use refusal::Refusal;
-use sheet::{Corner, Position, Written};
+use sheet::{Corner, CornerArrays, Position, Written};
 use sizes::{CORNERS, PLACES};
 use std::mem;
 
@@ -89,34 +88,13 @@ fn corner_outside(c: Corner) -> bool
         || is_outside(Quantity::Pitch, c.pitch)
 }
 
-// Whether any shade stands among the first n corners.
-// Stays: the passes' public calls lend each list by itself, as the specification and the C interface do, and count the corners by the xs.
-pub fn any_shade(shades: &[u8], n: usize) -> bool
-    requires { n ≤ length shades.now }
-    ensures { result ≡ any_shade shades.now n }
-{
-    shades[..n].iter().any(|shade| *shade != 0)
-}
-
-// The number that is held for a shade's byte: 1 or 2 for the two kinds, and a NaN for no shade.
-#[tactic(auto, unfolding(crate::specs::Asked::entry_of))]
-fn entry_of(shade: u8) -> f32
-    ensures { result ≡ entry_of shade }
-{
-    match shade {
-        0 => f32::NAN,
-        1 => 1.0,
-        _ => 2.0,
-    }
-}
-
 // The corners that are lent to a call: their xs, ys and pitches, and their shades, a byte each. There are as many as there are xs.
 #[derive(Clone, Copy)]
-struct LentCorners<'a> {
-    xs: &'a [f32],
-    ys: &'a [f32],
-    pitches: &'a [f32],
-    shades: &'a [u8],
+pub struct LentCorners<'a> {
+    pub xs: &'a [f32],
+    pub ys: &'a [f32],
+    pub pitches: &'a [f32],
+    pub shades: &'a [u8],
 }
 
 impl LentCorners<'_> {
@@ -154,55 +132,30 @@ impl LentCorners<'_> {
         (0..self.xs.len()).any(|k| corner_outside(self.corner(k)) || 2 < self.shades[k])
     }
 
-    // Puts the positions and pitches into the array in which the passes hold the corners. It holds none before: a corner that there is not has a
-    // NaN in each of its three places.
-    fn hold_positions(&self, held: &mut [f32; 4 * CORNERS])
-        requires { Holdable (lists_of self.now) held.old }
-        ensures { (corner_in held.new ≡ corner_of (lists_of self.now)) × NoKinds held.new }
+    // Whether any shade stands.
+    pub fn any_shade(&self) -> bool
+        requires { length self.now.xs.now ≤ length self.now.shades.now }
+        ensures { result ≡ any_shade self.now.shades.now (length self.now.xs.now) }
     {
-        let n = self.xs.len();
-        held[..n].copy_from_slice(self.xs);
-        held[CORNERS..CORNERS + n].copy_from_slice(&self.ys[..n]);
-        held[2 * CORNERS..2 * CORNERS + n].copy_from_slice(&self.pitches[..n]);
+        self.shades[..self.xs.len()].iter().any(|shade| *shade != 0)
     }
 
-    // Puts the shades into that array; where none stands, the first of the kinds is 0.
-    fn hold_shades(&self, held: &mut [f32; 4 * CORNERS])
-        requires { TwoKinds self.now.shades.now (length self.now.xs.now) × NoKinds held.old }
-        ensures { (corner_in held.new ≡ corner_in held.old)
-            × (shades_in held.new ≡ shades_of self.now.shades.now (length self.now.xs.now)) }
+    // Puts the corners, with their shades, into the arrays in which the passes hold them. They hold none before.
+    pub fn hold(&self, held: &mut CornerArrays)
+        requires { Holdable (lists_of self.now) self.now.shades.now held.old }
+        ensures { corners_in held.new (length self.now.xs.now)
+            ≡ corners_of (lists_of self.now) self.now.shades.now }
     {
         let n = self.xs.len();
-        for (k, shade) in self.shades[..n].iter().enumerate() {
-            held[k + 3 * CORNERS] = entry_of(*shade);
-        }
-        if !any_shade(self.shades, n) {
-            held[3 * CORNERS] = 0.0;
+        held.xs[..n].copy_from_slice(self.xs);
+        held.ys[..n].copy_from_slice(&self.ys[..n]);
+        held.pitches[..n].copy_from_slice(&self.pitches[..n]);
+        if self.any_shade() {
+            let mut shades = [0; CORNERS];
+            shades[..n].copy_from_slice(&self.shades[..n]);
+            held.shades = Some(shades);
         }
     }
-}
-
-// The corners that are lent, with their shades, put into the array in which the passes hold them. It holds none before.
-// Stays: the passes' public calls lend each list by itself, as the specification and the C interface do.
-pub fn hold_corners(
-    xs: &[f32],
-    ys: &[f32],
-    pitches: &[f32],
-    shades: &[u8],
-    held: &mut [f32; 4 * CORNERS],
-)
-    requires { Holdable (corner_lists xs.now ys.now pitches.now) held.old × TwoKinds shades.now (length xs.now) }
-    ensures { corners_in held.new (length xs.now)
-        ≡ corners_of (corner_lists xs.now ys.now pitches.now) shades.now }
-{
-    let corners = LentCorners {
-        xs,
-        ys,
-        pitches,
-        shades,
-    };
-    corners.hold_positions(held);
-    corners.hold_shades(held);
 }
 
 // Whether a part of an axis is out of range.
@@ -286,19 +239,19 @@ pub fn unknown_corner(n: usize, sheet: &[u16]) -> bool
 }
 
 // Notes the corner of a label as seen; true if it was seen before.
-fn note(seen: &mut [u8; CORNERS], label: Option<usize>) -> bool
+fn note(seen: &mut [bool; CORNERS], label: Option<usize>) -> bool
     requires { HasEntry label }
     ensures { Noted seen.old label seen.new result }
 {
     match label {
-        Some(k) => mem::replace(&mut seen[k], 1) != 0,
+        Some(k) => mem::replace(&mut seen[k], true),
         None => false,
     }
 }
 
 // Whether the sheet names a corner at two places; none is seen at the start.
 // Stays: with `any` the closure writes to `seen` and needs a clause of its own, which is no plainer (d).
-fn seen_twice(sheet: &[u16], seen: &mut [u8; CORNERS]) -> bool
+fn seen_twice(sheet: &[u16], seen: &mut [bool; CORNERS]) -> bool
     requires { Unseen sheet.now seen.old }
     ensures { result ≡ doubled_corner sheet.now }
 {
@@ -315,43 +268,33 @@ pub fn doubled_corner(sheet: &[u16]) -> bool
     requires { HasEntries sheet.now }
     ensures { result ≡ doubled_corner sheet.now }
 {
-    let mut seen = [0u8; CORNERS];
+    let mut seen = [false; CORNERS];
     seen_twice(sheet, &mut seen)
 }
 
 // Whether a call with these arguments is refused, and why: 7, 2, 3, 5 and 6 are tried in this order. The queue and the
 // attached list are given by their lengths.
-// Stays: the passes' public calls lend each list by itself, as the specification and the C interface do.
 pub fn check_arguments(
-    xs: &[f32],
-    ys: &[f32],
-    pitches: &[f32],
-    shades: &[u8],
+    corners: LentCorners,
     sheet: &[u16],
     queue: usize,
     attached: usize,
     settings: Settings,
     pass: Pass,
 ) -> Result<(), Refusal>
-    ensures { result ≡ checked (lent xs.now ys.now pitches.now shades.now sheet.now
-        queue attached) settings pass }
+    ensures { result ≡ checked (lent corners.entry.xs.now corners.entry.ys.now corners.entry.pitches.now corners.entry.shades.now
+        sheet.now queue attached) settings pass }
 {
-    let corners = LentCorners {
-        xs,
-        ys,
-        pitches,
-        shades,
-    };
     if corners.too_short(sheet, queue, attached, pass) {
         return Err(Refusal::BufferTooShort);
     }
-    if CORNERS < xs.len() {
+    if CORNERS < corners.xs.len() {
         return Err(Refusal::OverLimit);
     }
     if corners.some_corner_outside() || settings_outside(settings) || pass_outside(pass) {
         return Err(Refusal::OutOfRange);
     }
-    if unknown_corner(xs.len(), sheet) {
+    if unknown_corner(corners.xs.len(), sheet) {
         return Err(Refusal::UnknownCorner);
     }
     if doubled_corner(sheet) {

@@ -30,13 +30,6 @@ at_nan nan t = refl
 at_nan (inf s) t = absurd (untrue (sym t))
 at_nan (fin s m e) t = absurd (untrue (sym t))
 
--- the pattern that is written for it
-pub nan_pattern : (x : Float) → is_nan x ≡ true → 0x7fc0_0000 ≡ to_bits binary32 x
-unfolding to_bits is_nan
-nan_pattern nan t = refl
-nan_pattern (inf s) t = absurd (untrue (sym t))
-nan_pattern (fin s m e) t = absurd (untrue (sym t))
-
 -- a NaN alone differs from itself
 pub nan_bits_lem : (x : Float) → ne x x ≡ true → 0x7fc0_0000 ≡ to_bits binary32 x
 unfolding to_bits

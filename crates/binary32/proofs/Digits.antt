@@ -1,4 +1,5 @@
 -- Hexadecimal digits: the turns of the reader's and the writer's loops, and the two round trips. Assumes nothing.
+use Rattle.std.proofs.lemmas.List.{drop_all, append-nil}
 use Prim.Native.Nat.{ℕ, zero, suc, ◌+◌, ◌-◌, ◌*◌, ◌/◌, ◌%◌, ◌^◌, ◌≤◌, ◌<◌}
 use mathlib.Core.Path.{◌≡◌, refl, sym, ap, ap₂, ◌∙◌}
 use mathlib.Core.Bool.{Bool, true, false, not, cond, true≢false}
@@ -232,6 +233,13 @@ module _ (n : ℕ) (old out : List ℕ) (i : ℕ) (w : Writing n old out i) wher
   done h =
       let e : i ≡ 8 = (let f = w.within in omega arith) in
       w.part ∙ ap (λ (j : ℕ). take j (hex_text n) ++ drop j old) e ∙ ap (λ (s : List ℕ). s ++ drop 8 old) (all_of n)
+
+-- where the part is the first eight bytes and no more
+pub eight_of : (out : List ℕ) → 8 ≤ length out → length (take 8 out) ≡ 8
+eight_of out h = simp (length-take) (omega arith)
+
+pub wrote_all : (n : ℕ) (old out : List ℕ) (i : ℕ) → length old ≡ 8 → Writing n old out i → 8 ≤ i → out ≡ hex_text n
+wrote_all n old out i eight w h = done n old out i w h ∙ ap (λ (r : List ℕ). hex_text n ++ r) (drop_all 8 old (omega arith)) ∙ append-nil (hex_text n)
 
 -- ---- what was written is read back
 

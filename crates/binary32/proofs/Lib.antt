@@ -10,4 +10,5 @@ pub mod Rooting
 pub mod Exists
 pub mod Monotone
 pub mod Finite
+pub mod Between
 pub mod Digits

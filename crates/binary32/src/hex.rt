@@ -5,6 +5,7 @@ ghost use Rattle.std.specs.Float.Ieee.{to_bits};
 ghost use Rattle.binary32.specs.Hex.{digit_of, digit_read, hex_text, read_bits, float_of, read_float};
 
 use refusal::Refusal;
+use std::num::f32_to_bits_with_nan;
 
 // The digit of a number below 16.
 pub fn digit_of(n: u8) -> u8
@@ -31,7 +32,6 @@ pub fn read_bits(text: &[u8]) -> Option<u32>
     ensures { result ≡ read_bits text.now }
 {
     let mut bits = 0u32;
-    // Stays: it goes over the bytes and counts no index; a `try_fold` is no shorter.
     for b in text.get(..8)? {
         bits = bits * 16 + digit_value(*b)?;
     }
@@ -64,21 +64,8 @@ pub fn write_bits(bits: u32, out: &mut [u8])
     requires { 8 ≤ length out.old }
     ensures { out.new ≡ hex_text bits ++ drop 8 out.old }
 {
-    // Stays: an array made by `from_fn` needs two clauses on its closure and a copy, and is longer (d).
-    for i in 0..8usize {
-        out[i] = digit_of(((bits >> (28 - 4 * (i as u32))) % 16) as u8);
-    }
-}
-
-// The pattern of a float; any NaN has 7fc00000.
-#[tactic(auto, using(crate::proofs::Answered::nan_pattern))]
-fn pattern_of(x: f32) -> u32
-    ensures { result ≡ to_bits binary32 x }
-{
-    if x.is_nan() {
-        0x7fc0_0000
-    } else {
-        f32::to_bits(x)
+    for (i, digit) in out[..8].iter_mut().enumerate() {
+        *digit = digit_of(((bits >> (28 - 4 * (i as u32))) % 16) as u8);
     }
 }
 
@@ -87,5 +74,5 @@ pub fn write_float(x: f32, out: &mut [u8])
     requires { 8 ≤ length out.old }
     ensures { out.new ≡ hex_text (to_bits binary32 x) ++ drop 8 out.old }
 {
-    write_bits(pattern_of(x), out);
+    write_bits(f32_to_bits_with_nan(x), out);
 }

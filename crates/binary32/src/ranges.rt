@@ -69,9 +69,10 @@ pub fn ends_of(q: Quantity) -> Ends
 }
 
 // Whether x lies in the range of a quantity, ends included, by value.
+#[tactic(auto, using(crate::proofs::Between::contained))]
 pub fn in_range(q: Quantity, x: f32) -> bool
     ensures { result ≡ in_range q x }
 {
     let e = ends_of(q);
-    e.low <= x && x <= e.high
+    (e.low..=e.high).contains(&x)
 }

@@ -8,6 +8,7 @@ ghost use Rattle.sizes.specs.Sizes.{place_count};
 use arguments::{FillParams, GrowParams, LocalExtensionParams, Pass, Settings};
 use predict::{Grid, Vector};
 use sizes::PLACES;
+use std::num::f32_from_bits_with_nan;
 
 // ---- numbers
 
@@ -24,19 +25,10 @@ pub fn number_at(text: &[u8], k: usize) -> usize {
         .unwrap_or(0) as usize
 }
 
-// The float of bits that are not finite: an infinity, or a NaN.
-fn not_finite(bits: usize) -> f32 {
-    match bits {
-        0x7f80_0000 => f32::INFINITY,
-        0xff80_0000 => f32::NEG_INFINITY,
-        _ => f32::NAN,
-    }
-}
-
 // The k-th float of the text.
 fn float_at(text: &[u8], k: usize) -> f32 {
     text_from(text, k).map_or(0.0, |rest| {
-        binary32::hex::read_float(rest).unwrap_or_else(|_| not_finite(number_at(text, k)))
+        binary32::hex::read_bits(rest).map_or(f32::NAN, |bits| f32_from_bits_with_nan(bits))
     })
 }
 
@@ -103,7 +95,6 @@ pub fn read_labels(text: &[u8], from: usize, m: usize) -> [u16; PLACES]
     ensures { place_count ≡ length result }
 {
     let mut sheet = [0u16; PLACES];
-    // Stays: a label is two numbers of the text, so that every second number begins one.
     for at in (from..from + 2 * m).step_by(2) {
         sheet[place_at(text, at + 1)] = label_word(text, at);
     }
@@ -144,6 +135,7 @@ fn rounds_at(text: &[u8], k: usize) -> u32 {
 }
 
 // The pass of a call: kind 0 is grow, 1 fill, and any other local.
+// Stays: the kinds are numbers of the text; `frame_passes` makes a pass of words, where the rounds have a place of their own (d).
 pub fn pass_at(text: &[u8], at: usize) -> Pass
     requires { at ≤ 9000 }
 {

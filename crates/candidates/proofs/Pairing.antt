@@ -7,6 +7,7 @@ use native.Mathlib.Decide.{ℕ_discrete}
 use lib.Dec.{T}
 use lib.Ieee.{Float, binary32, div, lt, le}
 use lib.Ieee.Scale.{finite}
+use Rattle.std.specs.Prelude.{Ok, Err}
 use Rattle.float_order.proofs.Unsigned.{plain_unique}
 use Rattle.binary32.specs.Sqrt.{sqrt_or_nan}
 use Rattle.sheet.specs.Pairing.{Shuffle}
@@ -16,7 +17,7 @@ use Rattle.sheet.specs.Corners.{squared_distance, finite_position}
 use Rattle.candidates.specs.declared.Candidate.{Candidate}
 use Rattle.candidates.specs.declared.Candidates.{Candidates}
 use Rattle.candidates.specs.declared.Candidates.TheVariants.{Empty, One, Several}
-use Rattle.candidates.specs.declared.CandidateChoice.TheVariants.{Ambiguous, Unique}
+use Rattle.candidates.specs.declared.Unchosen.TheVariants.{Ambiguous}
 use Rattle.candidates.specs.Candidates.{squared_radius, is_candidate, distance_of, candidates_at, first_two}
 use Rattle.candidates.specs.Choice.{epsilon, by_quotient, choose_unambiguous, raised, choose_with_floor, renumbered}
 use Rattle.candidates.proofs.Listing.{nth}
@@ -114,9 +115,9 @@ module _ {n : ℕ} (s : Shuffle n) (dist dist' : ℕ → Float) (cand cand' : �
 
 -- ---- both choices, of what is found in both orders
 
-same_pick : (to : ℕ → ℕ) (b : Bool) (k k' : ℕ) → k' ≡ to k → cond b Ambiguous (Unique k') ≡ renumbered to (cond b Ambiguous (Unique k))
+same_pick : (to : ℕ → ℕ) (b : Bool) (k k' : ℕ) → k' ≡ to k → cond b (Err Ambiguous) (Ok k') ≡ renumbered to (cond b (Err Ambiguous) (Ok k))
 same_pick to true k k' e = refl
-same_pick to false k k' e = ap Unique e
+same_pick to false k k' e = ap Ok e
 
 module _ (to : ℕ → ℕ) (factor : Float) (above : lt one factor ≡ true) where
   unambiguous_alike : (b b' : Candidates) → Alike to b b' → choose_unambiguous b' factor ≡ renumbered to (choose_unambiguous b factor)
@@ -125,11 +126,11 @@ module _ (to : ℕ → ℕ) (factor : Float) (above : lt one factor ≡ true) wh
   unambiguous_alike b b' (alike_one k d) = refl
   unambiguous_alike b b' (alike_two k k' d e f g h) = go (lt d e) refl
     where
-      apart : k' ≡ to k → (t : Bool) → cond t Ambiguous (by_quotient k' d e factor) ≡ renumbered to (cond t Ambiguous (by_quotient k d e factor))
+      apart : k' ≡ to k → (t : Bool) → cond t (Err Ambiguous) (by_quotient k' d e factor) ≡ renumbered to (cond t (Err Ambiguous) (by_quotient k d e factor))
       apart z true = refl
       apart z false = same_pick to (lt (div binary32 e d) factor) k k' z
 
-      go : (t : Bool) → lt d e ≡ t → cond (le d epsilon) Ambiguous (by_quotient k' d e factor) ≡ renumbered to (cond (le d epsilon) Ambiguous (by_quotient k d e factor))
+      go : (t : Bool) → lt d e ≡ t → cond (le d epsilon) (Err Ambiguous) (by_quotient k' d e factor) ≡ renumbered to (cond (le d epsilon) (Err Ambiguous) (by_quotient k d e factor))
       go true z = apart (h z) (le d epsilon)
       go false z = tie_unambiguous d e factor f g z above k' ∙ sym (ap (renumbered to) (tie_unambiguous d e factor f g z above k))
 

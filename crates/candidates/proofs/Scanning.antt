@@ -15,13 +15,14 @@ use Rattle.std.proofs.lemmas.List.Sums.{sum-map}
 use Rattle.std.proofs.lemmas.List.FromFn.{sum_by-map-range_with_len_more}
 use mir.Val.{bool_byte}
 use lib.Ieee.{Float, lt, le}
+use Rattle.sheet.specs.declared.CornerArrays.{CornerArrays}
 use Rattle.sheet.specs.declared.Position.{Position}
 use Rattle.sheet.specs.Corners.{squared_distance, finite_position}
 use Rattle.candidates.specs.declared.Candidate.{Candidate}
 use Rattle.candidates.specs.declared.Candidates.{Candidates}
 use Rattle.candidates.specs.declared.Candidates.TheVariants.{Empty, Several}
 use Rattle.candidates.specs.declared.Found.{Found}
-use Rattle.candidates.specs.Candidates.{positions_in, eligible, squared_radius, is_candidate, distance_of, insert, ordered, candidates_at, first_two}
+use Rattle.candidates.specs.Candidates.{positions_in, squared_radius, is_candidate, distance_of, insert, ordered, candidates_at, first_two}
 use Rattle.candidates.specs.Steps.{kept, narrowed, is_near, is_within, one_if, count_from, first_two_below, Next, IsNext, measured}
 use Rattle.candidates.proofs.Listing.{before_later, nth, exactly}
 use Rattle.candidates.proofs.Limit.{Limited, squared, limited_within, passed_over, narrowed_found, narrowed_limited}
@@ -78,27 +79,7 @@ skips distance candidate found from (suc r) h after e = go (λ l. skips distance
 
 -- ---- the test of one corner
 
-module _ (position : ℕ → Position) (unlabelled taken : ℕ → Bool) (p : Position) (limit : Float) (k : ℕ) where
-  pub labelled : unlabelled k ≡ false → false ≡ is_within position (eligible unlabelled taken) p limit k
-  unfolding eligible
-  labelled e = rw e
-
-  pub far : le (squared_distance (position k) p) limit ≡ false → false ≡ is_within position (eligible unlabelled taken) p limit k
-  far e = rw e (go (eligible unlabelled taken k))
-    where
-      go : (t : Bool) → false ≡ (t && false)
-      go true = refl
-      go false = refl
-
-  pub by_kind : unlabelled k ≡ true → le (squared_distance (position k) p) limit ≡ true → taken k ≡ is_within position (eligible unlabelled taken) p limit k
-  unfolding eligible
-  by_kind e f = rw (e, f) (go (taken k))
-    where
-      go : (t : Bool) → t ≡ (t && true)
-      go true = refl
-      go false = refl
-
--- the same test with a smaller limit than the squared radius
+-- with a smaller limit than the squared radius
 module _ (position : ℕ → Position) (may : ℕ → Bool) (p : Position) (r limit : Float) (k : ℕ) where
   -- what passes it is a candidate
   hits : (le (squared_distance (position k) p) limit ≡ true → le (squared_distance (position k) p) (squared_radius r) ≡ true)
@@ -193,14 +174,14 @@ module _ (position : ℕ → Position) (may : ℕ → Bool) (p : Position) (limi
 
 -- ---- the scan up to a corner: what was found is right for those before it, and so is what stands beside it
 
-pub record Scanned (held : List Float) (may : ℕ → Bool) (n : ℕ) (p : Position) (r : Float) (found : Found) (from : ℕ) : Type 0 where
+pub record Scanned (held : CornerArrays) (may : ℕ → Bool) (n : ℕ) (p : Position) (r : Float) (found : Found) (from : ℕ) : Type 0 where
   pub upto : from ≤ n
   pub so_far : found.candidates ≡ first_two_below held may from p r
   pub limited : Limited (squared_radius r) found
 
 -- ---- the whole scan
 
-module _ (held : List Float) (may : ℕ → Bool) (n : ℕ) (p : Position) (r : Float) where
+module _ (held : CornerArrays) (may : ℕ → Bool) (n : ℕ) (p : Position) (r : Float) where
   pub nowhere : finite_position p ≡ false → Empty ≡ first_two (candidates_at (positions_in held) may n p r)
   unfolding candidates_at first_two
   nowhere e = rw e

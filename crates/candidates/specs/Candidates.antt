@@ -1,9 +1,10 @@
 -- Document 01, "Candidates and choice", with document 02, 1/14: which corners are candidates at a prediction, and in which order they stand.
 -- Corners are seen as functions of their number: where each lies, and whether it may be a candidate at all. Definitions only.
-use Rattle.std.specs.Prelude.{Bool, true, false, not, ◌&&◌, ◌||◌, cond, List, [], ◌∷◌, ℕ, zero, suc, eqb, ltb, get_or, Float}
+use Rattle.std.specs.Prelude.{Bool, true, false, not, ◌&&◌, ◌||◌, cond, List, [], ◌∷◌, ℕ, zero, suc, ltb, get_or, Float}
 use Rattle.std.specs.Float.{binary32}
 use Rattle.std.specs.Float.Ieee.{mul, lt, le, of_bits}
 use Rattle.binary32.specs.Sqrt.{sqrt_or_nan}
+use Rattle.sheet.specs.declared.CornerArrays.{CornerArrays}
 use Rattle.sheet.specs.declared.Position.{Position}
 use Rattle.sheet.specs.Shades.{takes_kind, shades_in}
 use Rattle.sheet.specs.Corners.{corner_in, squared_distance, finite_position}
@@ -11,13 +12,13 @@ use Rattle.candidates.specs.declared.Candidate.{Candidate}
 use Rattle.candidates.specs.declared.Candidates.{Candidates}
 use Rattle.candidates.specs.declared.Candidates.TheVariants.{Empty, One, Several}
 
--- ---- the corners as the passes hold them: where corner k lies, and that it is unlabelled if its mark is 0
+-- ---- the corners as the passes hold them: where corner k lies, and that it is unlabelled if it is not marked
 
-abbrev pub positions_in : List Float → ℕ → Position
+abbrev pub positions_in : CornerArrays → ℕ → Position
 positions_in held k = (corner_in held k).position
 
-abbrev pub unmarked : List ℕ → ℕ → Bool
-unmarked used k = eqb (get_or used k 0) 0
+abbrev pub unmarked : List Bool → ℕ → Bool
+unmarked used k = not (get_or used k false)
 
 -- ---- a candidate
 
@@ -26,7 +27,7 @@ unfoldable pub eligible : (ℕ → Bool) → (ℕ → Bool) → ℕ → Bool
 eligible unlabelled taken k = unlabelled k && taken k
 
 -- the same of the corners as the passes hold them, for a cell of a kind
-abbrev pub eligible_in : List Float → List ℕ → ℕ → ℕ → Bool
+abbrev pub eligible_in : CornerArrays → List Bool → ℕ → ℕ → Bool
 eligible_in held used kind = eligible (unmarked used) (takes_kind (shades_in held) kind)
 
 abbrev pub squared_radius : Float → Float

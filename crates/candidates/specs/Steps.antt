@@ -1,6 +1,7 @@
 -- What the steps of the candidate scan ask and hand on, for their own contracts. Definitions only.
-use Rattle.std.specs.Prelude.{◌≡◌, Bool, true, false, ◌&&◌, cond, List, ℕ, zero, suc, ◌+◌, ◌≤◌, ◌<◌, Option, Some, None, Float}
+use Rattle.std.specs.Prelude.{◌≡◌, Bool, true, false, ◌&&◌, cond, ℕ, zero, suc, ◌+◌, ◌≤◌, ◌<◌, Option, Some, None, Float}
 use Rattle.std.specs.Float.Ieee.{lt, le}
+use Rattle.sheet.specs.declared.CornerArrays.{CornerArrays}
 use Rattle.sheet.specs.declared.Position.{Position}
 use Rattle.sheet.specs.Corners.{squared_distance}
 use Rattle.candidates.specs.declared.Candidate.{Candidate}
@@ -51,7 +52,7 @@ count_from test from zero = 0
 count_from test from (suc k) = count_from test from k + one_if test (from + k)
 
 -- the first two of the candidates among the first n corners, the prediction being finite
-abbrev pub first_two_below : List Float → (ℕ → Bool) → ℕ → Position → Float → Candidates
+abbrev pub first_two_below : CornerArrays → (ℕ → Bool) → ℕ → Position → Float → Candidates
 first_two_below held may n prediction radius =
     first_two (ordered (distance_of (positions_in held) prediction) (is_candidate (positions_in held) may prediction radius) n)
 

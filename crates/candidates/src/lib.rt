@@ -9,10 +9,10 @@ ghost use Rattle.binary32.specs.Sqrt.{sqrt_or_nan};
 ghost use Rattle.sheet.specs.Corners.{squared_distance};
 ghost use Rattle.sheet.specs.Shades.{takes_kind, shades_in};
 ghost use Rattle.candidates.specs.Candidates.{positions_in, eligible_in, candidates_at, first_two, last_distance};
-ghost use Rattle.candidates.specs.Choice.{by_quotient, choose_unambiguous, raised, choose_with_floor};
+ghost use Rattle.candidates.specs.Choice.{by_quotient, choose_unambiguous, raised, choose_with_floor, ChosenBy};
 ghost use Rattle.candidates.specs.Steps.{IsNext, is_near, is_within, count_from, measured, two_found, narrowed};
 
-use sheet::Position;
+use sheet::{CornerArrays, Position};
 use sizes::CORNERS;
 
 // A corner's number, and its distance from the prediction.
@@ -40,14 +40,15 @@ struct Found {
     limit: f32,
 }
 
-// The choice at one cell.
-// Stays: the Rust's enum of a choice: no candidate, two that are too alike, or one; none of the three is the failure of another.
+// Why no candidate is chosen: there is none, or the first two are too alike.
 #[derive(Clone, Copy)]
-pub enum CandidateChoice {
+pub enum Unchosen {
     Nothing,
     Ambiguous,
-    Unique(usize),
 }
+
+// The choice at one cell: the number of the corner that is chosen, or why none is.
+pub type CandidateChoice = Result<usize, Unchosen>;
 
 // The squared distance of a corner from the prediction, each operation rounded.
 pub fn squared_distance(corner: Position, prediction: Position) -> f32
@@ -114,24 +115,13 @@ fn keep(found: Found, c: Candidate, d2: f32) -> Found
     }
 }
 
-// Where a corner lies.
-pub fn position_of(corners: &[f32; 4 * CORNERS], k: usize) -> Position
-    requires { k < corner_limit }
-    ensures { result ≡ positions_in corners.now k }
-{
-    Position {
-        x: corners[k],
-        y: corners[k + CORNERS],
-    }
-}
-
-// The corners as the passes hold them, how many they are, and which are labelled: one is unlabelled if its mark is 0.
-// Stays: the xs, the ys, the pitches and the kinds stand in one array of fixed size, so that no slice of it is the corners that there are.
+// The corners as the passes hold them, how many they are, and which are labelled.
+// Stays: the corners are held in arrays of fixed size (a rule of the project), and how many there are stands beside them (a).
 #[derive(Clone, Copy)]
 pub struct HeldCorners<'a> {
-    pub corners: &'a [f32; 4 * CORNERS],
+    pub corners: &'a CornerArrays,
     pub count: usize,
-    pub used: &'a [u8; CORNERS],
+    pub used: &'a [bool; CORNERS],
     ghost few: { count ≤ corner_limit },
 }
 
@@ -150,7 +140,8 @@ impl<'a> Scan<'a> {
         requires { k < corner_limit }
         ensures { result ≡ is_near (positions_in self.now.held.corners.now) self.now.prediction limit k }
     {
-        position_of(self.held.corners, k).squared_distance(self.prediction) <= limit
+        let corner = self.held.corners.position_of(k);
+        corner.squared_distance(self.prediction) <= limit
     }
 
     // Whether a cell of the kind takes corner k, labelled or not.
@@ -158,16 +149,17 @@ impl<'a> Scan<'a> {
         requires { k < corner_limit }
         ensures { result ≡ takes_kind (shades_in self.now.held.corners.now) self.now.kind k }
     {
-        sheet::is_taken(self.held.corners, self.kind, k)
+        self.held.corners.is_taken(self.kind, k)
     }
 
     // Whether corner k is unlabelled and within the limit, and a cell of the kind takes it.
+    #[tactic(auto, unfolding(crate::specs::Candidates::eligible))]
     fn is_within(&self, k: usize, limit: f32) -> bool
         requires { k < corner_limit }
         ensures { result ≡ is_within (positions_in self.now.held.corners.now)
             (eligible_in self.now.held.corners.now self.now.held.used.now self.now.kind) self.now.prediction limit k }
     {
-        self.held.used[k] == 0 && self.is_near(k, limit) && self.is_taken(k)
+        !self.held.used[k] && self.is_near(k, limit) && self.is_taken(k)
     }
 
     // How many of the 32 corners from this one on, labelled or not, lie within the limit. No corner ends the loop early, so that the
@@ -187,7 +179,7 @@ impl<'a> Scan<'a> {
         ensures { IsNext (is_within (positions_in self.now.held.corners.now)
             (eligible_in self.now.held.corners.now self.now.held.used.now self.now.kind) self.now.prediction limit) self.now.held.count from result }
     {
-        // Stays: `find` on the range takes 1 in 100 instructions more.
+        // Stays: `find` on the range takes 1 in 100 instructions more here, most of a pass is a scan, and no program is to take more than before.
         for k in from..self.held.count {
             if self.is_within(k, limit) {
                 return Some(k);
@@ -216,7 +208,8 @@ impl<'a> Scan<'a> {
         ensures { result ≡ narrowed found (measured (positions_in self.now.held.corners.now) self.now.prediction k)
             (squared_distance (positions_in self.now.held.corners.now k) self.now.prediction) }
     {
-        let d2 = position_of(self.held.corners, k).squared_distance(self.prediction);
+        let corner = self.held.corners.position_of(k);
+        let d2 = corner.squared_distance(self.prediction);
         let c = Candidate {
             number: k,
             distance: binary32::root::sqrt_or_nan(d2),
@@ -253,47 +246,52 @@ fn by_quotient(number: usize, first: f32, second: f32, factor: f32) -> Candidate
     ensures { result ≡ by_quotient number first second factor }
 {
     if second / first < factor {
-        CandidateChoice::Ambiguous
+        Err(Unchosen::Ambiguous)
     } else {
-        CandidateChoice::Unique(number)
+        Ok(number)
+    }
+}
+
+// The choice by a rule for two or more, which is given the first and the distance of the second: none of none, and the only one of one.
+fn choose<F: FnOnce(Candidate, f32) -> CandidateChoice>(
+    candidates: Candidates,
+    rule: F,
+) -> CandidateChoice
+    requires { F.IsAlwaysCallable rule }
+    ensures { ChosenBy (F.post rule) candidates result }
+{
+    match candidates {
+        Candidates::Empty => Err(Unchosen::Nothing),
+        Candidates::One(a) => Ok(a.number),
+        Candidates::Several(a, second) => rule(a, second),
     }
 }
 
 // Grow's choice. Of two or more: a first distance of at most 2^-23, which is `f32::EPSILON`, is ambiguous, and else the quotient decides.
-#[tactic(auto, unfolding(crate::specs::Choice::choose_unambiguous))]
 pub fn choose_unambiguous(candidates: Candidates, ambiguity_factor: f32) -> CandidateChoice
     ensures { result ≡ choose_unambiguous candidates ambiguity_factor }
 {
-    match candidates {
-        Candidates::Empty => CandidateChoice::Nothing,
-        Candidates::One(a) => CandidateChoice::Unique(a.number),
-        Candidates::Several(a, second) => {
-            if a.distance <= f32::EPSILON {
-                CandidateChoice::Ambiguous
-            } else {
-                by_quotient(a.number, a.distance, second, ambiguity_factor)
-            }
+    choose(candidates, |a, second| {
+        if a.distance <= f32::EPSILON {
+            Err(Unchosen::Ambiguous)
+        } else {
+            by_quotient(a.number, a.distance, second, ambiguity_factor)
         }
-    }
+    })
 }
 
 // A distance, raised to at least 2^-23.
-// Stays: of two equal numbers `max` promises either, and two equal floats are not known to be the same value.
 fn raise(d: f32) -> f32
     ensures { result ≡ raised d }
 {
-    if f32::EPSILON <= d { d } else { f32::EPSILON }
+    d.max(f32::EPSILON)
 }
 
 // Fill's and local's choice. Of two or more: the first distance is raised to at least 2^-23, then the same quotient decides.
 pub fn choose_with_floor(candidates: Candidates, ambiguity_factor: f32) -> CandidateChoice
     ensures { result ≡ choose_with_floor candidates ambiguity_factor }
 {
-    match candidates {
-        Candidates::Empty => CandidateChoice::Nothing,
-        Candidates::One(a) => CandidateChoice::Unique(a.number),
-        Candidates::Several(a, second) => {
-            by_quotient(a.number, raise(a.distance), second, ambiguity_factor)
-        }
-    }
+    choose(candidates, |a, second| {
+        by_quotient(a.number, raise(a.distance), second, ambiguity_factor)
+    })
 }

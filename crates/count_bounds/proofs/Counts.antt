@@ -9,7 +9,7 @@ use lib.Dec.{T, eqb, ltb}
 use lib.ListN.{length, get_or}
 use lib.Ieee.{Float, binary32, of_bits, lt}
 use Rattle.predict.specs.Predict.{prediction_of, extrapolating}
-use Rattle.std.specs.Prelude.{Option, Some, None}
+use Rattle.std.specs.Prelude.{Option, Some, None, Ok, Err}
 use Rattle.sheet.specs.Cells.{cell_of}
 use Rattle.sheet.specs.Corners.{Corners, seen_of}
 use Rattle.sheet.specs.declared.Cell.{Cell}
@@ -21,8 +21,8 @@ use Rattle.labels.proofs.Below.{passing_few}
 use Rattle.arguments.specs.declared.Settings.{Settings}
 use Rattle.arguments.specs.declared.GrowParams.{GrowParams}
 use Rattle.arguments.specs.declared.LocalExtensionParams.{LocalExtensionParams}
-use Rattle.extension_common.specs.TryCell.{unmatched, try_at}
-use Rattle.extension_common.specs.declared.TryCellResult.{TryCellResult}
+use Rattle.extension_common.specs.TryCell.{TryCellResult, unmatched, try_at}
+use Rattle.extension_common.specs.declared.NotAttached.{NotAttached}
 use Rattle.extension_common.proofs.Laws.{unmatched_few}
 use Rattle.passes.specs.declared.Counts.{Counts}
 use Rattle.passes.specs.Grow.{no_counts, tolerances_of, GrowState, start_of, search_of, grow_with, grow_at, grow_visit, grow_from, grow_run}
@@ -39,10 +39,10 @@ total c = c.attached + c.rejected_no_candidate + c.rejected_ambiguous + c.reject
 
 grow_with_lem : (c : Cell) (r : TryCellResult) (s : GrowState) → total (grow_with c r s).counts ≤ total s.counts + 1
 unfolding grow_with
-grow_with_lem c TryCellResult.NoCandidates s = omega arith
-grow_with_lem c TryCellResult.Ambiguous s = omega arith
-grow_with_lem c TryCellResult.EdgeRejected s = omega arith
-grow_with_lem c (TryCellResult.Attached k) s = omega arith
+grow_with_lem c (Err NotAttached.NoCandidates) s = omega arith
+grow_with_lem c (Err NotAttached.Ambiguous) s = omega arith
+grow_with_lem c (Err NotAttached.EdgeRejected) s = omega arith
+grow_with_lem c (Ok k) s = omega arith
 
 module _ (cs : Corners) (set : Settings) (p : GrowParams) where
   grow_at_lem : (c : Cell) (at : Option Position) (s : GrowState) → total (grow_at cs set p c at s).counts ≤ total s.counts + 1
@@ -76,10 +76,10 @@ module _ (cs : Corners) (set : Settings) (p : GrowParams) where
 -- just one where the cell is tried
 local_one_more : (c : Cell) (r : TryCellResult) (s : LocalState) → total (local_with c r s).counts ≡ total s.counts + 1
 unfolding local_with
-local_one_more c TryCellResult.NoCandidates s = omega arith
-local_one_more c TryCellResult.Ambiguous s = omega arith
-local_one_more c TryCellResult.EdgeRejected s = omega arith
-local_one_more c (TryCellResult.Attached k) s = omega arith
+local_one_more c (Err NotAttached.NoCandidates) s = omega arith
+local_one_more c (Err NotAttached.Ambiguous) s = omega arith
+local_one_more c (Err NotAttached.EdgeRejected) s = omega arith
+local_one_more c (Ok k) s = omega arith
 
 pub cells_few : (depth : ℕ) (sheet : List ℕ) → length (local_cells depth sheet) ≤ 16384
 unfolding local_cells cells_of

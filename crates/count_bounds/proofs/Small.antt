@@ -1,5 +1,5 @@
 -- What a call that is not refused says is small: its counts, its rounds, its residual, which is finite, and what it passed over. Assumes nothing.
-use Rattle.std.specs.Prelude.{Option, None, Some}
+use Rattle.std.specs.Prelude.{Option, None, Some, Ok, Err}
 use Rattle.sheet.specs.declared.Corner.{Corner}
 use mathlib.Core.Path.{◌≡◌, refl, sym, ap, subst}
 use mathlib.Core.Bool.{Bool, true, false, cond, ◌&&◌}
@@ -25,7 +25,7 @@ use Rattle.arguments.specs.Accepted.{PassInside}
 use Rattle.arguments.specs.declared.Settings.{Settings}
 use Rattle.arguments.specs.declared.FillParams.{FillParams}
 use Rattle.arguments.specs.declared.LocalExtensionParams.{LocalExtensionParams}
-use Rattle.extension_common.specs.declared.TryCellResult.{TryCellResult}
+use Rattle.extension_common.specs.TryCell.{TryCellResult}
 use Rattle.arguments.specs.declared.Pass.{Pass}
 use Rattle.passes.specs.declared.Counts.{Counts}
 use Rattle.passes.specs.Grow.{no_counts, grow_run, grow_after}
@@ -99,10 +99,8 @@ all_finite_lem l (r ∷ rs) w fs = all_finite_lem (recorded l r) rs (recorded_fi
 
 with_largest : (c : Cell) (r : TryCellResult) (s : LocalState) → (local_with c r s).largest ≡ s.largest
 unfolding local_with
-with_largest c TryCellResult.NoCandidates s = refl
-with_largest c TryCellResult.Ambiguous s = refl
-with_largest c TryCellResult.EdgeRejected s = refl
-with_largest c (TryCellResult.Attached k) s = refl
+with_largest c (Err e) s = refl
+with_largest c (Ok k) s = refl
 
 module _ (cs : Corners) (set : Settings) (p : LocalExtensionParams) where
   finite_at : (c : Cell) (fit : LocalFit) (s : LocalState) → ((h rs : List Float) → fit ≡ fitted h rs → Finites rs) → FiniteResidual s.largest

@@ -1,16 +1,17 @@
 -- The steps of elimination and of back substitution, row by row, as the code takes them. Assumes nothing.
 use mathlib.Core.Path.{◌≡◌, refl, sym, ap, ◌∙◌}
 use mathlib.Core.Bool.{Bool, true, false, cond}
-use mathlib.Core.List.{[]}
+use mathlib.Core.List.{[], ◌++◌}
 use Prim.Native.Nat.{ℕ, suc, ◌+◌, ◌-◌, ◌<◌, ◌≤◌}
 use native.Mathlib.Numerals.{add-one}
 use native.Mathlib.Decide.{ℕ_discrete}
 use native.Mathlib.Omega.{arith}
 use borrow.Author.Tests.{eq-eqb, ne_eqb, lt-ltb, le-ltb, ltb-true, ltb-false}
 use lib.Dec.{eqb, ltb}
-use lib.ListN.{length, get_or, set, length-set}
+use lib.ListN.{length, take, drop, get_or, set, length-set}
 use lib.Seq.{get_or-set_same, get_or-set_other}
 use lib.Ieee.{Float, nan, lt}
+use Rattle.std.proofs.lemmas.List.{take_all, drop_all, append-nil, take-append-drop, length-take-le, length-drop, length-append, set-append_right, get_or-append-add}
 use Rattle.elimination.specs.Rounded.{◌⊗◌, magnitude}
 use Rattle.elimination.specs.Solve.{Row, Matrix, row, entry, largest, swapped, pivoted, reciprocal, multiplier, gain, gained, cleared, eliminated, right_sides, answer, carry, carried, answered}
 use Rattle.elimination.proofs.Tables.{table_is, Filling, filling_start, filling_more, filling_whole}
@@ -112,6 +113,51 @@ clear_more {m} {k} {n} {i} {x} g h e = record {
 pub clear_end : {m : Matrix} {k : ℕ} {n : Matrix} {i : ℕ} → Clearing m k n i → 8 ≤ i → n ≡ cleared m k
 unfolding cleared
 clear_end g h = filling_whole g.fill h
+
+-- ---- the same, where the rows below row k are walked by themselves
+
+pub record ClearingBelow (m : Matrix) (k : ℕ) (rows : Matrix) (i : ℕ) : Type 0 where
+  pub fits : k < 8
+  pub long : length m ≡ 8
+  pub whole : Clearing m k (take (k + 1) m ++ rows) (k + 1 + i)
+
+clearing_at : {m : Matrix} {k : ℕ} {a b : Matrix} {i j : ℕ} → b ≡ a → j ≡ i → Clearing m k a i → Clearing m k b j
+clearing_at e f g = rw (e, f) g
+
+all_rows : (m : Matrix) (n : ℕ) → length m ≡ 8 → take n m ++ take (8 - n) (drop n m) ≡ m
+all_rows m n e = ap (λ (l : Matrix). take n m ++ l) (take_all (8 - n) (drop n m) (omega (arith, length-drop n m))) ∙ take-append-drop n m
+
+pub below_start : (m : Matrix) (k : ℕ) → length m ≡ 8 → k < 8 → ClearingBelow m k (take (8 - (k + 1)) (drop (k + 1) m)) 0
+below_start m k e h = record { fits = h; long = e; whole = clearing_at (all_rows m (k + 1) e) (omega arith) (clear_start m k e h) }
+
+module _ {m : Matrix} {k : ℕ} {rows : Matrix} {i : ℕ} (g : ClearingBelow m k rows i) where
+  front : length (take (k + 1) m) ≡ k + 1
+  front = length-take-le (k + 1) m (omega (arith, g.fits, g.long))
+
+  pub below_more : {x : Row} → i < length rows → x ≡ gained (get_or rows i []) (row m k) (get_or (get_or rows i []) k nan ⊗ reciprocal m k) k → ClearingBelow m k (set rows i x) (i + 1)
+  below_more {x} h e = record {
+    fits = g.fits;
+    long = g.long;
+    whole = clearing_at
+        (sym (set-append_right (take (k + 1) m) rows (k + 1) (k + 1 + i) x front (omega arith) ∙ ap (λ (j : ℕ). take (k + 1) m ++ set rows j x) gone))
+        (omega arith)
+        (clear_more g.whole within (e ∙ ap (λ (r : Row). gained r (row m k) (get_or r k nan ⊗ reciprocal m k) k) (sym there)));
+  }
+    where
+      gone : k + 1 + i - (k + 1) ≡ i
+      gone = omega arith
+
+      there : get_or (take (k + 1) m ++ rows) (k + 1 + i) [] ≡ get_or rows i []
+      there = ap (λ (n : ℕ). get_or (take (k + 1) m ++ rows) (n + i) []) (sym front) ∙ get_or-append-add (take (k + 1) m) rows i []
+
+      within : k + 1 + i < 8
+      within = omega (arith, h, front, g.whole.fill.long, length-append (take (k + 1) m) rows)
+
+  pub below_end : length rows ≤ i → take (k + 1) m ++ (rows ++ drop (8 - (k + 1)) (drop (k + 1) m)) ≡ cleared m k
+  below_end h =
+      ap (λ (l : Matrix). take (k + 1) m ++ (rows ++ l)) (drop_all _ (drop (k + 1) m) (omega (arith, g.fits, g.long, length-drop (k + 1) m)))
+      ∙ ap (λ (l : Matrix). take (k + 1) m ++ l) (append-nil rows)
+      ∙ clear_end g.whole (omega (arith, h, front, g.whole.fill.long, length-append (take (k + 1) m) rows))
 
 -- ---- the columns, one after the other
 

@@ -14,7 +14,7 @@ ghost use Rattle.elimination.specs.Rounded.{magnitude};
 ghost use Rattle.elimination.specs.Solve.{entry, largest, pivoted, gained, cleared, eliminated, right_sides, carried, answered, nonzero_diagonal, finite_matrix, finite_answers, solved};
 
 // A value without its sign: what is below zero is negated.
-// Stays: it is promised as the definition has it, which leaves -0 and a NaN as they are, and `abs` does not.
+// Stays: it is promised as the definition has it, which leaves -0 and a NaN as they are, and `abs` does not (d).
 pub fn magnitude(x: f32) -> f32
     ensures { result ≡ magnitude x }
 {
@@ -34,7 +34,7 @@ fn pivot(m: &[[f32; 9]; 8], k: usize) -> usize
     ensures { (result ≡ largest m.now k (7 - k)) × (result < 8) }
 {
     let mut b = k;
-    // Stays: a `fold` would have to show of its own that row b is one of the eight, by clauses on its closure that are longer than the loop.
+    // Stays: a `fold` would have to show of its own that row b is one of the eight, by clauses on its closure that are longer than the loop (d).
     for i in k + 1..8usize {
         b = larger(b, m[b][k], i, m[i][k]);
     }
@@ -46,7 +46,8 @@ fn gain(r: &mut [f32; 9], p: &[f32; 9], w: f32, k: usize)
     requires { k < 8 }
     ensures { r.new ≡ gained r.old p.now w k }
 {
-    // Stays: two rows are walked together, and of what is written through an adapter of `iter_mut` a proof knows no element.
+    // Stays: two rows are walked together from column k + 1 on; of what is written through a `zip` a proof knows no element, and by `enumerate` the other row's
+    // index would be counted by hand all the same (d).
     for j in k + 1..9usize {
         r[j] = r[j] + w * (-p[j]);
     }
@@ -59,10 +60,9 @@ fn clear(m: &mut [[f32; 9]; 8], k: usize)
 {
     let p = m[k];
     let w = 1.0 / p[k];
-    // Stays: the rows are cleared by their number, as the definition has them.
-    for i in k + 1..8usize {
-        let x = m[i][k] * w;
-        gain(&mut m[i], &p, x, k);
+    for row in m[k + 1..].iter_mut() {
+        let x = row[k] * w;
+        gain(row, &p, x, k);
     }
 }
 
@@ -72,7 +72,7 @@ fn column(m: &mut [[f32; 9]; 8], k: usize)
     ensures { m.new ≡ cleared (pivoted m.old k) k }
 {
     let b = pivot(m, k);
-    // Stays: the slice's `swap` takes 50 instructions more a fit.
+    // Stays: the slice's `swap` takes 50 of some 2,700 instructions a fit more, and fits are most of what local does (b).
     let r = m[k];
     let t = m[b];
     m[k] = t;
@@ -81,7 +81,7 @@ fn column(m: &mut [[f32; 9]; 8], k: usize)
 }
 
 // All eight columns, one after the other.
-// Stays: they are written out so that the compiler has each with its number; as a loop a fit takes 3,900 instructions and not 2,700.
+// Stays: they are written out so that the compiler has each with its number; as a loop a fit takes 3,900 instructions and not 2,700 (b).
 fn eliminate(m: &mut [[f32; 9]; 8])
     ensures { m.new ≡ eliminated 8 m.old }
 {
@@ -112,7 +112,7 @@ fn carry(m: &[[f32; 9]; 8], b: &mut [f32; 8], k: usize)
     ensures { b.new ≡ carried m.now b.old k }
 {
     let x = b[k] / m[k][k];
-    // Stays: the answers and a column are walked together, as the rows in `gain`.
+    // Stays: the answers and a column are walked together, as the rows in `gain` (d).
     for i in 0..k {
         b[i] = b[i] + (-x) * m[i][k];
     }
@@ -124,7 +124,7 @@ fn substitute(m: &[[f32; 9]; 8]) -> [f32; 8]
     ensures { result ≡ answered 8 m.now }
 {
     let mut b = right_sides(m);
-    // Stays: each answer is carried into the rows above it by its number; a chain would only be this `for` as a `for_each`.
+    // Stays: each answer is carried into the rows above it by its number; a chain would only be this `for` as a `for_each` (d).
     for k in (0..8usize).rev() {
         carry(m, &mut b, k);
     }

@@ -7,17 +7,20 @@ use Prim.Native.Nat.{ℕ, ◌<◌, ◌≤◌}
 use native.Mathlib.Nat.{lt_of_lt_of_le}
 use native.Mathlib.Omega.{arith}
 use lib.Ieee.{Float}
+use Rattle.std.specs.Prelude.{Option, Some, None, Result, Ok, Err}
+use Rattle.std.specs.Option.{ok_or}
 use Rattle.sheet.specs.Shades.{kind_at, takes_kind, takes, shades_in}
 use Rattle.sheet.proofs.Shades.{takes_every}
 use Rattle.sheet.specs.Corners.{Corners, corners_in, seen_of}
 use Rattle.sheet.specs.declared.Cell.{Cell}
+use Rattle.sheet.specs.declared.CornerArrays.{CornerArrays}
 use Rattle.sheet.specs.declared.Corner.{Corner}
 use Rattle.sheet.specs.declared.Position.{Position}
 use Rattle.labels.specs.Used.{used_on, Tied}
 use Rattle.labels.proofs.Used.{tied_free}
 use Rattle.candidates.specs.Candidates.{positions_in, unmarked, eligible, eligible_in, candidates_at, first_two}
 use Rattle.candidates.specs.declared.Candidates.{Candidates}
-use Rattle.candidates.specs.declared.CandidateChoice.{CandidateChoice}
+use Rattle.candidates.specs.Choice.{CandidateChoice}
 use Rattle.candidates.proofs.Collected.{candidates_agree}
 use Rattle.candidates.proofs.Choice.{Chosen, chosen_unambiguous, chosen_with_floor}
 use Rattle.passed_over.specs.PassedOver.{passed_over}
@@ -25,12 +28,12 @@ use Rattle.passed_over.proofs.Laws.{passed_over_agree, none_passed_over, passed_
 use Rattle.positions_policy.specs.Edge.{verdict_of, passes}
 use Rattle.positions_policy.specs.declared.EdgeVerdict.{EdgeVerdict}
 use Rattle.positions_policy.specs.declared.Tolerances.{Tolerances}
-use Rattle.extension_common.specs.TryCell.{Choosable, unlabelled_on, gathered, unmatched, choice_by, edges_of, result_of, try_at}
+use Rattle.extension_common.specs.TryCell.{TryCellResult, Choosable, unlabelled_on, gathered, unmatched, choice_by, edges_of, result_of, try_at, tried_from}
 use Rattle.extension_common.specs.declared.ChoiceRule.{ChoiceRule}
 use Rattle.extension_common.specs.declared.Search.{Search}
-use Rattle.extension_common.specs.declared.TryCellResult.{TryCellResult}
+use Rattle.extension_common.specs.declared.NotAttached.{NotAttached}
 
-module _ (held : List Float) (n : ℕ) (sheet used : List ℕ) (radius : Float) (c : Cell) (p : Position) (few : n ≤ 1024) (tied : Tied sheet used) where
+module _ (held : CornerArrays) (n : ℕ) (sheet : List ℕ) (used : List Bool) (radius : Float) (c : Cell) (p : Position) (few : n ≤ 1024) (tied : Tied sheet used) where
   -- gathered by the array that is tied to the sheet, and passed over
   pub gathered_tied : {kind : ℕ} → kind ≡ kind_at c
       → first_two (candidates_at (positions_in held) (eligible_in held used kind) n p radius) ≡ gathered (corners_in held n) sheet radius c p
@@ -81,7 +84,7 @@ unmatched_few cs sheet radius c p = passed_over_few _ (unlabelled_on sheet) (tak
 
 -- a corner that either rule chooses is a candidate
 pub chosen : (rule : ChoiceRule) (cs : Corners) (sheet : List ℕ) (radius factor : Float) (c : Cell) (p : Position) (k : ℕ)
-    → choice_by rule (gathered cs sheet radius c p) factor ≡ CandidateChoice.Unique k
+    → choice_by rule (gathered cs sheet radius c p) factor ≡ Ok k
     → Chosen (λ k. (cs.corner k).position) (eligible (unlabelled_on sheet) (takes cs.shades c)) cs.count p radius k
 unfolding choice_by gathered
 chosen ChoiceRule.Unambiguous cs sheet radius factor c p k e =
@@ -94,7 +97,7 @@ pub choosable : (cs : Corners) (sheet : List ℕ) (c : Cell) (search : Search) (
     → candidates ≡ gathered cs sheet search.search_r c p → Choosable search candidates
 choosable cs sheet c search p candidates few are =
     λ k e.
-    let g = chosen search.rule cs sheet search.search_r search.ambiguity_factor c p k (subst (λ (g : Candidates). choice_by search.rule g search.ambiguity_factor ≡ CandidateChoice.Unique k) are e) in
+    let g = chosen search.rule cs sheet search.search_r search.ambiguity_factor c p k (subst (λ (g : Candidates). choice_by search.rule g search.ambiguity_factor ≡ Ok k) are e) in
     lt_of_lt_of_le g.there few
 
 both_true : (unlabelled taken : ℕ → Bool) (k : ℕ) → eligible unlabelled taken k ≡ true → (unlabelled k ≡ true) × (taken k ≡ true)
@@ -102,16 +105,16 @@ unfolding eligible
 both_true unlabelled taken k e = (and-eq-true_iff (unlabelled k) (taken k)).0 e
 
 -- the edges, by whether the verdict on the chosen corner passes
-module _ (corner : ℕ → Corner) (sheet : List ℕ) (tol : Tolerances) (c : Cell) (k : ℕ) {candidate : Corner} {v : EdgeVerdict} {b : Bool}
-    (at : candidate ≡ corner k) (is : v ≡ verdict_of (seen_of corner sheet) tol c candidate) (e : b ≡ passes v) where
-  edges_are : edges_of corner sheet tol c k ≡ cond b (TryCellResult.Attached k) TryCellResult.EdgeRejected
+module _ (corner : ℕ → Corner) (sheet : List ℕ) (tol : Tolerances) (c : Cell) (k : ℕ) {seen : Cell → Option Corner} {candidate : Corner} {v : EdgeVerdict} {b : Bool}
+    (sees : seen ≡ seen_of corner sheet) (at : candidate ≡ corner k) (is : v ≡ verdict_of seen tol c candidate) (e : b ≡ passes v) where
+  edges_are : edges_of corner sheet tol c k ≡ cond b (Ok k) (Err NotAttached.EdgeRejected)
   unfolding edges_of
-  edges_are = rw (e, is, at)
+  edges_are = rw (e, is, sees, at)
 
-  pub edges_refuse : b ≡ false → TryCellResult.EdgeRejected ≡ edges_of corner sheet tol c k
+  pub edges_refuse : b ≡ false → Err NotAttached.EdgeRejected ≡ edges_of corner sheet tol c k
   edges_refuse f = sym (edges_are ∙ rw f)
 
-  pub edges_pass : b ≡ true → TryCellResult.Attached k ≡ edges_of corner sheet tol c k
+  pub edges_pass : b ≡ true → Ok k ≡ edges_of corner sheet tol c k
   edges_pass f = sym (edges_are ∙ rw f)
 
 -- what is found, by what was gathered
@@ -119,6 +122,20 @@ pub tried_with : (cs : Corners) (sheet : List ℕ) (tol : Tolerances) (search : 
     → candidates ≡ gathered cs sheet search.search_r c p → r ≡ result_of cs.corner sheet tol c (choice_by search.rule candidates search.ambiguity_factor) → r ≡ try_at cs sheet tol search c p
 unfolding try_at
 tried_with cs sheet tol search c p e f = f ∙ ap (λ (g : Candidates). result_of cs.corner sheet tol c (choice_by search.rule g search.ambiguity_factor)) e
+
+-- what is found, by the prediction that there is or is not
+module _ (cs : Corners) (sheet : List ℕ) (tol : Tolerances) (search : Search) (c : Cell) where
+  pub tried_without : (at : Option Position) (e : NotAttached) → ◌≡◌ {A = Result Position NotAttached} (Err e) (ok_or at NotAttached.NoCandidates)
+      → ◌≡◌ {A = TryCellResult} (Err e) (tried_from cs sheet tol search c at)
+  unfolding tried_from
+  tried_without None e h = cc
+  tried_without (Some q) e h = absurd (let z : ◌≡◌ {A = ℕ} 0 1 = cc in omega arith)
+
+  pub tried_there : (at : Option Position) (q : Position) → ◌≡◌ {A = Result Position NotAttached} (Ok q) (ok_or at NotAttached.NoCandidates) → {r : TryCellResult}
+      → r ≡ try_at cs sheet tol search c q → r ≡ tried_from cs sheet tol search c at
+  unfolding tried_from
+  tried_there None q h e = absurd (let z : ◌≡◌ {A = ℕ} 0 1 = cc in omega arith)
+  tried_there (Some q') q h e = let p : q ≡ q' = cc in e ∙ ap (try_at cs sheet tol search c) p
 
 -- ---- what is to be attached
 
@@ -133,34 +150,30 @@ not_used : (b : Bool) → not b ≡ true → b ≡ false
 not_used true h = absurd (true≢false (sym h))
 not_used false h = refl
 
-edges_passed : (corner : ℕ → Corner) (sheet : List ℕ) (tol : Tolerances) (c : Cell) (j k : ℕ) → edges_of corner sheet tol c j ≡ TryCellResult.Attached k
+edges_passed : (corner : ℕ → Corner) (sheet : List ℕ) (tol : Tolerances) (c : Cell) (j k : ℕ) → edges_of corner sheet tol c j ≡ Ok k
     → (j ≡ k) × (passes (verdict_of (seen_of corner sheet) tol c (corner j)) ≡ true)
 unfolding edges_of
 edges_passed corner sheet tol c j k e = go (passes (verdict_of (seen_of corner sheet) tol c (corner j))) e
   where
-    go : (b : Bool) → cond b (TryCellResult.Attached j) TryCellResult.EdgeRejected ≡ TryCellResult.Attached k → (j ≡ k) × (b ≡ true)
+    go : (b : Bool) → cond b (Ok j) (Err NotAttached.EdgeRejected) ≡ Ok k → (j ≡ k) × (b ≡ true)
     go true e = (cc, refl)
     go false e = let z : ◌≡◌ {A = ℕ} 0 1 = cc in absurd (no z)
       where
         no : ◌≡◌ {A = ℕ} 0 1 → ⊥
         no z = omega arith
 
-result_attached : (corner : ℕ → Corner) (sheet : List ℕ) (tol : Tolerances) (c : Cell) (choice : CandidateChoice) (k : ℕ) → result_of corner sheet tol c choice ≡ TryCellResult.Attached k
-    → (choice ≡ CandidateChoice.Unique k) × (passes (verdict_of (seen_of corner sheet) tol c (corner k)) ≡ true)
+result_attached : (corner : ℕ → Corner) (sheet : List ℕ) (tol : Tolerances) (c : Cell) (choice : CandidateChoice) (k : ℕ) → result_of corner sheet tol c choice ≡ Ok k
+    → (choice ≡ Ok k) × (passes (verdict_of (seen_of corner sheet) tol c (corner k)) ≡ true)
 unfolding result_of
-result_attached corner sheet tol c CandidateChoice.Nothing k e = let z : ◌≡◌ {A = ℕ} 0 1 = cc in absurd (no z)
+result_attached corner sheet tol c (Err unchosen) k e = let z : ◌≡◌ {A = ℕ} 0 1 = cc in absurd (no z)
   where
     no : ◌≡◌ {A = ℕ} 0 1 → ⊥
     no z = omega arith
-result_attached corner sheet tol c CandidateChoice.Ambiguous k e = let z : ◌≡◌ {A = ℕ} 0 1 = cc in absurd (no z)
-  where
-    no : ◌≡◌ {A = ℕ} 0 1 → ⊥
-    no z = omega arith
-result_attached corner sheet tol c (CandidateChoice.Unique j) k e =
+result_attached corner sheet tol c (Ok j) k e =
     let p = edges_passed corner sheet tol c j k e in
-    (ap CandidateChoice.Unique p.0, subst (λ (i : ℕ). passes (verdict_of (seen_of corner sheet) tol c (corner i)) ≡ true) p.0 p.1)
+    (ap Ok p.0, subst (λ (i : ℕ). passes (verdict_of (seen_of corner sheet) tol c (corner i)) ≡ true) p.0 p.1)
 
-pub attachable : (cs : Corners) (sheet : List ℕ) (tol : Tolerances) (search : Search) (c : Cell) (p : Position) (k : ℕ) → try_at cs sheet tol search c p ≡ TryCellResult.Attached k → Attachable cs sheet tol c k
+pub attachable : (cs : Corners) (sheet : List ℕ) (tol : Tolerances) (search : Search) (c : Cell) (p : Position) (k : ℕ) → try_at cs sheet tol search c p ≡ Ok k → Attachable cs sheet tol c k
 unfolding try_at
 attachable cs sheet tol search c p k e =
     let r = result_attached cs.corner sheet tol c (choice_by search.rule (gathered cs sheet search.search_r c p) search.ambiguity_factor) k e in

@@ -1,5 +1,5 @@
 -- What trying a cell at a prediction finds, for all three passes (document 01, "Candidates and choice" and "Edge"). Definitions only.
-use Rattle.std.specs.Prelude.{◌≡◌, Bool, not, cond, List, ℕ, ◌<◌, Float}
+use Rattle.std.specs.Prelude.{◌≡◌, Bool, not, cond, List, ℕ, ◌<◌, Float, Option, Some, None, Result, Ok, Err}
 use Rattle.sizes.specs.Sizes.{corner_limit}
 use Rattle.sheet.specs.Shades.{takes}
 use Rattle.sheet.specs.Corners.{Corners, seen_of}
@@ -8,15 +8,19 @@ use Rattle.sheet.specs.declared.Corner.{Corner}
 use Rattle.sheet.specs.declared.Position.{Position}
 use Rattle.labels.specs.Used.{used_on}
 use Rattle.candidates.specs.Candidates.{eligible, candidates_at, first_two}
-use Rattle.candidates.specs.Choice.{choose_unambiguous, choose_with_floor}
+use Rattle.candidates.specs.Choice.{CandidateChoice, choose_unambiguous, choose_with_floor}
 use Rattle.candidates.specs.declared.Candidates.{Candidates}
-use Rattle.candidates.specs.declared.CandidateChoice.{CandidateChoice}
+use Rattle.candidates.specs.declared.Unchosen.{Unchosen}
 use Rattle.passed_over.specs.PassedOver.{passed_over}
 use Rattle.positions_policy.specs.Edge.{verdict_of, passes}
 use Rattle.positions_policy.specs.declared.Tolerances.{Tolerances}
 use Rattle.extension_common.specs.declared.ChoiceRule.{ChoiceRule}
 use Rattle.extension_common.specs.declared.Search.{Search}
-use Rattle.extension_common.specs.declared.TryCellResult.{TryCellResult}
+use Rattle.extension_common.specs.declared.NotAttached.{NotAttached}
+
+-- what trying a cell finds: the corner to attach, or why there is none
+abbrev pub TryCellResult : Type 0
+TryCellResult = Result ℕ NotAttached
 
 -- a corner is unlabelled if no cell of the sheet holds it
 abbrev pub unlabelled_on : List ℕ → ℕ → Bool
@@ -40,20 +44,29 @@ choice_by ChoiceRule.WithFloor candidates factor = choose_with_floor candidates 
 -- the edges of a chosen corner: they pass if one is accepted, or if no cardinal neighbour is labelled
 unfoldable pub edges_of : (ℕ → Corner) → List ℕ → Tolerances → Cell → ℕ → TryCellResult
 edges_of corner sheet tol c k =
-    cond (passes (verdict_of (seen_of corner sheet) tol c (corner k))) (TryCellResult.Attached k) TryCellResult.EdgeRejected
+    cond (passes (verdict_of (seen_of corner sheet) tol c (corner k))) (Ok k) (Err NotAttached.EdgeRejected)
+
+-- why nothing is attached where no candidate is chosen
+abbrev pub unattached : Unchosen → NotAttached
+unattached Unchosen.Nothing = NotAttached.NoCandidates
+unattached Unchosen.Ambiguous = NotAttached.Ambiguous
 
 unfoldable pub result_of : (ℕ → Corner) → List ℕ → Tolerances → Cell → CandidateChoice → TryCellResult
-result_of corner sheet tol c CandidateChoice.Nothing = TryCellResult.NoCandidates
-result_of corner sheet tol c CandidateChoice.Ambiguous = TryCellResult.Ambiguous
-result_of corner sheet tol c (CandidateChoice.Unique k) = edges_of corner sheet tol c k
+result_of corner sheet tol c (Err unchosen) = Err (unattached unchosen)
+result_of corner sheet tol c (Ok k) = edges_of corner sheet tol c k
 
 -- what trying a cell finds: candidates, then choice, then edges
 unfoldable pub try_at : Corners → List ℕ → Tolerances → Search → Cell → Position → TryCellResult
 try_at cs sheet tol search c prediction =
     result_of cs.corner sheet tol c (choice_by search.rule (gathered cs sheet search.search_r c prediction) search.ambiguity_factor)
 
+-- a cell with a prediction is tried there; one with none has no candidate
+unfoldable pub tried_from : Corners → List ℕ → Tolerances → Search → Cell → Option Position → TryCellResult
+tried_from cs sheet tol search c None = Err NotAttached.NoCandidates
+tried_from cs sheet tol search c (Some at) = try_at cs sheet tol search c at
+
 -- ---- what the functions ask
 
 -- candidates of which none but a corner that is held can be chosen
 abbrev pub Choosable : Search → Candidates → Type 0
-Choosable search candidates = (k : ℕ) → choice_by search.rule candidates search.ambiguity_factor ≡ CandidateChoice.Unique k → k < corner_limit
+Choosable search candidates = (k : ℕ) → choice_by search.rule candidates search.ambiguity_factor ≡ Ok k → k < corner_limit

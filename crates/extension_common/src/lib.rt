@@ -6,13 +6,16 @@
 ghost use Rattle.std.specs.Prelude.{◌≡◌, ◌<◌};
 ghost use Rattle.sizes.specs.Sizes.{corner_limit};
 ghost use Rattle.sheet.specs.Cells.{OnSheet};
-ghost use Rattle.sheet.specs.Corners.{corner_in, corners_in, Given};
+ghost use Rattle.sheet.specs.Corners.{corner_in, corners_in, seen_of, Given};
+ghost use Rattle.sheet.specs.Seeing.{seen_in};
 ghost use Rattle.labels.specs.Used.{Tied};
-ghost use Rattle.extension_common.specs.TryCell.{gathered, try_at, Choosable, edges_of, choice_by, result_of};
+ghost use Rattle.predict.specs.Predict.{prediction_of};
+ghost use Rattle.extension_common.specs.TryCell.{gathered, try_at, tried_from, unattached, Choosable, edges_of, choice_by, result_of};
 
-use candidates::{CandidateChoice, Candidates, HeldCorners, Scan};
+use candidates::{CandidateChoice, Candidates, HeldCorners, Scan, Unchosen};
 use positions_policy::Tolerances;
-use sheet::{Cell, Position};
+use predict::Grid;
+use sheet::{Cell, Position, Seeing};
 
 // Which rule of choice: grow's, or fill's and local's.
 #[derive(Clone, Copy)]
@@ -42,16 +45,28 @@ pub struct Search {
     pub rule: ChoiceRule,
 }
 
-// What trying a cell finds.
-// Stays: the Rust's enum of what a cell comes to; each of the four is counted, so that none of them stands apart as an error.
+// Why no corner is to be attached to a cell that was tried: it has no candidate, the choice is ambiguous, or the edges refuse the chosen corner.
 #[derive(Clone, Copy)]
-pub enum TryCellResult {
+pub enum NotAttached {
     NoCandidates,
     Ambiguous,
     EdgeRejected,
-    // the corner to attach
-    Attached(usize),
 }
+
+impl From<Unchosen> for NotAttached {
+    // A cell where no candidate was chosen.
+    ghost from_gives = { λ unchosen e. e ≡ unattached unchosen };
+
+    fn from(unchosen: Unchosen) -> NotAttached {
+        match unchosen {
+            Unchosen::Nothing => NotAttached::NoCandidates,
+            Unchosen::Ambiguous => NotAttached::Ambiguous,
+        }
+    }
+}
+
+// What trying a cell finds: the corner to attach, or why there is none.
+pub type TryCellResult = Result<usize, NotAttached>;
 
 // A cell that is tried: the corners that are held, the sheet whose labels name them, how the cell is searched, and its edges' tolerances.
 #[derive(Clone, Copy)]
@@ -66,7 +81,18 @@ pub struct Trial<'a> {
 }
 
 impl<'a> Trial<'a> {
+    // The corners as they are seen through the sheet.
+    fn seeing(&self) -> Seeing<'a>
+        ensures { seen_in result ≡ seen_of (corner_in self.now.held.corners.now) self.now.sheet.now }
+    {
+        Seeing {
+            corners: self.held.corners,
+            sheet: self.sheet,
+        }
+    }
+
     // The candidates at a prediction: those corners that no cell holds and that the cell takes.
+    // Stays: `try_candidates` does not ask that the used corners are the sheet's; as a fact of the struct it would be asked there too (d).
     pub fn gather(&self, prediction: Position) -> Candidates
         requires { Tied self.now.sheet.now self.now.held.used.now }
         ensures { result ≡ gathered (corners_in self.now.held.corners.now self.now.held.count) self.now.sheet.now self.now.search.search_r self.now.c
@@ -90,6 +116,18 @@ impl<'a> Trial<'a> {
         self.try_candidates(candidates)
     }
 
+    // Tries the cell at the prediction from its neighbours; without a labelled neighbour it has no candidate.
+    pub fn try_predicted(&self, grid: Grid) -> TryCellResult
+        requires { Tied self.now.sheet.now self.now.held.used.now }
+        ensures { result ≡ tried_from (corners_in self.now.held.corners.now self.now.held.count) self.now.sheet.now self.now.tol
+            self.now.search self.now.c (prediction_of (seen_of (corner_in self.now.held.corners.now) self.now.sheet.now) grid self.now.c) }
+    {
+        let at = predict::predict_from_neighbours(self.seeing(), self.c, grid).ok_or(
+            NotAttached::NoCandidates,
+        )?;
+        self.try_attach_at_cell(at)
+    }
+
     // Tries the cell with the candidates that were gathered at its prediction.
     pub fn try_candidates(&self, candidates: Candidates) -> TryCellResult
         requires { Choosable self.now.search candidates }
@@ -97,12 +135,8 @@ impl<'a> Trial<'a> {
             (choice_by self.now.search.rule candidates self.now.search.ambiguity_factor) }
     {
         let search = self.search;
-        let choice = search.rule.choose(candidates, search.ambiguity_factor);
-        match choice {
-            CandidateChoice::Nothing => TryCellResult::NoCandidates,
-            CandidateChoice::Ambiguous => TryCellResult::Ambiguous,
-            CandidateChoice::Unique(k) => self.try_edges(k),
-        }
+        let k = search.rule.choose(candidates, search.ambiguity_factor)?;
+        self.try_edges(k)
     }
 
     // The edges of a chosen corner: it does not pass, or it is to be attached.
@@ -110,15 +144,17 @@ impl<'a> Trial<'a> {
         requires { k < corner_limit }
         ensures { result ≡ edges_of (corner_in self.now.held.corners.now) self.now.sheet.now self.now.tol self.now.c k }
     {
-        let corners = self.held.corners;
-        let candidate = sheet::corner_at(corners, k);
+        let candidate = self.held.corners.corner_at(k);
         let verdict = positions_policy::any_cardinal_edge_ok(
-            corners, self.sheet, self.c, candidate, self.tol,
+            self.seeing(),
+            self.c,
+            candidate,
+            self.tol,
         );
         if positions_policy::passes(verdict) {
-            TryCellResult::Attached(k)
+            Ok(k)
         } else {
-            TryCellResult::EdgeRejected
+            Err(NotAttached::EdgeRejected)
         }
     }
 }

@@ -1,16 +1,19 @@
 -- One cell of fill: what is found at it, what a visit does to the state, and what the code has written when it has attached a corner. Assumes nothing.
 use mathlib.Core.Path.{◌≡◌, refl, sym, ap, ap₂, subst, ◌∙◌}
+use mathlib.Core.Bool.{true}
 use mathlib.Core.List.{List, [], ◌∷◌, ◌++◌}
 use Prim.Native.Nat.{ℕ, ◌+◌, ◌<◌, ◌≤◌}
 use native.Mathlib.Omega.{arith}
 use lib.ListN.{length, set, take, length-append}
 use lib.Seq.{length-take-le}
 use lib.Ieee.{Float}
+use Rattle.std.specs.Prelude.{Ok, Err}
 use Rattle.std.proofs.Common.{Bor, Option, Some, None}
 use Rattle.sheet.specs.Cells.{OnSheet, place_of}
 use Rattle.sheet.specs.Words.{label_at, attached}
 use Rattle.sheet.specs.Corners.{Corners, Given, seen_of, corners_in}
 use Rattle.sheet.specs.declared.Cell.{Cell}
+use Rattle.sheet.specs.declared.CornerArrays.{CornerArrays}
 use Rattle.sheet.specs.declared.Position.{Position}
 use Rattle.sheet.proofs.Corners.{given_attached}
 use Rattle.labels.specs.Labelled.{Attaching, label_count}
@@ -21,9 +24,8 @@ use Rattle.predict.specs.Predict.{prediction_of}
 use Rattle.positions_policy.specs.declared.Tolerances.{Tolerances}
 use Rattle.arguments.specs.declared.Settings.{Settings}
 use Rattle.arguments.specs.declared.FillParams.{FillParams}
-use Rattle.extension_common.specs.TryCell.{try_at}
+use Rattle.extension_common.specs.TryCell.{TryCellResult, tried_from}
 use Rattle.extension_common.specs.declared.Search.{Search}
-use Rattle.extension_common.specs.declared.TryCellResult.{TryCellResult}
 use Rattle.extension_common.proofs.Laws.{Attachable, attachable}
 use Rattle.passes.specs.Grow.{tolerances_of}
 use Rattle.passes.specs.Fill.{FillState, fill_search, fill_with, fill_at, fill_visit}
@@ -44,22 +46,22 @@ visit_as cs set p c s = go (prediction_of (seen_of cs.corner s.sheet) set.grid c
     go (Some at) = refl
 
 -- by the prediction
-module _ (cs : Corners) (set : Settings) (p : FillParams) (sheet : List ℕ) (c : Cell) {at : Option Position} (is : at ≡ prediction_of (seen_of cs.corner sheet) set.grid c) where
-  pub found_none : at ≡ None → TryCellResult.NoCandidates ≡ found_at cs set p sheet c
-  unfolding found_at found_from
-  found_none e = rw (← is, e)
-
-  pub found_tried : {q : Position} → at ≡ Some q → {search : Search} {tol : Tolerances} → search ≡ fill_search set p → tol ≡ tolerances_of set
-      → {r : TryCellResult} → r ≡ try_at cs sheet tol search c q → r ≡ found_at cs set p sheet c
-  unfolding found_at found_from
-  found_tried e s t h = h ∙ rw (← is, e, s, t)
+module _ (cs : Corners) (set : Settings) (p : FillParams) (sheet : List ℕ) (c : Cell) where
+  pub found_tried : {search : Search} {tol : Tolerances} → search ≡ fill_search set p → tol ≡ tolerances_of set
+      → {r : TryCellResult} → r ≡ tried_from cs sheet tol search c (prediction_of (seen_of cs.corner sheet) set.grid c) → r ≡ found_at cs set p sheet c
+  unfolding found_at found_from tried_from
+  found_tried s t h = h ∙ rw (s, t) (go (prediction_of (seen_of cs.corner sheet) set.grid c))
+    where
+      go : (at : Option Position) → tried_from cs sheet (tolerances_of set) (fill_search set p) c at ≡ found_from cs set p sheet c at
+      go None = refl
+      go (Some at) = refl
 
 -- a corner that is found may be attached
-pub found_attachable : (cs : Corners) (set : Settings) (p : FillParams) (sheet : List ℕ) (c : Cell) (k : ℕ) → found_at cs set p sheet c ≡ TryCellResult.Attached k → Attachable cs sheet (tolerances_of set) c k
+pub found_attachable : (cs : Corners) (set : Settings) (p : FillParams) (sheet : List ℕ) (c : Cell) (k : ℕ) → found_at cs set p sheet c ≡ Ok k → Attachable cs sheet (tolerances_of set) c k
 unfolding found_at found_from
 found_attachable cs set p sheet c k e = go (prediction_of (seen_of cs.corner sheet) set.grid c) e
   where
-    go : (at : Option Position) → found_from cs set p sheet c at ≡ TryCellResult.Attached k → Attachable cs sheet (tolerances_of set) c k
+    go : (at : Option Position) → found_from cs set p sheet c at ≡ Ok k → Attachable cs sheet (tolerances_of set) c k
     go None e = absurd (let z : ◌≡◌ {A = ℕ} 0 1 = cc in omega arith)
     go (Some at) e = attachable cs sheet (tolerances_of set) (fill_search set p) c at k e
 
@@ -73,11 +75,9 @@ pub tried : (cs : Corners) (set : Settings) (p : FillParams) (c : Cell) (s : Fil
 unfolding fill_visit fill_at fill_with
 tried cs set p c s = go (prediction_of (seen_of cs.corner s.sheet) set.grid c)
   where
-    by : (r : TryCellResult) → ((k : ℕ) → r ≡ TryCellResult.Attached k → Attachable cs s.sheet (tolerances_of set) c k) → Tried cs (tolerances_of set) c s (fill_with c r s)
-    by TryCellResult.NoCandidates h = passed
-    by TryCellResult.Ambiguous h = passed
-    by TryCellResult.EdgeRejected h = passed
-    by (TryCellResult.Attached k) h = attaches k (h k refl)
+    by : (r : TryCellResult) → ((k : ℕ) → r ≡ Ok k → Attachable cs s.sheet (tolerances_of set) c k) → Tried cs (tolerances_of set) c s (fill_with c r s)
+    by (Err e) h = passed
+    by (Ok k) h = attaches k (h k refl)
 
     go : (q : Option Position) → Tried cs (tolerances_of set) c s (fill_at cs set p c q s)
     go None = passed
@@ -110,7 +110,7 @@ same_then a b =
     }
 
 pub held_alike : {f g : Filling} → SamePass f g → held g ≡ held f
-held_alike s = ap₂ corners_in (ap (λ (k : Bor (List Float)). k.now) s.same_corners) s.same_count
+held_alike s = ap₂ corners_in (ap (λ (k : Bor CornerArrays). k.now) s.same_corners) s.same_count
 
 -- no more cells are new than there are corners
 module _ (f : Filling) where
@@ -141,14 +141,14 @@ module _ {f : Filling} {c : Cell} {k : ℕ} (t : Taking f c k) where
   pub one_more : OneCell (attached f.sheet.now c k)
   one_more = one_attached taking_attaching t.free f.one_cell
 
-  pub tied_more : Tied (attached f.sheet.now c k) (set f.used k 1)
+  pub tied_more : Tied (attached f.sheet.now c k) (set f.used k true)
   tied_more = tied_attached taking_attaching (omega (arith, t.there, f.few)) f.tied
 
   pub room_more : f.made + 1 ≤ label_count (attached f.sheet.now c k)
   room_more = omega (arith, f.room, count_attached taking_attaching)
 
   -- a corner attached
-  pub took : {after : Filling} → Wrote f after c k → Left f after (fill_with c (TryCellResult.Attached k) (state_of f))
+  pub took : {after : Filling} → Wrote f after c k → Left f after (fill_with c (Ok k) (state_of f))
   unfolding fill_with
   took w =
       record {
@@ -163,21 +163,19 @@ module _ {f : Filling} {c : Cell} {k : ℕ} (t : Taking f c k) where
 
 -- ---- by what was found
 
-pub nothing_found : (r : TryCellResult) (c : Cell) (s : FillState) → ((k : ℕ) → r ≡ TryCellResult.Attached k → ⊥) → fill_with c r s ≡ s
+pub nothing_found : (r : TryCellResult) (c : Cell) (s : FillState) → ((k : ℕ) → r ≡ Ok k → ⊥) → fill_with c r s ≡ s
 unfolding fill_with
-nothing_found TryCellResult.NoCandidates c s h = refl
-nothing_found TryCellResult.Ambiguous c s h = refl
-nothing_found TryCellResult.EdgeRejected c s h = refl
-nothing_found (TryCellResult.Attached k) c s h = absurd (h k refl)
+nothing_found (Err e) c s h = refl
+nothing_found (Ok k) c s h = absurd (h k refl)
 
 module _ (f : Filling) (c : Cell) {r : TryCellResult} (is : r ≡ found_at (held f) f.setup.settings f.setup.params f.sheet.now c) where
   visited : fill_with c r (state_of f) ≡ fill_visit (held f) f.setup.settings f.setup.params c (state_of f)
   visited = ap (λ (x : TryCellResult). fill_with c x (state_of f)) is ∙ visit_as (held f) f.setup.settings f.setup.params c (state_of f)
 
-  pub tried_none : ((k : ℕ) → r ≡ TryCellResult.Attached k → ⊥) → Left f f (fill_visit (held f) f.setup.settings f.setup.params c (state_of f))
+  pub tried_none : ((k : ℕ) → r ≡ Ok k → ⊥) → Left f f (fill_visit (held f) f.setup.settings f.setup.params c (state_of f))
   tried_none h = untouched f (sym visited ∙ nothing_found r c (state_of f) h)
 
-  module _ (t : Trying f c) {k : ℕ} (e : r ≡ TryCellResult.Attached k) where
+  module _ (t : Trying f c) {k : ℕ} (e : r ≡ Ok k) where
     pub tried_taking : Taking f c k
     tried_taking = let a = found_attachable (held f) f.setup.settings f.setup.params f.sheet.now c k (sym is ∙ e) in record { trying = t; there = a.given; free = a.free }
 

@@ -1,7 +1,7 @@
 -- What fill's inner functions ask and leave, in the terms of fill's definition (crate passes, Fill). Definitions only.
 use Rattle.labels.specs.declared.Bounds.{Bounds}
 use Rattle.sheet.specs.declared.Position.{Position}
-use Rattle.std.specs.Prelude.{◌≡◌, false, List, ℕ, ◌+◌, ◌<◌, length, set, take, Option, Some, None}
+use Rattle.std.specs.Prelude.{◌≡◌, true, false, List, ℕ, ◌+◌, ◌<◌, length, set, take, Option, Some, None, Err}
 use Rattle.sheet.specs.Cells.{OnSheet, place_of, cell_of}
 use Rattle.sheet.specs.Words.{label_at, attached}
 use Rattle.sheet.specs.Corners.{Corners, seen_of, corners_in}
@@ -11,8 +11,8 @@ use Rattle.labels.specs.Used.{used_on}
 use Rattle.predict.specs.Predict.{prediction_of}
 use Rattle.arguments.specs.declared.Settings.{Settings}
 use Rattle.arguments.specs.declared.FillParams.{FillParams}
-use Rattle.extension_common.specs.TryCell.{try_at}
-use Rattle.extension_common.specs.declared.TryCellResult.{TryCellResult}
+use Rattle.extension_common.specs.TryCell.{TryCellResult, try_at}
+use Rattle.extension_common.specs.declared.NotAttached.{NotAttached}
 use Rattle.passes.specs.Grow.{tolerances_of}
 use Rattle.passes.specs.Fill.{FillState, FillRounds, box_and_strips, fill_search, fill_visit}
 use Rattle.passes.specs.declared.FillStats.{FillStats}
@@ -24,7 +24,7 @@ use Rattle.fill.specs.declared.Filling.{Filling}
 
 -- a cell with a prediction is tried there; one with no labelled neighbour has no candidate
 unfoldable pub found_from : Corners → Settings → FillParams → List ℕ → Cell → Option Position → TryCellResult
-found_from cs set p sheet c None = TryCellResult.NoCandidates
+found_from cs set p sheet c None = Err NotAttached.NoCandidates
 found_from cs set p sheet c (Some at) = try_at cs sheet (tolerances_of set) (fill_search set p) c at
 
 unfoldable pub found_at : Corners → Settings → FillParams → List ℕ → Cell → TryCellResult
@@ -77,7 +77,7 @@ pub record Wrote (before after : Filling) (c : Cell) (k : ℕ) : Type 0 where
   pub same : SamePass before after
   pub sheet_is : after.sheet.now ≡ attached before.sheet.now c k
   pub list_is : after.attached.now ≡ set before.attached.now before.made (place_of c)
-  pub used_is : after.used ≡ set before.used k 1
+  pub used_is : after.used ≡ set before.used k true
   pub made_is : after.made ≡ before.made + 1
 
 -- a place looked at: its cell is tried if it lies in the region and is unlabelled now

@@ -9,6 +9,7 @@ ghost use Rattle.sheet.specs.Corners.{Given, corner_lists};
 ghost use Rattle.labels.specs.Labelled.{label_count};
 ghost use Rattle.labels.specs.Used.{OneCell, Tied};
 ghost use Rattle.arguments.specs.Shades.{corners_of};
+ghost use Rattle.arguments.specs.Asked.{lists_of};
 ghost use Rattle.arguments.specs.Accepted.{Accepted};
 ghost use Rattle.passes.specs.Outcome.{done};
 ghost use Rattle.passes.specs.Fill.{near_i, near_j, box_and_strips, fill_search, fill_limit, fill_after};
@@ -16,14 +17,14 @@ ghost use Rattle.passes.specs.Step.{fill_step, fill_out, fill_leaves, lent_of, r
 ghost use Rattle.passes.specs.Said.{fill_values, fill_said, outcome_due};
 ghost use Rattle.region.specs.Small.{SmallBounds, SmallBox};
 
-use arguments::{FillParams, Pass, Settings};
+use arguments::{FillParams, LentCorners, Pass, Settings};
 use candidates::HeldCorners;
 use extension_common::{ChoiceRule, Search, Trial, TryCellResult};
 use labels::Bounds;
 use passes::FillStats;
 use refusal::Refusal;
-use sheet::Cell;
-use sizes::{CORNERS, PLACES};
+use sheet::{Cell, CornerArrays};
+use sizes::CORNERS;
 
 // Whether a cell lies in the box, or at most so many lines past it by i and by j.
 fn is_near(b: Bounds, past_i: u32, past_j: u32, c: Cell) -> bool
@@ -57,6 +58,7 @@ fn round_limit(labels: usize, max_iters: u32) -> usize
 }
 
 // The settings of a call, and the numbers of the pass.
+// Stays: each pass has its own radius and rule; a generic struct of `passes` would share two fields and turn these methods into functions (d).
 #[derive(Clone, Copy)]
 struct FillSetup {
     settings: Settings,
@@ -81,12 +83,12 @@ impl FillSetup {
 // cells that are new; and which corners are used.
 #[derive(Drop)]
 struct Filling<'a> {
-    corners: &'a [f32; 4 * CORNERS],
+    corners: &'a CornerArrays,
     count: usize,
     setup: FillSetup,
     sheet: &'a mut [u16],
     attached: &'a mut [u16],
-    used: [u8; CORNERS],
+    used: [bool; CORNERS],
     made: usize,
     ghost few: { count ≤ corner_limit },
     ghost given: { Given count sheet.now },
@@ -110,29 +112,18 @@ impl<'a> Filling<'a> {
         ensures { result ≡ found_at (held self.now) self.now.setup.settings self.now.setup.params self.now.sheet.now c }
     {
         let setup = self.setup;
-        let prediction = predict::predict_from_neighbours(
-            self.corners,
-            self.sheet,
+        let trial = Trial {
+            held: HeldCorners {
+                corners: self.corners,
+                count: self.count,
+                used: &self.used,
+            },
+            sheet: self.sheet,
             c,
-            setup.settings.grid,
-        );
-        match prediction {
-            None => TryCellResult::NoCandidates,
-            Some(at) => {
-                let trial = Trial {
-                    held: HeldCorners {
-                        corners: self.corners,
-                        count: self.count,
-                        used: &self.used,
-                    },
-                    sheet: self.sheet,
-                    c,
-                    search: setup.search(),
-                    tol: passes::tolerances_of(setup.settings),
-                };
-                trial.try_attach_at_cell(at)
-            }
-        }
+            search: setup.search(),
+            tol: passes::tolerances_of(setup.settings),
+        };
+        trial.try_predicted(setup.settings.grid)
     }
 
     // Attaches a corner to a cell: the sheet, the next place of the attached list and the corner's entry are written.
@@ -142,7 +133,7 @@ impl<'a> Filling<'a> {
     {
         self.attached[self.made] = sheet::place_of(c) as u16;
         sheet::attach(self.sheet, c, k);
-        self.used[k] = 1;
+        self.used[k] = true;
         self.made += 1;
     }
 
@@ -151,7 +142,7 @@ impl<'a> Filling<'a> {
         requires { Trying self.old c }
         ensures { Left self.old self.new (fill_visit (held self.old) self.old.setup.settings self.old.setup.params c (state_of self.old)) }
     {
-        if let TryCellResult::Attached(k) = self.try_cell(c) {
+        if let Ok(k) = self.try_cell(c) {
             self.attach_corner(c, k);
         }
     }
@@ -182,11 +173,8 @@ impl<'a> Filling<'a> {
     {
         let around = self.label_box();
         let window = region::window_of(around, 1);
-        let mut place = region::next_inside(window, 0);
-        // Stays: the sheet is written on the way, and the places between two lines of the window are passed over.
-        while place < PLACES {
+        for place in window.places() {
             self.fill_place(around, place);
-            place = region::next_inside(window, place + 1);
         }
     }
 
@@ -195,7 +183,8 @@ impl<'a> Filling<'a> {
         ensures { RoundsLeft self.old self.new result
             (fill_from (held self.old) self.old.setup.settings self.old.setup.params limit (start_of self.old)) }
     {
-        // Stays: a round that attaches nothing ends the walk, and the number of rounds is the answer.
+        // Stays: a round that attaches nothing ends the walk, and the number of rounds is the answer; local has the same loop over another struct, and one function
+        // for both would take the round and the count as closures over what they write, with a clause each (d).
         for walked in 0..limit {
             let before = self.made;
             self.fill_round();
@@ -219,31 +208,26 @@ impl<'a> Filling<'a> {
 }
 
 // The pass itself, on arguments that are not refused: all rounds, and what the answer says of them.
-// Stays: the public call lends each list by itself, as the specification and the C interface do.
 fn fill_accepted(
-    xs: &[f32],
-    ys: &[f32],
-    pitches: &[f32],
-    shades: &[u8],
+    corners: LentCorners,
     sheet: &mut [u16],
     attached: &mut [u16],
     settings: Settings,
     params: FillParams,
 ) -> FillStats
-    requires { Accepted (lent_of (corner_lists xs.now ys.now pitches.now) shades.now sheet.old (rooms 0 (length attached.old)))
+    requires { Accepted (lent_of (lists_of corners) corners.shades.now sheet.old (rooms 0 (length attached.old)))
         settings (Pass.Fill params) }
     ensures { fill_out (Ok result) sheet.new attached.new
-        ≡ fill_leaves (done (fill_after (corners_of (corner_lists xs.now ys.now pitches.now) shades.now)
+        ≡ fill_leaves (done (fill_after (corners_of (lists_of corners.entry) corners.entry.shades.now)
         settings params sheet.old)) sheet.old attached.old }
 {
     let limit = round_limit(labels::label_count(sheet), params.max_iters);
     let used = labels::mark_used(sheet);
-    let nothing = 0.0f32 / 0.0f32;
-    let mut corners = [nothing; 4 * CORNERS];
-    arguments::hold_corners(xs, ys, pitches, shades, &mut corners);
+    let mut held = CornerArrays::new();
+    corners.hold(&mut held);
     let mut filling = Filling {
-        corners: &corners,
-        count: xs.len(),
+        corners: &held,
+        count: corners.xs.len(),
         setup: FillSetup { settings, params },
         sheet,
         attached,
@@ -275,16 +259,19 @@ pub fn fill_grid_holes(
     ensures said { fill_said result ≡ outcome_due fill_values (fill_step (corner_lists xs.now ys.now pitches.now)
         shades.now sheet.old settings params (rooms 0 (length attached.old))) }
 {
-    arguments::check_arguments(
+    let corners = LentCorners {
         xs,
         ys,
         pitches,
         shades,
+    };
+    arguments::check_arguments(
+        corners,
         sheet,
         0,
         attached.len(),
         settings,
         Pass::Fill(params),
     )?;
-    Ok(fill_accepted(xs, ys, pitches, shades, sheet, attached, settings, params))
+    Ok(fill_accepted(corners, sheet, attached, settings, params))
 }

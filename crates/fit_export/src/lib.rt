@@ -21,7 +21,7 @@ fn points_of(xs: &[f32], ys: &[f32]) -> [Position; 4]
     requires { (4 ≤ length xs.now) × (4 ≤ length ys.now) }
     ensures { result ≡ points_of xs.now ys.now }
 {
-    // Stays: `from_fn` would need clauses of its closure on both slices, and be longer.
+    // Stays: `from_fn` would need clauses of its closure on both slices, and be longer (d).
     [
         Position { x: xs[0], y: ys[0] },
         Position { x: xs[1], y: ys[1] },
@@ -42,7 +42,7 @@ fn enter(h: [f32; 9], out: &mut [f32])
 // The fit that takes four cells to their pictured corners, each given by the first four x and the first four y. Where there is one the answer
 // is 1, and the first nine places of `out` hold its entries row by row; else, and where a slice is too short, the answer is 0. All other places of
 // `out` stay as they were.
-// Stays: the C interface has five lists of numbers.
+// Stays: the C interface has five lists of numbers (a).
 #[unsafe(no_mangle)]
 pub extern "C" fn homography_from_4pt_fit(
     cells_x: &[f32],

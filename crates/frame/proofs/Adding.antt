@@ -2,31 +2,35 @@
 -- nothing.
 use Rattle.std.specs.Prelude.{Ok}
 use mathlib.Core.Path.{◌≡◌, refl, sym, ap, ap₂, ◌∙◌, subst}
-use mathlib.Core.Bool.{Bool, true, false, ◌||◌, not, cond, or-true, or-false, or_assoc, or_comm}
+use mathlib.Core.Bool.{Bool, true, false, ◌||◌, not, cond, or-true, or-false, or_assoc}
 use mathlib.Core.Logic.{◌⊎◌, inl, inr}
 use mathlib.Core.List.{List, [], ◌∷◌, ◌++◌, map, append_assoc, append-nil, map-append}
 use Prim.Native.Nat.{ℕ, ◌≤◌, suc, ◌+◌, ◌*◌, ◌<◌}
 use native.Mathlib.Omega.{arith}
 use borrow.Author.Tests.{ne_eqb, eq-eqb, eqb-true, eqb-false, leb-false, ltb-true, ltb-false}
 use lib.IntN.{nat_abs, ℤ, pos}
-use lib.ListN.{length, get_or, set, take, length-set, length-append, replicate, length-replicate, get_or-replicate}
+use lib.ListN.{length, get_or, set, take, drop, length-set, length-take, length-drop, length-append, replicate, length-replicate, get_or-replicate}
 use lib.Dec.{eqb, ltb}
-use lib.Seq.{get_or-set_same, get_or-set_other, take-suc-set}
+use lib.Seq.{get_or-set_same, get_or-set_other, take-suc-set, take_at}
 use lib.Ieee.{Float}
 use Rattle.sheet.specs.Cells.{eq_z, OnSheet, place_of}
 use Rattle.sheet.specs.declared.Cell.{Cell}
 use Rattle.sheet.proofs.Laws.{place_in, cell_place, place_one}
 use Rattle.sheet.specs.Words.{number_of_label, word_of, with_label as withLabelWord, word_at, attached, empty_sheet}
-use Rattle.labels.specs.Labelled.{any_below}
-use Rattle.labels.proofs.Below.{passing_one_more, any_start, any_more, any_ext}
-use Rattle.labels.proofs.Count.{many_ext, many_none}
+use Rattle.labels.proofs.Below.{passing_one_more}
+use Rattle.labels.proofs.Count.{many_none}
 use Rattle.arguments.proofs.Chains.{or_false_both}
 use Rattle.join.specs.Rule.{Placed}
 use Rattle.join.specs.Join.{same_cell}
 use Rattle.join.specs.Sheets.{labelled}
 use Rattle.join.proofs.Lists.{same_cell_lem, cell_same}
 use Rattle.join.proofs.Sets.{labelled_append}
-use Rattle.join_sheet.proofs.OneMore.{with_last, place_else, place_last, held_none, held_more, second_more, second_none}
+use Rattle.std.specs.List.{list_any}
+use Rattle.std.proofs.lemmas.List.Elements.{All-nil}
+use Rattle.std.proofs.lemmas.List.Folds.{list_any-append}
+use Rattle.join_sheet.specs.Held.{LabelHeld}
+use Rattle.join_sheet.specs.declared.SecondLabel.{SecondLabel}
+use Rattle.join_sheet.proofs.OneMore.{labels_more, held_more, second_more}
 use Rattle.line_form.specs.Held.{held_up_to}
 use Rattle.frame_line.specs.Lines.{Line, kind_of, Proper, label_line_of, whole_at, CornerLine, corner_line_of, LabelLine, ShadeLine, shade_line_of, PassLine, pass_line_of}
 use Rattle.frame_line.specs.Checks.{outside_line}
@@ -41,16 +45,15 @@ use Rattle.frame_line.specs.declared.HeldLabel.{HeldLabel}
 use Rattle.frame_line.specs.declared.HeldShade.{HeldShade}
 use Rattle.frame_line.proofs.Shapes.{bits_held, whole_held}
 use Rattle.frame_line.proofs.Words.{tame_count}
-use Rattle.frame_check.specs.Checks.{checks_in_order, over_limit, label_twice, shade_twice, twice_of, has_place, checked_held, is_set}
+use Rattle.frame_check.specs.Checks.{checks_in_order, over_limit, label_twice, shade_twice, twice_of, has_place, checked_held, is_set, is_used, nothing_held}
 use Rattle.frame_check.proofs.Laws.{checks_alike, AllFine, fine_all}
-use Rattle.sizes.specs.Sizes.{corner_limit, pass_limit, place_count, used_count, second_count, all_pass_words}
-use Rattle.frame_state.specs.State.{patched_of, second_of, with_opening, labels_after, label_added, shade_put, words_in, words_put, State, adds_as, adds, at_stage, nothing_said, arrays, state}
-use Rattle.frame_state.specs.declared.PassWords.{PassWords}
+use Rattle.sizes.specs.Sizes.{corner_limit, pass_limit, place_count, all_pass_words}
+use Rattle.frame_state.specs.State.{patched_of, second_of, with_opening, label_to, shade_put, words_in, words_put, State, adds_as, adds, at_stage, nothing_said, state}
 use Rattle.frame_state.proofs.Laws.{many_room}
 use Rattle.frame.specs.Frame.{outside_in, over_in, twice_in, Parts, some_of, doubled, open_labels, placed, shaded_before, checked_line, opened, adding, added, no_parts}
 use Rattle.frame.specs.Text.{Sound}
 use Rattle.frame.specs.Reading.{cell_taken, corner_taken, corner_shaded, HoldsUsed, CheckedLabels, HoldsLabels, HoldsSecond, HoldsShades, Holds, HoldsCorners, HoldsPasses, FrameHeld}
-use Rattle.frame.specs.ReadFrame.{float_of, settings_in, shaded, full_of, words_of, all_words}
+use Rattle.frame.specs.ReadFrame.{float_of, settings_in, shaded, FullPass, full_grow, full_fill, full_local, full_of, words_of, all_words}
 use Rattle.frame.proofs.Sets.{same_truth, all_then, apart_more}
 
 pub below_or_not : (a b : ℕ) → (a < b) ⊎ (b ≤ a)
@@ -93,7 +96,7 @@ twice_alike (Kind.Pass p) h i = refl
 module _ (f : Parts) (s : State) (g : FrameHeld f s) (l : Line) (p : Proper l) where
   -- whether a label is doubled in the set that is open, t being whether that is the second
   set_twice : (m : LabelLine) → OnSheet m.cell → m.corner ≡ pos (nat_abs m.corner) → nat_abs m.corner < corner_limit → (t : Bool)
-      → label_twice t s.held.sheet s.held.used s.held.second (second_of s.progress) (record { corner = nat_abs m.corner; cell = m.cell })
+      → label_twice t s.held (second_of s.progress) (record { corner = nat_abs m.corner; cell = m.cell })
       ≡ (cell_taken (cond t f.second f.labels) m.cell || corner_taken (cond t f.second f.labels) m.corner)
   set_twice m on is small true =
       ap₂ ◌||◌ (g.second.cells m.cell on) (g.second.uses.corners (nat_abs m.corner) small ∙ ap (corner_taken f.second) (sym is))
@@ -101,11 +104,11 @@ module _ (f : Parts) (s : State) (g : FrameHeld f s) (l : Line) (p : Proper l) w
       ap₂ ◌||◌ (g.labels.cells m.cell on) (g.labels.uses.corners (nat_abs m.corner) small ∙ ap (corner_taken f.labels) (sym is))
 
   twice : outside_line 4 s.progress.corners l ≡ false → outside_line 5 s.progress.corners l ≡ false → kind_of l ≡ Kind.Label
-      → label_twice (patched_of s.progress) s.held.sheet s.held.used s.held.second (second_of s.progress) (label_in (held_up_to 5 l.numbers)) ≡ doubled (open_labels f) (label_line_of l.numbers)
+      → label_twice (patched_of s.progress) s.held (second_of s.progress) (label_in (held_up_to 5 l.numbers)) ≡ doubled (open_labels f) (label_line_of l.numbers)
   twice off known k =
       let h = label_exact s.progress.corners l p k g.corners.xs_held.some off known in
       let m = label_line_of l.numbers in
-      ap₂ (λ (t : Bool) (x : HeldLabel). label_twice t s.held.sheet s.held.used s.held.second (second_of s.progress) x) g.patched h.held_so
+      ap₂ (λ (t : Bool) (x : HeldLabel). label_twice t s.held (second_of s.progress) x) g.patched h.held_so
       ∙ set_twice m h.on_sheet_holds h.is_corner_holds (omega (arith, h.given, g.corners.xs_held.some)) f.patched
       ∙ sym (some_either (λ k. same_cell k.cell m.cell) (λ k. eq_z k.corner m.corner) (open_labels f))
 
@@ -119,8 +122,7 @@ module _ (f : Parts) (s : State) (g : FrameHeld f s) (l : Line) (p : Proper l) w
 
   -- all checks
   pub checks_agree :
-      checked_held s.progress.corners s.progress.passes (patched_of s.progress) s.held.shades s.held.sheet s.held.used s.held.second
-      (second_of s.progress) (held_line l)
+      checked_held s.progress.corners s.progress.passes (patched_of s.progress) s.held (second_of s.progress) (held_line l)
       ≡ checked_line f l
   unfolding checked_held checked_line
   checks_agree =
@@ -200,15 +202,13 @@ word_some : (w k : ℕ) → withLabelWord w k ≡ 0 → ⊥
 unfolding word_of number_of_label
 word_some w k e = omega arith
 
--- another entry is as it was
-set_else : (entries : List ℕ) (p q w : ℕ) → (q ≡ p → ⊥) → is_set (set entries p w) q ≡ is_set entries q
-set_else entries p q w d = ap (λ (v : ℕ). not (eqb v 0)) (get_or-set_other entries p q w 0 d)
-
--- both a number higher
-shift_eqb : (n p q : ℕ) → eqb (n + p) (n + q) ≡ eqb p q
-shift_eqb n p q =
-    same_truth _ _ (λ e. let d = eqb-true (n + p) (n + q) e in eq-eqb p q (omega arith))
-    (λ e. let d = eqb-true p q e in eq-eqb (n + p) (n + q) (ap (λ (k : ℕ). n + k) d))
+-- a corner that is marked is used, and the others are as they were
+use_set : (used : List Bool) (p q : ℕ) → p < length used → is_used (set used p true) q ≡ (is_used used q || eqb p q)
+use_set used p q h = go (eqb p q) refl
+  where
+    go : (t : Bool) → eqb p q ≡ t → is_used (set used p true) q ≡ (is_used used q || t)
+    go true e = ap (is_used (set used p true)) (sym (eqb-true p q e)) ∙ get_or-set_same used p true false h ∙ sym (or-true (is_used used q))
+    go false e = get_or-set_other used p q true false (λ d. eqb-false p q e (sym d)) ∙ sym (or-false (is_used used q))
 
 -- ---- the corners used
 
@@ -227,11 +227,6 @@ used_more {ls} {n} {uses} {uses'} g l k is small free same =
           (λ q h d. same q h ∙ ap (λ (t : Bool). uses q || t) (ne_eqb k q (λ e. d (sym e))) ∙ or-false (uses q))
           ∙ ap (λ (m : ℕ). m + 1) g.many;
     }
-
-used_kept : {ls : List LabelLine} {n : ℕ} {uses uses' : ℕ → Bool} → HoldsUsed ls n uses → ((q : ℕ) → q < corner_limit → uses' q ≡ uses q)
-    → HoldsUsed ls n uses'
-used_kept g same =
-    record { count = g.count; corners = λ q h. same q h ∙ g.corners q h; many = many_ext _ _ corner_limit same ∙ g.many }
 
 -- ---- a label of either set
 
@@ -260,9 +255,9 @@ more_room : {ls : List LabelLine} {n : ℕ} {uses : ℕ → Bool} → HoldsUsed 
 more_room {uses = uses} g {k = k} w =
     omega (arith, g.many, many_room uses corner_limit k w.small (g.corners k w.small ∙ ap (corner_taken _) (sym w.is) ∙ free w))
 
--- a label of the first set: the second stays
-module _ {ls : List LabelLine} {l : LabelLine} {k : ℕ} (w : NewLabel ls l k) (used : List ℕ) (long : length used ≡ used_count) where
-  label_held : {n : ℕ} {sheet : List ℕ} → HoldsLabels ls n sheet used → HoldsLabels (ls ++ (l ∷ [])) (n + 1) (attached sheet l.cell k) (set used k 1)
+-- a label of the first set, and one of the second
+module _ {ls : List LabelLine} {l : LabelLine} {k : ℕ} (w : NewLabel ls l k) (used : List Bool) (long : length used ≡ corner_limit) where
+  label_held : {n : ℕ} {sheet : List ℕ} → HoldsLabels ls n sheet used → HoldsLabels (ls ++ (l ∷ [])) (n + 1) (attached sheet l.cell k) (set used k true)
   unfolding attached
   label_held {sheet = sheet} g =
       let v = withLabelWord (word_at sheet l.cell) k in
@@ -274,64 +269,33 @@ module _ {ls : List LabelLine} {l : LabelLine} {k : ℕ} (w : NewLabel ls l k) (
             set_set sheet (place_of l.cell) (place_of c) v (omega (arith, place_in l.cell w.on, g.sheet_long)) (word_some (word_at sheet l.cell) k)
             ∙ ap₂ ◌||◌ (g.cells c h) (place_same l.cell c w.on h)
             ∙ sym (some_more (λ m. same_cell m.cell c) ls l);
-        uses = used_more g.uses l k w.is w.small (free w) (λ q h. set_set used k q 1 (omega (arith, w.small)) (λ e. omega arith));
+        uses = used_more g.uses l k w.is w.small (free w) (λ q h. use_set used k q (omega (arith, long, w.small)));
         checked = checked_more w g.checked;
       }
 
-  second_kept : {ls' : List LabelLine} {m : ℕ} {second : List ℕ} → HoldsSecond ls' m used second → HoldsSecond ls' m (set used k 1) second
-  second_kept g =
-      record {
-        labels_are = g.labels_are;
-        fits = g.fits;
-        second_long = g.second_long;
-        cells = g.cells;
-        uses = used_kept g.uses (λ q h. set_else used k (corner_limit + q) 1 (λ e. omega (arith, w.small)));
-      }
+  abbrev last : SecondLabel
+  last = record { corner = k; place = place_of l.cell }
 
--- a label of the second set: the first stays
-module _ {ls : List LabelLine} {l : LabelLine} {k : ℕ} (w : NewLabel ls l k) (used : List ℕ) (long : length used ≡ used_count) where
-  abbrev place : ℕ
-  place = place_of l.cell
-
-  abbrev after : List ℕ
-  after = set used (corner_limit + k) 1
-
-  place_small : place < place_count
-  place_small = place_in l.cell w.on
-
-  second_held : {m : ℕ} {second : List ℕ} → HoldsSecond ls m used second → m < corner_limit
-      → HoldsSecond (ls ++ (l ∷ [])) (m + 1) after (set (set second m k) (corner_limit + m) place)
+  second_held : {m : ℕ} {second : List SecondLabel} → HoldsSecond ls m used second → m < corner_limit
+      → HoldsSecond (ls ++ (l ∷ [])) (m + 1) (set used k true) (set second m last)
   second_held {m} {second} g room =
+      let inside : m < length second = omega (arith, g.second_long) in
       record {
         labels_are =
-            held_more second g.second_long m k place room
+            held_more second m last inside
             ∙ ap₂ (λ (a b : List Placed). a ++ b) g.labels_are
             (λ t. record { corner = (sym (ap nat_abs w.is)) t; cell = cell_place l.cell w.on t } ∷ [])
             ∙ sym (map-append placed ls (l ∷ []));
-        fits = second_more second g.second_long m k place room g.fits w.small place_small;
-        second_long = length-set (set second m k) (corner_limit + m) place ∙ length-set second m k ∙ g.second_long;
+        fits = second_more second m last inside g.fits (record { corner_small = w.small; place_on = place_in l.cell w.on });
+        few = omega arith;
+        second_long = length-set second m last ∙ g.second_long;
         cells =
             λ c h.
-            any_more (has_place (with_last second m k place) (place_of c)) m
-            ∙ or_comm (has_place (with_last second m k place) (place_of c) m) (any_below m (has_place (with_last second m k place) (place_of c)))
-            ∙ ap₂ ◌||◌ (any_ext _ _ m (λ i b. ap (λ (v : ℕ). eqb v (place_of c)) (place_else second g.second_long m k place room i b)) ∙ g.cells c h)
-            (ap (λ (v : ℕ). eqb v (place_of c)) (place_last second g.second_long m k place room) ∙ place_same l.cell c w.on h)
+            ap (list_any (has_place (place_of c))) (labels_more second m last inside)
+            ∙ list_any-append (has_place (place_of c)) (take m second) (last ∷ [])
+            ∙ ap₂ ◌||◌ (g.cells c h) (or-false (eqb (place_of l.cell) (place_of c)) ∙ place_same l.cell c w.on h)
             ∙ sym (some_more (λ n. same_cell n.cell c) ls l);
-        uses =
-            used_more g.uses l k w.is w.small (free w)
-            (λ q h.
-            set_set used (corner_limit + k) (corner_limit + q) 1 (omega (arith, long, w.small)) (λ e. omega arith)
-            ∙ ap (λ (t : Bool). is_set used (corner_limit + q) || t) (shift_eqb corner_limit k q));
-      }
-
-  label_kept : {ls' : List LabelLine} {n : ℕ} {sheet : List ℕ} → HoldsLabels ls' n sheet used → HoldsLabels ls' n sheet after
-  label_kept g =
-      record {
-        sheet_is = g.sheet_is;
-        sheet_long = g.sheet_long;
-        cells = g.cells;
-        uses = used_kept g.uses (λ q h. set_else used (corner_limit + k) q 1 (λ e. omega arith));
-        checked = g.checked;
+        uses = used_more g.uses l k w.is w.small (free w) (λ q h. use_set used k q (omega (arith, long, w.small)));
       }
 
 -- ---- shades
@@ -354,20 +318,36 @@ shade_held_lem {ss} {shades} g s is small =
 
 -- ---- passes
 
-abbrev listed : PassWords → List ℕ
-listed w = w.kind ∷ w.search ∷ w.factor ∷ w.reach ∷ w.rounds ∷ w.depth ∷ []
+-- words put behind those that are held
+put_held : {size n : ℕ} {entries these : List ℕ} → Holds size n entries these → (w : List ℕ) (k : ℕ) → n + length w ≡ k → k ≤ size
+    → Holds size k (take n entries ++ (w ++ drop k entries)) (these ++ w)
+put_held {n = n} {entries = entries} g w k e room =
+    record {
+      long = simp (length-append, length-take, length-drop) (omega (arith, g.long, g.some));
+      some = room;
+      are =
+          ap (take k) (sym (append_assoc (take n entries) w (drop k entries)))
+          ∙ take_at (take n entries ++ w) (drop k entries) k (simp (length-append, length-take) (omega (arith, g.long, g.some)))
+          ∙ ap (λ (l : List ℕ). l ++ w) g.are;
+    }
 
-pass_held : {ps : List PassLine} {m : ℕ} {words : List ℕ} → HoldsPasses ps m words → m < pass_limit → (p : PassLine) (w : PassWords)
-    → listed w ≡ words_of (full_of p)
+six_words : (p : FullPass) → length (words_of p) ≡ 6
+unfolding words_of
+six_words (full_grow search factor boundary) = refl
+six_words (full_fill search factor rounds) = refl
+six_words (full_local search factor rounds residual depth) = refl
+
+pass_held : {ps : List PassLine} {m : ℕ} {words : List ℕ} → HoldsPasses ps m words → m < pass_limit → (p : PassLine) (w : List ℕ)
+    → w ≡ words_of (full_of p)
     → HoldsPasses (ps ++ (p ∷ [])) (m + 1) (words_put m w words)
-pass_held {ps} {m} g h p w e =
-    let a = holds_more g.words_held (omega arith) w.kind (6 * m + 1) (omega arith) in
-    let b = holds_more a (omega arith) w.search (6 * m + 2) (omega arith) in
-    let c = holds_more b (omega arith) w.factor (6 * m + 3) (omega arith) in
-    let d = holds_more c (omega arith) w.reach (6 * m + 4) (omega arith) in
-    let i = holds_more d (omega arith) w.rounds (6 * m + 5) (omega arith) in
-    let all = holds_more i (omega arith) w.depth (6 * (m + 1)) (omega arith) in
-    record { count = simp length-append (omega (arith, g.count)); words_held = rw (words_more ps p, ← e) (simp append_assoc at all) }
+pass_held {ps} {m} {words} g h p w e =
+    let six : length w ≡ 6 = ap length e ∙ six_words (full_of p) in
+    let all = put_held g.words_held w (6 * m + 6) (omega (arith, six)) (omega arith) in
+    let next : 6 * m + 6 ≡ 6 * (m + 1) = omega arith in
+    record {
+      count = simp length-append (omega (arith, g.count));
+      words_held = rw (words_more ps p, ← e) (subst (λ (k : ℕ). Holds 96 k (words_put m w words) (all_words ps ++ w)) next all);
+    }
 
 -- ---- any line
 
@@ -389,7 +369,7 @@ module _ (f : Parts) (s : State) (g : FrameHeld f s) (l : Line) (p : Proper l) (
   settings_added OpeningKind.Band e = rw (bits_held l p (Kind.Opening OpeningKind.Band) e 0 (omega arith) refl, g.settings_are)
 
   -- the words of a pass whose numbers are in range
-  words_agree : (k : PassKind) → kind_of l ≡ Kind.Pass k → listed (words_in k (held_up_to 5 l.numbers)) ≡ words_of (full_of (pass_line_of k l.numbers))
+  words_agree : (k : PassKind) → kind_of l ≡ Kind.Pass k → words_in k (held_up_to 5 l.numbers) ≡ words_of (full_of (pass_line_of k l.numbers))
   unfolding pass_line_of full_of words_of slots_of form_at row_at rows
   words_agree PassKind.BareGrow e = refl
   words_agree PassKind.Grow e =
@@ -428,22 +408,17 @@ module _ (f : Parts) (s : State) (g : FrameHeld f s) (l : Line) (p : Proper l) (
         passes = f.passes;
       }
 
-  abbrev state_with : Bool → HeldLabel → State
-  state_with t x =
-      let h = s.held in
-      let b = label_added t x (labels_after s.progress h.sheet h.used h.second) in
-      state b.progress (arrays h.xs h.ys h.pitches h.shades b.sheet b.used b.second h.passes)
-
   label_in_lem : (t : Bool) (k : ℕ) → f.patched ≡ t → NewLabel (cond t f.second f.labels) (label_line_of l.numbers) k
-      → FrameHeld (parts_with t) (state_with t (record { corner = k; cell = (label_line_of l.numbers).cell }))
+      → FrameHeld (parts_with t) (label_to t (record { corner = k; cell = (label_line_of l.numbers).cell }) s)
   label_in_lem true k stands n =
       record {
         settings_are = g.settings_are;
         corners = g.corners;
-        used_long = length-set s.held.used (corner_limit + k) 1 ∙ g.used_long;
-        labels = label_kept n s.held.used g.used_long g.labels;
+        used_long = g.used_long;
+        second_used_long = length-set s.held.second_used k true ∙ g.second_used_long;
+        labels = g.labels;
         patched = sym stands;
-        second = second_held n s.held.used g.used_long g.second (second_room n);
+        second = second_held n s.held.second_used g.second_used_long g.second (second_room n);
         shades = g.shades;
         passes = g.passes;
       }
@@ -451,19 +426,20 @@ module _ (f : Parts) (s : State) (g : FrameHeld f s) (l : Line) (p : Proper l) (
       record {
         settings_are = g.settings_are;
         corners = g.corners;
-        used_long = length-set s.held.used k 1 ∙ g.used_long;
+        used_long = length-set s.held.used k true ∙ g.used_long;
+        second_used_long = g.second_used_long;
         labels = label_held n s.held.used g.used_long g.labels;
         patched = g.patched;
-        second = second_kept n s.held.used g.used_long g.second;
+        second = g.second;
         shades = g.shades;
         passes = g.passes;
       }
 
   label_by : {x : HeldLabel} {k : ℕ} → x ≡ record { corner = k; cell = (label_line_of l.numbers).cell }
-      → NewLabel (open_labels f) (label_line_of l.numbers) k → FrameHeld (parts_with f.patched) (state_with (patched_of s.progress) x)
+      → NewLabel (open_labels f) (label_line_of l.numbers) k → FrameHeld (parts_with f.patched) (label_to (patched_of s.progress) x s)
   label_by {x} {k} e n =
-      subst (λ (t : Bool). FrameHeld (parts_with f.patched) (state_with t x)) (sym g.patched)
-      (subst (λ (y : HeldLabel). FrameHeld (parts_with f.patched) (state_with f.patched y)) (sym e) (label_in_lem f.patched k refl n))
+      subst (λ (t : Bool). FrameHeld (parts_with f.patched) (label_to t x s)) (sym g.patched)
+      (subst (λ (y : HeldLabel). FrameHeld (parts_with f.patched) (label_to f.patched y s)) (sym e) (label_in_lem f.patched k refl n))
 
   -- a line of a kind changes its own part
   by_kind : (kind : Kind) → kind_of l ≡ kind → FrameHeld (adding kind l.numbers f) (adds_as kind (held_up_to 5 l.numbers) s)
@@ -473,6 +449,7 @@ module _ (f : Parts) (s : State) (g : FrameHeld f s) (l : Line) (p : Proper l) (
         settings_are = settings_added k e;
         corners = g.corners;
         used_long = g.used_long;
+        second_used_long = g.second_used_long;
         labels = g.labels;
         patched = g.patched;
         second = g.second;
@@ -488,6 +465,7 @@ module _ (f : Parts) (s : State) (g : FrameHeld f s) (l : Line) (p : Proper l) (
             rw (b 0 (omega arith) refl, b 1 (omega arith) refl, b 2 (omega arith) refl)
             (corner_held g.corners (omega (arith, g.corners.count)) (corner_line_of l.numbers));
         used_long = g.used_long;
+        second_used_long = g.second_used_long;
         labels = g.labels;
         patched = g.patched;
         second = g.second;
@@ -510,6 +488,7 @@ module _ (f : Parts) (s : State) (g : FrameHeld f s) (l : Line) (p : Proper l) (
         settings_are = g.settings_are;
         corners = g.corners;
         used_long = g.used_long;
+        second_used_long = g.second_used_long;
         labels = g.labels;
         patched = refl;
         second = g.second;
@@ -527,6 +506,7 @@ module _ (f : Parts) (s : State) (g : FrameHeld f s) (l : Line) (p : Proper l) (
         settings_are = g.settings_are;
         corners = g.corners;
         used_long = g.used_long;
+        second_used_long = g.second_used_long;
         labels = g.labels;
         patched = g.patched;
         second = g.second;
@@ -541,6 +521,7 @@ module _ (f : Parts) (s : State) (g : FrameHeld f s) (l : Line) (p : Proper l) (
         settings_are = g.settings_are;
         corners = g.corners;
         used_long = g.used_long;
+        second_used_long = g.second_used_long;
         labels = g.labels;
         patched = g.patched;
         second = g.second;
@@ -558,6 +539,7 @@ restaged f s stage g =
       settings_are = g.settings_are;
       corners = g.corners;
       used_long = g.used_long;
+      second_used_long = g.second_used_long;
       labels = g.labels;
       patched = g.patched;
       second = g.second;
@@ -577,44 +559,45 @@ none_used : (uses : ℕ → Bool) → ((k : ℕ) → k < corner_limit → uses k
 unfolding some_of
 none_used uses h = record { count = refl; corners = h; many = many_none uses corner_limit h }
 
-no_labels : HoldsLabels [] 0 (replicate place_count 0) (replicate used_count 0)
+none_marked : (k : ℕ) → k < corner_limit → is_used (replicate corner_limit false) k ≡ false
+none_marked k h = get_or-replicate corner_limit k false false h
+
+no_labels : HoldsLabels [] 0 (replicate place_count 0) (replicate corner_limit false)
 unfolding some_of labelled empty_sheet
 no_labels =
     record {
       sheet_is = refl;
       sheet_long = length-replicate {A = ℕ} place_count 0;
       cells = λ c h. none_set place_count (place_of c) (place_in c h);
-      uses = none_used (is_set (replicate used_count 0)) (λ k h. none_set used_count k (omega arith));
+      uses = none_used (is_used (replicate corner_limit false)) none_marked;
       checked = record { sound = tt; once = tt };
     }
 
-no_second : HoldsSecond [] 0 (replicate used_count 0) (replicate second_count 0)
+no_second : HoldsSecond [] 0 (replicate corner_limit false) (replicate corner_limit (record { corner = 0; place = 0 }))
 unfolding some_of
 no_second =
     record {
-      labels_are = held_none (replicate second_count 0);
-      fits = second_none (replicate second_count 0);
-      second_long = length-replicate {A = ℕ} second_count 0;
-      cells = λ c h. any_start _;
-      uses = none_used (λ k. is_set (replicate used_count 0) (corner_limit + k)) (λ k h. none_set used_count (corner_limit + k) (omega arith));
+      labels_are = refl;
+      fits = All-nil LabelHeld;
+      few = omega arith;
+      second_long = length-replicate {A = SecondLabel} corner_limit (record { corner = 0; place = 0 });
+      cells = λ c h. refl;
+      uses = none_used (is_used (replicate corner_limit false)) none_marked;
     }
 
 no_shades : HoldsShades [] (replicate corner_limit 0)
 unfolding some_of shaded
 no_shades = record { shades_are = refl; shades_long = length-replicate {A = ℕ} corner_limit 0; corners = λ k h. none_set corner_limit k h }
 
-pub nothing_held : (x : Float)
-    → FrameHeld no_parts
-    (state nothing_said
-    (arrays (replicate corner_limit x) (replicate corner_limit x) (replicate corner_limit x)
-    (replicate corner_limit 0) (replicate place_count 0) (replicate used_count 0) (replicate second_count 0) (replicate all_pass_words 0)))
+pub nothing_read : FrameHeld no_parts (state nothing_said nothing_held)
 unfolding all_words
-nothing_held x =
-    let front = holds_none corner_limit x in
+nothing_read =
+    let front = holds_none corner_limit (float_of 0) in
     record {
       settings_are = refl;
       corners = record { count = refl; xs_held = front; ys_held = front; pitches_held = front };
-      used_long = length-replicate {A = ℕ} used_count 0;
+      used_long = length-replicate {A = Bool} corner_limit false;
+      second_used_long = length-replicate {A = Bool} corner_limit false;
       labels = no_labels;
       patched = refl;
       second = no_second;

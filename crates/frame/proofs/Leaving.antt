@@ -3,41 +3,40 @@
 use mathlib.Core.Path.{◌≡◌, refl, sym, ap, ◌∙◌}
 use mathlib.Core.List.{List, [], ◌∷◌}
 use mathlib.Core.Bool.{true, false, Bool, cond}
-use Prim.Native.Nat.{ℕ, zero, suc, ◌+◌, ◌≤◌, ◌*◌}
+use Prim.Native.Nat.{ℕ, zero, suc, ◌+◌, ◌≤◌}
 use native.Mathlib.Omega.{arith}
 use borrow.Author.Tests.{ltb-false}
 use lib.ListN.{length, set, take, replicate}
 use lib.Dec.{ltb}
 use lib.IntN.{nat_abs}
-use lib.Ieee.{Float}
 use Rattle.refusal.specs.Said.{number_and_line}
 use Rattle.arguments.specs.Front.{over}
 use Rattle.arguments.proofs.Chains.{or_false_both}
 use Rattle.frame_line.specs.Lines.{ShadeLine}
-use Rattle.sizes.specs.Sizes.{corner_limit, place_count, pass_size, all_pass_words}
-use Rattle.frame_state.specs.State.{Arrays}
+use Rattle.sizes.specs.Sizes.{corner_limit, place_count, all_pass_words}
+use Rattle.frame_check.specs.declared.Held.{Held}
+use Rattle.frame_state.specs.State.{State}
 use Rattle.frame_state.specs.declared.Progress.{Progress}
-use Rattle.frame.specs.Reading.{Holds, FrameDone, ReadAs, held_as, LongEnough}
+use Rattle.frame.specs.Reading.{Holds, FrameDone, ReadAs, held_as, LongEnough, taken}
 use Rattle.frame.specs.Frame.{Frame, parts_of, FrameRead, refused_at, accepted, read_frame}
-use Rattle.frame.specs.ReadFrame.{xs_of, ys_of, pitches_of, shaded, shades_of, settings_of, Buffers, frame_out, too_short, leaves, read_into, unless_short}
+use Rattle.frame.specs.ReadFrame.{xs_of, ys_of, pitches_of, shaded, shades_of, settings_of, Buffers, left, too_short, leaves, read_into, unless_short}
 use Rattle.std.proofs.Common.{Ok}
 use Rattle.frame.specs.Said.{head_values, frame_said, line_values, read_due, frame_due}
 
 -- ---- at the end
 
 -- a frame that is accepted, and held
-pub record Accepting (f : FrameRead) (p : Progress) (a : Arrays) : Type 0 where
+pub record Accepting (f : FrameRead) (p : Progress) (a : Held) : Type 0 where
   pub frame : Frame
   pub is : f ≡ accepted frame
   pub holds : FrameDone frame p a
 
-pub whole_read : {f : FrameRead} {p : Progress} {a : Arrays} → ReadAs f (Ok p) a → Accepting f p a
-whole_read (held_as f p g) = record { frame = f; is = refl; holds = g }
+pub whole_read : {f : FrameRead} {s : State} {u : Unit {0}} → ReadAs f (Ok u) s → Accepting f s.progress s.held
+whole_read (held_as f g) = record { frame = f; is = refl; holds = g }
 
 -- what a buffer has after the front of an array is copied to it
-left : {A : Type 0} {size n : ℕ} {entries these : List A} → Holds size n entries these → (to after : List A) → after ≡ over (take n entries) to
-    → after ≡ over these to
-left g to after e = e ∙ ap (λ (l : List _). over l to) g.are
+front : {A : Type 0} {size n : ℕ} {entries these : List A} → Holds size n entries these → (to : List A) → over (take n entries) to ≡ over these to
+front g to = ap (λ (l : List _). over l to) g.are
 
 -- the front of an array that is written, and of one that is all alike
 take_set : {A : Type 0} (n : ℕ) (l : List A) (i : ℕ) (a : A) → take n (set l i a) ≡ set (take n l) i a
@@ -59,7 +58,7 @@ take_shaded n shades (s ∷ ss) =
     take_shaded n (set shades (nat_abs s.corner) (nat_abs s.kind + 1)) ss
     ∙ ap (λ (l : List ℕ). shaded l ss) (take_set n shades (nat_abs s.corner) (nat_abs s.kind + 1))
 
-module _ {f : FrameRead} {p : Progress} {a : Arrays} (w : Accepting f p a) where
+module _ {f : FrameRead} {p : Progress} {a : Held} (w : Accepting f p a) where
   shades_held : Holds corner_limit p.corners a.shades (shades_of w.frame)
   unfolding shades_of
   shades_held =
@@ -76,20 +75,26 @@ module _ {f : FrameRead} {p : Progress} {a : Arrays} (w : Accepting f p a) where
       }
 
   -- an accepted frame is written
-  pub text_accepted : (b : Buffers) (xs ys pitches : List Float) (shades sheet passes : List ℕ) → xs ≡ over (take p.corners a.xs) b.xs
-      → ys ≡ over (take p.corners a.ys) b.ys
-      → pitches ≡ over (take p.corners a.pitches) b.pitches → shades ≡ over (take p.corners a.shades) b.shades
-      → sheet ≡ over a.sheet b.sheet
-      → passes ≡ over (take (pass_size * p.passes) a.passes) b.passes
-      → frame_out (Ok (record { settings = p.settings; corners = p.corners; passes = p.passes })) xs ys pitches shades sheet passes
-      ≡ leaves f b
+  pub text_accepted : (b after : Buffers) → after ≡ taken p a b
+      → left (Ok (record { settings = p.settings; corners = p.corners; passes = p.passes })) after ≡ leaves f b
   unfolding settings_of xs_of ys_of pitches_of
-  text_accepted b xs ys pitches shades sheet passes x y z d s q =
+  text_accepted b after e =
       let h = w.holds in
       let c = h.corners in
-      rw (w.is, h.settings_are, c.count, h.passes.count)
-      (rw (left c.xs_held _ _ x, left c.ys_held _ _ y, left c.pitches_held _ _ z, left shades_held _ _ d, s ∙ ap (λ (l : List ℕ). over l b.sheet) h.sheet_is)
-      (rw (left h.passes.words_held _ _ q)))
+      rw (
+        w.is,
+        e,
+        h.settings_are,
+        front c.xs_held b.xs,
+        front c.ys_held b.ys,
+        front c.pitches_held b.pitches,
+        front shades_held b.shades,
+        front h.passes.words_held b.passes,
+        h.sheet_is,
+        c.count,
+        h.passes.count,
+      )
+      refl
 
 -- ---- the call
 

@@ -1,19 +1,17 @@
 -- A line as the code takes it leads where the definition says, and so do all lines, turn by turn. Assumes nothing.
 use Rattle.std.specs.Prelude.{Ok, Err}
 use mathlib.Core.Path.{◌≡◌, refl, sym, ap, ap₂, subst, ◌∙◌}
-use mathlib.Core.Bool.{Bool, true, false, not, cond}
-use mathlib.Core.Logic.{⊎_elim}
+use mathlib.Core.Bool.{Bool, true, false, cond}
 use mathlib.Core.List.{List, [], ◌∷◌, ◌++◌, map}
 use Prim.Native.Nat.{ℕ, zero, suc, ◌+◌, ◌<◌, ◌≤◌}
 use native.Mathlib.Omega.{arith}
 use native.Mathlib.Numerals.{add-one}
 use native.Mathlib.Nat.{sub-zero}
 use lib.Dec.{eqb}
-use lib.ListN.{length, get_or, take, drop, length-append}
+use lib.ListN.{length, take, drop, length-append}
 use Rattle.refusal.specs.declared.Refusal.{Refusal}
 use Rattle.sheet.specs.Words.{empty_sheet}
 use Rattle.sheet.proofs.Words.{empty_length}
-use Rattle.labels.specs.Used.{used_on}
 use Rattle.labels.proofs.Count.{many_few}
 use Rattle.join.specs.Rule.{Placed}
 use Rattle.join.specs.Join.{Joined, apart, clash, off, union_of, joined}
@@ -23,26 +21,26 @@ use Rattle.join_sheet.specs.Held.{held_labels, concluded}
 use Rattle.join_sheet.proofs.Held.{joins_as}
 use Rattle.line_form.specs.Lines.{lines_of, line_length}
 use Rattle.line_form.proofs.Lines.{lines_from, no_lines}
-use Rattle.frame_line.specs.Table.{row_count, turn_at, may_end}
+use Rattle.frame_line.specs.Table.{turn_at, may_end}
 use Rattle.frame_line.specs.Lines.{Line, LineRead, ill_formed, line, read_line}
 use Rattle.frame_line.specs.Held.{held_line, held_read}
 use Rattle.std.proofs.Common.{Option, None, Some}
 use Rattle.frame_line.specs.declared.HeldLine.{HeldLine}
 use Rattle.frame_line.proofs.Laws.{line_prints_back}
-use Rattle.frame_line.proofs.Checking.{no_row}
 use Rattle.sizes.specs.Sizes.{corner_limit, place_count}
-use Rattle.frame_check.specs.Checks.{is_set, checked_held}
-use Rattle.frame_state.specs.State.{patched_of, second_of, Arrays, State, state, Addable, adds}
+use Rattle.frame_check.specs.Checks.{is_used, nothing_held, checked_held}
+use Rattle.frame_check.specs.declared.Held.{Held}
+use Rattle.frame_state.specs.State.{patched_of, second_of, nothing_said, State, state, Addable, adds}
 use Rattle.frame_state.specs.declared.Progress.{Progress}
 use Rattle.frame.specs.Frame.{Frame, Parts, added, parts_from, no_parts, parts_of, checked_line, placed, first_set, second_set, join_if, join_of, labels_in, given_of, patch_line, FrameRead, refused_at, Step, stopped, onward, step_by, step_with, step_line, finish_by, finish, at_end, going, read_lines}
 use Rattle.frame.specs.ReadFrame.{sheet_of}
-use Rattle.frame.specs.Reading.{on_sheet_of, FrameHeld, Room, Went, went, held_by, held_step, Finishable, Finished, finished, finished_by, finish_on, FrameDone, ReadAs, refused_as, held_as}
+use Rattle.frame.specs.Reading.{on_sheet_of, joined_to, FrameHeld, Room, Went, went, held_by, held_step, Finishable, Finished, finished, finished_by, finish_on, FrameDone, ReadAs, refused_as, held_as}
 use Rattle.frame.specs.declared.FrameRefusal.{FrameRefusal}
 use Rattle.std.proofs.Common.{Result, min}
 use Rattle.std.specs.List.{IsFirstMatchOrLen}
 use Rattle.std.proofs.lemmas.List.{take_at, drop_at}
 use Rattle.frame.proofs.Sets.{all_holdable, all_once, taken_used}
-use Rattle.frame.proofs.Adding.{below_or_not, checks_agree, line_held, restaged}
+use Rattle.frame.proofs.Adding.{checks_agree, line_held, restaged, nothing_read}
 use Rattle.arguments.specs.Arguments.{Checked}
 
 -- ---- the parts with one line more
@@ -58,18 +56,18 @@ parts_more f l = from_more no_parts f l
 
 -- ---- one line
 
-record WentOn (step : Step) (p : Progress) (a : Arrays) : Type 0 where
+record WentOn (step : Step) (s : State) : Type 0 where
   frame : Frame
-  step_is : step ≡ onward p.stage frame
-  holds : FrameHeld (parts_of frame) (state p a)
+  step_is : step ≡ onward s.progress.stage frame
+  holds : FrameHeld (parts_of frame) s
 
 -- where a line leads, in the definition and in the code
-abbrev SteppedAs : Step → Result Progress Refusal → Arrays → Type 0
-SteppedAs step (Err r) a = step ≡ stopped r
-SteppedAs step (Ok p) a = WentOn step p a
+abbrev SteppedAs : Step → Checked → State → Type 0
+SteppedAs step (Err r) s = step ≡ stopped r
+SteppedAs step (Ok u) s = WentOn step s
 
 abbrev LedAs : Step → Went → Type 0
-LedAs step w = SteppedAs step w.answer w.held
+LedAs step w = SteppedAs step w.answer w.after
 
 module _ (f : Frame) (s : State) (g : FrameHeld (parts_of f) s) (text : List ℕ) where
   abbrev Agreed : LineRead → Type 0
@@ -81,11 +79,11 @@ module _ (f : Frame) (s : State) (g : FrameHeld (parts_of f) s) (text : List ℕ
       subst
       (λ (c : Checked).
       LedAs (step_by (turn_at s.progress.stage l.row) (checked_line (parts_of f) l) (f ++ (l ∷ [])))
-      (held_by (turn_at s.progress.stage l.row) c (adds (held_line l) s) s.held))
+      (held_by (turn_at s.progress.stage l.row) c (adds (held_line l) s) s))
       (sym (checks_agree (parts_of f) s g l (line_prints_back text l e).proper))
       (go (turn_at s.progress.stage l.row) (checked_line (parts_of f) l) refl)
     where
-      go : (u : Option ℕ) (c : Checked) → checked_line (parts_of f) l ≡ c → LedAs (step_by u c (f ++ (l ∷ []))) (held_by u c (adds (held_line l) s) s.held)
+      go : (u : Option ℕ) (c : Checked) → checked_line (parts_of f) l ≡ c → LedAs (step_by u c (f ++ (l ∷ []))) (held_by u c (adds (held_line l) s) s)
       go None c h = refl
       go (Some to) (Err r) h = refl
       go (Some to) (Ok tt) h =
@@ -97,25 +95,21 @@ module _ (f : Frame) (s : State) (g : FrameHeld (parts_of f) s) (text : List ℕ
   steps_agree = go (read_line text) refl
     where
       go : (r : LineRead) → read_line text ≡ r → Agreed r
-      go ill_formed e = rw (← no_row s.progress.stage row_count (omega arith)) refl
+      go ill_formed e = refl
       go (line l) e = line_agrees l e
 
 -- ---- the code's step, from its parts
 
--- a line that has a turn has a row
-pub step_row : (stage row to : ℕ) (turn : Option ℕ) → turn ≡ turn_at stage row → turn ≡ Some to → row < row_count
-step_row stage row to turn t e =
-    ⊎_elim (λ h. h) (λ h. let n = no_row stage row h in absurd (let z : ◌≡◌ {A = ℕ} 0 1 = cc in omega arith)) (below_or_not row row_count)
-
--- and it can be added where nothing is wrong with it
-pub step_addable : (p : Progress) (a : Arrays) (found : HeldLine) (turn : Option ℕ) → turn ≡ turn_at p.stage found.row → (to : ℕ) → turn ≡ Some to → (checked : Checked)
-    → checked ≡ checked_held p.corners p.passes (patched_of p) a.shades a.sheet a.used a.second (second_of p) found → Room p a → checked ≡ Ok tt → Addable p a found
-step_addable p a found turn t to e checked c g h =
-    record { fine = sym c ∙ h; fits = record { few = g.few; labels_few = g.second_few; row_fits = step_row p.stage found.row to turn t e }; long = g.long; counted = g.counted }
+-- a line can be added where nothing is wrong with it
+pub step_addable : (s : State) (found : HeldLine) (checked : Checked)
+    → checked ≡ checked_held s.progress.corners s.progress.passes (patched_of s.progress) s.held (second_of s.progress) found → Room s → checked ≡ Ok tt
+    → Addable s.progress s.held found
+step_addable s found checked c g h =
+    record { fine = sym c ∙ h; few = g.few; long = g.long; counted = g.counted }
 
 -- ---- after the last line
 
-module _ (f : Frame) (p : Progress) (a : Arrays) (g : FrameHeld (parts_of f) (state p a)) where
+module _ (f : Frame) (p : Progress) (a : Held) (g : FrameHeld (parts_of f) (state p a)) where
   -- the sheet of the first set
   first_held : HoldsSet (first_set (parts_of f)) a.sheet
   first_held =
@@ -124,11 +118,7 @@ module _ (f : Frame) (p : Progress) (a : Arrays) (g : FrameHeld (parts_of f) (st
       subst (HoldsSet (first_set (parts_of f))) (sym g.labels.sheet_is)
       (set_held (map placed ls) (all_holdable corner_limit (omega arith) ls c.sound) (all_once corner_limit ls c.sound c.once))
 
-  not_not : (t u : Bool) → not t ≡ u → t ≡ not u
-  not_not true u e = ap not e
-  not_not false u e = ap not e
-
-  pub finishable : Finishable p a.sheet a.used a.second
+  pub finishable : Finishable (state p a)
   finishable =
       record {
         sets =
@@ -136,14 +126,13 @@ module _ (f : Frame) (p : Progress) (a : Arrays) (g : FrameHeld (parts_of f) (st
               long = omega (arith, g.labels.sheet_long);
               unused =
                   record {
-                    free = λ k h.
-                        not_not (eqb (get_or a.used k 0) 0) (used_on a.sheet k)
-                        (g.labels.uses.corners k h ∙ sym (taken_used corner_limit (parts_of f).labels a.sheet g.labels.checked.sound first_held k));
+                    free = λ k h. g.labels.uses.corners k h ∙ sym (taken_used corner_limit (parts_of f).labels a.sheet g.labels.checked.sound first_held k);
                   };
               second = g.second.fits;
             };
+        second_few = g.second.few;
         few = g.corners.xs_held.some;
-        labels_few = omega (arith, g.labels.uses.many, many_few (is_set a.used) corner_limit);
+        labels_few = omega (arith, g.labels.uses.many, many_few (is_used a.used) corner_limit);
       }
 
   -- the number of the patch line
@@ -159,28 +148,28 @@ module _ (f : Frame) (p : Progress) (a : Arrays) (g : FrameHeld (parts_of f) (st
 
   -- by what the join says
   by_join : (j : Joined) → join_of (parts_of f) ≡ j → (o : Finished) → o ≡ finished_by p (concluded a.sheet j)
-      → ReadAs (finish_by j f) o.answer (on_sheet_of a o.sheet)
+      → ReadAs (finish_by j f) o.answer (state p (on_sheet_of a o.sheet))
   unfolding concluded sheet_of given_of
   by_join apart e o w = rw w (rw (← patch_is) (refused_as Refusal.NoSharedCorner _))
   by_join clash e o w = rw w (rw (← patch_is) (refused_as Refusal.PatchesClash _))
   by_join off e o w = rw w (rw (← patch_is) (refused_as Refusal.OffSheet _))
-  by_join (union_of u) e o w = rw w (held_as f p (done (labelled empty_sheet u) (ap (λ (j : Joined). labelled empty_sheet (labels_in j)) (sym e)) (set_length u)))
+  by_join (union_of u) e o w = rw w (held_as f (done (labelled empty_sheet u) (ap (λ (j : Joined). labelled empty_sheet (labels_in j)) (sym e)) (set_length u)))
 
   -- by whether the patch line stands
   by_patch : (t : Bool) → (parts_of f).patched ≡ t → (o : Finished) → o ≡ finish_on t p a.sheet (second_set (parts_of f))
-      → ReadAs (finish f) o.answer (on_sheet_of a o.sheet)
+      → ReadAs (finish f) o.answer (state p (on_sheet_of a o.sheet))
   unfolding finish join_of sheet_of given_of
   by_patch false e o w =
       let is : join_of (parts_of f) ≡ union_of (first_set (parts_of f)) = ap (λ (t : Bool). join_if t (first_set (parts_of f)) (second_set (parts_of f))) e in
-      subst (λ (j : Joined). ReadAs (finish_by j f) o.answer (on_sheet_of a o.sheet)) (sym is)
-      (rw w (held_as f p (done a.sheet (g.labels.sheet_is ∙ ap (λ (j : Joined). labelled empty_sheet (labels_in j)) (sym is)) g.labels.sheet_long)))
+      subst (λ (j : Joined). ReadAs (finish_by j f) o.answer (state p (on_sheet_of a o.sheet))) (sym is)
+      (rw w (held_as f (done a.sheet (g.labels.sheet_is ∙ ap (λ (j : Joined). labelled empty_sheet (labels_in j)) (sym is)) g.labels.sheet_long)))
   by_patch true e o w =
       let is : join_of (parts_of f) ≡ joined (first_set (parts_of f)) (second_set (parts_of f)) = ap (λ (t : Bool). join_if t (first_set (parts_of f)) (second_set (parts_of f))) e in
-      subst (λ (j : Joined). ReadAs (finish_by j f) o.answer (on_sheet_of a o.sheet)) (sym is)
+      subst (λ (j : Joined). ReadAs (finish_by j f) o.answer (state p (on_sheet_of a o.sheet))) (sym is)
       (by_join (joined (first_set (parts_of f)) (second_set (parts_of f))) is o (w ∙ ap (finished_by p) (joins_as first_held (second_set (parts_of f)))))
 
-  finishes : (r : Result Progress FrameRefusal) (sheet : List ℕ) → finished sheet r ≡ finish_on (patched_of p) p a.sheet (held_labels a.second (second_of p))
-      → ReadAs (finish f) r (on_sheet_of a sheet)
+  finishes : (r : Result (Unit {0}) FrameRefusal) (sheet : List ℕ) → finished sheet r ≡ finish_on (patched_of p) p a.sheet (held_labels (take (second_of p) a.second))
+      → ReadAs (finish f) r (state p (on_sheet_of a sheet))
   finishes r sheet w =
       by_patch (parts_of f).patched refl (finished sheet r)
       (w ∙ ap₂ (λ (t : Bool) (l : List Placed). finish_on t p a.sheet l) g.patched g.second.labels_are)
@@ -215,24 +204,30 @@ first_line rest front after i e long h some =
 -- ---- all lines
 
 -- before a line: so many are read, and what is left of the text leads where the whole text does
-pub record Turning (text rest : List ℕ) (p : Progress) (n : ℕ) (a : Arrays) : Type 0 where
+pub record Turning (text rest : List ℕ) (n : ℕ) (s : State) : Type 0 where
   pub lines : n + length rest ≤ length text + 1
   pub frame : Frame
-  pub holds : FrameHeld (parts_of frame) (state p a)
-  pub leads : read_lines n p.stage frame (lines_of rest) ≡ read_lines 1 0 [] (lines_of text)
+  pub holds : FrameHeld (parts_of frame) s
+  pub leads : read_lines n s.progress.stage frame (lines_of rest) ≡ read_lines 1 0 [] (lines_of text)
 
-pub turning_start : (text rest : List ℕ) (p : Progress) (a : Arrays) → rest ≡ text → p.stage ≡ 0 → FrameHeld no_parts (state p a) → Turning text rest p 1 a
+pub turning_start : (text rest : List ℕ) (s : State) → rest ≡ text → s ≡ state nothing_said nothing_held → Turning text rest 1 s
 unfolding parts_of parts_from
-turning_start text rest p a t e g =
-    record { lines = omega (arith, ap length t); frame = []; holds = g; leads = ap₂ (λ (k : ℕ) (x : List ℕ). read_lines 1 k [] (lines_of x)) e t }
+turning_start text rest s t e =
+    rw e
+    (record {
+      lines = omega (arith, ap length t);
+      frame = [];
+      holds = nothing_read;
+      leads = ap (λ (x : List ℕ). read_lines 1 0 [] (lines_of x)) t;
+    })
 
-module _ {text rest : List ℕ} {p : Progress} {n : ℕ} {a : Arrays} (g : Turning text rest p n a) where
-  pub turn_room : Room p a
+module _ {text rest : List ℕ} {n : ℕ} {s : State} (g : Turning text rest n s) where
+  pub turn_room : Room s
   turn_room =
       let h = g.holds in
       record {
         few = h.corners.xs_held.some;
-        second_few = h.second.fits.few;
+        second_few = h.second.few;
         long = h.labels.sheet_long;
         counted = record { first = h.labels.uses.many; second = h.second.uses.many };
       }
@@ -242,26 +237,26 @@ module _ {text rest : List ℕ} {p : Progress} {n : ℕ} {a : Arrays} (g : Turni
     behind : Step → FrameRead
     behind x = going n x (λ stage f. read_lines (suc n) stage f (lines_of after))
 
-    one_line : read_lines n p.stage g.frame (lines_of rest) ≡ behind (step_line p.stage g.frame front)
+    one_line : read_lines n s.progress.stage g.frame (lines_of rest) ≡ behind (step_line s.progress.stage g.frame front)
     unfolding read_lines behind
-    one_line = ap (read_lines n p.stage g.frame) l.lines
+    one_line = ap (read_lines n s.progress.stage g.frame) l.lines
 
-    module _ (r : Result Progress Refusal) (b : Arrays) (w : went r b ≡ held_step (held_read (read_line front)) (state p a)) where
-      stepped : SteppedAs (step_line p.stage g.frame front) r b
-      stepped = subst (LedAs (step_line p.stage g.frame front)) (sym w) (steps_agree g.frame (state p a) g.holds front)
+    module _ (r : Checked) (b : State) (w : went r b ≡ held_step (held_read (read_line front)) s) where
+      stepped : SteppedAs (step_line s.progress.stage g.frame front) r b
+      stepped = subst (LedAs (step_line s.progress.stage g.frame front)) (sym w) (steps_agree g.frame s g.holds front)
 
-      led : (x : Result Progress Refusal) → r ≡ x → SteppedAs (step_line p.stage g.frame front) x b
-      led x d = subst (λ (y : Result Progress Refusal). SteppedAs (step_line p.stage g.frame front) y b) d stepped
+      led : (x : Checked) → r ≡ x → SteppedAs (step_line s.progress.stage g.frame front) x b
+      led x d = subst (λ (y : Checked). SteppedAs (step_line s.progress.stage g.frame front) y b) d stepped
 
       pub turn_stopped : (q : Refusal) → r ≡ Err q → ReadAs (read_lines 1 0 [] (lines_of text)) (Err (record { refusal = q; line = n })) b
       unfolding behind
       turn_stopped q d =
           subst (λ (x : FrameRead). ReadAs x (Err (record { refusal = q; line = n })) b) (sym (one_line ∙ ap behind (led (Err q) d)) ∙ g.leads) (refused_as q n)
 
-      pub turn_onward : (next : Progress) → r ≡ Ok next → Turning text after next (n + 1) b
+      pub turn_onward : r ≡ Ok tt → Turning text after (n + 1) b
       unfolding behind
-      turn_onward next d =
-          let on = led (Ok next) d in
+      turn_onward d =
+          let on = led (Ok tt) d in
           record {
             lines = omega (arith, g.lines, l.shorter);
             frame = on.frame;
@@ -271,15 +266,17 @@ module _ {text rest : List ℕ} {p : Progress} {n : ℕ} {a : Arrays} (g : Turni
 
   -- behind the last line
   module _ (h : length rest ≡ 0) where
-    at_the_end : (t : Bool) → may_end p.stage ≡ t → read_lines 1 0 [] (lines_of text) ≡ cond t (finish g.frame) (refused_at Refusal.Malformed n)
+    at_the_end : (t : Bool) → may_end s.progress.stage ≡ t → read_lines 1 0 [] (lines_of text) ≡ cond t (finish g.frame) (refused_at Refusal.Malformed n)
     unfolding read_lines at_end
     at_the_end t e =
-        sym g.leads ∙ ap (read_lines n p.stage g.frame) (no_lines rest 0 (omega (arith, h)))
+        sym g.leads ∙ ap (read_lines n s.progress.stage g.frame) (no_lines rest 0 (omega (arith, h)))
         ∙ ap (λ (x : Bool). cond x (finish g.frame) (refused_at Refusal.Malformed n)) e
 
-    pub end_missing : may_end p.stage ≡ false → ReadAs (read_lines 1 0 [] (lines_of text)) (Err (record { refusal = Refusal.Malformed; line = n })) a
-    end_missing e = subst (λ (x : FrameRead). ReadAs x (Err (record { refusal = Refusal.Malformed; line = n })) a) (sym (at_the_end false e)) (refused_as Refusal.Malformed n)
+    pub end_missing : may_end s.progress.stage ≡ false → ReadAs (read_lines 1 0 [] (lines_of text)) (Err (record { refusal = Refusal.Malformed; line = n })) s
+    end_missing e = subst (λ (x : FrameRead). ReadAs x (Err (record { refusal = Refusal.Malformed; line = n })) s) (sym (at_the_end false e)) (refused_as Refusal.Malformed n)
 
-    pub end_finished : may_end p.stage ≡ true → (r : Result Progress FrameRefusal) (sheet : List ℕ)
-        → finished sheet r ≡ finish_on (patched_of p) p a.sheet (held_labels a.second (second_of p)) → ReadAs (read_lines 1 0 [] (lines_of text)) r (on_sheet_of a sheet)
-    end_finished e r sheet w = subst (λ (x : FrameRead). ReadAs x r (on_sheet_of a sheet)) (sym (at_the_end true e)) (finishes g.frame p a g.holds r sheet w)
+    pub end_finished : may_end s.progress.stage ≡ true → (r : Result (Unit {0}) FrameRefusal) (sheet : List ℕ)
+        → finished sheet r ≡ finish_on (patched_of s.progress) s.progress s.held.sheet (held_labels (take (second_of s.progress) s.held.second))
+        → ReadAs (read_lines 1 0 [] (lines_of text)) r (joined_to s sheet)
+    end_finished e r sheet w =
+        subst (λ (x : FrameRead). ReadAs x r (joined_to s sheet)) (sym (at_the_end true e)) (finishes g.frame s.progress s.held g.holds r sheet w)

@@ -123,6 +123,9 @@ pub record FrameOut : Type 0 where
   pub answer : Result FrameHead FrameRefusal
   pub buffers : Buffers
 
+abbrev pub left : Result FrameHead FrameRefusal → Buffers → FrameOut
+left r b = record { answer = r; buffers = b }
+
 abbrev pub frame_out : Result FrameHead FrameRefusal → List Float → List Float → List Float → List ℕ → List ℕ → List ℕ → FrameOut
 frame_out r xs ys pitches shades sheet passes =
     record { answer = r; buffers = record { xs = xs; ys = ys; pitches = pitches; shades = shades; sheet = sheet; passes = passes } }

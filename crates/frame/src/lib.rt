@@ -4,25 +4,24 @@
 
 #![tactic(auto)]
 
-ghost use Rattle.std.specs.Prelude.{◌≡◌, ◌≤◌, [], length};
+ghost use Rattle.std.specs.Prelude.{◌≡◌, ◌≤◌, ◌*◌, [], length, take};
+ghost use Rattle.sizes.specs.Sizes.{corner_limit, pass_size, all_pass_words};
 ghost use Rattle.frame_line.specs.Lines.{read_line};
 ghost use Rattle.frame_line.specs.Held.{held_read};
 ghost use Rattle.line_form.specs.Lines.{lines_of};
 ghost use Rattle.join_sheet.specs.Held.{held_labels};
-ghost use Rattle.frame_check.specs.Checks.{checked_held, LineFits};
-ghost use Rattle.frame_state.specs.State.{patched_of, second_of, nothing_said, state, Addable, adds};
+ghost use Rattle.frame_check.specs.Checks.{nothing_held};
+ghost use Rattle.frame_state.specs.State.{patched_of, second_of, nothing_said, state};
 ghost use Rattle.arguments.specs.Front.{over};
-ghost use Rattle.frame.specs.Frame.{no_parts, read_lines};
-ghost use Rattle.frame.specs.ReadFrame.{frame_out, leaves, read_into};
+ghost use Rattle.frame.specs.Frame.{read_lines};
+ghost use Rattle.frame.specs.ReadFrame.{frame_out, left, too_short, leaves, read_into};
 ghost use Rattle.frame.specs.Said.{about_no_line, frame_said, frame_due};
-ghost use Rattle.frame.specs.Reading.{arrays_in, on_sheet_of, FrameHeld, Room, went, held_step, Finishable, finished, finish_on, ReadAs, buffers, LongEnough};
+ghost use Rattle.frame.specs.Reading.{joined_to, Room, went, held_step, Finishable, finished, finish_on, ReadAs, buffers, LongEnough, buffers_in, SameBuffers, taken};
 
 use arguments::Settings;
-use frame_check::Said;
-use frame_line::HeldLine;
-use frame_state::Progress;
+use frame_state::Reading;
 use refusal::Refusal;
-use sizes::{ALL_PASS_WORDS, BYTES, CORNERS, PASS_WORDS, PLACES, SECOND, USED};
+use sizes::{ALL_PASS_WORDS, BYTES, CORNERS, PASS_WORDS, PLACES};
 
 // What an accepted frame says besides what is written to the buffers: cell size, axes and band, and how many corners and passes there are.
 #[derive(Clone, Copy)]
@@ -48,108 +47,61 @@ impl From<Refusal> for FrameRefusal {
     }
 }
 
-// The arrays in which a frame is held until it is accepted.
-#[derive(Drop)]
-struct Held {
-    xs: [f32; CORNERS],
-    ys: [f32; CORNERS],
-    pitches: [f32; CORNERS],
-    shades: [u8; CORNERS],
-    sheet: [u16; PLACES],
-    used: [u8; USED],
-    second: [u16; SECOND],
-    passes: [u32; ALL_PASS_WORDS],
-}
-
-impl Held {
-    // All checks of a line in its turn, against what was said before it.
-    fn check(&self, p: Progress, line: HeldLine) -> Result<(), Refusal>
-        requires { LineFits p.corners (second_of p) line }
-        ensures { result ≡ checked_held p.corners p.passes (patched_of p) self.now.shades self.now.sheet self.now.used self.now.second (second_of p) line }
-    {
-        let said = Said {
-            corners: p.corners,
-            passes: p.passes,
-            shades: &self.shades,
-            sheet: &self.sheet,
-            used: &self.used,
-            second: &self.second,
-            labels: p.second,
-        };
-        said.check_line(line)
-    }
-
-    // A line that passed its checks is added.
-    fn add(&mut self, p: Progress, line: HeldLine) -> Progress
-        requires { Addable p (arrays_in self.old) line }
-        ensures { state result (arrays_in self.new) ≡ adds line (state p (arrays_in self.old)) }
-    {
-        let mut parts = frame_state::Parts {
-            xs: &mut self.xs,
-            ys: &mut self.ys,
-            pitches: &mut self.pitches,
-            shades: &mut self.shades,
-            sheet: &mut self.sheet,
-            used: &mut self.used,
-            second: &mut self.second,
-            passes: &mut self.passes,
-        };
-        parts.add_line(p, line)
-    }
-}
-
 // One line is read and checked in its turn, and added if it is fine.
-#[tactic(auto, using(crate::proofs::Turn::step_row, crate::proofs::Turn::step_addable), unfolding(crate::specs::Reading::held_step))]
-fn step_line(p: Progress, held: &mut Held, line: &[u8]) -> Result<Progress, Refusal>
-    requires { Room p (arrays_in held.old) }
-    ensures { went result (arrays_in held.new)
-        ≡ held_step (held_read (read_line line.now)) (state p (arrays_in held.old)) }
+#[tactic(auto, using(crate::proofs::Turn::step_addable), unfolding(crate::specs::Reading::held_step))]
+fn step_line(reading: &mut Reading, line: &[u8]) -> Result<(), Refusal>
+    requires { Room reading.old }
+    ensures { went result reading.new ≡ held_step (held_read (read_line line.now)) reading.old }
 {
-    let found = frame_line::read_line(line);
-    let stage = frame_line::turn_at(p.stage, found.row).ok_or(Refusal::Malformed)?;
-    held.check(p, found)?;
-    Ok(frame_state::at_stage(held.add(p, found), stage))
+    let found = frame_line::read_line(line).ok_or(Refusal::Malformed)?;
+    let stage = frame_line::turn_at(reading.progress.stage, found.held.row).ok_or(
+        Refusal::Malformed,
+    )?;
+    reading.check_line(found)?;
+    reading.add_line(found);
+    reading.progress.stage = stage;
+    Ok(())
 }
 
 // After the last line: the second set is joined to the first where the patch line stands. A refusal is reported at the patch line, which stands
 // behind the first four lines, the corners and the labels of the first set.
-fn finish(p: Progress, held: &mut Held) -> Result<Progress, FrameRefusal>
-    requires { Finishable p held.old.sheet held.old.used held.old.second }
-    ensures sheet { finished held.new.sheet result
-        ≡ finish_on (patched_of p) p held.old.sheet (held_labels held.old.second (second_of p)) }
-    ensures others { arrays_in held.new ≡ on_sheet_of (arrays_in held.old) held.new.sheet }
+fn finish(reading: &mut Reading) -> Result<(), FrameRefusal>
+    requires { Finishable reading.old }
+    ensures sheet { finished reading.new.held.sheet result
+        ≡ finish_on (patched_of reading.old.progress) reading.old.progress reading.old.held.sheet
+        (held_labels (take (second_of reading.old.progress) reading.old.held.second)) }
+    ensures others { reading.new ≡ joined_to reading.old reading.new.held.sheet }
 {
+    let p = reading.progress;
     let Some(n) = p.second else {
-        return Ok(p);
+        return Ok(());
     };
-    join_sheet::join_sets(&mut held.sheet, &held.used, &held.second, n).map_err(
-        |refusal| FrameRefusal {
-            refusal,
-            line: 5 + p.corners + p.labels,
-        },
-    )?;
-    Ok(p)
+    let held = &mut reading.held;
+    let second = &held.second[..n];
+    join_sheet::join_sets(&mut held.sheet, &held.used, second).map_err(|refusal| FrameRefusal {
+        refusal,
+        line: 5 + p.corners + p.labels,
+    })
 }
 
 // All lines, from the top. A line that is missing counts as the one after the last.
-fn read_lines(text: &[u8], held: &mut Held) -> Result<Progress, FrameRefusal>
-    requires { FrameHeld no_parts (state nothing_said (arrays_in held.old)) }
-    ensures { ReadAs (read_lines 1 0 [] (lines_of text.now)) result (arrays_in held.new) }
+fn read_lines(text: &[u8], reading: &mut Reading) -> Result<(), FrameRefusal>
+    requires { reading.old ≡ state nothing_said nothing_held }
+    ensures { ReadAs (read_lines 1 0 [] (lines_of text.now)) result reading.new }
 {
-    let mut p = frame_state::start();
     let mut n = 1usize;
     // Stays: the number is read behind the loop too, for a line that is missing; a `zip` with the numbers would count the lines once more there (d).
     for line in text.split_inclusive(|b| *b == b'\n') {
-        p = step_line(p, held, line).map_err(|refusal| FrameRefusal { refusal, line: n })?;
+        step_line(reading, line).map_err(|refusal| FrameRefusal { refusal, line: n })?;
         n += 1;
     }
-    if !frame_line::may_end(p.stage) {
+    if !frame_line::may_end(reading.progress.stage) {
         return Err(FrameRefusal {
             refusal: Refusal::Malformed,
             line: n,
         });
     }
-    finish(p, held)
+    finish(reading)
 }
 
 // Entries are copied to the front of a buffer.
@@ -160,39 +112,60 @@ fn copy_front<T: Copy>(from: &[T], to: &mut [T])
     to[..from.len()].copy_from_slice(from);
 }
 
+// The lent buffers.
+// Stays: each is lent by itself, as the C interface lends it (a).
+#[derive(Drop)]
+struct Buffers<'a> {
+    xs: &'a mut [f32],
+    ys: &'a mut [f32],
+    pitches: &'a mut [f32],
+    shades: &'a mut [u8],
+    sheet: &'a mut [u16],
+    passes: &'a mut [u32],
+}
+
+impl Buffers<'_> {
+    // 7: whether one of them is too short.
+    fn are_short(&self) -> bool
+        ensures { result ≡ too_short (buffers_in self.now) }
+    {
+        self.xs.len() < CORNERS
+            || self.ys.len() < CORNERS
+            || self.pitches.len() < CORNERS
+            || self.shades.len() < CORNERS
+            || self.sheet.len() < PLACES
+            || self.passes.len() < ALL_PASS_WORDS
+    }
+
+    // What is held is copied to them.
+    fn take(&mut self, reading: &Reading)
+        requires long { LongEnough (buffers_in self.old) }
+        requires corners_few { reading.now.progress.corners ≤ corner_limit }
+        requires passes_few { pass_size * reading.now.progress.passes ≤ all_pass_words }
+        ensures same { SameBuffers self.old self.new }
+        ensures copied { buffers_in self.new ≡ taken reading.now.progress reading.now.held (buffers_in self.old) }
+    {
+        let Reading { progress: p, held } = reading;
+        copy_front(&held.xs[..p.corners], self.xs);
+        copy_front(&held.ys[..p.corners], self.ys);
+        copy_front(&held.pitches[..p.corners], self.pitches);
+        copy_front(&held.shades[..p.corners], self.shades);
+        copy_front(&held.sheet, self.sheet);
+        copy_front(&held.passes[..PASS_WORDS * p.passes], self.passes);
+    }
+}
+
 // A text that is not too long, with buffers that are long enough.
-// Stays: `read_frame` is lent each buffer by itself, and lends them on; a struct of them would be made for this one call (d).
-fn read_text(
-    text: &[u8],
-    xs: &mut [f32],
-    ys: &mut [f32],
-    pitches: &mut [f32],
-    shades: &mut [u8],
-    sheet: &mut [u16],
-    passes: &mut [u32],
-) -> Result<FrameHead, FrameRefusal>
-    requires { LongEnough (buffers xs.old ys.old pitches.old shades.old sheet.old passes.old) }
-    ensures { frame_out result xs.new ys.new pitches.new shades.new sheet.new passes.new
-        ≡ leaves (read_lines 1 0 [] (lines_of text.now)) (buffers xs.old ys.old pitches.old shades.old
-        sheet.old passes.old) }
+fn read_text(text: &[u8], buffers: &mut Buffers) -> Result<FrameHead, FrameRefusal>
+    requires { LongEnough (buffers_in buffers.old) }
+    ensures same { SameBuffers buffers.old buffers.new }
+    ensures after { left result (buffers_in buffers.new)
+        ≡ leaves (read_lines 1 0 [] (lines_of text.now)) (buffers_in buffers.old) }
 {
-    let mut held = Held {
-        xs: [0.0; CORNERS],
-        ys: [0.0; CORNERS],
-        pitches: [0.0; CORNERS],
-        shades: [0; CORNERS],
-        sheet: [0; PLACES],
-        used: [0; USED],
-        second: [0; SECOND],
-        passes: [0; ALL_PASS_WORDS],
-    };
-    let p = read_lines(text, &mut held)?;
-    copy_front(&held.xs[..p.corners], xs);
-    copy_front(&held.ys[..p.corners], ys);
-    copy_front(&held.pitches[..p.corners], pitches);
-    copy_front(&held.shades[..p.corners], shades);
-    copy_front(&held.sheet, sheet);
-    copy_front(&held.passes[..PASS_WORDS * p.passes], passes);
+    let mut reading = Reading::new();
+    read_lines(text, &mut reading)?;
+    buffers.take(&reading);
+    let p = reading.progress;
     Ok(FrameHead {
         settings: p.settings,
         corners: p.corners,
@@ -221,17 +194,19 @@ pub fn read_frame(
     ensures said { frame_said result ≡ frame_due text.now
         (buffers xs.old ys.old pitches.old shades.old sheet.old passes.old) }
 {
-    if xs.len() < CORNERS
-        || ys.len() < CORNERS
-        || pitches.len() < CORNERS
-        || shades.len() < CORNERS
-        || sheet.len() < PLACES
-        || passes.len() < ALL_PASS_WORDS
-    {
+    let mut buffers = Buffers {
+        xs,
+        ys,
+        pitches,
+        shades,
+        sheet,
+        passes,
+    };
+    if buffers.are_short() {
         return Err(FrameRefusal::from(Refusal::BufferTooShort));
     }
     if BYTES < text.len() {
         return Err(FrameRefusal::from(Refusal::OverLimit));
     }
-    read_text(text, xs, ys, pitches, shades, sheet, passes)
+    read_text(text, &mut buffers)
 }

@@ -4,9 +4,8 @@ use Prim.Native.Nat.{ℕ, zero, suc, ◌+◌}
 use native.Mathlib.Omega.{arith}
 use lib.IntN.{nat_abs}
 use lib.ListN.{get_or}
-use Rattle.sheet.specs.Shades.{Shade, bare, kind}
+use Rattle.sheet.specs.Shades.{shade_of, Shade, bare, kind}
 use Rattle.sheet.specs.Pairing.{Shuffle}
-use Rattle.arguments.specs.Shades.{shade_of}
 use Rattle.frame.specs.Frame.{Frame, parts_of}
 use Rattle.frame.specs.ReadFrame.{shades_of}
 use Rattle.frame_laws.specs.Shades.{ShadedBy, GivenShades}

@@ -19,7 +19,6 @@ use Rattle.report_words.proofs.Outcomes.{stats_length}
 use Rattle.arguments.specs.Front.{over}
 use Rattle.report_line.specs.Refused.{refused_text}
 use Rattle.frame_answer.specs.Answer.{refused_piece, Printable, WrotePiece, Moves}
-use Rattle.frame_answer.specs.declared.PieceWritten.{PieceWritten}
 
 module _ (corners passes : ℕ) (words sheet : List ℕ) (p : Printable corners passes words sheet) (from : ℕ) (below : from < line_count passes) (out : List ℕ) (room : 128 ≤ length out) where
   fine : checked_piece (text_lent corners passes words sheet) from (length out) ≡ Ok tt
@@ -45,7 +44,7 @@ module _ (corners passes : ℕ) (words sheet : List ℕ) (p : Printable corners 
   leaves = ap (λ (k : Checked). piece_leaves k (piece_in (text_lent corners passes words sheet) from (length out)) out) fine
 
   pub wrote_piece : {end : PieceEnd} {out' : List ℕ} → piece_out (Ok end) out' ≡ writes_piece (text_lent corners passes words sheet) from out
-      → WrotePiece held out out' (record { bytes = end.at; next = end.next })
+      → WrotePiece held out out' end
   wrote_piece {end} e =
       let w = e ∙ leaves in
       let a : ◌≡◌ {A = Result PieceEnd Refusal} (Ok end) (Ok (record { at = length held.text; next = held.next })) = ap (λ (o : PieceOut). o.answer) w in
@@ -64,7 +63,7 @@ pub room_for : {text old new : List ℕ} {n : ℕ} → Wrote text old new n → 
 room_for {text} {old} {new} {n} w e = omega (arith, w.count, e, ap length w.part, length-append text (drop (length text) old), length-drop (length text) old)
 
 -- a piece of a result goes on by a line at least
-pub moves_result : (passes : ℕ) (words sheet : List ℕ) {old new : List ℕ} {from : ℕ} {r : PieceWritten} → from < line_count passes → 128 ≤ length old
+pub moves_result : (passes : ℕ) (words sheet : List ℕ) {old new : List ℕ} {from : ℕ} {r : PieceEnd} → from < line_count passes → 128 ≤ length old
     → WrotePiece (result_piece (stats_in passes words) sheet from (length old)) old new r → length new ≡ length old → Moves from (length old) r
 moves_result passes words sheet {old} {from = from} below room w e =
     record {
@@ -76,6 +75,6 @@ moves_result passes words sheet {old} {from = from} below room w e =
 
 -- a refusal has one piece, from line 0 on
 pub wrote_refused : (r : Refusal) (line from : ℕ) {n : ℕ} {out out' : List ℕ} → from < 1 → Wrote (refused_text r line) out out' n
-    → WrotePiece (refused_piece from (refused_text r line)) out out' (record { bytes = n; next = 1 })
+    → WrotePiece (refused_piece from (refused_text r line)) out out' (record { at = n; next = 1 })
 wrote_refused r line zero h w = record { wrote = w; next_so = refl }
 wrote_refused r line (suc k) h w = absurd (omega arith)

@@ -17,7 +17,7 @@ use Rattle.report_words.specs.Outcomes.{stats_in, wild_outcome}
 use Rattle.line_form.specs.Written.{Wrote}
 use Rattle.frame.specs.declared.FrameRefusal.{FrameRefusal}
 use Rattle.frame_answer.specs.declared.Recovered.{Recovered}
-use Rattle.frame_answer.specs.declared.PieceWritten.{PieceWritten}
+use Rattle.report.specs.declared.lines.PieceEnd.{PieceEnd}
 
 -- ---- the whole answer
 
@@ -151,11 +151,11 @@ pub record Says (text sheet words : List ℕ) (r : Result Recovered FrameRefusal
   pub piece_so : (k room : ℕ) → held_piece r words sheet k room ≡ answer_piece (read_frame text) k room
 
 -- a piece that was written to the front of a buffer, the rest untouched
-pub record WrotePiece (p : Piece) (old new : List ℕ) (r : PieceWritten) : Type 0 where
-  pub wrote : Wrote p.text old new r.bytes
+pub record WrotePiece (p : Piece) (old new : List ℕ) (r : PieceEnd) : Type 0 where
+  pub wrote : Wrote p.text old new r.at
   pub next_so : r.next ≡ p.next
 
 -- it fits into the room, and the next line is a later one
-pub record Moves (from room : ℕ) (r : PieceWritten) : Type 0 where
-  pub in_room : r.bytes ≤ room
+pub record Moves (from room : ℕ) (r : PieceEnd) : Type 0 where
+  pub in_room : r.at ≤ room
   pub later : from < r.next

@@ -67,22 +67,15 @@ pub fn answer_lines(answer: Result<Recovered, FrameRefusal>) -> usize
     }
 }
 
-// How many bytes a piece has, and which line comes after it.
-#[derive(Clone, Copy)]
-pub struct PieceWritten {
-    pub bytes: usize,
-    pub next: usize,
-}
-
 // Writes the piece of the answer from a line on to the front of the output buffer, and leaves the rest of it as it was: whole lines, as long
-// as 128 bytes are left before each.
+// as 128 bytes are left before each. It tells how many bytes the piece has, and which line comes after it.
 pub fn answer_piece(
     answer: Result<Recovered, FrameRefusal>,
     words: &[u32],
     sheet: &[u16],
     from: usize,
     out: &mut [u8],
-) -> PieceWritten
+) -> PieceEnd
     requires can_say { CanSay answer words.now sheet.now }
     requires from_bound { from < held_lines answer }
     requires line_room_in_bounds { line_room ≤ length out.old }
@@ -92,12 +85,12 @@ pub fn answer_piece(
     match answer {
         Ok(Recovered { corners, passes }) => {
             match report::write_result_piece(corners, passes, words, sheet, from, out) {
-                Ok(PieceEnd { at, next }) => PieceWritten { bytes: at, next },
+                Ok(end) => end,
                 Err(_) => unreachable!(),
             }
         }
-        Err(FrameRefusal { refusal, line }) => PieceWritten {
-            bytes: report_line::line::write_refused(refusal, line, out),
+        Err(FrameRefusal { refusal, line }) => PieceEnd {
+            at: report_line::line::write_refused(refusal, line, out),
             next: 1,
         },
     }

@@ -1,23 +1,17 @@
 -- Laws of the checks in order: what is fine, checks that say the same, a label that can be written, and a shade's corner. Assumes nothing.
-use Rattle.std.specs.Prelude.{Ok, Err}
-use mathlib.Core.Path.{◌≡◌, refl, ap, ap₂, ◌∙◌}
-use mathlib.Core.Bool.{Bool, true, false, ◌||◌}
-use mathlib.Core.List.{List}
-use Prim.Native.Nat.{ℕ, zero, suc, ◌+◌, ◌<◌, ◌≤◌}
+use Rattle.std.specs.Prelude.{Ok, Err, Some}
+use mathlib.Core.Path.{◌≡◌, refl, sym, ap, ◌∙◌}
+use mathlib.Core.Bool.{Bool, true, false, ◌||◌, or-false, or_assoc}
+use mathlib.Core.List.{List, [], ◌∷◌}
+use Prim.Native.Nat.{ℕ, ◌<◌, ◌≤◌}
 use native.Mathlib.Omega.{arith}
-use lib.Dec.{eqb}
-use lib.ListN.{length, get_or, take, drop, length-drop}
-use Rattle.std.specs.List.{list_any}
-use Rattle.std.proofs.Math.Bool.{or_comm, or-false}
-use Rattle.std.proofs.Math.Seq.{take-suc}
-use Rattle.std.proofs.lemmas.List.{get_or-drop}
-use Rattle.std.proofs.lemmas.List.Folds.{list_any-append}
-use Rattle.labels.specs.Labelled.{any_below}
-use Rattle.labels.proofs.Below.{any_ext}
+use lib.ListN.{get_or}
+use Rattle.std.specs.List.{fold, list_any}
+use Rattle.join_sheet.specs.declared.SecondLabel.{SecondLabel}
 use Rattle.refusal.specs.declared.Refusal.{Refusal}
 use Rattle.arguments.specs.Arguments.{Checked, refused_if}
 use Rattle.arguments.proofs.Chains.{not_refused}
-use Rattle.frame_line.specs.Table.{rows, row_at, kind_at, sort_of, sort_at}
+use Rattle.frame_line.specs.Table.{rows, row_count, row_at, kind_at, sort_of, sort_at}
 use Rattle.frame_line.specs.Held.{count_in, label_in, shade_in}
 use Rattle.frame_line.specs.declared.Kind.{Kind}
 use Rattle.frame_line.specs.declared.HeldLine.{HeldLine}
@@ -82,32 +76,23 @@ checks_alike f g over twice twice' e t =
 
 -- ---- a place among those of the second set
 
-listed : (f : ℕ → Bool) (xs : List ℕ) (n : ℕ) → n ≤ length xs → list_any f (take n xs) ≡ any_below n (λ i. f (get_or xs i 0))
-unfolding any_below
-listed f xs zero h = refl
-listed f xs (suc n) h =
-    let k : n < length xs = omega arith in
-    rw (take-suc xs n 0 k, list_any-append f (take n xs))
-    (ap₂ ◌||◌ (listed f xs n (omega arith)) (or-false (f (get_or xs n 0))) ∙ or_comm (any_below n (λ i. f (get_or xs i 0))) (f (get_or xs n 0)))
-
-pub place_among : (second : List ℕ) (n m place : ℕ) → corner_limit + n ≤ length second → m ≡ n → list_any (λ y. eqb y place) (take m (drop corner_limit second)) ≡ any_below n (has_place second place)
-place_among second n m place h e =
-    rw e
-    (listed (λ y. eqb y place) (drop corner_limit second) n (omega (arith, length-drop corner_limit second))
-    ∙ any_ext _ _ n (λ i l. ap (λ (x : ℕ). eqb x place) (get_or-drop corner_limit second i 0)))
+pub taken_any : (place : ℕ) (t : Bool) (labels : List SecondLabel)
+    → fold (λ (u : Bool) (l : SecondLabel). u || has_place place l) t labels ≡ (t || list_any (has_place place) labels)
+taken_any place t [] = sym (or-false t)
+taken_any place t (l ∷ labels) = taken_any place (t || has_place place l) labels ∙ or_assoc t (has_place place l) (list_any (has_place place) labels)
 
 -- ---- a label and a shade
 
 -- the corner of either has an entry
-module _ (n m : ℕ) (line : HeldLine) (f : NumbersFine n m line) (kind : Kind) (e : kind_at line.row ≡ kind) where
-  corner_fits : sort_at (row_of kind) 0 ≡ Sort.Corner → count_in (get_or line.values 0 0) < corner_limit
-  corner_fits first = omega (arith, corner_known n line kind (row_of_lem line.row kind f.fits.row_fits e) first f.known, f.fits.few)
+module _ (n : ℕ) (line : HeldLine) (few : n ≤ corner_limit) (listed : line.row < row_count) (f : NumbersFine n line) (kind : Kind) (e : kind_at line.row ≡ kind) where
+  corner_fits : sort_at (row_of kind) 0 ≡ Some Sort.Corner → count_in (get_or line.values 0 0) < corner_limit
+  corner_fits first = omega (arith, corner_known n line kind (row_of_lem line.row kind listed e) first f.known, few)
 
-pub label_fits : (n m : ℕ) (line : HeldLine) → NumbersFine n m line → kind_at line.row ≡ Kind.Label → LabelFits (label_in line.values)
+pub label_fits : (n : ℕ) (line : HeldLine) → n ≤ corner_limit → line.row < row_count → NumbersFine n line → kind_at line.row ≡ Kind.Label → LabelFits (label_in line.values)
 unfolding sort_at sort_of row_at rows
-label_fits n m line f e =
-    record { on = label_on n line (row_of_lem line.row Kind.Label f.fits.row_fits e) f.on; entry = corner_fits n m line f Kind.Label e refl }
+label_fits n line few listed f e =
+    record { on = label_on n line (row_of_lem line.row Kind.Label listed e) f.on; entry = corner_fits n line few listed f Kind.Label e refl }
 
-pub shade_fits : (n m : ℕ) (line : HeldLine) → NumbersFine n m line → kind_at line.row ≡ Kind.Shade → (shade_in line.values).corner < corner_limit
+pub shade_fits : (n : ℕ) (line : HeldLine) → n ≤ corner_limit → line.row < row_count → NumbersFine n line → kind_at line.row ≡ Kind.Shade → (shade_in line.values).corner < corner_limit
 unfolding sort_at sort_of row_at rows
-shade_fits n m line f e = corner_fits n m line f Kind.Shade e refl
+shade_fits n line few listed f e = corner_fits n line few listed f Kind.Shade e refl

@@ -1,16 +1,20 @@
 -- The checks of a line that is in its turn (document 01, the table of refusals): "each in order 1 to 6". Definitions only.
-use Rattle.std.specs.Prelude.{◌≡◌, Bool, true, false, not, ◌||◌, List, ℕ, ◌+◌, ◌<◌, ◌≤◌, leb, eqb, get_or, Ok}
-use Rattle.sizes.specs.Sizes.{corner_limit, pass_limit}
+use Rattle.std.specs.Prelude.{◌≡◌, Bool, true, false, not, ◌||◌, List, ℕ, ◌<◌, leb, eqb, get_or, take, replicate, Ok}
+use Rattle.std.specs.Float.{binary32}
+use Rattle.std.specs.Float.Ieee.{of_bits}
+use Rattle.std.specs.List.{list_any}
+use Rattle.sizes.specs.Sizes.{corner_limit, pass_limit, place_count, all_pass_words}
 use Rattle.refusal.specs.declared.Refusal.{Refusal}
 use Rattle.sheet.specs.Cells.{OnSheet, place_of}
-use Rattle.labels.specs.Labelled.{any_below}
+use Rattle.join_sheet.specs.declared.SecondLabel.{SecondLabel}
 use Rattle.arguments.specs.Arguments.{Checked, refused_if}
-use Rattle.frame_line.specs.Table.{row_count, kind_at}
+use Rattle.frame_line.specs.Table.{kind_at}
 use Rattle.frame_line.specs.Held.{label_in, shade_in, outside_held}
 use Rattle.frame_line.specs.declared.Kind.{Kind}
 use Rattle.frame_line.specs.declared.HeldLabel.{HeldLabel}
 use Rattle.frame_line.specs.declared.HeldLine.{HeldLine}
 use Rattle.frame_line.specs.declared.HeldShade.{HeldShade}
+use Rattle.frame_check.specs.declared.Held.{Held}
 
 -- by what is said of a line: `outside r`, some number of it has the refusal r; `over`, a limit is passed; `twice`, it is doubled
 unfoldable pub checks_in_order : (ℕ → Bool) → Bool → Bool → Checked
@@ -41,41 +45,61 @@ twice_of Kind.Patch label shade = false
 twice_of Kind.Shade label shade = shade
 twice_of (Kind.Pass p) label shade = false
 
--- ---- as the code makes them, with n corners, m passes, whether the patch line stands, and the shades, the sheet of the first set, the corners used and the
--- labels of the second set so far; each is what Frame (crate frame) says of the line, as `frame/proofs` shows
+-- ---- before the first line
+
+abbrev pub nothing_held : Held
+nothing_held =
+    record {
+      xs = replicate corner_limit (of_bits binary32 0);
+      ys = replicate corner_limit (of_bits binary32 0);
+      pitches = replicate corner_limit (of_bits binary32 0);
+      shades = replicate corner_limit 0;
+      sheet = replicate place_count 0;
+      used = replicate corner_limit false;
+      second_used = replicate corner_limit false;
+      second = replicate corner_limit (record { corner = 0; place = 0 });
+      passes = replicate all_pass_words 0;
+    }
+
+-- ---- as the code makes them, with n corners, m passes, whether the patch line stands, and the arrays that hold the lines so far; each is what Frame
+-- (crate frame) says of the line, as `frame/proofs` shows
 
 -- an entry that is not 0
 abbrev pub is_set : List ℕ → ℕ → Bool
 is_set entries k = not (eqb (get_or entries k 0) 0)
 
-abbrev pub first_twice : List ℕ → List ℕ → HeldLabel → Bool
-first_twice sheet used l = is_set sheet (place_of l.cell) || is_set used l.corner
+-- a corner that a set uses
+abbrev pub is_used : List Bool → ℕ → Bool
+is_used used k = get_or used k false
 
--- the labels of the second set stand in an array, their corners from 0 on, their places from 1,024 on
-abbrev pub has_place : List ℕ → ℕ → ℕ → Bool
-has_place second place i = eqb (get_or second (corner_limit + i) 0) place
+abbrev pub first_twice : List ℕ → List Bool → HeldLabel → Bool
+first_twice sheet used l = is_set sheet (place_of l.cell) || is_used used l.corner
 
-abbrev pub second_twice : List ℕ → List ℕ → ℕ → HeldLabel → Bool
-second_twice used second n l = any_below n (has_place second (place_of l.cell)) || is_set used (corner_limit + l.corner)
+-- a label of the second set has the place
+abbrev pub has_place : ℕ → SecondLabel → Bool
+has_place place l = eqb l.place place
+
+-- the labels of the second set stand at the front of an array, n of them
+abbrev pub second_twice : List Bool → List SecondLabel → ℕ → HeldLabel → Bool
+second_twice used second n l = list_any (has_place (place_of l.cell)) (take n second) || is_used used l.corner
 
 -- "6 [is] tried inside each set alone": in the second once the patch line stands
-abbrev pub label_twice : Bool → List ℕ → List ℕ → List ℕ → ℕ → HeldLabel → Bool
-label_twice true sheet used second n l = second_twice used second n l
-label_twice false sheet used second n l = first_twice sheet used l
+abbrev pub label_twice : Bool → Held → ℕ → HeldLabel → Bool
+label_twice true h n l = second_twice h.second_used h.second n l
+label_twice false h n l = first_twice h.sheet h.used l
 
 abbrev pub shade_twice : List ℕ → HeldShade → Bool
 shade_twice shades s = is_set shades s.corner
 
-abbrev pub twice_as : Bool → List ℕ → List ℕ → List ℕ → List ℕ → ℕ → HeldLine → Kind → Bool
-twice_as patched shades sheet used second labels line kind =
-    twice_of kind (label_twice patched sheet used second labels (label_in line.values)) (shade_twice shades (shade_in line.values))
+abbrev pub twice_as : Bool → Held → ℕ → HeldLine → Kind → Bool
+twice_as patched h labels line kind = twice_of kind (label_twice patched h labels (label_in line.values)) (shade_twice h.shades (shade_in line.values))
 
-abbrev pub twice_held : Bool → List ℕ → List ℕ → List ℕ → List ℕ → ℕ → HeldLine → Bool
-twice_held patched shades sheet used second labels line = twice_as patched shades sheet used second labels line (kind_at line.row)
+abbrev pub twice_held : Bool → Held → ℕ → HeldLine → Bool
+twice_held patched h labels line = twice_as patched h labels line (kind_at line.row)
 
-unfoldable pub checked_held : ℕ → ℕ → Bool → List ℕ → List ℕ → List ℕ → List ℕ → ℕ → HeldLine → Checked
-checked_held n m patched shades sheet used second labels line =
-    checks_in_order (λ r. outside_held r n line) (over_limit n m (kind_at line.row)) (twice_held patched shades sheet used second labels line)
+unfoldable pub checked_held : ℕ → ℕ → Bool → Held → ℕ → HeldLine → Checked
+checked_held n m patched h labels line =
+    checks_in_order (λ r. outside_held r n line) (over_limit n m (kind_at line.row)) (twice_held patched h labels line)
 
 -- ---- what the functions ask for
 
@@ -83,13 +107,7 @@ pub record LabelFits (l : HeldLabel) : Type 0 where
   pub on : OnSheet l.cell
   pub entry : l.corner < corner_limit
 
--- n corners, and m labels of the second set
-pub record LineFits (n m : ℕ) (line : HeldLine) : Type 0 where
-  pub few : n ≤ corner_limit
-  pub labels_few : m ≤ corner_limit
-  pub row_fits : line.row < row_count
-
-pub record NumbersFine (n m : ℕ) (line : HeldLine) : Type 0 where
-  pub fits : LineFits n m line
+-- n corners
+pub record NumbersFine (n : ℕ) (line : HeldLine) : Type 0 where
   pub on : outside_held 4 n line ≡ false
   pub known : outside_held 5 n line ≡ false

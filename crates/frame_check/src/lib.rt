@@ -2,16 +2,16 @@
 
 #![tactic(auto)]
 
-ghost use Rattle.std.specs.Prelude.{◌≡◌, ◌<◌, ◌≤◌, Ok, is_some, unwrap_or};
-ghost use Rattle.labels.specs.Labelled.{any_below};
-ghost use Rattle.frame_line.specs.Table.{row_count, kind_at};
+ghost use Rattle.std.specs.Prelude.{◌≡◌, ◌<◌, ◌≤◌, take, Ok, is_some, unwrap_or};
+ghost use Rattle.std.specs.List.{list_any};
 ghost use Rattle.sizes.specs.Sizes.{corner_limit};
 ghost use Rattle.arguments.specs.Arguments.{refused_if};
-ghost use Rattle.frame_check.specs.Checks.{over_limit, has_place, label_twice, shade_twice, twice_held, checked_held, LabelFits, NumbersFine};
+ghost use Rattle.frame_check.specs.Checks.{nothing_held, over_limit, has_place, label_twice, shade_twice, twice_held, checked_held, LabelFits, NumbersFine};
 
-use frame_line::{HeldLabel, HeldLine, HeldShade, Kind};
+use frame_line::{HeldLabel, HeldShade, Kind, ListedLine};
+use join_sheet::SecondLabel;
 use refusal::Refusal;
-use sizes::{CORNERS, PASSES, PLACES, SECOND, USED};
+use sizes::{ALL_PASS_WORDS, CORNERS, PASSES, PLACES};
 
 // Refuses what holds.
 fn refuse_if(holds: bool, refusal: Refusal) -> Result<(), Refusal>
@@ -20,16 +20,51 @@ fn refuse_if(holds: bool, refusal: Refusal) -> Result<(), Refusal>
     if holds { Err(refusal) } else { Ok(()) }
 }
 
-// What the lines before said that a line is checked against: how many corners and passes there are, the shades (0 where none stands yet), the sheet of
-// the first set, the corners used, and the labels of the second set, of which there are `labels`, None where no patch line stands.
+// The arrays in which a frame's lines are held: positions, pitches and shades (0 where none stands) of the corners, the labels of the first set as a
+// sheet, the corners that each set uses, the labels of the second set in the order of their lines, and the words of the passes.
+// Stays: memory is fixed, and six of them are copied to buffers of their own, as the C interface lends them (a).
+#[derive(Drop)]
+pub struct Held {
+    pub xs: [f32; CORNERS],
+    pub ys: [f32; CORNERS],
+    pub pitches: [f32; CORNERS],
+    pub shades: [u8; CORNERS],
+    pub sheet: [u16; PLACES],
+    pub used: [bool; CORNERS],
+    pub second_used: [bool; CORNERS],
+    pub second: [SecondLabel; CORNERS],
+    pub passes: [u32; ALL_PASS_WORDS],
+}
+
+impl Held {
+    // Nothing held.
+    pub fn new() -> Held
+        ensures { result ≡ nothing_held }
+    {
+        Held {
+            xs: [0.0; CORNERS],
+            ys: [0.0; CORNERS],
+            pitches: [0.0; CORNERS],
+            shades: [0; CORNERS],
+            sheet: [0; PLACES],
+            used: [false; CORNERS],
+            second_used: [false; CORNERS],
+            second: [SecondLabel {
+                corner: 0,
+                place: 0,
+            }; CORNERS],
+            passes: [0; ALL_PASS_WORDS],
+        }
+    }
+}
+
+// What the lines before said that a line is checked against: the arrays that hold it, how many corners and passes there are, and how many labels of
+// the second set, None where no patch line stands.
 #[derive(Clone, Copy)]
 pub struct Said<'a> {
+    pub held: &'a Held,
     pub corners: usize,
     pub passes: usize,
-    pub shades: &'a [u8; CORNERS],
-    pub sheet: &'a [u16; PLACES],
-    pub used: &'a [u8; USED],
-    pub second: &'a [u16; SECOND],
     pub labels: Option<usize>,
     pub ghost few: { corners ≤ corner_limit },
     pub ghost labels_few: { unwrap_or labels 0 ≤ corner_limit },
@@ -48,62 +83,59 @@ impl<'a> Said<'a> {
         }
     }
 
-    // Whether one of n labels of the second set has this place.
+    // Whether one of the first n labels of the second set has this place. It looks at all of them in any case, so that the compiler can take several
+    // at once.
     fn place_taken(&self, n: usize, place: u16) -> bool
         requires { n ≤ corner_limit }
-        ensures { result ≡ any_below n (has_place self.now.second.now place) }
+        ensures { result ≡ list_any (has_place place) (take n self.now.held.now.second) }
     {
-        let second = self.second;
-        second[CORNERS..CORNERS + n].contains(&place)
+        self.held.second[..n]
+            .iter()
+            .fold(false, |taken, l| taken | (l.place == place))
     }
 
     // 6 of a label: whether its cell or its corner has a label already in the set that is open, the second once the patch line stands.
     fn label_twice(&self, label: HeldLabel) -> bool
         requires { LabelFits label }
-        ensures { result ≡ label_twice (is_some self.now.labels) self.now.sheet.now self.now.used.now self.now.second.now (unwrap_or self.now.labels 0) label }
+        ensures { result ≡ label_twice (is_some self.now.labels) self.now.held.now (unwrap_or self.now.labels 0) label }
     {
         let place = sheet::place_of(label.cell);
+        let held = self.held;
         match self.labels {
-            Some(n) => {
-                self.place_taken(n, place as u16) || self.used[CORNERS + label.corner] != 0
-            }
-            None => self.sheet[place] != 0 || self.used[label.corner] != 0,
+            Some(n) => self.place_taken(n, place as u16) || held.second_used[label.corner],
+            None => held.sheet[place] != 0 || held.used[label.corner],
         }
     }
 
     // 6 of a shade: whether its corner has a shade already.
     fn shade_twice(&self, shade: HeldShade) -> bool
         requires { shade.corner < corner_limit }
-        ensures { result ≡ shade_twice self.now.shades.now shade }
+        ensures { result ≡ shade_twice self.now.held.now.shades shade }
     {
-        self.shades[shade.corner] != 0
+        self.held.shades[shade.corner] != 0
     }
 
     // 6: a label's, a shade's, and none of any other line.
     #[tactic(auto, unfolding(crate::specs::Checks::twice_of))]
-    fn is_twice(&self, line: HeldLine) -> bool
-        requires { NumbersFine self.now.corners (unwrap_or self.now.labels 0) line }
-        ensures { result ≡ twice_held (is_some self.now.labels) self.now.shades.now self.now.sheet.now self.now.used.now self.now.second.now (unwrap_or self.now.labels 0) line }
+    fn is_twice(&self, line: ListedLine) -> bool
+        requires { NumbersFine self.now.corners line.held }
+        ensures { result ≡ twice_held (is_some self.now.labels) self.now.held.now (unwrap_or self.now.labels 0) line.held }
     {
-        match frame_line::kind_of(line.row) {
-            Kind::Label => self.label_twice(frame_number::label_of(line.values)),
-            Kind::Shade => self.shade_twice(frame_number::shade_of(line.values)),
+        let v = line.held.values;
+        match line.kind() {
+            Kind::Label => self.label_twice(frame_number::label_of(v)),
+            Kind::Shade => self.shade_twice(frame_number::shade_of(v)),
             Kind::Opening(_) | Kind::Corner | Kind::Patch | Kind::Pass(_) => false,
         }
     }
 
     // All checks of a line in its turn, in order.
-    pub fn check_line(&self, line: HeldLine) -> Result<(), Refusal>
-        requires { line.row < row_count }
-        ensures { result ≡ checked_held self.now.corners self.now.passes (is_some self.now.labels) self.now.shades.now self.now.sheet.now self.now.used.now
-            self.now.second.now (unwrap_or self.now.labels 0) line }
+    pub fn check_line(&self, line: ListedLine) -> Result<(), Refusal>
+        ensures { result ≡ checked_held self.now.corners self.now.passes (is_some self.now.labels) self.now.held.now (unwrap_or self.now.labels 0) line.held }
     {
         let found = frame_number::refusals_of(self.corners as u32, line);
         refuse_if(found.malformed, Refusal::Malformed)?;
-        refuse_if(
-            self.over_limit(frame_line::kind_of(line.row)),
-            Refusal::OverLimit,
-        )?;
+        refuse_if(self.over_limit(line.kind()), Refusal::OverLimit)?;
         refuse_if(found.out_of_range, Refusal::OutOfRange)?;
         refuse_if(found.off_sheet, Refusal::OffSheet)?;
         refuse_if(found.unknown_corner, Refusal::UnknownCorner)?;

@@ -27,13 +27,13 @@ abbrev pub is_corner : Kind → Bool
 is_corner k = eqb (part_of k) 1
 
 -- a number that asks for a corner; a row with such a number
-abbrev is_corner_sort : Sort → Bool
-is_corner_sort Sort.Nothing = false
-is_corner_sort (Sort.Float q) = false
-is_corner_sort (Sort.Whole r low high) = false
-is_corner_sort Sort.Corner = true
+abbrev is_corner_sort : Option Sort → Bool
+is_corner_sort None = false
+is_corner_sort (Some (Sort.Float q)) = false
+is_corner_sort (Some (Sort.Whole r low high)) = false
+is_corner_sort (Some Sort.Corner) = true
 
-no_sort : (k m : ℕ) → 5 ≤ m → sort_at k m ≡ Sort.Nothing
+no_sort : (k m : ℕ) → 5 ≤ m → sort_at k m ≡ None
 unfolding sort_at sort_of
 no_sort k m l = ap sort_of (get_or-eq_default (take 5 (drop letters_from (row_at k))) 46 {n = m} (simp length-take (omega arith)))
 
@@ -41,7 +41,7 @@ asks : ℕ → Bool
 asks k = any_below 5 (λ m. is_corner_sort (sort_at k m))
 
 -- a sort stands in one of five places
-asks_one : (k m : ℕ) → sort_at k m ≡ Sort.Corner → asks k ≡ true
+asks_one : (k m : ℕ) → sort_at k m ≡ Some Sort.Corner → asks k ≡ true
 unfolding asks
 asks_one k m e =
     ⊎_elim (λ h. any_hit (λ i. is_corner_sort (sort_at k i)) 5 m h (ap is_corner_sort e))
@@ -102,7 +102,7 @@ module _ (s k t : ℕ) (few : k < row_count) (e : turn_at s k ≡ Some t) where
   pub past_corners : 4 < s → (4 < t) × (is_corner (kind_at k) ≡ false)
   past_corners h = later_corner (rw (lt-ltb 4 s h))
 
-  pub asked_corner : (m : ℕ) → sort_at k m ≡ Sort.Corner → (4 < t) × (is_corner (kind_at k) ≡ false)
+  pub asked_corner : (m : ℕ) → sort_at k m ≡ Some Sort.Corner → (4 < t) × (is_corner (kind_at k) ≡ false)
   asked_corner m c = later_corner (go (ltb 4 s))
     where
       go : (x : Bool) → cond x true (asks k) ≡ true

@@ -127,7 +127,7 @@ corners_kept s p ls h r (next {to = t} {ls = rest} l e o) =
 
 -- a line that asks for a corner comes after all corners
 pub all_given : (s t : ℕ) (p : Parts) (l : Line) (ls : List Line) → turn_at s l.row ≡ Some t → All (λ m. m.row < row_count) (l ∷ ls) → InOrder t ls
-    → (m : ℕ) → sort_at l.row m ≡ Sort.Corner → length p.corners ≡ length (parts_from p (l ∷ ls)).corners
+    → (m : ℕ) → sort_at l.row m ≡ Some Sort.Corner → length p.corners ≡ length (parts_from p (l ∷ ls)).corners
 unfolding parts_from
 all_given s t p l ls e r o m c =
     let n = asked_corner s l.row t r.0 e m c in

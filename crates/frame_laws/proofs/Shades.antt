@@ -17,7 +17,8 @@ use Rattle.refusal.specs.declared.Refusal.{Refusal}
 use Rattle.sheet.specs.Cells.{eq_z}
 use Rattle.labels.proofs.Below.{any_hit, any_no}
 use Rattle.arguments.specs.Arguments.{refused_if}
-use Rattle.arguments.specs.Shades.{shade_of, stands, any_shade}
+use Rattle.sheet.specs.Shades.{shade_of}
+use Rattle.arguments.specs.Shades.{stands, any_shade}
 use Rattle.line_form.specs.Forms.{Number}
 use Rattle.line_form.specs.Written.{unheld_whole}
 use Rattle.frame_line.specs.Table.{rows, row_at, kind_at, sort_of, sort_at}

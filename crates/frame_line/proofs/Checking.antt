@@ -19,7 +19,7 @@ use Rattle.frame_line.specs.Checks.{wild_bits, refusal_of}
 use Rattle.frame_line.specs.Held.{wild_word, outside_word, outside_at, outside_held, refusal_in, refusal_at, refusals_in, is_refusal}
 use Rattle.frame_line.specs.declared.HeldLine.{HeldLine}
 use Rattle.frame_line.specs.declared.Sort.{Sort}
-use Rattle.std.proofs.Common.{None}
+use Rattle.std.proofs.Common.{Option, None, Some}
 use Rattle.frame_line.proofs.Rows.{rows_long}
 
 pub no_row : (stage k : ℕ) → row_count ≤ k → None ≡ turn_at stage k
@@ -46,9 +46,10 @@ tame_finite q b e = lt_of_not-le (λ h. true≢false (sym (wild_infinite q b h) 
 
 -- ---- the refusals of a line's numbers
 
-refusal_is : (n : ℕ) (s : Sort) (w r : ℕ) → 0 < r → eqb r (refusal_in n s w) ≡ outside_word r n s w
+refusal_is : (n : ℕ) (s : Option Sort) (w r : ℕ) → 0 < r → eqb r (refusal_in n s w) ≡ outside_word r n s w
 unfolding refusal_in outside_word
-refusal_is n s w r h = go (wild_word n s w)
+refusal_is n None w r h = ne_eqb r 0 (λ e. omega arith)
+refusal_is n (Some s) w r h = go (wild_word n s w)
   where
     go : (t : Bool) → eqb r (cond t (refusal_of s) 0) ≡ (eqb r (refusal_of s) && t)
     go true = sym (and-true (eqb r (refusal_of s)))

@@ -1,7 +1,7 @@
 -- The checks of the words that hold a line's numbers are those of the numbers: the letters of a row and the slots of its form agree, by one
 -- test that antt computes over all rows. Assumes nothing.
 use mathlib.Core.Path.{◌≡◌, refl, sym, ap, ap₂, subst, ◌∙◌}
-use mathlib.Core.Bool.{Bool, true, false, not, ◌&&◌, ◌||◌, true≢false, and-false, or_assoc, or_comm, cond}
+use mathlib.Core.Bool.{Bool, true, false, not, ◌&&◌, ◌||◌, true≢false, or_assoc, or_comm, cond}
 use mathlib.Core.List.{List, [], ◌∷◌}
 use Prim.Native.Nat.{ℕ, zero, suc, ◌+◌, ◌-◌, ◌<◌, ◌≤◌, min}
 use native.Mathlib.Nat.{not-suc-le-zero, add-zero, zero-add, add-suc, suc-add}
@@ -11,6 +11,7 @@ use lib.Dec.{eqb, ltb, leb}
 use lib.IntN.{ℤ, pos, negsuc}
 use lib.Signed.{le_z, lt_z}
 use lib.ListN.{get_or}
+use Rattle.std.proofs.Common.{Option, None, Some}
 use Rattle.refusal.specs.Refusal.{number_of}
 use Rattle.labels.specs.Labelled.{any_below}
 use Rattle.labels.proofs.Below.{both}
@@ -82,31 +83,31 @@ corner_is c (negsuc n) h = rw (lt-ltb (1000000 - suc n) 1000000 (omega arith))
 
 -- ---- the sort of a number and its slot: true for a float
 
-abbrev suits_slot : Bool → Sort → Bool
-suits_slot b Sort.Nothing = false
-suits_slot b (Sort.Float q) = b
-suits_slot true (Sort.Whole refusal low high) = false
-suits_slot false (Sort.Whole refusal low high) = ranged low high
-suits_slot b Sort.Corner = not b
+abbrev suits_slot : Bool → Option Sort → Bool
+suits_slot b None = false
+suits_slot b (Some (Sort.Float q)) = b
+suits_slot true (Some (Sort.Whole refusal low high)) = false
+suits_slot false (Some (Sort.Whole refusal low high)) = ranged low high
+suits_slot b (Some Sort.Corner) = not b
 
 no_sort : {A : Type 0} → false ≡ true → A
 no_sort e = absurd (true≢false (sym e))
 
 -- of a corner's number it is asked that few corners are given
 module _ (r n : ℕ) (few : eqb r 5 ≡ true → n ≤ 1024) where
-  float_word : (s : Sort) (b : ℕ) → suits_slot true s ≡ true → outside_word r n s b ≡ number_outside r n s (bits b)
+  float_word : (s : Option Sort) (b : ℕ) → suits_slot true s ≡ true → outside_word r n s b ≡ number_outside r n s (bits b)
   unfolding outside_word number_outside
-  float_word Sort.Nothing b e = refl
-  float_word (Sort.Float q) b e = refl
-  float_word (Sort.Whole refusal low high) b e = no_sort e
-  float_word Sort.Corner b e = no_sort e
+  float_word None b e = refl
+  float_word (Some (Sort.Float q)) b e = refl
+  float_word (Some (Sort.Whole refusal low high)) b e = no_sort e
+  float_word (Some Sort.Corner) b e = no_sort e
 
-  whole_word : (s : Sort) (z : ℤ) → suits_slot false s ≡ true → outside_word r n s (held_whole z) ≡ number_outside r n s (whole z)
+  whole_word : (s : Option Sort) (z : ℤ) → suits_slot false s ≡ true → outside_word r n s (held_whole z) ≡ number_outside r n s (whole z)
   unfolding outside_word number_outside
-  whole_word Sort.Nothing z e = refl
-  whole_word (Sort.Float q) z e = no_sort e
-  whole_word (Sort.Whole refusal low high) z e = ap (λ (t : Bool). eqb r (number_of refusal) && t) (beyond_is low high z e)
-  whole_word Sort.Corner z e = go (eqb r 5) refl
+  whole_word None z e = refl
+  whole_word (Some (Sort.Float q)) z e = no_sort e
+  whole_word (Some (Sort.Whole refusal low high)) z e = ap (λ (t : Bool). eqb r (number_of refusal) && t) (beyond_is low high z e)
+  whole_word (Some Sort.Corner) z e = go (eqb r 5) refl
     where
       go : (t : Bool) → eqb r 5 ≡ t → (t && beyond 1000000 (999999 + n) (held_whole z)) ≡ (t && not (le_z (pos 0) z && lt_z z (pos n)))
       go true f = corner_is n z (few f)
@@ -115,7 +116,7 @@ module _ (r n : ℕ) (few : eqb r 5 ≡ true → n ≤ 1024) where
   -- byte 46, the dot, stands for no number
   nothing_word : (k m w : ℕ) → eqb (get_or (letters_at k) m 46) 46 ≡ true → outside_word r n (sort_at k m) w ≡ false
   unfolding outside_word sort_at sort_of
-  nothing_word k m w e = rw (eqb-true (get_or (letters_at k) m 46) 46 e) (and-false (eqb r 0))
+  nothing_word k m w e = rw (eqb-true (get_or (letters_at k) m 46) 46 e) refl
 
 -- ---- the letters of a row and the slots of its form
 

@@ -3,10 +3,10 @@ use mathlib.Core.Path.{◌≡◌, refl, sym, ap, ◌∙◌}
 use mathlib.Core.Bool.{Bool, true, false, not}
 use mathlib.Core.List.{List, [], ◌∷◌, map}
 use Prim.Native.Nat.{ℕ, ◌<◌, ◌≤◌}
-use borrow.Author.Tests.{eqb-true, leb-true, not-true}
-use lib.Dec.{eqb, leb}
+use borrow.Author.Tests.{leb-true, not-true}
+use lib.Dec.{leb}
 use lib.ListN.{length, get_or, take, drop}
-use Rattle.std.proofs.lemmas.List.{get_or-map, get_or_default}
+use Rattle.std.proofs.lemmas.List.{get_or-map}
 use Rattle.line_form.specs.Forms.{is_slot, misfit, fit_of, second_is, apart}
 use Rattle.line_form.proofs.Told.{told, second_misfits}
 use Rattle.line_form.proofs.Every.{every_below, every_at, same_list, same_list_holds}
@@ -25,13 +25,6 @@ letters_in k =
 module _ (k : ℕ) (h : k < row_count) where
   at : (f : ℕ → Bool) → every_below row_count f ≡ true → f k ≡ true
   at f e = every_at f row_count e k h
-
-  -- a turn past the last stage is none, by either default
-  stage_is : (s : ℕ) → s < stage_count → get_or (take stage_count (row_at k)) s 0 ≡ get_or (take stage_count (row_at k)) s 46
-  unfolding row_at rows
-  stage_is s l =
-      get_or_default (take stage_count (row_at k)) s 0 46
-      (rw (eqb-true (length (take stage_count (row_at k))) stage_count (at (λ j. eqb (length (take stage_count (row_at j))) stage_count) refl)) l)
 
   -- each form has a second byte
   pub form_long : 2 ≤ length (form_at k)
@@ -90,6 +83,6 @@ module _ (xs : List Row) (d : Row) (k : ℕ) (h : k < length xs) where
     turns_are : map (λ r. r.turns) xs ≡ map (take stage_count) rows → (get_or xs k d).turns ≡ take stage_count (row_at k)
     turns_are p = field_at (λ r. r.turns) xs d [] k h p ∙ part_at (take stage_count) k few
 
-    pub turn_is : (s : ℕ) → s < stage_count → map (λ r. r.turns) xs ≡ map (take stage_count) rows → turn_by (get_or (get_or xs k d).turns s 0) ≡ turn_at s k
+    pub turn_is : (s : ℕ) → map (λ r. r.turns) xs ≡ map (take stage_count) rows → turn_by (get_or (get_or xs k d).turns s 46) ≡ turn_at s k
     unfolding turn_at
-    turn_is s l p = ap turn_by (ap (λ (t : List ℕ). get_or t s 0) (turns_are p) ∙ stage_is k few s l)
+    turn_is s p = ap turn_by (ap (λ (t : List ℕ). get_or t s 46) (turns_are p))

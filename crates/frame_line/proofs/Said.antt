@@ -9,6 +9,7 @@ use borrow.Author.Tests.{eq-eqb, le-ltb, le-leb, ltb-true, ltb-false, leb-true, 
 use lib.Dec.{T, eqb, ltb, leb}
 use lib.IntN.{ℤ, pos, negsuc, nat_abs, ◌-ℤ◌}
 use lib.ListN.{get_or}
+use Rattle.std.proofs.Common.{Option, None, Some}
 use Rattle.binary32.specs.declared.ranges.Quantity.{Quantity}
 use Rattle.refusal.specs.Refusal.{number_of}
 use Rattle.refusal.specs.declared.Refusal.{Refusal}
@@ -83,15 +84,15 @@ Between low high w = (low ≤ w) × (w ≤ high)
 
 module _ (n : ℕ) (line : HeldLine) where
   -- a word whose refusal is not said
-  pub fine_word : (r m : ℕ) (s : Sort) → outside_held r n line ≡ false → m < 5 → sort_at line.row m ≡ s → outside_word r n s (word_of line m) ≡ false
+  pub fine_word : (r m : ℕ) (s : Option Sort) → outside_held r n line ≡ false → m < 5 → sort_at line.row m ≡ s → outside_word r n s (word_of line m) ≡ false
   unfolding outside_held
-  fine_word r m s e h is = sym (ap (λ (x : Sort). outside_word r n x (word_of line m)) is) ∙ any_none (outside_at r n line) 5 m e h
+  fine_word r m s e h is = sym (ap (λ (x : Option Sort). outside_word r n x (word_of line m)) is) ∙ any_none (outside_at r n line) 5 m e h
 
-  pub word_tame : outside_held 3 n line ≡ false → (m : ℕ) → m < 5 → (q : Quantity) → sort_at line.row m ≡ Sort.Float q → wild_bits q (word_of line m) ≡ false
+  pub word_tame : outside_held 3 n line ≡ false → (m : ℕ) → m < 5 → (q : Quantity) → sort_at line.row m ≡ Some (Sort.Float q) → wild_bits q (word_of line m) ≡ false
   unfolding outside_word
-  word_tame e m h q s = fine_word 3 m (Sort.Float q) e h s
+  word_tame e m h q s = fine_word 3 m (Some (Sort.Float q)) e h s
 
-  between : (r m low high : ℕ) (s : Sort) → m < 5 → sort_at line.row m ≡ s → outside_held r n line ≡ false
+  between : (r m low high : ℕ) (s : Option Sort) → m < 5 → sort_at line.row m ≡ s → outside_held r n line ≡ false
       → (outside_word r n s (word_of line m) ≡ false → beyond low high (word_of line m) ≡ false) → Between low high (word_of line m)
   between r m low high s h is e so =
       let w = word_of line m in
@@ -99,16 +100,16 @@ module _ (n : ℕ) (line : HeldLine) where
       (ltb-false w low t.0, ltb-false high w t.1)
 
   -- a line of a kind whose first number is a corner's
-  module _ (kind : Kind) (row_is : line.row ≡ row_of kind) (first : sort_at (row_of kind) 0 ≡ Sort.Corner) where
+  module _ (kind : Kind) (row_is : line.row ≡ row_of kind) (first : sort_at (row_of kind) 0 ≡ Some Sort.Corner) where
     corner_word : outside_held 5 n line ≡ false → Between 1000000 (999999 + n) (word_of line 0)
     unfolding outside_word
-    corner_word e = between 5 0 1000000 (999999 + n) Sort.Corner (omega arith) (ap (λ (k : ℕ). sort_at k 0) row_is ∙ first) e (λ f. f)
+    corner_word e = between 5 0 1000000 (999999 + n) (Some Sort.Corner) (omega arith) (ap (λ (k : ℕ). sort_at k 0) row_is ∙ first) e (λ f. f)
 
     pub corner_known : outside_held 5 n line ≡ false → count_in (word_of line 0) < n
     corner_known e = let b = corner_word e in rw (le-ltb (word_of line 0) 1000000 b.0) (omega arith)
 
   module _ (row_is : line.row ≡ row_of Kind.Label) where
-    side_word : (m : ℕ) → m < 5 → sort_at 5 m ≡ Sort.Whole Refusal.OffSheet 999936 1000063 → outside_held 4 n line ≡ false → Between 999936 1000063 (word_of line m)
+    side_word : (m : ℕ) → m < 5 → sort_at 5 m ≡ Some (Sort.Whole Refusal.OffSheet 999936 1000063) → outside_held 4 n line ≡ false → Between 999936 1000063 (word_of line m)
     unfolding outside_word
     side_word m h is e = between 4 m 999936 1000063 _ h (ap (λ (k : ℕ). sort_at k m) row_is ∙ is) e (λ f. f)
 
@@ -119,21 +120,21 @@ module _ (n : ℕ) (line : HeldLine) where
   pub kind_known : line.row ≡ row_of Kind.Shade → outside_held 1 n line ≡ false → (shade_in line.values).kind ≤ 1
   unfolding outside_word sort_at sort_of row_at rows
   kind_known row_is e =
-      let b = between 1 1 1000000 1000001 (Sort.Whole Refusal.Malformed 1000000 1000001) (omega arith) (ap (λ (k : ℕ). sort_at k 1) row_is) e (λ f. f) in
+      let b = between 1 1 1000000 1000001 (Some (Sort.Whole Refusal.Malformed 1000000 1000001)) (omega arith) (ap (λ (k : ℕ). sort_at k 1) row_is) e (λ f. f) in
       rw (le-ltb (word_of line 1) 1000000 b.0) (omega arith)
 
 -- ---- how many corners are given is asked only of a corner's number
 
-number_alike : (r n n' : ℕ) (s : Sort) → (s ≡ Sort.Corner → n ≡ n') → (x : Number) → number_outside r n s x ≡ number_outside r n' s x
+number_alike : (r n n' : ℕ) (s : Option Sort) → (s ≡ Some Sort.Corner → n ≡ n') → (x : Number) → number_outside r n s x ≡ number_outside r n' s x
 unfolding number_outside
-number_alike r n n' Sort.Nothing h x = refl
-number_alike r n n' (Sort.Float q) h (bits b) = refl
-number_alike r n n' (Sort.Float q) h (whole z) = refl
-number_alike r n n' (Sort.Whole refusal low high) h (bits b) = refl
-number_alike r n n' (Sort.Whole refusal low high) h (whole z) = refl
-number_alike r n n' Sort.Corner h x = ap (λ (c : ℕ). number_outside r c Sort.Corner x) (h refl)
+number_alike r n n' None h x = refl
+number_alike r n n' (Some (Sort.Float q)) h (bits b) = refl
+number_alike r n n' (Some (Sort.Float q)) h (whole z) = refl
+number_alike r n n' (Some (Sort.Whole refusal low high)) h (bits b) = refl
+number_alike r n n' (Some (Sort.Whole refusal low high)) h (whole z) = refl
+number_alike r n n' (Some Sort.Corner) h x = ap (λ (c : ℕ). number_outside r c (Some Sort.Corner) x) (h refl)
 
-pub counts_alike : (r n n' k : ℕ) → ((m : ℕ) → sort_at k m ≡ Sort.Corner → n ≡ n') → (m : ℕ) (xs : List Number) → some_outside r n k m xs ≡ some_outside r n' k m xs
+pub counts_alike : (r n n' k : ℕ) → ((m : ℕ) → sort_at k m ≡ Some Sort.Corner → n ≡ n') → (m : ℕ) (xs : List Number) → some_outside r n k m xs ≡ some_outside r n' k m xs
 unfolding some_outside
 counts_alike r n n' k h m [] = refl
 counts_alike r n n' k h m (x ∷ xs) = ap₂ ◌||◌ (number_alike r n n' (sort_at k m) (h m) x) (counts_alike r n n' k h (suc m) xs)
@@ -167,24 +168,24 @@ module _
   held_fine : outside_held r n (held_line l) ≡ false
   held_fine = outside_is r n l (λ f. absurd (true≢false (sym f ∙ not-5))) p ∙ fine
 
-  sort_is : {s : Sort} → sort_at (row_of kind) m ≡ s → sort_at l.row m ≡ s
+  sort_is : {s : Option Sort} → sort_at (row_of kind) m ≡ s → sort_at l.row m ≡ s
   sort_is is = ap (λ (k : ℕ). sort_at k m) (row_of_lem l.row kind p.few e) ∙ is
 
-  count_at : (q : Refusal) → r ≡ number_of q → (high : ℕ) → ranged 1000000 high ≡ true → sort_at (row_of kind) m ≡ Sort.Whole q 1000000 high
+  count_at : (q : Refusal) → r ≡ number_of q → (high : ℕ) → ranged 1000000 high ≡ true → sort_at (row_of kind) m ≡ Some (Sort.Whole q 1000000 high)
       → get_or (slots_of (form_at (row_of kind))) m true ≡ false → wild_whole (pos 0) (unheld_whole high) (whole_at m l.numbers) ≡ false
   unfolding outside_word unheld_whole
   count_at q same high g s slot =
       sym (beyond_is 1000000 high (whole_at m l.numbers) g) ∙ sym (ap (beyond 1000000 high) (whole_held l p kind e m h slot))
-      ∙ (rw (eq-eqb r (number_of q) same) at (fine_word n (held_line l) r m (Sort.Whole q 1000000 high) held_fine h (sort_is s)))
+      ∙ (rw (eq-eqb r (number_of q) same) at (fine_word n (held_line l) r m (Some (Sort.Whole q 1000000 high)) held_fine h (sort_is s)))
 
 module _ (n : ℕ) (l : Line) (p : Proper l) (fine : outside_line 3 n l ≡ false) where
   module _ (kind : Kind) (e : kind_of l ≡ kind) (m : ℕ) (h : m < 5) where
-    tame : (q : Quantity) → sort_at (row_of kind) m ≡ Sort.Float q → get_or (slots_of (form_at (row_of kind))) m true ≡ true → Tame q (bits_at m l.numbers)
+    tame : (q : Quantity) → sort_at (row_of kind) m ≡ Some (Sort.Float q) → get_or (slots_of (form_at (row_of kind))) m true ≡ true → Tame q (bits_at m l.numbers)
     tame q s slot =
         sym (ap (wild_bits q) (bits_held l p kind e m h slot))
         ∙ word_tame n (held_line l) (held_fine n l p 3 refl fine kind e m h) m h q (sort_is n l p 3 refl fine kind e m h s)
 
-    count : (high : ℕ) → ranged 1000000 high ≡ true → sort_at (row_of kind) m ≡ Sort.Whole Refusal.OutOfRange 1000000 high → get_or (slots_of (form_at (row_of kind))) m true ≡ false
+    count : (high : ℕ) → ranged 1000000 high ≡ true → sort_at (row_of kind) m ≡ Some (Sort.Whole Refusal.OutOfRange 1000000 high) → get_or (slots_of (form_at (row_of kind))) m true ≡ false
         → wild_whole (pos 0) (unheld_whole high) (whole_at m l.numbers) ≡ false
     count = count_at n l p 3 refl fine kind e m h Refusal.OutOfRange refl
 
@@ -241,7 +242,7 @@ pub record CornerHeld (n : ℕ) (z : ℤ) (k : ℕ) : Type 0 where
   pub given : nat_abs z < n
   pub held_so : k ≡ nat_abs z
 
-pub corner_exact : (n : ℕ) (l : Line) → Proper l → (kind : Kind) → kind_of l ≡ kind → sort_at (row_of kind) 0 ≡ Sort.Corner
+pub corner_exact : (n : ℕ) (l : Line) → Proper l → (kind : Kind) → kind_of l ≡ kind → sort_at (row_of kind) 0 ≡ Some Sort.Corner
     → get_or (slots_of (form_at (row_of kind))) 0 true ≡ false → n ≤ 1024 → outside_line 5 n l ≡ false
     → CornerHeld n (whole_at 0 l.numbers) (count_in (get_or (held_up_to 5 l.numbers) 0 0))
 corner_exact n l p kind e first slot few known =

@@ -1,5 +1,5 @@
 -- The checks of a line's numbers by the table, the same for every kind: each sort of number has its refusal. Definitions only.
-use Rattle.std.specs.Prelude.{Bool, false, not, ◌&&◌, ◌||◌, List, [], ◌∷◌, ℕ, suc, eqb, ℤ, pos}
+use Rattle.std.specs.Prelude.{Bool, false, not, ◌&&◌, ◌||◌, List, [], ◌∷◌, ℕ, suc, eqb, ℤ, pos, Option, None, Some}
 use Rattle.std.specs.Int.Signed.{le_z, lt_z}
 use Rattle.std.specs.Float.{binary32}
 use Rattle.std.specs.Float.Ieee.{of_bits}
@@ -23,14 +23,12 @@ wild_whole low high z = not (le_z low z && le_z z high)
 -- the refusal of a sort: "number non-finite or out of range" (3), "label's cell outside" (4), "label's corner not given" (5); of a shade, "a k
 -- other than 0 or 1 is number 1, .. an unknown corner 5"
 abbrev pub refusal_of : Sort → ℕ
-refusal_of Sort.Nothing = 0
 refusal_of (Sort.Float q) = 3
 refusal_of (Sort.Whole refusal low high) = number_of refusal
 refusal_of Sort.Corner = 5
 
 -- with n corners given, a number is not what its sort asks for
 abbrev pub wild : ℕ → Sort → Number → Bool
-wild n Sort.Nothing x = false
 wild n (Sort.Float q) (bits b) = wild_bits q b
 wild n (Sort.Float q) (whole z) = false
 wild n (Sort.Whole refusal low high) (bits b) = false
@@ -38,9 +36,10 @@ wild n (Sort.Whole refusal low high) (whole z) = wild_whole (unheld_whole low) (
 wild n Sort.Corner (bits b) = false
 wild n Sort.Corner (whole z) = not (le_z (pos 0) z && lt_z z (pos n))
 
--- a number has this refusal
-unfoldable pub number_outside : ℕ → ℕ → Sort → Number → Bool
-number_outside r n s x = eqb r (refusal_of s) && wild n s x
+-- a number has this refusal; one that the form has not has none
+unfoldable pub number_outside : ℕ → ℕ → Option Sort → Number → Bool
+number_outside r n None x = false
+number_outside r n (Some s) x = eqb r (refusal_of s) && wild n s x
 
 -- some number of a list has it, the numbers being those of row k from m on
 unfoldable pub some_outside : ℕ → ℕ → ℕ → ℕ → List Number → Bool

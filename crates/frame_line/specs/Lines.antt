@@ -35,6 +35,10 @@ abbrev pub or_else : ℕ → Fitted → LineRead → LineRead
 or_else k misfit rest = rest
 or_else k (fitted ns) rest = line (record { row = k; numbers = ns })
 
+-- by row k alone
+abbrev pub read_row : ℕ → List ℕ → LineRead
+read_row k text = or_else k (fit_of (form_at k) text) ill_formed
+
 -- the rows from k on
 unfoldable pub first_fit : ℕ → List (List ℕ) → List ℕ → LineRead
 first_fit k [] text = ill_formed

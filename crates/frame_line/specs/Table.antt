@@ -113,16 +113,16 @@ sorts =
     ∷ []
 
 -- any other letter stands for no number
-abbrev pub sort_among : List ℕ → List Sort → ℕ → Sort
-sort_among [] ss letter = Sort.Nothing
-sort_among (l ∷ ls) [] letter = Sort.Nothing
-sort_among (l ∷ ls) (s ∷ ss) letter = cond (eqb letter l) s (sort_among ls ss letter)
+abbrev pub sort_among : List ℕ → List Sort → ℕ → Option Sort
+sort_among [] ss letter = None
+sort_among (l ∷ ls) [] letter = None
+sort_among (l ∷ ls) (s ∷ ss) letter = cond (eqb letter l) (Some s) (sort_among ls ss letter)
 
-unfoldable pub sort_of : ℕ → Sort
+unfoldable pub sort_of : ℕ → Option Sort
 sort_of letter = sort_among letters sorts letter
 
 abbrev pub letters_at : ℕ → List ℕ
 letters_at k = take 5 (drop letters_from (row_at k))
 
-unfoldable pub sort_at : ℕ → ℕ → Sort
+unfoldable pub sort_at : ℕ → ℕ → Option Sort
 sort_at k m = sort_of (get_or (letters_at k) m 46)

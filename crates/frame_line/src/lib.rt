@@ -4,9 +4,10 @@
 #![tactic(auto)]
 
 ghost use Rattle.std.specs.Prelude.{◌≡◌, ◌<◌};
+ghost use Rattle.std.specs.Option.{option_map};
 ghost use Rattle.line_form.specs.Forms.{second_is};
 ghost use Rattle.frame_line.specs.Table.{row_count, kind_at, form_at, letters_at, turn_by, turn_at, may_end};
-ghost use Rattle.frame_line.specs.Lines.{read_line};
+ghost use Rattle.frame_line.specs.Lines.{read_row, read_line};
 ghost use Rattle.frame_line.specs.Held.{held_read};
 
 use binary32::ranges::Quantity;
@@ -45,11 +46,9 @@ pub enum Kind {
 }
 
 // What a number of a line is.
-// Stays: the definitions tell a number's sort by these four cases, and that a form has no such number is one of them (d).
+// Stays: each case is a sort of number with its limits; none of them says that something is missing or wrong (d).
 #[derive(Clone, Copy, Debug, PartialEq, Eq)]
 pub enum Sort {
-    // the form has no such number
-    Nothing,
     // a float in the range of a quantity, else refusal 3
     Float(Quantity),
     // the refusal for an integer that is not from the second number to the third, both as they are held
@@ -58,12 +57,19 @@ pub enum Sort {
     Corner,
 }
 
-// A line: its row, and its numbers as they are held (crate line_form). A text that has none of the forms has the row ROWS.
+// A line: its row, and its numbers as they are held (crate line_form).
 #[derive(Clone, Copy, Debug, PartialEq, Eq)]
 pub struct HeldLine {
-    // Stays: `held_read` has the row 13 for a text that has none of the forms, and `turn_at` is none there, as for a line out of its turn (d).
+    // Stays: the definitions tell a line by its row of the table, and its turn, its kind and its letters are asked by it (d).
     pub row: usize,
     pub values: [u32; 5],
+}
+
+// A line whose row is one of the table.
+#[derive(Clone, Copy)]
+pub struct ListedLine {
+    pub held: HeldLine,
+    pub ghost listed: { held.row < row_count },
 }
 
 // A label's corner and cell. A corner's number that is not from 0 to OFFSET is held as OFFSET, and the cell's numbers are cut to
@@ -182,12 +188,20 @@ static TABLE: [Row; ROWS] = [
 // The stages at which a frame may end.
 const ENDS: [bool; STAGES] = [false, false, false, false, true, true, true, true, true];
 
-// The kind of a row.
-pub fn kind_of(row: usize) -> Kind
-    requires { row < row_count }
-    ensures { result ≡ kind_at row }
-{
-    TABLE[row].kind
+impl ListedLine {
+    // Its kind.
+    pub fn kind(&self) -> Kind
+        ensures { result ≡ kind_at self.now.held.row }
+    {
+        TABLE[self.held.row].kind
+    }
+
+    // The letters of its numbers.
+    pub fn letters(&self) -> [u8; 5]
+        ensures { result ≡ letters_at self.now.held.row }
+    {
+        TABLE[self.held.row].letters
+    }
 }
 
 // The form of a row.
@@ -205,24 +219,27 @@ fn has_second(b: u8, line: &[u8]) -> bool
     matches!(line, [_, second, ..] if *second == b)
 }
 
-// The line of a text, by the first row whose form it has. A form whose second byte is another is not tried.
-pub fn read_line(line: &[u8]) -> HeldLine
-    ensures { result ≡ held_read (read_line line.now) }
+// The line of a text by the form of a row, if it has that. A form whose second byte is another is not tried.
+// Stays: the line that is found has the number of its row, as `HeldLine` has it (d).
+fn read_row(row: usize, line: &[u8]) -> Option<ListedLine>
+    requires { row < row_count }
+    ensures { option_map (λ l. l.held) result ≡ held_read (read_row row line.now) }
 {
-    // Stays: a row's form is asked by its number, of `form_of`, whose clause has the definition's form; an entry of `enumerate` has no clause (d).
-    for row in 0..ROWS {
-        let form = form_of(row);
-        if !has_second(form[1], line) {
-            continue;
-        }
-        if let Some(values) = fit_line(form, line) {
-            return HeldLine { row, values };
-        }
+    let form = form_of(row);
+    if !has_second(form[1], line) {
+        return None;
     }
-    HeldLine {
-        row: ROWS,
-        values: [0; 5],
-    }
+    let values = fit_line(form, line)?;
+    Some(ListedLine {
+        held: HeldLine { row, values },
+    })
+}
+
+// The line of a text, by the first row whose form it has.
+pub fn read_line(line: &[u8]) -> Option<ListedLine>
+    ensures { option_map (λ l. l.held) result ≡ held_read (read_line line.now) }
+{
+    (0..ROWS).find_map(|row| read_row(row, line))
 }
 
 // Where a byte of the table leads: a digit is the stage behind the line.
@@ -233,14 +250,10 @@ fn turn_by(to: u8) -> Option<usize>
 }
 
 // The stage that a line of this row leads to from a stage; it may not come there where there is none.
-// Stays: with `get` and `?` for the row and the stage it did not close that the byte found is the definition's turn (c).
 pub fn turn_at(stage: usize, row: usize) -> Option<usize>
     ensures { result ≡ turn_at stage row }
 {
-    if ROWS <= row || STAGES <= stage {
-        return None;
-    }
-    turn_by(TABLE[row].turns[stage])
+    turn_by(*TABLE.get(row)?.turns.get(stage)?)
 }
 
 // Whether a frame may end at a stage.
@@ -248,12 +261,4 @@ pub fn may_end(stage: usize) -> bool
     ensures { result ≡ may_end stage }
 {
     ENDS.get(stage).copied().unwrap_or(false)
-}
-
-// The letters of a row's numbers.
-pub fn letters_of(row: usize) -> [u8; 5]
-    requires { row < row_count }
-    ensures { result ≡ letters_at row }
-{
-    TABLE[row].letters
 }

@@ -1,72 +1,71 @@
--- Whether a refusal is among those of a line's five numbers. Assumes nothing.
-use mathlib.Core.Path.{◌≡◌, refl, sym, ap₂, ◌∙◌}
-use mathlib.Core.Bool.{Bool, true, false, ◌||◌}
-use mathlib.Core.List.{[], ◌∷◌}
-use Prim.Native.Nat.{ℕ, ◌+◌, ◌<◌}
-use native.Mathlib.Decide.{ℕ_discrete}
+-- The refusals of a line's five numbers, one after the other. Assumes nothing.
+use mathlib.Core.Path.{◌≡◌, refl, sym, ap, ap₂, subst}
+use mathlib.Core.Bool.{false}
+use mathlib.Core.List.{List, [], ◌∷◌}
+use Prim.Native.Nat.{ℕ, ◌<◌}
 use native.Mathlib.Omega.{arith}
-use borrow.Author.Tests.{eq-eqb, ne_eqb}
-use lib.Dec.{eqb}
-use denote.Enum.Bare.{sameb}
-use denote.Enum.Declared.{tag_of}
-use Rattle.std.specs.Prelude.{Option, None, Some}
-use Rattle.std.specs.Option.{option_eq}
-use Rattle.std.specs.List.{list_any}
-use Rattle.std.proofs.Math.Bool.{or-true}
-use Rattle.refusal.specs.Refusal.{number_of}
-use Rattle.refusal.specs.declared.Refusal.{Refusal}
-use Rattle.refusal.specs.contracts.Refusal.{the_type}
+use lib.ListN.{length, get_or}
+use Rattle.std.specs.List.{fold, zip}
 use Rattle.labels.specs.Labelled.{any_below}
-use Rattle.frame_line.specs.Held.{number_or_0, outside_held, refusals_in}
+use Rattle.frame_line.specs.Table.{row_count, letters_at, sort_of, sort_at}
+use Rattle.frame_line.specs.Held.{outside_held, refusal_in, refusals_in}
 use Rattle.frame_line.specs.declared.HeldLine.{HeldLine}
 use Rattle.frame_line.proofs.Checking.{has_is}
+use Rattle.frame_line.proofs.Rows.{letters_are}
+use Rattle.frame_number.specs.Numbers.{with_number}
+use Rattle.frame_number.specs.declared.NumberRefusals.{NumberRefusals}
 
--- a refusal's number is one more than its place among the cases
-numbered : (r : Refusal) → number_of r ≡ tag_of the_type r + 1
-numbered Refusal.Malformed = refl
-numbered Refusal.OverLimit = refl
-numbered Refusal.OutOfRange = refl
-numbered Refusal.OffSheet = refl
-numbered Refusal.UnknownCorner = refl
-numbered Refusal.Duplicate = refl
-numbered Refusal.BufferTooShort = refl
-numbered Refusal.NoSharedCorner = refl
-numbered Refusal.PatchesClash = refl
+-- five words, one by one
+words_in : List ℕ → List ℕ
+words_in v = get_or v 0 0 ∷ get_or v 1 0 ∷ get_or v 2 0 ∷ get_or v 3 0 ∷ get_or v 4 0 ∷ []
 
-above : (x y : ℕ) → x ≡ y + 1 → 0 < x
-above x y e = omega arith
+words_are : (v : List ℕ) → length v ≡ 5 → words_in v ≡ v
+unfolding words_in
+words_are [] long = absurd (omega (arith, long))
+words_are (a ∷ []) long = absurd (omega (arith, long))
+words_are (a ∷ b ∷ []) long = absurd (omega (arith, long))
+words_are (a ∷ b ∷ c ∷ []) long = absurd (omega (arith, long))
+words_are (a ∷ b ∷ c ∷ d ∷ []) long = absurd (omega (arith, long))
+words_are (a ∷ b ∷ c ∷ d ∷ e ∷ []) long = refl
+words_are (a ∷ b ∷ c ∷ d ∷ e ∷ f ∷ rest) long = absurd (omega (arith, long))
 
-positive : (r : Refusal) → 0 < number_of r
-positive r = above (number_of r) (tag_of the_type r) (numbered r)
+abbrev pub none_found : NumberRefusals
+none_found = record { malformed = false; out_of_range = false; off_sheet = false; unknown_corner = false }
 
-next : (x y : ℕ) → eqb x y ≡ eqb (y + 1) (x + 1)
-next x y = go (ℕ_discrete x y)
-  where
-    go : Dec (x ≡ y) → eqb x y ≡ eqb (y + 1) (x + 1)
-    go (yes d) = eq-eqb x y d ∙ sym (eq-eqb (y + 1) (x + 1) (omega arith))
-    go (no d) = ne_eqb x y d ∙ sym (ne_eqb (y + 1) (x + 1) (λ e. d (omega arith)))
+-- a number by its letter and its word
+abbrev pub by_letter : ℕ → NumberRefusals → ℕ × ℕ → NumberRefusals
+by_letter n f x = with_number f (refusal_in n (sort_of x.0) x.1)
 
-not_0 : (x : ℕ) → 0 < x → x ≡ 0 → ⊥
-not_0 x h e = omega arith
+-- what is found of a line is what the definition says of its numbers
+pub record FoundOf (n : ℕ) (l : HeldLine) (f : NumberRefusals) : Type 0 where
+  pub malformed : f.malformed ≡ outside_held 1 n l
+  pub out_of_range : f.out_of_range ≡ outside_held 3 n l
+  pub off_sheet : f.off_sheet ≡ outside_held 4 n l
+  pub unknown_corner : f.unknown_corner ≡ outside_held 5 n l
 
--- 0 stands for none
-is_that : (r : Refusal) (o : Option Refusal) → option_eq (sameb the_type) o (Some r) ≡ eqb (number_of r) (number_or_0 o)
-is_that r None = sym (ne_eqb (number_of r) 0 (not_0 (number_of r) (positive r)))
-is_that r (Some x) = next (tag_of the_type x) (tag_of the_type r) ∙ sym (ap₂ eqb (numbered r) (numbered x))
+module _ (n : ℕ) (l : HeldLine) (few : l.row < row_count) (long : length l.values ≡ 5) where
+  refusals : List ℕ → List ℕ
+  refusals ls =
+      refusal_in n (sort_of (get_or ls 0 0)) (get_or l.values 0 0) ∷ refusal_in n (sort_of (get_or ls 1 0)) (get_or l.values 1 0)
+      ∷ refusal_in n (sort_of (get_or ls 2 0)) (get_or l.values 2 0) ∷ refusal_in n (sort_of (get_or ls 3 0)) (get_or l.values 3 0)
+      ∷ refusal_in n (sort_of (get_or ls 4 0)) (get_or l.values 4 0) ∷ []
 
--- five tests, from either end
-five : (a b c d e : Bool) → (a || (b || (c || (d || (e || false))))) ≡ (e || (d || (c || (b || (a || false)))))
-five true b c d e = sym (rw (or-true b, or-true c, or-true d, or-true e))
-five false true c d e = sym (rw (or-true c, or-true d, or-true e))
-five false false true d e = sym (rw (or-true d, or-true e))
-five false false false true e = sym (rw (or-true e))
-five false false false false e = refl
+  refusals_are : refusals (letters_at l.row) ≡ refusals_in n l
+  unfolding refusals sort_at refusals_in
+  refusals_are = rw (← letters_are l.row few) refl
 
-module _ (n : ℕ) (l : HeldLine) (r : Refusal) (a b c d e : Option Refusal) where
-  pub has_any : (number_or_0 a ∷ number_or_0 b ∷ number_or_0 c ∷ number_or_0 d ∷ number_or_0 e ∷ []) ≡ refusals_in n l
-      → list_any (λ o. option_eq (sameb the_type) o (Some r)) (a ∷ b ∷ c ∷ d ∷ e ∷ []) ≡ outside_held (number_of r) n l
-  unfolding any_below
-  has_any is =
-      has_is n l (positive r) is
-      (ap₂ ◌||◌ (is_that r a) (ap₂ ◌||◌ (is_that r b) (ap₂ ◌||◌ (is_that r c) (ap₂ ◌||◌ (is_that r d) (ap₂ ◌||◌ (is_that r e) refl))))
-      ∙ five (eqb (number_of r) (number_or_0 a)) (eqb (number_of r) (number_or_0 b)) (eqb (number_of r) (number_or_0 c)) (eqb (number_of r) (number_or_0 d)) (eqb (number_of r) (number_or_0 e)))
+  lists_are : zip (words_in (letters_at l.row)) (words_in l.values) ≡ zip (letters_at l.row) l.values
+  lists_are = ap₂ zip (words_are (letters_at l.row) (sym (ap length (letters_are l.row few)))) (words_are l.values long)
+
+  found_of : FoundOf n l (fold (by_letter n) none_found (zip (words_in (letters_at l.row)) (words_in l.values)))
+  unfolding words_in refusals any_below
+  found_of =
+      record {
+        malformed = has_is n l (omega arith) refusals_are refl;
+        out_of_range = has_is n l (omega arith) refusals_are refl;
+        off_sheet = has_is n l (omega arith) refusals_are refl;
+        unknown_corner = has_is n l (omega arith) refusals_are refl;
+      }
+
+  pub found_line : FoundOf n l (fold (by_letter n) none_found (zip (letters_at l.row) l.values))
+  found_line = subst (λ (xs : List (ℕ × ℕ)). FoundOf n l (fold (by_letter n) none_found xs)) lists_are found_of

@@ -4,15 +4,17 @@
 
 ghost use Rattle.std.specs.Prelude.{◌≡◌, ◌<◌, ◌≤◌};
 ghost use Rattle.sizes.specs.Sizes.{corner_limit};
-ghost use Rattle.frame_line.specs.Table.{row_count, sort_of};
+ghost use Rattle.frame_line.specs.Table.{sort_of};
 ghost use Rattle.frame_line.specs.Checks.{wild_bits};
 ghost use Rattle.frame_line.specs.Held.{count_in, cell_in, label_in, shade_in, beyond, refusal_in, number_or_0, outside_held};
+ghost use Rattle.frame_number.specs.Numbers.{with_number};
 
 use binary32::ranges::Quantity;
-use frame_line::{HeldLabel, HeldLine, HeldShade, Sort};
+use frame_line::{HeldLabel, HeldShade, ListedLine, Sort};
 use line_form::OFFSET;
 use refusal::Refusal;
 use sheet::Cell;
+use std::num::f32_from_bits_with_nan;
 
 // Integers as they are held: OFFSET is 0. The limits of a depth, of rounds, of a shade's kind and of a cell's i and j; -1; the largest that is held;
 // and 0 signed.
@@ -32,12 +34,12 @@ const LARGEST: u32 = 2 * OFFSET;
 
 const ZERO: i32 = OFFSET as i32;
 
-// What a letter of the table stands for.
+// What a letter of the table stands for; any other letter stands for no number.
 #[tactic(auto, unfolding(frame_line::specs::Table::sort_of))]
-fn sort_of(letter: u8) -> Sort
+fn sort_of(letter: u8) -> Option<Sort>
     ensures { result ≡ sort_of letter }
 {
-    match letter {
+    let sort = match letter {
         b'a' => Sort::Float(Quantity::AxisPart),
         b'b' => Sort::Float(Quantity::Band),
         b'c' => Sort::Float(Quantity::CellSize),
@@ -50,16 +52,17 @@ fn sort_of(letter: u8) -> Sort
         b'p' => Sort::Float(Quantity::Pitch),
         b'r' => Sort::Whole(Refusal::OutOfRange, OFFSET, MOST_ROUNDS),
         b'x' => Sort::Float(Quantity::Position),
-        _ => Sort::Nothing,
-    }
+        _ => return None,
+    };
+    Some(sort)
 }
 
 // Whether the float of a pattern is not in the range of its quantity. What is not finite is in none.
-#[tactic(auto, unfolding(frame_line::specs::Checks::wild_bits, arguments::specs::Arguments::outside), using(frame_line::proofs::Checking::wild_infinite))]
+#[tactic(auto, unfolding(frame_line::specs::Checks::wild_bits, arguments::specs::Arguments::outside))]
 fn is_wild(q: Quantity, bits: u32) -> bool
     ensures { result ≡ wild_bits q bits }
 {
-    0x7f80_0000 <= bits % 0x8000_0000 || !binary32::ranges::in_range(q, f32::from_bits(bits))
+    !binary32::ranges::in_range(q, f32_from_bits_with_nan(bits))
 }
 
 // Whether an integer as it is held is not from low to high.
@@ -69,14 +72,13 @@ fn is_beyond(low: u32, high: u32, word: u32) -> bool
     !(low..=high).contains(&word)
 }
 
-// The refusal of a number, if it has one.
+// The refusal of a number, if it has one, by its letter.
 #[tactic(auto, unfolding(frame_line::specs::Held::refusal_in))]
-fn refusal_of(corners: u32, sort: Sort, word: u32) -> Option<Refusal>
+fn refusal_of(corners: u32, letter: u8, word: u32) -> Option<Refusal>
     requires { corners ≤ corner_limit }
-    ensures { number_or_0 result ≡ refusal_in corners sort word }
+    ensures { number_or_0 result ≡ refusal_in corners (sort_of letter) word }
 {
-    match sort {
-        Sort::Nothing => None,
+    match sort_of(letter)? {
         Sort::Float(q) => is_wild(q, word).then_some(Refusal::OutOfRange),
         Sort::Whole(refusal, low, high) => is_beyond(low, high, word).then_some(refusal),
         Sort::Corner => is_beyond(OFFSET, MINUS_ONE + corners, word).then_some(
@@ -86,7 +88,7 @@ fn refusal_of(corners: u32, sort: Sort, word: u32) -> Option<Refusal>
 }
 
 // Which refusals some number of a line has.
-#[derive(Clone, Copy)]
+#[derive(Clone, Copy, Default)]
 pub struct NumberRefusals {
     pub malformed: bool,
     pub out_of_range: bool,
@@ -94,32 +96,50 @@ pub struct NumberRefusals {
     pub unknown_corner: bool,
 }
 
-// The refusals of a line's numbers, by the letters of its row.
-pub fn refusals_of(corners: u32, line: HeldLine) -> NumberRefusals
-    requires { (line.row < row_count) × (corners ≤ corner_limit) }
-    ensures malformed { result.malformed ≡ outside_held 1 corners line }
-    ensures out_of_range { result.out_of_range ≡ outside_held 3 corners line }
-    ensures off_sheet { result.off_sheet ≡ outside_held 4 corners line }
-    ensures unknown_corner { result.unknown_corner ≡ outside_held 5 corners line }
-{
-    let letters = frame_line::letters_of(line.row);
-    let v = line.values;
-    let found = [
-        refusal_of(corners, sort_of(letters[0]), v[0]),
-        refusal_of(corners, sort_of(letters[1]), v[1]),
-        refusal_of(corners, sort_of(letters[2]), v[2]),
-        refusal_of(corners, sort_of(letters[3]), v[3]),
-        refusal_of(corners, sort_of(letters[4]), v[4]),
-    ];
-    NumberRefusals {
-        malformed: found.contains(&Some(Refusal::Malformed)),
-        out_of_range: found.contains(&Some(Refusal::OutOfRange)),
-        off_sheet: found.contains(&Some(Refusal::OffSheet)),
-        unknown_corner: found.contains(&Some(Refusal::UnknownCorner)),
+impl NumberRefusals {
+    // One number's refusal more, if it has one.
+    fn with(self, refusal: Option<Refusal>) -> NumberRefusals
+        ensures { result ≡ with_number self (number_or_0 refusal) }
+    {
+        match refusal {
+            Some(Refusal::Malformed) => NumberRefusals {
+                malformed: true,
+                ..self
+            },
+            Some(Refusal::OutOfRange) => NumberRefusals {
+                out_of_range: true,
+                ..self
+            },
+            Some(Refusal::OffSheet) => NumberRefusals {
+                off_sheet: true,
+                ..self
+            },
+            Some(Refusal::UnknownCorner) => NumberRefusals {
+                unknown_corner: true,
+                ..self
+            },
+            _ => self,
+        }
     }
 }
 
+// The refusals of a line's numbers, by the letters of its row.
+pub fn refusals_of(corners: u32, line: ListedLine) -> NumberRefusals
+    requires { corners ≤ corner_limit }
+    ensures malformed { result.malformed ≡ outside_held 1 corners line.held }
+    ensures out_of_range { result.out_of_range ≡ outside_held 3 corners line.held }
+    ensures off_sheet { result.off_sheet ≡ outside_held 4 corners line.held }
+    ensures unknown_corner { result.unknown_corner ≡ outside_held 5 corners line.held }
+{
+    let letters = line.letters();
+    letters.iter().zip(&line.held.values).fold(
+        NumberRefusals::default(),
+        |found, (letter, word)| found.with(refusal_of(corners, *letter, *word)),
+    )
+}
+
 // The count that a word holds: OFFSET less, or OFFSET where that is below 0.
+// Stays: OFFSET stands for a number below 0, as the definition `count_in` has it, which is of every line; such a number is refused before it is used (d).
 pub fn count_of(word: u32) -> u32
     ensures { result ≡ count_in word }
 {

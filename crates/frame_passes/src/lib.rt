@@ -12,7 +12,8 @@ use frame::FrameHead;
 use sizes::PASS_WORDS;
 use std::num::f32_from_bits_with_nan;
 
-// The pass that six words stand for.
+// The pass that six words stand for: kind 0 is grow, 1 fill, and any other local.
+// Stays: the kinds are numbers, as the words are the C interface's; `call_text` makes a pass of other numbers at other places (a).
 #[tactic(auto, unfolding(crate::specs::Running::pass_at))]
 fn pass_at(passes: &[u32], k: usize) -> Pass
     requires k_lt_pass_limit { k < pass_limit }
@@ -68,7 +69,7 @@ pub fn run_frame(
         (left sheet.old words.old) }
 {
     let corners = head.corners;
-    // Stays: the number of a pass says where its words stand, and where its outcome's words are put.
+    // Stays: the outcome is put by the pass's number, and the definition reads the pass by it from all words; chunks would have the number beside them as well (d).
     for k in 0..head.passes {
         let pass = pass_at(passes, k);
         let answer = pass_call::call_pass(

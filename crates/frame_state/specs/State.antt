@@ -1,6 +1,6 @@
 -- What a frame's lines have said so far as the code holds it, and one line added to it. Definitions only; crate frame shows that it is what
 -- the definition of a frame says.
-use Rattle.std.specs.Prelude.{◌≡◌, Bool, true, false, not, List, [], ◌∷◌, ℕ, ◌+◌, ◌*◌, ◌<◌, ◌≤◌, T, length, get_or, set, Float, Ok, None, Some, is_some, unwrap_or}
+use Rattle.std.specs.Prelude.{◌≡◌, Bool, true, false, not, List, [], ◌∷◌, ◌++◌, take, drop, ℕ, ◌+◌, ◌*◌, ◌<◌, ◌≤◌, T, length, get_or, set, Float, Ok, None, Some, is_some, unwrap_or}
 use Rattle.std.specs.Float.{binary32}
 use Rattle.std.specs.Float.Ieee.{of_bits, nan_bits}
 use Rattle.sizes.specs.Sizes.{place_count, corner_limit, pass_size}
@@ -17,9 +17,11 @@ use Rattle.frame_line.specs.declared.HeldLabel.{HeldLabel}
 use Rattle.frame_line.specs.declared.HeldLine.{HeldLine}
 use Rattle.frame_line.specs.declared.HeldShade.{HeldShade}
 use Rattle.labels.specs.Count.{how_many}
-use Rattle.frame_check.specs.Checks.{is_set, checked_held, LabelFits, LineFits}
+use Rattle.join_sheet.specs.declared.SecondLabel.{SecondLabel}
+use Rattle.frame_check.specs.Checks.{is_used, checked_held, LabelFits}
+use Rattle.frame_check.specs.declared.Held.{Held}
 use Rattle.frame_state.specs.declared.Progress.{Progress}
-use Rattle.frame_state.specs.declared.PassWords.{PassWords}
+use Rattle.frame_state.specs.declared.Reading.{Reading}
 
 abbrev float_of : ℕ → Float
 float_of b = of_bits binary32 b
@@ -186,23 +188,9 @@ pub record LabelsRoom (p : Progress) (l : HeldLabel) : Type 0 where
   pub second : patched_of p ≡ true → second_of p < corner_limit
   pub label : LabelFits l
 
--- what a label changes
-pub record Labels : Type 0 where
-  pub progress : Progress
-  pub sheet : List ℕ
-  pub used : List ℕ
-  pub second : List ℕ
-
-abbrev pub labels_after : Progress → List ℕ → List ℕ → List ℕ → Labels
-labels_after p sheet used second = record { progress = p; sheet = sheet; used = used; second = second }
-
--- to the second set once the patch line stands, else to the first
-abbrev pub label_added : Bool → HeldLabel → Labels → Labels
-label_added true l b =
-    let n = second_of b.progress in
-    labels_after (with_second b.progress) b.sheet (set b.used (corner_limit + l.corner) 1)
-    (set (set b.second n l.corner) (corner_limit + n) (place_of l.cell))
-label_added false l b = labels_after (with_label b.progress) (attached b.sheet l.cell l.corner) (set b.used l.corner 1) b.second
+-- a label of the second set as it is held
+abbrev pub second_label : HeldLabel → SecondLabel
+second_label l = record { corner = l.corner; place = place_of l.cell }
 
 -- ---- a shade
 
@@ -217,17 +205,18 @@ shade_put s shades = set shades s.corner (s.kind + 1)
 
 -- ---- a pass
 
-abbrev pub grow_words : List ℕ → PassWords
-grow_words v = record { kind = 0; search = get_or v 0 0; factor = get_or v 1 0; reach = get_or v 2 0; rounds = 0; depth = 0 }
+-- as six words: kind (0 grow, 1 fill, 2 local), search, factor, boundary or residual, rounds, depth; 0 for what the pass has not
+abbrev pub grow_words : List ℕ → List ℕ
+grow_words v = 0 ∷ get_or v 0 0 ∷ get_or v 1 0 ∷ get_or v 2 0 ∷ 0 ∷ 0 ∷ []
 
-abbrev pub fill_words : List ℕ → PassWords
-fill_words v = record { kind = 1; search = get_or v 0 0; factor = get_or v 1 0; reach = 0; rounds = count_in (get_or v 2 0); depth = 0 }
+abbrev pub fill_words : List ℕ → List ℕ
+fill_words v = 1 ∷ get_or v 0 0 ∷ get_or v 1 0 ∷ 0 ∷ count_in (get_or v 2 0) ∷ 0 ∷ []
 
-abbrev pub local_words : List ℕ → PassWords
-local_words v = record { kind = 2; search = get_or v 0 0; factor = get_or v 1 0; reach = get_or v 3 0; rounds = count_in (get_or v 2 0); depth = count_in (get_or v 4 0) }
+abbrev pub local_words : List ℕ → List ℕ
+local_words v = 2 ∷ get_or v 0 0 ∷ get_or v 1 0 ∷ get_or v 3 0 ∷ count_in (get_or v 2 0) ∷ count_in (get_or v 4 0) ∷ []
 
 -- bare `(grow)` means the numbers of `bare_grow`; "bare `(fill)` means 0.35 1.5 1", an integer 1,000,000 higher
-abbrev pub words_in : PassKind → List ℕ → PassWords
+abbrev pub words_in : PassKind → List ℕ → List ℕ
 words_in PassKind.BareGrow v = grow_words (bare_grow.search ∷ bare_grow.factor ∷ bare_grow.boundary ∷ 0 ∷ 0 ∷ [])
 words_in PassKind.Grow v = grow_words v
 words_in PassKind.BareFill v = fill_words (0x3eb3_3333 ∷ 0x3fc0_0000 ∷ 1000001 ∷ 0 ∷ 0 ∷ [])
@@ -235,98 +224,80 @@ words_in PassKind.Fill v = fill_words v
 words_in PassKind.Local v = local_words v
 
 -- the words of the m-th pass
-abbrev pub words_put : ℕ → PassWords → List ℕ → List ℕ
-words_put m w l =
-    let at = pass_size * m in
-    set (set (set (set (set (set l at w.kind) (at + 1) w.search) (at + 2) w.factor) (at + 3) w.reach) (at + 4) w.rounds) (at + 5) w.depth
-
--- ---- all of it
-
-pub record Arrays : Type 0 where
-  pub xs : List Float
-  pub ys : List Float
-  pub pitches : List Float
-  pub shades : List ℕ
-  pub sheet : List ℕ
-  pub used : List ℕ
-  pub second : List ℕ
-  pub passes : List ℕ
-
-abbrev pub arrays : List Float → List Float → List Float → List ℕ → List ℕ → List ℕ → List ℕ → List ℕ → Arrays
-arrays xs ys pitches shades sheet used second passes =
-    record { xs = xs; ys = ys; pitches = pitches; shades = shades; sheet = sheet; used = used; second = second; passes = passes }
+abbrev pub words_put : ℕ → List ℕ → List ℕ → List ℕ
+words_put m six l = take (pass_size * m) l ++ (six ++ drop (pass_size * m + pass_size) l)
 
 -- ---- what is written for a line
 
+abbrev pub arrays : List Float → List Float → List Float → List ℕ → List ℕ → List Bool → List Bool → List SecondLabel → List ℕ → Held
+arrays xs ys pitches shades sheet used second_used second passes =
+    record {
+      xs = xs;
+      ys = ys;
+      pitches = pitches;
+      shades = shades;
+      sheet = sheet;
+      used = used;
+      second_used = second_used;
+      second = second;
+      passes = passes;
+    }
+
 -- the corner n
-abbrev pub corner_put : ℕ → List ℕ → Arrays → Arrays
+abbrev pub corner_put : ℕ → List ℕ → Held → Held
 corner_put n v a =
     arrays (set a.xs n (float_of (get_or v 0 0))) (set a.ys n (float_of (get_or v 1 0))) (set a.pitches n (float_of (get_or v 2 0))) a.shades a.sheet a.used
-    a.second a.passes
+    a.second_used a.second a.passes
 
 -- a label of the first set
-abbrev pub label_put : HeldLabel → Arrays → Arrays
-label_put l a = arrays a.xs a.ys a.pitches a.shades (attached a.sheet l.cell l.corner) (set a.used l.corner 1) a.second a.passes
+abbrev pub label_put : HeldLabel → Held → Held
+label_put l a =
+    arrays a.xs a.ys a.pitches a.shades (attached a.sheet l.cell l.corner) (set a.used l.corner true) a.second_used a.second a.passes
 
 -- a label of the second set, the n-th
-abbrev pub second_put : ℕ → HeldLabel → Arrays → Arrays
+abbrev pub second_put : ℕ → HeldLabel → Held → Held
 second_put n l a =
-    arrays a.xs a.ys a.pitches a.shades a.sheet (set a.used (corner_limit + l.corner) 1) (set (set a.second n l.corner) (corner_limit + n) (place_of l.cell))
-    a.passes
+    arrays a.xs a.ys a.pitches a.shades a.sheet a.used (set a.second_used l.corner true) (set a.second n (second_label l)) a.passes
 
-abbrev pub with_shades : Arrays → List ℕ → Arrays
-with_shades a shades = arrays a.xs a.ys a.pitches shades a.sheet a.used a.second a.passes
+abbrev pub with_shades : Held → List ℕ → Held
+with_shades a shades = arrays a.xs a.ys a.pitches shades a.sheet a.used a.second_used a.second a.passes
 
-abbrev pub with_passes : Arrays → List ℕ → Arrays
-with_passes a passes = arrays a.xs a.ys a.pitches a.shades a.sheet a.used a.second passes
+abbrev pub with_passes : Held → List ℕ → Held
+with_passes a passes = arrays a.xs a.ys a.pitches a.shades a.sheet a.used a.second_used a.second passes
 
-pub record State : Type 0 where
-  pub progress : Progress
-  pub held : Arrays
+-- ---- all of it
 
-abbrev pub state : Progress → Arrays → State
+abbrev pub State : Type 0
+State = Reading
+
+abbrev pub state : Progress → Held → State
 state p a = record { progress = p; held = a }
 
--- a label, to the set that is open
+-- a label, to the second set once the patch line stands, else to the first
 abbrev pub label_to : Bool → HeldLabel → State → State
-label_to patched l s =
-    let h = s.held in
-    let b = label_added patched l (labels_after s.progress h.sheet h.used h.second) in
-    state b.progress (arrays h.xs h.ys h.pitches h.shades b.sheet b.used b.second h.passes)
+label_to true l s = state (with_second s.progress) (second_put (second_of s.progress) l s.held)
+label_to false l s = state (with_label s.progress) (label_put l s.held)
 
 -- the labels of each set are as many as the corners that it uses
-pub record Counted (p : Progress) (used : List ℕ) : Type 0 where
-  pub first : how_many (is_set used) corner_limit ≡ p.labels
-  pub second : how_many (λ k. is_set used (corner_limit + k)) corner_limit ≡ second_of p
+pub record Counted (p : Progress) (used second_used : List Bool) : Type 0 where
+  pub first : how_many (is_used used) corner_limit ≡ p.labels
+  pub second : how_many (is_used second_used) corner_limit ≡ second_of p
 
 -- a line can be added: it passed its checks, the corners before it are few enough, and the labels are counted
-pub record Addable (p : Progress) (a : Arrays) (line : HeldLine) : Type 0 where
-  pub fine : checked_held p.corners p.passes (patched_of p) a.shades a.sheet a.used a.second (second_of p) line ≡ Ok tt
-  pub fits : LineFits p.corners (second_of p) line
+pub record Addable (p : Progress) (a : Held) (line : HeldLine) : Type 0 where
+  pub fine : checked_held p.corners p.passes (patched_of p) a (second_of p) line ≡ Ok tt
+  pub few : p.corners ≤ corner_limit
   pub long : length a.sheet ≡ place_count
-  pub counted : Counted p a.used
+  pub counted : Counted p a.used a.second_used
 
 -- a line of a kind added, with its words
 unfoldable pub adds_as : Kind → List ℕ → State → State
 adds_as (Kind.Opening o) v s = state (with_settings s.progress (with_opening o s.progress.settings v)) s.held
-adds_as Kind.Corner v s =
-    let n = s.progress.corners in
-    let h = s.held in
-    state (with_corner s.progress)
-    (arrays (set h.xs n (float_of (get_or v 0 0))) (set h.ys n (float_of (get_or v 1 0))) (set h.pitches n (float_of (get_or v 2 0))) h.shades h.sheet
-    h.used h.second h.passes)
-adds_as Kind.Label v s =
-    let h = s.held in
-    let b = label_added (patched_of s.progress) (label_in v) (labels_after s.progress h.sheet h.used h.second) in
-    state b.progress (arrays h.xs h.ys h.pitches h.shades b.sheet b.used b.second h.passes)
+adds_as Kind.Corner v s = state (with_corner s.progress) (corner_put s.progress.corners v s.held)
+adds_as Kind.Label v s = label_to (patched_of s.progress) (label_in v) s
 adds_as Kind.Patch v s = state (with_patch s.progress) s.held
-adds_as Kind.Shade v s =
-    let h = s.held in
-    state s.progress (arrays h.xs h.ys h.pitches (shade_put (shade_in v) h.shades) h.sheet h.used h.second h.passes)
-adds_as (Kind.Pass p) v s =
-    let h = s.held in
-    state (with_pass s.progress)
-    (arrays h.xs h.ys h.pitches h.shades h.sheet h.used h.second (words_put s.progress.passes (words_in p v) h.passes))
+adds_as Kind.Shade v s = state s.progress (with_shades s.held (shade_put (shade_in v) s.held.shades))
+adds_as (Kind.Pass p) v s = state (with_pass s.progress) (with_passes s.held (words_put s.progress.passes (words_in p v) s.held.passes))
 
 abbrev pub adds : HeldLine → State → State
 adds line s = adds_as (kind_at line.row) line.values s

@@ -1,19 +1,21 @@
-// What a frame's lines have said so far, and one line added to it. Corners, shades, labels and passes are held in arrays of the reader's own: the labels
-// of the first set as a sheet, those of a second as their corners and places in the order of their lines.
+// What a frame's lines have said so far, and one line added to it. Corners, shades, labels and passes are held in arrays of the reader's own (crate
+// frame_check).
 
 #![tactic(auto)]
 
-ghost use Rattle.std.specs.Prelude.{◌≡◌, ◌<◌};
-ghost use Rattle.sizes.specs.Sizes.{pass_limit};
-ghost use Rattle.frame_check.specs.Checks.{LabelFits};
-ghost use Rattle.frame_state.specs.State.{patched_of, nothing_said, at_stage, TameOpening, with_opening, CornerFits, SecondRoom, LabelsRoom, ShadeFits, shade_put, grow_words, fill_words, local_words, words_in, words_put, with_shades, with_passes, corner_put, label_put, second_put, label_to, arrays, state, Addable, adds};
-ghost use Rattle.frame_state.specs.Parts.{held, SameParts};
+ghost use Rattle.std.specs.Prelude.{◌≡◌, ◌<◌, ◌≤◌};
+ghost use Rattle.sizes.specs.Sizes.{corner_limit, pass_limit};
+ghost use Rattle.frame_check.specs.Checks.{nothing_held, checked_held, LabelFits};
+ghost use Rattle.frame_state.specs.State.{patched_of, second_of, nothing_said, TameOpening, with_opening, CornerFits, SecondRoom, LabelsRoom, ShadeFits, shade_put, grow_words, fill_words, local_words, words_in, words_put, with_shades, with_passes, corner_put, label_put, second_put, label_to, state, Addable, adds};
 
 use arguments::Settings;
-use frame_line::{HeldLabel, HeldLine, HeldShade, Kind, OpeningKind, PassKind};
+use frame_check::{Held, Said};
+use frame_line::{HeldLabel, HeldShade, Kind, ListedLine, OpeningKind, PassKind};
 use frame_number::count_of;
+use join_sheet::SecondLabel;
 use predict::{Grid, Vector};
-use sizes::{ALL_PASS_WORDS, CORNERS, PASS_WORDS, PLACES, SECOND, USED};
+use refusal::Refusal;
+use sizes::PASS_WORDS;
 
 // Cell size, axes and band, how many corners, labels of the first set, labels of the second, None where no patch line stands, and passes there are,
 // and the stage that the lines have come to.
@@ -27,20 +29,8 @@ pub struct Progress {
     pub stage: usize,
 }
 
-// A pass as six words: kind (0 grow, 1 fill, 2 local), search, factor, boundary or residual, rounds, depth; 0 for what the pass has not.
-#[derive(Clone, Copy)]
-pub struct PassWords {
-    // Stays: the kind is a number, since the C interface lends passes as words (a).
-    pub kind: u32,
-    pub search: u32,
-    pub factor: u32,
-    pub reach: u32,
-    pub rounds: u32,
-    pub depth: u32,
-}
-
 // Nothing said.
-pub fn start() -> Progress
+fn start() -> Progress
     ensures { result ≡ nothing_said }
 {
     let axis = Vector { x: 0.0, y: 0.0 };
@@ -61,13 +51,6 @@ pub fn start() -> Progress
         passes: 0,
         stage: 0,
     }
-}
-
-// The lines have come to a stage.
-pub fn at_stage(p: Progress, stage: usize) -> Progress
-    ensures { result ≡ at_stage p stage }
-{
-    Progress { stage, ..p }
 }
 
 // A line of the opening is said: cell size, axes or band.
@@ -115,47 +98,30 @@ const BARE_GROW: [u32; 5] = [0x3eb3_3333, 0x3fc0_0000, 0x3fa0_0000, 0, 0];
 
 const BARE_FILL: [u32; 5] = [0x3eb3_3333, 0x3fc0_0000, 1_000_001, 0, 0];
 
-fn grow_words(v: [u32; 5]) -> PassWords
+// A pass as six words: kind (0 grow, 1 fill, 2 local), search, factor, boundary or residual, rounds, depth; 0 for what the pass has not.
+// Stays: the kind is a number, since the C interface lends passes as words (a).
+fn grow_words(v: [u32; 5]) -> [u32; PASS_WORDS]
     ensures { result ≡ grow_words v }
 {
-    PassWords {
-        kind: 0,
-        search: v[0],
-        factor: v[1],
-        reach: v[2],
-        rounds: 0,
-        depth: 0,
-    }
+    [0, v[0], v[1], v[2], 0, 0]
 }
 
-fn fill_words(v: [u32; 5]) -> PassWords
+// Stays: as `grow_words` (a).
+fn fill_words(v: [u32; 5]) -> [u32; PASS_WORDS]
     ensures { result ≡ fill_words v }
 {
-    PassWords {
-        kind: 1,
-        search: v[0],
-        factor: v[1],
-        reach: 0,
-        rounds: count_of(v[2]),
-        depth: 0,
-    }
+    [1, v[0], v[1], 0, count_of(v[2]), 0]
 }
 
-fn local_words(v: [u32; 5]) -> PassWords
+// Stays: as `grow_words` (a).
+fn local_words(v: [u32; 5]) -> [u32; PASS_WORDS]
     ensures { result ≡ local_words v }
 {
-    PassWords {
-        kind: 2,
-        search: v[0],
-        factor: v[1],
-        reach: v[3],
-        rounds: count_of(v[2]),
-        depth: count_of(v[4]),
-    }
+    [2, v[0], v[1], v[3], count_of(v[2]), count_of(v[4])]
 }
 
 // The words of a pass line, with the numbers of a bare one.
-fn words_of(kind: PassKind, v: [u32; 5]) -> PassWords
+fn words_of(kind: PassKind, v: [u32; 5]) -> [u32; PASS_WORDS]
     ensures { result ≡ words_in kind v }
 {
     match kind {
@@ -167,136 +133,132 @@ fn words_of(kind: PassKind, v: [u32; 5]) -> PassWords
     }
 }
 
-// The arrays that the lines are held in.
-#[derive(Drop)]
-pub struct Parts<'a> {
-    pub xs: &'a mut [f32; CORNERS],
-    pub ys: &'a mut [f32; CORNERS],
-    pub pitches: &'a mut [f32; CORNERS],
-    pub shades: &'a mut [u8; CORNERS],
-    pub sheet: &'a mut [u16; PLACES],
-    pub used: &'a mut [u8; USED],
-    pub second: &'a mut [u16; SECOND],
-    pub passes: &'a mut [u32; ALL_PASS_WORDS],
+// The corner n is written.
+fn put_corner(held: &mut Held, n: usize, v: [u32; 5])
+    requires { CornerFits n v }
+    ensures { held.new ≡ corner_put n v held.old }
+{
+    held.xs[n] = f32::from_bits(v[0]);
+    held.ys[n] = f32::from_bits(v[1]);
+    held.pitches[n] = f32::from_bits(v[2]);
 }
 
-impl<'a> Parts<'a> {
-    // The corner n is written.
-    fn put_corner(&mut self, n: usize, v: [u32; 5])
-        requires { CornerFits n v }
-        ensures same { SameParts self.old self.new }
-        ensures put { held self.new ≡ corner_put n v (held self.old) }
+// A label of the first set is written: its corner to the sheet, and that the set uses the corner.
+fn put_label(held: &mut Held, label: HeldLabel)
+    requires { LabelFits label }
+    ensures { held.new ≡ label_put label held.old }
+{
+    sheet::attach(&mut held.sheet, label.cell, label.corner);
+    held.used[label.corner] = true;
+}
+
+// The label n of the second set is written: its corner and its place, and that the set uses the corner.
+fn put_second(held: &mut Held, n: usize, label: HeldLabel)
+    requires { SecondRoom n label }
+    ensures { held.new ≡ second_put n label held.old }
+{
+    held.second[n] = SecondLabel {
+        corner: label.corner as u16,
+        place: sheet::place_of(label.cell) as u16,
+    };
+    held.second_used[label.corner] = true;
+}
+
+// A shade is written: 1 more than its kind to the entry of its corner.
+fn put_shade(held: &mut Held, shade: HeldShade)
+    requires { ShadeFits shade }
+    ensures { held.new ≡ with_shades held.old (shade_put shade held.old.shades) }
+{
+    held.shades[shade.corner] = (shade.kind + 1) as u8;
+}
+
+// The words of the pass m are written.
+fn put_pass(held: &mut Held, m: usize, words: [u32; PASS_WORDS])
+    requires { m < pass_limit }
+    ensures { held.new ≡ with_passes held.old (words_put m words held.old.passes) }
+{
+    let at = PASS_WORDS * m;
+    held.passes[at..at + PASS_WORDS].copy_from_slice(&words);
+}
+
+// What a frame's lines have said so far, and the arrays that hold it.
+#[derive(Drop)]
+pub struct Reading {
+    pub progress: Progress,
+    pub held: Held,
+}
+
+impl Reading {
+    // Nothing said.
+    pub fn new() -> Reading
+        ensures { result ≡ state nothing_said nothing_held }
     {
-        self.xs[n] = f32::from_bits(v[0]);
-        self.ys[n] = f32::from_bits(v[1]);
-        self.pitches[n] = f32::from_bits(v[2]);
+        Reading {
+            progress: start(),
+            held: Held::new(),
+        }
     }
 
-    // A label of the first set is written: its corner to the sheet, and that the corner is used.
-    fn put_label(&mut self, label: HeldLabel)
-        requires { LabelFits label }
-        ensures same { SameParts self.old self.new }
-        ensures put { held self.new ≡ label_put label (held self.old) }
+    // All checks of a line in its turn, against what was said before it.
+    pub fn check_line(&self, line: ListedLine) -> Result<(), Refusal>
+        requires few { self.now.progress.corners ≤ corner_limit }
+        requires second_few { second_of self.now.progress ≤ corner_limit }
+        ensures { result ≡ checked_held self.now.progress.corners self.now.progress.passes (patched_of self.now.progress) self.now.held
+            (second_of self.now.progress) line.held }
     {
-        sheet::attach(self.sheet, label.cell, label.corner);
-        self.used[label.corner] = 1;
-    }
-
-    // The label n of the second set is written: its corner and its place, and that the set uses the corner.
-    fn put_second(&mut self, n: usize, label: HeldLabel)
-        requires { SecondRoom n label }
-        ensures same { SameParts self.old self.new }
-        ensures put { held self.new ≡ second_put n label (held self.old) }
-    {
-        self.second[n] = label.corner as u16;
-        self.second[CORNERS + n] = sheet::place_of(label.cell) as u16;
-        self.used[CORNERS + label.corner] = 1;
+        let p = self.progress;
+        let said = Said {
+            held: &self.held,
+            corners: p.corners,
+            passes: p.passes,
+            labels: p.second,
+        };
+        said.check_line(line)
     }
 
     // A label is written to the set that is open: the second once the patch line stands.
-    fn add_label(&mut self, p: Progress, label: HeldLabel) -> Progress
-        requires { LabelsRoom p label }
-        ensures same { SameParts self.old self.new }
-        ensures put { state result (held self.new) ≡ label_to (patched_of p) label (state p (held self.old)) }
+    // Stays: either set is written in its own way, and each case counts what it wrote (d).
+    fn add_label(&mut self, label: HeldLabel)
+        requires { LabelsRoom self.old.progress label }
+        ensures { self.new ≡ label_to (patched_of self.old.progress) label self.old }
     {
-        match p.second {
+        match self.progress.second {
             Some(n) => {
-                self.put_second(n, label);
-                Progress {
-                    second: Some(n + 1),
-                    ..p
-                }
+                put_second(&mut self.held, n, label);
+                self.progress.second = Some(n + 1);
             }
             None => {
-                self.put_label(label);
-                Progress {
-                    labels: p.labels + 1,
-                    ..p
-                }
+                put_label(&mut self.held, label);
+                self.progress.labels += 1;
             }
         }
     }
 
-    // A shade is written: 1 more than its kind to the entry of its corner.
-    fn put_shade(&mut self, shade: HeldShade)
-        requires { ShadeFits shade }
-        ensures same { SameParts self.old self.new }
-        ensures put { held self.new ≡ with_shades (held self.old) (shade_put shade self.old.shades.now) }
-    {
-        self.shades[shade.corner] = (shade.kind + 1) as u8;
-    }
-
-    // The words of the pass m are written.
-    // Stays: with `copy_from_slice` it did not close that the six entries are the six `set`s of `words_put` (c).
-    fn put_pass(&mut self, m: usize, words: PassWords)
-        requires { m < pass_limit }
-        ensures same { SameParts self.old self.new }
-        ensures put { held self.new ≡ with_passes (held self.old) (words_put m words self.old.passes.now) }
-    {
-        let at = PASS_WORDS * m;
-        self.passes[at] = words.kind;
-        self.passes[at + 1] = words.search;
-        self.passes[at + 2] = words.factor;
-        self.passes[at + 3] = words.reach;
-        self.passes[at + 4] = words.rounds;
-        self.passes[at + 5] = words.depth;
-    }
-
     // A line that passed its checks is added.
+    // Stays: each kind of line is written in its own way and has its own count; a closure for each kind would be no shorter (d).
     #[tactic(auto, unfolding(crate::specs::State::adds_as))]
-    pub fn add_line(&mut self, p: Progress, line: HeldLine) -> Progress
-        requires { Addable p (held self.old) line }
-        ensures same { SameParts self.old self.new }
-        ensures added { state result (held self.new) ≡ adds line (state p (held self.old)) }
+    pub fn add_line(&mut self, line: ListedLine)
+        requires { Addable self.old.progress self.old.held line.held }
+        ensures { self.new ≡ adds line.held self.old }
     {
-        let v = line.values;
-        match frame_line::kind_of(line.row) {
-            Kind::Opening(opening) => Progress {
-                settings: with_opening(p.settings, opening, v),
-                ..p
-            },
+        let v = line.held.values;
+        let p = self.progress;
+        match line.kind() {
+            Kind::Opening(opening) => {
+                self.progress.settings = with_opening(p.settings, opening, v);
+            }
             Kind::Corner => {
-                self.put_corner(p.corners, v);
-                Progress {
-                    corners: p.corners + 1,
-                    ..p
-                }
+                put_corner(&mut self.held, p.corners, v);
+                self.progress.corners += 1;
             }
-            Kind::Label => self.add_label(p, frame_number::label_of(v)),
-            Kind::Patch => Progress {
-                second: Some(p.second.unwrap_or(0)),
-                ..p
-            },
-            Kind::Shade => {
-                self.put_shade(frame_number::shade_of(v));
-                p
+            Kind::Label => self.add_label(frame_number::label_of(v)),
+            Kind::Patch => {
+                self.progress.second = Some(p.second.unwrap_or(0));
             }
+            Kind::Shade => put_shade(&mut self.held, frame_number::shade_of(v)),
             Kind::Pass(pass) => {
-                self.put_pass(p.passes, words_of(pass, v));
-                Progress {
-                    passes: p.passes + 1,
-                    ..p
-                }
+                put_pass(&mut self.held, p.passes, words_of(pass, v));
+                self.progress.passes += 1;
             }
         }
     }

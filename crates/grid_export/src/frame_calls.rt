@@ -5,7 +5,7 @@ ghost use Rattle.grid_words.specs.Frames.{frame_left, frame_exported};
 
 // Reads a frame. `shades` takes a byte for each corner, `settings` cell size, axes and band, `out` the numbers of corners and passes. A refusal's answer
 // is its number plus 16 times the line, so that a refused call changes no buffer.
-// Stays: the C interface passes each number and lends each buffer by itself.
+// Stays: the C interface passes each number and lends each buffer by itself (a).
 #[unsafe(no_mangle)]
 pub extern "C" fn projective_grid_read_frame(
     text: &[u8],

@@ -11,7 +11,7 @@ use refusal::Refusal;
 use sizes::OUTCOME_WORDS;
 
 // Cell size, axes and band.
-// Stays: the C interface passes each number and lends each buffer by itself.
+// Stays: the C interface passes each number and lends each buffer by itself (a).
 fn settings_of(
     cell_size: f32,
     axis_i_x: f32,
@@ -39,7 +39,7 @@ fn settings_of(
 }
 
 // A pass, with room for eleven words, in which its outcome is put.
-// Stays: each buffer is lent by itself, as the C interface lends it.
+// Stays: the lists are lent on to `call_pass`, which lends each by itself (d).
 #[tactic(auto, unfolding(crate::specs::Passes::pass_exported))]
 fn pass_or_short(
     xs: &[f32],
@@ -69,7 +69,7 @@ fn pass_or_short(
 }
 
 // Grow. `out` takes the eleven words of its outcome.
-// Stays: the C interface passes each number and lends each buffer by itself.
+// Stays: the C interface passes each number and lends each buffer by itself (a).
 #[unsafe(no_mangle)]
 pub extern "C" fn projective_grid_extend_from_labelled(
     xs: &[f32],
@@ -125,7 +125,7 @@ pub extern "C" fn projective_grid_extend_from_labelled(
 }
 
 // Fill, which is lent no queue. `out` takes the eleven words of its outcome.
-// Stays: the C interface passes each number and lends each buffer by itself.
+// Stays: the C interface passes each number and lends each buffer by itself (a).
 #[unsafe(no_mangle)]
 pub extern "C" fn projective_grid_fill_grid_holes(
     xs: &[f32],
@@ -181,7 +181,7 @@ pub extern "C" fn projective_grid_fill_grid_holes(
 }
 
 // Local, which is lent no queue. `out` takes the eleven words of its outcome.
-// Stays: the C interface passes each number and lends each buffer by itself.
+// Stays: the C interface passes each number and lends each buffer by itself (a).
 #[unsafe(no_mangle)]
 pub extern "C" fn projective_grid_extend_via_local_homography(
     xs: &[f32],

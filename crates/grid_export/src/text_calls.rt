@@ -4,7 +4,7 @@ ghost use Rattle.report.specs.WriteResult.{text_lent};
 ghost use Rattle.grid_words.specs.Texts.{text_left, text_exported, piece_exported};
 
 // Writes the whole text of a result to the front of `text`. `out` takes its length.
-// Stays: the C interface passes each number and lends each buffer by itself.
+// Stays: the C interface passes each number and lends each buffer by itself (a).
 #[unsafe(no_mangle)]
 pub extern "C" fn projective_grid_write_result(
     corners: usize,
@@ -21,7 +21,7 @@ pub extern "C" fn projective_grid_write_result(
 }
 
 // Writes a piece of it: whole lines from line `from` on, as long as 128 bytes are left before each. `out` takes its length and the next line.
-// Stays: the C interface passes each number and lends each buffer by itself.
+// Stays: the C interface passes each number and lends each buffer by itself (a).
 #[unsafe(no_mangle)]
 pub extern "C" fn projective_grid_write_result_piece(
     corners: usize,

@@ -11,7 +11,7 @@ use refusal::Refusal;
 pub fn number_of(refusal: Refusal) -> u32
     ensures { result ≡ number_of refusal }
 {
-    refusal::number(refusal) as u32
+    u32::from(refusal::number(refusal))
 }
 
 // The answer as a number: 0, or the number of a refusal.

@@ -17,6 +17,7 @@ use Rattle.sheet.specs.Cells.{OnSheet, place_of, cell_of}
 use Rattle.sheet.specs.Words.{attached, hole_marked, ambiguous_marked}
 use Rattle.sheet.specs.Corners.{Corners, CornerLists, seen_of, Given, corners_in}
 use Rattle.sheet.specs.declared.Cell.{Cell}
+use Rattle.sheet.specs.declared.CornerArrays.{CornerArrays}
 use Rattle.sheet.specs.declared.Position.{Position}
 use Rattle.sheet.proofs.Corners.{given_attached}
 use Rattle.labels.specs.Labelled.{SameLabels}
@@ -31,9 +32,10 @@ use Rattle.arguments.proofs.Laws.{accepted}
 use Rattle.arguments.specs.declared.GrowParams.{GrowParams}
 use Rattle.arguments.specs.declared.Pass.{Pass}
 use Rattle.arguments.specs.declared.Settings.{Settings}
-use Rattle.extension_common.specs.TryCell.{try_at}
+use Rattle.extension_common.specs.TryCell.{TryCellResult, tried_from}
 use Rattle.extension_common.specs.declared.Search.{Search}
-use Rattle.extension_common.specs.declared.TryCellResult.{TryCellResult}
+use Rattle.positions_policy.specs.declared.Tolerances.{Tolerances}
+use Rattle.extension_common.specs.declared.NotAttached.{NotAttached}
 use Rattle.passes.specs.Outcome.{done, Answer}
 use Rattle.passes.specs.Counting.{one_more}
 use Rattle.passes.specs.Grow.{GrowState, no_counts, tolerances_of, search_of, spread, start_of, grow_with, grow_at, grow_visit, grow_from, grow_run, grow_after}
@@ -64,24 +66,24 @@ visit_as cs set p c s = go (prediction_of (seen_of cs.corner s.sheet) set.grid c
     go None = refl
     go (Some at) = refl
 
-pub found_spare : (cs : Corners) (set : Settings) (p : GrowParams) (sheet : List ℕ) (c : Cell) (k : ℕ) → found_at cs set p sheet c ≡ TryCellResult.Attached k → Free cs sheet k
+pub found_spare : (cs : Corners) (set : Settings) (p : GrowParams) (sheet : List ℕ) (c : Cell) (k : ℕ) → found_at cs set p sheet c ≡ Ok k → Free cs sheet k
 unfolding found_at found_from
 found_spare cs set p sheet c k e = go (prediction_of (seen_of cs.corner sheet) set.grid c) e
   where
-    go : (at : Option Position) → found_from cs set p sheet c at ≡ TryCellResult.Attached k → Free cs sheet k
+    go : (at : Option Position) → found_from cs set p sheet c at ≡ Ok k → Free cs sheet k
     go None e = absurd (let z : ◌≡◌ {A = ℕ} 0 1 = cc in omega arith)
     go (Some at) e = found_free cs set p sheet c at (extrapolating (seen_of cs.corner sheet) c) k e
 
 -- what is found, by the prediction
-module _ (cs : Corners) (set : Settings) (p : GrowParams) (sheet : List ℕ) (c : Cell) {at : Option Position} (is : at ≡ prediction_of (seen_of cs.corner sheet) set.grid c) where
-  pub found_none : at ≡ None → TryCellResult.NoCandidates ≡ found_at cs set p sheet c
-  unfolding found_at found_from
-  found_none e = rw (← is, e)
-
-  pub found_at_lem : {q : Position} → at ≡ Some q → {outer : Bool} → outer ≡ extrapolating (seen_of cs.corner sheet) c → {search : Search} → search ≡ search_of set p outer
-      → {r : TryCellResult} → r ≡ try_at cs sheet (tolerances_of set) search c q → r ≡ found_at cs set p sheet c
-  unfolding found_at found_from
-  found_at_lem e o s h = h ∙ rw (← is, e, s, o)
+module _ (cs : Corners) (set : Settings) (p : GrowParams) (sheet : List ℕ) (c : Cell) where
+  pub found_at_lem : {outer : Bool} → outer ≡ extrapolating (seen_of cs.corner sheet) c → {search : Search} {tol : Tolerances} → search ≡ search_of set p outer → tol ≡ tolerances_of set
+      → {r : TryCellResult} → r ≡ tried_from cs sheet tol search c (prediction_of (seen_of cs.corner sheet) set.grid c) → r ≡ found_at cs set p sheet c
+  unfolding found_at found_from tried_from
+  found_at_lem o s t h = h ∙ rw (s, o, t) (go (prediction_of (seen_of cs.corner sheet) set.grid c))
+    where
+      go : (at : Option Position) → tried_from cs sheet (tolerances_of set) (search_of set p (extrapolating (seen_of cs.corner sheet) c)) c at ≡ found_from cs set p sheet c at
+      go None = refl
+      go (Some at) = refl
 
 -- ---- a cell settled
 
@@ -123,7 +125,14 @@ module _ {g after : Growing} (q : Queue) (m : MarksOnly g after) {sheet : List �
 
 -- what marks a hole, and counts no corner
 abbrev pub NoCorner : TryCellResult → Type 0
-NoCorner found = (found ≡ TryCellResult.NoCandidates) ⊎ (found ≡ TryCellResult.EdgeRejected)
+NoCorner found = (found ≡ Err NotAttached.NoCandidates) ⊎ (found ≡ Err NotAttached.EdgeRejected)
+
+pub reason_is : {why e : NotAttached} → why ≡ e → ◌≡◌ {A = TryCellResult} (Err why) (Err e)
+reason_is h = rw h refl
+
+pub no_corner : {why : NotAttached} → (why ≡ NotAttached.NoCandidates) ⊎ (why ≡ NotAttached.EdgeRejected) → NoCorner (Err why)
+no_corner (inl h) = inl (reason_is h)
+no_corner (inr h) = inr (reason_is h)
 
 pub hole_counts : {found : TryCellResult} (n : Counts) → NoCorner found → (one_more found n).attached ≡ n.attached
 hole_counts n (inl e) = rw e
@@ -135,9 +144,14 @@ module _ {g after : Growing} (q : Queue) (c : Cell) {found : TryCellResult} (m :
   settled_hole (inl e) h = rw e (marked q m h (rw e at n))
   settled_hole (inr e) h = rw e (marked q m h (rw e at n))
 
-  pub settled_ambiguous : found ≡ TryCellResult.Ambiguous → after.sheet.now ≡ ambiguous_marked g.sheet.now c → Leaves g q after q (grow_with c found (state_of g q))
+  pub settled_ambiguous : found ≡ Err NotAttached.Ambiguous → after.sheet.now ≡ ambiguous_marked g.sheet.now c → Leaves g q after q (grow_with c found (state_of g q))
   unfolding grow_with
   settled_ambiguous e h = rw e (marked q m h (rw e at n))
+
+-- by another expression of what was found
+pub settled_as : {g after : Growing} {q next : Queue} (c : Cell) {found r : TryCellResult} → found ≡ r → Leaves g q after next (grow_with c r (state_of g q))
+    → Leaves g q after next (grow_with c found (state_of g q))
+settled_as c e l = rw e l
 
 -- a cell that is visited, and what was found there
 pub visit_settled : {g after : Growing} {q next : Queue} (c : Cell) {found : TryCellResult} → found ≡ found_at (held g) g.setup.settings g.setup.params g.sheet.now c
@@ -163,7 +177,7 @@ module _ {g : Growing} {q : Queue} {c : Cell} {k : ℕ} (w : Attachable g q c k)
   pub given_more : Given g.count (attached g.sheet.now c k)
   given_more = given_attached g.given c w.attaching.on k w.known w.attaching.corner_fits
 
-  pub tied_more : Tied (attached g.sheet.now c k) (set g.used k 1)
+  pub tied_more : Tied (attached g.sheet.now c k) (set g.used k true)
   tied_more = tied_attached w.attaching (omega (arith, w.known, g.few)) g.tied
 
   -- the queue has room for the cell's neighbours
@@ -172,8 +186,8 @@ module _ {g : Growing} {q : Queue} {c : Cell} {k : ℕ} (w : Attachable g q c k)
   attached_room e = record { long = rw (e, length-set) w.attaching.long; room = w.spare.queue_room }
 
   pub settled_attached : {after : Growing} {next : Queue} {place : ℕ} → SameRun g after → after.sheet.now ≡ attached g.sheet.now c k → place ≡ place_of c → after.attached.now ≡ set g.attached.now g.counts.attached place
-      → QueueHeld q next (spread after.sheet.now c (queued q)) → after.counts ≡ one_more (TryCellResult.Attached k) g.counts
-      → Leaves g q after next (grow_with c (TryCellResult.Attached k) (state_of g q))
+      → QueueHeld q next (spread after.sheet.now c (queued q)) → after.counts ≡ one_more (Ok k) g.counts
+      → Leaves g q after next (grow_with c (Ok k) (state_of g q))
   unfolding grow_with
   settled_attached {next = next} same m p l h n =
       let r : QueueHeld q next (spread (attached g.sheet.now c k) c (queued q)) = rw m at h in
@@ -200,10 +214,10 @@ pub record Grown (before after : GrowState) : Type 0 where
 
 with_grown : (c : Cell) (r : TryCellResult) (s : GrowState) → Grown s (grow_with c r s)
 unfolding grow_with attached hole_marked ambiguous_marked
-with_grown c TryCellResult.NoCandidates s = record { sheet_same = length-set s.sheet (place_of c) _; queued_more = omega arith; made_more = omega arith }
-with_grown c TryCellResult.Ambiguous s = record { sheet_same = length-set s.sheet (place_of c) _; queued_more = omega arith; made_more = omega arith }
-with_grown c TryCellResult.EdgeRejected s = record { sheet_same = length-set s.sheet (place_of c) _; queued_more = omega arith; made_more = omega arith }
-with_grown c (TryCellResult.Attached k) s =
+with_grown c (Err NotAttached.NoCandidates) s = record { sheet_same = length-set s.sheet (place_of c) _; queued_more = omega arith; made_more = omega arith }
+with_grown c (Err NotAttached.Ambiguous) s = record { sheet_same = length-set s.sheet (place_of c) _; queued_more = omega arith; made_more = omega arith }
+with_grown c (Err NotAttached.EdgeRejected) s = record { sheet_same = length-set s.sheet (place_of c) _; queued_more = omega arith; made_more = omega arith }
+with_grown c (Ok k) s =
     record {
       sheet_same = length-set s.sheet (place_of c) _;
       queued_more = (spread_longer (attached s.sheet c k) c s.queued).more;
@@ -263,7 +277,7 @@ visit_alike : {cs cs' : Corners} {set set' : Settings} {p p' : GrowParams} {c c'
 visit_alike a b d e f = cc
 
 held_alike : {g h : Growing} → SameRun g h → held h ≡ held g
-held_alike s = ap₂ corners_in (ap (λ (k : Bor (List Float)). k.now) s.same_corners) s.same_count
+held_alike s = ap₂ corners_in (ap (λ (k : Bor CornerArrays). k.now) s.same_corners) s.same_count
 
 -- A run that has visited the cells that were taken from the queue: what is held is a state of the definition's run, and with the cells that are
 -- left it is what it shall be.

@@ -1,7 +1,7 @@
 -- Grow as the code holds it: what is found at a cell, where grow stands in the lent buffers, and what the
 -- functions ask and leave. Definitions only.
 use Rattle.sheet.specs.declared.Position.{Position}
-use Rattle.std.specs.Prelude.{◌≡◌, false, List, ℕ, ◌+◌, ◌*◌, ◌<◌, ◌≤◌, length, take, Option, Some, None}
+use Rattle.std.specs.Prelude.{◌≡◌, false, List, ℕ, ◌+◌, ◌*◌, ◌<◌, ◌≤◌, length, take, Option, Some, None, Ok, Err}
 use Rattle.sheet.specs.Cells.{OnSheet}
 use Rattle.sheet.specs.Words.{label_at}
 use Rattle.sheet.specs.Corners.{Corners, seen_of, corners_in}
@@ -12,8 +12,8 @@ use Rattle.labels.specs.Used.{used_on, OneCell}
 use Rattle.predict.specs.Predict.{prediction_of, extrapolating}
 use Rattle.arguments.specs.declared.GrowParams.{GrowParams}
 use Rattle.arguments.specs.declared.Settings.{Settings}
-use Rattle.extension_common.specs.TryCell.{try_at}
-use Rattle.extension_common.specs.declared.TryCellResult.{TryCellResult}
+use Rattle.extension_common.specs.TryCell.{TryCellResult, try_at}
+use Rattle.extension_common.specs.declared.NotAttached.{NotAttached}
 use Rattle.passes.specs.Grow.{GrowState, no_counts, tolerances_of, search_of}
 use Rattle.passes.specs.declared.Counts.{Counts}
 use Rattle.passes.specs.declared.GrowStats.{GrowStats}
@@ -26,7 +26,7 @@ use Rattle.grow_extend.specs.declared.Growing.{Growing}
 
 -- a cell with a prediction is tried there; one with no labelled neighbour has no candidate
 unfoldable pub found_from : Corners → Settings → GrowParams → List ℕ → Cell → Option Position → TryCellResult
-found_from cs set p sheet c None = TryCellResult.NoCandidates
+found_from cs set p sheet c None = Err NotAttached.NoCandidates
 found_from cs set p sheet c (Some at) = try_at cs sheet (tolerances_of set) (search_of set p (extrapolating (seen_of cs.corner sheet) c)) c at
 
 unfoldable pub found_at : Corners → Settings → GrowParams → List ℕ → Cell → TryCellResult
@@ -97,7 +97,7 @@ pub record Attachable (g : Growing) (q : Queue) (c : Cell) (k : ℕ) : Type 0 wh
 pub record Settleable (g : Growing) (q : Queue) (c : Cell) (found : TryCellResult) : Type 0 where
   pub on : OnSheet c
   pub small : SmallCounts g.counts
-  pub to_attach : (k : ℕ) → found ≡ TryCellResult.Attached k → Attachable g q c k
+  pub to_attach : (k : ℕ) → found ≡ Ok k → Attachable g q c k
 
 -- an unlabelled cell of the sheet, and room for a corner as long as there is one that no cell holds
 pub record Visitable (g : Growing) (q : Queue) (c : Cell) : Type 0 where

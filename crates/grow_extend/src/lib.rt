@@ -9,22 +9,24 @@ ghost use Rattle.sizes.specs.Sizes.{corner_limit};
 ghost use Rattle.sheet.specs.Corners.{Given, corner_lists};
 ghost use Rattle.labels.specs.Used.{Tied};
 ghost use Rattle.arguments.specs.Shades.{corners_of};
+ghost use Rattle.arguments.specs.Asked.{lists_of};
 ghost use Rattle.arguments.specs.Accepted.{Accepted};
 ghost use Rattle.passes.specs.Outcome.{Outcome};
 ghost use Rattle.passes.specs.Grow.{radius_of, search_of, grow_after};
 ghost use Rattle.passes.specs.Step.{grow_step, grow_out, grow_leaves, lent_of, rooms};
 ghost use Rattle.passes.specs.Said.{grow_values, grow_said, outcome_due};
 
-use arguments::{GrowParams, Pass, Settings};
+use arguments::{GrowParams, LentCorners, Pass, Settings};
 use candidates::HeldCorners;
-use extension_common::{ChoiceRule, Search, Trial, TryCellResult};
+use extension_common::{ChoiceRule, NotAttached, Search, Trial, TryCellResult};
 use grow_queue::Queue;
 use passes::{Counts, GrowStats};
 use refusal::Refusal;
-use sheet::Cell;
+use sheet::{Cell, CornerArrays};
 use sizes::CORNERS;
 
 // The settings of a call, and the numbers of the pass.
+// Stays: each pass has its own radius and rule; a generic struct of `passes` would share two fields and turn these methods into functions (d).
 #[derive(Clone, Copy)]
 pub struct GrowSetup {
     pub settings: Settings,
@@ -62,12 +64,12 @@ impl GrowSetup {
 // are used, and the counts so far. The queue stands beside it.
 #[derive(Drop)]
 pub struct Growing<'a> {
-    pub corners: &'a [f32; 4 * CORNERS],
+    pub corners: &'a CornerArrays,
     pub count: usize,
     pub setup: GrowSetup,
     pub sheet: &'a mut [u16],
     pub attached: &'a mut [u16],
-    pub used: [u8; CORNERS],
+    pub used: [bool; CORNERS],
     pub counts: Counts,
     ghost few: { count ≤ corner_limit },
     ghost given: { Given count sheet.now },
@@ -86,42 +88,31 @@ impl<'a> Growing<'a> {
         ensures { result ≡ found_at (held self.now) self.now.setup.settings self.now.setup.params self.now.sheet.now c }
     {
         let setup = self.setup;
-        let prediction = predict::predict_from_neighbours(
-            self.corners,
-            self.sheet,
+        let trial = Trial {
+            held: HeldCorners {
+                corners: self.corners,
+                count: self.count,
+                used: &self.used,
+            },
+            sheet: self.sheet,
             c,
-            setup.settings.grid,
-        );
-        match prediction {
-            None => TryCellResult::NoCandidates,
-            Some(at) => {
-                let trial = Trial {
-                    held: HeldCorners {
-                        corners: self.corners,
-                        count: self.count,
-                        used: &self.used,
-                    },
-                    sheet: self.sheet,
-                    c,
-                    search: setup.search(predict::is_extrapolating(self.sheet, c)),
-                    tol: passes::tolerances_of(setup.settings),
-                };
-                trial.try_attach_at_cell(at)
-            }
-        }
+            search: setup.search(predict::is_extrapolating(self.sheet, c)),
+            tol: passes::tolerances_of(setup.settings),
+        };
+        trial.try_predicted(setup.settings.grid)
     }
 
     // Attaches a corner to a cell: its marks stay, the cell joins the attached list, and its neighbours are queued.
     fn attach_corner(&mut self, queue: &mut Queue, c: Cell, k: usize)
         requires { Attachable self.old queue.old c k }
-        ensures { Leaves self.old queue.old self.new queue.new (grow_with c (TryCellResult.Attached k) (state_of self.old queue.old)) }
+        ensures { Leaves self.old queue.old self.new queue.new (grow_with c (Ok k) (state_of self.old queue.old)) }
     {
         self.attached[self.counts.attached] = sheet::place_of(c) as u16;
         let sheet = &mut *self.sheet;
         sheet::attach(sheet, c, k);
         queue.enqueue_cardinal_neighbours(sheet, c);
-        self.used[k] = 1;
-        self.counts = passes::one_more(TryCellResult::Attached(k), self.counts);
+        self.used[k] = true;
+        self.counts = passes::one_more(Ok(k), self.counts);
     }
 
     // Settles a cell by what was found there: no candidate and refused edges mark a hole, an ambiguous choice marks ambiguous, and a corner
@@ -131,15 +122,17 @@ impl<'a> Growing<'a> {
         ensures { Leaves self.old queue.old self.new queue.new (grow_with c found (state_of self.old queue.old)) }
     {
         match found {
-            TryCellResult::NoCandidates | TryCellResult::EdgeRejected => {
-                sheet::mark_hole(self.sheet, c);
-                self.counts = passes::one_more(found, self.counts);
-            }
-            TryCellResult::Ambiguous => {
-                sheet::mark_ambiguous(self.sheet, c);
-                self.counts = passes::one_more(found, self.counts);
-            }
-            TryCellResult::Attached(k) => self.attach_corner(queue, c, k),
+            Ok(k) => self.attach_corner(queue, c, k),
+            Err(why) => match why {
+                NotAttached::NoCandidates | NotAttached::EdgeRejected => {
+                    sheet::mark_hole(self.sheet, c);
+                    self.counts = passes::one_more(found, self.counts);
+                }
+                NotAttached::Ambiguous => {
+                    sheet::mark_ambiguous(self.sheet, c);
+                    self.counts = passes::one_more(found, self.counts);
+                }
+            },
         }
     }
 
@@ -161,7 +154,7 @@ impl<'a> Growing<'a> {
     {
         let sheet = &mut *self.sheet;
         queue.seed(sheet);
-        // Stays: a visit queues more cells, so that no iterator can hold the queue meanwhile.
+        // Stays: a visit queues more cells, so that no iterator can hold the queue meanwhile (d).
         while let Some(c) = queue.pop() {
             self.visit(queue, c);
         }
@@ -179,42 +172,33 @@ impl<'a> Growing<'a> {
 }
 
 // The pass on arguments that are accepted: which corners are used, the seeds, the run, and the rim at its end.
-// Stays: the public call lends each list by itself, as the specification and the C interface do.
+// Stays: three buffers that the public call is lent one by one; the queue becomes a struct of its own, the other two go into the run (a).
 fn extend(
-    xs: &[f32],
-    ys: &[f32],
-    pitches: &[f32],
-    shades: &[u8],
+    corners: LentCorners,
     sheet: &mut [u16],
     queue: &mut [u16],
     attached: &mut [u16],
     settings: Settings,
     params: GrowParams,
 ) -> GrowStats
-    requires { Accepted (lent_of (corner_lists xs.now ys.now pitches.now) shades.now sheet.old (rooms (length queue.old)
+    requires { Accepted (lent_of (lists_of corners) corners.shades.now sheet.old (rooms (length queue.old)
         (length attached.old))) settings (Pass.Grow params) }
     ensures { grow_out (Ok result) sheet.new queue.new attached.new
-        ≡ grow_leaves (Outcome.done (grow_after (corners_of (corner_lists xs.now ys.now pitches.now) shades.now)
+        ≡ grow_leaves (Outcome.done (grow_after (corners_of (lists_of corners.entry) corners.entry.shades.now)
         settings params sheet.old)) sheet.old queue.old attached.old }
 {
-    let nothing = 0.0f32 / 0.0f32;
-    let mut corners = [nothing; 4 * CORNERS];
-    arguments::hold_corners(xs, ys, pitches, shades, &mut corners);
+    let mut held = CornerArrays::new();
+    corners.hold(&mut held);
     let used = labels::mark_used(sheet);
     let mut queue = Queue::new(queue);
     let mut growing = Growing {
-        corners: &corners,
-        count: xs.len(),
+        corners: &held,
+        count: corners.xs.len(),
         setup: GrowSetup { settings, params },
         sheet,
         attached,
         used,
-        counts: Counts {
-            attached: 0,
-            rejected_no_candidate: 0,
-            rejected_ambiguous: 0,
-            rejected_edge: 0,
-        },
+        counts: Counts::default(),
     };
     growing.run(&mut queue);
     growing.stats()
@@ -242,18 +226,19 @@ pub fn extend_from_labelled(
     ensures said { grow_said result ≡ outcome_due grow_values (grow_step (corner_lists xs.now ys.now pitches.now)
         shades.now sheet.old settings params (rooms (length queue.old) (length attached.old))) }
 {
-    arguments::check_arguments(
+    let corners = LentCorners {
         xs,
         ys,
         pitches,
         shades,
+    };
+    arguments::check_arguments(
+        corners,
         sheet,
         queue.len(),
         attached.len(),
         settings,
         Pass::Grow(params),
     )?;
-    Ok(extend(
-        xs, ys, pitches, shades, sheet, queue, attached, settings, params,
-    ))
+    Ok(extend(corners, sheet, queue, attached, settings, params))
 }

@@ -61,7 +61,7 @@ impl<'a> Queue<'a> {
         if self.head == self.tail {
             return None;
         }
-        let place = self.places[self.head] as usize;
+        let place = usize::from(self.places[self.head]);
         self.head += 1;
         Some(sheet::cell_of(place))
     }

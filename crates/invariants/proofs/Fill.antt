@@ -8,12 +8,12 @@ use Rattle.sheet.proofs.Laws.{place_cell}
 use Rattle.labels.specs.Labelled.{label_count}
 use Rattle.labels.specs.Box.{box_of}
 use Rattle.predict.specs.Predict.{prediction_of}
-use Rattle.std.specs.Prelude.{Option, Some, None}
+use Rattle.std.specs.Prelude.{Option, Some, None, Ok, Err}
 use Rattle.sheet.specs.declared.Position.{Position}
 use Rattle.positions_policy.specs.declared.Tolerances.{Tolerances}
 use Rattle.arguments.specs.declared.Settings.{Settings}
 use Rattle.arguments.specs.declared.FillParams.{FillParams}
-use Rattle.extension_common.specs.declared.TryCellResult.{TryCellResult}
+use Rattle.extension_common.specs.TryCell.{TryCellResult}
 use Rattle.passes.specs.Grow.{tolerances_of}
 use Rattle.passes.specs.Fill.{box_and_strips, fill_cells, FillState, fill_with, fill_at, fill_visit, fill_pass, fill_from, fill_limit, fill_run}
 use Rattle.passes.specs.History.{Attaches, History, begun, attaches}
@@ -36,12 +36,10 @@ module _ {cs : Corners} {first : List ℕ} (few : cs.count ≤ 1024) (begins : S
   sound_then g = (history_extended few begins g.history).sound
 
   filling_with : {tol : Tolerances} (p : ℕ) (ps : List ℕ) (s : FillState) → Filling cs tol first (p ∷ ps) s → (r : TryCellResult)
-      → ((k : ℕ) → r ≡ TryCellResult.Attached k → Attaches cs tol s.sheet p k) → Filling cs tol first ps (fill_with (cell_of p) r s)
+      → ((k : ℕ) → r ≡ Ok k → Attaches cs tol s.sheet p k) → Filling cs tol first ps (fill_with (cell_of p) r s)
   unfolding fill_with
-  filling_with p ps s g TryCellResult.NoCandidates may = record { history = g.history; waiting = waiting_marked g.waiting (record { same_label = λ q h. refl }) }
-  filling_with p ps s g TryCellResult.Ambiguous may = record { history = g.history; waiting = waiting_marked g.waiting (record { same_label = λ q h. refl }) }
-  filling_with p ps s g TryCellResult.EdgeRejected may = record { history = g.history; waiting = waiting_marked g.waiting (record { same_label = λ q h. refl }) }
-  filling_with p ps s g (TryCellResult.Attached k) may =
+  filling_with p ps s g (Err e) may = record { history = g.history; waiting = waiting_marked g.waiting (record { same_label = λ q h. refl }) }
+  filling_with p ps s g (Ok k) may =
       let a = may k refl in
       record {
         history = rw (place_cell p (first_on g.waiting)) (attaches p k g.history a);

@@ -22,13 +22,14 @@ use Rattle.labels.specs.Labelled.{names_corner, labelled_places, SameLabels}
 use Rattle.labels.proofs.Below.{no_both, both}
 use Rattle.labels.proofs.Labelled.{hole_keeps, ambiguous_keeps}
 use Rattle.predict.specs.Predict.{prediction_of}
-use Rattle.std.specs.Prelude.{Option, Some, None}
+use Rattle.std.specs.Prelude.{Option, Some, None, Ok, Err}
 use Rattle.sheet.specs.declared.Position.{Position}
 use Rattle.positions_policy.specs.Edge.{cardinal_offsets}
 use Rattle.positions_policy.specs.declared.Tolerances.{Tolerances}
 use Rattle.arguments.specs.declared.Settings.{Settings}
 use Rattle.arguments.specs.declared.GrowParams.{GrowParams}
-use Rattle.extension_common.specs.declared.TryCellResult.{TryCellResult}
+use Rattle.extension_common.specs.declared.NotAttached.{NotAttached}
+use Rattle.extension_common.specs.TryCell.{TryCellResult}
 use Rattle.passes.specs.Grow.{tolerances_of, GrowState, member, wanted, enqueued, enqueued_at, spread, seeded_from, start_of, missed, grow_with, grow_at, grow_visit, grow_from, grow_run}
 use Rattle.passes.specs.History.{Attaches, History, begun, marked, attaches}
 use Rattle.invariants.specs.Kept.{Sound}
@@ -151,19 +152,19 @@ module _ {cs : Corners} {tol : Tolerances} {first : List ℕ} (few : cs.count �
       growing_marked (missed c s) refl refl refl (hole_changes s.sheet c sound_now.long on).same_length (hole_keeps s.sheet c sound_now.long on)
 
   -- what is found at the cell
-  growing_with : (r : TryCellResult) → ((k : ℕ) → r ≡ TryCellResult.Attached k → Attaches cs tol s.sheet (get_or s.queued head 0) k)
+  growing_with : (r : TryCellResult) → ((k : ℕ) → r ≡ Ok k → Attaches cs tol s.sheet (get_or s.queued head 0) k)
       → Growing cs tol first (head + 1) (grow_with (cell_of (get_or s.queued head 0)) r s)
   unfolding grow_with
-  growing_with TryCellResult.NoCandidates may = growing_missed
-  growing_with TryCellResult.Ambiguous may =
+  growing_with (Err NotAttached.NoCandidates) may = growing_missed
+  growing_with (Err NotAttached.Ambiguous) may =
       let c = cell_of (get_or s.queued head 0) in
       let on = cell_on_lem _ (first_on turn) in
       growing_marked _ refl refl refl (ambiguous_changes s.sheet c sound_now.long on).same_length (ambiguous_keeps s.sheet c sound_now.long on)
-  growing_with TryCellResult.EdgeRejected may =
+  growing_with (Err NotAttached.EdgeRejected) may =
       let c = cell_of (get_or s.queued head 0) in
       let on = cell_on_lem _ (first_on turn) in
       growing_marked _ refl refl refl (hole_changes s.sheet c sound_now.long on).same_length (hole_keeps s.sheet c sound_now.long on)
-  growing_with (TryCellResult.Attached k) may =
+  growing_with (Ok k) may =
       let p = get_or s.queued head 0 in
       let a = may k refl in
       record {

@@ -20,13 +20,13 @@ use Rattle.sheet.specs.declared.Offset.{Offset}
 use Rattle.sheet.proofs.Laws.{place_cell}
 use Rattle.sheet.proofs.Words.{no_corner_lem}
 use Rattle.predict.specs.Predict.{prediction_of, extrapolating}
-use Rattle.std.specs.Prelude.{Option, Some, None}
+use Rattle.std.specs.Prelude.{Option, Some, None, Ok, Err}
 use Rattle.sheet.specs.declared.Position.{Position}
 use Rattle.positions_policy.specs.Edge.{cardinal_offsets}
 use Rattle.arguments.specs.declared.Settings.{Settings}
 use Rattle.arguments.specs.declared.GrowParams.{GrowParams}
-use Rattle.extension_common.specs.TryCell.{try_at}
-use Rattle.extension_common.specs.declared.TryCellResult.{TryCellResult}
+use Rattle.extension_common.specs.TryCell.{TryCellResult, try_at}
+use Rattle.extension_common.specs.declared.NotAttached.{NotAttached}
 use Rattle.passes.specs.Grow.{tolerances_of, GrowState, wanted, enqueued, enqueued_at, spread, start_of, search_of, grow_with, grow_at, grow_visit, grow_from, grow_run}
 use Rattle.passes.specs.Changes.{is_attached, is_no_candidate, is_ambiguous, is_edge_refusal, SameMarks, MarksSet, GrowVisit}
 use Rattle.passes.specs.declared.Counts.{Counts}
@@ -103,10 +103,10 @@ at_begins sheet c (o ∷ os) queued = begins_then (enqueued_begins sheet (moved 
 
 with_begins : (c : Cell) (r : TryCellResult) (s : GrowState) → Begins s.queued (grow_with c r s).queued
 unfolding grow_with spread
-with_begins c TryCellResult.NoCandidates s = begins_same s.queued
-with_begins c TryCellResult.Ambiguous s = begins_same s.queued
-with_begins c TryCellResult.EdgeRejected s = begins_same s.queued
-with_begins c (TryCellResult.Attached k) s = at_begins _ c cardinal_offsets s.queued
+with_begins c (Err NotAttached.NoCandidates) s = begins_same s.queued
+with_begins c (Err NotAttached.Ambiguous) s = begins_same s.queued
+with_begins c (Err NotAttached.EdgeRejected) s = begins_same s.queued
+with_begins c (Ok k) s = at_begins _ c cardinal_offsets s.queued
 
 -- ---- a run under way
 
@@ -116,7 +116,7 @@ record Finding (first : List ℕ) (head : ℕ) (s : GrowState) : Type 0 where
   each : length found ≡ head
   kept : (c : Cell) (k : ℕ) → label_at first c ≡ Some k → label_at s.sheet c ≡ Some k
   bare : (n : ℕ) → n < head → label_at first (cell_of (get_or s.queued n 0)) ≡ None
-  marked : (n : ℕ) → n < head → MarksSet (get_or found n TryCellResult.NoCandidates) first s.sheet (cell_of (get_or s.queued n 0))
+  marked : (n : ℕ) → n < head → MarksSet (get_or found n (Err NotAttached.NoCandidates)) first s.sheet (cell_of (get_or s.queued n 0))
   others : (c : Cell) → ((n : ℕ) → n < head → cell_of (get_or s.queued n 0) ≡ c → ⊥) → SameMarks first s.sheet c
   stand : (c : Cell) → MarksStand first s.sheet c
   attached : attached_among (take head s.queued) found ≡ s.made
@@ -165,11 +165,11 @@ module _ {cs : Corners} {first : List ℕ} {head : ℕ} {s : GrowState} (g : Goi
     other : (c : Cell) → (c ≡ next_of s head → ⊥) → SameMarks s.sheet after.sheet c
     other c ne = (visit.labels.others c ne).marks
 
-    earlier_found : (n : ℕ) → n < head → get_or (w.found ++ (r ∷ [])) n TryCellResult.NoCandidates ≡ get_or w.found n TryCellResult.NoCandidates
-    earlier_found n h = get_or-append w.found (r ∷ []) TryCellResult.NoCandidates n (omega (arith, w.each))
+    earlier_found : (n : ℕ) → n < head → get_or (w.found ++ (r ∷ [])) n (Err NotAttached.NoCandidates) ≡ get_or w.found n (Err NotAttached.NoCandidates)
+    earlier_found n h = get_or-append w.found (r ∷ []) (Err NotAttached.NoCandidates) n (omega (arith, w.each))
 
-    this_found : get_or (w.found ++ (r ∷ [])) head TryCellResult.NoCandidates ≡ r
-    this_found = rw (← w.each) (get_or-append_seam w.found r [] TryCellResult.NoCandidates)
+    this_found : get_or (w.found ++ (r ∷ [])) head (Err NotAttached.NoCandidates) ≡ r
+    this_found = rw (← w.each) (get_or-append_seam w.found r [] (Err NotAttached.NoCandidates))
 
     kept_with : (c : Cell) (k : ℕ) → label_at first c ≡ Some k → Dec (c ≡ next_of s head) → label_at after.sheet c ≡ Some k
     kept_with c k e (yes d) = absurd (no_corner_lem k (sym next_bare ∙ ap (label_at first) (sym d) ∙ e))
@@ -179,7 +179,7 @@ module _ {cs : Corners} {first : List ℕ} {head : ℕ} {s : GrowState} (g : Goi
     bare_with n h (yes d) = ap (label_at first) (older n (omega arith) ∙ ap (λ (i : ℕ). cell_of (get_or s.queued i 0)) d) ∙ next_bare
     bare_with n h (no d) = ap (label_at first) (older n (omega arith)) ∙ w.bare n (omega arith)
 
-    marked_with : (n : ℕ) → n < head + 1 → Dec (n ≡ head) → MarksSet (get_or (w.found ++ (r ∷ [])) n TryCellResult.NoCandidates) first after.sheet (cell_of (get_or after.queued n 0))
+    marked_with : (n : ℕ) → n < head + 1 → Dec (n ≡ head) → MarksSet (get_or (w.found ++ (r ∷ [])) n (Err NotAttached.NoCandidates)) first after.sheet (cell_of (get_or after.queued n 0))
     marked_with n h (yes d) = rw (older n (omega arith), d, this_found) (set_after (w.others (next_of s head) apart) visit.marks)
     marked_with n h (no d) = rw (older n (omega arith), earlier_found n (omega arith)) (set_before (w.marked n (omega arith)) (other _ (apart n (omega arith))))
 
@@ -226,7 +226,7 @@ module _ {cs : Corners} {first : List ℕ} {head : ℕ} {s : GrowState} (g : Goi
 
 module _ (cs : Corners) (set : Settings) (params : GrowParams) {first : List ℕ} where
   finding_with : {head : ℕ} {s : GrowState} → Going cs head s → Finding first head s → head < length s.queued → (r : TryCellResult)
-      → ((k : ℕ) → r ≡ TryCellResult.Attached k → k < 16383) → Finding first (head + 1) (grow_with (next_of s head) r s)
+      → ((k : ℕ) → r ≡ Ok k → k < 16383) → Finding first (head + 1) (grow_with (next_of s head) r s)
   finding_with {head} {s} g w left r fits =
       finding_more g w left r (grow_with (next_of s head) r s)
       (visits.grow (next_of s head) r s (record { cell = record { long = g.fit.long; on = next_on g left }; corner_fits = fits }))
@@ -237,7 +237,7 @@ module _ (cs : Corners) (set : Settings) (params : GrowParams) {first : List ℕ
   finding_visit {head} {s} g w left = go (prediction_of (seen_of cs.corner s.sheet) set.grid (next_of s head))
     where
       go : (at : Option Position) → Finding first (head + 1) (grow_at cs set params (next_of s head) at s)
-      go None = finding_with g w left TryCellResult.NoCandidates (λ k e. absurd (let z : ◌≡◌ {A = ℕ} 0 1 = cc in omega arith))
+      go None = finding_with g w left (Err NotAttached.NoCandidates) (λ k e. absurd (let z : ◌≡◌ {A = ℕ} 0 1 = cc in omega arith))
       go (Some at) =
           let search = search_of set params (extrapolating (seen_of cs.corner s.sheet) (next_of s head)) in
           finding_with g w left (try_at cs s.sheet (tolerances_of set) search (next_of s head) at) (found_fits cs g.fit.few s.sheet (tolerances_of set) search (next_of s head) at)

@@ -1,6 +1,6 @@
 -- Local's run is a history: the cells listed at a round's start are unlabelled until their own turn, and clearing a cell's marks keeps every
 -- label; and local counts its new cells. Assumes nothing.
-use Rattle.std.specs.Prelude.{Option, None}
+use Rattle.std.specs.Prelude.{Option, None, Ok, Err}
 use mathlib.Core.Path.{◌≡◌, refl}
 use mathlib.Core.Bool.{Bool, true, false, cond}
 use mathlib.Core.List.{List, [], ◌∷◌}
@@ -19,7 +19,8 @@ use Rattle.labels.proofs.Labelled.{cleared_keeps}
 use Rattle.positions_policy.specs.declared.Tolerances.{Tolerances}
 use Rattle.arguments.specs.declared.Settings.{Settings}
 use Rattle.arguments.specs.declared.LocalExtensionParams.{LocalExtensionParams}
-use Rattle.extension_common.specs.declared.TryCellResult.{TryCellResult}
+use Rattle.extension_common.specs.declared.NotAttached.{NotAttached}
+use Rattle.extension_common.specs.TryCell.{TryCellResult}
 use Rattle.passes.specs.Grow.{tolerances_of, no_counts}
 use Rattle.passes.specs.Local.{depth_of, local_region, local_cells, supports_of, LocalFit, none, fitted, local_fit, LocalState, worst, with_residuals, with_unmatched, gate_of, local_with, local_try, local_at, local_visit, local_pass, local_from, local_limit, local_run}
 use Rattle.passes.specs.History.{Attaches, History, begun, marked, attaches}
@@ -53,13 +54,13 @@ module _ {cs : Corners} {first : List ℕ} (few : cs.count ≤ 1024) (begins : S
     trying_next n largest unmatched e = record { history = g.history; counted = rw e g.counted; waiting = others_wait g.waiting }
 
     -- what is found at the cell
-    trying_with : (r : TryCellResult) → ((k : ℕ) → r ≡ TryCellResult.Attached k → Attaches cs tol s.sheet p k) → (rs : List Float) (m : ℕ)
+    trying_with : (r : TryCellResult) → ((k : ℕ) → r ≡ Ok k → Attaches cs tol s.sheet p k) → (rs : List Float) (m : ℕ)
         → Trying cs tol first ps (local_with (cell_of p) r (with_unmatched m (with_residuals rs s)))
     unfolding local_with
-    trying_with TryCellResult.NoCandidates may rs m = trying_next _ _ _ refl
-    trying_with TryCellResult.Ambiguous may rs m = trying_next _ _ _ refl
-    trying_with TryCellResult.EdgeRejected may rs m = trying_next _ _ _ refl
-    trying_with (TryCellResult.Attached k) may rs m =
+    trying_with (Err NotAttached.NoCandidates) may rs m = trying_next _ _ _ refl
+    trying_with (Err NotAttached.Ambiguous) may rs m = trying_next _ _ _ refl
+    trying_with (Err NotAttached.EdgeRejected) may rs m = trying_next _ _ _ refl
+    trying_with (Ok k) may rs m =
         let a = may k refl in
         let now = attached s.sheet (cell_of p) k in
         let on : OnSheet (cell_of p) = cell_on_lem p (first_on g.waiting) in

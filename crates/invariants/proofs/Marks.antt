@@ -1,6 +1,6 @@
 -- What each pass does to the marks, from what one visit does: grow only sets marks, fill changes none, local clears those of its new cells; and what
 -- follows for a list of calls. Assumes nothing.
-use Rattle.std.specs.Prelude.{None}
+use Rattle.std.specs.Prelude.{None, Ok, Err}
 use mathlib.Core.Path.{◌≡◌, refl, sym, ap, ◌∙◌}
 use mathlib.Core.Bool.{Bool, true, false, cond, ◌||◌}
 use mathlib.Core.List.Memᴰ
@@ -25,9 +25,8 @@ use Rattle.positions_policy.specs.declared.Tolerances.{Tolerances}
 use Rattle.arguments.specs.declared.Settings.{Settings}
 use Rattle.arguments.specs.declared.FillParams.{FillParams}
 use Rattle.arguments.specs.declared.LocalExtensionParams.{LocalExtensionParams}
-use Rattle.extension_common.specs.TryCell.{try_at}
+use Rattle.extension_common.specs.TryCell.{TryCellResult, try_at}
 use Rattle.extension_common.specs.declared.Search.{Search}
-use Rattle.extension_common.specs.declared.TryCellResult.{TryCellResult}
 use Rattle.extension_common.proofs.Laws.{attachable}
 use Rattle.passes.specs.Grow.{no_counts}
 use Rattle.passes.specs.Rounds.{RoundPass, Rounds, rounds_from}
@@ -95,7 +94,7 @@ cell_dec c d = go (ℤ_discrete c.i d.i) (ℤ_discrete c.j d.j)
 
 -- a corner that trying a cell found has a number that a word holds
 pub found_fits : (cs : Corners) → cs.count ≤ 1024 → (sheet : List ℕ) (tol : Tolerances) (search : Search) (c : Cell) (at : Position) (k : ℕ)
-    → try_at cs sheet tol search c at ≡ TryCellResult.Attached k → k < 16383
+    → try_at cs sheet tol search c at ≡ Ok k → k < 16383
 found_fits cs few sheet tol search c at k e = omega (arith, (attachable cs sheet tol search c at k e).given)
 
 -- ---- rounds
@@ -119,7 +118,7 @@ record FillKeeps (first : List ℕ) (s : FillState) : Type 0 where
   same : FillMarks first s.sheet
 
 module _ (cs : Corners) (few : cs.count ≤ 1024) (first : List ℕ) (set : Settings) (params : FillParams) where
-  fill_with_lem : (q : ℕ) → q < 16384 → (r : TryCellResult) (s : FillState) → ((k : ℕ) → r ≡ TryCellResult.Attached k → k < 16383) → FillKeeps first s → FillKeeps first (fill_with (cell_of q) r s)
+  fill_with_lem : (q : ℕ) → q < 16384 → (r : TryCellResult) (s : FillState) → ((k : ℕ) → r ≡ Ok k → k < 16383) → FillKeeps first s → FillKeeps first (fill_with (cell_of q) r s)
   fill_with_lem q h r s fits w =
       let v = visits.fill (cell_of q) r s (record { cell = record { long = w.long; on = cell_on_lem q h }; corner_fits = fits }) in
       record { long = rw v.labels.same_length w.long; same = λ d. marks_then (w.same d) (go v d (cell_dec d (cell_of q))) }
@@ -189,10 +188,8 @@ module _ (cs : Corners) (few : cs.count ≤ 1024) (first : List ℕ) (set : Sett
           every d (no ne) = (v.labels.others d ne).marks
 
       go : (r : TryCellResult) → LocalVisit r (cell_of q) s after → LocalMarks first after.made after.sheet
-      go TryCellResult.NoCandidates v = kept _ v (record { hole = v.marks.hole; ambiguous = v.marks.ambiguous }) v.made
-      go TryCellResult.Ambiguous v = kept _ v (record { hole = v.marks.hole; ambiguous = v.marks.ambiguous }) v.made
-      go TryCellResult.EdgeRejected v = kept _ v (record { hole = v.marks.hole; ambiguous = v.marks.ambiguous }) v.made
-      go (TryCellResult.Attached k) v =
+      go (Err e) v = kept _ v (record { hole = v.marks.hole; ambiguous = v.marks.ambiguous }) v.made
+      go (Ok k) v =
           rw (v.made, place_cell q h)
           (local_attached q h (record { hole = v.marks.hole; ambiguous = v.marks.ambiguous }) (λ d ne. (v.labels.others d ne).marks) w.marks)
 
@@ -204,7 +201,7 @@ module _ (cs : Corners) (few : cs.count ≤ 1024) (first : List ℕ) (set : Sett
       gate true rs after v = record { long = w.long; marks = w.marks }
       gate false rs after v = v
 
-      tried : (rs : List Float) (m : ℕ) (r : TryCellResult) → ((k : ℕ) → r ≡ TryCellResult.Attached k → k < 16383)
+      tried : (rs : List Float) (m : ℕ) (r : TryCellResult) → ((k : ℕ) → r ≡ Ok k → k < 16383)
           → LocalKeeps first (local_with (cell_of q) r (with_unmatched m (with_residuals rs s)))
       tried rs m r fits =
           local_with_lem q h r (with_unmatched m (with_residuals rs s)) _

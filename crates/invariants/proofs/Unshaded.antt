@@ -1,6 +1,6 @@
 -- Where no shade stands: every cell is tried as if there were no kinds, local passes over nothing, and a call does the same whatever bytes without a
 -- shade it is lent. Assumes nothing.
-use Rattle.std.specs.Prelude.{None}
+use Rattle.std.specs.Prelude.{None, Ok, Err}
 use mathlib.Core.Path.{◌≡◌, refl, sym, ap, ap₂, ◌∙◌, fun_ext}
 use mathlib.Core.Bool.{Bool, true, false, cond}
 use mathlib.Core.List.{List, []}
@@ -10,18 +10,17 @@ use lib.Dec.{ltb}
 use borrow.Author.Tests.{ltb-true}
 use lib.ListN.{length, get_or}
 use lib.Ieee.{binary32, of_bits, lt}
-use Rattle.sheet.specs.Shades.{bare}
+use Rattle.sheet.specs.Shades.{shade_of, bare}
 use Rattle.sheet.specs.Corners.{Corners, CornerLists, corner_of, seen_of}
 use Rattle.sheet.specs.declared.Cell.{Cell}
 use Rattle.labels.specs.Labelled.{label_count}
 use Rattle.labels.proofs.Below.{no_both, any_none}
 use Rattle.candidates.specs.declared.Candidates.{Candidates}
-use Rattle.arguments.specs.Shades.{shade_of, stands, any_shade, shade_at, corners_of}
+use Rattle.arguments.specs.Shades.{stands, any_shade, shade_at, corners_of}
 use Rattle.arguments.specs.declared.Pass.{Pass}
 use Rattle.arguments.specs.declared.Settings.{Settings}
 use Rattle.arguments.specs.declared.LocalExtensionParams.{LocalExtensionParams}
-use Rattle.extension_common.specs.TryCell.{choice_by, result_of, try_at}
-use Rattle.extension_common.specs.declared.TryCellResult.{TryCellResult}
+use Rattle.extension_common.specs.TryCell.{TryCellResult, choice_by, result_of, try_at}
 use Rattle.extension_common.proofs.Laws.{gathered_bare, unmatched_bare}
 use Rattle.passes.specs.Outcome.{After}
 use Rattle.passes.specs.Counting.{no_counts}
@@ -42,10 +41,8 @@ use Rattle.arguments.specs.Arguments.{Checked}
 -- what is found changes nothing of what was passed over
 pub with_unmatched_lem : (c : Cell) (r : TryCellResult) (s : LocalState) → (local_with c r s).unmatched ≡ s.unmatched
 unfolding local_with
-with_unmatched_lem c TryCellResult.NoCandidates s = refl
-with_unmatched_lem c TryCellResult.Ambiguous s = refl
-with_unmatched_lem c TryCellResult.EdgeRejected s = refl
-with_unmatched_lem c (TryCellResult.Attached k) s = refl
+with_unmatched_lem c (Err e) s = refl
+with_unmatched_lem c (Ok k) s = refl
 
 module _ (cs : Corners) (absent : cs.shades.any ≡ false) (set : Settings) (p : LocalExtensionParams) where
   at_unmatched : (c : Cell) (fit : LocalFit) (s : LocalState) → (local_at cs set p c fit s).unmatched ≡ s.unmatched

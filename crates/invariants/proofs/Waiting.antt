@@ -1,6 +1,6 @@
 -- Cells that wait to be tried, for all passes: they stay unlabelled until their own turn; and a corner that trying such a cell finds may be
 -- attached there. Assumes nothing.
-use Rattle.std.specs.Prelude.{Option, Some, None}
+use Rattle.std.specs.Prelude.{Option, Some, None, Ok}
 use mathlib.Core.Path.{◌≡◌, refl, sym, ap, ◌∙◌}
 use mathlib.Core.Bool.{Bool, true, false, not, ◌&&◌, cond}
 use mathlib.Core.List.Memᴰ
@@ -21,7 +21,6 @@ use Rattle.positions_policy.specs.declared.Tolerances.{Tolerances}
 use Rattle.positions_policy.proofs.Laws.{passes_exactly}
 use Rattle.extension_common.specs.TryCell.{try_at}
 use Rattle.extension_common.specs.declared.Search.{Search}
-use Rattle.extension_common.specs.declared.TryCellResult.{TryCellResult}
 use Rattle.extension_common.proofs.Laws.{attachable}
 use Rattle.passes.specs.Fill.{cells_of}
 use Rattle.passes.specs.History.{Attaches}
@@ -113,7 +112,7 @@ module _ {sheet ps : List ℕ} {p : ℕ} (w : Waiting sheet (p ∷ ps)) where
           w.once.0 (rw d at m)
 
   -- a corner that trying the first finds may be attached there
-  pub found_attaches : (cs : Corners) (tol : Tolerances) (search : Search) (at : Position) (k : ℕ) → try_at cs sheet tol search (cell_of p) at ≡ TryCellResult.Attached k → Attaches cs tol sheet p k
+  pub found_attaches : (cs : Corners) (tol : Tolerances) (search : Search) (at : Position) (k : ℕ) → try_at cs sheet tol search (cell_of p) at ≡ Ok k → Attaches cs tol sheet p k
   found_attaches cs tol search at k e =
       let a = attachable cs sheet tol search (cell_of p) at k e in
       record {

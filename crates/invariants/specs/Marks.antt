@@ -1,11 +1,12 @@
 -- What each pass does to the marks, cell by cell, and what grow's counts say (01, "Sheet": "No candidate and edge refusals mark a hole", "Only local
 -- clears marks, both of the cell it attaches", "The frame starts with no marks"). Definitions only.
-use Rattle.std.specs.Prelude.{◌≡◌, Bool, true, cond, ℕ, ◌+◌, ◌<◌, length, get_or, None}
+use Rattle.std.specs.Prelude.{◌≡◌, Bool, true, cond, ℕ, ◌+◌, ◌<◌, length, get_or, None, Err}
 use mathlib.Core.List.{List, [], ◌∷◌, ◌++◌, Memᴰ}
 use Rattle.sheet.specs.Cells.{cell_of}
 use Rattle.sheet.specs.Words.{bit_of, label_at, hole_at, ambiguous_at}
 use Rattle.sheet.specs.declared.Cell.{Cell}
-use Rattle.extension_common.specs.declared.TryCellResult.{TryCellResult}
+use Rattle.extension_common.specs.declared.NotAttached.{NotAttached}
+use Rattle.extension_common.specs.TryCell.{TryCellResult}
 use Rattle.arguments.specs.declared.Pass.{Pass}
 use Rattle.passes.specs.Outcome.{After, Outcome, refused, done}
 use Rattle.passes.specs.Grow.{no_counts}
@@ -50,7 +51,7 @@ pub record GrowMarks (first visited made : List ℕ) (counts : Counts) (last : L
   pub found : List TryCellResult
   pub each : length found ≡ length visited
   pub bare : (n : ℕ) → n < length visited → label_at first (cell_of (get_or visited n 0)) ≡ None
-  pub marked : (n : ℕ) → n < length visited → MarksSet (get_or found n TryCellResult.NoCandidates) first last (cell_of (get_or visited n 0))
+  pub marked : (n : ℕ) → n < length visited → MarksSet (get_or found n (Err NotAttached.NoCandidates)) first last (cell_of (get_or visited n 0))
   pub others : (c : Cell) → NotIn visited c → SameMarks first last c
   pub stand : (c : Cell) → MarksStand first last c
   pub attached : attached_among visited found ≡ made

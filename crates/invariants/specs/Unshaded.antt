@@ -10,9 +10,8 @@ use Rattle.positions_policy.specs.declared.Tolerances.{Tolerances}
 use Rattle.arguments.specs.Shades.{any_shade, corners_of}
 use Rattle.arguments.specs.declared.Settings.{Settings}
 use Rattle.arguments.specs.declared.LocalExtensionParams.{LocalExtensionParams}
-use Rattle.extension_common.specs.TryCell.{unlabelled_on, choice_by, result_of, try_at}
+use Rattle.extension_common.specs.TryCell.{TryCellResult, unlabelled_on, choice_by, result_of, try_at}
 use Rattle.extension_common.specs.declared.Search.{Search}
-use Rattle.extension_common.specs.declared.TryCellResult.{TryCellResult}
 use Rattle.passes.specs.Local.{LocalState, local_visit, local_run, local_after}
 use Rattle.passes.specs.Run.{Call, step}
 use Rattle.invariants.specs.Calls.{lent_shades}

@@ -1,24 +1,23 @@
--- Laws for the code of the join: a walk over the second set's array, where the sheet has a corner, what a label asks for, what is attached.
--- Assumes nothing.
+-- Laws for the code of the join: a walk over the second set, where the sheet has a corner, what a label asks for, what is attached. Assumes
+-- nothing.
 use Rattle.std.specs.Prelude.{Option, Some, None, Result, Ok, Err}
 use mathlib.Core.Path.{◌≡◌, refl, sym, ap, ◌∙◌, subst}
 use mathlib.Core.Bool.{Bool, true, false, cond, not, ◌&&◌}
-use mathlib.Core.List.Memᴰ
-use mathlib.Core.List.{List, [], ◌∷◌, map, Memᴰ}
-use Prim.Native.Nat.{ℕ, zero, suc, ◌+◌, ◌-◌, ◌<◌, ◌≤◌}
-use native.Mathlib.Decide.{ℕ_discrete}
+use mathlib.Core.List.{List, [], ◌∷◌, map}
+use Prim.Native.Nat.{ℕ, zero, suc, ◌+◌, ◌<◌, ◌≤◌}
 use native.Mathlib.Numerals.{add-one}
 use native.Mathlib.Omega.{arith}
-use borrow.Author.Tests.{eqb-true, eq-eqb}
+use borrow.Author.Tests.{eqb-true}
 use lib.Dec.{T, eqb}
-use lib.ListN.{get_or}
-use Rattle.std.specs.List.{list_all, find, range_with_len}
-use Rattle.std.specs.Option.{option_map, IsSomeAnd}
-use Rattle.std.specs.declared.ops.Range.{Range}
-use Rattle.std.specs.Iterator.Runs.{Run, ItemsCountUp, AllItems, AllItemsBelow}
-use Rattle.std.proofs.iter.Yields.{nat_range_steps}
-use Rattle.std.proofs.iter.runs.Sources.{range_runs}
-use Rattle.sizes.specs.Sizes.{place_count, corner_limit}
+use lib.ListN.{length, get_or, drop}
+use denote.Ref.{Bor}
+use Rattle.std.specs.List.{list_all, find, All, AllWithin, HoldsAt}
+use Rattle.std.specs.Option.{option_map, IsSomeAnd, IfSome}
+use Rattle.std.specs.Slice.Iter.{iter_rest, iter_steps}
+use Rattle.std.specs.Iterator.Runs.{Run, ItemsMapTo, AllItems, AllItemsBelow}
+use Rattle.std.proofs.iter.runs.Sources.{iter_runs}
+use Rattle.std.proofs.lemmas.List.Elements.{All-nil, All-cons, All-head, All-tail, All-weaker}
+use Rattle.sizes.specs.Sizes.{corner_limit}
 use Rattle.sheet.specs.Cells.{on_sheet, OnSheet, cell_of, moved, difference_of, Within, NearSheet}
 use Rattle.sheet.specs.Words.{label_of, attached}
 use Rattle.sheet.specs.Blank.{written_in, written_from}
@@ -27,73 +26,70 @@ use Rattle.sheet.specs.declared.Offset.{Offset}
 use Rattle.sheet.proofs.Laws.{cell_on_lem, line_i, line_j, abs_sub, on_near}
 use Rattle.sheet.proofs.Blank.{blank_label}
 use Rattle.labels.specs.Used.{names}
-use Rattle.labels.proofs.Below.{no_both}
+use Rattle.labels.proofs.Below.{no_both, both}
 use Rattle.refusal.specs.declared.Refusal.{Refusal}
 use Rattle.join.specs.declared.Unjoinable.{Unjoinable}
 use Rattle.join.specs.Rule.{Verdict, Placed, shifted_by}
 use Rattle.join.specs.Join.{every, kept, asks, asked, tested, told, is_found, new_by}
 use Rattle.join.specs.Sheets.{labelled}
 use Rattle.join.specs.Refused.{refusal_of}
-use Rattle.join_sheet.specs.Held.{held_at, held_from, held_labels, or_at, found_below, holds_at, cell_on, agrees_on, new_put, new_held, outcome, outcome_of, verdict_on, join_on, HeldSecond, Unused, HeldSets, WriteAsked}
-use Rattle.join.proofs.Lists.{every_yes}
+use Rattle.join_sheet.specs.Held.{held_at, held_labels, or_at, found_below, holds_at, cell_on, agrees_on, new_put, new_held, outcome, outcome_of, verdict_on, join_on, LabelHeld, HeldSecond, Unused, HeldSets, WriteAsked}
+use Rattle.join_sheet.specs.declared.SecondLabel.{SecondLabel}
 use Rattle.join_sheet.proofs.Held.{found_used, cell_found_on}
 
--- ---- a walk over the array: what is left of it gives the total
+-- ---- a walk over the second set
 
-pub record Rest {A : Type 0} (second : List ℕ) (count i : ℕ) (f : List Placed → A) (total : A) : Type 0 where
-  pub upto : i ≤ count
-  pub rest : f (held_from second i (count - i)) ≡ total
+-- what is left of a list begins with its next element
+rest_one : {A : Type 0} (l : List A) (i : ℕ) (d : A) → i < length l → drop i l ≡ get_or l i d ∷ drop (suc i) l
+rest_one [] i d h = absurd (omega arith)
+rest_one (a ∷ l) zero d h = refl
+rest_one (a ∷ l) (suc i) d h = rest_one l i d (omega arith)
 
-one_more : (second : List ℕ) (count i : ℕ) → i < count → held_from second i (count - i) ≡ held_at second i ∷ held_from second (suc i) (count - suc i)
-unfolding held_from
-one_more second count i h = let e : count - i ≡ suc (count - suc i) = omega arith in ap (held_from second i) e
+pub rest_more : {A : Type 0} (l : List A) (i : ℕ) (d : A) → i < length l → drop i l ≡ get_or l i d ∷ drop (i + 1) l
+rest_more l i d h = rw add-one (rest_one l i d h)
 
-module _ {A : Type 0} (second : List ℕ) (count : ℕ) where
-  pub rest_more : {i : ℕ} {f : List Placed → A} {total : A} (g : List Placed → A) → Rest second count i f total → i < count
-      → ((l : List Placed) → f (held_at second i ∷ l) ≡ g l) → Rest second count (i + 1) g total
-  rest_more {i} {f} g r h e =
-      record { upto = omega arith; rest = rw add-one (sym (e _) ∙ ap f (sym (one_more second count i h)) ∙ r.rest) }
+-- a test of every label, moved
+pub every_walked : (d : Offset) (t : Placed → Bool) (second : List SecondLabel)
+    → list_all (λ l. t (shifted_by d (held_at l))) second ≡ every t (map (shifted_by d) (held_labels second))
+unfolding every
+every_walked d t [] = refl
+every_walked d t (l ∷ second) = ap (λ (u : Bool). t (shifted_by d (held_at l)) && u) (every_walked d t second)
 
-  pub rest_end : {i : ℕ} {f : List Placed → A} {total : A} → Rest second count i f total → count ≤ i → f [] ≡ total
-  unfolding held_from
-  rest_end {i} {f} r h = let e : count - i ≡ 0 = omega arith in ap (λ (n : ℕ). f (held_from second i n)) (sym e) ∙ r.rest
+pub every_held : (d : Offset) (t : Placed → Bool) (second : List SecondLabel) → every t (map (shifted_by d) (held_labels second)) ≡ true
+    → All (λ l. T (t (shifted_by d (held_at l)))) second
+unfolding every
+every_held d t [] e = All-nil (λ (l : SecondLabel). T (t (shifted_by d (held_at l))))
+every_held d t (l ∷ second) e =
+    let h = both (t (shifted_by d (held_at l))) (every t (map (shifted_by d) (held_labels second))) e in
+    All-cons (λ (l : SecondLabel). T (t (shifted_by d (held_at l)))) l second (subst T (sym h.0) tt) (every_held d t second h.1)
 
--- a test of every label, moved, by the labels' numbers
-module _ (second : List ℕ) (d : Offset) (t : Placed → Bool) where
-  every_from : (i n : ℕ) → list_all (λ j. t (shifted_by d (held_at second j))) (range_with_len i n) ≡ every t (map (shifted_by d) (held_from second i n))
-  unfolding every held_from
-  every_from i zero = refl
-  every_from i (suc n) =
-      ap (λ (u : Bool). t (shifted_by d (held_at second i)) && u)
-      (ap (λ (m : ℕ). list_all (λ j. t (shifted_by d (held_at second j))) (range_with_len m n)) (add-one i) ∙ every_from (suc i) n)
+-- ---- what came of the labels, in a run of calls over them
 
-  pub every_walked : (count : ℕ) → list_all (λ j. t (shifted_by d (held_at second j))) (range_with_len 0 count) ≡ every t (map (shifted_by d) (held_labels second count))
-  every_walked count = every_from 0 count
+module _ (p : Run iter_steps) (second : List SecondLabel) (from : iter_rest p.from ≡ second) where
+  up : ItemsMapTo p (λ y. y.now) second
+  up = subst (λ (l : List SecondLabel). ItemsMapTo p (λ y. y.now) l) from (iter_runs p p.seen)
 
--- ---- what came of the numbers below a number, in a run of calls over them
-
-module _ (p : Run nat_range_steps) (n : ℕ) (from : p.from ≡ record { start = 0; end = n }) where
-  up : ItemsCountUp p 0 n
-  up = subst (λ (s : Range ℕ). ItemsCountUp p s.start s.end) from (range_runs p p.seen)
-
-  came : (j : ℕ) → j < p.len → p.at j ≡ Some j
-  came j h = go (p.at j) (up.3 j h)
-    where
-      go : (r : Option ℕ) → option_map (λ y. y) r ≡ Some (0 + j) → r ≡ Some j
-      go None e = absurd (let z : ◌≡◌ {A = ℕ} 0 1 = cc in omega arith)
-      go (Some y) e = let d : y ≡ 0 + j = cc in ap Some (omega arith)
-
-  pub each_came : (P : ℕ → Type 0) → p.whole ≡ true → AllItems p P → (j : ℕ) → j < n → P j
-  each_came P w h j l = rw (came j (omega (arith, up.1 w))) at (h j)
-
-  pub one_came : (P : ℕ → Type 0) (j : ℕ) → j < p.len → IsSomeAnd (p.at j) P → P j
-  one_came P j l h = rw (came j l) at h
-
-  pub before_came : (P : ℕ → Type 0) (i : ℕ) → i ≤ p.len → AllItemsBelow p i P → (j : ℕ) → j < i → P j
-  before_came P i l h j k = rw (came j (omega arith)) at (h j k)
-
-  pub few_came : p.len ≤ n
+  pub few_came : p.len ≤ length second
   few_came = omega (arith, up.0)
+
+  -- what is said of a call with a label says something of the label
+  module _ (P : Bor SecondLabel → Type 0) (Q : SecondLabel → Type 0) (says : (x : Bor SecondLabel) → P x → Q x.now) where
+    one : (r : Option (Bor SecondLabel)) (l : SecondLabel) → option_map (λ y. y.now) r ≡ Some l → IsSomeAnd r P → Q l
+    one None l e h = absurd (let z : ◌≡◌ {A = ℕ} 0 1 = cc in omega arith)
+    one (Some x) l e h = let same : x.now ≡ l = cc in subst Q same (says x h)
+
+    each : (r : Option (Bor SecondLabel)) (l : SecondLabel) → option_map (λ y. y.now) r ≡ Some l → IfSome r P → Q l
+    each None l e h = absurd (let z : ◌≡◌ {A = ℕ} 0 1 = cc in omega arith)
+    each (Some x) l e h = let same : x.now ≡ l = cc in subst Q same (says x h)
+
+    pub each_came : p.whole ≡ true → AllItems p P → All Q second
+    each_came w h = λ j d l. each (p.at j) _ (up.2 j d (omega (arith, up.1 w))) (h j)
+
+    pub one_came : (j : ℕ) → j < p.len → IsSomeAnd (p.at j) P → HoldsAt Q second j
+    one_came j l h = λ d. one (p.at j) _ (up.2 j d l) h
+
+    pub before_came : (i : ℕ) → i ≤ p.len → AllItemsBelow p i P → AllWithin Q second 0 i
+    before_came i l h = λ j d b k. one (p.at j) _ (up.2 j d (omega arith)) (h j k)
 
 -- ---- where the sheet has a corner
 
@@ -138,16 +134,16 @@ module _ (sheet : List ℕ) (k : ℕ) where
   found_walked = sym (found_from 0 16384 ∙ ap (λ (c : Option Cell). or_found c (found_at (written_from sheet 0))) none_first)
 
   -- by the array
-  pub entry_found : (used : List ℕ) → Unused sheet used → k < corner_limit → eqb (get_or used k 0) 0 ≡ not (is_found (cell_on sheet k))
-  entry_found used t h = t.free k h ∙ ap not (sym (found_used sheet k))
+  pub entry_found : (used : List Bool) → Unused sheet used → k < corner_limit → get_or used k false ≡ is_found (cell_on sheet k)
+  entry_found used t h = t.free k h ∙ sym (found_used sheet k)
 
-  pub entry_nowhere : (used : List ℕ) → Unused sheet used → k < corner_limit → get_or used k 0 ≡ 0 → cell_on sheet k ≡ None
+  pub entry_nowhere : (used : List Bool) → Unused sheet used → k < corner_limit → get_or used k false ≡ false → cell_on sheet k ≡ None
   unfolding is_found
-  entry_nowhere used t h e = go (cell_on sheet k) (sym (eq-eqb (get_or used k 0) 0 e) ∙ entry_found used t h)
+  entry_nowhere used t h e = go (cell_on sheet k) (sym (entry_found used t h) ∙ e)
     where
-      go : (x : Option Cell) → true ≡ not (is_found x) → x ≡ None
+      go : (x : Option Cell) → is_found x ≡ false → x ≡ None
       go None p = refl
-      go (Some c) p = absurd (no_both false (sym p) refl)
+      go (Some c) p = absurd (no_both true refl p)
 
 -- a cell at which the sheet has a corner is near it
 pub cell_near : (sheet : List ℕ) (k : ℕ) (c : Cell) → cell_on sheet k ≡ Some c → NearSheet c
@@ -177,36 +173,31 @@ pub asked_end : (find : ℕ → Option Cell) → asked find [] ≡ None
 unfolding asked
 asked_end find = refl
 
--- what the labels ask for, by their numbers
-module _ (find : ℕ → Option Cell) (second : List ℕ) where
-  abbrev pub asked_one : ℕ → Option Offset
-  asked_one i = asks (find (held_at second i).corner) (held_at second i).cell None
+-- what the labels ask for
+module _ (find : ℕ → Option Cell) where
+  abbrev pub asked_one : SecondLabel → Option Offset
+  asked_one l = asks (find l.corner) (cell_of l.place) None
 
-  asked_none : (i n : ℕ) → ((j : ℕ) → i ≤ j → j < i + n → asked_one j ≡ None) → asked find (held_from second i n) ≡ None
-  unfolding held_from
-  asked_none i zero h = asked_end find
-  asked_none i (suc n) h =
-      asked_on find (held_at second i) (asked_one i) refl (h i (omega arith) (omega arith)) (held_from second (suc i) n)
-      ∙ asked_none (suc i) n (λ j a b. h j (omega arith) (omega arith))
+  asked_none : (second : List SecondLabel) → All (λ l. asked_one l ≡ None) second → asked find (held_labels second) ≡ None
+  asked_none [] h = asked_end find
+  asked_none (l ∷ second) h =
+      asked_on find (held_at l) (asked_one l) refl (All-head (λ (l : SecondLabel). asked_one l ≡ None) l second h) (held_labels second)
+      ∙ asked_none second (All-tail (λ (l : SecondLabel). asked_one l ≡ None) l second h)
 
-  asked_some : (i n j : ℕ) (d : Offset) → i ≤ j → j < i + n → asked_one j ≡ Some d → ((k : ℕ) → i ≤ k → k < j → asked_one k ≡ None) → asked find (held_from second i n) ≡ Some d
-  unfolding held_from
-  asked_some i zero j d a b e h = absurd (omega arith)
-  asked_some i (suc n) j d a b e h = go (ℕ_discrete j i) (λ l. asked_some (suc i) n j d l (omega arith) e (λ k p q. h k (omega arith) q))
-    where
-      go : Dec (j ≡ i) → (suc i ≤ j → asked find (held_from second (suc i) n) ≡ Some d) → asked find (held_at second i ∷ held_from second (suc i) n) ≡ Some d
-      go (yes q) w = asked_here find (held_at second i) (asked_one i) d refl (ap asked_one (sym q) ∙ e) (held_from second (suc i) n)
-      go (no q) w =
-          asked_on find (held_at second i) (asked_one i) refl (h i (omega arith) (omega (arith, q))) (held_from second (suc i) n) ∙ w (omega (arith, q))
+  asked_some : (second : List SecondLabel) (j : ℕ) (o : Offset) → j < length second → HoldsAt (λ l. asked_one l ≡ Some o) second j
+      → AllWithin (λ l. asked_one l ≡ None) second 0 j → asked find (held_labels second) ≡ Some o
+  asked_some [] j o b e h = absurd (omega arith)
+  asked_some (l ∷ second) zero o b e h = asked_here find (held_at l) (asked_one l) o refl (e l) (held_labels second)
+  asked_some (l ∷ second) (suc j) o b e h =
+      asked_on find (held_at l) (asked_one l) refl (h 0 l (omega arith) (omega arith)) (held_labels second)
+      ∙ asked_some second j o (omega arith) e (λ k d p q. h (suc k) d (omega arith) (omega arith))
 
-  pub asked_walked : (count : ℕ) (r : Option Offset)
-      → (r ≡ None → (j : ℕ) → j < count → asked_one j ≡ None)
-      → ((d : Offset) → r ≡ Some d → (j : ℕ) × (j < count) × (asked_one j ≡ Some d) × ((k : ℕ) → k < j → asked_one k ≡ None))
-      → r ≡ asked find (held_labels second count)
-  asked_walked count None f g = sym (asked_none 0 count (λ j a b. f refl j (omega arith)))
-  asked_walked count (Some d) f g =
-      let h = g d refl in
-      sym (asked_some 0 count h.0 d (omega arith) (omega (arith, h.1)) h.2 (λ k a b. h.3 k b))
+  pub asked_walked : (second : List SecondLabel) (r : Option Offset)
+      → (r ≡ None → All (λ l. asked_one l ≡ None) second)
+      → ((o : Offset) → r ≡ Some o → (j : ℕ) × (j < length second) × HoldsAt (λ l. asked_one l ≡ Some o) second j × AllWithin (λ l. asked_one l ≡ None) second 0 j)
+      → r ≡ asked find (held_labels second)
+  asked_walked second None f g = sym (asked_none second (f refl))
+  asked_walked second (Some o) f g = let h = g o refl in sym (asked_some second h.0 o h.1 h.2 h.3)
 
 -- a shift asked for by labels on the sheet is at most 128 each way
 within : (a c : Cell) → OnSheet a → OnSheet c → Within 128 (difference_of a c)
@@ -217,91 +208,80 @@ within a c h k =
     let s = line_j c k in
     record { di_small = omega (arith, abs_sub a.i c.i); dj_small = omega (arith, abs_sub a.j c.j) }
 
-module _ (sheet second : List ℕ) where
-  held_within : (n i : ℕ) → ((j : ℕ) → i ≤ j → j < i + n → get_or second (corner_limit + j) 0 < place_count)
-      → (d : Offset) → asked (cell_on sheet) (held_from second i n) ≡ Some d → Within 128 d
-  unfolding held_from asked asks
-  held_within zero i on d e = absurd (let z : ◌≡◌ {A = ℕ} 0 1 = cc in omega arith)
-  held_within (suc n) i on d e = go (held_within n (suc i) (λ j p q. on j (omega arith) (omega arith)) d) (cell_on sheet (get_or second i 0)) refl e
-    where
-      go : (asked (cell_on sheet) (held_from second (suc i) n) ≡ Some d → Within 128 d) → (x : Option Cell) → cell_on sheet (get_or second i 0) ≡ x
-          → asks x (cell_of (get_or second (corner_limit + i) 0)) (asked (cell_on sheet) (held_from second (suc i) n)) ≡ Some d → Within 128 d
-      go w None p h = w h
-      go w (Some a) p h =
-          let q : difference_of a (cell_of (get_or second (corner_limit + i) 0)) ≡ d = cc in
-          subst (Within 128) q
-          (within a (cell_of (get_or second (corner_limit + i) 0)) (cell_found_on sheet (get_or second i 0) a p)
-          (cell_on_lem (get_or second (corner_limit + i) 0) (on i (omega arith) (omega arith))))
-
-  pub asked_within : (count : ℕ) → HeldSecond second count → (d : Offset) → asked (cell_on sheet) (held_labels second count) ≡ Some d → Within 128 d
-  asked_within count s d e = held_within count 0 (λ j p q. s.place_on j (omega arith)) d e
+pub asked_within : (sheet : List ℕ) (second : List SecondLabel) → HeldSecond second → (d : Offset) → asked (cell_on sheet) (held_labels second) ≡ Some d
+    → Within 128 d
+unfolding asked asks
+asked_within sheet [] s d e = absurd (let z : ◌≡◌ {A = ℕ} 0 1 = cc in omega arith)
+asked_within sheet (l ∷ second) s d e = go (asked_within sheet second (All-tail LabelHeld l second s) d) (cell_on sheet l.corner) refl e
+  where
+    go : (asked (cell_on sheet) (held_labels second) ≡ Some d → Within 128 d) → (x : Option Cell) → cell_on sheet l.corner ≡ x
+        → asks x (cell_of l.place) (asked (cell_on sheet) (held_labels second)) ≡ Some d → Within 128 d
+    go w None p h = w h
+    go w (Some a) p h =
+        let q : difference_of a (cell_of l.place) ≡ d = cc in
+        subst (Within 128) q (within a (cell_of l.place) (cell_found_on sheet l.corner a p) (cell_on_lem l.place (All-head LabelHeld l second s).place_on))
 
 -- ---- what is attached
 
--- one label more is attached, if its entry is 0
-pub write_more : (used sheet after : List ℕ) (d : Offset) (b : Placed) → after ≡ new_put (get_or used b.corner 0) sheet (moved b.cell d) b.corner
+-- one label more is attached, if its corner is not used
+pub write_more : (used : List Bool) (sheet after : List ℕ) (d : Offset) (b : Placed) → after ≡ new_put (get_or used b.corner false) sheet (moved b.cell d) b.corner
     → (l : List Placed) → labelled sheet (new_held used (b ∷ l) d) ≡ labelled after (new_held used l d)
 unfolding labelled kept new_put
-write_more used sheet after d b e l = rw e (go (eqb (get_or used b.corner 0) 0))
+write_more used sheet after d b e l = rw e (go (get_or used b.corner false))
   where
     go : (t : Bool)
-        → labelled sheet (cond t (shifted_by d b ∷ new_held used l d) (new_held used l d))
-        ≡ labelled (cond t (attached sheet (moved b.cell d) b.corner) sheet) (new_held used l d)
+        → labelled sheet (cond (not t) (shifted_by d b ∷ new_held used l d) (new_held used l d))
+        ≡ labelled (cond t sheet (attached sheet (moved b.cell d) b.corner)) (new_held used l d)
     go true = refl
     go false = refl
 
-pub write_end : (used sheet : List ℕ) (d : Offset) → labelled sheet (new_held used [] d) ≡ sheet
+pub write_end : (used : List Bool) (sheet : List ℕ) (d : Offset) (second : List SecondLabel) (i : ℕ) → length second ≤ i
+    → labelled sheet (new_held used (held_labels (drop i second)) d) ≡ sheet
 unfolding labelled kept
-write_end used sheet d = refl
+write_end used sheet d [] zero h = refl
+write_end used sheet d [] (suc i) h = refl
+write_end used sheet d (l ∷ second) zero h = absurd (omega arith)
+write_end used sheet d (l ∷ second) (suc i) h = write_end used sheet d second i (omega arith)
 
 -- ---- the join
 
--- a label of the array is listed
-held_in : (second : List ℕ) (n i j : ℕ) → i ≤ j → j < i + n → Memᴰ (held_at second j) (held_from second i n)
-unfolding held_from
-held_in second zero i j h k = absurd (omega arith)
-held_in second (suc n) i j h k = go (ℕ_discrete j i) (λ d. held_in second n (suc i) j (omega (arith, d)) (omega arith))
-  where
-    go : Dec (j ≡ i) → ((j ≡ i → ⊥) → Memᴰ (held_at second j) (held_from second (suc i) n))
-        → Memᴰ (held_at second j) (held_at second i ∷ held_from second (suc i) n)
-    go (yes d) w = Memᴰ.head (ap (held_at second) d)
-    go (no d) w = Memᴰ.tail (w d)
+-- two tests of the labels that agree keep the same ones
+kept_held : (d : Offset) (p q : ℕ → Bool) (second : List SecondLabel) → All (λ l. p l.corner ≡ q l.corner) second
+    → kept (λ l. p l.corner) (map (shifted_by d) (held_labels second)) ≡ kept (λ l. q l.corner) (map (shifted_by d) (held_labels second))
+unfolding kept
+kept_held d p q [] h = refl
+kept_held d p q (l ∷ second) h =
+    rw (All-head (λ (l : SecondLabel). p l.corner ≡ q l.corner) l second h, kept_held d p q second (All-tail (λ (l : SecondLabel). p l.corner ≡ q l.corner) l second h))
+    refl
 
--- two tests of the array's labels that agree keep the same ones
-kept_held : (second : List ℕ) (d : Offset) (p q : ℕ → Bool) (n i : ℕ) → ((j : ℕ) → i ≤ j → j < i + n → p (get_or second j 0) ≡ q (get_or second j 0))
-    → kept (λ l. p l.corner) (map (shifted_by d) (held_from second i n)) ≡ kept (λ l. q l.corner) (map (shifted_by d) (held_from second i n))
-unfolding held_from kept
-kept_held second d p q zero i h = refl
-kept_held second d p q (suc n) i h =
-    rw (h i (omega arith) (omega arith), kept_held second d p q n (suc i) (λ j a b. h j (omega arith) (omega arith))) refl
-
-module _ (sheet used second : List ℕ) (count : ℕ) (s : HeldSets sheet used second count) where
+module _ (sheet : List ℕ) (used : List Bool) (second : List SecondLabel) (s : HeldSets sheet used second) where
   -- what the array says is new is what the sheet says is new
-  new_same : (d : Offset) → new_held used (held_labels second count) d ≡ new_by (cell_on sheet) (held_labels second count) d
+  new_same : (d : Offset) → new_held used (held_labels second) d ≡ new_by (cell_on sheet) (held_labels second) d
   unfolding new_by
   new_same d =
-      kept_held second d (λ k. eqb (get_or used k 0) 0) (λ k. not (is_found (cell_on sheet k))) count 0
-      (λ j a b. entry_found sheet (get_or second j 0) used s.unused (s.second.corner_small j (omega arith)))
+      kept_held d (λ k. not (get_or used k false)) (λ k. not (is_found (cell_on sheet k))) second
+      (All-weaker LabelHeld (λ (l : SecondLabel). not (get_or used l.corner false) ≡ not (is_found (cell_on sheet l.corner)))
+      (λ l h. ap not (entry_found sheet l.corner used s.unused h.corner_small)) second s.second)
 
-  module _ (v : Verdict) (e : v ≡ verdict_on sheet (held_labels second count)) where
+  module _ (v : Verdict) (e : v ≡ verdict_on sheet (held_labels second)) where
     -- the refusal of what the verdict says
-    pub join_refused : (m : Result (Unit {0}) Refusal) (u : Unjoinable) → v ≡ Err u → m ≡ Err (refusal_of u) → outcome sheet m ≡ join_on sheet (held_labels second count)
+    pub join_refused : (m : Result (Unit {0}) Refusal) (u : Unjoinable) → v ≡ Err u → m ≡ Err (refusal_of u) → outcome sheet m ≡ join_on sheet (held_labels second)
     unfolding join_on outcome_of
     join_refused m u f h = rw (sym e ∙ f, h)
 
     module _ (d : Offset) (f : v ≡ Ok d) where
-      pub join_by : (after : List ℕ) → after ≡ labelled sheet (new_held used (held_labels second count) d)
-          → outcome after (Ok tt) ≡ join_on sheet (held_labels second count)
+      pub join_by : (after : List ℕ) → after ≡ labelled sheet (new_held used (held_labels second) d)
+          → outcome after (Ok tt) ≡ join_on sheet (held_labels second)
       unfolding join_on outcome_of
       join_by after g = rw (sym e ∙ f, g, new_same d) refl
 
       -- the shift was asked for, and tested
-      pub join_write : WriteAsked second count d
+      pub join_write : WriteAsked second d
       unfolding verdict_on told tested
       join_write = go (asked (cell_on sheet) held) refl (sym e ∙ f)
         where
           held : List Placed
-          held = held_labels second count
+          held = held_labels second
 
           onto : Offset → Bool
           onto a = every (λ l. on_sheet l.cell) (map (shifted_by a) held)
@@ -309,24 +289,17 @@ module _ (sheet used second : List ℕ) (count : ℕ) (s : HeldSets sheet used s
           by_one : (a : Offset) → ◌≡◌ {A = Verdict} (Ok a) (Ok d) → a ≡ d
           by_one a h = cc
 
-          write : (a : Offset) → asked (cell_on sheet) held ≡ Some a → onto a ≡ true → a ≡ d → WriteAsked second count d
+          write : (a : Offset) → asked (cell_on sheet) held ≡ Some a → onto a ≡ true → a ≡ d → WriteAsked second d
           write a p t h =
-              subst (WriteAsked second count) h
-              (record {
-                second = s.second;
-                within = asked_within sheet second count s.second a p;
-                on = λ i l. subst T (sym (every_yes (λ l. on_sheet l.cell) (map (shifted_by a) held) t _ (Memᴰ.map (shifted_by a) (listed i l)))) tt;
-              })
-            where
-              listed : (i : ℕ) → i < count → Memᴰ (held_at second i) held
-              listed i l = held_in second count 0 i (omega arith) (omega arith)
+              subst (WriteAsked second) h
+              (record { second = s.second; within = asked_within sheet second s.second a p; on = every_held a (λ l. on_sheet l.cell) second t })
 
           test : (a : Offset) → asked (cell_on sheet) held ≡ Some a → (t u : Bool) → onto a ≡ u
-              → cond t (cond u (Ok a) (Err Unjoinable.Off)) (Err Unjoinable.Clash) ≡ Ok d → WriteAsked second count d
+              → cond t (cond u (Ok a) (Err Unjoinable.Off)) (Err Unjoinable.Clash) ≡ Ok d → WriteAsked second d
           test a p true true q h = write a p q (by_one a h)
           test a p true false q h = absurd (let z : ◌≡◌ {A = ℕ} 0 1 = cc in omega arith)
           test a p false u q h = absurd (let z : ◌≡◌ {A = ℕ} 0 1 = cc in omega arith)
 
-          go : (r : Option Offset) → asked (cell_on sheet) held ≡ r → told (agrees_on sheet) held r ≡ Ok d → WriteAsked second count d
+          go : (r : Option Offset) → asked (cell_on sheet) held ≡ r → told (agrees_on sheet) held r ≡ Ok d → WriteAsked second d
           go None p h = absurd (let z : ◌≡◌ {A = ℕ} 0 1 = cc in omega arith)
           go (Some a) p h = test a p (every (agrees_on sheet) (map (shifted_by a) held)) _ refl h

@@ -1,6 +1,7 @@
--- The join as the code has it: the first set is a sheet, the second an array of its corners and places in the order of the lines. Definitions
--- only. `proofs/Held.antt` shows that it is the join of the two lists.
-use Rattle.std.specs.Prelude.{◌≡◌, Bool, cond, not, List, [], ◌∷◌, map, ℕ, zero, suc, ◌+◌, ◌<◌, ◌≤◌, eqb, length, get_or, Option, Some, None, Result, Ok, Err}
+-- The join as the code has it: the first set is a sheet, the second its labels in the order of the lines. Definitions only. `proofs/Held.antt`
+-- shows that it is the join of the two lists.
+use Rattle.std.specs.Prelude.{◌≡◌, Bool, false, cond, not, List, map, ℕ, zero, suc, ◌<◌, ◌≤◌, eqb, length, get_or, Option, Some, None, Result, Ok, Err}
+use Rattle.std.specs.List.{All}
 use Rattle.sizes.specs.Sizes.{place_count, corner_limit}
 use Rattle.sheet.specs.Cells.{cell_of, OnSheet, moved, Within}
 use Rattle.sheet.specs.Words.{label_of, label_at, attached, empty_sheet}
@@ -12,18 +13,16 @@ use Rattle.join.specs.Rule.{Verdict, Placed, shifted_by}
 use Rattle.join.specs.Join.{kept, new_by, verdict_by, Joined, apart, clash, off, union_of}
 use Rattle.join.specs.Sheets.{labelled}
 use Rattle.join.specs.Refused.{refusal_of}
+use Rattle.join_sheet.specs.declared.SecondLabel.{SecondLabel}
 
--- ---- the second set: n labels of an array, from one on; their corners stand from 0 on, their places from 1,024 on
+-- ---- the second set
 
-abbrev pub held_at : List ℕ → ℕ → Placed
-held_at second i = record { corner = get_or second i 0; cell = cell_of (get_or second (corner_limit + i) 0) }
+-- a label as it is held
+abbrev pub held_at : SecondLabel → Placed
+held_at l = record { corner = l.corner; cell = cell_of l.place }
 
-unfoldable pub held_from : List ℕ → ℕ → ℕ → List Placed
-held_from second i zero = []
-held_from second i (suc n) = held_at second i ∷ held_from second (suc i) n
-
-abbrev pub held_labels : List ℕ → ℕ → List Placed
-held_labels second count = held_from second 0 count
+abbrev pub held_labels : List SecondLabel → List Placed
+held_labels second = map held_at second
 
 -- ---- the first set: a sheet
 
@@ -51,13 +50,13 @@ agrees_with (Some j) elsewhere k = eqb j k
 unfoldable pub agrees_on : List ℕ → Placed → Bool
 agrees_on sheet l = agrees_with (label_at sheet l.cell) (used_on sheet l.corner) l.corner
 
--- one label is attached if an entry of the array of used corners is 0
-unfoldable pub new_put : ℕ → List ℕ → Cell → ℕ → List ℕ
-new_put entry sheet c k = cond (eqb entry 0) (attached sheet c k) sheet
+-- one label is attached if its corner is not used
+unfoldable pub new_put : Bool → List ℕ → Cell → ℕ → List ℕ
+new_put used sheet c k = cond used sheet (attached sheet c k)
 
--- the labels of the second set whose entries are 0, moved
-abbrev pub new_held : List ℕ → List Placed → Offset → List Placed
-new_held used second d = kept (λ l. eqb (get_or used l.corner 0) 0) (map (shifted_by d) second)
+-- the labels of the second set whose corners are not used, moved
+abbrev pub new_held : List Bool → List Placed → Offset → List Placed
+new_held used second d = kept (λ l. not (get_or used l.corner false)) (map (shifted_by d) second)
 
 -- ---- the join
 
@@ -80,27 +79,30 @@ join_on sheet second = outcome_of sheet second (verdict_on sheet second)
 
 -- ---- what the code asks
 
--- the second set's array: labels of corners below 1,024, on the sheet
-pub record HeldSecond (second : List ℕ) (count : ℕ) : Type 0 where
-  pub few : count ≤ corner_limit
-  pub corner_small : (i : ℕ) → i < count → get_or second i 0 < corner_limit
-  pub place_on : (i : ℕ) → i < count → get_or second (corner_limit + i) 0 < place_count
+-- a label of a corner below 1,024, on the sheet
+pub record LabelHeld (l : SecondLabel) : Type 0 where
+  pub corner_small : l.corner < corner_limit
+  pub place_on : l.place < place_count
 
--- the entry of a corner is 0 exactly if the first set has not the corner
-pub record Unused (sheet used : List ℕ) : Type 0 where
-  pub free : (k : ℕ) → k < corner_limit → eqb (get_or used k 0) 0 ≡ not (used_on sheet k)
+-- the second set: such labels
+abbrev pub HeldSecond : List SecondLabel → Type 0
+HeldSecond second = All LabelHeld second
+
+-- a corner is used exactly if the first set has it
+pub record Unused (sheet : List ℕ) (used : List Bool) : Type 0 where
+  pub free : (k : ℕ) → k < corner_limit → get_or used k false ≡ used_on sheet k
 
 -- both sets
-pub record HeldSets (sheet used array : List ℕ) (count : ℕ) : Type 0 where
+pub record HeldSets (sheet : List ℕ) (used : List Bool) (labels : List SecondLabel) : Type 0 where
   pub long : place_count ≤ length sheet
   pub unused : Unused sheet used
-  pub second : HeldSecond array count
+  pub second : HeldSecond labels
 
--- the second set's array and a shift that takes no label off the sheet
-pub record WriteAsked (array : List ℕ) (count : ℕ) (d : Offset) : Type 0 where
-  pub second : HeldSecond array count
+-- the second set and a shift that takes no label off the sheet
+pub record WriteAsked (labels : List SecondLabel) (d : Offset) : Type 0 where
+  pub second : HeldSecond labels
   pub within : Within 128 d
-  pub on : (i : ℕ) → i < count → OnSheet (moved (cell_of (get_or array (corner_limit + i) 0)) d)
+  pub on : All (λ l. OnSheet (moved (cell_of l.place) d)) labels
 
 -- ---- what it means for lists
 

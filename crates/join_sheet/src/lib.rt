@@ -1,9 +1,9 @@
-// Joining two patches (change request 3/14) as code: the first set is a sheet, the second an array of its corners and, behind them, its places, in the
-// order of their lines. The second set is shifted onto the first, and the union is written to the sheet.
+// Joining two patches (change request 3/14) as code: the first set is a sheet, the second its labels in the order of their lines. The second set is
+// shifted onto the first, and the union is written to the sheet.
 
 #![tactic(auto)]
 
-ghost use Rattle.std.specs.Prelude.{◌≡◌, map, ◌+◌, ◌<◌, ◌≤◌, length, get_or, Result, None, Ok};
+ghost use Rattle.std.specs.Prelude.{◌≡◌, map, false, ◌<◌, ◌≤◌, length, get_or, Result, None, Ok};
 ghost use Rattle.sizes.specs.Sizes.{place_count, corner_limit};
 ghost use Rattle.sheet.specs.Cells.{cell_of, on_sheet, moved, OnSheet, Within};
 ghost use Rattle.sheet.specs.Words.{label_of};
@@ -11,28 +11,34 @@ ghost use Rattle.labels.specs.Used.{names};
 ghost use Rattle.join.specs.Rule.{Placed, shifted_by};
 ghost use Rattle.join.specs.Join.{every, asks, asked, tested};
 ghost use Rattle.join.specs.Sheets.{labelled};
-ghost use Rattle.join_sheet.specs.Held.{held_labels, cell_on, agrees_on, new_put, new_held, outcome, verdict_on, join_on, HeldSecond, Unused, HeldSets, WriteAsked};
+ghost use Rattle.join_sheet.specs.Held.{held_labels, cell_on, agrees_on, new_put, new_held, outcome, verdict_on, join_on, LabelHeld, HeldSecond, Unused, HeldSets, WriteAsked};
 
 use join::{Unjoinable, Verdict};
 use refusal::Refusal;
 use sheet::{Cell, Offset, Written};
-use sizes::{CORNERS, PLACES, SECOND, USED};
+use sizes::{CORNERS, PLACES};
 
-// The first set: a sheet, and the array that says which corners it has not.
+// A label of the second set as it is held: its corner, and the place of its cell.
+#[derive(Clone, Copy)]
+pub struct SecondLabel {
+    pub corner: u16,
+    pub place: u16,
+}
+
+// The first set: a sheet, and the array that says which corners it has.
 #[derive(Clone, Copy)]
 struct First<'a> {
     sheet: &'a [u16],
-    used: &'a [u8; USED],
+    used: &'a [bool; CORNERS],
     ghost long: { place_count ≤ length sheet.now },
     ghost unused: { Unused sheet.now used.now },
 }
 
-// The second set: the first labels of an array.
+// The second set: its labels.
 #[derive(Clone, Copy)]
 struct Second<'a> {
-    array: &'a [u16; SECOND],
-    count: usize,
-    ghost held: { HeldSecond array.now count },
+    labels: &'a [SecondLabel],
+    ghost held: { HeldSecond labels.now },
 }
 
 // A shift of the second set: an offset of at most 128 each way.
@@ -47,7 +53,7 @@ struct Shift {
 fn word_names(word: u16, corner: usize) -> bool
     ensures { result ≡ names corner (label_of word) }
 {
-    matches!(sheet::label_of(word), Some(k) if k == corner)
+    sheet::label_of(word) == Some(corner)
 }
 
 impl First<'_> {
@@ -66,7 +72,7 @@ impl First<'_> {
         requires { (corner < corner_limit) × OnSheet c }
         ensures { result ≡ asks (cell_on self.now.sheet.now corner) c None }
     {
-        if self.used[corner] == 0 {
+        if !self.used[corner] {
             return None;
         }
         self.cell_with(corner).map(|a| sheet::difference(a, c))
@@ -79,66 +85,65 @@ impl First<'_> {
         ensures { result ≡ agrees_on self.now.sheet.now (record { corner = corner; cell = c }) }
     {
         match sheet::label_at(self.sheet, c) {
-            None => self.used[corner] == 0,
+            None => !self.used[corner],
             Some(k) => k == corner,
         }
     }
 }
 
-impl Second<'_> {
-    // The corner of a label.
-    fn corner(&self, i: usize) -> usize
-        requires { i < self.now.count }
-        ensures value { result ≡ get_or self.now.array.now i 0 }
-        ensures small { result < corner_limit }
-    {
-        usize::from(self.array[i])
-    }
-
+impl SecondLabel {
     // The cell of a label.
     #[tactic(auto, using(sheet::proofs::Laws::cell_on_lem))]
-    fn cell(&self, i: usize) -> Cell
-        requires { i < self.now.count }
-        ensures value { result ≡ cell_of (get_or self.now.array.now (corner_limit + i) 0) }
+    fn cell(&self) -> Cell
+        requires { LabelHeld self.now }
+        ensures value { result ≡ cell_of self.now.place }
         ensures on { OnSheet result }
     {
-        sheet::cell_of(usize::from(self.array[CORNERS + i]))
+        sheet::cell_of(usize::from(self.place))
     }
 
     // The cell of a label, moved.
-    fn moved_cell(&self, i: usize, d: Shift) -> Cell
-        requires { i < self.now.count }
-        ensures { result ≡ moved (cell_of (get_or self.now.array.now (corner_limit + i) 0)) d.offset }
+    fn moved_cell(&self, d: Shift) -> Cell
+        requires { LabelHeld self.now }
+        ensures { result ≡ moved (cell_of self.now.place) d.offset }
     {
-        sheet::neighbour(self.cell(i), d.offset)
+        sheet::neighbour(self.cell(), d.offset)
     }
+}
 
+impl Second<'_> {
     // Whether every label, moved, is on the sheet.
     fn all_on(&self, d: Shift) -> bool
-        ensures { result ≡ every (λ l. on_sheet l.cell) (map (shifted_by d.offset) (held_labels self.now.array.now self.now.count)) }
+        ensures { result ≡ every (λ l. on_sheet l.cell) (map (shifted_by d.offset) (held_labels self.now.labels.now)) }
     {
-        (0..self.count).all(|i| sheet::on_sheet(self.moved_cell(i, d)))
+        self.labels.iter().all(|l| sheet::on_sheet(l.moved_cell(d)))
     }
 }
 
 // The shift that the first shared label asks for.
 fn asked_shift(first: &First, second: &Second) -> Option<Offset>
-    ensures { result ≡ asked (cell_on first.now.sheet.now) (held_labels second.now.array.now second.now.count) }
+    ensures { result ≡ asked (cell_on first.now.sheet.now) (held_labels second.now.labels.now) }
 {
-    (0..second.count).find_map(|i| first.asked_by(second.corner(i), second.cell(i)))
+    second
+        .labels
+        .iter()
+        .find_map(|l| first.asked_by(usize::from(l.corner), l.cell()))
 }
 
 // Whether every label of the second set, moved, agrees with the first.
 fn all_agree(first: &First, second: &Second, d: Shift) -> bool
-    ensures { result ≡ every (agrees_on first.now.sheet.now) (map (shifted_by d.offset) (held_labels second.now.array.now second.now.count)) }
+    ensures { result ≡ every (agrees_on first.now.sheet.now) (map (shifted_by d.offset) (held_labels second.now.labels.now)) }
 {
-    (0..second.count).all(|i| first.agrees(second.corner(i), second.moved_cell(i, d)))
+    second
+        .labels
+        .iter()
+        .all(|l| first.agrees(usize::from(l.corner), l.moved_cell(d)))
 }
 
 // The test of a shift: 9 before 4.
 #[tactic(auto, unfolding(join::specs::Join::tested))]
 fn test_shift(first: &First, second: &Second, d: Shift) -> Verdict
-    ensures { result ≡ tested (agrees_on first.now.sheet.now) (held_labels second.now.array.now second.now.count) d.offset }
+    ensures { result ≡ tested (agrees_on first.now.sheet.now) (held_labels second.now.labels.now) d.offset }
 {
     if !all_agree(first, second, d) {
         return Err(Unjoinable::Clash);
@@ -152,7 +157,7 @@ fn test_shift(first: &First, second: &Second, d: Shift) -> Verdict
 // The verdict on two sets: 8 before 9 before 4.
 #[tactic(auto, using(crate::proofs::Walk::asked_within), unfolding(crate::specs::Held::verdict_on, join::specs::Join::told))]
 fn verdict_of(first: &First, second: &Second) -> Verdict
-    ensures { result ≡ verdict_on first.now.sheet.now (held_labels second.now.array.now second.now.count) }
+    ensures { result ≡ verdict_on first.now.sheet.now (held_labels second.now.labels.now) }
 {
     let offset = asked_shift(first, second).ok_or(Unjoinable::Apart)?;
     test_shift(first, second, Shift { offset })
@@ -160,41 +165,36 @@ fn verdict_of(first: &First, second: &Second) -> Verdict
 
 // A label whose corner the first set has not is attached.
 #[tactic(auto, unfolding(crate::specs::Held::new_put))]
-fn put_new(sheet: &mut [u16; PLACES], used: &[u8; USED], corner: usize, c: Cell)
+fn put_new(sheet: &mut [u16; PLACES], used: &[bool; CORNERS], corner: usize, c: Cell)
     requires { OnSheet c × (corner < corner_limit) }
-    ensures { sheet.new ≡ new_put (get_or used.now corner 0) sheet.old c corner }
+    ensures { sheet.new ≡ new_put (get_or used.now corner false) sheet.old c corner }
 {
-    if used[corner] == 0 {
+    if !used[corner] {
         sheet::attach(sheet, c, corner);
     }
 }
 
 // The labels of the second set whose corners the first has not are attached, moved.
-fn write_new(sheet: &mut [u16; PLACES], used: &[u8; USED], second: &Second, d: Shift)
-    requires { WriteAsked second.now.array.now second.now.count d.offset }
-    ensures { sheet.new ≡ labelled sheet.old (new_held used.now (held_labels second.now.array.now second.now.count) d.offset) }
+fn write_new(sheet: &mut [u16; PLACES], used: &[bool; CORNERS], second: &Second, d: Shift)
+    requires { WriteAsked second.now.labels.now d.offset }
+    ensures { sheet.new ≡ labelled sheet.old (new_held used.now (held_labels second.now.labels.now) d.offset) }
 {
-    // Stays: a label has only its number, by which its corner and its cell stand in two parts of one array (d).
-    for i in 0..second.count {
-        put_new(sheet, used, second.corner(i), second.moved_cell(i, d));
+    for l in second.labels {
+        put_new(sheet, used, usize::from(l.corner), l.moved_cell(d));
     }
 }
 
 // The join: the union is written to the sheet, or the sheet stays as it is and the refusal is answered.
-// Stays: corners and places stand in two parts of one array, so that no slice of it is the first `count` labels (d).
+// Stays: the sheet is lent to write and the other two to read; a struct of them would be made for this one call (d).
 pub fn join_sets(
     sheet: &mut [u16; PLACES],
-    used: &[u8; USED],
-    second: &[u16; SECOND],
-    count: usize,
+    used: &[bool; CORNERS],
+    second: &[SecondLabel],
 ) -> Result<(), Refusal>
-    requires { HeldSets sheet.old used.now second.now count }
-    ensures { outcome sheet.new result ≡ join_on sheet.old (held_labels second.now count) }
+    requires { HeldSets sheet.old used.now second.now }
+    ensures { outcome sheet.new result ≡ join_on sheet.old (held_labels second.now) }
 {
-    let second = Second {
-        array: second,
-        count,
-    };
+    let second = Second { labels: second };
     let first = First { sheet, used };
     let offset = verdict_of(&first, &second)?;
     write_new(sheet, used, &second, Shift { offset });

@@ -15,7 +15,7 @@ use lib.ListN.{length, get_or, set, length-set, length-append, replicate, length
 use Rattle.std.specs.List.{fold, list_any}
 use lib.Seq.{get_or-set_same, get_or-set_other}
 use Rattle.sheet.specs.Cells.{OnSheet, place_of}
-use Rattle.sheet.specs.Words.{bit_of, label_of_number, label_of, attached, hole_marked, ambiguous_marked, marks_cleared, empty_sheet}
+use Rattle.sheet.specs.Words.{label_of_number, label_of, attached, hole_marked, ambiguous_marked, marks_cleared, empty_sheet}
 use Rattle.sheet.specs.Blank.{written_from}
 use Rattle.sheet.proofs.Blank.{blank_label}
 use Rattle.sheet.proofs.Laws.{place_in}
@@ -98,26 +98,20 @@ used_empty k = any_no (λ q. names k (label_of (get_or empty_sheet q 0))) 16384 
 
 -- ---- the array
 
--- an entry is 0 exactly if the corner is not used
-pub tied_free : {sheet used : List ℕ} → Tied sheet used → (k : ℕ) → k < 1024 → eqb (get_or used k 0) 0 ≡ not (used_on sheet k)
-unfolding bit_of
-tied_free {sheet} {used} t k h = rw (t.at k h) (go (used_on sheet k))
-  where
-    go : (b : Bool) → eqb (bit_of b) 0 ≡ not b
-    go true = refl
-    go false = refl
+-- an entry is not set exactly if the corner is not used
+pub tied_free : {sheet : List ℕ} {used : List Bool} → Tied sheet used → (k : ℕ) → k < 1024 → not (get_or used k false) ≡ not (used_on sheet k)
+tied_free t k h = ap not (t.at k h)
 
-pub tied_same : {sheet after used : List ℕ} → SameLabels sheet after → Tied sheet used → Tied after used
-tied_same {sheet} {after} s t = record { size = t.size; at = λ k h. t.at k h ∙ ap bit_of (sym (same_used sheet after s k)) }
+pub tied_same : {sheet after : List ℕ} {used : List Bool} → SameLabels sheet after → Tied sheet used → Tied after used
+tied_same {sheet} {after} s t = record { size = t.size; at = λ k h. t.at k h ∙ sym (same_used sheet after s k) }
 
 -- a corner attached, and its entry set
-pub tied_attached : {sheet used : List ℕ} {c : Cell} {k : ℕ} → Attaching sheet c k → k < 1024 → Tied sheet used → Tied (attached sheet c k) (set used k 1)
-unfolding bit_of
-tied_attached {sheet} {used} {c} {k} a small t = record { size = length-set used k 1 ∙ t.size; at = λ j h. rw (used_attached a j) (go j h (ℕ_discrete k j)) }
+pub tied_attached : {sheet : List ℕ} {used : List Bool} {c : Cell} {k : ℕ} → Attaching sheet c k → k < 1024 → Tied sheet used → Tied (attached sheet c k) (set used k true)
+tied_attached {sheet} {used} {c} {k} a small t = record { size = length-set used k true ∙ t.size; at = λ j h. rw (used_attached a j) (go j h (ℕ_discrete k j)) }
   where
-    go : (j : ℕ) → j < 1024 → Dec (k ≡ j) → get_or (set used k 1) j 0 ≡ bit_of (eqb k j || used_on sheet j)
-    go j h (yes d) = rw (eq-eqb k j d, ← d) (get_or-set_same used k 1 0 (omega (arith, t.size)))
-    go j h (no d) = rw (ne_eqb k j d) (get_or-set_other used k j 1 0 (λ e. d (sym e)) ∙ t.at j h)
+    go : (j : ℕ) → j < 1024 → Dec (k ≡ j) → get_or (set used k true) j false ≡ (eqb k j || used_on sheet j)
+    go j h (yes d) = rw (eq-eqb k j d, ← d) (get_or-set_same used k true false (omega (arith, t.size)))
+    go j h (no d) = rw (ne_eqb k j d) (get_or-set_other used k j true false (λ e. d (sym e)) ∙ t.at j h)
 
 -- ---- one cell a corner
 
@@ -146,13 +140,13 @@ one_attached {sheet} {c} {k} a free o = record { one_place = λ p q j g h x y. g
 -- ---- the marks
 
 module _ (sheet : List ℕ) (c : Cell) (long : 16384 ≤ length sheet) (on : OnSheet c) where
-  pub tied_hole : {used : List ℕ} → Tied sheet used → Tied (hole_marked sheet c) used
+  pub tied_hole : {used : List Bool} → Tied sheet used → Tied (hole_marked sheet c) used
   tied_hole t = tied_same (hole_keeps sheet c long on) t
 
-  pub tied_ambiguous : {used : List ℕ} → Tied sheet used → Tied (ambiguous_marked sheet c) used
+  pub tied_ambiguous : {used : List Bool} → Tied sheet used → Tied (ambiguous_marked sheet c) used
   tied_ambiguous t = tied_same (ambiguous_keeps sheet c long on) t
 
-  pub tied_cleared : {used : List ℕ} → Tied sheet used → Tied (marks_cleared sheet c) used
+  pub tied_cleared : {used : List Bool} → Tied sheet used → Tied (marks_cleared sheet c) used
   tied_cleared t = tied_same (cleared_keeps sheet c long on) t
 
   pub one_cleared : OneCell sheet → OneCell (marks_cleared sheet c)
@@ -246,78 +240,77 @@ count_bounded sheet n known o = few_values n 16384 (λ p. is_labelled (get_or sh
 -- ---- the array, a place at a time
 
 -- what is noted, by the label
-module _ (used : List ℕ) (l : Option ℕ) where
+module _ (used : List Bool) (l : Option ℕ) where
   pub noted_none : l ≡ None → used ≡ noted used l
   unfolding noted
   noted_none e = rw e
 
   module _ (k : ℕ) (e : l ≡ Some k) where
-    pub noted_entry : k < 1024 → set used k 1 ≡ noted used l
+    pub noted_entry : k < 1024 → set used k true ≡ noted used l
     unfolding noted
     noted_entry h = rw (e, lt-ltb k 1024 h)
 
 -- an array whose entries say which corners pass a test, with one label more noted
-record Marked (used : List ℕ) (t : ℕ → Bool) : Type 0 where
+record Marked (used : List Bool) (t : ℕ → Bool) : Type 0 where
   size : length used ≡ 1024
-  at : (k : ℕ) → k < 1024 → get_or used k 0 ≡ bit_of (t k)
+  at : (k : ℕ) → k < 1024 → get_or used k false ≡ t k
 
-marked_more : (used : List ℕ) (t : ℕ → Bool) → Marked used t → (l : Option ℕ) → Marked (noted used l) (λ k. names k l || t k)
-unfolding noted names bit_of
+marked_more : (used : List Bool) (t : ℕ → Bool) → Marked used t → (l : Option ℕ) → Marked (noted used l) (λ k. names k l || t k)
+unfolding noted names
 marked_more used t m None = record { size = m.size; at = m.at }
 marked_more used t m (Some k) = go (ltb k 1024) refl
   where
-    one : k < 1024 → (j : ℕ) → j < 1024 → Dec (k ≡ j) → get_or (set used k 1) j 0 ≡ bit_of (eqb k j || t j)
-    one h j l (yes d) = rw (eq-eqb k j d, ← d) (get_or-set_same used k 1 0 (omega (arith, m.size)))
-    one h j l (no d) = rw (ne_eqb k j d) (get_or-set_other used k j 1 0 (λ z. d (sym z)) ∙ m.at j l)
+    one : k < 1024 → (j : ℕ) → j < 1024 → Dec (k ≡ j) → get_or (set used k true) j false ≡ (eqb k j || t j)
+    one h j l (yes d) = rw (eq-eqb k j d, ← d) (get_or-set_same used k true false (omega (arith, m.size)))
+    one h j l (no d) = rw (ne_eqb k j d) (get_or-set_other used k j true false (λ z. d (sym z)) ∙ m.at j l)
 
-    other : 1024 ≤ k → (j : ℕ) → j < 1024 → get_or used j 0 ≡ bit_of (eqb k j || t j)
+    other : 1024 ≤ k → (j : ℕ) → j < 1024 → get_or used j false ≡ (eqb k j || t j)
     other h j l = rw (ne_eqb k j (λ z. omega arith)) (m.at j l)
 
-    go : (b : Bool) → ltb k 1024 ≡ b → Marked (cond b (set used k 1) used) (λ j. eqb k j || t j)
-    go true f = record { size = length-set used k 1 ∙ m.size; at = λ j l. one (ltb-true k 1024 f) j l (ℕ_discrete k j) }
+    go : (b : Bool) → ltb k 1024 ≡ b → Marked (cond b (set used k true) used) (λ j. eqb k j || t j)
+    go true f = record { size = length-set used k true ∙ m.size; at = λ j l. one (ltb-true k 1024 f) j l (ℕ_discrete k j) }
     go false f = record { size = m.size; at = other (ltb-false k 1024 f) }
 
 -- the array is tied to the first p places
-pub record Marking (sheet used : List ℕ) (p : ℕ) : Type 0 where
+pub record Marking (sheet : List ℕ) (used : List Bool) (p : ℕ) : Type 0 where
   pub upto : p ≤ 16384
   pub size : length used ≡ 1024
-  pub so_far : (k : ℕ) → k < 1024 → get_or used k 0 ≡ bit_of (any_below p (λ q. names k (label_of (get_or sheet q 0))))
+  pub so_far : (k : ℕ) → k < 1024 → get_or used k false ≡ any_below p (λ q. names k (label_of (get_or sheet q 0)))
 
-pub marking_start : (sheet used : List ℕ) → length used ≡ 1024 → ((k : ℕ) → k < 1024 → get_or used k 0 ≡ 0) → Marking sheet used 0
-unfolding bit_of
-marking_start sheet used l h = record { upto = omega arith; size = l; so_far = λ k m. h k m ∙ ap bit_of (sym (any_start (λ q. names k (label_of (get_or sheet q 0))))) }
+pub marking_start : (sheet : List ℕ) (used : List Bool) → length used ≡ 1024 → ((k : ℕ) → k < 1024 → get_or used k false ≡ false) → Marking sheet used 0
+marking_start sheet used l h = record { upto = omega arith; size = l; so_far = λ k m. h k m ∙ sym (any_start (λ q. names k (label_of (get_or sheet q 0)))) }
 
-pub marking_more : (sheet used : List ℕ) (p : ℕ) → Marking sheet used p → (after : List ℕ) → p < 16384 → after ≡ noted used (label_of (get_or sheet p 0)) → Marking sheet after (p + 1)
+pub marking_more : (sheet : List ℕ) (used : List Bool) (p : ℕ) → Marking sheet used p → (after : List Bool) → p < 16384 → after ≡ noted used (label_of (get_or sheet p 0)) → Marking sheet after (p + 1)
 marking_more sheet used p g after h e =
     let m = marked_more used (λ k. any_below p (λ q. names k (label_of (get_or sheet q 0)))) (record { size = g.size; at = g.so_far }) (label_of (get_or sheet p 0)) in
     record {
       upto = omega arith;
       size = ap length e ∙ m.size;
-      so_far = λ j l. ap (λ (u : List ℕ). get_or u j 0) e ∙ rw (any_more (λ q. names j (label_of (get_or sheet q 0))) p) (m.at j l);
+      so_far = λ j l. ap (λ (u : List Bool). get_or u j false) e ∙ rw (any_more (λ q. names j (label_of (get_or sheet q 0))) p) (m.at j l);
     }
 
 -- ---- the array, by a walk over the places that hold something
 
 -- the array with the corner of one word more noted
-abbrev pub word_noted : List ℕ → ℕ × ℕ → List ℕ
+abbrev pub word_noted : List Bool → ℕ × ℕ → List Bool
 word_noted used e = noted used (label_of e.1)
 
-marked_all : (l : List (ℕ × ℕ)) (used : List ℕ) (t : ℕ → Bool) → Marked used t → Marked (fold word_noted used l) (λ k. list_any (λ e. names k (label_of e.1)) l || t k)
+marked_all : (l : List (ℕ × ℕ)) (used : List Bool) (t : ℕ → Bool) → Marked used t → Marked (fold word_noted used l) (λ k. list_any (λ e. names k (label_of e.1)) l || t k)
 marked_all [] used t m = m
 marked_all (e ∷ l) used t m =
     let w = marked_all l (word_noted used e) (λ k. names k (label_of e.1) || t k) (marked_more used t m (label_of e.1)) in
-    record { size = w.size; at = λ k h. w.at k h ∙ ap bit_of (behind (list_any (λ e. names k (label_of e.1)) l) (names k (label_of e.1)) (t k)) }
+    record { size = w.size; at = λ k h. w.at k h ∙ behind (list_any (λ e. names k (label_of e.1)) l) (names k (label_of e.1)) (t k) }
 
 -- what is left to note is nothing
-pub noted_all : (sheet used : List ℕ) (rest : List (ℕ × ℕ)) → rest ≡ [] → fold word_noted used rest ≡ fold word_noted (replicate 1024 0) (written_from sheet 0) → Tied sheet used
-unfolding used_on bit_of names
+pub noted_all : (sheet : List ℕ) (used : List Bool) (rest : List (ℕ × ℕ)) → rest ≡ [] → fold word_noted used rest ≡ fold word_noted (replicate 1024 false) (written_from sheet 0) → Tied sheet used
+unfolding used_on names
 noted_all sheet used rest e f =
-    let m = marked_all (written_from sheet 0) (replicate 1024 0) (λ k. false) (record { size = length-replicate {A = ℕ} 1024 0; at = λ k h. get_or-replicate {A = ℕ} 1024 k 0 0 h }) in
-    let g : used ≡ fold word_noted (replicate 1024 0) (written_from sheet 0) = sym (ap (fold word_noted used) e) ∙ f in
+    let m = marked_all (written_from sheet 0) (replicate 1024 false) (λ k. false) (record { size = length-replicate {A = Bool} 1024 false; at = λ k h. get_or-replicate {A = Bool} 1024 k false false h }) in
+    let g : used ≡ fold word_noted (replicate 1024 false) (written_from sheet 0) = sym (ap (fold word_noted used) e) ∙ f in
     rw g
     (record {
       size = m.size;
-      at = λ k h. m.at k h ∙ ap bit_of (none (list_any (λ e. names k (label_of e.1)) (written_from sheet 0)) ∙ walked k);
+      at = λ k h. m.at k h ∙ none (list_any (λ e. names k (label_of e.1)) (written_from sheet 0)) ∙ walked k;
     })
   where
     none : (t : Bool) → (t || false) ≡ t

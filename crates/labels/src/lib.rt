@@ -128,22 +128,22 @@ pub fn rim_reached(sheet: &[u16], depth: u32) -> bool
 
 // The corner that a word names is marked as used; all other entries stay. A corner of 1,024 or more has no entry.
 #[tactic(auto, unfolding(crate::specs::Used::noted))]
-fn note_used(used: &mut [u8; CORNERS], word: u16)
+fn note_used(used: &mut [bool; CORNERS], word: u16)
     ensures { used.new ≡ noted used.old (label_of word) }
 {
     if let Some(k) = sheet::label_of(word)
         && k < CORNERS
     {
-        used[k] = 1;
+        used[k] = true;
     }
 }
 
-// Which corners the sheet has: entry k is 1 if the corner k is at one of its places, and else 0.
-pub fn mark_used(sheet: &[u16]) -> [u8; CORNERS]
+// Which corners the sheet has: entry k says whether the corner k is at one of its places.
+pub fn mark_used(sheet: &[u16]) -> [bool; CORNERS]
     requires { place_count ≤ length sheet.now }
     ensures { Tied sheet.now result }
 {
-    let mut used = [0u8; CORNERS];
+    let mut used = [false; CORNERS];
     for (_, word) in Written::new(sheet) {
         note_used(&mut used, word);
     }

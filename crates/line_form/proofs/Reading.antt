@@ -16,7 +16,6 @@ use Rattle.binary32.proofs.Digits.{digits_length, bits_written_read}
 use Rattle.line_form.specs.Integers.{Front, broken, front, is_digit, digits_after, read_positive, negated, mapped, read_integer}
 use Rattle.line_form.specs.Forms.{Number, bits, whole, number_text, Piece, no_piece, same, number, bits_piece, whole_piece, byte_piece, piece_of, Fitted, misfit, fitted, before, then, fit_of}
 use Rattle.line_form.specs.Held.{held_whole, held, held_up_to, held_fit, held_piece, held_digits, held_positive, plain, word, kept}
-use Rattle.line_form.specs.declared.read.Digits.{Digits}
 use Rattle.line_form.specs.declared.read.Taken.{Taken}
 use Rattle.line_form.proofs.Decimal.{integer_told}
 
@@ -91,7 +90,7 @@ some_digits v (b ∷ text) e = go (is_digit b) (λ h. some_digits (v * 10 + (b -
     go true f h = f h
     go false f h = cc
 
-pub digits_small : (d : Digits) (got : Front ℕ) → d ≡ held_digits got → d.value ≤ 1000000
+pub digits_small : (d : Taken ℕ) (got : Front ℕ) → d ≡ held_digits got → d.value ≤ 1000000
 unfolding held_digits
 digits_small d broken e = rw e (omega arith)
 digits_small d (front n text) e = rw e (omega arith)
@@ -101,14 +100,14 @@ unfolding held_positive
 positive_held broken h = absurd (h refl)
 positive_held (front n text) h = refl
 
-pub positive_some : (text : List ℕ) (d : Digits) → 1 ≤ length text → 49 ≤ get_or text 0 0 → get_or text 0 0 ≤ 57 → d ≡ held_digits (digits_after 0 text)
+pub positive_some : (text : List ℕ) (d : Taken ℕ) → 1 ≤ length text → 49 ≤ get_or text 0 0 → get_or text 0 0 ≤ 57 → d ≡ held_digits (digits_after 0 text)
     → Some d ≡ held_positive (read_positive text)
 unfolding read_positive digits_after
 positive_some [] d n l m e = absurd (omega arith)
 positive_some (b ∷ text) d n l m e =
     let k : 0 * 10 + (b - 48) ≡ b - 48 = omega arith in
     rw (le-leb 49 b l, le-leb b 57 m)
-    (ap (λ (x : Digits). Some x) (rw (le-leb 48 b (omega arith), le-leb b 57 m, k) at e) ∙ positive_held (digits_after (b - 48) text) (some_digits (b - 48) text))
+    (ap (λ (x : Taken ℕ). Some x) (rw (le-leb 48 b (omega arith), le-leb b 57 m, k) at e) ∙ positive_held (digits_after (b - 48) text) (some_digits (b - 48) text))
 
 pub positive_none : (text : List ℕ) → (1 ≤ length text → 49 ≤ get_or text 0 0 → 57 < get_or text 0 0) → None ≡ held_positive (read_positive text)
 unfolding read_positive held_positive
@@ -120,7 +119,7 @@ positive_none (b ∷ text) f = go (leb 49 b) (leb b 57) refl refl
     go true false p q = refl
     go false t p q = refl
 
-pub positive_small : (d : Digits) (text : List ℕ) → Some d ≡ held_positive (read_positive text) → d.value ≤ 1000000
+pub positive_small : (d : Taken ℕ) (text : List ℕ) → Some d ≡ held_positive (read_positive text) → d.value ≤ 1000000
 unfolding held_positive
 positive_small d text e = go (read_positive text) e
   where
@@ -129,11 +128,11 @@ positive_small d text e = go (read_positive text) e
     go (front n text) e = digits_small d (front n text) cc
 
 -- a number above 0, and one below
-abbrev pub plus : Option Digits → Option Taken
+abbrev pub plus : Option (Taken ℕ) → Option (Taken (Option ℕ))
 plus None = None
 plus (Some d) = Some (word (1000000 + d.value) d.left)
 
-abbrev pub minus : Option Digits → Option Taken
+abbrev pub minus : Option (Taken ℕ) → Option (Taken (Option ℕ))
 minus None = None
 minus (Some d) = Some (word (1000000 - d.value) d.left)
 
@@ -227,7 +226,7 @@ module _ (c : ℕ) (text : List ℕ) where
   unfolding piece_of
   of_byte h k = rw (ne_eqb c 37 h, ne_eqb c 35 k)
 
-  of_part : (n : ℕ) (r : Option Taken) → r ≡ held_piece (piece_of c (take (length text - n) (drop n text))) → r ≡ held_piece (piece_of c (drop n text))
+  of_part : (n : ℕ) (r : Option (Taken (Option ℕ))) → r ≡ held_piece (piece_of c (take (length text - n) (drop n text))) → r ≡ held_piece (piece_of c (drop n text))
   of_part n r e = e ∙ ap (λ (s : List ℕ). held_piece (piece_of c s)) (part text n)
 
 -- what stands before the rest of a text is the number's text
@@ -350,15 +349,15 @@ record HeldByte (p : Piece) (left : ℕ) : Type 0 where
   pub is : p ≡ same text
   pub behind : left ≡ length text
 
-byte_held : (p : Piece) (t : Taken) → Some t ≡ held_piece p → t.value ≡ None → HeldByte p t.left
+byte_held : (p : Piece) (t : Taken (Option ℕ)) → Some t ≡ held_piece p → t.value ≡ None → HeldByte p t.left
 unfolding held_piece
 byte_held no_piece t e v = absurd cc
 byte_held (same text) t e v =
     let q : t ≡ plain (length text) = cc in
-    record { text = text; is = refl; behind = ap (λ (t : Taken). t.left) q }
+    record { text = text; is = refl; behind = ap (λ (t : Taken (Option ℕ)). t.left) q }
 byte_held (number n text) t e v =
     let q : t ≡ word (held n) (length text) = cc in
-    let w : t.value ≡ Some (held n) = ap (λ (t : Taken). t.value) q in
+    let w : t.value ≡ Some (held n) = ap (λ (t : Taken (Option ℕ)). t.value) q in
     absurd cc
 
 record HeldNumber (p : Piece) (v left : ℕ) : Type 0 where
@@ -368,17 +367,17 @@ record HeldNumber (p : Piece) (v left : ℕ) : Type 0 where
   pub value : v ≡ held n
   pub behind : left ≡ length text
 
-number_held : (p : Piece) (t : Taken) (v : ℕ) → Some t ≡ held_piece p → t.value ≡ Some v → HeldNumber p v t.left
+number_held : (p : Piece) (t : Taken (Option ℕ)) (v : ℕ) → Some t ≡ held_piece p → t.value ≡ Some v → HeldNumber p v t.left
 unfolding held_piece
 number_held no_piece t v e f = absurd cc
 number_held (same text) t v e f =
     let q : t ≡ plain (length text) = cc in
-    let w : t.value ≡ None = ap (λ (t : Taken). t.value) q in
+    let w : t.value ≡ None = ap (λ (t : Taken (Option ℕ)). t.value) q in
     absurd cc
 number_held (number n text) t v e f =
     let q : t ≡ word (held n) (length text) = cc in
-    let w : t.value ≡ Some (held n) = ap (λ (t : Taken). t.value) q in
-    record { n = n; text = text; is = refl; value = cc; behind = ap (λ (t : Taken). t.left) q }
+    let w : t.value ≡ Some (held n) = ap (λ (t : Taken (Option ℕ)). t.value) q in
+    record { n = n; text = text; is = refl; value = cc; behind = ap (λ (t : Taken (Option ℕ)). t.left) q }
 
 one_put : (vs : List ℕ) (k : ℕ) (n : Number) (f : Fitted) → onward vs k (before n f) ≡ onward (kept vs k (held n)) (k + 1) f
 unfolding onward put_all
@@ -393,7 +392,7 @@ module _ {form line vs : List ℕ} {i at k : ℕ} (g : Fitting form line vs i at
         let q : fit_of (drop i form) (drop at line) ≡ misfit = rw (form_turn form (drop at line) i h, nothing_held (piece_of (get_or form i 0) (drop at line)) (of_part (get_or form i 0) line at None e)) in
         rw q at g.rest
 
-    module _ {t : Taken} (p : Some t ≡ held_piece (piece_of (get_or form i 0) (take (length line - at) (drop at line)))) where
+    module _ {t : Taken (Option ℕ)} (p : Some t ≡ held_piece (piece_of (get_or form i 0) (take (length line - at) (drop at line)))) where
       held_here : Some t ≡ held_piece (piece_of (get_or form i 0) (drop at line))
       held_here = of_part (get_or form i 0) line at (Some t) p
 

@@ -2,7 +2,6 @@
 use Rattle.std.specs.Prelude.{cond, List, [], ◌∷◌, ℕ, zero, suc, ◌+◌, ◌-◌, min, ℤ, pos, negsuc, ltb, length, set, Option, None, Some}
 use Rattle.line_form.specs.Integers.{offset, Front, broken, front}
 use Rattle.line_form.specs.Forms.{Number, bits, whole, Piece, no_piece, same, number, Fitted, misfit, fitted}
-use Rattle.line_form.specs.declared.read.Digits.{Digits}
 use Rattle.line_form.specs.declared.read.Taken.{Taken}
 
 -- 1,000,000 + z, cut to 0 .. 2,000,000: so an integer of any length is held, and those beyond 1,000,000 either way are alike
@@ -29,25 +28,25 @@ held_fit (fitted ns) = Some (held_up_to 5 ns)
 -- ---- what the steps of `fit_line` hand on
 
 -- a byte that stands for itself, and a number that is held as v, each with how many bytes stand behind it
-abbrev pub plain : ℕ → Taken
+abbrev pub plain : ℕ → Taken (Option ℕ)
 plain left = record { value = None; left = left }
 
-abbrev pub word : ℕ → ℕ → Taken
+abbrev pub word : ℕ → ℕ → Taken (Option ℕ)
 word v left = record { value = Some v; left = left }
 
 -- a piece at the front of a text
-unfoldable pub held_piece : Piece → Option Taken
+unfoldable pub held_piece : Piece → Option (Taken (Option ℕ))
 held_piece no_piece = None
 held_piece (same text) = Some (plain (length text))
 held_piece (number n text) = Some (word (held n) (length text))
 
 -- digits at the front of a text: their number, cut to 1,000,000, and how many bytes stand behind them
-unfoldable pub held_digits : Front ℕ → Digits
+unfoldable pub held_digits : Front ℕ → Taken ℕ
 held_digits broken = record { value = 0; left = 0 }
 held_digits (front n text) = record { value = min offset n; left = length text }
 
 -- the same of a number above 0, or none
-unfoldable pub held_positive : Front ℕ → Option Digits
+unfoldable pub held_positive : Front ℕ → Option (Taken ℕ)
 held_positive broken = None
 held_positive (front n text) = Some (held_digits (front n text))
 

@@ -8,20 +8,12 @@ ghost use Rattle.line_form.specs.Held.{held_fit, held_piece, held_digits, held_p
 use super::OFFSET;
 use binary32::hex::read_bits;
 
-// What stands at the front of a text for one byte of a form: the number as it is held, or none where the byte stands for itself, and how many bytes
-// stand behind it.
-// Stays: with the rest as a slice the answer would be no equation with its definition: two slices with one text may lie at two places.
+// What stands at the front of a text, and how many bytes stand behind it: the number of some digits, cut to OFFSET; or, for one byte of a form, the
+// number as it is held, none where the byte stands for itself.
+// Stays: with the rest as a slice the answer would be no equation with its definition: two slices with one text may lie at two places (d).
 #[derive(Clone, Copy, Debug, PartialEq, Eq)]
-pub struct Taken {
-    pub value: Option<u32>,
-    pub left: usize,
-}
-
-// The number of some digits, cut to OFFSET, and how many bytes stand behind them.
-// Stays: with the rest as a slice the answer would be no equation with its definition, as for `Taken`.
-#[derive(Clone, Copy, Debug, PartialEq, Eq)]
-pub struct Digits {
-    pub value: u32,
+pub struct Taken<T> {
+    pub value: T,
     pub left: usize,
 }
 
@@ -34,24 +26,24 @@ fn grown(value: u32, b: u8) -> u32
 }
 
 // The digits at the front of a text, as far as they go.
-fn read_digits(text: &[u8]) -> Digits
+fn read_digits(text: &[u8]) -> Taken<u32>
     ensures { result ≡ held_digits (digits_after 0 text.now) }
 {
     let mut value = 0u32;
     for (i, b) in text.iter().enumerate() {
         if !b.is_ascii_digit() {
-            return Digits {
+            return Taken {
                 value,
                 left: text.len() - i,
             };
         }
         value = grown(value, *b);
     }
-    Digits { value, left: 0 }
+    Taken { value, left: 0 }
 }
 
 // The digits of a number above 0: the first is not 0.
-fn positive(text: &[u8]) -> Option<Digits>
+fn positive(text: &[u8]) -> Option<Taken<u32>>
     ensures { result ≡ held_positive (read_positive text.now) }
 {
     match text {
@@ -61,7 +53,7 @@ fn positive(text: &[u8]) -> Option<Digits>
 }
 
 // A number that was read.
-fn number(value: u32, left: usize) -> Taken
+fn number(value: u32, left: usize) -> Taken<Option<u32>>
     ensures { result ≡ word value left }
 {
     Taken {
@@ -71,7 +63,7 @@ fn number(value: u32, left: usize) -> Taken
 }
 
 // An integer: 0, or a minus and a number above 0, or a number above 0.
-fn integer(text: &[u8]) -> Option<Taken>
+fn integer(text: &[u8]) -> Option<Taken<Option<u32>>>
     ensures { result ≡ held_piece (whole_piece (read_integer text.now)) }
 {
     match text {
@@ -89,7 +81,7 @@ fn integer(text: &[u8]) -> Option<Taken>
 }
 
 // A float.
-fn float(text: &[u8]) -> Option<Taken>
+fn float(text: &[u8]) -> Option<Taken<Option<u32>>>
     ensures { result ≡ held_piece (bits_piece (read_bits text.now) (drop 8 text.now)) }
 {
     let bits = read_bits(text)?;
@@ -98,7 +90,7 @@ fn float(text: &[u8]) -> Option<Taken>
 
 // A byte that stands for itself.
 #[tactic(auto, using(crate::proofs::Reading::byte_none, crate::proofs::Reading::byte_same, crate::proofs::Reading::byte_other))]
-fn byte(c: u8, text: &[u8]) -> Option<Taken>
+fn byte(c: u8, text: &[u8]) -> Option<Taken<Option<u32>>>
     ensures { result ≡ held_piece (byte_piece c text.now) }
 {
     match text {
@@ -112,7 +104,7 @@ fn byte(c: u8, text: &[u8]) -> Option<Taken>
 
 // What stands for one byte of a form.
 #[tactic(auto, using(crate::proofs::Reading::of_float, crate::proofs::Reading::of_whole, crate::proofs::Reading::of_byte))]
-fn piece(c: u8, text: &[u8]) -> Option<Taken>
+fn piece(c: u8, text: &[u8]) -> Option<Taken<Option<u32>>>
     ensures { result ≡ held_piece (piece_of c text.now) }
 {
     match c {
@@ -139,7 +131,7 @@ pub fn fit_line(form: &[u8], line: &[u8]) -> Option<[u32; 5]>
     let mut values = [0u32; 5];
     let mut at = 0usize;
     let mut k = 0usize;
-    // Stays: neither goes a step at each byte of the form: `at` goes past what was taken, and `k` on at a number alone.
+    // Stays: neither goes a step at each byte of the form: `at` goes past what was taken, and `k` on at a number alone (d).
     for c in form {
         let taken = piece(*c, &line[at..])?;
         at = line.len() - taken.left;

@@ -89,7 +89,7 @@ pub fn write_form(form: &[u8], words: &[u32], out: &mut [u8]) -> usize
 {
     let mut at = 0usize;
     let mut k = 0usize;
-    // Stays: neither goes a step at each byte of the form: `at` goes past what was written, and `k` on at a number alone.
+    // Stays: neither goes a step at each byte of the form: `at` goes past what was written, and `k` on at a number alone (d).
     for c in form {
         at += write_piece(*c, word_at(words, k), &mut out[at..]);
         k += words_of(*c);

@@ -33,11 +33,12 @@ use Rattle.passes.proofs.Free.{labels_few}
 use Rattle.passes.proofs.Rounds.{Remaining, remaining_all, remaining_none, remaining_last, remaining_more}
 use Rattle.passes.proofs.Said.{local_said_lem}
 use Rattle.supports.specs.Nearest.{Gatherable, Gathered}
+use Rattle.supports.specs.declared.Labelled.{Labelled}
 use Rattle.local_cell.specs.Extending.{Extending}
 use Rattle.local_cell.specs.Work.{state_in, Left}
 use Rattle.local_cell.specs.declared.LocalProgress.{LocalProgress}
 use Rattle.local_cell.specs.declared.LocalWork.{LocalWork}
-use Rattle.local_cell.proofs.Visit.{gathered_front, gathered_size, stands, left_as}
+use Rattle.local_cell.proofs.Visit.{gathered_front, stands, left_as}
 use Rattle.local.specs.Rounds.{RoundAsked, no_progress, start_of, start_in, RoundsAsked, RoundsLeft, stats_of}
 use Rattle.local.proofs.Walk.{holds_state, left_then, round_grows, round_counted}
 
@@ -116,8 +117,8 @@ start_is s l e = rw (s, l, e)
 module _ (corners : CornerLists) (shades sheet list : List ℕ) (set : Settings) (p : LocalExtensionParams) where
   -- arguments that are not refused
   module _ (a : Accepted (lent_of corners shades sheet (rooms 0 (length list))) set (Pass.Local p)) where
-    pub accepted_gatherable : {places : List ℕ} → length places ≡ 1024 → Gatherable sheet places
-    accepted_gatherable n = record { long = a.given.long; few = omega (arith, labels_few a.given a.one_cell, a.few); size = n }
+    pub accepted_gatherable : Gatherable sheet
+    accepted_gatherable = record { long = a.given.long; few = omega (arith, labels_few a.given a.one_cell, a.few) }
 
     -- the squared radius is finite
     pub accepted_radius : T (finite (squared_radius (local_search set p).search_r))
@@ -125,10 +126,9 @@ module _ (corners : CornerLists) (shades sheet list : List ℕ) (set : Settings)
     accepted_radius = search_radius p.search_rel set.grid.cell_size a.pass_inside.search a.settings_inside.cell_size
 
     -- the pass may go on
-    pub accepted_extending : {before places used : List ℕ} {labels : ℕ} {at : LocalProgress} → length before ≡ 1024 → Gathered sheet before places labels → 4 ≤ labels → Tied sheet used
-        → at ≡ no_progress labels → Extending (length corners.xs) sheet list used places at
-    accepted_extending n w h t e =
-        let k = ap (λ (x : LocalProgress). x.labels) e in
+    pub accepted_extending : {before : List ℕ} {used : List Bool} {labelled : Labelled} {at : LocalProgress} → Gathered sheet before labelled.places labelled.count → 4 ≤ labelled.count → Tied sheet used
+        → at ≡ no_progress → Extending (length corners.xs) sheet list used labelled at
+    accepted_extending w h t e =
         record {
           given = a.given;
           few = a.few;
@@ -137,15 +137,14 @@ module _ (corners : CornerLists) (shades sheet list : List ℕ) (set : Settings)
           list_long = a.attached_long;
           room = omega (arith, ap (λ (x : LocalProgress). x.counts.attached) e);
           four = omega (arith, w.count_is);
-          labels_are = k ∙ w.count_is;
-          places_are = rw k (gathered_front w);
-          size = gathered_size n (omega (arith, labels_few a.given a.one_cell, a.few)) w;
+          labels_are = w.count_is;
+          places_are = gathered_front w;
         }
 
-    pub accepted_asked : {work : LocalWork} {labels : ℕ} → work.setup.params ≡ p → work.progress ≡ no_progress labels → RoundsAsked work
+    pub accepted_asked : {work : LocalWork} → work.setup.params ≡ p → work.progress ≡ no_progress → RoundsAsked work
     accepted_asked q e =
         record {
-          unstarted = e ∙ ap no_progress (sym (ap (λ (x : LocalProgress). x.labels) e));
+          unstarted = e;
           shallow = rw q a.pass_inside.depth;
           rounds_few = rw q a.pass_inside.rounds;
         }
@@ -154,13 +153,13 @@ module _ (corners : CornerLists) (shades sheet list : List ℕ) (set : Settings)
   module _ {labels depth : ℕ} {edge shaded : Bool} {stats : LocalStats} (counted : labels ≡ label_count sheet) (deep : depth ≡ depth_of p)
       (any : shaded ≡ any_shade shades (length corners.xs)) where
     -- under four labels
-    pub pass_few : {at : LocalProgress} → labels < 4 → at ≡ no_progress labels → edge ≡ rim depth sheet → stats ≡ stats_of at 0 edge shaded
+    pub pass_few : {at : LocalProgress} → labels < 4 → at ≡ no_progress → edge ≡ rim depth sheet → stats ≡ stats_of at 0 edge shaded
         → local_out (Ok stats) sheet list ≡ local_leaves (done (local_after (corners_of corners shades) set p sheet)) sheet list
     unfolding local_after local_run local_limit local_from
     pass_few h g f e = rw (← counted, lt-ltb labels 4 h, e, g, f, deep, any)
 
     -- all rounds done
-    pub pass_done : (cs : Corners) → cs ≡ corners_of corners shades → {before work : LocalWork} {rounds : ℕ} → 4 ≤ labels → before.progress ≡ no_progress labels
+    pub pass_done : (cs : Corners) → cs ≡ corners_of corners shades → {before work : LocalWork} {rounds : ℕ} → 4 ≤ labels → before.progress ≡ no_progress
         → before.sheet.now ≡ sheet → before.attached.now ≡ list → RoundsLeft before work rounds (local_from cs set p p.max_iters (start_in before)) → edge ≡ rim depth work.sheet.now
         → stats ≡ stats_of work.progress rounds edge shaded → {sheet' list' : List ℕ} → sheet' ≡ work.sheet.now → list' ≡ work.attached.now → local_out (Ok stats) sheet' list' ≡ local_leaves (done (local_after (corners_of corners shades) set p sheet)) sheet list
     unfolding local_after local_run local_limit

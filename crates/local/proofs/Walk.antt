@@ -5,7 +5,6 @@ use mathlib.Core.Path.{◌≡◌, refl, sym, ap, ap₂, ◌∙◌}
 use mathlib.Core.Bool.{Bool, true, false, not, ◌&&◌, true≢false}
 use mathlib.Core.List.{List}
 use Prim.Native.Nat.{ℕ, ◌+◌, ◌<◌, ◌≤◌}
-use native.Mathlib.Decide.{dec_lt, ℕ_discrete}
 use native.Mathlib.Omega.{arith}
 use lib.ListN.{length, get_or, take}
 use Rattle.std.specs.List.{All}
@@ -15,7 +14,6 @@ use Rattle.sheet.specs.Cells.{cell_of}
 use Rattle.sheet.specs.Words.{label_at}
 use Rattle.sheet.specs.declared.Cell.{Cell}
 use Rattle.sheet.proofs.Laws.{cell_on_lem, place_cell}
-use Rattle.sheet.proofs.Blank.{carried}
 use Rattle.labels.specs.Labelled.{is_labelled, labelled_places}
 use Rattle.labels.specs.Box.{box_of}
 use Rattle.labels.proofs.Labelled.{places_in_lem, label_of_place, unlabelled_none}
@@ -25,11 +23,10 @@ use Rattle.positions_policy.specs.declared.Tolerances.{Tolerances}
 use Rattle.passes.specs.Counting.{visits}
 use Rattle.passes.specs.Local.{depth_of, local_region, local_cells, LocalState, local_visit, local_round}
 use Rattle.passes.proofs.Over.{over_read, over_over}
-use Rattle.region.specs.Region.{Region, RegionFound, region_at}
+use Rattle.region.specs.Region.{Region, RegionFound, Telling, region_at}
 use Rattle.region.specs.Windowed.{InWindow, NextIn}
-use Rattle.region.specs.declared.Window.{Window}
 use Rattle.region.proofs.Told.{region_is}
-use Rattle.region.proofs.Jumps.{told_far}
+use Rattle.region.proofs.Jumps.{jumps, told_far}
 use Rattle.region.proofs.Near.{box_small}
 use Rattle.region.proofs.Places as places
 use Rattle.region.proofs.Places.{Elsewhere, walked_all, walked_start, walked_most, looked, looked_out, looked_labelled, looked_bare, looked_grows, looked_most, walk_grows}
@@ -40,7 +37,7 @@ use Rattle.local_cell.specs.Work.{state_in, SamePass, Left, Trying}
 use Rattle.local_cell.specs.declared.LocalProgress.{LocalProgress}
 use Rattle.local_cell.specs.declared.LocalWork.{LocalWork}
 use Rattle.local_cell.proofs.Visit.{Tried, passed, attaches, tried, tried_grows, tried_counted, attaching, untouched, left_as}
-use Rattle.local.specs.Rounds.{region_in, RoundOf, tried_at, Tellable, NextTried, looked_at}
+use Rattle.local.specs.Rounds.{region_in, RoundOf, tried_at, looked_at}
 use Rattle.local.specs.declared.Round.{Round}
 use Rattle.local.proofs.Depth.{depth_in}
 
@@ -95,51 +92,19 @@ module _ (cs : Corners) (set : Settings) (p : LocalExtensionParams) where
 pub listed : (sheet : List ℕ) {labelled : List ℕ} → labelled ≡ labelled_places sheet → All (λ (p : ℕ). p < 16384) labelled
 listed sheet e = rw e (All-from_get_or (λ (p : ℕ). p < 16384) (labelled_places sheet) 0 (places_in_lem sheet))
 
--- no place outside of the window is in the region
-pub tellable : {p : LocalExtensionParams} {sheet₀ sheet : List ℕ} {round : Round} → RoundOf sheet₀ p round → p.extend_depth ≤ 4 → 16384 ≤ length sheet → Tellable round.depth (region_in round) round.window sheet
-tellable {p} {sheet₀} {sheet} {round} r shallow long =
+-- each place of the sheet can be told
+pub telling : {p : LocalExtensionParams} {sheet : List ℕ} {round : Round} {q : ℕ} → RoundOf sheet p round → p.extend_depth ≤ 4 → q < 16384 → Telling (region_in round) q round.depth
+telling {p} {sheet} r shallow below =
     record {
-      long = long;
+      below = below;
       shallow = rw r.deep (depth_in p shallow);
-      small = rw r.found.around_is (box_small sheet₀);
-      fits = r.windowed.fits;
-      far = λ q h out. told_far round.depth sheet₀ (region_in round) round.window q r.found r.windowed h out;
+      small = rw r.found.around_is (box_small sheet);
     }
 
--- ---- the next place whose cell is tried
-
--- none from one place on up to another is tried
-pub record Seeking (sought : ℕ → Bool) (from n : ℕ) : Type 0 where
-  pub start : from ≤ n
-  pub upto : n ≤ 16384
-  pub passed : (p : ℕ) → from ≤ p → p < n → sought p ≡ false
-
-module _ {d : ℕ} {region : Region} {window : Window} {sheet : List ℕ} (w : Tellable d region window sheet) where
-  -- a place outside of the window is not tried
-  out_not : (p : ℕ) → p < 16384 → (InWindow window p → ⊥) → tried_at d region sheet p ≡ false
-  out_not p h out = rw (w.far p h out)
-
-  pub seeking_start : {from n : ℕ} → NextIn window from n → Seeking (tried_at d region sheet) from n
-  seeking_start {from} {n} t = record { start = t.start; upto = t.upto; passed = λ p a b. out_not p (let u = t.upto in omega arith) (t.out p a b) }
-
-  pub seeking_more : {from n m : ℕ} → Seeking (tried_at d region sheet) from n → tried_at d region sheet n ≡ false → NextIn window (n + 1) m → Seeking (tried_at d region sheet) from m
-  seeking_more {from} {n} {m} s e t =
-      record {
-        start = let a = s.start in let b = t.start in omega arith;
-        upto = t.upto;
-        passed = λ p a b. by p a b (dec_lt p n) (ℕ_discrete p n);
-      }
-    where
-      by : (p : ℕ) → from ≤ p → p < m → Dec (p < n) → Dec (p ≡ n) → tried_at d region sheet p ≡ false
-      by p a b (yes c) x = s.passed p a c
-      by p a b (no c) (yes f) = rw f e
-      by p a b (no c) (no f) = out_not p (let u = t.upto in omega arith) (t.out p (omega (arith, c, f)) b)
-
-pub seeking_hit : {sought : ℕ → Bool} {from n : ℕ} → Seeking sought from n → sought n ≡ true → NextTried sought from n
-seeking_hit s e = record { start = s.start; upto = s.upto; passed = s.passed; hit = λ h. e }
-
-pub seeking_end : {sought : ℕ → Bool} {from n : ℕ} → Seeking sought from n → 16384 ≤ n → NextTried sought from n
-seeking_end s l = record { start = s.start; upto = s.upto; passed = s.passed; hit = λ h. absurd (omega arith) }
+-- a place outside of the window is not tried
+out_not : {p : LocalExtensionParams} {sheet : List ℕ} {round : Round} → RoundOf sheet p round → (now : List ℕ) (q : ℕ) → q < 16384 → (InWindow round.window q → ⊥)
+    → tried_at round.depth (region_in round) now q ≡ false
+out_not {p} {sheet} {round} r now q h out = rw (told_far round.depth sheet (region_in round) round.window q r.found r.windowed h out)
 
 pub tried_parts : (inside labelled : Bool) → (inside && not labelled) ≡ true → (inside ≡ true) × (labelled ≡ false)
 tried_parts true true e = absurd (true≢false (sym e))
@@ -238,22 +203,23 @@ module _ {set : Settings} {p : LocalExtensionParams} {cs : Corners} {before : Lo
         rw (← walked_round cs set p (state_in before), ← e) w.left
 
   module _ {round : Round} (o : RoundOf before.sheet.now p round) {work : LocalWork} where
-    -- to the next place that is tried: those before it change nothing
-    pub walking_skips : {n r : ℕ} → Walking set p cs before work n → NextTried (tried_at round.depth (region_in round) work.sheet.now) n r
-        → Walking set p cs before work r
-    walking_skips w t =
-        carried (Walking set p cs before work) (λ q. tried_at round.depth (region_in round) work.sheet.now q ≡ false)
-        (λ q h e v. walking_more v h o.found (untouched work.extending (same q h (rw o.deep at e))))
-        t.start t.upto t.passed w
+    -- a place that is not tried changes nothing
+    pub walking_missed : {n : ℕ} → Walking set p cs before work n → n < 16384 → tried_at round.depth (region_in round) work.sheet.now n ≡ false
+        → Walking set p cs before work (n + 1)
+    walking_missed {n} w h e = walking_more w h o.found (untouched work.extending (same (rw o.deep at e)))
       where
-        same : (q : ℕ) → q < 16384 → tried_at (depth_of p) (region_in round) work.sheet.now q ≡ false → looked_at cs set p (region_in round) q (state_in work) ≡ state_in work
-        same q h e = go (region_at (depth_of p) (region_in round) q) (is_labelled (get_or work.sheet.now q 0)) refl refl e
+        same : tried_at (depth_of p) (region_in round) work.sheet.now n ≡ false → looked_at cs set p (region_in round) n (state_in work) ≡ state_in work
+        same f = go (region_at (depth_of p) (region_in round) n) (is_labelled (get_or work.sheet.now n 0)) refl refl f
           where
-            go : (inside labelled : Bool) → region_at (depth_of p) (region_in round) q ≡ inside → is_labelled (get_or work.sheet.now q 0) ≡ labelled → (inside && not labelled) ≡ false
-                → looked_at cs set p (region_in round) q (state_in work) ≡ state_in work
-            go true true i l z = looked_labelled (local_visit cs set p) (λ t. t.sheet) (region_at (depth_of p) (region_in round) q) q (state_in work) h i l
+            go : (inside labelled : Bool) → region_at (depth_of p) (region_in round) n ≡ inside → is_labelled (get_or work.sheet.now n 0) ≡ labelled → (inside && not labelled) ≡ false
+                → looked_at cs set p (region_in round) n (state_in work) ≡ state_in work
+            go true true i l z = looked_labelled (local_visit cs set p) (λ t. t.sheet) (region_at (depth_of p) (region_in round) n) n (state_in work) h i l
             go true false i l z = absurd (true≢false z)
-            go false labelled i l z = looked_out (local_visit cs set p) (λ t. t.sheet) (region_at (depth_of p) (region_in round) q) q (state_in work) i
+            go false labelled i l z = looked_out (local_visit cs set p) (λ t. t.sheet) (region_at (depth_of p) (region_in round) n) n (state_in work) i
+
+    -- to the next place of the window
+    pub walking_jumps : {n r : ℕ} → Walking set p cs before work n → NextIn round.window n r → Walking set p cs before work r
+    walking_jumps w t = jumps round.window (Walking set p cs before work) (λ q h out v. walking_missed v h (out_not o work.sheet.now q h out)) t w
 
     -- a place that is tried: its cell is bare, and its visit is what the round does there
     module _ {n : ℕ} (w : Walking set p cs before work n) (h : n < 16384) (t : tried_at round.depth (region_in round) work.sheet.now n ≡ true) {c : Cell} (is : c ≡ cell_of n) where

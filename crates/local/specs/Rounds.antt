@@ -1,6 +1,5 @@
 -- What local's functions of a round and of all rounds ask and leave, in the terms of local's definition (crate passes, Local). Definitions only.
-use Rattle.std.specs.Prelude.{◌≡◌, Bool, true, false, not, ◌&&◌, List, ℕ, ◌<◌, ◌≤◌, length, get_or, None}
-use Rattle.sizes.specs.Sizes.{place_count}
+use Rattle.std.specs.Prelude.{◌≡◌, Bool, not, ◌&&◌, List, ℕ, ◌≤◌, get_or, None}
 use Rattle.sheet.specs.Corners.{Corners}
 use Rattle.labels.specs.Labelled.{is_labelled}
 use Rattle.arguments.specs.declared.Settings.{Settings}
@@ -9,9 +8,7 @@ use Rattle.passes.specs.Counting.{no_counts, visits}
 use Rattle.passes.specs.Local.{depth_of, LocalState, LocalRounds, local_visit, unmatched_if}
 use Rattle.passes.specs.declared.LocalStats.{LocalStats}
 use Rattle.region.specs.Region.{Region, RegionFound, region_of, region_at}
-use Rattle.region.specs.Small.{SmallBox}
-use Rattle.region.specs.Windowed.{InWindow, WindowFits, Windowed}
-use Rattle.region.specs.declared.Window.{Window}
+use Rattle.region.specs.Windowed.{Windowed}
 use Rattle.region.specs.Places.{place_visited}
 use Rattle.local_cell.specs.Extending.{state_of}
 use Rattle.local_cell.specs.Work.{Left}
@@ -35,21 +32,6 @@ pub record RoundOf (sheet : List ℕ) (p : LocalExtensionParams) (round : Round)
 abbrev pub tried_at : ℕ → Region → List ℕ → ℕ → Bool
 tried_at depth region sheet place = region_at depth region place && not (is_labelled (get_or sheet place 0))
 
--- the region of a round can be told at every place, and no place outside of the window is in it
-pub record Tellable (depth : ℕ) (region : Region) (window : Window) (sheet : List ℕ) : Type 0 where
-  pub long : place_count ≤ length sheet
-  pub shallow : depth ≤ 64
-  pub small : SmallBox region.around
-  pub fits : WindowFits window
-  pub far : (p : ℕ) → p < place_count → (InWindow window p → ⊥) → region_at depth region p ≡ false
-
--- the next place from one on whose cell is tried, or 16,384 where there is none
-pub record NextTried (tried : ℕ → Bool) (from r : ℕ) : Type 0 where
-  pub start : from ≤ r
-  pub upto : r ≤ place_count
-  pub passed : (p : ℕ) → from ≤ p → p < r → tried p ≡ false
-  pub hit : r < place_count → tried r ≡ true
-
 -- a place looked at: its cell is tried if it lies in the region and is unlabelled now
 abbrev pub looked_at : Corners → Settings → LocalExtensionParams → Region → ℕ → LocalState → LocalState
 looked_at cs set p region place s = place_visited (local_visit cs set p) (λ t. t.sheet) (region_at (depth_of p) region place) place s
@@ -62,8 +44,8 @@ pub record RoundAsked (work : LocalWork) : Type 0 where
 -- ---- all rounds
 
 -- nothing done yet
-abbrev pub no_progress : ℕ → LocalProgress
-no_progress labels = record { counts = no_counts; residual = None; labels = labels; unmatched = 0 }
+abbrev pub no_progress : LocalProgress
+no_progress = record { counts = no_counts; residual = None; unmatched = 0 }
 
 abbrev pub start_of : List ℕ → List ℕ → LocalProgress → LocalRounds
 start_of sheet list at = record { state = state_of sheet list at; rounds = 0 }
@@ -73,7 +55,7 @@ start_in w = start_of w.sheet.now w.attached.now w.progress
 
 -- all rounds are to be done, and nothing is done yet: rounds and depth are those of an accepted call
 pub record RoundsAsked (work : LocalWork) : Type 0 where
-  pub unstarted : work.progress ≡ no_progress work.progress.labels
+  pub unstarted : work.progress ≡ no_progress
   pub shallow : work.setup.params.extend_depth ≤ 4
   pub rounds_few : work.setup.params.max_iters ≤ 64
 

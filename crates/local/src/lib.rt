@@ -8,6 +8,7 @@ ghost use Rattle.std.specs.Prelude.{◌≡◌, ◌≤◌, length, Ok};
 ghost use Rattle.sizes.specs.Sizes.{place_count};
 ghost use Rattle.sheet.specs.Corners.{corner_lists};
 ghost use Rattle.arguments.specs.Shades.{corners_of};
+ghost use Rattle.arguments.specs.Asked.{lists_of};
 ghost use Rattle.passes.specs.Outcome.{done};
 ghost use Rattle.passes.specs.Local.{depth_of, local_round, local_from, unmatched_if, local_after};
 ghost use Rattle.passes.specs.Step.{local_step, local_out, local_leaves, lent_of, rooms};
@@ -18,16 +19,18 @@ ghost use Rattle.labels.specs.Rim.{rim};
 ghost use Rattle.region.specs.Region.{Telling};
 ghost use Rattle.local_cell.specs.Extending.{state_of};
 ghost use Rattle.local_cell.specs.Work.{held, state_in, SamePass, Left, RecallsIn};
-ghost use Rattle.local.specs.Rounds.{region_in, RoundOf, tried_at, Tellable, NextTried, RoundAsked, no_progress, start_in, RoundsAsked, RoundsLeft, stats_of};
+ghost use Rattle.local.specs.Rounds.{region_in, RoundOf, tried_at, RoundAsked, no_progress, start_in, RoundsAsked, RoundsLeft, stats_of};
 
-use arguments::{LocalExtensionParams, Pass, Settings};
+use arguments::{LentCorners, LocalExtensionParams, Pass, Settings};
 use labels::Bounds;
 use local_cell::{LocalProgress, LocalSetup, LocalWork};
 use passes::{Counts, LocalStats};
 use refusal::Refusal;
 use region::Window;
 use remembered::Memory;
-use sizes::{CORNERS, PLACES};
+use sheet::CornerArrays;
+use sizes::CORNERS;
+use supports::Labelled;
 
 // What a round walks: the label box, which rows and which columns have a label, the depth, and the window within which all its cells lie.
 #[derive(Clone, Copy)]
@@ -49,30 +52,13 @@ fn depth_of(params: LocalExtensionParams) -> u32
 
 impl Round {
     // Whether the round tries the cell of a place: it lies in the region and is unlabelled.
-    fn is_tried(&self, sheet: &[u16], place: usize) -> bool
+    fn is_tried(&self, work: &LocalWork, place: usize) -> bool
         requires telling { Telling (region_in self.now) place self.now.depth }
-        requires long { place_count ≤ length sheet.now }
-        ensures { result ≡ tried_at self.now.depth (region_in self.now) sheet.now place }
+        requires long { place_count ≤ length work.now.sheet.now }
+        ensures { result ≡ tried_at self.now.depth (region_in self.now) work.now.sheet.now place }
     {
         region::is_local_cell(self.around, &self.rows, &self.columns, place, self.depth)
-            && !labels::is_labelled(sheet[place])
-    }
-
-    // The next place from one on whose cell the round tries, or 16,384 where there is none.
-    fn next_tried(&self, work: &LocalWork, from: usize) -> usize
-        requires tellable { Tellable self.now.depth (region_in self.now) self.now.window work.now.sheet.now }
-        requires start { from ≤ place_count }
-        ensures { NextTried (tried_at self.now.depth (region_in self.now) work.now.sheet.now) from result }
-    {
-        let mut place = region::next_inside(self.window, from);
-        // Stays: the places between two lines of the window are passed over, so that the step is not 1.
-        while place < PLACES {
-            if self.is_tried(work.sheet, place) {
-                return place;
-            }
-            place = region::next_inside(self.window, place + 1);
-        }
-        place
+            && !labels::is_labelled(work.sheet[place])
     }
 }
 
@@ -81,7 +67,7 @@ fn round_of(work: &LocalWork) -> Round
     requires { RoundAsked work.now }
     ensures { RoundOf work.now.sheet.now work.now.setup.params result }
 {
-    let labelled = &work.places[..work.progress.labels];
+    let labelled = work.labelled.as_slice();
     let around = labels::label_box(work.sheet);
     let depth = depth_of(work.setup.params);
     Round {
@@ -102,27 +88,20 @@ fn local_round(work: &mut LocalWork)
     ensures left { Left work.old work.new (local_round (held work.old) work.old.setup.settings work.old.setup.params (state_in work.old)) }
 {
     let round = round_of(work);
-    let mut place = round.next_tried(work, 0);
-    // Stays: which place is tried next hangs on the sheet, which is written on the way, so that no iterator may hold it.
-    while place < PLACES {
-        work.try_local_cell(sheet::cell_of(place));
-        place = round.next_tried(work, place + 1);
+    for place in round.window.places() {
+        if round.is_tried(work, place) {
+            work.try_local_cell(sheet::cell_of(place));
+        }
     }
 }
 
-// Nothing done yet, with so many labels.
-fn no_progress(labels: usize) -> LocalProgress
-    ensures { result ≡ no_progress labels }
+// Nothing done yet.
+fn no_progress() -> LocalProgress
+    ensures { result ≡ no_progress }
 {
     LocalProgress {
-        counts: Counts {
-            attached: 0,
-            rejected_no_candidate: 0,
-            rejected_ambiguous: 0,
-            rejected_edge: 0,
-        },
+        counts: Counts::default(),
         residual: None,
-        labels,
         unmatched: 0,
     }
 }
@@ -178,37 +157,33 @@ fn stats_of(progress: LocalProgress, rounds: usize, rim: bool, shaded: bool) -> 
 }
 
 // The pass itself, on arguments that are not refused: all rounds if there are four labels, else none, and what the answer says of them.
-// Stays: the lists are those of the public call.
 fn local_accepted(
-    xs: &[f32],
-    ys: &[f32],
-    pitches: &[f32],
-    shades: &[u8],
+    corners: LentCorners,
     sheet: &mut [u16],
     attached: &mut [u16],
     settings: Settings,
     params: LocalExtensionParams,
 ) -> LocalStats
-    requires { Accepted (lent_of (corner_lists xs.now ys.now pitches.now) shades.now sheet.old (rooms 0 (length attached.old)))
+    requires { Accepted (lent_of (lists_of corners) corners.shades.now sheet.old (rooms 0 (length attached.old)))
         settings (Pass.Local params) }
     ensures { local_out (Ok result) sheet.new attached.new
-        ≡ local_leaves (done (local_after (corners_of (corner_lists xs.now ys.now pitches.now) shades.now)
+        ≡ local_leaves (done (local_after (corners_of (lists_of corners.entry) corners.entry.shades.now)
         settings params sheet.old)) sheet.old attached.old }
 {
     let depth = depth_of(params);
-    let shaded = arguments::any_shade(shades, xs.len());
-    let mut places = [0u16; CORNERS];
-    let labels = supports::gather_labelled(sheet, &mut places);
-    let progress = no_progress(labels);
+    let shaded = corners.any_shade();
+    let mut labelled = Labelled::new();
+    labelled.gather(sheet);
+    let labels = labelled.count;
+    let progress = no_progress();
     if labels < 4 {
         return stats_of(progress, 0, labels::rim_reached(sheet, depth), shaded);
     }
-    let nothing = 0.0f32 / 0.0f32;
-    let mut corners = [nothing; 4 * CORNERS];
-    arguments::hold_corners(xs, ys, pitches, shades, &mut corners);
+    let mut held = CornerArrays::new();
+    corners.hold(&mut held);
     let setup = LocalSetup {
-        corners: &corners,
-        count: xs.len(),
+        corners: &held,
+        count: corners.xs.len(),
         settings,
         params,
     };
@@ -218,7 +193,7 @@ fn local_accepted(
         sheet,
         attached,
         used,
-        places,
+        labelled,
         memory: Memory::new(),
         progress,
     };
@@ -250,16 +225,19 @@ pub fn extend_via_local_homography(
         (corner_lists xs.now ys.now pitches.now) shades.now
         sheet.old settings params (rooms 0 (length attached.old))) }
 {
-    arguments::check_arguments(
+    let corners = LentCorners {
         xs,
         ys,
         pitches,
         shades,
+    };
+    arguments::check_arguments(
+        corners,
         sheet,
         0,
         attached.len(),
         settings,
         Pass::Local(params),
     )?;
-    Ok(local_accepted(xs, ys, pitches, shades, sheet, attached, settings, params))
+    Ok(local_accepted(corners, sheet, attached, settings, params))
 }

@@ -5,7 +5,7 @@ use mathlib.Core.Bool.{Bool, true, false}
 use mathlib.Core.List.{List}
 use Prim.Native.Nat.{ℕ, ◌+◌, ◌*◌, ◌<◌, ◌≤◌}
 use native.Mathlib.Omega.{arith}
-use Rattle.std.specs.Prelude.{Option, None, Some}
+use Rattle.std.specs.Prelude.{Option, None, Some, Ok, Err}
 use lib.ListN.{take}
 use lib.Ieee.{Float, of_bits, binary32, lt}
 use Rattle.sheet.specs.Cells.{OnSheet, place_of}
@@ -18,15 +18,16 @@ use Rattle.arguments.specs.declared.Settings.{Settings}
 use Rattle.arguments.specs.declared.LocalExtensionParams.{LocalExtensionParams}
 use Rattle.candidates.specs.Candidates.{last_distance}
 use Rattle.candidates.specs.declared.Candidates.{Candidates}
-use Rattle.extension_common.specs.TryCell.{gathered, unmatched, try_at}
+use Rattle.extension_common.specs.TryCell.{TryCellResult, gathered, unmatched, try_at}
 use Rattle.extension_common.proofs.Laws.{unmatched_few}
-use Rattle.extension_common.specs.declared.TryCellResult.{TryCellResult}
+use Rattle.extension_common.specs.declared.NotAttached.{NotAttached}
 use Rattle.homography.specs.Fit.{applied}
 use Rattle.passes.specs.Grow.{tolerances_of}
 use Rattle.passes.specs.Local.{supports_of, cell_point, fitted, local_fit, worst, with_unmatched, local_search, gate_of, local_with, local_try, local_visit}
 use Rattle.passes.specs.Counting.{one_more, visits}
 use Rattle.supports.specs.Nearest.{places_of, nearest_among}
 use Rattle.supports.specs.Fitted.{support_fit_of}
+use Rattle.supports.specs.declared.Labelled.{Labelled}
 use Rattle.supports.specs.declared.Support.{Support}
 use Rattle.supports.specs.declared.SupportFit.{SupportFit}
 use Rattle.supports.proofs.Fitted.{fit_none, fit_some}
@@ -49,13 +50,13 @@ use Rattle.local_cell.proofs.Visit.{nearby, supports_are, untouched, extending_a
 -- ---- a cell of which nothing is known
 
 -- how far a support is can be noted
-pub reaches_small : {n : ℕ} {sheet list used places : List ℕ} {at : LocalProgress} (c : Cell) {near : List Support} → Extending n sheet list used places at → OnSheet c
-    → near ≡ nearest_among c (take at.labels places) → (nth near 3).reach < 8192
+pub reaches_small : {n : ℕ} {sheet list : List ℕ} {used : List Bool} {labelled : Labelled} {at : LocalProgress} (c : Cell) {near : List Support} → Extending n sheet list used labelled at → OnSheet c
+    → near ≡ nearest_among c (take labelled.count labelled.places) → (nth near 3).reach < 8192
 reaches_small c f on e = nearest_small (nearby f c on) e
 
 module _ (set : Settings) (p : LocalExtensionParams) {cs : Corners} {sheet list : List ℕ} {work : LocalWork} (c : Cell)
-    (f : Extending cs.count sheet list work.used work.places work.progress) (on : OnSheet c) (r : Recalls set p cs sheet work) (near : List Support)
-    (nearest : near ≡ nearest_among c (take work.progress.labels work.places)) {found : Option SupportFit}
+    (f : Extending cs.count sheet list work.used work.labelled work.progress) (on : OnSheet c) (r : Recalls set p cs sheet work) (near : List Support)
+    (nearest : near ≡ nearest_among c (take work.labelled.count work.labelled.places)) {found : Option SupportFit}
     (is : found ≡ support_fit_of (local_fit (seen_of cs.corner sheet) (places_of near))) where
   supports : places_of near ≡ supports_of c sheet
   supports = supports_are f c near (nearest_places (nearby f c on) nearest)
@@ -70,7 +71,7 @@ module _ (set : Settings) (p : LocalExtensionParams) {cs : Corners} {sheet list 
   module _ (e : found ≡ None) where
     pub none_left : {at' : LocalProgress} → at' ≡ work.progress → Holds (local_visit cs set p c (state_of sheet list work.progress)) list sheet list at'
     none_left same =
-        untouched (extending_as f refl refl (ap (λ (x : LocalProgress). x.counts.attached) same) (ap (λ (x : LocalProgress). x.labels) same))
+        untouched (extending_as f refl refl (ap (λ (x : LocalProgress). x.counts.attached) same))
         (visit_none cs set p c (state_of sheet list work.progress) _ of (fit_none _ is e) ∙ ap (state_of sheet list) (sym same))
 
     pub none_recalls : {work' : LocalWork} → work'.progress ≡ work.progress → Noted work.memory c (Some (record { reach = (nth near 3).reach; finding = Finding.Idle })) work'.memory → Recalls set p cs sheet work'
@@ -102,8 +103,8 @@ module _ (set : Settings) (p : LocalExtensionParams) {cs : Corners} {sheet list 
       within_visit f = rw (f, mapped) (visit_fitted cs set p c (state_of sheet list work.progress) _ of _ _ has within)
 
     module _ {at' : LocalProgress} (z : at' ≡ residuals_recorded work.progress fit.residuals) where
-      recorded : Extending cs.count sheet list work.used work.places at'
-      recorded = extending_as f refl refl (ap (λ (x : LocalProgress). x.counts.attached) z) (ap (λ (x : LocalProgress). x.labels) z)
+      recorded : Extending cs.count sheet list work.used work.labelled at'
+      recorded = extending_as f refl refl (ap (λ (x : LocalProgress). x.counts.attached) z)
 
       few : at'.unmatched ≤ 1024 * visits at'.counts
       few = rw z r.unmatched_few
@@ -149,7 +150,7 @@ module _ {set : Settings} {p : LocalExtensionParams} {cs : Corners} {sheet : Lis
     recalls_attached {k = k} a four e w f =
         record {
           remembered = rw (w.sheet_is, w.largest_is) (attach_remembered a four r.remembered (rw e at f));
-          unmatched_few = rw (w.unmatched_is, w.counts_are) (more (TryCellResult.Attached k));
+          unmatched_few = rw (w.unmatched_is, w.counts_are) (more (Ok k));
         }
 
     -- noted where no shade stands
@@ -164,7 +165,7 @@ module _ {set : Settings} {p : LocalExtensionParams} {cs : Corners} {sheet : Lis
 
     -- no candidate
     pub recalls_missed : {reach : ℕ} {prediction : Position} {work' : LocalWork} (found : TryCellResult) → OnSheet c → Foretold set p cs sheet work c reach prediction
-        → found ≡ try_at cs sheet (tolerances_of set) (local_search set p) c prediction → found ≡ TryCellResult.NoCandidates → work'.progress ≡ cell_counted work.progress found
+        → found ≡ try_at cs sheet (tolerances_of set) (local_search set p) c prediction → found ≡ Err NotAttached.NoCandidates → work'.progress ≡ cell_counted work.progress found
         → NotedIfBare cs.shades.any work.memory c (record { reach = reach; finding = Finding.NoCandidates }) work'.memory → Recalls set p cs sheet work'
     recalls_missed found on k d g e n = noted_if found on (λ s. (k.known.0, made_no_candidates k.known.1 (sym d ∙ g) s)) e n
 
@@ -172,7 +173,7 @@ module _ {set : Settings} {p : LocalExtensionParams} {cs : Corners} {sheet : Lis
     pub recalls_ambiguous : {reach : ℕ} {prediction : Position} {candidates : Candidates} {limit : Float} {work' : LocalWork} (found : TryCellResult)
         → OnSheet c → Foretold set p cs sheet work c reach prediction
         → candidates ≡ gathered cs sheet (local_search set p).search_r c prediction → limit ≡ last_distance candidates
-        → found ≡ try_at cs sheet (tolerances_of set) (local_search set p) c prediction → found ≡ TryCellResult.Ambiguous → work'.progress ≡ cell_counted work.progress found
+        → found ≡ try_at cs sheet (tolerances_of set) (local_search set p) c prediction → found ≡ Err NotAttached.Ambiguous → work'.progress ≡ cell_counted work.progress found
         → NotedIfBare cs.shades.any work.memory c (record { reach = reach; finding = Finding.Ambiguous prediction limit }) work'.memory → Recalls set p cs sheet work'
     recalls_ambiguous found on k i h d g e n = noted_if found on (λ s. (k.known.0, made_ambiguous k.known.1 (sym d ∙ g) (h ∙ ap last_distance i) s)) e n
 
@@ -221,11 +222,11 @@ module _ {set : Settings} {p : LocalExtensionParams} {cs : Corners} {sheet : Lis
   known_idle list e = visit_idle cs set p c (state_of sheet list work.progress) (rw e at says)
 
   pub known_no_candidates : (list : List ℕ) → k.finding ≡ Finding.NoCandidates
-      → local_visit cs set p c (state_of sheet list work.progress) ≡ local_with c TryCellResult.NoCandidates (state_of sheet list work.progress)
+      → local_visit cs set p c (state_of sheet list work.progress) ≡ local_with c (Err NotAttached.NoCandidates) (state_of sheet list work.progress)
   known_no_candidates list e = visit_no_candidates cs set p c (state_of sheet list work.progress) (rw e at says)
 
   pub known_ambiguous : (list : List ℕ) {prediction : Position} {limit : Float} → k.finding ≡ Finding.Ambiguous prediction limit
-      → local_visit cs set p c (state_of sheet list work.progress) ≡ local_with c TryCellResult.Ambiguous (state_of sheet list work.progress)
+      → local_visit cs set p c (state_of sheet list work.progress) ≡ local_with c (Err NotAttached.Ambiguous) (state_of sheet list work.progress)
   known_ambiguous list e = visit_ambiguous cs set p c (state_of sheet list work.progress) (rw e at says)
 
   module _ {prediction : Position} (e : k.finding ≡ Finding.Predicted prediction) where

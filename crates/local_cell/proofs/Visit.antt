@@ -1,6 +1,6 @@
 -- One cell of local: what a visit does to the state, by the fit and by what trying the cell finds; and what the code has written when it has
 -- attached a corner. Assumes nothing.
-use Rattle.std.specs.Prelude.{None, Option}
+use Rattle.std.specs.Prelude.{None, Option, Ok, Err}
 use mathlib.Core.Path.{◌≡◌, refl, sym, ap, ap₂, ◌∙◌}
 use mathlib.Core.Bool.{Bool, true, false, cond}
 use mathlib.Core.List.{List, [], ◌∷◌, ◌++◌}
@@ -11,8 +11,8 @@ use lib.Seq.{length-take-le}
 use lib.Ieee.{Float, of_bits, binary32, lt}
 use Rattle.sheet.specs.Cells.{OnSheet, place_of}
 use Rattle.sheet.specs.Words.{label_at, attached, marks_cleared}
-use Rattle.sheet.specs.Shades.{kind_at, takes, shades_in}
-use Rattle.sheet.specs.Corners.{Corners, corners_in, Given, seen_of}
+use Rattle.sheet.specs.Shades.{takes, shades_in}
+use Rattle.sheet.specs.Corners.{Corners, Given, seen_of}
 use Rattle.sheet.specs.declared.Cell.{Cell}
 use Rattle.sheet.specs.declared.Position.{Position}
 use Rattle.sheet.proofs.Corners.{given_attached, given_cleared}
@@ -24,21 +24,21 @@ use Rattle.labels.proofs.Used.{tied_attached, tied_cleared, one_attached, one_cl
 use Rattle.positions_policy.specs.declared.Tolerances.{Tolerances}
 use Rattle.arguments.specs.declared.Settings.{Settings}
 use Rattle.arguments.specs.declared.LocalExtensionParams.{LocalExtensionParams}
-use Rattle.candidates.specs.Candidates.{positions_in, unmarked, eligible_in, candidates_at, first_two}
-use Rattle.candidates.specs.declared.Candidates.{Candidates}
+use Rattle.candidates.specs.Candidates.{positions_in, unmarked}
 use Rattle.passed_over.specs.PassedOver.{passed_over}
-use Rattle.extension_common.specs.TryCell.{gathered, unmatched, try_at}
+use Rattle.extension_common.specs.TryCell.{TryCellResult, unmatched, try_at}
 use Rattle.extension_common.specs.declared.Search.{Search}
-use Rattle.extension_common.specs.declared.TryCellResult.{TryCellResult}
-use Rattle.extension_common.proofs.Laws.{gathered_tied, unmatched_tied, Attachable, attachable}
+use Rattle.extension_common.specs.declared.NotAttached.{NotAttached}
+use Rattle.extension_common.proofs.Laws.{unmatched_tied, Attachable, attachable}
 use Rattle.homography.specs.Fit.{applied}
 use Rattle.passes.specs.Counting.{one_more, visits}
 use Rattle.passes.specs.Grow.{tolerances_of}
 use Rattle.passes.specs.Local.{LocalState, supports_of, by_reach, cell_point, LocalFit, none, fitted, local_fit, worst, recorded_all, with_residuals, with_unmatched, local_search, gate_of, local_with, local_try, local_at, local_visit}
 use Rattle.passes.specs.declared.Counts.{Counts}
-use Rattle.passes.proofs.Over.{over_own, over_more, over_read, over_length}
+use Rattle.passes.proofs.Over.{over_own, over_more, over_read}
 use Rattle.passes.proofs.Free.{labels_few, labels_fewer}
 use Rattle.supports.specs.Nearest.{Nearby, Gatherable, Gathered, places_of}
+use Rattle.supports.specs.declared.Labelled.{Labelled}
 use Rattle.supports.specs.declared.Support.{Support}
 use Rattle.std.specs.List.{All}
 use Rattle.std.proofs.lemmas.List.Elements.{All-from_get_or}
@@ -60,12 +60,12 @@ pub tried : (cs : Corners) (set : Settings) (p : LocalExtensionParams) (c : Cell
 unfolding local_visit local_at local_try local_with
 tried cs set p c s = go (local_fit (seen_of cs.corner s.sheet) (supports_of c s.sheet))
   where
-    by : (rs : List Float) (u : ℕ) (r : TryCellResult) → ((k : ℕ) → r ≡ TryCellResult.Attached k → Attachable cs s.sheet (tolerances_of set) c k)
+    by : (rs : List Float) (u : ℕ) (r : TryCellResult) → ((k : ℕ) → r ≡ Ok k → Attachable cs s.sheet (tolerances_of set) c k)
         → Tried cs (tolerances_of set) c s (local_with c r (with_unmatched u (with_residuals rs s)))
-    by rs u TryCellResult.NoCandidates h = passed (one_more TryCellResult.NoCandidates s.counts) (recorded_all s.largest rs) _ (omega arith)
-    by rs u TryCellResult.Ambiguous h = passed (one_more TryCellResult.Ambiguous s.counts) (recorded_all s.largest rs) _ (omega arith)
-    by rs u TryCellResult.EdgeRejected h = passed (one_more TryCellResult.EdgeRejected s.counts) (recorded_all s.largest rs) _ (omega arith)
-    by rs u (TryCellResult.Attached k) h = attaches (one_more (TryCellResult.Attached k) s.counts) (recorded_all s.largest rs) _ k (omega arith) (h k refl)
+    by rs u (Err NotAttached.NoCandidates) h = passed (one_more (Err NotAttached.NoCandidates) s.counts) (recorded_all s.largest rs) _ (omega arith)
+    by rs u (Err NotAttached.Ambiguous) h = passed (one_more (Err NotAttached.Ambiguous) s.counts) (recorded_all s.largest rs) _ (omega arith)
+    by rs u (Err NotAttached.EdgeRejected) h = passed (one_more (Err NotAttached.EdgeRejected) s.counts) (recorded_all s.largest rs) _ (omega arith)
+    by rs u (Ok k) h = attaches (one_more (Ok k) s.counts) (recorded_all s.largest rs) _ k (omega arith) (h k refl)
 
     gated : (h rs : List Float) (t : Bool)
         → Tried cs (tolerances_of set) c s
@@ -108,7 +108,7 @@ module _ {sheet : List ℕ} {c : Cell} {k : ℕ} (a : Attaching sheet c k) where
   pub clear_one : used_on sheet k ≡ false → OneCell sheet → OneCell (attached_clear sheet c k)
   clear_one free o = one_cleared (attached sheet c k) c long' a.on (one_attached a free o)
 
-  pub clear_tied : {used : List ℕ} → k < 1024 → Tied sheet used → Tied (attached_clear sheet c k) (set used k 1)
+  pub clear_tied : {used : List Bool} → k < 1024 → Tied sheet used → Tied (attached_clear sheet c k) (set used k true)
   clear_tied h t = tied_cleared (attached sheet c k) c long' a.on (tied_attached a h t)
 
 -- the labelled places listed anew
@@ -117,22 +117,18 @@ module _ {sheet places places' : List ℕ} {labels : ℕ} where
   unfolding label_count
   gathered_front g = rw (g.count_is, g.places_are) (over_read (labelled_places sheet) places)
 
-  pub gathered_size : length places ≡ 1024 → label_count sheet ≤ 1024 → Gathered sheet places places' labels → length places' ≡ 1024
-  unfolding label_count
-  gathered_size n h g = rw g.places_are (over_length (labelled_places sheet) places (omega arith) ∙ n)
-
 -- the stores of an attaching
 module _ (sheet : List ℕ) (c : Cell) (k : ℕ) {first second : List ℕ} (e : first ≡ attached sheet c k) (g : second ≡ marks_cleared first c) where
   both_changes : second ≡ attached_clear sheet c k
   both_changes = g ∙ ap (λ (l : List ℕ). marks_cleared l c) e
 
-  pub gatherable : {list places : List ℕ} {at : LocalProgress} → Writable sheet list places at c k → Gatherable second places
+  pub gatherable : {list : List ℕ} {at : LocalProgress} → Writable sheet list at c k → Gatherable second
   gatherable w =
       let long : 16384 ≤ length (attached sheet c k) = rw (attached_changes sheet c w.sheet_cell.long w.sheet_cell.on k (omega (arith, w.entry))).same_length w.sheet_cell.long in
-      rw both_changes (record { long = rw (cleared_changes (attached sheet c k) c long w.sheet_cell.on).same_length long; few = w.few; size = w.size })
+      rw both_changes (record { long = rw (cleared_changes (attached sheet c k) c long w.sheet_cell.on).same_length long; few = w.few })
 
-  pub wrote : {list : List ℕ} {work work' : LocalWork} {place : ℕ} → place ≡ place_of c → Gathered second work.places work'.places work'.progress.labels
-      → work'.used ≡ set work.used k 1 → work'.progress.counts ≡ one_more (TryCellResult.Attached k) work.progress.counts
+  pub wrote : {list : List ℕ} {work work' : LocalWork} {place : ℕ} → place ≡ place_of c → Gathered second work.labelled.places work'.labelled.places work'.labelled.count
+      → work'.used ≡ set work.used k true → work'.progress.counts ≡ one_more (Ok k) work.progress.counts
       → work'.progress.residual ≡ work.progress.residual → work'.progress.unmatched ≡ work.progress.unmatched
       → Wrote sheet list work c k second (set list work.progress.counts.attached place) work'
   wrote {list} {work} p w u e l m =
@@ -148,25 +144,23 @@ module _ (sheet : List ℕ) (c : Cell) (k : ℕ) {first second : List ℕ} (e : 
 
 -- ---- the supports
 
-module _ {n : ℕ} {sheet list used places : List ℕ} {at : LocalProgress} (f : Extending n sheet list used places at) where
-  pub labels_in : at.labels ≤ 1024
-  labels_in = omega (arith, f.labels_are, f.few, labels_few f.given f.one_cell)
-
-  front_long : length (take at.labels places) ≡ at.labels
-  front_long = length-take-le at.labels places (omega (arith, labels_in, f.size))
+module _ {n : ℕ} {sheet list : List ℕ} {used : List Bool} {labelled : Labelled} {at : LocalProgress} (f : Extending n sheet list used labelled at) where
+  front_long : length (take labelled.count labelled.places) ≡ label_count sheet
+  unfolding label_count
+  front_long = ap length f.places_are
 
   -- the labelled places are of the sheet
-  pub listed_below : All (λ (p : ℕ). p < 16384) (take at.labels places)
+  pub listed_below : All (λ (p : ℕ). p < 16384) (take labelled.count labelled.places)
   listed_below = rw f.places_are (All-from_get_or (λ (p : ℕ). p < 16384) (labelled_places sheet) 0 (places_in_lem sheet))
 
-  pub nearby : (c : Cell) → OnSheet c → Nearby (take at.labels places) c
+  pub nearby : (c : Cell) → OnSheet c → Nearby (take labelled.count labelled.places) c
   nearby c on =
       record {
-        four = omega (arith, front_long, f.labels_are, f.four);
+        four = omega (arith, front_long, f.four);
         along = record { rising = rw f.places_are (places_rise sheet); below = listed_below; on = on };
       }
 
-  pub supports_are : (c : Cell) (s : List Support) → places_of s ≡ take 4 (by_reach c (take at.labels places)) → places_of s ≡ supports_of c sheet
+  pub supports_are : (c : Cell) (s : List Support) → places_of s ≡ take 4 (by_reach c (take labelled.count labelled.places)) → places_of s ≡ supports_of c sheet
   unfolding supports_of
   supports_are c s e = e ∙ rw f.places_are
 
@@ -177,7 +171,7 @@ pub left_as : {s after : LocalState} {before sheet list : List ℕ} {at : LocalP
     → Holds s before sheet list at → Holds after before sheet list at
 left_as e l = rw e l
 
-module _ {n : ℕ} {sheet list used places : List ℕ} {at : LocalProgress} (f : Extending n sheet list used places at) where
+module _ {n : ℕ} {sheet list : List ℕ} {used : List Bool} {labelled : Labelled} {at : LocalProgress} (f : Extending n sheet list used labelled at) where
   pub made_few : at.counts.attached ≤ n
   made_few = omega (arith, f.room, labels_few f.given f.one_cell)
 
@@ -197,9 +191,9 @@ module _ {n : ℕ} {sheet list used places : List ℕ} {at : LocalProgress} (f :
       }
 
   -- the same buffers, with as many attached and labelled
-  pub extending_as : {used' places' : List ℕ} {at' : LocalProgress} → used' ≡ used → places' ≡ places → at'.counts.attached ≡ at.counts.attached
-      → at'.labels ≡ at.labels → Extending n sheet list used' places' at'
-  extending_as u p m l =
+  pub extending_as : {used' : List Bool} {labelled' : Labelled} {at' : LocalProgress} → used' ≡ used → labelled' ≡ labelled → at'.counts.attached ≡ at.counts.attached
+      → Extending n sheet list used' labelled' at'
+  extending_as u p m =
       record {
         given = f.given;
         few = f.few;
@@ -208,13 +202,12 @@ module _ {n : ℕ} {sheet list used places : List ℕ} {at : LocalProgress} (f :
         list_long = f.list_long;
         room = rw m f.room;
         four = f.four;
-        labels_are = rw l f.labels_are;
-        places_are = rw (l, p) f.places_are;
-        size = rw p f.size;
+        labels_are = rw p f.labels_are;
+        places_are = rw p f.places_are;
       }
 
 -- a place of the list written
-pub list_written : {n : ℕ} {sheet list used places : List ℕ} {at : LocalProgress} (i v : ℕ) → Extending n sheet list used places at → Extending n sheet (set list i v) used places at
+pub list_written : {n : ℕ} {sheet list : List ℕ} {used : List Bool} {labelled : Labelled} {at : LocalProgress} (i v : ℕ) → Extending n sheet list used labelled at → Extending n sheet (set list i v) used labelled at
 list_written i v f =
     record {
       given = f.given;
@@ -226,10 +219,9 @@ list_written i v f =
       four = f.four;
       labels_are = f.labels_are;
       places_are = f.places_are;
-      size = f.size;
     }
 
-pub untouched : {n : ℕ} {sheet list used places : List ℕ} {at : LocalProgress} {after : LocalState} → Extending n sheet list used places at → after ≡ state_of sheet list at → Holds after list sheet list at
+pub untouched : {n : ℕ} {sheet list : List ℕ} {used : List Bool} {labelled : Labelled} {at : LocalProgress} {after : LocalState} → Extending n sheet list used labelled at → after ≡ state_of sheet list at → Holds after list sheet list at
 untouched f e = rw e (stands f)
 
 module _ {work : LocalWork} {c : Cell} {k : ℕ} (t : Taking work c k) where
@@ -255,7 +247,7 @@ module _ {work : LocalWork} {c : Cell} {k : ℕ} (t : Taking work c k) where
       let f = work.extending in
       omega (arith, f.room, f.list_long, labels_fewer f.given f.one_cell taking_attaching t.there t.free)
 
-  pub taking_writable : Writable work.sheet.now work.attached.now work.places work.progress c k
+  pub taking_writable : Writable work.sheet.now work.attached.now work.progress c k
   taking_writable =
       record {
         sheet_cell = record { long = work.extending.given.long; on = t.trying.on };
@@ -263,12 +255,11 @@ module _ {work : LocalWork} {c : Cell} {k : ℕ} (t : Taking work c k) where
         space = taking_room;
         countable = t.trying.countable;
         few = taking_few;
-        size = work.extending.size;
       }
 
   -- a corner attached
   pub took : {sheet' list' : List ℕ} {work' : LocalWork} → Wrote work.sheet.now work.attached.now work c k sheet' list' work'
-      → Holds (local_with c (TryCellResult.Attached k) (state_in work)) work.attached.now sheet' list' work'.progress
+      → Holds (local_with c (Ok k) (state_in work)) work.attached.now sheet' list' work'.progress
   unfolding local_with
   took {sheet'} {list'} {work'} w =
       let f = work.extending in
@@ -287,10 +278,10 @@ module _ {work : LocalWork} {c : Cell} {k : ℕ} (t : Taking work c k) where
       })
 
   -- and all may go on
-  pub took_extending : {first second places' : List ℕ} (place : ℕ) {at' : LocalProgress} → first ≡ attached work.sheet.now c k → second ≡ marks_cleared first c
-      → Gathered second work.places places' at'.labels → at'.counts ≡ one_more (TryCellResult.Attached k) work.progress.counts
-      → Extending work.setup.count second (set work.attached.now work.progress.counts.attached place) (set work.used k 1) places' at'
-  took_extending place {at' = at'} e g w h =
+  pub took_extending : {first second : List ℕ} (place : ℕ) {labelled' : Labelled} {at' : LocalProgress} → first ≡ attached work.sheet.now c k → second ≡ marks_cleared first c
+      → Gathered second work.labelled.places labelled'.places labelled'.count → at'.counts ≡ one_more (Ok k) work.progress.counts
+      → Extending work.setup.count second (set work.attached.now work.progress.counts.attached place) (set work.used k true) labelled' at'
+  took_extending place {labelled'} {at'} e g w h =
       let f = work.extending in
       let m : at'.counts.attached ≡ work.progress.counts.attached + 1 = ap (λ (x : Counts). x.attached) h in
       let is = both_changes work.sheet.now c k e g in
@@ -306,10 +297,12 @@ module _ {work : LocalWork} {c : Cell} {k : ℕ} (t : Taking work c k) where
         four = omega (arith, f.four, clear_count taking_attaching);
         labels_are = w'.count_is;
         places_are = gathered_front w';
-        size = gathered_size f.size taking_few w';
       })
 
 -- ---- by what was found
+
+pub reason_is : {why e : NotAttached} → why ≡ e → ◌≡◌ {A = TryCellResult} (Err why) (Err e)
+reason_is h = rw h refl
 
 -- what was found is what the definition finds
 pub found_is : (cs : Corners) (sheet : List ℕ) (c : Cell) (prediction : Position) {tol tol' : Tolerances} {search search' : Search} {r : TryCellResult} → search' ≡ search → tol' ≡ tol
@@ -325,35 +318,35 @@ unmatched_is work c radius prediction e =
 
 -- a corner that was found is to be attached
 pub taking : {work : LocalWork} {c : Cell} {k : ℕ} {r : TryCellResult} (tol : Tolerances) (search : Search) (prediction : Position)
-    → Trying work c → r ≡ try_at (held work) work.sheet.now tol search c prediction → r ≡ TryCellResult.Attached k
+    → Trying work c → r ≡ try_at (held work) work.sheet.now tol search c prediction → r ≡ Ok k
     → Taking work c k
 taking {work} {c} {k} tol search prediction t e g =
     let w = attachable (held work) work.sheet.now tol search c prediction k (sym e ∙ g) in
     record { trying = t; there = w.given; free = w.free }
 
-module _ {n : ℕ} {sheet list used places : List ℕ} {at : LocalProgress} (f : Extending n sheet list used places at) {at' : LocalProgress} where
+module _ {n : ℕ} {sheet list : List ℕ} {used : List Bool} {labelled : Labelled} {at : LocalProgress} (f : Extending n sheet list used labelled at) {at' : LocalProgress} where
   -- no corner: the cell is counted, and nothing is written
   module _ (c : Cell) {q r : TryCellResult} (d : r ≡ q) (is : at' ≡ cell_counted at r) where
     counted : (s : LocalState) → (cell_counted at r).counts.attached ≡ at.counts.attached → s ≡ state_of sheet list (cell_counted at r) → Holds s list sheet list at'
-    counted s m e = rw is (untouched (extending_as f refl refl m refl) e)
+    counted s m e = rw is (untouched (extending_as f refl refl m) e)
 
-    pub found_none : r ≡ TryCellResult.NoCandidates → Holds (local_with c q (state_of sheet list at)) list sheet list at'
+    pub found_none : r ≡ Err NotAttached.NoCandidates → Holds (local_with c q (state_of sheet list at)) list sheet list at'
     unfolding local_with
     found_none g = counted _ (rw g) (rw (← d, g))
 
-    pub found_ambiguous : r ≡ TryCellResult.Ambiguous → Holds (local_with c q (state_of sheet list at)) list sheet list at'
+    pub found_ambiguous : r ≡ Err NotAttached.Ambiguous → Holds (local_with c q (state_of sheet list at)) list sheet list at'
     unfolding local_with
     found_ambiguous g = counted _ (rw g) (rw (← d, g))
 
-    pub found_refused : r ≡ TryCellResult.EdgeRejected → Holds (local_with c q (state_of sheet list at)) list sheet list at'
+    pub found_refused : r ≡ Err NotAttached.EdgeRejected → Holds (local_with c q (state_of sheet list at)) list sheet list at'
     unfolding local_with
     found_refused g = counted _ (rw g) (rw (← d, g))
 
   -- and all may go on
-  pub counted_extending : (r : TryCellResult) → at' ≡ cell_counted at r → (one_more r at.counts).attached ≡ at.counts.attached → Extending n sheet list used places at'
-  counted_extending r is m = rw is (extending_as f refl refl m refl)
+  pub counted_extending : (r : TryCellResult) → at' ≡ cell_counted at r → (one_more r at.counts).attached ≡ at.counts.attached → Extending n sheet list used labelled at'
+  counted_extending r is m = rw is (extending_as f refl refl m)
 
-pub found_corner : {work : LocalWork} (c : Cell) {q r : TryCellResult} → r ≡ q → {k : ℕ} {sheet' list' : List ℕ} {work' : LocalWork} → Taking work c k → r ≡ TryCellResult.Attached k
+pub found_corner : {work : LocalWork} (c : Cell) {q r : TryCellResult} → r ≡ q → {k : ℕ} {sheet' list' : List ℕ} {work' : LocalWork} → Taking work c k → r ≡ Ok k
     → Wrote work.sheet.now work.attached.now work c k sheet' list' work' → Holds (local_with c q (state_in work)) work.attached.now sheet' list' work'.progress
 found_corner c d t g w = rw (← d, g) (took t w)
 
@@ -367,10 +360,8 @@ unfolding local_try
 try_counts cs set p c at s = go (try_at cs s.sheet (tolerances_of set) (local_search set p) c at) (unmatched cs s.sheet (local_search set p).search_r c at)
   where
     go : (r : TryCellResult) (n : ℕ) → local_with c r (with_unmatched n s) ≡ with_unmatched n (local_with c r s)
-    go TryCellResult.NoCandidates n = unfold local_with in refl
-    go TryCellResult.Ambiguous n = unfold local_with in refl
-    go TryCellResult.EdgeRejected n = unfold local_with in refl
-    go (TryCellResult.Attached k) n = unfold local_with in refl
+    go (Err e) n = unfold local_with in refl
+    go (Ok k) n = unfold local_with in refl
 
 -- the buffers hold the state with them counted
 pub counted_left : {s : LocalState} {before sheet list : List ℕ} {at at' : LocalProgress} (m : ℕ) → at' ≡ unmatched_counted at m
@@ -388,21 +379,17 @@ counted_left m e h =
 
 -- a try is one visit more, and passes over none by itself
 pub visits_more : (r : TryCellResult) (n : Counts) → visits (one_more r n) ≡ visits n + 1
-visits_more TryCellResult.NoCandidates n = omega arith
-visits_more TryCellResult.Ambiguous n = omega arith
-visits_more TryCellResult.EdgeRejected n = omega arith
-visits_more (TryCellResult.Attached k) n = omega arith
+visits_more (Err NotAttached.NoCandidates) n = omega arith
+visits_more (Err NotAttached.Ambiguous) n = omega arith
+visits_more (Err NotAttached.EdgeRejected) n = omega arith
+visits_more (Ok k) n = omega arith
 
 pub with_counts : (c : Cell) (r : TryCellResult) (s : LocalState) → (local_with c r s).counts ≡ one_more r s.counts
 unfolding local_with
-with_counts c TryCellResult.NoCandidates s = refl
-with_counts c TryCellResult.Ambiguous s = refl
-with_counts c TryCellResult.EdgeRejected s = refl
-with_counts c (TryCellResult.Attached k) s = refl
+with_counts c (Err e) s = refl
+with_counts c (Ok k) s = refl
 
 pub with_unmatched_lem : (c : Cell) (r : TryCellResult) (s : LocalState) → (local_with c r s).unmatched ≡ s.unmatched
 unfolding local_with
-with_unmatched_lem c TryCellResult.NoCandidates s = refl
-with_unmatched_lem c TryCellResult.Ambiguous s = refl
-with_unmatched_lem c TryCellResult.EdgeRejected s = refl
-with_unmatched_lem c (TryCellResult.Attached k) s = refl
+with_unmatched_lem c (Err e) s = refl
+with_unmatched_lem c (Ok k) s = refl

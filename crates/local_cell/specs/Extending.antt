@@ -1,21 +1,16 @@
 -- Where the code of local stands, in the terms of local's definition (crate passes, Local). Definitions only.
-use Rattle.std.specs.Prelude.{◌≡◌, Bool, true, false, List, ℕ, ◌+◌, ◌*◌, ◌<◌, ◌≤◌, length, set, take, Some, Float, None}
+use Rattle.std.specs.Prelude.{◌≡◌, Bool, true, false, List, ℕ, ◌+◌, ◌<◌, ◌≤◌, length, take, Some, Float}
 use Rattle.sizes.specs.Sizes.{corner_limit}
-use Rattle.sheet.specs.Cells.{OnSheet, place_of}
-use Rattle.sheet.specs.Words.{label_at, attached, marks_cleared, SheetCell}
-use Rattle.sheet.specs.Corners.{Corners, Given}
+use Rattle.sheet.specs.Words.{attached, marks_cleared, SheetCell}
+use Rattle.sheet.specs.Corners.{Given}
 use Rattle.sheet.specs.declared.Cell.{Cell}
-use Rattle.sheet.specs.declared.Position.{Position}
 use Rattle.labels.specs.Labelled.{labelled_places, label_count}
-use Rattle.labels.specs.Used.{used_on, Tied, OneCell}
-use Rattle.arguments.specs.declared.Settings.{Settings}
-use Rattle.arguments.specs.declared.LocalExtensionParams.{LocalExtensionParams}
-use Rattle.extension_common.specs.declared.TryCellResult.{TryCellResult}
+use Rattle.labels.specs.Used.{Tied, OneCell}
+use Rattle.extension_common.specs.TryCell.{TryCellResult}
 use Rattle.passes.specs.Counting.{one_more, visits}
 use Rattle.passes.specs.Local.{recorded_all, LocalState}
-use Rattle.supports.specs.Nearest.{Gathered}
-use Rattle.remembered.specs.Remembered.{KnownAt, Remembered, Noted}
-use Rattle.remembered.specs.declared.Finding.{Finding}
+use Rattle.supports.specs.declared.Labelled.{Labelled}
+use Rattle.remembered.specs.Remembered.{Noted}
 use Rattle.remembered.specs.declared.Known.{Known}
 use Rattle.remembered.specs.declared.Memory.{Memory}
 use Rattle.arguments.specs.Front.{over}
@@ -25,15 +20,15 @@ use Rattle.local_cell.specs.declared.LocalProgress.{LocalProgress}
 
 -- the progress with one cell more counted
 abbrev pub cell_counted : LocalProgress → TryCellResult → LocalProgress
-cell_counted at r = record { counts = one_more r at.counts; residual = at.residual; labels = at.labels; unmatched = at.unmatched }
+cell_counted at r = record { counts = one_more r at.counts; residual = at.residual; unmatched = at.unmatched }
 
 -- the progress with some residuals recorded
 abbrev pub residuals_recorded : LocalProgress → List Float → LocalProgress
-residuals_recorded at rs = record { counts = at.counts; residual = recorded_all at.residual rs; labels = at.labels; unmatched = at.unmatched }
+residuals_recorded at rs = record { counts = at.counts; residual = recorded_all at.residual rs; unmatched = at.unmatched }
 
 -- the progress with some corners more passed over
 abbrev pub unmatched_counted : LocalProgress → ℕ → LocalProgress
-unmatched_counted at n = record { counts = at.counts; residual = at.residual; labels = at.labels; unmatched = at.unmatched + n }
+unmatched_counted at n = record { counts = at.counts; residual = at.residual; unmatched = at.unmatched + n }
 
 -- ---- where the code stands
 
@@ -46,7 +41,7 @@ state_of sheet list at =
 -- what holds between two cells: the sheet belongs to the corners, of which there are at most 1,024, no corner is at two cells, the array says
 -- which are used, the attached list has a place for each corner, no more places of it are written than there are labels, there are four
 -- labels, and the labelled places are listed
-pub record Extending (n : ℕ) (sheet list used places : List ℕ) (at : LocalProgress) : Type 0 where
+pub record Extending (n : ℕ) (sheet list : List ℕ) (used : List Bool) (labelled : Labelled) (at : LocalProgress) : Type 0 where
   pub given : Given n sheet
   pub few : n ≤ corner_limit
   pub one_cell : OneCell sheet
@@ -54,9 +49,8 @@ pub record Extending (n : ℕ) (sheet list used places : List ℕ) (at : LocalPr
   pub list_long : n ≤ length list
   pub room : at.counts.attached ≤ label_count sheet
   pub four : 4 ≤ label_count sheet
-  pub labels_are : at.labels ≡ label_count sheet
-  pub places_are : take at.labels places ≡ labelled_places sheet
-  pub size : length places ≡ corner_limit
+  pub labels_are : labelled.count ≡ label_count sheet
+  pub places_are : take labelled.count labelled.places ≡ labelled_places sheet
 
 -- the buffers hold a state: its sheet, its new cells at the front of the attached list, whose rest is as it was before, its counts, its largest
 -- residual and its corners passed over
@@ -75,13 +69,12 @@ abbrev pub attached_clear : List ℕ → Cell → ℕ → List ℕ
 attached_clear sheet c k = marks_cleared (attached sheet c k) c
 
 -- a corner can be written: to the sheet, to the next place of the attached list, to its entry and to the labelled places; and it can be counted
-pub record Writable (sheet list places : List ℕ) (at : LocalProgress) (c : Cell) (k : ℕ) : Type 0 where
+pub record Writable (sheet list : List ℕ) (at : LocalProgress) (c : Cell) (k : ℕ) : Type 0 where
   pub sheet_cell : SheetCell sheet c
   pub entry : k < corner_limit
   pub space : at.counts.attached < length list
   pub countable : visits at.counts < 4294967296
   pub few : label_count (attached_clear sheet c k) ≤ corner_limit
-  pub size : length places ≡ corner_limit
 
 -- what is known of one cell noted where no shade stands, and nothing where one does
 pub record NotedIfBare (shaded : Bool) (memory : Memory) (c : Cell) (known : Known) (memory' : Memory) : Type 0 where

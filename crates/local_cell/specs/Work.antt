@@ -1,5 +1,5 @@
 -- What the methods of `LocalWork` ask and leave, in the terms of local's definition (crate passes, Local). Definitions only.
-use Rattle.std.specs.Prelude.{◌≡◌, false, List, ℕ, ◌*◌, ◌<◌, ◌≤◌, set, Some, None}
+use Rattle.std.specs.Prelude.{◌≡◌, true, false, List, ℕ, ◌*◌, ◌<◌, ◌≤◌, set, Some, None, Ok}
 use Rattle.sizes.specs.Sizes.{corner_limit}
 use Rattle.sheet.specs.Cells.{OnSheet, place_of}
 use Rattle.sheet.specs.Words.{label_at}
@@ -9,7 +9,6 @@ use Rattle.sheet.specs.declared.Position.{Position}
 use Rattle.labels.specs.Used.{used_on}
 use Rattle.arguments.specs.declared.Settings.{Settings}
 use Rattle.arguments.specs.declared.LocalExtensionParams.{LocalExtensionParams}
-use Rattle.extension_common.specs.declared.TryCellResult.{TryCellResult}
 use Rattle.passes.specs.Counting.{one_more, visits}
 use Rattle.passes.specs.Local.{LocalState}
 use Rattle.supports.specs.Nearest.{Gathered}
@@ -74,9 +73,9 @@ pub record Taking (w : LocalWork) (c : Cell) (k : ℕ) : Type 0 where
 pub record Wrote (sheet list : List ℕ) (work : LocalWork) (c : Cell) (k : ℕ) (sheet' list' : List ℕ) (work' : LocalWork) : Type 0 where
   pub sheet_is : sheet' ≡ attached_clear sheet c k
   pub list_is : list' ≡ set list work.progress.counts.attached (place_of c)
-  pub used_is : work'.used ≡ set work.used k 1
-  pub places_are : Gathered (attached_clear sheet c k) work.places work'.places work'.progress.labels
-  pub counts_are : work'.progress.counts ≡ one_more (TryCellResult.Attached k) work.progress.counts
+  pub used_is : work'.used ≡ set work.used k true
+  pub places_are : Gathered (attached_clear sheet c k) work.labelled.places work'.labelled.places work'.labelled.count
+  pub counts_are : work'.progress.counts ≡ one_more (Ok k) work.progress.counts
   pub largest_is : work'.progress.residual ≡ work.progress.residual
   pub unmatched_is : work'.progress.unmatched ≡ work.progress.unmatched
 

@@ -14,44 +14,44 @@ ghost use Rattle.local_cell.specs.Extending.{cell_counted, residuals_recorded, u
 
 use arguments::{LocalExtensionParams, Settings};
 use candidates::{Candidates, HeldCorners, Scan};
-use extension_common::{ChoiceRule, Search, Trial, TryCellResult};
+use extension_common::{ChoiceRule, NotAttached, Search, Trial, TryCellResult};
 use passes::Counts;
 use remembered::{Finding, Known, Memory};
-use sheet::{Cell, Position};
+use sheet::{Cell, CornerArrays, Position, Seeing};
 use sizes::CORNERS;
-use supports::{Support, SupportFit};
+use supports::{Labelled, Support, SupportFit};
 
-// How far the pass has come: the counts, the largest residual recorded, how many cells are labelled, and how many corners were passed over.
+// How far the pass has come: the counts, the largest residual recorded, and how many corners were passed over.
 #[derive(Clone, Copy)]
 pub struct LocalProgress {
     pub counts: Counts,
     pub residual: Option<f32>,
-    pub labels: usize,
     pub unmatched: usize,
 }
 
 // What a pass is given beside its buffers: the corners, of which there are `count`, the settings, and the numbers of the pass.
+// Stays: each pass has its own radius and rule; a generic struct of `passes` would share two fields and turn these methods into functions.
 #[derive(Clone, Copy)]
 pub struct LocalSetup<'c> {
-    pub corners: &'c [f32; 4 * CORNERS],
+    pub corners: &'c CornerArrays,
     pub count: usize,
     pub settings: Settings,
     pub params: LocalExtensionParams,
     ghost few: { count ≤ corner_limit },
 }
 
-// A pass: what it is given; the lent sheet; the lent attached list; which corners are used; the labelled places in rising order at the front of an
-// array; what is remembered of the cells; and how far it has come. It is lent to each function, since it is large.
+// A pass: what it is given; the lent sheet; the lent attached list; which corners are used; the labelled places; what is remembered of the cells; and
+// how far it has come. It is lent to each function, since it is large.
 #[derive(Drop)]
 pub struct LocalWork<'c, 'a> {
     pub setup: LocalSetup<'c>,
     pub sheet: &'a mut [u16],
     pub attached: &'a mut [u16],
-    pub used: [u8; CORNERS],
-    pub places: [u16; CORNERS],
+    pub used: [bool; CORNERS],
+    pub labelled: Labelled,
     pub memory: Memory,
     pub progress: LocalProgress,
-    ghost extending: { Extending setup.count sheet.now attached.now used places progress },
+    ghost extending: { Extending setup.count sheet.now attached.now used labelled progress },
 }
 
 // A cell that is to be tried where its fit maps it to: how far its fourth support is, and the prediction.
@@ -80,7 +80,7 @@ impl<'c> LocalSetup<'c> {
     ghost use Rattle.passed_over.specs.PassedOver.{passed_over};
 
     // How local searches a cell: search times cell size as the radius, and fill's and local's rule of choice.
-    // Stays: fill's `search` reads other fields of another struct; what the two share is one product.
+    // Stays: fill's numbers have other names, the Rust's; a shared function of two floats and the settings would save two lines (d).
     #[tactic(auto, unfolding(passes::specs::Local::local_search))]
     fn search(self) -> Search
         ensures { result ≡ local_search self.entry.settings self.entry.params }
@@ -100,7 +100,7 @@ impl<'c> LocalSetup<'c> {
     }
 
     // How many unlabelled corners within the radius the cell does not take.
-    fn count_unmatched(self, used: &[u8; CORNERS], target: Target) -> usize
+    fn count_unmatched(self, used: &[bool; CORNERS], target: Target) -> usize
         requires { OnSheet target.cell }
         ensures { result ≡ passed_over (positions_in self.entry.corners.now) (unmarked used.now) (takes (shades_in self.entry.corners.now)
             target.cell) self.entry.count target.prediction (local_search self.entry.settings self.entry.params).search_r }
@@ -145,17 +145,17 @@ impl LocalProgress {
 
 // Notes what is known of a cell where no shade stands. Where one does, what is passed over changes with every corner that is labelled, so that a
 // cell is gathered anew at each visit.
-fn note_if_bare(corners: &[f32; 4 * CORNERS], memory: &mut Memory, c: Cell, known: Known)
+fn note_if_bare(corners: &CornerArrays, memory: &mut Memory, c: Cell, known: Known)
     requires { OnSheet c × (known.reach < 8192) }
     ensures { NotedIfBare (any_in corners.now) memory.old c known memory.new }
 {
-    if !sheet::is_shaded(corners) {
+    if !corners.is_shaded() {
         memory.note(c, Some(known));
     }
 }
 
 impl<'c, 'a> LocalWork<'c, 'a> {
-    ghost use Rattle.sheet.specs.Corners.{Given, seen_of};
+    ghost use Rattle.sheet.specs.Corners.{seen_of};
     ghost use Rattle.extension_common.specs.TryCell.{gathered, try_at};
     ghost use Rattle.passes.specs.Local.{local_fit, local_with, local_try, local_visit};
     ghost use Rattle.remembered.specs.Remembered.{Forgotten};
@@ -175,10 +175,10 @@ impl<'c, 'a> LocalWork<'c, 'a> {
         let sheet = &mut *self.sheet;
         sheet::attach(sheet, c, k);
         sheet::clear_marks(sheet, c);
-        self.used[k] = 1;
-        self.progress.labels = supports::gather_labelled(sheet, &mut self.places);
+        self.used[k] = true;
+        self.labelled.gather(sheet);
         self.memory.forget_near(c, corner);
-        self.progress.count_cell(TryCellResult::Attached(k));
+        self.progress.count_cell(Ok(k));
     }
 
     // The candidates of an unlabelled cell where a fit maps it to, and what is found there with them.
@@ -207,7 +207,7 @@ impl<'c, 'a> LocalWork<'c, 'a> {
 
     // Tries an unlabelled cell where a fit maps it to: a corner that is found is attached, else nothing is written. Either is counted, and that there
     // is no candidate, or that the choice is ambiguous, is noted where no shade stands.
-    // Stays: `Recalls` is data (which case of what is known holds at a cell), no proposition, so that no ghost field can hold it.
+    // Stays: `Recalls` tells cases, so that a ghost field would hold it truncated, and each use would owe that its goal, as `foretold`, has one proof at most (d).
     fn try_candidates_of(&mut self, target: Target)
         requires trying { Trying self.old target.cell }
         requires recalls { RecallsIn self.old }
@@ -221,22 +221,24 @@ impl<'c, 'a> LocalWork<'c, 'a> {
         let c = target.cell;
         let (candidates, found) = self.find(target);
         match found {
-            TryCellResult::NoCandidates => {
-                let known = target.known(Finding::NoCandidates);
-                note_if_bare(self.setup.corners, &mut self.memory, c, known);
-                self.progress.count_cell(found);
-            }
-            TryCellResult::Ambiguous => {
-                let limit = candidates::last_distance(candidates);
-                let known = target.known(Finding::Ambiguous(target.prediction, limit));
-                note_if_bare(self.setup.corners, &mut self.memory, c, known);
-                self.progress.count_cell(found);
-            }
-            TryCellResult::EdgeRejected => self.progress.count_cell(found),
-            TryCellResult::Attached(k) => {
-                let taken = sheet::corner_at(self.setup.corners, k);
+            Ok(k) => {
+                let taken = self.setup.corners.corner_at(k);
                 self.attach_corner(c, k, taken.position);
             }
+            Err(why) => match why {
+                NotAttached::NoCandidates => {
+                    let known = target.known(Finding::NoCandidates);
+                    note_if_bare(self.setup.corners, &mut self.memory, c, known);
+                    self.progress.count_cell(found);
+                }
+                NotAttached::Ambiguous => {
+                    let limit = candidates::last_distance(candidates);
+                    let known = target.known(Finding::Ambiguous(target.prediction, limit));
+                    note_if_bare(self.setup.corners, &mut self.memory, c, known);
+                    self.progress.count_cell(found);
+                }
+                NotAttached::EdgeRejected => self.progress.count_cell(found),
+            },
         }
     }
 
@@ -257,10 +259,14 @@ impl<'c, 'a> LocalWork<'c, 'a> {
 
     // The fit on four supports, if there is one.
     fn fit_on(&self, nearest: [Support; 4]) -> Option<SupportFit>
-        requires { Given corner_limit self.now.sheet.now × Pictured nearest }
+        requires { Pictured nearest }
         ensures { result ≡ support_fit_of (local_fit (seen_of (held self.now).corner self.now.sheet.now) (places_of nearest)) }
     {
-        supports::local_fit(self.setup.corners, self.sheet, nearest)
+        let seeing = Seeing {
+            corners: self.setup.corners,
+            sheet: self.sheet,
+        };
+        supports::local_fit(seeing, nearest)
     }
 
     // Tries an unlabelled cell of which nothing is known: by the fit on its four nearest labels, whose residuals are recorded. Without a fit, or with a
@@ -272,7 +278,7 @@ impl<'c, 'a> LocalWork<'c, 'a> {
         ensures recalls { RecallsIn self.new }
         ensures left { Left self.old self.new (local_visit (held self.old) self.old.setup.settings self.old.setup.params c (state_in self.old)) }
     {
-        let nearest = supports::nearest_labelled_by_grid(&self.places[..self.progress.labels], c);
+        let nearest = supports::nearest_labelled_by_grid(self.labelled.as_slice(), c);
         let reach = nearest[3].reach;
         let idle = Known {
             reach,
@@ -310,8 +316,8 @@ impl<'c, 'a> LocalWork<'c, 'a> {
         };
         match finding {
             Finding::Idle => {}
-            Finding::NoCandidates => self.progress.count_cell(TryCellResult::NoCandidates),
-            Finding::Ambiguous(_, _) => self.progress.count_cell(TryCellResult::Ambiguous),
+            Finding::NoCandidates => self.progress.count_cell(Err(NotAttached::NoCandidates)),
+            Finding::Ambiguous(_, _) => self.progress.count_cell(Err(NotAttached::Ambiguous)),
             Finding::Predicted(prediction) => {
                 let target = Target {
                     cell: c,

@@ -2,7 +2,8 @@
 
 #![tactic(auto)]
 
-ghost use Rattle.line_form.specs.Written.{Wrote};
+ghost use Rattle.std.specs.Prelude.{◌≡◌, ◌≤◌, cond, length};
+ghost use Rattle.line_form.specs.Written.{form_text, Wrote};
 ghost use Rattle.report_line.specs.Result.{grow_line, fill_line, local_line, unmatched_line, local_lines, pass_line};
 ghost use Rattle.report_line.specs.Written.{Few, CountsHeld, GrowAsked, FillAsked, LocalAsked, StatsAsked, LocalLineAsked, BareAsked, FullAsked, UnmatchedAsked, bare_local_text, full_local_text};
 
@@ -13,7 +14,8 @@ use report_line::line::held;
 // Grow's four counts as a form takes them.
 fn held_counts(c: Counts) -> [u32; 4]
     requires { Few c }
-    ensures { CountsHeld c result }
+    ensures held { CountsHeld c result }
+    ensures four { 4 ≡ length result }
 {
     [
         held(c.attached),
@@ -23,17 +25,27 @@ fn held_counts(c: Counts) -> [u32; 4]
     ]
 }
 
+// Writes one form where the rim was reached, and another where it was not.
+fn write_rim(rim: bool, yes: &[u8], no: &[u8], words: &[u32], out: &mut [u8]) -> usize
+    requires { length (form_text (cond rim yes.now no.now) words.now) ≤ length out.old }
+    ensures { Wrote (form_text (cond rim yes.now no.now) words.now) out.old out.new result }
+{
+    write_form(if rim { yes } else { no }, words, out)
+}
+
 // Grow's line: attached, no candidate, ambiguous, edge, rim.
 pub fn write_grow(s: GrowStats, out: &mut [u8]) -> usize
     requires { GrowAsked s out.old }
     ensures { Wrote (grow_line s) out.old out.new result }
 {
-    let [a, b, c, d] = held_counts(s.counts);
-    let words = [a, b, c, d];
-    if s.rim {
-        return write_form(b"(grow # # # # yes)\n", &words, out);
-    }
-    write_form(b"(grow # # # # no)\n", &words, out)
+    let words = held_counts(s.counts);
+    write_rim(
+        s.rim,
+        b"(grow # # # # yes)\n",
+        b"(grow # # # # no)\n",
+        &words,
+        out,
+    )
 }
 
 // Fill's line: added, rounds, rim.
@@ -42,10 +54,7 @@ pub fn write_fill(s: FillStats, out: &mut [u8]) -> usize
     ensures { Wrote (fill_line s) out.old out.new result }
 {
     let words = [held(s.added), held(s.iterations)];
-    if s.rim {
-        return write_form(b"(fill # # yes)\n", &words, out);
-    }
-    write_form(b"(fill # # no)\n", &words, out)
+    write_rim(s.rim, b"(fill # # yes)\n", b"(fill # # no)\n", &words, out)
 }
 
 // Local's line where no residual was recorded: grow's four, rounds, `none`, rim.
@@ -55,10 +64,13 @@ fn write_bare_local(s: LocalStats, out: &mut [u8]) -> usize
 {
     let [a, b, c, d] = held_counts(s.counts);
     let words = [a, b, c, d, held(s.iterations)];
-    if s.rim {
-        return write_form(b"(local # # # # # none yes)\n", &words, out);
-    }
-    write_form(b"(local # # # # # none no)\n", &words, out)
+    write_rim(
+        s.rim,
+        b"(local # # # # # none yes)\n",
+        b"(local # # # # # none no)\n",
+        &words,
+        out,
+    )
 }
 
 // Local's line with a residual: grow's four, rounds, the residual's eight digits, rim.
@@ -68,10 +80,13 @@ fn write_full_local(s: LocalStats, residual: f32, out: &mut [u8]) -> usize
 {
     let [a, b, c, d] = held_counts(s.counts);
     let words = [a, b, c, d, held(s.iterations), residual.to_bits()];
-    if s.rim {
-        return write_form(b"(local # # # # # % yes)\n", &words, out);
-    }
-    write_form(b"(local # # # # # % no)\n", &words, out)
+    write_rim(
+        s.rim,
+        b"(local # # # # # % yes)\n",
+        b"(local # # # # # % no)\n",
+        &words,
+        out,
+    )
 }
 
 // Local's line: grow's four, rounds, largest residual or `none`, rim.

@@ -17,7 +17,7 @@ fn is_passed_over(scan: &Scan, k: usize, limit: f32) -> bool
     ensures { result ≡ is_passed_over (positions_in scan.now.held.corners.now) (unmarked scan.now.held.used.now)
         (takes_kind (shades_in scan.now.held.corners.now) scan.now.kind) scan.now.prediction limit k }
 {
-    scan.held.used[k] == 0 && scan.is_near(k, limit) && !scan.is_taken(k)
+    !scan.held.used[k] && scan.is_near(k, limit) && !scan.is_taken(k)
 }
 
 // How many unlabelled corners within the radius a cell of the kind does not take; none if no shade stands, or if the prediction is not finite.
@@ -25,7 +25,7 @@ pub fn count_passed_over(scan: &Scan, search_r: f32) -> usize
     ensures { result ≡ passed_over (positions_in scan.now.held.corners.now) (unmarked scan.now.held.used.now)
         (takes_kind (shades_in scan.now.held.corners.now) scan.now.kind) scan.now.held.count scan.now.prediction search_r }
 {
-    if !sheet::is_shaded(scan.held.corners) || !scan.prediction.is_finite() {
+    if !scan.held.corners.is_shaded() || !scan.prediction.is_finite() {
         return 0;
     }
     let limit = search_r * search_r;

@@ -1,6 +1,6 @@
 -- One visit of each pass: the cell is labelled with what was found, no other cell changes; grow sets the finding's mark and clears none, fill
 -- changes no mark, local clears both of the cell that it attaches. Assumes nothing.
-use Rattle.std.specs.Prelude.{Some}
+use Rattle.std.specs.Prelude.{Some, Ok, Err}
 use mathlib.Core.Path.{◌≡◌, refl, ◌∙◌}
 use mathlib.Core.Bool.{true, false}
 use mathlib.Core.List.{List}
@@ -10,7 +10,8 @@ use Rattle.sheet.specs.Cells.{OnSheet}
 use Rattle.sheet.specs.Words.{bit_of, Content, label_at, hole_at, ambiguous_at, attached, hole_marked, ambiguous_marked, marks_cleared, SheetCell}
 use Rattle.sheet.specs.declared.Cell.{Cell}
 use Rattle.sheet.proofs.Words.{Changed, attached_changes, hole_changes, ambiguous_changes, cleared_changes, label_here, hole_here, ambiguous_here, label_else, hole_else, ambiguous_else}
-use Rattle.extension_common.specs.declared.TryCellResult.{TryCellResult}
+use Rattle.extension_common.specs.declared.NotAttached.{NotAttached}
+use Rattle.extension_common.specs.TryCell.{TryCellResult}
 use Rattle.passes.specs.Grow.{GrowState, grow_with}
 use Rattle.passes.specs.Fill.{FillState, fill_with}
 use Rattle.passes.specs.Local.{LocalState, local_with}
@@ -55,7 +56,7 @@ module _ {sheet : List ℕ} {c : Cell} (w : SheetCell sheet c) where
     cleared_so : Changed (attached sheet c k) (marks_cleared (attached sheet c k) c) c (record { label = label_at (attached sheet c k) c; hole = false; ambiguous = false })
     cleared_so = cleared_changes (attached sheet c k) c (rw attached_so.same_length w.long) w.on
 
-    cleared_labels : Labels (TryCellResult.Attached k) sheet (marks_cleared (attached sheet c k) c) c
+    cleared_labels : Labels (Ok k) sheet (marks_cleared (attached sheet c k) c) c
     cleared_labels =
         record {
           same_length = cleared_so.same_length ∙ attached_so.same_length;
@@ -71,76 +72,74 @@ untouched r sheet c e = record { same_length = refl; label = e; others = λ d ne
 
 grow_visit_lem : (c : Cell) (r : TryCellResult) (s : GrowState) → Tried s.sheet c r → GrowVisit r c s (grow_with c r s)
 unfolding grow_with bit_of
-grow_visit_lem c TryCellResult.NoCandidates s w =
+grow_visit_lem c (Err NotAttached.NoCandidates) s w =
     let ch = hole_so w.cell in
     record {
       marks = record { hole = hole_here ch w.cell.on; ambiguous = ambiguous_here ch w.cell.on };
-      labels = labels_with ch w.cell.on TryCellResult.NoCandidates refl;
+      labels = labels_with ch w.cell.on (Err NotAttached.NoCandidates) refl;
       made = refl;
       counted = record { attached = omega arith; no_candidate = omega arith; ambiguous = omega arith; edge = omega arith };
     }
-grow_visit_lem c TryCellResult.Ambiguous s w =
+grow_visit_lem c (Err NotAttached.Ambiguous) s w =
     let ch = ambiguous_so w.cell in
     record {
       marks = record { hole = hole_here ch w.cell.on; ambiguous = ambiguous_here ch w.cell.on };
-      labels = labels_with ch w.cell.on TryCellResult.Ambiguous refl;
+      labels = labels_with ch w.cell.on (Err NotAttached.Ambiguous) refl;
       made = refl;
       counted = record { attached = omega arith; no_candidate = omega arith; ambiguous = omega arith; edge = omega arith };
     }
-grow_visit_lem c TryCellResult.EdgeRejected s w =
+grow_visit_lem c (Err NotAttached.EdgeRejected) s w =
     let ch = hole_so w.cell in
     record {
       marks = record { hole = hole_here ch w.cell.on; ambiguous = ambiguous_here ch w.cell.on };
-      labels = labels_with ch w.cell.on TryCellResult.EdgeRejected refl;
+      labels = labels_with ch w.cell.on (Err NotAttached.EdgeRejected) refl;
       made = refl;
       counted = record { attached = omega arith; no_candidate = omega arith; ambiguous = omega arith; edge = omega arith };
     }
-grow_visit_lem c (TryCellResult.Attached k) s w =
+grow_visit_lem c (Ok k) s w =
     let ch = attached_so w.cell k (w.corner_fits k refl) in
     record {
       marks = record { hole = hole_here ch w.cell.on; ambiguous = ambiguous_here ch w.cell.on };
-      labels = labels_with ch w.cell.on (TryCellResult.Attached k) refl;
+      labels = labels_with ch w.cell.on (Ok k) refl;
       made = refl;
       counted = record { attached = omega arith; no_candidate = omega arith; ambiguous = omega arith; edge = omega arith };
     }
 
 fill_visit_lem : (c : Cell) (r : TryCellResult) (s : FillState) → Tried s.sheet c r → FillVisit r c s (fill_with c r s)
 unfolding fill_with
-fill_visit_lem c TryCellResult.NoCandidates s w = record { marks = same_marks s.sheet c; labels = untouched TryCellResult.NoCandidates s.sheet c refl; made = refl }
-fill_visit_lem c TryCellResult.Ambiguous s w = record { marks = same_marks s.sheet c; labels = untouched TryCellResult.Ambiguous s.sheet c refl; made = refl }
-fill_visit_lem c TryCellResult.EdgeRejected s w = record { marks = same_marks s.sheet c; labels = untouched TryCellResult.EdgeRejected s.sheet c refl; made = refl }
-fill_visit_lem c (TryCellResult.Attached k) s w =
+fill_visit_lem c (Err e) s w = record { marks = same_marks s.sheet c; labels = untouched (Err e) s.sheet c refl; made = refl }
+fill_visit_lem c (Ok k) s w =
     let ch = attached_so w.cell k (w.corner_fits k refl) in
     record {
       marks = record { hole = hole_here ch w.cell.on; ambiguous = ambiguous_here ch w.cell.on };
-      labels = labels_with ch w.cell.on (TryCellResult.Attached k) refl;
+      labels = labels_with ch w.cell.on (Ok k) refl;
       made = refl;
     }
 
 local_visit_lem : (c : Cell) (r : TryCellResult) (s : LocalState) → Tried s.sheet c r → LocalVisit r c s (local_with c r s)
 unfolding local_with bit_of
-local_visit_lem c TryCellResult.NoCandidates s w =
+local_visit_lem c (Err NotAttached.NoCandidates) s w =
     record {
       marks = record { hole = refl; ambiguous = refl };
-      labels = untouched TryCellResult.NoCandidates s.sheet c refl;
+      labels = untouched (Err NotAttached.NoCandidates) s.sheet c refl;
       made = refl;
       counted = record { attached = omega arith; no_candidate = omega arith; ambiguous = omega arith; edge = omega arith };
     }
-local_visit_lem c TryCellResult.Ambiguous s w =
+local_visit_lem c (Err NotAttached.Ambiguous) s w =
     record {
       marks = record { hole = refl; ambiguous = refl };
-      labels = untouched TryCellResult.Ambiguous s.sheet c refl;
+      labels = untouched (Err NotAttached.Ambiguous) s.sheet c refl;
       made = refl;
       counted = record { attached = omega arith; no_candidate = omega arith; ambiguous = omega arith; edge = omega arith };
     }
-local_visit_lem c TryCellResult.EdgeRejected s w =
+local_visit_lem c (Err NotAttached.EdgeRejected) s w =
     record {
       marks = record { hole = refl; ambiguous = refl };
-      labels = untouched TryCellResult.EdgeRejected s.sheet c refl;
+      labels = untouched (Err NotAttached.EdgeRejected) s.sheet c refl;
       made = refl;
       counted = record { attached = omega arith; no_candidate = omega arith; ambiguous = omega arith; edge = omega arith };
     }
-local_visit_lem c (TryCellResult.Attached k) s w =
+local_visit_lem c (Ok k) s w =
     let fits = w.corner_fits k refl in
     let ch = cleared_so w.cell k fits in
     record {

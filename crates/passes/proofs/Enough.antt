@@ -23,15 +23,15 @@ use Rattle.labels.specs.Used.{used_on, OneCell}
 use Rattle.labels.proofs.Labelled.{labels_places, same_count, hole_keeps, ambiguous_keeps, count_attached, label_after, word_else}
 use Rattle.labels.proofs.Used.{one_same, one_attached, count_bounded}
 use Rattle.predict.specs.Predict.{prediction_of, extrapolating}
-use Rattle.std.specs.Prelude.{Option, Some, None}
+use Rattle.std.specs.Prelude.{Option, Some, None, Ok, Err}
 use Rattle.arguments.specs.Arguments.{Lent}
 use Rattle.arguments.specs.Accepted.{Accepted}
 use Rattle.arguments.proofs.Laws.{accepted}
 use Rattle.arguments.specs.declared.GrowParams.{GrowParams}
 use Rattle.arguments.specs.declared.Pass.{Pass}
 use Rattle.arguments.specs.declared.Settings.{Settings}
-use Rattle.extension_common.specs.TryCell.{try_at}
-use Rattle.extension_common.specs.declared.TryCellResult.{TryCellResult}
+use Rattle.extension_common.specs.TryCell.{TryCellResult, try_at}
+use Rattle.extension_common.specs.declared.NotAttached.{NotAttached}
 use Rattle.extension_common.proofs.Laws.{attachable}
 use Rattle.passes.specs.Grow.{GrowState, start_of, tolerances_of, search_of, grow_with, grow_at, grow_visit, grow_from, grow_run}
 use Rattle.passes.specs.Enough.{tally, Enough, NothingCutOff}
@@ -168,12 +168,12 @@ module _ {cs : Corners} {head : ℕ} {s : GrowState} (g : Going cs head s) (left
       (ambiguous_keeps s.sheet (next_of s head) g.fit.long next_on)
 
   -- by what is found there
-  pub with_going : (r : TryCellResult) → ((k : ℕ) → r ≡ TryCellResult.Attached k → Free cs s.sheet k) → Going cs (head + 1) (grow_with (next_of s head) r s)
+  pub with_going : (r : TryCellResult) → ((k : ℕ) → r ≡ Ok k → Free cs s.sheet k) → Going cs (head + 1) (grow_with (next_of s head) r s)
   unfolding grow_with
-  with_going TryCellResult.NoCandidates f = hole_going _ refl (omega arith)
-  with_going TryCellResult.Ambiguous f = ambiguous_going _ refl (omega arith)
-  with_going TryCellResult.EdgeRejected f = hole_going _ refl (omega arith)
-  with_going (TryCellResult.Attached k) f =
+  with_going (Err NotAttached.NoCandidates) f = hole_going _ refl (omega arith)
+  with_going (Err NotAttached.Ambiguous) f = ambiguous_going _ refl (omega arith)
+  with_going (Err NotAttached.EdgeRejected) f = hole_going _ refl (omega arith)
+  with_going (Ok k) f =
       let h = f k refl in
       let a = next_attaching k h.given in
       let after = attached s.sheet (next_of s head) k in
@@ -188,7 +188,7 @@ module _ {cs : Corners} {head : ℕ} {s : GrowState} (g : Going cs head s) (left
 
 module _ (cs : Corners) (set : Settings) (p : GrowParams) where
   -- a corner that trying a cell found is given and held by no cell
-  pub found_free : (sheet : List ℕ) (c : Cell) (at : Position) (e : Bool) (k : ℕ) → try_at cs sheet (tolerances_of set) (search_of set p e) c at ≡ TryCellResult.Attached k → Free cs sheet k
+  pub found_free : (sheet : List ℕ) (c : Cell) (at : Position) (e : Bool) (k : ℕ) → try_at cs sheet (tolerances_of set) (search_of set p e) c at ≡ Ok k → Free cs sheet k
   found_free sheet c at e k h = let a = attachable cs sheet (tolerances_of set) (search_of set p e) c at k h in record { given = a.given; free = a.free }
 
   pub visit_going : (head : ℕ) (s : GrowState) → Going cs head s → head < length s.queued → Going cs (head + 1) (grow_visit cs set p (next_of s head) s)

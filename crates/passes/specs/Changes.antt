@@ -2,11 +2,12 @@
 -- candidate and edge refusals mark a hole", "Only local clears marks, both of the cell it attaches"). Only grow sets marks, fill sets and clears
 -- none, local only clears. `proofs/Changes.antt` proves `Visits`. What follows for whole passes and lists of calls is in the crate `invariants`.
 -- Definitions only.
-use Rattle.std.specs.Prelude.{◌≡◌, Bool, true, false, not, ◌&&◌, ◌||◌, cond, List, [], ◌∷◌, ◌++◌, ℕ, ◌+◌, ◌<◌, length, Option, Some}
+use Rattle.std.specs.Prelude.{◌≡◌, Bool, true, false, not, ◌&&◌, ◌||◌, cond, List, [], ◌∷◌, ◌++◌, ℕ, ◌+◌, ◌<◌, length, Option, Some, Ok, Err}
 use Rattle.sheet.specs.Cells.{place_of}
 use Rattle.sheet.specs.Words.{bit_of, label_at, hole_at, ambiguous_at, SheetCell}
 use Rattle.sheet.specs.declared.Cell.{Cell}
-use Rattle.extension_common.specs.declared.TryCellResult.{TryCellResult}
+use Rattle.extension_common.specs.declared.NotAttached.{NotAttached}
+use Rattle.extension_common.specs.TryCell.{TryCellResult}
 use Rattle.passes.specs.Grow.{GrowState, grow_with}
 use Rattle.passes.specs.Fill.{FillState, fill_with}
 use Rattle.passes.specs.Local.{LocalState, local_with}
@@ -15,28 +16,26 @@ use Rattle.passes.specs.declared.Counts.{Counts}
 -- ---- what was found
 
 abbrev pub is_attached : TryCellResult → Bool
-is_attached TryCellResult.NoCandidates = false
-is_attached TryCellResult.Ambiguous = false
-is_attached TryCellResult.EdgeRejected = false
-is_attached (TryCellResult.Attached k) = true
+is_attached (Err e) = false
+is_attached (Ok k) = true
 
 abbrev pub is_no_candidate : TryCellResult → Bool
-is_no_candidate TryCellResult.NoCandidates = true
-is_no_candidate TryCellResult.Ambiguous = false
-is_no_candidate TryCellResult.EdgeRejected = false
-is_no_candidate (TryCellResult.Attached k) = false
+is_no_candidate (Err NotAttached.NoCandidates) = true
+is_no_candidate (Err NotAttached.Ambiguous) = false
+is_no_candidate (Err NotAttached.EdgeRejected) = false
+is_no_candidate (Ok k) = false
 
 abbrev pub is_ambiguous : TryCellResult → Bool
-is_ambiguous TryCellResult.NoCandidates = false
-is_ambiguous TryCellResult.Ambiguous = true
-is_ambiguous TryCellResult.EdgeRejected = false
-is_ambiguous (TryCellResult.Attached k) = false
+is_ambiguous (Err NotAttached.NoCandidates) = false
+is_ambiguous (Err NotAttached.Ambiguous) = true
+is_ambiguous (Err NotAttached.EdgeRejected) = false
+is_ambiguous (Ok k) = false
 
 abbrev pub is_edge_refusal : TryCellResult → Bool
-is_edge_refusal TryCellResult.NoCandidates = false
-is_edge_refusal TryCellResult.Ambiguous = false
-is_edge_refusal TryCellResult.EdgeRejected = true
-is_edge_refusal (TryCellResult.Attached k) = false
+is_edge_refusal (Err NotAttached.NoCandidates) = false
+is_edge_refusal (Err NotAttached.Ambiguous) = false
+is_edge_refusal (Err NotAttached.EdgeRejected) = true
+is_edge_refusal (Ok k) = false
 
 -- "No candidate and edge refusals mark a hole"; an ambiguous choice marks ambiguous
 abbrev pub sets_hole : TryCellResult → Bool
@@ -47,10 +46,8 @@ sets_ambiguous r = is_ambiguous r
 
 -- the label after the visit: the corner that is attached, or the label that stood
 abbrev pub label_with : TryCellResult → Option ℕ → Option ℕ
-label_with TryCellResult.NoCandidates l = l
-label_with TryCellResult.Ambiguous l = l
-label_with TryCellResult.EdgeRejected l = l
-label_with (TryCellResult.Attached k) l = Some k
+label_with (Err e) l = l
+label_with (Ok k) l = Some k
 
 -- ---- marks and labels before and after
 
@@ -101,7 +98,7 @@ pub record Counted (r : TryCellResult) (before after : Counts) : Type 0 where
 -- a cell of the sheet, and what was found there: a corner, if it is one, has a number that a word holds
 pub record Tried (sheet : List ℕ) (c : Cell) (r : TryCellResult) : Type 0 where
   pub cell : SheetCell sheet c
-  pub corner_fits : (k : ℕ) → r ≡ TryCellResult.Attached k → k < 16383
+  pub corner_fits : (k : ℕ) → r ≡ Ok k → k < 16383
 
 -- grow labels the cell with what it found, sets the finding's mark and clears none, and counts the cell
 pub record GrowVisit (r : TryCellResult) (c : Cell) (s after : GrowState) : Type 0 where

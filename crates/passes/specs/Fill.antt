@@ -1,6 +1,6 @@
 -- Fill (document 01, "Sheet": "each round walks, by i then j, the unlabelled cells of the label box and one strip along each whole side";
 -- shared/fill.rs). Definitions only.
-use Rattle.std.specs.Prelude.{Bool, true, false, not, ◌&&◌, ◌||◌, List, [], ◌∷◌, ◌++◌, ℕ, zero, suc, max, length, ℤ, pos, ◌+ℤ◌, ◌-ℤ◌, Float, Option, Some, None}
+use Rattle.std.specs.Prelude.{Bool, true, false, not, ◌&&◌, ◌||◌, List, [], ◌∷◌, ◌++◌, ℕ, zero, suc, max, length, ℤ, pos, ◌+ℤ◌, ◌-ℤ◌, Float, Option, Some, None, Ok, Err}
 use Rattle.std.specs.Int.Signed.{le_z}
 use Rattle.std.specs.Float.{binary32}
 use Rattle.std.specs.Float.Ieee.{mul}
@@ -17,10 +17,9 @@ use Rattle.predict.specs.Predict.{prediction_of}
 use Rattle.sheet.specs.declared.Position.{Position}
 use Rattle.arguments.specs.declared.Settings.{Settings}
 use Rattle.arguments.specs.declared.FillParams.{FillParams}
-use Rattle.extension_common.specs.TryCell.{try_at}
+use Rattle.extension_common.specs.TryCell.{TryCellResult, try_at}
 use Rattle.extension_common.specs.declared.ChoiceRule.{ChoiceRule}
 use Rattle.extension_common.specs.declared.Search.{Search}
-use Rattle.extension_common.specs.declared.TryCellResult.{TryCellResult}
 use Rattle.passes.specs.Outcome.{After}
 use Rattle.passes.specs.Rounds.{RoundPass, one_round, Rounds, rounds_from}
 use Rattle.passes.specs.Grow.{tolerances_of}
@@ -68,10 +67,8 @@ fill_search s p = record {
 
 -- fill sets and clears no mark
 unfoldable pub fill_with : Cell → TryCellResult → FillState → FillState
-fill_with c TryCellResult.NoCandidates s = s
-fill_with c TryCellResult.Ambiguous s = s
-fill_with c TryCellResult.EdgeRejected s = s
-fill_with c (TryCellResult.Attached k) s = record { sheet = attached s.sheet c k; made = s.made ++ (place_of c ∷ []) }
+fill_with c (Err e) s = s
+fill_with c (Ok k) s = record { sheet = attached s.sheet c k; made = s.made ++ (place_of c ∷ []) }
 
 -- a cell with no labelled neighbour is passed over
 unfoldable pub fill_at : Corners → Settings → FillParams → Cell → Option Position → FillState → FillState

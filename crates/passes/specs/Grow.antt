@@ -1,6 +1,6 @@
 -- Grow (document 01, "Sheet": "seeds by i, then j; neighbours are queued in Edge's order, each cell once. No candidate and edge refusals
 -- mark a hole."; shared/grow_extend.rs). Definitions only.
-use Rattle.std.specs.Prelude.{Bool, true, false, not, ◌&&◌, cond, List, [], ◌∷◌, ◌++◌, ℕ, zero, suc, ◌+◌, ◌*◌, eqb, ltb, length, get_or, Float, Option, Some, None}
+use Rattle.std.specs.Prelude.{Bool, true, false, not, ◌&&◌, cond, List, [], ◌∷◌, ◌++◌, ℕ, zero, suc, ◌+◌, ◌*◌, eqb, ltb, length, get_or, Float, Option, Some, None, Ok, Err}
 use Rattle.std.specs.Float.{binary32}
 use Rattle.std.specs.Float.Ieee.{mul}
 use Rattle.sheet.specs.Cells.{on_sheet, place_of, cell_of, moved}
@@ -16,10 +16,10 @@ use Rattle.positions_policy.specs.Edge.{cardinal_offsets}
 use Rattle.positions_policy.specs.declared.Tolerances.{Tolerances}
 use Rattle.arguments.specs.declared.Settings.{Settings}
 use Rattle.arguments.specs.declared.GrowParams.{GrowParams}
-use Rattle.extension_common.specs.TryCell.{try_at}
+use Rattle.extension_common.specs.TryCell.{TryCellResult, try_at}
 use Rattle.extension_common.specs.declared.ChoiceRule.{ChoiceRule}
 use Rattle.extension_common.specs.declared.Search.{Search}
-use Rattle.extension_common.specs.declared.TryCellResult.{TryCellResult}
+use Rattle.extension_common.specs.declared.NotAttached.{NotAttached}
 use Rattle.passes.specs.Outcome.{After}
 pub use Rattle.passes.specs.Counting.{no_counts}
 use Rattle.passes.specs.Counting.{one_more}
@@ -80,29 +80,29 @@ search_of s p e = record { search_r = radius_of s p e; ambiguity_factor = p.atta
 
 -- no candidate: a hole
 abbrev pub missed : Cell → GrowState → GrowState
-missed c s = record { sheet = hole_marked s.sheet c; queued = s.queued; made = s.made; counts = one_more TryCellResult.NoCandidates s.counts }
+missed c s = record { sheet = hole_marked s.sheet c; queued = s.queued; made = s.made; counts = one_more (Err NotAttached.NoCandidates) s.counts }
 
 -- what is found at a cell: no candidate and a refused edge mark a hole, an ambiguous choice marks ambiguous, and attaching clears nothing
 -- and queues the cell's neighbours
 unfoldable pub grow_with : Cell → TryCellResult → GrowState → GrowState
-grow_with c TryCellResult.NoCandidates s = missed c s
-grow_with c TryCellResult.Ambiguous s = record {
+grow_with c (Err NotAttached.NoCandidates) s = missed c s
+grow_with c (Err NotAttached.Ambiguous) s = record {
   sheet = ambiguous_marked s.sheet c;
   queued = s.queued;
   made = s.made;
-  counts = one_more TryCellResult.Ambiguous s.counts;
+  counts = one_more (Err NotAttached.Ambiguous) s.counts;
 }
-grow_with c TryCellResult.EdgeRejected s = record {
+grow_with c (Err NotAttached.EdgeRejected) s = record {
   sheet = hole_marked s.sheet c;
   queued = s.queued;
   made = s.made;
-  counts = one_more TryCellResult.EdgeRejected s.counts;
+  counts = one_more (Err NotAttached.EdgeRejected) s.counts;
 }
-grow_with c (TryCellResult.Attached k) s = record {
+grow_with c (Ok k) s = record {
   sheet = attached s.sheet c k;
   queued = spread (attached s.sheet c k) c s.queued;
   made = s.made ++ (place_of c ∷ []);
-  counts = one_more (TryCellResult.Attached k) s.counts;
+  counts = one_more (Ok k) s.counts;
 }
 
 -- a cell with a prediction is tried there; one with no labelled neighbour has no candidate

@@ -1,7 +1,7 @@
 -- Local (document 01, "Sheet": "the box, strips of the depth on labelled rows and columns only, and four corner blocks. Supports are the 4
 -- nearest by |di|+|dj|, then i, then j."; shared/extension/local.rs; document 02, 1/14: what it passes over). Definitions only.
 use Rattle.sheet.specs.declared.Corner.{Corner}
-use Rattle.std.specs.Prelude.{Bool, true, false, not, ◌&&◌, ◌||◌, cond, List, [], ◌∷◌, ◌++◌, map, ℕ, ◌+◌, max, eqb, ltb, length, get_or, take, ℤ, Some, None, Float, Option}
+use Rattle.std.specs.Prelude.{Bool, true, false, not, ◌&&◌, ◌||◌, cond, List, [], ◌∷◌, ◌++◌, map, ℕ, ◌+◌, max, eqb, ltb, length, get_or, take, ℤ, Some, None, Float, Option, Ok, Err}
 use Rattle.std.specs.Float.{nan, binary32}
 use Rattle.std.specs.Float.Ieee.{of_bits, of_int, mul, lt}
 use Rattle.binary32.specs.Ranges.{is_finite, all_finite}
@@ -18,10 +18,9 @@ use Rattle.labels.specs.declared.Bounds.{Bounds}
 use Rattle.homography.specs.Fit.{Answer, homography_of, applied}
 use Rattle.arguments.specs.declared.Settings.{Settings}
 use Rattle.arguments.specs.declared.LocalExtensionParams.{LocalExtensionParams}
-use Rattle.extension_common.specs.TryCell.{unmatched, try_at}
+use Rattle.extension_common.specs.TryCell.{TryCellResult, unmatched, try_at}
 use Rattle.extension_common.specs.declared.ChoiceRule.{ChoiceRule}
 use Rattle.extension_common.specs.declared.Search.{Search}
-use Rattle.extension_common.specs.declared.TryCellResult.{TryCellResult}
 use Rattle.passes.specs.Outcome.{After}
 use Rattle.passes.specs.Rounds.{RoundPass, walk, one_round, Rounds, rounds_from}
 use Rattle.passes.specs.Counting.{no_counts, one_more}
@@ -172,13 +171,11 @@ counted r s = record { sheet = s.sheet; made = s.made; counts = one_more r s.cou
 
 -- local sets no mark; attaching clears both of its cell
 unfoldable pub local_with : Cell → TryCellResult → LocalState → LocalState
-local_with c TryCellResult.NoCandidates s = counted TryCellResult.NoCandidates s
-local_with c TryCellResult.Ambiguous s = counted TryCellResult.Ambiguous s
-local_with c TryCellResult.EdgeRejected s = counted TryCellResult.EdgeRejected s
-local_with c (TryCellResult.Attached k) s = record {
+local_with c (Err e) s = counted (Err e) s
+local_with c (Ok k) s = record {
   sheet = marks_cleared (attached s.sheet c k) c;
   made = s.made ++ (place_of c ∷ []);
-  counts = one_more (TryCellResult.Attached k) s.counts;
+  counts = one_more (Ok k) s.counts;
   largest = s.largest;
   unmatched = s.unmatched;
 }

@@ -9,7 +9,7 @@ ghost use Rattle.passes.specs.Counting.{one_more, visits};
 ghost use Rattle.passes.specs.Grow.{tolerances_of};
 
 use arguments::Settings;
-use extension_common::TryCellResult;
+use extension_common::{NotAttached, TryCellResult};
 use positions_policy::Tolerances;
 
 // The edge's tolerances of a call: cell size and band.
@@ -23,7 +23,7 @@ pub fn tolerances_of(settings: Settings) -> Tolerances
 }
 
 // The counts of grow, and of local.
-#[derive(Clone, Copy)]
+#[derive(Clone, Copy, Default)]
 pub struct Counts {
     pub attached: usize,
     pub rejected_no_candidate: usize,
@@ -37,19 +37,19 @@ pub fn one_more(found: TryCellResult, n: Counts) -> Counts
     ensures { result ≡ one_more found n }
 {
     match found {
-        TryCellResult::NoCandidates => Counts {
+        Err(NotAttached::NoCandidates) => Counts {
             rejected_no_candidate: n.rejected_no_candidate + 1,
             ..n
         },
-        TryCellResult::Ambiguous => Counts {
+        Err(NotAttached::Ambiguous) => Counts {
             rejected_ambiguous: n.rejected_ambiguous + 1,
             ..n
         },
-        TryCellResult::EdgeRejected => Counts {
+        Err(NotAttached::EdgeRejected) => Counts {
             rejected_edge: n.rejected_edge + 1,
             ..n
         },
-        TryCellResult::Attached(_) => Counts {
+        Ok(_) => Counts {
             attached: n.attached + 1,
             ..n
         },

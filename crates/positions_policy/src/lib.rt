@@ -5,12 +5,10 @@
 
 ghost use Rattle.std.specs.Prelude.{◌≡◌, ◌<◌};
 ghost use Rattle.sheet.specs.Cells.{OnSheet, Within};
-ghost use Rattle.sizes.specs.Sizes.{corner_limit};
-ghost use Rattle.sheet.specs.Corners.{corner_in, seen_of, Given};
+ghost use Rattle.sheet.specs.Seeing.{seen_in};
 ghost use Rattle.positions_policy.specs.Edge.{length_of, expected_length, in_band, edge_ok, cardinal_at, edge_at, verdict_of, passes};
 
-use sheet::{Cell, Corner, Offset, Position};
-use sizes::CORNERS;
+use sheet::{Cell, Corner, Offset, Position, Seeing};
 
 // The numbers of the edge test. The band of 01 is `edge_length_tol`: the part of the expected length by which a length may differ.
 #[derive(Clone, Copy)]
@@ -45,15 +43,14 @@ pub fn expected_length(cell_size: f32, candidate: f32, neighbour: f32) -> f32
 }
 
 // Whether length/expected lies in 1-band to 1+band, ends included.
-#[tactic(auto, unfolding(crate::specs::Edge::in_band))]
+#[tactic(auto, using(binary32::proofs::Between::contained), unfolding(crate::specs::Edge::in_band))]
 pub fn in_band(length: f32, expected: f32, band: f32) -> bool
     ensures { result ≡ in_band length expected band }
 {
     let ratio = length / expected;
     let low = 1.0 - band;
     let high = 1.0 + band;
-    // Stays: the definition is these two comparisons; the contract of `contains` speaks of `partial_cmp`, and the proof did not close (c).
-    ratio >= low && ratio <= high
+    (low..=high).contains(&ratio)
 }
 
 // Whether the edge to the candidate from the neighbour is accepted: its length lies in the band about the expected length.
@@ -85,19 +82,16 @@ pub fn cardinal_offset(k: usize) -> Offset
 
 // What the edge between the candidate, at the cell, and the neighbour at an offset says.
 fn cardinal_edge(
-    corners: &[f32; 4 * CORNERS],
-    sheet: &[u16],
+    seeing: Seeing,
     c: Cell,
     candidate: Corner,
     tol: Tolerances,
     o: Offset,
 ) -> EdgeVerdict
-    requires { Given corner_limit sheet.now × (OnSheet c × Within 128 o) }
-    ensures { result ≡ edge_at (seen_of (corner_in corners.now) sheet.now) tol c candidate o }
+    requires { OnSheet c × Within 128 o }
+    ensures { result ≡ edge_at (seen_in seeing.entry) tol c candidate o }
 {
-    let beside = sheet::neighbour(c, o);
-    let seen = sheet::seen_at(corners, sheet, beside);
-    match seen {
+    match seeing.at(sheet::neighbour(c, o)) {
         None => EdgeVerdict::NonePresent,
         Some(neighbour) => {
             if edge_ok(candidate, neighbour, tol.cell_size, tol.edge_length_tol) {
@@ -112,19 +106,18 @@ fn cardinal_edge(
 // What the edges between the candidate, at the cell, and the labelled cardinal neighbours say: they are tried in the order +i, -i,
 // +j, -j, and the search stops at the first accepted edge.
 pub fn any_cardinal_edge_ok(
-    corners: &[f32; 4 * CORNERS],
-    sheet: &[u16],
+    seeing: Seeing,
     c: Cell,
     candidate: Corner,
     tol: Tolerances,
 ) -> EdgeVerdict
-    requires { Given corner_limit sheet.now × OnSheet c }
-    ensures { result ≡ verdict_of (seen_of (corner_in corners.now) sheet.now) tol c candidate }
+    requires { OnSheet c }
+    ensures { result ≡ verdict_of (seen_in seeing.entry) tol c candidate }
 {
     let mut verdict = EdgeVerdict::NonePresent;
-    // Stays: the specification asks for a loop over the four cardinal cells, in their order, that stops at the first accepted edge.
+    // Stays: the specification asks for a loop over the four cardinal cells, in their order, that stops at the first accepted edge (a).
     for o in CARDINALS {
-        match cardinal_edge(corners, sheet, c, candidate, tol, o) {
+        match cardinal_edge(seeing, c, candidate, tol, o) {
             EdgeVerdict::Accepted => return EdgeVerdict::Accepted,
             EdgeVerdict::Refused => verdict = EdgeVerdict::Refused,
             EdgeVerdict::NonePresent => {}

@@ -2,13 +2,11 @@
 -- the prediction, and whether it is an extrapolation. All of it is a function of `seen`, what is seen at each cell; every
 -- operation on floats is one of binary32 and stands in the order in which it is rounded. Definitions only.
 use Rattle.sheet.specs.declared.Corner.{Corner}
-use Rattle.std.specs.Prelude.{Bool, true, false, not, ◌&&◌, ◌||◌, List, [], ◌∷◌, ℕ, ℤ, pos, negsuc, Option, Some, None, Float}
+use Rattle.std.specs.Prelude.{Bool, true, false, not, ◌&&◌, ◌||◌, List, [], ◌∷◌, ℤ, pos, negsuc, Option, Some, None, Float}
 use Rattle.std.specs.Int.Signed.{lt_z}
 use Rattle.std.specs.Float.{binary32}
 use Rattle.std.specs.Float.Ieee.{of_int, add, sub, mul, div}
-use Rattle.sizes.specs.Sizes.{corner_limit}
-use Rattle.sheet.specs.Cells.{OnSheet, moved, difference_of}
-use Rattle.sheet.specs.Corners.{Given}
+use Rattle.sheet.specs.Cells.{moved, difference_of}
 use Rattle.sheet.specs.declared.Cell.{Cell}
 use Rattle.sheet.specs.declared.Offset.{Offset}
 use Rattle.sheet.specs.declared.Position.{Position}
@@ -184,10 +182,3 @@ with_seen seen grid c s at (Some corner) = with_neighbour seen grid c s (record 
 
 abbrev pub with_cell : (Cell → Option Corner) → Grid → Cell → Sums → Cell → Sums
 with_cell seen grid c s at = with_seen seen grid c s at (seen at)
-
--- ---- what the functions ask
-
--- a sheet whose corners have their places in the array, and a cell on that sheet
-pub record GivenCell (sheet : List ℕ) (c : Cell) : Type 0 where
-  pub given : Given corner_limit sheet
-  pub on : OnSheet c

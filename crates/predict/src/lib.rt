@@ -4,14 +4,14 @@
 #![tactic(auto)]
 
 ghost use Rattle.std.specs.Prelude.{◌≡◌, ℕ, ◌≤◌, length};
-ghost use Rattle.sizes.specs.Sizes.{place_count, corner_limit};
+ghost use Rattle.sizes.specs.Sizes.{place_count};
 ghost use Rattle.sheet.specs.Cells.{OnSheet, Within, moved};
 ghost use Rattle.sheet.specs.Words.{SheetCell};
-ghost use Rattle.sheet.specs.Corners.{corner_in, seen_of, Given};
-ghost use Rattle.predict.specs.Predict.{forward_of, backward_of, one_sided, both_sided, step_between, step_at, vector_of, axis_of, weighed, prediction_of, on_side, has_neighbour, extrapolating, is_seen, labelled_on, GivenCell};
+ghost use Rattle.sheet.specs.Corners.{seen_of};
+ghost use Rattle.sheet.specs.Seeing.{seen_in};
+ghost use Rattle.predict.specs.Predict.{forward_of, backward_of, one_sided, both_sided, step_between, step_at, vector_of, axis_of, weighed, prediction_of, on_side, has_neighbour, extrapolating, is_seen, labelled_on};
 
-use sheet::{Cell, Corner, Offset, Position};
-use sizes::CORNERS;
+use sheet::{Cell, Corner, Offset, Position, Seeing};
 
 // A labelled cell beside another, and its corner's position.
 #[derive(Clone, Copy)]
@@ -28,7 +28,7 @@ pub enum Direction {
 }
 
 // A step at a cell: its own pair, or axis times cell size.
-// Stays: the specification describes the step as an enum of these two cases.
+// Stays: the specification describes the step as an enum of these two cases (a).
 #[derive(Clone, Copy)]
 pub enum LocalStep {
     Own(f32, f32),
@@ -91,7 +91,7 @@ fn forward(d: Direction) -> Offset
 }
 
 // The offset of the cell backward along i or j.
-// Stays: two rows of a table; with a sign as a parameter each caller would still name its side, and the definitions are two as well.
+// Stays: two rows of a table; with a sign as a parameter each caller would still name its side, and the definitions are two as well (d).
 fn backward(d: Direction) -> Offset
     ensures { result ≡ backward_of d }
 {
@@ -129,17 +129,13 @@ fn step_between(here: Position, f: Option<Corner>, b: Option<Corner>) -> LocalSt
 
 // The step at a neighbour along i or j: half the difference of both sides' positions, or the one-sided difference, or else the
 // axis. (The Rust looks the neighbour's own position up again; here the neighbour has it.)
-pub fn local_step_at(
-    corners: &[f32; 4 * CORNERS],
-    sheet: &[u16],
-    n: Neighbour,
-    d: Direction,
-) -> LocalStep
-    requires { GivenCell sheet.now n.at }
-    ensures { result ≡ step_at (seen_of (corner_in corners.now) sheet.now) n d }
+// Stays: a neighbour is the definitions' record of a cell and a position too, made there of any cell, so that no ghost field can hold that it is on the sheet (d).
+pub fn local_step_at(seeing: Seeing, n: Neighbour, d: Direction) -> LocalStep
+    requires { OnSheet n.at }
+    ensures { result ≡ step_at (seen_in seeing.entry) n d }
 {
-    let f = sheet::seen_at(corners, sheet, sheet::neighbour(n.at, forward(d)));
-    let b = sheet::seen_at(corners, sheet, sheet::neighbour(n.at, backward(d)));
+    let f = seeing.at(sheet::neighbour(n.at, forward(d)));
+    let b = seeing.at(sheet::neighbour(n.at, backward(d)));
     step_between(n.position, f, b)
 }
 
@@ -185,14 +181,12 @@ fn weigh(sums: Sums, o: Offset, p: Position, i_step: Vector, j_step: Vector) -> 
     }
 }
 
-// A cell that is predicted, and what it is predicted from: the corners, the sheet whose labels name them, the axes and the cell size.
+// A cell that is predicted, and what it is predicted from: the corners that are seen, the axes and the cell size.
 #[derive(Clone, Copy)]
 struct Predicting<'a> {
-    corners: &'a [f32; 4 * CORNERS],
-    sheet: &'a [u16],
+    seeing: Seeing<'a>,
     grid: Grid,
     c: Cell,
-    ghost given: { Given corner_limit sheet.now },
     ghost on: { OnSheet c },
 }
 
@@ -202,16 +196,16 @@ impl<'a> Predicting<'a> {
     // The step at a neighbour along i or j, as a vector.
     fn step_vector(&self, n: Neighbour, d: Direction) -> Vector
         requires { OnSheet n.at }
-        ensures { result ≡ step_vector (seen_of (corner_in self.now.corners.now) self.now.sheet.now) self.now.grid n d }
+        ensures { result ≡ step_vector (seen_in self.now.seeing) self.now.grid n d }
     {
-        let step = local_step_at(self.corners, self.sheet, n, d);
+        let step = local_step_at(self.seeing, n, d);
         vector_of(axis_of(self.grid, d), self.grid.cell_size, step)
     }
 
     // A neighbour's part in the sums for a cell.
     fn add_neighbour(&self, sums: Sums, n: Neighbour) -> Sums
         requires { OnSheet n.at }
-        ensures { result ≡ with_neighbour (seen_of (corner_in self.now.corners.now) self.now.sheet.now) self.now.grid self.now.c sums n }
+        ensures { result ≡ with_neighbour (seen_in self.now.seeing) self.now.grid self.now.c sums n }
     {
         let i_step = self.step_vector(n, Direction::I);
         let j_step = self.step_vector(n, Direction::J);
@@ -227,11 +221,10 @@ impl<'a> Predicting<'a> {
     // The sums with the cell at an offset, if it is labelled.
     fn add_if_labelled(&self, sums: Sums, o: Offset) -> Sums
         requires { Within 128 o }
-        ensures { result ≡ with_cell (seen_of (corner_in self.now.corners.now) self.now.sheet.now) self.now.grid self.now.c sums (moved self.now.c o) }
+        ensures { result ≡ with_cell (seen_in self.now.seeing) self.now.grid self.now.c sums (moved self.now.c o) }
     {
         let at = sheet::neighbour(self.c, o);
-        let seen = sheet::seen_at(self.corners, self.sheet, at);
-        match seen {
+        match self.seeing.at(at) {
             None => sums,
             Some(corner) => {
                 let position = corner.position;
@@ -242,7 +235,7 @@ impl<'a> Predicting<'a> {
 
     // The sums over all neighbours, in their order.
     fn sum_neighbours(&self) -> Sums
-        ensures { result ≡ sums_of (seen_of (corner_in self.now.corners.now) self.now.sheet.now) self.now.grid self.now.c }
+        ensures { result ≡ sums_of (seen_in self.now.seeing) self.now.grid self.now.c }
     {
         let none = Sums {
             x: 0.0,
@@ -294,24 +287,14 @@ pub fn has_neighbour(sheet: &[u16], c: Cell, side: Side) -> bool
 }
 
 // The prediction for a cell: none where it has no neighbour, else the weighted mean over its neighbours.
-pub fn predict_from_neighbours(
-    corners: &[f32; 4 * CORNERS],
-    sheet: &[u16],
-    c: Cell,
-    grid: Grid,
-) -> Option<Position>
-    requires { GivenCell sheet.now c }
-    ensures { result ≡ prediction_of (seen_of (corner_in corners.now) sheet.now) grid c }
+pub fn predict_from_neighbours(seeing: Seeing, c: Cell, grid: Grid) -> Option<Position>
+    requires { OnSheet c }
+    ensures { result ≡ prediction_of (seen_in seeing.entry) grid c }
 {
-    if !has_neighbour(sheet, c, Side::Any) {
+    if !has_neighbour(seeing.sheet, c, Side::Any) {
         return None;
     }
-    let predicting = Predicting {
-        corners,
-        sheet,
-        grid,
-        c,
-    };
+    let predicting = Predicting { seeing, grid, c };
     let sums = predicting.sum_neighbours();
     Some(Position {
         x: sums.x / sums.w,

@@ -6,6 +6,7 @@
 
 ghost use Rattle.std.specs.Prelude.{◌≡◌, ◌-◌, ◌^◌, ◌<◌, length};
 ghost use Rattle.std.specs.IoError.{error_kind};
+ghost use Rattle.std.specs.declared.io.ErrorKind.TheVariants.{Other};
 ghost use Rattle.recover_read.specs.Reading.{interrupts, none_by, got_of, FitsIn, Refilled, Took, read_on, ReadInto, TookAll};
 
 use std::io;
@@ -58,6 +59,14 @@ fn read_rest<R: Read>(input: &mut R, buffer: &mut [u8], at: usize) -> Result<usi
 // A read failed, or one interruption more came than a reading waits out.
 #[derive(Clone, Copy, Debug, PartialEq, Eq)]
 pub struct ReadFailed;
+
+impl From<ReadFailed> for io::Error {
+    ghost from_gives = { λ failed e. error_kind e ≡ Other };
+
+    fn from(_failed: ReadFailed) -> io::Error {
+        io::Error::other("standard input cannot be read")
+    }
+}
 
 // Where a reading stands after one read more: so many bytes are there, and so many interruptions may still come; or it is over.
 #[tactic(auto, unfolding(crate::specs::Reading::read_on))]

@@ -14,7 +14,7 @@ use Rattle.report_line.specs.Result.{Piece}
 use Rattle.frame_answer.specs.Answer.{answer_lines, held_lines, held_piece, FewPasses, Lent, Recovers, WrotePiece, Moves}
 use Rattle.frame.specs.declared.FrameRefusal.{FrameRefusal}
 use Rattle.frame_answer.specs.declared.Recovered.{Recovered}
-use Rattle.frame_answer.specs.declared.PieceWritten.{PieceWritten}
+use Rattle.report.specs.declared.lines.PieceEnd.{PieceEnd}
 use Rattle.frame_answer.proofs.Saying.{says}
 use Rattle.frame.specs.Frame.{read_frame}
 use Rattle.recover_say.specs.Said.{line_after, SaidOf, Told, held_from, piece_from, ToldOf, PieceText, SaidAs, said_of, Telling}
@@ -31,17 +31,17 @@ unfolding held_lines
 few_lines (Err e) h = omega arith
 few_lines (Ok r) h = omega (arith, h)
 
-module _ (answer : Result Recovered FrameRefusal) (words sheet : List ℕ) {out old new : List ℕ} {n from : ℕ} {piece : PieceWritten} (t : Telling answer words sheet out n from)
+module _ (answer : Result Recovered FrameRefusal) (words sheet : List ℕ) {out old new : List ℕ} {n from : ℕ} {piece : PieceEnd} (t : Telling answer words sheet out n from)
     (w : WrotePiece (held_piece answer words sheet from (length out)) old new piece) where
   -- the piece from the line that was reached, into the whole buffer
   this_piece : held_piece answer words sheet from (length out) ≡ held_from answer words sheet (line_after (held_from answer words sheet) n)
   this_piece = ap (held_piece answer words sheet from) (sym t.whole) ∙ ap (held_from answer words sheet) t.reached
 
   -- what stands at the front of the buffer is its text
-  pub text_so : PieceText answer words sheet n (take piece.bytes new)
+  pub text_so : PieceText answer words sheet n (take piece.at new)
   text_so =
-      ap (take piece.bytes) w.wrote.part
-      ∙ take_at (held_piece answer words sheet from (length out)).text _ piece.bytes (sym w.wrote.count)
+      ap (take piece.at) w.wrote.part
+      ∙ take_at (held_piece answer words sheet from (length out)).text _ piece.at (sym w.wrote.count)
       ∙ ap (λ (p : Piece). p.text) this_piece
 
   pub one_more : from < held_lines answer → from < piece.next → 4096 ≡ length new → Telling answer words sheet new (n + 1) piece.next

@@ -98,7 +98,7 @@ fn say<W: Write>(
     // Stays: a piece has as many lines as there is room for, so that the step is not 1 (d).
     while said.next < lines {
         let piece = frame_answer::answer_piece(answer, words, sheet, said.next, &mut buffer);
-        let text = &buffer[..piece.bytes];
+        let text = &buffer[..piece.at];
         put_piece(out, answer, words, sheet, said.pieces, text).map_err(|_| CutOff { said })?;
         said = Said {
             pieces: said.pieces + 1,

@@ -4,3 +4,4 @@ pub mod Small
 pub mod Region
 pub mod Windowed
 pub mod Places
+pub mod Walk

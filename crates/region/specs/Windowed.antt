@@ -1,5 +1,5 @@
 -- The window of a round: the lines of the sheet about the label box, as numbers from 0 to 127, and the next place in it. Definitions only.
-use Rattle.std.specs.Prelude.{◌≡◌, true, ℕ, ◌/◌, ◌%◌, ◌<◌, ◌≤◌, Option, Some}
+use Rattle.std.specs.Prelude.{◌≡◌, true, ℕ, ◌/◌, ◌%◌, ◌<◌, ◌≤◌, Option, Some, None}
 use Rattle.sizes.specs.Sizes.{place_count}
 use Rattle.sheet.specs.Cells.{OnSheet, cell_of}
 use Rattle.labels.specs.declared.Bounds.{Bounds}
@@ -37,3 +37,8 @@ pub record NextIn (w : Window) (from r : ℕ) : Type 0 where
   pub start : from ≤ r
   pub upto : r ≤ place_count
   pub out : (p : ℕ) → from ≤ p → p < r → InWindow w p → ⊥
+
+-- the next place of the sheet from one on that may be in the window, if there is one
+abbrev pub IsNextIn : Window → ℕ → Option ℕ → Type 0
+IsNextIn w from (Some r) = NextIn w from r × (r < place_count)
+IsNextIn w from None = NextIn w from place_count

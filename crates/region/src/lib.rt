@@ -8,11 +8,13 @@ ghost use Rattle.sizes.specs.Sizes.{place_count};
 ghost use Rattle.passes.specs.Fill.{from_to, near_i, near_j};
 ghost use Rattle.region.specs.Small.{SmallBounds};
 ghost use Rattle.region.specs.Region.{Lines, Telling, region_of, region_at};
-ghost use Rattle.region.specs.Windowed.{BoxOn, WindowFits, Windowed, NextIn};
+ghost use Rattle.region.specs.Windowed.{BoxOn, WindowFits, Windowed, IsNextIn};
+
+mod walk;
 
 use labels::Bounds;
 use sheet::Cell;
-use sizes::PLACES;
+pub use walk::Inside;
 
 // Whether a number lies from one end to the other, or at most `past` beyond them.
 fn is_near(low: i32, high: i32, past: u32, z: i32) -> bool
@@ -136,27 +138,27 @@ pub fn window_of(around: Option<Bounds>, past: u32) -> Window
     }
 }
 
-// The next place from one on that lies in the window, or 16,384 where there is none: a walk over the sheet passes over all others.
-pub fn next_inside(w: Window, from: usize) -> usize
+// The next place from one on that lies in the window, if there is one: a walk over the sheet passes over all others.
+pub fn next_inside(w: Window, from: usize) -> Option<usize>
     requires { WindowFits w × (from ≤ place_count) }
-    ensures { NextIn w from result }
+    ensures { IsNextIn w from result }
 {
     let i = from / 128;
     let j = from % 128;
     if w.end_i <= i {
-        return PLACES;
+        return None;
     }
     if i < w.start_i {
-        return w.start_i * 128 + w.start_j;
+        return Some(w.start_i * 128 + w.start_j);
     }
     if j < w.start_j {
-        return i * 128 + w.start_j;
+        return Some(i * 128 + w.start_j);
     }
     if j < w.end_j {
-        return from;
+        return Some(from);
     }
     if w.end_i <= i + 1 {
-        return PLACES;
+        return None;
     }
-    (i + 1) * 128 + w.start_j
+    Some((i + 1) * 128 + w.start_j)
 }

@@ -5,7 +5,7 @@ use mathlib.Core.List.{List, [], ◌∷◌}
 use Prim.Native.Nat.{ℕ, ◌≤◌}
 use Rattle.std.specs.List.{AllByRecursion as ByRecursion}
 use Rattle.std.proofs.lemmas.List.Elements.{recursion_from_All}
-use Rattle.std.specs.Prelude.{Some, Option}
+use Rattle.std.specs.Prelude.{Some, Option, Err}
 use lib.Ieee.{Float, binary32, of_bits, lt}
 use Rattle.sheet.specs.Corners.{Corners}
 use Rattle.sheet.specs.declared.Cell.{Cell}
@@ -15,7 +15,7 @@ use Rattle.arguments.specs.declared.Settings.{Settings}
 use Rattle.arguments.specs.declared.LocalExtensionParams.{LocalExtensionParams}
 use Rattle.candidates.specs.Candidates.{last_distance}
 use Rattle.extension_common.specs.TryCell.{gathered, try_at}
-use Rattle.extension_common.specs.declared.TryCellResult.{TryCellResult}
+use Rattle.extension_common.specs.declared.NotAttached.{NotAttached}
 use Rattle.passes.specs.Grow.{tolerances_of}
 use Rattle.passes.specs.Local.{reach_of, supports_of, cell_point, LocalFit, none, fitted, worst, recorded_all, local_search, gate_of}
 use Rattle.supports.specs.Nearest.{places_of}
@@ -48,12 +48,12 @@ module _ (cs : Corners) (set : Settings) (p : LocalExtensionParams) (l : Option 
 
 -- no candidate at the prediction, and no shade stands
 pub made_no_candidates : {cs : Corners} {set : Settings} {p : LocalExtensionParams} {l : Option Float} {sheet : List ℕ} {c : Cell} {at : Position}
-    → Found cs set p l sheet c (Finding.Predicted at) → try_at cs sheet (tolerances_of set) (local_search set p) c at ≡ TryCellResult.NoCandidates
+    → Found cs set p l sheet c (Finding.Predicted at) → try_at cs sheet (tolerances_of set) (local_search set p) c at ≡ Err NotAttached.NoCandidates
     → cs.shades.any ≡ false → Found cs set p l sheet c Finding.NoCandidates
 made_no_candidates {at = at} (predicted m) e s = no_candidates (record { at = at; mapped = m; missed = e; none_over = s })
 
 -- an ambiguous choice there
 pub made_ambiguous : {cs : Corners} {set : Settings} {p : LocalExtensionParams} {l : Option Float} {sheet : List ℕ} {c : Cell} {at : Position} {limit : Float}
-    → Found cs set p l sheet c (Finding.Predicted at) → try_at cs sheet (tolerances_of set) (local_search set p) c at ≡ TryCellResult.Ambiguous
+    → Found cs set p l sheet c (Finding.Predicted at) → try_at cs sheet (tolerances_of set) (local_search set p) c at ≡ Err NotAttached.Ambiguous
     → limit ≡ last_distance (gathered cs sheet (local_search set p).search_r c at) → cs.shades.any ≡ false → Found cs set p l sheet c (Finding.Ambiguous at limit)
 made_ambiguous (predicted m) e f s = ambiguous (record { mapped = m; undecided = e; last = f; no_shades = s })

@@ -8,6 +8,7 @@ use native.Mathlib.Omega.{arith}
 use lib.Dec.{T, eqb}
 use lib.Ieee.{Float, le, lt, div, binary32}
 use lib.Ieee.Scale.{finite}
+use Rattle.std.specs.Prelude.{Ok, Err}
 use Rattle.binary32.specs.Sqrt.{sqrt_or_nan}
 use Rattle.sheet.specs.declared.Cell.{Cell}
 use Rattle.sheet.specs.declared.Corner.{Corner}
@@ -16,17 +17,17 @@ use Rattle.sheet.specs.Shades.{takes}
 use Rattle.sheet.specs.Corners.{Corners, seen_of, squared_distance, finite_position}
 use Rattle.labels.proofs.Below.{no_both}
 use Rattle.candidates.specs.Candidates.{eligible, squared_radius, is_candidate, distance_of, before, insert, insert_if, ordered, candidates_at, first_two, last_distance}
-use Rattle.candidates.specs.Choice.{epsilon, raised, by_quotient, choose_unambiguous, choose_with_floor}
+use Rattle.candidates.specs.Choice.{CandidateChoice, epsilon, raised, by_quotient, choose_unambiguous, choose_with_floor}
 use Rattle.candidates.specs.declared.Candidate.{Candidate}
 use Rattle.candidates.specs.declared.Candidates.{Candidates}
-use Rattle.candidates.specs.declared.CandidateChoice.{CandidateChoice}
+use Rattle.candidates.specs.declared.Unchosen.{Unchosen}
 use Rattle.candidates.proofs.Without.{first_two_stay}
 use Rattle.positions_policy.specs.Edge.{verdict_of, passes}
 use Rattle.positions_policy.specs.declared.Tolerances.{Tolerances}
-use Rattle.extension_common.specs.TryCell.{unlabelled_on, gathered, choice_by, edges_of, result_of, try_at}
+use Rattle.extension_common.specs.TryCell.{TryCellResult, unlabelled_on, gathered, choice_by, edges_of, result_of, try_at}
 use Rattle.extension_common.specs.declared.ChoiceRule.{ChoiceRule}
 use Rattle.extension_common.specs.declared.Search.{Search}
-use Rattle.extension_common.specs.declared.TryCellResult.{TryCellResult}
+use Rattle.extension_common.specs.declared.NotAttached.{NotAttached}
 
 zero_one : ◌≡◌ {A = ℕ} 0 1 → ⊥
 zero_one z = omega arith
@@ -83,39 +84,39 @@ first_none (a ∷ []) e = absurd (zero_one cc)
 first_none (a ∷ (b ∷ l)) e = absurd (zero_one cc)
 
 module _ (t : Bool) (k : ℕ) where
-  no_quotient : cond t CandidateChoice.Ambiguous (CandidateChoice.Unique k) ≡ CandidateChoice.Nothing → ⊥
+  no_quotient : ◌≡◌ {A = CandidateChoice} (cond t (Err Unchosen.Ambiguous) (Ok k)) (Err Unchosen.Nothing) → ⊥
   no_quotient e = go t e
     where
-      go : (t : Bool) → cond t CandidateChoice.Ambiguous (CandidateChoice.Unique k) ≡ CandidateChoice.Nothing → ⊥
+      go : (t : Bool) → ◌≡◌ {A = CandidateChoice} (cond t (Err Unchosen.Ambiguous) (Ok k)) (Err Unchosen.Nothing) → ⊥
       go true e = zero_one cc
       go false e = zero_one cc
 
-choice_none : (rule : ChoiceRule) (candidates : Candidates) (factor : Float) → choice_by rule candidates factor ≡ CandidateChoice.Nothing → candidates ≡ Candidates.Empty
+choice_none : (rule : ChoiceRule) (candidates : Candidates) (factor : Float) → choice_by rule candidates factor ≡ Err Unchosen.Nothing → candidates ≡ Candidates.Empty
 unfolding choice_by choose_unambiguous choose_with_floor
 choice_none ChoiceRule.Unambiguous Candidates.Empty factor e = refl
 choice_none ChoiceRule.Unambiguous (Candidates.One a) factor e = absurd (zero_one cc)
 choice_none ChoiceRule.Unambiguous (Candidates.Several a second) factor e = absurd (go (le a.distance epsilon) e)
   where
-    go : (t : Bool) → cond t CandidateChoice.Ambiguous (by_quotient a.number a.distance second factor) ≡ CandidateChoice.Nothing → ⊥
+    go : (t : Bool) → cond t (Err Unchosen.Ambiguous) (by_quotient a.number a.distance second factor) ≡ Err Unchosen.Nothing → ⊥
     go true e = zero_one cc
     go false e = no_quotient (lt (div binary32 second a.distance) factor) a.number e
 choice_none ChoiceRule.WithFloor Candidates.Empty factor e = refl
 choice_none ChoiceRule.WithFloor (Candidates.One a) factor e = absurd (zero_one cc)
 choice_none ChoiceRule.WithFloor (Candidates.Several a second) factor e = absurd (no_quotient (lt (div binary32 second (raised a.distance)) factor) a.number e)
 
-none_choice : (rule : ChoiceRule) (factor : Float) → choice_by rule Candidates.Empty factor ≡ CandidateChoice.Nothing
+none_choice : (rule : ChoiceRule) (factor : Float) → choice_by rule Candidates.Empty factor ≡ Err Unchosen.Nothing
 unfolding choice_by choose_unambiguous choose_with_floor
 none_choice ChoiceRule.Unambiguous factor = refl
 none_choice ChoiceRule.WithFloor factor = refl
 
-result_none : (corner : ℕ → Corner) (sheet : List ℕ) (tol : Tolerances) (c : Cell) (choice : CandidateChoice) → result_of corner sheet tol c choice ≡ TryCellResult.NoCandidates
-    → choice ≡ CandidateChoice.Nothing
+result_none : (corner : ℕ → Corner) (sheet : List ℕ) (tol : Tolerances) (c : Cell) (choice : CandidateChoice) → result_of corner sheet tol c choice ≡ Err NotAttached.NoCandidates
+    → choice ≡ Err Unchosen.Nothing
 unfolding result_of edges_of
-result_none corner sheet tol c CandidateChoice.Nothing e = refl
-result_none corner sheet tol c CandidateChoice.Ambiguous e = absurd (zero_one cc)
-result_none corner sheet tol c (CandidateChoice.Unique k) e = absurd (go (passes (verdict_of (seen_of corner sheet) tol c (corner k))) e)
+result_none corner sheet tol c (Err Unchosen.Nothing) e = refl
+result_none corner sheet tol c (Err Unchosen.Ambiguous) e = absurd (zero_one cc)
+result_none corner sheet tol c (Ok k) e = absurd (go (passes (verdict_of (seen_of corner sheet) tol c (corner k))) e)
   where
-    go : (t : Bool) → cond t (TryCellResult.Attached k) TryCellResult.EdgeRejected ≡ TryCellResult.NoCandidates → ⊥
+    go : (t : Bool) → ◌≡◌ {A = TryCellResult} (cond t (Ok k) (Err NotAttached.EdgeRejected)) (Err NotAttached.NoCandidates) → ⊥
     go true e = zero_one cc
     go false e = zero_one cc
 
@@ -144,8 +145,8 @@ module _ (cs : Corners) (sheet sheet' : List ℕ) (sub : (k : ℕ) → unlabelle
       (candidates_fewer (λ k. (cs.corner k).position) _ (eligible (unlabelled_on sheet') (takes cs.shades c)) cs.count prediction radius
       (λ k h. eligible_fewer (unlabelled_on sheet) (unlabelled_on sheet') (takes cs.shades c) k (sub k)) (first_none _ e))
 
-  pub still_missed : (tol : Tolerances) (search : Search) (c : Cell) (at : Position) → try_at cs sheet tol search c at ≡ TryCellResult.NoCandidates
-      → try_at cs sheet' tol search c at ≡ TryCellResult.NoCandidates
+  pub still_missed : (tol : Tolerances) (search : Search) (c : Cell) (at : Position) → try_at cs sheet tol search c at ≡ Err NotAttached.NoCandidates
+      → try_at cs sheet' tol search c at ≡ Err NotAttached.NoCandidates
   unfolding try_at result_of
   still_missed tol search c at e =
       rw (
@@ -155,14 +156,14 @@ module _ (cs : Corners) (sheet sheet' : List ℕ) (sub : (k : ℕ) → unlabelle
 
 -- ---- an ambiguous choice
 
-result_ambiguous : (corner : ℕ → Corner) (sheet : List ℕ) (tol : Tolerances) (c : Cell) (choice : CandidateChoice) → result_of corner sheet tol c choice ≡ TryCellResult.Ambiguous
-    → choice ≡ CandidateChoice.Ambiguous
+result_ambiguous : (corner : ℕ → Corner) (sheet : List ℕ) (tol : Tolerances) (c : Cell) (choice : CandidateChoice) → result_of corner sheet tol c choice ≡ Err NotAttached.Ambiguous
+    → choice ≡ Err Unchosen.Ambiguous
 unfolding result_of edges_of
-result_ambiguous corner sheet tol c CandidateChoice.Nothing e = absurd (zero_one cc)
-result_ambiguous corner sheet tol c CandidateChoice.Ambiguous e = refl
-result_ambiguous corner sheet tol c (CandidateChoice.Unique k) e = absurd (go (passes (verdict_of (seen_of corner sheet) tol c (corner k))) e)
+result_ambiguous corner sheet tol c (Err Unchosen.Nothing) e = absurd (zero_one cc)
+result_ambiguous corner sheet tol c (Err Unchosen.Ambiguous) e = refl
+result_ambiguous corner sheet tol c (Ok k) e = absurd (go (passes (verdict_of (seen_of corner sheet) tol c (corner k))) e)
   where
-    go : (t : Bool) → cond t (TryCellResult.Attached k) TryCellResult.EdgeRejected ≡ TryCellResult.Ambiguous → ⊥
+    go : (t : Bool) → ◌≡◌ {A = TryCellResult} (cond t (Ok k) (Err NotAttached.EdgeRejected)) (Err NotAttached.Ambiguous) → ⊥
     go true e = zero_one cc
     go false e = zero_one cc
 
@@ -176,6 +177,6 @@ module _ (cs : Corners) (sheet sheet' : List ℕ) (k : ℕ) (same : (j : ℕ) �
         (λ j. eligible_without (unlabelled_on sheet) (unlabelled_on sheet') (takes cs.shades c) k j (same j)) far
 
   pub still_ambiguous : (tol : Tolerances) (search : Search) (c : Cell) (at : Position) → gathered cs sheet' search.search_r c at ≡ gathered cs sheet search.search_r c at
-      → try_at cs sheet tol search c at ≡ TryCellResult.Ambiguous → try_at cs sheet' tol search c at ≡ TryCellResult.Ambiguous
+      → try_at cs sheet tol search c at ≡ Err NotAttached.Ambiguous → try_at cs sheet' tol search c at ≡ Err NotAttached.Ambiguous
   unfolding try_at result_of
   still_ambiguous tol search c at g e = rw (g, result_ambiguous cs.corner sheet tol c (choice_by search.rule (gathered cs sheet search.search_r c at) search.ambiguity_factor) e)

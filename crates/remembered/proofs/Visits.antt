@@ -1,5 +1,5 @@
 -- What a visit of a cell does by what is known of the cell. Assumes nothing.
-use Rattle.std.specs.Prelude.{Option}
+use Rattle.std.specs.Prelude.{Option, Err}
 use mathlib.Core.Path.{◌≡◌, refl, ap, ◌∙◌}
 use mathlib.Core.Bool.{true, false}
 use mathlib.Core.List.{List}
@@ -12,8 +12,8 @@ use Rattle.sheet.specs.declared.Position.{Position}
 use Rattle.homography.specs.Fit.{applied}
 use Rattle.arguments.specs.declared.Settings.{Settings}
 use Rattle.arguments.specs.declared.LocalExtensionParams.{LocalExtensionParams}
-use Rattle.extension_common.specs.TryCell.{try_at}
-use Rattle.extension_common.specs.declared.TryCellResult.{TryCellResult}
+use Rattle.extension_common.specs.TryCell.{TryCellResult, try_at}
+use Rattle.extension_common.specs.declared.NotAttached.{NotAttached}
 use Rattle.extension_common.proofs.Laws.{unmatched_bare}
 use Rattle.passes.specs.Grow.{tolerances_of}
 use Rattle.passes.specs.Local.{LocalState, supports_of, cell_point, LocalFit, none, fitted, local_fit, worst, with_residuals, with_unmatched, local_search, gate_of, local_with, local_try, local_at, local_visit}
@@ -69,8 +69,8 @@ module _ (cs : Corners) (set : Settings) (p : LocalExtensionParams) (c : Cell) (
   pub visit_predicted : {at : Position} → Found cs set p s.largest s.sheet c (Finding.Predicted at) → local_visit cs set p c s ≡ local_try cs set p c at s
   visit_predicted (predicted m) = by_mapped (fit_at cs s.sheet c) refl m
 
-  pub visit_no_candidates : Found cs set p s.largest s.sheet c Finding.NoCandidates → local_visit cs set p c s ≡ local_with c TryCellResult.NoCandidates s
+  pub visit_no_candidates : Found cs set p s.largest s.sheet c Finding.NoCandidates → local_visit cs set p c s ≡ local_with c (Err NotAttached.NoCandidates) s
   visit_no_candidates (no_candidates m) = by_mapped (fit_at cs s.sheet c) refl m.mapped ∙ none_over m.none_over m.at ∙ ap (λ (r : TryCellResult). local_with c r s) m.missed
 
-  pub visit_ambiguous : {at : Position} {limit : Float} → Found cs set p s.largest s.sheet c (Finding.Ambiguous at limit) → local_visit cs set p c s ≡ local_with c TryCellResult.Ambiguous s
+  pub visit_ambiguous : {at : Position} {limit : Float} → Found cs set p s.largest s.sheet c (Finding.Ambiguous at limit) → local_visit cs set p c s ≡ local_with c (Err NotAttached.Ambiguous) s
   visit_ambiguous (ambiguous u) = by_mapped (fit_at cs s.sheet c) refl u.mapped ∙ none_over u.no_shades _ ∙ ap (λ (r : TryCellResult). local_with c r s) u.undecided

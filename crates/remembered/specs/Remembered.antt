@@ -1,5 +1,5 @@
 -- What local remembers of a cell, and when it holds (crate passes, Local, has what a visit is). Definitions only.
-use Rattle.std.specs.Prelude.{◌≡◌, Bool, true, false, not, ◌&&◌, cond, List, [], ◌∷◌, ℕ, ◌+◌, ◌*◌, ◌/◌, ◌%◌, ◌<◌, ◌≤◌, T, eqb, leb, get_or, replicate, Option, None, Some, Float}
+use Rattle.std.specs.Prelude.{◌≡◌, Bool, true, false, not, ◌&&◌, cond, List, [], ◌∷◌, ℕ, ◌+◌, ◌*◌, ◌/◌, ◌%◌, ◌<◌, ◌≤◌, T, eqb, leb, get_or, replicate, Option, None, Some, Float, Err}
 use Rattle.std.specs.Float.{nan, binary32}
 use Rattle.std.specs.Float.Ieee.{of_bits, lt}
 use Rattle.std.specs.Float.Ieee.Scale.{finite}
@@ -14,7 +14,7 @@ use Rattle.arguments.specs.declared.Settings.{Settings}
 use Rattle.arguments.specs.declared.LocalExtensionParams.{LocalExtensionParams}
 use Rattle.candidates.specs.Candidates.{squared_radius, last_distance}
 use Rattle.extension_common.specs.TryCell.{gathered, try_at}
-use Rattle.extension_common.specs.declared.TryCellResult.{TryCellResult}
+use Rattle.extension_common.specs.declared.NotAttached.{NotAttached}
 use Rattle.passes.specs.Grow.{tolerances_of}
 use Rattle.passes.specs.Local.{reach_of, supports_of, cell_point, LocalFit, none, fitted, local_fit, worst, gate_of, local_search}
 use Rattle.remembered.specs.declared.Finding.{Finding}
@@ -61,13 +61,13 @@ pub data Mapped (set : Settings) (p : LocalExtensionParams) (l : Option Float) (
 pub record Missed (cs : Corners) (set : Settings) (p : LocalExtensionParams) (l : Option Float) (sheet : List ℕ) (c : Cell) : Type 0 where
   pub at : Position
   pub mapped : Mapped set p l c (fit_at cs sheet c) at
-  pub missed : try_at cs sheet (tolerances_of set) (local_search set p) c at ≡ TryCellResult.NoCandidates
+  pub missed : try_at cs sheet (tolerances_of set) (local_search set p) c at ≡ Err NotAttached.NoCandidates
   pub none_over : cs.shades.any ≡ false
 
 -- such a visit finds the choice ambiguous, and so far lies the last of the first two candidates; no shade stands
 pub record Undecided (cs : Corners) (set : Settings) (p : LocalExtensionParams) (l : Option Float) (sheet : List ℕ) (c : Cell) (at : Position) (limit : Float) : Type 0 where
   pub mapped : Mapped set p l c (fit_at cs sheet c) at
-  pub undecided : try_at cs sheet (tolerances_of set) (local_search set p) c at ≡ TryCellResult.Ambiguous
+  pub undecided : try_at cs sheet (tolerances_of set) (local_search set p) c at ≡ Err NotAttached.Ambiguous
   pub last : limit ≡ last_distance (gathered cs sheet (local_search set p).search_r c at)
   pub no_shades : cs.shades.any ≡ false
 

@@ -47,7 +47,7 @@ const NO_AIM: Aim = Aim {
 };
 
 // What is known of the cells: a word for each place of the sheet, 0 where nothing is known, and what is noted with it.
-// Stays: words, not an array of Option<Known>, since a walk over all places looks at many words at once, and a place takes 14 bytes in place of 24.
+// Stays: words, not an array of Option<Known>: a walk looks at many words at once (`local-1024`: 50 to 23.6 million), and a place takes 14 bytes, not 24 (b).
 #[derive(Drop)]
 pub struct Memory {
     pub words: [u16; PLACES],
@@ -55,7 +55,7 @@ pub struct Memory {
 }
 
 // What a code says, with what is noted beside it.
-// Stays: the kind of what was found is a number here, since one word holds it and the reach: a walk looks at many words at once (b).
+// Stays: as `Memory` (b).
 #[tactic(auto, unfolding(crate::specs::Remembered::finding_of))]
 fn finding_of(code: u16, aim: Aim) -> Finding
     ensures { result ≡ finding_of code aim }
@@ -84,7 +84,7 @@ fn known_of(word: u16, aim: Aim) -> Option<Known>
 }
 
 // The code of what was found, from 1 on.
-// Stays: the number is what a word holds in its last three bits, and one word a place is what a walk can look at many of at once (b).
+// Stays: as `Memory` (b).
 #[tactic(auto, unfolding(crate::specs::Remembered::code_of))]
 fn code_of(finding: Finding) -> u16
     ensures { result ≡ code_of finding }
@@ -232,11 +232,11 @@ impl Memory {
         ensures { Forgotten self.old c corner self.new }
     {
         let label = NewLabel { cell: c, corner };
-        let mut place = sheet::next_written(&self.words, 0);
+        let mut from = 0usize;
         // Stays: the words that are walked over are written on the way, so that no iterator may hold them.
-        while place < PLACES {
+        while let Some(place) = sheet::next_written(&self.words, from) {
             self.words[place] = label.left_of(self.words[place], self.aims[place], place);
-            place = sheet::next_written(&self.words, place + 1);
+            from = place + 1;
         }
     }
 }

@@ -54,7 +54,7 @@ blank_line passes words sheet k h e = go (leb k passes) refl e
     go true a b = absurd (let z : ◌≡◌ {A = ℕ} 0 1 = cc in omega arith)
     go false a b =
         let l = leb-false k passes a in
-        sym (sheet_line_lem passes words sheet k (k - 1) (λ z. omega arith) refl (omega arith))
+        sym (sheet_line_lem passes words sheet k (k - 1 - passes) (omega arith))
         ∙ blank_sheet sheet (k - 1 - passes) (omega arith) (eqb-true _ 0 b)
 
 -- a line of a place, by what the place holds
@@ -64,19 +64,16 @@ blank_late passes sheet k h = rw (lt-leb k passes h)
 
 -- ---- the lines of a row
 
-pub no_lines : (passes : ℕ) (sheet : List ℕ) (k : ℕ) → BlankLines passes sheet k 0
-no_lines passes sheet k = record { blank = λ a p q. absurd (omega arith) }
-
--- the places from that of line k on, up to the end of its row
-pub lines_of : (passes : ℕ) (sheet : List ℕ) (k n : ℕ) → passes < k
-    → BlankPlaces sheet ((k - 1 - passes) % 16384) n → BlankLines passes sheet k n
-lines_of passes sheet k n h s = record { blank = one }
+-- the places from that of line k on, which is line m of the sheet, up to the end of its row
+pub lines_of : (passes : ℕ) (sheet : List ℕ) (k m n : ℕ) → k ≡ suc (passes + m)
+    → BlankPlaces sheet (m % 16384) n → BlankLines passes sheet k n
+lines_of passes sheet k m n h s = record { blank = one }
   where
     one : (a : ℕ) → k ≤ a → a < k + n → blank_at passes sheet a ≡ true
     one a p q =
         let u = s.upto in
-        let d : (a - 1 - passes) % 16384 ≡ (k - 1 - passes) % 16384 + (a - k) = omega arith in
-        sym (blank_late passes sheet a (omega arith)) ∙ eq-eqb (get_or sheet ((a - 1 - passes) % 16384) 0) 0 (rw d (blank_place sheet ((k - 1 - passes) % 16384) n s.blank (a - k) (omega arith)))
+        let d : (a - 1 - passes) % 16384 ≡ m % 16384 + (a - k) = omega arith in
+        sym (blank_late passes sheet a (omega arith)) ∙ eq-eqb (get_or sheet ((a - 1 - passes) % 16384) 0) 0 (rw d (blank_place sheet (m % 16384) n s.blank (a - k) (omega arith)))
 
 -- ---- a piece without them
 

@@ -1,9 +1,11 @@
 -- What the tests of a call say, one after the other. Assumes nothing.
 use Rattle.std.specs.Prelude.{Err}
 use mathlib.Core.Path.{◌≡◌, refl, sym, ap, ◌∙◌}
-use mathlib.Core.Bool.{true, false, ◌||◌}
+use mathlib.Core.Bool.{true, false}
+use Rattle.std.proofs.Math.Bool.{or_comm}
 use mathlib.Core.List.{List}
-use Prim.Native.Nat.{ℕ, ◌*◌, ◌≤◌, ◌<◌}
+use Prim.Native.Nat.{ℕ, ◌+◌, ◌*◌, ◌≤◌, ◌<◌}
+use native.Mathlib.Omega.{arith}
 use borrow.Author.Tests.{lt-ltb, le-ltb, ltb-false}
 use lib.Dec.{ltb}
 use lib.ListN.{length}
@@ -14,7 +16,7 @@ use Rattle.report_line.specs.Result.{line_count}
 use Rattle.report.specs.WriteResult.{TextLent, text_of, input_short, over_limit, wild, checked_rest, checked_text, checked_piece}
 use Rattle.report_words.specs.Outcomes.{stats_in}
 use Rattle.sizes.specs.Sizes.{outcome_size}
-use Rattle.report.specs.Asked.{AllLent, text_from, CornersAsked, corners_checked}
+use Rattle.report.specs.Asked.{AllLent, text_from, CornersAsked, rest_checked}
 use Rattle.report.proofs.Laws.{from_the_start}
 
 -- ---- one refusal after the other
@@ -26,12 +28,9 @@ module _ (l : TextLent) where
       let r = or_false_both (ltb (length l.words) (outcome_size * l.passes)) _ e in
       record { words_long = ltb-false _ _ r.0; sheet_long = ltb-false _ _ r.1 }
 
-  pub corners_few : over_limit l ≡ false → l.corners ≤ 1024
+  pub corners_asked : AllLent l.passes l.words l.sheet → over_limit l ≡ false → CornersAsked l.corners l.sheet
   unfolding over_limit
-  corners_few e = ltb-false _ _ (or_false_both (ltb 16 l.passes) _ e).1
-
-  pub corners_asked : input_short l ≡ false → over_limit l ≡ false → CornersAsked l.corners l.sheet
-  corners_asked e f = record { few = corners_few f; long = (all_lent e).sheet_long }
+  corners_asked a f = record { few = ltb-false _ _ (or_false_both (ltb 16 l.passes) _ f).1; long = a.sheet_long }
 
   -- the whole text
   module _ (room : ℕ) where
@@ -48,22 +47,9 @@ module _ (l : TextLent) where
       unfolding checked_text
       text_7_too e = refused _ _ _ (sym (fails _ _ _ a (sym (sym same_text ∙ e))))
 
-      module _ (b : ltb room (length (text_from l.passes l.words l.sheet 0)) ≡ false) where
-        long : (input_short l || ltb room (length (text_of l))) ≡ false
-        long = or_false _ _ a (sym same_text ∙ b)
-
-        pub text_2 : over_limit l ≡ true → Err Refusal.OverLimit ≡ checked_text l room
-        unfolding checked_text checked_rest
-        text_2 e = passed _ _ _ _ long (refused _ _ _ e)
-
-        module _ (c : over_limit l ≡ false) where
-          pub text_3 : wild l ≡ true → Err Refusal.OutOfRange ≡ checked_text l room
-          unfolding checked_text checked_rest
-          text_3 e = passed _ _ _ _ long (passed _ _ _ _ c (refused _ _ _ e))
-
-          pub text_rest : wild l ≡ false → corners_checked l.corners l.sheet ≡ checked_text l room
-          unfolding checked_text checked_rest
-          text_rest e = passed _ _ _ _ long (passed _ _ _ _ c (passed _ _ _ _ e refl))
+      pub text_rest : ltb room (length (text_from l.passes l.words l.sheet 0)) ≡ false → rest_checked l false ≡ checked_text l room
+      unfolding checked_text checked_rest
+      text_rest b = passed _ _ _ _ (or_false _ _ a (sym same_text ∙ b)) (rw (or_comm (wild l) false) refl)
 
   -- a piece
   module _ (from room : ℕ) where
@@ -76,24 +62,9 @@ module _ (l : TextLent) where
       unfolding checked_piece
       piece_7_too h = refused _ _ _ (sym (fails _ _ _ a (sym (lt-ltb _ _ h))))
 
-      module _ (b : 128 ≤ room) where
-        wide : (input_short l || ltb room 128) ≡ false
-        wide = or_false _ _ a (le-ltb _ _ b)
-
-        pub piece_2 : over_limit l ≡ true → Err Refusal.OverLimit ≡ checked_piece l from room
-        unfolding checked_piece
-        piece_2 e = passed _ _ _ _ wide (refused _ _ _ e)
-
-        module _ (c : over_limit l ≡ false) where
-          pub piece_3 : wild l ≡ true → Err Refusal.OutOfRange ≡ checked_piece l from room
-          unfolding checked_piece
-          piece_3 e = passed _ _ _ _ wide (passed _ _ _ _ c (refused _ _ _ (sym (holds _ _ e))))
-
-          module _ (d : wild l ≡ false) where
-            pub piece_3_too : line_count l.passes < from → Err Refusal.OutOfRange ≡ checked_piece l from room
-            unfolding checked_piece
-            piece_3_too h = passed _ _ _ _ wide (passed _ _ _ _ c (refused _ _ _ (sym (fails _ _ _ d (sym (lt-ltb _ _ h))))))
-
-            pub piece_rest : from ≤ line_count l.passes → corners_checked l.corners l.sheet ≡ checked_piece l from room
-            unfolding checked_piece
-            piece_rest h = passed _ _ _ _ wide (passed _ _ _ _ c (passed _ _ _ _ (or_false _ _ d (le-ltb _ _ h)) refl))
+      pub piece_rest : 128 ≤ room → rest_checked l (ltb (l.passes + 49153) from) ≡ checked_piece l from room
+      unfolding checked_piece
+      piece_rest b = passed _ _ _ _ (or_false _ _ a (le-ltb _ _ b)) (ap (λ (n : ℕ). rest_checked l (ltb n from)) lines)
+        where
+          lines : l.passes + 49153 ≡ line_count l.passes
+          lines = omega arith

@@ -2,6 +2,7 @@
 pub mod Joining
 pub mod Numbered
 pub mod Short
+pub mod Trying
 pub mod Laws
 pub mod Checking
 pub mod Writing

@@ -22,21 +22,20 @@ module _ (passes : ℕ) (words sheet : List ℕ) where
   unfolding line_at result_line
   after k = rw (stats_length words 0 passes)
 
-  one_less : (k j : ℕ) → (k ≡ 0 → ⊥) → j ≡ k - 1 → k ≡ suc j
-  one_less k j h e = omega arith
-
-  pub pass_line_holds : (k j : ℕ) → (k ≡ 0 → ⊥) → j ≡ k - 1 → j < passes → pass_line (stats_at words j) ≡ line_at passes words sheet k
-  pass_line_holds k j h e l =
+  pub pass_line_holds : (k j : ℕ) → k ≡ suc j → j < passes → pass_line (stats_at words j) ≡ line_at passes words sheet k
+  pass_line_holds k j e l =
       sym (pass_line_at_lem words 0 passes j j l (omega arith))
       ∙ sym (ap (λ (t : Bool). cond t (pass_line_at (stats_in passes words) j) (sheet_line sheet (j - passes))) (lt-ltb j passes l))
       ∙ sym (after j)
-      ∙ ap (line_at passes words sheet) (sym (one_less k j h e))
+      ∙ ap (line_at passes words sheet) (sym e)
 
-  pub sheet_line_lem : (k j : ℕ) → (k ≡ 0 → ⊥) → j ≡ k - 1 → passes ≤ j → sheet_line sheet (j - passes) ≡ line_at passes words sheet k
-  sheet_line_lem k j h e l =
-      sym (ap (λ (t : Bool). cond t (pass_line_at (stats_in passes words) j) (sheet_line sheet (j - passes))) (le-ltb j passes l))
-      ∙ sym (after j)
-      ∙ ap (line_at passes words sheet) (sym (one_less k j h e))
+  pub sheet_line_lem : (k m : ℕ) → k ≡ suc (passes + m) → sheet_line sheet m ≡ line_at passes words sheet k
+  sheet_line_lem k m e =
+      let d : m ≡ passes + m - passes = omega arith in
+      ap (sheet_line sheet) d
+      ∙ sym (ap (λ (t : Bool). cond t (pass_line_at (stats_in passes words) (passes + m)) (sheet_line sheet (passes + m - passes))) (le-ltb (passes + m) passes (omega arith)))
+      ∙ sym (after (passes + m))
+      ∙ ap (line_at passes words sheet) (sym e)
 
   -- ---- the text line by line
 

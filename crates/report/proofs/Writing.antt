@@ -212,18 +212,18 @@ module _ (passes : ℕ) (words sheet : List ℕ) (k : ℕ) where
   heading_is e = rw e
 
   module _ (out : List ℕ) (a : LineAsked passes words sheet k out) where
-    pub pass_asked : (j : ℕ) → j ≡ k - 1 → (k ≡ 0 → ⊥) → j < passes → PassAsked words j out
-    pass_asked j e h l =
+    pub pass_asked : (j : ℕ) → k ≡ suc j → j < passes → PassAsked words j out
+    pass_asked j e l =
         let w = a.sound.all.words_long in
         record {
           outcome = record { has = record { there = omega arith }; tame = a.sound.tame j l };
-          room = same_room _ _ out (pass_line_holds passes words sheet k j h e l) a.room;
+          room = same_room _ _ out (pass_line_holds passes words sheet k j e l) a.room;
         }
 
-    pub sheet_asked : (j : ℕ) → j ≡ k - 1 → (k ≡ 0 → ⊥) → passes ≤ j → SheetAsked sheet (j - passes) (sheet_line sheet (j - passes)) out
-    sheet_asked j e h l =
+    pub sheet_asked : (m : ℕ) → k ≡ suc (passes + m) → SheetAsked sheet m (sheet_line sheet m) out
+    sheet_asked m e =
         let b = a.below in
         record {
           on = record { there = a.sound.all.sheet_long; below = omega arith };
-          room = same_room _ _ out (sheet_line_lem passes words sheet k j h e l) a.room;
+          room = same_room _ _ out (sheet_line_lem passes words sheet k m e) a.room;
         }

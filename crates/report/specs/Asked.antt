@@ -1,10 +1,12 @@
 -- What the inner functions ask of what is lent, and the lines of a result by what is lent. Definitions only.
-use Rattle.std.specs.Prelude.{◌≡◌, Bool, true, false, cond, List, [], ℕ, ◌+◌, ◌-◌, ◌*◌, ◌%◌, ◌≤◌, ◌<◌, length, get_or, eqb, leb, Ok}
+use Rattle.std.specs.Prelude.{◌≡◌, Bool, true, false, ◌||◌, cond, List, [], ℕ, suc, ◌+◌, ◌-◌, ◌*◌, ◌%◌, ◌≤◌, ◌<◌, length, get_or, eqb, leb, Ok}
 use Rattle.arguments.specs.Arguments.{Checked, refused_if, unknown_corner, doubled_corner}
 use Rattle.refusal.specs.declared.Refusal.{Refusal}
 use Rattle.report_line.specs.Result.{pass_line, result_line, line_count, result_from, Piece, result_piece}
 use Rattle.sizes.specs.Sizes.{place_count, corner_limit, outcome_size}
 use Rattle.line_form.specs.Written.{Wrote}
+use Rattle.report.specs.WriteResult.{TextLent, over_limit, wild}
+use Rattle.report.specs.declared.lines.Line.{Line}
 use Rattle.report.specs.declared.lines.PieceEnd.{PieceEnd}
 use Rattle.report_words.specs.Outcomes.{stats_at, stats_in}
 use Rattle.report_words.specs.Asked.{Tame, TameOutcome}
@@ -26,6 +28,12 @@ pub record Sound (passes : ℕ) (words sheet : List ℕ) : Type 0 where
 -- line k
 unfoldable pub line_at : ℕ → List ℕ → List ℕ → ℕ → List ℕ
 line_at passes words sheet k = result_line (stats_in passes words) sheet k
+
+-- which line has number k: the heading, that of pass m, or line m of the sheet
+abbrev pub IsLine : ℕ → ℕ → Line → Type 0
+IsLine passes k Line.Heading = k ≡ 0
+IsLine passes k (Line.Pass m) = (k ≡ suc m) × (m < passes)
+IsLine passes k (Line.OfSheet m) = k ≡ suc (passes + m)
 
 -- the text from line k on
 unfoldable pub text_from : ℕ → List ℕ → List ℕ → ℕ → List ℕ
@@ -87,3 +95,11 @@ pub record CornersAsked (corners : ℕ) (sheet : List ℕ) : Type 0 where
 abbrev pub corners_checked : ℕ → List ℕ → Checked
 corners_checked corners sheet =
     refused_if (unknown_corner corners sheet) Refusal.UnknownCorner (refused_if (doubled_corner sheet) Refusal.Duplicate (Ok tt))
+
+-- ---- 2, 3, 5 and 6; `outside`: the call asks for a line that there is not, which is 3 as well
+
+abbrev pub rest_checked : TextLent → Bool → Checked
+rest_checked l outside =
+    refused_if (over_limit l) Refusal.OverLimit
+    (refused_if (wild l || outside) Refusal.OutOfRange
+    (corners_checked l.corners l.sheet))

@@ -2,8 +2,8 @@
 ghost use Rattle.std.specs.Prelude.{◌≡◌, ◌*◌, ◌≤◌, ltb, length};
 ghost use Rattle.sizes.specs.Sizes.{outcome_size};
 ghost use Rattle.report_words.specs.Asked.{HasOutcome};
-ghost use Rattle.report.specs.WriteResult.{text_lent, input_short, over_limit, wild, checked_rest, checked_text, checked_piece};
-ghost use Rattle.report.specs.Asked.{AllLent, CornersAsked, corners_checked, text_from};
+ghost use Rattle.report.specs.WriteResult.{text_lent, input_short, over_limit, wild, checked_text, checked_piece};
+ghost use Rattle.report.specs.Asked.{AllLent, CornersAsked, corners_checked, rest_checked, text_from};
 
 use super::lines::Source;
 use refusal::Refusal;
@@ -22,6 +22,7 @@ pub struct Lent<'a> {
 
 impl<'a> Lent<'a> {
     // What the lines are written from.
+    // Stays: it holds once the test of 7 has passed, so that it is no fact of what is lent (d).
     pub fn source(&self) -> Source<'a>
         requires { AllLent self.now.passes self.now.words.now self.now.sheet.now }
         ensures passes { result.passes ≡ self.now.passes }
@@ -86,6 +87,20 @@ impl<'a> Lent<'a> {
         self.source().text_short(room)
     }
 
+    // 2, 3, 5 and 6, where the words and the sheet are all there: `outside` says whether the call asks for a line that there is not, which is 3 as well.
+    fn check_rest(&self, outside: bool) -> Result<(), Refusal>
+        requires { AllLent self.now.passes self.now.words.now self.now.sheet.now }
+        ensures { result ≡ rest_checked (text_lent self.now.corners self.now.passes self.now.words.now self.now.sheet.now) outside }
+    {
+        if self.over_limit() {
+            return Err(Refusal::OverLimit);
+        }
+        if self.is_wild() || outside {
+            return Err(Refusal::OutOfRange);
+        }
+        self.check_corners()
+    }
+
     // Whether a call that writes the whole text is refused, and why.
     pub fn check_text(&self, room: usize) -> Result<(), Refusal>
         ensures { result ≡ checked_text (text_lent self.now.corners self.now.passes self.now.words.now self.now.sheet.now) room }
@@ -93,13 +108,7 @@ impl<'a> Lent<'a> {
         if self.input_short() || self.text_short(room) {
             return Err(Refusal::BufferTooShort);
         }
-        if self.over_limit() {
-            return Err(Refusal::OverLimit);
-        }
-        if self.is_wild() {
-            return Err(Refusal::OutOfRange);
-        }
-        self.check_corners()
+        self.check_rest(false)
     }
 
     // Whether a call that writes a piece from a line on is refused, and why.
@@ -109,12 +118,6 @@ impl<'a> Lent<'a> {
         if self.input_short() || room < LINE_ROOM {
             return Err(Refusal::BufferTooShort);
         }
-        if self.over_limit() {
-            return Err(Refusal::OverLimit);
-        }
-        if self.is_wild() || self.passes + LINES < from {
-            return Err(Refusal::OutOfRange);
-        }
-        self.check_corners()
+        self.check_rest(self.passes + LINES < from)
     }
 }

@@ -4,7 +4,7 @@ ghost use Rattle.std.specs.Prelude.{◌≡◌, ◌<◌, ltb, length, is_none};
 ghost use Rattle.line_form.specs.Written.{Wrote};
 ghost use Rattle.report_line.specs.Result.{pass_line, line_count};
 ghost use Rattle.report_words.specs.Outcomes.{stats_at};
-ghost use Rattle.report.specs.Asked.{AllLent, PassAsked, LineAsked, AllAsked, SomeAsked};
+ghost use Rattle.report.specs.Asked.{AllLent, PassAsked, LineAsked, AllAsked, SomeAsked, IsLine};
 ghost use Rattle.report.specs.Asked.{WrotePiece, BlankLines, Skipped, line_at, text_from, piece_from};
 
 use pass_line::write_stats;
@@ -12,6 +12,14 @@ use report_line::line::{write_heading, write_sheet_line};
 use report_line::line_sizes::{LINE_ROOM, LINES, SHEET_LINES};
 use report_words::read::Outcome;
 use sizes::PLACES;
+
+// A line of a result: the heading, the pass line of an outcome or a line of the sheet, each of the last two by its number among its like.
+#[derive(Clone, Copy)]
+enum Line {
+    Heading,
+    Pass(usize),
+    OfSheet(usize),
+}
 
 // The length of the pass line of an outcome, whatever its words are: what its writer writes of an outcome whose line is as long.
 fn pass_length(outcome: &Outcome) -> usize
@@ -45,35 +53,41 @@ pub struct Source<'a> {
 }
 
 impl Source<'_> {
+    // Which line line k is.
+    fn line(&self, k: usize) -> Line
+        ensures { IsLine self.now.passes k result }
+    {
+        match k.checked_sub(1) {
+            None => Line::Heading,
+            Some(m) if m < self.passes => Line::Pass(m),
+            Some(m) => Line::OfSheet(m - self.passes),
+        }
+    }
+
     // The length of line k: what its writer writes.
     fn line_length(&self, k: usize) -> usize
         requires { k < line_count self.now.passes }
         ensures { result ≡ length (line_at self.now.passes self.now.words.now self.now.sheet.now k) }
     {
+        let words = self.words;
         let mut line = [0u8; LINE_ROOM];
-        if k == 0 {
-            return write_heading(&mut line);
+        match self.line(k) {
+            Line::Heading => write_heading(&mut line),
+            Line::Pass(k) => pass_length(&Outcome { words, k }),
+            Line::OfSheet(k) => write_sheet_line(self.sheet, k, &mut line),
         }
-        if k - 1 < self.passes {
-            let outcome = Outcome {
-                words: self.words,
-                k: k - 1,
-            };
-            return pass_length(&outcome);
-        }
-        write_sheet_line(self.sheet, k - 1 - self.passes, &mut line)
     }
 
     // What is left of a room behind the whole text; nothing where the room is shorter.
     fn room_left(&self, room: usize) -> Option<usize>
         ensures { is_none result ≡ ltb room (length (text_from self.now.passes self.now.words.now self.now.sheet.now 0)) }
     {
-        let mut left = room;
-        // Stays: a line has only its number, and the first that is too long ends the walk (d).
-        for k in 0..self.passes + LINES {
-            left = left.checked_sub(self.line_length(k))?;
-        }
-        Some(left)
+        (0..self.passes + LINES).try_fold(
+            room,
+            |left, k|
+                requires { k < line_count self.now.passes }
+            { left.checked_sub(self.line_length(k)) },
+        )
     }
 
     // Whether a buffer is shorter than the whole text.
@@ -88,17 +102,12 @@ impl Source<'_> {
         requires { LineAsked self.now.passes self.now.words.now self.now.sheet.now k out.old }
         ensures { Wrote (line_at self.now.passes self.now.words.now self.now.sheet.now k) out.old out.new result }
     {
-        if k == 0 {
-            return write_heading(out);
+        let words = self.words;
+        match self.line(k) {
+            Line::Heading => write_heading(out),
+            Line::Pass(k) => write_pass(&Outcome { words, k }, out),
+            Line::OfSheet(k) => write_sheet_line(self.sheet, k, out),
         }
-        if k - 1 < self.passes {
-            let outcome = Outcome {
-                words: self.words,
-                k: k - 1,
-            };
-            return write_pass(&outcome, out);
-        }
-        write_sheet_line(self.sheet, k - 1 - self.passes, out)
     }
 
     // Writes the whole text, line by line, each into the unfilled rest of the buffer.
@@ -118,10 +127,10 @@ impl Source<'_> {
     fn blank_lines(&self, k: usize) -> usize
         ensures { BlankLines self.now.passes self.now.sheet.now k result }
     {
-        if k <= self.passes {
-            return 0;
+        match self.line(k) {
+            Line::Heading | Line::Pass(_) => 0,
+            Line::OfSheet(m) => sheet::blank_places(self.sheet, m % PLACES),
         }
-        sheet::blank_places(self.sheet, (k - 1 - self.passes) % PLACES)
     }
 
     // The next line from line k on that may have something to say, or the last line: most lines are empty, and are passed over here row by row.

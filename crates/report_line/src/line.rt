@@ -87,6 +87,7 @@ fn write_mark_line(marked: bool, form: &[u8], place: usize, out: &mut [u8]) -> u
 }
 
 // A line of the sheet: of cells first, then holes, then ambiguous cells.
+// Stays: the definition `sheet_line` numbers the lines so; an enum would be made of the number by these two tests, and matched once (d).
 pub fn write_sheet_line(sheet: &[u16], k: usize, out: &mut [u8]) -> usize
     requires { LineAsked sheet.now k (sheet_line sheet.now k) out.old }
     ensures { Wrote (sheet_line sheet.now k) out.old out.new result }

@@ -1,5 +1,5 @@
 -- Outcomes as words: what the check of them says, the outcomes from a number on, and that reading what was put gives the outcome back. Assumes nothing.
-use Rattle.std.specs.Prelude.{Option, None, Some}
+use Rattle.std.specs.Prelude.{Option, None, Some, is_some, IfSome}
 use Rattle.std.specs.Bool.{then_some}
 use mathlib.Core.Path.{◌≡◌, refl, sym, ap, ◌∙◌}
 use mathlib.Core.Bool.{Bool, true, false, not, ◌&&◌, ◌||◌, cond}
@@ -28,7 +28,7 @@ use Rattle.report_line.specs.Like.{ResidualLike}
 use Rattle.sheet.specs.Words.{bit_of}
 use Rattle.sizes.specs.Sizes.{outcome_size}
 use Rattle.report_words.specs.Outcomes.{residual_words, unmatched_words, outcome_words, word_at, yes_at, residual_at, unmatched_at, largest_count, largest_unmatched, stats_at, stats_from, wild_counts, wild_residual, wild_unmatched, wild_outcome}
-use Rattle.report_words.specs.Asked.{Tame, flag_of, bits_of, shade_flag, unmatched_word, FloatOrNone, IsFloat}
+use Rattle.report_words.specs.Asked.{Tame, FitsWord, UnmatchedFits, flag_of, bits_of, shade_flag, unmatched_word, FloatOrNone, IsFloat}
 
 at_most : (a b : ℕ) → ltb a b ≡ false → b ≤ a
 at_most a b e = ltb-false a b e
@@ -215,6 +215,23 @@ residual_finite words k w x e = go (eqb (word_at words k 6) 0) refl e
 pub like_cond : (b : Bool) (x y : Float) → is_finite y ≡ true → ResidualLike (cond b (Some x) None) (then_some b y)
 like_cond true x y f = f
 like_cond false x y f = tt
+
+-- ---- what `then` and `then_some` give by a flag
+
+module _ {A : Type 0} (P : A → Type 0) where
+  pub then_is : (b t : Bool) (v : A) (r : Option A) → is_some r ≡ b → b ≡ t → IfSome r P → ((x : A) → P x → x ≡ v) → r ≡ cond t (Some v) None
+  then_is b true v None s e i h = absurd (no_both true refl (sym (s ∙ e)))
+  then_is b true v (Some x) s e i h = ap (λ (y : A). Some y) (h x i)
+  then_is b false v None s e i h = refl
+  then_is b false v (Some x) s e i h = absurd (no_both true refl (s ∙ e))
+
+pub some_is : {A : Type 0} (b : Bool) (v : A) → then_some b v ≡ cond b (Some v) None
+some_is true v = refl
+some_is false v = refl
+
+pub some_fits : (b : Bool) (n : ℕ) → FitsWord n → UnmatchedFits (then_some b n)
+some_fits true n h = h
+some_fits false n h = tt
 
 -- ---- unmatched
 

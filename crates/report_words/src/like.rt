@@ -86,6 +86,7 @@ impl Outcome<'_> {
     }
 
     // What an outcome says, by its kind.
+    // Stays: the kind is a word of the C interface (a).
     #[tactic(auto, unfolding(crate::specs::Outcomes::stats_at))]
     pub fn stats_like(&self) -> PassStats
         ensures { StatsLike (stats_at self.now.words.now self.now.k) result }

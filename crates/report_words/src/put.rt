@@ -1,7 +1,5 @@
 // Outcomes put at their places.
 ghost use Rattle.std.specs.Prelude.{◌≡◌};
-ghost use Rattle.std.specs.Float.{binary32};
-ghost use Rattle.std.specs.Float.Ieee.{to_bits};
 ghost use Rattle.passes.specs.declared.PassStats.{PassStats};
 ghost use Rattle.sheet.specs.Words.{bit_of};
 ghost use Rattle.report_words.specs.Outcomes.{outcome_words};
@@ -11,6 +9,7 @@ ghost use Rattle.report_words.specs.Asked.{CountsFit, FillFits, UnmatchedFits, L
 use passes::{FillStats, GrowStats, LocalStats, PassStats};
 use refusal::Refusal;
 use sizes::OUTCOME_WORDS;
+use std::num::f32_to_bits_with_nan;
 
 // Yes or no as a word.
 fn bit(b: bool) -> u32
@@ -19,18 +18,11 @@ fn bit(b: bool) -> u32
     u32::from(b)
 }
 
-// A float's bits. Any NaN is put as 7fc00000.
-fn float_bits(x: f32) -> u32
-    ensures { result ≡ to_bits binary32 x }
-{
-    if x.is_nan() { 0x7fc0_0000 } else { x.to_bits() }
-}
-
 // The bits of a residual, and 0 where there is none.
 fn residual_bits(x: Option<f32>) -> u32
     ensures { result ≡ bits_of x }
 {
-    x.map_or(0, float_bits)
+    x.map_or(0, |x| f32_to_bits_with_nan(x))
 }
 
 // How many corners were passed over, and 0 where no shade stands.
@@ -51,6 +43,7 @@ fn put_words(words: &mut [u32], k: usize, outcome: [u32; OUTCOME_WORDS])
 }
 
 // The eleven words of an outcome of grow.
+// Stays: kind, flags and counts are words, as the C interface lends them (a).
 #[tactic(auto, unfolding(crate::specs::Outcomes::outcome_words))]
 fn grow_words(s: GrowStats) -> [u32; OUTCOME_WORDS]
     requires { CountsFit s.counts }
@@ -73,6 +66,7 @@ fn grow_words(s: GrowStats) -> [u32; OUTCOME_WORDS]
 }
 
 // The eleven words of an outcome of fill.
+// Stays: kind, flags and counts are words, as the C interface lends them (a).
 #[tactic(auto, unfolding(crate::specs::Outcomes::outcome_words))]
 fn fill_words(s: FillStats) -> [u32; OUTCOME_WORDS]
     requires { FillFits s }
@@ -94,6 +88,7 @@ fn fill_words(s: FillStats) -> [u32; OUTCOME_WORDS]
 }
 
 // The eleven words of an outcome of local.
+// Stays: kind, flags and counts are words, as the C interface lends them (a).
 #[tactic(auto, unfolding(crate::specs::Outcomes::outcome_words))]
 fn local_words(s: LocalStats) -> [u32; OUTCOME_WORDS]
     requires { LocalFits s }

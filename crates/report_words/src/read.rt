@@ -8,6 +8,7 @@ use passes::{Counts, FillStats, GrowStats, LocalStats, PassStats};
 use sizes::OUTCOME_WORDS;
 
 // Outcome k among the words of outcomes, whose eleven are there.
+// Stays: the words are those of the C interface: the kind is a number, and a flag stands beside its value (a).
 #[derive(Clone, Copy)]
 pub struct Outcome<'a> {
     pub words: &'a [u32],
@@ -82,11 +83,8 @@ impl Outcome<'_> {
         requires { Tame self.now.words.now self.now.k }
         ensures { result ≡ residual_at self.now.words.now self.now.k }
     {
-        if self.yes_at(6) {
-            Some(f32::from_bits(self.word_at(7)))
-        } else {
-            None
-        }
+        let word = self.word_at(7);
+        self.yes_at(6).then(|| f32::from_bits(word))
     }
 
     // How many corners were passed over, in an outcome of local.
@@ -94,11 +92,7 @@ impl Outcome<'_> {
         ensures value { result ≡ unmatched_at self.now.words.now self.now.k }
         ensures fits { UnmatchedFits result }
     {
-        if self.yes_at(9) {
-            Some(self.count_at(10))
-        } else {
-            None
-        }
+        self.yes_at(9).then_some(self.count_at(10))
     }
 
     // An outcome of local that passes the check.
@@ -121,6 +115,7 @@ impl Outcome<'_> {
     }
 
     // What an outcome that passes the check says, by its kind.
+    // Stays: the kind is a word of the C interface (a).
     #[tactic(auto, unfolding(crate::specs::Outcomes::stats_at))]
     pub fn stats_at(&self) -> PassStats
         requires { Tame self.now.words.now self.now.k }

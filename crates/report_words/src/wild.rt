@@ -14,6 +14,7 @@ impl Outcome<'_> {
     }
 
     // Whether the residual's flag is neither 0 nor 1, or a residual is not finite.
+    // Stays: the flag is a word of the C interface (a).
     #[tactic(auto, using(crate::proofs::Checking::not_finite), unfolding(crate::specs::Outcomes::wild_residual))]
     fn wild_residual(&self) -> bool
         ensures { result ≡ wild_residual self.now.words.now self.now.k }
@@ -27,6 +28,7 @@ impl Outcome<'_> {
 
     // Whether the word for shades is neither 0 nor 1, or 1 for a pass that is no local; or unmatched is above 64 rounds of 16,384 cells of 1,024 corners,
     // or not 0 where no shade stands.
+    // Stays: the flag and the kind are words of the C interface (a).
     #[tactic(auto, unfolding(crate::specs::Outcomes::wild_unmatched))]
     fn wild_unmatched(&self) -> bool
         ensures { result ≡ wild_unmatched self.now.words.now self.now.k }
@@ -39,6 +41,7 @@ impl Outcome<'_> {
     }
 
     // Whether the words are not those that an outcome has.
+    // Stays: kind and flags are words of the C interface, and this tells which of them no outcome has (a).
     #[tactic(auto, unfolding(crate::specs::Outcomes::wild_outcome))]
     pub fn wild_outcome(&self) -> bool
         ensures { result ≡ wild_outcome self.now.words.now self.now.k }

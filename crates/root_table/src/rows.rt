@@ -515,6 +515,7 @@ const FROM_1016: [u16; 4] = [1019, 1020, 1020, 1021];
 const FROM_1020: [u16; 4] = [1021, 1022, 1022, 1023];
 
 // Row r: entries 4 r to 4 r + 3.
+// Stays: one array of all entries is built on the stack at each use: a root costs 353 instructions in place of 103, `local-worst-8` 26 % more (b).
 pub fn row(r: usize) -> [u16; 4]
     requires { r < 256 }
     ensures { result ≡ row_of r }

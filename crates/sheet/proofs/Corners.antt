@@ -3,15 +3,15 @@
 use Rattle.std.specs.Prelude.{Some, None}
 use mathlib.Core.Path.{◌≡◌, refl, sym, ap, ◌∙◌}
 use mathlib.Core.List.{List}
-use Prim.Native.Nat.{ℕ, ◌+◌, ◌<◌, ◌≤◌}
+use Prim.Native.Nat.{ℕ, ◌<◌, ◌≤◌}
 use native.Mathlib.Decide.{ℕ_discrete}
 use native.Mathlib.Omega.{arith}
 use borrow.Author.Tests.{lt-ltb}
 use lib.ListN.{length, get_or}
-use lib.Ieee.{Float, nan}
+use lib.Ieee.{nan}
 use Rattle.sheet.specs.Cells.{OnSheet, place_of}
 use Rattle.sheet.specs.Words.{Content, label_of, label_at, attached, marks_cleared}
-use Rattle.sheet.specs.Corners.{CornerLists, corner_of, corner_in, seen_through, seen_of, Given}
+use Rattle.sheet.specs.Corners.{CornerLists, corner_of, seen_through, seen_of, Given}
 use Rattle.sheet.proofs.Laws.{place_in}
 use Rattle.sheet.proofs.Words.{label_on, labelled_on_lem, Changed, attached_changes, cleared_changes}
 use Rattle.sheet.specs.declared.Cell.{Cell}
@@ -31,12 +31,6 @@ pub listed_corner : (l : CornerLists) (k : ℕ) → k < length l.xs
     → corner_of l k ≡ record { position = record { x = get_or l.xs k nan; y = get_or l.ys k nan }; pitch = get_or l.pitches k nan }
 unfolding corner_of
 listed_corner l k h = rw (lt-ltb k (length l.xs) h) refl
-
--- a corner of the array that holds them
-pub held_corner : (held : List Float) (k : ℕ) → k < 1024
-    → corner_in held k ≡ record { position = record { x = get_or held k nan; y = get_or held (k + 1024) nan }; pitch = get_or held (k + 2048) nan }
-unfolding corner_in
-held_corner held k h = rw (lt-ltb k 1024 h) refl
 
 module _ {n : ℕ} {sheet : List ℕ} (given : Given n sheet) where
   -- a cell's corner is given

@@ -1,5 +1,5 @@
 -- Places of the sheet that hold nothing: no corner and no mark, so that their word is 0; and the others, which are walked over. Definitions only.
-use Rattle.std.specs.Prelude.{◌≡◌, Bool, true, ◌&&◌, cond, List, [], ◌∷◌, ℕ, zero, suc, ◌+◌, ◌-◌, ◌%◌, ◌≤◌, ◌<◌, eqb, get_or}
+use Rattle.std.specs.Prelude.{◌≡◌, Bool, true, ◌&&◌, cond, List, [], ◌∷◌, ℕ, zero, suc, ◌+◌, ◌-◌, ◌%◌, ◌≤◌, ◌<◌, eqb, get_or, Option, Some, None}
 use Rattle.sheet.specs.declared.walk.Written.{Written}
 
 -- the n places from one on hold nothing
@@ -29,6 +29,11 @@ pub record Passed (sheet : List ℕ) (from r : ℕ) : Type 0 where
 pub record NextWritten (sheet : List ℕ) (from r : ℕ) : Type 0 where
   pub passed : Passed sheet from r
   pub written : r < 16384 → get_or sheet r 0 ≡ 0 → ⊥
+
+-- the next place of the sheet from one on that holds something, if there is one
+abbrev pub IsNextWritten : List ℕ → ℕ → Option ℕ → Type 0
+IsNextWritten sheet from (Some r) = NextWritten sheet from r × (r < 16384)
+IsNextWritten sheet from None = NextWritten sheet from 16384
 
 -- of n places from one on those that hold something, each with its word, rising
 unfoldable pub written_in : List ℕ → ℕ → ℕ → List (ℕ × ℕ)

@@ -1,5 +1,5 @@
 -- Positions; the corners, as they are lent and as the passes hold them; and what is seen of them through the sheet at a cell. Definitions only.
-use Rattle.std.specs.Prelude.{◌≡◌, Bool, ◌&&◌, cond, List, ℕ, ◌+◌, ◌<◌, ◌≤◌, ltb, length, get_or, Float, Option, Some, None}
+use Rattle.std.specs.Prelude.{◌≡◌, Bool, ◌&&◌, cond, List, ℕ, ◌<◌, ◌≤◌, ltb, length, get_or, replicate, Float, Option, Some, None}
 use Rattle.std.specs.Float.{nan, binary32}
 use Rattle.std.specs.Float.Ieee.{add, sub, mul}
 use Rattle.sizes.specs.Sizes.{place_count, corner_limit}
@@ -8,6 +8,7 @@ use Rattle.sheet.specs.Words.{label_of, label_at}
 use Rattle.sheet.specs.Shades.{Shades, shades_in}
 use Rattle.sheet.specs.declared.Cell.{Cell}
 use Rattle.sheet.specs.declared.Corner.{Corner}
+use Rattle.sheet.specs.declared.CornerArrays.{CornerArrays}
 use Rattle.sheet.specs.declared.Position.{Position}
 
 -- the squared distance of two positions, each operation rounded: dx · dx + dy · dy
@@ -49,17 +50,16 @@ corner_of l k =
     (record { position = record { x = get_or l.xs k nan; y = get_or l.ys k nan }; pitch = get_or l.pitches k nan })
     no_corner
 
--- As the passes hold them: one array of 1,024 xs, then as many ys, then as many pitches, then as many kinds.
-unfoldable pub corner_in : List Float → ℕ → Corner
-corner_in held k =
-    cond (ltb k corner_limit)
-    (record {
-      position = record { x = get_or held k nan; y = get_or held (k + corner_limit) nan };
-      pitch = get_or held (k + (corner_limit + corner_limit)) nan;
-    })
-    no_corner
+-- As the passes hold them: 1,024 xs, ys and pitches.
+unfoldable pub corner_in : CornerArrays → ℕ → Corner
+corner_in held k = record { position = record { x = get_or held.xs k nan; y = get_or held.ys k nan }; pitch = get_or held.pitches k nan }
 
-abbrev pub corners_in : List Float → ℕ → Corners
+-- no corner is held
+abbrev pub no_corners : CornerArrays
+no_corners =
+    record { xs = replicate corner_limit nan; ys = replicate corner_limit nan; pitches = replicate corner_limit nan; shades = None }
+
+abbrev pub corners_in : CornerArrays → ℕ → Corners
 corners_in held n = record { count = n; corner = corner_in held; shades = shades_in held }
 
 -- ---- seen through the sheet

@@ -4,4 +4,5 @@ pub mod Words
 pub mod Blank
 pub mod Shades
 pub mod Corners
+pub mod Seeing
 pub mod Pairing

@@ -1,10 +1,7 @@
 -- Black and white corners (document 02, 1/14): a corner's shade, the kind that a cell takes, and which corners it takes. Definitions only.
-use Rattle.std.specs.Prelude.{Bool, false, not, ◌||◌, cond, List, ℕ, ◌+◌, ◌%◌, ◌*◌, eqb, ltb, ◌+ℤ◌, nat_abs, get_or, Float}
-use Rattle.std.specs.Float.{nan, binary32}
-use Rattle.std.specs.Float.Ieee.{of_bits, eq}
-use Rattle.sizes.specs.Sizes.{corner_limit}
-use Rattle.binary32.specs.Numbers.{nought, one}
+use Rattle.std.specs.Prelude.{Bool, false, not, ◌||◌, List, ℕ, zero, suc, ◌%◌, eqb, ◌+ℤ◌, nat_abs, get_or, Option, Some, None, is_some}
 use Rattle.sheet.specs.declared.Cell.{Cell}
+use Rattle.sheet.specs.declared.CornerArrays.{CornerArrays}
 
 -- ---- the shades of corners
 
@@ -17,6 +14,11 @@ pub data Shade : Type 0 where
 pub record Shades : Type 0 where
   pub any : Bool
   pub of : ℕ → Shade
+
+-- a byte: 0 is no shade, and 1 + k the kind k
+unfoldable pub shade_of : ℕ → Shade
+shade_of zero = bare
+shade_of (suc k) = kind k
 
 -- ---- what a cell takes
 
@@ -36,21 +38,14 @@ takes_kind s w k = not s.any || is_kind w (s.of k)
 abbrev pub takes : Shades → Cell → ℕ → Bool
 takes s c k = takes_kind s (kind_at c) k
 
--- ---- as the passes hold them, behind 1,024 xs, ys and pitches: 1,024 kinds
+-- ---- as the passes hold them: a byte for each corner, or none if no shade stands
 
--- an entry: 1 for kind 0, 2 for kind 1, and anything else for a corner without a shade
-abbrev pub two : Float
-two = of_bits binary32 0x4000_0000
+abbrev pub any_in : CornerArrays → Bool
+any_in held = is_some held.shades
 
-unfoldable pub shade_held : Float → Shade
-shade_held e = cond (eq e one) (kind 0) (cond (eq e two) (kind 1) bare)
+unfoldable pub shade_held : Option (List ℕ) → ℕ → Shade
+shade_held None k = bare
+shade_held (Some bytes) k = shade_of (get_or bytes k 0)
 
-unfoldable pub shade_in : List Float → ℕ → Shade
-shade_in held k = cond (ltb k corner_limit) (shade_held (get_or held (k + 3 * corner_limit) nan)) bare
-
--- the first entry is 0 exactly if no shade stands
-unfoldable pub any_in : List Float → Bool
-any_in held = not (eq (get_or held (3 * corner_limit) nan) nought)
-
-abbrev pub shades_in : List Float → Shades
-shades_in held = record { any = any_in held; of = shade_in held }
+abbrev pub shades_in : CornerArrays → Shades
+shades_in held = record { any = any_in held; of = shade_held held.shades }

@@ -7,9 +7,9 @@ ghost use Rattle.binary32.specs.Sqrt.{sqrt_or_nan};
 ghost use Rattle.sizes.specs.Sizes.{place_count, corner_limit};
 ghost use Rattle.sheet.specs.Cells.{on_sheet, OnSheet, place_of, cell_of, moved, difference_of, magnitude_of, Within, NearSheet};
 ghost use Rattle.sheet.specs.Words.{label_of, hole_of, ambiguous_of, with_label, with_hole, with_ambiguous, without_marks, label_at, attached, hole_marked, ambiguous_marked, marks_cleared, SheetCell, word_at};
-ghost use Rattle.sheet.specs.Shades.{any_in, shades_in, kind_at, takes_kind};
-ghost use Rattle.sheet.specs.Corners.{corner_in, seen_of, finite_position, squared_distance, Given};
-ghost use Rattle.sheet.specs.Blank.{all_blank, BlankRun, BlankPlaces, NextWritten};
+ghost use Rattle.sheet.specs.Shades.{kind_at};
+ghost use Rattle.sheet.specs.Corners.{finite_position, squared_distance, Given};
+ghost use Rattle.sheet.specs.Blank.{all_blank, BlankRun, BlankPlaces, IsNextWritten};
 
 mod walk;
 
@@ -39,7 +39,7 @@ pub fn on_sheet(c: Cell) -> bool
 }
 
 // The place of a cell that is on the sheet.
-// Stays: a cell is 01's plain struct by value, and may lie off the sheet; that it is on the sheet each caller proves at the call.
+// Stays: a cell is 01's plain struct by value, and may lie off the sheet; that it is on the sheet each caller proves at the call (d).
 #[tactic(auto, using(crate::proofs::Laws::line_i, crate::proofs::Laws::line_j), unfolding(crate::specs::Cells::place_of))]
 pub fn place_of(c: Cell) -> usize
     requires { OnSheet c }
@@ -152,6 +152,7 @@ pub fn without_marks(word: u16) -> u16
 }
 
 // The label of a cell; none off the sheet.
+// Stays: the sheet is a lent slice, which may be longer than its places (01, the C interface), so that each function asks it of what it is lent (a).
 #[tactic(auto, using(crate::proofs::Laws::place_in), unfolding(crate::specs::Words::label_at))]
 pub fn label_at(sheet: &[u16], c: Cell) -> Option<usize>
     requires { place_count ≤ length sheet.now }
@@ -175,7 +176,7 @@ fn change<F: FnOnce(u16) -> u16>(sheet: &mut [u16], c: Cell, f: F)
 }
 
 // Attaches a corner to a cell; its marks stay, and so do all other places.
-// Stays: the sheet is a lent slice and the cell a plain struct (01), so that the cell's place is in the slice is asked at each call.
+// Stays: the sheet is a lent slice, which may be longer than its 16,384 places, and the cell a plain struct (01), so that both are asked at each call (a).
 #[tactic(auto, unfolding(crate::specs::Words::attached))]
 pub fn attach(sheet: &mut [u16], c: Cell, corner: usize)
     requires { SheetCell sheet.old c × (corner < 16383) }
@@ -251,31 +252,83 @@ pub struct Corner {
     pub pitch: f32,
 }
 
-// The corner of a number. The corners are held in one array: all xs, then all ys, then all pitches, then all kinds, each with room for 1,024.
-// Stays: one array is one list in every contract, and its xs stand in a row for the scan (docs/DECISIONS.md, "Corners held in one array", "Kinds in the array of corners").
-#[tactic(auto, unfolding(crate::specs::Corners::corner_in))]
-pub fn corner_at(corners: &[f32; 4 * CORNERS], k: usize) -> Corner
-    requires { k < corner_limit }
-    ensures { result ≡ corner_in corners.now k }
-{
-    Corner {
-        position: Position {
-            x: corners[k],
-            y: corners[k + CORNERS],
-        },
-        pitch: corners[k + 2 * CORNERS],
+// The corners as the passes hold them: their xs, ys and pitches, with room for 1,024 of each. Where some shade stands each corner has a byte, 0 for
+// no shade and 1 and 2 for the two kinds; where none does there are no bytes.
+// Stays: arrays side by side, not one array of corners, since the scan of all corners takes several xs and ys at once where they stand in a row (b).
+#[derive(Drop)]
+pub struct CornerArrays {
+    pub xs: [f32; CORNERS],
+    pub ys: [f32; CORNERS],
+    pub pitches: [f32; CORNERS],
+    pub shades: Option<[u8; CORNERS]>,
+}
+
+impl CornerArrays {
+    ghost use Rattle.sheet.specs.Shades.{any_in, shades_in, takes_kind};
+    ghost use Rattle.sheet.specs.Corners.{no_corners, corner_in};
+
+    // No corner: each has a NaN in its three places, and no shade stands.
+    pub fn new() -> Self
+        ensures { result ≡ no_corners }
+    {
+        CornerArrays {
+            xs: [f32::NAN; CORNERS],
+            ys: [f32::NAN; CORNERS],
+            pitches: [f32::NAN; CORNERS],
+            shades: None,
+        }
+    }
+
+    // Where the corner of a number lies.
+    #[tactic(auto, unfolding(crate::specs::Corners::corner_in))]
+    pub fn position_of(&self, k: usize) -> Position
+        requires { k < corner_limit }
+        ensures { result ≡ (corner_in self.now k).position }
+    {
+        Position {
+            x: self.xs[k],
+            y: self.ys[k],
+        }
+    }
+
+    // The corner of a number.
+    #[tactic(auto, unfolding(crate::specs::Corners::corner_in))]
+    pub fn corner_at(&self, k: usize) -> Corner
+        requires { k < corner_limit }
+        ensures { result ≡ corner_in self.now k }
+    {
+        Corner {
+            position: self.position_of(k),
+            pitch: self.pitches[k],
+        }
+    }
+
+    // Whether any shade stands.
+    pub fn is_shaded(&self) -> bool
+        ensures { result ≡ any_in self.now }
+    {
+        self.shades.is_some()
+    }
+
+    // Whether a cell of a kind takes a corner: any corner if no shade stands, else those of its kind.
+    // Stays: a kind is 02's number, as in `kind_at` (a).
+    #[tactic(auto, unfolding(crate::specs::Shades::takes_kind, crate::specs::Shades::is_kind, crate::specs::Shades::shade_held, crate::specs::Shades::shade_of))]
+    pub fn is_taken(&self, kind: usize, k: usize) -> bool
+        requires { k < corner_limit }
+        ensures { result ≡ takes_kind (shades_in self.now) kind k }
+    {
+        match &self.shades {
+            None => true,
+            Some(shades) => match shades[k] {
+                0 => false,
+                shade => usize::from(shade - 1) == kind,
+            },
+        }
     }
 }
 
-// Whether any shade stands: the first of the kinds is 0 exactly if none does.
-pub fn is_shaded(corners: &[f32; 4 * CORNERS]) -> bool
-    ensures { result ≡ any_in corners.now }
-{
-    corners[3 * CORNERS] != 0.0
-}
-
 // The kind that a cell takes: the parity of i + j, by the remainder that has no sign.
-// Stays: 02 has the kinds as the numbers 0 and 1 (1/14), and the definition `kind_at : Cell → ℕ` answers them; an enum's model is no number.
+// Stays: 02 has the kinds as the numbers 0 and 1 (1/14), as the bytes of the shades and the definition `kind_at : Cell → ℕ` have them (a).
 #[tactic(auto, using(crate::proofs::Laws::line_i, crate::proofs::Laws::line_j), unfolding(crate::specs::Shades::kind_at))]
 pub fn kind_at(c: Cell) -> usize
     requires { OnSheet c }
@@ -284,31 +337,25 @@ pub fn kind_at(c: Cell) -> usize
     (c.i + c.j).rem_euclid(2) as usize
 }
 
-// Whether a cell of a kind takes a corner: any corner if no shade stands, else those of its kind. A kind is held as 1 or 2, and anything else is
-// that of a corner without a shade.
-// Stays: the kind is the number that `kind_at` gives, which each caller passes on.
-#[tactic(auto, unfolding(crate::specs::Shades::takes_kind, crate::specs::Shades::is_kind, crate::specs::Shades::shade_in, crate::specs::Shades::shade_held))]
-pub fn is_taken(corners: &[f32; 4 * CORNERS], kind: usize, k: usize) -> bool
-    requires { k < corner_limit }
-    ensures { result ≡ takes_kind (shades_in corners.now) kind k }
-{
-    let entry = corners[k + 3 * CORNERS];
-    let is_its_own = if entry == 1.0 {
-        kind == 0
-    } else {
-        entry == 2.0 && kind == 1
-    };
-    !is_shaded(corners) || is_its_own
+// The corners as they are seen through a sheet, which names none from 1,024 on.
+#[derive(Clone, Copy)]
+pub struct Seeing<'a> {
+    pub corners: &'a CornerArrays,
+    pub sheet: &'a [u16],
+    ghost given: { Given corner_limit sheet.now },
 }
 
-// What is seen at a cell: the corner of its label, or nothing where it has none or is off the sheet.
-#[tactic(auto, unfolding(crate::specs::Corners::seen_of, crate::specs::Corners::seen_through))]
-pub fn seen_at(corners: &[f32; 4 * CORNERS], sheet: &[u16], c: Cell) -> Option<Corner>
-    requires { Given corner_limit sheet.now }
-    ensures { result ≡ seen_of (corner_in corners.now) sheet.now c }
-{
-    let k = label_at(sheet, c)?;
-    Some(corner_at(corners, k))
+impl<'a> Seeing<'a> {
+    ghost use Rattle.sheet.specs.Seeing.{seen_in};
+
+    // What is seen at a cell: the corner of its label, or nothing where it has none or is off the sheet.
+    #[tactic(auto, unfolding(crate::specs::Corners::seen_of, crate::specs::Corners::seen_through))]
+    pub fn at(self, c: Cell) -> Option<Corner>
+        ensures { result ≡ seen_in self.entry c }
+    {
+        let k = label_at(self.sheet, c)?;
+        Some(self.corners.corner_at(k))
+    }
 }
 
 // Whether places hold nothing. It looks at all of them in any case, so that the compiler can take several words at once.
@@ -340,15 +387,18 @@ pub fn blank_places(sheet: &[u16], at: usize) -> usize
     }
 }
 
-// The next place from one on that holds something, or 16,384 where there is none: most places hold nothing, and are passed over here row by row.
-pub fn next_written(sheet: &[u16], from: usize) -> usize
+// The next place from one on that holds something, if there is one: most places hold nothing, and are passed over here row by row.
+pub fn next_written(sheet: &[u16], from: usize) -> Option<usize>
     requires { (from ≤ place_count) × (place_count ≤ length sheet.now) }
-    ensures { NextWritten sheet.now from result }
+    ensures { IsNextWritten sheet.now from result }
 {
     let mut place = from;
-    // Stays: the step is a run of places that hold nothing, and how many they are is found at each.
-    while place < PLACES && sheet[place] == 0 {
+    // Stays: the step is a run of places that hold nothing, and how many they are is found at each (d).
+    while place < PLACES {
+        if sheet[place] != 0 {
+            return Some(place);
+        }
         place += blank_places(sheet, place);
     }
-    place
+    None
 }

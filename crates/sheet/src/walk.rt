@@ -3,8 +3,6 @@
 ghost use Rattle.std.specs.Prelude.{◌≤◌, length};
 ghost use Rattle.sizes.specs.Sizes.{place_count};
 
-use sizes::PLACES;
-
 // The places of a sheet that hold something, each with its word, rising: most places hold nothing, and are passed over.
 #[derive(Clone, Copy)]
 pub struct Written<'a> {
@@ -46,10 +44,7 @@ impl Iterator for Written<'_> {
     // Always inlined: where it is called, its answer goes through memory.
     #[inline(always)]
     fn next(&mut self) -> Option<(usize, u16)> {
-        let place = crate::next_written(self.sheet, self.from);
-        if place == PLACES {
-            return None;
-        }
+        let place = crate::next_written(self.sheet, self.from)?;
         self.from = place + 1;
         Some((place, self.sheet[place]))
     }

@@ -28,11 +28,3 @@ all_pass_words = pass_limit * pass_size
 
 abbrev pub all_outcome_words : ℕ
 all_outcome_words = pass_limit * outcome_size
-
--- entries of the corners that the labels of a frame use: those of the first set, then those of the second
-abbrev pub used_count : ℕ
-used_count = 2 * corner_limit
-
--- labels of the second set: their corners, then their places
-abbrev pub second_count : ℕ
-second_count = 2 * corner_limit

@@ -21,9 +21,3 @@ pub const OUTCOME_WORDS: usize = 11;
 pub const ALL_PASS_WORDS: usize = PASSES * PASS_WORDS;
 
 pub const ALL_OUTCOME_WORDS: usize = PASSES * OUTCOME_WORDS;
-
-// Entries of the corners that the labels of a frame use: those of the first set, then those of the second.
-pub const USED: usize = 2 * CORNERS;
-
-// Labels of the second set: their corners, then their places, as many of each as there may be corners.
-pub const SECOND: usize = 2 * CORNERS;

@@ -1,5 +1,5 @@
 -- The fit on the supports from its parts, as the code has it. Assumes nothing.
-use mathlib.Core.Path.{◌≡◌, refl, sym, ap, ◌∙◌}
+use mathlib.Core.Path.{◌≡◌, refl, sym, ap, subst, ◌∙◌}
 use mathlib.Core.Bool.{Bool, true, false}
 use mathlib.Core.List.{List, [], ◌∷◌, map}
 use Prim.Native.Nat.{ℕ, ◌≤◌}
@@ -8,7 +8,13 @@ use lib.Dec.{T, le→leb, lt→ltb}
 use lib.IntN.{ℤ, pos, negsuc, nat_abs}
 use Rattle.std.specs.Prelude.{Option, None, Some, length}
 use Rattle.std.specs.Bool.{then_some}
-use lib.Ieee.{Float, binary32, of_bits, div, in_float, of_int}
+use Rattle.std.specs.List.{All}
+use Rattle.std.specs.Array.{list_steps}
+use Rattle.std.specs.Iterator.{AlwaysYields, CallableAtEachTurn}
+use Rattle.std.proofs.lemmas.Iterator.Adapters.{serves_from_places}
+use Rattle.std.proofs.lemmas.List.Elements.{All-get_or}
+use Rattle.elimination.specs.Tables.{table}
+use lib.Ieee.{Float, nan, binary32, in_float, of_int}
 use mir.Syntax.{w32}
 use mir.Val.{to_z, of_z}
 use Rattle.binary32.specs.Ranges.{all_finite}
@@ -44,8 +50,8 @@ point_is c on = rw (read_back c.i (omega (arith, (line_i c on).small)), read_bac
 -- ---- the pictured corner
 
 module _ (seen : Cell → Option Corner) (p : ℕ) {c : Cell} {r : Option Corner} (at : c ≡ cell_of p) (is : r ≡ seen c) where
-  pub pictured_none : r ≡ None → (record { x = div binary32 (of_bits binary32 0) (of_bits binary32 0); y = div binary32 (of_bits binary32 0) (of_bits binary32 0) }) ≡ pictured_at seen p
-  unfolding pictured_at of_bits div
+  pub pictured_none : r ≡ None → (record { x = nan; y = nan }) ≡ pictured_at seen p
+  unfolding pictured_at
   pictured_none e = rw (← at, ← is, e)
 
   pub pictured_corner : {corner : Corner} → r ≡ Some corner → corner.position ≡ pictured_at seen p
@@ -95,17 +101,30 @@ module _ (seen : Cell → Option Corner) where
       go None = refl
       go (Some h) = refl
 
-  pub fit_is : (s : List Support) (r : Option SupportFit) (a b c d k l m n : Position) → length s ≡ 4 → a ≡ cell_point (cell_of (nth s 0).place) → b ≡ cell_point (cell_of (nth s 1).place)
-      → c ≡ cell_point (cell_of (nth s 2).place) → d ≡ cell_point (cell_of (nth s 3).place) → k ≡ pictured_at seen (nth s 0).place → l ≡ pictured_at seen (nth s 1).place
-      → m ≡ pictured_at seen (nth s 2).place → n ≡ pictured_at seen (nth s 3).place → r ≡ support_fit_of (points_fit (a ∷ b ∷ c ∷ d ∷ []) (k ∷ l ∷ m ∷ n ∷ []))
-      → r ≡ support_fit_of (local_fit seen (places_of s))
-  unfolding cell_points pictures
-  fit_is [] r a b c d k l m n z ea eb ec ed ek el em en e = absurd (omega arith)
-  fit_is (x ∷ []) r a b c d k l m n z ea eb ec ed ek el em en e = absurd (omega arith)
-  fit_is (x ∷ y ∷ []) r a b c d k l m n z ea eb ec ed ek el em en e = absurd (omega arith)
-  fit_is (x ∷ y ∷ v ∷ []) r a b c d k l m n z ea eb ec ed ek el em en e = absurd (omega arith)
-  fit_is (x ∷ y ∷ v ∷ w ∷ []) r a b c d k l m n z ea eb ec ed ek el em en e = e ∙ rw (ea, eb, ec, ed, ek, el, em, en) (ap support_fit_of (same_fit x.place y.place v.place w.place))
-  fit_is (x ∷ y ∷ v ∷ w ∷ u ∷ us) r a b c d k l m n z ea eb ec ed ek el em en e = absurd (omega arith)
+  pub fit_is : (s : List Support) {r : Option SupportFit} {cells corners : List Position} → length s ≡ 4
+      → cells ≡ table 4 (λ i. cell_point (cell_of (nth s i).place)) → corners ≡ table 4 (λ i. pictured_at seen (nth s i).place)
+      → r ≡ support_fit_of (points_fit cells corners) → r ≡ support_fit_of (local_fit seen (places_of s))
+  unfolding cell_points pictures table
+  fit_is [] z e f g = absurd (omega arith)
+  fit_is (x ∷ []) z e f g = absurd (omega arith)
+  fit_is (x ∷ y ∷ []) z e f g = absurd (omega arith)
+  fit_is (x ∷ y ∷ v ∷ []) z e f g = absurd (omega arith)
+  fit_is (x ∷ y ∷ v ∷ w ∷ []) z e f g = g ∙ rw (e, f) (ap support_fit_of (same_fit x.place y.place v.place w.place))
+  fit_is (x ∷ y ∷ v ∷ w ∷ u ∷ us) z e f g = absurd (omega arith)
+
+-- ---- an array of which each element is what a closure asks, that each call leaves as it is
+
+list_gives : {A : Type 0} (xs s : List A) → s ≡ xs → AlwaysYields list_steps (λ x. x) s xs
+list_gives [] s e = λ x j p. let z : x ∷ j ≡ [] = sym p ∙ e in absurd cc
+list_gives (y ∷ ys) s e = (
+  λ j p. let z : y ∷ ys ≡ [] = sym e ∙ p in absurd cc,
+  λ x j p. let z : x ∷ j ≡ y ∷ ys = sym p ∙ e in (cc, list_gives ys j cc),
+)
+
+pub served : {A P : Type 0} {R : P → A → P → Type 0} {Q : P → A → Type 0} {p : P} (H : A → Type 0) (s : List A) → All H s
+    → ((x : A) (q : P) → R p x q → q ≡ p) → ((x : A) → H x → Q p x) → CallableAtEachTurn list_steps R Q s p
+served H s all stays asks =
+    serves_from_places (record { runs = list_gives s s refl }) stays (λ x k h e. asks x (subst H (sym e) (All-get_or H s k x h all)))
 
 -- ---- what the code says of the fit
 

@@ -11,11 +11,10 @@ use Rattle.supports.specs.declared.Support.{Support}
 
 -- ---- the labelled places
 
--- a sheet that is long enough and has at most 1,024 labels, and an array for their places
-pub record Gatherable (sheet places : List ℕ) : Type 0 where
+-- a sheet that is long enough and has at most 1,024 labels
+pub record Gatherable (sheet : List ℕ) : Type 0 where
   pub long : place_count ≤ length sheet
   pub few : label_count sheet ≤ corner_limit
-  pub size : length places ≡ corner_limit
 
 -- the labelled places stand at the front of the array, whose rest is as before
 pub record Gathered (sheet places places' : List ℕ) (count : ℕ) : Type 0 where

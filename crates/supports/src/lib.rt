@@ -3,21 +3,22 @@
 
 #![tactic(auto)]
 
-ghost use Rattle.std.specs.Prelude.{◌≡◌, cond, ℕ, Bool, ◌+◌, ◌/◌, ◌<◌, ltb, leb};
+ghost use Rattle.std.specs.Prelude.{◌≡◌, cond, ℕ, Bool, ◌+◌, ◌/◌, ◌<◌, ◌≤◌, ltb, leb, take};
 ghost use Rattle.std.specs.Float.{binary32};
 ghost use Rattle.std.specs.Float.Ieee.{of_bits, lt};
 ghost use Rattle.sizes.specs.Sizes.{place_count, corner_limit};
 ghost use Rattle.sheet.specs.Cells.{OnSheet, place_of, cell_of};
-ghost use Rattle.sheet.specs.Corners.{corner_in, seen_of, Given};
+ghost use Rattle.sheet.specs.Seeing.{seen_in};
 ghost use Rattle.passes.specs.Local.{cell_point, pictured_at, residual_of, local_fit, worst, recorded, recorded_all};
 ghost use Rattle.binary32.specs.Ranges.{all_finite};
 ghost use Rattle.supports.specs.Nearest.{Gatherable, Gathered, support_at, SplitsAt, InOrder, Kept, MoreKept, EarlierKept, places_of, nearest_among, Along, Nearby, Keeping};
 ghost use Rattle.supports.specs.Fitted.{support_fit_of, points_fit, Pictured};
 
-use sheet::{Cell, Position, Written};
+use sheet::{Cell, Position, Seeing, Written};
 use sizes::CORNERS;
 
 // A labelled place, and how far its cell lies from the cell whose supports are looked for: |di| + |dj|.
+// Stays: the definitions make a support of any number (`support_at`); with the fact in it they would carry a proof beside each place (d).
 #[derive(Clone, Copy)]
 pub struct Support {
     pub place: usize,
@@ -25,16 +26,16 @@ pub struct Support {
 }
 
 // What stands for a support that is not found yet: farther than any cell of the sheet from any other.
-// Stays: it is compared as any other, so that the four are kept in order by their reaches alone; an Option would be asked at each place of each walk.
+// Stays: an Option orders None before all others; with a reach of 1,000 a support that is not found stands behind all by itself (d).
 const NOT_FOUND: Support = Support {
     place: 0,
     reach: 1000,
 };
 
 // Lists the labelled places of a sheet in rising order at the front of the array, whose rest stays. Answers how many there are.
-// Stays: an array and a number, not a Vec, since the library has fixed memory; what is listed is read as a slice.
-pub fn gather_labelled(sheet: &[u16], places: &mut [u16; CORNERS]) -> usize
-    requires { Gatherable sheet.now places.old }
+// Stays: `Labelled` holds both; while the places are listed its number is not yet known (d).
+fn gather_labelled(sheet: &[u16], places: &mut [u16; CORNERS]) -> usize
+    requires { Gatherable sheet.now }
     ensures { Gathered sheet.now places.old places.new result }
 {
     let mut count = 0usize;
@@ -45,20 +46,113 @@ pub fn gather_labelled(sheet: &[u16], places: &mut [u16; CORNERS]) -> usize
     count
 }
 
-// A place, with its reach from a cell.
-// Stays: a cell is 01's plain struct by value; that it is on the sheet is proved where the supports are looked for.
-fn support_of(place: usize, c: Cell) -> Support
-    requires { (place < place_count) × OnSheet c }
-    ensures { result ≡ support_at c place }
+// The labelled places of a sheet in rising order, so many at the front of an array.
+// Stays: an array and a number, not a Vec, since the library has fixed memory (a).
+#[derive(Drop)]
+pub struct Labelled {
+    pub places: [u16; CORNERS],
+    pub count: usize,
+    ghost few: { count ≤ corner_limit },
+}
+
+impl Labelled {
+    // None.
+    pub fn new() -> Labelled
+        ensures { result.count ≡ 0 }
+    {
+        Labelled {
+            places: [0; CORNERS],
+            count: 0,
+        }
+    }
+
+    // Lists the labelled places of a sheet.
+    pub fn gather(&mut self, sheet: &[u16])
+        requires { Gatherable sheet.now }
+        ensures { Gathered sheet.now self.old.places self.new.places self.new.count }
+    {
+        self.count = gather_labelled(sheet, &mut self.places);
+    }
+
+    // The places as a slice.
+    pub fn as_slice(&self) -> &[u16]
+        ensures { result.now ≡ take self.now.count self.now.places }
+    {
+        &self.places[..self.count]
+    }
+}
+
+// A cell of the sheet as a point.
+// Stays: a cell is 01's plain struct by value; that it is on the sheet is proved where the supports are looked for (a).
+pub fn cell_point(c: Cell) -> Position
+    requires { OnSheet c }
+    ensures { result ≡ cell_point c }
 {
-    let o = sheet::difference(sheet::cell_of(place), c);
-    Support {
-        place,
-        reach: sheet::magnitude(o),
+    Position {
+        x: c.i as f32,
+        y: c.j as f32,
+    }
+}
+
+// A place of the sheet.
+#[derive(Clone, Copy)]
+struct Place {
+    place: usize,
+    ghost on: { place < place_count },
+}
+
+impl Place {
+    // It, with its reach from a cell.
+    // Stays: as `cell_point` (a).
+    fn support_of(self, c: Cell) -> Support
+        requires { OnSheet c }
+        ensures { result ≡ support_at c self.place }
+    {
+        let o = sheet::difference(sheet::cell_of(self.place), c);
+        Support {
+            place: self.place,
+            reach: sheet::magnitude(o),
+        }
+    }
+
+    // Whether it lies so many lines before a line that it is farther than a reach.
+    fn far_before(self, row: usize, reach: u32) -> bool
+        ensures { result ≡ ltb (self.place / 128 + reach) row }
+    {
+        self.place / 128 + (reach as usize) < row
+    }
+
+    // Whether it lies so many lines behind a line that it is as far as a reach or farther.
+    fn far_behind(self, row: usize, reach: u32) -> bool
+        requires { row < 128 }
+        ensures { result ≡ leb (row + reach) (self.place / 128) }
+    {
+        row + (reach as usize) <= self.place / 128
+    }
+
+    // The point of its cell.
+    fn point(self) -> Position
+        ensures { result ≡ cell_point (cell_of self.place) }
+    {
+        cell_point(sheet::cell_of(self.place))
+    }
+
+    // The pictured corner of its cell; one that has none is nowhere.
+    fn pictured(self, seeing: Seeing) -> Position
+        ensures { result ≡ pictured_at (seen_in seeing.entry) self.place }
+    {
+        match seeing.at(sheet::cell_of(self.place)) {
+            None => Position {
+                x: f32::NAN,
+                y: f32::NAN,
+            },
+            Some(corner) => corner.position,
+        }
     }
 }
 
 // One more support among four, the nearest first: it goes before the first whose reach passes the test, and the farthest of five is dropped.
+// Stays: a struct of the four in order would ask of the test beforehand what is a premise of the promise here, and prove it at each of four answers (d).
 fn keep<F: Fn(u32) -> bool>(s: [Support; 4], new: Support, is_behind: F) -> [Support; 4]
     requires callable { F.IsAlwaysCallable is_behind }
     requires in_order { InOrder s }
@@ -80,6 +174,7 @@ fn keep<F: Fn(u32) -> bool>(s: [Support; 4], new: Support, is_behind: F) -> [Sup
 }
 
 // One more support, whose place is after all others': of equal reach the earlier place stays ahead.
+// Stays: as `keep` (d).
 fn keep_support(s: [Support; 4], new: Support) -> [Support; 4]
     requires { InOrder s }
     ensures { MoreKept s new result }
@@ -88,6 +183,7 @@ fn keep_support(s: [Support; 4], new: Support) -> [Support; 4]
 }
 
 // One more support, whose place is before all others': of equal reach it goes ahead.
+// Stays: as `keep` (d).
 fn keep_earlier(s: [Support; 4], new: Support) -> [Support; 4]
     requires { InOrder s }
     ensures { EarlierKept s new result }
@@ -103,22 +199,6 @@ fn row_of(c: Cell) -> usize
     sheet::place_of(c) / 128
 }
 
-// Whether a place lies so many lines before a line that it is farther than a reach.
-fn far_before(place: usize, row: usize, reach: u32) -> bool
-    requires { place < place_count }
-    ensures { result ≡ ltb (place / 128 + reach) row }
-{
-    place / 128 + (reach as usize) < row
-}
-
-// Whether a place lies so many lines behind a line that it is as far as a reach or farther.
-fn far_behind(place: usize, row: usize, reach: u32) -> bool
-    requires { row < 128 }
-    ensures { result ≡ leb (row + reach) (place / 128) }
-{
-    row + (reach as usize) <= place / 128
-}
-
 // The four nearest of some places, from the last back to the first that is not too far.
 fn keep_before(places: &[u16], c: Cell) -> [Support; 4]
     requires { Along places.now c }
@@ -128,10 +208,11 @@ fn keep_before(places: &[u16], c: Cell) -> [Support; 4]
     let mut kept = [NOT_FOUND; 4];
     for place in places.iter().rev() {
         let place = usize::from(*place);
-        if far_before(place, row, kept[3].reach) {
+        let at = Place { place };
+        if at.far_before(row, kept[3].reach) {
             break;
         }
-        kept = keep_earlier(kept, support_of(place, c));
+        kept = keep_earlier(kept, at.support_of(c));
     }
     kept
 }
@@ -148,10 +229,11 @@ pub fn nearest_labelled_by_grid(places: &[u16], c: Cell) -> [Support; 4]
     let mut kept = keep_before(before, c);
     for place in behind {
         let place = usize::from(*place);
-        if far_behind(place, row, kept[3].reach) {
+        let at = Place { place };
+        if at.far_behind(row, kept[3].reach) {
             break;
         }
-        kept = keep_support(kept, support_of(place, c));
+        kept = keep_support(kept, at.support_of(c));
     }
     kept
 }
@@ -163,40 +245,6 @@ pub struct SupportFit {
     pub residuals: [f32; 4],
 }
 
-// A cell of the sheet as a point.
-pub fn cell_point(c: Cell) -> Position
-    requires { OnSheet c }
-    ensures { result ≡ cell_point c }
-{
-    Position {
-        x: c.i as f32,
-        y: c.j as f32,
-    }
-}
-
-// The point of a place's cell.
-fn place_point(place: usize) -> Position
-    requires { place < place_count }
-    ensures { result ≡ cell_point (cell_of place) }
-{
-    cell_point(sheet::cell_of(place))
-}
-
-// The pictured corner of a place's cell; one that has none is nowhere.
-fn pictured(corners: &[f32; 4 * CORNERS], sheet: &[u16], place: usize) -> Position
-    requires { Given corner_limit sheet.now × (place < place_count) }
-    ensures { result ≡ pictured_at (seen_of (corner_in corners.now) sheet.now) place }
-{
-    let seen = sheet::seen_at(corners, sheet, sheet::cell_of(place));
-    match seen {
-        None => Position {
-            x: 0.0 / 0.0,
-            y: 0.0 / 0.0,
-        },
-        Some(corner) => corner.position,
-    }
-}
-
 // How far a fit maps a cell from its pictured corner.
 fn residual_of(h: [f32; 9], cell: Position, corner: Position) -> f32
     ensures { result ≡ residual_of h cell corner }
@@ -205,6 +253,7 @@ fn residual_of(h: [f32; 9], cell: Position, corner: Position) -> f32
 }
 
 // Whether all residuals are finite.
+// Stays: `elimination::values_finite` is by another definition, of N entries by their number; this one is of a list (d).
 fn all_finite(residuals: &[f32]) -> bool
     ensures { result ≡ all_finite residuals.now }
 {
@@ -226,24 +275,20 @@ fn fit_points(cells: [Position; 4], corners: [Position; 4]) -> Option<SupportFit
 
 // The fit on the supports: what takes their cells to the pictured corners, with the residual of each. There is none where the points have no
 // fit or a residual is not finite.
-pub fn local_fit(corners: &[f32; 4 * CORNERS], sheet: &[u16], s: [Support; 4]) -> Option<SupportFit>
-    requires { Given corner_limit sheet.now × Pictured s }
-    ensures { result ≡ support_fit_of (local_fit (seen_of (corner_in corners.now) sheet.now) (places_of s)) }
+pub fn local_fit(seeing: Seeing, s: [Support; 4]) -> Option<SupportFit>
+    requires { Pictured s }
+    ensures { result ≡ support_fit_of (local_fit (seen_in seeing.entry) (places_of s)) }
 {
-    let [a, b, c, d] = s;
-    // Stays: four calls twice, not two `map`s, each of whose closures would need a clause on the place and be as long.
-    let cells = [
-        place_point(a.place),
-        place_point(b.place),
-        place_point(c.place),
-        place_point(d.place),
-    ];
-    let corners = [
-        pictured(corners, sheet, a.place),
-        pictured(corners, sheet, b.place),
-        pictured(corners, sheet, c.place),
-        pictured(corners, sheet, d.place),
-    ];
+    let cells = s.map(
+        |k|
+            requires { k.place < place_count }
+        { Place { place: k.place }.point() },
+    );
+    let corners = s.map(
+        |k|
+            requires { k.place < place_count }
+        { Place { place: k.place }.pictured(seeing) },
+    );
     fit_points(cells, corners)
 }
 

@@ -1,6 +1,6 @@
 -- The examples that document 01 marks M, as a table. `proofs/Examples.antt` proves `Right table`. Definitions only.
 -- Numbers are given by their binary32 bits.
-use Rattle.std.specs.Prelude.{ℕ, ◌+◌, ◌≡◌, Bool, true, false, List, [], ◌∷◌, length, pos, Float, Ok}
+use Rattle.std.specs.Prelude.{ℕ, ◌+◌, ◌≡◌, Bool, true, false, List, [], ◌∷◌, length, pos, Float, Ok, Err}
 use Rattle.std.specs.Float.{binary32}
 use Rattle.std.specs.Float.Ieee.{of_bits}
 use Rattle.sheet.specs.Words.{attached, empty_sheet}
@@ -8,9 +8,9 @@ use Rattle.sheet.specs.declared.Cell.{Cell}
 use Rattle.passes.specs.Fill.{fill_cells}
 use Rattle.passes.specs.Local.{local_cells}
 use Rattle.binary32.specs.Sqrt.{Answers, rooted}
-use Rattle.candidates.specs.Choice.{choose_unambiguous, choose_with_floor}
+use Rattle.candidates.specs.Choice.{CandidateChoice, choose_unambiguous, choose_with_floor}
 use Rattle.candidates.specs.declared.Candidates.{Candidates}
-use Rattle.candidates.specs.declared.CandidateChoice.{CandidateChoice}
+use Rattle.candidates.specs.declared.Unchosen.{Unchosen}
 use Rattle.positions_policy.specs.Edge.{in_band, expected_length}
 
 abbrev pub f32 : ℕ → Float
@@ -25,8 +25,8 @@ pub data Chosen : Type 0 where
   taken ambiguous : Chosen
 
 abbrev pub choice_of : Chosen → CandidateChoice
-choice_of taken = CandidateChoice.Unique 7
-choice_of ambiguous = CandidateChoice.Ambiguous
+choice_of taken = Ok 7
+choice_of ambiguous = Err Unchosen.Ambiguous
 
 -- one example: what is given, and what 01 says of it
 pub data Example : Type 0 where

@@ -1,5 +1,5 @@
 -- Each pass on the sheet of some written places does what its definition on these places says, and the places still rise. Assumes nothing.
-use Rattle.std.specs.Prelude.{None}
+use Rattle.std.specs.Prelude.{None, Ok, Err}
 use Rattle.labels.specs.declared.Bounds.{Bounds}
 use Rattle.sheet.specs.declared.Corner.{Corner}
 use mathlib.Core.Path.{◌≡◌, refl, sym, ap, ap₂, ◌∙◌, fun_ext}
@@ -25,7 +25,7 @@ use Rattle.sheet.specs.declared.Cell.{Cell}
 use Rattle.sheet.specs.declared.Offset.{Offset}
 use Rattle.sheet.specs.declared.Position.{Position}
 use Rattle.candidates.specs.Candidates.{eligible, candidates_at, first_two}
-use Rattle.candidates.specs.declared.CandidateChoice.{CandidateChoice}
+use Rattle.candidates.specs.Choice.{CandidateChoice}
 use Rattle.passed_over.specs.PassedOver.{passed_over}
 use Rattle.positions_policy.specs.Edge.{cardinal_offsets, verdict_of, passes}
 use Rattle.positions_policy.specs.declared.Tolerances.{Tolerances}
@@ -34,9 +34,9 @@ use Rattle.arguments.specs.declared.Settings.{Settings}
 use Rattle.arguments.specs.declared.GrowParams.{GrowParams}
 use Rattle.arguments.specs.declared.FillParams.{FillParams}
 use Rattle.arguments.specs.declared.LocalExtensionParams.{LocalExtensionParams}
-use Rattle.extension_common.specs.TryCell.{unlabelled_on, gathered, unmatched, choice_by, edges_of, result_of, try_at}
+use Rattle.extension_common.specs.TryCell.{TryCellResult, unlabelled_on, gathered, unmatched, choice_by, edges_of, result_of, try_at}
 use Rattle.extension_common.specs.declared.Search.{Search}
-use Rattle.extension_common.specs.declared.TryCellResult.{TryCellResult}
+use Rattle.extension_common.specs.declared.NotAttached.{NotAttached}
 use Rattle.extension_common.proofs.Laws.{gathered_bare, unmatched_bare}
 use Rattle.passes.specs.Counting.{one_more}
 use Rattle.passes.specs.Rounds.{RoundPass, Rounds, rounds_from}
@@ -78,13 +78,12 @@ module _ (cs : Corners) (w : List Written) (r : Rise 0 w) where
   edges_so : (tol : Tolerances) (c : Cell) (k : ℕ) → edges_of cs.corner (sheet_with w) tol c k ≡ edges_in cs w tol c k
   unfolding edges_of edges_in
   edges_so tol c k =
-      ap (λ (seen : Cell → Option Corner). cond (passes (verdict_of seen tol c (cs.corner k))) (TryCellResult.Attached k) TryCellResult.EdgeRejected) (seen_so w cs.corner)
+      ap (λ (seen : Cell → Option Corner). cond (passes (verdict_of seen tol c (cs.corner k))) (Ok k) (Err NotAttached.EdgeRejected)) (seen_so w cs.corner)
 
   result_so : (tol : Tolerances) (c : Cell) (choice : CandidateChoice) → result_of cs.corner (sheet_with w) tol c choice ≡ result_in cs w tol c choice
   unfolding result_of result_in
-  result_so tol c CandidateChoice.Nothing = refl
-  result_so tol c CandidateChoice.Ambiguous = refl
-  result_so tol c (CandidateChoice.Unique k) = edges_so tol c k
+  result_so tol c (Err unchosen) = refl
+  result_so tol c (Ok k) = edges_so tol c k
 
   try_so : (tol : Tolerances) (search : Search) (c : Cell) (at : Position) → try_at cs (sheet_with w) tol search c at ≡ try_in cs w tol search c at
   unfolding try_at try_in
@@ -115,24 +114,24 @@ seeded_so w [] queued = refl
 seeded_so w (p ∷ ps) queued = ap (seeded_from (sheet_with w) ps) (spread_so w (cell_of p) queued) ∙ seeded_so w ps (spread_in w (cell_of p) queued)
 
 missed_so : (c : Cell) (s : GrowStateIn) → missed c (grow_state_of s) ≡ grow_state_of (missed_in c s)
-missed_so c s = λ t. record { sheet = hole_so s.sheet c t; queued = s.queued; made = s.made; counts = one_more TryCellResult.NoCandidates s.counts }
+missed_so c s = λ t. record { sheet = hole_so s.sheet c t; queued = s.queued; made = s.made; counts = one_more (Err NotAttached.NoCandidates) s.counts }
 
 grow_with_so : (c : Cell) (r : TryCellResult) (s : GrowStateIn) → grow_with c r (grow_state_of s) ≡ grow_state_of (grow_with_in c r s)
 unfolding grow_with grow_with_in
-grow_with_so c TryCellResult.NoCandidates s = missed_so c s
-grow_with_so c TryCellResult.Ambiguous s = λ t. record { sheet = ambiguous_so s.sheet c t; queued = s.queued; made = s.made; counts = one_more TryCellResult.Ambiguous s.counts }
-grow_with_so c TryCellResult.EdgeRejected s = λ t. record { sheet = hole_so s.sheet c t; queued = s.queued; made = s.made; counts = one_more TryCellResult.EdgeRejected s.counts }
-grow_with_so c (TryCellResult.Attached k) s =
+grow_with_so c (Err NotAttached.NoCandidates) s = missed_so c s
+grow_with_so c (Err NotAttached.Ambiguous) s = λ t. record { sheet = ambiguous_so s.sheet c t; queued = s.queued; made = s.made; counts = one_more (Err NotAttached.Ambiguous) s.counts }
+grow_with_so c (Err NotAttached.EdgeRejected) s = λ t. record { sheet = hole_so s.sheet c t; queued = s.queued; made = s.made; counts = one_more (Err NotAttached.EdgeRejected) s.counts }
+grow_with_so c (Ok k) s =
     let more : spread (attached (sheet_with s.sheet) c k) c s.queued ≡ spread_in (attached_in s.sheet c k) c s.queued =
     ap (λ (sheet : List ℕ). spread sheet c s.queued) (attached_so s.sheet c k) ∙ spread_so (attached_in s.sheet c k) c s.queued in
-    λ t. record { sheet = attached_so s.sheet c k t; queued = more t; made = s.made ++ (place_of c ∷ []); counts = one_more (TryCellResult.Attached k) s.counts }
+    λ t. record { sheet = attached_so s.sheet c k t; queued = more t; made = s.made ++ (place_of c ∷ []); counts = one_more (Ok k) s.counts }
 
 grow_with_rises : (c : Cell) (r : TryCellResult) (s : GrowStateIn) → Rise 0 s.sheet → Rise 0 (grow_with_in c r s).sheet
 unfolding grow_with_in
-grow_with_rises c TryCellResult.NoCandidates s h = rise_put s.sheet (place_of c) _ h
-grow_with_rises c TryCellResult.Ambiguous s h = rise_put s.sheet (place_of c) _ h
-grow_with_rises c TryCellResult.EdgeRejected s h = rise_put s.sheet (place_of c) _ h
-grow_with_rises c (TryCellResult.Attached k) s h = rise_put s.sheet (place_of c) _ h
+grow_with_rises c (Err NotAttached.NoCandidates) s h = rise_put s.sheet (place_of c) _ h
+grow_with_rises c (Err NotAttached.Ambiguous) s h = rise_put s.sheet (place_of c) _ h
+grow_with_rises c (Err NotAttached.EdgeRejected) s h = rise_put s.sheet (place_of c) _ h
+grow_with_rises c (Ok k) s h = rise_put s.sheet (place_of c) _ h
 
 module _ (cs : Corners) (set : Settings) (p : GrowParams) where
   grow_at_so : (c : Cell) (at : Option Position) (s : GrowStateIn) → Rise 0 s.sheet → grow_at cs set p c at (grow_state_of s) ≡ grow_state_of (grow_at_in cs set p c at s)
@@ -233,17 +232,13 @@ fill_cells_so w h = ap₂ (λ (box : Option Bounds) (labelled : Cell → Bool). 
 
 fill_with_so : (c : Cell) (r : TryCellResult) (s : FillStateIn) → fill_with c r (fill_state_of s) ≡ fill_state_of (fill_with_in c r s)
 unfolding fill_with fill_with_in
-fill_with_so c TryCellResult.NoCandidates s = refl
-fill_with_so c TryCellResult.Ambiguous s = refl
-fill_with_so c TryCellResult.EdgeRejected s = refl
-fill_with_so c (TryCellResult.Attached k) s = λ t. record { sheet = attached_so s.sheet c k t; made = s.made ++ (place_of c ∷ []) }
+fill_with_so c (Err e) s = refl
+fill_with_so c (Ok k) s = λ t. record { sheet = attached_so s.sheet c k t; made = s.made ++ (place_of c ∷ []) }
 
 fill_with_rises : (c : Cell) (r : TryCellResult) (s : FillStateIn) → Rise 0 s.sheet → Rise 0 (fill_with_in c r s).sheet
 unfolding fill_with_in
-fill_with_rises c TryCellResult.NoCandidates s h = h
-fill_with_rises c TryCellResult.Ambiguous s h = h
-fill_with_rises c TryCellResult.EdgeRejected s h = h
-fill_with_rises c (TryCellResult.Attached k) s h = rise_put s.sheet (place_of c) _ h
+fill_with_rises c (Err e) s h = h
+fill_with_rises c (Ok k) s h = rise_put s.sheet (place_of c) _ h
 
 module _ (cs : Corners) (set : Settings) (p : FillParams) where
   fill_at_so : (c : Cell) (at : Option Position) (s : FillStateIn) → Rise 0 s.sheet → fill_at cs set p c at (fill_state_of s) ≡ fill_state_of (fill_at_in cs set p c at s)
@@ -323,20 +318,16 @@ local_fit_so cs w ps =
 
 local_with_so : (c : Cell) (r : TryCellResult) (s : LocalStateIn) → local_with c r (local_state_of s) ≡ local_state_of (local_with_in c r s)
 unfolding local_with local_with_in
-local_with_so c TryCellResult.NoCandidates s = refl
-local_with_so c TryCellResult.Ambiguous s = refl
-local_with_so c TryCellResult.EdgeRejected s = refl
-local_with_so c (TryCellResult.Attached k) s =
+local_with_so c (Err e) s = refl
+local_with_so c (Ok k) s =
     let e : marks_cleared (attached (sheet_with s.sheet) c k) c ≡ sheet_with (cleared_in (attached_in s.sheet c k) c) =
     ap (λ (sheet : List ℕ). marks_cleared sheet c) (attached_so s.sheet c k) ∙ cleared_so (attached_in s.sheet c k) c in
-    λ t. record { sheet = e t; made = s.made ++ (place_of c ∷ []); counts = one_more (TryCellResult.Attached k) s.counts; largest = s.largest; unmatched = s.unmatched }
+    λ t. record { sheet = e t; made = s.made ++ (place_of c ∷ []); counts = one_more (Ok k) s.counts; largest = s.largest; unmatched = s.unmatched }
 
 local_with_rises : (c : Cell) (r : TryCellResult) (s : LocalStateIn) → Rise 0 s.sheet → Rise 0 (local_with_in c r s).sheet
 unfolding local_with_in
-local_with_rises c TryCellResult.NoCandidates s h = h
-local_with_rises c TryCellResult.Ambiguous s h = h
-local_with_rises c TryCellResult.EdgeRejected s h = h
-local_with_rises c (TryCellResult.Attached k) s h = rise_put (attached_in s.sheet c k) (place_of c) _ (rise_put s.sheet (place_of c) _ h)
+local_with_rises c (Err e) s h = h
+local_with_rises c (Ok k) s h = rise_put (attached_in s.sheet c k) (place_of c) _ (rise_put s.sheet (place_of c) _ h)
 
 module _ (cs : Corners) (set : Settings) (p : LocalExtensionParams) where
   local_try_so : (c : Cell) (at : Position) (s : LocalStateIn) → Rise 0 s.sheet → local_try cs set p c at (local_state_of s) ≡ local_state_of (local_try_in cs set p c at s)

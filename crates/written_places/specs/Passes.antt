@@ -1,6 +1,6 @@
 -- The passes on a sheet of which only the written places are kept: each definition is that of the crate `passes` or `extension_common` of the same name
 -- without the ending, its sheet kept so. `proofs/Passes.antt` shows that the passes do the same. Definitions only.
-use Rattle.std.specs.Prelude.{Bool, true, false, not, ◌&&◌, cond, List, [], ◌∷◌, ◌++◌, map, ℕ, zero, suc, ◌+◌, ◌*◌, ltb, length, get_or, take, Some, None, Float, Option}
+use Rattle.std.specs.Prelude.{Bool, true, false, not, ◌&&◌, cond, List, [], ◌∷◌, ◌++◌, map, ℕ, zero, suc, ◌+◌, ◌*◌, ltb, length, get_or, take, Some, None, Float, Option, Ok, Err}
 use Rattle.std.specs.Float.{binary32}
 use Rattle.std.specs.Float.Ieee.{of_bits, lt}
 use Rattle.binary32.specs.Ranges.{is_finite}
@@ -17,7 +17,7 @@ use Rattle.sheet.specs.declared.Position.{Position}
 use Rattle.labels.specs.Box.{box_around}
 use Rattle.candidates.specs.Candidates.{eligible, candidates_at, first_two}
 use Rattle.candidates.specs.declared.Candidates.{Candidates}
-use Rattle.candidates.specs.declared.CandidateChoice.{CandidateChoice}
+use Rattle.candidates.specs.Choice.{CandidateChoice}
 use Rattle.passed_over.specs.PassedOver.{passed_over}
 use Rattle.positions_policy.specs.Edge.{cardinal_offsets, verdict_of, passes}
 use Rattle.positions_policy.specs.declared.Tolerances.{Tolerances}
@@ -26,9 +26,9 @@ use Rattle.arguments.specs.declared.Settings.{Settings}
 use Rattle.arguments.specs.declared.GrowParams.{GrowParams}
 use Rattle.arguments.specs.declared.FillParams.{FillParams}
 use Rattle.arguments.specs.declared.LocalExtensionParams.{LocalExtensionParams}
-use Rattle.extension_common.specs.TryCell.{choice_by}
+use Rattle.extension_common.specs.TryCell.{TryCellResult, unattached, choice_by}
 use Rattle.extension_common.specs.declared.Search.{Search}
-use Rattle.extension_common.specs.declared.TryCellResult.{TryCellResult}
+use Rattle.extension_common.specs.declared.NotAttached.{NotAttached}
 use Rattle.passes.specs.Outcome.{After}
 use Rattle.passes.specs.Counting.{no_counts, one_more}
 use Rattle.passes.specs.Rounds.{RoundPass, Rounds, rounds_from}
@@ -74,12 +74,11 @@ abbrev pub unmatched_in : Corners → List Written → Float → Cell → Positi
 unmatched_in cs w radius c at = unmatched_by cs.shades.any cs w radius c at
 
 unfoldable pub edges_in : Corners → List Written → Tolerances → Cell → ℕ → TryCellResult
-edges_in cs w tol c k = cond (passes (verdict_of (seen_in cs.corner w) tol c (cs.corner k))) (TryCellResult.Attached k) TryCellResult.EdgeRejected
+edges_in cs w tol c k = cond (passes (verdict_of (seen_in cs.corner w) tol c (cs.corner k))) (Ok k) (Err NotAttached.EdgeRejected)
 
 unfoldable pub result_in : Corners → List Written → Tolerances → Cell → CandidateChoice → TryCellResult
-result_in cs w tol c CandidateChoice.Nothing = TryCellResult.NoCandidates
-result_in cs w tol c CandidateChoice.Ambiguous = TryCellResult.Ambiguous
-result_in cs w tol c (CandidateChoice.Unique k) = edges_in cs w tol c k
+result_in cs w tol c (Err unchosen) = Err (unattached unchosen)
+result_in cs w tol c (Ok k) = edges_in cs w tol c k
 
 unfoldable pub try_in : Corners → List Written → Tolerances → Search → Cell → Position → TryCellResult
 try_in cs w tol search c at =
@@ -111,17 +110,17 @@ seeded_from_in w [] queued = queued
 seeded_from_in w (p ∷ ps) queued = seeded_from_in w ps (spread_in w (cell_of p) queued)
 
 abbrev pub missed_in : Cell → GrowStateIn → GrowStateIn
-missed_in c s = record { sheet = hole_in s.sheet c; queued = s.queued; made = s.made; counts = one_more TryCellResult.NoCandidates s.counts }
+missed_in c s = record { sheet = hole_in s.sheet c; queued = s.queued; made = s.made; counts = one_more (Err NotAttached.NoCandidates) s.counts }
 
 unfoldable pub grow_with_in : Cell → TryCellResult → GrowStateIn → GrowStateIn
-grow_with_in c TryCellResult.NoCandidates s = missed_in c s
-grow_with_in c TryCellResult.Ambiguous s = record { sheet = ambiguous_in s.sheet c; queued = s.queued; made = s.made; counts = one_more TryCellResult.Ambiguous s.counts }
-grow_with_in c TryCellResult.EdgeRejected s = record { sheet = hole_in s.sheet c; queued = s.queued; made = s.made; counts = one_more TryCellResult.EdgeRejected s.counts }
-grow_with_in c (TryCellResult.Attached k) s = record {
+grow_with_in c (Err NotAttached.NoCandidates) s = missed_in c s
+grow_with_in c (Err NotAttached.Ambiguous) s = record { sheet = ambiguous_in s.sheet c; queued = s.queued; made = s.made; counts = one_more (Err NotAttached.Ambiguous) s.counts }
+grow_with_in c (Err NotAttached.EdgeRejected) s = record { sheet = hole_in s.sheet c; queued = s.queued; made = s.made; counts = one_more (Err NotAttached.EdgeRejected) s.counts }
+grow_with_in c (Ok k) s = record {
   sheet = attached_in s.sheet c k;
   queued = spread_in (attached_in s.sheet c k) c s.queued;
   made = s.made ++ (place_of c ∷ []);
-  counts = one_more (TryCellResult.Attached k) s.counts;
+  counts = one_more (Ok k) s.counts;
 }
 
 unfoldable pub grow_at_in : Corners → Settings → GrowParams → Cell → Option Position → GrowStateIn → GrowStateIn
@@ -160,10 +159,8 @@ abbrev pub fill_cells_in : List Written → List ℕ
 fill_cells_in w = cells_of (box_and_strips (box_around (places_in w))) (labelled_in w)
 
 unfoldable pub fill_with_in : Cell → TryCellResult → FillStateIn → FillStateIn
-fill_with_in c TryCellResult.NoCandidates s = s
-fill_with_in c TryCellResult.Ambiguous s = s
-fill_with_in c TryCellResult.EdgeRejected s = s
-fill_with_in c (TryCellResult.Attached k) s = record { sheet = attached_in s.sheet c k; made = s.made ++ (place_of c ∷ []) }
+fill_with_in c (Err e) s = s
+fill_with_in c (Ok k) s = record { sheet = attached_in s.sheet c k; made = s.made ++ (place_of c ∷ []) }
 
 unfoldable pub fill_at_in : Corners → Settings → FillParams → Cell → Option Position → FillStateIn → FillStateIn
 fill_at_in cs set p c None s = s
@@ -238,13 +235,11 @@ abbrev pub counted_in : TryCellResult → LocalStateIn → LocalStateIn
 counted_in r s = record { sheet = s.sheet; made = s.made; counts = one_more r s.counts; largest = s.largest; unmatched = s.unmatched }
 
 unfoldable pub local_with_in : Cell → TryCellResult → LocalStateIn → LocalStateIn
-local_with_in c TryCellResult.NoCandidates s = counted_in TryCellResult.NoCandidates s
-local_with_in c TryCellResult.Ambiguous s = counted_in TryCellResult.Ambiguous s
-local_with_in c TryCellResult.EdgeRejected s = counted_in TryCellResult.EdgeRejected s
-local_with_in c (TryCellResult.Attached k) s = record {
+local_with_in c (Err e) s = counted_in (Err e) s
+local_with_in c (Ok k) s = record {
   sheet = cleared_in (attached_in s.sheet c k) c;
   made = s.made ++ (place_of c ∷ []);
-  counts = one_more (TryCellResult.Attached k) s.counts;
+  counts = one_more (Ok k) s.counts;
   largest = s.largest;
   unmatched = s.unmatched;
 }

@@ -1,16 +1,9 @@
--- `choose_with_floor` meets its contract, case by case of the candidates. Assumes nothing.
-use mathlib.Core.Path.{◌∙◌}
+-- `choose_with_floor` meets its contract, by what its closure says of two or more. Assumes nothing.
+use Rattle.std.proofs.Common.{rules}
 use Rattle.candidates.specs.Choice.{choose_with_floor}
+use Rattle.candidates.proofs.Choice.{floor_by}
 use Rattle.candidates.proofs.choose_with_floor.Goals as goal
 
-pub returns-in-Empty : goal.returns-in-Empty
+pub returns : goal.returns
 unfolding choose_with_floor
-returns-in-Empty c = rw c.in-Empty.is
-
-pub returns-in-One : goal.returns-in-One
-unfolding choose_with_floor
-returns-in-One c = rw c.in-One.is
-
-pub returns-in-Several : goal.returns-in-Several
-unfolding choose_with_floor
-returns-in-Several c = c.by_quotient.ensures ∙ rw (c.in-Several.is, c.raise.ensures)
+returns c = floor_by _ (λ a second r h. search rules) _ c.choose.ensures

@@ -5,16 +5,16 @@ use borrow.Author.Rules.{rules}
 use Rattle.sheet.specs.Corners.{corner_lists}
 use Rattle.passes.specs.Fill.{fill_limit}
 use Rattle.arguments.proofs.Holding.{holdable}
-use Rattle.arguments.proofs.HoldingShades.{two_kinds}
 use Rattle.fill.proofs.Rounds.{pass_done}
 use Rattle.fill.proofs.fill_accepted.Goals as goal
 
-pub hold_corners-requires : goal.hold_corners-requires
-hold_corners-requires c = let s = c.requires in (holdable _ s.listed s.few, two_kinds _ _ _ s)
+pub hold-requires : goal.hold-requires
+hold-requires c = holdable _ _ _ c.requires c.new-held.ensures
 
 pub returns : goal.returns
 returns c =
     let a = c.args in
-    pass_done (corner_lists a.xs.now a.ys.now a.pitches.now) a.shades.now a.sheet.now a.attached.now a.settings a.params
-    c.hold_corners.ensures refl refl refl refl refl
+    let l = a.corners in
+    pass_done (corner_lists l.xs.now l.ys.now l.pitches.now) l.shades.now a.sheet.now a.attached.now a.settings a.params
+    c.hold.ensures refl refl refl refl refl
     (c.round_limit-limit.ensures ∙ ap (λ (n : ℕ). fill_limit n a.params.max_iters) c.label_count.ensures) c.fill_rounds-rounds.ensures c.stats.ensures (search rules) (search rules)

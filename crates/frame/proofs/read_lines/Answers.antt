@@ -15,18 +15,17 @@ first c =
 
 pub loop-line-init : goal.loop-line-init
 loop-line-init c =
-    turning_start _ _ _ _ (ap (λ s. s.rest.now) c.into_iter-line-iterator.ensures.into_iter_gives ∙ c.split_inclusive-line-items.ensures.rest) (ap (λ p. p.stage) c.start-p.ensures)
-    (rw c.start-p.ensures c.requires)
+    turning_start _ _ _ (ap (λ s. s.rest.now) c.into_iter-line-iterator.ensures.into_iter_gives ∙ c.split_inclusive-line-items.ensures.rest) c.requires
 
 pub step_line-requires : goal.step_line-requires
 step_line-requires c = turn_room c.loop-line.invariant
 
-pub returns-in_err-p : goal.returns-in_err-p
-returns-in_err-p c =
+pub returns-in_err-map_err : goal.returns-in_err-map_err
+returns-in_err-map_err c =
     let p = err_from_is_err_and c.from_residual.result c.from_residual.ensures.1 in
-    let q = mapped_err _ _ _ c.map_err.ensures.cases _ c.in_err-p.was in
-    let t = turn_stopped c.loop-line.invariant (first ((goal.at.returns-in_err-p c).In-Some)) _ _ c.step_line.ensures _ q.1 in
-    let e : c.in_err-p.field-0.0 ≡ record { refusal = q.0; line = c.loop-line.n } = search rules in
+    let q = mapped_err _ _ _ c.map_err.ensures.cases _ c.in_err-map_err.was in
+    let t = turn_stopped c.loop-line.invariant (first ((goal.at.returns-in_err-map_err c).In-Some)) _ _ c.step_line.ensures _ q.1 in
+    let e : c.in_err-map_err.field-0.0 ≡ record { refusal = q.0; line = c.loop-line.n } = search rules in
     rw (p.1, p.2, e) t
 
 pub overflow_add-n : goal.overflow_add-n
@@ -34,7 +33,7 @@ overflow_add-n c = let f = first ((goal.at.overflow_add-n c).In-Some) in omega (
 
 pub loop-line-preserved : goal.loop-line-preserved
 loop-line-preserved c =
-    turn_onward c.loop-line.invariant (first ((goal.at.loop-line-preserved c).In-Some)) _ _ c.step_line.ensures _ (mapped_ok _ _ _ c.map_err.ensures.cases _ c.in_ok-p.was)
+    turn_onward c.loop-line.invariant (first ((goal.at.loop-line-preserved c).In-Some)) _ _ c.step_line.ensures (mapped_ok _ _ _ c.map_err.ensures.cases _ c.in_ok-map_err.was)
 
 pub returns-then-not-may_end : goal.returns-then-not-may_end
 returns-then-not-may_end c = end_missing c.loop-line.invariant c.in-None.ensures.steps.0 (sym c.may_end.ensures ∙ c.if-not-may_end.true)

@@ -1,29 +1,33 @@
 -- `frame_number::refusals_of` meets its contract: the five numbers' refusals are those of the definition. Assumes nothing.
-use mathlib.Core.Path.{◌≡◌, ◌∙◌}
-use mathlib.Core.List.{[], ◌∷◌}
-use Rattle.refusal.specs.declared.Refusal.{Refusal}
-use Rattle.frame_line.specs.Table.{sort_at}
-use Rattle.frame_line.specs.Held.{number_or_0, refusals_in}
-use Rattle.frame_line.proofs.Rows.{letters_are}
-use Rattle.frame_number.proofs.Laws.{has_any}
+use mathlib.Core.Path.{◌≡◌, sym, ap, subst, ◌∙◌}
+use Rattle.std.specs.List.{fold, zip}
+use Rattle.std.proofs.Common.{rules}
+use Rattle.std.proofs.lemmas.Iterator.{YieldsList-from_slice, YieldsList-from_zip}
+use Rattle.std.proofs.lemmas.Iterator.Consumers.{fold_from_yields_List}
+use Rattle.frame_line.specs.Table.{letters_at}
+use Rattle.frame_number.specs.declared.NumberRefusals.{NumberRefusals}
+use Rattle.frame_number.proofs.Laws.{none_found, by_letter, FoundOf, found_line}
 use Rattle.frame_number.proofs.refusals_of.Goals as goal
-use Rattle.frame_number.proofs.refusals_of.Goals.{After-contains-4}
+use Rattle.frame_number.proofs.refusals_of.Goals.{After-fold}
 
-found_are : (c : After-contains-4) → (number_or_0 c.refusal_of.result ∷ number_or_0 c.refusal_of-2.result ∷ number_or_0 c.refusal_of-3.result ∷ number_or_0 c.refusal_of-4.result ∷ number_or_0 c.refusal_of-5.result ∷ []) ≡ refusals_in c.args.corners c.args.line
-unfolding sort_at refusals_in
-found_are c =
-    rw (c.refusal_of.ensures, c.refusal_of-2.ensures, c.refusal_of-3.ensures, c.refusal_of-4.ensures, c.refusal_of-5.ensures)
-    (rw (c.sort_of.ensures, c.sort_of-2.ensures, c.sort_of-3.ensures, c.sort_of-4.ensures, c.sort_of-5.ensures)
-    (rw (c.letters_of-letters.ensures, ← letters_are c.args.line.row c.requires.0)))
+folded : (c : After-fold) → c.fold.result ≡ fold (by_letter c.args.corners) none_found (zip (letters_at c.args.line.held.row) c.args.line.held.values)
+folded c =
+    let none : c.default.result ≡ none_found = search rules in
+    fold_from_yields_List _ (by_letter c.args.corners) _ _ c.fold.ensures.ran
+    (YieldsList-from_zip (YieldsList-from_slice (letters_at c.args.line.held.row) cc) (YieldsList-from_slice c.args.line.held.values cc)) (λ a x b q k. (search rules, search rules))
+    ∙ ap (λ (f : NumberRefusals). fold (by_letter c.args.corners) f (zip (letters_at c.args.line.held.row) c.args.line.held.values)) none
+
+all : (c : After-fold) → FoundOf c.args.corners c.args.line.held c.fold.result
+all c = subst (FoundOf c.args.corners c.args.line.held) (sym (folded c)) (found_line _ _ c.args.line.listed (search rules))
 
 pub returns-clause-malformed : goal.returns-clause-malformed
-returns-clause-malformed c = c.contains.ensures.value ∙ has_any _ _ Refusal.Malformed c.refusal_of.result c.refusal_of-2.result c.refusal_of-3.result c.refusal_of-4.result c.refusal_of-5.result (found_are c)
+returns-clause-malformed c = (all c).malformed
 
 pub returns-clause-out_of_range : goal.returns-clause-out_of_range
-returns-clause-out_of_range c = c.contains-2.ensures.value ∙ has_any _ _ Refusal.OutOfRange c.refusal_of.result c.refusal_of-2.result c.refusal_of-3.result c.refusal_of-4.result c.refusal_of-5.result (found_are c)
+returns-clause-out_of_range c = (all c).out_of_range
 
 pub returns-clause-off_sheet : goal.returns-clause-off_sheet
-returns-clause-off_sheet c = c.contains-3.ensures.value ∙ has_any _ _ Refusal.OffSheet c.refusal_of.result c.refusal_of-2.result c.refusal_of-3.result c.refusal_of-4.result c.refusal_of-5.result (found_are c)
+returns-clause-off_sheet c = (all c).off_sheet
 
 pub returns-clause-unknown_corner : goal.returns-clause-unknown_corner
-returns-clause-unknown_corner c = c.contains-4.ensures.value ∙ has_any _ _ Refusal.UnknownCorner c.refusal_of.result c.refusal_of-2.result c.refusal_of-3.result c.refusal_of-4.result c.refusal_of-5.result (found_are c)
+returns-clause-unknown_corner c = (all c).unknown_corner

@@ -10,5 +10,5 @@ use Rattle.join_sheet.proofs.verdict_of.Goals as goal
 pub invariant_of-test_shift : goal.invariant_of-test_shift
 invariant_of-test_shift c =
     let s = c.args.second.now in
-    let e : asked (cell_on c.args.first.now.sheet.now) (held_labels s.array.now s.count) ≡ Some c.in_ok-offset.offset = search rules in
-    record { near = asked_within _ _ _ s.held _ e }
+    let e : asked (cell_on c.args.first.now.sheet.now) (held_labels s.labels.now) ≡ Some c.in_ok-offset.offset = search rules in
+    record { near = asked_within _ _ s.held _ e }

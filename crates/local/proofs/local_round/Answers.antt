@@ -1,28 +1,62 @@
--- `local::local_round` meets its contract: at each place that is tried the buffers hold what the round's list leaves after the places passed, and what
--- is remembered holds; places that are not tried are passed over. Assumes nothing.
-use mathlib.Core.Path.{refl}
-use Rattle.local.proofs.Walk.{tellable, same_then, walking_start, walking_skips, tried_trying, walking_tried, walking_end}
+-- `local::local_round` meets its contract: at each place of the window the buffers hold what the round's list leaves after the places passed, and what
+-- is remembered holds; those out of the window are jumped over. Assumes nothing.
+use mathlib.Core.Path.{refl, sym, ◌∙◌}
+use native.Mathlib.Omega.{arith}
+use Rattle.local.proofs.Walk.{telling, same_then, walking_start, walking_missed, walking_jumps, tried_trying, walking_tried, walking_end}
 use Rattle.local.proofs.local_round.Goals as goal
 
-pub next_tried-place-requires-clause-tellable : goal.next_tried-place-requires-clause-tellable
-next_tried-place-requires-clause-tellable c = tellable c.round_of-round.ensures c.requires.asked.shallow c.args.work.now.extending.given.long
+pub places-place-items-requires : goal.places-place-items-requires
+places-place-items-requires c = c.round_of-round.ensures.windowed.fits
 
 pub loop-place-init : goal.loop-place-init
-loop-place-init c = (walking_skips c.round_of-round.ensures (walking_start c.args.work.now.extending.few) c.next_tried-place.ensures, c.requires.recalls, c.next_tried-place.ensures.hit, record { same_setup = refl; same_sheet = refl; same_list = refl })
+loop-place-init c =
+    let s = c.places-place-items.ensures in
+    rw c.into_iter-place-iterator.ensures.into_iter_gives
+    (record {
+      window_is = s.window_is;
+      walking = rw s.from_is (walking_start c.args.work.now.extending.few);
+      recalls = c.requires.recalls;
+      same = record { same_setup = refl; same_sheet = refl; same_list = refl };
+    })
+
+pub is_tried-requires-clause-telling : goal.is_tried-requires-clause-telling
+is_tried-requires-clause-telling c = telling c.round_of-round.ensures c.requires.asked.shallow c.in-Some.ensures.steps.1
 
 pub try_local_cell-requires-clause-trying : goal.try_local_cell-requires-clause-trying
-try_local_cell-requires-clause-trying c = tried_trying c.round_of-round.ensures c.loop-place.invariant.0 c.loop-place-test.true (c.loop-place.invariant.2 c.loop-place-test.true) c.cell_of.ensures c.requires.asked.countable
+try_local_cell-requires-clause-trying c =
+    let i = c.loop-place.invariant in
+    let s = c.in-Some.ensures.steps in
+    tried_trying c.round_of-round.ensures (walking_jumps c.round_of-round.ensures i.walking (rw i.window_is at s.0)) s.1 (sym c.is_tried.ensures ∙ c.if-is_tried.true) c.cell_of.ensures c.requires.asked.countable
 
-pub next_tried-place-requires-in-loop-place-clause-tellable : goal.next_tried-place-requires-in-loop-place-clause-tellable
-next_tried-place-requires-in-loop-place-clause-tellable c = tellable c.round_of-round.ensures c.requires.asked.shallow c.try_local_cell.new.self.extending.given.long
+pub try_local_cell-requires-clause-recalls : goal.try_local_cell-requires-clause-recalls
+try_local_cell-requires-clause-recalls c = c.loop-place.invariant.recalls
+
+pub loop-place-preserved-then-is_tried : goal.loop-place-preserved-then-is_tried
+loop-place-preserved-then-is_tried c =
+    let i = c.loop-place.invariant in
+    let s = c.in-Some.ensures.steps in
+    record {
+      window_is = s.2.window_is ∙ i.window_is;
+      walking =
+          rw s.2.from_is
+          (walking_tried c.round_of-round.ensures (walking_jumps c.round_of-round.ensures i.walking (rw i.window_is at s.0)) s.1 (sym c.is_tried.ensures ∙ c.if-is_tried.true) c.cell_of.ensures
+          (rw i.same.same_setup at c.try_local_cell.ensures.left));
+      recalls = c.try_local_cell.ensures.recalls;
+      same = same_then i.same c.try_local_cell.ensures.same;
+    }
 
 pub loop-place-preserved : goal.loop-place-preserved
-loop-place-preserved c = (
-  walking_skips c.round_of-round.ensures (walking_tried c.round_of-round.ensures c.loop-place.invariant.0 c.loop-place-test.true (c.loop-place.invariant.2 c.loop-place-test.true) c.cell_of.ensures (rw c.loop-place.invariant.3.same_setup at c.try_local_cell.ensures.left)) c.next_tried-place-in-loop-place.ensures,
-  c.try_local_cell.ensures.recalls,
-  c.next_tried-place-in-loop-place.ensures.hit,
-  same_then c.loop-place.invariant.3 c.try_local_cell.ensures.same,
-)
+loop-place-preserved c =
+    let i = c.loop-place.invariant in
+    let s = c.in-Some.ensures.steps in
+    record {
+      window_is = s.2.window_is ∙ i.window_is;
+      walking =
+          rw s.2.from_is
+          (walking_missed c.round_of-round.ensures (walking_jumps c.round_of-round.ensures i.walking (rw i.window_is at s.0)) s.1 (sym c.is_tried.ensures ∙ c.if-is_tried.false));
+      recalls = i.recalls;
+      same = i.same;
+    }
 
 pub returns-clause-left : goal.returns-clause-left
-returns-clause-left c = walking_end c.loop-place.invariant.0 c.loop-place-test.false
+returns-clause-left c = let i = c.loop-place.invariant in walking_end (walking_jumps c.round_of-round.ensures i.walking (rw i.window_is at c.in-None.ensures.steps)) (omega arith)

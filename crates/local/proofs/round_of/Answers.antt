@@ -1,18 +1,14 @@
 -- `local::round_of` meets its contract: the labelled places are of the sheet, and so is the label box. Assumes nothing.
 use Rattle.region.proofs.Jumps.{box_on}
-use Rattle.local_cell.proofs.Visit.{labels_in}
 use Rattle.local.proofs.Depth.{depth_in}
 use Rattle.local.proofs.Walk.{listed}
 use Rattle.local.proofs.round_of.Goals as goal
 
-pub shared_ref_as_front-labelled : goal.shared_ref_as_front-labelled
-shared_ref_as_front-labelled c = labels_in c.args.work.now.extending
-
 pub rows_of-requires : goal.rows_of-requires
-rows_of-requires c = listed _ c.args.work.now.extending.places_are
+rows_of-requires c = rw c.as_slice-labelled.ensures (listed _ c.args.work.now.extending.places_are)
 
 pub columns_of-requires : goal.columns_of-requires
-columns_of-requires c = listed _ c.args.work.now.extending.places_are
+columns_of-requires c = rw c.as_slice-labelled.ensures (listed _ c.args.work.now.extending.places_are)
 
 pub window_of-requires : goal.window_of-requires
 window_of-requires c = rw (c.label_box-around.ensures, c.depth_of-depth.ensures) (box_on _, depth_in _ c.requires.shallow)

@@ -20,9 +20,9 @@ settled seen n d e f fc fo b bc bo = e ∙ rw (f, fc, fo, b, bc, bo)
 pub returns : goal.returns
 returns c =
     settled _ _ _ c.step_between.ensures
-    c.seen_at-f.ensures
+    c.at-f.ensures
     c.neighbour.ensures
     c.forward.ensures
-    c.seen_at-b.ensures
+    c.at-b.ensures
     c.neighbour-2.ensures
     c.backward.ensures

@@ -34,7 +34,7 @@ pub loop-place-preserved : goal.loop-place-preserved
 loop-place-preserved c =
     let h = room (goal.at.loop-place-preserved c).In-Some in (
       omega (arith, c.loop-place.invariant.0, length-append c.loop-place.yielded ((c.in-Some.place, c.in-Some.field-0-1) ∷ [])),
-      listed_more _ _ c.loop-place.yielded _ _ c.loop-place.invariant.0 c.loop-place.invariant.1 (omega (arith, h, c.requires.size)),
+      listed_more _ _ c.loop-place.yielded _ _ c.loop-place.invariant.0 c.loop-place.invariant.1 (omega (arith, h)),
     )
 
 pub returns : goal.returns

@@ -1,19 +1,18 @@
--- `Trial::try_candidates` meets its contract: each arm is given the choice. Assumes nothing.
+-- `Trial::try_candidates` meets its contract: a corner that is chosen is tried at its edges. Assumes nothing.
 use mathlib.Core.Path.{sym, ap, ◌∙◌}
+use Rattle.std.proofs.lemmas.Result.{err_from_is_err_and}
 use Rattle.extension_common.specs.TryCell.{result_of}
 use Rattle.extension_common.proofs.Trial.try_candidates.Goals as goal
 
+pub returns-in_err-k : goal.returns-in_err-k
+unfolding result_of
+returns-in_err-k c =
+    let p = err_from_is_err_and c.from_residual.result c.from_residual.ensures.1 in
+    rw (p.1, p.2) (ap (result_of _ _ _ _) c.in_err-k.ensures)
+
 pub try_edges-requires : goal.try_edges-requires
-try_edges-requires c = c.requires _ (sym c.choose-choice.ensures ∙ c.in-Unique.is)
+try_edges-requires c = c.requires _ (sym c.in_ok-k.ensures)
 
-pub returns-in-Nothing : goal.returns-in-Nothing
+pub returns : goal.returns
 unfolding result_of
-returns-in-Nothing c = ap (result_of _ _ _ _) (sym c.in-Nothing.is ∙ c.choose-choice.ensures)
-
-pub returns-in-Ambiguous : goal.returns-in-Ambiguous
-unfolding result_of
-returns-in-Ambiguous c = ap (result_of _ _ _ _) (sym c.in-Ambiguous.is ∙ c.choose-choice.ensures)
-
-pub returns-in-Unique : goal.returns-in-Unique
-unfolding result_of
-returns-in-Unique c = c.try_edges.ensures ∙ ap (result_of _ _ _ _) (sym c.in-Unique.is ∙ c.choose-choice.ensures)
+returns c = c.try_edges.ensures ∙ ap (result_of _ _ _ _) c.in_ok-k.ensures

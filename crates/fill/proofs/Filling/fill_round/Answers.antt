@@ -9,16 +9,27 @@ pub window_of-window-requires : goal.window_of-window-requires
 window_of-window-requires c = rw c.label_box-around.ensures (box_on _, omega arith)
 
 pub loop-place-init : goal.loop-place-init
-loop-place-init c = walking_jumps c.args.self.now c.args.self.now _ _ c.label_box-around.ensures c.window_of-window.ensures (walking_start c.args.self.now) c.next_inside-place.ensures
+loop-place-init c =
+    let s = c.places-place-items.ensures in
+    rw c.into_iter-place-iterator.ensures.into_iter_gives
+    (record { windowed = rw s.window_is c.window_of-window.ensures; walking = rw s.from_is (walking_start c.args.self.now) })
 
 pub fill_place-requires : goal.fill_place-requires
-fill_place-requires c = (c.loop-place-test.true, rw c.label_box-around.ensures (box_small _))
+fill_place-requires c = (c.in-Some.ensures.steps.1, rw c.label_box-around.ensures (box_small _))
 
 pub loop-place-preserved : goal.loop-place-preserved
 loop-place-preserved c =
-    walking_jumps c.args.self.now c.fill_place.new.self _ _ c.label_box-around.ensures c.window_of-window.ensures
-    (walking_more c.args.self.now c.loop-place.invariant _ c.loop-place-test.true c.label_box-around.ensures c.fill_place.ensures)
-    c.next_inside-place-in-loop-place.ensures
+    let i = c.loop-place.invariant in
+    let s = c.in-Some.ensures.steps in
+    record {
+      windowed = rw s.2.window_is i.windowed;
+      walking =
+          rw s.2.from_is
+          (walking_more c.args.self.now (walking_jumps c.args.self.now c.loop-place.self _ _ c.label_box-around.ensures i.windowed i.walking s.0) _ s.1
+          c.label_box-around.ensures c.fill_place.ensures);
+    }
 
 pub returns : goal.returns
-returns c = walking_end c.args.self.now c.loop-place.invariant c.loop-place-test.false
+returns c =
+    let i = c.loop-place.invariant in
+    walking_end c.args.self.now (walking_jumps c.args.self.now c.loop-place.self _ _ c.label_box-around.ensures i.windowed i.walking c.in-None.ensures.steps) (omega arith)

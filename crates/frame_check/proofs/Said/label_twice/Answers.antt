@@ -6,8 +6,8 @@ use Rattle.frame_check.proofs.Said.label_twice.Goals as goal
 pub overflow_cast-place : goal.overflow_cast-place
 overflow_cast-place c = omega (arith, c.place_of-place.ensures, place_in _ c.requires.on)
 
-pub offset_bounds-self-place : goal.offset_bounds-self-place
-offset_bounds-self-place c = omega (arith, c.place_of-place.ensures, place_in _ c.requires.on)
+pub offset_bounds-held-place : goal.offset_bounds-held-place
+offset_bounds-held-place c = omega (arith, c.place_of-place.ensures, place_in _ c.requires.on)
 
-pub bounds-self-place : goal.bounds-self-place
-bounds-self-place c = omega (arith, c.place_of-place.ensures, place_in _ c.requires.on)
+pub bounds-held-place : goal.bounds-held-place
+bounds-held-place c = omega (arith, c.place_of-place.ensures, place_in _ c.requires.on)

@@ -16,8 +16,8 @@ bounds-self-self c = taking_room c.requires
 pub invariant_of-self : goal.invariant_of-self
 invariant_of-self c = record { extending = list_written _ _ c.args.self.now.extending }
 
-pub gather_labelled-self-requires : goal.gather_labelled-self-requires
-gather_labelled-self-requires c = gatherable _ _ _ c.attach.ensures c.clear_marks.ensures (taking_writable c.requires)
+pub gather-requires : goal.gather-requires
+gather-requires c = gatherable _ _ _ c.attach.ensures c.clear_marks.ensures (taking_writable c.requires)
 
 pub invariant_of-self-2 : goal.invariant_of-self-2
-invariant_of-self-2 c = record { extending = took_extending c.requires _ c.attach.ensures c.clear_marks.ensures (rw c.count_cell.ensures c.gather_labelled-self.ensures) (ap (λ (x : LocalProgress). x.counts) c.count_cell.ensures) }
+invariant_of-self-2 c = record { extending = took_extending c.requires _ c.attach.ensures c.clear_marks.ensures c.gather.ensures (ap (λ (x : LocalProgress). x.counts) c.count_cell.ensures) }

@@ -25,20 +25,20 @@ neighbour-at-requires c = (c.args.self.now.on, c.requires)
 
 pub add_neighbour-requires : goal.add_neighbour-requires
 add_neighbour-requires c =
-    seen_on _ _ _ _ (sym c.seen_at-seen.ensures ∙ c.in-Some.is)
+    seen_on _ _ _ _ (sym c.at.ensures ∙ c.in-Some.is)
 
 pub returns-in-None : goal.returns-in-None
 returns-in-None c =
     passed _ _ _ _
     c.neighbour-at.ensures
-    c.seen_at-seen.ensures
+    c.at.ensures
     c.in-None.is
 
 pub returns-in-Some : goal.returns-in-Some
 returns-in-Some c =
     added _ _ _ _
     c.neighbour-at.ensures
-    c.seen_at-seen.ensures
+    c.at.ensures
     _
     c.in-Some.is
     c.add_neighbour.ensures

@@ -4,7 +4,7 @@ use Rattle.std.proofs.Common.{rules}
 use Rattle.std.proofs.lemmas.Iterator.{YieldsList-from_slice}
 use Rattle.std.proofs.lemmas.Iterator.Consumers.{fold_from_yields_List}
 use Rattle.sheet.specs.Cells.{moved}
-use Rattle.sheet.specs.Corners.{corner_in, seen_of}
+use Rattle.sheet.specs.Seeing.{seen_in}
 use Rattle.sheet.specs.declared.Offset.{Offset}
 use Rattle.predict.specs.Predict.{neighbour_offsets, with_cell, no_sums, sums_of}
 use Rattle.predict.specs.declared.Sums.{Sums}
@@ -15,6 +15,6 @@ pub returns : goal.returns
 unfolding no_sums sums_of neighbour_offsets
 returns c =
     let a = c.args in
-    fold_from_yields_List _ (λ (s : Sums) (o : Offset). with_cell (seen_of (corner_in a.self.now.corners.now) a.self.now.sheet.now) a.self.now.grid a.self.now.c s (moved a.self.now.c o)) _ c.fold.result c.fold.ensures.ran
+    fold_from_yields_List _ (λ (s : Sums) (o : Offset). with_cell (seen_in a.self.now.seeing) a.self.now.grid a.self.now.c s (moved a.self.now.c o)) _ c.fold.result c.fold.ensures.ran
     (YieldsList-from_slice neighbour_offsets c.iter.ensures.rest) (λ s x b q k. search rules)
-    ∙ sums_all (seen_of (corner_in a.self.now.corners.now) a.self.now.sheet.now) a.self.now.c a.self.now.grid _
+    ∙ sums_all (seen_in a.self.now.seeing) a.self.now.c a.self.now.grid _

@@ -1,7 +1,7 @@
 -- `checks::Lent::check_text` meets its contract: each refusal by the tests that passed before it. Assumes nothing.
 use mathlib.Core.Path.{sym, ◌∙◌}
 use Rattle.report.specs.WriteResult.{text_lent}
-use Rattle.report.proofs.Checking.{all_lent, corners_asked, text_7, text_7_too, text_2, text_3, text_rest}
+use Rattle.report.proofs.Checking.{all_lent, text_7, text_7_too, text_rest}
 use Rattle.report.proofs.checks.Lent.check_text.Goals as goal
 use Rattle.report.proofs.checks.Lent.check_text.Goals.{then-input_short-via-then-input_short, then-input_short-via-else-input_short+then-text_short}
 
@@ -16,17 +16,8 @@ returns-then-input_short c =
 pub text_short-requires : goal.text_short-requires
 text_short-requires c = all_lent (text_lent c.args.self.now.corners c.args.self.now.passes c.args.self.now.words.now c.args.self.now.sheet.now) (sym c.input_short.ensures ∙ c.if-input_short.false)
 
-pub returns-then-over_limit : goal.returns-then-over_limit
-returns-then-over_limit c = text_2 (text_lent c.args.self.now.corners c.args.self.now.passes c.args.self.now.words.now c.args.self.now.sheet.now) c.args.room (sym c.input_short.ensures ∙ c.if-input_short.false) (sym c.text_short.ensures ∙ c.if-text_short.false) (sym c.over_limit.ensures ∙ c.if-over_limit.true)
-
-pub is_wild-requires : goal.is_wild-requires
-is_wild-requires c = (all_lent (text_lent c.args.self.now.corners c.args.self.now.passes c.args.self.now.words.now c.args.self.now.sheet.now) (sym c.input_short.ensures ∙ c.if-input_short.false)).words_long
-
-pub returns-then-is_wild : goal.returns-then-is_wild
-returns-then-is_wild c = text_3 (text_lent c.args.self.now.corners c.args.self.now.passes c.args.self.now.words.now c.args.self.now.sheet.now) c.args.room (sym c.input_short.ensures ∙ c.if-input_short.false) (sym c.text_short.ensures ∙ c.if-text_short.false) (sym c.over_limit.ensures ∙ c.if-over_limit.false) (sym c.is_wild.ensures ∙ c.if-is_wild.true)
-
-pub check_corners-requires : goal.check_corners-requires
-check_corners-requires c = corners_asked (text_lent c.args.self.now.corners c.args.self.now.passes c.args.self.now.words.now c.args.self.now.sheet.now) (sym c.input_short.ensures ∙ c.if-input_short.false) (sym c.over_limit.ensures ∙ c.if-over_limit.false)
+pub check_rest-requires : goal.check_rest-requires
+check_rest-requires c = all_lent (text_lent c.args.self.now.corners c.args.self.now.passes c.args.self.now.words.now c.args.self.now.sheet.now) (sym c.input_short.ensures ∙ c.if-input_short.false)
 
 pub returns : goal.returns
-returns c = c.check_corners.ensures ∙ text_rest (text_lent c.args.self.now.corners c.args.self.now.passes c.args.self.now.words.now c.args.self.now.sheet.now) c.args.room (sym c.input_short.ensures ∙ c.if-input_short.false) (sym c.text_short.ensures ∙ c.if-text_short.false) (sym c.over_limit.ensures ∙ c.if-over_limit.false) (sym c.is_wild.ensures ∙ c.if-is_wild.false)
+returns c = c.check_rest.ensures ∙ text_rest (text_lent c.args.self.now.corners c.args.self.now.passes c.args.self.now.words.now c.args.self.now.sheet.now) c.args.room (sym c.input_short.ensures ∙ c.if-input_short.false) (sym c.text_short.ensures ∙ c.if-text_short.false)

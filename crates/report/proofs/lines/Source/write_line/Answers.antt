@@ -1,5 +1,4 @@
 -- `lines::Source::write_line` meets its contract, by which line has the number. Assumes nothing.
-use mathlib.Core.Path.{refl}
 use Rattle.report_line.proofs.Forms.{same_room, same_wrote}
 use Rattle.report.specs.Asked.{line_at}
 use Rattle.report.proofs.Numbered.{pass_line_holds, sheet_line_lem}
@@ -7,19 +6,19 @@ use Rattle.report.proofs.Writing.{heading_is, pass_asked, sheet_asked}
 use Rattle.report.proofs.lines.Source.write_line.Goals as goal
 
 pub write_heading-requires : goal.write_heading-requires
-write_heading-requires c = same_room _ _ c.args.out.now (heading_is c.args.self.now.passes c.args.self.now.words.now c.args.self.now.sheet.now c.args.k c.if-k-eq0.true) c.requires.room
+write_heading-requires c = same_room _ _ c.args.out.now (heading_is c.args.self.now.passes c.args.self.now.words.now c.args.self.now.sheet.now c.args.k c.in-Heading.ensures) c.requires.room
 
-pub returns-then-k-eq0 : goal.returns-then-k-eq0
-returns-then-k-eq0 c = same_wrote _ (line_at c.args.self.now.passes c.args.self.now.words.now c.args.self.now.sheet.now c.args.k) _ _ _ (heading_is c.args.self.now.passes c.args.self.now.words.now c.args.self.now.sheet.now c.args.k c.if-k-eq0.true) c.write_heading.ensures
+pub returns-in-Heading : goal.returns-in-Heading
+returns-in-Heading c = same_wrote _ (line_at c.args.self.now.passes c.args.self.now.words.now c.args.self.now.sheet.now c.args.k) _ _ _ (heading_is c.args.self.now.passes c.args.self.now.words.now c.args.self.now.sheet.now c.args.k c.in-Heading.ensures) c.write_heading.ensures
 
 pub write_pass-requires : goal.write_pass-requires
-write_pass-requires c = pass_asked c.args.self.now.passes c.args.self.now.words.now c.args.self.now.sheet.now c.args.k c.args.out.now c.requires _ refl c.if-k-eq0.false c.if-k-self.true
+write_pass-requires c = pass_asked c.args.self.now.passes c.args.self.now.words.now c.args.self.now.sheet.now c.args.k c.args.out.now c.requires c.in-Pass.k c.in-Pass.ensures.0 c.in-Pass.ensures.1
 
-pub returns-then-k-self : goal.returns-then-k-self
-returns-then-k-self c = same_wrote _ (line_at c.args.self.now.passes c.args.self.now.words.now c.args.self.now.sheet.now c.args.k) _ _ _ (pass_line_holds c.args.self.now.passes c.args.self.now.words.now c.args.self.now.sheet.now c.args.k _ c.if-k-eq0.false refl c.if-k-self.true) c.write_pass.ensures
+pub returns-in-Pass : goal.returns-in-Pass
+returns-in-Pass c = same_wrote _ (line_at c.args.self.now.passes c.args.self.now.words.now c.args.self.now.sheet.now c.args.k) _ _ _ (pass_line_holds c.args.self.now.passes c.args.self.now.words.now c.args.self.now.sheet.now c.args.k c.in-Pass.k c.in-Pass.ensures.0 c.in-Pass.ensures.1) c.write_pass.ensures
 
 pub write_sheet_line-requires : goal.write_sheet_line-requires
-write_sheet_line-requires c = sheet_asked c.args.self.now.passes c.args.self.now.words.now c.args.self.now.sheet.now c.args.k c.args.out.now c.requires _ refl c.if-k-eq0.false c.if-k-self.false
+write_sheet_line-requires c = sheet_asked c.args.self.now.passes c.args.self.now.words.now c.args.self.now.sheet.now c.args.k c.args.out.now c.requires c.in-OfSheet.k c.in-OfSheet.ensures
 
-pub returns : goal.returns
-returns c = same_wrote _ (line_at c.args.self.now.passes c.args.self.now.words.now c.args.self.now.sheet.now c.args.k) _ _ _ (sheet_line_lem c.args.self.now.passes c.args.self.now.words.now c.args.self.now.sheet.now c.args.k _ c.if-k-eq0.false refl c.if-k-self.false) c.write_sheet_line.ensures
+pub returns-in-OfSheet : goal.returns-in-OfSheet
+returns-in-OfSheet c = same_wrote _ (line_at c.args.self.now.passes c.args.self.now.words.now c.args.self.now.sheet.now c.args.k) _ _ _ (sheet_line_lem c.args.self.now.passes c.args.self.now.words.now c.args.self.now.sheet.now c.args.k c.in-OfSheet.k c.in-OfSheet.ensures) c.write_sheet_line.ensures

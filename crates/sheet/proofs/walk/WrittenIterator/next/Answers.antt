@@ -7,16 +7,17 @@ use Rattle.sheet.proofs.Blank.{written_next, written_none}
 use borrow.Author.Rules.{rules}
 use Rattle.sheet.proofs.walk.WrittenIterator.next.Goals as goal
 
-pub returns-then-place-eq-PLACES-clause-steps : goal.returns-then-place-eq-PLACES-clause-steps
+pub returns-in_err-place-clause-steps : goal.returns-in_err-place-clause-steps
 unfolding written_rest
-returns-then-place-eq-PLACES-clause-steps c = let e = written_none _ c.next_written-place.ensures (omega arith) in (e, e)
+returns-in_err-place-clause-steps c = let e = written_none _ c.in_err-place.ensures (omega arith) in rw c.from_residual.ensures (e, e)
 
 pub returns-clause-steps : goal.returns-clause-steps
 unfolding written_rest
-returns-clause-steps c = written_next _ c.next_written-place.ensures (omega (arith, c.next_written-place.ensures.passed.upto))
+returns-clause-steps c = let w = c.in_ok-place.ensures in written_next _ w.0 w.1
 
 pub returns-clause-goes : goal.returns-clause-goes
 unfolding written_rest
 returns-clause-goes c =
-    let e = ap length (written_next _ c.next_written-place.ensures (omega (arith, c.next_written-place.ensures.passed.upto))) in
+    let w = c.in_ok-place.ensures in
+    let e = ap length (written_next _ w.0 w.1) in
     search (rules, e)
