@@ -14,7 +14,7 @@ use borrow.Rule.Slice.PartMut.{put_mid}
 use Rattle.std.proofs.lemmas.List.{get_or-drop, get_or-replicate}
 use Rattle.sheet.specs.Shades.{shade_held}
 use Rattle.sheet.specs.Corners.{no_corner, no_corners, CornerLists, corner_of, corner_in, corners_in}
-use Rattle.sheet.specs.declared.CornerArrays.{CornerArrays}
+use Rattle.sheet.specs.declared.held.CornerArrays.{CornerArrays}
 use Rattle.sheet.proofs.Corners.{listed_corner}
 use Rattle.arguments.specs.Arguments.{Lent}
 use Rattle.arguments.specs.Shades.{any_shade, shade_at, corners_of}
@@ -50,46 +50,49 @@ unlisted l k h = rw (le-ltb k (length l.xs) h) refl
 
 module _ {l : CornerLists} {shades : List ℕ} {held : CornerArrays} {xs ys pitches : List Float} (w : Holdable l shades held) (xs_are : xs ≡ l.xs)
     (ys_are : ys ≡ take (length l.xs) l.ys) (pitches_are : pitches ≡ take (length l.xs) l.pitches) where
-  abbrev holding : Option (List ℕ) → CornerArrays
-  holding bytes =
+  abbrev holding : length l.xs ≤ 1024 → Option (List ℕ) → CornerArrays
+  holding few bytes =
       record {
         xs = put_mid 0 (length l.xs) held.xs xs;
         ys = put_mid 0 (length l.xs) held.ys ys;
         pitches = put_mid 0 (length l.xs) held.pitches pitches;
         shades = bytes;
+        count = record { number = length l.xs; few = few };
       }
 
   xs_taken : xs ≡ take (length l.xs) l.xs
   xs_taken = xs_are ∙ sym (take-length l.xs)
 
-  at : (bytes : Option (List ℕ)) (m : ℕ) (t : Bool) → ltb m (length l.xs) ≡ t → corner_in (holding bytes) m ≡ corner_of l m
+  at : (few : length l.xs ≤ 1024) (bytes : Option (List ℕ)) (m : ℕ) (t : Bool) → ltb m (length l.xs) ≡ t → corner_in (holding few bytes) m ≡ corner_of l m
   unfolding corner_in
-  at bytes m true e =
+  at few bytes m true e =
       let h = ltb-true m (length l.xs) e in
       rw (
-        front_there nan l.xs _ (omega arith) (ap (λ (a : CornerArrays). a.xs) w.empty) xs_taken _ m h,
-        front_there nan l.ys _ w.all.listed.ys_long (ap (λ (a : CornerArrays). a.ys) w.empty) ys_are _ m h,
-        front_there nan l.pitches _ w.all.listed.pitches_long (ap (λ (a : CornerArrays). a.pitches) w.empty) pitches_are _ m h,
+        front_there nan l.xs _ (omega arith) w.no_xs xs_taken _ m h,
+        front_there nan l.ys _ w.all.listed.ys_long w.no_ys ys_are _ m h,
+        front_there nan l.pitches _ w.all.listed.pitches_long w.no_pitches pitches_are _ m h,
       ) (sym (listed_corner l m h))
-  at bytes m false e =
+  at few bytes m false e =
       let h = ltb-false m (length l.xs) e in
       rw (
-        front_beyond nan l.xs _ (omega arith) (ap (λ (a : CornerArrays). a.xs) w.empty) xs_taken m h,
-        front_beyond nan l.ys _ w.all.listed.ys_long (ap (λ (a : CornerArrays). a.ys) w.empty) ys_are m h,
-        front_beyond nan l.pitches _ w.all.listed.pitches_long (ap (λ (a : CornerArrays). a.pitches) w.empty) pitches_are m h,
+        front_beyond nan l.xs _ (omega arith) w.no_xs xs_taken m h,
+        front_beyond nan l.ys _ w.all.listed.ys_long w.no_ys ys_are m h,
+        front_beyond nan l.pitches _ w.all.listed.pitches_long w.no_pitches pitches_are m h,
       ) (sym (unlisted l m h))
 
   -- with the bytes of their shades
-  pub corners_held : (bytes : Option (List ℕ)) → is_some bytes ≡ any_shade shades (length l.xs) → ((m : ℕ) → shade_held bytes m ≡ shade_at shades (length l.xs) m)
-      → corners_in (holding bytes) (length l.xs) ≡ corners_of l shades
-  corners_held bytes some each =
+  pub corners_held : (few : length l.xs ≤ 1024) (bytes : Option (List ℕ)) → is_some bytes ≡ any_shade shades (length l.xs) → ((m : ℕ) → shade_held bytes m ≡ shade_at shades (length l.xs) m)
+      → corners_in (holding few bytes) ≡ corners_of l shades
+  corners_held few bytes some each =
       λ t.
       record {
         count = length l.xs;
-        corner = λ m. at bytes m (ltb m (length l.xs)) refl t;
+        corner = λ m. at few bytes m (ltb m (length l.xs)) refl t;
         shades = record { any = some t; of = λ m. each m t };
       }
 
 -- a call that is not refused
-pub holdable : (l : Lent) (settings : Settings) (pass : Pass) → Accepted l settings pass → {held : CornerArrays} → held ≡ no_corners → Holdable l.corners l.shades held
-holdable l settings pass w e = record { all = record { listed = w.listed; shades_long = w.shades_long }; few = w.few; empty = e }
+pub holdable : (l : Lent) (settings : Settings) (pass : Pass) → Accepted l settings pass → {held : CornerArrays} → held.xs ≡ no_corners.xs → held.ys ≡ no_corners.ys
+    → held.pitches ≡ no_corners.pitches → held.shades ≡ no_corners.shades → Holdable l.corners l.shades held
+holdable l settings pass w xs ys pitches shades =
+    record { all = record { listed = w.listed; shades_long = w.shades_long }; few = w.few; no_xs = xs; no_ys = ys; no_pitches = pitches; no_shades = shades }

@@ -9,10 +9,13 @@ use borrow.Author.Tests.{ltb-true, ltb-false}
 use borrow.Rule.Slice.PartMut.{put_mid}
 use lib.Dec.{eqb, ltb}
 use lib.ListN.{length, get_or, take, replicate}
+use lib.Seq.{take-length}
+use Rattle.std.specs.List.{list_any}
 use Rattle.std.proofs.lemmas.Bool.{ne_eqb}
 use Rattle.sheet.specs.Shades.{bare, shade_of, shade_held}
 use Rattle.labels.proofs.Below.{any_none}
 use Rattle.arguments.specs.Shades.{stands, any_shade, shade_at}
+use Rattle.arguments.proofs.Chains.{any_listed}
 use Rattle.arguments.proofs.Holding.{front_there, front_beyond}
 
 -- a byte stands for a shade if it is not 0
@@ -32,6 +35,18 @@ not_standing (suc k) e = absurd (no e)
   where
     no : true ≡ false → ⊥
     no q = let z : ◌≡◌ {A = ℕ} 0 1 = ap (λ (b : Bool). cond b 0 1) q in omega arith
+
+-- ---- whether any of a list stands, and of its first n
+
+any_of_first : (shades : List ℕ) (n : ℕ) → n ≤ length shades → list_any (λ b. stands (shade_of b)) (take n shades) ≡ any_shade shades n
+unfolding any_shade
+any_of_first shades n h = any_listed (λ b. stands (shade_of b)) shades n h
+
+pub any_of_all : (shades : List ℕ) → list_any (λ b. stands (shade_of b)) shades ≡ any_shade shades (length shades)
+any_of_all shades = ap (list_any (λ b. stands (shade_of b))) (sym (take-length shades)) ∙ any_of_first shades (length shades) (omega arith)
+
+pub any_of_front : (shades : List ℕ) (n : ℕ) → n ≤ length shades → any_shade (take n shades) (length (take n shades)) ≡ any_shade shades n
+any_of_front shades n h = sym (any_of_all (take n shades)) ∙ any_of_first shades n h
 
 -- ---- the shades of n corners at the front of an array of zeros
 

@@ -2,7 +2,7 @@
 use Rattle.std.specs.Prelude.{◌≡◌, Bool, false, List, ℕ, ◌<◌, ◌≤◌, length, get_or, Option, Some, None}
 use Rattle.sizes.specs.Sizes.{place_count, corner_limit}
 use Rattle.sheet.specs.Corners.{CornerLists, corner_lists, no_corners, AllListed}
-use Rattle.sheet.specs.declared.CornerArrays.{CornerArrays}
+use Rattle.sheet.specs.declared.held.CornerArrays.{CornerArrays}
 use Rattle.labels.specs.Used.{noted}
 use Rattle.arguments.specs.Accepted.{Known}
 use Rattle.arguments.specs.declared.LentCorners.{LentCorners}
@@ -21,11 +21,14 @@ pub record AllShaded (l : CornerLists) (shades : List ℕ) : Type 0 where
   pub listed : AllListed l
   pub shades_long : length l.xs ≤ length shades
 
--- such corners, at most 1,024, and arrays that hold none
+-- such corners, at most 1,024, and arrays that hold none, whatever their number says
 pub record Holdable (l : CornerLists) (shades : List ℕ) (held : CornerArrays) : Type 0 where
   pub all : AllShaded l shades
   pub few : length l.xs ≤ corner_limit
-  pub empty : held ≡ no_corners
+  pub no_xs : held.xs ≡ no_corners.xs
+  pub no_ys : held.ys ≡ no_corners.ys
+  pub no_pitches : held.pitches ≡ no_corners.pitches
+  pub no_shades : held.shades ≡ no_corners.shades
 
 -- ---- the corners seen: 1,024 entries, each of which says whether its corner was seen
 

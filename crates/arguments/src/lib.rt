@@ -13,7 +13,7 @@ ghost use Rattle.arguments.specs.Asked.{lists_of, HasCorner, AllShaded, Holdable
 use binary32::ranges::Quantity;
 use predict::{Grid, Vector};
 use refusal::Refusal;
-use sheet::{Corner, CornerArrays, Position, Written};
+use sheet::{Corner, CornerArrays, CornerCount, Position, Written};
 use sizes::{CORNERS, PLACES};
 use std::mem;
 
@@ -52,7 +52,7 @@ pub enum Pass {
 }
 
 // Cell size and axes, and the band.
-#[derive(Clone, Copy)]
+#[derive(Clone, Copy, Default)]
 pub struct Settings {
     pub grid: Grid,
     // 01's band
@@ -86,6 +86,13 @@ fn corner_outside(c: Corner) -> bool
     is_outside(Quantity::Position, c.position.x)
         || is_outside(Quantity::Position, c.position.y)
         || is_outside(Quantity::Pitch, c.pitch)
+}
+
+// Whether any of these shades stands.
+pub fn any_shade(shades: &[u8]) -> bool
+    ensures { result ≡ any_shade shades.now (length shades.now) }
+{
+    shades.iter().any(|shade| *shade != 0)
 }
 
 // The corners that are lent to a call: their xs, ys and pitches, and their shades, a byte each. There are as many as there are xs.
@@ -137,16 +144,16 @@ impl LentCorners<'_> {
         requires { length self.now.xs.now ≤ length self.now.shades.now }
         ensures { result ≡ any_shade self.now.shades.now (length self.now.xs.now) }
     {
-        self.shades[..self.xs.len()].iter().any(|shade| *shade != 0)
+        any_shade(&self.shades[..self.xs.len()])
     }
 
     // Puts the corners, with their shades, into the arrays in which the passes hold them. They hold none before.
     pub fn hold(&self, held: &mut CornerArrays)
         requires { Holdable (lists_of self.now) self.now.shades.now held.old }
-        ensures { corners_in held.new (length self.now.xs.now)
-            ≡ corners_of (lists_of self.now) self.now.shades.now }
+        ensures { corners_in held.new ≡ corners_of (lists_of self.now) self.now.shades.now }
     {
         let n = self.xs.len();
+        held.count = CornerCount { number: n };
         held.xs[..n].copy_from_slice(self.xs);
         held.ys[..n].copy_from_slice(&self.ys[..n]);
         held.pitches[..n].copy_from_slice(&self.pitches[..n]);

@@ -4,8 +4,9 @@ ghost use Rattle.std.specs.Float.{binary32};
 ghost use Rattle.std.specs.Float.Ieee.{to_bits};
 ghost use Rattle.binary32.specs.Hex.{digit_of, digit_read, hex_text, read_bits, float_of, read_float};
 
+use super::ranges::is_finite;
 use refusal::Refusal;
-use std::num::f32_to_bits_with_nan;
+use std::num::{f32_from_bits_with_nan, f32_to_bits_with_nan};
 
 // The digit of a number below 16.
 pub fn digit_of(n: u8) -> u8
@@ -49,14 +50,12 @@ pub fn read_float(text: &[u8]) -> Result<f32, Refusal>
 }
 
 // The float of a pattern, if it is finite.
-#[tactic(auto, using(crate::proofs::Finite::finite_bits, crate::proofs::Finite::infinite_bits, crate::proofs::Answered::pattern), unfolding(crate::specs::Hex::float_of))]
+#[tactic(auto, unfolding(crate::specs::Hex::float_of))]
 fn float_of(bits: u32) -> Result<f32, Refusal>
     ensures { result ≡ float_of bits }
 {
-    if 0x7f80_0000 <= bits % 0x8000_0000 {
-        return Err(Refusal::OutOfRange);
-    }
-    Ok(f32::from_bits(bits))
+    let x = f32_from_bits_with_nan(bits);
+    is_finite(x).then_some(x).ok_or(Refusal::OutOfRange)
 }
 
 // Writes the eight digits of a pattern to the front of a part, and leaves the rest of it as it was.

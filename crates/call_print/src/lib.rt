@@ -4,14 +4,11 @@
 #![tactic(auto)]
 
 use arguments::Pass;
-use call_text::number_at;
+use call_text::Told;
 use passes::{Counts, FillStats, GrowStats, LocalStats, PassStats};
 use refusal::Refusal;
+use std::num::f32_to_bits_with_nan;
 use std::{fmt, io};
-
-pub fn print_word(rt: &impl Print, word: &[u8]) -> io::Result<()> {
-    rt.write_all(word)
-}
 
 // The cell of a place.
 #[derive(Clone, Copy)]
@@ -79,8 +76,7 @@ pub fn print_sheet(rt: &impl Print, sheet: &[u16]) -> io::Result<()> {
 }
 
 fn print_refused(rt: &impl Print, refusal: Refusal) -> io::Result<()> {
-    let number = refusal::number(refusal);
-    println!(rt; "(refused {number})")
+    println!(rt; "(refused {})", refusal::number(refusal))
 }
 
 fn print_counts(rt: &impl Print, counts: Counts) -> io::Result<()> {
@@ -109,11 +105,10 @@ fn print_fill(rt: &impl Print, stats: FillStats) -> io::Result<()> {
     println!(rt; "(fill {added} {iterations} {rim})")
 }
 
-// A float's eight digits.
+// A float's eight digits. Any NaN is printed as 7fc00000.
 fn print_float(rt: &impl Print, x: f32) -> io::Result<()> {
-    let mut text = [0u8; 8];
-    binary32::hex::write_float(x, &mut text);
-    rt.write_all(&text)
+    let bits = f32_to_bits_with_nan(x);
+    print!(rt; "{bits:08x}")
 }
 
 fn print_residual(rt: &impl Print, residual: Option<f32>) -> io::Result<()> {
@@ -142,19 +137,13 @@ fn print_local(rt: &impl Print, stats: LocalStats) -> io::Result<()> {
     print_unmatched(rt, stats.unmatched)
 }
 
-// How many cells grow visited: each is counted once.
+// How many cells grow visited: each is counted once, and there are at most four a corner (`AllVisited` of crate passes), so that no sum is cut off.
 fn visited_by(counts: Counts) -> usize {
-    if 5000 < counts.attached
-        || 5000 < counts.rejected_no_candidate
-        || 5000 < counts.rejected_ambiguous
-        || 5000 < counts.rejected_edge
-    {
-        return 0;
-    }
-    counts.attached
-        + counts.rejected_no_candidate
-        + counts.rejected_ambiguous
-        + counts.rejected_edge
+    counts
+        .attached
+        .saturating_add(counts.rejected_no_candidate)
+        .saturating_add(counts.rejected_ambiguous)
+        .saturating_add(counts.rejected_edge)
 }
 
 // ---- calls
@@ -172,10 +161,10 @@ fn print_sum(rt: &impl Print, name: &str, list: &[u16]) -> io::Result<()> {
     println!(rt; "{name} {sum:08x}")
 }
 
-// What a call leaves in the buffers that it was lent, and the text of the list that it is of.
+// What a call leaves in the buffers that it was lent, and what its list asks to be printed.
 #[derive(Clone, Copy)]
 pub struct Left<'a> {
-    pub text: &'a [u8],
+    pub told: Told,
     pub sheet: &'a [u16],
     pub queue: &'a [u16],
     pub attached: &'a [u16],
@@ -184,7 +173,7 @@ pub struct Left<'a> {
 impl Left<'_> {
     // Grow's visited cells, where they are asked for.
     fn print_queue(self, rt: &impl Print, counts: Counts) -> io::Result<()> {
-        if number_at(self.text, 3) == 0 {
+        if self.told == Told::Answers {
             return Ok(());
         }
         for place in self.queue.iter().take(visited_by(counts)) {
@@ -228,7 +217,7 @@ impl Left<'_> {
 
     // Where they are asked for: sums over the whole queue and the whole attached list, so that it is seen what a call left in them.
     pub fn print_sums(self, rt: &impl Print) -> io::Result<()> {
-        if number_at(self.text, 3) != 2 {
+        if self.told != Told::Sums {
             return Ok(());
         }
         print_sum(rt, "queue", self.queue)?;

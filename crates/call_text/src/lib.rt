@@ -32,13 +32,6 @@ fn float_at(text: &[u8], k: usize) -> f32 {
     })
 }
 
-// A number, cut to what a buffer has.
-pub fn at_most(n: usize, most: usize) -> usize
-    ensures { result ≤ most }
-{
-    n.min(most)
-}
-
 // The values of n corners, read from every fourth number from number `from` on; `nothing` stands behind them.
 fn column<T: Copy, F: Fn(usize) -> T>(nothing: T, from: usize, n: usize, read: F) -> [T; 1025]
     requires from_bound { from ≤ 100 }
@@ -188,12 +181,30 @@ pub fn lengths_at(text: &[u8], k: usize) -> Lengths
 
 // ---- lists
 
-// How many corners, labels and calls a list has.
+// What is printed of a list's calls: what each answers, the cells that grow visited as well, or sums over what a call left as well.
+#[derive(Clone, Copy, PartialEq, Eq)]
+pub enum Told {
+    Answers,
+    Visited,
+    Sums,
+}
+
+// What a list asks to be printed, by its number 3.
+fn told_at(text: &[u8]) -> Told {
+    match number_at(text, 3) {
+        0 => Told::Answers,
+        2 => Told::Sums,
+        _ => Told::Visited,
+    }
+}
+
+// How many corners, labels and calls a list has, and what is printed of its calls.
 #[derive(Clone, Copy)]
 pub struct Header {
     pub n: usize,
     pub labels: usize,
     pub count: usize,
+    pub told: Told,
     // the number at which its calls begin, and how many numbers it has
     pub first: usize,
     pub all: usize,
@@ -202,14 +213,15 @@ pub struct Header {
 pub fn header_at(text: &[u8]) -> Header
     ensures { (result.n ≤ 1025) × (result.labels ≤ 2048) × (result.count ≤ 40) × (result.first ≤ 8200) × (4 ≤ result.all) × (result.all ≤ 9000) }
 {
-    let n = at_most(number_at(text, 0), 1025);
-    let labels = at_most(number_at(text, 1), 2048);
-    let count = at_most(number_at(text, 2), 40);
+    let n = number_at(text, 0).min(1025);
+    let labels = number_at(text, 1).min(2048);
+    let count = number_at(text, 2).min(40);
     let first = 4 + 4 * n + 2 * labels;
     Header {
         n,
         labels,
         count,
+        told: told_at(text),
         first,
         all: first + 18 * count,
     }

@@ -15,15 +15,16 @@ use Rattle.std.proofs.lemmas.List.Sums.{sum-map}
 use Rattle.std.proofs.lemmas.List.FromFn.{sum_by-map-range_with_len_more}
 use mir.Val.{bool_byte}
 use lib.Ieee.{Float, lt, le}
-use Rattle.sheet.specs.declared.CornerArrays.{CornerArrays}
+use Rattle.sheet.specs.declared.held.CornerArrays.{CornerArrays}
 use Rattle.sheet.specs.declared.Position.{Position}
 use Rattle.sheet.specs.Corners.{squared_distance, finite_position}
 use Rattle.candidates.specs.declared.Candidate.{Candidate}
 use Rattle.candidates.specs.declared.Candidates.{Candidates}
 use Rattle.candidates.specs.declared.Candidates.TheVariants.{Empty, Several}
 use Rattle.candidates.specs.declared.Found.{Found}
+use Rattle.candidates.specs.declared.Measured.{Measured}
 use Rattle.candidates.specs.Candidates.{positions_in, squared_radius, is_candidate, distance_of, insert, ordered, candidates_at, first_two}
-use Rattle.candidates.specs.Steps.{kept, narrowed, is_near, is_within, one_if, count_from, first_two_below, Next, IsNext, measured}
+use Rattle.candidates.specs.Steps.{kept, narrowed, limit_of, candidates_in, is_near, is_within, one_if, count_from, first_two_below, Next, IsNext, measured}
 use Rattle.candidates.proofs.Listing.{before_later, nth, exactly}
 use Rattle.candidates.proofs.Limit.{Limited, squared, limited_within, passed_over, narrowed_found, narrowed_limited}
 
@@ -172,11 +173,11 @@ module _ (position : ℕ → Position) (may : ℕ → Bool) (p : Position) (limi
       go true l = rw (count_none (is_near position p limit) k 32 e i (leb-true k i l) b) (both (may i))
       go false l = h i a (leb-false k i l)
 
--- ---- the scan up to a corner: what was found is right for those before it, and so is what stands beside it
+-- ---- the scan up to a corner: what was found is right for those before it, and so is the limit
 
 pub record Scanned (held : CornerArrays) (may : ℕ → Bool) (n : ℕ) (p : Position) (r : Float) (found : Found) (from : ℕ) : Type 0 where
   pub upto : from ≤ n
-  pub so_far : found.candidates ≡ first_two_below held may from p r
+  pub so_far : candidates_in found ≡ first_two_below held may from p r
   pub limited : Limited (squared_radius r) found
 
 -- ---- the whole scan
@@ -186,56 +187,48 @@ module _ (held : CornerArrays) (may : ℕ → Bool) (n : ℕ) (p : Position) (r 
   unfolding candidates_at first_two
   nowhere e = rw e
 
+  -- how far a further one may be
+  abbrev limit : Found → Float
+  limit = limit_of (squared_radius r)
+
   -- what was found is right for those before the next within the limit
-  scanned_on : (found : Found) (from k : ℕ) → Scanned held may n p r found from → Next (is_within (positions_in held) may p found.limit) n from k → found.candidates ≡ first_two_below held may k p r
-  scanned_on found from k h s = skips (distance_of (positions_in held) p) (is_candidate (positions_in held) may p r) found.candidates from k s.on after h.so_far
+  scanned_on : (found : Found) (from k : ℕ) → Scanned held may n p r found from → Next (is_within (positions_in held) may p (limit found)) n from k → candidates_in found ≡ first_two_below held may k p r
+  scanned_on found from k h s = skips (distance_of (positions_in held) p) (is_candidate (positions_in held) may p r) (candidates_in found) from k s.on after h.so_far
     where
       after : (i : ℕ) → from ≤ i → i < k → is_candidate (positions_in held) may p r i ≡ true
-          → kept found.candidates (nth (distance_of (positions_in held) p) i) ≡ found.candidates
+          → kept (candidates_in found) (nth (distance_of (positions_in held) p) i) ≡ candidates_in found
       after i a b h' =
-          let n = beyond (positions_in held) may p r found.limit i h' (s.passed i a b) in
-          passed_over (squared_radius r) found (squared_distance (positions_in held i) p) (nth (distance_of (positions_in held) p) i)
-          h.limited (squared (positions_in held i) p (squared_radius r) n.0) n.1
+          let n = beyond (positions_in held) may p r (limit found) i h' (s.passed i a b) in
+          passed_over (squared_radius r) found (measured (positions_in held) p i) h.limited (squared (positions_in held) p (squared_radius r) i n.0) n.1
 
-  none_yet : Empty ≡ first_two_below held may 0 p r
+  pub scanned_start : Scanned held may n p r Found.Empty 0
   unfolding ordered first_two
-  none_yet = refl
-
-  -- nothing is found, and beside it stands the squared radius
-  abbrev nothing : Float → Found
-  nothing square = record { candidates = Empty; square = square; limit = squared_radius r }
-
-  pub scanned_start : (square : Float) → Scanned held may n p r (nothing square) 0
-  scanned_start square = record { upto = omega arith; so_far = none_yet; limited = refl }
+  scanned_start = record { upto = omega arith; so_far = refl; limited = tt }
 
   -- one more candidate
-  pub scanned_more : (found more : Found) (from k : ℕ) → Scanned held may n p r found from → IsNext (is_within (positions_in held) may p found.limit) n from (Some k)
-      → more ≡ narrowed found (measured (positions_in held) p k) (squared_distance (positions_in held k) p)
-      → Scanned held may n p r more (k + 1)
+  pub scanned_more : (found more : Found) (from k : ℕ) → Scanned held may n p r found from → IsNext (is_within (positions_in held) may p (limit found)) n from (Some k)
+      → more ≡ narrowed found (measured (positions_in held) p k) → Scanned held may n p r more (k + 1)
   scanned_more found more from k h s e = record {
     upto = omega (arith, s.1);
     so_far =
-        ap (λ (f : Found). f.candidates) e ∙ narrowed_found found c d2 ∙ ap (λ (f : Candidates). kept f c) (scanned_on found from k h s.0)
+        ap candidates_in e ∙ narrowed_found found c ∙ ap (λ (f : Candidates). kept f c.candidate) (scanned_on found from k h s.0)
         ∙ rw add-one (grows (distance_of (positions_in held) p) (is_candidate (positions_in held) may p r) k taken);
     limited =
         subst (λ (f : Found). Limited (squared_radius r) f) (sym e)
-        (narrowed_limited (squared_radius r) found c d2 h.limited (squared (positions_in held k) p (squared_radius r) near));
+        (narrowed_limited (squared_radius r) found c h.limited (squared (positions_in held) p (squared_radius r) k near));
   }
     where
-      c : Candidate
+      c : Measured
       c = measured (positions_in held) p k
 
-      d2 : Float
-      d2 = squared_distance (positions_in held k) p
-
       taken : is_candidate (positions_in held) may p r k ≡ true
-      taken = hits (positions_in held) may p r found.limit k (limited_within (squared_radius r) found d2 h.limited) (s.0.hit s.1)
+      taken = hits (positions_in held) may p r (limit found) k (limited_within (squared_radius r) found c.square h.limited) (s.0.hit s.1)
 
-      near : le d2 (squared_radius r) ≡ true
-      near = ((and-eq-true_iff (may k) (le d2 (squared_radius r))).0 taken).1
+      near : le c.square (squared_radius r) ≡ true
+      near = ((and-eq-true_iff (may k) (le c.square (squared_radius r))).0 taken).1
 
   -- no candidate is left that could change the first two
-  pub scanned_all : (found : Found) (from : ℕ) → Scanned held may n p r found from → IsNext (is_within (positions_in held) may p found.limit) n from None → finite_position p ≡ true
-      → found.candidates ≡ first_two (candidates_at (positions_in held) may n p r)
+  pub scanned_all : (found : Found) (from : ℕ) → Scanned held may n p r found from → IsNext (is_within (positions_in held) may p (limit found)) n from None → finite_position p ≡ true
+      → candidates_in found ≡ first_two (candidates_at (positions_in held) may n p r)
   unfolding candidates_at
   scanned_all found from h s f = scanned_on found from n h s ∙ rw f

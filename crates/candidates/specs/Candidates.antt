@@ -4,7 +4,7 @@ use Rattle.std.specs.Prelude.{Bool, true, false, not, ◌&&◌, ◌||◌, cond, 
 use Rattle.std.specs.Float.{binary32}
 use Rattle.std.specs.Float.Ieee.{mul, lt, le, of_bits}
 use Rattle.binary32.specs.Sqrt.{sqrt_or_nan}
-use Rattle.sheet.specs.declared.CornerArrays.{CornerArrays}
+use Rattle.sheet.specs.declared.held.CornerArrays.{CornerArrays}
 use Rattle.sheet.specs.declared.Position.{Position}
 use Rattle.sheet.specs.Shades.{takes_kind, shades_in}
 use Rattle.sheet.specs.Corners.{corner_in, squared_distance, finite_position}

@@ -1,13 +1,14 @@
 -- What the steps of the candidate scan ask and hand on, for their own contracts. Definitions only.
 use Rattle.std.specs.Prelude.{◌≡◌, Bool, true, false, ◌&&◌, cond, ℕ, zero, suc, ◌+◌, ◌≤◌, ◌<◌, Option, Some, None, Float}
 use Rattle.std.specs.Float.Ieee.{lt, le}
-use Rattle.sheet.specs.declared.CornerArrays.{CornerArrays}
+use Rattle.sheet.specs.declared.held.CornerArrays.{CornerArrays}
 use Rattle.sheet.specs.declared.Position.{Position}
 use Rattle.sheet.specs.Corners.{squared_distance}
 use Rattle.candidates.specs.declared.Candidate.{Candidate}
 use Rattle.candidates.specs.declared.Candidates.{Candidates}
 use Rattle.candidates.specs.declared.Candidates.TheVariants.{Empty, One, Several}
 use Rattle.candidates.specs.declared.Found.{Found}
+use Rattle.candidates.specs.declared.Measured.{Measured}
 use Rattle.candidates.specs.Candidates.{positions_in, is_candidate, distance_of, ordered, first_two}
 
 -- one more candidate, whose number is above all others': nearer than the first, or than the second, or neither
@@ -18,21 +19,27 @@ kept (Several a second) c =
     cond (lt c.distance a.distance) (Several c a.distance)
     (cond (lt c.distance second) (Several a c.distance) (Several a second))
 
--- two candidates or more, and beside them the squared distances of the first and of the second
-abbrev pub two_found : Candidate → Float → Float → Float → Found
-two_found first square second limit = record { candidates = Several first second; square = square; limit = limit }
+-- whether a measured candidate is nearer than another
+abbrev pub is_nearer : Measured → Measured → Bool
+is_nearer c a = lt c.candidate.distance a.candidate.distance
 
--- `kept` with what stands beside: the squared distance of the first, and the limit of a further one's, which is that of the second once
--- there are two. d2 is the squared distance of c.
-abbrev pub narrowed_from : Candidates → Float → Float → Candidate → Float → Found
-narrowed_from Empty square limit c d2 = record { candidates = One c; square = d2; limit = limit }
-narrowed_from (One a) square limit c d2 = cond (lt c.distance a.distance) (two_found c d2 a.distance square) (two_found a square c.distance d2)
-narrowed_from (Several a second) square limit c d2 =
-    cond (lt c.distance a.distance) (two_found c d2 a.distance square)
-    (cond (lt c.distance second) (two_found a square c.distance d2) (two_found a square second limit))
+-- `kept` of candidates that have their squared distances beside them
+abbrev pub narrowed : Found → Measured → Found
+narrowed Found.Empty c = Found.One c
+narrowed (Found.One a) c = cond (is_nearer c a) (Found.Several c a) (Found.Several a c)
+narrowed (Found.Several a b) c = cond (is_nearer c a) (Found.Several c a) (cond (is_nearer c b) (Found.Several a c) (Found.Several a b))
 
-abbrev pub narrowed : Found → Candidate → Float → Found
-narrowed found c d2 = narrowed_from found.candidates found.square found.limit c d2
+-- the squared distance that a further one may not exceed: the squared radius, and that of the second once there are two
+abbrev pub limit_of : Float → Found → Float
+limit_of radius Found.Empty = radius
+limit_of radius (Found.One a) = radius
+limit_of radius (Found.Several a b) = b.square
+
+-- what a choice needs of what was found
+abbrev pub candidates_in : Found → Candidates
+candidates_in Found.Empty = Empty
+candidates_in (Found.One a) = One a.candidate
+candidates_in (Found.Several a b) = Several a.candidate b.candidate.distance
 
 -- a corner whose squared distance is at most the limit
 abbrev pub is_near : (ℕ → Position) → Position → Float → ℕ → Bool
@@ -68,6 +75,9 @@ abbrev pub IsNext : (ℕ → Bool) → ℕ → ℕ → Option ℕ → Type 0
 IsNext candidate n from (Some r) = Next candidate n from r × (r < n)
 IsNext candidate n from None = Next candidate n from n
 
--- a corner with its distance
-abbrev pub measured : (ℕ → Position) → Position → ℕ → Candidate
-measured position prediction k = record { number = k; distance = distance_of position prediction k }
+-- a corner with its distance, and the squared distance
+abbrev pub measured : (ℕ → Position) → Position → ℕ → Measured
+measured position prediction k = record {
+  candidate = record { number = k; distance = distance_of position prediction k };
+  square = squared_distance (position k) prediction;
+}

@@ -10,7 +10,7 @@ ghost use Rattle.sheet.specs.Corners.{squared_distance};
 ghost use Rattle.sheet.specs.Shades.{takes_kind, shades_in};
 ghost use Rattle.candidates.specs.Candidates.{positions_in, eligible_in, candidates_at, first_two, last_distance};
 ghost use Rattle.candidates.specs.Choice.{by_quotient, choose_unambiguous, raised, choose_with_floor, ChosenBy};
-ghost use Rattle.candidates.specs.Steps.{IsNext, is_near, is_within, count_from, measured, two_found, narrowed};
+ghost use Rattle.candidates.specs.Steps.{IsNext, is_near, is_within, count_from, measured, is_nearer, narrowed, limit_of, candidates_in};
 
 use sheet::{CornerArrays, Position};
 use sizes::CORNERS;
@@ -30,14 +30,66 @@ pub enum Candidates {
     Several(Candidate, f32),
 }
 
-// What was found so far, the squared distance of its first candidate, if there is one, and the squared distance that a further one may
-// not exceed: the squared radius while fewer than two are found, and then the squared distance of the second. A corner beyond it comes
-// after both, since of two squares the larger has no smaller root. So no root is taken for it.
+// A candidate and its squared distance.
 #[derive(Clone, Copy)]
-struct Found {
-    candidates: Candidates,
+struct Measured {
+    candidate: Candidate,
     square: f32,
-    limit: f32,
+}
+
+impl Measured {
+    // Whether it is nearer than another.
+    fn is_nearer(self, other: Measured) -> bool
+        ensures { result ≡ is_nearer self other }
+    {
+        self.candidate.distance < other.candidate.distance
+    }
+}
+
+// What was found so far: no candidate, the only one, or the first two.
+#[derive(Clone, Copy)]
+enum Found {
+    Empty,
+    One(Measured),
+    Several(Measured, Measured),
+}
+
+impl Found {
+    // The squared distance that a further candidate may not exceed: the squared radius while fewer than two are found, and then the squared
+    // distance of the second. A corner beyond it comes after both, since of two squares the larger has no smaller root. So no root is taken for it.
+    fn limit(self, radius: f32) -> f32
+        ensures { result ≡ limit_of radius self }
+    {
+        match self {
+            Found::Several(_, second) => second.square,
+            _ => radius,
+        }
+    }
+
+    // One more candidate, whose number is above all others': of equal distances the earlier number stays ahead.
+    fn keep(self, c: Measured) -> Found
+        ensures { result ≡ narrowed self c }
+    {
+        match self {
+            Found::Empty => Found::One(c),
+            Found::One(a) if c.is_nearer(a) => Found::Several(c, a),
+            Found::One(a) => Found::Several(a, c),
+            Found::Several(a, _) if c.is_nearer(a) => Found::Several(c, a),
+            Found::Several(a, b) if c.is_nearer(b) => Found::Several(a, c),
+            Found::Several(_, _) => self,
+        }
+    }
+
+    // What a choice needs of it.
+    fn candidates(self) -> Candidates
+        ensures { result ≡ candidates_in self }
+    {
+        match self {
+            Found::Empty => Candidates::Empty,
+            Found::One(a) => Candidates::One(a.candidate),
+            Found::Several(a, b) => Candidates::Several(a.candidate, b.candidate.distance),
+        }
+    }
 }
 
 // Why no candidate is chosen: there is none, or the first two are too alike.
@@ -75,61 +127,18 @@ pub fn last_distance(candidates: Candidates) -> f32
     }
 }
 
-// Two candidates or more: the first and its squared distance, and the distance and the squared distance of the second.
-fn several(first: Candidate, square: f32, second: f32, limit: f32) -> Found
-    ensures { result ≡ two_found first square second limit }
-{
-    Found {
-        candidates: Candidates::Several(first, second),
-        square,
-        limit,
-    }
-}
-
-// One more candidate, whose number is above all others', with its squared distance: of equal distances the earlier number stays ahead.
-fn keep(found: Found, c: Candidate, d2: f32) -> Found
-    ensures { result ≡ narrowed found c d2 }
-{
-    match found.candidates {
-        Candidates::Empty => Found {
-            candidates: Candidates::One(c),
-            square: d2,
-            limit: found.limit,
-        },
-        Candidates::One(a) => {
-            if c.distance < a.distance {
-                several(c, d2, a.distance, found.square)
-            } else {
-                several(a, found.square, c.distance, d2)
-            }
-        }
-        Candidates::Several(first, second) => {
-            if c.distance < first.distance {
-                several(c, d2, first.distance, found.square)
-            } else if c.distance < second {
-                several(first, found.square, c.distance, d2)
-            } else {
-                found
-            }
-        }
-    }
-}
-
-// The corners as the passes hold them, how many they are, and which are labelled.
-// Stays: the corners are held in arrays of fixed size (a rule of the project), and how many there are stands beside them (a).
+// The corners as the passes hold them, and which are labelled.
 #[derive(Clone, Copy)]
 pub struct HeldCorners<'a> {
     pub corners: &'a CornerArrays,
-    pub count: usize,
     pub used: &'a [bool; CORNERS],
-    ghost few: { count ≤ corner_limit },
 }
 
 // A scan of them, for a cell of a kind that has a prediction.
 #[derive(Clone, Copy)]
 pub struct Scan<'a> {
     pub held: HeldCorners<'a>,
-    // Stays: a kind is the remainder of i + j by 2, and `sheet` answers and takes that number.
+    // Stays: as `sheet::kind_at`: 02 has the kinds as the numbers 0 and 1 (a).
     pub kind: usize,
     pub prediction: Position,
 }
@@ -175,69 +184,61 @@ impl<'a> Scan<'a> {
 
     // The number of the next corner within the limit from this one on, if there is one. Each is tested.
     fn next_tested(&self, from: usize, limit: f32) -> Option<usize>
-        requires { from ≤ self.now.held.count }
+        requires { from ≤ self.now.held.corners.now.count.number }
         ensures { IsNext (is_within (positions_in self.now.held.corners.now)
-            (eligible_in self.now.held.corners.now self.now.held.used.now self.now.kind) self.now.prediction limit) self.now.held.count from result }
+            (eligible_in self.now.held.corners.now self.now.held.used.now self.now.kind) self.now.prediction limit) self.now.held.corners.now.count.number from result }
     {
-        // Stays: `find` on the range takes 1 in 100 instructions more here, most of a pass is a scan, and no program is to take more than before.
-        for k in from..self.held.count {
-            if self.is_within(k, limit) {
-                return Some(k);
-            }
-        }
-        None
+        (from..self.held.corners.count.number).find(|k| self.is_within(*k, limit))
     }
 
     // The same, 32 corners at once as long as none of them lies within the limit.
     fn next_within(&self, from: usize, limit: f32) -> Option<usize>
-        requires { from ≤ self.now.held.count }
+        requires { from ≤ self.now.held.corners.now.count.number }
         ensures { IsNext (is_within (positions_in self.now.held.corners.now)
-            (eligible_in self.now.held.corners.now self.now.held.used.now self.now.kind) self.now.prediction limit) self.now.held.count from result }
+            (eligible_in self.now.held.corners.now self.now.held.used.now self.now.kind) self.now.prediction limit) self.now.held.corners.now.count.number from result }
     {
         let mut k = from;
-        // Stays: its step is 32, and it ends at the first 32 of which one lies within the limit, at a number that is used after it.
-        while k + 32 <= self.held.count && self.count_near(k, limit) == 0 {
+        // Stays: its step is 32, and it ends at the first 32 of which one lies within the limit, at a number that is used after it (d).
+        while k + 32 <= self.held.corners.count.number && self.count_near(k, limit) == 0 {
             k += 32;
         }
         self.next_tested(k, limit)
     }
 
-    // Corner k as one more candidate, with the root of its squared distance.
-    fn keep_corner(&self, found: Found, k: usize) -> Found
+    // Corner k as a candidate: the root of its squared distance is taken.
+    fn measure(&self, k: usize) -> Measured
         requires { k < corner_limit }
-        ensures { result ≡ narrowed found (measured (positions_in self.now.held.corners.now) self.now.prediction k)
-            (squared_distance (positions_in self.now.held.corners.now k) self.now.prediction) }
+        ensures { result ≡ measured (positions_in self.now.held.corners.now) self.now.prediction k }
     {
         let corner = self.held.corners.position_of(k);
-        let d2 = corner.squared_distance(self.prediction);
-        let c = Candidate {
-            number: k,
-            distance: binary32::root::sqrt_or_nan(d2),
-        };
-        keep(found, c, d2)
+        let square = corner.squared_distance(self.prediction);
+        Measured {
+            candidate: Candidate {
+                number: k,
+                distance: binary32::root::sqrt_or_nan(square),
+            },
+            square,
+        }
     }
 
     // The first two of the candidates at the prediction, in order of distance and then corner number: all unlabelled corners that a cell of the
     // kind takes and whose squared distance is at most the squared radius, and none if the prediction is not finite.
     pub fn collect_candidates(&self, search_r: f32) -> Candidates
         ensures { result ≡ first_two (candidates_at (positions_in self.now.held.corners.now)
-            (eligible_in self.now.held.corners.now self.now.held.used.now self.now.kind) self.now.held.count self.now.prediction search_r) }
+            (eligible_in self.now.held.corners.now self.now.held.used.now self.now.kind) self.now.held.corners.now.count.number self.now.prediction search_r) }
     {
         if !self.prediction.is_finite() {
             return Candidates::Empty;
         }
-        let mut found = Found {
-            candidates: Candidates::Empty,
-            square: 0.0,
-            limit: search_r * search_r,
-        };
+        let radius = search_r * search_r;
+        let mut found = Found::Empty;
         let mut from = 0usize;
-        // Stays: what was found so far gives the limit within which the next is looked for.
-        while let Some(k) = self.next_within(from, found.limit) {
-            found = self.keep_corner(found, k);
+        // Stays: what was found so far gives the limit within which the next is looked for (d).
+        while let Some(k) = self.next_within(from, found.limit(radius)) {
+            found = found.keep(self.measure(k));
             from = k + 1;
         }
-        found.candidates
+        found.candidates()
     }
 }
 

@@ -11,7 +11,8 @@ use lib.Dec.{eqb, ltb}
 use lib.ListN.{length, take, drop, get_or, set, length-set}
 use lib.Seq.{get_or-set_same, get_or-set_other}
 use lib.Ieee.{Float, nan, lt}
-use Rattle.std.proofs.lemmas.List.{take_all, drop_all, append-nil, take-append-drop, length-take-le, length-drop, length-append, set-append_right, get_or-append-add}
+use Rattle.std.proofs.Math.ListN.{get_or-append}
+use Rattle.std.proofs.lemmas.List.{take_all, drop_all, append-nil, take-append-drop, length-take-le, length-drop, length-append, set-append_right, get_or-append-add, get_or-append_right, get_or-drop, get_or-take}
 use Rattle.elimination.specs.Rounded.{◌⊗◌, magnitude}
 use Rattle.elimination.specs.Solve.{Row, Matrix, row, entry, largest, swapped, pivoted, reciprocal, multiplier, gain, gained, cleared, eliminated, right_sides, answer, carry, carried, answered}
 use Rattle.elimination.proofs.Tables.{table_is, Filling, filling_start, filling_more, filling_whole}
@@ -180,35 +181,42 @@ carried_at m b k i = cond (eqb i k) (answer m b k) (cond (ltb i k) (carry (get_o
 
 pub record Carrying (m : Matrix) (b : Row) (k : ℕ) (l : Row) (i : ℕ) : Type 0 where
   pub within : k < 8
-  pub above : i ≤ k
-  pub fill : Filling 8 0 (carried_at m b k) nan b l i
+  pub whole : length b ≡ 8
+  pub fill : Filling k 0 (carried_at m b k) nan (take k b) l i
 
-pub carry_start : (m : Matrix) (b : Row) (k : ℕ) → length b ≡ 8 → k < 8 → Carrying m b k b 0
-carry_start m b k e h = record { within = h; above = omega arith; fill = filling_start 8 0 (carried_at m b k) nan b (omega arith) e (λ i l. absurd (omega arith)) }
+pub carry_start : (m : Matrix) (b : Row) (k : ℕ) → length b ≡ 8 → k < 8 → Carrying m b k (take k b) 0
+carry_start m b k e h = record { within = h; whole = e; fill = filling_start k 0 (carried_at m b k) nan (take k b) (omega arith) (length-take-le k b (omega arith)) (λ i l. absurd (omega arith)) }
 
 -- the right sides are written in place: what is read at row i is what stood there
 pub carry_more : {m : Matrix} {b : Row} {k : ℕ} {l : Row} {i : ℕ} → Carrying m b k l i → i < k → Carrying m b k (set l i (carry (get_or l i nan) (answer m b k) (entry m i k))) (i + 1)
 carry_more {m} {b} {k} {l} {i} g h = record {
   within = g.within;
-  above = omega arith;
-  fill = filling_more g.fill (omega (arith, g.within)) (rw (ne_eqb i k apart, lt-ltb i k h) (ap (λ (x : Float). carry x (answer m b k) (entry m i k)) (g.fill.kept i (omega arith))));
+  whole = g.whole;
+  fill = filling_more g.fill h (rw (ne_eqb i k apart, lt-ltb i k h) (ap (λ (x : Float). carry x (answer m b k) (entry m i k)) (g.fill.kept i (omega arith) ∙ get_or-take k b i nan h)));
 }
   where
     apart : i ≡ k → ⊥
     apart q = omega arith
 
 -- at the end the answer comes into its own row
-pub carry_end : {m : Matrix} {b : Row} {k : ℕ} {l : Row} {i : ℕ} → Carrying m b k l i → k ≤ i → set l k (answer m b k) ≡ carried m b k
+pub carry_end : {m : Matrix} {b : Row} {k : ℕ} {l : Row} {i : ℕ} → Carrying m b k l i → k ≤ i → set (l ++ drop k b) k (answer m b k) ≡ carried m b k
 unfolding carried
-carry_end {m} {b} {k} {l} {i} g h = table_is 8 (carried_at m b k) (set l k x) nan (length-set l k x ∙ g.fill.long) (λ j p. at j (ℕ_discrete j k) (ltb j k) refl)
+carry_end {m} {b} {k} {l} {i} g h = table_is 8 (carried_at m b k) (set (l ++ drop k b) k x) nan (length-set (l ++ drop k b) k x ∙ long) (λ j p. at j (ℕ_discrete j k) (ltb j k) refl)
   where
     x : Float
     x = answer m b k
 
-    at : (j : ℕ) → Dec (j ≡ k) → (t : Bool) → ltb j k ≡ t → get_or (set l k x) j nan ≡ carried_at m b k j
-    at j (yes q) t e = rw (eq-eqb j k q) (ap (λ (n : ℕ). get_or (set l k x) n nan) q ∙ get_or-set_same l k x nan (omega (arith, g.within, g.fill.long)))
-    at j (no q) true e = get_or-set_other l k j x nan q ∙ g.fill.filled j (omega (arith, ltb-true j k e))
-    at j (no q) false e = rw (ne_eqb j k q, e) (get_or-set_other l k j x nan q ∙ g.fill.kept j (omega (arith, ltb-false j k e, g.above)))
+    long : length (l ++ drop k b) ≡ 8
+    long = simp (length-append, length-drop, g.fill.long, g.whole) (omega (arith, g.within))
+
+    at : (j : ℕ) → Dec (j ≡ k) → (t : Bool) → ltb j k ≡ t → get_or (set (l ++ drop k b) k x) j nan ≡ carried_at m b k j
+    at j (yes q) t e = rw (eq-eqb j k q) (ap (λ (n : ℕ). get_or (set (l ++ drop k b) k x) n nan) q ∙ get_or-set_same (l ++ drop k b) k x nan (omega (arith, g.within, long)))
+    at j (no q) true e =
+        let low : j < k = ltb-true j k e in
+        rw (ne_eqb j k q, e) (get_or-set_other (l ++ drop k b) k j x nan q ∙ get_or-append l (drop k b) nan j (omega (arith, g.fill.long)) ∙ g.fill.filled j (omega arith) ∙ rw (ne_eqb j k q, e) refl)
+    at j (no q) false e =
+        let high : k ≤ j = ltb-false j k e in
+        rw (ne_eqb j k q, e) (get_or-set_other (l ++ drop k b) k j x nan q ∙ get_or-append_right l (drop k b) k j nan g.fill.long high ∙ get_or-drop k b (j - k) nan ∙ ap (λ (n : ℕ). get_or b n nan) (omega arith))
 
 -- ---- the answers, from the last to the first: those from row k on are carried
 

@@ -14,7 +14,7 @@ ghost use Rattle.elimination.specs.Rounded.{magnitude};
 ghost use Rattle.elimination.specs.Solve.{entry, largest, pivoted, gained, cleared, eliminated, right_sides, carried, answered, nonzero_diagonal, finite_matrix, finite_answers, solved};
 
 // A value without its sign: what is below zero is negated.
-// Stays: it is promised as the definition has it, which leaves -0 and a NaN as they are, and `abs` does not (d).
+// Stays: it is promised as the definition has it, which leaves -0 as it is, and `abs` does not (d).
 pub fn magnitude(x: f32) -> f32
     ensures { result ≡ magnitude x }
 {
@@ -46,8 +46,7 @@ fn gain(r: &mut [f32; 9], p: &[f32; 9], w: f32, k: usize)
     requires { k < 8 }
     ensures { r.new ≡ gained r.old p.now w k }
 {
-    // Stays: two rows are walked together from column k + 1 on; of what is written through a `zip` a proof knows no element, and by `enumerate` the other row's
-    // index would be counted by hand all the same (d).
+    // Stays: two rows go together from k + 1 on; a proof knows no element of what is written through `zip`, and by `enumerate` one index is still counted (d).
     for j in k + 1..9usize {
         r[j] = r[j] + w * (-p[j]);
     }
@@ -72,16 +71,13 @@ fn column(m: &mut [[f32; 9]; 8], k: usize)
     ensures { m.new ≡ cleared (pivoted m.old k) k }
 {
     let b = pivot(m, k);
-    // Stays: the slice's `swap` takes 50 of some 2,700 instructions a fit more, and fits are most of what local does (b).
-    let r = m[k];
-    let t = m[b];
-    m[k] = t;
-    m[b] = r;
+    // Stays: by the slice's `swap` a fit takes 3,000 to 3,052 instructions and not 2,884 to 2,889 (b).
+    (m[k], m[b]) = (m[b], m[k]);
     clear(m, k);
 }
 
 // All eight columns, one after the other.
-// Stays: they are written out so that the compiler has each with its number; as a loop a fit takes 3,900 instructions and not 2,700 (b).
+// Stays: they are written out so that the compiler has each with its number; as a loop a fit takes 4,340 instructions and not 2,890 (b).
 fn eliminate(m: &mut [[f32; 9]; 8])
     ensures { m.new ≡ eliminated 8 m.old }
 {
@@ -112,9 +108,8 @@ fn carry(m: &[[f32; 9]; 8], b: &mut [f32; 8], k: usize)
     ensures { b.new ≡ carried m.now b.old k }
 {
     let x = b[k] / m[k][k];
-    // Stays: the answers and a column are walked together, as the rows in `gain` (d).
-    for i in 0..k {
-        b[i] = b[i] + (-x) * m[i][k];
+    for (i, y) in b[..k].iter_mut().enumerate() {
+        *y = *y + (-x) * m[i][k];
     }
     b[k] = x;
 }

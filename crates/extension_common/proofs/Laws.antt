@@ -13,7 +13,7 @@ use Rattle.sheet.specs.Shades.{kind_at, takes_kind, takes, shades_in}
 use Rattle.sheet.proofs.Shades.{takes_every}
 use Rattle.sheet.specs.Corners.{Corners, corners_in, seen_of}
 use Rattle.sheet.specs.declared.Cell.{Cell}
-use Rattle.sheet.specs.declared.CornerArrays.{CornerArrays}
+use Rattle.sheet.specs.declared.held.CornerArrays.{CornerArrays}
 use Rattle.sheet.specs.declared.Corner.{Corner}
 use Rattle.sheet.specs.declared.Position.{Position}
 use Rattle.labels.specs.Used.{used_on, Tied}
@@ -33,25 +33,25 @@ use Rattle.extension_common.specs.declared.ChoiceRule.{ChoiceRule}
 use Rattle.extension_common.specs.declared.Search.{Search}
 use Rattle.extension_common.specs.declared.NotAttached.{NotAttached}
 
-module _ (held : CornerArrays) (n : ℕ) (sheet : List ℕ) (used : List Bool) (radius : Float) (c : Cell) (p : Position) (few : n ≤ 1024) (tied : Tied sheet used) where
+module _ (held : CornerArrays) (sheet : List ℕ) (used : List Bool) (radius : Float) (c : Cell) (p : Position) (tied : Tied sheet used) where
   -- gathered by the array that is tied to the sheet, and passed over
   pub gathered_tied : {kind : ℕ} → kind ≡ kind_at c
-      → first_two (candidates_at (positions_in held) (eligible_in held used kind) n p radius) ≡ gathered (corners_in held n) sheet radius c p
+      → first_two (candidates_at (positions_in held) (eligible_in held used kind) held.count.number p radius) ≡ gathered (corners_in held) sheet radius c p
   unfolding gathered eligible
   gathered_tied e =
       rw e
       (ap first_two
-      (candidates_agree (positions_in held) (positions_in held) (λ k. unmarked used k && takes (shades_in held) c k) (λ k. unlabelled_on sheet k && takes (shades_in held) c k) n p radius
+      (candidates_agree (positions_in held) (positions_in held) (λ k. unmarked used k && takes (shades_in held) c k) (λ k. unlabelled_on sheet k && takes (shades_in held) c k) held.count.number p radius
       (λ k h. refl)
-      (λ k h. ap (λ (b : Bool). b && takes (shades_in held) c k) (tied_free tied k (lt_of_lt_of_le h few)))))
+      (λ k h. ap (λ (b : Bool). b && takes (shades_in held) c k) (tied_free tied k (lt_of_lt_of_le h held.count.few)))))
 
   pub unmatched_tied : {kind : ℕ} → kind ≡ kind_at c
-      → passed_over (positions_in held) (unmarked used) (takes_kind (shades_in held) kind) n p radius ≡ unmatched (corners_in held n) sheet radius c p
+      → passed_over (positions_in held) (unmarked used) (takes_kind (shades_in held) kind) held.count.number p radius ≡ unmatched (corners_in held) sheet radius c p
   unfolding unmatched
   unmatched_tied e =
       rw e
-      (passed_over_agree (positions_in held) (positions_in held) (unmarked used) (unlabelled_on sheet) (takes (shades_in held) c) (takes (shades_in held) c) n p radius
-      (λ k h. refl) (λ k h. tied_free tied k (lt_of_lt_of_le h few)) (λ k h. refl))
+      (passed_over_agree (positions_in held) (positions_in held) (unmarked used) (unlabelled_on sheet) (takes (shades_in held) c) (takes (shades_in held) c) held.count.number p radius
+      (λ k h. refl) (λ k h. tied_free tied k (lt_of_lt_of_le h held.count.few)) (λ k h. refl))
 
 -- ---- without any shade all is as it was
 

@@ -92,10 +92,10 @@ impl<'a> Trial<'a> {
     }
 
     // The candidates at a prediction: those corners that no cell holds and that the cell takes.
-    // Stays: `try_candidates` does not ask that the used corners are the sheet's; as a fact of the struct it would be asked there too (d).
+    // Stays: in `Trial` it would be asked of `try_candidates` too, which does not ask it; a second struct round it for these three is no plainer (d).
     pub fn gather(&self, prediction: Position) -> Candidates
         requires { Tied self.now.sheet.now self.now.held.used.now }
-        ensures { result ≡ gathered (corners_in self.now.held.corners.now self.now.held.count) self.now.sheet.now self.now.search.search_r self.now.c
+        ensures { result ≡ gathered (corners_in self.now.held.corners.now) self.now.sheet.now self.now.search.search_r self.now.c
             prediction }
     {
         let scan = Scan {
@@ -109,7 +109,7 @@ impl<'a> Trial<'a> {
     // Tries the cell at a prediction: no candidate, an ambiguous choice, edges that refuse the chosen corner, or the corner to attach.
     pub fn try_attach_at_cell(&self, prediction: Position) -> TryCellResult
         requires { Tied self.now.sheet.now self.now.held.used.now }
-        ensures { result ≡ try_at (corners_in self.now.held.corners.now self.now.held.count) self.now.sheet.now self.now.tol self.now.search self.now.c
+        ensures { result ≡ try_at (corners_in self.now.held.corners.now) self.now.sheet.now self.now.tol self.now.search self.now.c
             prediction }
     {
         let candidates = self.gather(prediction);
@@ -119,7 +119,7 @@ impl<'a> Trial<'a> {
     // Tries the cell at the prediction from its neighbours; without a labelled neighbour it has no candidate.
     pub fn try_predicted(&self, grid: Grid) -> TryCellResult
         requires { Tied self.now.sheet.now self.now.held.used.now }
-        ensures { result ≡ tried_from (corners_in self.now.held.corners.now self.now.held.count) self.now.sheet.now self.now.tol
+        ensures { result ≡ tried_from (corners_in self.now.held.corners.now) self.now.sheet.now self.now.tol
             self.now.search self.now.c (prediction_of (seen_of (corner_in self.now.held.corners.now) self.now.sheet.now) grid self.now.c) }
     {
         let at = predict::predict_from_neighbours(self.seeing(), self.c, grid).ok_or(

@@ -13,7 +13,7 @@ use Rattle.sheet.specs.Cells.{OnSheet, place_of}
 use Rattle.sheet.specs.Words.{label_at, attached}
 use Rattle.sheet.specs.Corners.{Corners, Given, seen_of, corners_in}
 use Rattle.sheet.specs.declared.Cell.{Cell}
-use Rattle.sheet.specs.declared.CornerArrays.{CornerArrays}
+use Rattle.sheet.specs.declared.held.CornerArrays.{CornerArrays}
 use Rattle.sheet.specs.declared.Position.{Position}
 use Rattle.sheet.proofs.Corners.{given_attached}
 use Rattle.labels.specs.Labelled.{Attaching, label_count}
@@ -97,24 +97,23 @@ attaching few long on bare a = record { long = long; on = on; bare = bare; corne
 -- ---- what the code leaves
 
 pub same_own : (f : Filling) → SamePass f f
-same_own f = record { same_corners = refl; same_count = refl; same_setup = refl; same_sheet = refl; same_list = refl }
+same_own f = record { same_corners = refl; same_setup = refl; same_sheet = refl; same_list = refl }
 
 pub same_then : {first between last : Filling} → SamePass first between → SamePass between last → SamePass first last
 same_then a b =
     record {
       same_corners = b.same_corners ∙ a.same_corners;
-      same_count = b.same_count ∙ a.same_count;
       same_setup = b.same_setup ∙ a.same_setup;
       same_sheet = b.same_sheet ∙ a.same_sheet;
       same_list = b.same_list ∙ a.same_list;
     }
 
 pub held_alike : {f g : Filling} → SamePass f g → held g ≡ held f
-held_alike s = ap₂ corners_in (ap (λ (k : Bor CornerArrays). k.now) s.same_corners) s.same_count
+held_alike s = ap (λ (k : Bor CornerArrays). corners_in k.now) s.same_corners
 
 -- no more cells are new than there are corners
 module _ (f : Filling) where
-  pub made_few : f.made ≤ f.count
+  pub made_few : f.made ≤ f.corners.now.count.number
   made_few = omega (arith, f.room, labels_few f.given f.one_cell)
 
   pub made_in : f.made ≤ length f.attached.now
@@ -129,20 +128,20 @@ module _ (f : Filling) where
 
 module _ {f : Filling} {c : Cell} {k : ℕ} (t : Taking f c k) where
   taking_attaching : Attaching f.sheet.now c k
-  taking_attaching = record { long = f.given.long; on = t.trying.on; bare = t.trying.bare; corner_fits = omega (arith, t.there, f.few) }
+  taking_attaching = record { long = f.given.long; on = t.trying.on; bare = t.trying.bare; corner_fits = omega (arith, t.there, f.corners.now.count.few) }
 
   -- there is a place left in the list
   pub taking_room : f.made < length f.attached.now
   taking_room = omega (arith, f.room, f.list_long, labels_fewer f.given f.one_cell taking_attaching t.there t.free)
 
-  pub given_more : Given f.count (attached f.sheet.now c k)
-  given_more = given_attached f.given c t.trying.on k t.there (omega (arith, t.there, f.few))
+  pub given_more : Given f.corners.now.count.number (attached f.sheet.now c k)
+  given_more = given_attached f.given c t.trying.on k t.there (omega (arith, t.there, f.corners.now.count.few))
 
   pub one_more : OneCell (attached f.sheet.now c k)
   one_more = one_attached taking_attaching t.free f.one_cell
 
   pub tied_more : Tied (attached f.sheet.now c k) (set f.used k true)
-  tied_more = tied_attached taking_attaching (omega (arith, t.there, f.few)) f.tied
+  tied_more = tied_attached taking_attaching (omega (arith, t.there, f.corners.now.count.few)) f.tied
 
   pub room_more : f.made + 1 ≤ label_count (attached f.sheet.now c k)
   room_more = omega (arith, f.room, count_attached taking_attaching)

@@ -129,7 +129,7 @@ module _ (f : Filling) where
 
         looks : looked_at cs set p around n s ≡ walked_to cs set p (state_of f) (n + 1)
         looks =
-            looked (fill_visit cs set p) (λ t. t.sheet) (visit_else cs f.few set p)
+            looked (fill_visit cs set p) (λ t. t.sheet) (visit_else cs f.corners.now.count.few set p)
             (region_of f.sheet.now) (state_of f) f.given.long n h (ap (λ (a : Option Bounds). box_and_strips a (cell_of n)) b)
 
         grows : length s.made ≤ length (walked_to cs set p (state_of f) (n + 1)).made

@@ -34,7 +34,7 @@ found_at cs set p sheet c = found_from cs set p sheet c (prediction_of (seen_of 
 
 -- the corners that a pass holds
 abbrev pub held : Filling → Corners
-held f = corners_in f.corners.now f.count
+held f = corners_in f.corners.now
 
 -- the state that the buffers hold: the sheet, and the first `made` places of the attached list
 abbrev pub state_of : Filling → FillState
@@ -47,7 +47,6 @@ stats_of f rounds = record { added = f.made; iterations = rounds; rim = rim 1 f.
 -- a pass on the same corners and buffers, searched alike
 pub record SamePass (before after : Filling) : Type 0 where
   pub same_corners : after.corners ≡ before.corners
-  pub same_count : after.count ≡ before.count
   pub same_setup : after.setup ≡ before.setup
   pub same_sheet : after.sheet.ghost_name ≡ before.sheet.ghost_name
   pub same_list : after.attached.ghost_name ≡ before.attached.ghost_name
@@ -69,7 +68,7 @@ pub record Trying (f : Filling) (c : Cell) : Type 0 where
 -- a corner that no cell holds is to be attached there
 pub record Taking (f : Filling) (c : Cell) (k : ℕ) : Type 0 where
   pub trying : Trying f c
-  pub there : k < f.count
+  pub there : k < f.corners.now.count.number
   pub free : used_on f.sheet.now k ≡ false
 
 -- the buffers after a corner was attached: the sheet, the next place of the attached list and the corner's entry are written

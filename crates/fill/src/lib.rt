@@ -4,7 +4,6 @@
 #![tactic(auto)]
 
 ghost use Rattle.std.specs.Prelude.{◌≡◌, ◌≤◌, ◌&&◌, length, Ok};
-ghost use Rattle.sizes.specs.Sizes.{corner_limit};
 ghost use Rattle.sheet.specs.Corners.{Given, corner_lists};
 ghost use Rattle.labels.specs.Labelled.{label_count};
 ghost use Rattle.labels.specs.Used.{OneCell, Tied};
@@ -15,7 +14,6 @@ ghost use Rattle.passes.specs.Outcome.{done};
 ghost use Rattle.passes.specs.Fill.{near_i, near_j, box_and_strips, fill_search, fill_limit, fill_after};
 ghost use Rattle.passes.specs.Step.{fill_step, fill_out, fill_leaves, lent_of, rooms};
 ghost use Rattle.passes.specs.Said.{fill_values, fill_said, outcome_due};
-ghost use Rattle.region.specs.Small.{SmallBounds, SmallBox};
 
 use arguments::{FillParams, LentCorners, Pass, Settings};
 use candidates::HeldCorners;
@@ -23,26 +21,22 @@ use extension_common::{ChoiceRule, Search, Trial, TryCellResult};
 use labels::Bounds;
 use passes::FillStats;
 use refusal::Refusal;
-use sheet::{Cell, CornerArrays};
+use sheet::{Cell, CornerArrays, NO_CORNERS};
 use sizes::CORNERS;
 
 // Whether a cell lies in the box, or at most so many lines past it by i and by j.
 fn is_near(b: Bounds, past_i: u32, past_j: u32, c: Cell) -> bool
-    requires { SmallBounds b × (past_i ≤ 64) × (past_j ≤ 64) }
     ensures { result ≡ (near_i past_i b c && near_j past_j b c) }
 {
     region::is_near_i(b, past_i, c) && region::is_near_j(b, past_j, c)
 }
 
 // Whether a cell is one that a round walks, if it is unlabelled: it lies in the label box or in the strip along a whole side.
+#[tactic(auto, unfolding(passes::specs::Fill::box_and_strips))]
 fn is_fill_cell(around: Option<Bounds>, c: Cell) -> bool
-    requires { SmallBox around }
     ensures { result ≡ box_and_strips around c }
 {
-    match around {
-        None => false,
-        Some(b) => is_near(b, 0, 1, c) || is_near(b, 1, 0, c),
-    }
+    around.is_some_and(|b| is_near(b, 0, 1, c) || is_near(b, 1, 0, c))
 }
 
 // How many rounds there may be: none where no cell is labelled, else the limit, where 0 acts as 1.
@@ -58,7 +52,7 @@ fn round_limit(labels: usize, max_iters: u32) -> usize
 }
 
 // The settings of a call, and the numbers of the pass.
-// Stays: each pass has its own radius and rule; a generic struct of `passes` would share two fields and turn these methods into functions (d).
+// Stays: each pass has its own numbers; a generic struct of `passes` would share two fields and turn these methods into functions (d).
 #[derive(Clone, Copy)]
 struct FillSetup {
     settings: Settings,
@@ -79,22 +73,20 @@ impl FillSetup {
     }
 }
 
-// A pass: the corners, of which there are `count`, and how they are searched; the lent sheet; the lent list, the first `made` places of which are the
-// cells that are new; and which corners are used.
+// A pass: the corners, and how they are searched; the lent sheet; the lent list, the first `made` places of which are the cells that are new; and
+// which corners are used.
 #[derive(Drop)]
 struct Filling<'a> {
     corners: &'a CornerArrays,
-    count: usize,
     setup: FillSetup,
     sheet: &'a mut [u16],
     attached: &'a mut [u16],
     used: [bool; CORNERS],
     made: usize,
-    ghost few: { count ≤ corner_limit },
-    ghost given: { Given count sheet.now },
+    ghost given: { Given corners.now.count.number sheet.now },
     ghost one_cell: { OneCell sheet.now },
     ghost tied: { Tied sheet.now used },
-    ghost list_long: { count ≤ length attached.now },
+    ghost list_long: { corners.now.count.number ≤ length attached.now },
     ghost room: { made ≤ label_count sheet.now },
 }
 
@@ -115,7 +107,6 @@ impl<'a> Filling<'a> {
         let trial = Trial {
             held: HeldCorners {
                 corners: self.corners,
-                count: self.count,
                 used: &self.used,
             },
             sheet: self.sheet,
@@ -149,7 +140,7 @@ impl<'a> Filling<'a> {
 
     // Looks at a place: its cell is tried if it lies in the region about `around` and is unlabelled.
     fn fill_place(&mut self, around: Option<Bounds>, place: usize)
-        requires { (place < place_count) × SmallBox around }
+        requires { place < place_count }
         ensures { Left self.old self.new
             (looked_at (held self.old) self.old.setup.settings self.old.setup.params around place (state_of self.old)) }
     {
@@ -183,8 +174,7 @@ impl<'a> Filling<'a> {
         ensures { RoundsLeft self.old self.new result
             (fill_from (held self.old) self.old.setup.settings self.old.setup.params limit (start_of self.old)) }
     {
-        // Stays: a round that attaches nothing ends the walk, and the number of rounds is the answer; local has the same loop over another struct, and one function
-        // for both would take the round and the count as closures over what they write, with a clause each (d).
+        // Stays: a round that attaches nothing ends it; one function for this and local's takes two closures over what they write, with a clause each (d).
         for walked in 0..limit {
             let before = self.made;
             self.fill_round();
@@ -223,11 +213,10 @@ fn fill_accepted(
 {
     let limit = round_limit(labels::label_count(sheet), params.max_iters);
     let used = labels::mark_used(sheet);
-    let mut held = CornerArrays::new();
+    let mut held = NO_CORNERS;
     corners.hold(&mut held);
     let mut filling = Filling {
         corners: &held,
-        count: corners.xs.len(),
         setup: FillSetup { settings, params },
         sheet,
         attached,
@@ -242,7 +231,7 @@ fn fill_accepted(
 // corner of the cell's kind where one is found; a round that attaches nothing is the last. The attached list holds the new cells' places in order at its front,
 // its rest untouched; no mark changes. The answer has the number of new cells, the number of rounds, and the rim. A refused call changes
 // nothing and answers why. `said` is the same answer in 01's number or values.
-// Stays: the public calls of the passes lend slice by slice, as 01 has it and as the C interface does.
+// Stays: the public calls of the passes lend slice by slice, as 01 has it and as the C interface does (a).
 pub fn fill_grid_holes(
     xs: &[f32],
     ys: &[f32],

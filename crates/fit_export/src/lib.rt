@@ -21,13 +21,7 @@ fn points_of(xs: &[f32], ys: &[f32]) -> [Position; 4]
     requires { (4 ≤ length xs.now) × (4 ≤ length ys.now) }
     ensures { result ≡ points_of xs.now ys.now }
 {
-    // Stays: `from_fn` would need clauses of its closure on both slices, and be longer (d).
-    [
-        Position { x: xs[0], y: ys[0] },
-        Position { x: xs[1], y: ys[1] },
-        Position { x: xs[2], y: ys[2] },
-        Position { x: xs[3], y: ys[3] },
-    ]
+    std::array::from_fn(|i| Position { x: xs[i], y: ys[i] })
 }
 
 // Writes nine entries to the front of a buffer, and leaves the rest of it as it was.

@@ -59,7 +59,7 @@ fn step_line(reading: &mut Reading, line: &[u8]) -> Result<(), Refusal>
     )?;
     reading.check_line(found)?;
     reading.add_line(found);
-    reading.progress.stage = stage;
+    reading.come_to(stage);
     Ok(())
 }
 
@@ -113,7 +113,6 @@ fn copy_front<T: Copy>(from: &[T], to: &mut [T])
 }
 
 // The lent buffers.
-// Stays: each is lent by itself, as the C interface lends it (a).
 #[derive(Drop)]
 struct Buffers<'a> {
     xs: &'a mut [f32],

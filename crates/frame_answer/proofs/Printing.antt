@@ -1,5 +1,5 @@
 -- The piece of a result is never refused where its words and sheet are fit to print. Assumes nothing.
-use Rattle.std.specs.Prelude.{Result, Ok, Err}
+use Rattle.std.specs.Prelude.{Result, Ok, Err, IsOk}
 use mathlib.Core.Path.{◌≡◌, refl, ap, ◌∙◌}
 use mathlib.Core.List.{List}
 use Prim.Native.Nat.{ℕ, zero, suc, ◌*◌, ◌≤◌, ◌<◌}
@@ -53,10 +53,11 @@ module _ (corners passes : ℕ) (words sheet : List ℕ) (p : Printable corners 
       let nexts : end.next ≡ held.next = ap (λ (p : PieceEnd). p.next) same in
       record { wrote = record { count = counts; part = ap (λ (o : PieceOut). o.out) w }; next_so = nexts }
 
-  pub not_refused : {r : Refusal} {out' : List ℕ} → piece_out (Err r) out' ≡ writes_piece (text_lent corners passes words sheet) from out → ⊥
-  not_refused {r} e =
+  pub not_refused : (x : Result PieceEnd Refusal) {out' : List ℕ} → piece_out x out' ≡ writes_piece (text_lent corners passes words sheet) from out → IsOk x
+  not_refused (Ok end) e = refl
+  not_refused (Err r) e =
       let a : ◌≡◌ {A = Result PieceEnd Refusal} (Err r) (Ok (record { at = length held.text; next = held.next })) = ap (λ (o : PieceOut). o.answer) (e ∙ leaves) in
-      cc
+      absurd (cc)
 
 -- what was written to the front of a buffer that kept its length has room in it
 pub room_for : {text old new : List ℕ} {n : ℕ} → Wrote text old new n → length new ≡ length old → n ≤ length old

@@ -1,3 +1,4 @@
--- The definitions of what is answered to a text. Definitions only.
+-- The definitions of what is answered to a text, and that an answer can be said is a fact.
 pub mod Room
 pub mod Answer
+pub mod Fact

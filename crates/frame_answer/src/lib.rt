@@ -4,7 +4,8 @@
 
 ghost use Rattle.std.specs.Prelude.{◌≡◌, ◌<◌, ◌≤◌, length, []};
 ghost use Rattle.frame_answer.specs.Room.{FrameRoom, PassRoom};
-ghost use Rattle.frame_answer.specs.Answer.{Recovers, lent_as, held_lines, held_piece, FewPasses, Printable, CanSay, WrotePiece, Moves};
+ghost use Rattle.frame_answer.specs.Answer.{Recovers, lent_as, held_lines, held_piece, FewPasses, CanSay, WrotePiece, Moves};
+ghost use Rattle.frame_answer.specs.Fact.{can_say_prop};
 ghost use Rattle.report_line.specs.Result.{line_count};
 ghost use Rattle.report_line.specs.Sizes.{line_room};
 
@@ -13,6 +14,7 @@ use report::PieceEnd;
 use report_line::line_sizes::SHEET_LINES;
 
 // A frame whose passes have run: how many corners and passes it has.
+// Stays: an answer is said of these two counts alone; `FrameHead` would ask whoever says one for settings that no line of it shows (d).
 #[derive(Clone, Copy)]
 pub struct Recovered {
     pub corners: usize,
@@ -67,31 +69,35 @@ pub fn answer_lines(answer: Result<Recovered, FrameRefusal>) -> usize
     }
 }
 
-// Writes the piece of the answer from a line on to the front of the output buffer, and leaves the rest of it as it was: whole lines, as long
-// as 128 bytes are left before each. It tells how many bytes the piece has, and which line comes after it.
-pub fn answer_piece(
-    answer: Result<Recovered, FrameRefusal>,
-    words: &[u32],
-    sheet: &[u16],
-    from: usize,
-    out: &mut [u8],
-) -> PieceEnd
-    requires can_say { CanSay answer words.now sheet.now }
-    requires from_bound { from < held_lines answer }
-    requires line_room_in_bounds { line_room ≤ length out.old }
-    ensures wrote_piece { WrotePiece (held_piece answer words.now sheet.now from (length out.old)) out.old out.new result }
-    ensures moves { Moves from (length out.old) result }
-{
-    match answer {
-        Ok(Recovered { corners, passes }) => {
-            match report::write_result_piece(corners, passes, words, sheet, from, out) {
-                Ok(end) => end,
-                Err(_) => unreachable!(),
+// An answer that can be said: a frame whose passes have run or its refusal, the words of the outcomes, and the sheet.
+#[derive(Clone, Copy)]
+pub struct Answer<'a> {
+    pub recovered: Result<Recovered, FrameRefusal>,
+    pub words: &'a [u32],
+    pub sheet: &'a [u16],
+    pub ghost can_say: { CanSay recovered words.now sheet.now } by { can_say_prop recovered words.now sheet.now },
+}
+
+impl Answer<'_> {
+    // Writes its piece from a line on to the front of the output buffer, and leaves the rest of it as it was: whole lines, as long as 128 bytes
+    // are left before each. It tells how many bytes the piece has, and which line comes after it.
+    pub fn piece(&self, from: usize, out: &mut [u8]) -> PieceEnd
+        requires from_bound { from < held_lines self.now.recovered }
+        requires line_room_in_bounds { line_room ≤ length out.old }
+        ensures wrote_piece { WrotePiece (held_piece self.now.recovered self.now.words.now
+            self.now.sheet.now from (length out.old)) out.old out.new result }
+        ensures moves { Moves from (length out.old) result }
+    {
+        match self.recovered {
+            Ok(Recovered { corners, passes }) => {
+                report::write_result_piece(
+                    corners, passes, self.words, self.sheet, from, out,
+                ).unwrap()
             }
+            Err(FrameRefusal { refusal, line }) => PieceEnd {
+                at: report_line::line::write_refused(refusal, line, out),
+                next: 1,
+            },
         }
-        Err(FrameRefusal { refusal, line }) => PieceEnd {
-            at: report_line::line::write_refused(refusal, line, out),
-            next: 1,
-        },
     }
 }

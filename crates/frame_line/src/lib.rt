@@ -46,7 +46,6 @@ pub enum Kind {
 }
 
 // What a number of a line is.
-// Stays: each case is a sort of number with its limits; none of them says that something is missing or wrong (d).
 #[derive(Clone, Copy, Debug, PartialEq, Eq)]
 pub enum Sort {
     // a float in the range of a quantity, else refusal 3
@@ -96,6 +95,7 @@ const ROWS: usize = 13;
 
 // A row of the table: the kind of line, the stage behind the line for each stage before it (. where it may not come), a letter for each of its numbers,
 // and its form.
+// Stays: a letter a number and a digit a stage, as the definition's table has them; as enums a row has five Options of a Sort and nine of a stage (d).
 #[derive(Clone, Copy)]
 struct Row {
     kind: Kind,
@@ -185,9 +185,6 @@ static TABLE: [Row; ROWS] = [
     },
 ];
 
-// The stages at which a frame may end.
-const ENDS: [bool; STAGES] = [false, false, false, false, true, true, true, true, true];
-
 impl ListedLine {
     // Its kind.
     pub fn kind(&self) -> Kind
@@ -256,9 +253,10 @@ pub fn turn_at(stage: usize, row: usize) -> Option<usize>
     turn_by(*TABLE.get(row)?.turns.get(stage)?)
 }
 
-// Whether a frame may end at a stage.
+// Whether a frame may end at a stage: once the first four lines stand.
+#[tactic(auto, unfolding(crate::specs::Table::may_end))]
 pub fn may_end(stage: usize) -> bool
     ensures { result ≡ may_end stage }
 {
-    ENDS.get(stage).copied().unwrap_or(false)
+    (4..STAGES).contains(&stage)
 }

@@ -139,7 +139,7 @@ pub fn refusals_of(corners: u32, line: ListedLine) -> NumberRefusals
 }
 
 // The count that a word holds: OFFSET less, or OFFSET where that is below 0.
-// Stays: OFFSET stands for a number below 0, as the definition `count_in` has it, which is of every line; such a number is refused before it is used (d).
+// Stays: OFFSET stands for a number below 0, as in the definition `count_in`; a line with such a number is refused before it is used (d).
 pub fn count_of(word: u32) -> u32
     ensures { result ≡ count_in word }
 {

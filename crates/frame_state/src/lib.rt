@@ -6,7 +6,7 @@
 ghost use Rattle.std.specs.Prelude.{◌≡◌, ◌<◌, ◌≤◌};
 ghost use Rattle.sizes.specs.Sizes.{corner_limit, pass_limit};
 ghost use Rattle.frame_check.specs.Checks.{nothing_held, checked_held, LabelFits};
-ghost use Rattle.frame_state.specs.State.{patched_of, second_of, nothing_said, TameOpening, with_opening, CornerFits, SecondRoom, LabelsRoom, ShadeFits, shade_put, grow_words, fill_words, local_words, words_in, words_put, with_shades, with_passes, corner_put, label_put, second_put, label_to, state, Addable, adds};
+ghost use Rattle.frame_state.specs.State.{patched_of, second_of, nothing_said, at_stage, TameOpening, with_opening, CornerFits, SecondRoom, LabelsRoom, ShadeFits, shade_put, grow_words, fill_words, local_words, words_in, words_put, with_shades, with_passes, corner_put, label_put, second_put, label_to, state, Addable, adds};
 
 use arguments::Settings;
 use frame_check::{Held, Said};
@@ -19,7 +19,7 @@ use sizes::PASS_WORDS;
 
 // Cell size, axes and band, how many corners, labels of the first set, labels of the second, None where no patch line stands, and passes there are,
 // and the stage that the lines have come to.
-#[derive(Clone, Copy)]
+#[derive(Clone, Copy, Default)]
 pub struct Progress {
     pub settings: Settings,
     pub corners: usize,
@@ -27,30 +27,6 @@ pub struct Progress {
     pub second: Option<usize>,
     pub passes: usize,
     pub stage: usize,
-}
-
-// Nothing said.
-fn start() -> Progress
-    ensures { result ≡ nothing_said }
-{
-    let axis = Vector { x: 0.0, y: 0.0 };
-    let grid = Grid {
-        axis_i: axis,
-        axis_j: axis,
-        cell_size: 0.0,
-    };
-    let settings = Settings {
-        grid,
-        edge_length_tol: 0.0,
-    };
-    Progress {
-        settings,
-        corners: 0,
-        labels: 0,
-        second: None,
-        passes: 0,
-        stage: 0,
-    }
 }
 
 // A line of the opening is said: cell size, axes or band.
@@ -194,9 +170,16 @@ impl Reading {
         ensures { result ≡ state nothing_said nothing_held }
     {
         Reading {
-            progress: start(),
+            progress: Progress::default(),
             held: Held::new(),
         }
+    }
+
+    // The lines have come to a stage.
+    pub fn come_to(&mut self, stage: usize)
+        ensures { self.new ≡ state (at_stage self.old.progress stage) self.old.held }
+    {
+        self.progress.stage = stage;
     }
 
     // All checks of a line in its turn, against what was said before it.

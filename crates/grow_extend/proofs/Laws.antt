@@ -1,7 +1,7 @@
 -- Laws of grow as the code holds it: a cell settled, by what was found there; the run, a cell at a time; the call, refused or done.
 -- Assumes nothing.
 use Rattle.std.specs.Prelude.{Ok, Err}
-use mathlib.Core.Path.{◌≡◌, refl, sym, ap, ap₂, ◌∙◌, subst}
+use mathlib.Core.Path.{◌≡◌, refl, sym, ap, ◌∙◌, subst}
 use mathlib.Core.Bool.{Bool, true, false, cond}
 use mathlib.Core.List.{List}
 use mathlib.Core.Logic.{◌⊎◌, inl, inr}
@@ -9,7 +9,6 @@ use Prim.Native.Nat.{ℕ, zero, suc, ◌+◌, ◌-◌, ◌*◌, ◌<◌, ◌≤�
 use native.Mathlib.Omega.{arith}
 use lib.Dec.{ltb}
 use lib.ListN.{length, get_or, take, set, length-set}
-use lib.Ieee.{Float}
 use Rattle.std.specs.Prelude.{Option, None, Some}
 use Rattle.std.proofs.Common.{Bor}
 use Rattle.refusal.specs.declared.Refusal.{Refusal}
@@ -17,7 +16,7 @@ use Rattle.sheet.specs.Cells.{OnSheet, place_of, cell_of}
 use Rattle.sheet.specs.Words.{attached, hole_marked, ambiguous_marked}
 use Rattle.sheet.specs.Corners.{Corners, CornerLists, seen_of, Given, corners_in}
 use Rattle.sheet.specs.declared.Cell.{Cell}
-use Rattle.sheet.specs.declared.CornerArrays.{CornerArrays}
+use Rattle.sheet.specs.declared.held.CornerArrays.{CornerArrays}
 use Rattle.sheet.specs.declared.Position.{Position}
 use Rattle.sheet.proofs.Corners.{given_attached}
 use Rattle.labels.specs.Labelled.{SameLabels}
@@ -92,11 +91,11 @@ given_same : {n : ℕ} {sheet after : List ℕ} → length after ≡ length shee
 given_same e s g = record { long = omega (arith, g.long); known = λ p k h l. g.known p k h (sym (s.same_label p h) ∙ l) }
 
 module _ (g : Growing) (c : Cell) (on : OnSheet c) where
-  pub given_hole : Given g.count (hole_marked g.sheet.now c)
+  pub given_hole : Given g.corners.now.count.number (hole_marked g.sheet.now c)
   unfolding hole_marked
   given_hole = given_same (length-set g.sheet.now (place_of c) _) (hole_keeps g.sheet.now c g.given.long on) g.given
 
-  pub given_ambiguous : Given g.count (ambiguous_marked g.sheet.now c)
+  pub given_ambiguous : Given g.corners.now.count.number (ambiguous_marked g.sheet.now c)
   unfolding ambiguous_marked
   given_ambiguous = given_same (length-set g.sheet.now (place_of c) _) (ambiguous_keeps g.sheet.now c g.given.long on) g.given
 
@@ -123,20 +122,14 @@ module _ {g after : Growing} (q : Queue) (m : MarksOnly g after) {sheet : List �
         head_same = refl;
       }
 
--- what marks a hole, and counts no corner
+-- what marks a hole
 abbrev pub NoCorner : TryCellResult → Type 0
 NoCorner found = (found ≡ Err NotAttached.NoCandidates) ⊎ (found ≡ Err NotAttached.EdgeRejected)
 
-pub reason_is : {why e : NotAttached} → why ≡ e → ◌≡◌ {A = TryCellResult} (Err why) (Err e)
-reason_is h = rw h refl
-
-pub no_corner : {why : NotAttached} → (why ≡ NotAttached.NoCandidates) ⊎ (why ≡ NotAttached.EdgeRejected) → NoCorner (Err why)
-no_corner (inl h) = inl (reason_is h)
-no_corner (inr h) = inr (reason_is h)
-
-pub hole_counts : {found : TryCellResult} (n : Counts) → NoCorner found → (one_more found n).attached ≡ n.attached
-hole_counts n (inl e) = rw e
-hole_counts n (inr e) = rw e
+pub none_counts : (why : NotAttached) (n : Counts) → (one_more (Err why) n).attached ≡ n.attached
+none_counts NotAttached.NoCandidates n = refl
+none_counts NotAttached.EdgeRejected n = refl
+none_counts NotAttached.Ambiguous n = refl
 
 module _ {g after : Growing} (q : Queue) (c : Cell) {found : TryCellResult} (m : MarksOnly g after) (n : after.counts ≡ one_more found g.counts) where
   pub settled_hole : NoCorner found → after.sheet.now ≡ hole_marked g.sheet.now c → Leaves g q after q (grow_with c found (state_of g q))
@@ -166,7 +159,7 @@ visit_settleable {g} {q} {c} w is = record { on = w.on; small = w.small; to_atta
     attach : (k : ℕ) → Free (held g) g.sheet.now k → Attachable g q c k
     attach k f =
         record {
-          attaching = record { long = g.given.long; on = w.on; bare = w.bare; corner_fits = omega (arith, f.given, g.few) };
+          attaching = record { long = g.given.long; on = w.on; bare = w.bare; corner_fits = omega (arith, f.given, g.corners.now.count.few) };
           known = f.given;
           spare = w.spare k f.given f.free;
           small = w.small;
@@ -174,11 +167,11 @@ visit_settleable {g} {q} {c} w is = record { on = w.on; small = w.small; to_atta
 
 -- a corner attached
 module _ {g : Growing} {q : Queue} {c : Cell} {k : ℕ} (w : Attachable g q c k) where
-  pub given_more : Given g.count (attached g.sheet.now c k)
+  pub given_more : Given g.corners.now.count.number (attached g.sheet.now c k)
   given_more = given_attached g.given c w.attaching.on k w.known w.attaching.corner_fits
 
   pub tied_more : Tied (attached g.sheet.now c k) (set g.used k true)
-  tied_more = tied_attached w.attaching (omega (arith, w.known, g.few)) g.tied
+  tied_more = tied_attached w.attaching (omega (arith, w.known, g.corners.now.count.few)) g.tied
 
   -- the queue has room for the cell's neighbours
   pub attached_room : {sheet : List ℕ} → sheet ≡ attached g.sheet.now c k → Room 4 sheet q
@@ -252,7 +245,6 @@ same_then : {first between last : Growing} → SameRun first between → SameRun
 same_then a b =
     record {
       same_corners = b.same_corners ∙ a.same_corners;
-      same_count = b.same_count ∙ a.same_count;
       same_setup = b.same_setup ∙ a.same_setup;
       same_sheet = b.same_sheet ∙ a.same_sheet;
       same_list = b.same_list ∙ a.same_list;
@@ -277,7 +269,7 @@ visit_alike : {cs cs' : Corners} {set set' : Settings} {p p' : GrowParams} {c c'
 visit_alike a b d e f = cc
 
 held_alike : {g h : Growing} → SameRun g h → held h ≡ held g
-held_alike s = ap₂ corners_in (ap (λ (k : Bor CornerArrays). k.now) s.same_corners) s.same_count
+held_alike s = ap (λ (k : Bor CornerArrays). corners_in k.now) s.same_corners
 
 -- A run that has visited the cells that were taken from the queue: what is held is a state of the definition's run, and with the cells that are
 -- left it is what it shall be.
@@ -286,12 +278,12 @@ pub record Running (before : Growing) (queue : Queue) (now : Growing) (queue' : 
   pub left : Left before queue now queue' state
   pub going : Going (held before) queue'.head state
   pub rest :
-      grow_from (held before) before.setup.settings before.setup.params (4 * before.count - queue'.head) queue'.head state
+      grow_from (held before) before.setup.settings before.setup.params (4 * before.corners.now.count.number - queue'.head) queue'.head state
       ≡ grow_run (held before) before.setup.settings before.setup.params before.sheet.now
 
 module _ {g : Growing} {q : Queue} (w : Startable g q) where
   fit : Belongs (held g) g.sheet.now
-  fit = record { long = g.given.long; few = g.few; known = g.given.known; one_cell = w.one_cell }
+  fit = record { long = g.given.long; few = g.corners.now.count.few; known = g.given.known; one_cell = w.one_cell }
 
   -- the queue has room for the seeds
   pub start_unqueued : Unqueued g.sheet.now q
@@ -306,7 +298,7 @@ module _ {g : Growing} {q : Queue} (w : Startable g q) where
         state = start_of g.sheet.now;
         left = record { same = same; same_queue = h.same_buffer; sheet_is = e; queue_is = h.written; attached_is = l; tail_is = h.count; counts_are = n ∙ w.none_counted };
         going = rw z (start_going (held g) g.sheet.now fit);
-        rest = rw z (let e : 4 * g.count - 0 ≡ 4 * g.count = omega arith in ap (λ (m : ℕ). grow_from (held g) g.setup.settings g.setup.params m 0 (start_of g.sheet.now)) e);
+        rest = rw z (let e : 4 * g.corners.now.count.number - 0 ≡ 4 * g.corners.now.count.number = omega arith in ap (λ (m : ℕ). grow_from (held g) g.setup.settings g.setup.params m 0 (start_of g.sheet.now)) e);
       }
 
   module _ {now : Growing} {queue : Queue} (r : Running g q now queue) {taken : Queue} {next : Option Cell} (t : Taken queue taken next) where
@@ -326,7 +318,7 @@ module _ {g : Growing} {q : Queue} (w : Startable g q) where
     pub running_end : next ≡ None → Left g q now taken (grow_run (held g) g.setup.settings g.setup.params g.sheet.now)
     running_end e =
         let f : TakenAs queue taken None = rw e at t.next in
-        let d = sym (from_ended (held g) g.setup.settings g.setup.params (4 * g.count - queue.head) queue.head r.state (omega (arith, r.left.tail_is, f.0))) ∙ r.rest in
+        let d = sym (from_ended (held g) g.setup.settings g.setup.params (4 * g.corners.now.count.number - queue.head) queue.head r.state (omega (arith, r.left.tail_is, f.0))) ∙ r.rest in
         subst (λ (s : GrowState). Left g q now taken s) d left_taken
 
     module _ {c : Cell} (some : next ≡ Some c) where
@@ -337,7 +329,7 @@ module _ {g : Growing} {q : Queue} (w : Startable g q) where
       here = omega (arith, r.left.tail_is, took.0)
 
       head_few : queue.head < 4096
-      head_few = omega (arith, here, queue_few r.going, g.few)
+      head_few = omega (arith, here, queue_few r.going, g.corners.now.count.few)
 
       -- it is the next of the definition's run
       next_cell : c ≡ next_of r.state queue.head
@@ -353,7 +345,7 @@ module _ {g : Growing} {q : Queue} (w : Startable g q) where
           rw r.left.counts_are
           (record { attached_small = omega arith; no_candidate_small = omega arith; ambiguous_small = omega arith; edge_small = omega arith })
 
-      spare : (k : ℕ) → k < g.count → used_on r.state.sheet k ≡ false → Spare now taken
+      spare : (k : ℕ) → k < g.corners.now.count.number → used_on r.state.sheet k ≡ false → Spare now taken
       spare k h f =
           let free : Free (held g) r.state.sheet k = record { given = h; free = f } in
           let room : length taken.places.now ≡ length q.places.now = rw left_taken.queue_is (over_length r.state.queued q.places.now (omega (arith, queue_few r.going, w.queue_long))) in
@@ -369,7 +361,7 @@ module _ {g : Growing} {q : Queue} (w : Startable g q) where
             on = rw next_cell (next_on r.going here);
             bare = rw (next_cell, r.left.sheet_is) (r.going.lined.waiting queue.head (omega arith) here);
             small = small;
-            spare = λ k h f. spare k (omega (arith, r.left.same.same_count)) (rw r.left.sheet_is at f);
+            spare = λ k h f. spare k (omega (arith, ap (λ (k : Bor CornerArrays). k.now.count.number) r.left.same.same_corners)) (rw r.left.sheet_is at f);
           }
 
       pub running_falls : {after : Growing} {left : Queue} {s : GrowState} → Leaves now taken after left s → 4096 - left.head < 4096 - queue.head
@@ -385,13 +377,13 @@ module _ {g : Growing} {q : Queue} (w : Startable g q) where
           let e : grow_visit (held now) now.setup.settings now.setup.params c (state_of now taken) ≡ n = visit_alike (held_alike same) (ap (λ (s : GrowSetup). s.settings) same.same_setup) (ap (λ (s : GrowSetup). s.params) same.same_setup) next_cell read in
           let l : Left now taken after left n = subst (λ (s : GrowState). Left now taken after left s) e m.left in
           let h : left.head ≡ head + 1 = m.head_same ∙ took.2 in
-          let fuel : 4 * g.count - head ≡ suc (4 * g.count - (head + 1)) = omega (arith, here, queue_few r.going) in
+          let fuel : 4 * g.corners.now.count.number - head ≡ suc (4 * g.corners.now.count.number - (head + 1)) = omega (arith, here, queue_few r.going) in
           record {
             state = n;
             left = left_then left_taken l (visit_grown (held g) set p (next_of r.state head) r.state);
             going = rw h (visit_going (held g) set p head r.state r.going here);
             rest = rw h
-                (sym (from_next (held g) set p (4 * g.count - (head + 1)) head r.state here)
+                (sym (from_next (held g) set p (4 * g.corners.now.count.number - (head + 1)) head r.state here)
                 ∙ sym (ap (λ (m : ℕ). grow_from (held g) set p m head r.state) fuel)
                 ∙ r.rest);
           }
@@ -400,7 +392,7 @@ module _ {g : Growing} {q : Queue} (w : Startable g q) where
 
 module _ (corners : CornerLists) (set : Settings) (p : GrowParams) (shades sheet queue news : List ℕ) where
   module _ (a : Accepted (lent_of corners shades sheet (rooms (length queue) (length news))) set (Pass.Grow p)) where
-    pub call_startable : {g : Growing} {q : Queue} → g.count ≡ length corners.xs → g.sheet.now ≡ sheet → Empty queue q → g.attached.now ≡ news → g.counts ≡ no_counts → Startable g q
+    pub call_startable : {g : Growing} {q : Queue} → g.corners.now.count.number ≡ length corners.xs → g.sheet.now ≡ sheet → Empty queue q → g.attached.now ≡ news → g.counts ≡ no_counts → Startable g q
     unfolding queue_needed
     call_startable n s q l c =
         record {

@@ -45,7 +45,7 @@ pub record SmallCounts (n : Counts) : Type 0 where
 
 -- the corners that a run holds
 abbrev pub held : Growing → Corners
-held g = corners_in g.corners.now g.count
+held g = corners_in g.corners.now
 
 -- the state that a run and its queue hold: the sheet, the cells queued so far, as many of the attached list as are counted, and the counts
 abbrev pub state_of : Growing → Queue → GrowState
@@ -58,7 +58,6 @@ stats_of g = record { counts = g.counts; rim = rim 1 g.sheet.now }
 -- a run on the same corners and buffers, searched alike
 pub record SameRun (before after : Growing) : Type 0 where
   pub same_corners : after.corners ≡ before.corners
-  pub same_count : after.count ≡ before.count
   pub same_setup : after.setup ≡ before.setup
   pub same_sheet : after.sheet.ghost_name ≡ before.sheet.ghost_name
   pub same_list : after.attached.ghost_name ≡ before.attached.ghost_name
@@ -89,7 +88,7 @@ pub record Spare (g : Growing) (q : Queue) : Type 0 where
 -- a corner that may be attached to a cell
 pub record Attachable (g : Growing) (q : Queue) (c : Cell) (k : ℕ) : Type 0 where
   pub attaching : Attaching g.sheet.now c k
-  pub known : k < g.count
+  pub known : k < g.corners.now.count.number
   pub spare : Spare g q
   pub small : SmallCounts g.counts
 
@@ -104,13 +103,13 @@ pub record Visitable (g : Growing) (q : Queue) (c : Cell) : Type 0 where
   pub on : OnSheet c
   pub bare : label_at g.sheet.now c ≡ None
   pub small : SmallCounts g.counts
-  pub spare : (k : ℕ) → k < g.count → used_on g.sheet.now k ≡ false → Spare g q
+  pub spare : (k : ℕ) → k < g.corners.now.count.number → used_on g.sheet.now k ≡ false → Spare g q
 
 -- what an accepted call lends
 pub record Startable (g : Growing) (q : Queue) : Type 0 where
   pub one_cell : OneCell g.sheet.now
-  pub queue_long : 4 * g.count ≤ length q.places.now
-  pub attached_long : g.count ≤ length g.attached.now
+  pub queue_long : 4 * g.corners.now.count.number ≤ length q.places.now
+  pub attached_long : g.corners.now.count.number ≤ length g.attached.now
   pub none_queued : q.tail ≡ 0
   pub none_taken : q.head ≡ 0
   pub none_counted : g.counts ≡ no_counts

@@ -5,7 +5,6 @@
 #![tactic(auto)]
 
 ghost use Rattle.std.specs.Prelude.{◌≡◌, ◌≤◌, length, Ok};
-ghost use Rattle.sizes.specs.Sizes.{corner_limit};
 ghost use Rattle.sheet.specs.Corners.{Given, corner_lists};
 ghost use Rattle.labels.specs.Used.{Tied};
 ghost use Rattle.arguments.specs.Shades.{corners_of};
@@ -22,11 +21,11 @@ use extension_common::{ChoiceRule, NotAttached, Search, Trial, TryCellResult};
 use grow_queue::Queue;
 use passes::{Counts, GrowStats};
 use refusal::Refusal;
-use sheet::{Cell, CornerArrays};
+use sheet::{Cell, CornerArrays, NO_CORNERS};
 use sizes::CORNERS;
 
 // The settings of a call, and the numbers of the pass.
-// Stays: each pass has its own radius and rule; a generic struct of `passes` would share two fields and turn these methods into functions (d).
+// Stays: each pass has its own numbers; a generic struct of `passes` would share two fields and turn these methods into functions (d).
 #[derive(Clone, Copy)]
 pub struct GrowSetup {
     pub settings: Settings,
@@ -60,19 +59,17 @@ impl GrowSetup {
     }
 }
 
-// A run: the corners, of which there are `count`, and how they are searched; the lent sheet, the lent list of the cells that are new, which corners
-// are used, and the counts so far. The queue stands beside it.
+// A run: the corners, and how they are searched; the lent sheet, the lent list of the cells that are new, which corners are used, and the counts so
+// far. The queue stands beside it.
 #[derive(Drop)]
 pub struct Growing<'a> {
     pub corners: &'a CornerArrays,
-    pub count: usize,
     pub setup: GrowSetup,
     pub sheet: &'a mut [u16],
     pub attached: &'a mut [u16],
     pub used: [bool; CORNERS],
     pub counts: Counts,
-    ghost few: { count ≤ corner_limit },
-    ghost given: { Given count sheet.now },
+    ghost given: { Given corners.now.count.number sheet.now },
     ghost tied: { Tied sheet.now used },
     ghost within: { counts.attached ≤ length attached.now },
 }
@@ -80,7 +77,9 @@ pub struct Growing<'a> {
 impl<'a> Growing<'a> {
     ghost use Rattle.passes.specs.Grow.{grow_with, grow_visit, grow_run};
     ghost use Rattle.sheet.specs.Cells.{OnSheet};
-    ghost use Rattle.grow_extend.specs.Grow.{found_at, state_of, held, stats_of, Left, Leaves, Attachable, Settleable, Visitable, Startable};
+    ghost use Rattle.sheet.specs.Words.{hole_marked};
+    ghost use Rattle.passes.specs.Counting.{one_more};
+    ghost use Rattle.grow_extend.specs.Grow.{found_at, state_of, held, stats_of, SmallCounts, SameRun, Left, Leaves, Attachable, Settleable, Visitable, Startable};
 
     // What is found at a cell: it is tried at its prediction; one with no labelled neighbour has no candidate.
     fn try_cell(&self, c: Cell) -> TryCellResult
@@ -91,7 +90,6 @@ impl<'a> Growing<'a> {
         let trial = Trial {
             held: HeldCorners {
                 corners: self.corners,
-                count: self.count,
                 used: &self.used,
             },
             sheet: self.sheet,
@@ -115,6 +113,19 @@ impl<'a> Growing<'a> {
         self.counts = passes::one_more(Ok(k), self.counts);
     }
 
+    // Marks a hole, and counts why no corner was attached there.
+    fn mark_hole(&mut self, c: Cell, why: NotAttached)
+        requires on { OnSheet c }
+        requires small { SmallCounts self.old.counts }
+        ensures same { SameRun self.old self.new }
+        ensures same_list { self.new.attached.now ≡ self.old.attached.now }
+        ensures marked { self.new.sheet.now ≡ hole_marked self.old.sheet.now c }
+        ensures counted { self.new.counts ≡ one_more (Err why) self.old.counts }
+    {
+        sheet::mark_hole(self.sheet, c);
+        self.counts = passes::one_more(Err(why), self.counts);
+    }
+
     // Settles a cell by what was found there: no candidate and refused edges mark a hole, an ambiguous choice marks ambiguous, and a corner
     // found is attached.
     fn settle(&mut self, queue: &mut Queue, c: Cell, found: TryCellResult)
@@ -123,16 +134,12 @@ impl<'a> Growing<'a> {
     {
         match found {
             Ok(k) => self.attach_corner(queue, c, k),
-            Err(why) => match why {
-                NotAttached::NoCandidates | NotAttached::EdgeRejected => {
-                    sheet::mark_hole(self.sheet, c);
-                    self.counts = passes::one_more(found, self.counts);
-                }
-                NotAttached::Ambiguous => {
-                    sheet::mark_ambiguous(self.sheet, c);
-                    self.counts = passes::one_more(found, self.counts);
-                }
-            },
+            Err(NotAttached::NoCandidates) => self.mark_hole(c, NotAttached::NoCandidates),
+            Err(NotAttached::EdgeRejected) => self.mark_hole(c, NotAttached::EdgeRejected),
+            Err(NotAttached::Ambiguous) => {
+                sheet::mark_ambiguous(self.sheet, c);
+                self.counts = passes::one_more(found, self.counts);
+            }
         }
     }
 
@@ -172,7 +179,7 @@ impl<'a> Growing<'a> {
 }
 
 // The pass on arguments that are accepted: which corners are used, the seeds, the run, and the rim at its end.
-// Stays: three buffers that the public call is lent one by one; the queue becomes a struct of its own, the other two go into the run (a).
+// Stays: the public call is lent them one by one; here the queue becomes a struct of its own, and the other two go into the run (d).
 fn extend(
     corners: LentCorners,
     sheet: &mut [u16],
@@ -187,13 +194,12 @@ fn extend(
         ≡ grow_leaves (Outcome.done (grow_after (corners_of (lists_of corners.entry) corners.entry.shades.now)
         settings params sheet.old)) sheet.old queue.old attached.old }
 {
-    let mut held = CornerArrays::new();
+    let mut held = NO_CORNERS;
     corners.hold(&mut held);
     let used = labels::mark_used(sheet);
     let mut queue = Queue::new(queue);
     let mut growing = Growing {
         corners: &held,
-        count: corners.xs.len(),
         setup: GrowSetup { settings, params },
         sheet,
         attached,
@@ -207,7 +213,7 @@ fn extend(
 // Grow on the corners, their shades and the sheet that are lent. A refusal says why and changes nothing. Else the sheet holds what grow
 // left, the queue holds the visited cells in order, the attached list the new cells in order, the rest of both untouched, and the answer
 // has the counts and the rim. `said` is the same answer in 01's number or values.
-// Stays: the public calls of the passes lend slice by slice, as 01 has it and as the C interface does.
+// Stays: the public calls of the passes lend slice by slice, as 01 has it and as the C interface does (a).
 pub fn extend_from_labelled(
     xs: &[f32],
     ys: &[f32],

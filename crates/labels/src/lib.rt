@@ -23,6 +23,7 @@ pub fn is_labelled(word: u16) -> bool
 }
 
 // How many cells are labelled.
+// Stays: a sheet is a lent slice, which may be longer than its places (01, the C interface), so that each function asks it (a).
 pub fn label_count(sheet: &[u16]) -> usize
     requires { place_count ≤ length sheet.now }
     ensures { result ≡ label_count sheet.now }
@@ -88,6 +89,7 @@ pub fn widen(around: Option<Bounds>, c: Cell) -> Option<Bounds>
 }
 
 // The label box of a sheet: the lowest and highest labelled i and j, or empty.
+// Stays: as `label_count` (a).
 #[tactic(auto, using(sheet::proofs::Blank::rest_below))]
 pub fn label_box(sheet: &[u16]) -> Option<Bounds>
     requires { place_count ≤ length sheet.now }
@@ -104,7 +106,7 @@ fn is_outermost(line: i32, depth: u32) -> bool
     requires { depth ≤ 64 }
     ensures { result ≡ outermost depth line }
 {
-    line < depth as i32 - 64 || line > 63 - depth as i32
+    !(depth as i32 - 64..=63 - depth as i32).contains(&line)
 }
 
 // Whether a cell lies in the outermost `depth` rings of the sheet.
@@ -139,6 +141,7 @@ fn note_used(used: &mut [bool; CORNERS], word: u16)
 }
 
 // Which corners the sheet has: entry k says whether the corner k is at one of its places.
+// Stays: as `label_count` (a).
 pub fn mark_used(sheet: &[u16]) -> [bool; CORNERS]
     requires { place_count ≤ length sheet.now }
     ensures { Tied sheet.now result }

@@ -1,5 +1,5 @@
 -- The rounds of local, one after the other, and the whole call: refused, under four labels, or all rounds done. Assumes nothing.
-use Rattle.std.specs.Prelude.{Ok, Err}
+use Rattle.std.specs.Prelude.{None, Ok, Err}
 use mathlib.Core.Path.{◌≡◌, refl, sym, ap, ◌∙◌, subst}
 use mathlib.Core.Bool.{Bool}
 use mathlib.Core.List.{List}
@@ -52,7 +52,6 @@ rounds_left_as e l = rw e l
 pub record Rounding (set : Settings) (p : LocalExtensionParams) (limit : ℕ) (cs : Corners) (before work : LocalWork) (rounds : ℕ) : Type 0 where
   pub remaining : Remaining (local_pass cs set p) limit (state_in before) (state_in work) rounds
   pub few : limit ≤ 64
-  pub shallow : p.extend_depth ≤ 4
   pub counted : visits work.progress.counts ≤ 16384 * rounds
   pub left : Left before work (state_in work)
 
@@ -62,14 +61,13 @@ module _ {set : Settings} {p : LocalExtensionParams} {limit : ℕ} {cs : Corners
       record {
         remaining = remaining_all (local_pass cs set p) limit (state_in before);
         few = omega (arith, e, ap (λ (x : LocalExtensionParams). x.max_iters) q, f.rounds_few);
-        shallow = rw q f.shallow;
         counted = omega (arith, ap (λ (at : LocalProgress). visits at.counts) f.unstarted);
         left = stands before.extending;
       }
 
   module _ {work : LocalWork} {rounds : ℕ} (g : Rounding set p limit cs before work rounds) where
-    pub rounding_asked : rounds < limit → work.setup.params ≡ p → RoundAsked work
-    rounding_asked h e = record { shallow = rw e g.shallow; countable = omega (arith, g.counted, g.few) }
+    pub rounding_asked : rounds < limit → RoundAsked work
+    rounding_asked h = record { countable = omega (arith, g.counted, g.few) }
 
     pub rounding_end : limit ≤ rounds → rounds ≤ limit → RoundsLeft before work limit (local_from cs set p limit (start_in before))
     unfolding local_from
@@ -103,12 +101,21 @@ module _ {set : Settings} {p : LocalExtensionParams} {limit : ℕ} {cs : Corners
                 (remaining_more (local_pass cs set p) limit (state_in before)
                 g.remaining h (λ d. e (l.made_is ∙ d ∙ sym g.left.made_is)));
             few = g.few;
-            shallow = g.shallow;
             counted = omega (arith, g.counted, ap visits l.counts_are, round_counted cs set p (state_in work));
             left = left_as (holds_state l) whole;
           }
 
 -- ---- the pass
+
+-- nothing done yet, a number at a time
+pub at_start : {at : LocalProgress}
+    → ((at.counts.attached ≡ 0) × ((at.counts.rejected_no_candidate ≡ 0) × ((at.counts.rejected_ambiguous ≡ 0) × (at.counts.rejected_edge ≡ 0))))
+    × ((at.residual ≡ None) × (at.unmatched ≡ 0)) → at ≡ no_progress
+at_start d = λ t. record {
+  counts = record { attached = d.0.0 t; rejected_no_candidate = d.0.1.0 t; rejected_ambiguous = d.0.1.1.0 t; rejected_edge = d.0.1.1.1 t };
+  residual = d.1.0 t;
+  unmatched = d.1.1 t;
+}
 
 -- the same start
 start_is : {sheet sheet' list list' : List ℕ} {at at' : LocalProgress} → sheet ≡ sheet' → list ≡ list' → at ≡ at' → start_of sheet list at ≡ start_of sheet' list' at'
@@ -131,7 +138,6 @@ module _ (corners : CornerLists) (shades sheet list : List ℕ) (set : Settings)
     accepted_extending w h t e =
         record {
           given = a.given;
-          few = a.few;
           one_cell = a.one_cell;
           tied = t;
           list_long = a.attached_long;
@@ -145,7 +151,6 @@ module _ (corners : CornerLists) (shades sheet list : List ℕ) (set : Settings)
     accepted_asked q e =
         record {
           unstarted = e;
-          shallow = rw q a.pass_inside.depth;
           rounds_few = rw q a.pass_inside.rounds;
         }
 

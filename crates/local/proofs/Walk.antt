@@ -23,11 +23,11 @@ use Rattle.positions_policy.specs.declared.Tolerances.{Tolerances}
 use Rattle.passes.specs.Counting.{visits}
 use Rattle.passes.specs.Local.{depth_of, local_region, local_cells, LocalState, local_visit, local_round}
 use Rattle.passes.proofs.Over.{over_read, over_over}
-use Rattle.region.specs.Region.{Region, RegionFound, Telling, region_at}
+use Rattle.region.specs.Region.{RegionFound, region_at}
+use Rattle.region.specs.declared.Region.{Region}
 use Rattle.region.specs.Windowed.{InWindow, NextIn}
 use Rattle.region.proofs.Told.{region_is}
 use Rattle.region.proofs.Jumps.{jumps, told_far}
-use Rattle.region.proofs.Near.{box_small}
 use Rattle.region.proofs.Places as places
 use Rattle.region.proofs.Places.{Elsewhere, walked_all, walked_start, walked_most, looked, looked_out, looked_labelled, looked_bare, looked_grows, looked_most, walk_grows}
 use Rattle.remembered.proofs.Attach.{clear_same, clear_else}
@@ -37,9 +37,8 @@ use Rattle.local_cell.specs.Work.{state_in, SamePass, Left, Trying}
 use Rattle.local_cell.specs.declared.LocalProgress.{LocalProgress}
 use Rattle.local_cell.specs.declared.LocalWork.{LocalWork}
 use Rattle.local_cell.proofs.Visit.{Tried, passed, attaches, tried, tried_grows, tried_counted, attaching, untouched, left_as}
-use Rattle.local.specs.Rounds.{region_in, RoundOf, tried_at, looked_at}
+use Rattle.local.specs.Rounds.{RoundOf, tried_at, looked_at}
 use Rattle.local.specs.declared.Round.{Round}
-use Rattle.local.proofs.Depth.{depth_in}
 
 -- ---- a round
 
@@ -92,19 +91,10 @@ module _ (cs : Corners) (set : Settings) (p : LocalExtensionParams) where
 pub listed : (sheet : List ℕ) {labelled : List ℕ} → labelled ≡ labelled_places sheet → All (λ (p : ℕ). p < 16384) labelled
 listed sheet e = rw e (All-from_get_or (λ (p : ℕ). p < 16384) (labelled_places sheet) 0 (places_in_lem sheet))
 
--- each place of the sheet can be told
-pub telling : {p : LocalExtensionParams} {sheet : List ℕ} {round : Round} {q : ℕ} → RoundOf sheet p round → p.extend_depth ≤ 4 → q < 16384 → Telling (region_in round) q round.depth
-telling {p} {sheet} r shallow below =
-    record {
-      below = below;
-      shallow = rw r.deep (depth_in p shallow);
-      small = rw r.found.around_is (box_small sheet);
-    }
-
 -- a place outside of the window is not tried
 out_not : {p : LocalExtensionParams} {sheet : List ℕ} {round : Round} → RoundOf sheet p round → (now : List ℕ) (q : ℕ) → q < 16384 → (InWindow round.window q → ⊥)
-    → tried_at round.depth (region_in round) now q ≡ false
-out_not {p} {sheet} {round} r now q h out = rw (told_far round.depth sheet (region_in round) round.window q r.found r.windowed h out)
+    → tried_at round.depth round.region now q ≡ false
+out_not {p} {sheet} {round} r now q h out = rw (told_far round.depth sheet round.region round.window q r.found r.windowed h out)
 
 pub tried_parts : (inside labelled : Bool) → (inside && not labelled) ≡ true → (inside ≡ true) × (labelled ≡ false)
 tried_parts true true e = absurd (true≢false (sym e))
@@ -204,27 +194,27 @@ module _ {set : Settings} {p : LocalExtensionParams} {cs : Corners} {before : Lo
 
   module _ {round : Round} (o : RoundOf before.sheet.now p round) {work : LocalWork} where
     -- a place that is not tried changes nothing
-    pub walking_missed : {n : ℕ} → Walking set p cs before work n → n < 16384 → tried_at round.depth (region_in round) work.sheet.now n ≡ false
+    pub walking_missed : {n : ℕ} → Walking set p cs before work n → n < 16384 → tried_at round.depth round.region work.sheet.now n ≡ false
         → Walking set p cs before work (n + 1)
     walking_missed {n} w h e = walking_more w h o.found (untouched work.extending (same (rw o.deep at e)))
       where
-        same : tried_at (depth_of p) (region_in round) work.sheet.now n ≡ false → looked_at cs set p (region_in round) n (state_in work) ≡ state_in work
-        same f = go (region_at (depth_of p) (region_in round) n) (is_labelled (get_or work.sheet.now n 0)) refl refl f
+        same : tried_at (depth_of p) round.region work.sheet.now n ≡ false → looked_at cs set p round.region n (state_in work) ≡ state_in work
+        same f = go (region_at (depth_of p) round.region n) (is_labelled (get_or work.sheet.now n 0)) refl refl f
           where
-            go : (inside labelled : Bool) → region_at (depth_of p) (region_in round) n ≡ inside → is_labelled (get_or work.sheet.now n 0) ≡ labelled → (inside && not labelled) ≡ false
-                → looked_at cs set p (region_in round) n (state_in work) ≡ state_in work
-            go true true i l z = looked_labelled (local_visit cs set p) (λ t. t.sheet) (region_at (depth_of p) (region_in round) n) n (state_in work) h i l
+            go : (inside labelled : Bool) → region_at (depth_of p) round.region n ≡ inside → is_labelled (get_or work.sheet.now n 0) ≡ labelled → (inside && not labelled) ≡ false
+                → looked_at cs set p round.region n (state_in work) ≡ state_in work
+            go true true i l z = looked_labelled (local_visit cs set p) (λ t. t.sheet) (region_at (depth_of p) round.region n) n (state_in work) h i l
             go true false i l z = absurd (true≢false z)
-            go false labelled i l z = looked_out (local_visit cs set p) (λ t. t.sheet) (region_at (depth_of p) (region_in round) n) n (state_in work) i
+            go false labelled i l z = looked_out (local_visit cs set p) (λ t. t.sheet) (region_at (depth_of p) round.region n) n (state_in work) i
 
     -- to the next place of the window
     pub walking_jumps : {n r : ℕ} → Walking set p cs before work n → NextIn round.window n r → Walking set p cs before work r
     walking_jumps w t = jumps round.window (Walking set p cs before work) (λ q h out v. walking_missed v h (out_not o work.sheet.now q h out)) t w
 
     -- a place that is tried: its cell is bare, and its visit is what the round does there
-    module _ {n : ℕ} (w : Walking set p cs before work n) (h : n < 16384) (t : tried_at round.depth (region_in round) work.sheet.now n ≡ true) {c : Cell} (is : c ≡ cell_of n) where
-      parts : (region_at round.depth (region_in round) n ≡ true) × (is_labelled (get_or work.sheet.now n 0) ≡ false)
-      parts = tried_parts (region_at round.depth (region_in round) n) (is_labelled (get_or work.sheet.now n 0)) t
+    module _ {n : ℕ} (w : Walking set p cs before work n) (h : n < 16384) (t : tried_at round.depth round.region work.sheet.now n ≡ true) {c : Cell} (is : c ≡ cell_of n) where
+      parts : (region_at round.depth round.region n ≡ true) × (is_labelled (get_or work.sheet.now n 0) ≡ false)
+      parts = tried_parts (region_at round.depth round.region n) (is_labelled (get_or work.sheet.now n 0)) t
 
       pub tried_trying : visits before.progress.counts ≤ 4294950912 → Trying work c
       tried_trying m =
@@ -239,4 +229,4 @@ module _ {set : Settings} {p : LocalExtensionParams} {cs : Corners} {before : Lo
           → Left work work' (local_visit cs set p c (state_in work)) → Walking set p cs before work' (n + 1)
       walking_tried l =
           walking_more w h o.found
-          (left_as (looked_bare (local_visit cs set p) (λ t. t.sheet) (region_at (depth_of p) (region_in round) n) n (state_in work) h (rw o.deep at parts).0 c is parts.1) l)
+          (left_as (looked_bare (local_visit cs set p) (λ t. t.sheet) (region_at (depth_of p) round.region n) n (state_in work) h (rw o.deep at parts).0 c is parts.1) l)

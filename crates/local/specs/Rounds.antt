@@ -7,7 +7,8 @@ use Rattle.arguments.specs.declared.LocalExtensionParams.{LocalExtensionParams}
 use Rattle.passes.specs.Counting.{no_counts, visits}
 use Rattle.passes.specs.Local.{depth_of, LocalState, LocalRounds, local_visit, unmatched_if}
 use Rattle.passes.specs.declared.LocalStats.{LocalStats}
-use Rattle.region.specs.Region.{Region, RegionFound, region_of, region_at}
+use Rattle.region.specs.Region.{RegionFound, region_at}
+use Rattle.region.specs.declared.Region.{Region}
 use Rattle.region.specs.Windowed.{Windowed}
 use Rattle.region.specs.Places.{place_visited}
 use Rattle.local_cell.specs.Extending.{state_of}
@@ -18,15 +19,11 @@ use Rattle.local.specs.declared.Round.{Round}
 
 -- ---- a round
 
--- what tells the cells of a round
-abbrev pub region_in : Round → Region
-region_in round = region_of round.around round.rows round.columns
-
 -- a round that starts with a sheet
 pub record RoundOf (sheet : List ℕ) (p : LocalExtensionParams) (round : Round) : Type 0 where
-  pub found : RegionFound sheet (region_in round)
+  pub found : RegionFound sheet round.region
   pub deep : round.depth ≡ depth_of p
-  pub windowed : Windowed round.depth round.around round.window
+  pub windowed : Windowed round.depth round.region.around round.window
 
 -- the cell of a place is one that a round tries: it lies in the region and is unlabelled now
 abbrev pub tried_at : ℕ → Region → List ℕ → ℕ → Bool
@@ -36,9 +33,8 @@ tried_at depth region sheet place = region_at depth region place && not (is_labe
 abbrev pub looked_at : Corners → Settings → LocalExtensionParams → Region → ℕ → LocalState → LocalState
 looked_at cs set p region place s = place_visited (local_visit cs set p) (λ t. t.sheet) (region_at (depth_of p) region place) place s
 
--- a round is to be done: the depth is that of an accepted call, and all visits can be counted
+-- a round is to be done: all visits can be counted
 pub record RoundAsked (work : LocalWork) : Type 0 where
-  pub shallow : work.setup.params.extend_depth ≤ 4
   pub countable : visits work.progress.counts ≤ 4294950912
 
 -- ---- all rounds
@@ -53,10 +49,9 @@ start_of sheet list at = record { state = state_of sheet list at; rounds = 0 }
 abbrev pub start_in : LocalWork → LocalRounds
 start_in w = start_of w.sheet.now w.attached.now w.progress
 
--- all rounds are to be done, and nothing is done yet: rounds and depth are those of an accepted call
+-- all rounds are to be done, and nothing is done yet: the rounds are those of an accepted call
 pub record RoundsAsked (work : LocalWork) : Type 0 where
   pub unstarted : work.progress ≡ no_progress
-  pub shallow : work.setup.params.extend_depth ≤ 4
   pub rounds_few : work.setup.params.max_iters ≤ 64
 
 -- what some rounds leave: the buffers hold the state after them, and the answer is how many rounds there were

@@ -4,7 +4,7 @@
 
 #![tactic(auto)]
 
-ghost use Rattle.std.specs.Prelude.{◌≡◌, ◌≤◌, length, Ok};
+ghost use Rattle.std.specs.Prelude.{◌≡◌, ◌<◌, ◌≤◌, length, Ok};
 ghost use Rattle.sizes.specs.Sizes.{place_count};
 ghost use Rattle.sheet.specs.Corners.{corner_lists};
 ghost use Rattle.arguments.specs.Shades.{corners_of};
@@ -16,28 +16,24 @@ ghost use Rattle.passes.specs.Said.{local_values, local_said, outcome_due};
 ghost use Rattle.arguments.specs.Accepted.{Accepted};
 ghost use Rattle.labels.specs.Labelled.{labelled_places};
 ghost use Rattle.labels.specs.Rim.{rim};
-ghost use Rattle.region.specs.Region.{Telling};
 ghost use Rattle.local_cell.specs.Extending.{state_of};
 ghost use Rattle.local_cell.specs.Work.{held, state_in, SamePass, Left, RecallsIn};
-ghost use Rattle.local.specs.Rounds.{region_in, RoundOf, tried_at, RoundAsked, no_progress, start_in, RoundsAsked, RoundsLeft, stats_of};
+ghost use Rattle.local.specs.Rounds.{RoundOf, tried_at, RoundAsked, start_in, RoundsAsked, RoundsLeft, stats_of};
 
 use arguments::{LentCorners, LocalExtensionParams, Pass, Settings};
-use labels::Bounds;
 use local_cell::{LocalProgress, LocalSetup, LocalWork};
-use passes::{Counts, LocalStats};
+use passes::LocalStats;
 use refusal::Refusal;
-use region::Window;
+use region::{Region, Window};
 use remembered::Memory;
-use sheet::CornerArrays;
+use sheet::NO_CORNERS;
 use sizes::CORNERS;
 use supports::Labelled;
 
-// What a round walks: the label box, which rows and which columns have a label, the depth, and the window within which all its cells lie.
+// What a round walks: what tells its cells, the depth, and the window within which all its cells lie.
 #[derive(Clone, Copy)]
 struct Round {
-    around: Option<Bounds>,
-    rows: [bool; 128],
-    columns: [bool; 128],
+    region: Region,
     depth: u32,
     window: Window,
 }
@@ -53,27 +49,26 @@ fn depth_of(params: LocalExtensionParams) -> u32
 impl Round {
     // Whether the round tries the cell of a place: it lies in the region and is unlabelled.
     fn is_tried(&self, work: &LocalWork, place: usize) -> bool
-        requires telling { Telling (region_in self.now) place self.now.depth }
-        requires long { place_count ≤ length work.now.sheet.now }
-        ensures { result ≡ tried_at self.now.depth (region_in self.now) work.now.sheet.now place }
+        requires { place < place_count }
+        ensures { result ≡ tried_at self.now.depth self.now.region work.now.sheet.now place }
     {
-        region::is_local_cell(self.around, &self.rows, &self.columns, place, self.depth)
-            && !labels::is_labelled(work.sheet[place])
+        self.region.is_local_cell(place, self.depth) && !labels::is_labelled(work.sheet[place])
     }
 }
 
 // What a round walks that starts with the sheet of now.
 fn round_of(work: &LocalWork) -> Round
-    requires { RoundAsked work.now }
     ensures { RoundOf work.now.sheet.now work.now.setup.params result }
 {
     let labelled = work.labelled.as_slice();
     let around = labels::label_box(work.sheet);
     let depth = depth_of(work.setup.params);
     Round {
-        around,
-        rows: region::rows_of(labelled),
-        columns: region::columns_of(labelled),
+        region: Region {
+            around,
+            rows: region::rows_of(labelled),
+            columns: region::columns_of(labelled),
+        },
         depth,
         window: region::window_of(around, depth),
     }
@@ -95,17 +90,6 @@ fn local_round(work: &mut LocalWork)
     }
 }
 
-// Nothing done yet.
-fn no_progress() -> LocalProgress
-    ensures { result ≡ no_progress }
-{
-    LocalProgress {
-        counts: Counts::default(),
-        residual: None,
-        unmatched: 0,
-    }
-}
-
 // Round after round, until one attaches nothing or the limit is reached; a limit of 0 does none. Answers how many rounds there were.
 fn local_rounds(work: &mut LocalWork) -> usize
     requires asked { RoundsAsked work.old }
@@ -116,7 +100,7 @@ fn local_rounds(work: &mut LocalWork) -> usize
         work.old.setup.params.max_iters (start_in work.old)) }
 {
     let limit = work.setup.params.max_iters as usize;
-    // Stays: no chain, whose closure would write the sheet: a proof knows nothing of what a closure of a chain has written.
+    // Stays: a round that attaches nothing ends it; one function for this and fill's takes two closures over what they write, with a clause each (d).
     for rounds in 0..limit {
         let before = work.progress.counts.attached;
         local_round(work);
@@ -129,7 +113,7 @@ fn local_rounds(work: &mut LocalWork) -> usize
 
 // Whether the labels of now reach the rim.
 fn rim_of(work: &LocalWork, depth: u32) -> bool
-    requires { (place_count ≤ length work.now.sheet.now) × (depth ≤ 64) }
+    requires { depth ≤ 64 }
     ensures { result ≡ rim depth work.now.sheet.now }
 {
     labels::rim_reached(work.sheet, depth)
@@ -175,15 +159,14 @@ fn local_accepted(
     let mut labelled = Labelled::new();
     labelled.gather(sheet);
     let labels = labelled.count;
-    let progress = no_progress();
+    let progress = LocalProgress::default();
     if labels < 4 {
         return stats_of(progress, 0, labels::rim_reached(sheet, depth), shaded);
     }
-    let mut held = CornerArrays::new();
+    let mut held = NO_CORNERS;
     corners.hold(&mut held);
     let setup = LocalSetup {
         corners: &held,
-        count: corners.xs.len(),
         settings,
         params,
     };
@@ -207,7 +190,7 @@ fn local_accepted(
 // is the last, and under four labels there is none. The attached list holds the new cells' places in order at its front, its rest untouched; no other mark
 // changes. The answer has the four counts, the number of rounds, the largest residual recorded, the rim, and, if any shade stands, how many
 // corners were passed over for their kind. A refused call changes nothing and answers why. `said` is the same answer in 01's number or values.
-// Stays: the C interface lends these lists, and each pass has its own settings and answer.
+// Stays: the public calls of the passes lend slice by slice, as 01 has it and as the C interface does (a).
 pub fn extend_via_local_homography(
     xs: &[f32],
     ys: &[f32],

@@ -131,8 +131,8 @@ module _ (set : Settings) (p : LocalExtensionParams) {cs : Corners} {sheet list 
 -- ---- where the fit maps a cell to
 
 -- what is remembered holds of a pass that is given the same
-pub recalls_given : {g g' : LocalSetup} {sheet : List ℕ} {work : LocalWork} → g' ≡ g → Recalls g.settings g.params (corners_in g.corners.now g.count) sheet work
-    → Recalls g'.settings g'.params (corners_in g'.corners.now g'.count) sheet work
+pub recalls_given : {g g' : LocalSetup} {sheet : List ℕ} {work : LocalWork} → g' ≡ g → Recalls g.settings g.params (corners_in g.corners.now) sheet work
+    → Recalls g'.settings g'.params (corners_in g'.corners.now) sheet work
 recalls_given e r = rw e r
 
 module _ {set : Settings} {p : LocalExtensionParams} {cs : Corners} {sheet : List ℕ} {work : LocalWork} (r : Recalls set p cs sheet work) where

@@ -196,7 +196,6 @@ module _ {n : ℕ} {sheet list : List ℕ} {used : List Bool} {labelled : Labell
   extending_as u p m =
       record {
         given = f.given;
-        few = f.few;
         one_cell = f.one_cell;
         tied = rw u f.tied;
         list_long = f.list_long;
@@ -211,7 +210,6 @@ pub list_written : {n : ℕ} {sheet list : List ℕ} {used : List Bool} {labelle
 list_written i v f =
     record {
       given = f.given;
-      few = f.few;
       one_cell = f.one_cell;
       tied = f.tied;
       list_long = rw length-set f.list_long;
@@ -226,12 +224,12 @@ untouched f e = rw e (stands f)
 
 module _ {work : LocalWork} {c : Cell} {k : ℕ} (t : Taking work c k) where
   pub taking_fits : k < 1024
-  taking_fits = omega (arith, t.there, work.extending.few)
+  taking_fits = omega (arith, t.there, work.setup.corners.now.count.few)
 
   pub taking_attaching : Attaching work.sheet.now c k
   taking_attaching = record { long = work.extending.given.long; on = t.trying.on; bare = t.trying.bare; corner_fits = omega (arith, taking_fits) }
 
-  given' : Given work.setup.count (attached_clear work.sheet.now c k)
+  given' : Given work.setup.corners.now.count.number (attached_clear work.sheet.now c k)
   given' = clear_given taking_attaching work.extending.given t.there
 
   one' : OneCell (attached_clear work.sheet.now c k)
@@ -239,7 +237,7 @@ module _ {work : LocalWork} {c : Cell} {k : ℕ} (t : Taking work c k) where
 
   -- the new labels are few
   pub taking_few : label_count (attached_clear work.sheet.now c k) ≤ 1024
-  taking_few = omega (arith, labels_few given' one', work.extending.few)
+  taking_few = omega (arith, labels_few given' one', work.setup.corners.now.count.few)
 
   -- there is a place left in the list
   pub taking_room : work.progress.counts.attached < length work.attached.now
@@ -280,7 +278,7 @@ module _ {work : LocalWork} {c : Cell} {k : ℕ} (t : Taking work c k) where
   -- and all may go on
   pub took_extending : {first second : List ℕ} (place : ℕ) {labelled' : Labelled} {at' : LocalProgress} → first ≡ attached work.sheet.now c k → second ≡ marks_cleared first c
       → Gathered second work.labelled.places labelled'.places labelled'.count → at'.counts ≡ one_more (Ok k) work.progress.counts
-      → Extending work.setup.count second (set work.attached.now work.progress.counts.attached place) (set work.used k true) labelled' at'
+      → Extending work.setup.corners.now.count.number second (set work.attached.now work.progress.counts.attached place) (set work.used k true) labelled' at'
   took_extending place {labelled'} {at'} e g w h =
       let f = work.extending in
       let m : at'.counts.attached ≡ work.progress.counts.attached + 1 = ap (λ (x : Counts). x.attached) h in
@@ -289,7 +287,6 @@ module _ {work : LocalWork} {c : Cell} {k : ℕ} (t : Taking work c k) where
       rw is
       (record {
         given = given';
-        few = f.few;
         one_cell = one';
         tied = clear_tied taking_attaching taking_fits f.tied;
         list_long = rw length-set f.list_long;
@@ -301,9 +298,6 @@ module _ {work : LocalWork} {c : Cell} {k : ℕ} (t : Taking work c k) where
 
 -- ---- by what was found
 
-pub reason_is : {why e : NotAttached} → why ≡ e → ◌≡◌ {A = TryCellResult} (Err why) (Err e)
-reason_is h = rw h refl
-
 -- what was found is what the definition finds
 pub found_is : (cs : Corners) (sheet : List ℕ) (c : Cell) (prediction : Position) {tol tol' : Tolerances} {search search' : Search} {r : TryCellResult} → search' ≡ search → tol' ≡ tol
     → r ≡ try_at cs sheet tol' search' c prediction → r ≡ try_at cs sheet tol search c prediction
@@ -311,10 +305,10 @@ found_is cs sheet c prediction s t e = e ∙ rw (t, s)
 
 -- what was passed over, by the array of used corners
 pub unmatched_is : (work : LocalWork) (c : Cell) {passed : ℕ} (radius : Float) (prediction : Position)
-    → passed ≡ passed_over (positions_in work.setup.corners.now) (unmarked work.used) (takes (shades_in work.setup.corners.now) c) work.setup.count prediction radius
+    → passed ≡ passed_over (positions_in work.setup.corners.now) (unmarked work.used) (takes (shades_in work.setup.corners.now) c) work.setup.corners.now.count.number prediction radius
     → passed ≡ unmatched (held work) work.sheet.now radius c prediction
 unmatched_is work c radius prediction e =
-    e ∙ unmatched_tied work.setup.corners.now work.setup.count work.sheet.now work.used radius c prediction work.extending.few work.extending.tied refl
+    e ∙ unmatched_tied work.setup.corners.now work.sheet.now work.used radius c prediction work.extending.tied refl
 
 -- a corner that was found is to be attached
 pub taking : {work : LocalWork} {c : Cell} {k : ℕ} {r : TryCellResult} (tol : Tolerances) (search : Search) (prediction : Position)

@@ -38,12 +38,10 @@ abbrev pub state_of : List ℕ → List ℕ → LocalProgress → LocalState
 state_of sheet list at =
     record { sheet = sheet; made = take at.counts.attached list; counts = at.counts; largest = at.residual; unmatched = at.unmatched }
 
--- what holds between two cells: the sheet belongs to the corners, of which there are at most 1,024, no corner is at two cells, the array says
--- which are used, the attached list has a place for each corner, no more places of it are written than there are labels, there are four
--- labels, and the labelled places are listed
+-- what holds between two cells: the sheet belongs to the corners, no corner is at two cells, the array says which are used, the attached list has
+-- a place for each corner, no more places of it are written than there are labels, there are four labels, and the labelled places are listed
 pub record Extending (n : ℕ) (sheet list : List ℕ) (used : List Bool) (labelled : Labelled) (at : LocalProgress) : Type 0 where
   pub given : Given n sheet
-  pub few : n ≤ corner_limit
   pub one_cell : OneCell sheet
   pub tied : Tied sheet used
   pub list_long : n ≤ length list

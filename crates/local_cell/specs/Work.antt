@@ -21,7 +21,7 @@ use Rattle.local_cell.specs.declared.LocalWork.{LocalWork}
 
 -- the corners that a pass holds
 abbrev pub held : LocalWork → Corners
-held w = corners_in w.setup.corners.now w.setup.count
+held w = corners_in w.setup.corners.now
 
 -- the state that its buffers hold
 abbrev pub state_in : LocalWork → LocalState
@@ -66,7 +66,7 @@ ForetoldIn w c reach prediction = Foretold w.setup.settings w.setup.params (held
 -- a corner that no cell holds is to be attached there
 pub record Taking (w : LocalWork) (c : Cell) (k : ℕ) : Type 0 where
   pub trying : Trying w c
-  pub there : k < w.setup.count
+  pub there : k < w.setup.corners.now.count.number
   pub free : used_on w.sheet.now k ≡ false
 
 -- the buffers after a corner was attached: the sheet, the next place of the attached list, the corner's entry and the labelled places

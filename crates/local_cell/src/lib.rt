@@ -4,7 +4,6 @@
 #![tactic(auto)]
 
 ghost use Rattle.std.specs.Prelude.{◌≡◌, ◌+◌, ◌<◌, ◌≤◌};
-ghost use Rattle.sizes.specs.Sizes.{corner_limit};
 ghost use Rattle.sheet.specs.Cells.{OnSheet};
 ghost use Rattle.sheet.specs.Shades.{any_in};
 ghost use Rattle.passes.specs.Counting.{visits};
@@ -22,22 +21,20 @@ use sizes::CORNERS;
 use supports::{Labelled, Support, SupportFit};
 
 // How far the pass has come: the counts, the largest residual recorded, and how many corners were passed over.
-#[derive(Clone, Copy)]
+#[derive(Clone, Copy, Default)]
 pub struct LocalProgress {
     pub counts: Counts,
     pub residual: Option<f32>,
     pub unmatched: usize,
 }
 
-// What a pass is given beside its buffers: the corners, of which there are `count`, the settings, and the numbers of the pass.
-// Stays: each pass has its own radius and rule; a generic struct of `passes` would share two fields and turn these methods into functions.
+// What a pass is given beside its buffers: the corners, the settings, and the numbers of the pass.
+// Stays: each pass has its own numbers; a generic struct of `passes` would share two fields and turn these methods into functions (d).
 #[derive(Clone, Copy)]
 pub struct LocalSetup<'c> {
     pub corners: &'c CornerArrays,
-    pub count: usize,
     pub settings: Settings,
     pub params: LocalExtensionParams,
-    ghost few: { count ≤ corner_limit },
 }
 
 // A pass: what it is given; the lent sheet; the lent attached list; which corners are used; the labelled places; what is remembered of the cells; and
@@ -51,7 +48,7 @@ pub struct LocalWork<'c, 'a> {
     pub labelled: Labelled,
     pub memory: Memory,
     pub progress: LocalProgress,
-    ghost extending: { Extending setup.count sheet.now attached.now used labelled progress },
+    ghost extending: { Extending setup.corners.now.count.number sheet.now attached.now used labelled progress },
 }
 
 // A cell that is to be tried where its fit maps it to: how far its fourth support is, and the prediction.
@@ -60,6 +57,7 @@ struct Target {
     cell: Cell,
     reach: u32,
     prediction: Position,
+    ghost on: { OnSheet cell },
 }
 
 impl Target {
@@ -99,18 +97,24 @@ impl<'c> LocalSetup<'c> {
         self.params.max_residual_rel * self.settings.grid.cell_size
     }
 
+    // The corners, and which are labelled.
+    fn held<'b>(&'b self, used: &'b [bool; CORNERS]) -> HeldCorners<'b>
+        ensures corners { result.corners.now ≡ self.now.corners.now }
+        ensures used { result.used.now ≡ used.now }
+    {
+        HeldCorners {
+            corners: self.corners,
+            used,
+        }
+    }
+
     // How many unlabelled corners within the radius the cell does not take.
     fn count_unmatched(self, used: &[bool; CORNERS], target: Target) -> usize
-        requires { OnSheet target.cell }
         ensures { result ≡ passed_over (positions_in self.entry.corners.now) (unmarked used.now) (takes (shades_in self.entry.corners.now)
-            target.cell) self.entry.count target.prediction (local_search self.entry.settings self.entry.params).search_r }
+            target.cell) self.entry.corners.now.count.number target.prediction (local_search self.entry.settings self.entry.params).search_r }
     {
         let scan = Scan {
-            held: HeldCorners {
-                corners: self.corners,
-                count: self.count,
-                used,
-            },
+            held: self.held(used),
             kind: sheet::kind_at(target.cell),
             prediction: target.prediction,
         };
@@ -183,18 +187,13 @@ impl<'c, 'a> LocalWork<'c, 'a> {
 
     // The candidates of an unlabelled cell where a fit maps it to, and what is found there with them.
     fn find(&self, target: Target) -> (Candidates, TryCellResult)
-        requires { OnSheet target.cell }
         ensures candidates { result.0 ≡ gathered (held self.now) self.now.sheet.now
             (local_search self.now.setup.settings self.now.setup.params).search_r target.cell target.prediction }
         ensures found { result.1 ≡ try_at (held self.now) self.now.sheet.now (tolerances_of self.now.setup.settings)
             (local_search self.now.setup.settings self.now.setup.params) target.cell target.prediction }
     {
         let trial = Trial {
-            held: HeldCorners {
-                corners: self.setup.corners,
-                count: self.setup.count,
-                used: &self.used,
-            },
+            held: self.setup.held(&self.used),
             sheet: self.sheet,
             c: target.cell,
             search: self.setup.search(),
@@ -207,7 +206,7 @@ impl<'c, 'a> LocalWork<'c, 'a> {
 
     // Tries an unlabelled cell where a fit maps it to: a corner that is found is attached, else nothing is written. Either is counted, and that there
     // is no candidate, or that the choice is ambiguous, is noted where no shade stands.
-    // Stays: `Recalls` tells cases, so that a ghost field would hold it truncated, and each use would owe that its goal, as `foretold`, has one proof at most (d).
+    // Stays: `Trying` is of the cell handed in; `Recalls` tells cases, so a ghost field wants it shown that it has one proof at most, or hides the case (d).
     fn try_candidates_of(&mut self, target: Target)
         requires trying { Trying self.old target.cell }
         requires recalls { RecallsIn self.old }
@@ -225,20 +224,18 @@ impl<'c, 'a> LocalWork<'c, 'a> {
                 let taken = self.setup.corners.corner_at(k);
                 self.attach_corner(c, k, taken.position);
             }
-            Err(why) => match why {
-                NotAttached::NoCandidates => {
-                    let known = target.known(Finding::NoCandidates);
-                    note_if_bare(self.setup.corners, &mut self.memory, c, known);
-                    self.progress.count_cell(found);
-                }
-                NotAttached::Ambiguous => {
-                    let limit = candidates::last_distance(candidates);
-                    let known = target.known(Finding::Ambiguous(target.prediction, limit));
-                    note_if_bare(self.setup.corners, &mut self.memory, c, known);
-                    self.progress.count_cell(found);
-                }
-                NotAttached::EdgeRejected => self.progress.count_cell(found),
-            },
+            Err(NotAttached::NoCandidates) => {
+                let known = target.known(Finding::NoCandidates);
+                note_if_bare(self.setup.corners, &mut self.memory, c, known);
+                self.progress.count_cell(found);
+            }
+            Err(NotAttached::Ambiguous) => {
+                let limit = candidates::last_distance(candidates);
+                let known = target.known(Finding::Ambiguous(target.prediction, limit));
+                note_if_bare(self.setup.corners, &mut self.memory, c, known);
+                self.progress.count_cell(found);
+            }
+            Err(NotAttached::EdgeRejected) => self.progress.count_cell(found),
         }
     }
 

@@ -13,7 +13,7 @@ use refusal::Refusal;
 
 // Runs a pass: its answer, and every lent buffer, are those of the step that it is. Fill and local leave the queue as it was. `small`: what it
 // says is small enough for the words of an outcome.
-// Stays: each buffer is lent by itself, as the C interface lends it (a).
+// Stays: the lists are lent on to the passes, whose public calls lend each by itself (d).
 pub fn call_pass(
     xs: &[f32],
     ys: &[f32],

@@ -23,13 +23,13 @@ fn is_passed_over(scan: &Scan, k: usize, limit: f32) -> bool
 // How many unlabelled corners within the radius a cell of the kind does not take; none if no shade stands, or if the prediction is not finite.
 pub fn count_passed_over(scan: &Scan, search_r: f32) -> usize
     ensures { result ≡ passed_over (positions_in scan.now.held.corners.now) (unmarked scan.now.held.used.now)
-        (takes_kind (shades_in scan.now.held.corners.now) scan.now.kind) scan.now.held.count scan.now.prediction search_r }
+        (takes_kind (shades_in scan.now.held.corners.now) scan.now.kind) scan.now.held.corners.now.count.number scan.now.prediction search_r }
 {
     if !scan.held.corners.is_shaded() || !scan.prediction.is_finite() {
         return 0;
     }
     let limit = search_r * search_r;
-    (0..scan.held.count)
+    (0..scan.held.corners.count.number)
         .filter(|k| is_passed_over(scan, *k, limit))
         .count()
 }

@@ -12,114 +12,82 @@
 
 #![tactic(auto)]
 
-ghost use Rattle.std.specs.Prelude.{◌≡◌, ◌≤◌, ◌<◌, length, IfOk};
+ghost use Rattle.std.specs.Prelude.{◌≤◌, IfOk};
 
-use call_print::{Left, print_call, print_sheet, print_word};
+use call_print::{Left, print_call, print_sheet};
 use call_text::{
-    at_most, has_unknown_kind, header_at, lengths_at, pass_at, read_floats, read_labels,
-    read_shades, settings_at,
+    Told, has_unknown_kind, header_at, lengths_at, pass_at, read_floats, read_labels, read_shades,
+    settings_at,
 };
 use std::io;
 
-// A list's text, and its corners as a call is lent them.
+// A list's text, what it asks to be printed, and its corners as a call is lent them.
 #[derive(Clone, Copy)]
 struct List<'a> {
     text: &'a [u8],
+    told: Told,
     xs: &'a [f32],
     ys: &'a [f32],
     pitches: &'a [f32],
 }
 
+// The sheet, the queue and the attached list that a call is lent.
+#[derive(Drop)]
+struct Buffers<'a> {
+    sheet: &'a mut [u16],
+    queue: &'a mut [u16],
+    attached: &'a mut [u16],
+}
+
+// The first n of a list, or all of it where it has fewer.
+fn front<T>(list: &[T], n: usize) -> &[T] {
+    &list[..n.min(list.len())]
+}
+
+fn front_mut<T>(list: &mut [T], n: usize) -> &mut [T] {
+    let n = n.min(list.len());
+    &mut list[..n]
+}
+
 impl List<'_> {
-    // One call, of one of the three kinds.
-    // Stays: the borrow checker does not cover a struct of the three lists, as a call is lent all of them at once.
+    // One call, of one of the three kinds: it is lent the front of every buffer.
     fn call(
         self,
         rt: &impl Print,
         number: usize,
         at: usize,
-        shades: &[u8],
-        sheet: &mut [u16],
-        queue: &mut [u16],
-        attached: &mut [u16],
+        buffers: &mut Buffers,
     ) -> io::Result<()>
-        requires { at ≤ 9000 }
+        requires le_number { 1 ≤ number }
+        requires at_bound { at ≤ 9000 }
     {
         let text = self.text;
         let pass = pass_at(text, at);
         print_call(rt, number, pass)?;
-        let settings = settings_at(text, at + 1);
+        let lengths = lengths_at(text, at + 12);
+        let shades = read_shades(text, 7, self.xs.len().min(1025), number - 1);
+        let sheet = front_mut(buffers.sheet, lengths.sheet);
+        let queue = front_mut(buffers.queue, lengths.queue);
+        let attached = front_mut(buffers.attached, lengths.attached);
         let answer = pass_call::call_pass(
             self.xs,
-            self.ys,
-            self.pitches,
-            shades,
+            front(self.ys, lengths.ys),
+            front(self.pitches, lengths.pitches),
+            front(&shades, lengths.shades),
             sheet,
             queue,
             attached,
-            settings,
+            settings_at(text, at + 1),
             pass,
         );
         let left = Left {
-            text,
+            told: self.told,
             sheet,
             queue,
             attached,
         };
         left.print_answer(rt, answer)
     }
-
-    // A call that is lent the front of every buffer.
-    // Stays: the borrow checker does not cover a struct of the three lists, as a call is lent all of them at once.
-    fn call_on(
-        self,
-        rt: &impl Print,
-        number: usize,
-        at: usize,
-        sheet: &mut [u16],
-        queue: &mut [u16],
-        attached: &mut [u16],
-    ) -> io::Result<()>
-        requires le_number { 1 ≤ number }
-        requires at_bound { at ≤ 9000 }
-    {
-        let text = self.text;
-        let shades = read_shades(text, 7, at_most(self.xs.len(), 1025), number - 1);
-        let lengths = lengths_at(text, at + 12);
-        let y = at_most(lengths.ys, self.ys.len());
-        let p = at_most(lengths.pitches, self.pitches.len());
-        let s = at_most(lengths.sheet, sheet.len());
-        let q = at_most(lengths.queue, queue.len());
-        let a = at_most(lengths.attached, attached.len());
-        let h = at_most(lengths.shades, 1025);
-        let front = List {
-            text,
-            xs: self.xs,
-            ys: &self.ys[..y],
-            pitches: &self.pitches[..p],
-        };
-        front.call(
-            rt,
-            number,
-            at,
-            &shades[..h],
-            &mut sheet[..s],
-            &mut queue[..q],
-            &mut attached[..a],
-        )
-    }
-}
-
-fn queue_buffer() -> [u16; 4100]
-    ensures { 4100 ≡ length result }
-{
-    [43981u16; 4100]
-}
-
-fn attached_buffer() -> [u16; 1025]
-    ensures { 1025 ≡ length result }
-{
-    [43981u16; 1025]
 }
 
 // The corners and the labels, and then the calls, after each of them the whole sheet; answers how many numbers the list has.
@@ -132,21 +100,26 @@ fn run(rt: &impl Print, text: &[u8]) -> io::Result<usize>
     let ys = read_floats(text, 5, n);
     let pitches = read_floats(text, 6, n);
     let mut sheet = read_labels(text, 4 + 4 * n, h.labels);
-    let mut queue = queue_buffer();
-    let mut attached = attached_buffer();
+    let mut queue = [43981u16; 4100];
+    let mut attached = [43981u16; 1025];
     let list = List {
         text,
+        told: h.told,
         xs: &xs[..n],
         ys: &ys,
         pitches: &pitches,
     };
-    // Stays: the number of the call is printed, and says where the call begins.
+    // Stays: the number of the call is printed, and says where the call begins (d).
     for i in 0..h.count {
-        let at = h.first + 18 * i;
-        list.call_on(rt, i + 1, at, &mut sheet, &mut queue, &mut attached)?;
+        let mut buffers = Buffers {
+            sheet: &mut sheet,
+            queue: &mut queue,
+            attached: &mut attached,
+        };
+        list.call(rt, i + 1, h.first + 18 * i, &mut buffers)?;
         print_sheet(rt, &sheet)?;
         let left = Left {
-            text,
+            told: h.told,
             sheet: &sheet,
             queue: &queue,
             attached: &attached,
@@ -159,10 +132,10 @@ fn run(rt: &impl Print, text: &[u8]) -> io::Result<usize>
 // List after list, up to the end or to one that cannot be run.
 fn run_all(rt: &impl Print, text: &[u8]) -> io::Result<()> {
     let mut rest = text;
-    // Stays: where the next list begins is known only when this one is run, and there the walk may end.
+    // Stays: where the next list begins is known only when this one is run, and there the walk may end (d).
     while !rest.is_empty() {
         if has_unknown_kind(rest) {
-            return print_word(rt, b"not run: a call of an unknown kind\n");
+            return println!(rt; "not run: a call of an unknown kind");
         }
         let numbers = run(rt, rest)?;
         rest = rest.get(9 * numbers..).unwrap_or(&[]);
@@ -170,16 +143,8 @@ fn run_all(rt: &impl Print, text: &[u8]) -> io::Result<()> {
     Ok(())
 }
 
-fn input_buffer() -> [u8; 131072]
-    ensures { 131072 ≡ length result }
-{
-    [0; 131072]
-}
-
 fn main(rt: HostRuntime) -> io::Result<()> {
-    let mut buffer = input_buffer();
-    match recover_read::read_input(&mut rt.stdin(), &mut buffer) {
-        Ok(n) => run_all(&rt, &buffer[..n]),
-        Err(_) => Err(io::Error::other("standard input cannot be read")),
-    }
+    let mut buffer = [0u8; 131072];
+    let n = recover_read::read_input(&mut rt.stdin(), &mut buffer)?;
+    run_all(&rt, &buffer[..n])
 }

@@ -36,14 +36,14 @@ pub enum LocalStep {
 }
 
 // A vector in the picture.
-#[derive(Clone, Copy)]
+#[derive(Clone, Copy, Default)]
 pub struct Vector {
     pub x: f32,
     pub y: f32,
 }
 
 // The axes of i and j, and the cell size.
-#[derive(Clone, Copy)]
+#[derive(Clone, Copy, Default)]
 pub struct Grid {
     pub axis_i: Vector,
     pub axis_j: Vector,
@@ -51,7 +51,7 @@ pub struct Grid {
 }
 
 // The running weighted sums.
-#[derive(Clone, Copy)]
+#[derive(Clone, Copy, Default)]
 pub struct Sums {
     pub x: f32,
     pub y: f32,
@@ -129,7 +129,7 @@ fn step_between(here: Position, f: Option<Corner>, b: Option<Corner>) -> LocalSt
 
 // The step at a neighbour along i or j: half the difference of both sides' positions, or the one-sided difference, or else the
 // axis. (The Rust looks the neighbour's own position up again; here the neighbour has it.)
-// Stays: a neighbour is the definitions' record of a cell and a position too, made there of any cell, so that no ghost field can hold that it is on the sheet (d).
+// Stays: the definitions make the record of a cell and a position of any cell, so that no ghost field can hold that it is on the sheet (d).
 pub fn local_step_at(seeing: Seeing, n: Neighbour, d: Direction) -> LocalStep
     requires { OnSheet n.at }
     ensures { result ≡ step_at (seen_in seeing.entry) n d }
@@ -237,14 +237,9 @@ impl<'a> Predicting<'a> {
     fn sum_neighbours(&self) -> Sums
         ensures { result ≡ sums_of (seen_in self.now.seeing) self.now.grid self.now.c }
     {
-        let none = Sums {
-            x: 0.0,
-            y: 0.0,
-            w: 0.0,
-        };
         SQUARE
             .iter()
-            .fold(none, |sums, o| self.add_if_labelled(sums, *o))
+            .fold(Sums::default(), |sums, o| self.add_if_labelled(sums, *o))
     }
 }
 

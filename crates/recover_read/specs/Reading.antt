@@ -1,6 +1,6 @@
 -- Reading an input to its end: what a read's answer means, and what comes of all reads. Which bytes a read gives, only a reader whose bytes are known says.
 -- Definitions only.
-use Rattle.std.specs.Prelude.{◌≡◌, Bool, true, false, List, [], ◌∷◌, ◌++◌, ℕ, zero, suc, ◌+◌, ◌<◌, ◌≤◌, length, take, drop, Result, Ok, Err, Option, ⊤}
+use Rattle.std.specs.Prelude.{◌≡◌, Bool, true, false, List, [], ◌∷◌, ◌++◌, ℕ, zero, suc, ◌+◌, ◌<◌, ◌≤◌, length, take, Result, Ok, Err, Option, ⊤}
 use Rattle.std.specs.IoError.{error_kind}
 use Rattle.std.specs.declared.io.ErrorKind.{ErrorKind}
 use Rattle.std.specs.declared.io.Error.{Error}
@@ -32,16 +32,11 @@ abbrev pub FitsIn : ℕ → ℕ → Result ℕ NoAnswer → Type 0
 FitsIn at room (Ok n) = at + n ≤ room
 FitsIn at room (Err e) = Unit {0}
 
--- one read into the rest of a buffer: what stands before it is kept
-pub record Refilled (old new : List ℕ) (at : ℕ) (got : Result ℕ NoAnswer) : Type 0 where
-  pub front : take at new ≡ take at old
-  pub fits : FitsIn at (length new) got
-
 -- one read took what it gave from the front of the bytes that the reader has left, where those are known; at the end none is left
-abbrev pub Took : Option (List ℕ) → Option (List ℕ) → List ℕ → ℕ → Result ℕ NoAnswer → Type 0
-Took before after new at (Ok zero) = Keeps before after × IsAtEnd after
-Took before after new at (Ok (suc k)) = Consumes before after (take (suc k) (drop at new))
-Took before after new at (Err e) = Keeps before after
+abbrev pub Took : Option (List ℕ) → Option (List ℕ) → List ℕ → Result ℕ NoAnswer → Type 0
+Took before after rest (Ok zero) = Keeps before after × IsAtEnd after
+Took before after rest (Ok (suc k)) = Consumes before after (take (suc k) rest)
+Took before after rest (Err e) = Keeps before after
 
 -- ---- all reads
 

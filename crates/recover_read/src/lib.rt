@@ -7,7 +7,7 @@
 ghost use Rattle.std.specs.Prelude.{◌≡◌, ◌-◌, ◌^◌, ◌<◌, length};
 ghost use Rattle.std.specs.IoError.{error_kind};
 ghost use Rattle.std.specs.declared.io.ErrorKind.TheVariants.{Other};
-ghost use Rattle.recover_read.specs.Reading.{interrupts, none_by, got_of, FitsIn, Refilled, Took, read_on, ReadInto, TookAll};
+ghost use Rattle.recover_read.specs.Reading.{interrupts, none_by, got_of, FitsIn, Took, read_on, ReadInto, TookAll};
 
 use std::io;
 use std::io::{ErrorKind, Read};
@@ -42,15 +42,14 @@ fn meaning(answer: io::Result<usize>) -> Result<usize, NoAnswer>
     answer.map_err(no_answer)
 }
 
-// One read into the unfilled rest of the buffer; what stands before it is kept.
-// Stays: lent `&mut buffer[at..]` alone, the reading would have to put both parts together again for what it says of the whole buffer (d).
+// One read into the unfilled rest of the buffer.
 #[tactic(auto, unfolding(crate::specs::Reading::got_of))]
-fn read_rest<R: Read>(input: &mut R, buffer: &mut [u8], at: usize) -> Result<usize, NoAnswer>
-    requires { at < length buffer.old }
-    ensures refilled { Refilled buffer.old buffer.new at result }
-    ensures took { Took (R.remaining input.old) (R.remaining input.new) buffer.new at result }
+fn read_rest<R: Read>(input: &mut R, rest: &mut [u8]) -> Result<usize, NoAnswer>
+    requires { 0 < length rest.old }
+    ensures fits { FitsIn 0 (length rest.new) result }
+    ensures took { Took (R.remaining input.old) (R.remaining input.new) rest.new result }
 {
-    let answer = input.read(&mut buffer[at..]);
+    let answer = input.read(rest);
     meaning(answer)
 }
 
@@ -96,7 +95,7 @@ pub fn read_input<R: Read>(input: &mut R, buffer: &mut [u8]) -> Result<usize, Re
     let mut tries = 1000usize;
     // Stays: a read gives as many bytes as it will, so that the step is not 1 (d).
     while at < buffer.len() {
-        match read_on(at, tries, read_rest(input, buffer, at)) {
+        match read_on(at, tries, read_rest(input, &mut buffer[at..])) {
             ControlFlow::Break(answer) => return answer,
             ControlFlow::Continue(so) => (at, tries) = so,
         }

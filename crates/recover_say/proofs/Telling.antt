@@ -1,8 +1,6 @@
 -- Piece by piece: which text is written next, what was said after one more, and that what a run holds says the answer to the text. Assumes nothing.
-use mathlib.Core.Path.{◌≡◌, refl, sym, ap, ◌∙◌, subst}
-use mathlib.Core.Bool.{Bool, true, false}
+use mathlib.Core.Path.{◌≡◌, refl, sym, ap, ◌∙◌}
 use mathlib.Core.List.{List}
-use mathlib.Core.Logic.{⊎_elim}
 use Prim.Native.Nat.{ℕ, zero, suc, ◌+◌, ◌<◌, ◌≤◌}
 use native.Mathlib.Numerals.{add-one}
 use native.Mathlib.Omega.{arith}
@@ -11,13 +9,12 @@ use Rattle.std.proofs.Common.{Result, Ok, Err}
 use lib.Seq.{take_at}
 use borrow.Author.Count.{below_more}
 use Rattle.report_line.specs.Result.{Piece}
-use Rattle.frame_answer.specs.Answer.{answer_lines, held_lines, held_piece, FewPasses, Lent, Recovers, WrotePiece, Moves}
+use Rattle.frame_answer.specs.Answer.{held_lines, held_piece, FewPasses, CanSay, Lent, Recovers, WrotePiece}
 use Rattle.frame.specs.declared.FrameRefusal.{FrameRefusal}
 use Rattle.frame_answer.specs.declared.Recovered.{Recovered}
 use Rattle.report.specs.declared.lines.PieceEnd.{PieceEnd}
 use Rattle.frame_answer.proofs.Saying.{says}
-use Rattle.frame.specs.Frame.{read_frame}
-use Rattle.recover_say.specs.Said.{line_after, SaidOf, Told, held_from, piece_from, ToldOf, PieceText, SaidAs, said_of, Telling}
+use Rattle.recover_say.specs.Said.{line_after, Told, held_from, piece_from, ToldOf, PieceText, SaidAs, said_of, Telling}
 use Rattle.recover_say.specs.declared.Said.{Said}
 use Rattle.recover_say.specs.declared.CutOff.{CutOff}
 
@@ -25,7 +22,13 @@ pub begun : (answer : Result Recovered FrameRefusal) (words sheet out : List ℕ
 unfolding line_after
 begun answer words sheet out h = record { whole = h; reached = refl; behind = omega arith; few = omega arith; started = λ k l. absurd (omega (arith, l)) }
 
--- an answer has few lines, empty ones included
+-- an answer that can be said has few passes
+pub few_said : (answer : Result Recovered FrameRefusal) (words sheet : List ℕ) → CanSay answer words sheet → FewPasses answer
+unfolding CanSay
+few_said (Err e) words sheet h = tt
+few_said (Ok r) words sheet h = h.few_passes
+
+-- so it has few lines, empty ones included
 pub few_lines : (answer : Result Recovered FrameRefusal) → FewPasses answer → held_lines answer ≤ 49169
 unfolding held_lines
 few_lines (Err e) h = omega arith

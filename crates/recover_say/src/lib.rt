@@ -1,5 +1,5 @@
 // The answer to a text, worked out by the crate `frame_answer` and written piece by piece, to standard output or another writer.
-// Proved of each piece: `frame_answer::answer_piece` puts it at the front of the buffer, and `put_piece` is lent exactly its text (`PieceText`). Proved
+// Proved of each piece: `frame_answer::Answer::piece` puts it at the front of the buffer, and `put_piece` is lent exactly its text (`PieceText`). Proved
 // of `answer`: how many pieces were written, from the first on, and that they are all of the answer where the next line is past the last
 // (`Told`, `Prints`), and that it says so exactly then (`SaidAs`); and of a writer whose bytes are known, that it took a front part of the answer, and all of it in that case (`WroteAnswer`).
 // Not proved is that standard output takes the bytes that its `write` says it took: no contract can say what happens outside the program. It is
@@ -8,11 +8,9 @@
 #![tactic(auto)]
 
 ghost use Rattle.std.specs.Prelude.{◌≡◌, length, is_ok};
-ghost use Rattle.frame_answer.specs.Answer.{CanSay, FewPasses};
 ghost use Rattle.recover_say.specs.Said.{held_from, PieceText, SaidAs, said_of, Told, ToldOf, WroteText, WroteOf, WroteAnswer};
 
-use frame::FrameRefusal;
-use frame_answer::Recovered;
+use frame_answer::Answer;
 use sizes::{ALL_OUTCOME_WORDS, ALL_PASS_WORDS, CORNERS, PLACES};
 use std::io;
 use std::io::{ErrorKind, Write};
@@ -48,7 +46,7 @@ fn write_text<W: Write>(out: &mut W, text: &[u8]) -> io::Result<()>
     ensures { WroteText (W.contents out.old) (W.contents out.new) text.now (is_ok result) }
 {
     let mut rest = text;
-    // Stays: a write takes as many bytes as it will, so that the step is not 1 (d).
+    // Stays: std's `write_all` says nothing of what a failed write took, and tries an interrupted one again; so each write's step is its own (d).
     while !rest.is_empty() {
         let n = out.write(rest)?;
         if n == 0 {
@@ -60,36 +58,22 @@ fn write_text<W: Write>(out: &mut W, text: &[u8]) -> io::Result<()>
 }
 
 // Writes a piece of an answer: its number is how many were written before it.
-// Stays: the answer, the words and the sheet are lent for the contract, which says by them which piece that is; a caller picks a ghost value from the call's own arguments, and they would be none (d).
-fn put_piece<W: Write>(
-    out: &mut W,
-    answer: Result<Recovered, FrameRefusal>,
-    words: &[u32],
-    sheet: &[u16],
-    pieces: usize,
-    text: &[u8],
-) -> io::Result<()>
-    requires { PieceText answer words.now sheet.now pieces text.now }
+// Stays: the answer is lent for the contract alone, which tells by it which piece the text is; no argument is left to make a ghost value of (d).
+fn put_piece<W: Write>(out: &mut W, answer: Answer, pieces: usize, text: &[u8]) -> io::Result<()>
+    requires { PieceText answer.recovered answer.words.now answer.sheet.now pieces text.now }
     ensures { WroteText (W.contents out.old) (W.contents out.new) text.now (is_ok result) }
 {
     write_text(out, text)
 }
 
 // Writes the answer, piece by piece, until one cannot be written.
-fn say<W: Write>(
-    out: &mut W,
-    answer: Result<Recovered, FrameRefusal>,
-    words: &[u32],
-    sheet: &[u16],
-) -> Result<Said, CutOff>
-    requires can_say { CanSay answer words.now sheet.now }
-    requires few_passes { FewPasses answer }
-    ensures told { SaidAs (ToldOf answer words.now sheet.now) result }
+fn say<W: Write>(out: &mut W, answer: Answer) -> Result<Said, CutOff>
+    ensures told { SaidAs (ToldOf answer.entry.recovered answer.entry.words.now answer.entry.sheet.now) result }
     ensures wrote { WroteOf (W.contents out.old) (W.contents out.new)
-        (held_from answer words.now sheet.now) (said_of result) }
+        (held_from answer.entry.recovered answer.entry.words.now answer.entry.sheet.now) (said_of result) }
 {
     let mut buffer = [0u8; 4096];
-    let lines = frame_answer::answer_lines(answer);
+    let lines = frame_answer::answer_lines(answer.recovered);
     let mut said = Said {
         pieces: 0,
         next: 0,
@@ -97,9 +81,9 @@ fn say<W: Write>(
     };
     // Stays: a piece has as many lines as there is room for, so that the step is not 1 (d).
     while said.next < lines {
-        let piece = frame_answer::answer_piece(answer, words, sheet, said.next, &mut buffer);
+        let piece = answer.piece(said.next, &mut buffer);
         let text = &buffer[..piece.at];
-        put_piece(out, answer, words, sheet, said.pieces, text).map_err(|_| CutOff { said })?;
+        put_piece(out, answer, said.pieces, text).map_err(|_| CutOff { said })?;
         said = Said {
             pieces: said.pieces + 1,
             next: piece.next,
@@ -128,5 +112,10 @@ pub fn answer<W: Write>(out: &mut W, text: &[u8]) -> Result<Said, CutOff>
         &mut [0; CORNERS],
         &mut words,
     );
-    say(out, recovered, &words, &sheet)
+    let found = Answer {
+        recovered,
+        words: &words,
+        sheet: &sheet,
+    };
+    say(out, found)
 }

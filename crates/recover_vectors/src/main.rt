@@ -48,25 +48,21 @@ fn answer_text<R: Read, W: Write>(source: &mut R, out: &mut W, n: usize) -> Resu
 {
     let mut buffer = recover_say::text_buffer();
     let text = &mut buffer[..n];
-    match recover_read::read_input(source, text) {
-        Ok(got) if got == n => {}
-        Ok(_) => return Err(Fault::TextEnds),
-        Err(_) => return Err(Fault::TextNotRead),
+    let got = recover_read::read_input(source, text).map_err(|_| Fault::TextNotRead)?;
+    if got != n {
+        return Err(Fault::TextEnds);
     }
-    match recover_say::answer(out, text) {
-        Ok(_) => Ok(()),
-        Err(_) => Err(Fault::NotWritten),
-    }
+    recover_say::answer(out, text).map_err(|_| Fault::NotWritten)?;
+    Ok(())
 }
 
 // Answers the next text. Whether there was one: not at the end of the input.
 fn answer_next<R: Read, W: Write>(source: &mut R, out: &mut W) -> Result<bool, Fault> {
     let mut line = [0u8; 9];
-    match recover_read::read_input(source, &mut line) {
-        Ok(9) => {}
-        Ok(0) => return Ok(false),
-        Ok(_) => return Err(Fault::LengthEnds),
-        Err(_) => return Err(Fault::NotRead),
+    match recover_read::read_input(source, &mut line).map_err(|_| Fault::NotRead)? {
+        9 => {}
+        0 => return Ok(false),
+        _ => return Err(Fault::LengthEnds),
     }
     if line[8] != b'\n' {
         return Err(Fault::NoLineFeed);
@@ -79,19 +75,20 @@ fn answer_next<R: Read, W: Write>(source: &mut R, out: &mut W) -> Result<bool, F
     Ok(true)
 }
 
+// Answers text after text, up to the end of the input.
 // A proved loop has to end, and nothing says that the input does: so the loop has a last turn, which no run reaches.
-fn main(rt: HostRuntime) {
-    let mut source = rt.stdin();
-    let mut out = rt.stdout();
+fn run<R: Read, W: Write>(source: &mut R, out: &mut W) -> Result<(), Fault> {
     // Stays: a loop with no end needs a handle that the project is not allowed (a).
     for _ in 0..u64::MAX {
-        match answer_next(&mut source, &mut out) {
-            Ok(true) => {}
-            Ok(false) => return,
-            Err(fault) => {
-                let _ = eprintln!(rt; "recover_vectors: {fault}");
-                return;
-            }
+        if !answer_next(source, out)? {
+            break;
         }
+    }
+    Ok(())
+}
+
+fn main(rt: HostRuntime) {
+    if let Err(fault) = run(&mut rt.stdin(), &mut rt.stdout()) {
+        let _ = eprintln!(rt; "recover_vectors: {fault}");
     }
 }

@@ -20,7 +20,8 @@ use Rattle.labels.proofs.Labelled.{listed_cell}
 use Rattle.labels.proofs.Box.{box_is, box_of_framed}
 use Rattle.passes.specs.Fill.{from_to, near_i, near_j}
 use Rattle.passes.specs.Local.{row_among, column_among, past_i, past_j, local_region}
-use Rattle.region.specs.Region.{Region, RegionFound, region_at}
+use Rattle.region.specs.Region.{RegionFound, region_at}
+use Rattle.region.specs.declared.Region.{Region}
 use Rattle.region.specs.Windowed.{BoundsOn, BoxOn, InWindow, Windowed, NextIn}
 use Rattle.region.specs.declared.Window.{Window}
 use Rattle.region.proofs.Lines.{line_from, line_to}

@@ -18,7 +18,8 @@ use Rattle.labels.specs.Labelled.{labelled_places}
 use Rattle.labels.specs.Box.{box_of}
 use Rattle.labels.proofs.Labelled.{places_in_lem}
 use Rattle.passes.specs.Local.{row_among, column_among, local_region}
-use Rattle.region.specs.Region.{on_line, Lines, Region, RegionFound, marked, region_around, region_at}
+use Rattle.region.specs.Region.{on_line, Lines, RegionFound, marked, region_around, region_at}
+use Rattle.region.specs.declared.Region.{Region}
 
 -- ---- the lines of some places
 

@@ -1,15 +1,14 @@
 -- The cells of a round as the code tells them: by the label box and by the rows and columns that have a label (document 01, "Sheet"; what it says
 -- of them is `local_region` of crate passes, Local). Definitions only.
 use Rattle.labels.specs.declared.Bounds.{Bounds}
-use Rattle.std.specs.Prelude.{◌≡◌, Bool, false, ◌&&◌, ◌||◌, List, [], ◌∷◌, ℕ, ◌/◌, ◌%◌, ◌<◌, ◌≤◌, eqb, length, get_or, Option, Some, None}
-use Rattle.sizes.specs.Sizes.{place_count}
+use Rattle.std.specs.Prelude.{◌≡◌, Bool, false, ◌&&◌, ◌||◌, List, [], ◌∷◌, ℕ, ◌/◌, ◌%◌, ◌<◌, eqb, length, get_or, Option, Some, None}
 use Rattle.sheet.specs.Cells.{cell_of}
 use Rattle.sheet.specs.declared.Cell.{Cell}
 use Rattle.labels.specs.Labelled.{labelled_places}
 use Rattle.labels.specs.Box.{box_of}
 use Rattle.passes.specs.Fill.{near_i, near_j}
 use Rattle.passes.specs.Local.{past_i, past_j}
-use Rattle.region.specs.Small.{SmallBox}
+use Rattle.region.specs.declared.Region.{Region}
 
 -- ---- the lines that have a label
 
@@ -24,15 +23,6 @@ pub record Lines (line : ℕ → ℕ) (ps : List ℕ) (marks : List Bool) : Type
   pub at : (r : ℕ) → r < 128 → get_or marks r false ≡ on_line line r ps
 
 -- ---- the region
-
--- what the cells of a round are told by: the label box, and which rows and which columns have a label
-pub record Region : Type 0 where
-  pub around : Option Bounds
-  pub rows : List Bool
-  pub columns : List Bool
-
-abbrev pub region_of : Option Bounds → List Bool → List Bool → Region
-region_of a r c = record { around = a; rows = r; columns = c }
 
 -- the label box of a sheet, and its labelled rows and columns
 pub record RegionFound (sheet : List ℕ) (region : Region) : Type 0 where
@@ -55,9 +45,3 @@ region_around depth rows columns (Some b) p c =
 
 abbrev pub region_at : ℕ → Region → ℕ → Bool
 region_at depth region p = region_around depth region.rows region.columns region.around p (cell_of p)
-
--- a place is to be told by a region whose bounds are small, at a depth of at most 64
-pub record Telling (region : Region) (place depth : ℕ) : Type 0 where
-  pub below : place < place_count
-  pub shallow : depth ≤ 64
-  pub small : SmallBox region.around

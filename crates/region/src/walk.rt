@@ -6,7 +6,7 @@ ghost use Rattle.region.specs.Windowed.{WindowFits};
 
 use crate::Window;
 
-// The places of the sheet that lie in a window, rising: all others are passed over.
+// The places of the sheet that may lie in a window, rising: all others are passed over.
 #[derive(Clone, Copy)]
 pub struct Inside {
     window: Window,
@@ -17,7 +17,7 @@ pub struct Inside {
 impl Window {
     ghost use Rattle.region.specs.Walk.{Starts};
 
-    // The places of the window, from the first one on.
+    // The places that may lie in the window, from the first one on.
     pub fn places(self) -> Inside
         requires { WindowFits self }
         ensures { Starts self result }

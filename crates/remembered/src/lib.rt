@@ -5,14 +5,11 @@
 
 #![tactic(auto)]
 
-ghost use Rattle.std.specs.Prelude.{◌≡◌, ◌%◌, ◌≤◌, ◌<◌};
+ghost use Rattle.std.specs.Prelude.{◌≡◌, ◌<◌};
 ghost use Rattle.sizes.specs.Sizes.{place_count};
 ghost use Rattle.sheet.specs.Cells.{OnSheet, place_of, cell_of};
 ghost use Rattle.passes.specs.Local.{reach_of};
-ghost use Rattle.std.specs.Float.Ieee.{lt};
-ghost use Rattle.binary32.specs.Sqrt.{sqrt_or_nan};
-ghost use Rattle.sheet.specs.Corners.{squared_distance};
-ghost use Rattle.remembered.specs.Remembered.{finding_of, known_of, code_of, known_word, no_aim, aim_of, aim_in, Notable, nothing_noted, forgotten_word, doubted_word, left_word, aim_at, entry_of, Noted, Forgotten};
+ghost use Rattle.remembered.specs.Remembered.{finding_of, known_of, code_of, known_word, no_aim, aim_of, aim_in, Notable, nothing_noted, left_word, aim_at, entry_of, Noted, Forgotten};
 
 use sheet::{Cell, Position};
 use sizes::PLACES;
@@ -47,7 +44,7 @@ const NO_AIM: Aim = Aim {
 };
 
 // What is known of the cells: a word for each place of the sheet, 0 where nothing is known, and what is noted with it.
-// Stays: words, not an array of Option<Known>: a walk looks at many words at once (`local-1024`: 50 to 23.6 million), and a place takes 14 bytes, not 24 (b).
+// Stays: three walks take many words at once, this is one (`local-1024` in all: 23.6 in place of 50 million); 14 bytes a place, as Option<Known> 24 (b).
 #[derive(Drop)]
 pub struct Memory {
     pub words: [u16; PLACES],
@@ -148,43 +145,20 @@ impl NewLabel {
         sheet::magnitude(o)
     }
 
-    // What is left of a place's word: nothing if the fourth support of the place's cell is as far as the labelled cell, or farther.
-    #[tactic(auto, unfolding(crate::specs::Remembered::forgotten_word))]
-    fn forget_if_near(self, word: u16, place: usize) -> u16
-        requires { place < place_count }
-        ensures { result ≡ forgotten_word (cell_of place) (place_of self.cell) word }
-    {
-        if self.reach_of(place) <= u32::from(word / 8) {
-            0
-        } else {
-            word
-        }
-    }
-
-    // What is left of the word of an ambiguous choice: the prediction alone, unless the corner is farther than the limit.
-    #[tactic(auto, unfolding(crate::specs::Remembered::doubted_word))]
-    fn doubt_if_near(self, word: u16, aim: Aim) -> u16
-        requires { 4 ≤ word % 8 }
-        ensures { result ≡ doubted_word (lt aim.limit (sqrt_or_nan (squared_distance self.corner aim.at))) word }
-    {
-        if aim.limit < candidates::distance(self.corner, aim.at) {
-            word
-        } else {
-            word / 8 * 8 + 3
-        }
-    }
-
-    // What is left of a place's word. Few choices are ambiguous.
-    #[tactic(auto, unfolding(crate::specs::Remembered::doubted_word))]
+    // What is left of a place's word: nothing if the fourth support of the place's cell is as far as the labelled cell, or farther; and of the word of
+    // an ambiguous choice, the prediction alone, unless the corner is farther than the limit. Few choices are ambiguous.
+    // Stays: as `Memory` (b).
+    #[tactic(auto, unfolding(crate::specs::Remembered::forgotten_word, crate::specs::Remembered::doubted_word))]
     fn left_of(self, word: u16, aim: Aim, place: usize) -> u16
         requires { place < place_count }
         ensures { result ≡ left_word (cell_of place) (place_of self.cell) self.corner aim word }
     {
-        let kept = self.forget_if_near(word, place);
-        if kept % 8 < 4 {
-            kept
+        if self.reach_of(place) <= u32::from(word / 8) {
+            0
+        } else if word % 8 < 4 || aim.limit < candidates::distance(self.corner, aim.at) {
+            word
         } else {
-            self.doubt_if_near(kept, aim)
+            word / 8 * 8 + 3
         }
     }
 }
@@ -201,7 +175,7 @@ impl Memory {
     }
 
     // What is known of a cell of the sheet.
-    // Stays: a public call takes 01's plain cell; who calls has walked to it, and knows that it is on the sheet.
+    // Stays: a cell is 01's plain struct by value; the walk that calls this has proved that it is on the sheet (d).
     #[tactic(auto, using(sheet::proofs::Laws::place_in))]
     pub fn recall(&self, c: Cell) -> Option<Known>
         requires { OnSheet c }
@@ -233,7 +207,7 @@ impl Memory {
     {
         let label = NewLabel { cell: c, corner };
         let mut from = 0usize;
-        // Stays: the words that are walked over are written on the way, so that no iterator may hold them.
+        // Stays: the words that are walked over are written on the way, so that no iterator may hold them (d).
         while let Some(place) = sheet::next_written(&self.words, from) {
             self.words[place] = label.left_of(self.words[place], self.aims[place], place);
             from = place + 1;

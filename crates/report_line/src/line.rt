@@ -49,8 +49,7 @@ pub fn write_heading(out: &mut [u8]) -> usize
     requires { length heading ≤ length out.old }
     ensures { Wrote heading out.old out.new result }
 {
-    let words = [0u32; 1];
-    write_form(b"(result 1)\n", &words, out)
+    write_form(b"(result 1)\n", &[], out)
 }
 
 // A cell line: the cell and its corner.

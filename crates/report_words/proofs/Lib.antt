@@ -1,4 +1,3 @@
 -- The laws of outcomes as words.
 pub mod Outcomes
 pub mod Putting
-pub mod Checking

@@ -48,22 +48,22 @@ impl Outcome<'_> {
     pub fn grow_like(&self) -> GrowStats
         ensures { GrowLike (grow_at self.now.words.now self.now.k) result }
     {
-        let counts = counts_like(self.counts_at());
-        let rim = self.yes_at(8);
-        GrowStats { counts, rim }
+        let s = self.grow_at();
+        GrowStats {
+            counts: counts_like(s.counts),
+            ..s
+        }
     }
 
     // An outcome of fill.
     pub fn fill_like(&self) -> FillStats
         ensures { FillLike (fill_at self.now.words.now self.now.k) result }
     {
-        let added = like(self.count_at(1));
-        let iterations = like(self.count_at(5));
-        let rim = self.yes_at(8);
+        let s = self.fill_at();
         FillStats {
-            added,
-            iterations,
-            rim,
+            added: like(s.added),
+            iterations: like(s.iterations),
+            ..s
         }
     }
 
@@ -71,17 +71,12 @@ impl Outcome<'_> {
     pub fn local_like(&self) -> LocalStats
         ensures { LocalLike (local_at self.now.words.now self.now.k) result }
     {
-        let counts = counts_like(self.counts_at());
-        let iterations = like(self.count_at(5));
-        let residual = self.residual_like();
-        let rim = self.yes_at(8);
-        let unmatched = unmatched_like(self.unmatched_at());
         LocalStats {
-            counts,
-            iterations,
-            residual,
-            rim,
-            unmatched,
+            counts: counts_like(self.counts_at()),
+            iterations: like(self.count_at(5)),
+            residual: self.residual_like(),
+            rim: self.yes_at(8),
+            unmatched: unmatched_like(self.unmatched_at()),
         }
     }
 

@@ -2,7 +2,7 @@
 ghost use Rattle.std.specs.Prelude.{◌≡◌, ◌<◌};
 ghost use Rattle.sizes.specs.Sizes.{outcome_size};
 ghost use Rattle.report_words.specs.Outcomes.{word_at, counts_at, yes_at, residual_at, unmatched_at, stats_at};
-ghost use Rattle.report_words.specs.Asked.{HasOutcome, Tame, FitsWord, CountsFit, UnmatchedFits, grow_at, fill_at, local_at};
+ghost use Rattle.report_words.specs.Asked.{HasOutcome, Tame, FitsWord, CountsFit, FillFits, UnmatchedFits, grow_at, fill_at, local_at};
 
 use passes::{Counts, FillStats, GrowStats, LocalStats, PassStats};
 use sizes::OUTCOME_WORDS;
@@ -57,28 +57,29 @@ impl Outcome<'_> {
 
     // An outcome of grow.
     pub fn grow_at(&self) -> GrowStats
-        ensures { result ≡ grow_at self.now.words.now self.now.k }
+        ensures value { result ≡ grow_at self.now.words.now self.now.k }
+        ensures fits { CountsFit result.counts }
     {
-        let counts = self.counts_at();
-        let rim = self.yes_at(8);
-        GrowStats { counts, rim }
+        GrowStats {
+            counts: self.counts_at(),
+            rim: self.yes_at(8),
+        }
     }
 
     // An outcome of fill.
     pub fn fill_at(&self) -> FillStats
-        ensures { result ≡ fill_at self.now.words.now self.now.k }
+        ensures value { result ≡ fill_at self.now.words.now self.now.k }
+        ensures fits { FillFits result }
     {
-        let added = self.count_at(1);
-        let iterations = self.count_at(5);
-        let rim = self.yes_at(8);
         FillStats {
-            added,
-            iterations,
-            rim,
+            added: self.count_at(1),
+            iterations: self.count_at(5),
+            rim: self.yes_at(8),
         }
     }
 
     // The residual of an outcome of local that passes the check.
+    // Stays: outcomes that may be wild are read too; a second struct round `Outcome` for these three methods is no plainer (d).
     fn residual_at(&self) -> Option<f32>
         requires { Tame self.now.words.now self.now.k }
         ensures { result ≡ residual_at self.now.words.now self.now.k }
@@ -100,17 +101,12 @@ impl Outcome<'_> {
         requires { Tame self.now.words.now self.now.k }
         ensures { result ≡ local_at self.now.words.now self.now.k }
     {
-        let counts = self.counts_at();
-        let iterations = self.count_at(5);
-        let residual = self.residual_at();
-        let rim = self.yes_at(8);
-        let unmatched = self.unmatched_at();
         LocalStats {
-            counts,
-            iterations,
-            residual,
-            rim,
-            unmatched,
+            counts: self.counts_at(),
+            iterations: self.count_at(5),
+            residual: self.residual_at(),
+            rim: self.yes_at(8),
+            unmatched: self.unmatched_at(),
         }
     }
 

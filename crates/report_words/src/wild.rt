@@ -3,6 +3,8 @@ ghost use Rattle.std.specs.Prelude.{◌≡◌};
 ghost use Rattle.report_words.specs.Outcomes.{wild_counts, wild_residual, wild_unmatched, wild_outcome};
 
 use super::read::Outcome;
+use binary32::ranges::is_finite;
+use std::num::f32_from_bits_with_nan;
 
 impl Outcome<'_> {
     // Whether a count is above 64 rounds of 16,384 cells.
@@ -15,13 +17,13 @@ impl Outcome<'_> {
 
     // Whether the residual's flag is neither 0 nor 1, or a residual is not finite.
     // Stays: the flag is a word of the C interface (a).
-    #[tactic(auto, using(crate::proofs::Checking::not_finite), unfolding(crate::specs::Outcomes::wild_residual))]
+    #[tactic(auto, unfolding(crate::specs::Outcomes::wild_residual))]
     fn wild_residual(&self) -> bool
         ensures { result ≡ wild_residual self.now.words.now self.now.k }
     {
         match self.word_at(6) {
             0 => false,
-            1 => 0x7f80_0000 <= self.word_at(7) % 0x8000_0000,
+            1 => !is_finite(f32_from_bits_with_nan(self.word_at(7))),
             _ => true,
         }
     }

@@ -60,7 +60,7 @@ fn print_block(rt: &impl Print, i: u32, s: Sweep) -> io::Result<()> {
 
 fn main(rt: HostRuntime) -> io::Result<()> {
     let mut pattern = 0x2026_1115u32;
-    // Stays: a block begins where the one before it ends, and each is printed; a fold would hide the `?` (d).
+    // Stays: a block begins where the one before it ends, and each is printed; a `try_fold` would have the printing in a closure that answers Ok (d).
     for i in 0..100u32 {
         let s = block(pattern);
         print_block(&rt, i, s)?;

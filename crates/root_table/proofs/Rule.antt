@@ -1,17 +1,15 @@
--- The rule of the table, proved at every entry by one test that antt computes over the whole table; that a number has one whole root; and where an entry
--- stands in the code's rows. Assumes nothing.
-use mathlib.Core.Path.{◌≡◌, refl, sym, ap, subst, ◌∙◌}
+-- The rule of the table, proved at every entry by one test that antt computes over the whole table; and that a number has one whole root. Assumes nothing.
+use mathlib.Core.Path.{◌≡◌, refl, sym, subst, ◌∙◌}
 use mathlib.Core.Bool.{Bool, true, ◌&&◌}
 use mathlib.Core.List.{List, [], ◌∷◌}
-use Prim.Native.Nat.{ℕ, zero, suc, ◌+◌, ◌*◌, ◌/◌, ◌%◌, ◌≤◌, ◌<◌}
+use Prim.Native.Nat.{ℕ, zero, suc, ◌+◌, ◌*◌, ◌≤◌, ◌<◌}
 use native.Mathlib.Nat.{add-zero, zero-add, add-suc, suc-add, le_of_suc-le-suc, not-suc-le-zero, lt_of_not-le, lt_of_le_of_lt, mul-le-mul}
 use native.Mathlib.Omega.{arith}
 use lib.Dec.{T, leb, ltb, leb→le, ltb→lt}
 use lib.Ieee.Fits.{and_l, and_r}
-use lib.ListN.{length, get_or, drop}
-use lib.Seq.{get_or-take, get_or-drop}
+use lib.ListN.{length, get_or}
 use Rattle.root_table.specs.Whole.{WholePart, is_whole_part}
-use Rattle.root_table.specs.Roots.{roots, entry, row_of}
+use Rattle.root_table.specs.Roots.{roots, entry}
 
 -- ---- a test over a list
 
@@ -66,26 +64,3 @@ square_less a b h = lt_of_not-le (λ (g : b ≤ a). absurd (no (mul-le-mul g g))
 pub one_whole_part : {n s t : ℕ} → WholePart n s → WholePart n t → s ≡ t
 one_whole_part {n} {s} {t} a b =
     omega (arith, square_less s (t + 1) (lt_of_le_of_lt a.from b.to), square_less t (s + 1) (lt_of_le_of_lt b.from a.to))
-
--- ---- the code's rows
-
--- m is none of the numbers below n, one after the other, as the last arm of a `match` has it
-abbrev pub NoneBelow : ℕ → ℕ → Type 0
-NoneBelow zero m = Unit {0}
-NoneBelow (suc n) m = NoneBelow n m × (m ≡ n → ⊥)
-
-pub none_below : (n m : ℕ) → NoneBelow n m → n ≤ m
-none_below zero m t = omega arith
-none_below (suc n) m (t, h) = omega (arith, none_below n m t, h)
-
-in_row : (k : ℕ) → get_or (row_of (k / 4)) (k % 4) 0 ≡ entry k
-unfolding entry row_of
-in_row k =
-    get_or-take 4 (drop (4 * (k / 4)) roots) (k % 4) 0 (omega arith) ∙ get_or-drop (4 * (k / 4)) roots (k % 4) 0 ∙ ap (λ (m : ℕ). get_or roots m 0) (omega arith)
-
--- what `whole_root` promises, of what stands in the row
-pub answered : (k : ℕ) (a : List ℕ) → k < 1024 → a ≡ row_of (k / 4) → (get_or a (k % 4) 0 ≡ entry k) × WholePart (1024 * k) (get_or a (k % 4) 0)
-answered k a h e = (is_entry, subst (WholePart (1024 * k)) (sym is_entry) (rule k h))
-  where
-    is_entry : get_or a (k % 4) 0 ≡ entry k
-    is_entry = ap (λ (l : List ℕ). get_or l (k % 4) 0) e ∙ in_row k

@@ -1,6 +1,6 @@
 -- The table of document 02, 4/14: "a table of 1,024 entries, entry k being the whole part of the root of 1,024 × k". `proofs/Rule.antt` has the rule at
 -- every entry. Written by tools/root_table. Definitions only.
-use Rattle.std.specs.Prelude.{List, [], ◌∷◌, ℕ, ◌*◌, get_or, take, drop}
+use Rattle.std.specs.Prelude.{List, [], ◌∷◌, ℕ, get_or}
 
 unfoldable pub roots : List ℕ
 roots =
@@ -73,7 +73,3 @@ roots =
 -- entry k
 unfoldable pub entry : ℕ → ℕ
 entry k = get_or roots k 0
-
--- the entries as the code has them: row r has entries 4 r to 4 r + 3
-unfoldable pub row_of : ℕ → List ℕ
-row_of r = take 4 (drop (4 * r) roots)

@@ -6,7 +6,7 @@ ghost use Rattle.std.specs.Prelude.{◌≡◌, ◌*◌, ◌<◌};
 ghost use Rattle.root_table.specs.Roots.{entry};
 ghost use Rattle.root_table.specs.Whole.{WholePart};
 
-mod rows; // rows.rt: the table, in rows of 4
+mod roots; // roots.rt: the table
 
 // Entry k of the table: the whole part of the root of 1,024 k.
 pub fn whole_root(k: usize) -> u16
@@ -14,6 +14,5 @@ pub fn whole_root(k: usize) -> u16
     ensures listed { result ≡ entry k }
     ensures ruled { WholePart (1024 * k) result }
 {
-    let row = rows::row(k / 4);
-    row[k % 4]
+    roots::ROOTS[k]
 }

@@ -1,4 +1,5 @@
 -- Positions; the corners, as they are lent and as the passes hold them; and what is seen of them through the sheet at a cell. Definitions only.
+use native.Mathlib.Omega.{arith}
 use Rattle.std.specs.Prelude.{◌≡◌, Bool, ◌&&◌, cond, List, ℕ, ◌<◌, ◌≤◌, ltb, length, get_or, replicate, Float, Option, Some, None}
 use Rattle.std.specs.Float.{nan, binary32}
 use Rattle.std.specs.Float.Ieee.{add, sub, mul}
@@ -8,7 +9,7 @@ use Rattle.sheet.specs.Words.{label_of, label_at}
 use Rattle.sheet.specs.Shades.{Shades, shades_in}
 use Rattle.sheet.specs.declared.Cell.{Cell}
 use Rattle.sheet.specs.declared.Corner.{Corner}
-use Rattle.sheet.specs.declared.CornerArrays.{CornerArrays}
+use Rattle.sheet.specs.declared.held.CornerArrays.{CornerArrays}
 use Rattle.sheet.specs.declared.Position.{Position}
 
 -- the squared distance of two positions, each operation rounded: dx · dx + dy · dy
@@ -50,17 +51,23 @@ corner_of l k =
     (record { position = record { x = get_or l.xs k nan; y = get_or l.ys k nan }; pitch = get_or l.pitches k nan })
     no_corner
 
--- As the passes hold them: 1,024 xs, ys and pitches.
+-- As the passes hold them: how many there are, and 1,024 xs, ys and pitches.
 unfoldable pub corner_in : CornerArrays → ℕ → Corner
 corner_in held k = record { position = record { x = get_or held.xs k nan; y = get_or held.ys k nan }; pitch = get_or held.pitches k nan }
 
 -- no corner is held
 abbrev pub no_corners : CornerArrays
 no_corners =
-    record { xs = replicate corner_limit nan; ys = replicate corner_limit nan; pitches = replicate corner_limit nan; shades = None }
+    record {
+      xs = replicate corner_limit nan;
+      ys = replicate corner_limit nan;
+      pitches = replicate corner_limit nan;
+      shades = None;
+      count = record { number = 0; few = omega arith };
+    }
 
-abbrev pub corners_in : CornerArrays → ℕ → Corners
-corners_in held n = record { count = n; corner = corner_in held; shades = shades_in held }
+abbrev pub corners_in : CornerArrays → Corners
+corners_in held = record { count = held.count.number; corner = corner_in held; shades = shades_in held }
 
 -- ---- seen through the sheet
 

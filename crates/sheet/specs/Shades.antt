@@ -1,7 +1,7 @@
 -- Black and white corners (document 02, 1/14): a corner's shade, the kind that a cell takes, and which corners it takes. Definitions only.
 use Rattle.std.specs.Prelude.{Bool, false, not, ◌||◌, List, ℕ, zero, suc, ◌%◌, eqb, ◌+ℤ◌, nat_abs, get_or, Option, Some, None, is_some}
 use Rattle.sheet.specs.declared.Cell.{Cell}
-use Rattle.sheet.specs.declared.CornerArrays.{CornerArrays}
+use Rattle.sheet.specs.declared.held.CornerArrays.{CornerArrays}
 
 -- ---- the shades of corners
 

@@ -11,9 +11,11 @@ ghost use Rattle.sheet.specs.Shades.{kind_at};
 ghost use Rattle.sheet.specs.Corners.{finite_position, squared_distance, Given};
 ghost use Rattle.sheet.specs.Blank.{all_blank, BlankRun, BlankPlaces, IsNextWritten};
 
+mod held;
 mod walk;
 
-use sizes::{CORNERS, PLACES};
+pub use held::{CornerArrays, CornerCount, NO_CORNERS};
+use sizes::PLACES;
 pub use walk::Written;
 
 // A cell of the checkerboard, by its two numbers. On the sheet both are from -64 to 63.
@@ -250,81 +252,6 @@ impl Position {
 pub struct Corner {
     pub position: Position,
     pub pitch: f32,
-}
-
-// The corners as the passes hold them: their xs, ys and pitches, with room for 1,024 of each. Where some shade stands each corner has a byte, 0 for
-// no shade and 1 and 2 for the two kinds; where none does there are no bytes.
-// Stays: arrays side by side, not one array of corners, since the scan of all corners takes several xs and ys at once where they stand in a row (b).
-#[derive(Drop)]
-pub struct CornerArrays {
-    pub xs: [f32; CORNERS],
-    pub ys: [f32; CORNERS],
-    pub pitches: [f32; CORNERS],
-    pub shades: Option<[u8; CORNERS]>,
-}
-
-impl CornerArrays {
-    ghost use Rattle.sheet.specs.Shades.{any_in, shades_in, takes_kind};
-    ghost use Rattle.sheet.specs.Corners.{no_corners, corner_in};
-
-    // No corner: each has a NaN in its three places, and no shade stands.
-    pub fn new() -> Self
-        ensures { result ≡ no_corners }
-    {
-        CornerArrays {
-            xs: [f32::NAN; CORNERS],
-            ys: [f32::NAN; CORNERS],
-            pitches: [f32::NAN; CORNERS],
-            shades: None,
-        }
-    }
-
-    // Where the corner of a number lies.
-    #[tactic(auto, unfolding(crate::specs::Corners::corner_in))]
-    pub fn position_of(&self, k: usize) -> Position
-        requires { k < corner_limit }
-        ensures { result ≡ (corner_in self.now k).position }
-    {
-        Position {
-            x: self.xs[k],
-            y: self.ys[k],
-        }
-    }
-
-    // The corner of a number.
-    #[tactic(auto, unfolding(crate::specs::Corners::corner_in))]
-    pub fn corner_at(&self, k: usize) -> Corner
-        requires { k < corner_limit }
-        ensures { result ≡ corner_in self.now k }
-    {
-        Corner {
-            position: self.position_of(k),
-            pitch: self.pitches[k],
-        }
-    }
-
-    // Whether any shade stands.
-    pub fn is_shaded(&self) -> bool
-        ensures { result ≡ any_in self.now }
-    {
-        self.shades.is_some()
-    }
-
-    // Whether a cell of a kind takes a corner: any corner if no shade stands, else those of its kind.
-    // Stays: a kind is 02's number, as in `kind_at` (a).
-    #[tactic(auto, unfolding(crate::specs::Shades::takes_kind, crate::specs::Shades::is_kind, crate::specs::Shades::shade_held, crate::specs::Shades::shade_of))]
-    pub fn is_taken(&self, kind: usize, k: usize) -> bool
-        requires { k < corner_limit }
-        ensures { result ≡ takes_kind (shades_in self.now) kind k }
-    {
-        match &self.shades {
-            None => true,
-            Some(shades) => match shades[k] {
-                0 => false,
-                shade => usize::from(shade - 1) == kind,
-            },
-        }
-    }
 }
 
 // The kind that a cell takes: the parity of i + j, by the remainder that has no sign.

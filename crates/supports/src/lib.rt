@@ -32,20 +32,6 @@ const NOT_FOUND: Support = Support {
     reach: 1000,
 };
 
-// Lists the labelled places of a sheet in rising order at the front of the array, whose rest stays. Answers how many there are.
-// Stays: `Labelled` holds both; while the places are listed its number is not yet known (d).
-fn gather_labelled(sheet: &[u16], places: &mut [u16; CORNERS]) -> usize
-    requires { Gatherable sheet.now }
-    ensures { Gathered sheet.now places.old places.new result }
-{
-    let mut count = 0usize;
-    for (place, _) in Written::new(sheet).filter(|(_, word)| labels::is_labelled(*word)) {
-        places[count] = place as u16;
-        count += 1;
-    }
-    count
-}
-
 // The labelled places of a sheet in rising order, so many at the front of an array.
 // Stays: an array and a number, not a Vec, since the library has fixed memory (a).
 #[derive(Drop)]
@@ -66,12 +52,18 @@ impl Labelled {
         }
     }
 
-    // Lists the labelled places of a sheet.
+    // Lists the labelled places of a sheet in rising order at the front of the array, whose rest stays.
     pub fn gather(&mut self, sheet: &[u16])
         requires { Gatherable sheet.now }
         ensures { Gathered sheet.now self.old.places self.new.places self.new.count }
     {
-        self.count = gather_labelled(sheet, &mut self.places);
+        let mut count = 0usize;
+        // Stays: how many there are is kept and read behind the loop; by `enumerate` it would be counted beside it (d).
+        for (place, _) in Written::new(sheet).filter(|(_, word)| labels::is_labelled(*word)) {
+            self.places[count] = place as u16;
+            count += 1;
+        }
+        self.count = count;
     }
 
     // The places as a slice.
@@ -83,7 +75,7 @@ impl Labelled {
 }
 
 // A cell of the sheet as a point.
-// Stays: a cell is 01's plain struct by value; that it is on the sheet is proved where the supports are looked for (a).
+// Stays: a cell is 01's plain struct by value; that it is on the sheet is proved where the supports are looked for (d).
 pub fn cell_point(c: Cell) -> Position
     requires { OnSheet c }
     ensures { result ≡ cell_point c }
@@ -103,7 +95,7 @@ struct Place {
 
 impl Place {
     // It, with its reach from a cell.
-    // Stays: as `cell_point` (a).
+    // Stays: as `cell_point` (d).
     fn support_of(self, c: Cell) -> Support
         requires { OnSheet c }
         ensures { result ≡ support_at c self.place }
@@ -152,7 +144,7 @@ impl Place {
 }
 
 // One more support among four, the nearest first: it goes before the first whose reach passes the test, and the farthest of five is dropped.
-// Stays: a struct of the four in order would ask of the test beforehand what is a premise of the promise here, and prove it at each of four answers (d).
+// Stays: as a struct's fact, that four are in order would be proved at each answer of `keep`, whose test is known only where it is called (d).
 fn keep<F: Fn(u32) -> bool>(s: [Support; 4], new: Support, is_behind: F) -> [Support; 4]
     requires callable { F.IsAlwaysCallable is_behind }
     requires in_order { InOrder s }
@@ -219,6 +211,7 @@ fn keep_before(places: &[u16], c: Cell) -> [Support; 4]
 
 // The four nearest to a cell among at least four places, given in rising order: by |di| + |dj|, then i, then j. Each has its own reach. They are
 // looked for both ways from where the cell's line begins. Wherever that is, the nearest are the same.
+// Stays: `keep_before` walks back and by other tests; one function for both would take an iterator and two closures, with a clause each (d).
 pub fn nearest_labelled_by_grid(places: &[u16], c: Cell) -> [Support; 4]
     requires { Nearby places.now c }
     ensures { result ≡ nearest_among c places.now }
@@ -293,7 +286,7 @@ pub fn local_fit(seeing: Seeing, s: [Support; 4]) -> Option<SupportFit>
 }
 
 // The larger of two numbers.
-// Stays: std's `max` gives the other number where one is NaN, and either of two zeros; here the first stays unless it is less.
+// Stays: std's `max` gives the other number where one is NaN, and either of two zeros; here the first stays unless it is less (d).
 fn larger(m: f32, r: f32) -> f32
     ensures { result ≡ cond (lt m r) r m }
 {
@@ -308,13 +301,11 @@ pub fn worst_of(residuals: [f32; 4]) -> f32
 }
 
 // One residual more is recorded.
+#[tactic(auto, unfolding(passes::specs::Local::recorded))]
 fn record_residual(largest: Option<f32>, r: f32) -> Option<f32>
     ensures { result ≡ recorded largest r }
 {
-    match largest {
-        None => Some(r),
-        Some(m) => Some(larger(m, r)),
-    }
+    Some(largest.map_or(r, |m| larger(m, r)))
 }
 
 // Four residuals are recorded.

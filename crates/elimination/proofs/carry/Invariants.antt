@@ -3,4 +3,4 @@ use Rattle.elimination.proofs.Rows.{Carrying}
 use Rattle.elimination.proofs.carry.Given as goal
 
 abbrev pub invariant-loop-i : goal.invariant-loop-i
-invariant-loop-i l = Carrying l.m l.initial.b l.k l.b l.i
+invariant-loop-i l = Carrying l.m l.fn.b l.k l.y-items l.i

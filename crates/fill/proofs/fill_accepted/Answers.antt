@@ -4,12 +4,14 @@ use Prim.Native.Nat.{ℕ}
 use borrow.Author.Rules.{rules}
 use Rattle.sheet.specs.Corners.{corner_lists}
 use Rattle.passes.specs.Fill.{fill_limit}
+use lib.Ieee.{of_bits}
 use Rattle.arguments.proofs.Holding.{holdable}
 use Rattle.fill.proofs.Rounds.{pass_done}
 use Rattle.fill.proofs.fill_accepted.Goals as goal
 
 pub hold-requires : goal.hold-requires
-hold-requires c = holdable _ _ _ c.requires c.new-held.ensures
+unfolding of_bits
+hold-requires c = holdable _ _ _ c.requires refl refl refl refl
 
 pub returns : goal.returns
 returns c =

@@ -1,5 +1,5 @@
 -- `frame_line::read_row` meets its contract, by the form of the row. Assumes nothing.
-use Rattle.std.proofs.Common.{sym, ◌∙◌}
+use Rattle.std.proofs.Common.{sym}
 use Rattle.frame_line.proofs.Rows.{form_long, second_other}
 use Rattle.frame_line.proofs.Laws.{not_read, row_missed, row_held}
 use Rattle.frame_line.proofs.read_row.Goals as goal

@@ -3,9 +3,6 @@ use Rattle.std.proofs.Common.{arith, add-one}
 use Rattle.frame_passes.proofs.Running.{none_run, one_run, all_run, pass_left_lem}
 use Rattle.frame_passes.proofs.run_frame.Goals as goal
 
-pub loop-k-init : goal.loop-k-init
-loop-k-init c = none_run _ _ _ _
-
 pub loop-k-preserved : goal.loop-k-preserved
 loop-k-preserved c =
     let k = c.loop-k in

@@ -1,14 +1,14 @@
 -- `local::local_accepted` meets its contract: under four labels nothing is done, else what the rounds leave, where at first nothing is remembered. Assumes nothing.
 use Rattle.std.specs.Prelude.{None}
-use mathlib.Core.Path.{refl}
+use mathlib.Core.Path.{refl, ap}
 use native.Mathlib.Omega.{arith}
 use borrow.Author.Rules.{rules}
-use lib.ListN.{length}
-use Rattle.sheet.specs.Corners.{corner_lists, corners_in}
+use Rattle.sheet.specs.Corners.{Corners, corner_lists, corners_in}
 use Rattle.remembered.proofs.Notes.{started}
+use lib.Ieee.{of_bits}
 use Rattle.arguments.proofs.Holding.{holdable}
 use Rattle.local.proofs.Depth.{depth_in}
-use Rattle.local.proofs.Rounds.{accepted_gatherable, accepted_radius, accepted_extending, accepted_asked, pass_few, pass_done}
+use Rattle.local.proofs.Rounds.{accepted_gatherable, accepted_radius, at_start, accepted_extending, accepted_asked, pass_few, pass_done}
 use Rattle.local.proofs.local_accepted.Goals as goal
 
 pub gather-requires : goal.gather-requires
@@ -18,22 +18,23 @@ pub rim_reached-requires : goal.rim_reached-requires
 rim_reached-requires c = record { long = c.requires.given.long; shallow = rw c.depth_of-depth.ensures (depth_in c.args.params c.requires.pass_inside.depth) }
 
 pub returns-then-labels-lt4 : goal.returns-then-labels-lt4
-returns-then-labels-lt4 c = let a = c.args in let l = a.corners in pass_few (corner_lists l.xs.now l.ys.now l.pitches.now) l.shades.now a.sheet.now a.attached.now a.settings a.params c.gather.ensures.count_is c.depth_of-depth.ensures c.any_shade-shaded.ensures c.if-labels-lt4.true c.no_progress-progress.ensures c.rim_reached.ensures c.stats_of.ensures
+returns-then-labels-lt4 c = let a = c.args in let l = a.corners in pass_few (corner_lists l.xs.now l.ys.now l.pitches.now) l.shades.now a.sheet.now a.attached.now a.settings a.params c.gather.ensures.count_is c.depth_of-depth.ensures c.any_shade-shaded.ensures c.if-labels-lt4.true (at_start c.default-progress.ensures) c.rim_reached.ensures c.stats_of.ensures
 
 pub hold-requires : goal.hold-requires
-hold-requires c = holdable _ _ _ c.requires c.new-held.ensures
+unfolding of_bits
+hold-requires c = holdable _ _ _ c.requires refl refl refl refl
 
 pub invariant_of-work : goal.invariant_of-work
-invariant_of-work c = let a = c.args in let l = a.corners in record { extending = accepted_extending (corner_lists l.xs.now l.ys.now l.pitches.now) l.shades.now a.sheet.now a.attached.now a.settings a.params c.requires c.gather.ensures c.if-labels-lt4.false c.mark_used-used.ensures c.no_progress-progress.ensures }
+invariant_of-work c = let a = c.args in let l = a.corners in record { extending = rw (ap (λ (x : Corners). x.count) c.hold.ensures) (accepted_extending (corner_lists l.xs.now l.ys.now l.pitches.now) l.shades.now a.sheet.now a.attached.now a.settings a.params c.requires c.gather.ensures c.if-labels-lt4.false c.mark_used-used.ensures (at_start c.default-progress.ensures)) }
 
 pub local_rounds-rounds-requires-clause-asked : goal.local_rounds-rounds-requires-clause-asked
-local_rounds-rounds-requires-clause-asked c = let a = c.args in let l = a.corners in accepted_asked (corner_lists l.xs.now l.ys.now l.pitches.now) l.shades.now a.sheet.now a.attached.now a.settings a.params c.requires refl c.no_progress-progress.ensures
+local_rounds-rounds-requires-clause-asked c = let a = c.args in let l = a.corners in accepted_asked (corner_lists l.xs.now l.ys.now l.pitches.now) l.shades.now a.sheet.now a.attached.now a.settings a.params c.requires refl (at_start c.default-progress.ensures)
 
 pub local_rounds-rounds-requires-clause-recalls : goal.local_rounds-rounds-requires-clause-recalls
-local_rounds-rounds-requires-clause-recalls c = let a = c.args in let l = a.corners in record { remembered = rw (c.no_progress-progress.ensures, c.new.ensures) (started (corners_in _ (length l.xs.now)) a.settings a.params None a.sheet.now (accepted_radius (corner_lists l.xs.now l.ys.now l.pitches.now) l.shades.now a.sheet.now a.attached.now a.settings a.params c.requires)); unmatched_few = rw c.no_progress-progress.ensures (omega arith) }
+local_rounds-rounds-requires-clause-recalls c = let a = c.args in let l = a.corners in record { remembered = rw ((at_start c.default-progress.ensures), c.new.ensures) (started (corners_in _) a.settings a.params None a.sheet.now (accepted_radius (corner_lists l.xs.now l.ys.now l.pitches.now) l.shades.now a.sheet.now a.attached.now a.settings a.params c.requires)); unmatched_few = rw (at_start c.default-progress.ensures) (omega arith) }
 
 pub rim_of-requires : goal.rim_of-requires
-rim_of-requires c = (c.local_rounds-rounds.new.work.extending.given.long, rw c.depth_of-depth.ensures (depth_in c.args.params c.requires.pass_inside.depth))
+rim_of-requires c = rw c.depth_of-depth.ensures (depth_in c.args.params c.requires.pass_inside.depth)
 
 pub returns : goal.returns
-returns c = let a = c.args in let l = a.corners in pass_done (corner_lists l.xs.now l.ys.now l.pitches.now) l.shades.now a.sheet.now a.attached.now a.settings a.params c.gather.ensures.count_is c.depth_of-depth.ensures c.any_shade-shaded.ensures _ c.hold.ensures c.if-labels-lt4.false c.no_progress-progress.ensures refl refl c.local_rounds-rounds.ensures.left c.rim_of.ensures c.stats_of-2.ensures (search rules) (search rules)
+returns c = let a = c.args in let l = a.corners in pass_done (corner_lists l.xs.now l.ys.now l.pitches.now) l.shades.now a.sheet.now a.attached.now a.settings a.params c.gather.ensures.count_is c.depth_of-depth.ensures c.any_shade-shaded.ensures _ c.hold.ensures c.if-labels-lt4.false (at_start c.default-progress.ensures) refl refl c.local_rounds-rounds.ensures.left c.rim_of.ensures c.stats_of-2.ensures (search rules) (search rules)

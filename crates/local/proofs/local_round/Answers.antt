@@ -2,7 +2,7 @@
 -- is remembered holds; those out of the window are jumped over. Assumes nothing.
 use mathlib.Core.Path.{refl, sym, ◌∙◌}
 use native.Mathlib.Omega.{arith}
-use Rattle.local.proofs.Walk.{telling, same_then, walking_start, walking_missed, walking_jumps, tried_trying, walking_tried, walking_end}
+use Rattle.local.proofs.Walk.{same_then, walking_start, walking_missed, walking_jumps, tried_trying, walking_tried, walking_end}
 use Rattle.local.proofs.local_round.Goals as goal
 
 pub places-place-items-requires : goal.places-place-items-requires
@@ -14,13 +14,10 @@ loop-place-init c =
     rw c.into_iter-place-iterator.ensures.into_iter_gives
     (record {
       window_is = s.window_is;
-      walking = rw s.from_is (walking_start c.args.work.now.extending.few);
+      walking = rw s.from_is (walking_start c.args.work.now.setup.corners.now.count.few);
       recalls = c.requires.recalls;
       same = record { same_setup = refl; same_sheet = refl; same_list = refl };
     })
-
-pub is_tried-requires-clause-telling : goal.is_tried-requires-clause-telling
-is_tried-requires-clause-telling c = telling c.round_of-round.ensures c.requires.asked.shallow c.in-Some.ensures.steps.1
 
 pub try_local_cell-requires-clause-trying : goal.try_local_cell-requires-clause-trying
 try_local_cell-requires-clause-trying c =

@@ -24,10 +24,10 @@ returns-then-not-is_shaded c =
     let taken = kinds (goal.at.returns-then-not-is_shaded c).Start in
     elim c.then-not-is_shaded.branch [
       | then-not-is_shaded-via-then-not-is_shaded w ↦
-          sym (none_passed_over (positions_in a.held.corners.now) (unmarked a.held.used.now) taken a.held.count a.prediction c.args.search_r
+          sym (none_passed_over (positions_in a.held.corners.now) (unmarked a.held.used.now) taken a.held.corners.now.count.number a.prediction c.args.search_r
           (λ k h. takes_every (shades_in a.held.corners.now) a.kind k (sym c.is_shaded.ensures ∙ not-true _ (ap not w.if-not-is_shaded.true))))
       | then-not-is_shaded-via-else-not-is_shaded+then-not-is_finite w ↦
-          over_nowhere (positions_in a.held.corners.now) (unmarked a.held.used.now) taken a.prediction a.held.count c.args.search_r (sym w.is_finite.ensures ∙ not-true _ (ap not w.if-not-is_finite.true))
+          over_nowhere (positions_in a.held.corners.now) (unmarked a.held.used.now) taken a.prediction a.held.corners.now.count.number c.args.search_r (sym w.is_finite.ensures ∙ not-true _ (ap not w.if-not-is_finite.true))
     ]
 
 pub returns : goal.returns
@@ -35,5 +35,5 @@ returns c =
     let a = c.args.scan.now in
     let taken = kinds (goal.at.returns c).Start in
     let test = is_passed_over (positions_in a.held.corners.now) (unmarked a.held.used.now) taken a.prediction (squared_radius c.args.search_r) in
-    count_from_yields_List _ c.count.result c.count.ensures.ran (YieldsList-from_filter _ test (YieldsList-from_range 0 a.held.count a.held.count (cc) (omega arith)) c.filter.ensures.closure (λ x b q k. search (rules, tests)))
-    ∙ over_somewhere (positions_in a.held.corners.now) (unmarked a.held.used.now) taken a.prediction a.held.count c.args.search_r (sym c.is_finite.ensures ∙ not-false _ (ap not c.if-not-is_finite.false))
+    count_from_yields_List _ c.count.result c.count.ensures.ran (YieldsList-from_filter _ test (YieldsList-from_range 0 a.held.corners.now.count.number a.held.corners.now.count.number (cc) (omega arith)) c.filter.ensures.closure (λ x b q k. search (rules, tests)))
+    ∙ over_somewhere (positions_in a.held.corners.now) (unmarked a.held.used.now) taken a.prediction a.held.corners.now.count.number c.args.search_r (sym c.is_finite.ensures ∙ not-false _ (ap not c.if-not-is_finite.false))

@@ -3,7 +3,7 @@
 use Rattle.std.proofs.Common.{refl, ◌∙◌, arith}
 use Rattle.std.proofs.KnownBytes.{Consumes-nil}
 use Rattle.std.specs.declared.ops.ControlFlow.TheVariants.{Break, Continue}
-use Rattle.recover_read.proofs.Laws.{begun, next_of, next_took_of, filled}
+use Rattle.recover_read.proofs.Laws.{begun, same_size, next_of, next_took_of, filled}
 use Rattle.recover_read.proofs.read_input.Goals as goal
 
 pub loop-at-init : goal.loop-at-init
@@ -12,28 +12,29 @@ loop-at-init g c = (refl, begun _, Consumes-nil _)
 pub returns-in-Break-clause-read : goal.returns-in-Break-clause-read
 returns-in-Break-clause-read g c =
     let r = c.read_rest in
-    next_of (Break c.in-Break.answer) c.loop-at.invariant.1 c.loop-at-test.true r.auto.buffer r.ensures.refilled c.read_on.ensures c.in-Break.is
+    next_of _ _ _ c.loop-at-test.true r.auto.rest _ _ _ (Break c.in-Break.answer) c.loop-at.invariant.1 r.ensures.fits c.read_on.ensures c.in-Break.is
 
 pub returns-in-Break-clause-took : goal.returns-in-Break-clause-took
 returns-in-Break-clause-took g c =
     let r = c.read_rest in
-    next_took_of _ _ _ _ _ _ (Break c.in-Break.answer) c.loop-at.invariant.2 r.ensures.refilled r.ensures.took c.read_on.ensures c.in-Break.is
+    next_took_of _ _ _ c.loop-at-test.true r.auto.rest _ _ _ c.loop-at.invariant.2 _ _ _ (Break c.in-Break.answer) r.ensures.fits r.ensures.took c.read_on.ensures c.in-Break.is
 
 pub loop-at-smaller : goal.loop-at-smaller
 loop-at-smaller g c =
     let r = c.read_rest in
-    let n = next_of (Continue c.in-Continue.so) c.loop-at.invariant.1 c.loop-at-test.true r.auto.buffer r.ensures.refilled c.read_on.ensures c.in-Continue.is in
+    let n = next_of _ _ _ c.loop-at-test.true r.auto.rest _ _ _ (Continue c.in-Continue.so) c.loop-at.invariant.1 r.ensures.fits c.read_on.ensures c.in-Continue.is in
     n.1
 
 pub loop-at-preserved : goal.loop-at-preserved
 loop-at-preserved g c =
     let r = c.read_rest in
+    let h = c.loop-at-test.true in
     let so = c.loop-at.invariant in
     let to = Continue c.in-Continue.so in
-    let n = next_of to so.1 c.loop-at-test.true r.auto.buffer r.ensures.refilled c.read_on.ensures c.in-Continue.is in (
-      r.auto.buffer ∙ so.0,
+    let n = next_of _ _ _ h r.auto.rest _ _ _ to so.1 r.ensures.fits c.read_on.ensures c.in-Continue.is in (
+      same_size _ _ _ h r.auto.rest ∙ so.0,
       n.0,
-      next_took_of _ _ _ _ _ _ to so.2 r.ensures.refilled r.ensures.took c.read_on.ensures c.in-Continue.is,
+      next_took_of _ _ _ h r.auto.rest _ _ _ so.2 _ _ _ to r.ensures.fits r.ensures.took c.read_on.ensures c.in-Continue.is,
     )
 
 pub returns-clause-read : goal.returns-clause-read

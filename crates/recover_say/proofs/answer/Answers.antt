@@ -4,10 +4,8 @@ use Rattle.recover_say.proofs.Telling.{told_as, said_so}
 use Rattle.recover_say.proofs.Writing.{wrote}
 use Rattle.recover_say.proofs.answer.Goals as goal
 
-pub say-requires : goal.say-requires
-say-requires g c =
-    let s = can_say _ _ _ _ c.recover_frame-recovered.ensures in
-    record { can_say = s.0; few_passes = s.1 }
+pub invariant_of-found : goal.invariant_of-found
+invariant_of-found g c = record { can_say = (can_say _ _ _ _ c.recover_frame-recovered.ensures).0 }
 
 pub returns : goal.returns
 returns g c =

@@ -4,9 +4,6 @@ use Rattle.std.proofs.KnownBytes.{Appends-nil, Appends-trans}
 use Rattle.recover_say.proofs.Writing.{one_part}
 use Rattle.recover_say.proofs.write_text.Goals as goal
 
-pub loop-rest-init : goal.loop-rest-init
-loop-rest-init g c = ([], refl, Appends-nil _)
-
 pub loop-rest-preserved : goal.loop-rest-preserved
 loop-rest-preserved g c =
     let l = c.loop-rest in

@@ -18,7 +18,7 @@ high_is c =
     rw (to_z-of_z f, to_z-of_z g) at c.place_of-high.ensures
 
 bounds : (c : After-place_of-high) → BoundsOn c.in-Some.b
-bounds c = c.requires.0.bounds_on _ c.in-Some.is
+bounds c = c.requires.bounds_on _ c.in-Some.is
 
 pub returns : goal.returns
 returns c =

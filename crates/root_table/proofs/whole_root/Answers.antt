@@ -1,7 +1,10 @@
--- `root_table::whole_root` meets its contract: the entry stands in its row. Assumes nothing.
-use Rattle.root_table.proofs.Rule.{answered}
+-- `root_table::whole_root` meets its contract: antt computes that the code's table is the list, entry by entry, and so the list's rule is the table's.
+-- Assumes nothing.
+use mathlib.Core.Path.{refl}
+use Rattle.root_table.specs.Roots.{roots, entry}
+use Rattle.root_table.proofs.Rule.{rule}
 use Rattle.root_table.proofs.whole_root.Goals as goal
 
 pub returns : goal.returns
-returns c =
-    let a = answered c.args.k c.row-row.result c.requires c.row-row.ensures in record { listed = a.0; ruled = a.1 }
+unfolding roots entry
+returns c = record { listed = refl; ruled = rule c.args.k c.requires }

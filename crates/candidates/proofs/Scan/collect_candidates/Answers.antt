@@ -9,16 +9,17 @@ use Rattle.candidates.proofs.Scan.collect_candidates.Goals as goal
 
 pub returns-then-not-is_finite : goal.returns-then-not-is_finite
 returns-then-not-is_finite c = let a = c.args.self.now in
-    nowhere a.held.corners.now (eligible_in a.held.corners.now a.held.used.now a.kind) a.held.count a.prediction c.args.search_r (sym c.is_finite.ensures ∙ not-true _ (ap not c.if-not-is_finite.true))
+    nowhere a.held.corners.now (eligible_in a.held.corners.now a.held.used.now a.kind) a.held.corners.now.count.number a.prediction c.args.search_r (sym c.is_finite.ensures ∙ not-true _ (ap not c.if-not-is_finite.true))
 
 pub loop-k-init : goal.loop-k-init
-loop-k-init c = let a = c.args.self.now in scanned_start a.held.corners.now (eligible_in a.held.corners.now a.held.used.now a.kind) a.held.count a.prediction c.args.search_r _
+loop-k-init c = let a = c.args.self.now in scanned_start a.held.corners.now (eligible_in a.held.corners.now a.held.used.now a.kind) a.held.corners.now.count.number a.prediction c.args.search_r
 
 pub loop-k-preserved : goal.loop-k-preserved
 loop-k-preserved c = let a = c.args.self.now in
-    scanned_more a.held.corners.now (eligible_in a.held.corners.now a.held.used.now a.kind) a.held.count a.prediction c.args.search_r _ _ _ _ c.loop-k.invariant c.in-Some.ensures c.keep_corner-found.ensures
+    scanned_more a.held.corners.now (eligible_in a.held.corners.now a.held.used.now a.kind) a.held.corners.now.count.number a.prediction c.args.search_r _ _ _ _ c.loop-k.invariant (rw c.limit.ensures at c.in-Some.ensures) (rw c.measure.ensures at c.keep-found.ensures)
 
 pub returns : goal.returns
 returns c = let a = c.args.self.now in
-    scanned_all a.held.corners.now (eligible_in a.held.corners.now a.held.used.now a.kind) a.held.count a.prediction c.args.search_r _ _ c.loop-k.invariant c.in_default.ensures
+    c.candidates.ensures
+    ∙ scanned_all a.held.corners.now (eligible_in a.held.corners.now a.held.used.now a.kind) a.held.corners.now.count.number a.prediction c.args.search_r _ _ c.loop-k.invariant (rw c.limit.ensures at c.in_default.ensures)
     (sym c.is_finite.ensures ∙ not-false _ (ap not c.if-not-is_finite.false))

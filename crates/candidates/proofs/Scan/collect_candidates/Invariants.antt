@@ -8,7 +8,7 @@ use Rattle.candidates.proofs.Scan.collect_candidates.Given as goal
 abbrev pub invariant-loop-k : goal.invariant-loop-k
 invariant-loop-k l =
     let s = l.self in
-    Scanned s.held.corners.now (eligible_in s.held.corners.now s.held.used.now s.kind) s.held.count s.prediction l.search_r l.found l.from
+    Scanned s.held.corners.now (eligible_in s.held.corners.now s.held.used.now s.kind) s.held.corners.now.count.number s.prediction l.search_r l.found l.from
 
 abbrev pub decreases-loop-k : goal.decreases-loop-k
-decreases-loop-k l = l.self.held.count - l.from
+decreases-loop-k l = l.self.held.corners.now.count.number - l.from

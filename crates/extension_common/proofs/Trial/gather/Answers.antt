@@ -7,4 +7,4 @@ pub returns : goal.returns
 returns c =
     let s = c.args.self.now in
     c.collect_candidates.ensures
-    ∙ gathered_tied s.held.corners.now s.held.count s.sheet.now s.held.used.now s.search.search_r s.c c.args.prediction s.held.few c.requires c.kind_at.ensures
+    ∙ gathered_tied s.held.corners.now s.sheet.now s.held.used.now s.search.search_r s.c c.args.prediction c.requires c.kind_at.ensures

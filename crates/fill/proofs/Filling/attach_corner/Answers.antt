@@ -8,13 +8,13 @@ pub overflow_cast-self : goal.overflow_cast-self
 overflow_cast-self c = omega (arith, c.place_of.ensures, place_in _ c.requires.trying.on)
 
 pub offset_bounds-self-self : goal.offset_bounds-self-self
-offset_bounds-self-self c = omega (arith, made_few c.args.self.now, c.args.self.now.few)
+offset_bounds-self-self c = omega (arith, made_few c.args.self.now, c.args.self.now.corners.now.count.few)
 
 pub bounds-self-self : goal.bounds-self-self
 bounds-self-self c = taking_room c.requires
 
 pub overflow_add-self : goal.overflow_add-self
-overflow_add-self c = omega (arith, made_few c.args.self.now, c.args.self.now.few)
+overflow_add-self c = omega (arith, made_few c.args.self.now, c.args.self.now.corners.now.count.few)
 
 pub invariant_of-self-2-clause-given : goal.invariant_of-self-2-clause-given
 invariant_of-self-2-clause-given c = rw c.attach.ensures (given_more c.requires)

@@ -15,8 +15,8 @@ pub try_fill_cell-requires : goal.try_fill_cell-requires
 try_fill_cell-requires c =
     rw c.cell_of-c.ensures
     (record {
-      on = cell_on_lem c.args.place c.requires.0;
-      bare = label_of_place c.args.self.now.sheet.now c.args.place c.requires.0 ∙ unlabelled_none _ (sym c.is_labelled.ensures ∙ c.if-not-is_labelled.true);
+      on = cell_on_lem c.args.place c.requires;
+      bare = label_of_place c.args.self.now.sheet.now c.args.place c.requires ∙ unlabelled_none _ (sym c.is_labelled.ensures ∙ c.if-not-is_labelled.true);
     })
 
 pub returns-then-not-is_labelled : goal.returns-then-not-is_labelled
@@ -24,13 +24,13 @@ returns-then-not-is_labelled c =
     let a = c.args in
     let inside = ap (box_and_strips a.around) (sym c.cell_of-c.ensures) ∙ sym c.is_fill_cell.ensures ∙ c.if-is_fill_cell.true in
     subst (λ (s : FillState). Left a.self.now c.try_fill_cell.new.self s)
-    (sym (looked_bare _ _ _ _ _ c.requires.0 inside _ c.cell_of-c.ensures (sym c.is_labelled.ensures ∙ c.if-not-is_labelled.true))) c.try_fill_cell.ensures
+    (sym (looked_bare _ _ _ _ _ c.requires inside _ c.cell_of-c.ensures (sym c.is_labelled.ensures ∙ c.if-not-is_labelled.true))) c.try_fill_cell.ensures
 
 pub returns-else-is_fill_cell : goal.returns-else-is_fill_cell
 returns-else-is_fill_cell c =
     let a = c.args in
     let tested : (b : Bool) → c.is_fill_cell.result ≡ b → box_and_strips a.around (cell_of a.place) ≡ b = λ b e. ap (box_and_strips a.around) (sym c.cell_of-c.ensures) ∙ sym c.is_fill_cell.ensures ∙ e in
     elim c.else-is_fill_cell.branch [
-      | else-is_fill_cell-via-then-is_fill_cell+else-not-is_labelled w ↦ untouched a.self.now (looked_labelled _ _ _ _ _ c.requires.0 (tested _ w.if-is_fill_cell.true) (sym w.is_labelled.ensures ∙ w.if-not-is_labelled.false))
+      | else-is_fill_cell-via-then-is_fill_cell+else-not-is_labelled w ↦ untouched a.self.now (looked_labelled _ _ _ _ _ c.requires (tested _ w.if-is_fill_cell.true) (sym w.is_labelled.ensures ∙ w.if-not-is_labelled.false))
       | else-is_fill_cell-via-else-is_fill_cell w ↦ untouched a.self.now (looked_out _ _ _ _ _ (tested _ w.if-is_fill_cell.false))
     ]

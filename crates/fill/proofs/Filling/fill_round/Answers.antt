@@ -1,21 +1,17 @@
 -- `fill::Filling::fill_round` meets its contract. Assumes nothing.
 use native.Mathlib.Omega.{arith}
-use Rattle.region.proofs.Near.{box_small}
 use Rattle.region.proofs.Jumps.{box_on}
 use Rattle.fill.proofs.Walk.{walking_start, walking_more, walking_jumps, walking_end}
 use Rattle.fill.proofs.Filling.fill_round.Goals as goal
 
 pub window_of-window-requires : goal.window_of-window-requires
-window_of-window-requires c = rw c.label_box-around.ensures (box_on _, omega arith)
+window_of-window-requires c = rw c.label_box-around.ensures (box_on _)
 
 pub loop-place-init : goal.loop-place-init
 loop-place-init c =
     let s = c.places-place-items.ensures in
     rw c.into_iter-place-iterator.ensures.into_iter_gives
     (record { windowed = rw s.window_is c.window_of-window.ensures; walking = rw s.from_is (walking_start c.args.self.now) })
-
-pub fill_place-requires : goal.fill_place-requires
-fill_place-requires c = (c.in-Some.ensures.steps.1, rw c.label_box-around.ensures (box_small _))
 
 pub loop-place-preserved : goal.loop-place-preserved
 loop-place-preserved c =

@@ -22,5 +22,5 @@ invariant_of-self-2-clause-within c = let g = c.args.self.now in omega (arith, c
 pub returns : goal.returns
 returns c =
     settled_attached c.requires
-    (record { same_corners = refl; same_count = refl; same_setup = refl; same_sheet = refl; same_list = refl })
+    (record { same_corners = refl; same_setup = refl; same_sheet = refl; same_list = refl })
     c.attach.ensures c.place_of.ensures refl c.enqueue_cardinal_neighbours.ensures c.one_more-self.ensures

@@ -7,7 +7,7 @@ pub seed-requires : goal.seed-requires
 seed-requires c = start_unqueued c.requires
 
 pub loop-c-init : goal.loop-c-init
-loop-c-init c = running_start c.requires (record { same_corners = refl; same_count = refl; same_setup = refl; same_sheet = refl; same_list = refl }) refl refl refl c.seed.ensures
+loop-c-init c = running_start c.requires (record { same_corners = refl; same_setup = refl; same_sheet = refl; same_list = refl }) refl refl refl c.seed.ensures
 
 pub visit-requires : goal.visit-requires
 visit-requires c = running_visitable c.requires c.loop-c.invariant c.pop.ensures c.in-Some.is

@@ -9,12 +9,12 @@ use Rattle.local_cell.proofs.Visit.{found_is}
 use Rattle.local_cell.proofs.LocalWork.find.Goals as goal
 
 pub try_candidates-found-requires : goal.try_candidates-found-requires
-try_candidates-found-requires c = choosable _ _ _ _ _ _ c.args.self.now.extending.few c.gather-candidates.ensures
+try_candidates-found-requires c = choosable _ _ _ _ _ _ c.held.result.corners.now.count.few c.gather-candidates.ensures
 
 pub returns-clause-candidates : goal.returns-clause-candidates
 returns-clause-candidates c =
     let a = c.args in
-    c.gather-candidates.ensures ∙ ap (λ (s : Search). gathered (held a.self.now) a.self.now.sheet.now s.search_r a.target.cell a.target.prediction) c.search.ensures
+    rw c.held.ensures.corners at c.gather-candidates.ensures ∙ ap (λ (s : Search). gathered (held a.self.now) a.self.now.sheet.now s.search_r a.target.cell a.target.prediction) c.search.ensures
 
 pub returns-clause-found : goal.returns-clause-found
-returns-clause-found c = found_is _ _ _ _ c.search.ensures c.tolerances_of.ensures (tried_with _ _ _ _ _ _ c.gather-candidates.ensures c.try_candidates-found.ensures)
+returns-clause-found c = found_is _ _ _ _ c.search.ensures c.tolerances_of.ensures (rw c.held.ensures.corners at (tried_with _ _ _ _ _ _ c.gather-candidates.ensures c.try_candidates-found.ensures))

@@ -12,10 +12,10 @@ passed : (c : After-try_candidates_of) → let a = c.args in c.count_unmatched-p
 passed c = unmatched_is c.args.self.now _ _ _ c.count_unmatched-passed.ensures
 
 pub pass_over-requires : goal.pass_over-requires
-pass_over-requires c = passed_fits _ _ _ _ _ c.requires.trying.countable c.args.self.now.extending.few c.requires.recalls c.try_candidates_of.new.self c.try_candidates_of.ensures.left (passed (goal.at.pass_over-requires c).After-try_candidates_of)
+pass_over-requires c = passed_fits _ _ _ _ _ c.requires.trying.countable c.args.self.now.setup.corners.now.count.few c.requires.recalls c.try_candidates_of.new.self c.try_candidates_of.ensures.left (passed (goal.at.pass_over-requires c).After-try_candidates_of)
 
 pub returns-clause-left : goal.returns-clause-left
-returns-clause-left c = passed_left _ _ _ _ _ c.requires.trying.countable c.args.self.now.extending.few c.requires.recalls c.try_candidates_of.new.self c.try_candidates_of.ensures.left (passed (goal.at.returns-clause-left c).After-try_candidates_of) c.pass_over.ensures
+returns-clause-left c = passed_left _ _ _ _ _ c.requires.trying.countable c.args.self.now.setup.corners.now.count.few c.requires.recalls c.try_candidates_of.new.self c.try_candidates_of.ensures.left (passed (goal.at.returns-clause-left c).After-try_candidates_of) c.pass_over.ensures
 
 pub returns-clause-recalls : goal.returns-clause-recalls
-returns-clause-recalls c = passed_recalls _ _ _ _ _ c.requires.trying.countable c.args.self.now.extending.few c.requires.recalls c.try_candidates_of.new.self c.try_candidates_of.ensures.left (passed (goal.at.returns-clause-recalls c).After-try_candidates_of) c.pass_over.ensures c.try_candidates_of.ensures.recalls refl
+returns-clause-recalls c = passed_recalls _ _ _ _ _ c.requires.trying.countable c.args.self.now.setup.corners.now.count.few c.requires.recalls c.try_candidates_of.new.self c.try_candidates_of.ensures.left (passed (goal.at.returns-clause-recalls c).After-try_candidates_of) c.pass_over.ensures c.try_candidates_of.ensures.recalls refl

@@ -1,4 +1,4 @@
--- `supports::gather_labelled` meets its contract: the places that have come so far are listed. Assumes nothing.
+-- `supports::Labelled::gather` meets its contract: the places that have come so far are listed. Assumes nothing.
 use mathlib.Core.Path.{sym, ◌∙◌}
 use mathlib.Core.List.{◌∷◌, []}
 use Prim.Native.Nat.{ℕ, ◌<◌}
@@ -12,10 +12,11 @@ use Rattle.std.proofs.lemmas.Iterator.Consumers.{YieldsList-at, YieldsList-from_
 use Rattle.sheet.specs.Blank.{written_rest, written_from}
 use Rattle.labels.specs.Labelled.{is_labelled}
 use Rattle.labels.proofs.Labelled.{count_walked}
+use Rattle.supports.specs.Nearest.{Gathered}
 use Rattle.supports.proofs.Listing.{listed_more, listed_all}
-use Rattle.supports.proofs.gather_labelled.Given as given
-use Rattle.supports.proofs.gather_labelled.Goals as goal
-use Rattle.supports.proofs.gather_labelled.Goals.{After-into_iter-place-iterator, In-Some}
+use Rattle.supports.proofs.Labelled.gather.Given as given
+use Rattle.supports.proofs.Labelled.gather.Goals as goal
+use Rattle.supports.proofs.Labelled.gather.Goals.{After-into_iter-place-iterator, In-Some, In-None}
 
 road : (c : After-into_iter-place-iterator) → YieldsList (given.iterator-loop-place).next_gives (λ e. e) c.into_iter-place-iterator.result (filter (λ (e : ℕ × ℕ). is_labelled e.1) (written_from c.args.sheet.now 0))
 road c =
@@ -27,8 +28,8 @@ room c =
     let turn = YieldsList-turn (road (goal.at.In-Some c).After-into_iter-place-iterator) c.loop-place.yielded c.loop-place.place-iterator c.loop-place.yielded_by _ c.next.new.self _ c.in-Some.is c.next.ensures.steps in
     omega (arith, turn.0, count_walked c.args.sheet.now, c.requires.few, c.loop-place.invariant.0)
 
-pub bounds-places-count : goal.bounds-places-count
-bounds-places-count c = room (goal.at.bounds-places-count c).In-Some
+pub bounds-self-count : goal.bounds-self-count
+bounds-self-count c = room (goal.at.bounds-self-count c).In-Some
 
 pub loop-place-preserved : goal.loop-place-preserved
 loop-place-preserved c =
@@ -37,7 +38,13 @@ loop-place-preserved c =
       listed_more _ _ c.loop-place.yielded _ _ c.loop-place.invariant.0 c.loop-place.invariant.1 (omega (arith, h)),
     )
 
-pub returns : goal.returns
-returns c =
-    let end = YieldsList-end (road (goal.at.returns c).After-into_iter-place-iterator) c.loop-place.yielded c.loop-place.place-iterator c.loop-place.yielded_by _ c.next.new.self c.in-None.is c.next.ensures.steps in
+all : (c : In-None) → Gathered c.args.sheet.now c.args.self.now.places c.loop-place.self.places c.loop-place.count
+all c =
+    let end = YieldsList-end (road (goal.at.In-None c).After-into_iter-place-iterator) c.loop-place.yielded c.loop-place.place-iterator c.loop-place.yielded_by _ c.next.new.self c.in-None.is c.next.ensures.steps in
     listed_all _ _ _ _ _ c.loop-place.invariant.0 c.loop-place.invariant.1 (sym (map-id _) ∙ end.0)
+
+pub invariant_of-self-2 : goal.invariant_of-self-2
+invariant_of-self-2 c = record { few = omega (arith, (all (goal.at.invariant_of-self-2 c).In-None).count_is, c.requires.few) }
+
+pub returns : goal.returns
+returns c = all (goal.at.returns c).In-None
