@@ -50,8 +50,7 @@ impl Guess {
         ensures { result.n ≡ self.n }
     {
         let n = self.n;
-        // Stays: by a range's `contains`, in three forms, a root takes one instruction more, of some 100 (b).
-        if n < s * s || (s + 1) * (s + 1) <= n {
+        if !(s * s..(s + 1) * (s + 1)).contains(&n) {
             return self;
         }
         Guess {

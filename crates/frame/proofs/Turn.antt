@@ -222,16 +222,6 @@ turning_start text rest s t e =
     })
 
 module _ {text rest : List ℕ} {n : ℕ} {s : State} (g : Turning text rest n s) where
-  pub turn_room : Room s
-  turn_room =
-      let h = g.holds in
-      record {
-        few = h.corners.xs_held.some;
-        second_few = h.second.few;
-        long = h.labels.sheet_long;
-        counted = record { first = h.labels.uses.many; second = h.second.uses.many };
-      }
-
   module _ {front after : List ℕ} (l : FirstLine rest front after) where
     -- the lines behind this one
     behind : Step → FrameRead

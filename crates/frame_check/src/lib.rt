@@ -60,7 +60,7 @@ impl Held {
 
 // What the lines before said that a line is checked against: the arrays that hold it, how many corners and passes there are, and how many labels of
 // the second set, None where no patch line stands.
-// Stays: `Progress` stands in a crate above this one; of it a check reads these three numbers, and five of the arrays (d).
+// Stays: `Progress` stands in a crate above this one; a check reads these three numbers of it, and five of the arrays of `Held` (d).
 #[derive(Clone, Copy)]
 pub struct Said<'a> {
     pub held: &'a Held,

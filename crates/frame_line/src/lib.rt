@@ -65,7 +65,7 @@ pub struct HeldLine {
 }
 
 // A line whose row is one of the table.
-#[derive(Clone, Copy)]
+#[derive(Clone, Copy, Debug, PartialEq, Eq)]
 pub struct ListedLine {
     pub held: HeldLine,
     pub ghost listed: { held.row < row_count },

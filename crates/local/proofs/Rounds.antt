@@ -39,7 +39,7 @@ use Rattle.local_cell.specs.Work.{state_in, Left}
 use Rattle.local_cell.specs.declared.LocalProgress.{LocalProgress}
 use Rattle.local_cell.specs.declared.LocalWork.{LocalWork}
 use Rattle.local_cell.proofs.Visit.{gathered_front, stands, left_as}
-use Rattle.local.specs.Rounds.{RoundAsked, no_progress, start_of, start_in, RoundsAsked, RoundsLeft, stats_of}
+use Rattle.local.specs.Rounds.{no_progress, start_of, start_in, RoundsAsked, RoundsLeft, stats_of}
 use Rattle.local.proofs.Walk.{holds_state, left_then, round_grows, round_counted}
 
 -- ---- the loop over the rounds
@@ -66,9 +66,6 @@ module _ {set : Settings} {p : LocalExtensionParams} {limit : ℕ} {cs : Corners
       }
 
   module _ {work : LocalWork} {rounds : ℕ} (g : Rounding set p limit cs before work rounds) where
-    pub rounding_asked : rounds < limit → RoundAsked work
-    rounding_asked h = record { countable = omega (arith, g.counted, g.few) }
-
     pub rounding_end : limit ≤ rounds → rounds ≤ limit → RoundsLeft before work limit (local_from cs set p limit (start_in before))
     unfolding local_from
     rounding_end h k =
@@ -145,13 +142,6 @@ module _ (corners : CornerLists) (shades sheet list : List ℕ) (set : Settings)
           four = omega (arith, w.count_is);
           labels_are = w.count_is;
           places_are = gathered_front w;
-        }
-
-    pub accepted_asked : {work : LocalWork} → work.setup.params ≡ p → work.progress ≡ no_progress → RoundsAsked work
-    accepted_asked q e =
-        record {
-          unstarted = e;
-          rounds_few = rw q a.pass_inside.rounds;
         }
 
   -- what the answer says of the rim, and of the rounds

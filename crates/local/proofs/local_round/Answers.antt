@@ -5,9 +5,6 @@ use native.Mathlib.Omega.{arith}
 use Rattle.local.proofs.Walk.{same_then, walking_start, walking_missed, walking_jumps, tried_trying, walking_tried, walking_end}
 use Rattle.local.proofs.local_round.Goals as goal
 
-pub places-place-items-requires : goal.places-place-items-requires
-places-place-items-requires c = c.round_of-round.ensures.windowed.fits
-
 pub loop-place-init : goal.loop-place-init
 loop-place-init c =
     let s = c.places-place-items.ensures in
@@ -24,9 +21,6 @@ try_local_cell-requires-clause-trying c =
     let i = c.loop-place.invariant in
     let s = c.in-Some.ensures.steps in
     tried_trying c.round_of-round.ensures (walking_jumps c.round_of-round.ensures i.walking (rw i.window_is at s.0)) s.1 (sym c.is_tried.ensures ∙ c.if-is_tried.true) c.cell_of.ensures c.requires.asked.countable
-
-pub try_local_cell-requires-clause-recalls : goal.try_local_cell-requires-clause-recalls
-try_local_cell-requires-clause-recalls c = c.loop-place.invariant.recalls
 
 pub loop-place-preserved-then-is_tried : goal.loop-place-preserved-then-is_tried
 loop-place-preserved-then-is_tried c =

@@ -1,14 +1,7 @@
 -- `local::local_rounds` meets its contract: after each round the rounds that are left lead to the same end, and what is remembered holds. Assumes nothing.
-use mathlib.Core.Path.{refl}
 use Rattle.local.proofs.Walk.{same_then}
-use Rattle.local.proofs.Rounds.{rounding_start, rounding_asked, rounding_last, rounding_more, rounding_end}
+use Rattle.local.proofs.Rounds.{rounding_last, rounding_more, rounding_end}
 use Rattle.local.proofs.local_rounds.Goals as goal
-
-pub loop-rounds-init : goal.loop-rounds-init
-loop-rounds-init c = (rounding_start refl refl c.requires.asked, c.requires.recalls, record { same_setup = refl; same_sheet = refl; same_list = refl })
-
-pub local_round-requires-clause-asked : goal.local_round-requires-clause-asked
-local_round-requires-clause-asked c = rounding_asked c.loop-rounds.invariant.0 c.loop-rounds-test.true
 
 pub returns-then-work-before-clause-left : goal.returns-then-work-before-clause-left
 returns-then-work-before-clause-left c = rounding_last c.loop-rounds.invariant.0 _ c.loop-rounds-test.true (rw c.loop-rounds.invariant.2.same_setup at c.local_round.ensures.left) c.if-work-before.true

@@ -4,7 +4,7 @@ use Prim.Native.Nat.{◌<◌}
 use native.Mathlib.Omega.{arith}
 use Rattle.sheet.proofs.Laws.{place_in}
 use Rattle.local_cell.specs.declared.LocalProgress.{LocalProgress}
-use Rattle.local_cell.proofs.Visit.{gatherable, list_written, taking_room, taking_writable, took_extending}
+use Rattle.local_cell.proofs.Visit.{gatherable, taking_room, taking_writable, took_extending}
 use Rattle.local_cell.proofs.LocalWork.attach_corner.Goals as goal
 
 pub overflow_cast-self : goal.overflow_cast-self
@@ -12,9 +12,6 @@ overflow_cast-self c = let p : c.place_of.result < 16384 = rw c.place_of.ensures
 
 pub bounds-self-self : goal.bounds-self-self
 bounds-self-self c = taking_room c.requires
-
-pub invariant_of-self : goal.invariant_of-self
-invariant_of-self c = record { extending = list_written _ _ c.args.self.now.extending }
 
 pub gather-requires : goal.gather-requires
 gather-requires c = gatherable _ _ _ c.attach.ensures c.clear_marks.ensures (taking_writable c.requires)

@@ -1,20 +1,11 @@
 -- `local_cell::LocalWork::find` meets its contract: what is gathered and found by the array of used corners is what the definitions gather and find.
 -- Assumes nothing.
-use mathlib.Core.Path.{ap, ◌∙◌}
-use Rattle.extension_common.specs.TryCell.{gathered}
-use Rattle.extension_common.specs.declared.Search.{Search}
 use Rattle.extension_common.proofs.Laws.{choosable, tried_with}
-use Rattle.local_cell.specs.Work.{held}
 use Rattle.local_cell.proofs.Visit.{found_is}
 use Rattle.local_cell.proofs.LocalWork.find.Goals as goal
 
 pub try_candidates-found-requires : goal.try_candidates-found-requires
 try_candidates-found-requires c = choosable _ _ _ _ _ _ c.held.result.corners.now.count.few c.gather-candidates.ensures
-
-pub returns-clause-candidates : goal.returns-clause-candidates
-returns-clause-candidates c =
-    let a = c.args in
-    rw c.held.ensures.corners at c.gather-candidates.ensures ∙ ap (λ (s : Search). gathered (held a.self.now) a.self.now.sheet.now s.search_r a.target.cell a.target.prediction) c.search.ensures
 
 pub returns-clause-found : goal.returns-clause-found
 returns-clause-found c = found_is _ _ _ _ c.search.ensures c.tolerances_of.ensures (rw c.held.ensures.corners at (tried_with _ _ _ _ _ _ c.gather-candidates.ensures c.try_candidates-found.ensures))

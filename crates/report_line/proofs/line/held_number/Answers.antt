@@ -4,20 +4,14 @@ use native.Mathlib.Omega.{arith}
 use lib.IntN.{pos, ◌+ℤ◌}
 use mir.Syntax.{w32}
 use mir.Val.{to_z, of_z}
-use Rattle.sheet.proofs.Laws.{sum_fits, sum_read}
-use Rattle.report_line.proofs.Forms.{raised, raise, raised_held, raised_small}
+use Rattle.sheet.proofs.Laws.{sum_read}
+use Rattle.report_line.proofs.Forms.{raised, raise, raised_held}
 use Rattle.report_line.proofs.line.held_number.Goals as goal
 use Rattle.report_line.proofs.line.held_number.Goals.{Start}
 
 -- z + 1000000, as the machine has it
 up : (c : Start) → to_z w32 (of_z w32 (to_z w32 (of_z w32 c.args.z) +ℤ pos 1000000)) ≡ pos (raised c.args.z)
 up c = sum_read c.args.z (pos 1000000) (omega arith) ∙ raise c.args.z c.requires
-
-pub overflow_add-result : goal.overflow_add-result
-overflow_add-result c = sum_fits c.args.z (pos 1000000) (omega arith)
-
-pub overflow_cast-result : goal.overflow_cast-result
-overflow_cast-result c = let l = raised_small c.args.z c.requires in rw (up c) (tt, record { fits = omega arith })
 
 pub returns : goal.returns
 returns c = rw (up c) (raised_held c.args.z c.requires)

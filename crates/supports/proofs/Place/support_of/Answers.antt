@@ -9,6 +9,3 @@ difference-o-requires c = (subst NearSheet (sym c.cell_of.ensures) (on_near _ (c
 
 pub magnitude-requires : goal.magnitude-requires
 magnitude-requires c = subst (Within 1000) (sym c.difference-o.ensures) (difference_within _ _ (subst NearSheet (sym c.cell_of.ensures) (on_near _ (cell_on_lem _ c.args.self.on))) (on_near _ c.requires))
-
-pub returns : goal.returns
-returns c = rw (c.magnitude.ensures, c.difference-o.ensures, c.cell_of.ensures)
